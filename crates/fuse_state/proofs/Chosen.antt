@@ -1,6 +1,7 @@
 -- Keys that are chosen from a map, by themselves and by what they have.
 use Rattle.std.specs.Prelude.{◌≡◌, ◌==◌, ℕ, zero, suc, ◌<◌, nat_le, Bool, true, false, not, ◌&&◌, cond, List, [], ◌∷◌, map, length, get_or, option_map, Option, None, Some, MatchOption, IsSomeAnd, refl}
 use Rattle.std.proofs.Common.{sym, ap, ◌∙◌, arith}
+use Rattle.std.proofs.lemmas.Cmp.{nat_cmp_total}
 use Rattle.std.specs.Ordering.{nat_cmp}
 use Rattle.std.specs.List.{filter, find}
 use Rattle.fs_cred.specs.Credentials.{Credential}
@@ -75,7 +76,7 @@ module _ {X : Type 0} where
 
   pub chosen-keys : (test : Option X → Bool) (m : List (ℕ × X)) → IsMap nat_cmp m
       → filter (λ k. test (get nat_cmp m k)) (keys m) ≡ keys (filter (λ e. test (Some e.1)) m)
-  chosen-keys test m h = chosen_by (get nat_cmp m) test m (found_each m h)
+  chosen-keys test m h = chosen_by (get nat_cmp m) test m (found_each nat_cmp_total m h)
 
 -- ---- processes
 

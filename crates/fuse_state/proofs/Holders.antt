@@ -7,6 +7,7 @@ use Rattle.std.specs.Prelude.{◌≡◌, ◌≢◌, ℕ, ◌<◌, ◌≤◌, ◌
 use Rattle.std.proofs.Common.{sym, ap, subst, ◌∙◌, arith}
 use Rattle.std.specs.FinMap.Entries.{by_order}
 use Rattle.std.specs.List.{filter}
+use Rattle.std.proofs.lemmas.Cmp.{nat_cmp_total}
 use Rattle.std.specs.Ordering.{nat_cmp, is_eq, is_lt}
 use Rattle.std.specs.declared.cmp.Ordering.{Ordering}
 use Rattle.std.specs.declared.cmp.Ordering.TheVariants.{Less, Equal, Greater}
@@ -352,7 +353,7 @@ same_or_other a b {P} same other = go (a == b) refl
 -- a process ends that holds none
 pub ended_within : (s : Server) (pid : ℕ) → holds_some s pid ≡ false → WithinShares s → WithinShares (without_process pid s)
 ended_within s pid idle w = record {
-  rising = without-IsMap s.processes pid w.rising;
+  rising = without-IsMap nat_cmp_total s.processes pid w.rising;
   known = λ q none. same_or_other q pid (λ same. ap (holds_some s) same ∙ idle) (λ other. w.known q (none_without s.processes pid q other none));
   processes = subst (KeepsShares process_shares) (sym (ended_holders s pid idle)) w.processes;
   directories_rising = w.directories_rising;
@@ -460,7 +461,7 @@ released_within s handle w = record {
   rising = w.rising;
   known = w.known;
   processes = w.processes;
-  directories_rising = without-IsMap s.directories handle w.directories_rising;
+  directories_rising = without-IsMap nat_cmp_total s.directories handle w.directories_rising;
   behind = λ h le. still_none s.directories handle h (w.behind h le);
   directories = choose (get nat_cmp s.directories handle) refl;
 }

@@ -1,7 +1,11 @@
 pub mod Searched
 pub mod Edited
 pub mod Chosen
-pub mod LastFound
+pub mod Keyed
+pub mod Orders
+pub mod NamesKept
+pub mod Indexed
+pub mod HeldPlaces
 pub mod StateLaws
 pub mod KeptShares
 pub mod Holders

@@ -1,84 +1,122 @@
 -- What a search finds among rising keys.
-use Rattle.std.specs.Prelude.{◌≡◌, ◌≢◌, ℕ, zero, suc, ◌<◌, ◌≤◌, List, [], ◌∷◌, length, get_or, true, cond, refl, None, Some, Result, Ok, Err, MatchResult}
-use Rattle.std.proofs.Common.{sym, ap, ◌∙◌, arith, inl, inr}
+use Rattle.std.specs.Prelude.{◌≡◌, ℕ, zero, suc, ◌<◌, ◌≤◌, true, false, List, [], ◌∷◌, length, get_or, cond, refl, None, Some, Result, Ok, Err, MatchResult}
+use Rattle.std.proofs.Common.{sym, ap, subst, ◌∙◌, arith, inl, inr}
 use Rattle.std.proofs.lemmas.Bool.{cases_lt}
-use Rattle.std.specs.Ordering.{nat_cmp, ordering_index}
-use Rattle.std.specs.List.Sorted.{IsSearchInRange, IsBinarySearchResult, IsNonDecreasingBy}
+use Rattle.std.specs.declared.cmp.Ordering.{Ordering}
+use Rattle.std.specs.declared.cmp.Ordering.TheVariants.{Less, Equal, Greater}
+use Rattle.std.specs.Cmp.{IsTotalOrder, alike_right, tied_itself}
+use Rattle.std.specs.Ordering.{is_lt, is_eq, ordering_index, ordering_reverse}
+use Rattle.std.specs.FinMap.{IsAntisymmetric}
 use Rattle.std.specs.FinMap.Entries.{below_all}
-use Rattle.std.proofs.lemmas.Bool.Decides.{nat_tests}
-use Rattle.std.proofs.lemmas.Cmp.{ranked}
+use Rattle.std.specs.List.Sorted.{IsSearchInRange, IsBinarySearchResult, IsNonDecreasingBy}
 use Rattle.std.proofs.lemmas.List.{get_or_default}
 use Rattle.fs_layout.specs.Maps.{get, IsMap}
-use Rattle.fs_layout.proofs.FirstEntries.{at_other, left, right, lower, ties}
+use Rattle.fs_layout.proofs.FirstEntries.{left, right}
 use Rattle.fuse_state.specs.Tables.{IsAt, IsGap}
 
-index_rises : (a b k : ℕ) → a ≤ b → ordering_index (nat_cmp a k) ≤ ordering_index (nat_cmp b k)
-index_rises a b k le = grind (arith, nat_tests)
+less : (r : Ordering) → is_lt r ≡ true → r ≡ Less
+less Less h = refl
+less Equal h = absurd (cc)
+less Greater h = absurd (cc)
 
-module _ {X : Type 0} where
+at_most_two : (r : Ordering) → ordering_index r ≤ 2
+at_most_two Less = omega arith
+at_most_two Equal = omega arith
+at_most_two Greater = omega arith
+
+-- what a comparison says the other way round
+pub turned : {K : Type 0} {R : K → K → Ordering} (o : IsTotalOrder R) (x y : K) (r : Ordering) → R x y ≡ r → R y x ≡ ordering_reverse r
+turned o x y r is = o.antisymm y x ∙ ap ordering_reverse is
+
+module _ {K : Type 0} {R : K → K → Ordering} (o : IsTotalOrder R) where
+  index_rises : (x y k : K) → R x y ≡ Less → ordering_index (R x k) ≤ ordering_index (R y k)
+  index_rises x y k lt = go (R y k) refl
+    where
+      go : (r : Ordering) → R y k ≡ r → ordering_index (R x k) ≤ ordering_index r
+      go Less is = subst (λ q. ordering_index q ≤ 0) (sym (o.trans x y k lt is)) (omega arith)
+      go Equal is = subst (λ q. ordering_index q ≤ 1) (sym (sym (alike_right o y k x is) ∙ lt)) (omega arith)
+      go Greater is = at_most_two (R x k)
+
+  pub ties : (k q : K) → k ≡ q → is_eq (R k q) ≡ true
+  ties k q same = ap is_eq (subst (λ x. R k x ≡ Equal) same (tied_itself o k))
+
+module _ {K X : Type 0} {R : K → K → Ordering} (o : IsTotalOrder R) where
   -- ---- keys rise
 
-  above_all : (k : ℕ) (m : List (ℕ × X)) → below_all nat_cmp k m ≡ true → (j : ℕ) (e : ℕ × X) → j < length m → k < (get_or m j e).0
+  pub above_all : (k : K) (m : List (K × X)) → below_all R k m ≡ true → (j : ℕ) (e : K × X) → j < length m → R k (get_or m j e).0 ≡ Less
   above_all k [] h j e within = absurd (omega arith)
-  above_all k (f ∷ m) h zero e within = lower k f.0 (left _ _ h)
+  above_all k (f ∷ m) h zero e within = less (R k f.0) (left _ _ h)
   above_all k (f ∷ m) h (suc j) e within = above_all k m (right _ _ h) j e (omega arith)
 
-  pub rise : (m : List (ℕ × X)) → IsMap nat_cmp m → (i j : ℕ) (e : ℕ × X) → i < j → j < length m → (get_or m i e).0 < (get_or m j e).0
+  pub rise : (m : List (K × X)) → IsMap R m → (i j : ℕ) (e : K × X) → i < j → j < length m → R (get_or m i e).0 (get_or m j e).0 ≡ Less
   rise [] h i j e lt within = absurd (omega arith)
   rise (f ∷ m) h i zero e lt within = absurd (omega arith)
   rise (f ∷ m) h zero (suc j) e lt within = above_all f.0 m (left _ _ h) j e (omega arith)
   rise (f ∷ m) h (suc i) (suc j) e lt within = rise m (right _ _ h) i j e (omega arith) (omega arith)
 
-  -- ---- a binary search
+  -- ---- a binary search, among the keys or among what stands for them
 
-  comparisons_rise : (m : List (ℕ × X)) → IsMap nat_cmp m → (k : ℕ) → IsNonDecreasingBy (λ e. ordering_index (nat_cmp e.0 k)) m
-  comparisons_rise m h k i j e le within =
-      let keys : (get_or m i e).0 ≤ (get_or m j e).0 = grind (arith, rise m h i j e, λ (same : i ≡ j). ap (λ n. (get_or m n e).0) same) in
-      index_rises _ _ k keys
+  module _ {A : Type 0} (xs : List A) (ord : A → Ordering) (m : List (K × X)) (k : K) (to : K × X → A) (from : A → K × X)
+      (long : length m ≡ length xs) (same : (j : ℕ) (a : A) (e : K × X) → j < length xs → ord (get_or xs j a) ≡ R (get_or m j e).0 k) where
+    comparisons_rise : IsMap R m → IsNonDecreasingBy (λ a. ordering_index (ord a)) xs
+    comparisons_rise h i j a le within = elim (cases_lt i j) [
+      | inl lt ↦
+          subst (λ q. ordering_index q ≤ ordering_index (ord (get_or xs j a))) (sym (same i a (from a) (omega arith)))
+          (subst (λ q. ordering_index (R (get_or m i (from a)).0 k) ≤ ordering_index q) (sym (same j a (from a) within))
+          (index_rises o _ _ k (rise m h i j (from a) lt (omega (arith, long, within)))))
+      | inr ge ↦ (let one : i ≡ j = omega arith in subst (λ n. ordering_index (ord (get_or xs n a)) ≤ ordering_index (ord (get_or xs j a))) (sym one) (omega arith))
+    ]
 
-  pub searched : (m : List (ℕ × X)) → IsMap nat_cmp m → (k : ℕ) (r : Result ℕ ℕ) → IsSearchInRange r (length m)
-      → IsBinarySearchResult (λ e. nat_cmp e.0 k) m r → MatchResult r (IsAt m k) (IsGap m k)
-  searched m h k (Ok i) within found = record { within = within; is = λ e. ranked _ k _ (sym (found e)) }
-  searched m h k (Err i) within parted = record {
-    within = within;
-    lower = λ j e lt. ranked _ k _ (sym ((parted (comparisons_rise m h k)).0 j e (omega arith) lt));
-    higher = λ j e le lt. ranked _ k _ (sym ((parted (comparisons_rise m h k)).1 j e le lt));
-  }
+    pub searched : IsAntisymmetric R → IsMap R m → (r : Result ℕ ℕ) → IsSearchInRange r (length xs) → IsBinarySearchResult ord xs r
+        → MatchResult r (IsAt m k) (IsGap R m k)
+    searched anti h (Ok i) within found = record {
+      within = omega (arith, long, within);
+      is = λ e. anti _ k (sym (same i (to e) e within) ∙ found (to e));
+    }
+    searched anti h (Err i) within parted = record {
+      within = omega (arith, long, within);
+      lower = λ j e lt. turned o _ k Less (sym (same j (to e) e (omega (arith, within, lt))) ∙ (parted (comparisons_rise h)).0 j (to e) (omega arith) lt);
+      higher = λ j e le lt. turned o _ k Greater (sym (same j (to e) e (omega (arith, long, lt))) ∙ (parted (comparisons_rise h)).1 j (to e) le (omega (arith, long, lt)));
+    }
 
   -- ---- what stands there
 
-  pub later : (f : ℕ × X) (m : List (ℕ × X)) (k i : ℕ) → IsAt (f ∷ m) k (suc i) → IsAt m k i
+  -- at another key
+  pub at_other : (f : K × X) (m : List (K × X)) (k : K) → is_eq (R k f.0) ≡ false → get R (f ∷ m) k ≡ get R m k
+  at_other f m k apart = ap (λ b. cond b (Some f.1) (get R m k)) apart
+
+  pub later : (f : K × X) (m : List (K × X)) (k : K) (i : ℕ) → IsAt (f ∷ m) k (suc i) → IsAt m k i
   later f m k i at = record { within = omega (arith, at.within); is = at.is }
 
   -- an entry behind the first has a higher key
-  pub first_is_lower : (f : ℕ × X) (m : List (ℕ × X)) (k i : ℕ) → IsMap nat_cmp (f ∷ m) → IsAt (f ∷ m) k (suc i) → f.0 < k
-  first_is_lower f m k i h at = omega (arith, above_all f.0 m (left _ _ h) i f (omega (arith, at.within)), at.is f)
+  pub first_is_lower : (f : K × X) (m : List (K × X)) (k : K) (i : ℕ) → IsMap R (f ∷ m) → IsAt (f ∷ m) k (suc i) → R k f.0 ≡ Greater
+  first_is_lower f m k i h at =
+      turned o f.0 k Less (subst (λ q. R f.0 q ≡ Less) (at.is f) (above_all f.0 m (left _ _ h) i f (omega (arith, at.within))))
 
-  pub get_at : (m : List (ℕ × X)) (k i : ℕ) (e : ℕ × X) → IsMap nat_cmp m → IsAt m k i → get nat_cmp m k ≡ Some (get_or m i e).1
+  pub get_at : (m : List (K × X)) (k : K) (i : ℕ) (e : K × X) → IsMap R m → IsAt m k i → get R m k ≡ Some (get_or m i e).1
   get_at [] k i e h at = absurd (omega (arith, at.within))
-  get_at (f ∷ m) k zero e h at = ap (λ b. cond b (Some f.1) (get nat_cmp m k)) (ties k f.0 (sym (at.is e)))
+  get_at (f ∷ m) k zero e h at = ap (λ b. cond b (Some f.1) (get R m k)) (ties o k f.0 (sym (at.is e)))
   get_at (f ∷ m) k (suc i) e h at =
-      let apart : k ≢ f.0 = let low = first_is_lower f m k i h at in λ same. omega arith in
-      at_other f m k apart ∙ get_at m k i e (right _ _ h) (later f m k i at)
+      at_other f m k (ap is_eq (first_is_lower f m k i h at)) ∙ get_at m k i e (right _ _ h) (later f m k i at)
 
   -- no entry has the key
-  abbrev pub LacksKey : List (ℕ × X) → ℕ → Type 0
-  LacksKey m k = (j : ℕ) (e : ℕ × X) → j < length m → k ≢ (get_or m j e).0
+  abbrev pub LacksKey : List (K × X) → K → Type 0
+  LacksKey m k = (j : ℕ) (e : K × X) → j < length m → is_eq (R k (get_or m j e).0) ≡ false
 
-  pub lacks_in_gap : (m : List (ℕ × X)) (k i : ℕ) → IsGap m k i → LacksKey m k
-  lacks_in_gap m k i gap j e within same = elim (cases_lt j i) [
-    | inl before ↦ omega (arith, gap.lower j e before)
-    | inr behind ↦ omega (arith, gap.higher j e behind within)
+  pub lacks_in_gap : (m : List (K × X)) (k : K) (i : ℕ) → IsGap R m k i → LacksKey m k
+  lacks_in_gap m k i gap j e within = elim (cases_lt j i) [
+    | inl before ↦ ap is_eq (gap.lower j e before)
+    | inr behind ↦ ap is_eq (gap.higher j e behind within)
   ]
 
-  pub lacks_later : (f : ℕ × X) (m : List (ℕ × X)) (k : ℕ) → LacksKey (f ∷ m) k → LacksKey m k
+  pub lacks_later : (f : K × X) (m : List (K × X)) (k : K) → LacksKey (f ∷ m) k → LacksKey m k
   lacks_later f m k lacks j e within = lacks (suc j) e (omega arith)
 
-  pub get_lacking : (m : List (ℕ × X)) (k : ℕ) → LacksKey m k → get nat_cmp m k ≡ None
+  pub get_lacking : (m : List (K × X)) (k : K) → LacksKey m k → get R m k ≡ None
   get_lacking [] k lacks = refl
   get_lacking (f ∷ m) k lacks = at_other f m k (lacks zero f (omega arith)) ∙ get_lacking m k (lacks_later f m k lacks)
 
   -- each entry is found by its key
-  pub found_each : (m : List (ℕ × X)) → IsMap nat_cmp m → (j : ℕ) (e : ℕ × X) → j < length m → get nat_cmp m (get_or m j e).0 ≡ Some (get_or m j e).1
+  pub found_each : (m : List (K × X)) → IsMap R m → (j : ℕ) (e : K × X) → j < length m → get R m (get_or m j e).0 ≡ Some (get_or m j e).1
   found_each m h j e within =
       get_at m (get_or m j e).0 j e h (record { within = within; is = λ f. ap (λ x. x.0) (get_or_default m j f e within) })

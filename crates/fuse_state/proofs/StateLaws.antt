@@ -1,23 +1,24 @@
 -- The laws of what a server keeps.
-use Rattle.std.specs.Prelude.{◌≡◌, ◌≢◌, ◌==◌, ℕ, ◌+◌, ◌*◌, ◌%◌, ◌/◌, ◌^◌, ◌<◌, Bool, true, false, not, ◌&&◌, cond, if◌then◌else◌, List, [], ◌∷◌, ◌++◌, map, reverse, All, bytes_eq, is_some, unwrap_or, option_map, Option, None, Some, IsSome, IsTrue, refl}
+use Rattle.std.specs.Prelude.{◌≡◌, ◌≢◌, ◌==◌, ℕ, suc, ◌+◌, ◌*◌, ◌%◌, ◌/◌, ◌^◌, ◌<◌, Bool, true, false, ◌&&◌, cond, if◌then◌else◌, List, [], ◌∷◌, map, All, is_some, unwrap_or, None, Some, IsSome, IsTrue, refl}
 use Rattle.std.proofs.Common.{sym, ap, subst, ◌∙◌, arith}
-use Rattle.std.specs.List.{filter, find}
-use Rattle.std.specs.Option.{option_or}
-use Rattle.std.specs.Ordering.{nat_cmp}
+use Rattle.std.specs.List.{Contains, filter}
+use Rattle.std.specs.declared.cmp.Ordering.{Ordering}
+use Rattle.std.specs.declared.cmp.Ordering.TheVariants.{Less, Equal, Greater}
+use Rattle.std.specs.Ordering.{nat_cmp, eq_by_cmp}
+use Rattle.std.specs.FinMap.Entries.{by_order}
 use Rattle.std.proofs.lemmas.Bool.Decides.{nat_tests}
-use Rattle.std.proofs.lemmas.List.{append-nil, reverse-append}
-use Rattle.std.proofs.lemmas.List.Elements.{All-same, All-cons, All-head, All-tail, filter-append}
-use Rattle.std.proofs.lemmas.List.Folds.{find-append}
-use Rattle.std.proofs.lemmas.Slice.Eq.{bytes_eq-Decides}
+use Rattle.std.proofs.lemmas.List.Elements.{All-cons, All-head, All-tail}
 use Rattle.fs_layout.specs.Maps.{get, with_entry}
-use Rattle.fs_layout.proofs.FirstEntries.{apart, left, right, ties}
+use Rattle.fs_layout.proofs.FirstEntries.{apart, ties}
 use Rattle.fs_layout.proofs.MapLaws.{get-with_entry}
 use Rattle.fs_model.specs.declared.reply.FileType.{FileType}
 use Rattle.fuse_state.specs.Changes.{is_gone, renewed, found}
-use Rattle.fuse_state.specs.declared.place.Found.{Found}
 use Rattle.fuse_state.specs.declared.place.Place.{Place}
-use Rattle.fuse_state.specs.Laws.{HandlesTellDescriptors, NodesLeadBack, StaleNodesLeadNowhere, NewNodesLedNowhere, OtherNodesStay, FoundNodesLeadBack, GoneNodesLeadNowhere, FoundNodesLedNowhere, KnownNodesStay, OtherNodesStayThen, NamesAreKept, LatestNameIsThePlace}
-use Rattle.fuse_state.specs.Servers.{Server, generation_of, with_generation, kind_of, node_of, number_of, is_place, places_of, first_of, with_name, without_name, born}
+use Rattle.fuse_state.specs.Laws.{HandlesTellDescriptors, NodesLeadBack, StaleNodesLeadNowhere, NewNodesLedNowhere, OtherNodesStay, FoundNodesLeadBack, GoneNodesLeadNowhere, FoundNodesLedNowhere, KnownNodesStay, OtherNodesStayThen, NamesAreKept, AddedNamesArePlaces}
+use Rattle.fuse_state.specs.Servers.{Server, generation_of, with_generation, kind_of, node_of, number_of, place_cmp, places_in, places_of, with_name, born}
+use Rattle.fuse_state.proofs.Keyed.{equal as tied_is, get-put, get-without, get-gone}
+use Rattle.fuse_state.proofs.Orders.{place_total, place_anti}
+use Rattle.fuse_state.proofs.Searched.{ties as tie}
 
 pub handles_tell : HandlesTellDescriptors
 handles_tell pid fd lt = (omega arith, omega arith)
@@ -128,136 +129,98 @@ others_stay_then s p n m kind other = go (is_gone s n)
 
 -- ---- names
 
-both : (a b : Bool) → a ≡ true → b ≡ true → (a && b) ≡ true
-both true true x y = refl
-both true false x y = absurd (cc)
-both false b x y = absurd (cc)
+set_name : (m : List (Place × ℕ)) (p : Place) (n : ℕ) → get place_cmp (with_entry place_cmp m p n) p ≡ Some n
+set_name m p n = get-put place_total place_anti m p n p ∙ ap (λ b. cond b (Some n) (get place_cmp m p)) (tie place_total p p refl)
 
-is_place-same : (p : Place) → is_place p p ≡ true
-is_place-same p = both (p.directory == p.directory) (bytes_eq p.name p.name) (equal p.directory p.directory refl) ((bytes_eq-Decides p.name p.name).1 refl)
-
-tells_place : (p q : Place) → is_place p q ≡ true → p ≡ q
-tells_place p q is =
-    let directory : p.directory ≡ q.directory = let same = left (p.directory == q.directory) (bytes_eq p.name q.name) is in grind (arith, nat_tests) in
-    let name = (bytes_eq-Decides p.name q.name).0 (right (p.directory == q.directory) (bytes_eq p.name q.name) is) in
-    ap (λ d. record p { directory = d }) directory ∙ ap (λ n. record q { name = n }) name
-
-not_true : (b : Bool) → (b ≡ true → ⊥) → b ≡ false
-not_true true h = absurd (h refl)
-not_true false h = refl
-
-module _ {X : Type 0} (test other : X → Bool) where
-  find_kept : (xs : List X) → ((x : X) → test x ≡ true → other x ≡ true) → find test (filter other xs) ≡ find test xs
-  find_kept [] says = refl
-  find_kept (x ∷ xs) says = go (test x) refl (other x) refl (find_kept xs says)
-    where
-      go : (a : Bool) → test x ≡ a → (b : Bool) → other x ≡ b → find test (filter other xs) ≡ find test xs
-          → find test (cond b (x ∷ filter other xs) (filter other xs)) ≡ cond a (Some x) (find test xs)
-      go true t true o rest = ap (λ a. cond a (Some x) (find test (filter other xs))) t
-      go true t false o rest = absurd (cc (says x t))
-      go false t true o rest = ap (λ a. cond a (Some x) (find test (filter other xs))) t ∙ rest
-      go false t false o rest = rest
-
-  find_none : (xs : List X) → ((x : X) → test x ≡ true → other x ≡ false) → find test (filter other xs) ≡ None
-  find_none [] says = refl
-  find_none (x ∷ xs) says = go (test x) refl (other x) refl (find_none xs says)
-    where
-      go : (a : Bool) → test x ≡ a → (b : Bool) → other x ≡ b → find test (filter other xs) ≡ None
-          → find test (cond b (x ∷ filter other xs) (filter other xs)) ≡ None
-      go true t true o rest = absurd (cc (says x t))
-      go false t true o rest = ap (λ a. cond a (Some x) (find test (filter other xs))) t ∙ rest
-      go a t false o rest = rest
-
-or_none : {X : Type 0} (o : Option X) → option_or o None ≡ o
-or_none None = refl
-or_none (Some x) = refl
-
-module _ (names : List Found) (p : Place) where
-  gone : find (λ found. is_place p found.place) (filter (λ found. not (is_place p found.place)) names) ≡ None
-  gone = find_none _ _ names (λ found is. ap not is)
-
-  stays : (q : Place) → q ≢ p → find (λ found. is_place q found.place) (filter (λ found. not (is_place p found.place)) names) ≡ find (λ found. is_place q found.place) names
-  stays q other =
-      find_kept _ _ names (λ found is. ap not (not_true (is_place p found.place) (λ also. other (tells_place q found.place is ∙ sym (tells_place p found.place also)))))
-
-  module _ (n : ℕ) where
-    abbrev new : Found
-    new = record { place = p; inode = n }
-
-    found_new : find (λ found. is_place p found.place) (filter (λ found. not (is_place p found.place)) names ++ new ∷ []) ≡ Some new
-    found_new =
-        find-append (λ found. is_place p found.place) (filter (λ found. not (is_place p found.place)) names) (new ∷ [])
-        ∙ ap (λ o. option_or o (cond (is_place p p) (Some new) None)) gone
-        ∙ ap (λ b. cond b (Some new) None) (is_place-same p)
-
-    found_other : (q : Place) → q ≢ p → find (λ found. is_place q found.place) (filter (λ found. not (is_place p found.place)) names ++ new ∷ []) ≡ find (λ found. is_place q found.place) names
-    found_other q other =
-        let rest = filter (λ found. not (is_place p found.place)) names in
-        find-append (λ found. is_place q found.place) rest (new ∷ [])
-        ∙ ap (λ b. option_or (find (λ found. is_place q found.place) rest) (cond b (Some new) None)) (not_true (is_place q p) (λ is. other (tells_place q p is)))
-        ∙ or_none _
-        ∙ stays q other
-
-    first_latest : (rest : List Found)
-        → filter (λ found. found.inode == n) (reverse (rest ++ new ∷ [])) ≡ new ∷ filter (λ found. found.inode == n) (reverse rest)
-    first_latest rest =
-        let before = filter (λ found. found.inode == n) (reverse rest) in
-        ap (filter (λ found. found.inode == n)) (reverse-append rest (new ∷ [])) ∙ ap (λ b. cond b (new ∷ before) before) (equal n n refl)
+elsewhere : (q p : Place) → q ≢ p → eq_by_cmp place_cmp q p ≡ false
+elsewhere q p other = go (eq_by_cmp place_cmp q p) refl
+  where
+    go : (b : Bool) → eq_by_cmp place_cmp q p ≡ b → b ≡ false
+    go true is = absurd (other (place_anti q p (tied_is _ is)))
+    go false is = refl
 
 pub names_are_kept : NamesAreKept
 names_are_kept s p n kind = record {
-  added = ap (option_map (λ found. found.inode)) (found_new s.names p n);
-  removed = ap (option_map (λ found. found.inode)) (gone s.names p);
-  besides_added = λ q other. ap (option_map (λ found. found.inode)) (found_other s.names p n q other);
-  besides_removed = λ q other. ap (option_map (λ found. found.inode)) (stays s.names p q other);
+  added = set_name s.names p n;
+  removed = get-gone place_total place_anti s.names p;
+  besides_added = λ q other.
+      get-put place_total place_anti s.names p n q ∙ ap (λ b. cond b (Some n) (get place_cmp s.names q)) (elsewhere q p other);
+  besides_removed = λ q other.
+      get-without place_total place_anti s.names p q ∙ ap (λ b. cond b None (get place_cmp s.names q)) (elsewhere p q (λ same. other (sym same)));
 }
 
 -- ---- places
 
--- the name is the latest place of the object
-pub places_then : (s : Server) (p : Place) (n : ℕ) (kind : FileType) → places_of (with_name p n kind s) n ≡ p ∷ places_of (without_name p s) n
-places_then s p n kind = ap (map (λ found. found.place)) (first_latest s.names p n (without_name p s).names)
+module _ (P : Place → Type 0) (n : ℕ) where
+  abbrev led : List (Place × ℕ) → List Place
+  led m = places_in m n
 
-pub latest_is_the_place : LatestNameIsThePlace
-latest_is_the_place s p n kind = ap first_of (places_then s p n kind)
-
-module _ {X : Type 0} (test : X → Bool) where
-  -- what passes, the last first
-  filter-reverse : (xs : List X) → reverse (filter test xs) ≡ filter test (reverse xs)
-  filter-reverse [] = refl
-  filter-reverse (x ∷ xs) =
-      go (test x) (filter-reverse xs)
-      ∙ sym (filter-append test (reverse xs) (x ∷ []))
-      ∙ ap (filter test) (sym (reverse-append (x ∷ []) xs))
+  -- with one more entry
+  first_then : (e : Place × ℕ) (m : List (Place × ℕ)) → P e.0 → All P (led m) → All P (led (e ∷ m))
+  first_then e m is all = go (e.1 == n)
     where
-      go : (b : Bool) → reverse (filter test xs) ≡ filter test (reverse xs)
-          → reverse (cond b (x ∷ filter test xs) (filter test xs)) ≡ filter test (reverse xs) ++ cond b (x ∷ []) []
-      go true rest = reverse-append (x ∷ []) (filter test xs) ∙ ap (λ l. l ++ x ∷ []) rest
-      go false rest = rest ∙ sym (append-nil (filter test (reverse xs)))
+      go : (b : Bool) → All P (map (λ f. f.0) (cond b (e ∷ filter (λ f. f.1 == n) m) (filter (λ f. f.1 == n) m)))
+      go true = All-cons P e.0 (led m) is all
+      go false = all
 
--- what holds of what passes, holds where fewer are tested
-module _ {X Y : Type 0} (P : Y → Type 0) (f : X → Y) (test other : X → Bool) where
-  fewer : (xs : List X) → All P (map f (filter test xs)) → All P (map f (filter test (filter other xs)))
-  fewer [] all = all
-  fewer (x ∷ xs) all = go (other x) (test x) refl all (fewer xs)
+  if_first : (e : Place × ℕ) (m : List (Place × ℕ)) → All P (led (e ∷ m)) → (All P (led m) → All P (led m)) → All P (led m)
+  if_first e m all rest = go (e.1 == n) all
     where
-      go : (b a : Bool) → test x ≡ a → All P (map f (cond a (x ∷ filter test xs) (filter test xs)))
-          → (All P (map f (filter test xs)) → All P (map f (filter test (filter other xs))))
-          → All P (map f (filter test (cond b (x ∷ filter other xs) (filter other xs))))
-      go true true t all rest =
-          subst (λ a. All P (map f (cond a (x ∷ filter test (filter other xs)) (filter test (filter other xs))))) (sym t)
-          (All-cons P (f x) (map f (filter test (filter other xs))) (All-head P (f x) (map f (filter test xs)) all) (rest (All-tail P (f x) (map f (filter test xs)) all)))
-      go true false t all rest = subst (λ a. All P (map f (cond a (x ∷ filter test (filter other xs)) (filter test (filter other xs))))) (sym t) (rest all)
-      go false true t all rest = rest (All-tail P (f x) (map f (filter test xs)) all)
-      go false false t all rest = rest all
+      go : (b : Bool) → All P (map (λ f. f.0) (cond b (e ∷ filter (λ f. f.1 == n) m) (filter (λ f. f.1 == n) m))) → All P (led m)
+      go true every = All-tail P e.0 (led m) every
+      go false every = every
+
+  -- the same entry before others
+  same_first : (e : Place × ℕ) (m others : List (Place × ℕ)) → All P (led (e ∷ m)) → All P (led others) → All P (led (e ∷ others))
+  same_first e m others all rest = go (e.1 == n) all
+    where
+      go : (b : Bool) → All P (map (λ f. f.0) (cond b (e ∷ filter (λ f. f.1 == n) m) (filter (λ f. f.1 == n) m)))
+          → All P (map (λ f. f.0) (cond b (e ∷ filter (λ f. f.1 == n) others) (filter (λ f. f.1 == n) others)))
+      go true every = All-cons P e.0 (led others) (All-head P e.0 (led m) every) rest
+      go false every = rest
+
+  all_then : (m : List (Place × ℕ)) (p : Place) → P p → All P (led m) → All P (led (with_entry place_cmp m p n))
+  all_then [] p is all = first_then (p, n) [] is all
+  all_then (e ∷ m) p is all = go (place_cmp p e.0) refl (all_then m p is (if_first e m all (λ rest. rest)))
+    where
+      go : (o : Ordering) → place_cmp p e.0 ≡ o → All P (led (with_entry place_cmp m p n))
+          → All P (led (by_order o ((p, n) ∷ e ∷ m) ((e.0, n) ∷ m) (e ∷ with_entry place_cmp m p n)))
+      go Less cmp rest = first_then (p, n) (e ∷ m) is all
+      go Equal cmp rest = first_then (e.0, n) m (subst P (place_anti p e.0 cmp) is) (if_first e m all (λ rest. rest))
+      go Greater cmp rest = same_first e m (with_entry place_cmp m p n) all rest
 
 -- what holds of the new name and of each place, holds of each place then
 pub all_places_then : (P : Place → Type 0) (s : Server) (p : Place) (n : ℕ) (kind : FileType) → P p → All P (places_of s n) → All P (places_of (with_name p n kind s) n)
-all_places_then P s p n kind new all =
-    let test = λ (found : Found). found.inode == n in
-    let others = λ (found : Found). not (is_place p found.place) in
-    All-same P (places_of (with_name p n kind s) n) (p ∷ places_of (without_name p s) n) (places_then s p n kind)
-    (All-cons P p (places_of (without_name p s) n) new
-    (All-same P (places_of (without_name p s) n) (map (λ found. found.place) (filter test (filter others (reverse s.names))))
-    (ap (λ l. map (λ found. found.place) (filter test l)) (filter-reverse others s.names))
-    (fewer P (λ found. found.place) test others (reverse s.names) all)))
+all_places_then P s p n kind new all = all_then P n s.names p new all
+
+-- a name that was added is among them
+module _ (n : ℕ) where
+  led_first : (p : Place) (m : List (Place × ℕ)) → Contains (places_in ((p, n) ∷ m) n) p
+  led_first p m = ap-contains (unequal_or (n == n) (equal n n refl))
+    where
+      ap-contains : places_in ((p, n) ∷ m) n ≡ p ∷ places_in m n → Contains (places_in ((p, n) ∷ m) n) p
+      ap-contains is = subst (λ l. Contains l p) (sym is) (0, omega arith, refl)
+
+      unequal_or : (b : Bool) → b ≡ true → map (λ (f : Place × ℕ). f.0) (cond b ((p, n) ∷ filter (λ f. f.1 == n) m) (filter (λ f. f.1 == n) m)) ≡ p ∷ places_in m n
+      unequal_or true is = refl
+      unequal_or false is = absurd (cc)
+
+  led_later : (e : Place × ℕ) (m : List (Place × ℕ)) (p : Place) → Contains (places_in m n) p → Contains (places_in (e ∷ m) n) p
+  led_later e m p there = go (e.1 == n)
+    where
+      go : (b : Bool) → Contains (map (λ f. f.0) (cond b (e ∷ filter (λ f. f.1 == n) m) (filter (λ f. f.1 == n) m))) p
+      go true = (suc there.0, omega (arith, there.1), there.2)
+      go false = there
+
+  added_led : (m : List (Place × ℕ)) (p : Place) → Contains (places_in (with_entry place_cmp m p n) n) p
+  added_led [] p = led_first p []
+  added_led (e ∷ m) p = go (place_cmp p e.0) refl (added_led m p)
+    where
+      go : (o : Ordering) → place_cmp p e.0 ≡ o → Contains (places_in (with_entry place_cmp m p n) n) p
+          → Contains (places_in (by_order o ((p, n) ∷ e ∷ m) ((e.0, n) ∷ m) (e ∷ with_entry place_cmp m p n)) n) p
+      go Less cmp rest = led_first p (e ∷ m)
+      go Equal cmp rest = subst (λ q. Contains (places_in ((q, n) ∷ m) n) p) (place_anti p e.0 cmp) (led_first p m)
+      go Greater cmp rest = led_later e (with_entry place_cmp m p n) p rest
+
+pub added_are_places : AddedNamesArePlaces
+added_are_places s p n kind = added_led n s.names p

@@ -2,9 +2,10 @@
 --     HandlesTellDescriptors        a handle tells its process and its descriptor, so no two of these have the same
 --     NodesLeadBack, StaleNodesLeadNowhere, NewNodesLedNowhere, OtherNodesStay        nodes
 --     FoundNodesLeadBack, GoneNodesLeadNowhere, FoundNodesLedNowhere, KnownNodesStay, OtherNodesStayThen        nodes of what is found
---     NamesAreKept, LatestNameIsThePlace        names
+--     NamesAreKept, AddedNamesArePlaces        names
 --     NewServersKeepShares, OneMoreKeepsShares, OneFewerKeepsShares, FurtherUsersMayHold, RootMayHold        shares
 use Rattle.std.specs.Prelude.{◌≡◌, ◌≢◌, ℕ, ◌<◌, ◌^◌, true, List, length, None, Some, IsSome, IsTrue, IsFalse}
+use Rattle.std.specs.List.{Contains}
 use Rattle.fs_model.specs.Limits.{descriptors_limit}
 use Rattle.fs_model.specs.declared.reply.FileType.{FileType}
 use Rattle.fuse_protocol.specs.declared.reply.Time.{Time}
@@ -13,7 +14,7 @@ use Rattle.fuse_state.specs.declared.settings.Settings.{Settings}
 use Rattle.fuse_state.specs.declared.shares.Shares.{Shares}
 use Rattle.fuse_state.specs.Shares.{count_of, may_hold, HasEach, KeepsShares, OneMore}
 use Rattle.fuse_state.specs.Changes.{is_gone, found}
-use Rattle.fuse_state.specs.Servers.{Server, new_server, WithinShares, generation_of, kind_of, node_of, number_of, named, place_of, with_name, without_name, born, handle_of, owner_of, descriptor_of}
+use Rattle.fuse_state.specs.Servers.{Server, new_server, WithinShares, generation_of, kind_of, node_of, number_of, named, places_of, with_name, without_name, born, handle_of, owner_of, descriptor_of}
 
 abbrev pub HandlesTellDescriptors : Type 0
 HandlesTellDescriptors = (pid fd : ℕ) → fd < descriptors_limit → (owner_of (handle_of pid fd) ≡ pid) × (descriptor_of (handle_of pid fd) ≡ fd)
@@ -77,8 +78,9 @@ pub record KeepsNames (s : Server) (p : Place) (n : ℕ) (kind : FileType) : Typ
 abbrev pub NamesAreKept : Type 0
 NamesAreKept = (s : Server) (p : Place) (n : ℕ) (kind : FileType) → KeepsNames s p n kind
 
-abbrev pub LatestNameIsThePlace : Type 0
-LatestNameIsThePlace = (s : Server) (p : Place) (n : ℕ) (kind : FileType) → place_of (with_name p n kind s) n ≡ Some p
+-- a name that was added is among the places of its object
+abbrev pub AddedNamesArePlaces : Type 0
+AddedNamesArePlaces = (s : Server) (p : Place) (n : ℕ) (kind : FileType) → Contains (places_of (with_name p n kind s) n) p
 
 -- ---- shares
 

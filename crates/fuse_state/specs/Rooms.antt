@@ -1,9 +1,7 @@
 -- Room that is reserved for what a server keeps.
 --     Kept        what it keeps, and for how many more things it has memory
 --     HasRoom        what it takes that there is so much room
---     given_back        a name that was lent stands in its place again
-use Rattle.std.specs.Prelude.{ℕ, ◌+◌, ◌<◌, ◌≤◌, ◌^◌, slice_set}
-use Rattle.fuse_state.specs.declared.place.Lent.{Lent}
+use Rattle.std.specs.Prelude.{ℕ, ◌+◌, ◌<◌, ◌≤◌, ◌^◌}
 use Rattle.fuse_state.specs.Servers.{Server}
 
 pub record Kept : Type 0 where
@@ -21,6 +19,3 @@ pub record HasRoom (room generations kinds names times processes handles directo
   pub for_handles : room ≤ handles
   pub for_directories : room ≤ directories
   pub for_numbers : next_directory + room < 2 ^ 64
-
-abbrev pub given_back : Lent → Kept → Kept
-given_back lent k = record k { server = record k.server { names = slice_set k.server.names lent.at lent.found } }

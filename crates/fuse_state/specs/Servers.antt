@@ -2,7 +2,7 @@
 --     Server, new_server        the whole
 --     node_of, number_of        nodes, by which the kernel names objects, and the numbers of their inodes
 --     named, with_name, without_name, born        names, all that were found and still stand
---     places_of, places_before, place_of        where an object is known
+--     place_cmp, places_of, place_of        the order of places, and where an object is known
 --     times_of, touched, changed        times of objects
 --     processes_of, held_by, ..        processes, and the descriptors that they hold
 --     owner_of, descriptor_of, handle_of        a handle is a process and one of its descriptors
@@ -10,12 +10,13 @@
 --     may_take_process, may_open_directory        whether a user may hold one more
 --     opened, with_listing, without_directory        open directories
 --     WithinShares        none holds more than it may
-use Rattle.std.specs.Prelude.{◌≡◌, ℕ, ◌+◌, ◌*◌, ◌/◌, ◌%◌, ◌^◌, ◌==◌, ◌≤◌, nat_eq, nat_lt, nat_le, Bool, true, false, not, ◌&&◌, List, [], ◌∷◌, ◌++◌, length, map, reverse, take, bytes_eq, Option, None, Some, is_some, unwrap_or, option_map, if◌then◌else◌}
-use Rattle.std.specs.Ordering.{nat_cmp}
-use Rattle.std.specs.List.{filter, find}
+use Rattle.std.specs.Prelude.{◌≡◌, ℕ, ◌+◌, ◌*◌, ◌/◌, ◌%◌, ◌^◌, ◌==◌, ◌≤◌, nat_eq, nat_lt, nat_le, Bool, true, false, not, ◌&&◌, List, [], ◌∷◌, length, map, Option, None, Some, is_some, unwrap_or, if◌then◌else◌}
+use Rattle.std.specs.declared.cmp.Ordering.{Ordering}
+use Rattle.std.specs.Ordering.{nat_cmp, ordering_then}
+use Rattle.std.specs.List.{filter}
 use Rattle.std.specs.Cmp.Lexicographic.{pointwise}
 use Rattle.fs_cred.specs.Credentials.{Credential}
-use Rattle.fs_layout.specs.Maps.{get, with_entry, without, IsMap}
+use Rattle.fs_layout.specs.Maps.{get, with_entry, without, IsMap, name_cmp}
 use Rattle.fs_model.specs.Limits.{root, descriptors_limit}
 use Rattle.fs_model.specs.declared.reply.FileType.{FileType}
 use Rattle.fs_model.specs.declared.reply.FileType.TheVariants.{Directory}
@@ -23,7 +24,6 @@ use Rattle.fuse_protocol.specs.declared.reply.Time.{Time}
 use Rattle.fuse_state.specs.Shares.{process_shares, directory_shares, may_hold, KeepsShares}
 use Rattle.fuse_state.specs.declared.directory.OpenDirectory.{OpenDirectory}
 use Rattle.fuse_state.specs.declared.place.Place.{Place}
-use Rattle.fuse_state.specs.declared.place.Found.{Found}
 use Rattle.fuse_state.specs.declared.settings.Settings.{Settings}
 use Rattle.fuse_state.specs.declared.times.Times.{Times}
 
@@ -33,8 +33,8 @@ pub record Server : Type 0 where
   pub generations : List (ℕ × ℕ)
   -- of the objects that the kernel was told of
   pub kinds : List (ℕ × FileType)
-  -- the names that were found and still stand, the latest last
-  pub names : List Found
+  -- the names that were found and still stand, and which inodes they lead to
+  pub names : List (Place × ℕ)
   pub times : List (ℕ × Times)
   -- the processes of callers, and the server's own
   pub processes : List (ℕ × Credential)
@@ -89,40 +89,37 @@ number_of s node =
 
 -- ---- names
 
-abbrev pub is_place : Place → Place → Bool
-is_place p q = p.directory == q.directory && bytes_eq p.name q.name
+-- the order of places: by directories, and in each by names
+abbrev pub place_cmp : Place → Place → Ordering
+place_cmp p q = ordering_then (nat_cmp p.directory q.directory) (name_cmp p.name q.name)
 
 -- the number that a name leads to
 abbrev pub named : Server → Place → Option ℕ
-named s p = option_map (λ found. found.inode) (find (λ found. is_place p found.place) s.names)
+named s p = get place_cmp s.names p
 
--- where an object is known by these names, the latest first
-abbrev pub places_in : List Found → ℕ → List Place
-places_in names n = map (λ found. found.place) (filter (λ found. found.inode == n) (reverse names))
+-- where an object is known by these names, in the order of places
+abbrev pub places_in : List (Place × ℕ) → ℕ → List Place
+places_in names n = map (λ e. e.0) (filter (λ e. e.1 == n) names)
 
 abbrev pub places_of : Server → ℕ → List Place
 places_of s n = places_in s.names n
-
--- by the first so many names alone
-abbrev pub places_before : Server → ℕ → ℕ → List Place
-places_before s before n = places_in (take before s.names) n
 
 abbrev pub first_of : {X : Type 0} → List X → Option X
 first_of [] = None
 first_of (x ∷ xs) = Some x
 
--- the latest
+-- the first of them
 abbrev pub place_of : Server → ℕ → Option Place
 place_of s n = first_of (places_of s n)
 
 abbrev pub without_name : Place → Server → Server
-without_name p s = record s { names = filter (λ found. not (is_place p found.place)) s.names }
+without_name p s = record s { names = without place_cmp s.names p }
 
 -- the name leads to the object, and to no other
 abbrev pub with_name : Place → ℕ → FileType → Server → Server
 with_name p n kind s = record s {
   kinds = with_entry nat_cmp s.kinds n kind;
-  names = (without_name p s).names ++ record { place = p; inode = n } ∷ [];
+  names = with_entry place_cmp s.names p n;
 }
 
 -- ---- times

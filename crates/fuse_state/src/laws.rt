@@ -1,5 +1,5 @@
 //! Laws of what a server keeps, each proved by a function that does nothing: its contract is the law.
-ghost use Rattle.fuse_state.specs.Laws.{HandlesTellDescriptors, NodesLeadBack, StaleNodesLeadNowhere, NewNodesLedNowhere, OtherNodesStay, FoundNodesLeadBack, GoneNodesLeadNowhere, FoundNodesLedNowhere, KnownNodesStay, OtherNodesStayThen, NamesAreKept, LatestNameIsThePlace, NewServersKeepShares, OneMoreKeepsShares, OneFewerKeepsShares, FurtherUsersMayHold, RootMayHold};
+ghost use Rattle.fuse_state.specs.Laws.{HandlesTellDescriptors, NodesLeadBack, StaleNodesLeadNowhere, NewNodesLedNowhere, OtherNodesStay, FoundNodesLeadBack, GoneNodesLeadNowhere, FoundNodesLedNowhere, KnownNodesStay, OtherNodesStayThen, NamesAreKept, AddedNamesArePlaces, NewServersKeepShares, OneMoreKeepsShares, OneFewerKeepsShares, FurtherUsersMayHold, RootMayHold};
 
 /// A handle tells its process and its descriptor: no two of these have the same.
 pub fn handles_tell_descriptors()
@@ -28,11 +28,11 @@ pub fn found_nodes_lead_to_objects()
     ensures others { OtherNodesStayThen }
 {}
 
-/// A name that is added leads to its object, and is its place; one that is removed leads nowhere; each other leads where it
+/// A name that is added leads to its object, and is among its places; one that is removed leads nowhere; each other leads where it
 /// did.
 pub fn names_are_kept()
     ensures names { NamesAreKept }
-    ensures place { LatestNameIsThePlace }
+    ensures place { AddedNamesArePlaces }
 {}
 
 /// As long as each user takes only what it may, others find some.

@@ -5,10 +5,12 @@
 //! room that `prepare` reserved.
 #![tactic(auto)]
 
+mod borrower;
 mod directory;
 mod handle;
 mod keeping;
 mod laws;
+mod names;
 mod place;
 mod server;
 mod settings;
@@ -16,6 +18,7 @@ mod shares;
 mod table;
 mod times;
 
+pub use borrower::Borrower;
 pub use directory::OpenDirectory;
 pub use handle::{descriptor_of, handle_of, owner_of};
 pub use keeping::Keeping;
@@ -23,7 +26,7 @@ pub use laws::{
     found_nodes_lead_to_objects, handles_tell_descriptors, names_are_kept, nodes_lead_to_objects,
     shares_are_kept,
 };
-pub use place::{Found, Lent, Place};
+pub use place::Place;
 pub use server::{REQUEST_ROOM, Server};
 pub use settings::Settings;
 pub use shares::Shares;

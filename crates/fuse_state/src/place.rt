@@ -2,6 +2,7 @@
 ghost use Rattle.std.specs.Prelude.{◌≡◌};
 
 use fs_model::Name;
+use std::cmp::Ordering;
 
 /// A name in a directory.
 #[derive(Drop)]
@@ -13,25 +14,20 @@ pub struct Place {
 
 /// A name, and the inode that it leads to.
 #[derive(Drop)]
-pub struct Found {
-    pub place: Place,
-    pub inode: u32,
-}
-
-/// A name that was lent, to be given back, and where it stands among the names.
-#[derive(Drop)]
-pub struct Lent {
-    pub at: usize,
-    pub found: Found,
+pub(crate) struct Found {
+    pub(crate) place: Place,
+    pub(crate) inode: u32,
 }
 
 impl Place {
-    ghost use Rattle.fuse_state.specs.Servers.{is_place};
+    ghost use Rattle.fuse_state.specs.Servers.{place_cmp};
 
-    /// Whether this is the same name in the same directory.
-    pub fn is_same(&self, other: &Place) -> bool
-        ensures { result ≡ is_place self.now other.now }
+    /// Which comes first: by directories, and in each by names.
+    pub(crate) fn compare(&self, other: &Place) -> Ordering
+        ensures { result ≡ place_cmp self.now other.now }
     {
-        self.directory == other.directory && self.name.bytes() == other.name.bytes()
+        self.directory
+            .cmp(&other.directory)
+            .then_with(|| self.name.bytes().cmp(other.name.bytes()))
     }
 }

@@ -11,7 +11,7 @@ mod processes;
 mod times;
 
 use crate::directory::OpenDirectory;
-use crate::place::Found;
+use crate::names::Names;
 use crate::settings::Settings;
 use crate::table::Table;
 use crate::times::Times;
@@ -33,8 +33,7 @@ pub struct Server {
     settings: Settings,
     generations: Table<u32>,
     kinds: Table<FileType>,
-    // The latest last.
-    names: Vec<Found>,
+    names: Names,
     times: Table<Times>,
     processes: Table<Cred>,
     looker: Option<usize>,
@@ -46,7 +45,6 @@ pub struct Server {
 }
 
 impl Model for Server {
-    ghost use Rattle.std.specs.Prelude.{◌-◌, vec_len, vec_capacity};
     ghost use Rattle.fuse_state.specs.Rooms.{Kept, HasRoom};
 
     ghost Value = { Kept };
@@ -56,7 +54,7 @@ impl Model for Server {
         settings = s.settings;
         generations = s.generations.0;
         kinds = s.kinds.0;
-        names = s.names.items;
+        names = s.names.0;
         times = s.times.0;
         processes = s.processes.0;
         looker = s.looker;
@@ -68,7 +66,7 @@ impl Model for Server {
       room = s.room;
     } };
 
-    ghost invariant = { λ s. HasRoom s.room s.generations.1 s.kinds.1 (vec_capacity s.names - vec_len s.names) s.times.1 s.processes.1 s.handles.1 s.directories.1 s.next_directory };
+    ghost invariant = { λ s. HasRoom s.room s.generations.1 s.kinds.1 s.names.1 s.times.1 s.processes.1 s.handles.1 s.directories.1 s.next_directory };
 }
 
 impl Server {
@@ -83,7 +81,7 @@ impl Server {
             settings,
             generations: Table::new(alloc),
             kinds,
-            names: Vec::new(alloc),
+            names: Names::new(alloc),
             times: Table::new(alloc),
             processes: Table::new(alloc),
             looker: None,

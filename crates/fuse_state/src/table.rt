@@ -93,7 +93,7 @@ impl<V: Drop> Table<V> {
 // The place of a key among rising keys, or where it would stand.
 fn place_of<V>(entries: &[(u64, V)], key: u64) -> Result<usize, usize>
     requires { IsMap nat_cmp entries.now }
-    ensures { MatchResult result (IsAt entries.now key) (IsGap entries.now key) }
+    ensures { MatchResult result (IsAt entries.now key) (IsGap nat_cmp entries.now key) }
 {
     entries.binary_search_by_key(&key, |entry| entry.0)
 }

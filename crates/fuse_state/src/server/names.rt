@@ -1,35 +1,28 @@
 //! Names that were found and still stand.
-ghost use Rattle.std.specs.Prelude.{◌≡◌, ◌+◌, ◌<◌, ◌≤◌, [], ◌∷◌, length, option_copied, IsNone, IfSome};
-ghost use Rattle.fuse_state.specs.Servers.{named, places_before, place_of, with_name, without_name, born};
-ghost use Rattle.fuse_state.specs.Rooms.{given_back};
+ghost use Rattle.std.specs.Prelude.{◌≡◌, ◌≢◌, ◌+◌, ◌≤◌, length, slice_get, option_copied, Some, None, IsNone, IfSome};
+ghost use Rattle.fuse_state.specs.declared.place.Place.{Place as PlaceOf};
+ghost use Rattle.fuse_state.specs.Servers.{named, places_of, place_of, with_name, without_name, born};
 
 use super::Server;
-use crate::place::{Found, Lent, Place};
+use crate::borrower::Borrower;
+use crate::place::Place;
 use crate::times::Times;
-use fs_model::{FileType, Name};
+use fs_model::{Call, FileType, Name};
 use fuse_protocol::Time;
-use std::mem;
 
 impl Server {
     /// The inode that a name leads to.
     pub fn named(&self, place: &Place) -> Option<u32>
         ensures { result ≡ named self.now.server place.now }
     {
-        self.names
-            .iter()
-            .find(|found| place.is_same(&found.place))
-            .map(|found| found.inode)
+        self.names.get(place)
     }
 
-    /// The name by which an object was found last.
+    /// The first name by which an object is known.
     pub fn place_of(&self, inode: u32) -> Option<&Place>
         ensures { option_copied result ≡ place_of self.now.server inode }
     {
-        self.names
-            .iter()
-            .rev()
-            .find(|found| found.inode == inode)
-            .map(|found| &found.place)
+        self.names.place_of(inode, 0)
     }
 
     // A name leads to an object of this kind, and to no other.
@@ -39,8 +32,7 @@ impl Server {
         ensures room { self.old.room ≤ self.new.room + 1 }
     {
         self.kinds.put(u64::from(inode), kind);
-        self.names.retain(|found| !place.is_same(&found.place));
-        self.names.push_reserved(Found { place, inode });
+        self.names.put(place, inode);
         self.room -= 1;
     }
 
@@ -49,7 +41,7 @@ impl Server {
         ensures kept { self.new.server ≡ without_name place.now self.old.server }
         ensures room { self.new.room ≡ self.old.room }
     {
-        self.names.retain(|found| !place.is_same(&found.place));
+        self.names.remove(place);
     }
 
     /// A new object has the inode, and a name.
@@ -72,48 +64,27 @@ impl Server {
         self.touch(now, directory);
     }
 
-    /// How many names there are.
-    pub fn names_count(&self) -> usize
-        ensures { result ≡ length self.now.server.names }
+    /// A call of a process by one of the names that lead to an object: by so many in the order of their places, counted from 0.
+    /// The name is lent; an empty one stands for it meanwhile. Without such a name there is no call.
+    pub fn call_at<Reply, B: Borrower<Reply>>(
+        &mut self,
+        borrower: &mut B,
+        pid: usize,
+        second: Option<u32>,
+        call: &mut Call,
+        inode: u32,
+        at: usize,
+        blank: Name,
+    ) -> Option<Reply>
+        requires { B.Takes call.old }
+        ensures made { IfSome result (λ reply. (p : PlaceOf) × (slice_get (places_of self.old.server inode) at ≡ Some p)
+            × B.Calls borrower.old pid second call.old p reply borrower.new) }
+        ensures none { IsNone result → slice_get (places_of self.old.server inode) at ≡ None }
+        ensures idle { IsNone result → borrower.new ≡ borrower.old }
+        ensures call { call.new ≡ call.old }
+        ensures kept { self.new ≡ self.old }
     {
-        self.names.len()
-    }
-
-    /// The name by which an object was found last, of the first so many, as its own: it is to be given back by
-    /// [`Server::give_back`] before anything else is asked of the server. An empty name stands for it meanwhile.
-    pub fn lend_place(&mut self, inode: u32, before: usize, blank: Name) -> Option<Lent>
-        requires { before ≤ length self.old.server.names }
-        ensures none { IsNone result → places_before self.old.server before inode ≡ [] }
-        ensures found { IfSome result (λ lent.
-            places_before self.old.server before inode ≡ lent.found.place ∷ places_before self.old.server lent.at inode) }
-        ensures earlier { IfSome result (λ lent. lent.at < before) }
-        ensures kept { IfSome result (λ lent. self.old ≡ given_back lent self.new) }
-        ensures same { IsNone result → self.new ≡ self.old }
-    {
-        let later = self.names[..before]
-            .iter()
-            .rev()
-            .position(|found| found.inode == inode)?;
-        let at = before - 1 - later;
-        let found = &mut self.names[at];
-        let name = mem::replace(&mut found.place.name, blank);
-        let directory = found.place.directory;
-        Some(Lent {
-            at,
-            found: Found {
-                place: Place { directory, name },
-                inode: found.inode,
-            },
-        })
-    }
-
-    /// Gives back a name that was lent.
-    pub fn give_back(&mut self, lent: Lent)
-        ensures { self.new ≡ given_back lent self.old }
-    {
-        let Lent { at, found } = lent;
-        if at < self.names.len() {
-            self.names[at] = found;
-        }
+        self.names
+            .call_at(borrower, pid, second, call, inode, at, blank)
     }
 }
