@@ -101,7 +101,7 @@ pub unlink_open : played new (
     ∷ (((Calls 2 (Close 0)) ∷ []), Told Nothing)
     ∷ (((Enter 2 1 1) ∷ (Calls 2 (Lstat (codes "v"))) ∷ (Enter 2 1 1) ∷ []), Told (Found 4294967299 0 (attributes (status 3 File 493 1 0 0 0) (second 1000000026) (second 1000000026) (second 1000000026))))
     ∷ (((Enter 2 1 1) ∷ (Calls 2 (Lstat (codes "v2"))) ∷ (Enter 2 1 1) ∷ []), Error 2)
-    ∷ (((Enter 2 1 1) ∷ (Calls 2 (Link (codes "v") (codes "v2"))) ∷ (Enter 2 1 1) ∷ (Enter 1 1 1) ∷ (Calls 1 (Lstat (codes "v2"))) ∷ (Enter 1 1 1) ∷ []), Told (Found 4294967299 0 (attributes (status 3 File 493 2 0 0 0) (second 1000000026) (second 1000000026) (second 1000000035))))
+    ∷ (((Enter 2 1 1) ∷ (Calls 2 (Link (codes "v") (codes "v2"))) ∷ (Enter 2 1 1) ∷ (Enter 1 1 1) ∷ (Calls 1 (Lstat (codes "v"))) ∷ (Enter 1 1 1) ∷ []), Told (Found 4294967299 0 (attributes (status 3 File 493 2 0 0 0) (second 1000000026) (second 1000000026) (second 1000000035))))
     ∷ (((Enter 2 1 1) ∷ (Calls 2 (Lstat (codes "v"))) ∷ (Enter 2 1 1) ∷ []), Told (Found 4294967299 0 (attributes (status 3 File 493 2 0 0 0) (second 1000000026) (second 1000000026) (second 1000000035))))
     ∷ (((Enter 2 1 1) ∷ (Calls 2 (Open (codes "v") (flags Both false false false true false) 0)) ∷ (Enter 2 1 1) ∷ (Calls 2 (Fstat 0)) ∷ []), Told (Opened 64 none_kept))
     ∷ ([], Silent)

@@ -31,9 +31,9 @@ pub open_by_other : played new (
     ∷ (((Enter 3 3 3) ∷ (Calls 3 (Lstat (codes "f"))) ∷ (Enter 3 1 1) ∷ []), Told (Found 4 0 (attributes (status 4 File 384 2 7 7 5) (second 1000000001) (second 1000000001) (second 1000000001))))
     ∷ (((Enter 2 2 2) ∷ (Calls 2 (Lstat (codes "f"))) ∷ (Enter 2 1 1) ∷ []), Told (Found 4 0 (attributes (status 4 File 384 2 7 7 5) (second 1000000001) (second 1000000001) (second 1000000001))))
     ∷ (((Enter 3 2 2) ∷ (Calls 3 (Open (codes "f") (flags Reads false false false true false) 0)) ∷ (Enter 3 1 1) ∷ (Enter 3 3 3) ∷ (Calls 3 (Open (codes "f") (flags Reads false false false true false) 0)) ∷ (Enter 3 1 1) ∷ (Calls 3 (Fstat 0)) ∷ []), Told (Opened 96 none_kept))
-    ∷ (((Enter 3 2 3) ∷ (Calls 3 (Link (codes "f") (codes "g"))) ∷ (Enter 3 1 1) ∷ (Enter 3 3 3) ∷ (Calls 3 (Link (codes "f") (codes "g"))) ∷ (Enter 3 1 1) ∷ (Enter 1 3 3) ∷ (Calls 1 (Lstat (codes "g"))) ∷ (Enter 1 1 1) ∷ []), Told (Found 4 0 (attributes (status 4 File 384 3 7 7 5) (second 1000000001) (second 1000000001) (second 1000000007))))
-    ∷ (((user 8 8 []) ∷ (Enter 4 3 3) ∷ (Calls 4 (Open (codes "g") (flags Reads false false false true false) 0)) ∷ (Enter 4 1 1) ∷ (Enter 4 2 2) ∷ (Calls 4 (Open (codes "f") (flags Reads false false false true false) 0)) ∷ (Enter 4 1 1) ∷ (Enter 4 3 3) ∷ (Calls 4 (Open (codes "f") (flags Reads false false false true false) 0)) ∷ (Enter 4 1 1) ∷ []), Error 13)
-    ∷ (((Enter 4 3 3) ∷ (Calls 4 (Open (codes "g") (flags Reads false false false true false) 0)) ∷ (Enter 4 1 1) ∷ (Enter 4 2 2) ∷ (Calls 4 (Open (codes "f") (flags Reads false false false true false) 0)) ∷ (Enter 4 1 1) ∷ []), Error 2)
+    ∷ (((Enter 3 2 3) ∷ (Calls 3 (Link (codes "f") (codes "g"))) ∷ (Enter 3 1 1) ∷ (Enter 3 3 3) ∷ (Calls 3 (Link (codes "f") (codes "g"))) ∷ (Enter 3 1 1) ∷ (Enter 1 2 2) ∷ (Calls 1 (Lstat (codes "f"))) ∷ (Enter 1 1 1) ∷ []), Told (Found 4 0 (attributes (status 4 File 384 3 7 7 5) (second 1000000001) (second 1000000001) (second 1000000007))))
+    ∷ (((user 8 8 []) ∷ (Enter 4 2 2) ∷ (Calls 4 (Open (codes "f") (flags Reads false false false true false) 0)) ∷ (Enter 4 1 1) ∷ (Enter 4 3 3) ∷ (Calls 4 (Open (codes "f") (flags Reads false false false true false) 0)) ∷ (Enter 4 1 1) ∷ (Enter 4 3 3) ∷ (Calls 4 (Open (codes "g") (flags Reads false false false true false) 0)) ∷ (Enter 4 1 1) ∷ []), Error 13)
+    ∷ (((Enter 4 2 2) ∷ (Calls 4 (Open (codes "f") (flags Reads false false false true false) 0)) ∷ (Enter 4 1 1) ∷ (Enter 4 3 3) ∷ (Calls 4 (Open (codes "f") (flags Reads false false false true false) 0)) ∷ (Enter 4 1 1) ∷ []), Error 2)
     ∷ []
 unfolding all_plans
 open_by_other = refl

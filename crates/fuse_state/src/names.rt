@@ -1,7 +1,7 @@
 //! Names that were found, each kept once, and found by its place and by the inode that it leads to.
 //!
 //! A map that hashes would put names in no order, and `BTreeMap` reserves no room.
-ghost use Rattle.std.specs.Prelude.{◌≡◌, ◌+◌, ◌<◌, ◌≤◌, [], length, drop, slice_get, slice_index_or, None, Some, option_copied, OnOk, IsSome, IfSome, IsNone, MatchResult};
+ghost use Rattle.std.specs.Prelude.{◌≡◌, ◌+◌, ◌^◌, ◌<◌, ◌≤◌, [], length, drop, slice_get, slice_index_or, None, Some, option_copied, OnOk, IsSome, IfSome, IsNone, MatchResult};
 ghost use Rattle.fs_layout.specs.Maps.{get, with_entry, without, IsMap};
 ghost use Rattle.fuse_state.specs.Names.{by_places, by_inodes, found, compare_place, compare_found, is_below, leads_to, found_at, found_cmp, keys_of, Stand, BeginsAt};
 ghost use Rattle.fuse_state.specs.declared.place.Place.{Place as PlaceOf};
@@ -158,6 +158,7 @@ impl Names {
         ensures made { IfSome result (λ reply. (p : PlaceOf) × (slice_get (places_in self.old.0 inode) at ≡ Some p)
             × B.Calls borrower.old pid second call.old p reply borrower.new) }
         ensures none { IsNone result → slice_get (places_in self.old.0 inode) at ≡ None }
+        ensures next { IsSome result → at + 1 < 2 ^ 64 }
         ensures idle { IsNone result → borrower.new ≡ borrower.old }
         ensures call { call.new ≡ call.old }
         ensures kept { self.new ≡ self.old }
@@ -261,6 +262,7 @@ fn key_of(names: &Slab<Found>, keys: &[usize], inode: u32, at: usize) -> Option<
     requires rising { IsMap found_cmp (by_inodes names.now.slots keys.now) }
     requires stand { Stand names.now.slots keys.now }
     ensures key { result ≡ slice_get (keys_of names.now.slots keys.now inode) at }
+    ensures within { IsSome result → at < length keys.now }
     ensures stands { IfSome result (λ key. slice_index_or names.now.slots key None ≡ Some (found_at names.now.slots key)) }
 {
     let first = first_of(names, keys, inode);

@@ -1,10 +1,10 @@
 //! A machine with the two paths by which its root and a process's own directory are called.
 //!
-//! Calls own their paths. These two are lent to them in turn, so that no call needs memory.
+//! Calls own their paths. These two are lent to them in turn, and so are the names that a server keeps: no call needs memory.
 ghost use Rattle.std.specs.Prelude.{◌≡◌, codes, IsTrue, MatchResult};
 ghost use Rattle.fs_model.specs.Steps.{is_of_machine};
 ghost use Rattle.fs_model.specs.declared.event.Event.TheVariants.{Call as Calls};
-ghost use Rattle.fuse_plans.specs.Callers.{inside};
+ghost use Rattle.fuse_plans.specs.Callers.{at_place, inside};
 ghost use Rattle.fuse_plans.specs.Paths.{at_path, takes_path};
 ghost use Rattle.fuse_steps.specs.Performing.{DidByMachine};
 ghost use Rattle.fuse_plans.specs.Works.{obtain};
@@ -13,8 +13,9 @@ use crate::asker::{between, obtain_call};
 use crate::machine::Machine;
 use crate::path::swap_path;
 use fs_cred::Cred;
-use fs_model::{Call, Event, Path, Reply};
+use fs_model::{Call, Event, Name, Path, Reply};
 use fuse_plans::Stop;
+use fuse_state::{Borrower, Place};
 use std::alloc::Global;
 use std::marker::Model;
 
@@ -49,6 +50,37 @@ impl<M: Machine> Machine for WithPaths<M> {
 
     fn spawn(&mut self, cred: &Cred) -> Reply {
         self.machine.spawn(cred)
+    }
+}
+
+impl<M: Machine> Borrower<Result<Reply, Stop>> for WithPaths<M> {
+    ghost Takes = { λ call. IsTrue (takes_path call) };
+
+    ghost Calls = { λ old pid second call place reply new. DidByMachine M.Serves (at_place pid second (at_path call) place) old new reply };
+
+    fn call_at(
+        &mut self,
+        pid: usize,
+        second: Option<u32>,
+        call: &mut Call,
+        place: Place,
+    ) -> (Result<Reply, Stop>, Place) {
+        let Place { directory, name } = place;
+        let mut path = Path::new(name.into_bytes());
+        swap_path(call, &mut path);
+        let reply = between(
+            &mut self.machine,
+            pid,
+            directory,
+            second.unwrap_or(directory),
+            call,
+        );
+        swap_path(call, &mut path);
+        let place = Place {
+            directory,
+            name: Name::new(path.into_bytes()),
+        };
+        (reply, place)
     }
 }
 

@@ -1,5 +1,5 @@
 //! Names that were found and still stand.
-ghost use Rattle.std.specs.Prelude.{◌≡◌, ◌≢◌, ◌+◌, ◌≤◌, length, slice_get, option_copied, Some, None, IsNone, IfSome};
+ghost use Rattle.std.specs.Prelude.{◌≡◌, ◌+◌, ◌^◌, ◌<◌, ◌≤◌, slice_get, option_copied, Some, None, IsNone, IsSome, IfSome};
 ghost use Rattle.fuse_state.specs.declared.place.Place.{Place as PlaceOf};
 ghost use Rattle.fuse_state.specs.Servers.{named, places_of, place_of, with_name, without_name, born};
 
@@ -80,6 +80,7 @@ impl Server {
         ensures made { IfSome result (λ reply. (p : PlaceOf) × (slice_get (places_of self.old.server inode) at ≡ Some p)
             × B.Calls borrower.old pid second call.old p reply borrower.new) }
         ensures none { IsNone result → slice_get (places_of self.old.server inode) at ≡ None }
+        ensures next { IsSome result → at + 1 < 2 ^ 64 }
         ensures idle { IsNone result → borrower.new ≡ borrower.old }
         ensures call { call.new ≡ call.old }
         ensures kept { self.new ≡ self.old }

@@ -36,11 +36,11 @@ invariant_of-self c =
     let ok_held = c.insert-held.ensures.succeeds fits_inodes in
     let none = place_missing _ _ _ c.self.invariant.0 c.args.place (ap (λ n. get place_cmp n.0 c.args.place) c.self.view_is ∙ c.requires.new) in (
       still_indexed refl
-      (insertion c.self.inside.by_place.items _ c.in-Err.at key _ ok_placed c.insert-placed.ensures.items)
-      (insertion c.self.inside.by_inode.items _ c.in-Err-search_inodes.behind key _ ok_held c.insert-held.ensures.items)
-      (added_indexed c.self.inside.found.slots _ _ c.self.invariant.0 c.insert_reserved-key.new.self.slots key updates.others (found c.args.place c.args.inode)
-      c.insert_reserved-key.ensures.was_vacant updates.changed none c.in-Err.at c.in-Err-search_inodes.behind
-      (rw c.deref.ensures.value at c.in-Err.ensures) (rw c.deref-2.ensures.value at c.in-Err-search_inodes.ensures)),
+          (insertion c.self.inside.by_place.items _ c.in-Err.at key _ ok_placed c.insert-placed.ensures.items)
+          (insertion c.self.inside.by_inode.items _ c.in-Err-search_inodes.behind key _ ok_held c.insert-held.ensures.items)
+          (added_indexed c.self.inside.found.slots _ _ c.self.invariant.0 c.insert_reserved-key.new.self.slots key updates.others (found c.args.place c.args.inode)
+          c.insert_reserved-key.ensures.was_vacant updates.changed none c.in-Err.at c.in-Err-search_inodes.behind
+          (rw c.deref.ensures.value at c.in-Err.ensures) (rw c.deref-2.ensures.value at c.in-Err-search_inodes.ensures)),
       record {
         for_found = omega (arith, rooms.for_found, c.requires.room, room, c.insert_reserved-key.ensures.len, c.insert_reserved-key.ensures.capacity);
         for_places = omega (arith, rooms.for_places, c.requires.room, room, longer _ _ _ ok_placed c.insert-placed.ensures.len, c.insert-placed.ensures.capacity);

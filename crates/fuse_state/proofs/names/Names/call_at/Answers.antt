@@ -33,11 +33,12 @@ pub returns-clause-made : goal.returns-clause-made
 returns-clause-made g c =
     let f = c.in_ok-found.found.now in
     let there = sym (rw c.in_ok-found.was at c.get_mut.ensures.value) in
-    let read : Some f ≡ Some (found_at c.self.inside.found.slots c.in_ok-key.key) = sym there ∙ c.in_ok-key.ensures.stands in
-    (record { directory = f.place.directory; name = c.replace-name.result },
-    sym (ap (λ n. slice_get (places_in n.0 c.args.inode) c.args.at) c.self.view_is)
-    ∙ nth_place _ _ _ c.self.invariant.0 c.args.inode c.args.at
-    ∙ ap (option_map (λ k. (found_at c.self.inside.found.slots k).place)) (sym (rw c.deref.ensures.value at c.key_of.ensures.key) ∙ c.in_ok-key.was)
-    ∙ ap (option_map (λ g. g.place)) (sym read)
-    ∙ ap (λ n. Some (record f.place { name = n })) (sym c.replace-name.ensures.value),
-    c.call_at-reply.ensures.did)
+    let read : Some f ≡ Some (found_at c.self.inside.found.slots c.in_ok-key.key) = sym there ∙ c.in_ok-key.ensures.stands in (
+      record { directory = f.place.directory; name = c.replace-name.result },
+      sym (ap (λ n. slice_get (places_in n.0 c.args.inode) c.args.at) c.self.view_is)
+          ∙ nth_place _ _ _ c.self.invariant.0 c.args.inode c.args.at
+          ∙ ap (option_map (λ k. (found_at c.self.inside.found.slots k).place)) (sym (rw c.deref.ensures.value at c.key_of.ensures.key) ∙ c.in_ok-key.was)
+          ∙ ap (option_map (λ g. g.place)) (sym read)
+          ∙ ap (λ n. Some (record f.place { name = n })) (sym c.replace-name.ensures.value),
+      c.call_at-reply.ensures.did,
+    )

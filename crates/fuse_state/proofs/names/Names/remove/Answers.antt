@@ -47,8 +47,8 @@ invariant_of-self c =
     let fewer : slab_len c.try_remove-found.new.self + 1 ≡ slab_len c.self.inside.found =
     subst (λ r. OnSome r (slab_len c.try_remove-found.new.self + 1 ≡ slab_len c.self.inside.found)) (c.try_remove-found.ensures.value ∙ there) c.try_remove-found.ensures.len in (
       still_indexed refl c.remove-placed.ensures.items c.remove-held.ensures.items
-      (gone_indexed _ _ _ c.self.invariant.0 c.try_remove-found.new.self.slots k c.try_remove-found.ensures.updates.others c.args.place.now c.in-Some.found.now key there
-      c.in-Ok.at c.in-Ok-search_inodes.behind (rw c.deref.ensures.value at c.in-Ok.ensures) (rw c.deref-2.ensures.value at c.in-Ok-search_inodes.ensures)),
+          (gone_indexed _ _ _ c.self.invariant.0 c.try_remove-found.new.self.slots k c.try_remove-found.ensures.updates.others c.args.place.now c.in-Some.found.now key there
+          c.in-Ok.at c.in-Ok-search_inodes.behind (rw c.deref.ensures.value at c.in-Ok.ensures) (rw c.deref-2.ensures.value at c.in-Ok-search_inodes.ensures)),
       record {
         for_found = omega (arith, rooms.for_found, fewer, c.try_remove-found.ensures.capacity);
         for_places = omega (arith, rooms.for_places, c.remove-placed.ensures.len, c.remove-placed.ensures.capacity);
