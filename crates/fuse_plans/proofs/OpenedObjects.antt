@@ -1,7 +1,7 @@
 -- What an OPEN has opened is the object of its node.
 --     run->>=        what is asked where one piece follows another
 --     opened_is_the_object
-use Rattle.std.specs.Prelude.{◌≡◌, ℕ, ◌==◌, nat_lt, Bool, true, false, ◌&&◌, cond, List, [], ◌∷◌, ◌++◌, All, Option, None, Some, unwrap_or, Result, Ok, Err, if◌then◌else◌}
+use Rattle.std.specs.Prelude.{◌≡◌, ℕ, ◌==◌, nat_le, nat_lt, Bool, true, false, ◌&&◌, cond, List, [], ◌∷◌, ◌++◌, All, Option, None, Some, unwrap_or, Result, Ok, Err, if◌then◌else◌}
 use Rattle.std.proofs.Common.{refl, sym, ap, subst, ◌∙◌, arith}
 use Rattle.std.specs.Cmp.{unsigned_tied, nat_eq_equiv}
 use Rattle.std.specs.Ordering.{nat_cmp}
@@ -208,7 +208,7 @@ owner_of_one pid fd handle false room lt is = absurd (let no : None ≡ Some han
 
 pub owner_is : (pid : ℕ) (o : Option ℕ) (handle : ℕ) → handle_within pid o ≡ Some handle → owner_of handle ≡ pid
 owner_is pid None handle is = absurd (let none : None ≡ Some handle = is in cc)
-owner_is pid (Some fd) handle is = owner_of_one pid fd handle (nat_lt pid processes_limit) (nat_lt fd descriptors_limit) refl is
+owner_is pid (Some fd) handle is = owner_of_one pid fd handle (nat_le pid processes_limit) (nat_lt fd descriptors_limit) refl is
 
 held_then : (s : Server) (handle n : ℕ) → object_of (with_handle handle n s) handle ≡ Some n
 held_then s handle n =

@@ -119,10 +119,10 @@ fd_of_reply _ = None
 abbrev pub replied_fd : Reply → Work ℕ
 replied_fd reply = needed unexpected (fd_of_reply reply)
 
--- the handle of a process's descriptor
+-- the handle of a process's descriptor; processes have the numbers from 1 on
 abbrev pub handle_within : ℕ → Option ℕ → Option ℕ
 handle_within pid None = None
-handle_within pid (Some fd) = if nat_lt pid processes_limit && nat_lt fd descriptors_limit then Some (handle_of pid fd) else None
+handle_within pid (Some fd) = if nat_le pid processes_limit && nat_lt fd descriptors_limit then Some (handle_of pid fd) else None
 
 abbrev pub replied_handle : ℕ → Reply → Work ℕ
 replied_handle pid reply = needed unexpected (handle_within pid (fd_of_reply reply))

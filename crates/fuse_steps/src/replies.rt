@@ -6,7 +6,7 @@ use fs_model::{Bytes, Listing, Path, Reply, Status};
 use fuse_state::handle_of;
 use posix_acl::Acl;
 
-// More processes than these there aren't, and more descriptors of one.
+// More processes than these there aren't, numbered from 1 on, and more descriptors of one.
 const MAX_PROCESSES: usize = 64;
 
 const DESCRIPTORS: usize = 32;
@@ -106,7 +106,7 @@ pub fn handle_within(pid: usize, fd: Option<usize>) -> Option<u64>
     ensures { result ≡ handle_within pid fd }
 {
     match fd {
-        Some(fd) if pid < MAX_PROCESSES && fd < DESCRIPTORS => Some(handle_of(pid, fd)),
+        Some(fd) if pid <= MAX_PROCESSES && fd < DESCRIPTORS => Some(handle_of(pid, fd)),
         _ => None,
     }
 }
