@@ -1,17 +1,13 @@
 -- Calls by one place after another.
---     done-by-place        what was done by a place that was lent, which has come back
+--     place-next, places-end        the places from one on
 --     places-none, places-ok, places-refused, places-next        what comes of the first place goes for all
-use Rattle.std.specs.Prelude.{◌≡◌, ℕ, true, false, List, [], ◌∷◌, length, Option, Result, Ok, Err}
-use Rattle.std.proofs.Common.{sym, ap, ◌∙◌}
-use Rattle.std.proofs.Math.Seq.{take-length}
+use Rattle.std.specs.Prelude.{◌≡◌, ℕ, zero, suc, ◌+◌, true, false, List, [], ◌∷◌, drop, slice_get, refl, Option, None, Some, Result, Ok, Err}
+use Rattle.std.proofs.Common.{sym, ap, ◌∙◌, add-one}
 use Rattle.fs_cred.specs.declared.errno.Errno.TheVariants.{EACCES}
 use Rattle.fs_model.specs.declared.call.Call.{Call}
 use Rattle.fs_model.specs.declared.event.Event.{Event}
 use Rattle.fs_model.specs.declared.reply.Reply.{Reply}
-use Rattle.fuse_state.specs.declared.place.Lent.{Lent}
 use Rattle.fuse_state.specs.declared.place.Place.{Place}
-use Rattle.fuse_state.specs.Rooms.{Kept, given_back}
-use Rattle.fuse_state.specs.Servers.{Server, places_in, places_of, places_before}
 use Rattle.fuse_plans.specs.declared.stop.Stop.{Stop}
 use Rattle.fuse_plans.specs.Stops.{is_for}
 use Rattle.fuse_plans.specs.Callers.{at_place, standing_refusal, by_places}
@@ -19,13 +15,23 @@ use Rattle.fuse_sessions.specs.declared.session.Session.{Session}
 use Rattle.fuse_sessions.specs.Performing.{Did}
 use Rattle.fuse_sessions.proofs.Doings.{then-ok, attempts, same-work, where-true, where-false, gives, stops}
 
--- all places are those before the end
-pub places-to_end : (s : Server) (end n : ℕ) → end ≡ length s.names → places_of s n ≡ places_before s end n
-places-to_end s end n is = ap (λ l. places_in l n) (sym (take-length s.names)) ∙ ap (λ k. places_before s k n) (sym is)
+-- one place after another
+pub place-first : (places : List Place) (i : ℕ) (p : Place) → slice_get places i ≡ Some p → drop i places ≡ p ∷ drop (suc i) places
+place-first [] i p is = absurd (cc)
+place-first (q ∷ places) zero p is = let one : q ≡ p = cc in ap (λ x. x ∷ places) one
+place-first (q ∷ places) (suc i) p is = place-first places i p is
 
--- a name was lent, has come back, and is in its place
-pub lent-back : (k lent back : Kept) (l m : Lent) → k ≡ given_back l lent → m ≡ l → back ≡ given_back m lent → back ≡ k
-lent-back k lent back l m was same is = is ∙ ap (λ (x : Lent). given_back x lent) same ∙ sym was
+pub place-next : (places : List Place) (i : ℕ) (p : Place) → slice_get places i ≡ Some p → drop i places ≡ p ∷ drop (i + 1) places
+place-next places i p is = place-first places i p is ∙ ap (λ n. p ∷ drop n places) (sym (add-one i))
+
+pub places-end : (places : List Place) (i : ℕ) → slice_get places i ≡ None → drop i places ≡ []
+places-end [] i none = drop-nil i
+  where
+    drop-nil : (n : ℕ) → drop n (let l : List Place = [] in l) ≡ []
+    drop-nil zero = refl
+    drop-nil (suc n) = refl
+places-end (q ∷ places) zero none = absurd (cc)
+places-end (q ∷ places) (suc i) none = places-end places i none
 
 module _ {M : Type 0} {Serves : M → Event → Reply → M → Type 0} (pid : ℕ) (second : Option ℕ) (call : List ℕ → Call) (before : Stop) where
   pub places-none : {places : List Place} {s : Session M} → places ≡ [] → Did Serves (by_places pid second call before places) s s (Err before)

@@ -1,5 +1,6 @@
 //! Calls on objects, by the names under which they were found.
-ghost use Rattle.std.specs.Prelude.{◌≡◌, Err, IsTrue, MatchResult};
+ghost use Rattle.std.specs.Prelude.{◌≡◌, ◌+◌, ◌^◌, ◌<◌, Err, None, Some, IsNone, IsSome, IfSome, IsTrue, MatchResult, slice_get};
+ghost use Rattle.fuse_state.specs.declared.place.Place.{Place as PlaceOf};
 ghost use Rattle.fuse_state.specs.Servers.{kind_of, places_of};
 ghost use Rattle.fuse_plans.specs.Callers.{inside, at_place, standing_refusal, by_places, or_inside, on, by_looker, has_place, by_handle, look_at, look, look_inside};
 ghost use Rattle.fuse_plans.specs.FilePlans.{when, done};
@@ -14,39 +15,11 @@ use fs_cred::Errno;
 use fs_layout::ROOT;
 use fs_model::{Call, Name, Path, Reply, Status};
 use fuse_plans::Stop;
-use fuse_state::{Found, Lent, Place, Server, descriptor_of, owner_of};
+use fuse_state::{Server, descriptor_of, owner_of};
 use fuse_steps::Machine;
 use fuse_steps::asker::{between, done, inside, obtain_once};
 use fuse_steps::path::swap_path;
 use fuse_steps::replies::status_of_reply;
-
-// A call on a name that was lent, and comes back; a second name of the call may be one of another directory.
-fn call_at<M: Machine>(
-    machine: &mut M,
-    pid: usize,
-    lent: Lent,
-    second: Option<u32>,
-    call: &mut Call,
-) -> (Result<Reply, Stop>, Lent)
-    requires { IsTrue (takes_path call.old) }
-    ensures did { DidByMachine M.Serves (at_place pid second (at_path call.old) lent.found.place) machine.old machine.new result.0 }
-    ensures lent { result.1 ≡ lent }
-    ensures call { call.new ≡ call.old }
-{
-    let Lent { at, found } = lent;
-    let Found { place, inode } = found;
-    let Place { directory, name } = place;
-    let mut path = Path::new(name.into_bytes());
-    swap_path(call, &mut path);
-    let reply = between(machine, pid, directory, second.unwrap_or(directory), call);
-    swap_path(call, &mut path);
-    let place = Place {
-        directory,
-        name: Name::new(path.into_bytes()),
-    };
-    let found = Found { place, inode };
-    (reply, Lent { at, found })
-}
 
 // The refusal that stands where each place is refused for permission.
 fn standing_refusal(before: Stop, refusal: Stop) -> Stop
@@ -118,7 +91,30 @@ impl<M: Machine> Session<M> {
         done(self.on_once(pid, inode, call))
     }
 
-    /// A call by the places of an object in turn, the latest first, until it isn't refused for permission. The stop is what comes
+    // A call by one of the places of an object, counted from 0 in their order, if there are so many.
+    fn call_at(
+        &mut self,
+        pid: usize,
+        second: Option<u32>,
+        call: &mut Call,
+        inode: u32,
+        at: usize,
+    ) -> Option<Result<Reply, Stop>>
+        requires { IsTrue (takes_path call.old) }
+        ensures made { IfSome result (λ tried. (p : PlaceOf) × (slice_get (places_of self.old.server.server inode) at ≡ Some p)
+            × Did M.Serves (at_place pid second (at_path call.old) p) self.old self.new tried) }
+        ensures none { IsNone result → slice_get (places_of self.old.server.server inode) at ≡ None }
+        ensures idle { IsNone result → self.new.machine ≡ self.old.machine }
+        ensures next { IsSome result → at + 1 < 2 ^ 64 }
+        ensures kept { self.new.server ≡ self.old.server }
+        ensures call { call.new ≡ call.old }
+    {
+        let blank = Name::new(Vec::new(self.alloc));
+        self.server
+            .call_at(&mut self.machine, pid, second, call, inode, at, blank)
+    }
+
+    /// A call by the places of an object in their order, until it isn't refused for permission. The stop is what comes
     /// where the object has none. A second name of the call may be one of another directory. The path of the call isn't looked
     /// at, and stays.
     pub(crate) fn by_places(
@@ -136,14 +132,9 @@ impl<M: Machine> Session<M> {
         ensures call { call.new ≡ call.old }
     {
         let mut stop = unplaced;
-        let mut end = self.server.names_count();
-        while let Some(lent) = self
-            .server
-            .lend_place(inode, end, Name::new(Vec::new(self.alloc)))
-        {
-            end = lent.at;
-            let (tried, lent) = call_at(&mut self.machine, pid, lent, second, call);
-            self.server.give_back(lent);
+        let mut at = 0;
+        while let Some(tried) = self.call_at(pid, second, call, inode, at) {
+            at += 1;
             match tried {
                 Ok(reply) => return Ok(reply),
                 Err(refusal) => {

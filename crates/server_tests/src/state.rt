@@ -1,8 +1,10 @@
 //! What no clause says: which answers follow which changes, and where the limits are.
 use fs_cred::{Cred, CredFault};
-use fs_model::{FileType, Listing, Name};
+use fs_model::{Call, FileType, Listing, Name};
 use fuse_protocol::Time;
-use fuse_state::{Keeping, Place, Server, Settings, Times, descriptor_of, handle_of, owner_of};
+use fuse_state::{
+    Borrower, Keeping, Place, Server, Settings, Times, descriptor_of, handle_of, owner_of,
+};
 use std::alloc::{AllocError, Global};
 use std::test::Fail;
 
@@ -27,7 +29,7 @@ enum Step {
     Changed(u64, u32),
     TimesSet(u64, u32),
     Named(Entry),
-    // The directory and the letter of the latest name.
+    // The directory and the letter of the first name.
     Directory(u32),
     Letter(u32),
     Node(u32),
@@ -151,16 +153,31 @@ fn held(server: &mut Server, inode: u32) -> Result<u64, AllocError> {
     Ok(0)
 }
 
-// The letter, of the first so many names, that is lent and given back.
-fn lent(server: &mut Server, alloc: Global, inode: u32, before: usize) -> Result<u64, AllocError> {
+// Who notes the letter of a name that is lent.
+struct Noter;
+
+impl Borrower<u64> for Noter {
+    ghost Takes = { λ call. Unit {0} };
+
+    ghost Calls = { λ old pid second call place reply new. Unit {0} };
+
+    fn call_at(
+        &mut self,
+        _pid: usize,
+        _second: Option<u32>,
+        _call: &mut Call,
+        place: Place,
+    ) -> (u64, Place) {
+        (letter_of(&place), place)
+    }
+}
+
+// The letter of the name that is lent and given back: of so many in their order.
+fn lent(server: &mut Server, alloc: Global, inode: u32, at: usize) -> Result<u64, AllocError> {
     let blank = Name::from_slice(alloc, b"")?;
-    let before = before.min(server.names_count());
-    let Some(lent) = server.lend_place(inode, before, blank) else {
-        return Ok(0);
-    };
-    let letter = letter_of(&lent.found.place);
-    server.give_back(lent);
-    Ok(letter)
+    let mut call = Call::Umask(0);
+    let letter = server.call_at(&mut Noter, 1, None, &mut call, inode, at, blank);
+    Ok(letter.unwrap_or(0))
 }
 
 fn letter_of(place: &Place) -> u64 {
@@ -226,7 +243,7 @@ fn answered(server: &mut Server, alloc: Global, step: Step) -> Result<u64, Alloc
             (new, cut),
         ),
         Step::Held(inode) => held(server, inode),
-        Step::Lent(inode, before) => lent(server, alloc, inode, before),
+        Step::Lent(inode, at) => lent(server, alloc, inode, at),
         Step::Written(now, inode) => written(server, now, inode),
         Step::Changed(now, inode) => changed(server, now, inode),
         Step::TimesSet(time, inode) => times_set(server, time, inode),
@@ -256,14 +273,14 @@ const ROWS: [(Step, u64); 99] = [
     (Step::Named((5, b'a')), 0),
     (Step::Mtime(5), 10),
     (Step::Mtime(1), 10),
-    // One more name: the latest is the place, and all are kept.
+    // One more name: they stand in their order, and all are kept.
     (Step::Linked(20, (1, b'b'), 5), 0),
-    (Step::Letter(5), 98),
-    (Step::Lent(5, 9), 98),
-    (Step::Lent(5, 2), 98),
-    (Step::Lent(5, 1), 97),
-    (Step::Lent(5, 0), 0),
-    (Step::Letter(5), 98),
+    (Step::Letter(5), 97),
+    (Step::Lent(5, 0), 97),
+    (Step::Lent(5, 1), 98),
+    (Step::Lent(5, 2), 0),
+    (Step::Lent(5, 9), 0),
+    (Step::Letter(5), 97),
     (Step::Named((1, b'a')), 5),
     (Step::Mtime(5), 10),
     (Step::Ctime(5), 20),

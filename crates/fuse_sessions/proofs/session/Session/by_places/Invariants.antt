@@ -1,6 +1,6 @@
-use Rattle.std.specs.Prelude.{◌≡◌, ◌≤◌, length, Result}
+use Rattle.std.specs.Prelude.{◌≡◌, ◌-◌, length, drop, Result}
 use Rattle.fs_model.specs.declared.reply.Reply.{Reply}
-use Rattle.fuse_state.specs.Servers.{places_of, places_before}
+use Rattle.fuse_state.specs.Servers.{places_of}
 use Rattle.fuse_plans.specs.declared.stop.Stop.{Stop}
 use Rattle.fuse_plans.specs.Callers.{by_places}
 use Rattle.fuse_plans.specs.Paths.{at_path}
@@ -9,14 +9,13 @@ use Rattle.fuse_sessions.specs.Performing.{Did}
 use Rattle.fuse_sessions.proofs.session.Session.by_places.Given as goal
 
 -- what is done by the places that are left, is done by all; and what is kept stays, and the call
-abbrev pub invariant-loop-lent : goal.invariant-loop-lent
-invariant-loop-lent g l =
+abbrev pub invariant-loop-tried : goal.invariant-loop-tried
+invariant-loop-tried g l =
     ((fin : Session g.row.M.Denot) (r : Result Reply Stop)
-    → Did g.M.Machine.Serves (by_places l.pid l.second (at_path l.initial.call) l.stop (places_before l.initial.self.server.server l.end l.inode)) l.self fin r
+    → Did g.M.Machine.Serves (by_places l.pid l.second (at_path l.initial.call) l.stop (drop l.at (places_of l.initial.self.server.server l.inode))) l.self fin r
     → Did g.M.Machine.Serves (by_places l.pid l.second (at_path l.initial.call) l.fn.unplaced (places_of l.initial.self.server.server l.inode)) l.initial.self fin r)
     × (l.self.server ≡ l.initial.self.server)
     × (l.call ≡ l.initial.call)
-    × (l.end ≤ length l.initial.self.server.server.names)
 
-abbrev pub decreases-loop-lent : goal.decreases-loop-lent
-decreases-loop-lent g l = l.end
+abbrev pub decreases-loop-tried : goal.decreases-loop-tried
+decreases-loop-tried g l = length (places_of l.initial.self.server.server l.inode) - l.at
