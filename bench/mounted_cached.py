@@ -1,8 +1,9 @@
 """Users who change names, modes, owners, lists and bytes between each other's looks, which the kernel may keep: each with what is wanted.
 
-A line of the script is `USER: CALL WORD.. -> WANTED`, one of the functions below in a directory of its group; where nothing is wanted
-it has to succeed. What is wanted is what POSIX and docs/MOUNT.md say: the directory beside the mount answers the same, but where a line
-has in brackets the number of a difference. Under `own_rules` those with number 3 are left out. Lines `== TITLE` begin a group.
+A line of the script is `USER: CALL WORD.. -> WANTED`, one of the functions below in a directory of its group; where nothing is
+wanted it has to succeed. `wait` waits so long in either directory, one after the other: a name that is kept is asked again by then.
+What is wanted is what POSIX and docs/MOUNT.md say: the directory beside the mount answers the same, but where a line has in
+brackets the number of a difference. Under `own_rules` those with number 3 are left out. Lines `== TITLE` begin a group.
 """
 import errno
 import mmap
@@ -10,6 +11,7 @@ import os
 import pathlib
 import re
 import stat
+import time
 
 from mounts import ACLS, USERS, Worker, acl_bytes, acl_text, attempt, is_mounted
 
@@ -74,7 +76,7 @@ BY_PATH = {
     'chmod': lambda path, mode: os.chmod(path, int(mode, 8)), 'symlink': lambda path, target: os.symlink(target, path),
     'chown': lambda path, user, group: os.chown(path, int(user), int(group)),
     'acl': set_list, 'noacl': lambda path, kind: os.removexattr(path, ACLS[kind]),
-    'mount': mount, 'umount': lambda path: os.spawnlp(os.P_WAIT, 'umount', 'umount', path),
+    'wait': lambda path, seconds: time.sleep(float(seconds)), 'mount': mount, 'umount': lambda path: os.spawnlp(os.P_WAIT, 'umount', 'umount', path),
 }
 # By two paths.
 BY_PATHS = {'rename': os.rename, 'link': lambda path, other: os.link(path, other, follow_symlinks=False)}
