@@ -32,7 +32,8 @@ pub trait Performer {
 
     /// Whether who asks doesn't count for an operation of this node. Nothing changes of what is kept.
     fn needs_nobody(&mut self, node: u64, operation: &Operation<'_>) -> bool
-        ensures decided { CarriesOut Serves (needs_nobody node operation.now (server self.old)) (machine self.old) (machine self.new) result }
+        ensures decided { CarriesOut Serves (needs_nobody node operation.now (server self.old))
+            (machine self.old) (machine self.new) result }
         ensures kept { server self.new ≡ server self.old };
 
     /// Performs the plan of an operation, with the ACL that the value of an attribute says. Where memory is lacking for what the

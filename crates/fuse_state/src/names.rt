@@ -200,7 +200,8 @@ fn compare_found(names: &Slab<Found>, key: usize, inode: u32, place: &Place) -> 
 fn search_places(names: &Slab<Found>, keys: &[usize], place: &Place) -> Result<usize, usize>
     requires rising { IsMap place_cmp (by_places names.now.slots keys.now) }
     requires stand { Stand names.now.slots keys.now }
-    ensures { MatchResult result (IsAt (by_places names.now.slots keys.now) place.now) (IsGap place_cmp (by_places names.now.slots keys.now) place.now) }
+    ensures { MatchResult result (IsAt (by_places names.now.slots keys.now) place.now)
+        (IsGap place_cmp (by_places names.now.slots keys.now) place.now) }
 {
     keys.binary_search_by(|key| compare_place(names, *key, place))
 }
@@ -214,7 +215,8 @@ fn search_inodes(
 ) -> Result<usize, usize>
     requires rising { IsMap found_cmp (by_inodes names.now.slots keys.now) }
     requires stand { Stand names.now.slots keys.now }
-    ensures { MatchResult result (IsAt (by_inodes names.now.slots keys.now) (found place.now inode)) (IsGap found_cmp (by_inodes names.now.slots keys.now) (found place.now inode)) }
+    ensures { MatchResult result (IsAt (by_inodes names.now.slots keys.now) (found place.now inode))
+        (IsGap found_cmp (by_inodes names.now.slots keys.now) (found place.now inode)) }
 {
     keys.binary_search_by(|key| compare_found(names, *key, inode, place))
 }
