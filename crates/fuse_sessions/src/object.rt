@@ -17,8 +17,7 @@ use fs_model::{Call, Name, Path, Reply, Status};
 use fuse_plans::Stop;
 use fuse_state::{Server, descriptor_of, owner_of};
 use fuse_steps::Machine;
-use fuse_steps::asker::{between, done, inside, obtain_once};
-use fuse_steps::path::swap_path;
+use fuse_steps::asker::{done, inside, obtain_once};
 use fuse_steps::replies::status_of_reply;
 
 // The refusal that stands where each place is refused for permission.
