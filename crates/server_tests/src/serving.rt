@@ -1,5 +1,6 @@
 //! A server at a kernel that is played, without memory for any plan.
 ghost use Rattle.std.specs.Prelude.{⊤, false};
+ghost use Rattle.fuse_state.specs.Keepings.{nothing_kept};
 ghost use Rattle.fuse_state.specs.Servers.{new_server};
 
 use fuse_plans::{Asked, Response, needs_caller};
@@ -20,7 +21,7 @@ impl Performer for Lacking {
 
     ghost Serves = { λ _ _ _ _. ⊥ };
 
-    ghost server = { λ _. new_server (record { max_write = 4096; posix_acl = false; sectors = 1; inodes = 1; start = record { seconds = 0; nanoseconds = 0 } }) };
+    ghost server = { λ _. new_server (record { max_write = 4096; posix_acl = false; keeping = nothing_kept; sectors = 1; inodes = 1; start = record { seconds = 0; nanoseconds = 0 } }) };
 
     fn is_ended(&self) -> bool {
         false

@@ -3,6 +3,7 @@ use Rattle.std.proofs.Common.{refl, sym, subst}
 use Rattle.fs_model.specs.declared.event.Event.{Event}
 use Rattle.fs_model.specs.declared.reply.Reply.{Reply}
 use Rattle.fuse_protocol.specs.declared.operation.Operation.{Operation}
+use Rattle.fuse_state.specs.Keepings.{nothing_kept}
 use Rattle.fuse_state.specs.Servers.{Server, new_server}
 use Rattle.fuse_plans.specs.Plans.{CarriesOut, finishes}
 use Rattle.fuse_plans.specs.Nobody.{needs_nobody}
@@ -11,7 +12,7 @@ use Rattle.server_tests.proofs.serving.LackingPerformer.needs_nobody.Goals as go
 
 -- what it keeps
 abbrev lacking : Server
-lacking = new_server (record { max_write = 4096; posix_acl = false; sectors = 1; inodes = 1; start = record { seconds = 0; nanoseconds = 0 } })
+lacking = new_server (record { max_write = 4096; posix_acl = false; keeping = nothing_kept; sectors = 1; inodes = 1; start = record { seconds = 0; nanoseconds = 0 } })
 
 -- nothing is asked
 abbrev Serves : Unit {0} → Event → Reply → Unit {0} → Type 0
