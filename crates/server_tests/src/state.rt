@@ -154,6 +154,7 @@ fn held(server: &mut Server, inode: u32) -> Result<u64, AllocError> {
 }
 
 // Who notes the letter of a name that is lent.
+#[derive(Drop)]
 struct Noter;
 
 impl Borrower<u64> for Noter {
