@@ -17,8 +17,11 @@ use std::io::{self, ErrorKind};
 use std::path::AsPath;
 use std::rt::Files;
 
-// What of a longer file lies behind them is no part of the disk.
+// What of a longer file lies behind so many sectors is no part of the disk.
 const MAX_SECTORS: u32 = 65_537;
+
+// The same of a large one: one sector more than any layout has.
+const MAX_LARGE_SECTORS: u32 = 16_777_217;
 
 // So many neighbours are read or written in one call: a MiB.
 const PIECE: usize = 2048;
@@ -85,12 +88,23 @@ impl<F: DiskFile + Drop> FileDisk<F> {
         ensures small { IfOk result (λ disk. (⟦<FileDisk<F> as Disk>⟧.state disk).size ≤ 65537) }
         ensures fault { IfErr result (λ fault. fault ≢ Exists) }
     {
-        let mut how = OpenOptions::new();
-        how.read(true).write(true);
-        match how.open(rt, path) {
-            Ok(file) => FileDisk::over(alloc, file),
-            Err(_) => Err(FileFault::Failed),
-        }
+        let file = open_file(rt, path)?;
+        FileDisk::over(alloc, file)
+    }
+
+    /// The disk in a file that is there, as [`FileDisk::open`] gives it, of whole sectors up to 16,777,217: one more than any layout
+    /// has.
+    pub fn open_large<R: Files<File = F>, P: AsPath>(
+        rt: &R,
+        alloc: Global,
+        path: P,
+    ) -> Result<Self, FileFault>
+        ensures fresh { IfOk result (λ disk. IsFresh (⟦<FileDisk<F> as Disk>⟧.state disk) (⟦<FileDisk<F> as Disk>⟧.state disk).seen) }
+        ensures small { IfOk result (λ disk. (⟦<FileDisk<F> as Disk>⟧.state disk).size ≤ 16777217) }
+        ensures fault { IfErr result (λ fault. fault ≢ Exists) }
+    {
+        let file = open_file(rt, path)?;
+        FileDisk::up_to(alloc, file, MAX_LARGE_SECTORS)
     }
 
     /// A disk of zeros in a new file of so many sectors, locked and synced. Where that fails, the file is removed again.
@@ -100,7 +114,7 @@ impl<F: DiskFile + Drop> FileDisk<F> {
         path: P,
         sectors: u32,
     ) -> Result<Self, FileFault>
-        requires { sectors ≤ 65537 }
+        requires { sectors ≤ 16777217 }
         ensures { IfOk result (λ disk. IsFresh (⟦<FileDisk<F> as Disk>⟧.state disk) (replicate sectors (replicate 512 0))) }
     {
         let memory = boxed(alloc, MemDisk::new(alloc, sectors)?)?;
@@ -122,13 +136,22 @@ impl<F: DiskFile + Drop> FileDisk<F> {
         ensures small { IfOk result (λ disk. (⟦<FileDisk<F> as Disk>⟧.state disk).size ≤ 65537) }
         ensures fault { IfErr result (λ fault. fault ≢ Exists) }
     {
+        FileDisk::up_to(alloc, file, MAX_SECTORS)
+    }
+
+    // The disk in a file that is open, of at most so many sectors.
+    fn up_to(alloc: Global, file: F, most: u32) -> Result<Self, FileFault>
+        ensures fresh { IfOk result (λ disk. IsFresh (⟦<FileDisk<F> as Disk>⟧.state disk) (⟦<FileDisk<F> as Disk>⟧.state disk).seen) }
+        ensures small { IfOk result (λ disk. (⟦<FileDisk<F> as Disk>⟧.state disk).size ≤ most) }
+        ensures fault { IfErr result (λ fault. fault ≢ Exists) }
+    {
         let mut file = file;
         // Before this another disk may be in the file.
         if file.try_lock().is_err() {
             return Err(FileFault::Failed);
         }
         let mut buffer = new_buffer(alloc)?;
-        let memory = boxed(alloc, load(alloc, &mut file, &mut buffer)?)?;
+        let memory = boxed(alloc, load(alloc, &mut file, &mut buffer, most)?)?;
         let waiting = Vec::with_capacity(alloc, MAX_WAITING)?;
         Ok(FileDisk {
             memory,
@@ -219,23 +242,36 @@ fn prepare<F: DiskFile>(file: &mut F, sectors: u32) -> io::Result<()>
     file.fill(sectors)
 }
 
-// The sectors of a file, which is synced first.
+// The sectors of a file, at most so many. It is synced first.
 fn load<F: DiskFile>(
     alloc: Global,
     file: &mut F,
     buffer: &mut [[u8; 512]],
+    most: u32,
 ) -> Result<MemDisk, FileFault>
     requires { 0 < length buffer.old }
     ensures fresh { IfOk result (λ disk. IsFresh (⟦<MemDisk as Disk>⟧.state disk) (⟦<MemDisk as Disk>⟧.state disk).seen) }
-    ensures small { IfOk result (λ disk. (⟦<MemDisk as Disk>⟧.state disk).size ≤ 65537) }
+    ensures small { IfOk result (λ disk. (⟦<MemDisk as Disk>⟧.state disk).size ≤ most) }
     ensures follows { IfOk result (λ disk. Follows (⟦<MemDisk as Disk>⟧.state disk) [] false (F.held file.new)) }
     ensures fault { IfErr result (λ fault. fault ≢ Exists) }
 {
-    let Ok(count) = synced_sectors(file) else {
+    let Ok(count) = synced_sectors(file, most) else {
         return Err(FileFault::Failed);
     };
     let sectors = read_sectors(alloc, file, count, buffer)?;
     Ok(MemDisk::with_sectors(alloc, sectors))
+}
+
+// A file that is there, to be read and written.
+fn open_file<F, R: Files<File = F>, P: AsPath>(rt: &R, path: P) -> Result<F, FileFault>
+    ensures { IfErr result (λ fault. fault ≢ Exists) }
+{
+    let mut how = OpenOptions::new();
+    how.read(true).write(true);
+    match how.open(rt, path) {
+        Ok(file) => Ok(file),
+        Err(_) => Err(FileFault::Failed),
+    }
 }
 
 // Room for a piece of a file.
@@ -254,14 +290,14 @@ fn boxed(alloc: Global, disk: MemDisk) -> Result<Box<MemDisk>, AllocError>
     Ok(Box::new(alloc, disk)?)
 }
 
-// How many sectors of the file a disk has, once it is synced.
-fn synced_sectors<F: DiskFile>(file: &mut F) -> io::Result<u32>
-    ensures count { IfOk result (λ count. count ≤ 65537) }
+// How many sectors of the file a disk has, at most so many, once it is synced.
+fn synced_sectors<F: DiskFile>(file: &mut F, most: u32) -> io::Result<u32>
+    ensures count { IfOk result (λ count. count ≤ most) }
     ensures stable { OnOk result (IfSome (F.held file.new) IsHeldStable) }
 {
     file.sync()?;
     let whole = file.count()?;
-    Ok(whole.min(u64::from(MAX_SECTORS)) as u32)
+    Ok(whole.min(u64::from(most)) as u32)
 }
 
 impl<F: DiskFile + Drop> Disk for FileDisk<F> {

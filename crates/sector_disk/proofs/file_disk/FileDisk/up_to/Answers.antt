@@ -6,7 +6,7 @@ use Rattle.sector_disk.specs.Disk.{Image}
 use Rattle.sector_disk.specs.Record.{recorded_state}
 use Rattle.sector_disk.specs.Files.{Follows}
 use Rattle.sector_disk.specs.declared.memory.MemDisk.{MemDisk}
-use Rattle.sector_disk.proofs.file_disk.FileDisk.over.Goals as goal
+use Rattle.sector_disk.proofs.file_disk.FileDisk.up_to.Goals as goal
 
 pub invariant_of-result : goal.invariant_of-result
 invariant_of-result g c =
