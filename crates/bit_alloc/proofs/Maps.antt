@@ -5,10 +5,12 @@ use Rattle.std.specs.List.{range_with_len}
 use Rattle.std.specs.Int.{bit_at}
 use Rattle.std.proofs.lemmas.Bool.{cases_lt}
 use Rattle.fs_layout.specs.declared.place.Place.{Place}
+use Rattle.fs_layout.specs.declared.header.TheConstants.{MAX_HEADER}
 use Rattle.fs_layout.specs.Bytes.{SectorMap}
+use Rattle.fs_layout.specs.Header.{max_delta}
 use Rattle.fs_layout.specs.Place.{IsPlace}
-use Rattle.fs_layout.specs.Images.{bit, inode_bitmap, block_bitmap, map_bits}
-use Rattle.fs_layout.proofs.Places.{before_data}
+use Rattle.fs_layout.specs.Images.{bit, inode_map_bits, map_bits}
+use Rattle.fs_layout.proofs.Places.{after_map}
 use Rattle.fs_layout.proofs.Bits.{not_both}
 use Rattle.bit_alloc.specs.declared.bitmap.Bitmap.{Bitmap}
 use Rattle.bit_alloc.specs.declared.bitmap.Bitmap.TheVariants.{Inodes, Blocks}
@@ -78,16 +80,16 @@ all_set image start n set = count_none _ 0 n (λ i from to. ap not (set i (omega
 -- ---- from bits to numbers
 -- each number has a bit
 pub number_has_bit : (p : Place) (map : Bitmap) (n : ℕ) → IsPlace p → n < limit p map → n < bit_count p map
-number_has_bit p Inodes n place lt = let most = place.most_inodes in omega (arith, most, lt)
+number_has_bit p Inodes n place lt = let bits = place.inode_bits in omega (arith, bits, lt)
 number_has_bit p Blocks n place lt = let bits = place.bits in omega (arith, bits, lt)
 
 -- and there are not too many for a number of 32 bits
-pub few_bits : (p : Place) (map : Bitmap) → IsPlace p → bit_count p map ≤ 4096 * 65536
-few_bits p Inodes place = omega arith
-few_bits p Blocks place = let some = place.data_sectors in let most = place.most_sectors in let table = before_data place in omega (arith, some, most, table)
+pub few_bits : (p : Place) (map : Bitmap) → IsPlace p → bit_count p map ≤ 4096 * max_delta MAX_HEADER
+few_bits p Inodes place = let room = place.room in let most = place.header in let after = after_map place in omega (arith, room, most, after)
+few_bits p Blocks place = let room = place.room in let most = place.header in let after = after_map place in omega (arith, room, most, after)
 
 -- a clear bit is that of a free number
-pub clear_is_free : (p : Place) (map : Bitmap) (image : SectorMap) (n : ℕ) → HasRestSet p image → n < bit_count p map → bit image (first_sector map) n ≡ false
+pub clear_is_free : (p : Place) (map : Bitmap) (image : SectorMap) (n : ℕ) → HasRestSet p image → n < bit_count p map → bit image (first_sector p map) n ≡ false
     → IsFreeNumber p map image n
 clear_is_free p map image n rest low clear =
     let some : (least p map ≤ n) × (n < limit p map) = elim (cases_lt n (least p map)) [
@@ -100,10 +102,10 @@ clear_is_free p map image n rest low clear =
     (some.0, some.1, clear)
 
 -- so is one that is clear in a sector of the bitmap
-pub found_free : (p : Place) (map : Bitmap) (image : SectorMap) (k i sectors : ℕ) (s : List ℕ) → HasRestSet p image → s ≡ image (first_sector map + k) → 4096 * sectors ≡ bit_count p map
+pub found_free : (p : Place) (map : Bitmap) (image : SectorMap) (k i sectors : ℕ) (s : List ℕ) → HasRestSet p image → s ≡ image (first_sector p map + k) → 4096 * sectors ≡ bit_count p map
     → k < sectors → i < 4096 → bit (λ _. s) 0 i ≡ false → IsFreeNumber p map image (4096 * k + i)
 found_free p map image k i sectors s rest is all low few clear =
-    clear_is_free p map image (4096 * k + i) rest (omega arith) (sym (bit_of_sector image (first_sector map) k i s is few) ∙ clear)
+    clear_is_free p map image (4096 * k + i) rest (omega arith) (sym (bit_of_sector image (first_sector p map) k i s is few) ∙ clear)
 
 -- where all bits outside are set, the clear ones are those within
 counted_within : (image : SectorMap) (start a m n : ℕ) → a + m ≤ n → ((i : ℕ) → i < n → ((a ≤ i) × (i < a + m) → ⊥) → IsTrue (bit image start i))
@@ -122,17 +124,17 @@ counted_within image start a m n le outside =
 
 -- the clear bits are the free numbers
 pub numbers_counted : (p : Place) (map : Bitmap) (image : SectorMap) → IsPlace p → HasRestSet p image
-    → clear_below image (first_sector map) (bit_count p map) ≡ free_numbers p map image
+    → clear_below image (first_sector p map) (bit_count p map) ≡ free_numbers p map image
 numbers_counted p Inodes image place rest =
-    let most = place.most_inodes in
-    counted_within image inode_bitmap 0 p.inodes 4096 (omega (arith, most)) (λ i low ban. rest Inodes i low (λ is. let b = is.1 in ban (omega arith, omega (arith, b))))
+    let bits = place.inode_bits in
+    counted_within image p.inode_bitmap 0 p.inodes (inode_map_bits p) (omega (arith, bits)) (λ i low ban. rest Inodes i low (λ is. let b = is.1 in ban (omega arith, omega (arith, b))))
 numbers_counted p Blocks image place rest =
     let bits = place.bits in
     let some = place.data_sectors in
-    counted_within image block_bitmap p.first_data (p.sectors - p.first_data) (map_bits p) (omega (arith, bits, some))
+    counted_within image p.block_bitmap p.first_data (p.sectors - p.first_data) (map_bits p) (omega (arith, bits, some))
     (λ i low ban. rest Blocks i low (λ is. let b = is.1 in ban (is.0, omega (arith, b, some))))
 
 -- so they are not too many either
-pub few_free : (p : Place) (map : Bitmap) (image : SectorMap) → IsPlace p → HasRestSet p image → free_numbers p map image ≤ 4096 * 65536
+pub few_free : (p : Place) (map : Bitmap) (image : SectorMap) → IsPlace p → HasRestSet p image → free_numbers p map image ≤ 4096 * max_delta MAX_HEADER
 few_free p map image place rest =
-    omega (arith, numbers_counted p map image place rest, counted_at_most image (first_sector map) (bit_count p map), few_bits p map place)
+    omega (arith, numbers_counted p map image place rest, counted_at_most image (first_sector p map) (bit_count p map), few_bits p map place)

@@ -1,18 +1,17 @@
 -- How calls on inodes go together: soundness, the room, and the sectors that they put.
-use Rattle.std.proofs.Common.{◌≡◌, ℕ, ◌+◌, ◌-◌, ◌/◌, ◌<◌, ◌≤◌, List, sym, ap, subst, ◌∙◌, arith, inl, inr, ◌⊎◌, IsTrue, Some}
+use Rattle.std.proofs.Common.{◌≡◌, ℕ, ◌+◌, ◌-◌, ◌/◌, ◌<◌, ◌≤◌, List, sym, ap, subst, ◌∙◌, arith, inl, inr, ◌⊎◌, IsTrue}
 use Rattle.std.proofs.lemmas.Bool.{cases_eq, cases_lt}
 use Rattle.std.proofs.lemmas.List.FromFn.{length-range_with_len}
 use Rattle.fs_layout.specs.declared.place.Place.{Place}
 use Rattle.fs_layout.specs.Bytes.{SectorMap, IsSector}
-use Rattle.fs_layout.specs.declared.version.Version.{Version}
-use Rattle.fs_layout.specs.Place.{IsPlace, place_in}
-use Rattle.fs_layout.specs.Images.{bit, inode_bitmap, block_bitmap, free_sectors}
+use Rattle.fs_layout.specs.Place.{IsPlace}
+use Rattle.fs_layout.specs.Images.{inode_map_bits, bit, free_sectors}
 use Rattle.fs_layout.specs.Ownership.{IsConsistent}
 use Rattle.fs_layout.specs.InodeChanges.{MarksInode, Puts}
 use Rattle.fs_layout.proofs.Bits.{bit_kept, inode_bit_kept, free_sectors_kept}
 use Rattle.fs_layout.proofs.Composes.{both_inodes}
 use Rattle.fs_layout.proofs.Consistent.{stays_consistent}
-use Rattle.fs_layout.proofs.Places.{after_map, before_data, place_has_bounds}
+use Rattle.fs_layout.proofs.Places.{after_map, before_data}
 use Rattle.sector_txn.specs.Sectors.{TxnState, SameStore, IsPut, PutsOnly}
 use Rattle.sector_txn.proofs.TransactionRuns.{changes_joined, lacking_at_most}
 use Rattle.bit_alloc.specs.declared.bitmap.Bitmap.{Bitmap}
@@ -25,12 +24,12 @@ use Rattle.bit_alloc.proofs.Marking.{sector_below}
 
 -- ---- the bitmaps, where other sectors are put
 -- bitmaps depend on the sectors before the data alone
-pub bitmaps_kept : (p : Place) (old new : TxnState) → HasBitmaps p old → SameStore old new → ((s : ℕ) → 128 ≤ s → s < p.table → new.sectors s ≡ old.sectors s)
+pub bitmaps_kept : (p : Place) (old new : TxnState) → HasBitmaps p old → SameStore old new → ((s : ℕ) → p.inode_bitmap ≤ s → s < p.table → new.sectors s ≡ old.sectors s)
     → ((s : ℕ) → p.table ≤ s → s < p.first_data → IsSector (new.sectors s)) → HasBitmaps p new
 bitmaps_kept p old new has store same whole = record {
   place = has.place;
   disk = omega (arith, has.disk, store.reads.narrowed.size);
-  header = omega (arith, has.header, store.header);
+  header = omega (arith, has.header, ap log_end store.header);
   tables = λ s from to. elim (cases_lt s p.table) [
     | inl low ↦ subst IsSector (sym (same s from low)) (has.tables s from to)
     | inr high ↦ whole s high to
@@ -40,9 +39,11 @@ bitmaps_kept p old new has store same whole = record {
   where
     rest_same : HasRestSet p new.sectors
     rest_same Inodes n low ban =
-        inode_bit_kept old.sectors new.sectors n low (same inode_bitmap (omega arith) (let table = after_map has.place in omega (arith, table))) ∙ has.rest Inodes n low ban
+        inode_bit_kept p old.sectors new.sectors n low (λ s i. same s i.0 (let below = i.1 in let after = after_map has.place in omega (arith, below, after)))
+        ∙ has.rest Inodes n low ban
     rest_same Blocks n low ban =
-        bit_kept old.sectors new.sectors block_bitmap n (same (block_bitmap + n / 4096) (omega arith) (omega (arith, low))) ∙ has.rest Blocks n low ban
+        bit_kept old.sectors new.sectors p.block_bitmap n (same (p.block_bitmap + n / 4096) (let after = after_map has.place in omega (arith, after)) (omega (arith, low)))
+        ∙ has.rest Blocks n low ban
 
 -- a sector is put past the bitmaps, one of the table whole
 pub bitmaps_put : (p : Place) (s : ℕ) (x : _) (old new : TxnState) → HasBitmaps p old → p.table ≤ s → IsSector x → IsPut s x old new → HasBitmaps p new
@@ -65,8 +66,8 @@ put_keeps_bitmaps {p} {s} {x} {old} {new} has store high put =
 
 -- ---- soundness
 -- of a consistent map
-pub sound_from : (p : Place) (txn : TxnState) → IsConsistent p txn.sectors → p.sectors ≤ txn.disk.size → log_end txn.header ≤ inode_bitmap
-    → ((n : ℕ) → n < 4096 → (n ≡ 0) ⊎ (p.inodes ≤ n) → IsTrue (bit txn.sectors inode_bitmap n)) → IsSound p txn
+pub sound_from : (p : Place) (txn : TxnState) → IsConsistent p txn.sectors → p.sectors ≤ txn.disk.size → log_end txn.header ≤ p.inode_bitmap
+    → ((n : ℕ) → n < inode_map_bits p → (n ≡ 0) ⊎ (p.inodes ≤ n) → IsTrue (bit txn.sectors p.inode_bitmap n)) → IsSound p txn
 sound_from p txn consistent disk header outside = record {
   consistent = consistent;
   bitmaps = record { place = consistent.place; disk = disk; header = header; tables = consistent.sectors; rest = rest_set };
@@ -87,9 +88,9 @@ sound_from p txn consistent disk header outside = record {
 
 -- of one whose inode bitmap has the same bits of what is no inode
 pub sound_after : {p : Place} {old new : TxnState} → IsSound p old → SameStore old new → IsConsistent p new.sectors
-    → ((m : ℕ) → m < 4096 → (IsNumber p Inodes m → ⊥) → bit new.sectors inode_bitmap m ≡ bit old.sectors inode_bitmap m) → IsSound p new
+    → ((m : ℕ) → m < inode_map_bits p → (IsNumber p Inodes m → ⊥) → bit new.sectors p.inode_bitmap m ≡ bit old.sectors p.inode_bitmap m) → IsSound p new
 sound_after {p} {old} {new} sound store consistent same =
-    sound_from p new consistent (omega (arith, sound.bitmaps.disk, store.reads.narrowed.size)) (omega (arith, sound.bitmaps.header, store.header))
+    sound_from p new consistent (omega (arith, sound.bitmaps.disk, store.reads.narrowed.size)) (omega (arith, sound.bitmaps.header, ap log_end store.header))
     (λ m low outside. same m low (none m outside) ∙ sound.bitmaps.rest Inodes m low (none m outside))
   where
     none : (m : ℕ) → (m ≡ 0) ⊎ (p.inodes ≤ m) → IsNumber p Inodes m → ⊥
@@ -117,12 +118,12 @@ pub super_kept : (p : Place) (n more : ℕ) (old new : TxnState) → IsPlace p �
 super_kept p n more old new place puts = puts.others 0 no
   where
     no : IsSectorFor p n 0 → ⊥
-    no (inl map) = let from = map.0 in omega (arith, from)
+    no (inl map) = let from = map.0 in let after = after_map place in omega (arith, from, after)
     no (inr (inl table)) = let past = after_map place in omega (arith, past, table)
     no (inr (inr s)) = let from = s.0 in let table = before_data place in let past = after_map place in omega (arith, past, table, from)
 
 -- that of a number's bit is one
-pub mark_is_for : (p : Place) (n : ℕ) (map : Bitmap) (m s : ℕ) → IsPlace p → m < limit p map → s ≡ sector_of map m → IsSectorFor p n s
+pub mark_is_for : (p : Place) (n : ℕ) (map : Bitmap) (m s : ℕ) → IsPlace p → m < limit p map → s ≡ sector_of p map m → IsSectorFor p n s
 mark_is_for p n map m s place low is =
     let at = sector_below p map m place low in
     inl (omega (arith, at.0, is), omega (arith, at.1, is))
@@ -133,11 +134,11 @@ pub spare_then : (p : Place) (more rest : ℕ) {R : ℕ → Type 0} (old new : T
 spare_then p more rest old new spare puts = omega (arith, spare, puts.room)
 
 -- at the start
-pub spare_first : (p : Place) (version : Version) (sectors inodes : ℕ) (txn : TxnState) → place_in version sectors inodes ≡ Some p → txn.room ≡ max_delta txn.header → HasSpare p 47 txn
-spare_first p version sectors inodes txn is room =
-    let table = (place_has_bounds version sectors inodes is).table_to in
-    omega (arith, lacking_at_most txn (bitmaps p), length-range_with_len 128 (p.table - 128), table, room)
+pub spare_first : (p : Place) (txn : TxnState) → IsPlace p → txn.room ≡ max_delta p.header → HasSpare p 47 txn
+spare_first p txn place room =
+    let enough = place.room in
+    omega (arith, lacking_at_most txn (bitmaps p), length-range_with_len p.inode_bitmap (p.table - p.inode_bitmap), enough, room)
 
 -- ---- an inode's bit
-pub free_kept : (p : Place) (n : ℕ) (old new : SectorMap) → MarksInode n old new → free_sectors p new ≡ free_sectors p old
-free_kept p n old new mark = free_sectors_kept p old new (λ s here. bit_kept old new block_bitmap s (mark.others (block_bitmap + s / 4096) (λ e. omega (arith, e))))
+pub free_kept : (p : Place) (n : ℕ) (old new : SectorMap) → MarksInode p n old new → free_sectors p new ≡ free_sectors p old
+free_kept p n old new mark = free_sectors_kept p old new (λ s here. bit_kept old new p.block_bitmap s (mark.others (p.block_bitmap + s / 4096) (λ i. let low = i.1 in omega (arith, low))))

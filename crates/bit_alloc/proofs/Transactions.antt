@@ -1,5 +1,6 @@
 -- What runs of reads and puts leave of a transaction, of its bitmaps, and of its room.
-use Rattle.std.proofs.Common.{◌≡◌, ℕ, refl, sym, subst, ◌∙◌, arith, inl, inr, ⊎_elim, List}
+use Rattle.std.proofs.Common.{◌≡◌, ℕ, refl, sym, subst, ◌∙◌, arith, inl, inr, ⊎_elim, List, ap}
+use Rattle.fs_layout.specs.Header.{log_end}
 use Rattle.fs_layout.specs.declared.place.Place.{Place}
 use Rattle.sector_txn.specs.Sectors.{TxnState, IsUnchanged, PutsOnly}
 use Rattle.sector_txn.proofs.TransactionRuns.{store_same, store_joined, lacking_less}
@@ -30,7 +31,7 @@ pub bitmaps_unchanged : (p : Place) (old new : TxnState) → HasBitmaps p old �
 bitmaps_unchanged p old new has same = record {
   place = has.place;
   disk = omega (arith, has.disk, same.store.reads.narrowed.size);
-  header = omega (arith, has.header, same.store.header);
+  header = omega (arith, has.header, ap log_end same.store.header);
   tables = subst (HasWholeTables p) (map_unchanged same) has.tables;
   rest = subst (HasRestSet p) (map_unchanged same) has.rest;
 }

@@ -14,18 +14,18 @@ use Rattle.fs_layout.specs.declared.place.Place.{Place}
 use Rattle.fs_layout.specs.Bytes.{SectorMap}
 use Rattle.fs_layout.specs.Header.{log_end}
 use Rattle.fs_layout.specs.Place.{IsPlace}
-use Rattle.fs_layout.specs.Images.{HasWholeTables, inode_bitmap, block_bitmap, map_bits, bit, free_sectors}
+use Rattle.fs_layout.specs.Images.{HasWholeTables, inode_map_bits, map_bits, bit, free_sectors}
 use Rattle.fs_layout.specs.InodeChanges.{MarksSector, MarksInode}
 use Rattle.sector_txn.specs.Sectors.{TxnState}
 
 -- the first sector of the bitmap
-abbrev pub first_sector : Bitmap → ℕ
-first_sector Inodes = inode_bitmap
-first_sector Blocks = block_bitmap
+abbrev pub first_sector : Place → Bitmap → ℕ
+first_sector p Inodes = p.inode_bitmap
+first_sector p Blocks = p.block_bitmap
 
 -- how many bits it has
 abbrev pub bit_count : Place → Bitmap → ℕ
-bit_count p Inodes = 4096
+bit_count p Inodes = inode_map_bits p
 bit_count p Blocks = map_bits p
 
 -- the least number that it keeps
@@ -44,47 +44,47 @@ IsNumber p map n = (least p map ≤ n) × (n < limit p map)
 
 -- one whose bit is clear
 abbrev pub IsFreeNumber : Place → Bitmap → SectorMap → ℕ → Type 0
-IsFreeNumber p map image n = (least p map ≤ n) × (n < limit p map) × (bit image (first_sector map) n ≡ false)
+IsFreeNumber p map image n = (least p map ≤ n) × (n < limit p map) × (bit image (first_sector p map) n ≡ false)
 
 -- how many inodes, or data sectors, have a clear bit
 abbrev pub free_numbers : Place → Bitmap → SectorMap → ℕ
-free_numbers p Inodes image = count_by (λ n. not (bit image inode_bitmap n)) (range_with_len 0 p.inodes)
+free_numbers p Inodes image = count_by (λ n. not (bit image p.inode_bitmap n)) (range_with_len 0 p.inodes)
 free_numbers p Blocks image = free_sectors p image
 
 -- the sector in which the bit of n stands
-abbrev pub sector_of : Bitmap → ℕ → ℕ
-sector_of map n = first_sector map + n / 4096
+abbrev pub sector_of : Place → Bitmap → ℕ → ℕ
+sector_of p map n = first_sector p map + n / 4096
 
 -- of the bitmap no bit but that of n differs, and nothing else does
 abbrev pub Marks : Place → Bitmap → ℕ → SectorMap → SectorMap → Type 0
-Marks p Inodes n old new = MarksInode n old new
+Marks p Inodes n old new = MarksInode p n old new
 Marks p Blocks n old new = MarksSector p n old new
 
 -- n was free, and its bit is set
 pub record TakesNumber (p : Place) (map : Bitmap) (n : ℕ) (old new : SectorMap) : Type 0 where
   pub free : IsFreeNumber p map old n
   pub mark : Marks p map n old new
-  pub set : IsTrue (bit new (first_sector map) n)
+  pub set : IsTrue (bit new (first_sector p map) n)
   -- one number less is free
   pub count : free_numbers p map old ≡ free_numbers p map new + 1
 
 -- the bit of n is clear
 pub record GivesNumber (p : Place) (map : Bitmap) (n : ℕ) (old new : SectorMap) : Type 0 where
   pub mark : Marks p map n old new
-  pub clear : bit new (first_sector map) n ≡ false
+  pub clear : bit new (first_sector p map) n ≡ false
   -- if n was taken, one number more is free
-  pub count : IsTrue (bit old (first_sector map) n) → free_numbers p map new ≡ free_numbers p map old + 1
+  pub count : IsTrue (bit old (first_sector p map) n) → free_numbers p map new ≡ free_numbers p map old + 1
 
 -- The bits that are no number's are set: that of inode 0, those below the data, and those past the end. So each clear
 -- bit is that of a free number.
 abbrev pub HasRestSet : Place → SectorMap → Type 0
 HasRestSet p image =
-    (map : Bitmap) (n : ℕ) → n < bit_count p map → (IsNumber p map n → ⊥) → IsTrue (bit image (first_sector map) n)
+    (map : Bitmap) (n : ℕ) → n < bit_count p map → (IsNumber p map n → ⊥) → IsTrue (bit image (first_sector p map) n)
 
 -- The transaction shows bitmaps and inode table of this layout. Of inodes, and of what they own, nothing is asked.
 pub record HasBitmaps (p : Place) (txn : TxnState) : Type 0 where
   pub place : IsPlace p
   pub disk : p.sectors ≤ txn.disk.size
-  pub header : log_end txn.header ≤ inode_bitmap
+  pub header : log_end txn.header ≤ p.inode_bitmap
   pub tables : HasWholeTables p txn.sectors
   pub rest : HasRestSet p txn.sectors

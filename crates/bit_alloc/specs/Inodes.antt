@@ -24,7 +24,7 @@ pub record IsSound (p : Place) (txn : TxnState) : Type 0 where
 
 -- a sector that a call on inode n may put: of a bitmap, the inode's, or of the data
 abbrev pub IsSectorFor : Place → ℕ → ℕ → Type 0
-IsSectorFor p n s = ((128 ≤ s) × (s < p.table)) ⊎ ((s ≡ p.table + n / 4) ⊎ IsData p s)
+IsSectorFor p n s = ((p.inode_bitmap ≤ s) × (s < p.table)) ⊎ ((s ≡ p.table + n / 4) ⊎ IsData p s)
 
 -- Inode n changes with what it owns, and nothing else. At most so many free sectors were taken, and at most so many
 -- sectors put besides bitmaps.

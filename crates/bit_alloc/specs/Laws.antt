@@ -4,12 +4,11 @@
 --     BeginsSound        what a consistent map lacks to be sound
 --     LeavesSpare, BeginsWithSpare        the room that calls leave, and the room at the start
 --     KeepsFree        inodes are taken and given back without a sector
-use Rattle.std.specs.Prelude.{◌≡◌, ℕ, ◌+◌, ◌<◌, ◌≤◌, ◌⊎◌, Some, IsTrue}
+use Rattle.std.specs.Prelude.{◌≡◌, ℕ, ◌+◌, ◌<◌, ◌≤◌, ◌⊎◌, IsTrue}
 use Rattle.fs_layout.specs.declared.place.Place.{Place}
 use Rattle.fs_layout.specs.Bytes.{SectorMap}
-use Rattle.fs_layout.specs.declared.version.Version.{Version}
-use Rattle.fs_layout.specs.Place.{IsPlace, place_in}
-use Rattle.fs_layout.specs.Images.{bit, inode_bitmap, free_sectors}
+use Rattle.fs_layout.specs.Place.{IsPlace}
+use Rattle.fs_layout.specs.Images.{inode_map_bits, bit, free_sectors}
 use Rattle.fs_layout.specs.Ownership.{IsConsistent}
 use Rattle.fs_layout.specs.InodeChanges.{MarksInode}
 use Rattle.fs_layout.specs.Header.{max_delta, log_end}
@@ -35,8 +34,8 @@ CallsJoin {T} state =
 -- one are set.
 abbrev pub BeginsSound : {T : Type 0} → (T → TxnState) → Type 0
 BeginsSound {T} state =
-    (p : Place) (txn : T) → IsConsistent p (state txn).sectors → p.sectors ≤ (state txn).disk.size → log_end (state txn).header ≤ inode_bitmap
-    → ((n : ℕ) → n < 4096 → (n ≡ 0) ⊎ (p.inodes ≤ n) → IsTrue (bit (state txn).sectors inode_bitmap n))
+    (p : Place) (txn : T) → IsConsistent p (state txn).sectors → p.sectors ≤ (state txn).disk.size → log_end (state txn).header ≤ p.inode_bitmap
+    → ((n : ℕ) → n < inode_map_bits p → (n ≡ 0) ⊎ (p.inodes ≤ n) → IsTrue (bit (state txn).sectors p.inode_bitmap n))
     → IsSound p (state txn)
 
 -- what puts leave of the room besides the bitmaps
@@ -45,12 +44,11 @@ LeavesSpare {T} state =
     (p : Place) (n taken more rest : ℕ) (old new : T) → HasSpare p (rest + more) (state old)
     → Touches p n taken more (state old) (state new) → HasSpare p rest (state new)
 
--- where all sectors can be put that a call may, 47 can be besides those of the bitmaps
+-- where all sectors can be put that a call may on a disk of this layout, 47 can be besides those of the bitmaps
 abbrev pub BeginsWithSpare : {T : Type 0} → (T → TxnState) → Type 0
 BeginsWithSpare {T} state =
-    (p : Place) (version : Version) (sectors inodes : ℕ) (txn : T) → place_in version sectors inodes ≡ Some p → (state txn).room ≡ max_delta (state txn).header
-    → HasSpare p 47 (state txn)
+    (p : Place) (txn : T) → IsPlace p → (state txn).room ≡ max_delta p.header → HasSpare p 47 (state txn)
 
 -- the bit of an inode says nothing of sectors
 abbrev pub KeepsFree : Type 0
-KeepsFree = (p : Place) (n : ℕ) (old new : SectorMap) → MarksInode n old new → free_sectors p new ≡ free_sectors p old
+KeepsFree = (p : Place) (n : ℕ) (old new : SectorMap) → MarksInode p n old new → free_sectors p new ≡ free_sectors p old

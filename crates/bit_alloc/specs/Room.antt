@@ -7,9 +7,9 @@ use Rattle.std.specs.List.{range_with_len}
 use Rattle.fs_layout.specs.declared.place.Place.{Place}
 use Rattle.sector_txn.specs.Sectors.{TxnState, lacking}
 
--- the sectors of both bitmaps: at most 17
+-- the sectors of both bitmaps
 abbrev pub bitmaps : Place → List ℕ
-bitmaps p = range_with_len 128 (p.table - 128)
+bitmaps p = range_with_len p.inode_bitmap (p.table - p.inode_bitmap)
 
 -- all sectors of the bitmaps can be put, and so many more
 abbrev pub HasSpare : Place → ℕ → TxnState → Type 0

@@ -11,20 +11,20 @@ use sector_disk::DiskFault;
 /// Which numbers a bitmap keeps.
 #[derive(Clone, Copy, Debug, PartialEq, Eq)]
 pub enum Bitmap {
-    /// The inodes. The bitmap is sector 128.
+    /// The inodes.
     Inodes,
-    /// The data sectors. The bitmap begins at sector 129, and has a bit for each sector of the disk.
+    /// The data sectors. The bitmap has a bit for each sector of the disk.
     Blocks,
 }
 
 impl Bitmap {
     // The first sector of the bitmap.
-    pub(crate) fn first(self) -> u32
-        ensures { result ≡ first_sector self }
+    pub(crate) fn first(self, place: Place) -> u32
+        ensures { result ≡ first_sector place self }
     {
         match self {
-            Bitmap::Inodes => 128,
-            Bitmap::Blocks => 129,
+            Bitmap::Inodes => place.inode_bitmap,
+            Bitmap::Blocks => place.block_bitmap,
         }
     }
 
@@ -34,8 +34,8 @@ impl Bitmap {
         ensures { 4096 * result ≡ bit_count place self }
     {
         match self {
-            Bitmap::Inodes => 1,
-            Bitmap::Blocks => place.table - 129,
+            Bitmap::Inodes => place.block_bitmap - place.inode_bitmap,
+            Bitmap::Blocks => place.table - place.block_bitmap,
         }
     }
 }

@@ -2,7 +2,7 @@
 
 ghost use Rattle.std.specs.Prelude.{◌≡◌, ◌≤◌, ◌<◌, IfOk, IsTrue, ◌↔◌};
 ghost use Rattle.fs_layout.specs.Place.{IsPlace};
-ghost use Rattle.fs_layout.specs.Images.{bit, inode_bitmap};
+ghost use Rattle.fs_layout.specs.Images.{bit};
 ghost use Rattle.sector_disk.specs.Disk.{HasCause};
 ghost use Rattle.sector_txn.specs.Sectors.{IsUnchanged};
 ghost use Rattle.fs_layout.specs.Header.{log_end};
@@ -19,13 +19,13 @@ pub fn is_taken<S: Sectors>(s: &mut S, place: Place, map: Bitmap, n: u32) -> Res
     requires place { IsPlace place }
     requires disk { place.sectors ≤ (S.state s.old).disk.size }
     requires bit { n < bit_count place map }
-    requires header { log_end (S.state s.old).header ≤ inode_bitmap }
-    ensures taken { IfOk result (λ b. b ≡ bit (S.state s.old).sectors (first_sector map) n) }
+    requires header { log_end (S.state s.old).header ≤ place.inode_bitmap }
+    ensures taken { IfOk result (λ b. b ≡ bit (S.state s.old).sectors (first_sector place map) n) }
     ensures same { IsUnchanged (S.state s.old) (S.state s.new) }
     ensures cause { HasCause (S.state s.old).disk (S.state s.new).disk result }
 {
     let mut sector = [0; 512];
-    s.get(map.first() + n / 4096, &mut sector)?;
+    s.get(map.first(place) + n / 4096, &mut sector)?;
     Ok(has_bit(sector[n as usize % 4096 / 8], n % 8))
 }
 
@@ -69,7 +69,7 @@ fn count_up_to<S: Sectors>(
         if free >= enough {
             return Ok(free);
         }
-        s.get(map.first() + k, &mut sector)?;
+        s.get(map.first(place) + k, &mut sector)?;
         free += count_clear_up_to(&sector, enough - free);
     }
     Ok(free)

@@ -20,7 +20,7 @@ pub fn take<S: Sectors>(s: &mut S, place: Place, map: Bitmap, near: u32) -> Resu
     requires bitmaps { HasBitmaps place (S.state s.old) }
     requires room { HasSpare place 0 (S.state s.old) }
     ensures taken { IfOk result (λ n. TakesNumber place map n (S.state s.old).sectors (S.state s.new).sectors) }
-    ensures puts { IfOk result (λ n. PutsOnly (λ t. t ≡ sector_of map n) (bitmaps place) 0 (S.state s.old) (S.state s.new)) }
+    ensures puts { IfOk result (λ n. PutsOnly (λ t. t ≡ sector_of place map n) (bitmaps place) 0 (S.state s.old) (S.state s.new)) }
     ensures bitmaps { OnOk result (HasBitmaps place (S.state s.new)) }
     ensures full { IfErr result (λ e. e ≡ TakeFault.Full → free_numbers place map (S.state s.old).sectors ≡ 0) }
     ensures unchanged { OnErr result (IsUnchanged (S.state s.old) (S.state s.new)) }
@@ -30,7 +30,7 @@ pub fn take<S: Sectors>(s: &mut S, place: Place, map: Bitmap, near: u32) -> Resu
     let sectors = map.sectors(place);
     for turn in 0..sectors {
         let k = (near / 4096 + turn) % sectors;
-        s.get(map.first() + k, &mut sector)?;
+        s.get(map.first(place) + k, &mut sector)?;
         if let Some(i) = first_clear(&sector) {
             let n = 4096 * k + i;
             put_bit(s, place, map, n, &mut sector, true);
@@ -46,13 +46,13 @@ pub fn give<S: Sectors>(s: &mut S, place: Place, map: Bitmap, n: u32) -> Result<
     requires number { IsNumber place map n }
     requires room { HasSpare place 0 (S.state s.old) }
     ensures given { OnOk result (GivesNumber place map n (S.state s.old).sectors (S.state s.new).sectors) }
-    ensures puts { OnOk result (PutsOnly (λ t. t ≡ sector_of map n) (bitmaps place) 0 (S.state s.old) (S.state s.new)) }
+    ensures puts { OnOk result (PutsOnly (λ t. t ≡ sector_of place map n) (bitmaps place) 0 (S.state s.old) (S.state s.new)) }
     ensures bitmaps { OnOk result (HasBitmaps place (S.state s.new)) }
     ensures unchanged { OnErr result (IsUnchanged (S.state s.old) (S.state s.new)) }
     ensures cause { HasCause (S.state s.old).disk (S.state s.new).disk result }
 {
     let mut sector = [0; 512];
-    s.get(map.first() + n / 4096, &mut sector)?;
+    s.get(map.first(place) + n / 4096, &mut sector)?;
     put_bit(s, place, map, n, &mut sector, false);
     Ok(())
 }
@@ -68,14 +68,14 @@ fn put_bit<S: Sectors>(
 )
     requires bitmaps { HasBitmaps place (S.state s.old) }
     requires number { IsNumber place map n }
-    requires content { sector.old ≡ (S.state s.old).sectors (sector_of map n) }
+    requires content { sector.old ≡ (S.state s.old).sectors (sector_of place map n) }
     requires room { HasSpare place 0 (S.state s.old) }
     ensures marks { Marks place map n (S.state s.old).sectors (S.state s.new).sectors }
-    ensures bit { bit (S.state s.new).sectors (first_sector map) n ≡ set }
-    ensures puts { PutsOnly (λ t. t ≡ sector_of map n) (bitmaps place) 0 (S.state s.old) (S.state s.new) }
+    ensures bit { bit (S.state s.new).sectors (first_sector place map) n ≡ set }
+    ensures puts { PutsOnly (λ t. t ≡ sector_of place map n) (bitmaps place) 0 (S.state s.old) (S.state s.new) }
     ensures bitmaps { HasBitmaps place (S.state s.new) }
 {
     let at = n as usize % 4096 / 8;
     sector[at] = with_bit(sector[at], n % 8, set);
-    s.put(map.first() + n / 4096, sector);
+    s.put(map.first(place) + n / 4096, sector);
 }

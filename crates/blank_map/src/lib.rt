@@ -9,7 +9,7 @@ ghost use Rattle.std.specs.Prelude.{◌≡◌, ◌≤◌, ◌<◌, ℕ, false, r
 ghost use Rattle.fs_layout.specs.Bytes.{IsBytes, IsSector};
 ghost use Rattle.fs_layout.specs.Header.{log_end};
 ghost use Rattle.fs_layout.specs.Place.{IsPlace};
-ghost use Rattle.fs_layout.specs.Images.{HasWholeTables, bit, inode_bitmap, inode_at};
+ghost use Rattle.fs_layout.specs.Images.{HasWholeTables, bit, inode_at};
 ghost use Rattle.fs_layout.specs.Inode.{free_inode};
 ghost use Rattle.sector_txn.specs.Sectors.{SameStore, IsUnchanged};
 ghost use Rattle.bit_alloc.specs.Bitmaps.{first_sector, bit_count, IsNumber};
@@ -42,8 +42,8 @@ fn count_bits(place: Place, map: Bitmap) -> u32
     ensures { result ≡ bit_count place map }
 {
     match map {
-        Bitmap::Inodes => 4096,
-        Bitmap::Blocks => 4096 * (place.table - 129),
+        Bitmap::Inodes => 4096 * (place.block_bitmap - place.inode_bitmap),
+        Bitmap::Blocks => 4096 * (place.table - place.block_bitmap),
     }
 }
 
@@ -51,10 +51,10 @@ fn count_bits(place: Place, map: Bitmap) -> u32
 pub fn put_blank<S: Sectors>(s: &mut S, place: Place)
     requires place { IsPlace place }
     requires disk { place.sectors ≤ (S.state s.old).disk.size }
-    requires header { log_end (S.state s.old).header ≤ inode_bitmap }
+    requires header { log_end (S.state s.old).header ≤ place.inode_bitmap }
     ensures { SameStore (S.state s.old) (S.state s.new) }
 {
-    for t in 128..place.first_data {
+    for t in place.inode_bitmap..place.first_data {
         if s.room() == 0 {
             return;
         }
@@ -62,19 +62,23 @@ pub fn put_blank<S: Sectors>(s: &mut S, place: Place)
     }
 }
 
-// Sector t of a map without inodes whose block bitmap is one sector: a bit of a bitmap is set where it is no number's.
+// Sector t of a map without inodes: a bit of a bitmap is set where it is no number's.
 fn blank_sector(place: Place, t: u32) -> [u8; 512] {
     let mut sector = [0; 512];
     if place.table <= t {
         return sector;
     }
-    let map = if t == 128 {
-        Bitmap::Inodes
+    let (map, first) = if t < place.block_bitmap {
+        (Bitmap::Inodes, place.inode_bitmap)
     } else {
-        Bitmap::Blocks
+        (Bitmap::Blocks, place.block_bitmap)
     };
     for n in 0..4096 {
-        if !is_number(place, map, n) {
+        if !is_number(
+            place,
+            map,
+            t.wrapping_sub(first).wrapping_mul(4096).wrapping_add(n),
+        ) {
             sector[(n / 8) as usize] |= 1 << (n % 8);
         }
     }
@@ -86,10 +90,10 @@ fn blank_sector(place: Place, t: u32) -> [u8; 512] {
 pub fn is_blank<S: Sectors>(s: &mut S, place: Place) -> Result<bool, DiskFault>
     requires place { IsPlace place }
     requires disk { place.sectors ≤ (S.state s.old).disk.size }
-    requires header { log_end (S.state s.old).header ≤ inode_bitmap }
+    requires header { log_end (S.state s.old).header ≤ place.inode_bitmap }
     ensures sound { IfOk result (λ b. IsTrue b → IsSound place (S.state s.new)) }
     // An inode whose bit is clear is free.
-    ensures clear { IfOk result (λ b. IsTrue b → (n : ℕ) → n < place.inodes → bit (S.state s.new).sectors inode_bitmap n ≡ false
+    ensures clear { IfOk result (λ b. IsTrue b → (n : ℕ) → n < place.inodes → bit (S.state s.new).sectors place.inode_bitmap n ≡ false
         → inode_at place (S.state s.new).sectors n ≡ free_inode) }
     ensures spare { IfOk result (λ b. IsTrue b → HasSpare place 12 (S.state s.new)) }
 {
@@ -105,21 +109,21 @@ pub fn is_blank<S: Sectors>(s: &mut S, place: Place) -> Result<bool, DiskFault>
     if !blocks {
         return Ok(false);
     }
-    Ok(s.room() >= (place.table - 128) as usize + 12)
+    Ok(s.room() >= (place.table - place.inode_bitmap) as usize + 12)
 }
 
 // Whether the inode table is zeros.
 fn has_zero_table<S: Sectors>(s: &mut S, place: Place) -> Result<bool, DiskFault>
     requires place { IsPlace place }
     requires disk { place.sectors ≤ (S.state s.old).disk.size }
-    requires header { log_end (S.state s.old).header ≤ inode_bitmap }
+    requires header { log_end (S.state s.old).header ≤ place.inode_bitmap }
     ensures tables { IfOk result (λ b. IsTrue b → HasWholeTables place (S.state s.old).sectors) }
     ensures zero { IfOk result (λ b. IsTrue b → (t : ℕ) → place.table ≤ t → t < place.first_data
         → (S.state s.old).sectors t ≡ replicate 512 0) }
     ensures same { IsUnchanged (S.state s.old) (S.state s.new) }
 {
     let mut sector = [0; 512];
-    for t in 128..place.first_data {
+    for t in place.inode_bitmap..place.first_data {
         s.get(t, &mut sector)?;
         tell_bytes(&sector);
         if !may_have(place, t, &sector) {
@@ -160,9 +164,9 @@ fn may_be(place: Place, map: Bitmap, n: u32, taken: bool) -> bool
 fn has_bits<S: Sectors>(s: &mut S, place: Place, map: Bitmap) -> Result<bool, DiskFault>
     requires place { IsPlace place }
     requires disk { place.sectors ≤ (S.state s.old).disk.size }
-    requires header { log_end (S.state s.old).header ≤ inode_bitmap }
+    requires header { log_end (S.state s.old).header ≤ place.inode_bitmap }
     ensures set { IfOk result (λ b. IsTrue b → (n : ℕ) → n < bit_count place map
-        → (IsTrue (bit (S.state s.old).sectors (first_sector map) n) ↔ (IsNumber place map n → ⊥))) }
+        → (IsTrue (bit (S.state s.old).sectors (first_sector place map) n) ↔ (IsNumber place map n → ⊥))) }
     ensures same { IsUnchanged (S.state s.old) (S.state s.new) }
 {
     for n in 0..count_bits(place, map) {

@@ -12,6 +12,7 @@ use Rattle.fs_layout.proofs.Parts.{KeepsPointers, level_is_one, index_is_one, nu
 use Rattle.fs_layout.proofs.Pointers.{gains_indirect, gains_double}
 use Rattle.fs_layout.proofs.Steps.{allocates_keeps, allocated_some, pointers_gained, pointers_gained_holds, double_gained, double_gained_holds, entry_content, entry_pointers, entry_pointers_gained, entry_pointers_hold}
 use Rattle.fs_layout.proofs.UsedInodes.{with_blocks_fits}
+use Rattle.fs_layout.proofs.Places.{numbers_most}
 use Rattle.sector_txn.specs.Sectors.{TxnState, SameStore, IsUnchanged, PutsOnly, lacking}
 use Rattle.sector_txn.proofs.TransactionRuns.{changes_nothing, changes_weaker, lacking_less}
 use Rattle.bit_alloc.specs.Bitmaps.{HasBitmaps}
@@ -107,7 +108,7 @@ module _ {p : Place} {s : ℕ} {old new : TxnState} {bits : SectorMap} {x : List
   some = allocated_some place may.apart a
 
   small : s < 2 ^ 32
-  small = let l = a.free.1 in let most = place.most_sectors in omega (arith, l, most)
+  small = let l = a.free.1 in let most = numbers_most place in omega (arith, l, most)
 
   -- the inode names it
   names_sector : (indirect double : ℕ) → ChangesBlocks p v (record v { indirect = indirect; double_indirect = double }) old.sectors new.sectors
@@ -166,7 +167,7 @@ module _ {p : Place} {s u index : ℕ} {old mid new : TxnState} {bits : SectorMa
   owned = subst (λ (t : ℕ). Owns old.sectors v t) (sym sector) (owns_on_level old.sectors v 2 (holder 1 index) (λ e. has (sector ∙ e)))
 
   listed : PutsEntry v 1 index s mid.sectors new.sectors
-  listed = puts_entry_at 1 index s sector since from has (let l = a.free.1 in let most = may.bitmaps.place.most_sectors in omega (arith, l, most))
+  listed = puts_entry_at 1 index s sector since from has (let l = a.free.1 in let most = numbers_most may.bitmaps.place in omega (arith, l, most))
       (entry ∙ ap (λ (r : List ℕ). splice r (4 * place_in_holder 1 index) (le32 s)) (loaded ∙ sym (since u owned))) put
 
   listed_gained : Gains old.sectors new.sectors v v (OnLevel 1 index) s

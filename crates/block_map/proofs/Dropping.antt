@@ -9,7 +9,7 @@ use Rattle.fs_layout.specs.declared.place.Place.{Place}
 use Rattle.fs_layout.specs.Bytes.{SectorMap, IsSector, u32_of}
 use Rattle.fs_layout.specs.Inode.{FitsInode}
 use Rattle.fs_layout.specs.Place.{IsPlace}
-use Rattle.fs_layout.specs.Images.{pointer_in, own_count, holder, place_in_holder, number_on, pointer, first_block, HasPointers, Part, AccessAcl, DefaultAcl, OnLevel, part, Owns, bit, block_bitmap, map_bits, free_sectors}
+use Rattle.fs_layout.specs.Images.{pointer_in, own_count, holder, place_in_holder, number_on, pointer, first_block, HasPointers, Part, AccessAcl, DefaultAcl, OnLevel, part, Owns, bit, map_bits, free_sectors}
 use Rattle.fs_layout.specs.InodeChanges.{IsOwnedApart}
 use Rattle.fs_layout.proofs.Bits.{has_bit, block_bit_kept, free_sectors_kept}
 use Rattle.fs_layout.proofs.Blocks.{map_is_low}
@@ -176,7 +176,7 @@ module _ {p : Place} {v : Inode} {first a b u0 u1 from0 from1 : ℕ} {d x0 x1 : 
   low s lt =
       others s (λ some e. let ge = (apart.each u0 (own0 some)).0 in omega (arith, lt, ge, e)) (λ some e. let ge = (apart.each u1 (own1 some)).0 in omega (arith, lt, ge, e))
 
-  bits : (s : ℕ) → s < map_bits p → bit new.sectors block_bitmap s ≡ bit given.sectors block_bitmap s
+  bits : (s : ℕ) → s < map_bits p → bit new.sectors p.block_bitmap s ≡ bit given.sectors p.block_bitmap s
   bits s small = block_bit_kept p given.sectors new.sectors s small (λ t m. low t (map_is_low place t m))
 
   -- the content of the sectors of pointers that are cut
@@ -269,7 +269,7 @@ module _ {p : Place} {v : Inode} {first a b u0 u1 from0 from1 : ℕ} {d x0 x1 : 
   gone (suc (suc zero)) i le = top.gone i ((first_serves 2 i first few (omega arith)).0 le)
   gone (suc (suc (suc level))) i le = no_number_on new.sectors w level i
 
-  parts : (at : Part) → (part new.sectors w at ≡ part old.sectors v at) ⊎ ((part new.sectors w at ≡ 0) × (part old.sectors v at ≢ 0 → bit new.sectors block_bitmap (part old.sectors v at) ≡ false))
+  parts : (at : Part) → (part new.sectors w at ≡ part old.sectors v at) ⊎ ((part new.sectors w at ≡ 0) × (part old.sectors v at ≢ 0 → bit new.sectors p.block_bitmap (part old.sectors v at) ≡ false))
   unfolding part
   parts AccessAcl = inl refl
   parts DefaultAcl = inl refl

@@ -10,7 +10,7 @@ use Rattle.fs_layout.specs.declared.inode.Kind.TheVariants as kinds
 use Rattle.fs_layout.specs.declared.place.Place.{Place}
 use Rattle.fs_layout.specs.Bytes.{zeros}
 use Rattle.fs_layout.specs.Inode.{FitsInode, free_inode}
-use Rattle.fs_layout.specs.Images.{AccessAcl, DefaultAcl, part, bit, inode_at, inode_bitmap}
+use Rattle.fs_layout.specs.Images.{AccessAcl, DefaultAcl, part, bit, inode_at}
 use Rattle.fs_layout.specs.Ownership.{IsConsistent}
 use Rattle.fs_layout.specs.InodeChanges.{IsOwnedApart, MarksInode, ChangesBlocks, ChangesInode, Saves}
 use Rattle.fs_layout.proofs.Composes.{apart_after, both_changes, both_inodes}
@@ -20,6 +20,7 @@ use Rattle.fs_layout.proofs.Marks.{marks_change}
 use Rattle.fs_layout.proofs.Pointers.{turns_acl, turns_default_acl}
 use Rattle.fs_layout.proofs.Saves.{IsSaved}
 use Rattle.fs_layout.proofs.SplicedBytes.{get_or-zeros}
+use Rattle.fs_layout.proofs.Bits.{inode_has_bit}
 use Rattle.sector_txn.specs.Sectors.{TxnState, IsUnchanged, PutsOnly}
 use Rattle.sector_txn.proofs.TransactionRuns.{changes_joined}
 use Rattle.bit_alloc.specs.declared.bitmap.Bitmap.TheVariants.{Inodes}
@@ -39,16 +40,16 @@ use Rattle.block_map.proofs.Saving.{puts_steps}
 pub record IsFreed (p : Place) (n : ℕ) (old new : TxnState) : Type 0 where
   pub touches : Touches p n 0 1 old new
   pub free : inode_at p new.sectors n ≡ free_inode
-  pub unused : bit new.sectors inode_bitmap n ≡ false
+  pub unused : bit new.sectors p.inode_bitmap n ≡ false
 
 module _ {p : Place} {n : ℕ} {v : Inode} {t0 t1 t2 : TxnState} (sound : IsSound p t0) (number : IsNumber p Inodes n)
     (is : v ≡ inode_at p t0.sectors n) (read : IsUnchanged t0 t1) (given : GivesNumber p Inodes n t1.sectors t2.sectors)
-    (bit_put : PutsOnly (λ t. t ≡ inode_bitmap + n / 4096) (bitmaps p) 0 t1 t2) where
+    (bit_put : PutsOnly (λ t. t ≡ p.inode_bitmap + n / 4096) (bitmaps p) 0 t1 t2) where
   pub cleared_puts : PutsOnly (IsSectorFor p n) (bitmaps p) 0 t0 t2
   cleared_puts = changes_joined (puts_nothing p read) (puts_inode_bit n n sound.consistent.place number.1 bit_put)
 
-  mark : MarksInode n t0.sectors t2.sectors
-  mark = subst (λ m. MarksInode n m t2.sectors) (sym (map_unchanged read)) given.mark
+  mark : MarksInode p n t0.sectors t2.sectors
+  mark = subst (λ m. MarksInode p n m t2.sectors) (sym (map_unchanged read)) given.mark
 
   cleared : ChangesInode p n t0.sectors t2.sectors × (inode_at p t2.sectors n ≡ inode_at p t0.sectors n)
   cleared = marks_change sound.consistent number.1 mark
@@ -118,8 +119,6 @@ module _ {p : Place} {n : ℕ} {v : Inode} {t0 t1 t2 : TxnState} (sound : IsSoun
               let a = second.free in
               let d = third.free in
               let e = ended.1.free in
-              let most = then.place.most_inodes in
-              let lt = number.1 in
               record {
                 touches = record {
                   puts = puts;
@@ -128,5 +127,5 @@ module _ {p : Place} {n : ℕ} {v : Inode} {t0 t1 t2 : TxnState} (sound : IsSoun
                   free = omega (arith, same, f, a, d, e);
                 };
                 free = ended.1.is;
-                unused = ended.1.inode_bits n (omega (arith, most, lt)) ∙ given.clear;
+                unused = ended.1.inode_bits n (inode_has_bit then.place n number.1) ∙ given.clear;
               }

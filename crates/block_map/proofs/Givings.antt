@@ -7,7 +7,8 @@ use Rattle.fs_layout.specs.declared.place.Place.{Place}
 use Rattle.fs_layout.specs.Bytes.{SectorMap, IsSector, zeros}
 use Rattle.fs_layout.specs.Inode.{FitsInode}
 use Rattle.fs_layout.specs.Place.{IsPlace}
-use Rattle.fs_layout.specs.Images.{HasWholeTables, pointer_in, holder, place_in_holder, number_on, first_block, Part, AccessAcl, DefaultAcl, OnLevel, part, Owns, Holds, byte_in, byte_at, bit, block_bitmap, map_bits, free_sectors}
+use Rattle.fs_layout.proofs.Places.{after_map}
+use Rattle.fs_layout.specs.Images.{HasWholeTables, pointer_in, holder, place_in_holder, number_on, first_block, Part, AccessAcl, DefaultAcl, OnLevel, part, Owns, Holds, byte_in, byte_at, bit, map_bits, free_sectors}
 use Rattle.fs_layout.specs.InodeChanges.{Keeps, IsOwnedApart, IsBlockMap, ChangesBlocks}
 use Rattle.fs_layout.proofs.Bits.{set_or_clear, not_both, has_bit, free_sectors_kept}
 use Rattle.fs_layout.proofs.Parts.{number_on_indirect, number_on_kept, owned_before, owns_part, part_kept}
@@ -33,19 +34,21 @@ use Rattle.block_map.specs.Drops.{GivesParts, IsInData, IsFor, IsAmong, first_on
 -- ---- one sector is given back
 -- at least as many are free then
 pub free_after_give : {p : Place} {n : ℕ} {old new : SectorMap} → GivesNumber p BlockMap n old new → IsPlace p → free_sectors p old ≤ free_sectors p new
-free_after_give {p} {n} {old} {new} given place = elim (set_or_clear (bit old block_bitmap n)) [
+free_after_give {p} {n} {old} {new} given place = elim (set_or_clear (bit old p.block_bitmap n)) [
   | inl set ↦ let e = given.count set in omega (arith, e)
   | inr clear ↦
       let e : free_sectors p new ≡ free_sectors p old = free_sectors_kept p old new (λ s at. elim (cases_eq s n) [
-        | inl here ↦ ap (bit new block_bitmap) here ∙ given.clear ∙ sym clear ∙ ap (bit old block_bitmap) (sym here)
+        | inl here ↦ ap (bit new p.block_bitmap) here ∙ given.clear ∙ sym clear ∙ ap (bit old p.block_bitmap) (sym here)
         | inr ne ↦ given.mark.bits s (has_bit place s at.1) ne
       ]) in
       omega (arith, e)
 ]
 
-pub give_puts : (p : Place) {n : ℕ} {old new : TxnState} → n < map_bits p → PutsOnly (λ t. t ≡ sector_of BlockMap n) (bitmaps p) 0 old new
+pub give_puts : (p : Place) {n : ℕ} {old new : TxnState} → IsPlace p → n < map_bits p → PutsOnly (λ t. t ≡ sector_of p BlockMap n) (bitmaps p) 0 old new
     → PutsOnly (IsStepSector p) (bitmaps p) 0 old new
-give_puts p few puts = changes_weaker {Q = IsStepSector p} (λ t e. inl (omega (arith, e), omega (arith, e, few))) (omega arith) puts
+give_puts p place few puts =
+    let after = after_map place in
+    changes_weaker {Q = IsStepSector p} (λ t e. inl (omega (arith, e, after), omega (arith, e, few))) (omega arith) puts
 
 -- ---- several parts
 pub none_given : {p : Place} {v : Inode} {P : Part → Type 0} {txn : TxnState} → HasBitmaps p txn → ((at : Part) → P at → ⊥) → GivesParts p v P txn txn
@@ -87,14 +90,14 @@ given_joined {p} {v} {P} {Q} {old} {mid} {new} inside a b =
       tables = b.tables;
       others = λ s ban. b.others s ban ∙ a.others s ban;
       cleared = λ at here some. elim here [
-        | inl was ↦ elim (set_or_clear (bit new.sectors block_bitmap (part old.sectors v at))) [
+        | inl was ↦ elim (set_or_clear (bit new.sectors p.block_bitmap (part old.sectors v at))) [
           | inl set ↦ absurd (not_both (b.set (part old.sectors v at) (few at some) set) (a.cleared at was some))
           | inr clear ↦ clear
         ]
         | inr then ↦
-            ap (bit new.sectors block_bitmap) (sym (same at)) ∙ b.cleared at then (λ e. some (sym (same at) ∙ e))
+            ap (bit new.sectors p.block_bitmap) (sym (same at)) ∙ b.cleared at then (λ e. some (sym (same at) ∙ e))
       ];
-      released = λ s small set clear. elim (set_or_clear (bit mid.sectors block_bitmap s)) [
+      released = λ s small set clear. elim (set_or_clear (bit mid.sectors p.block_bitmap s)) [
         | inl still ↦ let w = b.released s small still clear in (w.0, inr w.1, sym (same w.0) ∙ w.2, w.3)
         | inr gone ↦ let w = a.released s small set gone in (w.0, inl w.1, w.2, w.3)
       ];
@@ -105,21 +108,21 @@ given_joined {p} {v} {P} {Q} {old} {mid} {new} inside a b =
 
 -- one sector
 pub part_given : {p : Place} {v : Inode} {n : ℕ} {old new : TxnState} (at : Part) → HasBitmaps p old → part old.sectors v at ≡ n → n ≢ 0 → n < map_bits p
-    → GivesNumber p BlockMap n old.sectors new.sectors → HasBitmaps p new → PutsOnly (λ t. t ≡ sector_of BlockMap n) (bitmaps p) 0 old new
+    → GivesNumber p BlockMap n old.sectors new.sectors → HasBitmaps p new → PutsOnly (λ t. t ≡ sector_of p BlockMap n) (bitmaps p) 0 old new
     → GivesParts p v (λ other. other ≡ at) old new
 part_given {p} {v} {n} {old} {new} at h is some few given bits puts = record {
   tables = bits;
   others = given.mark.others;
-  cleared = λ other e has. ap (bit new.sectors block_bitmap) (ap (part old.sectors v) e ∙ is) ∙ given.clear;
+  cleared = λ other e has. ap (bit new.sectors p.block_bitmap) (ap (part old.sectors v) e ∙ is) ∙ given.clear;
   released = λ s small set clear. elim (cases_eq s n) [
     | inl e ↦ (at, refl, is ∙ sym e, λ z. some (sym e ∙ z))
     | inr ne ↦ absurd (not_both set (sym (given.mark.bits s small ne) ∙ clear))
   ];
   set = λ s small set. elim (cases_eq s n) [
-    | inl e ↦ absurd (not_both set (ap (bit new.sectors block_bitmap) e ∙ given.clear))
+    | inl e ↦ absurd (not_both set (ap (bit new.sectors p.block_bitmap) e ∙ given.clear))
     | inr ne ↦ sym (given.mark.bits s small ne) ∙ set
   ];
-  puts = give_puts p few puts;
+  puts = give_puts p h.place few puts;
   free = free_after_give given h.place;
 }
 
@@ -170,7 +173,7 @@ holes_given {p} {v} {level} {first} {end} {txn} h none =
 
 -- a number more
 pub number_given : {p : Place} {v : Inode} {level first k n : ℕ} {old mid new : TxnState} → IsInData p old.sectors v → GivesParts p v (IsAmong level first k) old mid → first ≤ k
-    → number_on old.sectors v level k ≡ n → n ≢ 0 → GivesNumber p BlockMap n mid.sectors new.sectors → HasBitmaps p new → PutsOnly (λ t. t ≡ sector_of BlockMap n) (bitmaps p) 0 mid new
+    → number_on old.sectors v level k ≡ n → n ≢ 0 → GivesNumber p BlockMap n mid.sectors new.sectors → HasBitmaps p new → PutsOnly (λ t. t ≡ sector_of p BlockMap n) (bitmaps p) 0 mid new
     → GivesParts p v (IsAmong level first (k + 1)) old new
 unfolding part
 number_given {p} {v} {level} {first} {k} {n} {old} {mid} {new} inside g from is some given bits puts =
@@ -184,9 +187,9 @@ number_given {p} {v} {level} {first} {k} {n} {old} {mid} {new} inside g from is 
 -- Each part of v stays or is given back, with its bit: then w has what v had and kept.
 pub record KeepsOrGives (p : Place) (v w : Inode) (old new : SectorMap) : Type 0 where
   pub tables : HasWholeTables p new
-  pub parts : (at : Part) → (part new w at ≡ part old v at) ⊎ ((part new w at ≡ 0) × (part old v at ≢ 0 → bit new block_bitmap (part old v at) ≡ false))
-  pub released : (s : ℕ) → s < map_bits p → IsTrue (bit old block_bitmap s) → bit new block_bitmap s ≡ false → (at : Part) × (part old v at ≡ s) × (part new w at ≡ 0) × (s ≢ 0)
-  pub set : (s : ℕ) → s < map_bits p → IsTrue (bit new block_bitmap s) → IsTrue (bit old block_bitmap s)
+  pub parts : (at : Part) → (part new w at ≡ part old v at) ⊎ ((part new w at ≡ 0) × (part old v at ≢ 0 → bit new p.block_bitmap (part old v at) ≡ false))
+  pub released : (s : ℕ) → s < map_bits p → IsTrue (bit old p.block_bitmap s) → bit new p.block_bitmap s ≡ false → (at : Part) × (part old v at ≡ s) × (part new w at ≡ 0) × (s ≢ 0)
+  pub set : (s : ℕ) → s < map_bits p → IsTrue (bit new p.block_bitmap s) → IsTrue (bit old p.block_bitmap s)
   pub whole : (s : ℕ) → Owns old v s → IsSector (new s)
   pub others : (s : ℕ) → (Owns old v s → ⊥) → (IsBlockMap p s → ⊥) → new s ≡ old s
 
@@ -203,7 +206,7 @@ keeps_or_gives {p} {v} {w} {old} {new} place apart g = record {
     once = λ s a b. apart.once s (record { at = a.at; is = owned_still g a; some = a.some }) (record { at = b.at; is = owned_still g b; some = b.some });
     taken = λ s few o.
         let was : Owns old v s = record { at = o.at; is = owned_still g o; some = o.some } in
-        elim (set_or_clear (bit new block_bitmap s)) [
+        elim (set_or_clear (bit new p.block_bitmap s)) [
           | inl set ↦ set
           | inr clear ↦
               let r = g.released s few (apart.each s was).2 clear in
@@ -214,7 +217,7 @@ keeps_or_gives {p} {v} {w} {old} {new} place apart g = record {
     gained = λ s few set clear. absurd (not_both (g.set s few set) clear);
     stayed = λ s few set o. elim (g.parts o.at) [
       | inl same ↦ record { at = o.at; is = same ∙ o.is; some = o.some }
-      | inr gone ↦ absurd (not_both set (ap (bit new block_bitmap) (sym o.is) ∙ gone.1 (λ e. o.some (sym o.is ∙ e))))
+      | inr gone ↦ absurd (not_both set (ap (bit new p.block_bitmap) (sym o.is) ∙ gone.1 (λ e. o.some (sym o.is ∙ e))))
     ];
   };
   low = λ s lt ban. g.others s (low_not_owned apart s lt) ban;
@@ -278,7 +281,7 @@ no_indirect {v = v} {first} {txn} h way = holes_given h (λ i from lt. elim way 
 
 -- or it is given
 pub indirect_given : {p : Place} {v : Inode} {first : ℕ} {old new : TxnState} → HasBitmaps p old → IsInData p old.sectors v → first ≤ DIRECT_BLOCKS → v.indirect ≢ 0
-    → GivesNumber p BlockMap v.indirect old.sectors new.sectors → HasBitmaps p new → PutsOnly (λ t. t ≡ sector_of BlockMap v.indirect) (bitmaps p) 0 old new
+    → GivesNumber p BlockMap v.indirect old.sectors new.sectors → HasBitmaps p new → PutsOnly (λ t. t ≡ sector_of p BlockMap v.indirect) (bitmaps p) 0 old new
     → GivesParts p v (IsAmong 1 (first_on 1 first) 1) old new
 indirect_given {p} {v} {first} {old} {new} h inside low some given bits puts =
     let serves : 0 ≡ first_on 1 first = omega (arith, low) in
@@ -320,7 +323,7 @@ emptied_holds image v = record {
 
 emptied_parts : {p : Place} {v : Inode} {old new : TxnState} → GivesParts p v (IsFor 0) old new → (at : Part)
     → (part new.sectors (emptied v) at ≡ part old.sectors v at)
-    ⊎ ((part new.sectors (emptied v) at ≡ 0) × (part old.sectors v at ≢ 0 → bit new.sectors block_bitmap (part old.sectors v at) ≡ false))
+    ⊎ ((part new.sectors (emptied v) at ≡ 0) × (part old.sectors v at ≢ 0 → bit new.sectors p.block_bitmap (part old.sectors v at) ≡ false))
 unfolding part
 emptied_parts g AccessAcl = inl refl
 emptied_parts g DefaultAcl = inl refl
@@ -382,10 +385,10 @@ given_after {p} {v} {P} {old} {mid} {new} same g =
     record {
       tables = g.tables;
       others = λ s ban. g.others s ban ∙ same.sectors s;
-      cleared = subst (λ (image : SectorMap). (at : Part) → P at → part image v at ≢ 0 → bit new.sectors block_bitmap (part image v at) ≡ false) e g.cleared;
-      released = subst (λ (image : SectorMap). (s : ℕ) → s < map_bits p → IsTrue (bit image block_bitmap s) → bit new.sectors block_bitmap s ≡ false
+      cleared = subst (λ (image : SectorMap). (at : Part) → P at → part image v at ≢ 0 → bit new.sectors p.block_bitmap (part image v at) ≡ false) e g.cleared;
+      released = subst (λ (image : SectorMap). (s : ℕ) → s < map_bits p → IsTrue (bit image p.block_bitmap s) → bit new.sectors p.block_bitmap s ≡ false
           → (at : Part) × P at × (part image v at ≡ s) × (s ≢ 0)) e g.released;
-      set = subst (λ (image : SectorMap). (s : ℕ) → s < map_bits p → IsTrue (bit new.sectors block_bitmap s) → IsTrue (bit image block_bitmap s)) e g.set;
+      set = subst (λ (image : SectorMap). (s : ℕ) → s < map_bits p → IsTrue (bit new.sectors p.block_bitmap s) → IsTrue (bit image p.block_bitmap s)) e g.set;
       puts = puts_after same g.puts;
       free = let f = g.free in let b = ap (free_sectors p) e in omega (arith, f, b);
     }
@@ -397,10 +400,10 @@ given_unchanged {p} {v} {P} {old} {mid} {new} g same =
     record {
       tables = bitmaps_unchanged p mid new g.tables same;
       others = λ s ban. same.sectors s ∙ g.others s ban;
-      cleared = subst (λ (image : SectorMap). (at : Part) → P at → part old.sectors v at ≢ 0 → bit image block_bitmap (part old.sectors v at) ≡ false) e g.cleared;
-      released = subst (λ (image : SectorMap). (s : ℕ) → s < map_bits p → IsTrue (bit old.sectors block_bitmap s) → bit image block_bitmap s ≡ false
+      cleared = subst (λ (image : SectorMap). (at : Part) → P at → part old.sectors v at ≢ 0 → bit image p.block_bitmap (part old.sectors v at) ≡ false) e g.cleared;
+      released = subst (λ (image : SectorMap). (s : ℕ) → s < map_bits p → IsTrue (bit old.sectors p.block_bitmap s) → bit image p.block_bitmap s ≡ false
           → (at : Part) × P at × (part old.sectors v at ≡ s) × (s ≢ 0)) e g.released;
-      set = subst (λ (image : SectorMap). (s : ℕ) → s < map_bits p → IsTrue (bit image block_bitmap s) → IsTrue (bit old.sectors block_bitmap s)) e g.set;
+      set = subst (λ (image : SectorMap). (s : ℕ) → s < map_bits p → IsTrue (bit image p.block_bitmap s) → IsTrue (bit old.sectors p.block_bitmap s)) e g.set;
       puts = changes_read g.puts same;
       free = let f = g.free in let b = ap (free_sectors p) e in omega (arith, f, b);
     }

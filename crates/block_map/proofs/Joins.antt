@@ -1,12 +1,13 @@
 -- Calls on what one inode holds, one after another.
-use Rattle.std.proofs.Common.{◌≡◌, ℕ, ◌+◌, sym, ap, subst, ◌∙◌, arith}
+use Rattle.std.proofs.Common.{◌≡◌, ℕ, ◌+◌, ◌≤◌, sym, ap, subst, ◌∙◌, arith}
 use Rattle.fs_layout.specs.declared.inode.Inode.{Inode}
 use Rattle.fs_layout.specs.declared.place.Place.{Place}
 use Rattle.fs_layout.specs.Bytes.{SectorMap}
-use Rattle.fs_layout.specs.Images.{bit, inode_bitmap}
+use Rattle.fs_layout.specs.Images.{bit}
 use Rattle.fs_layout.specs.Ownership.{IsConsistent}
 use Rattle.fs_layout.specs.InodeChanges.{ChangesInode}
 use Rattle.sector_txn.specs.Sectors.{TxnState, IsUnchanged}
+use Rattle.sector_txn.proofs.TransactionRuns.{changes_weaker}
 use Rattle.bit_alloc.specs.Inodes.{IsSound, KeepsAcls}
 use Rattle.bit_alloc.proofs.Soundness.{touches_joined}
 use Rattle.bit_alloc.proofs.Transactions.{map_unchanged, bitmaps_unchanged, puts_after}
@@ -37,7 +38,7 @@ content_after_reads {p} {n} {old = old} {mid} {new} {v} {w} same c =
       now = c.now;
       fields = c.fields;
       acls = subst (λ (image : SectorMap). KeepsAcls image new.sectors v w) e c.acls;
-      used = c.used ∙ ap (λ (image : SectorMap). bit image inode_bitmap n) e;
+      used = c.used ∙ ap (λ (image : SectorMap). bit image p.inode_bitmap n) e;
     }
 
 -- one change after another
@@ -50,4 +51,16 @@ content_joined {p} {n} {first} {then} {few} {more} {old} {mid} {new} a b = recor
   fields = fields_joined a.fields b.fields;
   acls = acls_joined a.acls b.acls;
   used = b.used ∙ a.used;
+}
+
+-- what puts few sectors puts no more than more
+pub content_at_most : {p : Place} {n taken few more : ℕ} {old new : TxnState} {v w : Inode} → few ≤ more → ChangesContent p n taken few old new v w
+    → ChangesContent p n taken more old new v w
+content_at_most le c = record {
+  sound = c.sound;
+  touches = record { puts = changes_weaker (λ t r. r) le c.touches.puts; super = c.touches.super; inode = c.touches.inode; free = c.touches.free };
+  now = c.now;
+  fields = c.fields;
+  acls = c.acls;
+  used = c.used;
 }

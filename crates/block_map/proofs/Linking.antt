@@ -8,7 +8,7 @@ use Rattle.fs_layout.specs.declared.inode.Kind.TheVariants as kinds
 use Rattle.fs_layout.specs.declared.place.Place.{Place}
 use Rattle.fs_layout.specs.Bytes.{SectorMap, splice, zeros}
 use Rattle.fs_layout.specs.Inode.{FitsInode, free_inode, numbers_fit}
-use Rattle.fs_layout.specs.Images.{pointer, Holds, HasNoHole, bit, free_sectors, inode_at, inode_bitmap}
+use Rattle.fs_layout.specs.Images.{pointer, Holds, HasNoHole, bit, free_sectors, inode_at}
 use Rattle.fs_layout.specs.Ownership.{IsConsistent}
 use Rattle.fs_layout.specs.InodeChanges.{with_direct, Allocates, IsOwnedApart, ReplacesBlock, ChangesBlocks, ChangesInode, Saves}
 use Rattle.fs_layout.proofs.Composes.{apart_after, both_changes, both_inodes}
@@ -24,6 +24,7 @@ use Rattle.fs_layout.proofs.SplicedBytes.{IsSector-zeros, get_or-zeros}
 use Rattle.fs_layout.proofs.Steps.{allocated_some, direct_block_gained, direct_block_filled}
 use Rattle.fs_layout.proofs.Writes.{length-zeros}
 use Rattle.fs_layout.proofs.UsedInodes.{made_fits, with_direct_fits}
+use Rattle.fs_layout.proofs.Bits.{inode_has_bit}
 use Rattle.sector_txn.specs.Sectors.{TxnState, PutsOnly}
 use Rattle.sector_txn.proofs.TransactionRuns.{changes_joined}
 use Rattle.bit_alloc.specs.declared.bitmap.Bitmap.TheVariants.{Inodes}
@@ -89,14 +90,14 @@ target_fills target few =
 -- what is so then
 pub record IsMade (p : Place) (n owner group : ℕ) (target : List ℕ) (old new : TxnState) : Type 0 where
   pub touches : Touches p n 1 2 old new
-  pub used : IsTrue (bit new.sectors inode_bitmap n)
+  pub used : IsTrue (bit new.sectors p.inode_bitmap n)
   pub fields : IsNewLink owner group (inode_at p new.sectors n)
   pub acls : HasNoAcls (inode_at p new.sectors n)
   pub holds : Holds new.sectors (inode_at p new.sectors n) target
   pub whole : HasNoHole new.sectors (inode_at p new.sectors n)
 
 module _ {p : Place} {n : ℕ} {t0 t1 : TxnState} (sound : IsSound p t0) (taken : TakesNumber p Inodes n t0.sectors t1.sectors)
-    (bit_put : PutsOnly (λ t. t ≡ inode_bitmap + n / 4096) (bitmaps p) 0 t0 t1) where
+    (bit_put : PutsOnly (λ t. t ≡ p.inode_bitmap + n / 4096) (bitmaps p) 0 t0 t1) where
   pub bit_puts : PutsOnly (IsSectorFor p n) (bitmaps p) 0 t0 t1
   bit_puts = puts_inode_bit n n sound.consistent.place taken.free.1 bit_put
 
@@ -152,8 +153,6 @@ module _ {p : Place} {n : ℕ} {t0 t1 : TxnState} (sound : IsSound p t0) (taken 
           let puts : PutsOnly (IsSectorFor p n) (bitmaps p) 2 t0 t3 = changes_joined target_puts (puts_inode p n inode_put) in
           let same = free_kept p n t0.sectors t1.sectors taken.mark in
           let f = saved.1.free in
-          let most = sound.consistent.place.most_inodes in
-          let lt = taken.free.1 in
           record {
             touches = record {
               puts = puts;
@@ -161,7 +160,7 @@ module _ {p : Place} {n : ℕ} {t0 t1 : TxnState} (sound : IsSound p t0) (taken 
               inode = both_inodes now.place first.0 saved.1.changes;
               free = omega (arith, one, same, f);
             };
-            used = saved.1.inode_bits n (omega (arith, most, lt)) ∙ taken.set;
+            used = saved.1.inode_bits n (inode_has_bit sound.consistent.place n taken.free.1) ∙ taken.set;
             fields = subst (IsNewLink owner group) (sym saved.1.is) (record { kind = refl; mode = refl; uid = refl; gid = refl; names = refl; parent = refl });
             acls = subst HasNoAcls (sym saved.1.is) (record { acl = refl; default = refl });
             holds = subst (λ (u : Inode). Holds t3.sectors u target) (sym saved.1.is) (Holds-kept saved.1.keeps holds_target);

@@ -83,7 +83,7 @@ module _ {old mid : TxnState} (same : IsUnchanged old mid) where
   pub within_unchanged : {v : Inode} → IsWithin old.header old.disk.size old.sectors v → IsWithin mid.header mid.disk.size mid.sectors v
   within_unchanged {v} within s o =
       let w = within s (subst (λ (image : SectorMap). Owns image v s) (sym (map_unchanged same)) o) in
-      (omega (arith, w.0, same.store.header), omega (arith, w.1, same.store.reads.narrowed.size))
+      (omega (arith, w.0, ap log_end same.store.header), omega (arith, w.1, same.store.reads.narrowed.size))
 
   pub has_unchanged : {v : Inode} {level i : ℕ} {content : List ℕ} → HasPointers old.sectors v level i content → HasPointers mid.sectors v level i content
   has_unchanged {v} {level} {i} {content} h = subst (λ (image : SectorMap). HasPointers image v level i content) (map_unchanged same) h

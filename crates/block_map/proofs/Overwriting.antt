@@ -6,12 +6,12 @@ use Rattle.fs_layout.specs.declared.inode.Kind.TheVariants as kinds
 use Rattle.fs_layout.specs.declared.place.Place.{Place}
 use Rattle.fs_layout.specs.Bytes.{SectorMap, IsBytes, splice}
 use Rattle.fs_layout.specs.Inode.{FitsInode}
-use Rattle.fs_layout.specs.Images.{pointer, stored, inode_bitmap, inode_at, Holds, HasNoHole, Owns, free_sectors}
+use Rattle.fs_layout.specs.Images.{inode_map_bits, pointer, stored, inode_at, Holds, HasNoHole, Owns, free_sectors}
 use Rattle.fs_layout.specs.Ownership.{IsConsistent}
-use Rattle.fs_layout.specs.InodeChanges.{Puts, IsOwnedApart, ChangesInode}
+use Rattle.fs_layout.specs.InodeChanges.{IsInodeMap, Puts, IsOwnedApart, ChangesInode}
 use Rattle.fs_layout.proofs.Places.{after_map, before_data}
 use Rattle.fs_layout.proofs.Parts.{owns_block}
-use Rattle.fs_layout.proofs.Bits.{inode_bit_kept}
+use Rattle.fs_layout.proofs.Bits.{inode_has_bit, inode_bit_kept}
 use Rattle.fs_layout.proofs.Saves.{in_table, stored_kept, valid_kept, owned_at}
 use Rattle.fs_layout.proofs.Consistent.{owned_is_apart, blocks_keep_table, stays_consistent}
 use Rattle.fs_layout.proofs.Free.{inode_fits_there}
@@ -46,14 +46,15 @@ pub changed_unsaved : {p : Place} {n taken more : ℕ} {old new : TxnState} {v :
 changed_unsaved {p} {n} {taken} {more} {old} {new} {v} sound lt at alters puts free =
     let h : IsConsistent p old.sectors = sound.consistent in
     let x = alters.blocks in
-    let few : n < 4096 = let most = h.place.most_inodes in omega (arith, most, lt) in
+    let few : n < inode_map_bits p = inode_has_bit h.place n lt in
     let m = after_map h.place in
     let d = before_data h.place in
     let there : inode_at p new.sectors n ≡ v = blocks_keep_table h.place x n lt ∙ at in
-    let inode_map : new.sectors inode_bitmap ≡ old.sectors inode_bitmap = x.low inode_bitmap (omega (arith, m, d)) (λ b. omega (arith, b.0)) in
+    let inode_map : (s : ℕ) → IsInodeMap p s → new.sectors s ≡ old.sectors s =
+    λ s i. let below = i.1 in x.low s (omega (arith, below, m, d)) (λ b. let from = b.0 in omega (arith, below, from)) in
     let bytes : (k : ℕ) → k < p.inodes → stored p new.sectors k ≡ stored p old.sectors k =
     λ k less. stored_kept p k old.sectors new.sectors (let i = in_table p k h.place less in x.low (p.table + k / 4) i.1 (λ b. let j = b.1 in omega (arith, j))) in
-    let bits = λ (k : ℕ) (small : k < 4096). inode_bit_kept old.sectors new.sectors k small inode_map in
+    let bits = λ (k : ℕ) (small : k < inode_map_bits p). inode_bit_kept p old.sectors new.sectors k small inode_map in
     let changes : ChangesInode p n old.sectors new.sectors =
     record {
       owned = owned_at (sym at) (sym there) x.owned;
@@ -65,7 +66,7 @@ changed_unsaved {p} {n} {taken} {more} {old} {new} {v} sound lt at alters puts f
       sound = sound_after sound puts.store (stays_consistent h lt changes) (λ k small none. bits k small);
       touches = record {
         puts = changes_weaker {R = IsStepSector p} {Q = IsSectorFor p n} (λ t way. elim way [ inl map ↦ inl map | inr data_sector ↦ inr (inr data_sector) ]) (omega arith) puts;
-        super = x.low 0 (omega (arith, m, d)) (λ b. omega (arith, b.0));
+        super = x.low 0 (omega (arith, m, d)) (λ b. let from = b.0 in omega (arith, m, from));
         inode = changes;
         free = free;
       };

@@ -8,6 +8,7 @@ use Rattle.fs_layout.specs.InodeChanges.{Keeps, Saves}
 use Rattle.fs_layout.proofs.Places.{after_map, before_data}
 use Rattle.fs_layout.proofs.Saves.{IsSaved}
 use Rattle.fs_layout.proofs.Consistent.{saved_stays_consistent}
+use Rattle.fs_layout.proofs.Bits.{inode_has_bit}
 use Rattle.sector_txn.specs.Sectors.{TxnState, PutsOnly}
 use Rattle.sector_txn.proofs.TransactionRuns.{changes_beside, changes_joined, changes_weaker}
 use Rattle.bit_alloc.specs.Room.{bitmaps}
@@ -35,7 +36,7 @@ saved_after {p} {n} {taken} {more} {old} {mid} {new} {v} {w} sound lt at alters 
     let h : IsConsistent p old.sectors = sound.consistent in
     let after = saved_stays_consistent h lt at alters.fits alters.blocks saves in
     let saved : IsSaved p n w old.sectors mid.sectors new.sectors = after.1 in
-    let few : n < 4096 = let most = h.place.most_inodes in omega (arith, most, lt) in
+    let few = inode_has_bit h.place n lt in
     let m = after_map h.place in
     let d = before_data h.place in
     let all : PutsOnly (IsSectorFor p n) (bitmaps p) (more + 1) old new =
@@ -46,7 +47,7 @@ saved_after {p} {n} {taken} {more} {old} {mid} {new} {v} {w} sound lt at alters 
         sound = sound_after sound all.store after.0 (λ k small none. saved.inode_bits k small);
         touches = record {
           puts = all;
-          super = saves.others 0 (λ e. omega (arith, m, e)) ∙ alters.blocks.low 0 (omega (arith, m, d)) (λ b. omega (arith, b.0));
+          super = saves.others 0 (λ e. omega (arith, m, e)) ∙ alters.blocks.low 0 (omega (arith, m, d)) (λ b. let from = b.0 in omega (arith, m, from));
           inode = saved.changes;
           free = let e = saved.free in omega (arith, free, e);
         };

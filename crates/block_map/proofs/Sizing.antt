@@ -4,7 +4,7 @@ use Rattle.std.specs.Prelude.{max}
 use Rattle.std.proofs.lemmas.Bool.{cases_lt}
 use Rattle.std.proofs.lemmas.Bool.Decides.{nat_tests}
 use Rattle.std.proofs.lemmas.List.{ext_get_or, length-append, length-take-le, get_or_append_left, get_or-append_right, get_or_past, get_or-take, take_all, drop_all, append-nil, append_assoc}
-use Rattle.fs_layout.specs.declared.inode.TheConstants.{MAX_FILE_SIZE, MAX_DIRECTORY_SIZE}
+use Rattle.fs_layout.specs.declared.inode.TheConstants.{MAX_FILE_SIZE}
 use Rattle.fs_layout.specs.declared.inode.Inode.{Inode}
 use Rattle.fs_layout.specs.declared.inode.Kind.{Kind}
 use Rattle.fs_layout.specs.declared.inode.Kind.TheVariants.{Free, File, Directory, Link}
@@ -70,15 +70,6 @@ unfolding inode_fits
 size_limit {p} {n} {txn} {v} m sound lt is allowed =
     let fits : FitsInode v = subst FitsInode (sym is) (inode_fits_there sound.consistent n lt) in
     number_limit v.kind v.mode v.size m fits.valid.numbers allowed
-
--- and a directory within its own
-pub directory_size_limit : {p : Place} {n : ℕ} {txn : TxnState} {v : Inode} → IsSound p txn → n < p.inodes → v ≡ inode_at p txn.sectors n → v.kind ≡ Directory
-    → v.size ≤ MAX_DIRECTORY_SIZE
-unfolding inode_fits
-directory_size_limit {p} {n} {txn} {v} sound lt is kind =
-    let fits : FitsInode v = subst FitsInode (sym is) (inode_fits_there sound.consistent n lt) in
-    let numbers : IsTrue (numbers_fit Directory v.mode v.size) = subst (λ (k : Kind). IsTrue (numbers_fit k v.mode v.size)) kind fits.valid.numbers in
-    grind (arith, nat_tests)
 
 -- its size changes in memory, after reads
 pub sized : {p : Place} {old mid : TxnState} {v : Inode} (m : ℕ) → MayChange p old v → IsUnchanged old mid → AllowsSize v.kind m → m ≤ MAX_FILE_SIZE

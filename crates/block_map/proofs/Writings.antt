@@ -18,6 +18,7 @@ use Rattle.fs_layout.proofs.Held.{held_block, held_hole, splice_replaces, write_
 use Rattle.fs_layout.proofs.Pointers.{turns_direct, turns_entry}
 use Rattle.fs_layout.proofs.Sizes.{other_blocks, now_block}
 use Rattle.fs_layout.proofs.Steps.{allocates_keeps, allocated_some, direct_block_gained, direct_block_filled, entry_there_since, entry_block_gained, entry_block_filled}
+use Rattle.fs_layout.proofs.Places.{numbers_most}
 use Rattle.sector_txn.specs.Sectors.{TxnState, SameStore, IsUnchanged, PutsOnly}
 use Rattle.bit_alloc.specs.Bitmaps.{HasBitmaps}
 use Rattle.bit_alloc.specs.Room.{bitmaps}
@@ -143,7 +144,7 @@ module _ {p : Place} {old new : TxnState} {bits : SectorMap} {v : Inode} {k s : 
           fields = record { kind = refl; mode = refl; uid = refl; gid = refl; names = refl; parent = refl };
           acls = acls_where_kept refl refl (allocates_keeps place may.apart a);
           bitmaps = bitmaps_now;
-          fits = with_direct_fits v k s may.fits may.used (let l = a.free.1 in let most = place.most_sectors in omega (arith, l, most));
+          fits = with_direct_fits v k s may.fits may.used (let l = a.free.1 in let most = numbers_most place in omega (arith, l, most));
         };
         puts = puts_before puts (pointers_to old.sectors v k);
         size = refl;
@@ -208,7 +209,7 @@ module _ {p : Place} {old mid new : TxnState} {bits : SectorMap} {v : Inode} {k 
   written = entry ∙ ap (λ (r : List ℕ). splice r (4 * place_in_holder DIRECT_BLOCKS k) (le32 s)) (loaded ∙ sym (keeps u owned))
 
   e : PutsEntry v 0 k s mid.sectors new.sectors
-  e = puts_entry_at 0 k s sector keeps from has (let l = a.free.1 in let most = place.most_sectors in omega (arith, l, most)) written put
+  e = puts_entry_at 0 k s sector keeps from has (let l = a.free.1 in let most = numbers_most place in omega (arith, l, most)) written put
 
   entry_turned : Turns old.sectors new.sectors v v (Block k) 0 s
   entry_turned = turns_entry none (entry_there_since place may.apart a e)

@@ -2,8 +2,7 @@
 use Rattle.std.proofs.Common.{◌≡◌, ◌≢◌, ℕ, ◌+◌, ◌-◌, ◌/◌, ◌%◌, ◌≤◌, ◌<◌, ◌*◌, zero, suc, List, [], ◌∷◌, ◌++◌, length, refl, sym, ap, subst, ◌∙◌, arith, inl, inr}
 use Rattle.std.specs.Prelude.{max, Contains}
 use Rattle.std.proofs.lemmas.Bool.{cases_lt}
-use Rattle.fs_layout.specs.declared.inode.TheConstants.{DIRECT_BLOCKS, MAX_BLOCKS, MAX_DIRECTORY_SIZE, MAX_FILE_SIZE}
-use Rattle.fs_layout.specs.declared.slot.TheConstants.{SLOT_SIZE}
+use Rattle.fs_layout.specs.declared.inode.TheConstants.{DIRECT_BLOCKS, MAX_BLOCKS, MAX_FILE_SIZE}
 use Rattle.fs_layout.specs.declared.inode.Inode.{Inode}
 use Rattle.fs_layout.specs.declared.place.Place.{Place}
 use Rattle.fs_layout.specs.Bytes.{SectorMap, IsSector, zeros, overwritten}
@@ -112,16 +111,12 @@ put_few offset len few = let one = one_above (holder DIRECT_BLOCKS (blocks_to (o
 pub put_to_few : (size : ℕ) → put_to size ≤ 4
 put_to_few size = omega arith
 
--- 3 for one of a directory
-pub put_to_directory : (size : ℕ) → size ≤ MAX_DIRECTORY_SIZE → put_to size ≡ 3
-put_to_directory size few = omega (arith, few)
-
--- 3 where the bytes are one slot of a directory
-pub put_for_slot : (offset : ℕ) → offset % SLOT_SIZE ≡ 0 → offset + SLOT_SIZE ≤ MAX_DIRECTORY_SIZE → put_by offset SLOT_SIZE ≡ 3
-put_for_slot offset at few =
-    let none : holder DIRECT_BLOCKS (blocks_to (offset + SLOT_SIZE) - 1) ≡ 0 = omega (arith, at, few) in
-    let above = ap sectors_above none in
-    omega (arith, at, few, above)
+-- 4 at most where the bytes are those of one block, as a slot of a directory
+pub put_in_block : (offset len : ℕ) → 0 < len → offset % 512 + len ≤ 512 → put_by offset len ≤ 4
+put_in_block offset len some within =
+    let end : blocks_to (offset + len) ≡ offset / 512 + 1 = omega (arith, some, within) in
+    let one = one_above (holder DIRECT_BLOCKS (blocks_to (offset + len) - 1)) in
+    omega (arith, end, one)
 
 -- ---- the whole call
 module _ {p : Place} {n m offset : ℕ} {x : List ℕ} {old mid done new : TxnState} {u v w : Inode}

@@ -8,11 +8,11 @@ use Rattle.fs_layout.specs.declared.inode.Inode.{Inode}
 use Rattle.fs_layout.specs.declared.inode.Kind.{Kind}
 use Rattle.fs_layout.specs.declared.inode.Kind.TheVariants.{Free, File, Directory, Link}
 use Rattle.fs_layout.specs.declared.place.Place.{Place}
-use Rattle.fs_layout.specs.Images.{bit, inode_at, inode_bitmap}
+use Rattle.fs_layout.specs.Images.{bit, inode_at}
 use Rattle.sector_txn.specs.Sectors.{TxnState}
 use Rattle.bit_alloc.specs.Inodes.{IsSound, Touches, KeepsFields, KeepsAcls}
 
--- a used inode of this kind may have this size, if it is within the limit of files
+-- a used inode of this kind may have this size in the version that allows most, if it is within the limit of files
 abbrev pub AllowsSize : Kind → ℕ → Type 0
 AllowsSize Free size = ⊥
 AllowsSize File size = Unit {0}
@@ -26,4 +26,4 @@ pub record ChangesContent (p : Place) (n taken more : ℕ) (old new : TxnState) 
   pub now : inode_at p new.sectors n ≡ w
   pub fields : KeepsFields v w
   pub acls : KeepsAcls old.sectors new.sectors v w
-  pub used : bit new.sectors inode_bitmap n ≡ bit old.sectors inode_bitmap n
+  pub used : bit new.sectors p.inode_bitmap n ≡ bit old.sectors p.inode_bitmap n

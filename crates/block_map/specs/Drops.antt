@@ -14,7 +14,7 @@ use Rattle.fs_layout.specs.declared.inode.TheConstants.{DIRECT_BLOCKS, INDIRECT_
 use Rattle.fs_layout.specs.declared.inode.Inode.{Inode}
 use Rattle.fs_layout.specs.declared.place.Place.{Place}
 use Rattle.fs_layout.specs.Bytes.{SectorMap, IsSector, u32_of}
-use Rattle.fs_layout.specs.Images.{IsData, own_count, number_on, pointer, first_block, Part, AccessAcl, DefaultAcl, OnLevel, part, Owns, bit, block_bitmap, map_bits, free_sectors}
+use Rattle.fs_layout.specs.Images.{IsData, own_count, number_on, pointer, first_block, Part, AccessAcl, DefaultAcl, OnLevel, part, Owns, bit, map_bits, free_sectors}
 use Rattle.fs_layout.specs.InodeChanges.{IsBlockMap}
 use Rattle.sector_txn.specs.Sectors.{TxnState, PutsOnly}
 use Rattle.bit_alloc.specs.Bitmaps.{HasBitmaps}
@@ -25,10 +25,10 @@ use Rattle.block_map.specs.Steps.{IsStepSector, Alters}
 pub record GivesParts (p : Place) (v : Inode) (P : Part → Type 0) (old new : TxnState) : Type 0 where
   pub tables : HasBitmaps p new
   pub others : (s : ℕ) → (IsBlockMap p s → ⊥) → new.sectors s ≡ old.sectors s
-  pub cleared : (at : Part) → P at → part old.sectors v at ≢ 0 → bit new.sectors block_bitmap (part old.sectors v at) ≡ false
-  pub released : (s : ℕ) → s < map_bits p → IsTrue (bit old.sectors block_bitmap s) → bit new.sectors block_bitmap s ≡ false
+  pub cleared : (at : Part) → P at → part old.sectors v at ≢ 0 → bit new.sectors p.block_bitmap (part old.sectors v at) ≡ false
+  pub released : (s : ℕ) → s < map_bits p → IsTrue (bit old.sectors p.block_bitmap s) → bit new.sectors p.block_bitmap s ≡ false
       → (at : Part) × P at × (part old.sectors v at ≡ s) × (s ≢ 0)
-  pub set : (s : ℕ) → s < map_bits p → IsTrue (bit new.sectors block_bitmap s) → IsTrue (bit old.sectors block_bitmap s)
+  pub set : (s : ℕ) → s < map_bits p → IsTrue (bit new.sectors p.block_bitmap s) → IsTrue (bit old.sectors p.block_bitmap s)
   pub puts : PutsOnly (IsStepSector p) (bitmaps p) 0 old new
   pub free : free_sectors p old.sectors ≤ free_sectors p new.sectors
 

@@ -33,7 +33,7 @@ pub record MayChange (p : Place) (txn : TxnState) (v : Inode) : Type 0 where
 
 -- a sector of a bitmap, or of the data
 abbrev pub IsStepSector : Place → ℕ → Type 0
-IsStepSector p s = ((128 ≤ s) × (s < p.table)) ⊎ IsData p s
+IsStepSector p s = ((p.inode_bitmap ≤ s) × (s < p.table)) ⊎ IsData p s
 
 -- room for these sectors, for the bitmaps, and for so many sectors more
 abbrev pub HasRoomFor : Place → List ℕ → ℕ → TxnState → Type 0

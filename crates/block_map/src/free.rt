@@ -3,7 +3,7 @@
 ghost use Rattle.std.specs.Prelude.{◌≡◌, ◌≢◌, false, OnOk};
 ghost use Rattle.sector_disk.specs.Disk.{HasCause};
 ghost use Rattle.fs_layout.specs.Inode.{free_inode};
-ghost use Rattle.fs_layout.specs.Images.{bit, inode_at, inode_bitmap};
+ghost use Rattle.fs_layout.specs.Images.{bit, inode_at};
 ghost use Rattle.sector_txn.specs.Sectors.{SameStore};
 ghost use Rattle.bit_alloc.specs.declared.bitmap.Bitmap.TheVariants.{Inodes};
 ghost use Rattle.bit_alloc.specs.Bitmaps.{IsNumber};
@@ -28,7 +28,7 @@ pub fn free_all<S: Sectors>(s: &mut S, place: Place, n: u32) -> Result<(), DiskF
     ensures sound { OnOk result (IsSound place (S.state s.new)) }
     ensures touches { OnOk result (Touches place n 0 1 (S.state s.old) (S.state s.new)) }
     ensures free { OnOk result (inode_at place (S.state s.new).sectors n ≡ free_inode) }
-    ensures unused { OnOk result (bit (S.state s.new).sectors inode_bitmap n ≡ false) }
+    ensures unused { OnOk result (bit (S.state s.new).sectors place.inode_bitmap n ≡ false) }
     ensures cause { HasCause (S.state s.old).disk (S.state s.new).disk result }
 {
     let inode = load(s, place, n)?;

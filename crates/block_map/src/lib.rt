@@ -1,7 +1,7 @@
 //! The bytes of files, directories and links: an inode holds a list of bytes, with zeros in holes.
 //!
 //! An inode has 12 direct blocks of 512 bytes, then a sector of pointers to 128 more, and then a double indirect sector of 128 numbers
-//! of such sectors. The layout's version says how far a file may reach. [`read_at`], [`write_at`],
+//! of such sectors. The layout's version says how far a file may reach, and how far a directory. [`read_at`], [`write_at`],
 //! [`overwrite`] and [`set_size`] serve files, directories and links alike, [`release_all`] files and directories. A link is
 //! never empty: [`new_link`] makes it with its target. [`free_all`] frees each of them with all that it owns. [`Blocks`] reads one
 //! block after another, as a search does. [`write_at`] seeks a free sector near the one that it took last, the first near the file's first

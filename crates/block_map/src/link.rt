@@ -1,7 +1,7 @@
 //! Links: each is made with its target.
 
 ghost use Rattle.std.specs.Prelude.{◌≡◌, ◌≤◌, ◌⊎◌, length, IfOk, IfErr, OnOk, IsTrue};
-ghost use Rattle.fs_layout.specs.Images.{HasNoHole, Holds, bit, free_sectors, inode_at, inode_bitmap};
+ghost use Rattle.fs_layout.specs.Images.{HasNoHole, Holds, bit, free_sectors, inode_at};
 ghost use Rattle.sector_txn.specs.Sectors.{SameStore};
 ghost use Rattle.bit_alloc.specs.declared.bitmap.Bitmap.TheVariants.{Inodes};
 ghost use Rattle.bit_alloc.specs.Bitmaps.{IsFreeNumber, free_numbers};
@@ -35,7 +35,7 @@ pub fn new_link<S: Sectors>(
     ensures store { SameStore (S.state s.old) (S.state s.new) }
     ensures sound { OnOk result (IsSound place (S.state s.new)) }
     ensures free { IfOk result (IsFreeNumber place Inodes (S.state s.old).sectors) }
-    ensures used { IfOk result (λ n. IsTrue (bit (S.state s.new).sectors inode_bitmap n)) }
+    ensures used { IfOk result (λ n. IsTrue (bit (S.state s.new).sectors place.inode_bitmap n)) }
     ensures touches { IfOk result (λ n. Touches place n 1 2 (S.state s.old) (S.state s.new)) }
     ensures fields { IfOk result (λ n. IsNewLink uid gid (inode_at place (S.state s.new).sectors n)) }
     ensures acls { IfOk result (λ n. HasNoAcls (inode_at place (S.state s.new).sectors n)) }

@@ -1,5 +1,5 @@
 -- The exits of a call by two paths.
---     first_unfit, second_unfit        the checks of its paths
+--     second_refused, first_unfit, second_unfit        the checks of its paths
 --     walked_as, first_walk_refused, second_walk_refused, both_walked        its walks
 --     absent_both, unwalked_both, walks_refused        its process, the checks or the walks of its paths refuse
 --     both_found        what its walks have found
@@ -29,7 +29,7 @@ use Rattle.fs_model.specs.Processes.{Process, Desks}
 use Rattle.fs_model.specs.Scenes.{Scene, Effect, Row}
 use Rattle.fs_model.specs.States.{State}
 use Rattle.fs_model.specs.Steps.{after, after_call, after_effect, early_refusal, late_refusal, firm_refusal, other_refusal, found_by}
-use Rattle.fs_model.specs.Trees.{Tree}
+use Rattle.fs_model.specs.Trees.{Room, Tree}
 use Rattle.fs_model.proofs.StepsDemands.{first_met, then_met}
 use Rattle.fs_model.proofs.Unchanged.{same_process_stays}
 use Rattle.path_walk.specs.Answers.{refused_or, FailsToRead, IsAnswered}
@@ -46,6 +46,14 @@ use Rattle.call_parts.specs.TwoPaths.{both_checks, walk_refusal, walks_of, scene
 
 -- ---- both paths, one after the other
 
+-- the first may be walked, and the second is refused with this
+pub second_refused : (old new : List ℕ) (e : Refusal) → checked (first_of (path_checks old)) ≡ Ok tt → checked (first_of (path_checks new)) ≡ Err e
+    → first_of (both_checks old new) ≡ Some e
+second_refused old new e met is =
+    first_of-append (path_checks old) (path_checks new)
+    ∙ ap (λ (d : Demand). or_else d (first_of (path_checks new))) (met_ok {A = Unit {0}} (first_of (path_checks old)) tt tt met).0
+    ∙ refused_err {A = Unit {0}} (first_of (path_checks new)) tt e is
+
 module _ {A : Type 0} (old new : List ℕ) (r : Result A Refusal) (e : Refusal) (err : IsErr r) (and : IsErrAnd r (λ y. y ≡ e)) where
   refused_by : {x : Refusal} → first_of (both_checks old new) ≡ Some e → first_of (both_checks old new) ≡ Some x → r ≡ Err x
   refused_by {x} is other =
@@ -61,50 +69,47 @@ module _ {A : Type 0} (old new : List ℕ) (r : Result A Refusal) (e : Refusal) 
   -- it may, and the second may not
   pub second_unfit : checked (first_of (path_checks old)) ≡ Ok tt → checked (first_of (path_checks new)) ≡ Err e
       → (x : Refusal) → first_of (both_checks old new) ≡ Some x → r ≡ Err x
-  second_unfit met is x = refused_by
-      (first_of-append (path_checks old) (path_checks new)
-      ∙ ap (λ (d : Demand). or_else d (first_of (path_checks new))) (met_ok {A = Unit {0}} (first_of (path_checks old)) tt tt met).0
-      ∙ refused_err {A = Unit {0}} (first_of (path_checks new)) tt e is)
+  second_unfit met is x = refused_by (second_refused old new e met is)
 
 -- a walk from a directory of the process, as the process
-pub walked_as : {cred who : Credential} {cwd here : ℕ} (old new : DiskState) (t : Tree) (walk : ℕ) (path : List ℕ) (r : Result Found Refusal) → cred ≡ who → cwd ≡ here
-    → IsThere t here → (IsThere t cwd → IsAnswered old new (walk_of t cred walk Parent cwd path) r) → IsAnswered old new (walk_of t who walk Parent here path) r
-walked_as {cred} {who} {cwd} {here} old new t walk path r same at there h =
-    subst (λ (k : Credential). IsAnswered old new (walk_of t k walk Parent here path) r) same
-    (subst (λ (n : ℕ). IsAnswered old new (walk_of t cred walk Parent n path) r) at (h (subst (IsThere t) (sym at) there)))
+pub walked_as : {cred who : Credential} {cwd here : ℕ} (old new : DiskState) (room : Room) (t : Tree) (walk : ℕ) (path : List ℕ) (r : Result Found Refusal) → cred ≡ who → cwd ≡ here
+    → IsThere t here → (IsThere t cwd → IsAnswered old new (walk_of room t cred walk Parent cwd path) r) → IsAnswered old new (walk_of room t who walk Parent here path) r
+walked_as {cred} {who} {cwd} {here} old new room t walk path r same at there h =
+    subst (λ (k : Credential). IsAnswered old new (walk_of room t k walk Parent here path) r) same
+    (subst (λ (n : ℕ). IsAnswered old new (walk_of room t cred walk Parent n path) r) at (h (subst (IsThere t) (sym at) there)))
 
-module _ (t : Tree) (cred : Credential) (cwd second_cwd : ℕ) (old new : List ℕ) (before after : DiskState) where
+module _ (room : Room) (t : Tree) (cred : Credential) (cwd second_cwd : ℕ) (old new : List ℕ) (before after : DiskState) where
   abbrev one : Demand
-  one = walk_refusal t cred 1 cwd old
+  one = walk_refusal room t cred 1 cwd old
 
   abbrev two : Demand
-  two = walk_refusal t cred 2 second_cwd new
+  two = walk_refusal room t cred 2 second_cwd new
 
   abbrev finds : Found × Found
-  finds = (found_by t cwd (Parent, old), found_by t second_cwd (Parent, new))
+  finds = (found_by room t cwd (Parent, old), found_by room t second_cwd (Parent, new))
 
   -- the first is refused
-  pub first_walk_refused : (e : Refusal) → IsAnswered before after (walk_of t cred 1 Parent cwd old) (Err e)
-      → IsAnswered before after (walks_of t cred cwd second_cwd old new) (Err e)
+  pub first_walk_refused : (e : Refusal) → IsAnswered before after (walk_of room t cred 1 Parent cwd old) (Err e)
+      → IsAnswered before after (walks_of room t cred cwd second_cwd old new) (Err e)
   first_walk_refused e h = elim h [
     | inl is ↦ inl (ap (λ (d : Demand). refused_or {A = Found × Found} (or_else d two) (Ok finds)) (refused_err {A = Found} one finds.0 e is))
     | inr way ↦ inr way
   ]
 
-  module _ (f : Found) (first : walk_of t cred 1 Parent cwd old ≡ Ok f) where
+  module _ (f : Found) (first : walk_of room t cred 1 Parent cwd old ≡ Ok f) where
     met : or_else one two ≡ two
     met = ap (λ (d : Demand). or_else d two) (met_ok {A = Found} one finds.0 f first).0
 
     -- it finds this, and the second is refused
-    pub second_walk_refused : (e : Refusal) → IsAnswered before after (walk_of t cred 2 Parent second_cwd new) (Err e)
-        → IsAnswered before after (walks_of t cred cwd second_cwd old new) (Err e)
+    pub second_walk_refused : (e : Refusal) → IsAnswered before after (walk_of room t cred 2 Parent second_cwd new) (Err e)
+        → IsAnswered before after (walks_of room t cred cwd second_cwd old new) (Err e)
     second_walk_refused e h = elim h [
       | inl is ↦ inl (ap (λ (d : Demand). refused_or {A = Found × Found} d (Ok finds)) (met ∙ refused_err {A = Found} two finds.1 e is))
       | inr way ↦ inr way
     ]
 
     -- both find these
-    pub both_walked : (g : Found) → walk_of t cred 2 Parent second_cwd new ≡ Ok g → walks_of t cred cwd second_cwd old new ≡ Ok (f, g)
+    pub both_walked : (g : Found) → walk_of room t cred 2 Parent second_cwd new ≡ Ok g → walks_of room t cred cwd second_cwd old new ≡ Ok (f, g)
     both_walked g second =
         let a = met_ok {A = Found} one finds.0 f first in
         let b = met_ok {A = Found} two finds.1 g second in
@@ -119,13 +124,13 @@ same_err x y e = cc
 module _ (s : State) (pid : ℕ) (q : Process) {call : Call} {old_path new_path : List ℕ} {demands : Scene → List Demand} {effect : Scene → Effect}
     (is : WalksBoth call old_path new_path demands effect) (there : get nat_cmp s.desks pid ≡ Some q) where
   abbrev first : Found
-  first = found_by s.tree q.cwd (Parent, old_path)
+  first = found_by s.room s.tree q.cwd (Parent, old_path)
 
   abbrev second : Found
-  second = found_by s.tree q.second_cwd (Parent, new_path)
+  second = found_by s.room s.tree q.second_cwd (Parent, new_path)
 
   abbrev walks : Demand
-  walks = or_else (walk_refusal s.tree q.cred 1 q.cwd old_path) (walk_refusal s.tree q.cred 2 q.second_cwd new_path)
+  walks = or_else (walk_refusal s.room s.tree q.cred 1 q.cwd old_path) (walk_refusal s.room s.tree q.cred 2 q.second_cwd new_path)
 
   both_firm : firm_refusal s (Calls pid call) ≡ first_of (both_checks old_path new_path)
   both_firm = early_is s pid q call there ∙ ap (early_refusal q) is.row
@@ -137,11 +142,11 @@ module _ (s : State) (pid : ℕ) (q : Process) {call : Call} {old_path new_path 
   both_late : other_refusal s (Calls pid call) ≡ or_else walks (first_of (demands (scene_with s q first second)))
   both_late =
       late_is s pid q call there ∙ ap (late_refusal s q) is.row
-      ∙ joined (walk_refusal s.tree q.cred 1 q.cwd old_path) (walk_refusal s.tree q.cred 2 q.second_cwd new_path) (first_of (demands (scene_with s q first second)))
+      ∙ joined (walk_refusal s.room s.tree q.cred 1 q.cwd old_path) (walk_refusal s.room s.tree q.cred 2 q.second_cwd new_path) (first_of (demands (scene_with s q first second)))
 
   -- the checks or the walks refuse, or memory or a read fails
   pub walks_refuse : (old new : DiskState) (r : Refusal) → ((x : Refusal) → first_of (both_checks old_path new_path) ≡ Some x → r ≡ x)
-      → (first_of (both_checks old_path new_path) ≡ None → IsAnswered old new (walks_of s.tree q.cred q.cwd q.second_cwd old_path new_path) (Err r))
+      → (first_of (both_checks old_path new_path) ≡ None → IsAnswered old new (walks_of s.room s.tree q.cred q.cwd q.second_cwd old_path new_path) (Err r))
       → IsRefused old new s pid call r
   walks_refuse old new r fit each = go (first_of (both_checks old_path new_path)) refl
     where
@@ -165,7 +170,7 @@ module _ (s : State) (pid : ℕ) (q : Process) {call : Call} {old_path new_path 
     both_found_late : other_refusal s (Calls pid call) ≡ first_of (demands (scene_with s q f g))
     both_found_late =
         both_late
-        ∙ ap (λ (x : Demand). or_else (or_else x (walk_refusal s.tree q.cred 2 q.second_cwd new_path)) (first_of (demands (scene_with s q first second)))) found.first_unrefused
+        ∙ ap (λ (x : Demand). or_else (or_else x (walk_refusal s.room s.tree q.cred 2 q.second_cwd new_path)) (first_of (demands (scene_with s q first second)))) found.first_unrefused
         ∙ ap (λ (x : Demand). or_else x (first_of (demands (scene_with s q first second)))) found.second_unrefused
         ∙ ap (λ (x : Scene). first_of (demands x)) found_scene
 
@@ -187,7 +192,7 @@ absent_both old new s pid old_path new_path errno is none = record {
 -- the checks or the walks of its paths refuse
 pub unwalked_both : (old new : DiskState) (s : State) (pid : ℕ) (q : Process) → get nat_cmp s.desks pid ≡ Some q → (old_path new_path : List ℕ) (e : Refusal)
     → ((x : Refusal) → first_of (both_checks old_path new_path) ≡ Some x → e ≡ x)
-    → (first_of (both_checks old_path new_path) ≡ None → IsAnswered old new (walks_of s.tree q.cred q.cwd q.second_cwd old_path new_path) (Err e))
+    → (first_of (both_checks old_path new_path) ≡ None → IsAnswered old new (walks_of s.room s.tree q.cred q.cwd q.second_cwd old_path new_path) (Err e))
     → RefusesBoth old new s pid old_path new_path e
 unwalked_both old new s pid q there old_path new_path e fit each = record {
   each = λ call demands effect is. walks_refuse s pid q is there old new e fit each;
@@ -196,11 +201,11 @@ unwalked_both old new s pid q there old_path new_path e fit each = record {
 -- what the walks have found
 pub both_found : (old new : DiskState) (s : State) (pid : ℕ) (q : Process) → get nat_cmp s.desks pid ≡ Some q → (old_path new_path : List ℕ) (f g : Found)
     → first_of (both_checks old_path new_path) ≡ None
-    → IsAnswered old new (walks_of s.tree q.cred q.cwd q.second_cwd old_path new_path) (Ok (f, g)) → HasFoundBoth s pid q old_path new_path f g
+    → IsAnswered old new (walks_of s.room s.tree q.cred q.cwd q.second_cwd old_path new_path) (Ok (f, g)) → HasFoundBoth s pid q old_path new_path f g
 both_found old new s pid q there old_path new_path f g fit is =
-    let one = walk_refusal s.tree q.cred 1 q.cwd old_path in
-    let two = walk_refusal s.tree q.cred 2 q.second_cwd new_path in
-    let both = met_ok {A = Found × Found} (or_else one two) (found_by s.tree q.cwd (Parent, old_path), found_by s.tree q.second_cwd (Parent, new_path)) (f, g) is in
+    let one = walk_refusal s.room s.tree q.cred 1 q.cwd old_path in
+    let two = walk_refusal s.room s.tree q.cred 2 q.second_cwd new_path in
+    let both = met_ok {A = Found × Found} (or_else one two) (found_by s.room s.tree q.cwd (Parent, old_path), found_by s.room s.tree q.second_cwd (Parent, new_path)) (f, g) is in
     record {
       there = there;
       checked = fit;

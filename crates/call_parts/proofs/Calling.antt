@@ -163,9 +163,9 @@ pub first_of-append : (ds es : List Demand) → first_of (ds ++ es) ≡ or_else 
 first_of-append [] es = refl
 first_of-append (d ∷ ds) es = ap (or_else d) (first_of-append ds es) ∙ or_else-assoc d (first_of ds) (first_of es)
 
-pub found_ino : (t : Tree) (cwd : ℕ) (form : Form) (path : List ℕ) → (found_by t cwd (form, path)).ino ≡ (trail_of t cwd form path).found
+pub found_ino : (room : Room) (t : Tree) (cwd : ℕ) (form : Form) (path : List ℕ) → (found_by room t cwd (form, path)).ino ≡ (trail_of room t cwd form path).found
 unfolding found_of
-found_ino t cwd form path = refl
+found_ino room t cwd form path = refl
 
 -- what was found is there
 pub found_there : {p : Place} {map : SectorMap} {desks : Desks} {s : State} {pid : ℕ} {q : Process} {form : Form} {path : List ℕ} {f : Found} (n : ℕ)
@@ -173,7 +173,7 @@ pub found_there : {p : Place} {map : SectorMap} {desks : Desks} {s : State} {pid
 found_there {p} {map} {desks} {s} {pid} {q} {form} {path} {f} n at found is =
     let here = (at.is_state.desks at.up).processes pid q found.there in
     finds_are_there s.room s.tree at.is_state.tree q.cwd form path (is_there s.tree q.cwd here.cwd.node here.cwd.is_there) n
-    (sym (found_ino s.tree q.cwd form path) ∙ ap (λ (g : Found). g.ino) (sym found.is) ∙ is)
+    (sym (found_ino s.room s.tree q.cwd form path) ∙ ap (λ (g : Found). g.ino) (sym found.is) ∙ is)
 
 module _ (s : State) (pid : ℕ) (q : Process) (call : Call) (form : Form) (path : List ℕ) (arguments : List Demand) (demands : Scene → List Demand)
     (effect : Scene → ℕ → Effect) (row : row_of call ≡ by_path arguments form path demands effect) (met : first_of arguments ≡ None)
@@ -187,25 +187,25 @@ module _ (s : State) (pid : ℕ) (q : Process) (call : Call) (form : Form) (path
       ∙ ap (λ d. or_else d (first_of (path_checks path))) met
 
   pub by_path_late : other_refusal s (Calls pid call)
-      ≡ or_else (first_refusal s.tree q.cred 1 form (trail_in s.tree q.cwd (form, path))) (first_of (demands (scene_at s q (found_by s.tree q.cwd (form, path)))))
+      ≡ or_else (first_refusal s.tree q.cred 1 form (trail_in s.room s.tree q.cwd (form, path))) (first_of (demands (scene_at s q (found_by s.room s.tree q.cwd (form, path)))))
   by_path_late = late_is s pid q call there ∙ ap (late_refusal s q) row
 
   -- the checks or the walk refuse, or memory or a read fails
   pub resolve_refused : (old new : DiskState) (r : Refusal) → IsTrue (asks_in_call call)
       → ((x : Refusal) → first_of (path_checks path) ≡ Some x → r ≡ x)
-      → (first_of (path_checks path) ≡ None → IsAnswered old new (walk_of s.tree q.cred 1 form q.cwd path) (Err r))
+      → (first_of (path_checks path) ≡ None → IsAnswered old new (walk_of s.room s.tree q.cred 1 form q.cwd path) (Err r))
       → IsRefused old new s pid call r
   resolve_refused old new r asks checked each = go (first_of (path_checks path)) refl
     where
-      walked : (d : Demand) → first_refusal s.tree q.cred 1 form (trail_in s.tree q.cwd (form, path)) ≡ d
-          → refused_or d (Ok (found_by s.tree q.cwd (form, path))) ≡ Err r → other_refusal s (Calls pid call) ≡ Some r
+      walked : (d : Demand) → first_refusal s.tree q.cred 1 form (trail_in s.room s.tree q.cwd (form, path)) ≡ d
+          → refused_or d (Ok (found_by s.room s.tree q.cwd (form, path))) ≡ Err r → other_refusal s (Calls pid call) ≡ Some r
       walked d is e =
-          by_path_late ∙ ap (λ x. or_else x (first_of (demands (scene_at s q (found_by s.tree q.cwd (form, path)))))) (is ∙ refused_err d (found_by s.tree q.cwd (form, path)) r e)
+          by_path_late ∙ ap (λ x. or_else x (first_of (demands (scene_at s q (found_by s.room s.tree q.cwd (form, path)))))) (is ∙ refused_err d (found_by s.room s.tree q.cwd (form, path)) r e)
 
       go : (o : Demand) → first_of (path_checks path) ≡ o → IsRefused old new s pid call r
       go (Some x) e = why.early (by_path_firm ∙ e ∙ ap Some (sym (checked x e)))
       go None e = elim (each e) [
-        | inl is ↦ why.late (by_path_firm ∙ e) (walked (first_refusal s.tree q.cred 1 form (trail_in s.tree q.cwd (form, path))) refl is)
+        | inl is ↦ why.late (by_path_firm ∙ e) (walked (first_refusal s.tree q.cred 1 form (trail_in s.room s.tree q.cwd (form, path))) refl is)
         | inr way ↦ interrupted_refused old new s pid call (by_path_firm ∙ e) asks r way
       ]
 
@@ -216,7 +216,7 @@ module _ (s : State) (pid : ℕ) (q : Process) (call : Call) (form : Form) (path
     -- what remains are the demands on what was found
     pub found_late : other_refusal s (Calls pid call) ≡ first_of (demands (scene_at s q f))
     found_late =
-        by_path_late ∙ ap (λ x. or_else x (first_of (demands (scene_at s q (found_by s.tree q.cwd (form, path)))))) found.unrefused
+        by_path_late ∙ ap (λ x. or_else x (first_of (demands (scene_at s q (found_by s.room s.tree q.cwd (form, path)))))) found.unrefused
         ∙ ap (λ (g : Found). first_of (demands (scene_at s q g))) (sym found.is)
 
     pub found_after : (number : ℕ) → after s (Calls pid call) (chosen number 0) ≡ after_effect s pid (effect (scene_at s q f) number)
@@ -234,9 +234,9 @@ module _ (s : State) (pid : ℕ) (q : Process) (call : Call) (form : Form) (path
 
 -- what the walk of a path has found
 pub resolved : (old new : DiskState) {s : State} {pid : ℕ} {q : Process} {form : Form} {path : List ℕ} (f : Found) → get nat_cmp s.desks pid ≡ Some q
-    → first_of (path_checks path) ≡ None → IsAnswered old new (walk_of s.tree q.cred 1 form q.cwd path) (Ok f) → HasFound s pid q form path f
+    → first_of (path_checks path) ≡ None → IsAnswered old new (walk_of s.room s.tree q.cred 1 form q.cwd path) (Ok f) → HasFound s pid q form path f
 resolved old new {s} {pid} {q} {form} {path} f there checked e =
-    let is = met_ok (first_refusal s.tree q.cred 1 form (trail_in s.tree q.cwd (form, path))) (found_by s.tree q.cwd (form, path)) f e in
+    let is = met_ok (first_refusal s.tree q.cred 1 form (trail_in s.room s.tree q.cwd (form, path))) (found_by s.room s.tree q.cwd (form, path)) f e in
     record { there = there; checked = checked; unrefused = is.0; is = sym is.1 }
 
 -- ---- a call that changes nothing

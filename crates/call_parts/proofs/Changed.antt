@@ -39,7 +39,7 @@ pub record IsChange (p : Place) (map : SectorMap) (desks : Desks) (s : State) (q
 
 module _ {p : Place} {mid : SectorMap} {desks : Desks} {s : State} (at : IsStateOf p mid desks s) (new : SectorMap) (n : ℕ) (was now : Node)
     (there : node_at s.tree n ≡ Some was) (may : MayReplace s.room s.tree was now) (one : ChangesOne p n mid new)
-    (here : HoldsNode new (inode_at p new n) (record { node = now; names = names_of s.tree n; parent = parent s.tree n })) where
+    (here : HoldsNode p.version new (inode_at p new n) (record { node = now; names = names_of s.tree n; parent = parent s.tree n })) where
   -- the map after node n was made another
   pub rewritten : HoldsAll p new (placed (swept (changed s.tree (Rewrite n now)) desks))
   rewritten =

@@ -7,6 +7,7 @@ use Rattle.std.proofs.Common.{sym, ap, ◌∙◌, inl, inr}
 use Rattle.fs_cred.specs.declared.refusal.Refusal.{Refusal}
 use Rattle.sector_disk.specs.Disk.{DiskState}
 use Rattle.fs_layout.specs.declared.inode.Inode.{Inode}
+use Rattle.fs_layout.specs.declared.version.Version.{Version}
 use Rattle.fs_layout.specs.Bytes.{SectorMap}
 use Rattle.fs_model.specs.Demands.{Demand, or_else, first_of}
 use Rattle.fs_model.specs.Nodes.{Body, File, Dir, Link, is_link}
@@ -55,10 +56,10 @@ module _ (a b : List Demand) (d : Demand) where
 -- ---- what an inode says
 
 -- its kind says whether it is a link
-pub link_says : (image : SectorMap) (v : Inode) (b : Body) → HoldsBody image v b → is_link_kind v.kind ≡ is_link b
-link_says image v (File a bytes) h = ap is_link_kind h.kind
-link_says image v (Dir a d) h = ap is_link_kind h.names.kind
-link_says image v (Link target) h = ap is_link_kind h.kind
+pub link_says : (version : Version) (image : SectorMap) (v : Inode) (b : Body) → HoldsBody version image v b → is_link_kind v.kind ≡ is_link b
+link_says version image v (File a bytes) h = ap is_link_kind h.kind
+link_says version image v (Dir a d) h = ap is_link_kind h.names.kind
+link_says version image v (Link target) h = ap is_link_kind h.kind
 
 pub refused_as : {A B : Type 0} (d : Demand) (y : B) (x : A) (e : Refusal) (old new : DiskState) → IsAnswered old new (refused_or d (Ok y)) (Err e)
     → IsAnswered old new (refused_or d (Ok x)) (Err e)

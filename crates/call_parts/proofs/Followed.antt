@@ -65,7 +65,7 @@ followed_access {p} {map} {desks} {s} {pid} {q} {path} {f} n at found is =
     let there = stands s.tree n (found_there n at found is) in
     let here = (at.is_state.desks at.up).processes pid q found.there in
     let none = followed_no_link s.room s.tree at.is_state.tree q.cwd path here.cwd n
-    (sym (found_ino s.tree q.cwd Follow path) ∙ ap (λ (g : Found). g.ino) (sym found.is) ∙ is) there.node there.at in
+    (sym (found_ino s.room s.tree q.cwd Follow path) ∙ ap (λ (g : Found). g.ino) (sym found.is) ∙ is) there.node there.at in
     let a = accessible there.node.owner there.node.group there.node.body none in
     record { node = there.node; at = there.at; access = a.0; is = a.1 }
 
@@ -132,9 +132,9 @@ module _ {p : Place} {mid new : TxnState} {desks : Desks} {s : State} {pid : ℕ
       (asked_of s q f want n i.number a ∙ met.0, met.1)
 
   -- its body is that of a file or a directory
-  pub body_found_held : HasBody new.sectors v (followed_access n at has i.some).node.body
+  pub body_found_held : HasBody p.version new.sectors v (followed_access n at has i.some).node.body
   body_found_held =
       let a = followed_access n at has i.some in
-      let held = subst (λ (w : Inode). HoldsNode mid.sectors w (record { node = a.node; names = names_of s.tree n; parent = parent s.tree n })) (sym i.inode)
+      let held = subst (λ (w : Inode). HoldsNode p.version mid.sectors w (record { node = a.node; names = names_of s.tree n; parent = parent s.tree n })) (sym i.inode)
       (held_node (state_tree at) n a.node a.at) in
-      kept (λ m. HasBody m v a.node.body) same (record { no_link = plain a.node.owner a.node.group a.node.body a.access a.is; mode = held.mode; held = held.body })
+      kept (λ m. HasBody p.version m v a.node.body) same (record { no_link = plain a.node.owner a.node.group a.node.body a.access a.is; mode = held.mode; held = held.body })

@@ -42,17 +42,17 @@ finds_each w s at = finds_both w.old_bytes w.new_bytes at (w.found s at)
 -- ---- one of both
 
 module _ {p : Place} {map : SectorMap} {desks : Desks} {s : State} (at : IsStateOf p map desks s) (q : Process)
-    (cwd : ℕ) (from : IsDirectoryAt s.tree cwd) (path : List ℕ) (x : Found) (is : x ≡ found_by s.tree cwd (Parent, path)) where
+    (cwd : ℕ) (from : IsDirectoryAt s.tree cwd) (path : List ℕ) (x : Found) (is : x ≡ found_by s.room s.tree cwd (Parent, path)) where
   path_there : (n : ℕ) → x.ino ≡ Some n → IsThere s.tree n
   path_there n some =
       finds_are_there s.room s.tree at.is_state.tree cwd Parent path (is_there s.tree cwd from.node from.is_there) n
-      (sym (found_ino s.tree cwd Parent path) ∙ ap (λ (g : Found). g.ino) (sym is) ∙ some)
+      (sym (found_ino s.room s.tree cwd Parent path) ∙ ap (λ (g : Found). g.ino) (sym is) ∙ some)
 
-  path_walked : (walk : ℕ) → IsBytes path → first_of (path_checks path) ≡ None → walk_refusal s.tree q.cred walk cwd path ≡ None → IsWalked s.tree Parent x
+  path_walked : (walk : ℕ) → IsBytes path → first_of (path_checks path) ≡ None → walk_refusal s.room s.tree q.cred walk cwd path ≡ None → IsWalked s.room s.tree Parent x
   path_walked walk bytes fit met =
       let later = then_met (refuse ENOENT (is_empty path)) _ fit in
       let no_zero = unrefused EINVAL (list_any (λ b. b == 0) path) (first_met (refuse EINVAL (list_any (λ b. b == 0) path)) _ later) in
-      subst (IsWalked s.tree Parent) (sym is) (is_walked s.room s.tree at.is_state.tree q.cred cwd walk (Parent, path) bytes no_zero met)
+      subst (IsWalked s.room s.tree Parent) (sym is) (is_walked s.room at.is_state.room.name_limit s.tree at.is_state.tree q.cred cwd walk (Parent, path) bytes no_zero met)
 
 -- ---- both
 
@@ -71,10 +71,10 @@ module _ {p : Place} {map : SectorMap} {desks : Desks} {q : Process} {f g : Foun
       let both = sym (first_of-append (path_checks i.old) (path_checks i.new)) ∙ i.found.checked in
       (first_met (first_of (path_checks i.old)) _ both, then_met (first_of (path_checks i.old)) _ both)
 
-  pub first_walked : IsWalked s.tree Parent f
+  pub first_walked : IsWalked s.room s.tree Parent f
   first_walked = path_walked i.is_state q q.cwd fits.cwd i.old f i.found.first_is 1 i.old_bytes fit.0 i.found.first_unrefused
 
-  pub second_walked : IsWalked s.tree Parent g
+  pub second_walked : IsWalked s.room s.tree Parent g
   second_walked = path_walked i.is_state q q.second_cwd fits.second_cwd i.new g i.found.second_is 2 i.new_bytes fit.1 i.found.second_unrefused
 
   pub is_scene : IsScene (scene_with s q f g)

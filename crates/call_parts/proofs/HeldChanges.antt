@@ -11,6 +11,7 @@ use Rattle.fs_cred.specs.Credentials.{Credential}
 use Rattle.fs_layout.specs.declared.inode.TheConstants.{S_ISGID, S_ISVTX}
 use Rattle.fs_layout.specs.declared.inode.Inode.{Inode}
 use Rattle.fs_layout.specs.declared.inode.Kind.TheVariants as kinds
+use Rattle.fs_layout.specs.declared.version.Version.{Version}
 use Rattle.fs_layout.specs.Bytes.{SectorMap}
 use Rattle.fs_layout.specs.AclSector.{HoldsAcl}
 use Rattle.fs_layout.specs.Directories.{HasNames}
@@ -35,33 +36,35 @@ module _ {old new : SectorMap} {v w : Inode} where
   default_again : (a : Option AccessList) → KeepsDefault old new v w → HoldsAcl old v.default_acl a → HoldsAcl new w.default_acl a
   default_again a keeps h = subst (λ s. HoldsAcl new s a) (sym keeps.default) (HoldsAcl-kept old new v.default_acl a keeps.default_sector h)
 
-  names_again : {names : List (List ℕ × ℕ)} → w.kind ≡ v.kind → KeepsBytes old new v w → HasNames old v names → HasNames new w names
+  names_again : {version : Version} {names : List (List ℕ × ℕ)} → w.kind ≡ v.kind → KeepsBytes old new v w → HasNames version old v names → HasNames version new w names
   names_again kind keeps h = record {
     kind = kind ∙ h.kind;
     slots = h.slots;
     are = h.are;
     apart = h.apart;
     each = h.each;
+    few = h.few;
     holds = keeps.bytes _ h.holds;
     whole = keeps.whole h.whole;
   }
 
-  body_again : (b : Body) → w.kind ≡ v.kind → KeepsBytes old new v w → KeepsAcls old new v w → HoldsBody old v b → HoldsBody new w b
-  body_again (File a bytes) kind keeps acls h = record {
+  body_again : (version : Version) (b : Body) → w.kind ≡ v.kind → KeepsBytes old new v w → KeepsAcls old new v w → HoldsBody version old v b
+      → HoldsBody version new w b
+  body_again version (File a bytes) kind keeps acls h = record {
     kind = kind ∙ h.kind;
     holds = keeps.bytes bytes h.holds;
     acl = h.acl;
     has_acl = access_again _ acls.access h.has_acl;
     no_default = acls.default.default ∙ h.no_default;
   }
-  body_again (Dir a d) kind keeps acls h = record {
+  body_again version (Dir a d) kind keeps acls h = record {
     names = names_again kind keeps h.names;
     acl = h.acl;
     default = h.default;
     has_acl = access_again _ acls.access h.has_acl;
     has_default = default_again d.default acls.default h.has_default;
   }
-  body_again (Link target) kind keeps acls h = record {
+  body_again version (Link target) kind keeps acls h = record {
     kind = kind ∙ h.kind;
     holds = keeps.bytes target h.holds;
     whole = keeps.whole h.whole;
@@ -82,16 +85,16 @@ same_fields (Link s) (Dir b d) e k = absurd (cc)
 same_fields (Link s) (Link t) e k = (refl, refl)
 
 -- w holds a body of b's type
-record Becomes (new : SectorMap) (w : Inode) (b next : Body) : Type 0 where
+record Becomes (version : Version) (new : SectorMap) (w : Inode) (b next : Body) : Type 0 where
   type : type_of next ≡ type_of b
   mode : shown_mode next ≡ shown_mode b
-  body : HoldsBody new w next
+  body : HoldsBody version new w next
 
 -- ---- an inode that held a node
 
-module _ (old new : SectorMap) (v w : Inode) (x : Placed) (h : HoldsNode old v x) where
+module _ {version : Version} (old new : SectorMap) (v w : Inode) (x : Placed) (h : HoldsNode version old v x) where
   with_body : (u : Inode) (next : Body) → KeepsFields u w → u.uid ≡ v.uid → u.gid ≡ v.gid → u.names ≡ v.names → u.parent ≡ v.parent → u.mode ≡ shown_mode next
-      → type_of next ≡ type_of x.node.body → HoldsBody new w next → HoldsNode new w (record x { node = record x.node { body = next } })
+      → type_of next ≡ type_of x.node.body → HoldsBody version new w next → HoldsNode version new w (record x { node = record x.node { body = next } })
   with_body u next fields owner group names parent mode type body = record {
     owner = fields.uid ∙ owner ∙ h.owner;
     group = fields.gid ∙ group ∙ h.group;
@@ -101,35 +104,35 @@ module _ (old new : SectorMap) (v w : Inode) (x : Placed) (h : HoldsNode old v x
     body = body;
   }
 
-  with_fields : (next : Body) → KeepsFields v w → Becomes new w x.node.body next → HoldsNode new w (record x { node = record x.node { body = next } })
+  with_fields : (next : Body) → KeepsFields v w → Becomes version new w x.node.body next → HoldsNode version new w (record x { node = record x.node { body = next } })
   with_fields next fields is = with_body v next fields refl refl refl refl (h.mode ∙ sym is.mode) is.type is.body
 
   -- another owner and group, as after save
   pub owner_held : (owner group : ℕ) → w ≡ record v { uid = owner; gid = group } → KeepsBytes old new v w → KeepsAcls old new v w
-      → HoldsNode new w (record x { node = record x.node { owner = owner; group = group } })
+      → HoldsNode version new w (record x { node = record x.node { owner = owner; group = group } })
   owner_held owner group is bytes acls = record {
     owner = ap (λ (i : Inode). i.uid) is;
     group = ap (λ (i : Inode). i.gid) is;
     mode = ap (λ (i : Inode). i.mode) is ∙ h.mode;
     names = ap (λ (i : Inode). i.names) is ∙ h.names;
     parent = ap (λ (i : Inode). i.parent) is ∙ h.parent;
-    body = body_again x.node.body (ap (λ (i : Inode). i.kind) is) bytes acls h.body;
+    body = body_again version x.node.body (ap (λ (i : Inode). i.kind) is) bytes acls h.body;
   }
 
   -- one that isn't given stays
   pub owned_held : (owner group : Option ℕ) → w ≡ record v { uid = unwrap_or owner v.uid; gid = unwrap_or group v.gid } → KeepsBytes old new v w → KeepsAcls old new v w
-      → HoldsNode new w (record x { node = owned owner group x.node })
+      → HoldsNode version new w (record x { node = owned owner group x.node })
   owned_held owner group is bytes acls =
-      subst (λ k. HoldsNode new w (record x { node = record x.node { owner = unwrap_or owner k; group = unwrap_or group x.node.group } })) h.owner
-      (subst (λ k. HoldsNode new w (record x { node = record x.node { owner = unwrap_or owner v.uid; group = unwrap_or group k } })) h.group
+      subst (λ k. HoldsNode version new w (record x { node = record x.node { owner = unwrap_or owner k; group = unwrap_or group x.node.group } })) h.owner
+      (subst (λ k. HoldsNode version new w (record x { node = record x.node { owner = unwrap_or owner v.uid; group = unwrap_or group k } })) h.group
       (owner_held (unwrap_or owner v.uid) (unwrap_or group v.gid) is bytes acls))
 
   -- another default ACL, as after save_default_acl
   pub default_held : (d : Option AccessList) → IsTrue (is_directory x.node.body) → KeepsFields v w → KeepsBytes old new v w → KeepsAccess old new v w → HasDefaultAcl new w d
-      → HoldsNode new w (record x { node = record x.node { body = with_default d x.node.body } })
+      → HoldsNode version new w (record x { node = record x.node { body = with_default d x.node.body } })
   default_held d is fields bytes access has = with_fields _ fields (go x.node.body is h.body)
     where
-      go : (b : Body) → IsTrue (is_directory b) → HoldsBody old v b → Becomes new w b (with_default d b)
+      go : (b : Body) → IsTrue (is_directory b) → HoldsBody version old v b → Becomes version new w b (with_default d b)
       go (File a s) is h = absurd (cc)
       go (Dir a e) is h = record {
         type = refl;
@@ -146,10 +149,10 @@ module _ (old new : SectorMap) (v w : Inode) (x : Placed) (h : HoldsNode old v x
 
   -- other bytes, as after set_size and write_at
   pub bytes_held : (bytes : List ℕ) → v.kind ≡ kinds.File → KeepsFields v w → KeepsAcls old new v w → Holds new w bytes
-      → HoldsNode new w (record x { node = record x.node { body = with_bytes bytes x.node.body } })
+      → HoldsNode version new w (record x { node = record x.node { body = with_bytes bytes x.node.body } })
   bytes_held bytes is fields acls holds = with_fields _ fields (go x.node.body h.body)
     where
-      go : (b : Body) → HoldsBody old v b → Becomes new w b (with_bytes bytes b)
+      go : (b : Body) → HoldsBody version old v b → Becomes version new w b (with_bytes bytes b)
       go (File a s) h = record {
         type = refl;
         mode = refl;
@@ -165,11 +168,11 @@ module _ (old new : SectorMap) (v w : Inode) (x : Placed) (h : HoldsNode old v x
       go (Link target) h = absurd (let c : kinds.Link ≡ kinds.File = sym h.kind ∙ is in cc)
 
   -- other names, as after insert, remove and replace
-  pub names_held : (names : List (List ℕ × ℕ)) → IsTrue (is_directory x.node.body) → KeepsFields v w → KeepsAcls old new v w → HasNames new w names
-      → HoldsNode new w (record x { node = record x.node { body = with_names names x.node.body } })
+  pub names_held : (names : List (List ℕ × ℕ)) → IsTrue (is_directory x.node.body) → KeepsFields v w → KeepsAcls old new v w → HasNames version new w names
+      → HoldsNode version new w (record x { node = record x.node { body = with_names names x.node.body } })
   names_held names is fields acls has = with_fields _ fields (go x.node.body is h.body)
     where
-      go : (b : Body) → IsTrue (is_directory b) → HoldsBody old v b → Becomes new w b (with_names names b)
+      go : (b : Body) → IsTrue (is_directory b) → HoldsBody version old v b → Becomes version new w b (with_names names b)
       go (File a s) is h = absurd (cc)
       go (Dir a d) is h = record {
         type = refl;
@@ -186,7 +189,7 @@ module _ (old new : SectorMap) (v w : Inode) (x : Placed) (h : HoldsNode old v x
 
   -- of what is no directory another count of names, as after save; where it is named isn't stored
   pub counted_held : (names up : ℕ) → IsFalse (is_directory x.node.body) → w ≡ record v { names = names } → KeepsBytes old new v w → KeepsAcls old new v w
-      → HoldsNode new w (record { node = x.node; names = names; parent = up })
+      → HoldsNode version new w (record { node = x.node; names = names; parent = up })
   counted_held names up other is bytes acls =
       let fields = go x.node.body other in
       record {
@@ -195,7 +198,7 @@ module _ (old new : SectorMap) (v w : Inode) (x : Placed) (h : HoldsNode old v x
         mode = ap (λ (i : Inode). i.mode) is ∙ h.mode;
         names = ap (λ (i : Inode). i.names) is ∙ sym fields.0;
         parent = ap (λ (i : Inode). i.parent) is ∙ h.parent ∙ sym fields.1;
-        body = body_again x.node.body (ap (λ (i : Inode). i.kind) is) bytes acls h.body;
+        body = body_again version x.node.body (ap (λ (i : Inode). i.kind) is) bytes acls h.body;
       }
     where
       go : (b : Body) → IsFalse (is_directory b) → (names_field b names ≡ names) × (parent_field b up ≡ parent_field b x.parent)
@@ -205,14 +208,14 @@ module _ (old new : SectorMap) (v w : Inode) (x : Placed) (h : HoldsNode old v x
 
   -- of a directory another parent, as after save
   pub moved_held : (up : ℕ) → IsTrue (is_directory x.node.body) → w ≡ record v { parent = up } → KeepsBytes old new v w → KeepsAcls old new v w
-      → HoldsNode new w (record x { parent = up })
+      → HoldsNode version new w (record x { parent = up })
   moved_held up dir is bytes acls = record {
     owner = ap (λ (i : Inode). i.uid) is ∙ h.owner;
     group = ap (λ (i : Inode). i.gid) is ∙ h.group;
     mode = ap (λ (i : Inode). i.mode) is ∙ h.mode;
     names = ap (λ (i : Inode). i.names) is ∙ h.names;
     parent = ap (λ (i : Inode). i.parent) is ∙ sym (parent_says x.node.body up dir);
-    body = body_again x.node.body (ap (λ (i : Inode). i.kind) is) bytes acls h.body;
+    body = body_again version x.node.body (ap (λ (i : Inode). i.kind) is) bytes acls h.body;
   }
 
 -- ---- another access ACL
@@ -260,16 +263,16 @@ acl_mode : (a : AccessList) (b c : Body) (k : ℕ) → GivesAcl a b c → k ≡ 
 acl_mode a b c k (to_file x bytes) e = omega (arith, e)
 acl_mode a b c k (to_directory x d sticky set_group_id) e = put_together (mode_bits a) k sticky set_group_id e
 
-acl_body : (old new : SectorMap) (v w : Inode) (a : AccessList) (b c : Body) → GivesAcl a b c → HoldsBody old v b → w.kind ≡ v.kind
-    → KeepsBytes old new v w → KeepsDefault old new v w → HasAcl new w a → HoldsBody new w c
-acl_body old new v w a b c (to_file x bytes) h kind keeps default has = record {
+acl_body : (version : Version) (old new : SectorMap) (v w : Inode) (a : AccessList) (b c : Body) → GivesAcl a b c → HoldsBody version old v b → w.kind ≡ v.kind
+    → KeepsBytes old new v w → KeepsDefault old new v w → HasAcl new w a → HoldsBody version new w c
+acl_body version old new v w a b c (to_file x bytes) h kind keeps default has = record {
   kind = kind ∙ h.kind;
   holds = keeps.bytes bytes h.holds;
   acl = has.valid;
   has_acl = has.stored;
   no_default = default.default ∙ h.no_default;
 }
-acl_body old new v w a b c (to_directory x d sticky set_group_id) h kind keeps default has = record {
+acl_body version old new v w a b c (to_directory x d sticky set_group_id) h kind keeps default has = record {
   names = names_again kind keeps h.names;
   acl = has.valid;
   default = h.default;
@@ -277,19 +280,19 @@ acl_body old new v w a b c (to_directory x d sticky set_group_id) h kind keeps d
   has_default = default_again d.default default h.has_default;
 }
 
-module _ (old new : SectorMap) (v w : Inode) (x : Placed) (h : HoldsNode old v x) where
+module _ {version : Version} (old new : SectorMap) (v w : Inode) (x : Placed) (h : HoldsNode version old v x) where
   -- another access ACL, and bits of the mode, as after save_acl
   pub acl_held : (m : ℕ) (a : AccessList) (next : Body) → GivesAcl a x.node.body next → m / 512 ≡ special_bits next
       → KeepsFields (with_acl_bits (record v { mode = m }) a) w → KeepsBytes old new v w → KeepsDefault old new v w → HasAcl new w a
-      → HoldsNode new w (record x { node = record x.node { body = next } })
+      → HoldsNode version new w (record x { node = record x.node { body = next } })
   acl_held m a next gives bits fields bytes default has =
       with_body old new v w x h (with_acl_bits (record v { mode = m }) a) next fields refl refl refl refl (acl_mode a x.node.body next (m / 512) gives bits)
-      (acl_type a x.node.body next gives) (acl_body old new v w a x.node.body next gives h.body fields.kind bytes default has)
+      (acl_type a x.node.body next gives) (acl_body version old new v w a x.node.body next gives h.body fields.kind bytes default has)
 
   -- after chmod: the bits in the ACL that the node had, and S_ISGID and S_ISVTX
   pub moded_held : (cred : Credential) (mode m : ℕ) (a : AccessList) → acl_in x.node.body ≡ Some a → m / 512 ≡ special_bits (with_mode cred x.node.group mode x.node.body)
       → KeepsFields (with_acl_bits (record v { mode = m }) (with_mode_bits a mode)) w → KeepsBytes old new v w → KeepsDefault old new v w → HasAcl new w (with_mode_bits a mode)
-      → HoldsNode new w (record x { node = moded cred mode x.node })
+      → HoldsNode version new w (record x { node = moded cred mode x.node })
   moded_held cred mode m a is bits = acl_held m (with_mode_bits a mode) (with_mode cred x.node.group mode x.node.body) (go x.node.body is) bits
     where
       go : (b : Body) → acl_in b ≡ Some a → GivesAcl (with_mode_bits a mode) b (with_mode cred x.node.group mode b)
@@ -303,7 +306,7 @@ module _ (old new : SectorMap) (v w : Inode) (x : Placed) (h : HoldsNode old v x
 
   -- after set_acl: the ACL that is given
   pub set_acl_held : (a : AccessList) → IsFalse (is_link x.node.body) → KeepsFields (with_acl_bits v a) w → KeepsBytes old new v w → KeepsDefault old new v w → HasAcl new w a
-      → HoldsNode new w (record x { node = record x.node { body = with_acl a x.node.body } })
+      → HoldsNode version new w (record x { node = record x.node { body = with_acl a x.node.body } })
   set_acl_held a other = acl_held v.mode a (with_acl a x.node.body) (go x.node.body other) (special_says x.node.body v.mode h.mode ∙ sym (special_with_acl a x.node.body))
     where
       go : (b : Body) → IsFalse (is_link b) → GivesAcl a b (with_acl a b)
@@ -316,8 +319,8 @@ module _ (old new : SectorMap) (v w : Inode) (x : Placed) (h : HoldsNode old v x
 module _ (image : SectorMap) (v w : Inode) (owner group : ℕ) (uid : v.uid ≡ owner) (gid : v.gid ≡ group) (names : v.names ≡ 1) (a : AccessList)
     (fields : KeepsFields (with_acl_bits v a) w) (empty : Holds image w []) (access : HasAcl image w a) where
   -- a file, as after new_inode
-  pub new_file_held : (up : ℕ) → v.kind ≡ kinds.File → v.mode ≡ 0 → v.parent ≡ 0 → HasDefaultAcl image w None
-      → HoldsNode image w (record { node = record { owner = owner; group = group; body = File a [] }; names = 1; parent = up })
+  pub new_file_held : {version : Version} (up : ℕ) → v.kind ≡ kinds.File → v.mode ≡ 0 → v.parent ≡ 0 → HasDefaultAcl image w None
+      → HoldsNode version image w (record { node = record { owner = owner; group = group; body = File a [] }; names = 1; parent = up })
   new_file_held up kind mode parent default = record {
     owner = fields.uid ∙ uid;
     group = fields.gid ∙ gid;
@@ -328,9 +331,9 @@ module _ (image : SectorMap) (v w : Inode) (owner group : ℕ) (uid : v.uid ≡ 
   }
 
   -- a directory, as after new_inode
-  pub new_directory_held : (up : ℕ) (default : Option AccessList) (sticky set_group_id : Bool) → v.kind ≡ kinds.Directory
+  pub new_directory_held : {version : Version} (up : ℕ) (default : Option AccessList) (sticky set_group_id : Bool) → v.kind ≡ kinds.Directory
       → v.mode / 512 ≡ (if sticky then 1 else 0) + (if set_group_id then 2 else 0) → v.parent ≡ up → HasDefaultAcl image w default
-      → HoldsNode image w (record {
+      → HoldsNode version image w (record {
         node = record {
           owner = owner;
           group = group;
@@ -355,8 +358,8 @@ module _ (image : SectorMap) (v w : Inode) (owner group : ℕ) (uid : v.uid ≡ 
   }
 
 -- a link, as after new_link
-pub new_link_held : (image : SectorMap) (w : Inode) (owner group up : ℕ) (target : List ℕ) → IsNewLink owner group w → HasNoAcls w → Holds image w target → HasNoHole image w
-    → HoldsNode image w (record { node = record { owner = owner; group = group; body = Link target }; names = 1; parent = up })
+pub new_link_held : {version : Version} (image : SectorMap) (w : Inode) (owner group up : ℕ) (target : List ℕ) → IsNewLink owner group w → HasNoAcls w → Holds image w target → HasNoHole image w
+    → HoldsNode version image w (record { node = record { owner = owner; group = group; body = Link target }; names = 1; parent = up })
 new_link_held image w owner group up target is acls holds whole = record {
   owner = is.uid;
   group = is.gid;

@@ -71,12 +71,12 @@ or_true false = refl
 pub node_stood : (room : Room) (t : Tree) (was now : Desks) → IsTree room t → FitsTree t was → (n : ℕ) (node : Node) → node_at t n ≡ Some node
     → (IsTrue (is_open was n) → IsTrue (is_open now n)) → stays t now (n, node) ≡ true
 node_stood room t was now is fits n node at still =
-    fitting_stays now n node.body (names_of t n) (is.each n node at).names (λ none ne. still (fits.nameless n node at none ne))
+    fitting_stays room now n node.body (names_of t n) (is.each n node at).names (λ none ne. still (fits.nameless n node at none ne))
     (root_directory room t n node is at)
 
 -- It stays, or goes, as its inode says.
 pub left_node : {p : Place} {n : ℕ} {old new : TxnState} (t : Tree) (was now : Desks) (node : Node) (up : ℕ)
-    → HoldsNode old.sectors (inode_at p old.sectors n) (record { node = node; names = names_of t n; parent = up })
+    → HoldsNode p.version old.sectors (inode_at p old.sectors n) (record { node = node; names = names_of t n; parent = up })
     → IsFalse (is_link node.body) → stays t was (n, node) ≡ true → LeavesInode p n (is_open now n) old new
     → ((stays t now (n, node) ≡ true) × IsUnchanged old new) ⊎ ((stays t now (n, node) ≡ false) × Drops p n old new)
 left_node {p} {n} {old} {new} t was now node up held no_link stood leaves = go node.body refl leaves
@@ -91,13 +91,13 @@ left_node {p} {n} {old} {new} t was now node up held no_link stood leaves = go n
     go (File a bytes) e (has_name some same) =
         let count : (inode_at p old.sectors n).names ≡ names_of t n = held.names ∙ ap (λ b. names_field b (names_of t n)) e in
         inl (ap (λ b. not b || lives_nameless now n node.body) (ne_eqb (names_of t n) 0 (λ none. some (count ∙ none))), same)
-    go (File a bytes) e (was_free free same) = absurd (body_not_free old.sectors (inode_at p old.sectors n) node.body held.body free)
+    go (File a bytes) e (was_free free same) = absurd (body_not_free p.version old.sectors (inode_at p old.sectors n) node.body held.body free)
     go (File a bytes) e (goes closed none used drops) =
         let count : (inode_at p old.sectors n).names ≡ names_of t n = held.names ∙ ap (λ b. names_field b (names_of t n)) e in
         inr (ap (λ b. not b || lives_nameless now n node.body) (eq-eqb (names_of t n) 0 (sym count ∙ none)) ∙ ap (lives_nameless now n) e ∙ closed, drops)
     go (Dir a d) e (stays_open opened same) = inl (of_others (ap (lives_nameless now n) e ∙ sym (ap (lives_nameless was n) e)), same)
     go (Dir a d) e (has_name some same) = inl (of_others (ap (lives_nameless now n) e ∙ sym (ap (lives_nameless was n) e)), same)
-    go (Dir a d) e (was_free free same) = absurd (body_not_free old.sectors (inode_at p old.sectors n) node.body held.body free)
+    go (Dir a d) e (was_free free same) = absurd (body_not_free p.version old.sectors (inode_at p old.sectors n) node.body held.body free)
     go (Dir a d) e (goes closed none used drops) =
         let one : (inode_at p old.sectors n).names ≡ 1 = held.names ∙ ap (λ b. names_field b (names_of t n)) e in
         absurd (let both : 1 ≡ 0 = sym one ∙ none in cc)

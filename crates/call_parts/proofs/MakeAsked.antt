@@ -1,55 +1,58 @@
 -- What is asked of a directory before something is made in it.
-use Rattle.std.specs.Prelude.{◌≡◌, ℕ, ◌*◌, ◌==◌, nat_lt, nat_le, Bool, true, false, [], ◌∷◌, length, None, Ok, Err}
+use Rattle.std.specs.Prelude.{◌≡◌, ℕ, ◌*◌, ◌≤◌, ◌==◌, nat_lt, nat_le, Bool, true, false, [], ◌∷◌, length, None, Ok, Err}
 use Rattle.std.proofs.Common.{refl, sym, ap, subst, arith, ◌∙◌, inl}
-use Rattle.std.proofs.lemmas.Bool.Decides.{nat_tests}
+use Rattle.std.proofs.lemmas.Bool.{leb-true, leb-false}
 use Rattle.fs_cred.specs.declared.errno.Errno.TheVariants.{ENOSPC}
 use Rattle.fs_cred.specs.declared.refusal.Refusal.{Refusal}
 use Rattle.fs_cred.specs.Credentials.{Credential}
 use Rattle.sector_disk.specs.Disk.{DiskState}
-use Rattle.fs_layout.specs.declared.slot.TheConstants.{SLOT_SIZE}
 use Rattle.fs_layout.specs.declared.inode.Inode.{Inode}
-use Rattle.fs_layout.specs.declared.inode.TheConstants.{MAX_DIRECTORY_SIZE}
 use Rattle.fs_layout.specs.declared.place.Place.{Place}
+use Rattle.fs_layout.specs.declared.version.Version.{Version}
+use Rattle.fs_layout.specs.declared.version.Version.TheVariants.{One, Two, Three}
 use Rattle.fs_layout.specs.Bytes.{SectorMap}
 use Rattle.fs_layout.specs.Images.{inode_at, free_sectors}
+use Rattle.fs_layout.specs.Version.{slot_size, max_names, max_directory_size}
 use Rattle.sector_txn.specs.Sectors.{TxnState, IsUnchanged}
 use Rattle.bit_alloc.specs.declared.bitmap.Bitmap.TheVariants.{Inodes}
 use Rattle.bit_alloc.specs.Bitmaps.{free_numbers}
 use Rattle.fs_model.specs.Births.{the_node}
 use Rattle.fs_model.specs.Demands.{Demand, refuse, first_of, permission_on, write_and_search}
-use Rattle.fs_model.specs.Limits.{entries_limit, least_free}
-use Rattle.fs_model.specs.Nodes.{Node, Body, File, Dir, Link, is_directory, is_link, names_in, shown_size}
+use Rattle.fs_model.specs.Limits.{least_free}
+use Rattle.fs_model.specs.Nodes.{Node, Body, File, Dir, Link, is_directory, is_link, names_in}
 use Rattle.fs_model.specs.Stands.{room_of}
 use Rattle.fs_model.specs.Trees.{Tree, free_inodes, IsDirectoryAt}
 use Rattle.fs_model.proofs.FreeInodes.{free_are_clear}
 use Rattle.path_walk.specs.Answers.{refused_or, IsAnswered}
 use Rattle.path_walk.specs.HeldTrees.{HoldsTree, HasAccess}
 use Rattle.call_parts.proofs.Calling.{met_ok, or_else-none, first_asked, next_asked, both_met, answered_later}
-use Rattle.path_walk.proofs.HeldNodes.{held_node, held_access}
+use Rattle.path_walk.proofs.HeldNodes.{held_names, held_access}
 use Rattle.path_walk.proofs.Kept.{kept, kept_back}
 use Rattle.call_parts.specs.Makings.{make_asked}
 use Rattle.call_parts.specs.Reaching.{Checked, checked}
 use Rattle.call_parts.proofs.Followed.{IsAccessed, accessed_is, accessible}
-use Rattle.call_parts.proofs.Shown.{the_node_is, size_says}
+use Rattle.call_parts.proofs.Shown.{the_node_is, names_size}
 
 no_link : (b : Body) → is_directory b ≡ true → is_link b ≡ false
 no_link (File a bytes) e = refl
 no_link (Dir a d) e = refl
 no_link (Link target) e = absurd (cc)
 
-names_size : (b : Body) → is_directory b ≡ true → shown_size b ≡ SLOT_SIZE * length (names_in b)
-names_size (File a bytes) e = absurd (cc)
-names_size (Dir a d) e = refl
-names_size (Link target) e = absurd (cc)
-
-same_test : (k size : ℕ) → size ≡ SLOT_SIZE * k → nat_le MAX_DIRECTORY_SIZE size ≡ nat_le entries_limit k
-same_test k size e = go (nat_le MAX_DIRECTORY_SIZE size) refl (nat_le entries_limit k) refl
+-- two tests of which each follows from the other
+same_tests : (a b c d : ℕ) → (a ≤ b → c ≤ d) → (c ≤ d → a ≤ b) → nat_le a b ≡ nat_le c d
+same_tests a b c d to from = go (nat_le a b) refl (nat_le c d) refl
   where
-    go : (a : Bool) → nat_le MAX_DIRECTORY_SIZE size ≡ a → (b : Bool) → nat_le entries_limit k ≡ b → nat_le MAX_DIRECTORY_SIZE size ≡ nat_le entries_limit k
-    go true x true y = x ∙ sym y
-    go false x false y = x ∙ sym y
-    go true x false y = absurd (grind (arith, nat_tests))
-    go false x true y = absurd (grind (arith, nat_tests))
+    go : (x : Bool) → nat_le a b ≡ x → (y : Bool) → nat_le c d ≡ y → nat_le a b ≡ nat_le c d
+    go true e true f = e ∙ sym f
+    go false e false f = e ∙ sym f
+    go true e false f = absurd (let low = to (leb-true a b e) in let high = leb-false c d f in omega (arith, low, high))
+    go false e true f = absurd (let low = from (leb-true c d f) in let high = leb-false a b e in omega (arith, low, high))
+
+-- a directory is as large as can be where it has as many names as can be
+same_test : (version : Version) (k size : ℕ) → size ≡ slot_size version * k → nat_le (max_directory_size version) size ≡ nat_le (max_names version) k
+same_test One k size e = same_tests (max_directory_size One) size (max_names One) k (λ h. omega (arith, e, h)) (λ h. omega (arith, e, h))
+same_test Two k size e = same_tests (max_directory_size Two) size (max_names Two) k (λ h. omega (arith, e, h)) (λ h. omega (arith, e, h))
+same_test Three k size e = same_tests (max_directory_size Three) size (max_names Three) k (λ h. omega (arith, e, h)) (λ h. omega (arith, e, h))
 
 -- ---- since an earlier moment
 
@@ -78,16 +81,16 @@ directory_met p {old} {mid} dir {d} asked same is =
     let x = met_ok {A = Inode} asked (inode_at p mid.sectors dir) d is in
     (x.0, kept_back (λ (m : SectorMap). d ≡ inode_at p m dir) same (sym x.1))
 
-pub size_as : {v w : Inode} {r : Checked} → w ≡ v → checked (refuse ENOSPC (nat_le MAX_DIRECTORY_SIZE w.size)) ≡ r → checked (refuse ENOSPC (nat_le MAX_DIRECTORY_SIZE v.size)) ≡ r
-size_as {v} {w} {r} same is = subst (λ (u : Inode). checked (refuse ENOSPC (nat_le MAX_DIRECTORY_SIZE u.size)) ≡ r) same is
+pub size_as : (most : ℕ) {v w : Inode} {r : Checked} → w ≡ v → checked (refuse ENOSPC (nat_le most w.size)) ≡ r → checked (refuse ENOSPC (nat_le most v.size)) ≡ r
+size_as most {v} {w} {r} same is = subst (λ (u : Inode). checked (refuse ENOSPC (nat_le most u.size)) ≡ r) same is
 
 -- the size of its inode says whether a directory has place for one more name
 pub names_are : {p : Place} {map : SectorMap} {t : Tree} → HoldsTree p map t → (dir : ℕ) → IsDirectoryAt t dir
-    → refuse ENOSPC (nat_le MAX_DIRECTORY_SIZE (inode_at p map dir).size) ≡ refuse ENOSPC (nat_le entries_limit (length (names_in (the_node t dir).body)))
+    → refuse ENOSPC (nat_le (max_directory_size p.version) (inode_at p map dir).size) ≡ refuse ENOSPC (nat_le (max_names p.version) (length (names_in (the_node t dir).body)))
 names_are {p} {map} {t} h dir d =
-    let size = size_says map (inode_at p map dir) d.node.body (held_node h dir d.node d.is_there).body ∙ names_size d.node.body d.directory in
-    ap (refuse ENOSPC) (same_test (length (names_in d.node.body)) (inode_at p map dir).size size)
-    ∙ sym (ap (λ (u : Node). refuse ENOSPC (nat_le entries_limit (length (names_in u.body)))) (the_node_is t dir d.node d.is_there))
+    let size = names_size (held_names h dir d) in
+    ap (refuse ENOSPC) (same_test p.version (length (names_in d.node.body)) (inode_at p map dir).size size)
+    ∙ sym (ap (λ (u : Node). refuse ENOSPC (nat_le (max_names p.version) (length (names_in u.body)))) (the_node_is t dir d.node d.is_there))
 
 module _ {p : Place} {map : SectorMap} {t : Tree} (h : HoldsTree p map t) (dir : ℕ) (d : IsDirectoryAt t dir) (cred : Credential) (step : ℕ) where
   pub dir_access : IsAccessed t dir
@@ -108,7 +111,7 @@ module _ {p : Place} {map : SectorMap} {t : Tree} (h : HoldsTree p map t) (dir :
   inodes = refuse ENOSPC (free_inodes (room_of p) t == 0)
 
   abbrev names : Demand
-  names = refuse ENOSPC (nat_le entries_limit (length (names_in (the_node t dir).body)))
+  names = refuse ENOSPC (nat_le (max_names p.version) (length (names_in (the_node t dir).body)))
 
   inodes_are : refuse ENOSPC (free_numbers p Inodes map == 0) ≡ inodes
   inodes_are = ap (λ (n : ℕ). refuse ENOSPC (n == 0)) (sym (free_are_clear p map t h.holds h.tree))
@@ -129,7 +132,7 @@ module _ {p : Place} {map : SectorMap} {t : Tree} (h : HoldsTree p map t) (dir :
             (next_asked sectors (inodes ∷ names ∷ []) x e old new enough
             (first_asked {B = Unit {0}} inodes (names ∷ []) tt x e old new (subst (λ (o : Demand). IsAnswered old new (checked o) (Err e)) inodes_are is)))
 
-        pub make_crowded : inodes ≡ None → checked (refuse ENOSPC (nat_le MAX_DIRECTORY_SIZE (inode_at p map dir).size)) ≡ Err e
+        pub make_crowded : inodes ≡ None → checked (refuse ENOSPC (nat_le (max_directory_size p.version) (inode_at p map dir).size)) ≡ Err e
             → IsAnswered old new (refused_or (first_of (make_asked p map cred t dir step)) (Ok x)) (Err e)
         make_crowded some is =
             next_asked allowed (sectors ∷ inodes ∷ names ∷ []) x e old new granted
@@ -140,13 +143,13 @@ module _ {p : Place} {map : SectorMap} {t : Tree} (h : HoldsTree p map t) (dir :
   pub make_granted : (v w : Inode) → refused_or allowed (Ok v) ≡ Ok w → allowed ≡ None
   make_granted v w is = (met_ok {A = Inode} allowed v w is).0
 
-  pub make_met : allowed ≡ None → sectors ≡ None → inodes ≡ None → checked (refuse ENOSPC (nat_le MAX_DIRECTORY_SIZE (inode_at p map dir).size)) ≡ Ok tt
+  pub make_met : allowed ≡ None → sectors ≡ None → inodes ≡ None → checked (refuse ENOSPC (nat_le (max_directory_size p.version) (inode_at p map dir).size)) ≡ Ok tt
       → first_of (make_asked p map cred t dir step) ≡ None
   make_met granted enough some is =
       both_met allowed (sectors ∷ inodes ∷ names ∷ []) granted
       (both_met sectors (inodes ∷ names ∷ []) enough
       (both_met inodes (names ∷ []) some
-      (or_else-none names ∙ sym (names_are h dir d) ∙ (met_ok {A = Unit {0}} (refuse ENOSPC (nat_le MAX_DIRECTORY_SIZE (inode_at p map dir).size)) tt tt is).0)))
+      (or_else-none names ∙ sym (names_are h dir d) ∙ (met_ok {A = Unit {0}} (refuse ENOSPC (nat_le (max_directory_size p.version) (inode_at p map dir).size)) tt tt is).0)))
 
 module _ {p : Place} {old : TxnState} {t : Tree} (h : HoldsTree p old.sectors t) (dir : ℕ) (d : IsDirectoryAt t dir) (cred : Credential) (step : ℕ)
     {mid : TxnState} (same : IsUnchanged old mid) where

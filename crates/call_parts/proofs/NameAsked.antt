@@ -12,13 +12,13 @@ use Rattle.fs_cred.specs.declared.rule.Rule.{Rule}
 use Rattle.fs_cred.specs.Credentials.{Credential}
 use Rattle.fs_cred.specs.Verdicts.{verdict}
 use Rattle.fs_layout.specs.declared.inode.Inode.{Inode}
-use Rattle.fs_layout.specs.declared.inode.TheConstants.{MAX_DIRECTORY_SIZE}
 use Rattle.fs_layout.specs.declared.place.Place.{Place}
 use Rattle.fs_layout.specs.Bytes.{SectorMap}
+use Rattle.fs_layout.specs.Version.{max_names, max_directory_size}
 use Rattle.fs_layout.specs.Images.{inode_at, free_sectors}
 use Rattle.fs_model.specs.Births.{the_node}
 use Rattle.fs_model.specs.Demands.{Demand, refuse, first_of, decided, permission_of, permission_on, write_and_search}
-use Rattle.fs_model.specs.Limits.{entries_limit, least_free}
+use Rattle.fs_model.specs.Limits.{least_free}
 use Rattle.fs_model.specs.Nodes.{names_in}
 use Rattle.fs_model.specs.Trees.{Tree, IsDirectoryAt}
 use Rattle.path_walk.specs.Answers.{refused_or, IsAnswered}
@@ -69,7 +69,7 @@ module _ {p : Place} {map : SectorMap} {t : Tree} (h : HoldsTree p map t) (dir :
   sectors = refuse ENOSPC (nat_lt (free_sectors p map) least_free)
 
   abbrev slots : Demand
-  slots = refuse ENOSPC (nat_le entries_limit (length (names_in (the_node t dir).body)))
+  slots = refuse ENOSPC (nat_le (max_names p.version) (length (names_in (the_node t dir).body)))
 
   pub room_few : (e : Refusal) (old new : DiskState) → IsAnswered old new (checked (refuse ENOSPC (nat_lt (free_sectors p map) least_free))) (Err e)
       → IsAnswered old new (checked (first_of (room_asked p map t dir))) (Err e)
@@ -79,13 +79,13 @@ module _ {p : Place} {map : SectorMap} {t : Tree} (h : HoldsTree p map t) (dir :
     enough_met : sectors ≡ None
     enough_met = (met_ok {A = Unit {0}} sectors tt tt enough).0
 
-    pub room_crowded : (e : Refusal) (old new : DiskState) → checked (refuse ENOSPC (nat_le MAX_DIRECTORY_SIZE v.size)) ≡ Err e
+    pub room_crowded : (e : Refusal) (old new : DiskState) → checked (refuse ENOSPC (nat_le (max_directory_size p.version) v.size)) ≡ Err e
         → IsAnswered old new (checked (first_of (room_asked p map t dir))) (Err e)
     room_crowded e old new full =
         next_asked {A = Unit {0}} sectors (slots ∷ []) tt e old new enough_met
-        (first_asked {A = Unit {0}} {B = Unit {0}} slots [] tt tt e old new (inl (ap checked (sym (names_are h dir d)) ∙ size_as is full)))
+        (first_asked {A = Unit {0}} {B = Unit {0}} slots [] tt tt e old new (inl (ap checked (sym (names_are h dir d)) ∙ size_as (max_directory_size p.version) is full)))
 
-    pub room_met : checked (refuse ENOSPC (nat_le MAX_DIRECTORY_SIZE v.size)) ≡ Ok tt → checked (first_of (room_asked p map t dir)) ≡ Ok tt
+    pub room_met : checked (refuse ENOSPC (nat_le (max_directory_size p.version) v.size)) ≡ Ok tt → checked (first_of (room_asked p map t dir)) ≡ Ok tt
     room_met free =
         ap checked (both_met sectors (slots ∷ []) enough_met
-        (or_else-none slots ∙ sym (names_are h dir d) ∙ (met_ok {A = Unit {0}} (refuse ENOSPC (nat_le MAX_DIRECTORY_SIZE (inode_at p map dir).size)) tt tt (size_as is free)).0))
+        (or_else-none slots ∙ sym (names_are h dir d) ∙ (met_ok {A = Unit {0}} (refuse ENOSPC (nat_le (max_directory_size p.version) (inode_at p map dir).size)) tt tt (size_as (max_directory_size p.version) is free)).0))

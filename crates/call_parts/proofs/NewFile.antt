@@ -4,12 +4,12 @@
 --     takes_one, takes_few, room_suffices        there is room: the disk alone can fail
 --     dir_below, apart_from_new, dir_kept, dir_still_held        the directory, once the inode is made
 --     set_group_says, default_is        what a directory gives to what is made in it
-use Rattle.std.specs.Prelude.{◌≡◌, ◌≢◌, ℕ, ◌+◌, ◌%◌, ◌^◌, ◌<◌, ◌≤◌, nat_eq, nat_le, ◌||◌, if◌then◌else◌, Bool, true, false, List, [], length, Option, None, Some, is_some, IsTrue, ◌/◌, ◌==◌, cond}
+use Rattle.std.specs.Prelude.{◌≡◌, ◌≢◌, ℕ, ◌+◌, ◌%◌, ◌^◌, ◌<◌, ◌≤◌, nat_eq, nat_le, ◌||◌, Bool, true, false, List, [], length, Option, None, Some, is_some, IsTrue, ◌/◌, ◌==◌, cond}
 use Rattle.std.proofs.Common.{refl, sym, ap, arith, ◌∙◌, inl, inr}
 use Rattle.std.proofs.lemmas.Bool.{or_right, true≢false}
 use Rattle.posix_acl.specs.AccessList.{AccessList, mode_bits}
 use Rattle.sector_disk.specs.Disk.{DiskState, HasFailed}
-use Rattle.fs_layout.specs.declared.inode.TheConstants.{DIRECT_SIZE, S_ISGID, S_ISVTX}
+use Rattle.fs_layout.specs.declared.inode.TheConstants.{S_ISGID, S_ISVTX}
 use Rattle.fs_layout.specs.declared.inode.Inode.{Inode}
 use Rattle.fs_layout.specs.declared.inode.Kind.TheVariants as kinds
 use Rattle.fs_layout.specs.declared.place.Place.{Place}
@@ -18,8 +18,10 @@ use Rattle.fs_layout.specs.Bytes.{SectorMap}
 use Rattle.fs_layout.specs.InodeChanges.{ChangesInode}
 use Rattle.fs_layout.specs.Inode.{FitsInode, free_inode}
 use Rattle.fs_layout.specs.Maps.{name_cmp, get}
-use Rattle.fs_layout.specs.Images.{Holds, bit, inode_at, inode_bitmap, free_sectors}
+use Rattle.fs_layout.specs.Version.{max_names}
+use Rattle.fs_layout.specs.Images.{Holds, bit, inode_at, free_sectors}
 use Rattle.fs_layout.proofs.UsedInodes.{made_fits}
+use Rattle.fs_layout.proofs.Bits.{inode_has_bit}
 use Rattle.fs_layout.proofs.Saves.{inode_kept}
 use Rattle.bit_alloc.specs.declared.bitmap.Bitmap.TheVariants.{Inodes}
 use Rattle.bit_alloc.specs.Bitmaps.{IsFreeNumber}
@@ -27,8 +29,8 @@ use Rattle.bit_alloc.specs.Inodes.{KeepsFields}
 use Rattle.inode_table.specs.Acls.{HasAcl, HasDefaultAcl, with_acl_bits, acl_takes, acls_take}
 use Rattle.dir_core.specs.declared.fault.DirFault.{DirFault}
 use Rattle.dir_core.specs.declared.fault.DirFault.TheVariants as naming
-use Rattle.dir_core.specs.Faults.{taken_for, WhyNotAdded}
-use Rattle.fs_model.specs.Limits.{entries_limit}
+use Rattle.dir_core.specs.Faults.{WhyNotAdded}
+use Rattle.dir_core.proofs.Taking.{taken_for_few}
 use Rattle.fs_model.specs.Nodes.{Node, Body, File, Dir, Link, is_directory, default_in, shown_mode}
 use Rattle.fs_model.specs.Stands.{placed}
 use Rattle.fs_model.specs.StoredNodes.{Placed, HoldsNode}
@@ -52,10 +54,8 @@ nothing_stands {p} {map} {t} h n free = go (node_at t n) refl
     go : (o : Option Node) → node_at t n ≡ o → node_at t n ≡ None
     go None e = e
     go (Some node) e =
-        let most = h.holds.consistent.place.most_inodes in
-        let below = free.1 in
-        let set : bit map inode_bitmap n ≡ true =
-        h.holds.inode_bits n (omega (arith, below, most))
+        let set : bit map p.inode_bitmap n ≡ true =
+        h.holds.inode_bits n (inode_has_bit h.holds.consistent.place n free.1)
         ∙ ap (λ o. nat_eq n 0 || nat_le p.inodes n || is_some o) (placed_from t n (Some node) (names_of t n) (parent t n) e refl refl)
         ∙ or_right (nat_eq n 0 || nat_le p.inodes n) true refl in
         absurd (true≢false (sym set ∙ free.2))
@@ -77,14 +77,6 @@ takes_one (Some a) = omega arith
 pub takes_few : (a : AccessList) → acls_take a None ≤ 1
 takes_few a = let few = takes_one (kept_acl a) in omega (arith, few)
 
-name_takes_few : (v : Inode) → taken_for v ≤ 2
-name_takes_few v = go (nat_eq (v.size % 512) 0) (nat_eq v.size DIRECT_SIZE)
-  where
-    go : (a b : Bool) → (if a then (if b then 2 else 1) else 0) ≤ 2
-    go true true = omega arith
-    go true false = omega arith
-    go false b = omega arith
-
 module _ {p : Place} {map : SectorMap} {t : Tree} {dir : ℕ} {name : List ℕ} (can : CanMake p map t dir name) where
   pub dir_below : dir < p.inodes
   dir_below = number_below can.holds dir (is_there t dir can.directory.node can.directory.is_there)
@@ -101,8 +93,8 @@ module _ {p : Place} {map : SectorMap} {t : Tree} (h : HoldsTree p map t) {dir :
   dir_kept = inode_kept p dir map mid (first.table dir (number_below h dir (is_there t dir d.node d.is_there)) apart_from_new)
 
   -- and it holds what it held
-  pub dir_still_held : (x : Placed) → HoldsNode mid (inode_at p mid n) x → IsTrue (bit mid inode_bitmap n)
-      → HoldsNode mid (inode_at p mid dir) (record { node = d.node; names = names_of t dir; parent = parent t dir })
+  pub dir_still_held : (x : Placed) → HoldsNode p.version mid (inode_at p mid n) x → IsTrue (bit mid p.inode_bitmap n)
+      → HoldsNode p.version mid (inode_at p mid dir) (record { node = d.node; names = names_of t dir; parent = parent t dir })
   dir_still_held x born taken =
       held_at p mid (placing n (Some x) (placed t))
       (one_placed p n map mid (placed t) h.holds free.1 first (Some x) born (taken ∙ sym (or_right (nat_eq n 0 || nat_le p.inodes n) true refl)))
@@ -110,7 +102,7 @@ module _ {p : Place} {map : SectorMap} {t : Tree} (h : HoldsTree p map t) {dir :
       (placing_other n (Some x) (placed t) dir apart_from_new ∙ placed_from t dir (Some d.node) (names_of t dir) (parent t dir) d.is_there refl refl)
 
 module _ {p : Place} {n taken more : ℕ} {old new : TxnState} (free : IsFreeNumber p Inodes old.sectors n) (touches : Touches p n taken more old new)
-    (used : IsTrue (bit new.sectors inode_bitmap n)) where
+    (used : IsTrue (bit new.sectors p.inode_bitmap n)) where
   pub file_taken : (dir uid gid : ℕ) (a : AccessList) → KeepsFields (with_acl_bits (new_file uid gid) a) (inode_at p new.sectors n) → Holds new.sectors (inode_at p new.sectors n) []
       → HasAcl new.sectors (inode_at p new.sectors n) a → HasDefaultAcl new.sectors (inode_at p new.sectors n) None
       → TakesInode p n (record { node = file_made uid gid a; names = 1; parent = dir }) old.sectors new.sectors
@@ -124,14 +116,14 @@ module _ {p : Place} {n taken more : ℕ} {old new : TxnState} (free : IsFreeNum
 
 -- ---- its name
 
-module _ (p : Place) (map : SectorMap) (v : Inode) (names : List (List ℕ × ℕ)) (name : List ℕ) (is_new : get name_cmp names name ≡ None) (few : length names < entries_limit)
-    (enough : 2 ≤ free_sectors p map) where
+module _ (p : Place) (map : SectorMap) (v : Inode) (names : List (List ℕ × ℕ)) (name : List ℕ) (is_new : get name_cmp names name ≡ None) (few : length names < max_names p.version)
+    (enough : 3 ≤ free_sectors p map) where
   -- a name isn't refused for want of room, nor because it is there
   pub room_suffices : (old new : DiskState) (e : DirFault) → WhyNotAdded p map v names name e → (e ≡ naming.DiskFault → HasFailed old new) → HasFailed old new
   room_suffices old new naming.Exists why failed = absurd (why is_new)
   room_suffices old new naming.Full why failed = absurd (elim why.1 [
     | inl many ↦ omega (arith, many, few)
-    | inr less ↦ let two = name_takes_few v in omega (arith, less, two, enough)
+    | inr less ↦ let three = taken_for_few v in omega (arith, less, three, enough)
   ])
   room_suffices old new naming.Absent why failed = absurd why
   room_suffices old new naming.DiskFault why failed = failed refl

@@ -15,6 +15,7 @@ use Rattle.fs_cred.specs.Credentials.{Credential}
 use Rattle.fs_layout.specs.declared.place.Place.{Place}
 use Rattle.fs_layout.specs.Bytes.{SectorMap, IsBytes}
 use Rattle.fs_layout.specs.Images.{inode_at, free_sectors}
+use Rattle.fs_layout.specs.Version.{max_names}
 use Rattle.fs_layout.specs.Maps.{name_cmp, with_entry}
 use Rattle.sector_txn.specs.Sectors.{TxnState, IsUnchanged, SameStore}
 use Rattle.sector_txn.proofs.TransactionRuns.{store_same}
@@ -31,7 +32,7 @@ use Rattle.fs_model.specs.declared.walk.Found.{Found}
 use Rattle.fs_model.specs.Births.{the_node}
 use Rattle.fs_model.specs.TreeChanges.{Make}
 use Rattle.fs_model.specs.Demands.{Demand, refuse, first_of}
-use Rattle.fs_model.specs.Limits.{entries_limit, least_free}
+use Rattle.fs_model.specs.Limits.{least_free}
 use Rattle.fs_model.specs.Nodes.{Node, names_in, with_names}
 use Rattle.fs_model.specs.Processes.{Process, Desks, is_open}
 use Rattle.fs_model.specs.Scenes.{Scene, Effect, permission_at_dir, space_to_make, changes}
@@ -72,8 +73,9 @@ module _ {p : Place} {map : SectorMap} {t : Tree} {dir : ℕ} {name : List ℕ} 
       record {
         below = dir_below can;
         is_name = can.is_name;
+        short = can.short;
         names = names_in can.directory.node.body;
-        are = names_say mid (inode_at p mid dir) can.directory.node.body can.directory.directory held.body;
+        are = names_say p.version mid (inode_at p mid dir) can.directory.node.body can.directory.directory held.body;
         is_new = can.is_new;
         few = can.has_room;
         enough = omega (arith, enough, left);
@@ -141,9 +143,9 @@ module _ {p : Place} {map : SectorMap} {desks : Desks} {s : State} (at : IsState
   space_is : space ≡ make_asked p map q.cred s.tree f.dir (f.step - 1)
   space_is =
       ap (λ (k : ℕ). permission_at_dir (scene_at s q f) f 1 ∷ refuse ENOSPC (nat_lt k least_free)
-      ∷ refuse ENOSPC (free_inodes s.room s.tree == 0) ∷ refuse ENOSPC (nat_le entries_limit (length (names_in (the_node s.tree f.dir).body))) ∷ []) at.free_is
+      ∷ refuse ENOSPC (free_inodes s.room s.tree == 0) ∷ refuse ENOSPC (nat_le s.room.entries_limit (length (names_in (the_node s.tree f.dir).body))) ∷ []) at.free_is
       ∙ ap (λ (r : Room). permission_at_dir (scene_at s q f) f 1 ∷ refuse ENOSPC (nat_lt (free_sectors p map) least_free)
-      ∷ refuse ENOSPC (free_inodes r s.tree == 0) ∷ refuse ENOSPC (nat_le entries_limit (length (names_in (the_node s.tree f.dir).body))) ∷ []) at.same_room
+      ∷ refuse ENOSPC (free_inodes r s.tree == 0) ∷ refuse ENOSPC (nat_le r.entries_limit (length (names_in (the_node s.tree f.dir).body))) ∷ []) at.same_room
 
   module _ (asked : List Demand) (met : first_of asked ≡ None) where
     pub space_refused : (e : Refusal) (old new : DiskState)
@@ -157,16 +159,17 @@ module _ {p : Place} {map : SectorMap} {desks : Desks} {s : State} (at : IsState
     space_met h = all_met asked space met (ap first_of space_is ∙ h)
 
   module _ {pid : ℕ} {form : Form} {path : List ℕ} (has : HasFound s pid q form path f) (bytes : IsBytes path) (none : f.ino ≡ None) where
-    new_name : IsNameAt s.tree f.dir f.name None
+    new_name : IsNameAt s.room s.tree f.dir f.name None
     new_name = found_new at has bytes none
 
     abbrev directory_there : IsDirectoryAt s.tree f.dir
     directory_there = record { node = new_name.node; is_there = new_name.stands; directory = new_name.directory }
 
-    pub new_in : IsNewIn s.tree f.dir f.name
+    pub new_in : IsNewIn p s.tree f.dir f.name
     new_in = record {
       directory = directory_there;
       is_name = new_name.is_name;
+      short = subst (λ (r : Room). length f.name ≤ r.name_limit) at.same_room new_name.short;
       is_new = new_name.leads;
     }
 
@@ -187,7 +190,7 @@ module _ {p : Place} {map : SectorMap} {desks : Desks} {s : State} (at : IsState
           let same = ap (λ (r : Room). r.inodes) at.same_room in
           (free.0, omega (arith, below, same), nothing_stands (state_tree at) n free)
 
-      renamed_held : HoldsNode new (inode_at p new f.dir) (record {
+      renamed_held : HoldsNode p.version new (inode_at p new f.dir) (record {
         node = record directory { body = with_names (with_entry name_cmp (names_in directory.body) f.name n) directory.body };
         names = names_of s.tree f.dir;
         parent = parent s.tree f.dir;
@@ -197,7 +200,7 @@ module _ {p : Place} {map : SectorMap} {desks : Desks} {s : State} (at : IsState
           let held = dir_still_held (state_tree at) directory_there n made.takes.free made.takes.change (record { node = node; names = 1; parent = f.dir }) made.takes.holds made.takes.taken in
           names_held made.mid new before (inode_at p new f.dir) (record { node = directory; names = names_of s.tree f.dir; parent = parent s.tree f.dir }) held
           (with_entry name_cmp (names_in directory.body) f.name n) new_name.directory made.names.kept made.names.acls
-          (made.names.named (names_in directory.body) (names_say made.mid before directory.body new_name.directory held.body))
+          (made.names.named (names_in directory.body) (names_say p.version made.mid before directory.body new_name.directory held.body))
 
       -- the node was made
       pub node_made : (asked : List Demand) → first_of asked ≡ None → first_of (make_asked p map q.cred s.tree f.dir (f.step - 1)) ≡ None
@@ -209,9 +212,10 @@ module _ {p : Place} {map : SectorMap} {desks : Desks} {s : State} (at : IsState
         is = refl;
         new_number = fresh;
         holds =
+            let few = subst (λ (u : Node). length (names_in u.body) < max_names p.version) (the_node_is s.tree f.dir directory new_name.stands) (has_few p map s.tree f.dir q.cred (f.step - 1) allows) in
             make_held s at.is_state at.up desks (λ k is. subst (λ (d : Desks). IsTrue (is_open d k)) at.same_desks is) p map at.holds at.same_room
             made.mid new f.dir directory f.name n node (record {
-              takes = takes_new new_name (subst (λ (u : Node). length (names_in u.body) < entries_limit) (the_node_is s.tree f.dir directory new_name.stands) (has_few p map s.tree f.dir q.cred (f.step - 1) allows));
+              takes = takes_new new_name (subst (λ (r : Room). length (names_in directory.body) < r.entries_limit) (sym at.same_room) few);
               positive = fresh.0;
               below = fresh.1;
               unused = fresh.2;
@@ -233,7 +237,7 @@ module _ {pid : ℕ} {call : Call} {checks : Checked} {path : List ℕ} (asked :
       (refuses_some (asked f) (space_at (scene_at s q f)) e (refuses e (refused_err {A = Unit {0}} d tt e is_refused)))))
 
   -- the name is new in a directory
-  pub name_found : f.ino ≡ None → (t : Tree) × HoldsTree p mid.sectors t × IsNewIn t f.dir f.name
+  pub name_found : f.ino ≡ None → (t : Tree) × HoldsTree p mid.sectors t × IsNewIn p t f.dir f.name
   name_found none =
       let at = w.ready.is_state in
       (w.ready.state.tree, state_tree at, new_in at q f (w.found w.ready.state at) w.bytes none)
@@ -241,7 +245,7 @@ module _ {pid : ℕ} {call : Call} {checks : Checked} {path : List ℕ} (asked :
   module _ (none : f.ino ≡ None) (new : TxnState) where
     -- it isn't made
     pub made_refused : (r : Result Reply Refusal) (e : Refusal) → IsErr r × IsErrAnd r (λ y. y ≡ e) → SameStore mid new → first_of (asked f) ≡ None
-        → ((t : Tree) → HoldsTree p mid.sectors t → IsNewIn t f.dir f.name
+        → ((t : Tree) → HoldsTree p mid.sectors t → IsNewIn p t f.dir f.name
         → IsAnswered mid.disk new.disk (refused_or {A = Unit {0}} (first_of (make_asked p mid.sectors q.cred t f.dir (f.step - 1))) (Ok tt)) (Err e))
         → Performs p pid call old new desks desks r
     made_refused r e err store met each = asked_refused is same w new r e err.0 err.1 store {A = Unit {0}} tt
@@ -249,7 +253,7 @@ module _ {pid : ℕ} {call : Call} {checks : Checked} {path : List ℕ} (asked :
 
     -- it is
     pub made_done : SameStore mid new → (node : Tree → Node)
-        → ((t : Tree) → HoldsTree p mid.sectors t → IsNewIn t f.dir f.name → IsMade p mid new q.cred t f (node t) (Ok tt))
+        → ((t : Tree) → HoldsTree p mid.sectors t → IsNewIn p t f.dir f.name → IsMade p mid new q.cred t f (node t) (Ok tt))
         → ((s : State) → HasFound s pid q Parent path f → IsStateOf p mid.sectors desks s → first_of (make_asked p mid.sectors q.cred s.tree f.dir (f.step - 1)) ≡ None
         → IsPlaced p f.dir f.name (node s.tree) mid.sectors new.sectors → IsChange p new.sectors desks s q (asked f ++ space_at (scene_at s q f)) (effect (scene_at s q f)) Done)
         → Performs p pid call old new desks desks (Ok Done)

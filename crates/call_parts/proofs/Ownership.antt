@@ -7,6 +7,7 @@ use Rattle.fs_cred.specs.Credentials.{Credential}
 use Rattle.fs_layout.specs.declared.inode.Inode.{Inode}
 use Rattle.fs_layout.specs.declared.inode.Kind.TheVariants as kinds
 use Rattle.fs_layout.specs.declared.place.Place.{Place}
+use Rattle.fs_layout.specs.declared.version.Version.{Version}
 use Rattle.fs_layout.specs.Bytes.{SectorMap}
 use Rattle.fs_layout.specs.Images.{inode_at}
 use Rattle.fs_layout.specs.Inode.{FitsInode}
@@ -62,28 +63,28 @@ all_met ds es none rest = both_are ds es none ∙ rest
 
 -- ---- the node that was found
 
-pub record IsNode (map : SectorMap) (t : Tree) (f : Found) (n : ℕ) (v : Inode) : Type 0 where
+pub record IsNode (version : Version) (map : SectorMap) (t : Tree) (f : Found) (n : ℕ) (v : Inode) : Type 0 where
   pub node : Node
   pub at : node_at t n ≡ Some node
   pub is : the_node t (number f) ≡ node
-  pub holds : HoldsNode map v (record { node = node; names = names_of t n; parent = parent t n })
+  pub holds : HoldsNode version map v (record { node = node; names = names_of t n; parent = parent t n })
 
 pub node_of : {p : Place} {map : SectorMap} {t : Tree} (h : HoldsTree p map t) (f : Found) (n : ℕ) (v : Inode) → number f ≡ n → v ≡ inode_at p map n
-    → IsThere t n → IsNode map t f n v
+    → IsThere t n → IsNode p.version map t f n v
 node_of {p} {map} {t} h f n v is inode there =
     let s = stands t n there in
     record {
       node = s.node;
       at = s.at;
       is = ap (the_node t) is ∙ the_node_is t n s.node s.at;
-      holds = subst (λ (w : Inode). HoldsNode map w (record { node = s.node; names = names_of t n; parent = parent t n })) (sym inode) (held_node h n s.node s.at);
+      holds = subst (λ (w : Inode). HoldsNode p.version map w (record { node = s.node; names = names_of t n; parent = parent t n })) (sym inode) (held_node h n s.node s.at);
     }
 
 -- ---- to own it is asked
 
 module _ {p : Place} {map : SectorMap} {desks : Desks} {s : State} {pid : ℕ} {q : Process} {form : Form} {path : List ℕ} {f : Found} {n : ℕ} {v : Inode}
     (at : IsStateOf p map desks s) (has : HasFound s pid q form path f) (i : IsInodeFound p map f n v) where
-  pub found_node : IsNode map s.tree f n v
+  pub found_node : IsNode p.version map s.tree f n v
   found_node = node_of (state_tree at) f n v i.number i.inode (found_there n at has i.some)
 
   own_is : own_at_end (scene_at s q f) ≡ own_asked q.cred v.uid f.step
@@ -143,7 +144,7 @@ module _ {p : Place} {map : SectorMap} {desks : Desks} {s : State} {pid : ℕ} {
     owner_changed {B} cred y new same given gives =
         let x = found_node at has i in
         let is = (at.is_state.tree).each n x.node x.at in
-        let held = subst (λ (w : Inode). HoldsNode map w (record { node = x.node; names = names_of s.tree n; parent = parent s.tree n })) i.inode x.holds in
+        let held = subst (λ (w : Inode). HoldsNode p.version map w (record { node = x.node; names = names_of s.tree n; parent = parent s.tree n })) i.inode x.holds in
         rewrites_found at new n x.node (record x.node { owner = uid; group = gid }) x.at
         (record { same = refl; names = refl; owner = gives.uid_fits; group = gives.gid_fits; body = is.body }) gives.one
         (owner_held map new (inode_at p map n) (inode_at p new n) _ held uid gid gives.saved gives.bytes gives.acls)

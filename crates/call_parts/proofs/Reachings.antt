@@ -94,7 +94,7 @@ module _ (old new : DiskState) (s : State) (pid : ℕ) (q : Process) (there : ge
 
   -- or the path, or its walk
   pub unwalked : checks ≡ Ok tt → ((x : Refusal) → first_of (path_checks path) ≡ Some x → e ≡ x)
-      → (first_of (path_checks path) ≡ None → IsAnswered old new (walk_of s.tree q.cred 1 form q.cwd path) (Err e)) → RefusesWalk old new s pid checks form path e
+      → (first_of (path_checks path) ≡ None → IsAnswered old new (walk_of s.room s.tree q.cred 1 form q.cwd path) (Err e)) → RefusesWalk old new s pid checks form path e
   unwalked fine path_is walk_is = record {
     each = λ call demands effect w.
         resolve_refused s pid q call form path w.arguments demands effect w.row (met_ok {A = Unit {0}} (first_of w.arguments) tt tt (sym w.are_checked ∙ fine)).0
@@ -299,5 +299,5 @@ module _ {p : Place} {desks : Desks} {pid : ℕ} {checks : Checked} {path : List
   pub reached_access : HasAccess mid.sectors v accessed.access
   reached_access = let at = r.walked.ready.is_state in access_held {mid = mid} {new = mid} at (r.walked.found r.walked.ready.state at) r.inode unchanged_nothing
 
-  pub reached_body : HasBody mid.sectors v accessed.node.body
+  pub reached_body : HasBody p.version mid.sectors v accessed.node.body
   reached_body = let at = r.walked.ready.is_state in body_found_held {mid = mid} {new = mid} at (r.walked.found r.walked.ready.state at) r.inode unchanged_nothing

@@ -12,7 +12,7 @@ use Rattle.fs_layout.specs.declared.place.Place.{Place}
 use Rattle.fs_layout.specs.Bytes.{SectorMap}
 use Rattle.fs_layout.specs.InodeChanges.{ChangesInode}
 use Rattle.fs_layout.specs.Directories.{HasNames}
-use Rattle.fs_layout.specs.Images.{bit, free_sectors, inode_at, inode_bitmap}
+use Rattle.fs_layout.specs.Images.{bit, free_sectors, inode_at}
 use Rattle.fs_layout.specs.Inode.{FitsInode, inode_fits}
 use Rattle.fs_layout.specs.Maps.{name_cmp, get, without}
 use Rattle.fs_layout.proofs.UsedInodes.{used_fits, blocks_fit}
@@ -43,25 +43,25 @@ touches_after {p} {n} {taken} {more} {old} {mid} {new} same touches = record {
 
 pub names_changed : {p : Place} {dir taken more : ℕ} {f : List (List ℕ × ℕ) → List (List ℕ × ℕ)} {old mid new : TxnState} {v w : Inode} → IsUnchanged old mid
     → v ≡ inode_at p old.sectors dir → ChangesContent p dir taken more mid new v w
-    → ((names : List (List ℕ × ℕ)) → HasNames mid.sectors v names → HasNames new.sectors w (f names))
+    → ((names : List (List ℕ × ℕ)) → HasNames p.version mid.sectors v names → HasNames p.version new.sectors w (f names))
     → ChangesNames p dir f old.sectors new.sectors
 names_changed {p} {dir} {taken} {more} {f} {old} {mid} {new} {v} {w} same is c says = record {
   super = c.touches.super ∙ same.sectors 0;
   change = kept_back (λ (m : SectorMap). ChangesInode p dir m new.sectors) same c.touches.inode;
-  used = kept_back (λ (m : SectorMap). bit new.sectors inode_bitmap dir ≡ bit m inode_bitmap dir) same c.used;
+  used = kept_back (λ (m : SectorMap). bit new.sectors p.inode_bitmap dir ≡ bit m p.inode_bitmap dir) same c.used;
   kept = subst (λ (u : Inode). KeepsFields u (inode_at p new.sectors dir)) is (subst (KeepsFields v) (sym c.now) c.fields);
   acls = kept_back (λ (m : SectorMap). KeepsAcls m new.sectors (inode_at p old.sectors dir) (inode_at p new.sectors dir)) same
       (subst (λ (u : Inode). KeepsAcls mid.sectors new.sectors u (inode_at p new.sectors dir)) is (subst (KeepsAcls mid.sectors new.sectors v) (sym c.now) c.acls));
   named = λ names has.
-      subst (λ (u : Inode). HasNames new.sectors u (f names)) (sym c.now)
-      (says names (kept (λ (m : SectorMap). HasNames m v names) same (subst (λ (u : Inode). HasNames old.sectors u names) (sym is) has)));
+      subst (λ (u : Inode). HasNames p.version new.sectors u (f names)) (sym c.now)
+      (says names (kept (λ (m : SectorMap). HasNames p.version m v names) same (subst (λ (u : Inode). HasNames p.version old.sectors u names) (sym is) has)));
 }
 
 -- ---- the name goes from its directory
 
 pub name_removed : {p : Place} {dir : ℕ} {name : List ℕ} {old mid new : TxnState} {v w : Inode} → IsUnchanged old mid → v ≡ inode_at p old.sectors dir
-    → ChangesContent p dir 0 4 mid new v w
-    → ((names : List (List ℕ × ℕ)) → HasNames mid.sectors v names → (get name_cmp names name ≢ None) × HasNames new.sectors w (without name_cmp names name))
+    → ChangesContent p dir 0 5 mid new v w
+    → ((names : List (List ℕ × ℕ)) → HasNames p.version mid.sectors v names → (get name_cmp names name ≢ None) × HasNames p.version new.sectors w (without name_cmp names name))
     → RemovesName p dir name old new
 name_removed same is c says = record {
   sound = c.sound;
@@ -80,13 +80,13 @@ not_removed names name old new faults.OutOfMemory there why failed = absurd why
 
 -- since before the directory was read
 pub fails_to_change : (p : Place) (dir : ℕ) (name : List ℕ) {old mid : TxnState} {v : Inode} (new : DiskState) (e : DirFault) → HasName p old.sectors dir name → IsUnchanged old mid
-    → v ≡ inode_at p old.sectors dir → ((names : List (List ℕ × ℕ)) → HasNames mid.sectors v names → WhyNotChanged names name e)
+    → v ≡ inode_at p old.sectors dir → ((names : List (List ℕ × ℕ)) → HasNames p.version mid.sectors v names → WhyNotChanged names name e)
     → (e ≡ faults.DiskFault → HasFailed mid.disk new) → FailsToRead old.disk new (Failed EIO)
 fails_to_change p dir name {old} {mid} {v} new e named same is why failed = (
   refl,
   failed_later old.disk mid.disk new same.store.reads.failures
       (not_removed named.0 name mid.disk new e named.2
-      (why named.0 (kept (λ (m : SectorMap). HasNames m v named.0) same (subst (λ (u : Inode). HasNames old.sectors u named.0) (sym is) named.1))) failed),
+      (why named.0 (kept (λ (m : SectorMap). HasNames p.version m v named.0) same (subst (λ (u : Inode). HasNames p.version old.sectors u named.0) (sym is) named.1))) failed),
 )
 
 -- ---- other attributes

@@ -3,7 +3,7 @@
 use Rattle.std.specs.Prelude.{◌≡◌, ℕ, List}
 use Rattle.fs_layout.specs.declared.place.Place.{Place}
 use Rattle.fs_layout.specs.InodeChanges.{ChangesInode}
-use Rattle.fs_layout.specs.Images.{Holds, bit, inode_at, inode_bitmap}
+use Rattle.fs_layout.specs.Images.{Holds, bit, inode_at}
 use Rattle.sector_txn.specs.Sectors.{TxnState}
 use Rattle.bit_alloc.specs.Inodes.{KeepsFields, KeepsAcls}
 
@@ -13,4 +13,4 @@ pub record ChangesBytes (p : Place) (n : ℕ) (old new : TxnState) (f : List ℕ
   pub fields : KeepsFields (inode_at p old.sectors n) (inode_at p new.sectors n)
   pub acls : KeepsAcls old.sectors new.sectors (inode_at p old.sectors n) (inode_at p new.sectors n)
   pub held : (held : List ℕ) → Holds old.sectors (inode_at p old.sectors n) held → Holds new.sectors (inode_at p new.sectors n) (f held)
-  pub used : bit new.sectors inode_bitmap n ≡ bit old.sectors inode_bitmap n
+  pub used : bit new.sectors p.inode_bitmap n ≡ bit old.sectors p.inode_bitmap n

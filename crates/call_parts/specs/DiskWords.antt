@@ -3,7 +3,8 @@ pub use Rattle.fs_layout.specs.Bytes.{IsBytes, SectorMap}
 pub use Rattle.fs_layout.specs.Directories.{HasNames, IsName}
 pub use Rattle.fs_layout.specs.Images.{free_sectors, inode_at}
 pub use Rattle.fs_layout.specs.Maps.{get, name_cmp, with_entry, without}
-pub use Rattle.fs_layout.specs.declared.inode.TheConstants.{MAX_DIRECTORY_SIZE, S_ISGID}
+pub use Rattle.fs_layout.specs.Version.{max_directory_size, max_inode_names, max_name}
+pub use Rattle.fs_layout.specs.declared.inode.TheConstants.{S_ISGID}
 pub use Rattle.posix_acl.specs.AccessList.{AccessList, minimal}
 pub use Rattle.sector_txn.specs.Sectors.{IsUnchanged, SameStore}
 pub use Rattle.bit_alloc.specs.Bitmaps.{HasBitmaps, IsNumber, free_numbers}

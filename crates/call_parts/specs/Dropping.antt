@@ -7,7 +7,7 @@ use Rattle.std.specs.Prelude.{◌≡◌, ◌≢◌, ℕ, Bool, true, false, List
 use Rattle.fs_layout.specs.declared.inode.Kind.TheVariants as kinds
 use Rattle.fs_layout.specs.declared.place.Place.{Place}
 use Rattle.fs_layout.specs.Inode.{free_inode}
-use Rattle.fs_layout.specs.Images.{bit, inode_at, inode_bitmap}
+use Rattle.fs_layout.specs.Images.{bit, inode_at}
 use Rattle.sector_txn.specs.Sectors.{TxnState, IsUnchanged}
 use Rattle.bit_alloc.specs.Inodes.{IsSound, Touches, KeepsAcls, KeepsBytes}
 use Rattle.fs_layout.specs.Maps.{name_cmp, without}
@@ -18,7 +18,7 @@ pub record Drops (p : Place) (n : ℕ) (old new : TxnState) : Type 0 where
   pub sound : IsSound p new
   pub touches : Touches p n 0 1 old new
   pub free : inode_at p new.sectors n ≡ free_inode
-  pub clear : bit new.sectors inode_bitmap n ≡ false
+  pub clear : bit new.sectors p.inode_bitmap n ≡ false
 
 -- Inode n is as it was where it stays open, where it has a name, and where it was free before. Else it is gone.
 pub data LeavesInode (p : Place) (n : ℕ) (opened : Bool) (old new : TxnState) : Type 0 where
@@ -35,10 +35,10 @@ pub record Counts (p : Place) (n names : ℕ) (old new : TxnState) : Type 0 wher
   pub saved : inode_at p new.sectors n ≡ record (inode_at p old.sectors n) { names = names }
   pub bytes : KeepsBytes old.sectors new.sectors (inode_at p old.sectors n) (inode_at p new.sectors n)
   pub acls : KeepsAcls old.sectors new.sectors (inode_at p old.sectors n) (inode_at p new.sectors n)
-  pub used : bit new.sectors inode_bitmap n ≡ bit old.sectors inode_bitmap n
+  pub used : bit new.sectors p.inode_bitmap n ≡ bit old.sectors p.inode_bitmap n
 
 -- directory dir has all its names but this one
 pub record RemovesName (p : Place) (dir : ℕ) (name : List ℕ) (old new : TxnState) : Type 0 where
   pub sound : IsSound p new
-  pub touches : Touches p dir 0 4 old new
+  pub touches : Touches p dir 0 5 old new
   pub names : ChangesNames p dir (λ names. without name_cmp names name) old.sectors new.sectors

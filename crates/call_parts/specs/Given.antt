@@ -4,8 +4,8 @@
 --     GivesOwner        another owner and group
 --     special_mode, SavesAcl        another mode or access ACL
 --     SavesDefaultAcl        another default ACL
---     HasBody        what a call shows of an inode
-use Rattle.std.specs.Prelude.{◌≡◌, ℕ, ◌+◌, ◌/◌, ◌%◌, ◌==◌, ◌<◌, ◌^◌, ◌&&◌, cond, List, Option, IsFalse}
+--     size_shown, HasBody        what a call shows of an inode
+use Rattle.std.specs.Prelude.{◌≡◌, ℕ, ◌+◌, ◌/◌, ◌%◌, ◌==◌, ◌<◌, ◌^◌, ◌&&◌, ◌*◌, cond, if◌then◌else◌, List, Option, IsFalse}
 use Rattle.posix_acl.specs.AccessList.{AccessList}
 use Rattle.fs_cred.specs.Credentials.{Credential}
 use Rattle.fs_cred.specs.Ownership.{keeps_set_group_id}
@@ -13,12 +13,16 @@ use Rattle.fs_layout.specs.declared.inode.TheConstants.{S_ISGID, S_ISVTX}
 use Rattle.fs_layout.specs.declared.inode.Kind.{Kind}
 use Rattle.fs_layout.specs.declared.inode.Kind.TheVariants.{Directory}
 use Rattle.fs_layout.specs.declared.place.Place.{Place}
+use Rattle.fs_layout.specs.declared.version.Version.{Version}
+use Rattle.fs_layout.specs.declared.slot.TheConstants.{SLOT_SIZE}
+use Rattle.fs_layout.specs.Version.{slot_size}
 use Rattle.fs_layout.specs.Bytes.{SectorMap}
 use Rattle.fs_layout.specs.InodeChanges.{ChangesInode}
 use Rattle.fs_layout.specs.Directories.{HasNames}
-use Rattle.fs_layout.specs.Images.{bit, inode_bitmap, inode_at}
+use Rattle.fs_layout.specs.Images.{bit, inode_at}
 use Rattle.fs_layout.specs.declared.inode.Inode.{Inode}
 use Rattle.fs_model.specs.Nodes.{Body, is_link, shown_mode}
+use Rattle.fs_model.specs.Rules.{is_directory_kind}
 use Rattle.fs_model.specs.StoredNodes.{HoldsBody}
 use Rattle.bit_alloc.specs.Inodes.{KeepsFields, KeepsBytes, KeepsAccess, KeepsDefault, KeepsAcls}
 use Rattle.inode_table.specs.Acls.{HasAcl, HasDefaultAcl, with_acl_bits}
@@ -27,16 +31,16 @@ use Rattle.inode_table.specs.Acls.{HasAcl, HasDefaultAcl, with_acl_bits}
 pub record ChangesOne (p : Place) (n : ℕ) (old new : SectorMap) : Type 0 where
   pub super : new 0 ≡ old 0
   pub inode : ChangesInode p n old new
-  pub used : bit new inode_bitmap n ≡ bit old inode_bitmap n
+  pub used : bit new p.inode_bitmap n ≡ bit old p.inode_bitmap n
 
 -- directory dir has other names, which f makes of those that it had, and is else as it was
 pub record ChangesNames (p : Place) (dir : ℕ) (f : List (List ℕ × ℕ) → List (List ℕ × ℕ)) (old new : SectorMap) : Type 0 where
   pub super : new 0 ≡ old 0
   pub change : ChangesInode p dir old new
-  pub used : bit new inode_bitmap dir ≡ bit old inode_bitmap dir
+  pub used : bit new p.inode_bitmap dir ≡ bit old p.inode_bitmap dir
   pub kept : KeepsFields (inode_at p old dir) (inode_at p new dir)
   pub acls : KeepsAcls old new (inode_at p old dir) (inode_at p new dir)
-  pub named : (names : List (List ℕ × ℕ)) → HasNames old (inode_at p old dir) names → HasNames new (inode_at p new dir) (f names)
+  pub named : (names : List (List ℕ × ℕ)) → HasNames p.version old (inode_at p old dir) names → HasNames p.version new (inode_at p new dir) (f names)
 
 -- inode n has another owner and group, and all else that it had
 pub record GivesOwner (p : Place) (n uid gid : ℕ) (old new : SectorMap) : Type 0 where
@@ -69,8 +73,12 @@ pub record SavesDefaultAcl (p : Place) (n : ℕ) (a : Option AccessList) (old ne
   pub access : KeepsAccess old new (inode_at p old n) (inode_at p new n)
   pub default : HasDefaultAcl new (inode_at p new n) a
 
--- the inode is that of a file or a directory with this body
-pub record HasBody (image : SectorMap) (v : Inode) (b : Body) : Type 0 where
+-- the size that is shown of an inode: of a directory as many bytes for each slot as the smallest slot has
+abbrev pub size_shown : Version → Inode → ℕ
+size_shown version v = if is_directory_kind v.kind then SLOT_SIZE * (v.size / slot_size version) else v.size
+
+-- in this version the inode is that of a file or a directory with this body
+pub record HasBody (version : Version) (image : SectorMap) (v : Inode) (b : Body) : Type 0 where
   pub no_link : IsFalse (is_link b)
   pub mode : v.mode ≡ shown_mode b
-  pub held : HoldsBody image v b
+  pub held : HoldsBody version image v b

@@ -9,7 +9,8 @@ use Rattle.fs_layout.specs.Images.{free_sectors}
 use Rattle.fs_layout.specs.Maps.{name_cmp, get}
 use Rattle.bit_alloc.specs.declared.bitmap.Bitmap.TheVariants.{Inodes}
 use Rattle.bit_alloc.specs.Bitmaps.{free_numbers}
-use Rattle.fs_model.specs.Limits.{entries_limit, least_free}
+use Rattle.fs_layout.specs.Version.{max_name, max_names}
+use Rattle.fs_model.specs.Limits.{least_free}
 use Rattle.fs_model.specs.Nodes.{names_in}
 use Rattle.fs_model.specs.Trees.{Tree, IsDirectoryAt, free_inodes}
 use Rattle.path_walk.specs.HeldTrees.{HoldsTree}
@@ -24,8 +25,9 @@ pub record CanMake (p : Place) (map : SectorMap) (t : Tree) (dir : ℕ) (name : 
   pub holds : HoldsTree p map t
   pub directory : IsDirectoryAt t dir
   pub is_name : IsName name
+  pub short : length name ≤ max_name p.version
   pub is_new : get name_cmp (names_in directory.node.body) name ≡ None
-  pub has_room : length (names_in directory.node.body) < entries_limit
+  pub has_room : length (names_in directory.node.body) < max_names p.version
   pub some : free_numbers p Inodes map ≢ 0
   pub enough : least_free ≤ free_sectors p map
 
@@ -35,10 +37,10 @@ make_asked p map cred t dir step =
     permission_on cred t dir write_and_search 1 step
     ∷ refuse ENOSPC (nat_lt (free_sectors p map) least_free)
     ∷ refuse ENOSPC (free_inodes (room_of p) t == 0)
-    ∷ refuse ENOSPC (nat_le entries_limit (length (names_in (the_node t dir).body)))
+    ∷ refuse ENOSPC (nat_le (max_names p.version) (length (names_in (the_node t dir).body)))
     ∷ []
 
 -- sectors are left, and a slot in the directory
 abbrev pub room_asked : Place → SectorMap → Tree → ℕ → List Demand
 room_asked p map t dir =
-    refuse ENOSPC (nat_lt (free_sectors p map) least_free) ∷ refuse ENOSPC (nat_le entries_limit (length (names_in (the_node t dir).body))) ∷ []
+    refuse ENOSPC (nat_lt (free_sectors p map) least_free) ∷ refuse ENOSPC (nat_le (max_names p.version) (length (names_in (the_node t dir).body))) ∷ []

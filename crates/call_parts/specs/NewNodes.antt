@@ -19,14 +19,14 @@ use Rattle.fs_layout.specs.declared.place.Place.{Place}
 use Rattle.fs_layout.specs.Bytes.{SectorMap}
 use Rattle.fs_layout.specs.InodeChanges.{ChangesInode}
 use Rattle.fs_layout.specs.Directories.{IsName, HasNames}
-use Rattle.fs_layout.specs.Images.{bit, inode_at, inode_bitmap, free_sectors}
+use Rattle.fs_layout.specs.Images.{bit, inode_at, free_sectors}
 use Rattle.fs_layout.specs.Maps.{name_cmp, get, with_entry}
+use Rattle.fs_layout.specs.Version.{max_name, max_names}
 use Rattle.sector_txn.specs.Sectors.{TxnState}
 use Rattle.bit_alloc.specs.declared.bitmap.Bitmap.TheVariants.{Inodes}
 use Rattle.bit_alloc.specs.Bitmaps.{IsFreeNumber}
 use Rattle.fs_model.specs.declared.walk.Found.{Found}
 use Rattle.fs_model.specs.Demands.{Demand, refuse, first_of}
-use Rattle.fs_model.specs.Limits.{entries_limit}
 use Rattle.fs_model.specs.Nodes.{Node, File, Dir, Link, names_in}
 use Rattle.fs_model.specs.Scenes.{must_be_new}
 use Rattle.fs_model.specs.StoredNodes.{Placed, HoldsNode}
@@ -35,24 +35,26 @@ use Rattle.path_walk.specs.Answers.{refused_or, IsAnswered}
 use Rattle.call_parts.specs.Given.{ChangesNames}
 use Rattle.call_parts.specs.Makings.{make_asked}
 
-pub record IsNewIn (t : Tree) (dir : ℕ) (name : List ℕ) : Type 0 where
+pub record IsNewIn (p : Place) (t : Tree) (dir : ℕ) (name : List ℕ) : Type 0 where
   pub directory : IsDirectoryAt t dir
   pub is_name : IsName name
+  pub short : length name ≤ max_name p.version
   pub is_new : get name_cmp (names_in directory.node.body) name ≡ None
 
 -- directory dir has this name
 abbrev pub HasName : Place → SectorMap → ℕ → List ℕ → Type 0
-HasName p map dir name = (names : List (List ℕ × ℕ)) × HasNames map (inode_at p map dir) names × (get name_cmp names name ≢ None)
+HasName p map dir name = (names : List (List ℕ × ℕ)) × HasNames p.version map (inode_at p map dir) names × (get name_cmp names name ≢ None)
 
 -- Of the names of directory dir this is none, and it has room for one more, as the disk has for that.
 pub record MayBeNamed (p : Place) (map : SectorMap) (dir : ℕ) (name : List ℕ) : Type 0 where
   pub below : dir < p.inodes
   pub is_name : IsName name
+  pub short : length name ≤ max_name p.version
   pub names : List (List ℕ × ℕ)
-  pub are : HasNames map (inode_at p map dir) names
+  pub are : HasNames p.version map (inode_at p map dir) names
   pub is_new : get name_cmp names name ≡ None
-  pub few : length names < entries_limit
-  pub enough : 2 ≤ free_sectors p map
+  pub few : length names < max_names p.version
+  pub enough : 3 ≤ free_sectors p map
 
 -- directory dir names inode n, and is else as it was
 abbrev pub NamesInode : Place → ℕ → List ℕ → ℕ → SectorMap → SectorMap → Type 0
@@ -63,8 +65,8 @@ pub record TakesInode (p : Place) (n : ℕ) (x : Placed) (old new : SectorMap) :
   pub super : new 0 ≡ old 0
   pub free : IsFreeNumber p Inodes old n
   pub change : ChangesInode p n old new
-  pub taken : IsTrue (bit new inode_bitmap n)
-  pub holds : HoldsNode new (inode_at p new n) x
+  pub taken : IsTrue (bit new p.inode_bitmap n)
+  pub holds : HoldsNode p.version new (inode_at p new n) x
 
 -- Inode n was free and holds this node, and then directory dir names it.
 pub record MakesNode (p : Place) (dir : ℕ) (name : List ℕ) (n : ℕ) (node : Node) (old new : SectorMap) : Type 0 where

@@ -29,8 +29,8 @@ scene_at s p found = record { state = s; process = p; first = found; second = no
 pub record HasFound (s : State) (pid : ℕ) (p : Process) (form : Form) (path : List ℕ) (found : Found) : Type 0 where
   pub there : get nat_cmp s.desks pid ≡ Some p
   pub checked : first_of (path_checks path) ≡ None
-  pub unrefused : first_refusal s.tree p.cred 1 form (trail_in s.tree p.cwd (form, path)) ≡ None
-  pub is : found ≡ found_by s.tree p.cwd (form, path)
+  pub unrefused : first_refusal s.tree p.cred 1 form (trail_in s.room s.tree p.cwd (form, path)) ≡ None
+  pub is : found ≡ found_by s.room s.tree p.cwd (form, path)
 
 -- a reply with which nothing changes, or why the call is refused
 abbrev pub IsTold : DiskState → DiskState → State → ℕ → Call → Result Reply Refusal → Type 0

@@ -18,7 +18,7 @@ use Rattle.fs_model.specs.Processes.{Process, Desks}
 use Rattle.fs_model.specs.Scenes.{Scene}
 use Rattle.fs_model.specs.States.{State}
 use Rattle.fs_model.specs.Steps.{found_by, trail_in}
-use Rattle.fs_model.specs.Trees.{Tree}
+use Rattle.fs_model.specs.Trees.{Tree, Room}
 use Rattle.fs_model.specs.Walks.{first_refusal}
 use Rattle.path_walk.specs.Answers.{refused_or}
 use Rattle.call_parts.specs.Performing.{IsStateOf}
@@ -28,14 +28,14 @@ abbrev pub both_checks : List ℕ → List ℕ → List Demand
 both_checks old new = path_checks old ++ path_checks new
 
 -- the refusal of the walk with this number, of a path that ends in a name
-abbrev pub walk_refusal : Tree → Credential → ℕ → ℕ → List ℕ → Demand
-walk_refusal t cred walk cwd path = first_refusal t cred walk Parent (trail_in t cwd (Parent, path))
+abbrev pub walk_refusal : Room → Tree → Credential → ℕ → ℕ → List ℕ → Demand
+walk_refusal room t cred walk cwd path = first_refusal t cred walk Parent (trail_in room t cwd (Parent, path))
 
 -- both walks, each from its directory: the first refusal of the first, then of the second, or what both find
-abbrev pub walks_of : Tree → Credential → ℕ → ℕ → List ℕ → List ℕ → Result (Found × Found) Refusal
-walks_of t cred cwd second_cwd old new =
-    refused_or (or_else (walk_refusal t cred 1 cwd old) (walk_refusal t cred 2 second_cwd new))
-    (Ok (found_by t cwd (Parent, old), found_by t second_cwd (Parent, new)))
+abbrev pub walks_of : Room → Tree → Credential → ℕ → ℕ → List ℕ → List ℕ → Result (Found × Found) Refusal
+walks_of room t cred cwd second_cwd old new =
+    refused_or (or_else (walk_refusal room t cred 1 cwd old) (walk_refusal room t cred 2 second_cwd new))
+    (Ok (found_by room t cwd (Parent, old), found_by room t second_cwd (Parent, new)))
 
 abbrev pub scene_with : State → Process → Found → Found → Scene
 scene_with s p first second = record { state = s; process = p; first = first; second = second }
@@ -44,10 +44,10 @@ scene_with s p first second = record { state = s; process = p; first = first; se
 pub record HasFoundBoth (s : State) (pid : ℕ) (p : Process) (old new : List ℕ) (f g : Found) : Type 0 where
   pub there : get nat_cmp s.desks pid ≡ Some p
   pub checked : first_of (both_checks old new) ≡ None
-  pub first_unrefused : walk_refusal s.tree p.cred 1 p.cwd old ≡ None
-  pub second_unrefused : walk_refusal s.tree p.cred 2 p.second_cwd new ≡ None
-  pub first_is : f ≡ found_by s.tree p.cwd (Parent, old)
-  pub second_is : g ≡ found_by s.tree p.second_cwd (Parent, new)
+  pub first_unrefused : walk_refusal s.room s.tree p.cred 1 p.cwd old ≡ None
+  pub second_unrefused : walk_refusal s.room s.tree p.cred 2 p.second_cwd new ≡ None
+  pub first_is : f ≡ found_by s.room s.tree p.cwd (Parent, old)
+  pub second_is : g ≡ found_by s.room s.tree p.second_cwd (Parent, new)
 
 -- in a state of this map and this table the process has found these
 pub record FindsBoth (p : Place) (map : SectorMap) (desks : Desks) (q : Process) (f g : Found) (s : State) : Type 0 where

@@ -2,7 +2,7 @@
 
 ghost use Rattle.std.specs.Prelude.{◌≡◌, ◌<◌, ℕ, None, Some, Ok, Err, IfOk};
 ghost use Rattle.call_parts.specs.DiskWords.{inode_at, IsUnchanged, IsSound};
-ghost use Rattle.call_parts.specs.ModelWords.{first_of, path_checks, number, must_be_there, Tree, refused_or, IsAnswered, HoldsTree, IsThere, HasSoundInodes, walk_of};
+ghost use Rattle.call_parts.specs.ModelWords.{first_of, path_checks, number, must_be_there, Tree, refused_or, IsAnswered, HoldsTree, IsThere, HasSoundInodes, room_of, walk_of};
 
 use crate::caller::Caller;
 use fs_cred::{Errno, Refusal};
@@ -27,7 +27,7 @@ pub(crate) fn find<S: Sectors>(
     ensures each { first_of (path_checks path.now) ≡ None
         → (t : Tree) → HoldsTree caller.now.place (S.state s.old).sectors t → IsThere t process.now.cwd
         → IsAnswered (S.state s.old).disk (S.state s.new).disk
-        (walk_of t process.now.cred 1 form process.now.cwd path.now) result }
+        (walk_of (room_of caller.now.place) t process.now.cred 1 form process.now.cwd path.now) result }
     ensures valid { IfOk result (λ found. first_of (path_checks path.now) ≡ None) }
     ensures same { IsUnchanged (S.state s.old) (S.state s.new) }
 {

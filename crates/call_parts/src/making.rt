@@ -1,7 +1,7 @@
 //! What is asked of a directory before something is made in it, and what that gets of it.
 
 ghost use Rattle.std.specs.Prelude.{◌≡◌, ◌-◌, ◌/◌, ◌%◌, ◌==◌, nat_le, if◌then◌else◌, Option, None, Ok, option_copied, IfOk, IfErr};
-ghost use Rattle.call_parts.specs.DiskWords.{AccessList, minimal, MAX_DIRECTORY_SIZE, S_ISGID, inode_at, IsUnchanged, IsSound, HasDefaultAcl, IsInodeOf};
+ghost use Rattle.call_parts.specs.DiskWords.{AccessList, minimal, max_directory_size, S_ISGID, inode_at, IsUnchanged, IsSound, HasDefaultAcl, IsInodeOf};
 ghost use Rattle.call_parts.specs.ModelWords.{without_perms, masked_acl, born_acl, refuse, first_of, permission_on, write_and_search, Tree, IsDirectoryAt, refused_or, Interrupts, IsAnswered, HoldsTree};
 ghost use Rattle.call_parts.specs.Makings.{make_asked};
 
@@ -9,7 +9,7 @@ use crate::caller::Caller;
 use crate::checks::{WRITE_AND_SEARCH, permitted, refuse_if};
 use crate::space::{ask_for_inode, ask_for_sectors};
 use fs_cred::{Cred, Errno, Refusal};
-use fs_layout::{Inode, MAX_DIRECTORY_SIZE, S_ISGID};
+use fs_layout::{Inode, Place, S_ISGID};
 use fs_model::Found;
 use inode_table::{LoadAclFault, load_default_acl};
 use open_files::Process;
@@ -19,10 +19,11 @@ use sector_txn::Sectors;
 use std::alloc::Global;
 
 /// Asks whether a directory has place for one more slot. ENOSPC: it has none.
-pub(crate) fn check_names(directory: &Inode) -> Result<(), Refusal>
-    ensures { result ≡ refused_or (refuse Errno.ENOSPC (nat_le MAX_DIRECTORY_SIZE directory.now.size)) (Ok tt) }
+pub(crate) fn check_names(place: Place, directory: &Inode) -> Result<(), Refusal>
+    ensures { result ≡ refused_or (refuse Errno.ENOSPC (nat_le (max_directory_size place.version) directory.now.size)) (Ok tt) }
 {
-    refuse_if(Errno::ENOSPC, directory.size >= MAX_DIRECTORY_SIZE)
+    let most = place.version.max_directory_size();
+    refuse_if(Errno::ENOSPC, directory.size >= most)
 }
 
 // Asks for write and search on directory dir, after `step` lookups of the walk with this number, and answers its inode.
@@ -88,7 +89,7 @@ pub fn check_make<S: Sectors>(
     let directory = ask_in_directory(s, caller, cred, dir, 1, step)?;
     ask_for_sectors(s, caller.place)?;
     ask_for_inode(s, caller.place)?;
-    check_names(&directory)?;
+    check_names(caller.place, &directory)?;
     Ok(directory)
 }
 

@@ -2,7 +2,7 @@
 
 ghost use Rattle.std.specs.Prelude.{ℕ, ◌≡◌, ◌<◌, ◌||◌, not, None, Some, Ok, Err, OnOk, IfOk, IfErr};
 ghost use Rattle.call_parts.specs.DiskWords.{IsBytes, inode_at, SameStore, IsUnchanged, IsSound, HasSpare, TakesSpare, HasBitmaps};
-ghost use Rattle.call_parts.specs.ModelWords.{first_of, is_found, is_special, Tree, IsDirectoryAt, refused_or, FailsToRead, IsAnswered, HoldsTree, IsThere, HasSoundInodes};
+ghost use Rattle.call_parts.specs.ModelWords.{first_of, is_found, is_special, Tree, IsDirectoryAt, refused_or, FailsToRead, IsAnswered, HoldsTree, IsThere, HasSoundInodes, room_of};
 ghost use Rattle.call_parts.specs.Makings.{room_asked};
 ghost use Rattle.call_parts.specs.NewNodes.{HasName, MayBeNamed, NamesInode};
 ghost use Rattle.call_parts.specs.TwoPaths.{both_checks, walks_of};
@@ -36,7 +36,7 @@ pub(crate) fn find_names<S: Sectors>(
     ensures each { first_of (both_checks old.now new.now) ≡ None
         → (t : Tree) → HoldsTree place (S.state s.old).sectors t → IsThere t process.now.cwd → IsThere t process.now.second_cwd
         → IsAnswered (S.state s.old).disk (S.state s.new).disk
-        (walks_of t process.now.cred process.now.cwd process.now.second_cwd old.now new.now) result }
+        (walks_of (room_of place) t process.now.cred process.now.cwd process.now.second_cwd old.now new.now) result }
     ensures valid { IfOk result (λ found. first_of (both_checks old.now new.now) ≡ None) }
     ensures old_bytes { IsBytes old.now }
     ensures new_bytes { IsBytes new.now }
@@ -74,7 +74,7 @@ pub fn ask_for_name<S: Sectors>(s: &mut S, place: Place, directory: &Inode) -> R
     ensures same { IsUnchanged (S.state s.old) (S.state s.new) }
 {
     ask_for_sectors(s, place)?;
-    check_names(directory)?;
+    check_names(place, directory)?;
     Ok(())
 }
 
@@ -90,10 +90,10 @@ pub fn name_inode<S: Sectors>(
     requires sound { IsSound place (S.state s.old) }
     requires inode { directory ≡ inode_at place (S.state s.old).sectors dir }
     requires room { MayBeNamed place (S.state s.old).sectors dir name.now }
-    requires spare { HasSpare place 3 (S.state s.old) }
+    requires spare { HasSpare place 4 (S.state s.old) }
     ensures store { SameStore (S.state s.old) (S.state s.new) }
     ensures sound { OnOk result (IsSound place (S.state s.new)) }
-    ensures taken { OnOk result (TakesSpare place 3 (S.state s.old) (S.state s.new)) }
+    ensures taken { OnOk result (TakesSpare place 4 (S.state s.old) (S.state s.new)) }
     ensures named { OnOk result (NamesInode place dir name.now n (S.state s.old).sectors (S.state s.new).sectors) }
     ensures err { IfErr result (FailsToRead (S.state s.old).disk (S.state s.new).disk) }
 {
@@ -114,7 +114,7 @@ pub fn remove_name<S: Sectors>(
     requires sound { IsSound place (S.state s.old) }
     requires below { dir < place.inodes }
     requires named { HasName place (S.state s.old).sectors dir name.now }
-    requires spare { HasSpare place 4 (S.state s.old) }
+    requires spare { HasSpare place 5 (S.state s.old) }
     ensures store { SameStore (S.state s.old) (S.state s.new) }
     ensures removes { OnOk result (RemovesName place dir name.now (S.state s.old) (S.state s.new)) }
     ensures fault { IfErr result (FailsToRead (S.state s.old).disk (S.state s.new).disk) }

@@ -1,20 +1,24 @@
 -- A directory whose slots change, and its names then.
-use Rattle.std.specs.Prelude.{◌≡◌, ◌≢◌, ℕ, ◌+◌, ◌-◌, ◌*◌, ◌/◌, ◌%◌, ◌^◌, ◌<◌, ◌≤◌, List, [], ◌∷◌, ◌++◌, length, drop, set, get_or, replicate, Option, None, Some, All}
+use Rattle.std.specs.Prelude.{◌≡◌, ◌≢◌, ℕ, ◌+◌, ◌-◌, ◌*◌, ◌/◌, ◌%◌, ◌^◌, ◌<◌, ◌≤◌, List, [], ◌∷◌, ◌++◌, length, take, drop, set, get_or, Option, None, Some, All}
 use Rattle.std.proofs.Common.{true, false, Result, Ok, Err, refl, sym, ap, subst, arith, ◌∙◌}
-use Rattle.std.proofs.lemmas.List.{append-nil, length-set, set-get_or}
+use Rattle.std.proofs.lemmas.List.{append-nil, drop_all, length-append, length-set, set-get_or}
 use Rattle.fs_layout.specs.declared.inode.TheConstants.{MAX_DIRECTORY_SIZE}
 use Rattle.fs_layout.specs.declared.inode.Inode.{Inode}
 use Rattle.fs_layout.specs.declared.inode.Kind.{Kind}
 use Rattle.fs_layout.specs.declared.inode.Kind.TheVariants as kinds
 use Rattle.fs_layout.specs.declared.place.Place.{Place}
-use Rattle.fs_layout.specs.declared.slot.TheConstants.{MAX_NAMES, SLOT_SIZE}
+use Rattle.fs_layout.specs.declared.slot.TheConstants.{SLOT_SIZE}
+use Rattle.fs_layout.specs.declared.version.Version.{Version}
+use Rattle.fs_layout.specs.Version.{max_name, max_names, slot_size, max_directory_size}
 use Rattle.fs_layout.specs.Bytes.{SectorMap, IsBytes, splice, window, resized, overwritten}
 use Rattle.fs_layout.specs.Images.{pointer, inode_at, Holds, HasNoHole}
 use Rattle.fs_layout.specs.Maps.{name_cmp, get, with_entry, without, IsMap}
 use Rattle.fs_layout.specs.Directories.{NamedInode, IsName, FitsSlot, slot_bytes, slots_bytes, names_of_slots, HaveDistinctNames, HasNames}
 use Rattle.fs_layout.proofs.ImageSlots.{length-slots}
 use Rattle.fs_layout.proofs.ReadNames.{are_names_of}
+use Rattle.fs_layout.proofs.SlotLaw.{length-slot_bytes}
 use Rattle.fs_layout.proofs.SlotNames.{length-names}
+use Rattle.fs_layout.proofs.SlotSizes.{slots_most, directory_most}
 use Rattle.sector_txn.specs.Sectors.{TxnState, IsUnchanged}
 use Rattle.sector_txn.proofs.TransactionRuns.{changes_nothing, changes_weaker}
 use Rattle.bit_alloc.specs.Inodes.{IsSound}
@@ -25,7 +29,6 @@ use Rattle.block_map.specs.Contents.{AllowsSize, ChangesContent}
 use Rattle.block_map.specs.Steps.{IsStepSector}
 use Rattle.block_map.proofs.AddedPointers.{alters_nothing}
 use Rattle.block_map.proofs.Overwriting.{used_may_change, changed_unsaved}
-use Rattle.block_map.proofs.Sizing.{directory_size_limit}
 use Rattle.block_map.proofs.Wrote.{may_within}
 use Rattle.dir_core.specs.declared.find.FoundSlot.{FoundSlot}
 use Rattle.dir_core.specs.Slots.{HasSlots, IsFoundIn}
@@ -38,16 +41,18 @@ use Rattle.dir_core.specs.declared.fault.DirFault.TheVariants as faults
 use Rattle.dir_core.specs.Faults.{as_dir_fault}
 use Rattle.std.specs.List.{swap_remove}
 use Rattle.dir_core.proofs.Found.{found_is_entry}
-use Rattle.dir_core.proofs.NamesAfter.{apart_added, names_added, fits_added, fits_set, apart_moved, fits_moved, names_moved, no_such_name, IsNameOfOne, its_own_name, apart_set, names_set, without_and_with}
+use Rattle.dir_core.proofs.NamesAfter.{apart_added, names_added, fits_added, fits_set, apart_moved, fits_moved, length-moved, names_moved, no_such_name, IsNameOfOne, its_own_name, apart_set, names_set, without_and_with}
+use Rattle.dir_core.proofs.SlotPlaces.{slot_among, slot_start, one_less, slot_in_one_block, place_for_one, no_place}
 use Rattle.dir_core.proofs.SlotBytes.{bytes_added, bytes_replaced, bytes_of_slot, bytes_cut}
 use Rattle.dir_core.proofs.Taking.{size_of_slots}
 
 -- ---- slots and names
-pub slots_there : {image : SectorMap} {v : Inode} {names : List (List ℕ × ℕ)} → (h : HasNames image v names) → HasSlots image v h.slots
-slots_there h = record { kind = h.kind; apart = h.apart; each = h.each; holds = h.holds; whole = h.whole }
+pub slots_there : {version : Version} {image : SectorMap} {v : Inode} {names : List (List ℕ × ℕ)} → (h : HasNames version image v names) → HasSlots version image v h.slots
+slots_there h = record { kind = h.kind; apart = h.apart; each = h.each; few = h.few; holds = h.holds; whole = h.whole }
 
-pub slots_after_reads : {old mid : TxnState} {v : Inode} {slots : List NamedInode} → IsUnchanged old mid → HasSlots old.sectors v slots → HasSlots mid.sectors v slots
-slots_after_reads {v = v} {slots} same h = subst (λ (image : SectorMap). HasSlots image v slots) (map_unchanged same) h
+pub slots_after_reads : {version : Version} {old mid : TxnState} {v : Inode} {slots : List NamedInode} → IsUnchanged old mid → HasSlots version old.sectors v slots
+    → HasSlots version mid.sectors v slots
+slots_after_reads {version} {v = v} {slots} same h = subst (λ (image : SectorMap). HasSlots version image v slots) (map_unchanged same) h
 
 -- ---- a directory among the inodes
 pub allows : (k : Kind) (m : ℕ) → k ≡ kinds.Directory → m ≤ MAX_DIRECTORY_SIZE → m % SLOT_SIZE ≡ 0 → AllowsSize k m
@@ -57,12 +62,9 @@ pub no_free : (k : Kind) → k ≡ kinds.Directory → k ≢ kinds.Free
 no_free k e f = let same : kinds.Directory ≡ kinds.Free = sym e ∙ f in cc
 
 module _ {p : Place} {n : ℕ} {txn : TxnState} {v : Inode} (sound : IsSound p txn) (lt : n < p.inodes) (is : v ≡ inode_at p txn.sectors n) (kind : v.kind ≡ kinds.Directory) where
-  -- it can be read, and is within the limit
+  -- it can be read
   pub directory_within : IsWithin txn.header txn.disk.size txn.sectors v
   directory_within = may_within (used_may_change sound lt is (no_free v.kind kind))
-
-  pub directory_limit : v.size ≤ MAX_DIRECTORY_SIZE
-  directory_limit = directory_size_limit sound lt is kind
 
   -- nothing changes
   pub same_content : ChangesContent p n 0 1 txn txn v v
@@ -71,29 +73,50 @@ module _ {p : Place} {n : ℕ} {txn : TxnState} {v : Inode} (sound : IsSound p t
       (changes_weaker {Q = IsStepSector p} (λ t r. r) (omega arith) (changes_nothing {R = IsStepSector p} (bitmaps p))) (omega arith)
 
 -- ---- a slot within the directory
-module _ {image : SectorMap} {v : Inode} {slots : List NamedInode} (h : HasSlots image v slots) (slot : ℕ) (lt : slot < length slots) where
-  pub slot_inside : slot * SLOT_SIZE + SLOT_SIZE ≤ v.size
-  slot_inside = let size = size_of_slots h in omega (arith, size, lt)
+module _ {version : Version} {image : SectorMap} {v : Inode} {slots : List NamedInode} (h : HasSlots version image v slots) (slot : ℕ) (lt : slot < length slots) where
+  pub slot_inside : {at : ℕ} → at ≡ slot * slot_size version → at + slot_size version ≤ v.size
+  slot_inside is = let among = slot_among version slot (length slots) lt in omega (arith, is, slot_start version slot, among, size_of_slots h)
 
-  pub slot_has_block : pointer image v (slot * SLOT_SIZE / 512) ≢ 0
-  slot_has_block = h.whole (slot * SLOT_SIZE / 512) (let size = size_of_slots h in omega (arith, size, lt))
+  pub slot_has_block : {at : ℕ} → at ≡ slot * slot_size version → pointer image v (at / 512) ≢ 0
+  slot_has_block {at} is = h.whole (at / 512) (omega (arith, slot_inside is))
+
+  pub slot_within_block : {at : ℕ} → at ≡ slot * slot_size version → at % 512 + slot_size version ≤ 512
+  slot_within_block {at} is = slot_in_one_block version slot at (is ∙ slot_start version slot)
 
   -- another one is written there
-  pub slot_written : {new : SectorMap} {at : ℕ} {bytes : List ℕ} {x : NamedInode} → FitsSlot x → at ≡ slot * SLOT_SIZE → bytes ≡ slot_bytes x
-      → ((held : List ℕ) → Holds image v held → Holds new v (splice held at bytes)) → Holds new v (slots_bytes (set slots slot x))
+  pub slot_written : {new : SectorMap} {at : ℕ} {bytes : List ℕ} {x : NamedInode} → FitsSlot version x → at ≡ slot * slot_size version → bytes ≡ slot_bytes version x
+      → ((held : List ℕ) → Holds image v held → Holds new v (splice held at bytes)) → Holds new v (slots_bytes version (set slots slot x))
   slot_written {new} {at} {bytes} {x} fit there is write =
-      let here : at ≡ SLOT_SIZE * slot = omega (arith, there) in
-      let e : splice (slots_bytes slots) at bytes ≡ slots_bytes (set slots slot x) =
-      ap (λ (k : ℕ). splice (slots_bytes slots) k bytes) here ∙ ap (splice (slots_bytes slots) (SLOT_SIZE * slot)) is ∙ bytes_replaced slots slot x h.each fit lt in
-      subst (λ (r : List ℕ). Holds new v r) e (write (slots_bytes slots) h.holds)
+      let here : at ≡ slot_size version * slot = there ∙ slot_start version slot in
+      let e : splice (slots_bytes version slots) at bytes ≡ slots_bytes version (set slots slot x) =
+      ap (λ (k : ℕ). splice (slots_bytes version slots) k bytes) here ∙ ap (splice (slots_bytes version slots) (slot_size version * slot)) is
+      ∙ bytes_replaced version slots slot x h.each fit lt in
+      subst (λ (r : List ℕ). Holds new v r) e (write (slots_bytes version slots) h.holds)
 
--- no slot is past the limit
-pub slot_below : {p : Place} {n : ℕ} {txn : TxnState} {v : Inode} {slots : List NamedInode} → IsSound p txn → n < p.inodes → v ≡ inode_at p txn.sectors n → HasSlots txn.sectors v slots
-    → (slot : ℕ) → slot < length slots → slot * SLOT_SIZE + SLOT_SIZE ≤ MAX_DIRECTORY_SIZE
-slot_below sound lt is h slot within =
-    let inside = slot_inside h slot within in
-    let limit = directory_limit sound lt is h.kind in
-    omega (arith, inside, limit)
+-- a directory is within the limit
+pub directory_limit : {version : Version} {image : SectorMap} {v : Inode} {slots : List NamedInode} → HasSlots version image v slots
+    → v.size ≤ max_directory_size version
+directory_limit {version} {v = v} {slots} h =
+    let most = slots_most version (length slots) h.few in
+    subst (λ (k : ℕ). k ≤ max_directory_size version) (sym (size_of_slots h)) most
+
+-- and so is each of its slots
+pub slot_below : {version : Version} {image : SectorMap} {v : Inode} {slots : List NamedInode} → HasSlots version image v slots
+    → (slot : ℕ) → slot < length slots → slot * slot_size version ≤ MAX_DIRECTORY_SIZE
+slot_below {version} h slot within =
+    let inside = slot_inside h slot within refl in
+    let limit = directory_limit h in
+    let most = directory_most version in
+    omega (arith, inside, limit, most)
+
+-- the bytes that are written, where as many are as a slot has
+pub written : (version : Version) (x : NamedInode) (n : ℕ) (block : List ℕ) → n ≡ slot_size version → take (slot_size version) block ≡ slot_bytes version x
+    → take n block ≡ slot_bytes version x
+written version x n block e is = ap (λ (k : ℕ). take k block) e ∙ is
+
+pub length-written : (version : Version) (x : NamedInode) (n : ℕ) (block : List ℕ) → n ≡ slot_size version → take (slot_size version) block ≡ slot_bytes version x
+    → length x.name ≤ max_name version → length (take n block) ≡ slot_size version
+length-written version x n block e is short = ap length (written version x n block e is) ∙ length-slot_bytes version x short
 
 -- ---- the last slot
 -- it moves into its own place
@@ -101,18 +124,22 @@ pub moves_itself : (slots : List NamedInode) (slot : ℕ) (d : NamedInode) → s
 moves_itself slots slot d e = ap (λ (k : ℕ). set slots k (get_or slots (length slots - 1) d)) e ∙ set-get_or slots (length slots - 1) d
 
 -- its bytes are read
-pub last_read : {image : SectorMap} {v : Inode} {slots : List NamedInode} {offset count : ℕ} {new : List ℕ} → HasSlots image v slots → 0 < length slots → offset ≡ v.size - SLOT_SIZE
-    → IsReadOf (slots_bytes slots) offset (replicate SLOT_SIZE 0) new count → (d : NamedInode) → new ≡ slot_bytes (get_or slots (length slots - 1) d)
-last_read {v = v} {slots} {offset} {count} {new} h some at read d =
-    let size : v.size ≡ SLOT_SIZE * length slots = size_of_slots h in
-    let all : length (slots_bytes slots) ≡ SLOT_SIZE * length slots = length-slots slots h.each in
-    let last : offset ≡ SLOT_SIZE * (length slots - 1) = omega (arith, at, size, some) in
-    let whole : count ≡ SLOT_SIZE = let l = read.len in omega (arith, l, all, last, some) in
+pub last_read : {version : Version} {image : SectorMap} {v : Inode} {slots : List NamedInode} {offset count : ℕ} {old new : List ℕ} → HasSlots version image v slots
+    → 0 < length slots → offset ≡ v.size - slot_size version → length old ≡ slot_size version → IsReadOf (slots_bytes version slots) offset old new count
+    → (d : NamedInode) → new ≡ slot_bytes version (get_or slots (length slots - 1) d)
+last_read {version} {v = v} {slots} {offset} {count} {old} {new} h some at long read d =
+    let size : v.size ≡ slot_size version * length slots = size_of_slots h in
+    let all : length (slots_bytes version slots) ≡ slot_size version * length slots = length-slots version slots h.each in
+    let last : offset ≡ slot_size version * (length slots - 1) =
+    at ∙ ap (λ (k : ℕ). k - slot_size version) size ∙ one_less version (length slots) in
+    let room = slot_among version 0 (length slots) some in
+    let whole : count ≡ slot_size version = let l = read.len in omega (arith, l, long, all, at, size, room) in
     read.content
-    ∙ ap (λ (k : ℕ). window (slots_bytes slots) offset k ++ drop k (replicate SLOT_SIZE 0)) whole
-    ∙ append-nil (window (slots_bytes slots) offset SLOT_SIZE)
-    ∙ ap (λ (k : ℕ). window (slots_bytes slots) k SLOT_SIZE) last
-    ∙ bytes_of_slot slots (length slots - 1) d h.each (omega (arith, some))
+    ∙ ap (λ (k : ℕ). window (slots_bytes version slots) offset k ++ drop k old) whole
+    ∙ ap (λ (r : List ℕ). window (slots_bytes version slots) offset (slot_size version) ++ r) (drop_all (slot_size version) old (omega (arith, long)))
+    ∙ append-nil (window (slots_bytes version slots) offset (slot_size version))
+    ∙ ap (λ (k : ℕ). window (slots_bytes version slots) k (slot_size version)) last
+    ∙ bytes_of_slot version slots (length slots - 1) d h.each (omega (arith, some))
 
 -- ---- what is found
 module _ (slots : List NamedInode) (name : List ℕ) (apart : HaveDistinctNames slots) where
@@ -130,22 +157,24 @@ module _ (slots : List NamedInode) (name : List ℕ) (apart : HaveDistinctNames 
   not_there (Some f) is e = absurd (true≢false e)
 
 -- the name that is found is one
-pub found_name : (slots : List NamedInode) (name : List ℕ) (f : FoundSlot) → All FitsSlot slots → IsFoundIn slots name (Some f) → IsName name
-found_name slots name f fits at =
+pub found_name : {version : Version} (slots : List NamedInode) (name : List ℕ) (f : FoundSlot) → All (FitsSlot version) slots → IsFoundIn slots name (Some f)
+    → IsName name × (length name ≤ max_name version)
+found_name {version} slots name f fits at =
     let x : NamedInode = record { inode = f.inode; name = name } in
-    subst IsName (ap (λ (y : NamedInode). y.name) (at.1 x)) (fits f.slot x at.0).name
+    let fit = fits f.slot x at.0 in
+    subst (λ (q : List ℕ). IsName q × (length q ≤ max_name version)) (ap (λ (y : NamedInode). y.name) (at.1 x)) (fit.name, fit.short)
 
 -- the names of the directory say it
-pub said_by_names : {image : SectorMap} {v : Inode} {names : List (List ℕ × ℕ)} (name : List ℕ) → (h : HasNames image v names)
+pub said_by_names : {version : Version} {image : SectorMap} {v : Inode} {names : List (List ℕ × ℕ)} (name : List ℕ) → (h : HasNames version image v names)
     → get name_cmp (names_of_slots h.slots) name ≡ None → get name_cmp names name ≡ None
 said_by_names name h none = ap (λ (m : List (List ℕ × ℕ)). get name_cmp m name) h.are ∙ none
 
-pub said_by_slots : {image : SectorMap} {v : Inode} {names : List (List ℕ × ℕ)} (name : List ℕ) → (h : HasNames image v names)
+pub said_by_slots : {version : Version} {image : SectorMap} {v : Inode} {names : List (List ℕ × ℕ)} (name : List ℕ) → (h : HasNames version image v names)
     → get name_cmp names name ≡ None → get name_cmp (names_of_slots h.slots) name ≡ None
 said_by_slots name h none = ap (λ (m : List (List ℕ × ℕ)). get name_cmp m name) (sym h.are) ∙ none
 
 -- what they lead to is found
-pub leads_to_found : {image : SectorMap} {v : Inode} {names : List (List ℕ × ℕ)} {to : ℕ} (h : HasNames image v names) (name : List ℕ) (f : FoundSlot)
+pub leads_to_found : {version : Version} {image : SectorMap} {v : Inode} {names : List (List ℕ × ℕ)} {to : ℕ} (h : HasNames version image v names) (name : List ℕ) (f : FoundSlot)
     → IsFoundIn h.slots name (Some f) → get name_cmp names name ≡ Some to → f.inode ≡ to
 leads_to_found {to = to} h name f is leads =
     let entry = found_is_entry h.slots name (Some f) h.apart is in
@@ -170,62 +199,74 @@ ok_is_no_fault e = cc
 abbrev pub added : List ℕ → ℕ → NamedInode
 added name to = record { inode = to; name = name }
 
-module _ {image : SectorMap} {v : Inode} {names : List (List ℕ × ℕ)} (h : HasNames image v names) (name : List ℕ) (to : ℕ)
-    (is_name : IsName name) (bytes : IsBytes name) (small : to < 2 ^ 32) (none : get name_cmp (names_of_slots h.slots) name ≡ None) where
-  pub names_with : {new : SectorMap} {w : Inode} → w.kind ≡ v.kind → Holds new w (overwritten (slots_bytes h.slots) v.size (slot_bytes (added name to))) → HasNoHole new w
-      → HasNames new w (with_entry name_cmp names name to)
+module _ {version : Version} {image : SectorMap} {v : Inode} {names : List (List ℕ × ℕ)} (h : HasNames version image v names) (name : List ℕ) (to : ℕ)
+    (is_name : IsName name) (short : length name ≤ max_name version) (bytes : IsBytes name) (small : to < 2 ^ 32) (none : get name_cmp (names_of_slots h.slots) name ≡ None)
+    (few : length h.slots < max_names version) where
+  pub names_with : {new : SectorMap} {w : Inode} → w.kind ≡ v.kind → Holds new w (overwritten (slots_bytes version h.slots) v.size (slot_bytes version (added name to)))
+      → HasNoHole new w
+      → HasNames version new w (with_entry name_cmp names name to)
   names_with {new} {w} kind holds whole = record {
     kind = kind ∙ h.kind;
     slots = h.slots ++ added name to ∷ [];
     are = ap (λ (m : List (List ℕ × ℕ)). with_entry name_cmp m name to) h.are ∙ sym (names_added h.slots (added name to) h.apart none);
     apart = apart_added h.slots (added name to) h.apart none;
-    each = fits_added h.slots (added name to) h.each (record { inode = small; name = is_name; bytes = bytes });
-    holds = subst (λ (r : List ℕ). Holds new w r) (bytes_added h.slots (added name to) v.size h.holds.size) holds;
+    each = fits_added h.slots (added name to) h.each (record { inode = small; name = is_name; short = short; bytes = bytes });
+    few = omega (arith, few, length-append h.slots (added name to ∷ []));
+    holds = subst (λ (r : List ℕ). Holds new w r) (bytes_added version h.slots (added name to) v.size h.holds.size) holds;
     whole = whole;
   }
 
 -- where there is place for one more there are fewer than can be
-pub names_few : {image : SectorMap} {v : Inode} {names : List (List ℕ × ℕ)} → HasNames image v names → v.size + SLOT_SIZE ≤ MAX_DIRECTORY_SIZE → length names < MAX_NAMES
-names_few h most =
+pub slots_few : {version : Version} {image : SectorMap} {v : Inode} {slots : List NamedInode} → HasSlots version image v slots → v.size < max_directory_size version
+    → (v.size + slot_size version ≤ max_directory_size version) × (length slots < max_names version)
+slots_few {version} {v = v} {slots} h less = place_for_one version (length slots) v.size (size_of_slots h) less
+
+pub names_few : {version : Version} {image : SectorMap} {v : Inode} {names : List (List ℕ × ℕ)} → HasNames version image v names → v.size < max_directory_size version
+    → length names < max_names version
+names_few h less =
     let count = ap length h.are ∙ length-names h.slots h.apart in
-    let size = size_of_slots (slots_there h) in
-    omega (arith, count, size, most)
+    let few = slots_few (slots_there h) less in
+    omega (arith, count, few.1)
 
 -- where there is no place for one more there are as many as can be
-pub names_full : {image : SectorMap} {v : Inode} {names : List (List ℕ × ℕ)} → HasNames image v names → v.size ≤ MAX_DIRECTORY_SIZE → MAX_DIRECTORY_SIZE < v.size + SLOT_SIZE → length names ≡ MAX_NAMES
-names_full h limit full =
+pub names_full : {version : Version} {image : SectorMap} {v : Inode} {names : List (List ℕ × ℕ)} → HasNames version image v names → max_directory_size version ≤ v.size
+    → length names ≡ max_names version
+names_full {version} {v = v} h full =
     let count = ap length h.are ∙ length-names h.slots h.apart in
-    let size = size_of_slots (slots_there h) in
-    omega (arith, count, size, limit, full)
+    let many = no_place version (length h.slots) v.size (size_of_slots (slots_there h)) full in
+    let few = h.few in
+    omega (arith, count, many, few)
 
 -- ---- names with one less
-module _ {image : SectorMap} {v : Inode} {names : List (List ℕ × ℕ)} (h : HasNames image v names) (slot : ℕ) (x : NamedInode)
+module _ {version : Version} {image : SectorMap} {v : Inode} {names : List (List ℕ × ℕ)} (h : HasNames version image v names) (slot : ℕ) (x : NamedInode)
     (lt : slot < length h.slots) (is : get_or h.slots slot x ≡ x) where
-  pub names_without : {new : SectorMap} {w : Inode} → w.kind ≡ v.kind → Holds new w (resized (slots_bytes (set h.slots slot (get_or h.slots (length h.slots - 1) x))) (v.size - SLOT_SIZE)) → HasNoHole new w
-      → HasNames new w (without name_cmp names x.name)
+  pub names_without : {new : SectorMap} {w : Inode} → w.kind ≡ v.kind → Holds new w (resized (slots_bytes version (set h.slots slot (get_or h.slots (length h.slots - 1) x))) (v.size - slot_size version))
+      → HasNoHole new w
+      → HasNames version new w (without name_cmp names x.name)
   names_without {new} {w} kind holds whole =
       let last : NamedInode = get_or h.slots (length h.slots - 1) x in
       let moved : List NamedInode = set h.slots slot last in
-      let size : v.size ≡ SLOT_SIZE * length h.slots = size_of_slots (slots_there h) in
-      let cut : v.size - SLOT_SIZE ≡ SLOT_SIZE * (length h.slots - 1) = omega (arith, size, lt) in
-      let fits : All FitsSlot moved = fits_set h.slots slot last lt h.each (h.each (length h.slots - 1) x (omega (arith, lt))) in
-      let e : resized (slots_bytes moved) (v.size - SLOT_SIZE) ≡ slots_bytes (swap_remove h.slots slot x) =
-      ap (resized (slots_bytes moved)) cut ∙ bytes_cut moved (length h.slots - 1) fits (omega (arith, length-set h.slots slot last)) in
+      let cut : v.size - slot_size version ≡ slot_size version * (length h.slots - 1) =
+      ap (λ (k : ℕ). k - slot_size version) (size_of_slots (slots_there h)) ∙ one_less version (length h.slots) in
+      let fits : All (FitsSlot version) moved = fits_set h.slots slot last lt h.each (h.each (length h.slots - 1) x (omega (arith, lt))) in
+      let e : resized (slots_bytes version moved) (v.size - slot_size version) ≡ slots_bytes version (swap_remove h.slots slot x) =
+      ap (resized (slots_bytes version moved)) cut ∙ bytes_cut version moved (length h.slots - 1) fits (omega (arith, length-set h.slots slot last)) in
       record {
         kind = kind ∙ h.kind;
         slots = swap_remove h.slots slot x;
         are = ap (λ (m : List (List ℕ × ℕ)). without name_cmp m x.name) h.are ∙ sym (names_moved h.slots slot x lt h.apart is);
         apart = apart_moved h.slots slot x lt h.apart;
         each = fits_moved h.slots slot x lt h.each;
+        few = let some = h.few in omega (arith, some, length-moved h.slots slot x lt);
         holds = subst (λ (r : List ℕ). Holds new w r) e holds;
         whole = whole;
       }
 
 -- ---- another slot in the place of one
-module _ {image : SectorMap} {v : Inode} {names : List (List ℕ × ℕ)} (h : HasNames image v names) (slot : ℕ) (x y : NamedInode)
+module _ {version : Version} {image : SectorMap} {v : Inode} {names : List (List ℕ × ℕ)} (h : HasNames version image v names) (slot : ℕ) (x y : NamedInode)
     (lt : slot < length h.slots) (is : get_or h.slots slot x ≡ x) where
-  changed_slots : IsNameOfOne h.slots slot y.name → {new : SectorMap} → HasSlots new v (set h.slots slot y)
-      → HasNames new v (with_entry name_cmp (without name_cmp names x.name) y.name y.inode)
+  changed_slots : IsNameOfOne h.slots slot y.name → {new : SectorMap} → HasSlots version new v (set h.slots slot y)
+      → HasNames version new v (with_entry name_cmp (without name_cmp names x.name) y.name y.inode)
   changed_slots alone {new} now = record {
     kind = now.kind;
     slots = set h.slots slot y;
@@ -234,6 +275,7 @@ module _ {image : SectorMap} {v : Inode} {names : List (List ℕ × ℕ)} (h : H
         ∙ sym (names_set h.slots slot x y lt is alone h.apart);
     apart = now.apart;
     each = now.each;
+    few = now.few;
     holds = now.holds;
     whole = now.whole;
   }
@@ -245,10 +287,10 @@ module _ {image : SectorMap} {v : Inode} {names : List (List ℕ × ℕ)} (h : H
   pub apart_led : y.name ≡ x.name → HaveDistinctNames (set h.slots slot y)
   apart_led same = apart_set h.slots slot x y lt is (own_name same) h.apart
 
-  pub names_led : y.name ≡ x.name → {new : SectorMap} → HasSlots new v (set h.slots slot y) → HasNames new v (with_entry name_cmp names x.name y.inode)
+  pub names_led : y.name ≡ x.name → {new : SectorMap} → HasSlots version new v (set h.slots slot y) → HasNames version new v (with_entry name_cmp names x.name y.inode)
   names_led same {new} now =
       let map_is : IsMap name_cmp names = subst (IsMap name_cmp) (sym h.are) (are_names_of h.slots h.apart).map_is in
-      subst (λ (m : List (List ℕ × ℕ)). HasNames new v m)
+      subst (λ (m : List (List ℕ × ℕ)). HasNames version new v m)
       (ap (λ (q : List ℕ). with_entry name_cmp (without name_cmp names x.name) q y.inode) same ∙ without_and_with names x.name y.inode map_is)
       (changed_slots (own_name same) now)
 
@@ -259,6 +301,6 @@ module _ {image : SectorMap} {v : Inode} {names : List (List ℕ × ℕ)} (h : H
   pub apart_renamed : get name_cmp names y.name ≡ None → HaveDistinctNames (set h.slots slot y)
   apart_renamed none = apart_set h.slots slot x y lt is (new_name none) h.apart
 
-  pub names_renamed : get name_cmp names y.name ≡ None → {new : SectorMap} → HasSlots new v (set h.slots slot y)
-      → HasNames new v (with_entry name_cmp (without name_cmp names x.name) y.name y.inode)
+  pub names_renamed : get name_cmp names y.name ≡ None → {new : SectorMap} → HasSlots version new v (set h.slots slot y)
+      → HasNames version new v (with_entry name_cmp (without name_cmp names x.name) y.name y.inode)
   names_renamed none {new} now = changed_slots (new_name none) now

@@ -1,5 +1,6 @@
 -- A directory without names.
 use Rattle.std.proofs.Common.{◌≡◌, [], refl, arith}
+use Rattle.fs_layout.specs.declared.version.Version.{Version}
 use Rattle.fs_layout.specs.declared.inode.Inode.{Inode}
 use Rattle.fs_layout.specs.declared.inode.Kind.TheVariants as kinds
 use Rattle.fs_layout.specs.Bytes.{SectorMap}
@@ -7,7 +8,7 @@ use Rattle.fs_layout.specs.Images.{Holds}
 use Rattle.fs_layout.specs.Directories.{HasNames, names_of_slots}
 
 -- an inode that holds nothing has no names
-pub no_names : {image : SectorMap} {v : Inode} → v.kind ≡ kinds.Directory → Holds image v [] → HasNames image v []
+pub no_names : {version : Version} {image : SectorMap} {v : Inode} → v.kind ≡ kinds.Directory → Holds image v [] → HasNames version image v []
 unfolding names_of_slots
 no_names kind h = record {
   kind = kind;
@@ -15,6 +16,7 @@ no_names kind h = record {
   are = refl;
   apart = λ i j d less lt. absurd (omega (arith, lt));
   each = λ k d lt. absurd (omega (arith, lt));
+  few = omega arith;
   holds = h;
   whole = λ k lt. let size = h.size in absurd (omega (arith, lt, size));
 }

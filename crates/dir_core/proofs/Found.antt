@@ -4,7 +4,8 @@ use Rattle.std.specs.Option.{option_map}
 use Rattle.std.proofs.lemmas.Bool.{cases_lt}
 use Rattle.std.proofs.lemmas.List.{get_or_past}
 use Rattle.fs_layout.specs.declared.inode.Inode.{Inode}
-use Rattle.fs_layout.specs.declared.slot.TheConstants.{SLOT_SIZE}
+use Rattle.fs_layout.specs.declared.version.Version.{Version}
+use Rattle.fs_layout.specs.Version.{slot_size, block_slots}
 use Rattle.fs_layout.specs.Bytes.{SectorMap}
 use Rattle.fs_layout.specs.Maps.{name_cmp, get}
 use Rattle.fs_layout.specs.Directories.{NamedInode, names_of_slots, slots_bytes, HaveDistinctNames}
@@ -13,6 +14,7 @@ use Rattle.fs_layout.proofs.ReadNames.{are_names_of}
 use Rattle.dir_core.specs.declared.find.FoundSlot.{FoundSlot}
 use Rattle.dir_core.specs.Slots.{HasSlots, IsBlock, IsSlotAt, IsFoundInBlock, IsFoundIn}
 use Rattle.dir_core.proofs.Pieces.{slot_there}
+use Rattle.dir_core.proofs.SlotPlaces.{place_within, block_of, block_again, place_again, slot_ends_within, slots_past}
 
 -- none of the first `count` slots has the name
 abbrev pub IsAbsentBelow : List NamedInode → List ℕ → ℕ → Type 0
@@ -46,41 +48,45 @@ found_is_entry slots name None apart absent = sym (nothing (get name_cmp (names_
         absurd (absent at.0 _ at.1 (ap (λ (x : NamedInode). x.name) at.2))
 
 -- ---- block by block
-module _ {image : SectorMap} {v : Inode} {slots : List NamedInode} (h : HasSlots image v slots) where
+module _ {version : Version} {image : SectorMap} {v : Inode} {slots : List NamedInode} (h : HasSlots version image v slots) where
   -- none of block k has the name
-  pub absent_in_block : (block name : List ℕ) (k : ℕ) → length block ≡ 512 → IsBlock image v k block → IsFoundInBlock block name None
-      → IsAbsentBelow slots name (4 * k) → IsAbsentBelow slots name (4 * (k + 1))
+  pub absent_in_block : (block name : List ℕ) (k : ℕ) → length block ≡ 512 → IsBlock image v k block → IsFoundInBlock version block name None
+      → IsAbsentBelow slots name (block_slots version * k) → IsAbsentBelow slots name (block_slots version * (k + 1))
   absent_in_block block name k len read none before i d lt fits =
-      elim (cases_lt i (4 * k)) [
+      elim (cases_lt i (block_slots version * k)) [
         | inl less ↦ before i d less fits
         | inr ge ↦
-            let here : k ≡ i / 4 = omega (arith, ge, lt) in
-            none (i % 4) (get_or slots i d) (omega arith) (slot_there h block i d len (subst (λ b. IsBlock image v b block) here read) fits)
+            let here : k ≡ i / block_slots version = block_of version k i ge lt in
+            none (i % block_slots version) (get_or slots i d) (place_within version i) (slot_there h block i d len (subst (λ b. IsBlock image v b block) here read) fits)
       ]
 
   -- a slot of block k where a name's length stands is in use
-  in_use : (block name : List ℕ) (k i : ℕ) → i < 4 → 0 < length name → IsBlock image v k block → get_or block (SLOT_SIZE * i + 4) 0 ≡ length name
-      → 4 * k + i < length slots
+  in_use : (block name : List ℕ) (k i : ℕ) → i < block_slots version → 0 < length name → IsBlock image v k block
+      → get_or block (slot_size version * i + 4) 0 ≡ length name → block_slots version * k + i < length slots
   in_use block name k i small some read is =
-      elim (cases_lt (4 * k + i) (length slots)) [
+      elim (cases_lt (block_slots version * k + i) (length slots)) [
         | inl lt ↦ lt
         | inr ge ↦
-            let long = length-slots slots h.each in
-            let past = get_or_past (slots_bytes slots) (512 * k + (SLOT_SIZE * i + 4)) 0 (omega (arith, long, ge)) in
-            let zero = read (SLOT_SIZE * i + 4) (omega (arith, small)) ∙ h.holds.byte (512 * k + (SLOT_SIZE * i + 4)) ∙ past in
+            let long = length-slots version slots h.each in
+            let past_them = slots_past version (length slots) k i small ge in
+            let within = slot_ends_within version i small in
+            let past = get_or_past (slots_bytes version slots) (512 * k + (slot_size version * i + 4)) 0 (omega (arith, long, past_them)) in
+            let zero = read (slot_size version * i + 4) (omega (arith, within)) ∙ h.holds.byte (512 * k + (slot_size version * i + 4)) ∙ past in
             absurd (omega (arith, is, zero, some))
       ]
 
   -- a slot of block k has it
   pub found_in_block : (block name : List ℕ) (k : ℕ) (found : FoundSlot) → length block ≡ 512 → 0 < length name → IsBlock image v k block
-      → IsFoundInBlock block name (Some found) → IsFoundIn slots name (Some (record { slot = 4 * k + found.slot; inode = found.inode }))
+      → IsFoundInBlock version block name (Some found)
+      → IsFoundIn slots name (Some (record { slot = block_slots version * k + found.slot; inode = found.inode }))
   found_in_block block name k found len some read (small, is, named) =
       let slot = found.slot in
-      let lt : 4 * k + slot < length slots = in_use block name k slot small some read is in
-      let here : k ≡ (4 * k + slot) / 4 = omega (arith, small) in
-      let place : (4 * k + slot) % 4 ≡ slot = omega (arith, small) in (
+      let at : ℕ = block_slots version * k + slot in
+      let lt : at < length slots = in_use block name k slot small some read is in
+      let here : k ≡ at / block_slots version = block_again version k slot small in
+      let place : at % block_slots version ≡ slot = place_again version k slot small in (
         lt,
         λ d.
-            let there = slot_there h block (4 * k + slot) d len (subst (λ b. IsBlock image v b block) here read) lt in
-            named (get_or slots (4 * k + slot) d) (subst (λ j. IsSlotAt block (SLOT_SIZE * j) (get_or slots (4 * k + slot) d)) place there),
+            let there = slot_there h block at d len (subst (λ b. IsBlock image v b block) here read) lt in
+            named (get_or slots at d) (subst (λ j. IsSlotAt version block (slot_size version * j) (get_or slots at d)) place there),
       )

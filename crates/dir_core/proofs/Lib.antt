@@ -6,4 +6,5 @@ pub mod NamesAfter
 pub mod Pieces
 pub mod Scans
 pub mod SlotBytes
+pub mod SlotPlaces
 pub mod Taking

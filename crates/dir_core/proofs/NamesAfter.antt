@@ -12,6 +12,7 @@ use Rattle.std.proofs.lemmas.List.{length-take, length-set, get_or-take, get_or-
 use Rattle.std.proofs.lemmas.List.Kept.{AllPairs-cons}
 use Rattle.std.proofs.lemmas.List.Quantifiers.{all_pairs_push}
 use Rattle.std.proofs.lemmas.List.Sorted.{IsPermutation-to_front, IsPermutation-swap_remove, IsPermutation-sym, Contains-permutation}
+use Rattle.fs_layout.specs.declared.version.Version.{Version}
 use Rattle.fs_layout.specs.Maps.{name_cmp, get, with_entry, without, IsMap}
 use Rattle.fs_layout.specs.Directories.{NamedInode, FitsSlot, HaveDistinctNames, names_of_slots}
 use Rattle.fs_layout.proofs.MapEntries.{names_have_entries}
@@ -115,15 +116,16 @@ unfolding names_of_slots
 names_added slots x apart none =
     names_in_any_order (slots ++ x ∷ []) (x ∷ slots) (IsPermutation-to_front slots x) (apart_added slots x apart none) (apart_first slots x apart (no_such_name slots x.name apart none))
 
-pub fits_added : (slots : List NamedInode) (x : NamedInode) → All FitsSlot slots → FitsSlot x → All FitsSlot (slots ++ x ∷ [])
-fits_added slots x fits fit = All-push FitsSlot slots x fits fit
+pub fits_added : {version : Version} (slots : List NamedInode) (x : NamedInode) → All (FitsSlot version) slots → FitsSlot version x → All (FitsSlot version) (slots ++ x ∷ [])
+fits_added {version} slots x fits fit = All-push (FitsSlot version) slots x fits fit
 
-pub fits_set : (slots : List NamedInode) (i : ℕ) (x : NamedInode) → i < length slots → All FitsSlot slots → FitsSlot x → All FitsSlot (set slots i x)
-fits_set slots i x lt fits fit k d small =
+pub fits_set : {version : Version} (slots : List NamedInode) (i : ℕ) (x : NamedInode) → i < length slots → All (FitsSlot version) slots → FitsSlot version x
+    → All (FitsSlot version) (set slots i x)
+fits_set {version} slots i x lt fits fit k d small =
     let less : k < length slots = omega (arith, small, length-set slots i x) in
     elim (cases_eq k i) [
-      | inl e ↦ subst FitsSlot (sym (ap (λ (j : ℕ). get_or (set slots i x) j d) e ∙ get_or-set_same slots i x d lt)) fit
-      | inr ne ↦ subst FitsSlot (sym (get_or-set_other slots i k x d ne)) (fits k d less)
+      | inl e ↦ subst (FitsSlot version) (sym (ap (λ (j : ℕ). get_or (set slots i x) j d) e ∙ get_or-set_same slots i x d lt)) fit
+      | inr ne ↦ subst (FitsSlot version) (sym (get_or-set_other slots i k x d ne)) (fits k d less)
     ]
 
 -- ---- one less
@@ -178,12 +180,12 @@ module _ (slots : List NamedInode) (i : ℕ) (x : NamedInode) (lt : i < length s
             ]
       ]
 
-  pub fits_moved : All FitsSlot slots → All FitsSlot moved
-  fits_moved fits k d small =
+  pub fits_moved : {version : Version} → All (FitsSlot version) slots → All (FitsSlot version) moved
+  fits_moved {version} fits k d small =
       let less : k < length slots - 1 = omega (arith, small, length-moved) in
       elim (cases_eq k i) [
-        | inl here ↦ subst FitsSlot (sym (moved_here k d less here)) (fits (length slots - 1) d (omega (arith, lt)))
-        | inr ne ↦ subst FitsSlot (sym (moved_there k d less ne)) (fits k d (omega (arith, less)))
+        | inl here ↦ subst (FitsSlot version) (sym (moved_here k d less here)) (fits (length slots - 1) d (omega (arith, lt)))
+        | inr ne ↦ subst (FitsSlot version) (sym (moved_there k d less ne)) (fits k d (omega (arith, less)))
       ]
 
   -- and the names are those of the slots, without that of the one that is removed

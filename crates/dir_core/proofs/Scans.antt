@@ -1,5 +1,8 @@
 -- A scan of a directory's slots, whose transaction stays the same.
-use Rattle.std.proofs.Common.{◌≡◌, ◌≢◌, ℕ, ◌+◌, ◌/◌, ◌%◌, List, sym, subst, arith}
+use Rattle.std.proofs.Common.{◌≡◌, ◌≢◌, ℕ, ◌+◌, ◌/◌, ◌%◌, List, sym, subst, arith, ap}
+use Rattle.fs_layout.specs.declared.version.Version.{Version}
+use Rattle.fs_layout.specs.Header.{log_end}
+use Rattle.fs_layout.specs.Version.{block_slots}
 use Rattle.fs_layout.specs.declared.inode.Inode.{Inode}
 use Rattle.fs_layout.specs.declared.place.Place.{Place}
 use Rattle.fs_layout.specs.Bytes.{SectorMap}
@@ -12,6 +15,7 @@ use Rattle.inode_table.proofs.StoredAcls.{data_mapped}
 use Rattle.block_map.specs.Blocks.{IsWithin}
 use Rattle.block_map.proofs.Runs.{same_map}
 use Rattle.dir_core.specs.Slots.{HasSlots, IsBlock}
+use Rattle.dir_core.proofs.SlotPlaces.{same_block}
 
 -- what stands in the table can be read
 pub inode_within : {p : Place} {txn : TxnState} {v : Inode} → IsSound p txn → IsInodeOf p txn.sectors v → IsWithin txn.header txn.disk.size txn.sectors v
@@ -19,8 +23,8 @@ inode_within {p} {txn} {v} sound there s o =
     data_mapped sound (sound.consistent.in_data there.0 s there.1 (subst (λ u. Owns txn.sectors u s) there.2 o))
 
 -- a directory's names are those of its slots
-pub slots_of_names : {image : SectorMap} {v : Inode} {names : List (List ℕ × ℕ)} → (h : HasNames image v names) → HasSlots image v h.slots
-slots_of_names h = record { kind = h.kind; apart = h.apart; each = h.each; holds = h.holds; whole = h.whole }
+pub slots_of_names : {version : Version} {image : SectorMap} {v : Inode} {names : List (List ℕ × ℕ)} → (h : HasNames version image v names) → HasSlots version image v h.slots
+slots_of_names h = record { kind = h.kind; apart = h.apart; each = h.each; few = h.few; holds = h.holds; whole = h.whole }
 
 -- ---- later in the scan
 module _ {old mid : TxnState} (same : IsUnchanged old mid) where
@@ -28,7 +32,7 @@ module _ {old mid : TxnState} (same : IsUnchanged old mid) where
   within_later v w is within s o =
       let image : mid.sectors ≡ old.sectors = same_map old.sectors mid.sectors same.sectors in
       let r = within s (subst (λ m. Owns m v s) image (subst (λ u. Owns mid.sectors u s) is o)) in
-      (omega (arith, r.0, same.store.header), omega (arith, r.1, same.store.reads.narrowed.size))
+      (omega (arith, r.0, ap log_end same.store.header), omega (arith, r.1, same.store.reads.narrowed.size))
 
   pub block_later : (v w : Inode) (k : ℕ) (block : List ℕ) → w ≡ v → IsBlock old.sectors v k block → IsBlock mid.sectors w k block
   block_later v w k block is h =
@@ -39,8 +43,6 @@ module _ {old mid : TxnState} (same : IsUnchanged old mid) where
       subst (λ m. IsBlock m v k block) (same_map old.sectors mid.sectors same.sectors) (subst (λ u. IsBlock mid.sectors u k block) is h)
 
 -- the next slot's block is at hand, where the slot isn't its first
-pub block_stays : (image : SectorMap) (v : Inode) (slot : ℕ) (block : List ℕ) → IsBlock image v (slot / 4) block → (slot + 1) % 4 ≢ 0
-    → IsBlock image v ((slot + 1) / 4) block
-block_stays image v slot block h inside =
-    let at : slot / 4 ≡ (slot + 1) / 4 = omega (arith, inside) in
-    subst (λ k. IsBlock image v k block) at h
+pub block_stays : (version : Version) (image : SectorMap) (v : Inode) (slot : ℕ) (block : List ℕ) → IsBlock image v (slot / block_slots version) block
+    → (slot + 1) % block_slots version ≢ 0 → IsBlock image v ((slot + 1) / block_slots version) block
+block_stays version image v slot block h inside = subst (λ k. IsBlock image v k block) (same_block version slot inside) h

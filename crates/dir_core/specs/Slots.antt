@@ -5,8 +5,9 @@
 --     IsFoundInBlock        what a search of one block for a name finds
 --     IsFoundIn        what a search for a name finds
 --     name_entry        a slot as an entry of the map of names
-use Rattle.std.specs.Prelude.{◌≡◌, ◌≢◌, ℕ, ◌+◌, ◌*◌, ◌<◌, List, length, slice_index, slice_index_or, All, Option, None, Some}
-use Rattle.fs_layout.specs.declared.slot.TheConstants.{SLOT_SIZE}
+use Rattle.std.specs.Prelude.{◌≡◌, ◌≢◌, ℕ, ◌+◌, ◌*◌, ◌<◌, ◌≤◌, List, length, slice_index, slice_index_or, All, Option, None, Some}
+use Rattle.fs_layout.specs.declared.version.Version.{Version}
+use Rattle.fs_layout.specs.Version.{max_names, slot_size, block_slots}
 use Rattle.fs_layout.specs.declared.inode.Inode.{Inode}
 use Rattle.fs_layout.specs.declared.inode.Kind.TheVariants as kinds
 use Rattle.fs_layout.specs.Bytes.{SectorMap, window}
@@ -15,11 +16,12 @@ use Rattle.fs_layout.specs.Directories.{NamedInode, FitsSlot, HaveDistinctNames,
 use Rattle.dir_core.specs.declared.find.FoundSlot.{FoundSlot}
 
 -- the inode is a directory, and these are its slots
-pub record HasSlots (image : SectorMap) (v : Inode) (slots : List NamedInode) : Type 0 where
+pub record HasSlots (version : Version) (image : SectorMap) (v : Inode) (slots : List NamedInode) : Type 0 where
   pub kind : v.kind ≡ kinds.Directory
   pub apart : HaveDistinctNames slots
-  pub each : All FitsSlot slots
-  pub holds : Holds image v (slots_bytes slots)
+  pub each : All (FitsSlot version) slots
+  pub few : length slots ≤ max_names version
+  pub holds : Holds image v (slots_bytes version slots)
   pub whole : HasNoHole image v
 
 -- the bytes are those of block k
@@ -27,17 +29,18 @@ abbrev pub IsBlock : SectorMap → Inode → ℕ → List ℕ → Type 0
 IsBlock image v k block = (i : ℕ) → i < 512 → slice_index block i ≡ byte_at image v (512 * k + i)
 
 -- the bytes from an offset on are those of this slot
-abbrev pub IsSlotAt : List ℕ → ℕ → NamedInode → Type 0
-IsSlotAt block at x = FitsSlot x × (window block at SLOT_SIZE ≡ slot_bytes x)
+abbrev pub IsSlotAt : Version → List ℕ → ℕ → NamedInode → Type 0
+IsSlotAt version block at x = FitsSlot version x × (window block at (slot_size version) ≡ slot_bytes version x)
 
 -- the slot of a block that has the name, with its inode; the name's length stands there, as in no slot that isn't in use. None where
 -- no slot has it
-abbrev pub IsFoundInBlock : List ℕ → List ℕ → Option FoundSlot → Type 0
-IsFoundInBlock block name None = (i : ℕ) (x : NamedInode) → i < 4 → IsSlotAt block (SLOT_SIZE * i) x → x.name ≢ name
-IsFoundInBlock block name (Some found) =
-    (found.slot < 4)
-    × (slice_index block (SLOT_SIZE * found.slot + 4) ≡ length name)
-    × ((x : NamedInode) → IsSlotAt block (SLOT_SIZE * found.slot) x → x ≡ record { inode = found.inode; name = name })
+abbrev pub IsFoundInBlock : Version → List ℕ → List ℕ → Option FoundSlot → Type 0
+IsFoundInBlock version block name None =
+    (i : ℕ) (x : NamedInode) → i < block_slots version → IsSlotAt version block (slot_size version * i) x → x.name ≢ name
+IsFoundInBlock version block name (Some found) =
+    (found.slot < block_slots version)
+    × (slice_index block (slot_size version * found.slot + 4) ≡ length name)
+    × ((x : NamedInode) → IsSlotAt version block (slot_size version * found.slot) x → x ≡ record { inode = found.inode; name = name })
 
 -- the slot that has the name, with its inode; None where no slot has it
 abbrev pub IsFoundIn : List NamedInode → List ℕ → Option FoundSlot → Type 0

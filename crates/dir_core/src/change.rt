@@ -1,7 +1,7 @@
 //! Adding a name, removing one, leading one to another inode, and giving it another name.
 
 ghost use Rattle.std.specs.Prelude.{◌≡◌, ◌≢◌, ◌≤◌, ◌<◌, ◌-◌, ◌*◌, ℕ, List, length, slice_index_or, take, set, None, Some, IfOk, IfErr, OnOk};
-ghost use Rattle.fs_layout.specs.declared.slot.TheConstants.{MAX_NAMES};
+ghost use Rattle.fs_layout.specs.Version.{max_name, max_names, slot_size};
 ghost use Rattle.fs_layout.specs.Directories.{NamedInode, IsName, HaveDistinctNames, slot_bytes, slots_bytes, HasNames};
 ghost use Rattle.fs_layout.specs.Images.{Holds, HasNoHole, inode_at};
 ghost use Rattle.fs_layout.specs.Maps.{name_cmp, get, with_entry, without};
@@ -18,17 +18,18 @@ ghost use Rattle.dir_core.specs.Slots.{HasSlots, IsFoundIn};
 use crate::DirFault;
 use crate::find::{FoundSlot, find_slot};
 use block_map::{overwrite, read_at, set_size, write_at};
-use fs_layout::{Inode, MAX_DIRECTORY_SIZE, Place, SLOT_SIZE, Slot};
+use fs_layout::{Inode, MAX_SLOT_SIZE, Place, Slot, Version};
 use sector_disk::DiskFault;
 use sector_txn::Sectors;
 
 // A block that begins with a slot.
-fn block_with(inode: u32, name: &[u8]) -> [u8; 512]
-    requires { IsName name.now }
-    ensures { take SLOT_SIZE result ≡ slot_bytes (record { inode = inode; name = name.now }) }
+fn block_with(version: Version, inode: u32, name: &[u8]) -> [u8; 512]
+    requires name { IsName name.now }
+    requires short { length name.now ≤ max_name version }
+    ensures { take (slot_size version) result ≡ slot_bytes version (record { inode = inode; name = name.now }) }
 {
     let mut block = [0; 512];
-    Slot::new(inode, name).write_to(&mut block, 0);
+    Slot::new(inode, name).write_in(version, &mut block, 0);
     block
 }
 
@@ -46,23 +47,25 @@ pub fn insert_new<S: Sectors>(
     requires sound { IsSound place (S.state s.old) }
     requires below { n < place.inodes }
     requires inode { inode.old ≡ inode_at place (S.state s.old).sectors n }
-    requires directory { (names : List (List ℕ × ℕ)) × HasNames (S.state s.old).sectors inode.old names
+    requires directory { (names : List (List ℕ × ℕ)) × HasNames place.version (S.state s.old).sectors inode.old names
         × (get name_cmp names name.now ≡ None) }
     requires name { IsName name.now }
-    requires spare { HasSpare place 3 (S.state s.old) }
-    ensures change { OnOk result (ChangesContent place n (taken_for inode.old) 3 (S.state s.old) (S.state s.new) inode.old inode.new) }
-    ensures names { OnOk result ((names : List (List ℕ × ℕ)) → HasNames (S.state s.old).sectors inode.old names
-        → (length names < MAX_NAMES) × HasNames (S.state s.new).sectors inode.new (with_entry name_cmp names name.now to)) }
-    ensures why { IfErr result (λ e. (names : List (List ℕ × ℕ)) → HasNames (S.state s.old).sectors inode.old names
+    requires short { length name.now ≤ max_name place.version }
+    requires spare { HasSpare place 4 (S.state s.old) }
+    ensures change { OnOk result (ChangesContent place n (taken_for inode.old) 4 (S.state s.old) (S.state s.new) inode.old inode.new) }
+    ensures names { OnOk result ((names : List (List ℕ × ℕ)) → HasNames place.version (S.state s.old).sectors inode.old names
+        → (length names < max_names place.version) × HasNames place.version (S.state s.new).sectors inode.new (with_entry name_cmp names name.now to)) }
+    ensures why { IfErr result (λ e. (names : List (List ℕ × ℕ)) → HasNames place.version (S.state s.old).sectors inode.old names
         → WhyNotAdded place (S.state s.old).sectors inode.old names name.now e) }
     ensures store { SameStore (S.state s.old) (S.state s.new) }
     ensures cause { HasCauseOf DirFault.DiskFault (S.state s.old).disk (S.state s.new).disk result }
 {
     let end = inode.size;
-    if end >= MAX_DIRECTORY_SIZE {
+    if end >= place.version.max_directory_size() {
         return Err(DirFault::Full);
     }
-    write_at(s, place, n, inode, end, &block_with(to, name)[..SLOT_SIZE])?;
+    let block = block_with(place.version, to, name);
+    write_at(s, place, n, inode, end, &block[..place.version.slot_size()])?;
     Ok(())
 }
 
@@ -80,19 +83,20 @@ pub fn insert<S: Sectors>(
     requires sound { IsSound place (S.state s.old) }
     requires below { n < place.inodes }
     requires inode { inode.old ≡ inode_at place (S.state s.old).sectors n }
-    requires directory { (names : List (List ℕ × ℕ)) × HasNames (S.state s.old).sectors inode.old names }
+    requires directory { (names : List (List ℕ × ℕ)) × HasNames place.version (S.state s.old).sectors inode.old names }
     requires name { IsName name.now }
-    requires spare { HasSpare place 3 (S.state s.old) }
-    ensures change { OnOk result (ChangesContent place n (taken_for inode.old) 3 (S.state s.old) (S.state s.new) inode.old inode.new) }
-    ensures names { OnOk result ((names : List (List ℕ × ℕ)) → HasNames (S.state s.old).sectors inode.old names
-        → (get name_cmp names name.now ≡ None) × (length names < MAX_NAMES)
-        × HasNames (S.state s.new).sectors inode.new (with_entry name_cmp names name.now to)) }
-    ensures why { IfErr result (λ e. (names : List (List ℕ × ℕ)) → HasNames (S.state s.old).sectors inode.old names
+    requires short { length name.now ≤ max_name place.version }
+    requires spare { HasSpare place 4 (S.state s.old) }
+    ensures change { OnOk result (ChangesContent place n (taken_for inode.old) 4 (S.state s.old) (S.state s.new) inode.old inode.new) }
+    ensures names { OnOk result ((names : List (List ℕ × ℕ)) → HasNames place.version (S.state s.old).sectors inode.old names
+        → (get name_cmp names name.now ≡ None) × (length names < max_names place.version)
+        × HasNames place.version (S.state s.new).sectors inode.new (with_entry name_cmp names name.now to)) }
+    ensures why { IfErr result (λ e. (names : List (List ℕ × ℕ)) → HasNames place.version (S.state s.old).sectors inode.old names
         → WhyNotAdded place (S.state s.old).sectors inode.old names name.now e) }
     ensures store { SameStore (S.state s.old) (S.state s.new) }
     ensures cause { HasCauseOf DirFault.DiskFault (S.state s.old).disk (S.state s.new).disk result }
 {
-    if find_slot(s, inode, name)?.is_some() {
+    if find_slot(s, place.version, inode, name)?.is_some() {
         return Err(DirFault::Exists);
     }
     insert_new(s, place, n, inode, name, to)?;
@@ -100,22 +104,57 @@ pub fn insert<S: Sectors>(
 }
 
 // Finds the slot of a name of a directory, which has to be there.
-fn named_slot<S: Sectors>(s: &mut S, inode: &Inode, name: &[u8]) -> Result<FoundSlot, DirFault>
+fn named_slot<S: Sectors>(
+    s: &mut S,
+    place: Place,
+    inode: &Inode,
+    name: &[u8],
+) -> Result<FoundSlot, DirFault>
     requires within { IsWithin (S.state s.old).header (S.state s.old).disk.size (S.state s.old).sectors inode.now }
-    requires directory { (names : List (List ℕ × ℕ)) × HasNames (S.state s.old).sectors inode.now names }
-    ensures found { IfOk result (λ found. (slots : List NamedInode) → HasSlots (S.state s.old).sectors inode.now slots
+    requires directory { (names : List (List ℕ × ℕ)) × HasNames place.version (S.state s.old).sectors inode.now names }
+    ensures found { IfOk result (λ found. (slots : List NamedInode) → HasSlots place.version (S.state s.old).sectors inode.now slots
         → IsFoundIn slots name.now (Some found)) }
-    ensures slots { IfOk result (λ found. (slots : List NamedInode) × HasSlots (S.state s.new).sectors inode.now slots
+    ensures slots { IfOk result (λ found. (slots : List NamedInode) × HasSlots place.version (S.state s.new).sectors inode.now slots
         × (found.slot < length slots)) }
-    ensures why { IfErr result (λ e. (names : List (List ℕ × ℕ)) → HasNames (S.state s.old).sectors inode.now names
+    ensures why { IfErr result (λ e. (names : List (List ℕ × ℕ)) → HasNames place.version (S.state s.old).sectors inode.now names
         → WhyNotChanged names name.now e) }
     ensures same { IsUnchanged (S.state s.old) (S.state s.new) }
     ensures cause { HasCauseOf DirFault.DiskFault (S.state s.old).disk (S.state s.new).disk result }
 {
-    let Some(found) = find_slot(s, inode, name)? else {
+    let Some(found) = find_slot(s, place.version, inode, name)? else {
         return Err(DirFault::Absent);
     };
     Ok(found)
+}
+
+// Writes the last slot over another one. `bytes` has room for a slot.
+fn put_last<S: Sectors>(
+    s: &mut S,
+    place: Place,
+    n: u32,
+    inode: &Inode,
+    slot: u64,
+    bytes: &mut [u8],
+) -> Result<(), DiskFault>
+    requires sound { IsSound place (S.state s.old) }
+    requires below { n < place.inodes }
+    requires inode { inode.now ≡ inode_at place (S.state s.old).sectors n }
+    requires directory { (slots : List NamedInode) × HasSlots place.version (S.state s.old).sectors inode.now slots × (slot < length slots) }
+    requires room { length bytes.old ≡ slot_size place.version }
+    requires spare { HasSpare place 1 (S.state s.old) }
+    ensures change { OnOk result (ChangesContent place n 0 1 (S.state s.old) (S.state s.new) inode.now inode.now) }
+    ensures moved { OnOk result ((slots : List NamedInode) (d : NamedInode) → HasSlots place.version (S.state s.old).sectors inode.now slots
+        → Holds (S.state s.new).sectors inode.now (slots_bytes place.version (set slots slot (slice_index_or slots (length slots - 1) d)))) }
+    ensures whole { OnOk result (HasNoHole (S.state s.new).sectors inode.now) }
+    ensures store { SameStore (S.state s.old) (S.state s.new) }
+    ensures cause { HasCause (S.state s.old).disk (S.state s.new).disk result }
+{
+    let slot_size = bytes.len() as u64;
+    let at = slot * slot_size;
+    let last = inode.size - slot_size;
+    read_at(s, inode, last, bytes)?;
+    overwrite(s, place, n, inode, at, bytes)?;
+    Ok(())
 }
 
 // Writes the last slot in the place of another one.
@@ -129,23 +168,23 @@ fn move_last<S: Sectors>(
     requires sound { IsSound place (S.state s.old) }
     requires below { n < place.inodes }
     requires inode { inode.now ≡ inode_at place (S.state s.old).sectors n }
-    requires directory { (slots : List NamedInode) × HasSlots (S.state s.old).sectors inode.now slots × (slot < length slots) }
+    requires directory { (slots : List NamedInode) × HasSlots place.version (S.state s.old).sectors inode.now slots × (slot < length slots) }
     requires spare { HasSpare place 1 (S.state s.old) }
     ensures change { OnOk result (ChangesContent place n 0 1 (S.state s.old) (S.state s.new) inode.now inode.now) }
-    ensures moved { OnOk result ((slots : List NamedInode) (d : NamedInode) → HasSlots (S.state s.old).sectors inode.now slots
-        → Holds (S.state s.new).sectors inode.now (slots_bytes (set slots slot (slice_index_or slots (length slots - 1) d)))) }
+    ensures moved { OnOk result ((slots : List NamedInode) (d : NamedInode) → HasSlots place.version (S.state s.old).sectors inode.now slots
+        → Holds (S.state s.new).sectors inode.now (slots_bytes place.version (set slots slot (slice_index_or slots (length slots - 1) d)))) }
     ensures whole { OnOk result (HasNoHole (S.state s.new).sectors inode.now) }
     ensures store { SameStore (S.state s.old) (S.state s.new) }
     ensures cause { HasCause (S.state s.old).disk (S.state s.new).disk result }
 {
-    let at = slot * SLOT_SIZE as u64;
-    let last = inode.size - SLOT_SIZE as u64;
+    let slot_size = place.version.slot_size();
+    let at = slot * slot_size as u64;
+    let last = inode.size - slot_size as u64;
     if at == last {
         return Ok(());
     }
-    let mut bytes = [0; SLOT_SIZE];
-    read_at(s, inode, last, &mut bytes)?;
-    overwrite(s, place, n, inode, at, &bytes)?;
+    let mut bytes = [0; MAX_SLOT_SIZE];
+    put_last(s, place, n, inode, slot, &mut bytes[..slot_size])?;
     Ok(())
 }
 
@@ -163,19 +202,19 @@ pub fn remove<S: Sectors>(
     requires sound { IsSound place (S.state s.old) }
     requires below { n < place.inodes }
     requires inode { inode.old ≡ inode_at place (S.state s.old).sectors n }
-    requires directory { (names : List (List ℕ × ℕ)) × HasNames (S.state s.old).sectors inode.old names }
-    requires spare { HasSpare place 4 (S.state s.old) }
-    ensures change { OnOk result (ChangesContent place n 0 4 (S.state s.old) (S.state s.new) inode.old inode.new) }
-    ensures names { OnOk result ((names : List (List ℕ × ℕ)) → HasNames (S.state s.old).sectors inode.old names
-        → (get name_cmp names name.now ≢ None) × HasNames (S.state s.new).sectors inode.new (without name_cmp names name.now)) }
-    ensures why { IfErr result (λ e. (names : List (List ℕ × ℕ)) → HasNames (S.state s.old).sectors inode.old names
+    requires directory { (names : List (List ℕ × ℕ)) × HasNames place.version (S.state s.old).sectors inode.old names }
+    requires spare { HasSpare place 5 (S.state s.old) }
+    ensures change { OnOk result (ChangesContent place n 0 5 (S.state s.old) (S.state s.new) inode.old inode.new) }
+    ensures names { OnOk result ((names : List (List ℕ × ℕ)) → HasNames place.version (S.state s.old).sectors inode.old names
+        → (get name_cmp names name.now ≢ None) × HasNames place.version (S.state s.new).sectors inode.new (without name_cmp names name.now)) }
+    ensures why { IfErr result (λ e. (names : List (List ℕ × ℕ)) → HasNames place.version (S.state s.old).sectors inode.old names
         → WhyNotChanged names name.now e) }
     ensures store { SameStore (S.state s.old) (S.state s.new) }
     ensures cause { HasCauseOf DirFault.DiskFault (S.state s.old).disk (S.state s.new).disk result }
 {
-    let found = named_slot(s, inode, name)?;
+    let found = named_slot(s, place, inode, name)?;
     move_last(s, place, n, inode, found.slot)?;
-    let size = inode.size - SLOT_SIZE as u64;
+    let size = inode.size - place.version.slot_size() as u64;
     set_size(s, place, n, inode, size)?;
     Ok(())
 }
@@ -193,18 +232,21 @@ fn set_slot<S: Sectors>(
     requires sound { IsSound place (S.state s.old) }
     requires below { n < place.inodes }
     requires inode { inode.now ≡ inode_at place (S.state s.old).sectors n }
-    requires directory { (slots : List NamedInode) × HasSlots (S.state s.old).sectors inode.now slots × (slot < length slots) }
+    requires directory { (slots : List NamedInode) × HasSlots place.version (S.state s.old).sectors inode.now slots × (slot < length slots) }
     requires name { IsName name.now }
+    requires short { length name.now ≤ max_name place.version }
     requires spare { HasSpare place 1 (S.state s.old) }
     ensures change { OnOk result (ChangesContent place n 0 1 (S.state s.old) (S.state s.new) inode.now inode.now) }
-    ensures slots { OnOk result ((slots : List NamedInode) → HasSlots (S.state s.old).sectors inode.now slots
+    ensures slots { OnOk result ((slots : List NamedInode) → HasSlots place.version (S.state s.old).sectors inode.now slots
         → HaveDistinctNames (set slots slot (record { inode = to; name = name.now }))
-        → HasSlots (S.state s.new).sectors inode.now (set slots slot (record { inode = to; name = name.now }))) }
+        → HasSlots place.version (S.state s.new).sectors inode.now (set slots slot (record { inode = to; name = name.now }))) }
     ensures store { SameStore (S.state s.old) (S.state s.new) }
     ensures cause { HasCause (S.state s.old).disk (S.state s.new).disk result }
 {
-    let at = slot * SLOT_SIZE as u64;
-    overwrite(s, place, n, inode, at, &block_with(to, name)[..SLOT_SIZE])?;
+    let slot_size = place.version.slot_size();
+    let at = slot * slot_size as u64;
+    let block = block_with(place.version, to, name);
+    overwrite(s, place, n, inode, at, &block[..slot_size])?;
     Ok(())
 }
 
@@ -222,17 +264,17 @@ pub fn replace<S: Sectors>(
     requires sound { IsSound place (S.state s.old) }
     requires below { n < place.inodes }
     requires inode { inode.now ≡ inode_at place (S.state s.old).sectors n }
-    requires directory { (names : List (List ℕ × ℕ)) × HasNames (S.state s.old).sectors inode.now names }
+    requires directory { (names : List (List ℕ × ℕ)) × HasNames place.version (S.state s.old).sectors inode.now names }
     requires spare { HasSpare place 1 (S.state s.old) }
     ensures change { OnOk result (ChangesContent place n 0 1 (S.state s.old) (S.state s.new) inode.now inode.now) }
-    ensures names { OnOk result ((names : List (List ℕ × ℕ)) → HasNames (S.state s.old).sectors inode.now names
-        → (get name_cmp names name.now ≢ None) × HasNames (S.state s.new).sectors inode.now (with_entry name_cmp names name.now to)) }
-    ensures why { IfErr result (λ e. (names : List (List ℕ × ℕ)) → HasNames (S.state s.old).sectors inode.now names
+    ensures names { OnOk result ((names : List (List ℕ × ℕ)) → HasNames place.version (S.state s.old).sectors inode.now names
+        → (get name_cmp names name.now ≢ None) × HasNames place.version (S.state s.new).sectors inode.now (with_entry name_cmp names name.now to)) }
+    ensures why { IfErr result (λ e. (names : List (List ℕ × ℕ)) → HasNames place.version (S.state s.old).sectors inode.now names
         → WhyNotChanged names name.now e) }
     ensures store { SameStore (S.state s.old) (S.state s.new) }
     ensures cause { HasCauseOf DirFault.DiskFault (S.state s.old).disk (S.state s.new).disk result }
 {
-    let found = named_slot(s, inode, name)?;
+    let found = named_slot(s, place, inode, name)?;
     set_slot(s, place, n, inode, found.slot, name, to)?;
     Ok(())
 }
@@ -251,22 +293,23 @@ pub fn rename<S: Sectors>(
     requires sound { IsSound place (S.state s.old) }
     requires below { n < place.inodes }
     requires inode { inode.now ≡ inode_at place (S.state s.old).sectors n }
-    requires directory { (names : List (List ℕ × ℕ)) × HasNames (S.state s.old).sectors inode.now names
+    requires directory { (names : List (List ℕ × ℕ)) × HasNames place.version (S.state s.old).sectors inode.now names
         × (get name_cmp names new_name.now ≡ None) }
     requires new_name { IsName new_name.now }
+    requires short { length new_name.now ≤ max_name place.version }
     requires spare { HasSpare place 1 (S.state s.old) }
     ensures change { OnOk result (ChangesContent place n 0 1 (S.state s.old) (S.state s.new) inode.now inode.now) }
-    ensures there { OnOk result ((names : List (List ℕ × ℕ)) → HasNames (S.state s.old).sectors inode.now names
+    ensures there { OnOk result ((names : List (List ℕ × ℕ)) → HasNames place.version (S.state s.old).sectors inode.now names
         → get name_cmp names name.now ≢ None) }
-    ensures names { OnOk result ((names : List (List ℕ × ℕ)) (to : ℕ) → HasNames (S.state s.old).sectors inode.now names
+    ensures names { OnOk result ((names : List (List ℕ × ℕ)) (to : ℕ) → HasNames place.version (S.state s.old).sectors inode.now names
         → get name_cmp names name.now ≡ Some to
-        → HasNames (S.state s.new).sectors inode.now (with_entry name_cmp (without name_cmp names name.now) new_name.now to)) }
-    ensures why { IfErr result (λ e. (names : List (List ℕ × ℕ)) → HasNames (S.state s.old).sectors inode.now names
+        → HasNames place.version (S.state s.new).sectors inode.now (with_entry name_cmp (without name_cmp names name.now) new_name.now to)) }
+    ensures why { IfErr result (λ e. (names : List (List ℕ × ℕ)) → HasNames place.version (S.state s.old).sectors inode.now names
         → WhyNotChanged names name.now e) }
     ensures store { SameStore (S.state s.old) (S.state s.new) }
     ensures cause { HasCauseOf DirFault.DiskFault (S.state s.old).disk (S.state s.new).disk result }
 {
-    let found = named_slot(s, inode, name)?;
+    let found = named_slot(s, place, inode, name)?;
     set_slot(s, place, n, inode, found.slot, new_name, found.inode)?;
     Ok(())
 }

@@ -11,7 +11,7 @@ use std::alloc::{AllocError, AllocFailed};
 /// Why a call on the names of a directory fails.
 #[derive(Clone, Copy, Debug, PartialEq, Eq)]
 pub enum DirFault {
-    /// The directory has [`fs_layout::MAX_NAMES`] names, or fewer sectors are free than one more name takes.
+    /// The directory has [`fs_layout::Version::max_names`] names, or fewer sectors are free than one more name takes.
     Full = 1,
     /// The name is there.
     Exists = 2,
@@ -37,7 +37,7 @@ impl From<MapFault> for DirFault {
     fn from(fault: MapFault) -> DirFault {
         match fault {
             MapFault::Full => DirFault::Full,
-            // A directory of 71,680 bytes has all the names that it can have.
+            // A directory of as many bytes as the version allows has all the names that it can have.
             MapFault::TooBig => DirFault::Full,
             MapFault::DiskFault => DirFault::DiskFault,
         }

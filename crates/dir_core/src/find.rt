@@ -3,18 +3,17 @@
 ghost use Rattle.std.specs.Prelude.{◌≡◌, ◌↔◌, ◌≤◌, ◌<◌, ◌+◌, List, length, slice_index, IsTrue, Some, IfOk, IfSome};
 ghost use Rattle.sector_disk.specs.Disk.{HasCause};
 ghost use Rattle.fs_layout.specs.Directories.{NamedInode};
+ghost use Rattle.fs_layout.specs.Version.{max_name, slot_size};
+ghost use Rattle.fs_layout.specs.declared.version.Version.{Version};
 ghost use Rattle.sector_txn.specs.Sectors.{IsUnchanged};
 ghost use Rattle.block_map.specs.Blocks.{IsWithin};
 ghost use Rattle.dir_core.specs.Slots.{HasSlots, IsSlotAt, IsFoundInBlock, IsFoundIn};
 
 use block_map::Blocks;
 use byteorder::{ByteOrder, LittleEndian};
-use fs_layout::{Inode, MAX_NAME, SLOT_SIZE};
+use fs_layout::{Inode, Version};
 use sector_disk::DiskFault;
 use sector_txn::Sectors;
-
-/// How many slots a block has.
-pub(crate) const SLOTS: u64 = 4;
 
 /// The slot that has a name.
 #[derive(Clone, Copy)]
@@ -27,10 +26,10 @@ pub(crate) struct FoundSlot {
 
 // Whether the slot at `at` has the name. The length is compared first, and then the last byte, since names of one directory
 // often begin alike.
-fn is_named(block: &[u8; 512], at: usize, name: &[u8]) -> bool
-    requires within { at + SLOT_SIZE ≤ 512 }
-    requires len { (0 < length name.now) × (length name.now ≤ MAX_NAME) }
-    ensures named { (x : NamedInode) → IsSlotAt block.now at x → (IsTrue result ↔ (x.name ≡ name.now)) }
+fn is_named(version: Version, block: &[u8; 512], at: usize, name: &[u8]) -> bool
+    requires within { at + slot_size version ≤ 512 }
+    requires len { (0 < length name.now) × (length name.now ≤ max_name version) }
+    ensures named { (x : NamedInode) → IsSlotAt version block.now at x → (IsTrue result ↔ (x.name ≡ name.now)) }
     ensures len { IsTrue result → slice_index block.now (at + 4) ≡ length name.now }
 {
     let len = name.len();
@@ -45,22 +44,24 @@ fn is_named(block: &[u8; 512], at: usize, name: &[u8]) -> bool
 
 // The inode of the slot at `at`.
 fn slot_inode(block: &[u8; 512], at: usize) -> u32
-    requires { at + SLOT_SIZE ≤ 512 }
-    ensures { (x : NamedInode) → IsSlotAt block.now at x → result ≡ x.inode }
+    requires { at + 4 ≤ 512 }
+    ensures { (version : Version) (x : NamedInode) → IsSlotAt version block.now at x → result ≡ x.inode }
 {
     LittleEndian::read_u32(&block[at..])
 }
 
 // The first slot of a block that has the name, as it is counted there. A slot that isn't in use has none: its bytes are zeros.
-fn find_in_block(block: &[u8; 512], name: &[u8]) -> Option<FoundSlot>
-    requires { (0 < length name.now) × (length name.now ≤ MAX_NAME) }
+fn find_in_block(version: Version, block: &[u8; 512], name: &[u8]) -> Option<FoundSlot>
+    requires { (0 < length name.now) × (length name.now ≤ max_name version) }
     ensures len { length block.now ≡ 512 }
-    ensures found { IsFoundInBlock block.now name.now result }
+    ensures found { IsFoundInBlock version block.now name.now result }
 {
-    for slot in 0..SLOTS {
-        let at = SLOT_SIZE * slot as usize;
-        if is_named(block, at, name) {
+    let slot_size = version.slot_size();
+    for slot in 0..version.block_slots() {
+        let at = slot_size * slot;
+        if is_named(version, block, at, name) {
             let inode = slot_inode(block, at);
+            let slot = slot as u64;
             return Some(FoundSlot { slot, inode });
         }
     }
@@ -79,13 +80,14 @@ fn hint_key(inode: &Inode, name: &[u8]) -> u32 {
 // Looks for a name in the block where it was found lately. If it isn't there, another block may have it.
 fn find_at_hint<S: Sectors>(
     s: &mut S,
+    version: Version,
     inode: &Inode,
     key: u32,
     name: &[u8],
 ) -> Result<Option<FoundSlot>, DiskFault>
-    requires len { (0 < length name.now) × (length name.now ≤ MAX_NAME) }
+    requires len { (0 < length name.now) × (length name.now ≤ max_name version) }
     requires within { IsWithin (S.state s.old).header (S.state s.old).disk.size (S.state s.old).sectors inode.now }
-    ensures found { IfOk result (λ found. IfSome found (λ slot. (slots : List NamedInode) → HasSlots (S.state s.old).sectors inode.now slots
+    ensures found { IfOk result (λ found. IfSome found (λ slot. (slots : List NamedInode) → HasSlots version (S.state s.old).sectors inode.now slots
         → IsFoundIn slots name.now (Some slot))) }
     ensures same { IsUnchanged (S.state s.old) (S.state s.new) }
     ensures cause { HasCause (S.state s.old).disk (S.state s.new).disk result }
@@ -94,14 +96,15 @@ fn find_at_hint<S: Sectors>(
         return Ok(None);
     };
     // The directory may have fewer slots by now.
-    if inode.size / SLOT_SIZE as u64 <= hint {
+    if inode.size / version.slot_size() as u64 <= hint {
         return Ok(None);
     }
-    let k = hint / SLOTS;
-    let found = Blocks::new(inode).read_with(s, k, |block| find_in_block(block, name))?;
+    let block_slots = version.block_slots() as u64;
+    let k = hint / block_slots;
+    let found = Blocks::new(inode).read_with(s, k, |block| find_in_block(version, block, name))?;
     if let Some(found) = found {
         return Ok(Some(FoundSlot {
-            slot: SLOTS * k + found.slot,
+            slot: block_slots * k + found.slot,
             inode: found.inode,
         }));
     }
@@ -111,24 +114,27 @@ fn find_at_hint<S: Sectors>(
 // Looks for a name in one block after another.
 fn find_by_blocks<S: Sectors>(
     s: &mut S,
+    version: Version,
     inode: &Inode,
     name: &[u8],
 ) -> Result<Option<FoundSlot>, DiskFault>
-    requires len { (0 < length name.now) × (length name.now ≤ MAX_NAME) }
+    requires len { (0 < length name.now) × (length name.now ≤ max_name version) }
     requires within { IsWithin (S.state s.old).header (S.state s.old).disk.size (S.state s.old).sectors inode.now }
-    requires directory { (slots : List NamedInode) × HasSlots (S.state s.old).sectors inode.now slots }
-    ensures found { IfOk result (λ found. (slots : List NamedInode) → HasSlots (S.state s.old).sectors inode.now slots
+    requires directory { (slots : List NamedInode) × HasSlots version (S.state s.old).sectors inode.now slots }
+    ensures found { IfOk result (λ found. (slots : List NamedInode) → HasSlots version (S.state s.old).sectors inode.now slots
         → IsFoundIn slots name.now found) }
     ensures same { IsUnchanged (S.state s.old) (S.state s.new) }
     ensures cause { HasCause (S.state s.old).disk (S.state s.new).disk result }
 {
-    let slots = inode.size / SLOT_SIZE as u64;
+    let slot_size = version.slot_size() as u64;
+    let block_slots = version.block_slots() as u64;
+    let slots = inode.size / slot_size;
     let mut blocks = Blocks::new(inode);
-    for k in 0..slots.div_ceil(SLOTS) {
-        let found = blocks.read_with(s, k, |block| find_in_block(block, name))?;
+    for k in 0..slots.div_ceil(block_slots) {
+        let found = blocks.read_with(s, k, |block| find_in_block(version, block, name))?;
         if let Some(found) = found {
             return Ok(Some(FoundSlot {
-                slot: SLOTS * k + found.slot,
+                slot: block_slots * k + found.slot,
                 inode: found.inode,
             }));
         }
@@ -139,12 +145,13 @@ fn find_by_blocks<S: Sectors>(
 /// Finds the slot of a name: first where it was found lately, and then block by block. What can't be a name is not found.
 pub(crate) fn find_slot<S: Sectors>(
     s: &mut S,
+    version: Version,
     inode: &Inode,
     name: &[u8],
 ) -> Result<Option<FoundSlot>, DiskFault>
     requires within { IsWithin (S.state s.old).header (S.state s.old).disk.size (S.state s.old).sectors inode.now }
-    requires directory { (slots : List NamedInode) × HasSlots (S.state s.old).sectors inode.now slots }
-    ensures found { IfOk result (λ found. (slots : List NamedInode) → HasSlots (S.state s.old).sectors inode.now slots
+    requires directory { (slots : List NamedInode) × HasSlots version (S.state s.old).sectors inode.now slots }
+    ensures found { IfOk result (λ found. (slots : List NamedInode) → HasSlots version (S.state s.old).sectors inode.now slots
         → IsFoundIn slots name.now found) }
     ensures same { IsUnchanged (S.state s.old) (S.state s.new) }
     ensures cause { HasCause (S.state s.old).disk (S.state s.new).disk result }
@@ -152,19 +159,19 @@ pub(crate) fn find_slot<S: Sectors>(
     if name.is_empty() {
         return Ok(None);
     }
-    if MAX_NAME < name.len() {
+    if version.max_name() < name.len() {
         return Ok(None);
     }
     // One block needs no hint.
-    if inode.size / SLOT_SIZE as u64 <= SLOTS {
-        let found = find_by_blocks(s, inode, name)?;
+    if inode.size <= 512 {
+        let found = find_by_blocks(s, version, inode, name)?;
         return Ok(found);
     }
     let key = hint_key(inode, name);
-    if let Some(found) = find_at_hint(s, inode, key, name)? {
+    if let Some(found) = find_at_hint(s, version, inode, key, name)? {
         return Ok(Some(found));
     }
-    if let Some(found) = find_by_blocks(s, inode, name)? {
+    if let Some(found) = find_by_blocks(s, version, inode, name)? {
         s.leave_hint(key, found.slot);
         return Ok(Some(found));
     }

@@ -6,15 +6,15 @@ ghost use Rattle.fs_layout.specs.Directories.{NamedInode, HasNames, HaveDistinct
 ghost use Rattle.sector_txn.specs.Sectors.{IsUnchanged};
 ghost use Rattle.bit_alloc.specs.Faults.{HasCauseOf};
 ghost use Rattle.bit_alloc.specs.Inodes.{IsSound};
+ghost use Rattle.fs_layout.specs.Version.{block_slots};
 ghost use Rattle.inode_table.specs.Inodes.{IsInodeOf};
 ghost use Rattle.block_map.specs.Blocks.{IsWithin, IsAtHand};
 ghost use Rattle.dir_core.specs.Slots.{HasSlots, IsBlock, name_entry};
 ghost use Rattle.dir_core.specs.declared.fault.DirFault.TheVariants.{DiskFault as Device, OutOfMemory};
 
 use crate::DirFault;
-use crate::find::SLOTS;
 use block_map::Blocks;
-use fs_layout::{Inode, Place, SLOT_SIZE, Slot};
+use fs_layout::{Inode, Place, Slot, Version};
 use sector_disk::DiskFault;
 use sector_txn::Sectors;
 use std::alloc::Global;
@@ -22,42 +22,52 @@ use std::alloc::Global;
 // Reads the block of a slot, where the slot is the block's first; else the block is at hand.
 fn read_block_of<S: Sectors>(
     s: &mut S,
+    version: Version,
     blocks: &mut Blocks,
     slot: u64,
     block: &mut [u8; 512],
 ) -> Result<(), DiskFault>
     requires within { IsWithin (S.state s.old).header (S.state s.old).disk.size (S.state s.old).sectors blocks.old.inode }
     requires pointers { IsAtHand (S.state s.old).sectors blocks.old }
-    requires at_hand { slot % 4 ≢ 0 → IsBlock (S.state s.old).sectors blocks.old.inode (slot / 4) block.old }
+    requires at_hand { slot % block_slots version ≢ 0 → IsBlock (S.state s.old).sectors blocks.old.inode (slot / block_slots version) block.old }
     ensures inode { blocks.new.inode ≡ blocks.old.inode }
     ensures pointers { OnOk result (IsAtHand (S.state s.old).sectors blocks.new) }
-    ensures block { OnOk result (IsBlock (S.state s.old).sectors blocks.old.inode (slot / 4) block.new) }
+    ensures block { OnOk result (IsBlock (S.state s.old).sectors blocks.old.inode (slot / block_slots version) block.new) }
     ensures same { IsUnchanged (S.state s.old) (S.state s.new) }
     ensures cause { HasCause (S.state s.old).disk (S.state s.new).disk result }
 {
-    if slot % SLOTS == 0 {
-        blocks.read(s, slot / SLOTS, block)?;
+    let block_slots = version.block_slots() as u64;
+    if slot % block_slots == 0 {
+        blocks.read(s, slot / block_slots, block)?;
     }
     Ok(())
 }
 
 // The slots of a directory, in their order.
-fn read_slots<S: Sectors>(alloc: Global, s: &mut S, inode: &Inode) -> Result<Vec<Slot>, DirFault>
+fn read_slots<S: Sectors>(
+    alloc: Global,
+    s: &mut S,
+    version: Version,
+    inode: &Inode,
+) -> Result<Vec<Slot>, DirFault>
     requires within { IsWithin (S.state s.old).header (S.state s.old).disk.size (S.state s.old).sectors inode.now }
-    requires directory { (slots : List NamedInode) × HasSlots (S.state s.old).sectors inode.now slots }
-    ensures found { IfOk result (λ found. (slots : List NamedInode) → HasSlots (S.state s.old).sectors inode.now slots
+    requires directory { (slots : List NamedInode) × HasSlots version (S.state s.old).sectors inode.now slots }
+    ensures found { IfOk result (λ found. (slots : List NamedInode) → HasSlots version (S.state s.old).sectors inode.now slots
         → found.items ≡ slots) }
     ensures faults { IfErr result (λ e. (e ≡ Device) ⊎ (e ≡ OutOfMemory)) }
     ensures same { IsUnchanged (S.state s.old) (S.state s.new) }
     ensures cause { HasCauseOf DirFault.DiskFault (S.state s.old).disk (S.state s.new).disk result }
 {
-    let count = inode.size / SLOT_SIZE as u64;
+    let slot_size = version.slot_size();
+    let block_slots = version.block_slots() as u64;
+    let count = inode.size / slot_size as u64;
     let mut slots = Vec::with_capacity(alloc, count as usize)?;
     let mut blocks = Blocks::new(inode);
     let mut block = [0; 512];
     for k in 0..count {
-        read_block_of(s, &mut blocks, k, &mut block)?;
-        let Ok(slot) = Slot::read_from(&block, SLOT_SIZE * (k % SLOTS) as usize) else {
+        read_block_of(s, version, &mut blocks, k, &mut block)?;
+        let at = slot_size * (k % block_slots) as usize;
+        let Ok(slot) = Slot::read_in(version, &block, at) else {
             unreachable!()
         };
         slots.push(slot)?;
@@ -84,14 +94,14 @@ pub fn list<S: Sectors>(
 ) -> Result<Vec<Slot>, DirFault>
     requires sound { IsSound place (S.state s.old) }
     requires there { IsInodeOf place (S.state s.old).sectors inode.now }
-    requires directory { (names : List (List ℕ × ℕ)) × HasNames (S.state s.old).sectors inode.now names }
-    ensures found { IfOk result (λ found. (names : List (List ℕ × ℕ)) → HasNames (S.state s.old).sectors inode.now names
+    requires directory { (names : List (List ℕ × ℕ)) × HasNames place.version (S.state s.old).sectors inode.now names }
+    ensures found { IfOk result (λ found. (names : List (List ℕ × ℕ)) → HasNames place.version (S.state s.old).sectors inode.now names
         → map name_entry found.items ≡ names) }
     ensures faults { IfErr result (λ e. (e ≡ Device) ⊎ (e ≡ OutOfMemory)) }
     ensures same { IsUnchanged (S.state s.old) (S.state s.new) }
     ensures cause { HasCauseOf DirFault.DiskFault (S.state s.old).disk (S.state s.new).disk result }
 {
-    let mut slots = read_slots(alloc, s, inode)?;
+    let mut slots = read_slots(alloc, s, place.version, inode)?;
     sort_by_name(&mut slots);
     Ok(slots)
 }

@@ -4,6 +4,7 @@ ghost use Rattle.std.specs.Prelude.{◌≡◌, ◌↔◌, ℕ, List, [], IfOk, I
 ghost use Rattle.sector_disk.specs.Disk.{HasCause};
 ghost use Rattle.fs_layout.specs.Bytes.{SectorMap};
 ghost use Rattle.fs_layout.specs.Directories.{HasNames};
+ghost use Rattle.fs_layout.specs.declared.version.Version.{Version};
 ghost use Rattle.fs_layout.specs.Maps.{get, name_cmp};
 ghost use Rattle.sector_txn.specs.Sectors.{IsUnchanged};
 ghost use Rattle.bit_alloc.specs.Inodes.{IsSound};
@@ -23,19 +24,19 @@ pub fn lookup<S: Sectors>(
 ) -> Result<Option<u32>, DiskFault>
     requires sound { IsSound place (S.state s.old) }
     requires there { IsInodeOf place (S.state s.old).sectors inode.now }
-    requires directory { (names : List (List ℕ × ℕ)) × HasNames (S.state s.old).sectors inode.now names }
-    ensures found { IfOk result (λ found. (names : List (List ℕ × ℕ)) → HasNames (S.state s.old).sectors inode.now names
+    requires directory { (names : List (List ℕ × ℕ)) × HasNames place.version (S.state s.old).sectors inode.now names }
+    ensures found { IfOk result (λ found. (names : List (List ℕ × ℕ)) → HasNames place.version (S.state s.old).sectors inode.now names
         → found ≡ get name_cmp names name.now) }
     ensures same { IsUnchanged (S.state s.old) (S.state s.new) }
     ensures cause { HasCause (S.state s.old).disk (S.state s.new).disk result }
 {
-    let found = find_slot(s, inode, name)?;
+    let found = find_slot(s, place.version, inode, name)?;
     Ok(found.map(|slot| slot.inode))
 }
 
 /// Whether a directory has no names.
 pub fn is_empty(inode: &Inode) -> bool
-    ensures { (image : SectorMap) (names : List (List ℕ × ℕ)) → HasNames image inode.now names → (IsTrue result ↔ (names ≡ [])) }
+    ensures { (version : Version) (image : SectorMap) (names : List (List ℕ × ℕ)) → HasNames version image inode.now names → (IsTrue result ↔ (names ≡ [])) }
 {
     inode.size == 0
 }

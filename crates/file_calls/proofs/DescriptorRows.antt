@@ -22,6 +22,7 @@ use Rattle.call_parts.proofs.Calling.{state_tree}
 use Rattle.call_parts.specs.declared.reaching.OpenFor.TheVariants.{Anything}
 use Rattle.call_parts.specs.Reaching.{ActsOn, IsOpened}
 use Rattle.call_parts.proofs.ByDescriptor.{open_scene, the_opened, open_there}
+use Rattle.call_parts.specs.Given.{size_shown}
 use Rattle.call_parts.proofs.Shown.{shown_is}
 
 fstat_is : (fd : ℕ) → row_of (Fstat fd) ≡ fstat_row fd
@@ -34,7 +35,7 @@ fstat_by fd = record { row = fstat_is fd }
 pub fstat_told : {p : Place} {map : SectorMap} {desks : Desks} {pid fd : ℕ} {d : Descriptor} (o : IsOpened desks pid fd d) (v : Inode) (status : Status)
     → v ≡ inode_at p map d.number
     → ((kind : FileType) → type_of_kind v.kind ≡ Some kind → status
-    ≡ record { inode = d.number; kind = kind; mode = v.mode; links = v.names; owner = v.uid; group = v.gid; size = v.size })
+    ≡ record { inode = d.number; kind = kind; mode = v.mode; links = v.names; owner = v.uid; group = v.gid; size = size_shown p.version v })
     → (s : State) → IsStateOf p map desks s
     → (first_of (nothing_asked (open_scene s o.process)) ≡ None) × (fstat_effect fd (open_scene s o.process) ≡ answers (open_scene s o.process) (Shown status))
 fstat_told {p} {map} {desks} {pid} {fd} {d} o v status is says s at = (

@@ -48,9 +48,9 @@ use Rattle.call_parts.specs.Reaching.{IsInodeFound}
 record IsGiven (p : Place) (n : ℕ) (x : Placed) (which : AclType) (acl : Option AccessList) (map new : SectorMap) : Type 0 where
   valid : IsSomeAcl acl
   one : ChangesOne p n map new
-  held : HoldsNode new (inode_at p new n) (record x { node = record x.node { body = with_set_acl which acl x.node.body } })
+  held : HoldsNode p.version new (inode_at p new n) (record x { node = record x.node { body = with_set_acl which acl x.node.body } })
 
-is_given : (p : Place) (n : ℕ) (x : Placed) (which : AclType) (acl : Option AccessList) (map new : SectorMap) → HoldsNode map (inode_at p map n) x
+is_given : (p : Place) (n : ℕ) (x : Placed) (which : AclType) (acl : Option AccessList) (map new : SectorMap) → HoldsNode p.version map (inode_at p map n) x
     → IsFalse (is_link x.node.body) → (is_default which ≡ true → is_directory x.node.body ≡ true) → first_of (set_acl_arguments which acl) ≡ None
     → (which ≡ Access → (a : AccessList) → acl ≡ Some a → SavesAcl p n (inode_at p map n).mode a map new)
     → (which ≡ Default → SavesDefaultAcl p n acl map new) → IsGiven p n x which acl map new

@@ -9,6 +9,7 @@ use Rattle.fs_cred.specs.declared.errno.Errno.TheVariants.{EISDIR, ENOTDIR}
 use Rattle.fs_layout.specs.declared.inode.Kind.{Kind}
 use Rattle.fs_layout.specs.declared.inode.Kind.TheVariants as kinds
 use Rattle.fs_layout.specs.declared.place.Place.{Place}
+use Rattle.fs_layout.specs.declared.version.Version.{Version}
 use Rattle.fs_layout.specs.Bytes.{SectorMap}
 use Rattle.fs_layout.specs.Images.{inode_at, Holds}
 use Rattle.fs_model.specs.Demands.{refuse}
@@ -42,17 +43,17 @@ pub record IsFile (map : SectorMap) (v : Inode) (b : Body) : Type 0 where
   pub no_directory : IsFalse (is_directory b)
   pub holds : Holds map v (bytes_in b)
 
-file_held : (map : SectorMap) (v : Inode) (b : Body) → HoldsBody map v b → IsFalse (is_link b) → v.kind ≢ kinds.Directory → IsFile map v b
-file_held map v (File a bytes) h no_link no_directory = record { no_directory = refl; holds = h.holds }
-file_held map v (Dir a d) h no_link no_directory = absurd (no_directory h.names.kind)
-file_held map v (Link target) h no_link no_directory = absurd (cc)
+file_held : (version : Version) (map : SectorMap) (v : Inode) (b : Body) → HoldsBody version map v b → IsFalse (is_link b) → v.kind ≢ kinds.Directory → IsFile map v b
+file_held version map v (File a bytes) h no_link no_directory = record { no_directory = refl; holds = h.holds }
+file_held version map v (Dir a d) h no_link no_directory = absurd (no_directory h.names.kind)
+file_held version map v (Link target) h no_link no_directory = absurd (cc)
 
 module _ {p : Place} {map : SectorMap} {desks : Desks} {pid fd : ℕ} {d : Descriptor} (o : IsOpened desks pid fd d) (s : State) (at : IsStateOf p map desks s) where
   pub open_file : (v : Inode) → v ≡ inode_at p map d.number → v.kind ≢ kinds.Directory → IsFile map v (node_open (open_scene s o.process) fd).body
   open_file v is no_directory =
       let x = open_fits o s at in
-      let held = subst (λ (w : Inode). HoldsBody map w x.node.body) (sym is) (held_node (state_tree at) d.number x.node x.is_there).body in
-      subst (λ (n : Node). IsFile map v n.body) (sym (open_node o s at)) (file_held map v x.node.body held x.no_link no_directory)
+      let held = subst (λ (w : Inode). HoldsBody p.version map w x.node.body) (sym is) (held_node (state_tree at) d.number x.node x.is_there).body in
+      subst (λ (n : Node). IsFile map v n.body) (sym (open_node o s at)) (file_held p.version map v x.node.body held x.no_link no_directory)
 
   pub open_directory : (inode_at p map d.number).kind ≡ kinds.Directory → is_directory (node_open (open_scene s o.process) fd).body ≡ true
   open_directory is =
@@ -69,16 +70,16 @@ module _ {p : Place} {map : SectorMap} {desks : Desks} {pid fd : ℕ} {d : Descr
       }
 
   -- its names and its parent
-  pub open_names : (v : Inode) → v ≡ inode_at p map d.number → v.kind ≡ kinds.Directory → HasNames map v (names_in (node_open (open_scene s o.process) fd).body)
+  pub open_names : (v : Inode) → v ≡ inode_at p map d.number → v.kind ≡ kinds.Directory → HasNames p.version map v (names_in (node_open (open_scene s o.process) fd).body)
   open_names v is directory =
       let here = held_names (state_tree at) d.number (the_directory (sym (ap (λ (w : Inode). w.kind) is) ∙ directory)) in
-      subst (λ (n : Node). HasNames map v (names_in n.body)) (sym (open_node o s at))
-      (subst (λ (w : Inode). HasNames map w (names_in (open_fits o s at).node.body)) (sym is) here)
+      subst (λ (n : Node). HasNames p.version map v (names_in n.body)) (sym (open_node o s at))
+      (subst (λ (w : Inode). HasNames p.version map w (names_in (open_fits o s at).node.body)) (sym is) here)
 
   pub open_parent : (v : Inode) → v ≡ inode_at p map d.number → v.kind ≡ kinds.Directory → v.parent ≡ parent s.tree d.number
   open_parent v is directory =
       ap (λ (w : Inode). w.parent) is
       ∙ held_parent (state_tree at) d.number (the_directory (sym (ap (λ (w : Inode). w.kind) is) ∙ directory))
 
-  pub has_names : (v : Inode) → v ≡ inode_at p map d.number → v.kind ≡ kinds.Directory → (names : List (List ℕ × ℕ)) × HasNames map v names
+  pub has_names : (v : Inode) → v ≡ inode_at p map d.number → v.kind ≡ kinds.Directory → (names : List (List ℕ × ℕ)) × HasNames p.version map v names
   has_names v is directory = (names_in (node_open (open_scene s o.process) fd).body, open_names v is directory)

@@ -80,7 +80,7 @@ module _ {p : Place} {map : SectorMap} {desks : Desks} {pid fd : ℕ} {d : Descr
       ∙ first_refuses (refuse ENOTDIR (not (is_directory_kind v.kind))) [] e refuses
 
   pub readdir_told : (v : Inode) → v ≡ inode_at p map d.number → v.kind ≡ kinds.Directory → (found : List (List ℕ × ℕ))
-      → ((names : List (List ℕ × ℕ)) → HasNames map v names → found ≡ (46 ∷ [], d.number) ∷ (46 ∷ 46 ∷ [], v.parent) ∷ names)
+      → ((names : List (List ℕ × ℕ)) → HasNames p.version map v names → found ≡ (46 ∷ [], d.number) ∷ (46 ∷ 46 ∷ [], v.parent) ∷ names)
       → (first_of (readdir_demands fd scene) ≡ None) × (readdir_effect fd scene ≡ answers scene (Names found))
   readdir_told v is directory found lists =
       let names = names_in (node_open scene fd).body in (

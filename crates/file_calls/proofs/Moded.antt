@@ -170,7 +170,7 @@ module _ {p : Place} {map : SectorMap} {desks : Desks} {s : State} {pid : ℕ} {
       let bits = ap (λ (w : Inode). special_mode cred w.kind w.gid mode / 512) i.inode
       ∙ ap (λ (k : ℕ). special_mode cred u.kind k mode / 512) held.group
       ∙ ap (λ (c : Credential). special_mode c u.kind a.node.group mode / 512) same
-      ∙ special_is a.node.body u.kind q.cred a.node.group mode (body_kind map u a.node.body held.body) in
+      ∙ special_is a.node.body u.kind q.cred a.node.group mode (body_kind p.version map u a.node.body held.body) in
       rewrites_found at new n a.node (moded q.cred mode a.node) a.at
       (mode_may_replace s.room s.tree n a.node ((at.is_state.tree).each n a.node a.at) q.cred mode) saves.one
       (moded_held map new u (inode_at p new n) _ held q.cred mode (special_mode cred v.kind v.gid mode) a.access.acl

@@ -14,6 +14,7 @@ use Rattle.sector_disk.specs.Disk.{DiskState}
 use Rattle.fs_layout.specs.declared.inode.Inode.{Inode}
 use Rattle.fs_layout.specs.declared.inode.Kind.TheVariants as kinds
 use Rattle.fs_layout.specs.declared.place.Place.{Place}
+use Rattle.fs_layout.specs.declared.version.Version.{Version}
 use Rattle.fs_layout.specs.Bytes.{SectorMap, resized}
 use Rattle.fs_layout.specs.Images.{inode_at}
 use Rattle.sector_txn.specs.Sectors.{TxnState}
@@ -69,7 +70,7 @@ module _ {p : Place} {map : SectorMap} {t : Tree} (h : HoldsTree p map t) (n : �
       let x = stands t n there in
       let v = inode_at p map n in
       let node = sym (the_node_is t n x.node x.at) in
-      let link = link_says map v x.node.body (held_node h n x.node x.at).body ∙ ap (λ (u : Node). is_link u.body) node in
+      let link = link_says p.version map v x.node.body (held_node h n x.node x.at).body ∙ ap (λ (u : Node). is_link u.body) node in
       let directory = held_kind h n x.node x.at ∙ ap (λ (u : Node). is_directory u.body) node in
       ap (λ (b : Bool). refuse EEXIST (f.create && f.excl) ∷ refuse ELOOP b ∷ refuse ENOTDIR (f.directory && not (is_directory_kind v.kind))
       ∷ refuse EISDIR (is_directory_kind v.kind && (f.write || f.create)) ∷ permission_on cred t n (perms f.read f.write false) 1 step ∷ []) link
@@ -94,7 +95,7 @@ module _ {p : Place} {map : SectorMap} {t : Tree} (h : HoldsTree p map t) (n : �
         let v = inode_at p map n in
         let no_link = unrefused ELOOP (is_link_kind v.kind) (no_link_of (refuse EEXIST (f.create && f.excl)) (refuse ELOOP (is_link_kind v.kind))
         (refuse ENOTDIR (f.directory && not (is_directory_kind v.kind))) (refuse EISDIR (is_directory_kind v.kind && (f.write || f.create))) none) in
-        let a = accessible x.node.owner x.node.group x.node.body (sym (link_says map v x.node.body (held_node h n x.node x.at).body) ∙ no_link) in
+        let a = accessible x.node.owner x.node.group x.node.body (sym (link_says p.version map v x.node.body (held_node h n x.node x.at).body) ∙ no_link) in
         record { node = x.node; at = x.at; access = a.0; is = a.1 }
 
     pub kind_held : HasAccess map (inode_at p map n) kind_access.access
@@ -130,10 +131,10 @@ no_bytes : (l : List ℕ) → length l ≡ 0 → l ≡ []
 no_bytes [] e = refl
 no_bytes (b ∷ l) e = absurd (omega (arith, e))
 
-file_of : (image : SectorMap) (v : Inode) (b : Body) → is_link b ≡ false → is_directory b ≡ false → HoldsBody image v b → v.kind ≡ kinds.File
-file_of image v (File a bytes) link directory h = h.kind
-file_of image v (Dir a d) link directory h = absurd (cc)
-file_of image v (Link target) link directory h = absurd (cc)
+file_of : (version : Version) (image : SectorMap) (v : Inode) (b : Body) → is_link b ≡ false → is_directory b ≡ false → HoldsBody version image v b → v.kind ≡ kinds.File
+file_of version image v (File a bytes) link directory h = h.kind
+file_of version image v (Dir a d) link directory h = absurd (cc)
+file_of version image v (Link target) link directory h = absurd (cc)
 
 not_both : (a b c : Bool) → (a && (b || c)) ≡ false → b ≡ true → a ≡ false
 not_both false b c e on = refl
@@ -186,7 +187,7 @@ module _ {p : Place} {map : SectorMap} {flags : Flags} {q : Process} {f : Found}
         let no_write = unrefused EISDIR (is_directory b && (flags.write || flags.create)) (first_met (refuse EISDIR (is_directory b && (flags.write || flags.create))) _ three) in
         let no_directory = not_both (is_directory b) flags.write flags.create no_write (second_of flags.trunc flags.write cuts) in
         ap (λ (w : Inode). w.kind) old_inode
-        ∙ file_of map (inode_at p map n) x.node.body (ap (λ (u : Node). is_link u.body) (sym here) ∙ no_link) (ap (λ (u : Node). is_directory u.body) (sym here) ∙ no_directory)
+        ∙ file_of p.version map (inode_at p map n) x.node.body (ap (λ (u : Node). is_link u.body) (sym here) ∙ no_link) (ap (λ (u : Node). is_directory u.body) (sym here) ∙ no_directory)
         (held_node (state_tree i.is_state) n x.node x.at).body
 
     abbrev cut_at : ℕ → Change

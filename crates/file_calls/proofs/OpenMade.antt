@@ -4,7 +4,7 @@
 --     asked_of_it, few_names, can_make        a file may be made
 --     finds_kept, asked_later        reads leave what was found, and what was asked
 --     made_reaches        it was made
-use Rattle.std.specs.Prelude.{◌≡◌, ℕ, ◌-◌, ◌/◌, ◌%◌, ◌<◌, ◌==◌, nat_lt, nat_le, if◌then◌else◌, Bool, not, ◌&&◌, ◌||◌, List, [], ◌∷◌, length, Option, None, unwrap_or, is_some, Ok, Err}
+use Rattle.std.specs.Prelude.{◌≡◌, ℕ, ◌-◌, ◌/◌, ◌%◌, ◌<◌, ◌≤◌, ◌==◌, nat_lt, nat_le, if◌then◌else◌, Bool, not, ◌&&◌, ◌||◌, List, [], ◌∷◌, length, Option, None, unwrap_or, is_some, Ok, Err}
 use Rattle.std.proofs.Common.{sym, ap, subst, arith, ◌∙◌, inl}
 use Rattle.fs_cred.specs.declared.errno.Errno.TheVariants.{ENOENT, ENOSPC}
 use Rattle.fs_cred.specs.declared.refusal.Refusal.{Refusal}
@@ -18,13 +18,14 @@ use Rattle.fs_layout.specs.declared.place.Place.{Place}
 use Rattle.fs_layout.specs.Bytes.{SectorMap}
 use Rattle.fs_layout.specs.Images.{inode_at, free_sectors}
 use Rattle.fs_layout.specs.Maps.{name_cmp, with_entry}
+use Rattle.fs_layout.specs.Version.{max_names}
 use Rattle.inode_table.specs.Acls.{HasDefaultAcl}
 use Rattle.fs_model.specs.declared.call.Flags.{Flags}
 use Rattle.fs_model.specs.declared.walk.Found.{Found}
 use Rattle.fs_model.specs.Births.{the_node, the_directory, born_acl, born_file}
 use Rattle.fs_model.specs.TreeChanges.{Change, Make, Rewrite, Same, changed, swept}
 use Rattle.fs_model.specs.Demands.{Demand, refuse, first_of, permission_on, write_and_search}
-use Rattle.fs_model.specs.Limits.{entries_limit, least_free}
+use Rattle.fs_model.specs.Limits.{least_free}
 use Rattle.fs_model.specs.Nodes.{Node, File, default_in, names_in, with_bytes, with_names}
 use Rattle.fs_model.specs.OpenCall.{open_demands, open_found_demands, open_new_demands, open_change}
 use Rattle.fs_model.specs.Processes.{Process}
@@ -66,7 +67,7 @@ asked_later p {old} {mid} t dir step cred v same is =
     kept (λ (m : SectorMap). refused_or {A = Inode} (first_of (make_asked p m cred t dir step)) (Ok (inode_at p m dir)) ≡ Ok v) same is
 
 module _ {p : Place} {map : SectorMap} {flags : Flags} {q : Process} {f : Found} {s : State} (i : FindsIn p map flags q f s) (none : f.ino ≡ None) where
-  pub new_name : IsNameAt s.tree f.dir f.name None
+  pub new_name : IsNameAt s.room s.tree f.dir f.name None
   new_name = found_new i.is_state i.found i.bytes none
 
   abbrev pub directory_there : IsDirectoryAt s.tree f.dir
@@ -75,7 +76,7 @@ module _ {p : Place} {map : SectorMap} {flags : Flags} {q : Process} {f : Found}
   pub dir_default : (v : Inode) → v ≡ inode_at p map f.dir → HasDefaultAcl map v (default_in new_name.node.body)
   dir_default v is =
       subst (λ (w : Inode). HasDefaultAcl map w (default_in new_name.node.body)) (sym is)
-      (default_says map (inode_at p map f.dir) new_name.node.body new_name.directory (held_node (state_tree i.is_state) f.dir new_name.node new_name.stands).body)
+      (default_says p.version map (inode_at p map f.dir) new_name.node.body new_name.directory (held_node (state_tree i.is_state) f.dir new_name.node new_name.stands).body)
 
   -- ---- what is asked
 
@@ -89,9 +90,9 @@ module _ {p : Place} {map : SectorMap} {flags : Flags} {q : Process} {f : Found}
   demands_are =
       ap (λ (o : Option ℕ). if is_some o then open_found_demands flags (scene_at s q f) else open_new_demands flags (scene_at s q f)) none
       ∙ ap (λ (k : ℕ). absent ∷ permission_on q.cred s.tree f.dir write_and_search 1 (f.step - 1) ∷ refuse ENOSPC (nat_lt k least_free)
-      ∷ refuse ENOSPC (free_inodes s.room s.tree == 0) ∷ refuse ENOSPC (nat_le entries_limit (length (names_in (the_node s.tree f.dir).body))) ∷ []) i.is_state.free_is
+      ∷ refuse ENOSPC (free_inodes s.room s.tree == 0) ∷ refuse ENOSPC (nat_le s.room.entries_limit (length (names_in (the_node s.tree f.dir).body))) ∷ []) i.is_state.free_is
       ∙ ap (λ (r : Room). absent ∷ permission_on q.cred s.tree f.dir write_and_search 1 (f.step - 1) ∷ refuse ENOSPC (nat_lt (free_sectors p map) least_free)
-      ∷ refuse ENOSPC (free_inodes r s.tree == 0) ∷ refuse ENOSPC (nat_le entries_limit (length (names_in (the_node s.tree f.dir).body))) ∷ []) i.is_state.same_room
+      ∷ refuse ENOSPC (free_inodes r s.tree == 0) ∷ refuse ENOSPC (nat_le r.entries_limit (length (names_in (the_node s.tree f.dir).body))) ∷ []) i.is_state.same_room
 
   pub none_is_there : (old new : DiskState) (e : Refusal) → checked absent ≡ Err e → IsRefusedOpen old new flags q f s e
   none_is_there old new e is =
@@ -126,13 +127,14 @@ module _ {p : Place} {map : SectorMap} {flags : Flags} {q : Process} {f : Found}
         pub asked_of_it : v ≡ y
         asked_of_it = sym (met_ok {A = A} (first_of (make_asked p map cred s.tree f.dir step)) y v is).1
 
-        pub few_names : length (names_in new_name.node.body) < entries_limit
+        pub few_names : length (names_in new_name.node.body) < max_names p.version
         few_names =
-            subst (λ (u : Node). length (names_in u.body) < entries_limit) (the_node_is s.tree f.dir new_name.node new_name.stands)
+            subst (λ (u : Node). length (names_in u.body) < max_names p.version) (the_node_is s.tree f.dir new_name.node new_name.stands)
             (has_few p map s.tree f.dir q.cred (f.step - 1) asked_none)
 
         pub can_make : CanMake p map s.tree f.dir f.name
-        can_make = may_make q.cred (f.step - 1) asked_none (state_tree i.is_state) directory_there f.name new_name.is_name new_name.leads
+        can_make = may_make q.cred (f.step - 1) asked_none (state_tree i.is_state) directory_there f.name new_name.is_name
+            (subst (λ (r : Room). length f.name ≤ r.name_limit) i.is_state.same_room new_name.short) new_name.leads
 
   -- ---- the file that was made
 
@@ -165,9 +167,9 @@ module _ {p : Place} {map : SectorMap} {flags : Flags} {q : Process} {f : Found}
 
     module _ (v : Inode) (is_dir : v ≡ inode_at p map f.dir) (group_is : gid ≡ (if v.mode / S_ISGID % 2 == 1 then v.gid else q.cred.gid))
         (acl_is : (d : Option AccessList) → HasDefaultAcl map v d → a ≡ born_acl d mode q.umask) where
-      dir_holds : HoldsNode map v (record { node = node; names = names_of s.tree f.dir; parent = parent s.tree f.dir })
+      dir_holds : HoldsNode p.version map v (record { node = node; names = names_of s.tree f.dir; parent = parent s.tree f.dir })
       dir_holds =
-          subst (λ (w : Inode). HoldsNode map w (record { node = node; names = names_of s.tree f.dir; parent = parent s.tree f.dir })) (sym is_dir)
+          subst (λ (w : Inode). HoldsNode p.version map w (record { node = node; names = names_of s.tree f.dir; parent = parent s.tree f.dir })) (sym is_dir)
           (held_node (state_tree i.is_state) f.dir node new_name.stands)
 
       group_given : gid ≡ file.group
@@ -178,17 +180,17 @@ module _ {p : Place} {map : SectorMap} {flags : Flags} {q : Process} {f : Found}
 
       acl_given : a ≡ born_acl (the_directory node).default mode q.umask
       acl_given =
-          acl_is (default_in node.body) (default_says map v node.body new_name.directory dir_holds.body)
+          acl_is (default_in node.body) (default_says p.version map v node.body new_name.directory dir_holds.body)
           ∙ ap (λ (d : Option AccessList). born_acl d mode q.umask) (default_is node.owner node.group node.body new_name.directory)
 
-      born : HoldsNode made.mid (inode_at p made.mid n) (record { node = file; names = 1; parent = f.dir })
+      born : HoldsNode p.version made.mid (inode_at p made.mid n) (record { node = file; names = 1; parent = f.dir })
       born =
-          subst (λ (k : ℕ). HoldsNode made.mid (inode_at p made.mid n)
+          subst (λ (k : ℕ). HoldsNode p.version made.mid (inode_at p made.mid n)
           (record { node = record { owner = q.cred.uid; group = k; body = File (born_acl (the_directory node).default mode q.umask) [] }; names = 1; parent = f.dir })) group_given
-          (subst (λ (l : AccessList). HoldsNode made.mid (inode_at p made.mid n)
+          (subst (λ (l : AccessList). HoldsNode p.version made.mid (inode_at p made.mid n)
           (record { node = record { owner = q.cred.uid; group = gid; body = File l [] }; names = 1; parent = f.dir })) acl_given made.takes.holds)
 
-      here : HoldsNode new (inode_at p new f.dir) (record {
+      here : HoldsNode p.version new (inode_at p new f.dir) (record {
         node = record node { body = with_names (with_entry name_cmp (names_in node.body) f.name n) node.body };
         names = names_of s.tree f.dir;
         parent = parent s.tree f.dir;
@@ -198,9 +200,9 @@ module _ {p : Place} {map : SectorMap} {flags : Flags} {q : Process} {f : Found}
           let held = dir_still_held (state_tree i.is_state) directory_there n made.takes.free made.takes.change (record { node = file; names = 1; parent = f.dir }) born made.takes.taken in
           names_held made.mid new before (inode_at p new f.dir) (record { node = node; names = names_of s.tree f.dir; parent = parent s.tree f.dir }) held
           (with_entry name_cmp (names_in node.body) f.name n) new_name.directory made.names.kept made.names.acls
-          (made.names.named (names_in node.body) (names_say made.mid before node.body new_name.directory held.body))
+          (made.names.named (names_in node.body) (names_say p.version made.mid before node.body new_name.directory held.body))
 
-      pub made_reaches : first_of (open_demands flags (scene_at s q f)) ≡ None → length (names_in node.body) < entries_limit → Reaches p new flags mode q f s n
+      pub made_reaches : first_of (open_demands flags (scene_at s q f)) ≡ None → length (names_in node.body) < max_names p.version → Reaches p new flags mode q f s n
       made_reaches met has_room =
           let at = i.is_state in
           record {
@@ -210,7 +212,7 @@ module _ {p : Place} {map : SectorMap} {flags : Flags} {q : Process} {f : Found}
             holds = λ now still.
                 subst (λ (x : Change). HoldsAll p new (placed (swept (changed s.tree x) now))) (sym change_is)
                 (make_held s at.is_state at.up now still p map at.holds at.same_room made.mid new f.dir node f.name n file (record {
-                  takes = takes_new new_name has_room;
+                  takes = takes_new new_name (subst (λ (r : Room). length (names_in node.body) < r.entries_limit) (sym at.same_room) has_room);
                   positive = fresh.0;
                   below = fresh.1;
                   unused = fresh.2;

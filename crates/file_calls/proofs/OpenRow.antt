@@ -36,9 +36,10 @@ use Rattle.fs_model.specs.Parts.{is_empty, path_checks, ends_with_slash}
 use Rattle.fs_model.specs.Processes.{Process, Desks, Descriptor, descriptor, with_descriptor, least_unused, is_open}
 use Rattle.fs_model.specs.Rows.{row_of}
 use Rattle.fs_model.specs.Scenes.{Row}
+use Rattle.fs_model.specs.Stands.{room_of}
 use Rattle.fs_model.specs.States.{State}
 use Rattle.fs_model.specs.Steps.{after, after_call, after_effect, early_refusal, late_refusal, firm_refusal, other_refusal, found_by, trail_in}
-use Rattle.fs_model.specs.Trees.{Tree}
+use Rattle.fs_model.specs.Trees.{Room, Tree}
 use Rattle.fs_model.specs.Walks.{first_refusal}
 use Rattle.fs_model.proofs.StepsDemands.{first_met, then_met, unrefused}
 use Rattle.fs_model.proofs.StepsProcesses.{without-IsMap}
@@ -86,11 +87,11 @@ module _ (s : State) (pid : ℕ) (q : Process) (path : List ℕ) (f : Flags) (mo
       ∙ ap (or_else (first_of (open_asked f mode path))) (or_else-none (full q))
 
   pub open_late : other_refusal s (Calls pid (Open path f mode))
-      ≡ or_else (first_refusal s.tree q.cred 1 (open_form f) (trail_in s.tree q.cwd (open_form f, path)))
-      (first_of (open_demands f (scene_at s q (found_by s.tree q.cwd (open_form f, path)))))
+      ≡ or_else (first_refusal s.tree q.cred 1 (open_form f) (trail_in s.room s.tree q.cwd (open_form f, path)))
+      (first_of (open_demands f (scene_at s q (found_by s.room s.tree q.cwd (open_form f, path)))))
   open_late = late_is s pid q (Open path f mode) there ∙ ap (late_refusal s q) (open_is path f mode)
 
-  pub open_after : (found : Found) → found ≡ found_by s.tree q.cwd (open_form f, path) → (n : ℕ)
+  pub open_after : (found : Found) → found ≡ found_by s.room s.tree q.cwd (open_form f, path) → (n : ℕ)
       → after s (Calls pid (Open path f mode)) (chosen n 0) ≡ after_effect s pid (open_effect f mode (scene_at s q found) n)
   open_after found is n =
       after_is s pid q (Open path f mode) there (chosen n 0)
@@ -191,22 +192,22 @@ module _ {p : Place} (pid : ℕ) (path : List ℕ) (f : Flags) (mode : ℕ) (old
       module _ (mid : TxnState) (same : IsUnchanged old mid) where
         -- its walk is refused
         pub walk_refuses : (r : Result Reply Refusal) (e : Refusal) → IsErr r → IsErrAnd r (λ y. y ≡ e)
-            → ((s : State) → IsStateOf p old.sectors desks s → IsAnswered old.disk mid.disk (walk_of s.tree q.cred 1 (open_form f) q.cwd path) (Err e))
+            → ((s : State) → IsStateOf p old.sectors desks s → IsAnswered old.disk mid.disk (walk_of s.room s.tree q.cred 1 (open_form f) q.cwd path) (Err e))
             → Performs p pid (Open path f mode) old mid desks desks r
         walk_refuses r e err and walks = refused_performs r e err and same.store (λ s at. elim (walks s at) [
-          | inl is ↦ why.late (firm s at) (late s at (first_refusal s.tree q.cred 1 (open_form f) (trail_in s.tree q.cwd (open_form f, path))) refl is)
+          | inl is ↦ why.late (firm s at) (late s at (first_refusal s.tree q.cred 1 (open_form f) (trail_in s.room s.tree q.cwd (open_form f, path))) refl is)
           | inr way ↦ interrupted_refused old.disk mid.disk s pid (Open path f mode) (firm s at) refl e way
         ])
           where
             late : (s : State) → IsStateOf p old.sectors desks s → (d : Demand)
-                → first_refusal s.tree q.cred 1 (open_form f) (trail_in s.tree q.cwd (open_form f, path)) ≡ d
-                → refused_or d (Ok (found_by s.tree q.cwd (open_form f, path))) ≡ Err e → other_refusal s (Calls pid (Open path f mode)) ≡ Some e
+                → first_refusal s.tree q.cred 1 (open_form f) (trail_in s.room s.tree q.cwd (open_form f, path)) ≡ d
+                → refused_or d (Ok (found_by s.room s.tree q.cwd (open_form f, path))) ≡ Err e → other_refusal s (Calls pid (Open path f mode)) ≡ Some e
             late s at d is refused =
                 open_late s pid q path f mode (same_process at pid q there)
-                ∙ ap (λ x. or_else x (first_of (open_demands f (scene_at s q (found_by s.tree q.cwd (open_form f, path))))))
-                (is ∙ refused_err d (found_by s.tree q.cwd (open_form f, path)) e refused)
+                ∙ ap (λ x. or_else x (first_of (open_demands f (scene_at s q (found_by s.room s.tree q.cwd (open_form f, path))))))
+                (is ∙ refused_err d (found_by s.room s.tree q.cwd (open_form f, path)) e refused)
 
-        module _ (found : Found) (walks : (s : State) → IsStateOf p old.sectors desks s → IsAnswered old.disk mid.disk (walk_of s.tree q.cred 1 (open_form f) q.cwd path) (Ok found)) where
+        module _ (found : Found) (walks : (s : State) → IsStateOf p old.sectors desks s → IsAnswered old.disk mid.disk (walk_of s.room s.tree q.cred 1 (open_form f) q.cwd path) (Ok found)) where
           pub open_found : (s : State) → IsStateOf p old.sectors desks s → HasFound s pid q (open_form f) path found
           open_found s at = resolved old.disk mid.disk found (same_process at pid q there) (path_checked path f mode asked) (walks s at)
 
@@ -217,7 +218,7 @@ module _ {p : Place} (pid : ℕ) (path : List ℕ) (f : Flags) (mode : ℕ) (old
           late_is_asked s at =
               let has = open_found s at in
               open_late s pid q path f mode (same_process at pid q there)
-              ∙ ap (λ x. or_else x (first_of (open_demands f (scene_at s q (found_by s.tree q.cwd (open_form f, path)))))) has.unrefused
+              ∙ ap (λ x. or_else x (first_of (open_demands f (scene_at s q (found_by s.room s.tree q.cwd (open_form f, path)))))) has.unrefused
               ∙ ap (λ (g : Found). first_of (open_demands f (scene_at s q g))) (sym has.is)
 
           -- what it asks of what was found is refused
@@ -291,18 +292,19 @@ short_path path f mode asked =
     grind (arith, nat_tests)
 
 -- the walk, as this caller
-walked_as : (old mid : DiskState) (t : Tree) (q : Process) (f : Flags) (path : List ℕ) (r : Result Found Refusal) (cred : Credential) (form : Form) (cwd : ℕ)
-    → cred ≡ q.cred → form ≡ open_form f → cwd ≡ q.cwd → (IsThere t cwd → IsAnswered old mid (walk_of t cred 1 form cwd path) r) → IsThere t q.cwd
-    → IsAnswered old mid (walk_of t q.cred 1 (open_form f) q.cwd path) r
-walked_as old mid t q f path r cred form cwd same_cred same_form same_cwd walks there =
-    subst (λ (k : Credential). IsAnswered old mid (walk_of t k 1 (open_form f) q.cwd path) r) same_cred
-    (subst (λ (k : Form). IsAnswered old mid (walk_of t cred 1 k q.cwd path) r) same_form
-    (subst (λ (k : ℕ). IsAnswered old mid (walk_of t cred 1 form k path) r) same_cwd (walks (subst (IsThere t) (sym same_cwd) there))))
+walked_as : (old mid : DiskState) (room : Room) (t : Tree) (q : Process) (f : Flags) (path : List ℕ) (r : Result Found Refusal) (cred : Credential) (form : Form) (cwd : ℕ)
+    → cred ≡ q.cred → form ≡ open_form f → cwd ≡ q.cwd → (IsThere t cwd → IsAnswered old mid (walk_of room t cred 1 form cwd path) r) → IsThere t q.cwd
+    → IsAnswered old mid (walk_of room t q.cred 1 (open_form f) q.cwd path) r
+walked_as old mid room t q f path r cred form cwd same_cred same_form same_cwd walks there =
+    subst (λ (k : Credential). IsAnswered old mid (walk_of room t k 1 (open_form f) q.cwd path) r) same_cred
+    (subst (λ (k : Form). IsAnswered old mid (walk_of room t cred 1 k q.cwd path) r) same_form
+    (subst (λ (k : ℕ). IsAnswered old mid (walk_of room t cred 1 form k path) r) same_cwd (walks (subst (IsThere t) (sym same_cwd) there))))
 
 -- the same of each state that the map may hold
 pub walks_as : (p : Place) (old mid : TxnState) (desks : Desks) (pid : ℕ) (q : Process) → get nat_cmp desks pid ≡ Some q → (f : Flags) (path : List ℕ)
     (r : Result Found Refusal) (cred : Credential) (form : Form) (cwd : ℕ) → cred ≡ q.cred → form ≡ open_form f → cwd ≡ q.cwd
-    → ((t : Tree) → HoldsTree p old.sectors t → IsThere t cwd → IsAnswered old.disk mid.disk (walk_of t cred 1 form cwd path) r)
-    → (s : State) → IsStateOf p old.sectors desks s → IsAnswered old.disk mid.disk (walk_of s.tree q.cred 1 (open_form f) q.cwd path) r
+    → ((t : Tree) → HoldsTree p old.sectors t → IsThere t cwd → IsAnswered old.disk mid.disk (walk_of (room_of p) t cred 1 form cwd path) r)
+    → (s : State) → IsStateOf p old.sectors desks s → IsAnswered old.disk mid.disk (walk_of s.room s.tree q.cred 1 (open_form f) q.cwd path) r
 walks_as p old mid desks pid q there f path r cred form cwd same_cred same_form same_cwd walks s at =
-    walked_as old.disk mid.disk s.tree q f path r cred form cwd same_cred same_form same_cwd (walks s.tree (state_tree at)) (cwd_there at pid q there)
+    subst (λ (room : Room). IsAnswered old.disk mid.disk (walk_of room s.tree q.cred 1 (open_form f) q.cwd path) r) (sym at.same_room)
+    (walked_as old.disk mid.disk (room_of p) s.tree q f path r cred form cwd same_cred same_form same_cwd (walks s.tree (state_tree at)) (cwd_there at pid q there))

@@ -44,7 +44,7 @@ bytes_rewritten {p} {old} {new} {desks} {s} at now still n node there file f c f
     rewrite_held s at.is_state at.up now still p old.sectors at.holds at.same_room new.sectors n node (record node { body = with_bytes bytes node.body }) there
     (bytes_may_replace s.room s.tree n node (at.is_state.tree.each n node there) bytes few are) c.inode c.used
     (bytes_held old.sectors new.sectors v w (record { node = node; names = names_of s.tree n; parent = parent s.tree n }) held bytes file c.fields c.acls
-    (c.held (bytes_in node.body) (bytes_say old.sectors v node.body file held.body)))
+    (c.held (bytes_in node.body) (bytes_say p.version old.sectors v node.body file held.body)))
 
 -- ---- from the calls on what an inode holds
 

@@ -141,6 +141,6 @@ module _ {p : Place} {old : TxnState} {desks : Desks} {s : State} {pid : ℕ} {q
       (record { super = c.super; inode = c.inode; used = c.used })
       (bytes_held old.sectors new.sectors (inode_at p old.sectors n) (inode_at p new.sectors n)
       (record { node = a.node; names = names_of s.tree n; parent = parent s.tree n }) held (resized (bytes_in a.node.body) size) is_file c.fields c.acls
-      (c.held (bytes_in a.node.body) (bytes_say old.sectors (inode_at p old.sectors n) a.node.body is_file held.body)))
+      (c.held (bytes_in a.node.body) (bytes_say p.version old.sectors (inode_at p old.sectors n) a.node.body is_file held.body)))
       q f (truncate_demands size (scene_at s q f)) (resized_node size) (all_granted at has some number_is inode size there file granted fits) number_is
       (node_is s q f n number_is a) refl

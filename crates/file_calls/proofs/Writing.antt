@@ -13,6 +13,7 @@ use Rattle.fs_cred.specs.declared.refusal.Refusal.TheVariants.{Failed}
 use Rattle.fs_layout.specs.declared.inode.Inode.{Inode}
 use Rattle.fs_layout.specs.declared.inode.Kind.TheVariants as kinds
 use Rattle.fs_layout.specs.declared.place.Place.{Place}
+use Rattle.fs_layout.specs.declared.version.Version.{Version}
 use Rattle.fs_layout.specs.Bytes.{SectorMap, IsBytes, overwritten}
 use Rattle.fs_layout.specs.Images.{inode_at, free_sectors}
 use Rattle.fs_layout.specs.Version.{max_file_size}
@@ -77,10 +78,10 @@ some_if [] given same is = absurd (let e : false ≡ true = is ∙ ap (λ (l : L
 some_if (b ∷ bytes) given same is = refl
 
 -- a file is open for writing
-written_kind : (map : SectorMap) (v : Inode) (b : Body) → HoldsBody map v b → IsFalse (is_link b) → IsFalse (is_directory b) → v.kind ≡ kinds.File
-written_kind map v (File a bytes) h no_link no_directory = h.kind
-written_kind map v (Dir a d) h no_link no_directory = absurd (cc)
-written_kind map v (Link target) h no_link no_directory = absurd (cc)
+written_kind : (version : Version) (map : SectorMap) (v : Inode) (b : Body) → HoldsBody version map v b → IsFalse (is_link b) → IsFalse (is_directory b) → v.kind ≡ kinds.File
+written_kind version map v (File a bytes) h no_link no_directory = h.kind
+written_kind version map v (Dir a d) h no_link no_directory = absurd (cc)
+written_kind version map v (Link target) h no_link no_directory = absurd (cc)
 
 no_directory_written : (b w : Bool) → (IsTrue b → IsFalse w) → w ≡ true → IsFalse b
 no_directory_written true w never is = absurd (let e = never refl in let f : true ≡ false = sym is ∙ e in cc)
@@ -98,13 +99,13 @@ module _ {p : Place} {map : SectorMap} {desks : Desks} {pid fd : ℕ} {d : Descr
   pub file_kind : (inode_at p map d.number).kind ≡ kinds.File
   file_kind =
       let x = open_fits o s at in
-      written_kind map (inode_at p map d.number) x.node.body (held_node (state_tree at) d.number x.node x.is_there).body x.no_link
+      written_kind p.version map (inode_at p map d.number) x.node.body (held_node (state_tree at) d.number x.node x.is_there).body x.no_link
       (no_directory_written (is_directory x.node.body) d.write x.no_writes wrote)
 
   file_size : (inode_at p map d.number).size ≡ length (bytes_in (open_fits o s at).node.body)
   file_size =
       let x = open_fits o s at in
-      (bytes_say map (inode_at p map d.number) x.node.body file_kind (held_node (state_tree at) d.number x.node x.is_there).body).size
+      (bytes_say p.version map (inode_at p map d.number) x.node.body file_kind (held_node (state_tree at) d.number x.node x.is_there).body).size
 
   abbrev scene : Scene
   scene = open_scene s o.process

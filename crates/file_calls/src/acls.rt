@@ -74,8 +74,8 @@ fn shown_default<S: Sectors>(
 ) -> Result<Option<Acl>, Refusal>
     requires sound { IsSound caller.now.place (S.state s.old) }
     requires there { IsInodeOf caller.now.place (S.state s.old).sectors inode.now }
-    requires has { (b : Body) × HasBody (S.state s.old).sectors inode.now b }
-    ensures found { IfOk result (λ acl. (b : Body) → HasBody (S.state s.old).sectors inode.now b → acl ≡ default_in b) }
+    requires has { (b : Body) × HasBody caller.now.place.version (S.state s.old).sectors inode.now b }
+    ensures found { IfOk result (λ acl. (b : Body) → HasBody caller.now.place.version (S.state s.old).sectors inode.now b → acl ≡ default_in b) }
     ensures same { IsUnchanged (S.state s.old) (S.state s.new) }
     ensures interrupts { IfErr result (Interrupts (S.state s.old).disk (S.state s.new).disk) }
 {
@@ -95,8 +95,8 @@ fn shown_acl<S: Sectors>(
 ) -> Result<Option<Acl>, Refusal>
     requires sound { IsSound caller.now.place (S.state s.old) }
     requires there { IsInodeOf caller.now.place (S.state s.old).sectors inode.now }
-    requires has { (b : Body) × HasBody (S.state s.old).sectors inode.now b }
-    ensures found { IfOk result (λ acl. (b : Body) → HasBody (S.state s.old).sectors inode.now b → acl ≡ acl_shown which b) }
+    requires has { (b : Body) × HasBody caller.now.place.version (S.state s.old).sectors inode.now b }
+    ensures found { IfOk result (λ acl. (b : Body) → HasBody caller.now.place.version (S.state s.old).sectors inode.now b → acl ≡ acl_shown which b) }
     ensures same { IsUnchanged (S.state s.old) (S.state s.new) }
     ensures interrupts { IfErr result (Interrupts (S.state s.old).disk (S.state s.new).disk) }
 {

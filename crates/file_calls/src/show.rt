@@ -7,16 +7,28 @@ ghost use Rattle.fs_model.specs.declared.reply.FileType.{FileType as ShownType};
 ghost use Rattle.fs_model.specs.AttributeCalls.{stat_demands, stat_effect};
 ghost use Rattle.fs_model.specs.Kinds.{type_of_kind};
 ghost use Rattle.sector_txn.specs.Sectors.{IsUnchanged};
+ghost use Rattle.call_parts.specs.Given.{size_shown};
 ghost use Rattle.call_parts.specs.Performing.{IsReadyFor, PerformsFor};
 ghost use Rattle.call_parts.specs.Reaching.{WalksPath};
 
 use call_parts::{CallResult, Caller, OpenFor, reach, reach_open};
-use fs_layout::{Inode, Kind};
+use fs_layout::{Inode, Kind, SLOT_SIZE, Version};
 use fs_model::{FileType, Form, Path, Reply, Status};
 use sector_txn::Sectors;
 
-// What is shown of inode n, which is used.
-fn status(n: u32, inode: &Inode) -> Status
+// The size that is shown: of a directory as many bytes for each slot as the smallest slot has.
+fn size_of(version: Version, inode: &Inode) -> u64
+    ensures { result ≡ size_shown version inode.now }
+{
+    if inode.kind == Kind::Directory {
+        let slots = inode.size / version.slot_size() as u64;
+        return SLOT_SIZE as u64 * slots;
+    }
+    inode.size
+}
+
+// What is shown of inode n, which is used, on a disk of this version.
+fn status(version: Version, n: u32, inode: &Inode) -> Status
     requires used { inode.now.kind ≢ Kind.Free }
     ensures { (kind : ShownType) → type_of_kind inode.now.kind ≡ Some kind → result ≡ record {
       inode = n;
@@ -25,7 +37,7 @@ fn status(n: u32, inode: &Inode) -> Status
       links = inode.now.names;
       owner = inode.now.uid;
       group = inode.now.gid;
-      size = inode.now.size;
+      size = size_shown version inode.now;
     } }
 {
     let Some(kind) = FileType::of_kind(inode.kind) else {
@@ -38,7 +50,7 @@ fn status(n: u32, inode: &Inode) -> Status
         links: inode.names,
         owner: inode.uid,
         group: inode.gid,
-        size: inode.size,
+        size: size_of(version, inode),
     }
 }
 
@@ -50,7 +62,8 @@ fn show_path<S: Sectors>(s: &mut S, caller: &Caller, path: &Path, form: Form) ->
     ensures same { IsUnchanged (S.state s.old) (S.state s.new) }
 {
     let reached = reach(s, caller, Ok(()), path, form)?;
-    Ok(Reply::Shown(status(reached.number, &reached.inode)))
+    let version = caller.place.version;
+    Ok(Reply::Shown(status(version, reached.number, &reached.inode)))
 }
 
 /// Shows what a path leads to. ENOENT: nothing.
@@ -78,5 +91,6 @@ pub fn fstat<S: Sectors>(s: &mut S, caller: &Caller, fd: usize) -> CallResult
     ensures same { IsUnchanged (S.state s.old) (S.state s.new) }
 {
     let (descriptor, inode) = reach_open(s, caller, fd, OpenFor::Anything)?;
-    Ok(Reply::Shown(status(descriptor.number, &inode)))
+    let version = caller.place.version;
+    Ok(Reply::Shown(status(version, descriptor.number, &inode)))
 }

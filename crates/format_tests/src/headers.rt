@@ -2,13 +2,14 @@
 
 use fs_layout::Commit;
 
-// Whether a commit with these targets is valid on a disk of so many sectors, where the header has one.
+// Whether a commit with these targets is valid on a disk of so many sectors, where the header has one: the two log areas end at
+// sector 512.
 static COMMITS: [(&[u32], u32, bool); 5] = [
     (&[], 1024, true),
-    (&[257], 258, true),
-    (&[257], 257, false),
-    (&[256], 1024, false),
-    (&[1023, 257], 1024, true),
+    (&[512], 513, true),
+    (&[512], 512, false),
+    (&[511], 1024, false),
+    (&[1023, 512], 1024, true),
 ];
 
 fn is_valid(targets: &[u32], sectors: u32) -> Option<bool> {

@@ -1,7 +1,7 @@
 //! What the documents say of an image's bytes, and that each call succeeds.
 
 use fs_layout::LayoutFault::{self, BadKind, BadMagic, BadNumber, BadVersion, NotZero};
-use fs_layout::{AclSector, Commit, Inode, Kind, Slot, Super, Version, is_name, place_of};
+use fs_layout::{AclSector, Commit, Inode, Kind, Place, Slot, Super, Version, is_name, place_of};
 use posix_acl::EntryNumbers;
 
 // A structure. The tests have each at an offset of its own in a sector.
@@ -10,7 +10,12 @@ enum Part {
     Super,
     Commit,
     Inode,
+    // An inode of any version.
+    AnyInode,
     Slot,
+    // The first and the second slot of a sector in the version with the longest names.
+    LongSlot,
+    NextLongSlot,
     AclSector,
 }
 
@@ -19,8 +24,10 @@ impl Part {
     fn window(self) -> (usize, usize) {
         match self {
             Part::Super | Part::Commit | Part::AclSector => (0, 512),
-            Part::Inode => (128, 128),
+            Part::Inode | Part::AnyInode => (128, 128),
             Part::Slot => (256, 128),
+            Part::LongSlot => (0, 256),
+            Part::NextLongSlot => (256, 256),
         }
     }
 }
@@ -29,6 +36,15 @@ const SUPERBLOCK: Super = Super {
     version: Version::Two,
     sectors: 1024,
     inodes: 64,
+    header: 0,
+};
+
+// One of the version that isn't read yet.
+const NEXT_SUPERBLOCK: Super = Super {
+    version: Version::Three,
+    sectors: 65536,
+    inodes: 4096,
+    header: 1,
 };
 
 const FILE: Inode = Inode {
@@ -63,6 +79,10 @@ const USER: EntryNumbers = EntryNumbers {
 // The bytes of these, and of others, up to the last that is not zero.
 const SUPER_BYTES: &[u8] = &[0x49, 0x4e, 0x4f, 0x53, 2, 0, 0, 0, 0, 4, 0, 0, 0x40];
 
+const NEXT_SUPER_BYTES: &[u8] = &[
+    0x49, 0x4e, 0x4f, 0x53, 3, 0, 0, 0, 0, 0, 1, 0, 0, 0x10, 0, 0, 1,
+];
+
 const IDLE_BYTES: &[u8] = &[0x49, 0x4e, 0x4f, 0x4a];
 
 const COMMIT_BYTES: &[u8] = &[0x49, 0x4e, 0x4f, 0x4a, 2, 0, 0, 0, 0x80, 0, 0, 0, 0xe8, 3];
@@ -80,9 +100,25 @@ const LARGEST_FILE: &[u8] = &[
 
 const DIRECTORY: &[u8] = &[2, 0, 0xff, 7, 0, 0, 0, 0, 0, 0, 0, 0, 0, 0, 0, 0, 0x80];
 
+// Those of as many bytes as versions 1 and 2 allow, and as the next does.
+const FULL_DIRECTORY: &[u8] = &[
+    2, 0, 0xff, 7, 0, 0, 0, 0, 0, 0, 0, 0, 0, 0, 0, 0, 0, 0x18, 1,
+];
+
+const LARGEST_DIRECTORY: &[u8] = &[
+    2, 0, 0xff, 7, 0, 0, 0, 0, 0, 0, 0, 0, 0, 0, 0, 0, 0, 0, 0x80,
+];
+
 const LONGEST_LINK: &[u8] = &[3, 0, 0xff, 1, 0, 0, 0, 0, 0, 0, 0, 0, 0, 0, 0, 0, 0, 2];
 
 const SLOT_BYTES: &[u8] = &[4, 3, 2, 1, 5, 0, 0, 0, b'h', b'e', b'l', b'l', b'o'];
+
+// Those before a name of 248 bytes, and before one of a byte more.
+const LONG_SLOT: &[u8] = &[4, 3, 2, 1, 248, 0, 0, 0];
+
+const TOO_LONG_SLOT: &[u8] = &[4, 3, 2, 1, 249, 0, 0, 0];
+
+const LONG_NAME: [u8; 248] = [b'n'; 248];
 
 const ACL_BYTES: &[u8] = &[
     2, 0, 0, 0, 0, 0, 0, 0, 1, 0, 7, 0, 0, 0, 0, 0, 2, 0, 6, 0, 0xe8, 3,
@@ -100,9 +136,9 @@ fn sector_of(part: Part, bytes: &[u8]) -> [u8; 512] {
     sector
 }
 
-fn written_super() -> [u8; 512] {
+fn written_super(superblock: &Super) -> [u8; 512] {
     let mut sector = [0xff; 512];
-    SUPERBLOCK.write_to(&mut sector, 0);
+    superblock.write_to(&mut sector, 0);
     sector
 }
 
@@ -121,8 +157,16 @@ fn written_file() -> [u8; 512] {
 
 fn written_slot(name: &[u8]) -> [u8; 512] {
     let mut sector = [0xff; 512];
-    if is_name(name) {
+    if is_name(name) && name.len() <= Version::Two.max_name() {
         Slot::new(0x01020304, name).write_to(&mut sector, 256);
+    }
+    sector
+}
+
+fn written_long_slot(name: &[u8], at: usize) -> [u8; 512] {
+    let mut sector = [0xff; 512];
+    if is_name(name) && at <= 256 {
+        Slot::new(0x01020304, name).write_in(Version::Three, &mut sector, at);
     }
     sector
 }
@@ -131,6 +175,22 @@ fn written_acl() -> [u8; 512] {
     let mut sector = [0xff; 512];
     AclSector::new([OWNER, USER].as_slice()).write_to(&mut sector, 0);
     sector
+}
+
+// The part, a slot, that is read of these bytes.
+fn slot_read(part: Part, sector: &[u8; 512]) -> Result<Slot, LayoutFault> {
+    match part {
+        Part::LongSlot => Slot::read_in(Version::Three, sector, 0),
+        Part::NextLongSlot => Slot::read_in(Version::Three, sector, 256),
+        _ => Slot::read_from(sector, 256),
+    }
+}
+
+fn is_slot(part: Part, sector: &[u8; 512], name: &[u8]) -> bool {
+    match slot_read(part, sector) {
+        Ok(read) => read.inode() == 0x01020304 && read.name() == name,
+        Err(_) => false,
+    }
 }
 
 // The part's bytes are read as what was written.
@@ -142,10 +202,10 @@ fn is_read_again(part: Part) -> bool {
             Err(_) => false,
         },
         Part::Inode => Inode::read_from(&sector_of(part, FILE_BYTES), 128) == Ok(FILE),
-        Part::Slot => match Slot::read_from(&sector_of(part, SLOT_BYTES), 256) {
-            Ok(read) => read.inode() == 0x01020304 && read.name() == b"hello".as_slice(),
-            Err(_) => false,
-        },
+        Part::AnyInode => Inode::read_any(&sector_of(part, FILE_BYTES), 128) == Ok(FILE),
+        Part::Slot | Part::LongSlot | Part::NextLongSlot => {
+            is_slot(part, &sector_of(part, SLOT_BYTES), b"hello".as_slice())
+        }
         Part::AclSector => match AclSector::read_from(&sector_of(part, ACL_BYTES), 0) {
             Ok(read) => read.entries() == [OWNER, USER].as_slice(),
             Err(_) => false,
@@ -161,7 +221,7 @@ fn is_as_said(part: Part, sector: &[u8; 512], bytes: &[u8]) -> bool {
 #[test]
 fn structures_are_as_the_format_says(rt: HostRuntime) {
     for (part, sector, bytes) in [
-        (Part::Super, written_super(), SUPER_BYTES),
+        (Part::Super, written_super(&SUPERBLOCK), SUPER_BYTES),
         (Part::Commit, written_commit(&Commit::idle()), IDLE_BYTES),
         (
             Part::Commit,
@@ -169,7 +229,18 @@ fn structures_are_as_the_format_says(rt: HostRuntime) {
             COMMIT_BYTES,
         ),
         (Part::Inode, written_file(), FILE_BYTES),
+        (Part::AnyInode, written_file(), FILE_BYTES),
         (Part::Slot, written_slot(b"hello".as_slice()), SLOT_BYTES),
+        (
+            Part::LongSlot,
+            written_long_slot(b"hello".as_slice(), 0),
+            SLOT_BYTES,
+        ),
+        (
+            Part::NextLongSlot,
+            written_long_slot(b"hello".as_slice(), 256),
+            SLOT_BYTES,
+        ),
         (Part::AclSector, written_acl(), ACL_BYTES),
     ] {
         let seen = is_as_said(part, &sector, bytes);
@@ -179,7 +250,7 @@ fn structures_are_as_the_format_says(rt: HostRuntime) {
 
 // What is read of a part's bytes where some of them are changed: the first that is, the one past the last, and their
 // new value.
-static READS: [(Part, &[u8], usize, usize, u8, Option<LayoutFault>); 64] = [
+static READS: [(Part, &[u8], usize, usize, u8, Option<LayoutFault>); 85] = [
     (Part::Super, SUPER_BYTES, 0, 0, 0, None),
     (Part::Super, SUPER_BYTES, 0, 1, 0x48, Some(BadMagic)),
     (Part::Super, SUPER_BYTES, 3, 4, 0, Some(BadMagic)),
@@ -190,6 +261,9 @@ static READS: [(Part, &[u8], usize, usize, u8, Option<LayoutFault>); 64] = [
     (Part::Super, SUPER_BYTES, 16, 17, 1, Some(NotZero)),
     (Part::Super, SUPER_BYTES, 511, 512, 1, Some(NotZero)),
     (Part::Super, SUPER_BYTES, 0, 512, 1, Some(BadMagic)),
+    (Part::Super, NEXT_SUPER_BYTES, 0, 0, 0, Some(BadVersion)),
+    (Part::Super, NEXT_SUPER_BYTES, 16, 17, 0, Some(BadVersion)),
+    (Part::Super, NEXT_SUPER_BYTES, 4, 5, 2, Some(NotZero)),
     (Part::Commit, IDLE_BYTES, 0, 0, 0, None),
     (Part::Commit, COMMIT_BYTES, 0, 0, 0, None),
     (Part::Commit, COMMIT_BYTES, 0, 1, 0x48, Some(BadMagic)),
@@ -215,6 +289,29 @@ static READS: [(Part, &[u8], usize, usize, u8, Option<LayoutFault>); 64] = [
     (Part::Inode, DIRECTORY, 3, 4, 0x0f, Some(BadNumber)),
     (Part::Inode, DIRECTORY, 16, 17, 0x81, Some(BadNumber)),
     (Part::Inode, DIRECTORY, 18, 19, 2, Some(BadNumber)),
+    (Part::Inode, FULL_DIRECTORY, 0, 0, 0, None),
+    (Part::Inode, FULL_DIRECTORY, 16, 17, 0x80, Some(BadNumber)),
+    (Part::Inode, LARGEST_DIRECTORY, 0, 0, 0, Some(BadNumber)),
+    (Part::AnyInode, FULL_DIRECTORY, 16, 17, 0x80, None),
+    (
+        Part::AnyInode,
+        FULL_DIRECTORY,
+        16,
+        17,
+        0x40,
+        Some(BadNumber),
+    ),
+    (Part::AnyInode, LARGEST_DIRECTORY, 0, 0, 0, None),
+    (
+        Part::AnyInode,
+        LARGEST_DIRECTORY,
+        16,
+        17,
+        0x80,
+        Some(BadNumber),
+    ),
+    (Part::AnyInode, LARGEST_DIRECTORY, 0, 1, 4, Some(BadKind)),
+    (Part::AnyInode, LARGEST_DIRECTORY, 92, 93, 1, Some(NotZero)),
     (Part::Inode, LONGEST_LINK, 0, 0, 0, None),
     (Part::Inode, LONGEST_LINK, 2, 3, 0xfe, Some(BadNumber)),
     (Part::Inode, LONGEST_LINK, 16, 17, 1, Some(BadNumber)),
@@ -235,6 +332,22 @@ static READS: [(Part, &[u8], usize, usize, u8, Option<LayoutFault>); 64] = [
     (Part::Slot, SLOT_BYTES, 13, 14, 1, Some(NotZero)),
     (Part::Slot, SLOT_BYTES, 127, 128, 1, Some(NotZero)),
     (Part::Slot, SLOT_BYTES, 0, 128, 0xff, Some(BadNumber)),
+    (Part::Slot, LONG_SLOT, 8, 128, 0x6e, Some(BadNumber)),
+    (Part::LongSlot, LONG_SLOT, 8, 256, 0x6e, None),
+    (Part::LongSlot, LONG_SLOT, 8, 255, 0x6e, Some(BadNumber)),
+    (Part::LongSlot, TOO_LONG_SLOT, 8, 256, 0x6e, Some(BadNumber)),
+    (Part::LongSlot, SLOT_BYTES, 255, 256, 1, Some(NotZero)),
+    (Part::NextLongSlot, LONG_SLOT, 8, 256, 0x6e, None),
+    (
+        Part::NextLongSlot,
+        TOO_LONG_SLOT,
+        8,
+        256,
+        0x6e,
+        Some(BadNumber),
+    ),
+    (Part::NextLongSlot, SLOT_BYTES, 5, 6, 1, Some(NotZero)),
+    (Part::NextLongSlot, SLOT_BYTES, 255, 256, 1, Some(NotZero)),
     (Part::AclSector, ACL_BYTES, 0, 0, 0, None),
     (Part::AclSector, ACL_BYTES, 0, 1, 33, Some(BadNumber)),
     (Part::AclSector, ACL_BYTES, 1, 2, 1, Some(BadNumber)),
@@ -269,7 +382,8 @@ fn fault_of(part: Part, sector: &[u8; 512]) -> Option<LayoutFault> {
         Part::Super => Super::read_from(sector, 0).err(),
         Part::Commit => Commit::read_from(sector, 0).err(),
         Part::Inode => Inode::read_from(sector, 128).err(),
-        Part::Slot => Slot::read_from(sector, 256).err(),
+        Part::AnyInode => Inode::read_any(sector, 128).err(),
+        Part::Slot | Part::LongSlot | Part::NextLongSlot => slot_read(part, sector).err(),
         Part::AclSector => AclSector::read_from(sector, 0).err(),
     }
 }
@@ -285,12 +399,44 @@ fn wrong_bytes_are_refused(rt: HostRuntime) {
     }
 }
 
-// The table and the first data sector on a disk of so many sectors and inodes.
-static PLACES: [(u32, u32, Option<(u32, u32)>); 9] = [
-    (1024, 64, Some((130, 146))),
-    (4096, 16, Some((130, 134))),
-    (4097, 17, Some((131, 136))),
-    (65536, 4096, Some((145, 1169))),
+// Whether a sector has a name of 248 bytes as this part, and it is read again.
+fn is_long_slot(part: Part, sector: &[u8; 512]) -> bool {
+    let said = with_bytes(&sector_of(part, LONG_SLOT), part, 8, 256, b'n');
+    *sector == said && is_slot(part, sector, LONG_NAME.as_slice())
+}
+
+#[test]
+fn long_names_are_written_and_read(rt: HostRuntime) {
+    for (part, sector) in [
+        (Part::LongSlot, written_long_slot(LONG_NAME.as_slice(), 0)),
+        (
+            Part::NextLongSlot,
+            written_long_slot(LONG_NAME.as_slice(), 256),
+        ),
+    ] {
+        let seen = is_long_slot(part, &sector);
+        assert!(rt; seen, "{part:?}");
+    }
+}
+
+#[test]
+fn header_sectors_are_written(rt: HostRuntime) {
+    let written = written_super(&NEXT_SUPERBLOCK);
+    assert!(rt;
+        written == sector_of(Part::Super, NEXT_SUPER_BYTES),
+        "1 header sector"
+    );
+}
+
+// Where a part of a disk begins: the bitmaps, the inode table and the data.
+type Starts = Option<(u32, u32, u32, u32)>;
+
+// That on a new disk of so many sectors and inodes.
+static PLACES: [(u32, u32, Starts); 9] = [
+    (1024, 64, Some((128, 129, 130, 146))),
+    (4096, 16, Some((128, 129, 130, 134))),
+    (4097, 17, Some((128, 129, 131, 136))),
+    (65536, 4096, Some((128, 129, 145, 1169))),
     (1023, 64, None),
     (65537, 64, None),
     (1024, 15, None),
@@ -298,16 +444,52 @@ static PLACES: [(u32, u32, Option<(u32, u32)>); 9] = [
     (1024, 4096, None),
 ];
 
-fn starts_of(sectors: u32, inodes: u32) -> Option<(u32, u32)> {
-    let place = place_of(sectors, inodes)?;
-    Some((place.table, place.first_data))
+// That on one of each version, with so many header sectors too.
+static PLACES_BY_VERSION: [(Version, u32, u32, u32, Starts); 14] = [
+    (Version::One, 0, 4097, 17, Some((128, 129, 131, 136))),
+    (Version::One, 1, 4097, 17, None),
+    (Version::One, 0, 65537, 17, None),
+    (Version::Two, 0, 4097, 17, Some((128, 129, 131, 136))),
+    (Version::Two, 1, 4097, 17, None),
+    (Version::Two, 0, 4097, 4097, None),
+    (Version::Three, 1, 1024, 64, Some((512, 513, 514, 530))),
+    (Version::Three, 1, 65536, 4096, Some((512, 513, 529, 1553))),
+    (Version::Three, 1, 589824, 4096, Some((512, 513, 657, 1681))),
+    (Version::Three, 1, 585728, 4097, Some((512, 514, 657, 1682))),
+    (Version::Three, 0, 65536, 4096, None),
+    (Version::Three, u32::MAX, 65536, 4096, None),
+    (Version::Three, 1, 589825, 4096, None),
+    (Version::Three, 1, 585728, 8193, None),
+];
+
+fn starts_of(place: Option<Place>) -> Starts {
+    let place = place?;
+    Some((
+        place.inode_bitmap,
+        place.block_bitmap,
+        place.table,
+        place.first_data,
+    ))
 }
 
 #[test]
 fn places_are_as_the_format_says(rt: HostRuntime) {
     for &(sectors, inodes, starts) in &PLACES {
-        let found = starts_of(sectors, inodes);
+        let found = starts_of(place_of(sectors, inodes));
         assert!(rt; found == starts, "{sectors} sectors and {inodes} inodes");
+    }
+    for &(version, header, sectors, inodes, starts) in &PLACES_BY_VERSION {
+        let superblock = Super {
+            version,
+            sectors,
+            inodes,
+            header,
+        };
+        let found = starts_of(superblock.place());
+        assert!(rt;
+            found == starts,
+            "{header} header sectors, {sectors} sectors and {inodes} inodes"
+        );
     }
 }
 
@@ -341,13 +523,13 @@ static NAMES: [(&[u8], bool); 10] = [
     (b"a", true),
     (b".a", true),
     (b"...", true),
-    (&[0xff; 120], true),
+    (&[0xff; 248], true),
     (b"", false),
     (b".", false),
     (b"..", false),
     (b"a/b", false),
     (b"a\0", false),
-    (&[b'a'; 121], false),
+    (&[b'a'; 249], false),
 ];
 
 #[test]

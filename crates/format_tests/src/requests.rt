@@ -318,7 +318,7 @@ fn offer_numbers(offer: &Offer) -> [u64; 4] {
 fn word_of(operation: &Operation<'_>) -> &'static str {
     match operation {
         Operation::Lookup(_) => "lookup",
-        Operation::Forget => "forget",
+        Operation::Forget(_) => "forget",
         Operation::GetAttr => "getattr",
         Operation::SetAttr(_) => "setattr",
         Operation::ReadLink => "readlink",
@@ -354,7 +354,7 @@ fn other_word(operation: &Operation<'_>) -> &'static str {
         Operation::Create { .. } => "create",
         Operation::Interrupt => "interrupt",
         Operation::Destroy => "destroy",
-        Operation::BatchForget => "batch_forget",
+        Operation::BatchForget(_) => "batch_forget",
         Operation::SyncFs => "syncfs",
         _ => "unknown",
     }

@@ -1,5 +1,5 @@
 -- A bit of a bitmap, and what it has to be.
-use Rattle.std.specs.Prelude.{◌≡◌, ℕ, ◌+◌, ◌*◌, ◌/◌, ◌%◌, ◌<◌, ◌≤◌, nat_eq, nat_lt, nat_le, not, ◌||◌, Bool, true, false, List, drop, get_or, IsTrue, ◌⊎◌, ◌↔◌}
+use Rattle.std.specs.Prelude.{◌≡◌, ℕ, ◌+◌, ◌*◌, ◌/◌, ◌%◌, ◌-◌, ◌^◌, ◌<◌, ◌≤◌, nat_eq, nat_lt, nat_le, not, ◌||◌, Bool, true, false, List, drop, get_or, IsTrue, ◌⊎◌, ◌↔◌}
 use Rattle.std.proofs.Common.{refl, sym, ap, arith, ◌∙◌}
 use Rattle.std.specs.Int.{bit_at}
 use Rattle.std.proofs.Math.Bool.{beq}
@@ -9,14 +9,11 @@ use Rattle.byteorder.specs.Numbers.{little_from-take}
 use Rattle.fs_layout.specs.declared.inode.TheConstants.{INODE_SIZE}
 use Rattle.fs_layout.specs.declared.place.Place.{Place}
 use Rattle.fs_layout.specs.Bytes.{SectorMap, u16_of}
-use Rattle.fs_layout.specs.Images.{bit, inode_bitmap, block_bitmap, stored}
+use Rattle.fs_layout.specs.Images.{inode_map_bits, bit, stored}
 use Rattle.fs_layout.specs.Ownership.{IsOwned}
-use Rattle.fs_layout.proofs.Places.{place_is_place, place_has_bounds, after_map, before_data}
+use Rattle.fs_layout.proofs.Places.{place_is_place, after_map, before_data}
 use Rattle.fs_model.specs.Rules.{IsPlaceOf, IsBit, IsBlockBit}
-use Rattle.sector_disk.specs.Disk.{DiskState, OnlyReads}
-use Rattle.fs_check.specs.Checks.{meaning}
 use Rattle.fs_check.specs.TableSectors.{IsTableSector}
-use Rattle.fs_check.proofs.Carrying.{meaning_same}
 use Rattle.fs_check.proofs.Openings.{place_size}
 
 pub bit_there : (m : SectorMap) (start n : ℕ) (s : List ℕ) → s ≡ m (start + n / 4096) → nat_eq (bit_at (get_or s (n % 4096 / 8) 0) (n % 8)) 1 ≡ bit m start n
@@ -51,16 +48,14 @@ other_bits false false e same = absurd cc
 other_bits true false e same = absurd cc
 other_bits false true e same = absurd cc
 
--- bit n of the inode bitmap, read before its inode's sector, and what it has to be
-pub is_bit : (old mid : DiskState) (p : Place) (n : ℕ) (map table : List ℕ) (b t : Bool) → OnlyReads old mid → n < 4096 → map ≡ meaning old inode_bitmap
-    → IsTableSector p (meaning mid) n table
+-- bit n of the inode bitmap, and what it has to be
+pub is_bit : (p : Place) (m : SectorMap) (n : ℕ) (map table : List ℕ) (b t : Bool) → map ≡ m (p.inode_bitmap + n / 4096) → IsTableSector p m n table
     → ((m : SectorMap) (start : ℕ) → map ≡ m (start + n / 4096) → b ≡ bit m start n)
     → ((m : SectorMap) → IsTableSector p m n table → t ≡ (nat_lt n 2 || nat_le p.inodes n || not (nat_eq (u16_of (stored p m n) 0) 0)))
-    → (b ≡ t) ↔ IsBit p (meaning mid) n
-is_bit old mid p n map table b t reads lt read there set taken =
-    let sector : inode_bitmap ≡ inode_bitmap + n / 4096 = omega (arith, lt) in
-    let is = set (meaning mid) inode_bitmap (read ∙ ap (λ (m : SectorMap). m inode_bitmap) (sym (meaning_same reads)) ∙ ap (meaning mid) sector) in
-    let should = taken (meaning mid) there in
+    → (b ≡ t) ↔ IsBit p m n
+is_bit p m n map table b t read there set taken =
+    let is = set m p.inode_bitmap read in
+    let should = taken m there in
     ((λ same. sym is ∙ same ∙ should), (λ bit_is. is ∙ bit_is ∙ sym should))
 
 alike : (b t : Bool) → (IsTrue b → IsTrue t) → (IsTrue t → IsTrue b) → b ≡ t
@@ -69,7 +64,7 @@ alike false true to from = from refl
 alike false false to from = refl
 
 -- bit s of the block bitmap, and what it has to be
-pub is_block_bit : (p : Place) (m : SectorMap) (s : ℕ) (b t : Bool) → b ≡ bit m block_bitmap s
+pub is_block_bit : (p : Place) (m : SectorMap) (s : ℕ) (b t : Bool) → b ≡ bit m p.block_bitmap s
     → (IsTrue t ↔ ((s < p.first_data) ⊎ ((p.sectors ≤ s) ⊎ IsOwned p m s))) → (b ≡ t) ↔ IsBlockBit p m s
 is_block_bit p m s b t is used = (
   λ same. ((λ set. used.0 (sym same ∙ is ∙ set)), (λ has. sym is ∙ same ∙ used.1 has)),
@@ -82,20 +77,28 @@ in_sector m start k n map low lt there =
     let same : k ≡ n / 4096 = omega (arith, low, lt) in
     there ∙ ap (λ (j : ℕ). m (start + j)) same
 
--- where the block bitmap stands
-pub record HasMap (size : ℕ) (p : Place) : Type 0 where
-  pub from : 129 < p.table
-  pub upto : p.table ≤ 145
+-- where the bitmaps stand, and that their bits have numbers
+pub record HasMaps (size : ℕ) (p : Place) : Type 0 where
+  pub inode_map : p.inode_bitmap < p.block_bitmap
+  pub block_map : p.block_bitmap < p.table
   pub on_disk : p.table < size
-  pub room : 128 ≤ size
+  pub small : 4096 * (p.table - p.inode_bitmap) < 2 ^ 32
 
-pub map_place : (size : ℕ) (image : SectorMap) (p : Place) → IsPlaceOf size image p → HasMap size p
-map_place size image p x =
-    let place = place_is_place _ size x.super.inodes x.has_place in
-    let bounds = place_has_bounds _ size x.super.inodes x.has_place in
+pub maps_place : (size : ℕ) (image : SectorMap) (p : Place) → IsPlaceOf size image p → HasMaps size p
+maps_place size image p x =
+    let place = place_is_place _ _ size x.super.inodes x.has_place in
+    let order = after_map place in
     let same = place_size size image p x in
-    let to = bounds.table_to in
     let before = before_data place in
     let room = place.data_sectors in
-    let least = place.least_sectors in
-    record { from = after_map place; upto = to; on_disk = omega (arith, same, before, room); room = omega (arith, same, least) }
+    let few = place.room in
+    let header = place.header in
+    record { inode_map = order.1; block_map = order.2; on_disk = omega (arith, same, before, room); small = omega (arith, few, header) }
+
+-- the sector of the inode bitmap in which a bit stands is on the disk
+pub map_on_disk : (size : ℕ) (image : SectorMap) (p : Place) (n : ℕ) → IsPlaceOf size image p → n < inode_map_bits p → p.inode_bitmap + n / 4096 < size
+map_on_disk size image p n x lt =
+    let maps = maps_place size image p x in
+    let block_map = maps.block_map in
+    let on_disk = maps.on_disk in
+    omega (arith, lt, block_map, on_disk)

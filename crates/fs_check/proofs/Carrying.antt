@@ -7,7 +7,7 @@ use Rattle.fs_layout.specs.declared.place.Place.{Place}
 use Rattle.fs_layout.specs.Recovered.{recovered}
 use Rattle.sector_disk.specs.Disk.{DiskState, Image, IsImage, IsSame, Elapses, OnlyReads, HasFailed, sector}
 use Rattle.sector_disk.proofs.Moments.{reads_nothing, reads_more, reads_joined}
-use Rattle.fs_layout.specs.Commit.{IsCommit}
+use Rattle.fs_layout.specs.Commit.{IsCommit, named_area}
 use Rattle.fs_model.specs.Rules.{IsPlaceOf, ImageRule, rule_number, ObeysEach, ObeysBefore, IsFinding, fails}
 use Rattle.fs_check.specs.declared.faults.CheckFault.{CheckFault}
 use Rattle.fs_check.specs.declared.faults.CheckFault.TheVariants.{Found, DiskFault, OutOfMemory}
@@ -25,9 +25,10 @@ module _ {old mid : DiskState} (reads : OnlyReads old mid) where
   pub meaning_same : meaning mid ≡ meaning old
   meaning_same = ap (λ n. recovered n (sector mid.seen)) reads.narrowed.size ∙ ap (λ (i : Image). recovered old.size (sector i)) reads.narrowed.seen
 
-  pub opened_still : {p : Place} {targets : List ℕ} → BeginsWith old p targets → BeginsWith mid p targets
-  opened_still {p} {targets} x = record {
+  pub opened_still : {p : Place} {area : ℕ} {targets : List ℕ} → BeginsWith old p area targets → BeginsWith mid p area targets
+  opened_still {p} {area} {targets} x = record {
     place = same_of (λ n i. IsPlaceOf n (sector i) p) reads x.place;
+    log = same_of (λ n i. area ≡ named_area (sector i)) reads x.log;
     commit = same_of (λ n i. IsCommit n (sector i) targets) reads x.commit;
   }
 
@@ -48,17 +49,17 @@ module _ {old mid : DiskState} (reads : OnlyReads old mid) where
   reason_back new OutOfMemory x = tt
 
 -- a rule whose predecessors hold: its finding is the first
-pub first_if : {old : DiskState} {p : Place} {targets : List ℕ} (new : DiskState) (r : ImageRule) (e : CheckFault) → BeginsWith old p targets
+pub first_if : {old : DiskState} {p : Place} {area : ℕ} {targets : List ℕ} (new : DiskState) (r : ImageRule) (e : CheckFault) → BeginsWith old p area targets
     → ObeysBefore p (meaning old) (rule_number r) → IsReason (IsLeast p r) old new e → IsReason IsFirst old new e
-first_if {old} {p} {targets} new r (Found f) opened before x =
+first_if {old} {p} {targets = targets} new r (Found f) opened before x =
     subst (λ k. IsFinding old.size (sector old.seen) k f.at) (sym x.0) (fails p r f.at opened.place (record { targets = targets; is = opened.commit }) before x.1)
 first_if new r DiskFault opened before x = x
 first_if new r OutOfMemory opened before x = tt
 
 -- the failure of a rule that was found in tables
-pub failed_of : {T : Type 0} (old mid new : DiskState) {p : Place} {targets : List ℕ} → OnlyReads old mid → OnlyReads mid new → BeginsWith old p targets
+pub failed_of : {T : Type 0} (old mid new : DiskState) {p : Place} {area : ℕ} {targets : List ℕ} → OnlyReads old mid → OnlyReads mid new → BeginsWith old p area targets
     → (e y : CheckFault) (q : Result T CheckFault) → q ≡ Err y → y ≡ e → IsFailureOf p (meaning mid) e → Passed IsFirst old new q
-failed_of {T} old mid new {p} {targets} reads then opened e y q at same x =
+failed_of {T} old mid new {p} {targets = targets} reads then opened e y q at same x =
     subst (λ z. Passed {T = T} IsFirst old new z) (sym (at ∙ ap (λ z. Err z) same)) (record { reads = reads_joined reads then; reason = go e x })
   where
     go : (e : CheckFault) → IsFailureOf p (meaning mid) e → IsReason IsFirst old new e
@@ -97,27 +98,27 @@ passed_on : {T : Type 0} (I J : DiskState → ℕ → ℕ → Type 0) (old mid n
 passed_on I J old mid new reads back (Ok v) x = record { reads = reads_joined reads x.reads; reason = tt }
 passed_on I J old mid new reads back (Err e) x = record { reads = reads_joined reads x.reads; reason = back e x.reason }
 
-reason_of_rule : {old mid : DiskState} {p : Place} {targets : List ℕ} (new : DiskState) (r : ImageRule) (k : ℕ) → rule_number r ≡ k → OnlyReads old mid
-    → BeginsWith old p targets → ObeysBefore p (meaning old) k → (x : CheckFault) → IsReason (IsLeast p r) mid new x → IsReason IsFirst old new x
+reason_of_rule : {old mid : DiskState} {p : Place} {area : ℕ} {targets : List ℕ} (new : DiskState) (r : ImageRule) (k : ℕ) → rule_number r ≡ k → OnlyReads old mid
+    → BeginsWith old p area targets → ObeysBefore p (meaning old) k → (x : CheckFault) → IsReason (IsLeast p r) mid new x → IsReason IsFirst old new x
 reason_of_rule {mid = mid} {p} new r k is reads opened before x h =
     reason_back reads new x (first_if new r x (opened_still reads opened) (subst (λ q. ObeysBefore p (meaning mid) q) (sym is) (before_still reads before)) h)
 
 -- a rule's part, and the error of one
-pub rule_error : {T U : Type 0} (old mid new : DiskState) {p : Place} {targets : List ℕ} (r : ImageRule) (k : ℕ) → rule_number r ≡ k → OnlyReads old mid
-    → BeginsWith old p targets
+pub rule_error : {T U : Type 0} (old mid new : DiskState) {p : Place} {area : ℕ} {targets : List ℕ} (r : ImageRule) (k : ℕ) → rule_number r ≡ k → OnlyReads old mid
+    → BeginsWith old p area targets
     → ObeysBefore p (meaning old) k → (e : CheckFault) (q : Result U CheckFault) → (y : CheckFault) × (q ≡ Err y) × (y ≡ e)
     → Passed {T = T} (IsLeast p r) mid new (Err e) → Passed IsFirst old new q
 rule_error old mid new {p} r k is reads opened before e q at x =
     passed_err (IsLeast p r) IsFirst old mid new reads (reason_of_rule new r k is reads opened before) e at.0 q at.1 at.2 x
 
 -- the same of the first part
-pub first_error : {T U : Type 0} (old new : DiskState) {p : Place} {targets : List ℕ} (r : ImageRule) (k : ℕ) → rule_number r ≡ k → BeginsWith old p targets
+pub first_error : {T U : Type 0} (old new : DiskState) {p : Place} {area : ℕ} {targets : List ℕ} (r : ImageRule) (k : ℕ) → rule_number r ≡ k → BeginsWith old p area targets
     → ObeysBefore p (meaning old) k → (e : CheckFault) (q : Result U CheckFault) → (y : CheckFault) × (q ≡ Err y) × (y ≡ e)
     → Passed {T = T} (IsLeast p r) old new (Err e) → Passed IsFirst old new q
 first_error old new r k is opened before e q at x = rule_error old old new r k is reads_nothing opened before e q at x
 
-pub rule_passed : {T : Type 0} (old mid new : DiskState) {p : Place} {targets : List ℕ} (r : ImageRule) (k : ℕ) → rule_number r ≡ k → OnlyReads old mid
-    → BeginsWith old p targets → ObeysBefore p (meaning old) k → (q : Result T CheckFault) → Passed (IsLeast p r) mid new q → Passed IsFirst old new q
+pub rule_passed : {T : Type 0} (old mid new : DiskState) {p : Place} {area : ℕ} {targets : List ℕ} (r : ImageRule) (k : ℕ) → rule_number r ≡ k → OnlyReads old mid
+    → BeginsWith old p area targets → ObeysBefore p (meaning old) k → (q : Result T CheckFault) → Passed (IsLeast p r) mid new q → Passed IsFirst old new q
 rule_passed old mid new {p} r k is reads opened before q x =
     passed_on (IsLeast p r) IsFirst old mid new reads (reason_of_rule new r k is reads opened before) q x
 
@@ -126,8 +127,8 @@ on_ok (Ok x) p f = f p
 on_ok (Err e) p f = tt
 
 -- two rules, one after the other
-module _ {T : Type 0} (old mid new : DiskState) {p : Place} {targets : List ℕ} (r q : ImageRule) (k : ℕ) (is : rule_number r ≡ k) (then : rule_number q ≡ k + 1)
-    (opened : BeginsWith old p targets) (before : ObeysBefore p (meaning old) k) (reads : OnlyReads old mid) (each : ObeysEach p (meaning old) r)
+module _ {T : Type 0} (old mid new : DiskState) {p : Place} {area : ℕ} {targets : List ℕ} (r q : ImageRule) (k : ℕ) (is : rule_number r ≡ k) (then : rule_number q ≡ k + 1)
+    (opened : BeginsWith old p area targets) (before : ObeysBefore p (meaning old) k) (reads : OnlyReads old mid) (each : ObeysEach p (meaning old) r)
     (x : Result T CheckFault) where
   first_obeyed : ObeysBefore p (meaning old) (k + 1)
   first_obeyed = next_before old old r k is reads_nothing before each

@@ -11,8 +11,8 @@ use Rattle.fs_layout.specs.declared.place.Place.{Place}
 use Rattle.fs_layout.specs.Bytes.{SectorMap}
 use Rattle.fs_layout.specs.Inode.{free_inode}
 use Rattle.fs_layout.specs.Place.{IsPlace}
-use Rattle.fs_layout.specs.Images.{IsData, bit, block_bitmap, inode_at, free_sectors}
-use Rattle.fs_layout.specs.Commit.{IsCommit}
+use Rattle.fs_layout.specs.Images.{IsData, bit, inode_at, free_sectors}
+use Rattle.fs_layout.specs.Commit.{IsCommit, named_area}
 use Rattle.fs_layout.proofs.Bits.{has_bit}
 use Rattle.fs_layout.proofs.Places.{place_is_place}
 use Rattle.fs_layout.proofs.Targets.{targets_in-commit}
@@ -60,8 +60,8 @@ pub whole_seen : (d : DiskState) → IsImage d d.seen → ((n : ℕ) (content : 
     → HasWholeSectors d.size (sector d.seen)
 whole_seen d is each s lt = let here = each s (sector d.seen s) lt (is.each s lt) in record { len = here.len; bytes = here.bytes }
 
-module _ (d : DiskState) (p : Place) (targets : List ℕ) (inodes : List Inode) (owned : List Bool) (s : Summary) (small : d.size < 2 ^ 32)
-    (whole : HasWholeSectors d.size (sector d.seen)) (opened : BeginsWith d p targets) (table : AreInodes p (meaning d) inodes)
+module _ (d : DiskState) (p : Place) (area : ℕ) (targets : List ℕ) (inodes : List Inode) (owned : List Bool) (s : Summary) (small : d.size < 2 ^ 32)
+    (whole : HasWholeSectors d.size (sector d.seen)) (opened : BeginsWith d p area targets) (table : AreInodes p (meaning d) inodes)
     (owners : IsOwnerMap p (meaning d) owned)
     (before : ObeysBefore p (meaning d) 15) (counts : IsCounted p targets inodes owned s) where
   abbrev pub all : ObeysAll d.size (sector d.seen)
@@ -81,7 +81,7 @@ module _ (d : DiskState) (p : Place) (targets : List ℕ) (inodes : List Inode) 
   by_list f = ap (count_by f) inode_list ∙ counted f (inode_at p (meaning d)) 0 p.inodes
 
   -- a data sector's bit says whether it is owned
-  bit_is : (k : ℕ) → IsData p k → get_or owned k false ≡ bit (meaning d) block_bitmap k
+  bit_is : (k : ℕ) → IsData p k → get_or owned k false ≡ bit (meaning d) p.block_bitmap k
   bit_is k data_sector =
       let rule = before BlockBits (omega arith) k (has_bit the_place_is k data_sector.1) in
       same_bools _ _ (
@@ -95,16 +95,16 @@ module _ (d : DiskState) (p : Place) (targets : List ℕ) (inodes : List Inode) 
         ]),
       )
 
-  free_list : drop p.first_data owned ≡ map (bit (meaning d) block_bitmap) (range_with_len p.first_data (p.sectors - p.first_data))
+  free_list : drop p.first_data owned ≡ map (bit (meaning d) p.block_bitmap) (range_with_len p.first_data (p.sectors - p.first_data))
   free_list =
       let len = owners.len in
       let room = the_place_is.data_sectors in
-      list_is (drop p.first_data owned) false (bit (meaning d) block_bitmap) p.first_data (p.sectors - p.first_data)
+      list_is (drop p.first_data owned) false (bit (meaning d) p.block_bitmap) p.first_data (p.sectors - p.first_data)
       (omega (arith, len, length-drop p.first_data owned))
       (λ k lt. get_or-drop p.first_data owned k false ∙ bit_is (p.first_data + k) (omega arith, omega (arith, lt)))
 
   free_is : count_by not (drop p.first_data owned) ≡ free_sectors p (meaning d)
-  free_is = ap (count_by not) free_list ∙ counted not (bit (meaning d) block_bitmap) p.first_data (p.sectors - p.first_data)
+  free_is = ap (count_by not) free_list ∙ counted not (bit (meaning d) p.block_bitmap) p.first_data (p.sectors - p.first_data)
 
   pub clean : IsClean d s
   unfolding the_tree
@@ -128,17 +128,18 @@ module _ (d : DiskState) (p : Place) (targets : List ℕ) (inodes : List Inode) 
       )
 
 -- facts that were found one after the other
-pub clean_after : (s0 s1 s2 s3 : DiskState) (p : Place) (targets : List ℕ) (items inodes : List Inode) (bits owned : List Bool) (s : Summary)
+pub clean_after : (s0 s1 s2 s3 : DiskState) (p : Place) (area : ℕ) (targets : List ℕ) (items inodes : List Inode) (bits owned : List Bool) (s : Summary)
     → s0.size < 2 ^ 32 → HasWholeSectors s0.size (sector s0.seen) → IsPlaceOf s0.size (sector s0.seen) p
-    → OnlyReads s0 s1 → IsCommit s1.size (sector s1.seen) targets
+    → OnlyReads s0 s1 → area ≡ named_area (sector s1.seen) → IsCommit s1.size (sector s1.seen) targets
     → OnlyReads s0 s2 → AreInodes p (meaning s2) items → inodes ≡ items
     → OnlyReads s0 s3 → IsOwnerMap p (meaning s3) bits → owned ≡ bits → ObeysBefore p (meaning s3) 15 → IsCounted p targets inodes owned s → IsClean s0 s
-clean_after s0 s1 s2 s3 p targets items inodes bits owned s small whole at r1 commit r2 table same r3 owners also before counts =
-    let opened : BeginsWith s0 p targets = record {
+clean_after s0 s1 s2 s3 p area targets items inodes bits owned s small whole at r1 named commit r2 table same r3 owners also before counts =
+    let opened : BeginsWith s0 p area targets = record {
       place = at;
+      log = back_of (λ n i. area ≡ named_area (sector i)) r1 named;
       commit = back_of (λ n i. IsCommit n (sector i) targets) r1 commit;
     } in
-    clean s0 p targets inodes owned s small whole opened
+    clean s0 p area targets inodes owned s small whole opened
     (subst (AreInodes p (meaning s0)) (sym same) (subst (λ m. AreInodes p m items) (meaning_same r2) table))
     (subst (IsOwnerMap p (meaning s0)) (sym also) (subst (λ m. IsOwnerMap p m bits) (meaning_same r3) owners))
     (before_back r3 before) counts
@@ -147,7 +148,7 @@ clean_after s0 s1 s2 s3 p targets items inodes bits owned s small whole at r1 co
 pub first_within : (size : ℕ) (image : SectorMap) (p : Place) (m : SectorMap) (bits owned : List Bool) → IsPlaceOf size image p → IsOwnerMap p m bits
     → owned ≡ bits → p.first_data ≤ length owned
 first_within size image p m bits owned at owners same =
-    let room = (place_is_place _ size at.super.inodes at.has_place).data_sectors in
+    let room = (place_is_place _ _ size at.super.inodes at.has_place).data_sectors in
     let len = owners.len in
     let long = ap length same in
     omega (arith, room, len, long)

@@ -53,6 +53,12 @@ number_below size image p at s in_data = elim (cases_eq s 0) [
   | inr some ↦ (let below = (in_data some).1 in let same = place_size size image p at in omega (arith, below, same))
 ]
 
+-- each number of an inode that owns data sectors alone is one
+pub level_below : (size : ℕ) (image : SectorMap) (p : Place) (m : SectorMap) (v : Inode) (level i : ℕ) → IsPlaceOf size image p → OwnsData p m v
+    → number_on m v level i < size
+level_below size image p m v level i at in_data =
+    number_below size image p at (number_on m v level i) (λ some. in_data (number_on m v level i) (owns_on_level m v level i some))
+
 module _ (p : Place) (m : SectorMap) (v : Inode) where
   pub in_data_more : (level first i s : ℕ) (r : Bool) → s ≡ number_on m v level i → (IsTrue r ↔ (s ≢ 0 → IsData p s)) → r ≡ true
       → AreInData p m v level first i → AreInData p m v level first (i + 1)

@@ -78,8 +78,8 @@ found_none p m r k (Some n) says least = absurd cc
 found_none p m r k None says each = each
 
 -- two rules of one part, of which the second was tried along with the first
-module _ (old new : DiskState) {p : Place} {targets : List ℕ} (r q : ImageRule) (k : ℕ) (is : rule_number r ≡ k) (then : rule_number q ≡ k + 1)
-    (opened : BeginsWith old p targets) (before : ObeysBefore p (meaning old) k) (reads : OnlyReads old new) (each : ObeysEach p (meaning old) r) (first : Option ℕ)
+module _ (old new : DiskState) {p : Place} {area : ℕ} {targets : List ℕ} (r q : ImageRule) (k : ℕ) (is : rule_number r ≡ k) (then : rule_number q ≡ k + 1)
+    (opened : BeginsWith old p area targets) (before : ObeysBefore p (meaning old) k) (reads : OnlyReads old new) (each : ObeysEach p (meaning old) r) (first : Option ℕ)
     (found : MatchOption first (ObeysEach p (meaning old) q) (λ n. IsLeastFailure p (meaning old) q n)) where
   before_second : ObeysBefore p (meaning old) (k + 1)
   before_second = next_before old old r k is reads_nothing before each

@@ -8,7 +8,7 @@ use Rattle.fs_layout.specs.declared.inode.Inode.{Inode}
 use Rattle.fs_layout.specs.Bytes.{SectorMap}
 use Rattle.fs_layout.specs.Images.{number_on, pointer, holder, first_block, HasPointers}
 use Rattle.fs_layout.proofs.Pointers.{number_on_double, number_on_past, no_number_on}
-use Rattle.fs_check.specs.LastBlocks.{last_block, FitsPointer, FitBlocks, FitSectors, FitPointers}
+use Rattle.fs_check.specs.LastBlocks.{last_block, FitsPointer, FitBlocks, FitListed, FitBefore, FitSectors, FitPointers}
 use Rattle.fs_check.specs.Owning.{AreListed}
 use Rattle.fs_check.proofs.DataNumbers.{none_found, listed_own}
 use Rattle.fs_check.proofs.Tests.{refuses}
@@ -59,6 +59,9 @@ module _ (m : SectorMap) (v : Inode) where
   pub blocks_of : FitPointers m v → (first end : ℕ) → FitBlocks m v first end
   blocks_of fit first end k ge lt = record { past = λ le. fit.trim 0 k le; below = λ ne low. fit.whole ne k low }
 
+  pub listed_of : FitPointers m v → (j : ℕ) → FitListed m v j
+  listed_of fit j = blocks_of fit (DIRECT_BLOCKS + SECTOR_POINTERS * j) (DIRECT_BLOCKS + SECTOR_POINTERS * (j + 1))
+
   pub not_whole : (P : Type 0) (r : Bool) → (FitPointers m v → P) → (IsTrue r ↔ P) → r ≡ false → IsTrue false ↔ FitPointers m v
   not_whole P r from test bad = (
     (λ f. absurd (let c : false ≡ true = f in cc)),
@@ -80,11 +83,10 @@ module _ (m : SectorMap) (v : Inode) where
       whole : v.kind ≢ kinds.File → (k : ℕ) → 512 * k < v.size → pointer m v k ≢ 0
       whole ne k lt = (direct k (omega arith) (omega (arith, small, lt))).below ne lt
 
-  -- or it does: only the one that the last block is found by can be in part past the size
+  -- or it does: only the one that the last block is found by can be in part past the size, and those before it list no hole
   pub fit_large : (i : ℕ) → FitSectors m v → FitBlocks m v 0 DIRECT_BLOCKS → i ≡ (last_block v - DIRECT_BLOCKS) / SECTOR_POINTERS → DIRECT_BLOCKS ≤ last_block v
-      → (v.kind ≢ kinds.File → v.size ≤ 512 * INDIRECT_END)
-      → FitBlocks m v (DIRECT_BLOCKS + SECTOR_POINTERS * i) (DIRECT_BLOCKS + SECTOR_POINTERS * (i + 1)) → FitPointers m v
-  fit_large i sectors direct at large few last = record { trim = trim; whole = whole }
+      → FitBefore m v i → FitListed m v i → FitPointers m v
+  fit_large i sectors direct at large before last = record { trim = trim; whole = whole }
     where
       trim : (level j : ℕ) → v.size ≤ 512 * first_block level j → number_on m v level j ≡ 0
       trim zero k le = elim (cases_lt k DIRECT_BLOCKS) [
@@ -102,10 +104,12 @@ module _ (m : SectorMap) (v : Inode) where
       whole : v.kind ≢ kinds.File → (k : ℕ) → 512 * k < v.size → pointer m v k ≢ 0
       whole ne k lt = elim (cases_lt k DIRECT_BLOCKS) [
         | inl low ↦ (direct k (omega arith) low).below ne lt
-        | inr ge ↦
-            let small = few ne in
-            let first : i ≡ 0 = omega (arith, at, small) in
-            (last k (omega (arith, ge, first)) (omega (arith, first, small, lt))).below ne lt
+        | inr ge ↦ elim (cases_lt (holder DIRECT_BLOCKS k) i) [
+          | inl low ↦ (before ne (holder DIRECT_BLOCKS k) low k (omega (arith, ge)) (omega (arith, ge))).below ne lt
+          | inr past ↦
+              let here : holder DIRECT_BLOCKS k ≡ i = omega (arith, at, ge, past, lt) in
+              (last k (omega (arith, ge, here)) (omega (arith, ge, here))).below ne lt
+        ]
       ]
 
   -- ---- the content in which the number of the last block stands

@@ -76,11 +76,11 @@ good_by_default old mid v reads a b r is good placed access later =
 
 -- ---- their sectors
 
-module _ (old mid : DiskState) (p : Place) (targets : List ℕ) (inodes : List Inode) (n : ℕ) (d : Inode)
-    (reads : OnlyReads old mid) (opened : BeginsWith old p targets)
+module _ {area : ℕ} {targets : List ℕ} (old mid : DiskState) (p : Place) (inodes : List Inode) (n : ℕ) (d : Inode)
+    (reads : OnlyReads old mid) (opened : BeginsWith old p area targets)
     (table : AreInodes p (meaning old) inodes) (before : ObeysBefore p (meaning old) 9) (lt : n < p.inodes) where
   on_disk : (s : ℕ) → (s ≢ 0 → s < p.sectors) → s < mid.size
-  on_disk zero below = let some = room old p targets opened in let kept = reads.narrowed.size in omega (arith, some, kept)
+  on_disk zero below = let some = room old p opened in let kept = reads.narrowed.size in omega (arith, some, kept)
   on_disk (suc s) below =
       let small : suc s < p.sectors = below (λ e. cc) in
       let same = place_size _ _ p opened.place in

@@ -39,14 +39,14 @@ two_of_sum f a (suc n) i j from lt to =
     ]
 
 -- two directories that name an inode make two namings
-two_namings : (p : Place) (m : SectorMap) (n d e : ℕ) → d < p.inodes → e < p.inodes → d ≢ e → 1 ≤ namings_in m (inode_at p m d) n
-    → 1 ≤ namings_in m (inode_at p m e) n → 2 ≤ namings p m n
+two_namings : (p : Place) (m : SectorMap) (n d e : ℕ) → d < p.inodes → e < p.inodes → d ≢ e → 1 ≤ namings_in p.version m (inode_at p m d) n
+    → 1 ≤ namings_in p.version m (inode_at p m e) n → 2 ≤ namings p m n
 two_namings p m n d e dl el apart x y = elim (cases_lt d e) [
   | inl lt ↦
-      let both = two_of_sum (λ k. namings_in m (inode_at p m k) n) 0 p.inodes d e (omega arith) lt (omega (arith, el)) in
+      let both = two_of_sum (λ k. namings_in p.version m (inode_at p m k) n) 0 p.inodes d e (omega arith) lt (omega (arith, el)) in
       omega (arith, both, x, y)
   | inr ge ↦
-      let both = two_of_sum (λ k. namings_in m (inode_at p m k) n) 0 p.inodes e d (omega arith) (omega (arith, ge, apart)) (omega (arith, dl)) in
+      let both = two_of_sum (λ k. namings_in p.version m (inode_at p m k) n) 0 p.inodes e d (omega arith) (omega (arith, ge, apart)) (omega (arith, dl)) in
       omega (arith, both, x, y)
 ]
 
@@ -81,7 +81,7 @@ module _ (p : Place) (m : SectorMap) (counts directories : List ℕ) (table : Is
     (n : ℕ) (lt : n < p.inodes) where
   one_naming : (inode_at p m n).kind ≡ kinds.Directory → n ≢ root → namings p m n ≡ 1
   one_naming is other =
-      (subst (λ k. HasNameCount k n (inode_at p m n).names (namings p m n)) is (before Names (omega arith) n lt)).1
+      (subst (λ k. HasNameCount p.version k n (inode_at p m n).names (namings p m n)) is (before Names (omega arith) n lt)).1
       ∙ ap (λ b. if b then 0 else 1) (ne_eqb n root other)
 
   root_is_directory : n ≡ root → (inode_at p m n).kind ≡ kinds.Directory
@@ -93,7 +93,7 @@ module _ (p : Place) (m : SectorMap) (counts directories : List ℕ) (table : Is
         let one = one_naming kind other in
         let at = table.named_by n lt (omega (arith, one)) in
         let same = is ∙ parent_of_directory n (get_or directories n 0) (inode_at p m n).kind other kind in
-        subst (λ d. (d < p.inodes) × (1 ≤ namings_in m (inode_at p m d) n)) (sym same) at;
+        subst (λ d. (d < p.inodes) × (1 ≤ namings_in p.version m (inode_at p m d) n)) (sym same) at;
     top = λ e. is ∙ parent_of_root n (get_or directories n 0) (inode_at p m n).kind e;
     none = λ other. is ∙ no_parent n (get_or directories n 0) (inode_at p m n).kind (λ e. other (root_is_directory e)) other;
   }

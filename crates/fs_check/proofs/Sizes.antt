@@ -31,7 +31,7 @@ record IsRead (s : List ℕ) (v : Inode) : Type 0 where
   fits : inode_fits v ≡ true
   free : v.kind ≡ kinds.Free → v.size ≡ 0
 
-read_if : (o : Option Kind) (s : List ℕ) (v : Inode) → inode_if o s ≡ Ok v → IsRead s v
+read_if : (o : Option Kind) (s : List ℕ) (v : Inode) → inode_if inode_fits o s ≡ Ok v → IsRead s v
 read_if None s v e = absurd cc
 read_if (Some kind) s v e =
     let a = held (inode_fits (fields_of kind s)) (cond (are_zero (drop (fields_end kind) s)) (Ok (fields_of kind s)) (Err NotZero)) BadNumber v e in
@@ -60,22 +60,20 @@ good_size p m n good = go (inode_at p m n).kind refl
     go : (k : Kind) → (inode_at p m n).kind ≡ k → HasSize (inode_at p m n)
     go kinds.Free e =
         let none = read.free e in
-        record { most = omega (arith, none); few = λ ne. omega (arith, none); short = λ link. omega (arith, none) }
+        record { most = omega (arith, none); short = λ link. omega (arith, none) }
     go kinds.File e =
         let size = good.allowed.size e in
         let bound = (file_bounds p.version).1 in
         record {
           most = omega (arith, size, bound);
-          few = λ ne. absurd (ne e);
           short = λ link. absurd (let c : kinds.File ≡ kinds.Link = sym e ∙ link in cc);
         }
     go kinds.Directory e =
         let size = (directory_fits (inode_at p m n) e read.fits).1 in
         record {
           most = omega (arith, size);
-          few = λ ne. omega (arith, size);
           short = λ link. absurd (let c : kinds.Directory ≡ kinds.Link = sym e ∙ link in cc);
         }
     go kinds.Link e =
         let size = (link_fits (inode_at p m n) e read.fits).2 in
-        record { most = omega (arith, size); few = λ ne. omega (arith, size); short = λ link. omega (arith, size) }
+        record { most = omega (arith, size); short = λ link. omega (arith, size) }

@@ -1,5 +1,5 @@
 -- Inodes read from the table.
-use Rattle.std.specs.Prelude.{◌≡◌, ℕ, ◌+◌, ◌-◌, ◌*◌, ◌/◌, ◌%◌, ◌<◌, ◌≤◌, List, length, get_or, ◌++◌, []}
+use Rattle.std.specs.Prelude.{◌≡◌, ℕ, ◌+◌, ◌-◌, ◌*◌, ◌/◌, ◌%◌, ◌^◌, ◌<◌, ◌≤◌, List, length, get_or, ◌++◌, []}
 use Rattle.std.specs.Prelude.{◌∷◌, Option, Some, None, Ok, IfSome, IfNone, MatchOption}
 use Rattle.std.proofs.Common.{sym, ap, arith, ◌∙◌, subst, inl, inr}
 use Rattle.std.proofs.lemmas.Bool.{cases_lt}
@@ -8,11 +8,12 @@ use Rattle.fs_layout.specs.declared.inode.TheConstants.{INODE_SIZE}
 use Rattle.fs_layout.specs.declared.inode.Inode.{Inode}
 use Rattle.fs_layout.specs.declared.inode.Kind.TheVariants.{Free, Directory}
 use Rattle.fs_layout.specs.declared.place.Place.{Place}
+use Rattle.fs_layout.specs.declared.version.Version.TheVariants.{Three}
 use Rattle.fs_layout.specs.Bytes.{SectorMap, window}
 use Rattle.fs_layout.specs.Inode.{inode_of}
-use Rattle.fs_layout.specs.Version.{max_file_size}
 use Rattle.fs_layout.specs.Images.{stored, inode_at, inode_or_free}
-use Rattle.fs_layout.proofs.Places.{place_is_place}
+use Rattle.fs_layout.specs.Version.{max_inodes}
+use Rattle.fs_layout.proofs.Places.{numbers_most, place_is_place}
 use Rattle.fs_model.specs.Rules.{IsPlaceOf, IsAllowed, IsGoodInode}
 use Rattle.fs_check.proofs.Openings.{place_size}
 
@@ -20,17 +21,18 @@ use Rattle.fs_check.proofs.Openings.{place_size}
 pub record HasSector (size : ℕ) (p : Place) (n : ℕ) : Type 0 where
   pub on_disk : p.table + n / 4 < size
   pub room : 128 ≤ size
-  pub small : size ≤ 65536
+  pub small : size < 2 ^ 32
+  pub few : n < max_inodes Three
 
 pub table_place : (size : ℕ) (image : SectorMap) (p : Place) (n : ℕ) → IsPlaceOf size image p → n < p.inodes → HasSector size p n
 table_place size image p n x lt =
-    let place = place_is_place _ size x.super.inodes x.has_place in
+    let place = place_is_place _ _ size x.super.inodes x.has_place in
     let same = place_size size image p x in
     let slots = place.slots in
     let room = place.data_sectors in
     let least = place.least_sectors in
-    let most = place.most_sectors in
-    record { on_disk = omega (arith, same, slots, room, lt); room = omega (arith, same, least); small = omega (arith, same, most) }
+    let most = numbers_most place in
+    record { on_disk = omega (arith, same, slots, room, lt); room = omega (arith, same, least); small = omega (arith, same, most.0); few = omega (arith, lt, most.1) }
 
 at_is : (p : Place) (m : SectorMap) (n : ℕ) (v : Inode) → inode_of (stored p m n) ≡ Ok v → inode_at p m n ≡ v
 unfolding inode_at
@@ -40,22 +42,22 @@ there : (p : Place) (m : SectorMap) (n : ℕ) (content : List ℕ) → content �
 unfolding stored
 there p m n content e = ap (λ (s : List ℕ). window s (INODE_SIZE * (n % 4)) INODE_SIZE) e
 
-pub good_is : (p : Place) (m : SectorMap) (n limit : ℕ) (content : List ℕ) (o : Option Inode) → limit ≡ max_file_size p.version → content ≡ m (p.table + n / 4)
-    → IfSome o (λ v. inode_of (window content (INODE_SIZE * (n % 4)) INODE_SIZE) ≡ Ok v) → IfSome o (λ v. IsAllowed limit v) → IfSome o (λ v. n ≡ 0 → v.kind ≡ Free) → IfSome o (λ v. n ≡ 1 → v.kind ≡ Directory)
-    → IfNone o ((v : Inode) → inode_of (window content (INODE_SIZE * (n % 4)) INODE_SIZE) ≡ Ok v → IsAllowed limit v → (n ≡ 0 → v.kind ≡ Free) → (n ≡ 1 → v.kind ≡ Directory) → ⊥)
+pub good_is : (p : Place) (m : SectorMap) (n : ℕ) (content : List ℕ) (o : Option Inode) → content ≡ m (p.table + n / 4)
+    → IfSome o (λ v. inode_of (window content (INODE_SIZE * (n % 4)) INODE_SIZE) ≡ Ok v) → IfSome o (λ v. IsAllowed p.version v) → IfSome o (λ v. n ≡ 0 → v.kind ≡ Free) → IfSome o (λ v. n ≡ 1 → v.kind ≡ Directory)
+    → IfNone o ((v : Inode) → inode_of (window content (INODE_SIZE * (n % 4)) INODE_SIZE) ≡ Ok v → IsAllowed p.version v → (n ≡ 0 → v.kind ≡ Free) → (n ≡ 1 → v.kind ≡ Directory) → ⊥)
     → MatchOption o (IsGoodInode p m n → ⊥) (λ v. IsGoodInode p m n × (v ≡ inode_at p m n))
-good_is p m n limit content (Some v) most e is allowed free top none =
+good_is p m n content (Some v) e is allowed free top none =
     let read : inode_of (stored p m n) ≡ Ok v = ap inode_of (sym (there p m n content e)) ∙ is in
     let same : inode_at p m n ≡ v = at_is p m n v read in (
       record {
         is = read ∙ ap (λ u. Ok u) (sym same);
-        allowed = subst (IsAllowed (max_file_size p.version)) (sym same) (subst (λ k. IsAllowed k v) most allowed);
+        allowed = subst (IsAllowed p.version) (sym same) allowed;
         none = λ z. ap (λ (u : Inode). u.kind) same ∙ free z;
         top = λ z. ap (λ (u : Inode). u.kind) same ∙ top z;
       },
       sym same,
     )
-good_is p m n limit content None most e is allowed free top none = λ good. none (inode_at p m n) (ap inode_of (there p m n content e) ∙ good.is) (subst (λ k. IsAllowed k (inode_at p m n)) (sym most) good.allowed) good.none good.top
+good_is p m n content None e is allowed free top none = λ good. none (inode_at p m n) (ap inode_of (there p m n content e) ∙ good.is) good.allowed good.none good.top
 
 -- one more in a vector
 pub more_there : {A : Type 0} (xs ys : List A) (x d : A) (what : ℕ → A) (n : ℕ) → ys ≡ xs ++ x ∷ [] → length xs ≡ n

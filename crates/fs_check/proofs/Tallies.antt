@@ -1,5 +1,5 @@
 -- What directories name, counted.
-use Rattle.std.specs.Prelude.{◌≡◌, ◌≢◌, ℕ, zero, suc, ◌+◌, ◌*◌, ◌<◌, ◌≤◌, ◌^◌, ◌==◌, MatchOption, Bool, true, false, cond, List, [], length, get_or, take}
+use Rattle.std.specs.Prelude.{◌≡◌, ◌≢◌, ℕ, zero, suc, ◌+◌, ◌*◌, ◌/◌, ◌<◌, ◌≤◌, ◌^◌, ◌==◌, MatchOption, Bool, true, false, cond, List, [], length, get_or, take}
 use Rattle.std.specs.Prelude.{drop, set, count_by, sum_by, Option, Some, None, Ok, Err, IsTrue, ◌↔◌}
 use Rattle.std.specs.List.{range_with_len}
 use Rattle.std.specs.Option.{is_some}
@@ -8,13 +8,16 @@ use Rattle.std.proofs.lemmas.Bool.{cases_eq, eq-eqb, ne_eqb}
 use Rattle.std.proofs.lemmas.List.FromFn.{fill_by_all, length-range_with_len}
 use Rattle.std.proofs.lemmas.List.Sums.{sum_by-cons, sum_by_more, count_by-le-length}
 use Rattle.fs_layout.specs.declared.inode.TheConstants.{MAX_DIRECTORY_SIZE}
-use Rattle.fs_layout.specs.declared.slot.TheConstants.{MAX_NAMES}
+use Rattle.fs_layout.specs.declared.slot.TheConstants.{SLOT_SIZE}
 use Rattle.fs_layout.specs.declared.fault.LayoutFault.TheVariants.{BadNumber, NotZero}
 use Rattle.fs_layout.specs.declared.inode.Inode.{Inode}
 use Rattle.fs_layout.specs.declared.inode.Kind.{Kind}
 use Rattle.fs_layout.specs.declared.inode.Kind.TheVariants as kinds
 use Rattle.fs_layout.specs.declared.place.Place.{Place}
+use Rattle.fs_layout.specs.declared.version.Version.{Version}
+use Rattle.fs_layout.specs.declared.version.Version.TheVariants.{One, Two, Three}
 use Rattle.fs_layout.specs.Bytes.{SectorMap, are_zero, u16_of}
+use Rattle.fs_layout.specs.Version.{max_inodes}
 use Rattle.fs_layout.specs.Inode.{inode_of, inode_if, inode_fits, fields_of, fields_end, kind_of}
 use Rattle.fs_layout.specs.Images.{stored, inode_at}
 use Rattle.fs_layout.specs.Directories.{NamedInode, HaveDistinctNames, slot_count, slot_at}
@@ -90,7 +93,7 @@ held kind s v true true fits e = let same : fields_of kind s ≡ v = same_ok (fi
 held kind s v true false fits e = absurd cc
 held kind s v false z fits e = absurd cc
 
-fits_if : (o : Option Kind) (s : List ℕ) (v : Inode) → inode_if o s ≡ Ok v → IsTrue (inode_fits v)
+fits_if : (o : Option Kind) (s : List ℕ) (v : Inode) → inode_if inode_fits o s ≡ Ok v → IsTrue (inode_fits v)
 fits_if None s v e = absurd cc
 fits_if (Some kind) s v e = held kind s v (inode_fits (fields_of kind s)) (are_zero (drop (fields_end kind) s)) refl e
 
@@ -103,15 +106,18 @@ directory_size p m n good is = (directory_fits (inode_at p m n) is (read_fits (s
 
 -- ---- the names in a directory
 
-are_slots_of : (m : SectorMap) (v : Inode) (slots : List NamedInode) → AreSlots m v slots → slots ≡ slots_of m v
+are_slots_of : (version : Version) (m : SectorMap) (v : Inode) (slots : List NamedInode) → AreSlots version m v slots → slots ≡ slots_of version m v
 unfolding slots_of
-are_slots_of m v slots are = fill_by_all (slot_at m v) slots (slot_count v) (slot_at m v 0) are.len (λ k lt. are.each k (slot_at m v 0) lt)
+are_slots_of version m v slots are =
+    let none = slot_at version m v 0 in
+    fill_by_all (slot_at version m v) slots (slot_count version v) none are.len (λ k lt. are.each k none lt)
 
-namings_of : (m : SectorMap) (v : Inode) (slots : List NamedInode) (n : ℕ) → v.kind ≡ kinds.Directory → AreSlots m v slots → naming n slots ≡ namings_in m v n
+namings_of : (version : Version) (m : SectorMap) (v : Inode) (slots : List NamedInode) (n : ℕ) → v.kind ≡ kinds.Directory → AreSlots version m v slots
+    → naming n slots ≡ namings_in version m v n
 unfolding slots_naming
-namings_of m v slots n is are =
-    ap (naming n) (are_slots_of m v slots are) ∙ naming-slots_of m v n
-    ∙ sym (ap (λ k. cond (is_directory_kind k) (count_by (λ k. (slot_at m v k).inode == n) (range_with_len 0 (slot_count v))) 0) is)
+namings_of version m v slots n is are =
+    ap (naming n) (are_slots_of version m v slots are) ∙ naming-slots_of version m v n
+    ∙ sym (ap (λ k. cond (is_directory_kind k) (count_by (λ k. (slot_at version m v k).inode == n) (range_with_len 0 (slot_count version v))) 0) is)
 
 other_kind : (k : Kind) → k ≢ kinds.Directory → is_directory_kind k ≡ false
 other_kind kinds.Free ne = refl
@@ -119,21 +125,27 @@ other_kind kinds.File ne = refl
 other_kind kinds.Directory ne = absurd (ne refl)
 other_kind kinds.Link ne = refl
 
-no_namings : (m : SectorMap) (v : Inode) (n : ℕ) → v.kind ≢ kinds.Directory → namings_in m v n ≡ 0
-no_namings m v n ne = ap (λ b. cond b (count_by (λ k. (slot_at m v k).inode == n) (range_with_len 0 (slot_count v))) 0) (other_kind v.kind ne)
+-- a directory has at most as many slots as the largest one has of the smallest
+pub few_slots : (version : Version) (v : Inode) → v.size ≤ MAX_DIRECTORY_SIZE → slot_count version v ≤ MAX_DIRECTORY_SIZE / SLOT_SIZE
+few_slots One v small = omega (arith, small)
+few_slots Two v small = omega (arith, small)
+few_slots Three v small = omega (arith, small)
 
-few_namings : (m : SectorMap) (v : Inode) (n : ℕ) → (v.kind ≡ kinds.Directory → v.size ≤ MAX_DIRECTORY_SIZE) → namings_in m v n ≤ MAX_NAMES
-few_namings m v n small = go v.kind refl
+no_namings : (version : Version) (m : SectorMap) (v : Inode) (n : ℕ) → v.kind ≢ kinds.Directory → namings_in version m v n ≡ 0
+no_namings version m v n ne = ap (λ b. cond b (count_by (λ k. (slot_at version m v k).inode == n) (range_with_len 0 (slot_count version v))) 0) (other_kind v.kind ne)
+
+few_namings : (version : Version) (m : SectorMap) (v : Inode) (n : ℕ) → (v.kind ≡ kinds.Directory → v.size ≤ MAX_DIRECTORY_SIZE) → namings_in version m v n ≤ MAX_DIRECTORY_SIZE / SLOT_SIZE
+few_namings version m v n small = go v.kind refl
   where
-    go : (k : Kind) → v.kind ≡ k → namings_in m v n ≤ MAX_NAMES
-    go kinds.Free e = let z = no_namings m v n (λ d. absurd (let c : kinds.Free ≡ kinds.Directory = sym e ∙ d in cc)) in omega (arith, z)
-    go kinds.File e = let z = no_namings m v n (λ d. absurd (let c : kinds.File ≡ kinds.Directory = sym e ∙ d in cc)) in omega (arith, z)
-    go kinds.Link e = let z = no_namings m v n (λ d. absurd (let c : kinds.Link ≡ kinds.Directory = sym e ∙ d in cc)) in omega (arith, z)
+    go : (k : Kind) → v.kind ≡ k → namings_in version m v n ≤ MAX_DIRECTORY_SIZE / SLOT_SIZE
+    go kinds.Free e = let z = no_namings version m v n (λ d. absurd (let c : kinds.Free ≡ kinds.Directory = sym e ∙ d in cc)) in omega (arith, z)
+    go kinds.File e = let z = no_namings version m v n (λ d. absurd (let c : kinds.File ≡ kinds.Directory = sym e ∙ d in cc)) in omega (arith, z)
+    go kinds.Link e = let z = no_namings version m v n (λ d. absurd (let c : kinds.Link ≡ kinds.Directory = sym e ∙ d in cc)) in omega (arith, z)
     go kinds.Directory e =
-        let size = small e in
-        let some = ap (λ k. cond (is_directory_kind k) (count_by (λ k. (slot_at m v k).inode == n) (range_with_len 0 (slot_count v))) 0) e in
-        let few = count_by-le-length (λ k. (slot_at m v k).inode == n) (range_with_len 0 (slot_count v)) in
-        let long = length-range_with_len 0 (slot_count v) in
+        let size = few_slots version v (small e) in
+        let some = ap (λ k. cond (is_directory_kind k) (count_by (λ k. (slot_at version m v k).inode == n) (range_with_len 0 (slot_count version v))) 0) e in
+        let few = count_by-le-length (λ k. (slot_at version m v k).inode == n) (range_with_len 0 (slot_count version v)) in
+        let long = length-range_with_len 0 (slot_count version v) in
         omega (arith, size, some, few, long)
 
 -- ---- sums
@@ -164,25 +176,25 @@ sum_below f b (suc n) each =
 
 module _ (p : Place) (m : SectorMap) where
   abbrev so_far : ℕ → ℕ → ℕ
-  so_far upto n = sum_by (λ d. namings_in m (inode_at p m d) n) (range_with_len 0 upto)
+  so_far upto n = sum_by (λ d. namings_in p.version m (inode_at p m d) n) (range_with_len 0 upto)
 
   next_tally : (d : ℕ) (slots : List NamedInode) (c0 d0 c1 d1 : List ℕ) → d < p.inodes → (inode_at p m d).kind ≡ kinds.Directory
-      → AreSlots m (inode_at p m d) slots → AddsSlots d slots c0 d0 c1 d1 → IsTally p m d c0 d0 → IsTally p m (d + 1) c1 d1
+      → AreSlots p.version m (inode_at p m d) slots → AddsSlots d slots c0 d0 c1 d1 → IsTally p m d c0 d0 → IsTally p m (d + 1) c1 d1
   next_tally d slots c0 d0 c1 d1 below is are more t =
       let width = t.counts_len in
       let depth = t.directories_len in
       let sum : (n : ℕ) → n < p.inodes → get_or c1 n 0 ≡ so_far (d + 1) n = λ n lt.
       let added = more.counted n (omega (arith, lt, width)) in
       let before = t.counted n lt in
-      let here = namings_of m (inode_at p m d) slots n is are in
-      let next = sum_next (λ d. namings_in m (inode_at p m d) n) d in
+      let here = namings_of p.version m (inode_at p m d) slots n is are in
+      let next = sum_next (λ d. namings_in p.version m (inode_at p m d) n) d in
       omega (arith, added, before, here, next) in
       record {
         counts_len = more.counts_len ∙ width;
         directories_len = more.directories_len ∙ depth;
         counted = sum;
         named_by = λ n lt some.
-            let here = namings_of m (inode_at p m d) slots n is are in
+            let here = namings_of p.version m (inode_at p m d) slots n is are in
             elim (cases_eq (naming n slots) 0) [
               | inl none ↦
                   let added = more.counted n (omega (arith, lt, width)) in
@@ -199,20 +211,20 @@ module _ (p : Place) (m : SectorMap) where
     directories_len = t.directories_len;
     counted = λ n lt.
         let before = t.counted n lt in
-        let here = no_namings m (inode_at p m d) n other in
-        let next = sum_next (λ d. namings_in m (inode_at p m d) n) d in
+        let here = no_namings p.version m (inode_at p m d) n other in
+        let next = sum_next (λ d. namings_in p.version m (inode_at p m d) n) d in
         omega (arith, before, here, next);
     named_by = t.named_by;
   }
 
   -- there is room for one directory more in each count
-  pub has_room : (d : ℕ) (slots : List NamedInode) (c0 d0 : List ℕ) → d < 262144
+  pub has_room : (d : ℕ) (slots : List NamedInode) (c0 d0 : List ℕ) → d < max_inodes Three
       → ((k : ℕ) → k < d → (inode_at p m k).kind ≡ kinds.Directory → (inode_at p m k).size ≤ MAX_DIRECTORY_SIZE)
-      → length slots ≤ MAX_NAMES → IsTally p m d c0 d0 → (n : ℕ) → n < length c0 → get_or c0 n 0 + length slots < 2 ^ 32
+      → length slots ≤ MAX_DIRECTORY_SIZE / SLOT_SIZE → IsTally p m d c0 d0 → (n : ℕ) → n < length c0 → get_or c0 n 0 + length slots < 2 ^ 64
   has_room d slots c0 d0 low small few t n lt =
       let width = t.counts_len in
       let sum = t.counted n (omega (arith, lt, width)) in
-      let bound = sum_below (λ d. namings_in m (inode_at p m d) n) MAX_NAMES d (λ k less. few_namings m (inode_at p m k) n (small k less)) in
+      let bound = sum_below (λ d. namings_in p.version m (inode_at p m d) n) (MAX_DIRECTORY_SIZE / SLOT_SIZE) d (λ k less. few_namings p.version m (inode_at p m k) n (small k less)) in
       omega (arith, low, few, sum, bound)
 
   pub no_tally : (c0 d0 : List ℕ) → length c0 ≡ p.inodes → length d0 ≡ p.inodes → ((n : ℕ) → n < p.inodes → get_or c0 n 0 ≡ 0) → IsTally p m 0 c0 d0
@@ -232,17 +244,17 @@ module _ (p : Place) (m : SectorMap) where
 
   -- ---- a name that stands twice
 
-  pub names_apart : (d : ℕ) (slots : List NamedInode) → d < p.inodes → (inode_at p m d).kind ≡ kinds.Directory → AreSlots m (inode_at p m d) slots
+  pub names_apart : (d : ℕ) (slots : List NamedInode) → d < p.inodes → (inode_at p m d).kind ≡ kinds.Directory → AreSlots p.version m (inode_at p m d) slots
       → HaveDistinctNames slots ↔ Obeys p m NamesApart d
   names_apart d slots below is are =
       let len = are.len in
-      let name : (k : ℕ) (x : NamedInode) → k < slot_count (inode_at p m d) → (get_or slots k x).name ≡ (slot_at m (inode_at p m d) k).name =
+      let name : (k : ℕ) (x : NamedInode) → k < slot_count p.version (inode_at p m d) → (get_or slots k x).name ≡ (slot_at p.version m (inode_at p m d) k).name =
       λ k x lt. ap (λ (y : NamedInode). y.name) (are.each k x lt) in (
         (λ apart lt kind j k less fits same.
-            let none = slot_at m (inode_at p m d) 0 in
+            let none = slot_at p.version m (inode_at p m d) 0 in
             apart j k none less (omega (arith, fits, len)) (name j none (omega (arith, less, fits)) ∙ same ∙ sym (name k none fits))),
         (λ obeys j k x less fits same.
-            let within : k < slot_count (inode_at p m d) = omega (arith, fits, len) in
+            let within : k < slot_count p.version (inode_at p m d) = omega (arith, fits, len) in
             obeys below is j k less within (sym (name j x (omega (arith, less, within))) ∙ same ∙ name k x within)),
       )
 
@@ -251,7 +263,7 @@ module _ (p : Place) (m : SectorMap) where
   still_repeated d (Some k) here x = x
 
   pub next_naming : (d : ℕ) (slots : List NamedInode) (c0 d0 c1 d1 : List ℕ) (first second : Option ℕ) → d < p.inodes → (inode_at p m d).kind ≡ kinds.Directory
-      → AreSlots m (inode_at p m d) slots → AddsSlots d slots c0 d0 c1 d1 → IsNaming p m d c0 d0 first
+      → AreSlots p.version m (inode_at p m d) slots → AddsSlots d slots c0 d0 c1 d1 → IsNaming p m d c0 d0 first
       → (IsRepeated p m d first → (HaveDistinctNames slots ↔ Obeys p m NamesApart d) → IsRepeated p m (d + 1) second) → IsNaming p m (d + 1) c1 d1 second
   next_naming d slots c0 d0 c1 d1 first second below is are more x next = record {
     tally = next_tally d slots c0 d0 c1 d1 below is are more x.tally;

@@ -1,10 +1,10 @@
 -- The bits of the inode bitmap, tried one after the other.
 use Rattle.std.specs.Prelude.{◌≡◌, ◌≢◌, ℕ, ◌+◌, ◌/◌, ◌%◌, ◌<◌, nat_eq, nat_lt, nat_le, not, ◌||◌, Bool, true, false, List, ◌↔◌, Err}
-use Rattle.std.proofs.Common.{refl, sym, subst}
+use Rattle.std.proofs.Common.{refl, ap, arith, ◌∙◌}
 use Rattle.std.proofs.Math.Bool.{beq}
 use Rattle.fs_layout.specs.declared.place.Place.{Place}
 use Rattle.fs_layout.specs.Bytes.{SectorMap, u16_of}
-use Rattle.fs_layout.specs.Images.{bit, inode_bitmap, stored}
+use Rattle.fs_layout.specs.Images.{inode_map_bits, bit, stored}
 use Rattle.fs_model.specs.Rules.{IsBit, InodeBits}
 use Rattle.sector_disk.specs.Disk.{DiskState, OnlyReads}
 use Rattle.sector_disk.proofs.Moments.{reads_joined}
@@ -16,39 +16,45 @@ use Rattle.fs_check.proofs.Carrying.{meaning_same}
 use Rattle.fs_check.proofs.Tables.{more_good}
 use Rattle.fs_check.proofs.TableSectors.{same_sector, sector_back}
 
--- The bits below n are as they have to be; the table's sector that was read last is that of n, unless n is the first of its own.
-pub record AreBits (p : Place) (old now : DiskState) (n : ℕ) (table : List ℕ) : Type 0 where
+-- The bits below n are as they have to be; the sectors of the bitmap and of the table that were read last are those of n, unless n is
+-- the first of its own.
+pub record AreBits (p : Place) (old now : DiskState) (n : ℕ) (map table : List ℕ) : Type 0 where
   pub reads : OnlyReads old now
+  pub map_kept : n % 4096 ≢ 0 → map ≡ meaning old (p.inode_bitmap + n / 4096)
   pub kept : n % 4 ≢ 0 → IsTableSector p (meaning old) n table
   pub good : (k : ℕ) → k < n → IsBit p (meaning old) k
 
 -- a test of bit n, where those before it have passed
-module _ (s0 s1 s2 s3 : DiskState) (p : Place) (n : ℕ) (map table new : List ℕ) (b t : Bool) (first : OnlyReads s0 s1) (so_far : AreBits p s1 s2 n table)
-    (reads : OnlyReads s2 s3) (lt : n < 4096) (read : map ≡ meaning s0 inode_bitmap) (there : IsTableSector p (meaning s2) n new)
-    (set : (m : SectorMap) (start : ℕ) → map ≡ m (start + n / 4096) → b ≡ bit m start n)
+module _ (s0 s1 s2 s3 : DiskState) (p : Place) (n : ℕ) (map table new_map new : List ℕ) (b t : Bool) (so_far : AreBits p s0 s1 n map table)
+    (first : OnlyReads s1 s2) (second : OnlyReads s2 s3) (lt : n < inode_map_bits p) (read : new_map ≡ meaning s1 (p.inode_bitmap + n / 4096))
+    (there : IsTableSector p (meaning s2) n new)
+    (set : (m : SectorMap) (start : ℕ) → new_map ≡ m (start + n / 4096) → b ≡ bit m start n)
     (taken : (m : SectorMap) → IsTableSector p m n new → t ≡ (nat_lt n 2 || nat_le p.inodes n || not (nat_eq (u16_of (stored p m n) 0) 0))) where
-  here : IsTableSector p (meaning s1) n new
-  here = sector_back s1 s2 p n new so_far.reads there
+  map_here : new_map ≡ meaning s0 (p.inode_bitmap + n / 4096)
+  map_here = read ∙ ap (λ (m : SectorMap). m (p.inode_bitmap + n / 4096)) (meaning_same so_far.reads)
 
-  test : (b ≡ t) ↔ IsBit p (meaning s1) n
-  test = is_bit s0 s1 p n map new b t first lt read here set taken
+  here : IsTableSector p (meaning s0) n new
+  here = sector_back s0 s2 p n new (reads_joined so_far.reads first) there
 
-  pub next_bits : not (beq b t) ≡ false → AreBits p s1 s3 (n + 1) new
+  test : (b ≡ t) ↔ IsBit p (meaning s0) n
+  test = is_bit p (meaning s0) n new_map new b t map_here here set taken
+
+  reads : OnlyReads s0 s3
+  reads = reads_joined so_far.reads (reads_joined first second)
+
+  pub next_bits : not (beq b t) ≡ false → AreBits p s0 s3 (n + 1) new_map new
   next_bits e = record {
-    reads = reads_joined so_far.reads reads;
-    kept = same_sector p (meaning s1) n new here;
-    good = more_good (IsBit p (meaning s1)) n so_far.good (test.0 (same_bits b t e));
+    reads = reads;
+    map_kept = λ inside.
+        let same : n / 4096 ≡ (n + 1) / 4096 = omega (arith, inside) in
+        map_here ∙ ap (λ (k : ℕ). meaning s0 (p.inode_bitmap + k)) same;
+    kept = same_sector p (meaning s0) n new here;
+    good = more_good (IsBit p (meaning s0)) n so_far.good (test.0 (same_bits b t e));
   }
 
   -- it is the first that is wrong
   pub wrong_bit : not (beq b t) ≡ true → Passed {T = Unit {0}} (IsLeast p InodeBits) s0 s3 (Err (Found (record { rule = 3; at = n })))
   wrong_bit e = record {
-    reads = reads_joined first (reads_joined so_far.reads reads);
-    reason = (
-      refl,
-      record {
-        fails = λ h. other_bits b t e (test.1 (subst (λ m. IsBit p m n) (sym (meaning_same first)) (h lt)));
-        least = λ k low below. subst (λ m. IsBit p m k) (meaning_same first) (so_far.good k low);
-      },
-    );
+    reads = reads;
+    reason = (refl, record { fails = λ h. other_bits b t e (test.1 (h lt)); least = λ k low below. so_far.good k low });
   }

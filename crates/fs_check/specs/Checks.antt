@@ -1,6 +1,6 @@
 -- What a check says of a disk, which it only reads.
 --     meaning        what a disk means: its recovered image
---     BeginsWith        the superblock gives the place, and the commit these targets
+--     BeginsWith        the superblock gives the place, and the commit names this log area and has these targets
 --     AreInodes, IsOwnerMap, IsNameCount, IsNamedBy, IsNameTable        the tables of a check
 --     IsReason, Passed        why a check gives no summary; it only reads, and has a reason
 --     IsLeast, IsFirst        a finding of one rule; a finding
@@ -10,7 +10,7 @@ use Rattle.std.specs.Prelude.{◌≡◌, ℕ, ◌<◌, ◌≤◌, List, length, 
 use Rattle.fs_layout.specs.declared.inode.Inode.{Inode}
 use Rattle.fs_layout.specs.declared.place.Place.{Place}
 use Rattle.fs_layout.specs.Bytes.{SectorMap}
-use Rattle.fs_layout.specs.Commit.{IsCommit}
+use Rattle.fs_layout.specs.Commit.{IsCommit, named_area}
 use Rattle.fs_layout.specs.Inode.{free_inode}
 use Rattle.fs_layout.specs.Images.{inode_at}
 use Rattle.fs_layout.specs.Ownership.{IsOwned}
@@ -30,9 +30,10 @@ use Rattle.fs_check.specs.declared.faults.Summary.{Summary}
 abbrev pub meaning : DiskState → SectorMap
 meaning disk = recovered disk.size (sector disk.seen)
 
--- the superblock gives this place, and the commit is valid and has these targets
-pub record BeginsWith (disk : DiskState) (p : Place) (targets : List ℕ) : Type 0 where
+-- the superblock gives this place, and the commit is valid, names this log area and has these targets
+pub record BeginsWith (disk : DiskState) (p : Place) (area : ℕ) (targets : List ℕ) : Type 0 where
   pub place : IsPlaceOf disk.size (sector disk.seen) p
+  pub log : area ≡ named_area (sector disk.seen)
   pub commit : IsCommit disk.size (sector disk.seen) targets
 
 -- all inodes of the image
@@ -52,7 +53,7 @@ pub record IsNameCount (p : Place) (m : SectorMap) (counts : List ℕ) : Type 0 
 
 -- directory d has a slot that names n
 abbrev pub IsNamedBy : Place → SectorMap → ℕ → ℕ → Type 0
-IsNamedBy p m d n = (d < p.inodes) × (1 ≤ namings_in m (inode_at p m d) n)
+IsNamedBy p m d n = (d < p.inodes) × (1 ≤ namings_in p.version m (inode_at p m d) n)
 
 -- the same, and for each inode that is named a directory that names it
 pub record IsNameTable (p : Place) (m : SectorMap) (counts directories : List ℕ) : Type 0 where

@@ -2,11 +2,12 @@
 --     last_block, last_bytes        the last block that the size needs, and how many bytes of it
 --     HasSize        the sizes of kinds
 --     FitsPointer, FitBlocks        the number of one block goes with the size; those of several do
+--     FitListed, FitBefore        those do that one sector of pointers lists; those that the sectors before one list
 --     FitSectors        no sector of pointers is past the size
 --     FitPointers        all that goes with the size
 --     FitsLast        the content of the last block goes with the size
 use Rattle.std.specs.Prelude.{◌≡◌, ◌≢◌, ℕ, suc, ◌+◌, ◌-◌, ◌*◌, ◌/◌, ◌%◌, ◌<◌, ◌≤◌, List, get_or}
-use Rattle.fs_layout.specs.declared.inode.TheConstants.{INDIRECT_END, MAX_FILE_SIZE, MAX_LINK_SIZE}
+use Rattle.fs_layout.specs.declared.inode.TheConstants.{DIRECT_BLOCKS, SECTOR_POINTERS, MAX_FILE_SIZE, MAX_LINK_SIZE}
 use Rattle.fs_layout.specs.declared.inode.Kind.TheVariants as kinds
 use Rattle.fs_layout.specs.declared.inode.Inode.{Inode}
 use Rattle.fs_layout.specs.Bytes.{SectorMap}
@@ -22,7 +23,6 @@ last_bytes v = (v.size - 1) % 512 + 1
 -- what a valid inode of the kind has
 pub record HasSize (v : Inode) : Type 0 where
   pub most : v.size ≤ MAX_FILE_SIZE
-  pub few : v.kind ≢ kinds.File → v.size ≤ 512 * INDIRECT_END
   pub short : v.kind ≡ kinds.Link → v.size ≤ MAX_LINK_SIZE
 
 -- block k has no sector past the size, and one below it unless it is a file's
@@ -33,6 +33,14 @@ pub record FitsPointer (v : Inode) (k s : ℕ) : Type 0 where
 -- so each block from `first` up to `end`
 abbrev pub FitBlocks : SectorMap → Inode → ℕ → ℕ → Type 0
 FitBlocks m v first end = (k : ℕ) → first ≤ k → k < end → FitsPointer v k (pointer m v k)
+
+-- so those that number j of the sectors of pointers to blocks lists
+abbrev pub FitListed : SectorMap → Inode → ℕ → Type 0
+FitListed m v j = FitBlocks m v (DIRECT_BLOCKS + SECTOR_POINTERS * j) (DIRECT_BLOCKS + SECTOR_POINTERS * (j + 1))
+
+-- so those that each one before a number lists, unless they are a file's, which may have holes
+abbrev pub FitBefore : SectorMap → Inode → ℕ → Type 0
+FitBefore m v end = v.kind ≢ kinds.File → (j : ℕ) → j < end → FitListed m v j
 
 -- there is no sector of pointers by which only blocks past the size are found
 abbrev pub FitSectors : SectorMap → Inode → Type 0

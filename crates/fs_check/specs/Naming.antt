@@ -1,19 +1,22 @@
 -- The slots of one directory, and the tables of names so far.
+--     block_of_slot        the content of the block of a slot
 --     AreValid, AreSlots        each slot of a directory is one; and these are they
 --     is_below        the bytewise order of names
 --     IsUsable, HasGoodSlots        the inode of a slot is one that may be named; a directory obeys the rule on slots
 --     naming, AddsSlots        how many slots of a list name an inode; the tables with the slots of one more directory
 --     IsTally, IsRepeated, IsNaming        of the directories below a number: the tables, the first in which a name stands twice, both
-use Rattle.std.specs.Prelude.{◌≡◌, ◌≢◌, ℕ, ◌+◌, ◌<◌, ◌≤◌, ◌==◌, List, length, get_or, count_by, sum_by, Option, MatchOption, Ok, Bool}
+use Rattle.std.specs.Prelude.{◌≡◌, ◌≢◌, ℕ, ◌+◌, ◌/◌, ◌<◌, ◌≤◌, ◌==◌, List, length, get_or, count_by, sum_by, Option, MatchOption, Ok, Bool}
 use Rattle.std.specs.List.{range_with_len}
 use Rattle.std.specs.Ordering.{is_lt}
 use Rattle.fs_layout.specs.Maps.{name_cmp}
 use Rattle.fs_layout.specs.declared.inode.Kind.TheVariants.{Free}
 use Rattle.fs_layout.specs.declared.inode.Inode.{Inode}
 use Rattle.fs_layout.specs.declared.place.Place.{Place}
+use Rattle.fs_layout.specs.declared.version.Version.{Version}
 use Rattle.fs_layout.specs.Bytes.{SectorMap}
 use Rattle.fs_layout.specs.Inode.{free_inode}
-use Rattle.fs_layout.specs.Images.{inode_at}
+use Rattle.fs_layout.specs.Version.{block_slots}
+use Rattle.fs_layout.specs.Images.{inode_at, pointer}
 use Rattle.fs_layout.specs.Directories.{NamedInode, slot_count, stored_slot, slot_at, slot_of}
 use Rattle.fs_model.specs.Limits.{root}
 use Rattle.fs_model.specs.Rules.{IsGoodSlot, NamesApart, Obeys, IsLeastFailure, namings_in}
@@ -21,14 +24,18 @@ use Rattle.fs_check.specs.Checks.{IsNamedBy}
 
 -- ---- one directory
 
-abbrev pub AreValid : SectorMap → Inode → Type 0
-AreValid m v = (k : ℕ) → k < slot_count v → slot_of (stored_slot m v k) ≡ Ok (slot_at m v k)
+-- the content of the block in which slot k of a directory stands
+abbrev pub block_of_slot : Version → SectorMap → Inode → ℕ → List ℕ
+block_of_slot version m v k = m (pointer m v (k / block_slots version))
+
+abbrev pub AreValid : Version → SectorMap → Inode → Type 0
+AreValid version m v = (k : ℕ) → k < slot_count version v → slot_of version (stored_slot version m v k) ≡ Ok (slot_at version m v k)
 
 -- its slots are valid, and this is the list of them
-pub record AreSlots (m : SectorMap) (v : Inode) (slots : List NamedInode) : Type 0 where
-  pub valid : AreValid m v
-  pub len : length slots ≡ slot_count v
-  pub each : (k : ℕ) (d : NamedInode) → k < slot_count v → get_or slots k d ≡ slot_at m v k
+pub record AreSlots (version : Version) (m : SectorMap) (v : Inode) (slots : List NamedInode) : Type 0 where
+  pub valid : AreValid version m v
+  pub len : length slots ≡ slot_count version v
+  pub each : (k : ℕ) (d : NamedInode) → k < slot_count version v → get_or slots k d ≡ slot_at version m v k
 
 -- the slot's inode is one of the table, in use, and not the root
 pub record IsUsable (inodes : List Inode) (x : NamedInode) : Type 0 where
@@ -37,7 +44,7 @@ pub record IsUsable (inodes : List Inode) (x : NamedInode) : Type 0 where
   pub not_root : x.inode ≢ root
 
 abbrev pub HasGoodSlots : Place → SectorMap → Inode → Type 0
-HasGoodSlots p m v = (k : ℕ) → k < slot_count v → IsGoodSlot p m v k
+HasGoodSlots p m v = (k : ℕ) → k < slot_count p.version v → IsGoodSlot p m v k
 
 -- the bytewise order of the names
 abbrev pub is_below : NamedInode → NamedInode → Bool
@@ -61,7 +68,7 @@ pub record AddsSlots (d : ℕ) (slots : List NamedInode) (counts directories cou
 pub record IsTally (p : Place) (m : SectorMap) (upto : ℕ) (counts directories : List ℕ) : Type 0 where
   pub counts_len : length counts ≡ p.inodes
   pub directories_len : length directories ≡ p.inodes
-  pub counted : (n : ℕ) → n < p.inodes → get_or counts n 0 ≡ sum_by (λ d. namings_in m (inode_at p m d) n) (range_with_len 0 upto)
+  pub counted : (n : ℕ) → n < p.inodes → get_or counts n 0 ≡ sum_by (λ d. namings_in p.version m (inode_at p m d) n) (range_with_len 0 upto)
   pub named_by : (n : ℕ) → n < p.inodes → 1 ≤ get_or counts n 0 → IsNamedBy p m (get_or directories n 0) n
 
 -- the first directory in which a name stands twice, if there is one below a number

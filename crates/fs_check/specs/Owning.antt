@@ -1,6 +1,7 @@
 -- What an inode may own a sector for, counted, and the owners of sectors so far.
 --     AreListed        the content in which numbers of a level stand, if they don't stand in the inode
 --     AreInData, HasTopInData, OwnsData        numbers of a level are in the data area; what stands above them; all that is owned
+--     AreAtHand        the sectors of pointers at hand
 --     level_end, first_part, part_at, owned_part        the parts of an inode, counted; the sector that inode n has for one
 --     IsEarlierPart        parts in order, inode by inode
 --     IsOnce, IsTwice, IsMarked        a sector that is owned by the parts so far, once and twice, and two maps of them
@@ -9,6 +10,7 @@ use Rattle.fs_layout.specs.declared.inode.Inode.{Inode}
 use Rattle.fs_layout.specs.declared.inode.TheConstants.{SECTOR_POINTERS, MAX_BLOCKS}
 use Rattle.fs_layout.specs.declared.place.Place.{Place}
 use Rattle.fs_layout.specs.Bytes.{SectorMap}
+use Rattle.fs_check.specs.declared.owning.Pointers.{Pointers}
 use Rattle.fs_layout.specs.Images.{Part, AccessAcl, DefaultAcl, OnLevel, own_count, holder, number_on, HasPointers, part, Owns, IsData, inode_at}
 
 -- ---- numbers of a level
@@ -30,6 +32,11 @@ pub record HasTopInData (p : Place) (v : Inode) : Type 0 where
 
 abbrev pub OwnsData : Place → SectorMap → Inode → Type 0
 OwnsData p m v = (s : ℕ) → Owns m v s → IsData p s
+
+-- at hand are the double indirect sector and the sector of pointers to blocks with this index
+pub record AreAtHand (m : SectorMap) (v : Inode) (pointers : Pointers) : Type 0 where
+  pub listed : HasPointers m v 2 0 pointers.listed
+  pub content : HasPointers m v 1 pointers.index pointers.content
 
 -- ---- parts, counted: two ACLs, then the levels from the top
 

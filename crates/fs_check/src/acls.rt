@@ -111,7 +111,7 @@ fn is_in_place(inode: &Inode) -> bool
 
 // Whether the inode's access ACL is good, if it has one.
 fn has_access_acl<D: Disk>(disk: &mut D, opened: &Opened, inode: &Inode) -> Checked<bool>
-    requires opened { BeginsWith (D.state disk.old) opened.now.place opened.now.commit }
+    requires opened { BeginsWith (D.state disk.old) opened.now.place opened.now.area opened.now.commit }
     requires on_disk { inode.now.acl < (D.state disk.old).size }
     ensures test { IfOk result (λ b. IsTrue b ↔ (inode.now.acl ≢ 0 → HasSomeAccessAcl (meaning (D.state disk.old)) inode.now)) }
     ensures passed { Passed IsNone (D.state disk.old) (D.state disk.new) result }
@@ -126,7 +126,7 @@ fn has_access_acl<D: Disk>(disk: &mut D, opened: &Opened, inode: &Inode) -> Chec
 
 // Whether the inode's default ACL is good, if it has one.
 fn has_default_acl<D: Disk>(disk: &mut D, opened: &Opened, inode: &Inode) -> Checked<bool>
-    requires opened { BeginsWith (D.state disk.old) opened.now.place opened.now.commit }
+    requires opened { BeginsWith (D.state disk.old) opened.now.place opened.now.area opened.now.commit }
     requires on_disk { inode.now.default_acl < (D.state disk.old).size }
     ensures test { IfOk result (λ b. IsTrue b ↔ (inode.now.default_acl ≢ 0 → HasSomeDefaultAcl (meaning (D.state disk.old)) inode.now)) }
     ensures passed { Passed IsNone (D.state disk.old) (D.state disk.new) result }
@@ -141,7 +141,7 @@ fn has_default_acl<D: Disk>(disk: &mut D, opened: &Opened, inode: &Inode) -> Che
 
 // Whether the inode's ACLs are good, and none is where it mustn't be.
 fn has_good_acls<D: Disk>(disk: &mut D, opened: &Opened, inode: &Inode) -> Checked<bool>
-    requires opened { BeginsWith (D.state disk.old) opened.now.place opened.now.commit }
+    requires opened { BeginsWith (D.state disk.old) opened.now.place opened.now.area opened.now.commit }
     requires access { inode.now.acl < (D.state disk.old).size }
     requires default { inode.now.default_acl < (D.state disk.old).size }
     ensures test { IfOk result (λ b. IsTrue b ↔ HasAcls (meaning (D.state disk.old)) inode.now) }
@@ -158,7 +158,7 @@ fn has_good_acls<D: Disk>(disk: &mut D, opened: &Opened, inode: &Inode) -> Check
 
 /// Each sector of an ACL has a valid one, with the mode's bits, and none is where it mustn't be.
 pub(crate) fn acls<D: Disk>(disk: &mut D, opened: &Opened, inodes: &[Inode]) -> Checked<()>
-    requires opened { BeginsWith (D.state disk.old) opened.now.place opened.now.commit }
+    requires opened { BeginsWith (D.state disk.old) opened.now.place opened.now.area opened.now.commit }
     requires table { AreInodes opened.now.place (meaning (D.state disk.old)) inodes.now }
     requires before { ObeysBefore opened.now.place (meaning (D.state disk.old)) 9 }
     ensures each { OnOk result (ObeysEach opened.now.place (meaning (D.state disk.old)) Acls) }

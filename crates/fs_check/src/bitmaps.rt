@@ -1,11 +1,11 @@
 //! The two bitmaps.
 
-ghost use Rattle.std.specs.Prelude.{◌≡◌, ◌<◌, ◌≤◌, ◌+◌, ◌*◌, ◌/◌, ℕ, length, nat_lt, nat_le, nat_eq, not, ◌||◌, ◌⊎◌, OnOk, IfSome, IfNone, IsTrue, ◌↔◌};
+ghost use Rattle.std.specs.Prelude.{◌≡◌, ◌≢◌, ◌<◌, ◌≤◌, ◌+◌, ◌*◌, ◌/◌, ◌%◌, ◌^◌, ℕ, length, nat_lt, nat_le, nat_eq, not, ◌||◌, ◌⊎◌, OnOk, IfSome, IfNone, IsTrue, ◌↔◌};
 ghost use Rattle.fs_layout.specs.Bytes.{SectorMap, u16_of};
-ghost use Rattle.fs_layout.specs.Images.{bit, block_bitmap, stored};
+ghost use Rattle.fs_layout.specs.Images.{inode_map_bits, bit, stored};
 ghost use Rattle.fs_layout.specs.Ownership.{IsOwned};
 ghost use Rattle.fs_model.specs.Rules.{ObeysEach, InodeBits, BlockBits, IsBlockBit};
-ghost use Rattle.fs_check.specs.Checks.{meaning, BeginsWith, IsOwnerMap, Passed, IsLeast};
+ghost use Rattle.fs_check.specs.Checks.{meaning, BeginsWith, IsOwnerMap, Passed, IsNone, IsLeast};
 ghost use Rattle.fs_check.specs.TableSectors.{IsTableSector};
 
 use crate::faults::{CheckFault, Checked, Finding};
@@ -13,7 +13,7 @@ use crate::inodes::read_table;
 use crate::opening::Opened;
 use crate::reading::read_recovered;
 use byteorder::{ByteOrder, LittleEndian};
-use fs_layout::{BLOCK_BITMAP, INODE_BITMAP, INODE_SIZE, Place, SECTOR_BITS};
+use fs_layout::{INODE_SIZE, Place, SECTOR_BITS};
 use sector_disk::Disk;
 
 const INODE_BITS: u8 = 3;
@@ -44,16 +44,35 @@ fn is_taken(place: Place, table: &[u8; 512], n: u32) -> bool
     n < 2 || place.inodes <= n || kind_field(table, place.inode_offset(n)) != 0
 }
 
+// The sector of the inode bitmap in which bit n stands: `map` has it, and is read again only where n is the sector's first bit.
+fn read_map<D: Disk>(disk: &mut D, opened: &Opened, n: u32, map: &mut [u8; 512]) -> Checked<()>
+    requires opened { BeginsWith (D.state disk.old) opened.now.place opened.now.area opened.now.commit }
+    requires bit { n < inode_map_bits opened.now.place }
+    requires kept { n % 4096 ≢ 0 → map.old ≡ meaning (D.state disk.old) (opened.now.place.inode_bitmap + n / 4096) }
+    ensures map { OnOk result (map.new ≡ meaning (D.state disk.old) (opened.now.place.inode_bitmap + n / 4096)) }
+    ensures passed { Passed IsNone (D.state disk.old) (D.state disk.new) result }
+{
+    if n % SECTOR_BITS != 0 {
+        return Ok(());
+    }
+    read_recovered(
+        disk,
+        opened,
+        opened.place.inode_bitmap + n / SECTOR_BITS,
+        map,
+    )
+}
+
 /// Each bit of the inode bitmap is set exactly where it has to be.
 pub(crate) fn inode_bits<D: Disk>(disk: &mut D, opened: &Opened) -> Checked<()>
-    requires opened { BeginsWith (D.state disk.old) opened.now.place opened.now.commit }
+    requires opened { BeginsWith (D.state disk.old) opened.now.place opened.now.area opened.now.commit }
     ensures each { OnOk result (ObeysEach opened.now.place (meaning (D.state disk.old)) InodeBits) }
     ensures passed { Passed (IsLeast opened.now.place InodeBits) (D.state disk.old) (D.state disk.new) result }
 {
     let mut map = [0; 512];
-    read_recovered(disk, opened, INODE_BITMAP, &mut map)?;
     let mut table = [0; 512];
-    for n in 0..SECTOR_BITS {
+    for n in 0..SECTOR_BITS * (opened.place.block_bitmap - opened.place.inode_bitmap) {
+        read_map(disk, opened, n, &mut map)?;
         read_table(disk, opened, n, &mut table)?;
         if has_bit(&map, n) != is_taken(opened.place, &table, n) {
             return Err(CheckFault::Found(Finding {
@@ -77,10 +96,10 @@ fn is_used(place: Place, owned: &[bool], s: u32) -> bool
 // The least bit that isn't what it has to be, of those in sector k of the block bitmap, which is `map`.
 fn first_wrong(place: Place, map: &[u8; 512], owned: &[bool], k: u32) -> Option<u32>
     requires owned { length owned.now ≡ place.sectors }
-    requires low { k < 16 }
-    ensures wrong { (m : SectorMap) → IsOwnerMap place m owned.now → map.now ≡ m (block_bitmap + k)
+    requires low { 4096 * (k + 1) < 2 ^ 32 }
+    ensures wrong { (m : SectorMap) → IsOwnerMap place m owned.now → map.now ≡ m (place.block_bitmap + k)
         → IfSome result (λ s. (s < 4096 * (k + 1)) × (IsBlockBit place m s → ⊥) × ((i : ℕ) → 4096 * k ≤ i → i < s → IsBlockBit place m i)) }
-    ensures none { (m : SectorMap) → IsOwnerMap place m owned.now → map.now ≡ m (block_bitmap + k)
+    ensures none { (m : SectorMap) → IsOwnerMap place m owned.now → map.now ≡ m (place.block_bitmap + k)
         → IfNone result ((i : ℕ) → 4096 * k ≤ i → i < 4096 * (k + 1) → IsBlockBit place m i) }
 {
     for s in SECTOR_BITS * k..SECTOR_BITS * (k + 1) {
@@ -93,14 +112,14 @@ fn first_wrong(place: Place, map: &[u8; 512], owned: &[bool], k: u32) -> Option<
 
 /// Each bit of the block bitmap is set exactly where it has to be.
 pub(crate) fn block_bits<D: Disk>(disk: &mut D, opened: &Opened, owned: &[bool]) -> Checked<()>
-    requires opened { BeginsWith (D.state disk.old) opened.now.place opened.now.commit }
+    requires opened { BeginsWith (D.state disk.old) opened.now.place opened.now.area opened.now.commit }
     requires owners { IsOwnerMap opened.now.place (meaning (D.state disk.old)) owned.now }
     ensures each { OnOk result (ObeysEach opened.now.place (meaning (D.state disk.old)) BlockBits) }
     ensures passed { Passed (IsLeast opened.now.place BlockBits) (D.state disk.old) (D.state disk.new) result }
 {
     let mut map = [0; 512];
-    for k in 0..opened.place.table - BLOCK_BITMAP {
-        read_recovered(disk, opened, BLOCK_BITMAP + k, &mut map)?;
+    for k in 0..opened.place.table - opened.place.block_bitmap {
+        read_recovered(disk, opened, opened.place.block_bitmap + k, &mut map)?;
         if let Some(s) = first_wrong(opened.place, &map, owned, k) {
             return Err(CheckFault::Found(Finding {
                 rule: BLOCK_BITS,

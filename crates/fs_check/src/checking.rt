@@ -33,7 +33,7 @@ const WAYS: u8 = 14;
 
 // The inode bitmap and the inode table.
 fn check_tables<D: Disk>(disk: &mut D, opened: &Opened) -> Checked<Vec<Inode>>
-    requires opened { BeginsWith (D.state disk.old) opened.now.place opened.now.commit }
+    requires opened { BeginsWith (D.state disk.old) opened.now.place opened.now.area opened.now.commit }
     requires before { ObeysBefore opened.now.place (meaning (D.state disk.old)) 3 }
     ensures table { IfOk result (λ inodes. AreInodes opened.now.place (meaning (D.state disk.old)) inodes.items) }
     ensures before { OnOk result (ObeysBefore opened.now.place (meaning (D.state disk.old)) 5) }
@@ -45,7 +45,7 @@ fn check_tables<D: Disk>(disk: &mut D, opened: &Opened) -> Checked<Vec<Inode>>
 
 // What inodes own, and the block bitmap.
 fn check_owners<D: Disk>(disk: &mut D, opened: &Opened, inodes: &[Inode]) -> Checked<Vec<bool>>
-    requires opened { BeginsWith (D.state disk.old) opened.now.place opened.now.commit }
+    requires opened { BeginsWith (D.state disk.old) opened.now.place opened.now.area opened.now.commit }
     requires table { AreInodes opened.now.place (meaning (D.state disk.old)) inodes.now }
     requires before { ObeysBefore opened.now.place (meaning (D.state disk.old)) 5 }
     ensures owners { IfOk result (λ owned. IsOwnerMap opened.now.place (meaning (D.state disk.old)) owned.items) }
@@ -60,7 +60,7 @@ fn check_owners<D: Disk>(disk: &mut D, opened: &Opened, inodes: &[Inode]) -> Che
 
 // What stands in blocks and ACL sectors.
 fn check_contents<D: Disk>(disk: &mut D, opened: &Opened, inodes: &[Inode]) -> Checked<()>
-    requires opened { BeginsWith (D.state disk.old) opened.now.place opened.now.commit }
+    requires opened { BeginsWith (D.state disk.old) opened.now.place opened.now.area opened.now.commit }
     requires table { AreInodes opened.now.place (meaning (D.state disk.old)) inodes.now }
     requires before { ObeysBefore opened.now.place (meaning (D.state disk.old)) 8 }
     ensures before { OnOk result (ObeysBefore opened.now.place (meaning (D.state disk.old)) 10) }
@@ -72,7 +72,7 @@ fn check_contents<D: Disk>(disk: &mut D, opened: &Opened, inodes: &[Inode]) -> C
 
 // The names in directories.
 fn check_names<D: Disk>(disk: &mut D, opened: &Opened, inodes: &[Inode]) -> Checked<Names>
-    requires opened { BeginsWith (D.state disk.old) opened.now.place opened.now.commit }
+    requires opened { BeginsWith (D.state disk.old) opened.now.place opened.now.area opened.now.commit }
     requires table { AreInodes opened.now.place (meaning (D.state disk.old)) inodes.now }
     requires before { ObeysBefore opened.now.place (meaning (D.state disk.old)) 10 }
     ensures names { IfOk result (λ names.
@@ -110,7 +110,7 @@ fn check_tree(alloc: Global, place: Place, inodes: &[Inode], names: &Names) -> C
 
 // All that inodes hold.
 fn check_inodes<D: Disk>(disk: &mut D, opened: &Opened, inodes: &[Inode]) -> Checked<Vec<bool>>
-    requires opened { BeginsWith (D.state disk.old) opened.now.place opened.now.commit }
+    requires opened { BeginsWith (D.state disk.old) opened.now.place opened.now.area opened.now.commit }
     requires table { AreInodes opened.now.place (meaning (D.state disk.old)) inodes.now }
     requires before { ObeysBefore opened.now.place (meaning (D.state disk.old)) 5 }
     ensures owners { IfOk result (λ owned. IsOwnerMap opened.now.place (meaning (D.state disk.old)) owned.items) }
@@ -131,10 +131,11 @@ pub fn check<D: Disk>(alloc: Global, disk: &mut D) -> Result<Summary, CheckFault
     ensures passed { Passed IsFirst (D.state disk.old) (D.state disk.new) result }
 {
     let place = open_place(disk)?;
-    let commit = open_commit(disk, place)?;
+    let (area, commit) = open_commit(disk, place)?;
     let opened = Opened {
         alloc,
         place,
+        area,
         commit,
     };
     let inodes = check_tables(disk, &opened)?;

@@ -1,10 +1,11 @@
 //! What stands in blocks.
 
 ghost use Rattle.std.specs.Prelude.{◌≡◌, ◌≢◌, ◌≤◌, ◌<◌, ◌+◌, ◌*◌, ℕ, length, get_or, OnOk, IfOk, IsTrue, ◌↔◌};
+ghost use Rattle.fs_layout.specs.declared.inode.TheConstants.{SECTOR_POINTERS};
 ghost use Rattle.fs_layout.specs.Bytes.{SectorMap};
-ghost use Rattle.fs_layout.specs.Images.{HasPointers, Owns, IsData};
+ghost use Rattle.fs_layout.specs.Images.{HasPointers, HasPointersAbove, Owns, IsData};
 ghost use Rattle.fs_model.specs.Rules.{ObeysEach, ObeysBefore, LaidOut, IsLaidOut};
-ghost use Rattle.fs_check.specs.LastBlocks.{last_block, HasSize, FitsPointer, FitBlocks, FitSectors, FitPointers, FitsLast};
+ghost use Rattle.fs_check.specs.LastBlocks.{last_block, HasSize, FitsPointer, FitBlocks, FitListed, FitBefore, FitSectors, FitPointers, FitsLast};
 ghost use Rattle.fs_check.specs.Owning.{AreListed};
 ghost use Rattle.fs_check.specs.Checks.{meaning, BeginsWith, AreInodes, Passed, IsNone, IsLeast};
 
@@ -79,6 +80,57 @@ fn fits_last(inode: &Inode, content: &[u8; 512]) -> bool
     inode.kind != Kind::Link || has_no_zero(&content[..end])
 }
 
+// The numbers of the blocks go with the size that number `j` of the sectors of pointers to blocks lists. `content` is first that of
+// the sector in which this number stands, if it doesn't stand in the inode, and then that of the sector of pointers.
+fn fit_listed<D: Disk>(
+    disk: &mut D,
+    opened: &Opened,
+    inode: &Inode,
+    j: u64,
+    content: &mut [u8; 512],
+) -> Checked<bool>
+    requires opened { BeginsWith (D.state disk.old) opened.now.place opened.now.area opened.now.commit }
+    requires in_data { (s : ℕ) → Owns (meaning (D.state disk.old)) inode.now s → IsData opened.now.place s }
+    requires few { j ≤ SECTOR_POINTERS }
+    requires listed { HasPointersAbove (meaning (D.state disk.old)) inode.now 1 j content.old }
+    ensures test { IfOk result (λ b. IsTrue b ↔ FitListed (meaning (D.state disk.old)) inode.now j) }
+    ensures content { OnOk result (HasPointers (meaning (D.state disk.old)) inode.now 1 j content.new) }
+    ensures passed { Passed IsNone (D.state disk.old) (D.state disk.new) result }
+{
+    read_listed(disk, opened, inode, 1, j, content)?;
+    let first = DIRECT_BLOCKS + SECTOR_POINTERS * j;
+    let end = DIRECT_BLOCKS + SECTOR_POINTERS * (j + 1);
+    Ok(fit_blocks(inode, content, first, end))
+}
+
+// So do those that the sectors of pointers before number `end` list. Of a file none is looked at: it may have holes. `listed` is the
+// content of the double indirect sector, zeros where there is none.
+fn fit_before<D: Disk>(
+    disk: &mut D,
+    opened: &Opened,
+    inode: &Inode,
+    end: u64,
+    listed: &[u8; 512],
+) -> Checked<bool>
+    requires opened { BeginsWith (D.state disk.old) opened.now.place opened.now.area opened.now.commit }
+    requires in_data { (s : ℕ) → Owns (meaning (D.state disk.old)) inode.now s → IsData opened.now.place s }
+    requires few { end ≤ SECTOR_POINTERS }
+    requires listed { HasPointers (meaning (D.state disk.old)) inode.now 2 0 listed.now }
+    ensures test { IfOk result (λ b. IsTrue b ↔ FitBefore (meaning (D.state disk.old)) inode.now end) }
+    ensures passed { Passed IsNone (D.state disk.old) (D.state disk.new) result }
+{
+    if inode.kind == Kind::File {
+        return Ok(true);
+    }
+    for j in 0..end {
+        let mut content = *listed;
+        if !fit_listed(disk, opened, inode, j, &mut content)? {
+            return Ok(false);
+        }
+    }
+    Ok(true)
+}
+
 // The numbers of the inode go with its size; `content` is then that of the sector of pointers in which the number of its last
 // block stands, if that doesn't stand in the inode.
 fn fit_pointers<D: Disk>(
@@ -87,7 +139,7 @@ fn fit_pointers<D: Disk>(
     inode: &Inode,
     content: &mut [u8; 512],
 ) -> Checked<bool>
-    requires opened { BeginsWith (D.state disk.old) opened.now.place opened.now.commit }
+    requires opened { BeginsWith (D.state disk.old) opened.now.place opened.now.area opened.now.commit }
     requires in_data { (s : ℕ) → Owns (meaning (D.state disk.old)) inode.now s → IsData opened.now.place s }
     requires size { HasSize inode.now }
     ensures test { IfOk result (λ b. IsTrue b ↔ FitPointers (meaning (D.state disk.old)) inode.now) }
@@ -107,15 +159,16 @@ fn fit_pointers<D: Disk>(
         return Ok(true);
     }
     let i = (k - DIRECT_BLOCKS) / SECTOR_POINTERS;
-    read_listed(disk, opened, inode, 1, i, content)?;
-    let first = DIRECT_BLOCKS + SECTOR_POINTERS * i;
-    let end = DIRECT_BLOCKS + SECTOR_POINTERS * (i + 1);
-    Ok(fit_blocks(inode, content, first, end))
+    if !fit_before(disk, opened, inode, i, content)? {
+        return Ok(false);
+    }
+    let fit = fit_listed(disk, opened, inode, i, content)?;
+    Ok(fit)
 }
 
 // What the inode holds goes with its size.
 fn is_laid_out<D: Disk>(disk: &mut D, opened: &Opened, inode: &Inode) -> Checked<bool>
-    requires opened { BeginsWith (D.state disk.old) opened.now.place opened.now.commit }
+    requires opened { BeginsWith (D.state disk.old) opened.now.place opened.now.area opened.now.commit }
     requires in_data { (s : ℕ) → Owns (meaning (D.state disk.old)) inode.now s → IsData opened.now.place s }
     requires size { HasSize inode.now }
     ensures test { IfOk result (λ b. IsTrue b ↔ IsLaidOut (meaning (D.state disk.old)) inode.now) }
@@ -135,7 +188,7 @@ fn is_laid_out<D: Disk>(disk: &mut D, opened: &Opened, inode: &Inode) -> Checked
 
 /// Past the size of each inode there is nothing, only files have holes, and no link's target has a zero byte.
 pub(crate) fn laid_out<D: Disk>(disk: &mut D, opened: &Opened, inodes: &[Inode]) -> Checked<()>
-    requires opened { BeginsWith (D.state disk.old) opened.now.place opened.now.commit }
+    requires opened { BeginsWith (D.state disk.old) opened.now.place opened.now.area opened.now.commit }
     requires table { AreInodes opened.now.place (meaning (D.state disk.old)) inodes.now }
     requires before { ObeysBefore opened.now.place (meaning (D.state disk.old)) 8 }
     ensures each { OnOk result (ObeysEach opened.now.place (meaning (D.state disk.old)) LaidOut) }

@@ -19,7 +19,7 @@ const SLOTS: u8 = 10;
 #[derive(Drop)]
 pub(crate) struct Names {
     /// For each inode, how many slots name it.
-    pub counts: Vec<u32>,
+    pub counts: Vec<u64>,
     /// For each inode, a directory that has a slot which names it, where there is one.
     pub directories: Vec<u32>,
     /// The first directory in which a name stands twice.
@@ -27,10 +27,10 @@ pub(crate) struct Names {
 }
 
 // One more name of inode n, in directory d.
-fn add_name(n: usize, d: u32, counts: &mut [u32], directories: &mut [u32])
+fn add_name(n: usize, d: u32, counts: &mut [u64], directories: &mut [u32])
     requires counts { n < length counts.old }
     requires directories { n < length directories.old }
-    requires room { get_or counts.old n 0 + 1 < 2 ^ 32 }
+    requires room { get_or counts.old n 0 + 1 < 2 ^ 64 }
     ensures counts { counts.new ≡ set counts.old n (get_or counts.old n 0 + 1) }
     ensures directories { directories.new ≡ set directories.old n d }
 {
@@ -39,10 +39,10 @@ fn add_name(n: usize, d: u32, counts: &mut [u32], directories: &mut [u32])
 }
 
 // Adds what the slots of directory d name.
-fn add_slots(slots: &[Slot], d: u32, counts: &mut [u32], directories: &mut [u32])
+fn add_slots(slots: &[Slot], d: u32, counts: &mut [u64], directories: &mut [u32])
     requires counts { All (λ x. x.inode < length counts.old) slots.now }
     requires directories { All (λ x. x.inode < length directories.old) slots.now }
-    requires room { (n : ℕ) → n < length counts.old → get_or counts.old n 0 + length slots.now < 2 ^ 32 }
+    requires room { (n : ℕ) → n < length counts.old → get_or counts.old n 0 + length slots.now < 2 ^ 64 }
     ensures { AddsSlots d slots.now counts.old directories.old counts.new directories.new }
 {
     for slot in slots {
@@ -72,7 +72,7 @@ fn add_directory<D: Disk>(
     d: u32,
     names: &mut Names,
 ) -> Checked<bool>
-    requires opened { BeginsWith (D.state disk.old) opened.now.place opened.now.commit }
+    requires opened { BeginsWith (D.state disk.old) opened.now.place opened.now.area opened.now.commit }
     requires table { AreInodes opened.now.place (meaning (D.state disk.old)) inodes.now }
     requires before { ObeysBefore opened.now.place (meaning (D.state disk.old)) 10 }
     requires below { d < opened.now.place.inodes }
@@ -98,7 +98,7 @@ fn add_directory<D: Disk>(
 /// What the slots of all directories name, where each is valid and its inode is in use and isn't the root. Each sector of a
 /// directory is read once.
 pub(crate) fn read_names<D: Disk>(disk: &mut D, opened: &Opened, inodes: &[Inode]) -> Checked<Names>
-    requires opened { BeginsWith (D.state disk.old) opened.now.place opened.now.commit }
+    requires opened { BeginsWith (D.state disk.old) opened.now.place opened.now.area opened.now.commit }
     requires table { AreInodes opened.now.place (meaning (D.state disk.old)) inodes.now }
     requires before { ObeysBefore opened.now.place (meaning (D.state disk.old)) 10 }
     ensures each { OnOk result (ObeysEach opened.now.place (meaning (D.state disk.old)) Slots) }

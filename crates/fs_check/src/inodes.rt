@@ -1,10 +1,11 @@
 //! The inode table.
 
-ghost use Rattle.std.specs.Prelude.{◌≡◌, ◌≢◌, ◌*◌, ◌%◌, IsTrue, ◌↔◌, OnOk, IfOk, IfSome, IfNone, Ok};
+ghost use Rattle.std.specs.Prelude.{◌≡◌, ◌≢◌, ◌≤◌, ◌*◌, ◌%◌, IsTrue, ◌↔◌, OnOk, IfOk, IfSome, IfNone, Ok};
 ghost use Rattle.fs_layout.specs.declared.inode.Inode.{Inode as AnInode};
 ghost use Rattle.fs_layout.specs.declared.inode.Kind.TheVariants.{Free, Directory};
 ghost use Rattle.fs_layout.specs.Bytes.{window};
 ghost use Rattle.fs_layout.specs.Inode.{inode_of};
+ghost use Rattle.fs_layout.specs.Version.{max_directory_size, slot_size};
 ghost use Rattle.fs_model.specs.Rules.{IsAllowed, ObeysEach, Inodes};
 ghost use Rattle.fs_check.specs.Checks.{meaning, BeginsWith, AreInodes, Passed, IsNone, IsLeast};
 ghost use Rattle.fs_check.specs.TableSectors.{IsTableSector};
@@ -12,34 +13,45 @@ ghost use Rattle.fs_check.specs.TableSectors.{IsTableSector};
 use crate::faults::{CheckFault, Checked, Finding};
 use crate::opening::Opened;
 use crate::reading::read_recovered;
-use fs_layout::{INDIRECT_END, INODE_SIZE, Inode, Kind};
+use fs_layout::{INDIRECT_END, INODE_SIZE, Inode, Kind, Version};
 use sector_disk::Disk;
 
 const INODES: u8 = 4;
 
-// The inode is one of a disk on which files have at most so many bytes.
-fn is_allowed(inode: &Inode, limit: u64) -> bool
-    ensures { IsTrue result ↔ IsAllowed limit inode.now }
+// A directory may have so many bytes.
+fn is_directory_size(version: Version, size: u64) -> bool
+    ensures { IsTrue result ↔ (size ≤ max_directory_size version) × (size % slot_size version ≡ 0) }
 {
-    if inode.kind == Kind::File && limit < inode.size {
-        return false;
-    }
-    inode.double_indirect == 0 || 512 * INDIRECT_END < limit
+    size <= version.max_directory_size() && size % version.slot_size() as u64 == 0
 }
 
-// Inode n of its table sector, where it is a good one of a disk on which files have at most so many bytes.
-fn good_inode(content: &[u8; 512], n: u32, limit: u64) -> Option<Inode>
+// The inode is one of a disk of this version.
+fn is_allowed(inode: &Inode, version: Version) -> bool
+    ensures { IsTrue result ↔ IsAllowed version inode.now }
+{
+    let most = version.max_file_size();
+    if inode.kind == Kind::File && most < inode.size {
+        return false;
+    }
+    if inode.kind == Kind::Directory && !is_directory_size(version, inode.size) {
+        return false;
+    }
+    inode.double_indirect == 0 || 512 * INDIRECT_END < most
+}
+
+// Inode n of its table sector, where it is a good one of a disk of this version.
+fn good_inode(content: &[u8; 512], n: u32, version: Version) -> Option<Inode>
     ensures is { IfSome result (λ v. inode_of (window content.now (INODE_SIZE * (n % 4)) INODE_SIZE) ≡ Ok v) }
-    ensures allowed { IfSome result (λ v. IsAllowed limit v) }
+    ensures allowed { IfSome result (λ v. IsAllowed version v) }
     ensures free { IfSome result (λ v. n ≡ 0 → v.kind ≡ Free) }
     ensures top { IfSome result (λ v. n ≡ 1 → v.kind ≡ Directory) }
     ensures none { IfNone result ((v : AnInode) → inode_of (window content.now (INODE_SIZE * (n % 4)) INODE_SIZE) ≡ Ok v
-        → IsAllowed limit v → (n ≡ 0 → v.kind ≡ Free) → (n ≡ 1 → v.kind ≡ Directory) → ⊥) }
+        → IsAllowed version v → (n ≡ 0 → v.kind ≡ Free) → (n ≡ 1 → v.kind ≡ Directory) → ⊥) }
 {
-    let Ok(inode) = Inode::read_from(content, INODE_SIZE * (n as usize % 4)) else {
+    let Ok(inode) = Inode::read_any(content, INODE_SIZE * (n as usize % 4)) else {
         return None;
     };
-    if !is_allowed(&inode, limit) {
+    if !is_allowed(&inode, version) {
         return None;
     }
     if n == 0 && inode.kind != Kind::Free {
@@ -59,7 +71,7 @@ pub(crate) fn read_table<D: Disk>(
     n: u32,
     table: &mut [u8; 512],
 ) -> Checked<()>
-    requires opened { BeginsWith (D.state disk.old) opened.now.place opened.now.commit }
+    requires opened { BeginsWith (D.state disk.old) opened.now.place opened.now.area opened.now.commit }
     requires kept { n % 4 ≢ 0 → IsTableSector opened.now.place (meaning (D.state disk.old)) n table.old }
     ensures table { OnOk result (IsTableSector opened.now.place (meaning (D.state disk.old)) n table.new) }
     ensures passed { Passed IsNone (D.state disk.old) (D.state disk.new) result }
@@ -77,7 +89,7 @@ pub(crate) fn read_table<D: Disk>(
 
 /// The inodes, all of them.
 pub(crate) fn read_inodes<D: Disk>(disk: &mut D, opened: &Opened) -> Checked<Vec<Inode>>
-    requires opened { BeginsWith (D.state disk.old) opened.now.place opened.now.commit }
+    requires opened { BeginsWith (D.state disk.old) opened.now.place opened.now.area opened.now.commit }
     ensures each { OnOk result (ObeysEach opened.now.place (meaning (D.state disk.old)) Inodes) }
     ensures table { IfOk result (λ inodes. AreInodes opened.now.place (meaning (D.state disk.old)) inodes.items) }
     ensures passed { Passed (IsLeast opened.now.place Inodes) (D.state disk.old) (D.state disk.new) result }
@@ -86,7 +98,7 @@ pub(crate) fn read_inodes<D: Disk>(disk: &mut D, opened: &Opened) -> Checked<Vec
     let mut table = [0; 512];
     for n in 0..opened.place.inodes {
         read_table(disk, opened, n, &mut table)?;
-        match good_inode(&table, n, opened.place.max_file_size()) {
+        match good_inode(&table, n, opened.place.version) {
             Some(inode) => inodes.push(inode)?,
             None => {
                 return Err(CheckFault::Found(Finding {

@@ -112,7 +112,7 @@ fn mark_sector<D: Disk>(
     owned: &mut [bool],
     twice: &mut [bool],
 ) -> Checked<bool>
-    requires opened { BeginsWith (D.state disk.old) opened.now.place opened.now.commit }
+    requires opened { BeginsWith (D.state disk.old) opened.now.place opened.now.area opened.now.commit }
     requires listed { HasPointers (meaning (D.state disk.old)) inode.now 2 0 listed.now }
     requires in_data { AreInData opened.now.place (meaning (D.state disk.old)) inode.now 1 0 (1 + SECTOR_POINTERS) }
     requires few { j ≤ SECTOR_POINTERS }
@@ -152,7 +152,7 @@ fn mark_blocks<D: Disk>(
     owned: &mut [bool],
     twice: &mut [bool],
 ) -> Checked<bool>
-    requires opened { BeginsWith (D.state disk.old) opened.now.place opened.now.commit }
+    requires opened { BeginsWith (D.state disk.old) opened.now.place opened.now.area opened.now.commit }
     requires listed { HasPointers (meaning (D.state disk.old)) inode.now 2 0 listed.now }
     requires in_data { AreInData opened.now.place (meaning (D.state disk.old)) inode.now 1 0 (1 + SECTOR_POINTERS) }
     requires owned { length owned.old ≡ opened.now.place.sectors }
@@ -210,7 +210,7 @@ fn mark_inode<D: Disk>(
     owned: &mut [bool],
     twice: &mut [bool],
 ) -> Checked<bool>
-    requires opened { BeginsWith (D.state disk.old) opened.now.place opened.now.commit }
+    requires opened { BeginsWith (D.state disk.old) opened.now.place opened.now.area opened.now.commit }
     requires owned { length owned.old ≡ opened.now.place.sectors }
     requires twice { length twice.old ≡ opened.now.place.sectors }
     ensures test { IfOk result (λ b. IsTrue b ↔ OwnsData opened.now.place (meaning (D.state disk.old)) inode.now) }
@@ -261,7 +261,7 @@ fn mark_all<D: Disk>(
     owned: &mut [bool],
     twice: &mut [bool],
 ) -> Checked<()>
-    requires opened { BeginsWith (D.state disk.old) opened.now.place opened.now.commit }
+    requires opened { BeginsWith (D.state disk.old) opened.now.place opened.now.area opened.now.commit }
     requires table { AreInodes opened.now.place (meaning (D.state disk.old)) inodes.now }
     requires none { IsMarked (owned_part opened.now.place (meaning (D.state disk.old))) 0 0 opened.now.place.sectors owned.old twice.old }
     ensures each { OnOk result (ObeysEach opened.now.place (meaning (D.state disk.old)) InData) }
@@ -288,7 +288,7 @@ pub(crate) fn read_owners<D: Disk>(
     opened: &Opened,
     inodes: &[Inode],
 ) -> Checked<Owners>
-    requires opened { BeginsWith (D.state disk.old) opened.now.place opened.now.commit }
+    requires opened { BeginsWith (D.state disk.old) opened.now.place opened.now.area opened.now.commit }
     requires table { AreInodes opened.now.place (meaning (D.state disk.old)) inodes.now }
     ensures each { OnOk result (ObeysEach opened.now.place (meaning (D.state disk.old)) InData) }
     ensures owners { IfOk result (λ owners. IsOwnerMap opened.now.place (meaning (D.state disk.old)) owners.owned.items) }

@@ -7,17 +7,19 @@ ghost use Rattle.fs_check.specs.Checks.{AreInodes, IsNameTable};
 ghost use Rattle.fs_check.specs.Ways.{the_parent};
 
 use crate::directories::Names;
-use fs_layout::{Inode, Kind, MAX_INODE_NAMES, Place, ROOT};
+use fs_layout::{Inode, Kind, Place, ROOT, Version};
 
 // Whether inode n may have the names field that it has, where so many slots name it.
-fn has_name_count(n: u32, inode: &Inode, count: u32) -> bool
-    ensures { IsTrue result ↔ HasNameCount inode.now.kind n inode.now.names count }
+fn has_name_count(version: Version, n: u32, inode: &Inode, count: u64) -> bool
+    ensures { IsTrue result ↔ HasNameCount version inode.now.kind n inode.now.names count }
 {
+    let most = version.max_inode_names() as u64;
+    let names = inode.names as u64;
     match inode.kind {
         Kind::Free => true,
-        Kind::File => inode.names == count && count <= MAX_INODE_NAMES,
-        Kind::Directory => inode.names == 1 && count == if n == ROOT { 0 } else { 1 },
-        Kind::Link => inode.names == count && 1 <= count && count <= MAX_INODE_NAMES,
+        Kind::File => names == count && count <= most,
+        Kind::Directory => names == 1 && count == if n == ROOT { 0 } else { 1 },
+        Kind::Link => names == count && 1 <= count && count <= most,
     }
 }
 
@@ -31,7 +33,8 @@ pub(crate) fn miscounted(place: Place, inodes: &[Inode], names: &Names) -> Optio
         → IsNameTable place m names.now.counts.items names.now.directories.items → ObeysBefore place m 12 → ObeysEach place m NameCounts) }
 {
     for n in 0..place.inodes {
-        if !has_name_count(n, &inodes[n as usize], names.counts[n as usize]) {
+        let count = names.counts[n as usize];
+        if !has_name_count(place.version, n, &inodes[n as usize], count) {
             return Some(n);
         }
     }

@@ -2,7 +2,7 @@
 
 ghost use Rattle.std.specs.Prelude.{◌≡◌, IfOk, IfSome, IfNone};
 ghost use Rattle.fs_layout.specs.Bytes.{SectorMap};
-ghost use Rattle.fs_layout.specs.Commit.{IsCommit};
+ghost use Rattle.fs_layout.specs.Commit.{IsCommit, named_area};
 ghost use Rattle.fs_model.specs.Rules.{IsPlaceOf, HasPlace};
 ghost use Rattle.sector_disk.specs.Disk.{sector};
 ghost use Rattle.fs_check.specs.Checks.{Passed, IsFirst};
@@ -13,12 +13,13 @@ use redo_journal::read_commit;
 use sector_disk::Disk;
 use std::alloc::Global;
 
-/// A disk whose superblock and commit were read: where its parts lie, and the targets of a sealed commit.
+/// A disk whose superblock and commit were read: where its parts lie, and the log area and the targets of a sealed commit.
 #[derive(Drop)]
 pub(crate) struct Opened {
     /// Where the memory for a check's tables is taken from.
     pub alloc: Global,
     pub place: Place,
+    pub area: u32,
     pub commit: Commit,
 }
 
@@ -57,15 +58,16 @@ pub(crate) fn open_place<D: Disk>(disk: &mut D) -> Checked<Place>
     }
 }
 
-/// Reads the commit: the second rule.
-pub(crate) fn open_commit<D: Disk>(disk: &mut D, place: Place) -> Checked<Commit>
+/// Reads the log area that the commit names, and the commit: the second rule.
+pub(crate) fn open_commit<D: Disk>(disk: &mut D, place: Place) -> Checked<(u32, Commit)>
     requires { IsPlaceOf (D.state disk.old).size (sector (D.state disk.old).seen) place }
-    ensures targets { IfOk result (λ targets. IsCommit (D.state disk.old).size (sector (D.state disk.old).seen) targets) }
+    ensures area { IfOk result (λ found. found.0 ≡ named_area (sector (D.state disk.old).seen)) }
+    ensures targets { IfOk result (λ found. IsCommit (D.state disk.old).size (sector (D.state disk.old).seen) found.1) }
     ensures passed { Passed IsFirst (D.state disk.old) (D.state disk.new) result }
 {
-    let found = read_commit(disk, place.header())?;
+    let (area, found) = read_commit(disk, place.header)?;
     match found {
-        Some(commit) => Ok(commit),
+        Some(commit) => Ok((area, commit)),
         None => Err(NO_COMMIT),
     }
 }

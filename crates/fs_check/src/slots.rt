@@ -2,64 +2,69 @@
 
 ghost use Rattle.std.specs.Prelude.{◌≡◌, ◌≢◌, ◌≤◌, ◌<◌, ◌+◌, ◌/◌, ◌%◌, ℕ, length, get_or, OnOk, IfOk, IsTrue, ◌↔◌, MatchOption, All};
 ghost use Rattle.std.specs.List.Sorted.{IsPermutation, IsSortedBy};
-ghost use Rattle.fs_layout.specs.declared.inode.TheConstants.{INDIRECT_END, MAX_DIRECTORY_SIZE};
-ghost use Rattle.fs_layout.specs.Images.{IsData, HasPointers, Owns, pointer};
+ghost use Rattle.fs_layout.specs.declared.inode.TheConstants.{MAX_BLOCKS, MAX_DIRECTORY_SIZE};
+ghost use Rattle.fs_layout.specs.Version.{block_slots};
+ghost use Rattle.fs_layout.specs.Images.{IsData, Owns};
 ghost use Rattle.fs_layout.specs.Directories.{NamedInode, HaveDistinctNames};
-ghost use Rattle.fs_check.specs.Naming.{AreValid, AreSlots, IsUsable, HasGoodSlots, is_below};
+ghost use Rattle.fs_check.specs.Owning.{AreAtHand};
+ghost use Rattle.fs_check.specs.Naming.{block_of_slot, AreValid, AreSlots, IsUsable, HasGoodSlots, is_below};
 ghost use Rattle.fs_check.specs.Checks.{meaning, BeginsWith, AreInodes, Passed, IsNone};
 
 use crate::faults::Checked;
 use crate::opening::Opened;
-use crate::owning::read_listed;
+use crate::owning::{Pointers, first_pointers, load_pointers};
 use crate::reading::read_recovered;
-use fs_layout::{Inode, Kind, ROOT, SLOT_SIZE, Slot};
+use fs_layout::{Inode, Kind, ROOT, Slot};
 use sector_disk::Disk;
 
-// The slots of a block.
-const SLOTS: usize = 4;
-
-// Reads the block of slot k, unless the slot before it stands there too; `pointers` is the content of the
-// indirect sector, zeros where there is none.
+// Reads the block of slot k, unless the slot before it stands there too.
 fn read_block_of<D: Disk>(
     disk: &mut D,
     opened: &Opened,
     inode: &Inode,
-    pointers: &[u8; 512],
+    pointers: &mut Pointers,
     k: usize,
     block: &mut [u8; 512],
 ) -> Checked<()>
-    requires opened { BeginsWith (D.state disk.old) opened.now.place opened.now.commit }
-    requires pointers { HasPointers (meaning (D.state disk.old)) inode.now 1 0 pointers.now }
-    requires few { k / 4 < INDIRECT_END }
+    requires opened { BeginsWith (D.state disk.old) opened.now.place opened.now.area opened.now.commit }
+    requires few { k / block_slots opened.now.place.version < MAX_BLOCKS }
     requires in_data { (s : ℕ) → Owns (meaning (D.state disk.old)) inode.now s → IsData opened.now.place s }
-    requires before { k % 4 ≢ 0 → block.old ≡ meaning (D.state disk.old) (pointer (meaning (D.state disk.old)) inode.now (k / 4)) }
-    ensures content { OnOk result (block.new ≡ meaning (D.state disk.old) (pointer (meaning (D.state disk.old)) inode.now (k / 4))) }
+    requires at_hand { AreAtHand (meaning (D.state disk.old)) inode.now pointers.old }
+    requires before { k % block_slots opened.now.place.version ≢ 0
+        → block.old ≡ block_of_slot opened.now.place.version (meaning (D.state disk.old)) inode.now k }
+    ensures at_hand { OnOk result (AreAtHand (meaning (D.state disk.old)) inode.now pointers.new) }
+    ensures content { OnOk result (block.new ≡ block_of_slot opened.now.place.version (meaning (D.state disk.old)) inode.now k) }
     ensures passed { Passed IsNone (D.state disk.old) (D.state disk.new) result }
 {
-    if k % SLOTS == 0 {
-        let s = inode.number(0, pointers, (k / SLOTS) as u64);
-        read_recovered(disk, opened, s, block)?;
+    let block_slots = opened.place.version.block_slots();
+    if k % block_slots != 0 {
+        return Ok(());
     }
+    let at = (k / block_slots) as u64;
+    load_pointers(disk, opened, inode, at, pointers)?;
+    let s = inode.number(0, &pointers.content, at);
+    read_recovered(disk, opened, s, block)?;
     Ok(())
 }
 
 // The slots of a directory, where each is valid.
 fn read_slots<D: Disk>(disk: &mut D, opened: &Opened, inode: &Inode) -> Checked<Option<Vec<Slot>>>
-    requires opened { BeginsWith (D.state disk.old) opened.now.place opened.now.commit }
+    requires opened { BeginsWith (D.state disk.old) opened.now.place opened.now.area opened.now.commit }
     requires in_data { (s : ℕ) → Owns (meaning (D.state disk.old)) inode.now s → IsData opened.now.place s }
     requires size { inode.now.size ≤ MAX_DIRECTORY_SIZE }
-    ensures slots { IfOk result (λ o. MatchOption o (AreValid (meaning (D.state disk.old)) inode.now → ⊥)
-        (λ slots. AreSlots (meaning (D.state disk.old)) inode.now slots.items)) }
+    ensures slots { IfOk result (λ o. MatchOption o (AreValid opened.now.place.version (meaning (D.state disk.old)) inode.now → ⊥)
+        (λ slots. AreSlots opened.now.place.version (meaning (D.state disk.old)) inode.now slots.items)) }
     ensures passed { Passed IsNone (D.state disk.old) (D.state disk.new) result }
 {
-    let count = inode.size as usize / SLOT_SIZE;
-    let mut pointers = [0; 512];
-    read_listed(disk, opened, inode, 1, 0, &mut pointers)?;
+    let version = opened.place.version;
+    let count = inode.size as usize / version.slot_size();
+    let mut pointers = first_pointers(disk, opened, inode)?;
     let mut slots = Vec::with_capacity(opened.alloc, count)?;
     let mut block = [0; 512];
     for k in 0..count {
-        read_block_of(disk, opened, inode, &pointers, k, &mut block)?;
-        let Ok(slot) = Slot::read_from(&block, SLOT_SIZE * (k % SLOTS)) else {
+        read_block_of(disk, opened, inode, &mut pointers, k, &mut block)?;
+        let at = version.slot_size() * (k % version.block_slots());
+        let Ok(slot) = Slot::read_in(version, &block, at) else {
             return Ok(None);
         };
         slots.push(slot)?;
@@ -96,12 +101,13 @@ pub(crate) fn read_good_slots<D: Disk>(
     inodes: &[Inode],
     inode: &Inode,
 ) -> Checked<Option<Vec<Slot>>>
-    requires opened { BeginsWith (D.state disk.old) opened.now.place opened.now.commit }
+    requires opened { BeginsWith (D.state disk.old) opened.now.place opened.now.area opened.now.commit }
     requires table { AreInodes opened.now.place (meaning (D.state disk.old)) inodes.now }
     requires in_data { (s : ℕ) → Owns (meaning (D.state disk.old)) inode.now s → IsData opened.now.place s }
     requires size { inode.now.size ≤ MAX_DIRECTORY_SIZE }
     ensures slots { IfOk result (λ o. MatchOption o (HasGoodSlots opened.now.place (meaning (D.state disk.old)) inode.now → ⊥)
-        (λ slots. HasGoodSlots opened.now.place (meaning (D.state disk.old)) inode.now × AreSlots (meaning (D.state disk.old)) inode.now slots.items)) }
+        (λ slots. HasGoodSlots opened.now.place (meaning (D.state disk.old)) inode.now
+        × AreSlots opened.now.place.version (meaning (D.state disk.old)) inode.now slots.items)) }
     ensures passed { Passed IsNone (D.state disk.old) (D.state disk.new) result }
 {
     let Some(slots) = read_slots(disk, opened, inode)? else {

@@ -8,9 +8,9 @@ use Rattle.fs_layout.specs.declared.place.Place.{Place}
 use Rattle.fs_layout.specs.Bytes.{zeros}
 use Rattle.fs_layout.specs.Commit.{commit_bytes}
 use Rattle.fs_layout.specs.Version.{newest}
-use Rattle.fs_layout.specs.Place.{the_place, IsPlace}
-use Rattle.fs_layout.specs.Superblock.{super_bytes, super_for}
-use Rattle.fs_layout.proofs.Places.{place_is_laid_out, place_is_place}
+use Rattle.fs_layout.specs.Place.{IsPlace, super_for, the_place}
+use Rattle.fs_layout.specs.Superblock.{super_bytes}
+use Rattle.fs_layout.proofs.Places.{after_map, place_is_laid_out, place_is_place}
 use Rattle.fs_model.specs.NewDisk.{empty_tree, IsNewImage}
 use Rattle.fs_model.specs.Stands.{room_of, Stands}
 use Rattle.fs_model.proofs.NewDiskStands.{new_disk_stands}
@@ -45,7 +45,8 @@ still_cleared old at_rest image is = stays at_rest.stable at_rest.whole is 0 (λ
 
 -- one sector of the tables more
 pub table_more : (p : Place) (old new : Image) (n : ℕ) (content : List ℕ) → n < length old → new ≡ set old n content → IsNewTable p n content
-    → ((s : ℕ) → 128 ≤ s → s < n → IsNewTable p s (sector old s)) → (s : ℕ) → 128 ≤ s → s < n + 1 → IsNewTable p s (sector new s)
+    → ((s : ℕ) → p.inode_bitmap ≤ s → s < n → IsNewTable p s (sector old s)) → (s : ℕ) → p.inode_bitmap ≤ s → s < n + 1
+    → IsNewTable p s (sector new s)
 table_more p old new n content fits put is so_far s ge lt = elim (cases_eq s n) [
   | inl here ↦
       let e : sector new s ≡ content = ap (sector new) here ∙ ap (λ (i : Image). sector i n) put ∙ get_or-set_same old n content [] fits in
@@ -87,7 +88,7 @@ pub record IsOnDisk (p : Place) (size : ℕ) : Type 0 where
 
 pub place_on_disk : (size inodes : ℕ) (p : Place) → the_place size inodes ≡ Some p → IsOnDisk p size
 place_on_disk size inodes p e =
-    let place = place_is_place newest size inodes e in
+    let place = place_is_place newest 0 size inodes e in
     let same = place_size size inodes p e in
     record { least = omega (arith, place.least_sectors, same); first_data = omega (arith, place.data_sectors, same) }
 
@@ -106,13 +107,13 @@ is_new_disk p old ready image size super others = record {
     sectors = place_size old.size p.inodes p ready.has_place
 
     place : IsPlace p
-    place = place_is_place newest old.size p.inodes ready.has_place
+    place = place_is_place newest 0 old.size p.inodes ready.has_place
 
     new : IsNewImage p (sector image)
     new =
         new_image p (sector image) (ap (λ (k : ℕ). the_place k p.inodes) sectors ∙ ready.has_place) super
         (others 1 (omega arith) (omega (arith, sectors, place.least_sectors)) ∙ ready.commit)
-        (λ s ge lt. subst (IsNewTable p s) (sym (others s (omega (arith, ge)) (omega (arith, lt, sectors, place.data_sectors)))) (ready.tables s ge lt))
+        (λ s ge lt. subst (IsNewTable p s) (sym (others s (omega (arith, ge, (after_map place).0)) (omega (arith, lt, sectors, place.data_sectors)))) (ready.tables s ge lt))
 
 -- while the superblock is written, an image has none, or is that of a new disk
 pub cleared_or_new : (p : Place) (old : DiskState) (content : List ℕ) → IsPrepared p old → content ≡ super_bytes (super_for p)

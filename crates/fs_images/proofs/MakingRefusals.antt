@@ -2,9 +2,10 @@
 use Rattle.std.proofs.Common.{◌≡◌, ℕ, ◌+◌, ◌<◌, ◌≤◌, Bool, true, false, cond, nat_lt, Option, Some, None, refl, sym, ◌∙◌, arith}
 use Rattle.std.specs.Prelude.{MatchResult}
 use Rattle.std.specs.Option.{ok_or}
+use Rattle.std.proofs.lemmas.Bool.{le-leb}
 use Rattle.std.proofs.lemmas.Bool.Decides.{nat_tests}
 use Rattle.fs_layout.specs.declared.place.Place.{Place}
-use Rattle.fs_layout.specs.Place.{laid_out, place_in, the_place}
+use Rattle.fs_layout.specs.Place.{allows_header, laid_out, place_in, the_place}
 use Rattle.fs_images.specs.declared.faults.MkfsFault.TheVariants.{BadSize, BadInodes, TooSmall}
 use Rattle.fs_images.specs.Making.{is_out_of, mkfs_refusal}
 
@@ -17,9 +18,6 @@ is_above least most n lt = grind (arith, nat_tests)
 
 is_within : (least most n : ℕ) → least ≤ n → n ≤ most → is_out_of least most n ≡ false
 is_within least most n ge le = grind (arith, nat_tests)
-
-at_least : (least n : ℕ) → least ≤ n → nat_lt n least ≡ false
-at_least least n le = grind (arith, nat_tests)
 
 -- ---- the first refusal
 pub bad_size : (sectors inodes : ℕ) → is_out_of 1024 65536 sectors ≡ true → mkfs_refusal sectors inodes ≡ Some BadSize
@@ -48,9 +46,9 @@ last_refusal sectors inodes fit = rw (is_within 1024 65536 sectors fit.size.leas
 
 last_test : (sectors inodes : ℕ) → AreInRange sectors inodes
     → the_place sectors inodes ≡ cond (nat_lt sectors ((laid_out sectors inodes).first_data + 64)) None (Some (laid_out sectors inodes))
-unfolding place_in
+unfolding place_in allows_header
 last_test sectors inodes fit =
-    rw (at_least 1024 sectors fit.size.least, at_least sectors 65536 fit.size.most, at_least 16 inodes fit.least, at_least inodes 4096 fit.most) refl
+    rw (le-leb 1024 sectors fit.size.least, le-leb sectors 65536 fit.size.most, le-leb 16 inodes fit.least, le-leb inodes 4096 fit.most) refl
 
 none_then : (b : Bool) (l : Place) → None ≡ cond b None (Some l) → cond b (Some TooSmall) None ≡ Some TooSmall
 none_then true l e = refl

@@ -9,10 +9,10 @@ use Rattle.fs_layout.specs.declared.place.Place.{Place}
 use Rattle.fs_layout.specs.Bytes.{SectorMap, IsBytes, IsSector, window, zeros, le16, le32, le64, le32s}
 use Rattle.fs_layout.specs.Commit.{commit_bytes}
 use Rattle.fs_layout.specs.Inode.{IsInode, free_inode, inode_bytes, inode_fits}
-use Rattle.fs_layout.specs.Images.{bit, block_bitmap, inode_bitmap, stored}
+use Rattle.fs_layout.specs.Images.{bit, stored}
 use Rattle.fs_layout.specs.Version.{newest}
-use Rattle.fs_layout.specs.Place.{IsPlace, the_place}
-use Rattle.fs_layout.specs.Superblock.{super_bytes, super_for}
+use Rattle.fs_layout.specs.Place.{IsPlace, super_for, the_place}
+use Rattle.fs_layout.specs.Superblock.{super_bytes}
 use Rattle.fs_layout.proofs.Places.{after_map, before_data, place_is_place}
 use Rattle.fs_layout.proofs.Sectors.{IsSector-splice, IsBytes-inode_bytes}
 use Rattle.fs_layout.proofs.SplicedBytes.{IsSector-zeros}
@@ -154,11 +154,11 @@ unfolding root_table
 root_table_whole = IsSector-splice (zeros 512) (inode_bytes root_inode) 128 IsSector-zeros (IsBytes-inode_bytes root_inode) (omega (arith, length-root))
 
 -- ---- the tables as a whole
-table_whole : (p : Place) (s : ℕ) (content : List ℕ) → 128 ≤ s → IsNewTable p s content → IsSector content
-table_whole p s content ge is = elim (cases_eq s 128) [
-  | inl e ↦ (is.inodes e).whole
-  | inr ne ↦ elim (cases_lt s p.table) [
-    | inl low ↦ (is.sectors (omega (arith, ge, ne)) low).whole
+table_whole : (p : Place) (s : ℕ) (content : List ℕ) → p.inode_bitmap ≤ s → IsNewTable p s content → IsSector content
+table_whole p s content ge is = elim (cases_lt s p.block_bitmap) [
+  | inl first ↦ (is.inodes ge first).whole
+  | inr behind ↦ elim (cases_lt s p.table) [
+    | inl low ↦ (is.sectors behind low).whole
     | inr past ↦ elim (cases_eq s p.table) [
       | inl e ↦ subst IsSector (sym (is.root e)) root_table_whole
       | inr other ↦ subst IsSector (sym (is.others (omega (arith, past, other)))) IsSector-zeros
@@ -180,7 +180,7 @@ root_and_none : (most n : ℕ) → is_outside 2 most n ≡ (nat_eq n 0 || nat_le
 root_and_none most n = grind (arith, nat_tests)
 
 pub new_image : (p : Place) (image : SectorMap) → the_place p.sectors p.inodes ≡ Some p → image 0 ≡ super_bytes (super_for p)
-    → image 1 ≡ commit_bytes [] → ((s : ℕ) → 128 ≤ s → s < p.first_data → IsNewTable p s (image s)) → IsNewImage p image
+    → image 1 ≡ commit_bytes [] → ((s : ℕ) → p.inode_bitmap ≤ s → s < p.first_data → IsNewTable p s (image s)) → IsNewImage p image
 unfolding stored
 new_image p image has_place super commit tables = record {
   has_place = has_place;
@@ -188,26 +188,28 @@ new_image p image has_place super commit tables = record {
   commit = commit;
   tables = λ s ge lt. table_whole p s (image s) ge (tables s ge lt);
   inode_bits = λ n lt.
-      let zeroth : n / 4096 ≡ 0 = omega arith in
-      let same : n % 4096 ≡ n = omega arith in
-      let map : IsBitmap 0 2 p.inodes (image (128 + n / 4096)) =
-      subst (λ (m : ℕ). IsBitmap 0 2 p.inodes (image (128 + m))) (sym zeroth) ((tables 128 (omega arith) (omega (arith, low, high))).inodes refl) in
-      bit_of_sector image inode_bitmap n ∙ map.bits (n % 4096) (omega arith) ∙ ap (is_outside 2 p.inodes) (let e : 0 + n % 4096 ≡ n = omega arith in e) ∙ root_and_none p.inodes n;
+      let t = p.inode_bitmap + n / 4096 in
+      let below : t < p.block_bitmap = omega (arith, lt) in
+      let map : IsBitmap (4096 * (t - p.inode_bitmap)) 2 p.inodes (image t) =
+      (tables t (omega arith) (omega (arith, below, order.2, high))).inodes (omega arith) below in
+      let e : 4096 * (t - p.inode_bitmap) + n % 4096 ≡ n = omega arith in
+      bit_of_sector image p.inode_bitmap n ∙ map.bits (n % 4096) (omega arith) ∙ ap (is_outside 2 p.inodes) e ∙ root_and_none p.inodes n;
   block_bits = λ s lt.
-      let t = block_bitmap + s / 4096 in
-      let below : t < p.table = omega arith in
-      let map : IsBitmap (4096 * (t - block_bitmap)) p.first_data p.sectors (image t) = (tables t (omega arith) (omega (arith, below, high))).sectors (omega arith) below in
-      let e : 4096 * (t - block_bitmap) + s % 4096 ≡ s = omega arith in
-      let is : bit image block_bitmap s ≡ is_outside p.first_data p.sectors s =
-      bit_of_sector image block_bitmap s ∙ map.bits (s % 4096) (omega arith) ∙ ap (is_outside p.first_data p.sectors) e in
+      let t = p.block_bitmap + s / 4096 in
+      let below : t < p.table = omega (arith, lt) in
+      let map : IsBitmap (4096 * (t - p.block_bitmap)) p.first_data p.sectors (image t) =
+      (tables t (omega (arith, order.1)) (omega (arith, below, high))).sectors (omega arith) below in
+      let e : 4096 * (t - p.block_bitmap) + s % 4096 ≡ s = omega arith in
+      let is : bit image p.block_bitmap s ≡ is_outside p.first_data p.sectors s =
+      bit_of_sector image p.block_bitmap s ∙ map.bits (s % 4096) (omega arith) ∙ ap (is_outside p.first_data p.sectors) e in
       let cases = outside_cases p.first_data p.sectors s in
       (λ set. cases.0 (sym is ∙ set), λ out. is ∙ cases.1 out);
   root_is =
       let e : p.table + 1 / 4 ≡ p.table = omega arith in
-      ap (λ (s : ℕ). window (image s) 128 128) e ∙ ap (λ (x : List ℕ). window x 128 128) ((tables p.table (omega (arith, low)) (omega (arith, place.slots, place.least_inodes))).root refl) ∙ root_is_there;
+      ap (λ (s : ℕ). window (image s) 128 128) e ∙ ap (λ (x : List ℕ). window x 128 128) ((tables p.table (omega (arith, order.1, order.2)) (omega (arith, place.slots, place.least_inodes))).root refl) ∙ root_is_there;
   free = λ n lt ne.
       let inside : p.table + n / 4 < p.first_data = omega (arith, place.slots, lt) in
-      let there = tables (p.table + n / 4) (omega (arith, low)) inside in
+      let there = tables (p.table + n / 4) (omega (arith, order.1, order.2)) inside in
       elim (cases_lt n 4) [
         | inl few ↦
             let e : p.table + n / 4 ≡ p.table = omega arith in
@@ -219,10 +221,10 @@ new_image p image has_place super commit tables = record {
 }
   where
     place : IsPlace p
-    place = place_is_place newest p.sectors p.inodes has_place
+    place = place_is_place newest 0 p.sectors p.inodes has_place
 
-    low : 129 < p.table
-    low = after_map place
+    order : (128 ≤ p.inode_bitmap) × (p.inode_bitmap < p.block_bitmap) × (p.block_bitmap < p.table)
+    order = after_map place
 
     high : p.table ≤ p.first_data
     high = before_data place

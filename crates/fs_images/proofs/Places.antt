@@ -1,19 +1,28 @@
 -- Where the parts of a disk lie that stands for a tree, and what room it has.
-use Rattle.std.proofs.Common.{◌≡◌, ◌<◌, ◌≤◌, ℕ, length, Option, Some, None, Ok, Err, Result, sym, ap, subst, ◌∙◌, arith}
+use Rattle.std.proofs.Common.{◌≡◌, ◌<◌, ◌≤◌, ◌^◌, ℕ, length, Option, Some, None, Ok, Err, Result, sym, ap, subst, ◌∙◌, arith}
 use Rattle.sector_disk.specs.Disk.{Image}
 use Rattle.fs_layout.specs.declared.place.Place.{Place}
 use Rattle.fs_layout.specs.declared.superblock.Super.{Super}
-use Rattle.fs_layout.specs.Place.{IsPlace, place_in}
-use Rattle.fs_layout.specs.Superblock.{place_for}
+use Rattle.fs_layout.specs.Place.{IsPlace, place_for, place_in}
+use Rattle.fs_layout.specs.declared.version.Version.{Version}
+use Rattle.fs_layout.specs.declared.version.Version.TheVariants.{One, Two, Three}
+use Rattle.fs_layout.specs.Version.{max_inode_names}
+use Rattle.fs_layout.proofs.SlotSizes.{name_most}
 use Rattle.fs_layout.proofs.Versions.{file_bounds}
-use Rattle.fs_layout.proofs.Places.{place_is_place, place_is_laid_out}
+use Rattle.fs_layout.proofs.Places.{numbers_most, place_is_laid_out, place_is_place}
 use Rattle.fs_model.specs.Trees.{Tree, Room}
 use Rattle.fs_model.specs.States.{IsRoom}
 use Rattle.fs_images.specs.Standing.{StandsFor}
 
+-- in each version an inode has some name, and its names can be counted
+inode_names : (version : Version) → (1 ≤ max_inode_names version) × (max_inode_names version < 2 ^ 32)
+inode_names One = (omega arith, omega arith)
+inode_names Two = (omega arith, omega arith)
+inode_names Three = (omega arith, omega arith)
+
 module _ (seen : Image) (room : Room) (t : Tree) (free : ℕ) (st : StandsFor room seen t free) where
   pub is_place : IsPlace st.place
-  is_place = place_is_place _ (length seen) st.super.inodes st.has_place
+  is_place = place_is_place _ _ (length seen) st.super.inodes st.has_place
 
   pub some_sectors : 0 < length seen
   some_sectors =
@@ -31,14 +40,20 @@ module _ (seen : Image) (room : Room) (t : Tree) (free : ℕ) (st : StandsFor ro
   -- the place that a superblock gives
   pub place_found : (v : Super) → v ≡ st.super → place_for v ≡ Some st.place
   place_found v same =
-      ap place_for same ∙ ap (λ (n : ℕ). place_in st.super.version n st.super.inodes) st.same_size ∙ st.has_place
+      ap place_for same ∙ ap (λ (n : ℕ). place_in st.super.version st.super.header n st.super.inodes) st.same_size ∙ st.has_place
 
   pub is_room : IsRoom room
   is_room =
-      let most = is_place.most_inodes in
-      let large = is_place.most_sectors in
+      let most = numbers_most is_place in
       let limit = (file_bounds st.place.version).1 in
-      subst IsRoom (sym st.room_is) (record { inodes = most; sectors = omega (arith, large); file_limit = omega (arith, limit) })
+      subst IsRoom (sym st.room_is) (record {
+        inodes = most.1;
+        sectors = omega (arith, most.0);
+        file_limit = omega (arith, limit);
+        name_limit = name_most st.place.version;
+        some_names = (inode_names st.place.version).0;
+        names_limit = (inode_names st.place.version).1;
+      })
 
 pub some_same : {A : Type 0} (x y : A) (o : Option A) → o ≡ Some x → o ≡ Some y → x ≡ y
 some_same x y o e f = cc

@@ -1,16 +1,16 @@
 -- What stands on a disk while it is upgraded, and then.
-use Rattle.std.proofs.Common.{◌≡◌, ℕ, ◌<◌, ◌≤◌, List, [], length, refl, sym, ap, subst, ◌∙◌, arith, inl, inr, Result, set, get_or-set_same, get_or-set_other}
+use Rattle.std.proofs.Common.{◌≡◌, ℕ, ◌<◌, ◌≤◌, List, [], length, refl, sym, ap, subst, ◌∙◌, arith, inl, inr, Result, Some, set, get_or-set_same, get_or-set_other}
 use Rattle.std.proofs.lemmas.Bool.{cases_eq}
 use Rattle.std.proofs.lemmas.List.{ext_get_or, length-set}
 use Rattle.sector_disk.specs.Disk.{DiskState, Image, sector, IsImage, IsImageOr, IsNarrowed, IsStable, IsWrite, Elapses, LeavesOnly, OnlyReads}
 use Rattle.sector_disk.proofs.Moments.{goes_on, joined, narrowed, one_call, reads_then, stable_image, stays, stays_or, weaker}
 use Rattle.fs_layout.specs.declared.superblock.Super.{Super}
 use Rattle.fs_layout.specs.declared.version.Version.{Version}
-use Rattle.fs_layout.specs.declared.version.Version.TheVariants.{One, Two}
+use Rattle.fs_layout.specs.declared.version.Version.TheVariants.{One, Two, Three}
 use Rattle.fs_layout.specs.Superblock.{super_bytes, super_of, with_version, FitsSuper}
 use Rattle.fs_layout.proofs.Codecs.{same_spelling}
 use Rattle.fs_layout.proofs.SuperLaw.{super_codec}
-use Rattle.fs_layout.specs.Version.{max_file_size}
+use Rattle.fs_layout.specs.Version.{version_number, version_of, max_file_size, slot_size}
 use Rattle.fs_model.specs.Stands.{Stands, room_in}
 use Rattle.fs_model.proofs.Upgraded.{stands_in_version}
 use Rattle.fs_images.specs.Standing.{StandsFor, StandsForSome, StandsAs}
@@ -22,6 +22,13 @@ use Rattle.fs_images.specs.Upgrading.{target, IsSuperOf, SaysVersion, StandsInTa
 larger : (version : Version) → max_file_size version ≤ max_file_size target
 larger One = omega arith
 larger Two = omega arith
+larger Three = omega arith
+
+-- each version that a superblock can say has slots of the same size
+same_slots : (version : Version) → version_of (version_number version) ≡ Some version → slot_size version ≡ slot_size target
+same_slots One known = refl
+same_slots Two known = refl
+same_slots Three known = absurd cc
 
 -- with the superblock of the new version
 raised : (from image : Image) (super : Super) → IsSuperOf from super → length image ≡ length from
@@ -33,6 +40,7 @@ raised from image super is size says others = λ room t free stands.
       fits = is.fits;
       says = says;
       larger = larger super.version;
+      slots = same_slots super.version is.fits.known;
       others = λ n some below. others n some;
     }))
 

@@ -64,7 +64,7 @@ BehindSuperblock n content = 0 < n
 -- ---- the disk after each step
 -- bitmaps and inode table are those of a new disk
 abbrev pub HoldsNewTables : Place → Image → Type 0
-HoldsNewTables p image = (s : ℕ) → 128 ≤ s → s < p.first_data → IsNewTable p s (sector image s)
+HoldsNewTables p image = (s : ℕ) → p.inode_bitmap ≤ s → s < p.first_data → IsNewTable p s (sector image s)
 
 -- all is stable, and there is no superblock
 pub record IsCleared (disk : DiskState) : Type 0 where

@@ -7,7 +7,7 @@ use Rattle.std.specs.Prelude.{◌≡◌, ℕ, ◌+◌, ◌-◌, ◌*◌, ◌<◌
 use Rattle.fs_layout.specs.declared.place.Place.{Place}
 use Rattle.fs_layout.specs.Bytes.{IsSector, splice, zeros}
 use Rattle.fs_layout.specs.Inode.{inode_bytes}
-use Rattle.fs_layout.specs.Images.{bit, inode_bitmap, block_bitmap}
+use Rattle.fs_layout.specs.Images.{bit}
 use Rattle.fs_model.specs.NewDisk.{root_inode}
 
 -- bit k of a sector, taken by itself
@@ -30,7 +30,7 @@ root_table = splice (zeros 512) 128 (inode_bytes root_inode)
 -- The content of sector s, from the bitmaps to the end of the inode table. Inode 0 isn't used, and inode 1 is the root;
 -- the slots past the last inode are zero.
 pub record IsNewTable (p : Place) (s : ℕ) (content : List ℕ) : Type 0 where
-  pub inodes : s ≡ inode_bitmap → IsBitmap 0 2 p.inodes content
-  pub sectors : block_bitmap ≤ s → s < p.table → IsBitmap (4096 * (s - block_bitmap)) p.first_data p.sectors content
+  pub inodes : p.inode_bitmap ≤ s → s < p.block_bitmap → IsBitmap (4096 * (s - p.inode_bitmap)) 2 p.inodes content
+  pub sectors : p.block_bitmap ≤ s → s < p.table → IsBitmap (4096 * (s - p.block_bitmap)) p.first_data p.sectors content
   pub root : s ≡ p.table → content ≡ root_table
   pub others : p.table < s → content ≡ zeros 512

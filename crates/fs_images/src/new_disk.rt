@@ -2,13 +2,13 @@
 
 ghost use Rattle.std.specs.Prelude.{◌≡◌, ◌≤◌, ◌<◌, Some, None, Err, IfErr, OnOk, MatchResult};
 ghost use Rattle.sector_disk.specs.Disk.{AddsOnly, HasCause, IsImageOr, IsStable, LeavesOnly, sector};
-ghost use Rattle.fs_layout.specs.Place.{IsPlace, the_place};
-ghost use Rattle.fs_layout.specs.Superblock.{super_bytes, super_for};
+ghost use Rattle.fs_layout.specs.Place.{IsPlace, super_for, the_place};
+ghost use Rattle.fs_layout.specs.Superblock.{super_bytes};
 ghost use Rattle.fs_images.specs.Making.{BehindSuperblock, HasNoSuperblock, HoldsNewTables, IsCleared, IsDeviceFault, IsHalfCleared, IsHalfDone, IsHalfMade, IsNewDisk, IsPrepared, mkfs_refusal};
 
 use crate::MkfsFault;
 use crate::new_tables::table_sector;
-use fs_layout::{COMMIT_SECTOR, Commit, INODE_BITMAP, Place, Super, place_of};
+use fs_layout::{COMMIT_SECTOR, Commit, Place, Super, place_of};
 use sector_disk::{Disk, DiskFault, write_synced};
 
 const SUPERBLOCK: u32 = 0;
@@ -96,7 +96,7 @@ fn write_tables<D: Disk>(disk: &mut D, place: Place) -> Result<(), DiskFault>
     ensures any_moment { LeavesOnly (D.state disk.old) (D.state disk.new) (IsImageOr BehindSuperblock (D.state disk.old)) }
     ensures cause { HasCause (D.state disk.old) (D.state disk.new) result }
 {
-    for n in INODE_BITMAP..place.first_data {
+    for n in place.inode_bitmap..place.first_data {
         disk.write(n, &table_sector(place, n))?;
     }
     Ok(())

@@ -2,25 +2,29 @@
 
 ghost use Rattle.std.specs.Prelude.{◌≡◌, ◌≤◌, ◌<◌, ◌+◌, ◌^◌, ℕ, nat_eq};
 ghost use Rattle.std.specs.Int.{bit_at};
-ghost use Rattle.fs_layout.specs.declared.place.TheConstants.{INODE_BITMAP, SECTOR_BITS};
+ghost use Rattle.fs_layout.specs.declared.place.TheConstants.{SECTOR_BITS};
 ghost use Rattle.fs_layout.specs.Place.{IsPlace};
 ghost use Rattle.fs_images.specs.NewTables.{IsBitmap, IsNewTable, is_outside, root_table};
 
-use fs_layout::{BLOCK_BITMAP, INODE_BITMAP, Inode, Kind, Place, ROOT, SECTOR_BITS};
+use fs_layout::{Inode, Kind, Place, ROOT, SECTOR_BITS};
 
 /// What sector `n` of the bitmaps and the inode table holds on a new disk.
 #[tactic(auto, unfolding(fs_layout::specs::Bytes::zeros))]
 pub(crate) fn table_sector(place: Place, n: u32) -> [u8; 512]
     requires place { IsPlace place }
-    requires from { INODE_BITMAP ≤ n }
+    requires from { place.inode_bitmap ≤ n }
     ensures { IsNewTable place n result }
 {
-    if n == INODE_BITMAP {
+    if n < place.block_bitmap {
         // Inode 0 isn't used, and inode 1 is the root.
-        bitmap_sector(0, ROOT + 1, place.inodes)
+        bitmap_sector(
+            (n - place.inode_bitmap) * SECTOR_BITS,
+            ROOT + 1,
+            place.inodes,
+        )
     } else if n < place.table {
         bitmap_sector(
-            (n - BLOCK_BITMAP) * SECTOR_BITS,
+            (n - place.block_bitmap) * SECTOR_BITS,
             place.first_data,
             place.sectors,
         )

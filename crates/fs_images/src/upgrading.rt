@@ -47,6 +47,8 @@ fn raise_version<D: Disk>(disk: &mut D) -> Result<(), DiskFault>
     match superblock.version {
         Version::One => write_synced(disk, SUPERBLOCK, &raised(superblock)),
         Version::Two => Ok(()),
+        // No disk has it yet.
+        Version::Three => unreachable!(),
     }
 }
 

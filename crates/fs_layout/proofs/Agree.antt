@@ -1,11 +1,10 @@
 -- A consistent image stays so where only what it says nothing of differs: the sectors below the bitmaps, the free ones,
 -- and those past the end.
 use Rattle.std.proofs.Common.{◌≡◌, ℕ, ◌+◌, ◌/◌, ◌<◌, ◌≤◌, sym, subst, ◌∙◌, arith, inl, inr, ◌⊎◌, ◌↔◌}
-use Rattle.fs_layout.specs.declared.place.TheConstants.{INODE_BITMAP}
 use Rattle.fs_layout.specs.declared.place.Place.{Place}
 use Rattle.fs_layout.specs.Bytes.{SectorMap, IsSector}
 use Rattle.fs_layout.specs.Place.{IsPlace}
-use Rattle.fs_layout.specs.Images.{map_bits, bit, inode_bitmap, block_bitmap, free_sectors, stored, inode_at, Owns}
+use Rattle.fs_layout.specs.Images.{inode_map_bits, map_bits, bit, free_sectors, stored, inode_at, Owns}
 use Rattle.fs_layout.specs.Ownership.{IsOwned, IsConsistent, Agrees}
 use Rattle.fs_layout.specs.InodeChanges.{Keeps}
 use Rattle.fs_layout.proofs.Places.{after_map, before_data}
@@ -16,7 +15,7 @@ use Rattle.fs_layout.proofs.Consistent.{owns_as, owned_is_used}
 
 -- ---- images that agree
 -- they do where all sectors from the bitmaps on are the same
-pub same_agrees : {p : Place} {old new : SectorMap} → IsPlace p → ((s : ℕ) → INODE_BITMAP ≤ s → s < p.sectors → new s ≡ old s) → Agrees p old new
+pub same_agrees : {p : Place} {old new : SectorMap} → IsPlace p → ((s : ℕ) → p.inode_bitmap ≤ s → s < p.sectors → new s ≡ old s) → Agrees p old new
 same_agrees place same = record {
   tables = λ s past low. same s past (let e = place.data_sectors in omega (arith, low, e));
   used = λ s at set. same s (let m = after_map place in let t = before_data place in omega (arith, at.0, m, t)) at.1;
@@ -24,11 +23,11 @@ same_agrees place same = record {
 
 -- the block bitmap is the same in images that agree
 agreed_bit : {p : Place} {old new : SectorMap} → IsPlace p → Agrees p old new → (s : ℕ) → s < map_bits p
-    → bit new block_bitmap s ≡ bit old block_bitmap s
+    → bit new p.block_bitmap s ≡ bit old p.block_bitmap s
 agreed_bit {p} {old} {new} place a s fits =
     let t = before_data place in
     let b = in_block_map p s fits in
-    bit_kept old new block_bitmap s (a.tables (block_bitmap + s / 4096) (omega arith) (omega (arith, t, b.1)))
+    bit_kept old new p.block_bitmap s (a.tables (p.block_bitmap + s / 4096) (let m = after_map place in omega (arith, m)) (omega (arith, t, b.1)))
 
 -- each agrees with the other
 pub agrees_back : {p : Place} {old new : SectorMap} → IsPlace p → Agrees p old new → Agrees p new old
@@ -66,11 +65,12 @@ module _ {p : Place} {old new : SectorMap} (h : IsConsistent p old) (same : Agre
   agree_owned n lt o = owned_before (agree_keeps n lt) (owns_as (agree_inode n lt) o)
 
   -- each bit of the inode bitmap is the same
-  pub agree_inode_bit : (n : ℕ) → n < 4096 → bit new inode_bitmap n ≡ bit old inode_bitmap n
-  agree_inode_bit n few = inode_bit_kept old new n few (same.tables inode_bitmap (omega arith) (let m = after_map h.place in let t = before_data h.place in omega (arith, m, t)))
+  pub agree_inode_bit : (n : ℕ) → n < inode_map_bits p → bit new p.inode_bitmap n ≡ bit old p.inode_bitmap n
+  agree_inode_bit n few =
+      inode_bit_kept p old new n few (λ s i. same.tables s i.0 (let past = i.1 in let m = after_map h.place in let t = before_data h.place in omega (arith, past, m, t)))
 
   -- and each bit of the block bitmap
-  pub agree_block_bit : (s : ℕ) → s < map_bits p → bit new block_bitmap s ≡ bit old block_bitmap s
+  pub agree_block_bit : (s : ℕ) → s < map_bits p → bit new p.block_bitmap s ≡ bit old p.block_bitmap s
   agree_block_bit s fits = agreed_bit h.place same s fits
 
   -- as many sectors are free

@@ -5,7 +5,7 @@ use Rattle.fs_layout.specs.declared.inode.Inode.{Inode}
 use Rattle.fs_layout.specs.declared.place.Place.{Place}
 use Rattle.fs_layout.specs.Bytes.{SectorMap, IsSector}
 use Rattle.fs_layout.specs.Place.{IsPlace}
-use Rattle.fs_layout.specs.Images.{HasWholeTables, map_bits, bit, block_bitmap, free_sectors, levels, pointer, Part, OnLevel, Block, part, Owns}
+use Rattle.fs_layout.specs.Images.{HasWholeTables, map_bits, bit, free_sectors, levels, pointer, Part, OnLevel, Block, part, Owns}
 use Rattle.fs_layout.specs.InodeChanges.{Puts, Rewrites, IsBlockMap, IsOwnedApart, ChangesBlocks}
 use Rattle.fs_layout.proofs.Places.{before_data}
 use Rattle.fs_layout.proofs.Parts.{KeepsPointers, HasNoPointers, part_same, block_has_no_pointers}
@@ -27,7 +27,7 @@ pub rewrites : {p : Place} {v w : Inode} {old new : SectorMap} → IsPlace p →
 rewrites {p} {v} {w} {old} {new} place tables apart same r =
     let back : (s : ℕ) → Owns new w s → Owns old v s = λ s o. record { at = o.at; is = sym (same o.at) ∙ o.is; some = o.some } in
     let low : (s : ℕ) → s < p.first_data → new s ≡ old s = λ s lt. r.others s (low_not_owned apart s lt) in
-    let same_bit : (s : ℕ) → s < map_bits p → bit new block_bitmap s ≡ bit old block_bitmap s = λ s fits. block_bit_kept p old new s fits (λ t m. low t (map_is_low place t m)) in
+    let same_bit : (s : ℕ) → s < map_bits p → bit new p.block_bitmap s ≡ bit old p.block_bitmap s = λ s fits. block_bit_kept p old new s fits (λ t m. low t (map_is_low place t m)) in
     record {
       owned = record {
         sectors = λ s past lt. subst IsSector (sym (low s lt)) (tables s past lt);

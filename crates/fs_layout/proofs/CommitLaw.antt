@@ -5,7 +5,7 @@ use Rattle.std.proofs.lemmas.Bool.{cases_lt, eqb-true, le-ltb, ltb-false}
 use Rattle.fs_layout.specs.declared.fault.LayoutFault.{LayoutFault}
 use Rattle.fs_layout.specs.declared.fault.LayoutFault.TheVariants.{BadMagic, BadNumber, NotZero}
 use Rattle.fs_layout.specs.Bytes.{IsBytes, splice, le32, le32s, zeros, u32_of, u32s_of, are_zero}
-use Rattle.fs_layout.specs.Commit.{commit_bytes, commit_magic, commit_of, FitsCommit}
+use Rattle.fs_layout.specs.Commit.{commit_bytes, commit_bytes_in, commit_magic, commit_of, FitsCommit}
 use Rattle.fs_layout.proofs.Codecs.{IsCodec, held, passed, same_ok}
 use Rattle.fs_layout.proofs.Fields.{back32, back32s, zeros_back, zeros-are_zero, read32, read32s}
 use Rattle.fs_layout.proofs.Small.{u32s_len, u32s_small}
@@ -89,26 +89,30 @@ get_or-u32s_of s at zero i lt = absurd (omega (arith, lt))
 get_or-u32s_of s at (suc n) zero lt = ap (u32_of s) (omega arith)
 get_or-u32s_of s at (suc n) (suc i) lt = get_or-u32s_of s (at + 4) n i (omega (arith, lt)) ∙ ap (u32_of s) (omega arith)
 
-counted_long : (ts : List ℕ) → drop 4 (commit_bytes ts) ≡ le32 (length ts) ++ (le32s (take 126 ts) ++ zeros (504 - 4 * length ts))
+-- a commit in the first area
+pub in_first : (ts : List ℕ) → commit_bytes_in 0 ts ≡ commit_bytes ts
+in_first ts = ap (λ (n : ℕ). le32 commit_magic ++ (le32 n ++ (le32s (take 126 ts) ++ zeros (504 - 4 * length ts)))) (omega arith)
+
+counted_long : (area : ℕ) (ts : List ℕ) → drop 4 (commit_bytes_in area ts) ≡ le32 (length ts + 0x8000_0000 * area) ++ (le32s (take 126 ts) ++ zeros (504 - 4 * length ts))
 unfolding le32
-counted_long ts = refl
+counted_long area ts = refl
 
-listed_long : (ts : List ℕ) → drop 8 (commit_bytes ts) ≡ le32s (take 126 ts) ++ zeros (504 - 4 * length ts)
+listed_long : (area : ℕ) (ts : List ℕ) → drop 8 (commit_bytes_in area ts) ≡ le32s (take 126 ts) ++ zeros (504 - 4 * length ts)
 unfolding le32
-listed_long ts = refl
+listed_long area ts = refl
 
-pub count_of-commit_bytes : (ts : List ℕ) → length ts < 2 ^ 32 → u32_of (commit_bytes ts) 4 ≡ length ts
-count_of-commit_bytes ts small = read32 (commit_bytes ts) 4 (length ts) (le32s (take 126 ts) ++ zeros (504 - 4 * length ts)) (counted_long ts) small
+pub number_of_word : (area : ℕ) (ts : List ℕ) → length ts + 0x8000_0000 * area < 2 ^ 32 → u32_of (commit_bytes_in area ts) 4 ≡ length ts + 0x8000_0000 * area
+number_of_word area ts small = read32 (commit_bytes_in area ts) 4 (length ts + 0x8000_0000 * area) (le32s (take 126 ts) ++ zeros (504 - 4 * length ts)) (counted_long area ts) small
 
-pub number_of-commit_bytes : (ts : List ℕ) (i : ℕ) → ((j : ℕ) → get_or ts j 0 < 2 ^ 32) → i < 126 → i < length ts → u32_of (commit_bytes ts) (8 + 4 * i) ≡ get_or ts i 0
-number_of-commit_bytes ts i numbers low lt =
+pub number_of-commit_bytes_in : (area : ℕ) (ts : List ℕ) (i : ℕ) → ((j : ℕ) → get_or ts j 0 < 2 ^ 32) → i < 126 → i < length ts → u32_of (commit_bytes_in area ts) (8 + 4 * i) ≡ get_or ts i 0
+number_of-commit_bytes_in area ts i numbers low lt =
     let first = take 126 ts in
     let fit : (j : ℕ) → get_or first j 0 < 2 ^ 32 = λ j. elim (cases_lt j 126) [
       | inl near ↦ rw (get_or-take 126 ts j 0 near) (numbers j)
       | inr far ↦ rw (get_or_past first j 0 (omega (arith, length-take 126 ts, far))) (omega arith)
     ] in
-    let read : u32s_of (commit_bytes ts) 8 (length first) ≡ first = read32s first (commit_bytes ts) 8 (zeros (504 - 4 * length ts)) (listed_long ts) fit in
-    sym (get_or-u32s_of (commit_bytes ts) 8 (length first) i (omega (arith, length-take 126 ts, low, lt)))
+    let read : u32s_of (commit_bytes_in area ts) 8 (length first) ≡ first = read32s first (commit_bytes_in area ts) 8 (zeros (504 - 4 * length ts)) (listed_long area ts) fit in
+    sym (get_or-u32s_of (commit_bytes_in area ts) 8 (length first) i (omega (arith, length-take 126 ts, low, lt)))
     ∙ ap (λ (l : List ℕ). get_or l i 0) read ∙ get_or-take 126 ts i 0 low
 
 pub take-u32s_of : (s : List ℕ) (at k n : ℕ) → k ≤ n → take k (u32s_of s at n) ≡ u32s_of s at k
@@ -130,11 +134,11 @@ read_to_end s to magic n zero_rest is right count few tested true_rest e =
     sym (rw (m, c) (rw (small, rest, read) refl))
 
 -- the four writes of a commit
-pub written : (old a b d e ts first : List ℕ) (n : ℕ) → length old ≡ 512 → n ≡ length ts → first ≡ take 126 ts → a ≡ splice old 0 (le32 commit_magic)
+pub written : (old a b d e ts first : List ℕ) (area n : ℕ) → length old ≡ 512 → n ≡ length ts + 0x8000_0000 * area → first ≡ take 126 ts → a ≡ splice old 0 (le32 commit_magic)
     → b ≡ splice a 4 (le32 n) → d ≡ splice b 8 (le32s first)
-    → e ≡ splice d (8 + 4 * length first) (zeros (504 - 4 * length first)) → e ≡ commit_bytes ts
+    → e ≡ splice d (8 + 4 * length first) (zeros (504 - 4 * length first)) → e ≡ commit_bytes_in area ts
 unfolding le32
-written old a b d e ts first n len is of wa wb wd we =
+written old a b d e ts first area n len is of wa wb wd we =
     let m = length first in
     let short : m ≡ length (take 126 ts) = ap length of in
     let long : length (le32s first) ≡ 4 * m = length-le32s first in

@@ -4,19 +4,19 @@ use Rattle.fs_layout.specs.declared.inode.Inode.{Inode}
 use Rattle.fs_layout.specs.declared.place.Place.{Place}
 use Rattle.fs_layout.specs.Bytes.{SectorMap}
 use Rattle.fs_layout.specs.Place.{IsPlace}
-use Rattle.fs_layout.specs.Images.{IsData, map_bits, bit, block_bitmap, Owns}
+use Rattle.fs_layout.specs.Images.{IsData, map_bits, bit, Owns}
 use Rattle.fs_layout.specs.InodeChanges.{IsOwnedApart, ChangesOwned, ChangesBlocks, ChangesInode}
 use Rattle.fs_layout.proofs.Bits.{has_bit, set_or_clear, not_both}
 
 -- ---- two changes
 -- a sector that was used, and not by v, is used
 pub used_on : {p : Place} {v w : Inode} {a b : SectorMap} {s : ℕ} → ChangesOwned p v w a b → s < map_bits p
-    → IsTrue (bit a block_bitmap s) → (Owns a v s → ⊥)
-    → IsTrue (bit b block_bitmap s)
-used_on {b = b} {s = s} x fits t ban = elim (set_or_clear (bit b block_bitmap s)) [ inl m ↦ m | inr e ↦ absurd (ban (x.released s fits t e)) ]
+    → IsTrue (bit a p.block_bitmap s) → (Owns a v s → ⊥)
+    → IsTrue (bit b p.block_bitmap s)
+used_on {p} {b = b} {s = s} x fits t ban = elim (set_or_clear (bit b p.block_bitmap s)) [ inl m ↦ m | inr e ↦ absurd (ban (x.released s fits t e)) ]
 
 -- and it is not w's
-still_apart : {p : Place} {v w : Inode} {a b : SectorMap} {s : ℕ} → ChangesOwned p v w a b → IsTrue (bit a block_bitmap s)
+still_apart : {p : Place} {v w : Inode} {a b : SectorMap} {s : ℕ} → ChangesOwned p v w a b → IsTrue (bit a p.block_bitmap s)
     → (Owns a v s → ⊥) → Owns b w s → ⊥
 still_apart {s = s} x t ban o = elim (x.fresh s o) [ inl was ↦ ban was | inr f ↦ not_both t f.2 ]
 
@@ -31,19 +31,19 @@ both_owned {p} {u} {v} {w} {a} {b} {c} place x y =
       others = λ s ge lt used ban. y.others s ge lt (used_on x (few s lt) used ban) (still_apart x used ban) ∙ x.others s ge lt used ban;
       fresh = λ s o. elim (y.fresh s o) [
         | inl was ↦ x.fresh s was
-        | inr f ↦ elim (set_or_clear (bit a block_bitmap s)) [
+        | inr f ↦ elim (set_or_clear (bit a p.block_bitmap s)) [
           | inl t ↦ inl (x.released s (few s f.1) t f.2)
           | inr e ↦ inr (f.0, f.1, e)
         ]
       ];
       once = y.once;
       taken = y.taken;
-      released = λ s fits t e. elim (set_or_clear (bit b block_bitmap s)) [
+      released = λ s fits t e. elim (set_or_clear (bit b p.block_bitmap s)) [
         | inr f ↦ x.released s fits t f
         | inl m ↦ elim (x.fresh s (y.released s fits m e)) [ inl was ↦ was | inr f ↦ absurd (not_both t f.2) ]
       ];
-      gained = λ s fits t e. elim (set_or_clear (bit b block_bitmap s)) [ inl m ↦ y.stayed s fits t (x.gained s fits m e) | inr f ↦ y.gained s fits t f ];
-      stayed = λ s fits t o. elim (set_or_clear (bit b block_bitmap s)) [ inl m ↦ y.stayed s fits t (x.stayed s fits m o) | inr f ↦ y.gained s fits t f ];
+      gained = λ s fits t e. elim (set_or_clear (bit b p.block_bitmap s)) [ inl m ↦ y.stayed s fits t (x.gained s fits m e) | inr f ↦ y.gained s fits t f ];
+      stayed = λ s fits t o. elim (set_or_clear (bit b p.block_bitmap s)) [ inl m ↦ y.stayed s fits t (x.stayed s fits m o) | inr f ↦ y.gained s fits t f ];
     }
 
 -- one change of blocks after the other is one

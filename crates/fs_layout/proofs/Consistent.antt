@@ -6,7 +6,7 @@ use Rattle.fs_layout.specs.declared.place.Place.{Place}
 use Rattle.fs_layout.specs.Bytes.{SectorMap, IsSector}
 use Rattle.fs_layout.specs.Inode.{inode_of, FitsInode}
 use Rattle.fs_layout.specs.Place.{IsPlace}
-use Rattle.fs_layout.specs.Images.{IsData, map_bits, bit, block_bitmap, stored, inode_at, levels, part, Owns}
+use Rattle.fs_layout.specs.Images.{IsData, map_bits, bit, stored, inode_at, levels, part, Owns}
 use Rattle.fs_layout.specs.Ownership.{IsOwned, IsConsistent}
 use Rattle.fs_layout.specs.InodeChanges.{Keeps, IsOwnedApart, ChangesOwned, ChangesBlocks, Saves, ChangesInode}
 use Rattle.fs_layout.proofs.Parts.{owns_still, owned_before}
@@ -21,7 +21,7 @@ owns_as {image} e o = record { at = o.at; is = ap (λ (u : Inode). part image u 
 
 -- a sector that an inode of a consistent image owns is used
 pub owned_is_used : {p : Place} {image : SectorMap} → IsConsistent p image → (n s : ℕ) → n < p.inodes → Owns image (inode_at p image n) s
-    → IsTrue (bit image block_bitmap s)
+    → IsTrue (bit image p.block_bitmap s)
 owned_is_used h n s lt o =
     let d = h.in_data n s lt o in
     (h.block_bits s (has_bit h.place s d.1)).1 (inr (inr (record { by = n; below = lt; is = o })))
@@ -117,9 +117,9 @@ module _ {p : Place} {n : ℕ} {old new : SectorMap} (h : IsConsistent p old) (l
         ]
       ]
 
-  owned_now : (s : ℕ) → s < map_bits p → IsTrue (bit new block_bitmap s) → (s < p.first_data) ⊎ ((p.sectors ≤ s) ⊎ IsOwned p new s)
+  owned_now : (s : ℕ) → s < map_bits p → IsTrue (bit new p.block_bitmap s) → (s < p.first_data) ⊎ ((p.sectors ≤ s) ⊎ IsOwned p new s)
   owned_now s fits now =
-      elim (set_or_clear (bit old block_bitmap s)) [
+      elim (set_or_clear (bit old p.block_bitmap s)) [
         | inr e ↦ inr (inr (record { by = n; below = ln; is = c.owned.gained s fits now e }))
         | inl t ↦ elim ((h.block_bits s fits).0 t) [
           | inl low ↦ inl low
@@ -133,7 +133,7 @@ module _ {p : Place} {n : ℕ} {old new : SectorMap} (h : IsConsistent p old) (l
         ]
       ]
 
-  set_now : (s : ℕ) → s < map_bits p → (s < p.first_data) ⊎ ((p.sectors ≤ s) ⊎ IsOwned p new s) → IsTrue (bit new block_bitmap s)
+  set_now : (s : ℕ) → s < map_bits p → (s < p.first_data) ⊎ ((p.sectors ≤ s) ⊎ IsOwned p new s) → IsTrue (bit new p.block_bitmap s)
   set_now s fits now =
       elim now [
         | inl low ↦ used_on c.owned fits ((h.block_bits s fits).1 (inl low)) (λ o. let d = (h.in_data n s ln o).0 in omega (arith, d, low))

@@ -8,7 +8,7 @@ use Rattle.fs_layout.specs.declared.place.Place.{Place}
 use Rattle.fs_layout.specs.Bytes.{SectorMap, IsSector, window, zeros, le16, le32, le64, le32s}
 use Rattle.fs_layout.specs.Inode.{inode_bytes, inode_of, inode_fits, free_inode, FitsInode}
 use Rattle.fs_layout.specs.Place.{IsPlace}
-use Rattle.fs_layout.specs.Images.{HasWholeTables, map_bits, bit, block_bitmap, stored, inode_at}
+use Rattle.fs_layout.specs.Images.{HasWholeTables, map_bits, bit, stored, inode_at}
 use Rattle.fs_layout.specs.Images.{number_on, byte_in, byte_at, Part, AccessAcl, DefaultAcl, OnLevel, part, Owns, Holds}
 use Rattle.fs_layout.specs.Ownership.{IsOwned, IsConsistent}
 use Rattle.fs_layout.specs.InodeChanges.{IsOwnedApart, ChangesBlocks}
@@ -128,7 +128,7 @@ inode_fits_there {p} {image} h n lt =
 pub consistent_without_owners : (p : Place) (image : SectorMap) → IsPlace p → HasWholeTables p image
     → ((n : ℕ) → n < p.inodes → inode_of (stored p image n) ≡ Ok (inode_at p image n))
     → ((n s : ℕ) → n < p.inodes → Owns image (inode_at p image n) s → ⊥)
-    → ((s : ℕ) → s < map_bits p → IsTrue (bit image block_bitmap s) ↔ ((s < p.first_data) ⊎ (p.sectors ≤ s)))
+    → ((s : ℕ) → s < map_bits p → IsTrue (bit image p.block_bitmap s) ↔ ((s < p.first_data) ⊎ (p.sectors ≤ s)))
     → IsConsistent p image
 consistent_without_owners p image place tables valid none bits = record {
   place = place;

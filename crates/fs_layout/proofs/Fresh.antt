@@ -8,7 +8,7 @@ use Rattle.std.proofs.lemmas.Nat.Bits.{bit_at_ones, bit_at_ones_above, bit_at-ze
 use Rattle.fs_layout.specs.declared.place.Place.{Place}
 use Rattle.fs_layout.specs.Bytes.{SectorMap, IsBytes, IsSector, zeros}
 use Rattle.fs_layout.specs.Place.{IsPlace, laid_out}
-use Rattle.fs_layout.specs.Images.{bit, block_bitmap, free_sectors, inode_at}
+use Rattle.fs_layout.specs.Images.{bit, free_sectors, inode_at}
 use Rattle.fs_layout.specs.Ownership.{IsConsistent}
 use Rattle.fs_layout.proofs.SplicedBytes.{get_or-zeros, IsSector-zeros}
 use Rattle.fs_layout.proofs.Bits.{not_both, free_sectors_all}
@@ -61,7 +61,7 @@ last_part a x b c i ge lt =
     ∙ get_or-replicate c (i - a - 1 - b) 255 0 (omega arith)
 
 -- ---- the image
--- bits 0 to 145 and from 1024 on are set
+-- the block bitmap: bits 0 to 145 and from 1024 on are set
 full_ends : List ℕ
 full_ends = parts 18 3 109 384
 
@@ -77,7 +77,7 @@ unfolding fresh
 elsewhere s ne = rw (ne_eqb s 129 ne) refl
 
 -- the byte that stands in the bitmap for bit s
-bit_is : (s x : ℕ) → s < 4096 → get_or full_ends (s / 8) 0 ≡ x → bit fresh block_bitmap s ≡ nat_eq (bit_at x (s % 8)) 1
+bit_is : (s x : ℕ) → s < 4096 → get_or full_ends (s / 8) 0 ≡ x → bit fresh 129 s ≡ nat_eq (bit_at x (s % 8)) 1
 unfolding bit
 bit_is s x lt e =
     let sector : 129 + s / 4096 ≡ 129 = omega arith in
@@ -85,13 +85,13 @@ bit_is s x lt e =
     ap (λ (k : ℕ). nat_eq (bit_at k (s % 8)) 1)
     (ap (λ (q : ℕ). get_or (fresh q) (s % 4096 / 8) 0) sector ∙ ap (λ (r : List ℕ). get_or r (s % 4096 / 8) 0) at_map ∙ ap (λ (j : ℕ). get_or full_ends j 0) byte ∙ e)
 
-set_in : (s x : ℕ) → s < 4096 → get_or full_ends (s / 8) 0 ≡ x → bit_at x (s % 8) ≡ 1 → IsTrue (bit fresh block_bitmap s)
+set_in : (s x : ℕ) → s < 4096 → get_or full_ends (s / 8) 0 ≡ x → bit_at x (s % 8) ≡ 1 → IsTrue (bit fresh 129 s)
 set_in s x lt e one = bit_is s x lt e ∙ ap (λ (k : ℕ). nat_eq k 1) one
 
-clear_in : (s x : ℕ) → s < 4096 → get_or full_ends (s / 8) 0 ≡ x → bit_at x (s % 8) ≡ 0 → bit fresh block_bitmap s ≡ false
+clear_in : (s x : ℕ) → s < 4096 → get_or full_ends (s / 8) 0 ≡ x → bit_at x (s % 8) ≡ 0 → bit fresh 129 s ≡ false
 clear_in s x lt e none = bit_is s x lt e ∙ ap (λ (k : ℕ). nat_eq k 1) none
 
-first_set : (s : ℕ) → s < 146 → IsTrue (bit fresh block_bitmap s)
+first_set : (s : ℕ) → s < 146 → IsTrue (bit fresh 129 s)
 unfolding full_ends
 first_set s lt = elim (cases_lt s 144) [
   | inl low ↦ set_in s 255 (omega arith) (first_part 18 3 109 384 (s / 8) (omega arith)) (bit_at_ones 8 (s % 8) (omega arith))
@@ -100,7 +100,7 @@ first_set s lt = elim (cases_lt s 144) [
       set_in s 3 (omega arith) (ap (λ (j : ℕ). get_or full_ends j 0) k ∙ one_byte 18 3 109 384) (bit_at_ones 2 (s % 8) (omega arith))
 ]
 
-middle_clear : (s : ℕ) → 146 ≤ s → s < 1024 → bit fresh block_bitmap s ≡ false
+middle_clear : (s : ℕ) → 146 ≤ s → s < 1024 → bit fresh 129 s ≡ false
 unfolding full_ends
 middle_clear s ge lt = elim (cases_lt s 152) [
   | inl low ↦
@@ -109,20 +109,20 @@ middle_clear s ge lt = elim (cases_lt s 152) [
   | inr high ↦ clear_in s 0 (omega arith) (middle_part 18 3 109 384 (s / 8) (omega arith) (omega arith)) (bit_at-zero (s % 8))
 ]
 
-last_set : (s : ℕ) → 1024 ≤ s → s < 4096 → IsTrue (bit fresh block_bitmap s)
+last_set : (s : ℕ) → 1024 ≤ s → s < 4096 → IsTrue (bit fresh 129 s)
 unfolding full_ends
 last_set s ge lt = set_in s 255 lt (last_part 18 3 109 384 (s / 8) (omega arith) (omega arith)) (bit_at_ones 8 (s % 8) (omega arith))
 
-ends_set : (s : ℕ) → s < 4096 → IsTrue (bit fresh block_bitmap s) ↔ ((s < 146) ⊎ (1024 ≤ s))
+ends_set : (s : ℕ) → s < 4096 → IsTrue (bit fresh 129 s) ↔ ((s < 146) ⊎ (1024 ≤ s))
 ends_set s lt = (where_set, is_set)
   where
-    where_set : IsTrue (bit fresh block_bitmap s) → (s < 146) ⊎ (1024 ≤ s)
+    where_set : IsTrue (bit fresh 129 s) → (s < 146) ⊎ (1024 ≤ s)
     where_set t = elim (cases_lt s 146) [
       | inl low ↦ inl low
       | inr ge ↦ elim (cases_lt s 1024) [ inl less ↦ absurd (not_both t (middle_clear s ge less)) | inr past ↦ inr past ]
     ]
 
-    is_set : (s < 146) ⊎ (1024 ≤ s) → IsTrue (bit fresh block_bitmap s)
+    is_set : (s < 146) ⊎ (1024 ≤ s) → IsTrue (bit fresh 129 s)
     is_set (inl low) = first_set s low
     is_set (inr past) = last_set s past lt
 
@@ -157,8 +157,12 @@ small_disk_is_place = record {
   most_sectors = omega arith;
   least_inodes = omega arith;
   most_inodes = omega arith;
+  header = omega arith;
+  log = refl;
+  inode_bits = omega arith;
   bits = omega arith;
   slots = omega arith;
+  room = omega arith;
   data_sectors = omega arith;
 }
 

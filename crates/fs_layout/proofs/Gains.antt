@@ -1,12 +1,12 @@
 -- An inode gets a sector that was free, for one thing.
-use Rattle.std.proofs.Common.{◌≡◌, ◌≢◌, ℕ, ◌+◌, ◌<◌, ◌≤◌, false, sym, ap, subst, ◌∙◌, arith, inl, inr}
+use Rattle.std.proofs.Common.{◌≡◌, ◌≢◌, ℕ, ◌+◌, ◌≤◌, false, sym, ap, subst, ◌∙◌, arith, inl, inr}
 use Rattle.std.proofs.lemmas.Bool.{cases_eq}
 use Rattle.fs_layout.specs.declared.inode.Inode.{Inode}
 use Rattle.fs_layout.specs.declared.place.Place.{Place}
 use Rattle.fs_layout.specs.Bytes.{SectorMap, IsSector}
 use Rattle.fs_layout.specs.Place.{IsPlace}
-use Rattle.fs_layout.specs.Images.{bit, block_bitmap, free_sectors, Part, part, Owns}
-use Rattle.fs_layout.specs.InodeChanges.{Gains, Takes, IsFree, IsOwnedApart, ChangesBlocks}
+use Rattle.fs_layout.specs.Images.{bit, free_sectors, Part, part, Owns}
+use Rattle.fs_layout.specs.InodeChanges.{IsBlockMap, Gains, Takes, IsFree, IsOwnedApart, ChangesBlocks}
 use Rattle.fs_layout.proofs.Places.{after_map, before_data}
 use Rattle.fs_layout.proofs.Parts.{same_part_or_not}
 use Rattle.fs_layout.proofs.Bits.{has_bit, not_both, free_sectors_less}
@@ -21,7 +21,7 @@ gained_still {old} {v = v} g o = record { at = o.at; is = g.others o.at (λ e. o
 
 -- a sector that was free is there for one thing
 gained_at : {p : Place} {old new : SectorMap} {v w : Inode} {at : Part} {s : ℕ} → IsOwnedApart p old v → Gains old new v w at s
-    → bit old block_bitmap s ≡ false → (o : Owns new w s) → o.at ≡ at
+    → bit old p.block_bitmap s ≡ false → (o : Owns new w s) → o.at ≡ at
 gained_at {at = at} {s = s} apart g clear o =
     elim (same_part_or_not o.at at) [
       | inl e ↦ e
@@ -32,9 +32,9 @@ gained_at {at = at} {s = s} apart g clear o =
 pub gains : {p : Place} {old new : SectorMap} {v w : Inode} {at : Part} {s : ℕ} → IsPlace p → IsOwnedApart p old v → Gains old new v w at s
     → Takes p v s old new → ChangesBlocks p v w old new
 gains {p} {old} {new} {v} {w} {at} {s} place apart g x =
-    let clear : bit old block_bitmap s ≡ false = x.free.2 in
+    let clear : bit old p.block_bitmap s ≡ false = x.free.2 in
     let some : s ≢ 0 = λ e. let a = x.free.0 in let b = before_data place in let c = after_map place in omega (arith, a, b, c, e) in
-    let no_map : (t : ℕ) → p.first_data ≤ t → ((129 ≤ t) × (t < p.table)) → ⊥ = λ t ge m. let a = map_is_low place t m in omega (arith, a, ge) in
+    let no_map : (t : ℕ) → p.first_data ≤ t → IsBlockMap p t → ⊥ = λ t ge m. let a = map_is_low place t m in omega (arith, a, ge) in
     record {
       owned = record {
         sectors = x.sectors;
@@ -42,7 +42,7 @@ gains {p} {old} {new} {v} {w} {at} {s} place apart g x =
           | inl e ↦ subst (λ (u : ℕ). IsSector (new u)) (sym e) x.here
           | inr ne ↦ x.whole t (record { at = o.at; is = gained_else g ne o; some = o.some })
         ];
-        others = λ t ge lt used ban. x.others t (λ e. not_both used (ap (bit old block_bitmap) e ∙ clear)) ban (no_map t ge);
+        others = λ t ge lt used ban. x.others t (λ e. not_both used (ap (bit old p.block_bitmap) e ∙ clear)) ban (no_map t ge);
         fresh = λ t o. elim (cases_eq t s) [
           | inl e ↦ inr (subst (IsFree p old) (sym e) x.free)
           | inr ne ↦ inl (record { at = o.at; is = gained_else g ne o; some = o.some })
@@ -52,11 +52,11 @@ gains {p} {old} {new} {v} {w} {at} {s} place apart g x =
           | inr ne ↦ apart.once t (record { at = a.at; is = gained_else g ne a; some = a.some }) (record { at = b.at; is = gained_else g ne b; some = b.some })
         ];
         taken = λ t fits o. elim (cases_eq t s) [
-          | inl e ↦ ap (bit new block_bitmap) e ∙ x.set
+          | inl e ↦ ap (bit new p.block_bitmap) e ∙ x.set
           | inr ne ↦ x.bits t fits ne ∙ (apart.each t (record { at = o.at; is = gained_else g ne o; some = o.some })).2
         ];
         released = λ t fits u e. elim (cases_eq t s) [
-          | inl f ↦ absurd (not_both u (ap (bit old block_bitmap) f ∙ clear))
+          | inl f ↦ absurd (not_both u (ap (bit old p.block_bitmap) f ∙ clear))
           | inr ne ↦ absurd (not_both u (sym (x.bits t fits ne) ∙ e))
         ];
         gained = λ t fits u e. elim (cases_eq t s) [

@@ -1,22 +1,13 @@
--- How many header sectors there are, and targets that are read from their bytes and written into them.
-use Rattle.std.proofs.Common.{◌≡◌, ℕ, ◌+◌, ◌*◌, ◌^◌, ◌<◌, ◌≤◌, List, ◌++◌, length, take, drop, get_or, refl, sym, ap, ◌∙◌, arith}
+-- Targets that are read from the bytes of header sectors and written into them.
+use Rattle.std.proofs.Common.{◌≡◌, ℕ, ◌+◌, ◌*◌, ◌^◌, ◌<◌, ◌≤◌, List, ◌++◌, length, take, drop, get_or, sym, ap, ◌∙◌, arith}
 use Rattle.std.proofs.lemmas.List.{get_or_append_left, get_or-take, length-take, length-drop, length-take-le}
 use Rattle.std.proofs.lemmas.Grind.{common_steps}
 use borrow.Rule.Slice.PartMut.{put_mid, mid_of}
-use Rattle.fs_layout.specs.declared.version.Version.{Version}
-use Rattle.fs_layout.specs.declared.version.Version.TheVariants.{One, Two}
 use Rattle.fs_layout.specs.Bytes.{splice, le32s, u32_of, u32s_of}
-use Rattle.fs_layout.specs.Header.{header_in}
 use Rattle.fs_layout.proofs.CommitLaw.{get_or-u32s_of}
 use Rattle.fs_layout.proofs.Fields.{read32s}
 use Rattle.fs_layout.proofs.Small.{u32s_len}
 
--- no version has a header
-pub no_header : (version : Version) (sectors inodes : ℕ) → header_in version sectors inodes ≡ 0
-no_header One sectors inodes = refl
-no_header Two sectors inodes = refl
-
--- ---- targets
 -- a number of the part that was read
 pub read_at : (count at k w i : ℕ) (old new from : List ℕ) → at + k ≤ length old → w ≡ k → new ≡ u32s_of from 0 (length (mid_of at w old)) → i < k → at + i < count
     → get_or (take count (put_mid at w old new)) (at + i) 0 ≡ u32_of from (4 * i)

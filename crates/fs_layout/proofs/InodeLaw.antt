@@ -1,17 +1,19 @@
 -- What is read of an inode is spelled so, and what is spelled so is read.
-use Rattle.std.proofs.Common.{◌≡◌, ℕ, zero, suc, ◌^◌, ◌<◌, List, ◌++◌, length, drop, refl, sym, ap, subst, ◌∙◌, arith, true, cond, Option, Some, None, Ok, Err}
+use Rattle.std.proofs.Common.{◌≡◌, ℕ, zero, suc, ◌^◌, ◌<◌, ◌≤◌, List, ◌++◌, length, drop, refl, sym, ap, subst, ◌∙◌, arith, Bool, true, false, nat_le, cond, Option, Some, None, Ok, Err}
 use Rattle.std.proofs.lemmas.List.{drop-drop, drop_at}
+use Rattle.std.proofs.lemmas.Bool.{and_parts, and_right, le-leb, lt-leb}
+use Rattle.std.proofs.Math.Bool.{and-true}
 use Rattle.fs_layout.specs.declared.inode.Kind.{Kind}
 use Rattle.fs_layout.specs.declared.inode.Kind.TheVariants.{Free, File, Directory, Link}
 use Rattle.fs_layout.specs.declared.inode.Inode.{Inode}
-use Rattle.fs_layout.specs.declared.inode.TheConstants.{INODE_SIZE, DIRECT_BLOCKS}
+use Rattle.fs_layout.specs.declared.inode.TheConstants.{INODE_SIZE, DIRECT_BLOCKS, OLDER_DIRECTORY_SIZE}
 use Rattle.fs_layout.specs.declared.fault.LayoutFault.TheVariants.{BadNumber, NotZero}
 use Rattle.fs_layout.proofs.Codecs.{IsCodec, held, same_ok}
 use Rattle.fs_layout.proofs.Small.{u16_small, u32_small, u64_small, u32s_small, u32s_len}
 use Rattle.fs_layout.specs.Bytes.{le16, le32, le64, le32s, zeros, u16_of, u32_of, u64_of, u32s_of, are_zero}
 use Rattle.fs_layout.proofs.Writes.{length-le32s}
 use Rattle.fs_layout.proofs.Fields.{back16, back32, back64, back32s, zeros_back, are_zero-zeros, zeros-are_zero, read16, read32, read64, read32s}
-use Rattle.fs_layout.specs.Inode.{FitsInode, free_inode, fields_end, fields_of, inode_bytes, inode_fits, inode_if, inode_of, kind_number, kind_of}
+use Rattle.fs_layout.specs.Inode.{FitsInode, FitsOlderInode, free_inode, fields_end, fields_of, inode_bytes, inode_fits, inode_if, inode_of, is_small_directory, kind_number, kind_of, older_inode_fits, older_inode_of}
 use Rattle.fs_layout.specs.Bytes.{IsBytes}
 
 number_of_kind : (n : ℕ) (k : Kind) → kind_of n ≡ Some k → n ≡ kind_number k
@@ -59,19 +61,19 @@ zero_tail File s len e = e
 zero_tail Directory s len e = e
 zero_tail Link s len e = e
 
-takes_if : (o : Option Kind) (s : List ℕ) (v : Inode) → kind_of (u16_of s 0) ≡ o → length s ≡ INODE_SIZE → IsBytes s → inode_if o s ≡ Ok v
-    → (s ≡ inode_bytes v) × (inode_fits v ≡ true)
-takes_if None s v k len fits e = absurd cc
-takes_if (Some kind) s v k len fits e =
+takes_if : (fits : Inode → Bool) (o : Option Kind) (s : List ℕ) (v : Inode) → kind_of (u16_of s 0) ≡ o → length s ≡ INODE_SIZE → IsBytes s
+    → inode_if fits o s ≡ Ok v → (s ≡ inode_bytes v) × (fits v ≡ true)
+takes_if fits None s v k len bytes e = absurd cc
+takes_if fits (Some kind) s v k len bytes e =
     let a =
-    held (inode_fits (fields_of kind s)) (cond (are_zero (drop (fields_end kind) s)) (Ok (fields_of kind s)) (Err NotZero)) BadNumber v e in
+    held (fits (fields_of kind s)) (cond (are_zero (drop (fields_end kind) s)) (Ok (fields_of kind s)) (Err NotZero)) BadNumber v e in
     let b = held (are_zero (drop (fields_end kind) s)) (Ok (fields_of kind s)) NotZero v a.1 in
     let same : fields_of kind s ≡ v = same_ok (fields_of kind s) v (Ok (fields_of kind s)) refl b.1 in
-    (spelled s kind len fits (number_of_kind (u16_of s 0) kind k) (zero_tail kind s len b.0) ∙ ap inode_bytes same, sym (ap inode_fits same) ∙ a.0)
+    (spelled s kind len bytes (number_of_kind (u16_of s 0) kind k) (zero_tail kind s len b.0) ∙ ap inode_bytes same, sym (ap fits same) ∙ a.0)
 
 pub inode_takes : (s : List ℕ) (v : Inode) → length s ≡ INODE_SIZE → IsBytes s → inode_of s ≡ Ok v → (s ≡ inode_bytes v) × (inode_fits v ≡ true)
 unfolding inode_of
-inode_takes s v len fits e = takes_if (kind_of (u16_of s 0)) s v refl len fits e
+inode_takes s v len fits e = takes_if inode_fits (kind_of (u16_of s 0)) s v refl len fits e
 
 same_fields : (v : Inode) (k : Kind) (a b c d e f g h : ℕ) (i : List ℕ) (j l : ℕ) → a ≡ v.mode → b ≡ v.uid → c ≡ v.gid → d ≡ v.names
     → e ≡ v.size → f ≡ v.parent → g ≡ v.acl → h ≡ v.default_acl → i ≡ v.direct → j ≡ v.indirect → l ≡ v.double_indirect
@@ -138,15 +140,20 @@ ends File v e f = zeros_end v f
 ends Directory v e f = zeros_end v f
 ends Link v e f = zeros_end v f
 
-pub inode_again : (v : Inode) → FitsInode v → inode_of (inode_bytes v) ≡ Ok v
-unfolding inode_of le16
-inode_again v f =
+again_if : (fits : Inode → Bool) (v : Inode) → FitsInode v → fits v ≡ true
+    → inode_if fits (kind_of (u16_of (inode_bytes v) 0)) (inode_bytes v) ≡ Ok v
+unfolding le16
+again_if fits v f good =
     let s = inode_bytes v in
     let n : u16_of s 0 ≡ kind_number v.kind = read16 s 0 (kind_number v.kind) (drop 2 s) refl (small v.kind) in
     let k : kind_of (u16_of s 0) ≡ Some v.kind = ap kind_of n ∙ kind_again v.kind in
     let fields = reads_fields v f in
-    let fit : inode_fits (fields_of v.kind s) ≡ true = ap inode_fits fields ∙ f.valid.numbers in
-    ap (λ (o : Option Kind). inode_if o s) k ∙ rw (fit, ends v.kind v refl f) (rw fields refl)
+    let fit : fits (fields_of v.kind s) ≡ true = ap fits fields ∙ good in
+    ap (λ (o : Option Kind). inode_if fits o s) k ∙ rw (fit, ends v.kind v refl f) (rw fields refl)
+
+pub inode_again : (v : Inode) → FitsInode v → inode_of (inode_bytes v) ≡ Ok v
+unfolding inode_of
+inode_again v f = again_if inode_fits v f f.valid.numbers
 
 -- all zeros are the free inode
 zeros_are_free : (s : List ℕ) → s ≡ zeros INODE_SIZE → fields_of Free s ≡ free_inode
@@ -178,15 +185,15 @@ fields_fit k s len h fits end spelled = record {
   double_indirect = u32_small s 88 h;
 }
 
-fits_if : (o : Option Kind) (s : List ℕ) (v : Inode) → kind_of (u16_of s 0) ≡ o → length s ≡ INODE_SIZE → IsBytes s → inode_if o s ≡ Ok v
-    → FitsInode v
-fits_if None s v k len fits e = absurd cc
-fits_if (Some kind) s v k len fits e =
+fits_if : (o : Option Kind) (s : List ℕ) (v : Inode) → kind_of (u16_of s 0) ≡ o → length s ≡ INODE_SIZE → IsBytes s
+    → inode_if inode_fits o s ≡ Ok v → FitsInode v
+fits_if None s v k len bytes e = absurd cc
+fits_if (Some kind) s v k len bytes e =
     let a =
     held (inode_fits (fields_of kind s)) (cond (are_zero (drop (fields_end kind) s)) (Ok (fields_of kind s)) (Err NotZero)) BadNumber v e in
     let b = held (are_zero (drop (fields_end kind) s)) (Ok (fields_of kind s)) NotZero v a.1 in
     let same : fields_of kind s ≡ v = same_ok (fields_of kind s) v (Ok (fields_of kind s)) refl b.1 in
-    subst FitsInode same (fields_fit kind s len fits a.0 b.0 (spelled s kind len fits (number_of_kind (u16_of s 0) kind k) (zero_tail kind s len b.0)))
+    subst FitsInode same (fields_fit kind s len bytes a.0 b.0 (spelled s kind len bytes (number_of_kind (u16_of s 0) kind k) (zero_tail kind s len b.0)))
 
 pub read_fits : (s : List ℕ) (v : Inode) → length s ≡ INODE_SIZE → IsBytes s → inode_of s ≡ Ok v → FitsInode v
 unfolding inode_of
@@ -194,3 +201,54 @@ read_fits s v len fits e = fits_if (kind_of (u16_of s 0)) s v refl len fits e
 
 pub inode_codec : IsCodec INODE_SIZE FitsInode inode_bytes inode_of
 inode_codec = record { back = λ s v len small e. ((inode_takes s v len small e).0, read_fits s v len small e); again = inode_again }
+
+-- ---- the inodes of versions 1 and 2
+-- what is read as one of them is read as an inode too
+older_if : (o : Option Kind) (s : List ℕ) (v : Inode) → inode_if older_inode_fits o s ≡ Ok v → inode_if inode_fits o s ≡ Ok v
+unfolding older_inode_fits
+older_if None s v e = absurd cc
+older_if (Some kind) s v e =
+    let good = cond (are_zero (drop (fields_end kind) s)) (Ok (fields_of kind s)) (Err NotZero) in
+    let a = held (older_inode_fits (fields_of kind s)) good BadNumber v e in
+    let fit : inode_fits (fields_of kind s) ≡ true = (and_parts (inode_fits (fields_of kind s)) (is_small_directory kind (u64_of s 16)) a.0).0 in
+    rw fit a.1
+
+older_is_inode : (s : List ℕ) (v : Inode) → older_inode_of s ≡ Ok v → inode_of s ≡ Ok v
+unfolding inode_of older_inode_of
+older_is_inode s v e = older_if (kind_of (u16_of s 0)) s v e
+
+older_back : (s : List ℕ) (v : Inode) → length s ≡ INODE_SIZE → IsBytes s → older_inode_of s ≡ Ok v → (s ≡ inode_bytes v) × FitsOlderInode v
+unfolding older_inode_of
+older_back s v len bytes e =
+    let a = takes_if older_inode_fits (kind_of (u16_of s 0)) s v refl len bytes e in
+    (a.0, record { fields = read_fits s v len bytes (older_is_inode s v e); older = a.1 })
+
+older_again : (v : Inode) → FitsOlderInode v → older_inode_of (inode_bytes v) ≡ Ok v
+unfolding older_inode_of
+older_again v f = again_if older_inode_fits v f.fields f.older
+
+pub older_codec : IsCodec INODE_SIZE FitsOlderInode inode_bytes older_inode_of
+older_codec = record { back = older_back; again = older_again }
+
+-- a directory of more bytes than they allow
+pub older_refuses : (s : List ℕ) → u16_of s 0 ≡ 2 → OLDER_DIRECTORY_SIZE < u64_of s 16 → Err BadNumber ≡ older_inode_of s
+unfolding older_inode_of older_inode_fits
+older_refuses s kind large =
+    let k : kind_of (u16_of s 0) ≡ Some Directory = ap kind_of kind in
+    let big : nat_le (u64_of s 16) OLDER_DIRECTORY_SIZE ≡ false = lt-leb (u64_of s 16) OLDER_DIRECTORY_SIZE large in
+    let none : older_inode_fits (fields_of Directory s) ≡ false =
+    and_right (inode_fits (fields_of Directory s)) (nat_le (u64_of s 16) OLDER_DIRECTORY_SIZE) big in
+    sym (ap (λ (o : Option Kind). inode_if older_inode_fits o s) k ∙ rw none refl)
+
+-- what is none is read as before
+small_if : (o : Option Kind) (s : List ℕ) → (o ≡ Some Directory → u64_of s 16 ≤ OLDER_DIRECTORY_SIZE) → inode_if inode_fits o s ≡ inode_if older_inode_fits o s
+unfolding older_inode_fits
+small_if None s few = refl
+small_if (Some Free) s few = rw and-true refl
+small_if (Some File) s few = rw and-true refl
+small_if (Some Directory) s few = rw (le-leb (u64_of s 16) OLDER_DIRECTORY_SIZE (few refl)) (rw and-true refl)
+small_if (Some Link) s few = rw and-true refl
+
+pub older_reads : (s : List ℕ) → (u16_of s 0 ≡ 2 → u64_of s 16 ≤ OLDER_DIRECTORY_SIZE) → inode_of s ≡ older_inode_of s
+unfolding inode_of older_inode_of
+older_reads s few = small_if (kind_of (u16_of s 0)) s (λ e. few (number_of_kind (u16_of s 0) Directory e))

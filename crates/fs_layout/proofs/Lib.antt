@@ -42,6 +42,7 @@ pub mod Sectors
 pub mod Sizes
 pub mod SlotLaw
 pub mod SlotNames
+pub mod SlotSizes
 pub mod Small
 pub mod SplicedBytes
 pub mod Splices

@@ -6,36 +6,41 @@ use Rattle.fs_layout.specs.declared.inode.Inode.{Inode}
 use Rattle.fs_layout.specs.declared.place.Place.{Place}
 use Rattle.fs_layout.specs.Bytes.{SectorMap, IsSector}
 use Rattle.fs_layout.specs.Place.{IsPlace}
-use Rattle.fs_layout.specs.Images.{HasWholeTables, map_bits, bit, inode_bitmap, block_bitmap, stored, inode_at, Owns}
+use Rattle.fs_layout.specs.Images.{HasWholeTables, inode_map_bits, map_bits, bit, stored, inode_at, Owns}
 use Rattle.fs_layout.specs.Ownership.{IsConsistent}
-use Rattle.fs_layout.specs.InodeChanges.{Keeps, Puts, IsBlockMap, IsFree, IsOwnedApart, Rewrites, Takes, Releases, MarksSector, MarksInode, ChangesInode}
+use Rattle.fs_layout.specs.InodeChanges.{Keeps, Puts, IsInodeMap, IsBlockMap, IsFree, IsOwnedApart, Rewrites, Takes, Releases, MarksSector, MarksInode, ChangesInode}
 use Rattle.fs_layout.proofs.Places.{after_map, before_data}
-use Rattle.fs_layout.proofs.Bits.{has_bit, not_both, bit_kept, block_bit_kept, in_block_map, PutsByte, bit_put_other}
+use Rattle.fs_layout.proofs.Bits.{has_bit, not_both, bit_kept, block_bit_kept, in_inode_map, in_block_map, PutsByte, bit_put_other}
 use Rattle.fs_layout.proofs.Blocks.{map_is_low, low_not_owned, nothing_changes}
 use Rattle.fs_layout.proofs.Saves.{stored_kept, inode_kept, valid_kept, owned_on, owned_at}
 use Rattle.fs_layout.proofs.Consistent.{owned_is_apart}
 
 -- ---- from a byte to a bit
+-- one sector of the tables is written, and is whole
+table_put : (p : Place) {start n b : ℕ} {old new : SectorMap} → HasWholeTables p old → PutsByte start n b old new → IsSector (new (start + n / 4096)) → HasWholeTables p new
+table_put p {start} {n} {new = new} tables x whole t past low = elim (cases_eq t (start + n / 4096)) [
+  | inl e ↦ subst (λ (u : ℕ). IsSector (new u)) (sym e) whole
+  | inr ne ↦ subst IsSector (sym (x.others t ne)) (tables t past low)
+]
+
 -- a write of one byte into the block bitmap, which changes one bit of it
-pub marks_sector : {p : Place} {s b : ℕ} {old new : SectorMap} → HasWholeTables p old → IsPlace p → s < map_bits p → PutsByte block_bitmap s b old new
-    → IsSector (new (block_bitmap + s / 4096))
-    → ((i : ℕ) → i < 8 → i ≢ s % 8 → bit_at b i ≡ bit_at (get_or (old (block_bitmap + s / 4096)) (s % 4096 / 8) 0) i) → MarksSector p s old new
+pub marks_sector : {p : Place} {s b : ℕ} {old new : SectorMap} → HasWholeTables p old → IsPlace p → s < map_bits p → PutsByte p.block_bitmap s b old new
+    → IsSector (new (p.block_bitmap + s / 4096))
+    → ((i : ℕ) → i < 8 → i ≢ s % 8 → bit_at b i ≡ bit_at (get_or (old (p.block_bitmap + s / 4096)) (s % 4096 / 8) 0) i) → MarksSector p s old new
 marks_sector {p} {s} {b} {old} {new} tables place fits x whole same = record {
-  sectors = λ t past low. elim (cases_eq t (block_bitmap + s / 4096)) [
-    | inl e ↦ subst (λ (u : ℕ). IsSector (new u)) (sym e) whole
-    | inr ne ↦ subst IsSector (sym (x.others t ne)) (tables t past low)
-  ];
+  sectors = table_put p tables x whole;
   bits = λ t low ne. bit_put_other x same t ne;
   others = λ t ban. x.others t (λ e. ban (subst (IsBlockMap p) (sym e) (in_block_map p s fits)));
 }
 
 -- a write of one byte into the inode bitmap, which changes one bit of it
-pub marks_inode : {n b : ℕ} {old new : SectorMap} → n < 4096 → PutsByte inode_bitmap n b old new → IsSector (new inode_bitmap)
-    → ((i : ℕ) → i < 8 → i ≢ n % 8 → bit_at b i ≡ bit_at (get_or (old (inode_bitmap + n / 4096)) (n % 4096 / 8) 0) i) → MarksInode n old new
-marks_inode {n} {b} {old} {new} few x whole same = record {
-  whole = whole;
+pub marks_inode : {p : Place} {n b : ℕ} {old new : SectorMap} → HasWholeTables p old → n < inode_map_bits p → PutsByte p.inode_bitmap n b old new
+    → IsSector (new (p.inode_bitmap + n / 4096))
+    → ((i : ℕ) → i < 8 → i ≢ n % 8 → bit_at b i ≡ bit_at (get_or (old (p.inode_bitmap + n / 4096)) (n % 4096 / 8) 0) i) → MarksInode p n old new
+marks_inode {p} {n} {b} {old} {new} tables fits x whole same = record {
+  sectors = table_put p tables x whole;
   bits = λ m low ne. bit_put_other x same m ne;
-  others = λ s ne. x.others s (λ e. ne (let zero_th : n / 4096 ≡ 0 = omega arith in omega (arith, e, zero_th)));
+  others = λ s ban. x.others s (λ e. ban (subst (IsInodeMap p) (sym e) (in_inode_map p n fits)));
 }
 
 -- ---- sectors taken and released
@@ -49,7 +54,7 @@ free_not_owned apart s free o = not_both (apart.each s o).2 free.2
 
 -- a bit of the block bitmap after a write into the data
 data_bit : {p : Place} {old new : SectorMap} {s : ℕ} {x : List ℕ} → IsPlace p → p.first_data ≤ s → Puts s x old new → (t : ℕ) → t < map_bits p
-    → bit new block_bitmap t ≡ bit old block_bitmap t
+    → bit new p.block_bitmap t ≡ bit old p.block_bitmap t
 data_bit {p} {old} {new} place ge put t fits = block_bit_kept p old new t fits (λ u m. put.others u (λ e. let low = map_is_low place u m in omega (arith, low, ge, e)))
 
 -- tables after a write into the data
@@ -65,7 +70,7 @@ takes_keeps {v = v} {s} {old = old} place apart free mark put t o =
 
 -- and the sector is taken
 pub takes : {p : Place} {v : Inode} {s : ℕ} {x : List ℕ} {old mid new : SectorMap} → IsPlace p → IsOwnedApart p old v → IsFree p old s
-    → MarksSector p s old mid → IsTrue (bit mid block_bitmap s)
+    → MarksSector p s old mid → IsTrue (bit mid p.block_bitmap s)
     → Puts s x mid new → IsSector x → Takes p v s old new
 takes {p} {v} {s} {x} {old} {mid} {new} place apart free mark set put fine =
     let few : s < map_bits p = has_bit place s free.1 in
@@ -104,7 +109,7 @@ takes_and_puts {p} {v} {s} {t} {x} {old} {mid} {new} place apart a o put fine =
 -- Sectors that the inode owns are written, and then the bit of a sector is cleared.
 pub releases : {p : Place} {v : Inode} {s : ℕ} {old mid new : SectorMap} → IsPlace p → IsOwnedApart p old v → Rewrites v old mid
     → MarksSector p s mid new
-    → bit new block_bitmap s ≡ false → Releases p v s old new
+    → bit new p.block_bitmap s ≡ false → Releases p v s old new
 releases {p} {v} {s} {old} {mid} {new} place apart r mark clear = record {
   clear = clear;
   bits = λ t fits ne. mark.bits t fits ne ∙ block_bit_kept p old mid t fits (λ u m. r.others u (low_not_owned apart u (map_is_low place u m)));
@@ -131,7 +136,7 @@ releases_and_puts {p} {v} {s} {t} {x} {old} {mid} {new} place apart here r o put
 
 -- nothing is written, and then the bit of a sector is cleared
 pub releases_alone : {p : Place} {v : Inode} {s : ℕ} {old new : SectorMap} → IsPlace p → IsOwnedApart p old v → MarksSector p s old new
-    → bit new block_bitmap s ≡ false → Releases p v s old new
+    → bit new p.block_bitmap s ≡ false → Releases p v s old new
 releases_alone {p} {v} {s} {old} {new} place apart mark clear = releases place apart (record { whole = apart.whole; others = λ t ban. refl }) mark clear
 
 -- the bit of a sector is cleared: what the inode owns is the same
@@ -140,23 +145,20 @@ marks_keeps place apart mark t o = mark.others t (no_map place apart t o)
 
 -- ---- an inode's bit
 -- the inode's bit changes, and neither the inode nor what it owns does
-pub marks_change : {p : Place} {n : ℕ} {old new : SectorMap} → IsConsistent p old → n < p.inodes → MarksInode n old new
+pub marks_change : {p : Place} {n : ℕ} {old new : SectorMap} → IsConsistent p old → n < p.inodes → MarksInode p n old new
     → ChangesInode p n old new × (inode_at p new n ≡ inode_at p old n)
 marks_change {p} {n} {old} {new} h lt mark =
     let place : IsPlace p = h.place in
     let apart : IsOwnedApart p old (inode_at p old n) = owned_is_apart h n lt in
-    let past : (s : ℕ) → s ≢ inode_bitmap → new s ≡ old s = mark.others in
-    let high : (s : ℕ) → p.first_data ≤ s → new s ≡ old s = λ s ge. past s (λ e. let a = after_map place in let b = before_data place in omega (arith, a, b, ge, e)) in
-    let same_bit : (s : ℕ) → s < map_bits p → bit new block_bitmap s ≡ bit old block_bitmap s =
-    λ s fits. bit_kept old new block_bitmap s (past (block_bitmap + s / 4096) (λ e. omega (arith, e))) in
-    let tables : HasWholeTables p new = λ s from low. elim (cases_eq s inode_bitmap) [
-      | inl e ↦ subst (λ (u : ℕ). IsSector (new u)) (sym e) mark.whole
-      | inr ne ↦ subst IsSector (sym (past s ne)) (h.sectors s from low)
-    ] in
-    let table : (m : ℕ) → stored p new m ≡ stored p old m = λ m. stored_kept p m old new (past (p.table + m / 4) (λ e. let a = after_map place in omega (arith, a, e))) in
+    let past : (s : ℕ) → p.block_bitmap ≤ s → new s ≡ old s = λ s ge. mark.others s (λ m. let low = m.1 in omega (arith, ge, low)) in
+    let after = after_map place in
+    let high : (s : ℕ) → p.first_data ≤ s → new s ≡ old s = λ s ge. past s (let b = before_data place in omega (arith, after, b, ge)) in
+    let same_bit : (s : ℕ) → s < map_bits p → bit new p.block_bitmap s ≡ bit old p.block_bitmap s =
+    λ s fits. bit_kept old new p.block_bitmap s (past (p.block_bitmap + s / 4096) (omega arith)) in
+    let table : (m : ℕ) → stored p new m ≡ stored p old m = λ m. stored_kept p m old new (past (p.table + m / 4) (omega (arith, after))) in
     let same : inode_at p new n ≡ inode_at p old n = inode_kept p n old new (table n) in (
       record {
-        owned = owned_at refl (sym same) (owned_on place apart (nothing_changes place h.sectors apart).owned tables high same_bit);
+        owned = owned_at refl (sym same) (owned_on place apart (nothing_changes place h.sectors apart).owned mark.sectors high same_bit);
         valid = valid_kept p n old new (table n) (h.valid n lt);
         table = λ m lm ne. table m;
         inode_bits = mark.bits;

@@ -7,6 +7,7 @@ use Rattle.std.specs.Str.{bytes_eq}
 use Rattle.std.proofs.lemmas.Bool.Decides.{Decides-and, Decides-not, Decides-eqb, Decides-like, Decides-by_and, same_from_decides}
 use Rattle.std.proofs.lemmas.Bool.{leb-true, le-leb}
 use Rattle.std.proofs.lemmas.Slice.Eq.{bytes_eq-Decides}
+use Rattle.fs_layout.specs.declared.slot.TheConstants.{MAX_NAME}
 use Rattle.fs_layout.specs.Directories.{IsName, name_test}
 
 le_decides : (a b : ℕ) → Decides (nat_le a b) (a ≤ b)
@@ -29,7 +30,7 @@ other_decides : (name other : List ℕ) → Decides (not (bytes_eq name other)) 
 other_decides name other = Decides-not (bytes_eq name other) (bytes_eq-Decides name other)
 
 abbrev Parts : List ℕ → Type 0
-Parts name = (((1 ≤ length name) × (length name ≤ 120)) × All IsNameByte name) × ((name ≢ codes ".") × (name ≢ codes ".."))
+Parts name = (((1 ≤ length name) × (length name ≤ MAX_NAME)) × All IsNameByte name) × ((name ≢ codes ".") × (name ≢ codes ".."))
 
 is_from_parts : (name : List ℕ) → Parts name → IsName name
 is_from_parts name p = record { not_empty = p.0.0.0; short = p.0.0.1; bytes = p.0.1; not_dot = p.1.0; not_dot_dot = p.1.1 }
@@ -41,12 +42,12 @@ pub name_test-decides : (name : List ℕ) → Decides (name_test name) (IsName n
 unfolding name_test
 name_test-decides name =
     let short =
-    Decides-and (nat_le 1 (length name)) (nat_le (length name) 120) (le_decides 1 (length name)) (le_decides (length name) 120) in
-    let bytes = Decides-and (nat_le 1 (length name) && nat_le (length name) 120) (list_all is_name_byte name) short (bytes_decide name) in
+    Decides-and (nat_le 1 (length name)) (nat_le (length name) MAX_NAME) (le_decides 1 (length name)) (le_decides (length name) MAX_NAME) in
+    let bytes = Decides-and (nat_le 1 (length name) && nat_le (length name) MAX_NAME) (list_all is_name_byte name) short (bytes_decide name) in
     let dots =
     Decides-and (not (bytes_eq name (codes "."))) (not (bytes_eq name (codes ".."))) (other_decides name (codes ".")) (other_decides name (codes "..")) in
     Decides-like (name_test name) (is_from_parts name) (parts_of name)
-    (Decides-and ((nat_le 1 (length name) && nat_le (length name) 120) && list_all is_name_byte name)
+    (Decides-and ((nat_le 1 (length name) && nat_le (length name) MAX_NAME) && list_all is_name_byte name)
     (not (bytes_eq name (codes ".")) && not (bytes_eq name (codes ".."))) bytes dots)
 
 -- what `is_name` answers is what the test says

@@ -7,7 +7,7 @@ use Rattle.fs_layout.specs.declared.place.Place.{Place}
 use Rattle.fs_layout.specs.Bytes.{SectorMap, splice}
 use Rattle.fs_layout.specs.Inode.{inode_bytes, FitsInode}
 use Rattle.fs_layout.specs.Place.{IsPlace}
-use Rattle.fs_layout.specs.Images.{HasWholeTables, map_bits, bit, block_bitmap, inode_at}
+use Rattle.fs_layout.specs.Images.{HasWholeTables, map_bits, bit, inode_at}
 use Rattle.fs_layout.specs.Ownership.{IsConsistent}
 use Rattle.fs_layout.specs.InodeChanges.{Keeps, IsOwnedApart, ChangesOwned, ChangesBlocks, Saves}
 use Rattle.fs_layout.proofs.Parts.{owns_still, owned_before}
@@ -28,7 +28,7 @@ with_inode_saves p n v image = record {
 
 -- what the inode owned in another image is what it owned in old, and the bitmaps and the data are the same
 pub owned_from : {p : Place} {v w : Inode} {old other new : SectorMap} → IsPlace p → IsOwnedApart p old v → ChangesOwned p v w old new
-    → ((s : ℕ) → p.first_data ≤ s → other s ≡ old s) → ((s : ℕ) → s < map_bits p → bit other block_bitmap s ≡ bit old block_bitmap s)
+    → ((s : ℕ) → p.first_data ≤ s → other s ≡ old s) → ((s : ℕ) → s < map_bits p → bit other p.block_bitmap s ≡ bit old p.block_bitmap s)
     → ChangesOwned p v w other new
 owned_from {p} {v} {w} {old} {other} {new} place apart c same bits =
     let keeps : Keeps old other v = λ s o. same s (apart.each s o).0 in
@@ -50,8 +50,8 @@ pub save_first : {p : Place} {n : ℕ} {u v w : Inode} {old mid first new : Sect
     → ChangesBlocks p v w old mid → Saves p n u old first → Saves p n u mid new → ChangesBlocks p v w first new
 save_first {p} {n} {u} {v} {w} {old} {mid} {first} {new} place lt fits tables apart x before after =
     let tables' : HasWholeTables p mid = x.owned.sectors in
-    let bits : (a b : SectorMap) → Saves p n u a b → HasWholeTables p a → (s : ℕ) → s < map_bits p → bit b block_bitmap s ≡ bit a block_bitmap s =
-    λ a b y whole s low. bit_kept a b block_bitmap s (below_saved place lt fits whole y (block_bitmap + s / 4096) (in_block_map p s low).1) in
+    let bits : (a b : SectorMap) → Saves p n u a b → HasWholeTables p a → (s : ℕ) → s < map_bits p → bit b p.block_bitmap s ≡ bit a p.block_bitmap s =
+    λ a b y whole s low. bit_kept a b p.block_bitmap s (below_saved place lt fits whole y (p.block_bitmap + s / 4096) (in_block_map p s low).1) in
     record {
       owned = owned_from place apart
           (owned_on place apart x.owned (tables_saved place lt fits tables' after) (data_saved place lt fits tables' after) (bits mid new after tables'))

@@ -1,89 +1,156 @@
 -- What follows from a disk's having a place, and what a place says of where its parts stand.
-use Rattle.std.proofs.Common.{◌≡◌, ℕ, ◌+◌, ◌<◌, ◌≤◌, Bool, true, false, cond, Option, Some, None, refl, sym, subst, arith, nat_lt, ◌||◌}
-use Rattle.std.proofs.lemmas.Bool.{ltb-false}
+use Rattle.std.proofs.Common.{◌≡◌, ℕ, zero, suc, ◌+◌, ◌*◌, ◌<◌, ◌≤◌, Bool, true, false, cond, Option, Some, None, refl, sym, subst, arith, nat_le, nat_lt, not, ◌&&◌}
+use Rattle.std.proofs.lemmas.Bool.{and_parts, eqb-true, leb-true, ltb-false}
+use Rattle.std.specs.Int.{div_ceil}
+use Rattle.fs_layout.specs.declared.header.TheConstants.{MAX_HEADER, LEAST_LOG_END}
 use Rattle.fs_layout.specs.declared.place.Place.{Place}
+use Rattle.fs_layout.specs.declared.place.TheConstants.{SECTOR_BITS}
 use Rattle.fs_layout.specs.declared.version.Version.{Version}
-use Rattle.fs_layout.specs.Place.{IsPlace, place_in, laid_out_in, laid_out}
+use Rattle.fs_layout.specs.declared.version.Version.TheVariants.{One, Two, Three}
+use Rattle.fs_layout.specs.Header.{log_end, max_delta}
+use Rattle.fs_layout.specs.Version.{max_sectors, max_inodes}
+use Rattle.fs_layout.specs.Place.{IsPlace, allows_header, are_in_range, place_in, laid_out_in}
+
+-- a disk of the third version may have the most sectors and inodes
+numbers_to : (version : Version) → (max_sectors version ≤ max_sectors Three) × (max_inodes version ≤ max_inodes Three)
+numbers_to One = (omega arith, omega arith)
+numbers_to Two = (omega arith, omega arith)
+numbers_to Three = (omega arith, omega arith)
 
 -- ---- from the numbers of a disk
-some_of : {A : Type 0} (b : Bool) (x : Option A) (y : A) → cond b None x ≡ Some y → (b ≡ false) × (x ≡ Some y)
-some_of true x y e = absurd cc
-some_of false x y e = (refl, e)
+some_of : {A : Type 0} (b : Bool) (x : Option A) (y : A) → cond (not b) None x ≡ Some y → (b ≡ true) × (x ≡ Some y)
+some_of true x y e = (refl, e)
+some_of false x y e = absurd cc
 
-neither : (a b : Bool) → (a || b) ≡ false → (a ≡ false) × (b ≡ false)
-neither false false e = (refl, refl)
-neither false true e = absurd cc
-neither true b e = absurd cc
+some_unless : {A : Type 0} (b : Bool) (x : Option A) (y : A) → cond b None x ≡ Some y → (b ≡ false) × (x ≡ Some y)
+some_unless true x y e = absurd cc
+some_unless false x y e = (refl, e)
 
 -- the tests that a disk with a place has passed
-record InRange (sectors inodes : ℕ) : Type 0 where
-  sectors_from : 1024 ≤ sectors
-  sectors_to : sectors ≤ 65536
-  inodes_from : 16 ≤ inodes
-  inodes_to : inodes ≤ 4096
-  room : (laid_out sectors inodes).first_data + 64 ≤ sectors
+record Passed (version : Version) (header sectors inodes : ℕ) : Type 0 where
+  range : are_in_range version sectors inodes ≡ true
+  header_allowed : allows_header version header sectors inodes ≡ true
+  room : (laid_out_in version header sectors inodes).first_data + 64 ≤ sectors
 
-placed : {p : Place} {version : Version} (sectors inodes : ℕ) → place_in version sectors inodes ≡ Some p → (p ≡ laid_out_in version sectors inodes) × InRange sectors inodes
+placed : {p : Place} {version : Version} {header : ℕ} (sectors inodes : ℕ) → place_in version header sectors inodes ≡ Some p
+    → (p ≡ laid_out_in version header sectors inodes) × Passed version header sectors inodes
 unfolding place_in
-placed {p} {version} s i e =
-    let l : Place = laid_out_in version s i in
-    let x = some_of (nat_lt s 1024 || nat_lt 65536 s || nat_lt i 16 || nat_lt 4096 i) (cond (nat_lt s (l.first_data + 64)) None (Some l)) p e in
-    let y = some_of (nat_lt s (l.first_data + 64)) (Some l) p x.1 in
-    let a = neither (nat_lt s 1024 || nat_lt 65536 s || nat_lt i 16) (nat_lt 4096 i) x.0 in
-    let b = neither (nat_lt s 1024 || nat_lt 65536 s) (nat_lt i 16) a.0 in
-    let c = neither (nat_lt s 1024) (nat_lt 65536 s) b.0 in (
-      sym (same_some l p y.1),
-      record {
-        sectors_from = ltb-false s 1024 c.0;
-        sectors_to = ltb-false 65536 s c.1;
-        inodes_from = ltb-false i 16 b.1;
-        inodes_to = ltb-false 4096 i a.1;
-        room = ltb-false s (l.first_data + 64) y.0;
-      },
-    )
+placed {p} {version} {header} s i e =
+    let l : Place = laid_out_in version header s i in
+    let full = nat_lt s (l.first_data + 64) in
+    let x = some_of (are_in_range version s i) (cond (not (allows_header version header s i)) None (cond full None (Some l))) p e in
+    let y = some_of (allows_header version header s i) (cond full None (Some l)) p x.1 in
+    let z = some_unless full (Some l) p y.1 in
+    (sym (same_some l p z.1), record { range = x.0; header_allowed = y.0; room = ltb-false s (l.first_data + 64) z.0 })
   where
     same_some : (x y : Place) → Some x ≡ Some y → x ≡ y
     same_some x y e = cc
 
 -- the place of a disk is where its parts are laid out
-pub place_is_laid_out : {p : Place} {version : Version} (sectors inodes : ℕ) → place_in version sectors inodes ≡ Some p → p ≡ laid_out_in version sectors inodes
+pub place_is_laid_out : {p : Place} {version : Version} {header : ℕ} (sectors inodes : ℕ) → place_in version header sectors inodes ≡ Some p
+    → p ≡ laid_out_in version header sectors inodes
 place_is_laid_out s i e = (placed s i e).0
 
-laid_out_is_place : (version : Version) (s i : ℕ) → InRange s i → IsPlace (laid_out_in version s i)
-laid_out_is_place version s i r =
-    let a = r.sectors_from in
-    let b = r.sectors_to in
-    let c = r.inodes_from in
-    let d = r.inodes_to in
-    let e = r.room in
-    record { least_sectors = a; most_sectors = b; least_inodes = c; most_inodes = d; bits = omega arith; slots = omega arith; data_sectors = e }
+-- what the tests of the numbers say
+record InRange (version : Version) (sectors inodes : ℕ) : Type 0 where
+  sectors_from : 1024 ≤ sectors
+  sectors_to : sectors ≤ max_sectors version
+  inodes_from : 16 ≤ inodes
+  inodes_to : inodes ≤ max_inodes version
+
+in_range : (version : Version) (sectors inodes : ℕ) → are_in_range version sectors inodes ≡ true → InRange version sectors inodes
+in_range version s i e =
+    let both = and_parts (nat_le 1024 s && nat_le s (max_sectors version)) (nat_le 16 i && nat_le i (max_inodes version)) e in
+    let a = and_parts (nat_le 1024 s) (nat_le s (max_sectors version)) both.0 in
+    let b = and_parts (nat_le 16 i) (nat_le i (max_inodes version)) both.1 in
+    record {
+      sectors_from = leb-true 1024 s a.0;
+      sectors_to = leb-true s (max_sectors version) a.1;
+      inodes_from = leb-true 16 i b.0;
+      inodes_to = leb-true i (max_inodes version) b.1;
+    }
+
+-- and what that of the header sectors says
+record HasHeader (header sectors inodes : ℕ) : Type 0 where
+  most : header ≤ MAX_HEADER
+  room : div_ceil inodes SECTOR_BITS + div_ceil sectors SECTOR_BITS + 47 ≤ max_delta header
+
+has_header : (version : Version) (header sectors inodes : ℕ) → InRange version sectors inodes → allows_header version header sectors inodes ≡ true
+    → HasHeader header sectors inodes
+unfolding allows_header
+has_header One header s i r e = let none = eqb-true header 0 e in let a = r.sectors_to in let b = r.inodes_to in record { most = omega (arith, none); room = omega arith }
+has_header Two header s i r e = let none = eqb-true header 0 e in let a = r.sectors_to in let b = r.inodes_to in record { most = omega (arith, none); room = omega arith }
+has_header Three header s i r e =
+    let bitmaps = div_ceil i SECTOR_BITS + div_ceil s SECTOR_BITS + 47 in
+    let both = and_parts (nat_le 1 header && nat_le header MAX_HEADER) (nat_le bitmaps (max_delta header)) e in
+    let few = and_parts (nat_le 1 header) (nat_le header MAX_HEADER) both.0 in
+    record { most = leb-true header MAX_HEADER few.1; room = leb-true bitmaps (max_delta header) both.1 }
+
+-- numbers that passed both tests are small
+pub numbers_allowed : (version : Version) (header sectors inodes : ℕ) → are_in_range version sectors inodes ≡ true → allows_header version header sectors inodes ≡ true
+    → (header ≤ MAX_HEADER) × (sectors ≤ max_sectors Three) × (inodes ≤ max_inodes Three)
+numbers_allowed version header s i range allowed =
+    let r = in_range version s i range in
+    let m = numbers_to version in
+    let a = r.sectors_to in
+    let b = r.inodes_to in
+    ((has_header version header s i r allowed).most, omega (arith, a, m.0), omega (arith, b, m.1))
+
+-- the log ends soon
+log_end_most : (header : ℕ) → log_end header ≤ LEAST_LOG_END + 126 + 258 * header
+log_end_most zero = omega arith
+log_end_most (suc less) = omega arith
+
+-- and all parts before the data are small together
+pub parts_small : (version : Version) (header sectors inodes : ℕ) → are_in_range version sectors inodes ≡ true → allows_header version header sectors inodes ≡ true
+    → log_end header + div_ceil inodes SECTOR_BITS + div_ceil sectors SECTOR_BITS + div_ceil inodes 4 ≤ 300000
+parts_small version header s i range allowed =
+    let most = numbers_allowed version header s i range allowed in
+    let log = log_end_most header in
+    omega (arith, most, log)
+
+laid_out_is_place : (version : Version) (header s i : ℕ) → Passed version header s i → IsPlace (laid_out_in version header s i)
+laid_out_is_place version header s i p =
+    let r = in_range version s i p.range in
+    let h = has_header version header s i r p.header_allowed in
+    let room = h.room in
+    record {
+      least_sectors = r.sectors_from;
+      most_sectors = r.sectors_to;
+      least_inodes = r.inodes_from;
+      most_inodes = r.inodes_to;
+      header = h.most;
+      log = refl;
+      inode_bits = omega arith;
+      bits = omega arith;
+      slots = omega arith;
+      room = omega (arith, room);
+      data_sectors = p.room;
+    }
 
 -- a disk that has a place has room for its parts
-pub place_is_place : {p : Place} (version : Version) (sectors inodes : ℕ) → place_in version sectors inodes ≡ Some p → IsPlace p
-place_is_place version s i e = let x = placed s i e in subst IsPlace (sym x.0) (laid_out_is_place version s i x.1)
-
--- at most 16 sectors of the block bitmap, and 4 to 1024 sectors of the inode table
-pub record HasBounds (p : Place) : Type 0 where
-  pub table_to : p.table ≤ 145
-  pub data_from : p.table + 4 ≤ p.first_data
-  pub data_to : p.first_data ≤ p.table + 1024
-
-laid_out_has_bounds : (version : Version) (s i : ℕ) → InRange s i → HasBounds (laid_out_in version s i)
-laid_out_has_bounds version s i r =
-    let b = r.sectors_to in
-    let c = r.inodes_from in
-    let d = r.inodes_to in
-    record { table_to = omega arith; data_from = omega arith; data_to = omega arith }
-
--- a disk that has a place has these bounds
-pub place_has_bounds : {p : Place} (version : Version) (sectors inodes : ℕ) → place_in version sectors inodes ≡ Some p → HasBounds p
-place_has_bounds version s i e = let x = placed s i e in subst HasBounds (sym x.0) (laid_out_has_bounds version s i x.1)
+pub place_is_place : {p : Place} (version : Version) (header sectors inodes : ℕ) → place_in version header sectors inodes ≡ Some p → IsPlace p
+place_is_place version header s i e = let x = placed s i e in subst IsPlace (sym x.0) (laid_out_is_place version header s i x.1)
 
 -- ---- from a place
--- the block bitmap has at least one sector
-pub after_map : {p : Place} → IsPlace p → 129 < p.table
-after_map place = let bits = place.bits in let least = place.least_sectors in omega (arith, bits, least)
+-- log, inode bitmap, block bitmap and inode table stand one behind the other
+pub after_map : {p : Place} → IsPlace p → (128 ≤ p.inode_bitmap) × (p.inode_bitmap < p.block_bitmap) × (p.block_bitmap < p.table)
+after_map place =
+    let log = place.log in
+    let inodes = place.inode_bits in
+    let some = place.least_inodes in
+    let bits = place.bits in
+    let least = place.least_sectors in
+    (omega (arith, log), omega (arith, inodes, some), omega (arith, bits, least))
 
 -- the inode table stands before the data
 pub before_data : {p : Place} → IsPlace p → p.table ≤ p.first_data
 before_data place = let slots = place.slots in let least = place.least_inodes in omega (arith, slots, least)
+
+-- as many sectors and inodes as a disk may have in any version
+pub numbers_most : {p : Place} → IsPlace p → (p.sectors ≤ max_sectors Three) × (p.inodes ≤ max_inodes Three)
+numbers_most {p} place =
+    let s = place.most_sectors in
+    let i = place.most_inodes in
+    let m = numbers_to p.version in
+    (omega (arith, s, m.0), omega (arith, i, m.1))

@@ -6,7 +6,7 @@ use Rattle.fs_layout.specs.declared.inode.TheConstants.{DIRECT_BLOCKS, INDIRECT_
 use Rattle.fs_layout.specs.declared.inode.Inode.{Inode}
 use Rattle.fs_layout.specs.Bytes.{SectorMap, splice, le32, zeros, u32_of}
 use Rattle.fs_layout.specs.Images.{pointer_in, own_count, Level, levels, holder, place_in_holder, number_at, number_on, pointer, first_block, IsTrimmed}
-use Rattle.fs_layout.specs.Images.{HasPointers, HasPointersAbove, number_in, Part, AccessAcl, DefaultAcl, OnLevel, Indirect, Block, part}
+use Rattle.fs_layout.specs.Images.{HasPointersAbove, number_in, Part, AccessAcl, DefaultAcl, OnLevel, Indirect, Block, part}
 use Rattle.fs_layout.specs.InodeChanges.{Turns, Gains, Loses, with_direct}
 use Rattle.fs_layout.proofs.Levels.{entry_kept, entry_there, Alike-refl, AlikeBut, KeepsEntries, KeepsOtherEntries, numbers_alike, numbers_turned}
 use Rattle.fs_layout.proofs.Parts.{KeepsPointers, entries_kept, number_on_alike, number_on_indirect}

@@ -1,6 +1,7 @@
 -- The names of slots as entries, and the names of a directory as they are read.
 use Rattle.std.specs.Prelude.{◌≡◌, ℕ, ◌<◌, List, length, Some, Contains}
 use Rattle.std.proofs.Common.{refl, sym, ap, arith, ◌∙◌}
+use Rattle.fs_layout.specs.declared.version.Version.{Version}
 use Rattle.fs_layout.specs.declared.inode.Inode.{Inode}
 use Rattle.fs_layout.specs.Bytes.{SectorMap}
 use Rattle.fs_layout.specs.Maps.{name_cmp, get}
@@ -28,18 +29,18 @@ module _ (slots : List NamedInode) (apart : HaveDistinctNames slots) where
   pub are_names_of : AreNamesOf slots
   are_names_of = record { map_is = names-IsMap slots; count = length-names slots apart; each = λ name n. (stands name n, leads name n) }
 
-module _ (image : SectorMap) (v : Inode) (names : List (List ℕ × ℕ)) (h : HasNames image v names) (sectors : HasWholeBlocks image v) where
-  below : (k : ℕ) → k < slot_count v → k < length h.slots
-  below k lt = let count = count_is image v h.slots h.whole sectors h.each h.holds in omega (arith, lt, count)
+module _ (version : Version) (image : SectorMap) (v : Inode) (names : List (List ℕ × ℕ)) (h : HasNames version image v names) (sectors : HasWholeBlocks image v) where
+  below : (k : ℕ) → k < slot_count version v → k < length h.slots
+  below k lt = let count = count_is version image v h.slots h.whole sectors h.each h.holds in omega (arith, lt, count)
 
-  pub are_read : AreRead image v names
+  pub are_read : AreRead version image v names
   unfolding slots_of
   are_read = record {
-    each = λ k lt. (slot_is image v h.slots h.whole sectors h.each h.holds k (slot_at image v k) (below k lt)).0;
+    each = λ k lt. (slot_is version image v h.slots h.whole sectors h.each h.holds k (slot_at version image v k) (below k lt)).0;
     apart = λ j k less lt same.
-        let none = slot_at image v k in
-        let a = (slot_is image v h.slots h.whole sectors h.each h.holds j none (below j (omega (arith, less, lt)))).1 in
-        let b = (slot_is image v h.slots h.whole sectors h.each h.holds k none (below k lt)).1 in
+        let none = slot_at version image v k in
+        let a = (slot_is version image v h.slots h.whole sectors h.each h.holds j none (below j (omega (arith, less, lt)))).1 in
+        let b = (slot_is version image v h.slots h.whole sectors h.each h.holds k none (below k lt)).1 in
         h.apart j k none less (below k lt) (ap (λ (s : NamedInode). s.name) (sym a) ∙ same ∙ ap (λ (s : NamedInode). s.name) b);
-    are = h.are ∙ ap names_of_slots (slots_are image v h.slots h.whole sectors h.each h.holds);
+    are = h.are ∙ ap names_of_slots (slots_are version image v h.slots h.whole sectors h.each h.holds);
   }

@@ -1,18 +1,21 @@
 -- What a recovered image is, and what it depends on.
-use Rattle.std.proofs.Common.{◌≡◌, ℕ, zero, suc, ◌+◌, ◌*◌, ◌/◌, ◌%◌, ◌^◌, ◌<◌, ◌≤◌, ◌⊎◌, List, [], ◌∷◌, length, get_or, refl, sym, ap, subst, ◌∙◌, arith, inl, inr, false, nat_eq}
+use Rattle.std.proofs.Common.{◌≡◌, ℕ, zero, suc, ◌+◌, ◌*◌, ◌/◌, ◌%◌, ◌^◌, ◌<◌, ◌≤◌, ◌⊎◌, List, [], ◌∷◌, length, get_or, refl, sym, ap, subst, ◌∙◌, arith, inl, inr, false, cond, nat_eq, Ok, Some}
 use Rattle.std.specs.Prelude.{Contains}
-use Rattle.std.proofs.lemmas.Bool.{cases_eq, cond-true, cond-false, eq-eqb, ne_eqb}
+use Rattle.std.proofs.lemmas.Bool.{cases_eq, cond-true, cond-false, eq-eqb, le-leb, ne_eqb}
 use Rattle.std.proofs.lemmas.List.{get_or_default}
 use Rattle.fs_layout.specs.Bytes.{SectorMap, u32_of}
 use Rattle.fs_layout.specs.declared.superblock.Super.{Super}
-use Rattle.fs_layout.specs.Header.{log_end, header_for, header_in, header_of}
+use Rattle.fs_layout.specs.Header.{log_end, area_start, header_for, header_of}
 use Rattle.fs_layout.specs.Superblock.{FitsSuper, super_bytes}
-use Rattle.fs_layout.specs.declared.place.TheConstants.{INODE_BITMAP}
-use Rattle.fs_layout.proofs.HeaderLaw.{no_header}
+use Rattle.fs_layout.specs.declared.header.TheConstants.{MAX_HEADER}
+use Rattle.fs_layout.specs.declared.place.Place.{Place}
+use Rattle.fs_layout.specs.Place.{place_in}
+use Rattle.fs_layout.proofs.Places.{place_is_laid_out, place_is_place}
 use Rattle.fs_layout.proofs.SuperLaw.{super_codec}
-use Rattle.fs_layout.specs.Commit.{AreDistinct, AreTargets, IsCommit, IsValidCommit, commit_bytes, targets_in}
+use Rattle.fs_layout.specs.Commit.{AreDistinct, AreTargets, IsArea, IsCommit, IsValidCommit, area_in, commit_bytes, commit_bytes_in, named_area, named_start, targets_in}
 use Rattle.fs_layout.specs.Recovered.{replayed, recovered}
-use Rattle.fs_layout.proofs.Targets.{no_targets, targets_in-alike, targets_in-commit, targets_in-invalid, targets_in-valid}
+use Rattle.fs_layout.proofs.CommitLaw.{in_first, number_of_word}
+use Rattle.fs_layout.proofs.Targets.{no_targets, same_start, targets_in-alike, targets_in-commit, targets_in-invalid, targets_in-valid}
 
 -- ---- sectors that are targets
 -- a sector is a target, at some index of the list, or it is none
@@ -87,7 +90,7 @@ replayed-same image new log (t ∷ ts) s logs own = elim (cases_eq s t) [
 -- ---- recovered
 -- the first log sector of an image
 abbrev pub log_start : SectorMap → ℕ
-log_start image = 2 + header_of (image 0)
+log_start image = named_start image + header_of (image 0)
 
 -- an image whose commit has these targets
 pub recovered-commit : (size : ℕ) (image : SectorMap) (ts : List ℕ) (s : ℕ) → size < 2 ^ 32 → IsCommit size image ts
@@ -107,8 +110,20 @@ pub recovered-other : (size : ℕ) (image : SectorMap) (ts : List ℕ) (s : ℕ)
 recovered-other size image ts s small is none = recovered-commit size image ts s small is ∙ replayed-other image (log_start image) ts s none
 
 -- an image with an idle commit sector
+pub area_idle : (image : SectorMap) → image 1 ≡ commit_bytes [] → named_area image ≡ 0
+area_idle image idle =
+    let word : u32_of (image 1) 4 ≡ 0 = ap (λ s. u32_of s 4) (idle ∙ sym (in_first [])) ∙ number_of_word 0 [] (omega arith) ∙ omega arith in
+    omega (arith, word)
+
 pub idle_commit : (size : ℕ) (image : SectorMap) → image 1 ≡ commit_bytes [] → IsCommit size image []
-idle_commit size image idle = record { bytes = idle; more = λ k lt. absurd (omega (arith, lt)); valid = no_targets (header_of (image 0)) size }
+idle_commit size image idle =
+    let none : named_area image ≡ 0 = area_idle image idle in
+    record {
+      bytes = idle ∙ sym (in_first []) ∙ ap (λ (a : ℕ). commit_bytes_in a []) (sym none);
+      area = record { one = omega (arith, none); there = omega (arith, none); some = omega (arith, none) };
+      more = λ k lt. absurd (omega (arith, lt));
+      valid = no_targets (header_of (image 0)) size;
+    }
 
 -- it is recovered
 pub recovered-idle : (size : ℕ) (image : SectorMap) (s : ℕ) → size < 2 ^ 32 → image 1 ≡ commit_bytes [] → recovered size image s ≡ image s
@@ -136,12 +151,12 @@ recovered-past size image s high =
 
 -- A recovered sector depends on the targets, on the log sectors in use and, where it is no target, on itself. So a sealed
 -- image stays the same while its targets are written, and an idle one while the log is.
-pub recovered-same : (size : ℕ) (image new : SectorMap) (ts : List ℕ) (s : ℕ) → size < 2 ^ 32 → IsCommit size image ts → IsCommit size new ts → new 0 ≡ image 0
+pub recovered-same : (size : ℕ) (image new : SectorMap) (ts : List ℕ) (s : ℕ) → size < 2 ^ 32 → IsCommit size image ts → IsCommit size new ts → new 0 ≡ image 0 → new 1 ≡ image 1
     → ((k : ℕ) → k < length ts → new (log_start image + k) ≡ image (log_start image + k))
     → ((Contains ts s → ⊥) → new s ≡ image s) → recovered size new s ≡ recovered size image s
-recovered-same size image new ts s small is now super logs own =
+recovered-same size image new ts s small is now super one logs own =
     recovered-commit size new ts s small now
-    ∙ ap (λ (content : List ℕ). replayed new (2 + header_of content) ts s) super
+    ∙ (λ j. replayed new (area_start (header_of (super j)) (area_in (one j)) + header_of (super j)) ts s)
     ∙ replayed-same image new (log_start image) ts s logs own
     ∙ sym (recovered-commit size image ts s small is)
 
@@ -177,24 +192,35 @@ recovered-has P size image s logs own =
 -- A recovered sector depends on how many header sectors there are, on commit sector, header, the log sectors in use, and
 -- on itself, whether the commit is valid or not.
 pub recovered-alike : (size : ℕ) (image new : SectorMap) (s : ℕ) → header_of (new 0) ≡ header_of (image 0) → new 1 ≡ image 1
-    → ((k : ℕ) → k < header_of (image 0) → new (2 + k) ≡ image (2 + k))
+    → ((k : ℕ) → k < header_of (image 0) → new (named_start image + k) ≡ image (named_start image + k))
     → ((k : ℕ) → k < length (targets_in size image) → new (log_start image + k) ≡ image (log_start image + k)) → new s ≡ image s → recovered size new s ≡ recovered size image s
 unfolding recovered
 recovered-alike size image new s super one header logs own =
-    (λ j. replayed new (2 + super j) (targets_in-alike size image new super one header j) s)
+    (λ j. replayed new (area_start (super j) (area_in (one j)) + super j) (targets_in-alike size image new super one header j) s)
     ∙ replayed-same image new (log_start image) (targets_in size image) s logs (λ _. own)
 
 -- how many header sectors a superblock tells
-pub header_of-super_bytes : (v : Super) → FitsSuper v → header_of (super_bytes v) ≡ header_in v.version v.sectors v.inodes
+pub header_of-super_bytes : (v : Super) → FitsSuper v → header_of (super_bytes v) ≡ header_for (Ok v)
 unfolding header_of
 header_of-super_bytes v fits = ap header_for (super_codec.again v fits)
 
--- and the log that it tells ends before the bitmaps
-pub log_before_bitmaps : (v : Super) (content : List ℕ) → FitsSuper v → content ≡ super_bytes v → log_end (header_of content) ≤ INODE_BITMAP
-log_before_bitmaps v content fits is = omega (arith, ap header_of is ∙ header_of-super_bytes v fits ∙ no_header v.version v.sectors v.inodes)
+-- as many as the layout has that it gives,
+pub header_there : {p : Place} (v : Super) (content : List ℕ) (sectors : ℕ) → FitsSuper v → content ≡ super_bytes v
+    → place_in v.version v.header sectors v.inodes ≡ Some p → header_of content ≡ p.header
+header_there {p} v content sectors fits is has =
+    let same : p.header ≡ v.header = ap (λ (q : Place). q.header) (place_is_laid_out sectors v.inodes has) in
+    let few = (place_is_place v.version v.header sectors v.inodes has).header in
+    ap header_of is ∙ header_of-super_bytes v fits ∙ ap (λ b. cond b v.header 0) (le-leb v.header MAX_HEADER (omega (arith, same, few))) ∙ sym same
+
+-- and the log that it tells ends where the bitmaps begin
+pub log_there : {p : Place} (v : Super) (content : List ℕ) (sectors : ℕ) → FitsSuper v → content ≡ super_bytes v
+    → place_in v.version v.header sectors v.inodes ≡ Some p → log_end (header_of content) ≡ p.inode_bitmap
+log_there {p} v content sectors fits is has =
+    ap log_end (header_there v content sectors fits is has) ∙ sym (place_is_place v.version v.header sectors v.inodes has).log
 
 -- a valid commit stays one where superblock, commit sector and header stay
-pub valid_alike : (size : ℕ) (image new : SectorMap) → header_of (new 0) ≡ header_of (image 0) → new 1 ≡ image 1 → ((k : ℕ) → k < header_of (image 0) → new (2 + k) ≡ image (2 + k))
+pub valid_alike : (size : ℕ) (image new : SectorMap) → header_of (new 0) ≡ header_of (image 0) → new 1 ≡ image 1
+    → ((k : ℕ) → k < header_of (image 0) → new (named_start image + k) ≡ image (named_start image + k))
     → IsValidCommit size image → IsValidCommit size new
 valid_alike size image new super one header valid =
     let is = valid.is in
@@ -202,8 +228,9 @@ valid_alike size image new super one header valid =
     record {
       targets = valid.targets;
       is = record {
-        bytes = one ∙ is.bytes;
-        more = λ k lt. ap (λ s. u32_of s (4 * (k % 128))) (header (k / 128) (omega (arith, lt, few))) ∙ is.more k lt;
+        bytes = one ∙ is.bytes ∙ (λ j. commit_bytes_in (area_in (sym one j)) valid.targets);
+        area = subst (λ h. IsArea h (named_area new) valid.targets) (sym super) (subst (λ s. IsArea (header_of (image 0)) (area_in s) valid.targets) (sym one) is.area);
+        more = λ k lt. ap (λ (at : ℕ). u32_of (new (at + k / 128)) (4 * (k % 128))) (same_start image new super one) ∙ ap (λ s. u32_of s (4 * (k % 128))) (header (k / 128) (omega (arith, lt, few))) ∙ is.more k lt;
         valid = subst (λ h. AreTargets h size valid.targets) (sym super) is.valid;
       };
     }

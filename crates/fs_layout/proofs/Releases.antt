@@ -1,12 +1,12 @@
 -- An inode gives up a sector that it had for one thing.
-use Rattle.std.proofs.Common.{◌≡◌, ◌≢◌, ℕ, ◌+◌, ◌<◌, ◌≤◌, sym, ap, ◌∙◌, arith, inl, inr}
+use Rattle.std.proofs.Common.{◌≡◌, ◌≢◌, ℕ, ◌+◌, ◌≤◌, sym, ap, ◌∙◌, arith, inl, inr}
 use Rattle.std.proofs.lemmas.Bool.{cases_eq}
 use Rattle.fs_layout.specs.declared.inode.Inode.{Inode}
 use Rattle.fs_layout.specs.declared.place.Place.{Place}
 use Rattle.fs_layout.specs.Bytes.{SectorMap}
 use Rattle.fs_layout.specs.Place.{IsPlace}
-use Rattle.fs_layout.specs.Images.{bit, block_bitmap, free_sectors, Part, part, Owns}
-use Rattle.fs_layout.specs.InodeChanges.{Loses, Releases, IsOwnedApart, ChangesBlocks}
+use Rattle.fs_layout.specs.Images.{bit, free_sectors, Part, part, Owns}
+use Rattle.fs_layout.specs.InodeChanges.{IsBlockMap, Loses, Releases, IsOwnedApart, ChangesBlocks}
 use Rattle.fs_layout.proofs.Bits.{has_bit, not_both, free_sectors_more}
 use Rattle.fs_layout.proofs.Blocks.{low_not_owned, map_is_low}
 
@@ -29,7 +29,7 @@ kept_still {old} {v = v} l ne o = record { at = o.at; is = l.others o.at (λ e. 
 pub loses : {p : Place} {old new : SectorMap} {v w : Inode} {at : Part} {s : ℕ} → IsPlace p → IsOwnedApart p old v → s ≢ 0 → Loses old new v w at s
     → Releases p v s old new → ChangesBlocks p v w old new
 loses {p} {old} {new} {v} {w} {at} {s} place apart some l x =
-    let no_map : (t : ℕ) → p.first_data ≤ t → ((129 ≤ t) × (t < p.table)) → ⊥ = λ t ge m. let a = map_is_low place t m in omega (arith, a, ge) in
+    let no_map : (t : ℕ) → p.first_data ≤ t → IsBlockMap p t → ⊥ = λ t ge m. let a = map_is_low place t m in omega (arith, a, ge) in
     record {
       owned = record {
         sectors = x.sectors;
@@ -43,10 +43,10 @@ loses {p} {old} {new} {v} {w} {at} {s} place apart some l x =
           | inr ne ↦ absurd (not_both u (sym (x.bits t fits ne) ∙ e))
         ];
         gained = λ t fits u e. elim (cases_eq t s) [
-          | inl f ↦ absurd (not_both u (ap (bit new block_bitmap) f ∙ x.clear))
+          | inl f ↦ absurd (not_both u (ap (bit new p.block_bitmap) f ∙ x.clear))
           | inr ne ↦ absurd (not_both u (x.bits t fits ne ∙ e))
         ];
-        stayed = λ t fits u o. kept_still l (λ f. not_both u (ap (bit new block_bitmap) f ∙ x.clear)) o;
+        stayed = λ t fits u o. kept_still l (λ f. not_both u (ap (bit new p.block_bitmap) f ∙ x.clear)) o;
       };
       low = λ t lt ban. x.others t (low_not_owned apart t lt) ban;
     }

@@ -7,26 +7,27 @@ use Rattle.fs_layout.specs.Inode.{free_inode}
 use Rattle.fs_layout.specs.Lacking.{lacks}
 use Rattle.fs_layout.specs.Version.{newest}
 use Rattle.fs_layout.specs.Place.{laid_out}
-use Rattle.fs_layout.specs.Images.{bit, inode_bitmap, block_bitmap, number_on, pointer, first_block, part, Block, byte_at, stored}
+use Rattle.fs_layout.specs.Images.{bit, number_on, pointer, first_block, part, Block, byte_at, stored}
 
--- 1024 sectors and 64 inodes: the table begins at 130, the data at 146
-place_of_1024 : laid_out 1024 64 ≡ record { version = newest; sectors = 1024; inodes = 64; table = 130; first_data = 146 }
+-- 1024 sectors and 64 inodes: the bitmaps begin at 128 and 129, the table at 130, the data at 146
+place_of_1024 : laid_out 1024 64
+    ≡ record { version = newest; sectors = 1024; inodes = 64; header = 0; inode_bitmap = 128; block_bitmap = 129; table = 130; first_data = 146 }
 place_of_1024 = refl
 
 -- sector 130 of the image has byte 6 at offset 1, and no other sector has anything
 two_bits : SectorMap
 two_bits s = cond (nat_eq s 130) (0 ∷ 6 ∷ []) []
 
--- bit 4096 + 9 of the block bitmap is bit 1 of byte 1 of its second sector
-bit_set : bit two_bits block_bitmap 4105 ≡ true
+-- bit 4096 + 9 of the bitmap that begins at 129 is bit 1 of byte 1 of its second sector
+bit_set : bit two_bits 129 4105 ≡ true
 unfolding bit two_bits
 bit_set = refl
 
-bit_clear : bit two_bits block_bitmap 4104 ≡ false
+bit_clear : bit two_bits 129 4104 ≡ false
 unfolding bit two_bits
 bit_clear = refl
 
-bit_elsewhere : bit two_bits inode_bitmap 9 ≡ false
+bit_elsewhere : bit two_bits 128 9 ≡ false
 unfolding bit two_bits
 bit_elsewhere = refl
 

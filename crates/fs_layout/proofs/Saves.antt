@@ -7,8 +7,8 @@ use Rattle.fs_layout.specs.declared.place.Place.{Place}
 use Rattle.fs_layout.specs.Bytes.{SectorMap, IsSector, splice, window}
 use Rattle.fs_layout.specs.Inode.{inode_bytes, inode_of, FitsInode}
 use Rattle.fs_layout.specs.Place.{IsPlace}
-use Rattle.fs_layout.specs.Images.{HasWholeTables, map_bits, bit, inode_bitmap, block_bitmap, free_sectors, stored, inode_at, inode_or_free}
-use Rattle.fs_layout.specs.InodeChanges.{Keeps, Puts, IsOwnedApart, ChangesOwned, ChangesBlocks, Saves, ChangesInode}
+use Rattle.fs_layout.specs.Images.{HasWholeTables, inode_map_bits, map_bits, bit, free_sectors, stored, inode_at, inode_or_free}
+use Rattle.fs_layout.specs.InodeChanges.{Keeps, Puts, IsInodeMap, IsOwnedApart, ChangesOwned, ChangesBlocks, Saves, ChangesInode}
 use Rattle.fs_layout.proofs.Places.{after_map, before_data}
 use Rattle.fs_layout.proofs.InodeLaw.{inode_again}
 use Rattle.fs_layout.proofs.Splices.{window_same, window_other}
@@ -124,7 +124,7 @@ pub record IsSaved (p : Place) (n : ℕ) (w : Inode) (old mid new : SectorMap) :
   pub is : inode_at p new n ≡ w
   -- what w holds in mid it holds in new
   pub keeps : Keeps mid new w
-  pub inode_bits : (m : ℕ) → m < 4096 → bit new inode_bitmap m ≡ bit old inode_bitmap m
+  pub inode_bits : (m : ℕ) → m < inode_map_bits p → bit new p.inode_bitmap m ≡ bit old p.inode_bitmap m
   pub free : free_sectors p new ≡ free_sectors p mid
 
 -- the facts on owned sectors move along an equation of the inodes
@@ -134,7 +134,7 @@ owned_at {p} {u} {v} {w} {x} {old} {new} e f c = subst (λ (k : Inode). ChangesO
 -- what the inode owns in new is what it owns in mid, and the bitmaps and the data are the same
 pub owned_on : {p : Place} {v w : Inode} {old mid new : SectorMap} → IsPlace p → IsOwnedApart p old v → ChangesOwned p v w old mid
     → HasWholeTables p new
-    → ((s : ℕ) → p.first_data ≤ s → new s ≡ mid s) → ((s : ℕ) → s < map_bits p → bit new block_bitmap s ≡ bit mid block_bitmap s)
+    → ((s : ℕ) → p.first_data ≤ s → new s ≡ mid s) → ((s : ℕ) → s < map_bits p → bit new p.block_bitmap s ≡ bit mid p.block_bitmap s)
     → ChangesOwned p v w old new
 owned_on {p} {v} {w} {old} {mid} {new} place apart c tables same bits =
     let keeps : Keeps mid new w = λ s o. same s ((apart_after place apart c).each s o).0 in
@@ -159,22 +159,22 @@ saved {p} {n} {v} {w} {old} {mid} {new} place lt at apart fits x y =
     let now : inode_at p new n ≡ w = inode_saved place lt fits tables y in
     let same : (s : ℕ) → p.first_data ≤ s → new s ≡ mid s = data_saved place lt fits tables y in
     let below : (s : ℕ) → s < p.table → new s ≡ mid s = below_saved place lt fits tables y in
-    let bits : (s : ℕ) → s < map_bits p → bit new block_bitmap s ≡ bit mid block_bitmap s =
-    λ s low. bit_kept mid new block_bitmap s (below (block_bitmap + s / 4096) (in_block_map p s low).1) in
+    let bits : (s : ℕ) → s < map_bits p → bit new p.block_bitmap s ≡ bit mid p.block_bitmap s =
+    λ s low. bit_kept mid new p.block_bitmap s (below (p.block_bitmap + s / 4096) (in_block_map p s low).1) in
     let after : IsOwnedApart p mid w = apart_after place apart x.owned in
-    let inode_map : new inode_bitmap ≡ old inode_bitmap =
-    let m = after_map place in let t = before_data place in
-    below inode_bitmap (omega (arith, m)) ∙ x.low inode_bitmap (omega (arith, m, t)) (λ b. omega (arith, b.0)) in
+    let inode_map : (s : ℕ) → IsInodeMap p s → new s ≡ old s = λ s i.
+    let past = i.1 in let m = after_map place in let t = before_data place in
+    below s (omega (arith, past, m)) ∙ x.low s (omega (arith, past, m, t)) (λ b. let from = b.0 in omega (arith, past, from)) in
     record {
       changes = record {
         owned = owned_at (sym at) (sym now) (owned_on place apart x.owned (tables_saved place lt fits tables y) same bits);
         valid = valid_saved place lt fits tables y;
         table = λ m less ne. stored_other place lt fits tables y m ne
             ∙ stored_kept p m old mid (let i = in_table p m place less in x.low (p.table + m / 4) i.1 (λ b. let k = b.1 in omega (arith, k)));
-        inode_bits = λ m few ne. inode_bit_kept old new m few inode_map;
+        inode_bits = λ m few ne. inode_bit_kept p old new m few inode_map;
       };
       is = now;
       keeps = λ s o. same s (after.each s o).0;
-      inode_bits = λ m few. inode_bit_kept old new m few inode_map;
+      inode_bits = λ m few. inode_bit_kept p old new m few inode_map;
       free = free_sectors_kept p mid new (λ s d. bits s (has_bit place s d.1));
     }

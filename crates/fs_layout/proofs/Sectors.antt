@@ -11,7 +11,8 @@ use Rattle.fs_layout.specs.Commit.{commit_bytes, commit_magic}
 use Rattle.fs_layout.specs.Inode.{inode_bytes, kind_number}
 use Rattle.fs_layout.specs.Directories.{NamedInode, FitsSlot, slot_bytes}
 use Rattle.fs_layout.specs.Superblock.{super_bytes, super_magic}
-use Rattle.fs_layout.specs.Version.{version_number}
+use Rattle.fs_layout.specs.declared.version.Version.{Version}
+use Rattle.fs_layout.specs.Version.{version_number, max_name}
 use Rattle.fs_layout.proofs.AclSectorLaw.{length-acl_sector_bytes}
 use Rattle.fs_layout.proofs.CommitLaw.{length-commit_bytes}
 use Rattle.fs_layout.proofs.SuperLaw.{length-super_bytes}
@@ -95,10 +96,11 @@ pub IsSector-super_bytes : (v : Super) → IsSector (super_bytes v)
 IsSector-super_bytes v = let n = version_number v.version in record {
   len = length-super_bytes v;
   bytes =
-      IsBytes-append (le32 super_magic) (le32 n ++ (le32 v.sectors ++ (le32 v.inodes ++ zeros 496))) (IsBytes-le32 super_magic)
-      (IsBytes-append (le32 n) (le32 v.sectors ++ (le32 v.inodes ++ zeros 496)) (IsBytes-le32 n)
-      (IsBytes-append (le32 v.sectors) (le32 v.inodes ++ zeros 496) (IsBytes-le32 v.sectors)
-      (IsBytes-append (le32 v.inodes) (zeros 496) (IsBytes-le32 v.inodes) (IsBytes-zeros 496))));
+      IsBytes-append (le32 super_magic) (le32 n ++ (le32 v.sectors ++ (le32 v.inodes ++ (le32 v.header ++ zeros 492)))) (IsBytes-le32 super_magic)
+      (IsBytes-append (le32 n) (le32 v.sectors ++ (le32 v.inodes ++ (le32 v.header ++ zeros 492))) (IsBytes-le32 n)
+      (IsBytes-append (le32 v.sectors) (le32 v.inodes ++ (le32 v.header ++ zeros 492)) (IsBytes-le32 v.sectors)
+      (IsBytes-append (le32 v.inodes) (le32 v.header ++ zeros 492) (IsBytes-le32 v.inodes)
+      (IsBytes-append (le32 v.header) (zeros 492) (IsBytes-le32 v.header) (IsBytes-zeros 492)))));
 }
 
 pub IsSector-commit_bytes : (ts : List ℕ) → IsSector (commit_bytes ts)
@@ -129,12 +131,12 @@ IsSector-acl_sector_bytes es few = record {
       (IsBytes-append (entries_bytes es) (zeros (504 - 8 * length es)) (entries_are_bytes es) (IsBytes-zeros (504 - 8 * length es))));
 }
 
-pub IsBytes-slot_bytes : (v : NamedInode) → FitsSlot v → IsBytes (slot_bytes v)
-IsBytes-slot_bytes v f =
-    IsBytes-append (le32 v.inode) (length v.name ∷ (zeros 3 ++ (v.name ++ zeros (120 - length v.name)))) (IsBytes-le32 v.inode)
-    (IsBytes-cons (length v.name) (zeros 3 ++ (v.name ++ zeros (120 - length v.name))) (omega (arith, f.name.short))
-    (IsBytes-append (zeros 3) (v.name ++ zeros (120 - length v.name)) (IsBytes-zeros 3)
-    (IsBytes-append v.name (zeros (120 - length v.name)) f.bytes (IsBytes-zeros (120 - length v.name)))))
+pub IsBytes-slot_bytes : (version : Version) (v : NamedInode) → FitsSlot version v → IsBytes (slot_bytes version v)
+IsBytes-slot_bytes version v f =
+    IsBytes-append (le32 v.inode) (length v.name ∷ (zeros 3 ++ (v.name ++ zeros (max_name version - length v.name)))) (IsBytes-le32 v.inode)
+    (IsBytes-cons (length v.name) (zeros 3 ++ (v.name ++ zeros (max_name version - length v.name))) (omega (arith, f.name.short))
+    (IsBytes-append (zeros 3) (v.name ++ zeros (max_name version - length v.name)) (IsBytes-zeros 3)
+    (IsBytes-append v.name (zeros (max_name version - length v.name)) f.bytes (IsBytes-zeros (max_name version - length v.name)))))
 
 pub IsBytes-inode_bytes : (v : Inode) → IsBytes (inode_bytes v)
 IsBytes-inode_bytes v =

@@ -1,5 +1,5 @@
 -- Which content is a valid commit sector, and what targets it has.
-use Rattle.std.proofs.Common.{◌≡◌, ℕ, ◌+◌, ◌*◌, ◌-◌, ◌/◌, ◌%◌, ◌^◌, ◌<◌, ◌≤◌, List, [], ◌∷◌, length, get_or, refl, sym, ap, subst, ◌∙◌, arith, inl, inr, Bool, true, false, cond, not, ◌&&◌, Result, Ok, Err, nat_eq, nat_le, nat_lt}
+use Rattle.std.proofs.Common.{◌≡◌, ℕ, zero, suc, ◌+◌, ◌*◌, ◌-◌, ◌/◌, ◌%◌, ◌^◌, ◌<◌, ◌≤◌, List, [], ◌∷◌, length, get_or, refl, sym, ap, subst, ◌∙◌, arith, inl, inr, Bool, true, false, cond, not, ◌&&◌, Result, Ok, Err, nat_eq, nat_le, nat_lt}
 use Rattle.std.specs.Prelude.{All}
 use Rattle.std.specs.Bool.{Decides}
 use Rattle.std.specs.List.{list_all, list_any, AllByRecursion, IsDistinct}
@@ -14,13 +14,11 @@ use Rattle.std.proofs.lemmas.Slice.Eq.{bytes_eq-Decides}
 use Rattle.fs_layout.specs.declared.fault.LayoutFault.{LayoutFault}
 use Rattle.fs_layout.specs.declared.header.TheConstants.{MAX_HEADER}
 use Rattle.fs_layout.specs.declared.superblock.Super.{Super}
-use Rattle.fs_layout.specs.declared.version.Version.{Version}
-use Rattle.fs_layout.specs.declared.version.Version.TheVariants.{One, Two}
 use Rattle.fs_layout.specs.Bytes.{SectorMap, u32_of}
-use Rattle.fs_layout.specs.Header.{log_end, max_targets, header_in, header_for, header_of}
+use Rattle.fs_layout.specs.Header.{area_start, log_end, max_targets, header_for, header_of}
 use Rattle.fs_layout.specs.Superblock.{super_of}
-use Rattle.fs_layout.specs.Commit.{AreDistinct, AreTargets, IsCommit, IsValidCommit, are_apart, are_targets, commit_bytes, header_number, named_targets, target_number, targets_if, targets_in}
-use Rattle.fs_layout.proofs.CommitLaw.{count_of-commit_bytes, number_of-commit_bytes}
+use Rattle.fs_layout.specs.Commit.{AreDistinct, AreTargets, IsArea, IsCommit, IsSpelled, IsValidCommit, are_apart, are_targets, area_in, count_in, named_area, named_start, commit_bytes_in, named_count, header_number, is_area, is_spelled, named_targets, target_number, targets_if, targets_in}
+use Rattle.fs_layout.proofs.CommitLaw.{number_of_word, number_of-commit_bytes_in}
 
 -- ---- the tests say what they are called
 none_equal : (n : ℕ) (ns : List ℕ) → AllByRecursion (λ y. nat_eq n y ≡ false) ns → list_any (nat_eq n) ns ≡ false
@@ -83,30 +81,64 @@ targets_small header size ts small valid i = elim (cases_lt i (length ts)) [
 
 -- ---- how large a header is
 header_for_most : (r : Result Super LayoutFault) → header_for r ≤ MAX_HEADER
-header_for_most (Ok v) = of_version v.version
+header_for_most (Ok v) = kept (nat_le v.header MAX_HEADER) v.header (leb-true v.header MAX_HEADER)
   where
-    of_version : (version : Version) → header_in version v.sectors v.inodes ≤ MAX_HEADER
-    of_version One = omega arith
-    of_version Two = omega arith
+    kept : (b : Bool) (h : ℕ) → (b ≡ true → h ≤ MAX_HEADER) → cond b h 0 ≤ MAX_HEADER
+    kept true h small = small refl
+    kept false h small = omega arith
 header_for_most (Err fault) = omega arith
 
 pub header_most : (content : List ℕ) → header_of content ≤ MAX_HEADER
 unfolding header_of
 header_most content = header_for_most (super_of content)
 
+-- ---- where the log areas are
+-- an area lies between commit sector and bitmaps
+pub area_room : (header area : ℕ) → (2 ≤ area_start header area) × (area_start header area + 126 + 129 * header ≤ log_end header)
+area_room header zero = (omega arith, omega arith)
+area_room header (suc area) = (omega arith, omega arith)
+
+-- ---- what a commit sector says
+area_decides : (header area : ℕ) (ts : List ℕ) → Decides (is_area header area ts) (IsArea header area ts)
+area_decides header area ts =
+    let le : (n m : ℕ) → Decides (nat_le n m) (n ≤ m) = λ n m. (leb-true n m, le-leb n m) in
+    Decides-like (is_area header area ts) (λ p. record { one = p.0; there = p.1.0; some = p.1.1 }) (λ a. (a.one, (a.there, a.some)))
+    (Decides-and (nat_le area 1) (nat_le area header && nat_le area (length ts)) (le area 1) (Decides-and (nat_le area header) (nat_le area (length ts)) (le area header) (le area (length ts))))
+
+pub spelled_decides : (header : ℕ) (content ts : List ℕ) → Decides (is_spelled header content ts) (IsSpelled header content ts)
+spelled_decides header content ts =
+    let area = area_in content in
+    Decides-and (is_area header area ts) (bytes_eq content (commit_bytes_in area ts)) (area_decides header area ts) (bytes_eq-Decides content (commit_bytes_in area ts))
+
+-- the number at 4 of a commit's sector, and the count in it
+pub word_of : (size : ℕ) (image : SectorMap) (ts : List ℕ) → IsCommit size image ts
+    → (u32_of (image 1) 4 ≡ length ts + 0x8000_0000 * named_area image) × (named_count image ≡ length ts)
+word_of size image ts is =
+    let few : length ts ≤ max_targets (header_of (image 0)) = is.valid.few in
+    let word : u32_of (image 1) 4 ≡ length ts + 0x8000_0000 * named_area image =
+    ap (λ s. u32_of s 4) is.bytes ∙ number_of_word (named_area image) ts (omega (arith, few, header_most (image 0), is.area.one)) in
+    (word, counted (u32_of (image 1) 4) (length ts) (named_area image) word (omega (arith, few, header_most (image 0))))
+  where
+    counted : (w n a : ℕ) → w ≡ n + 0x8000_0000 * a → n < 0x8000_0000 → w % 0x8000_0000 ≡ n
+    counted w n a is small = omega (arith, is, small)
+
+-- images with one superblock's header and one commit sector name the same area
+pub same_start : (image new : SectorMap) → header_of (new 0) ≡ header_of (image 0) → new 1 ≡ image 1 → named_start new ≡ named_start image
+same_start image new super one = λ j. area_start (super j) (area_in (one j))
+
 -- ---- what an image names
 pub length-named : (image : SectorMap) (n : ℕ) → length (named_targets image n) ≡ n
 length-named image n = length-map-range_with_len (target_number image) 0 n
 
 -- the targets of a commit are what its image names
-named_is : (size : ℕ) (image : SectorMap) (ts : List ℕ) → size < 2 ^ 32 → IsCommit size image ts → named_targets image (u32_of (image 1) 4) ≡ ts
+named_is : (size : ℕ) (image : SectorMap) (ts : List ℕ) → size < 2 ^ 32 → IsCommit size image ts → named_targets image (named_count image) ≡ ts
 named_is size image ts small is =
     let few : length ts ≤ max_targets (header_of (image 0)) = is.valid.few in
-    let count : u32_of (image 1) 4 ≡ length ts = ap (λ s. u32_of s 4) is.bytes ∙ count_of-commit_bytes ts (omega (arith, few, header_most (image 0))) in
+    let count : named_count image ≡ length ts = (word_of size image ts is).1 in
     let f = target_number image in
-    ext_get_or 0 (named_targets image (u32_of (image 1) 4)) ts (length-named image (u32_of (image 1) 4) ∙ count) (λ i below.
-    let lt : i < length ts = omega (arith, below, length-named image (u32_of (image 1) 4), count) in
-    get_or-map-range_with_len f 0 (u32_of (image 1) 4) i i 0 (omega (arith, lt, count)) (omega arith)
+    ext_get_or 0 (named_targets image (named_count image)) ts (length-named image (named_count image) ∙ count) (λ i below.
+    let lt : i < length ts = omega (arith, below, length-named image (named_count image), count) in
+    get_or-map-range_with_len f 0 (named_count image) i i 0 (omega (arith, lt, count)) (omega arith)
     ∙ each i lt)
   where
     each : (i : ℕ) → i < length ts → target_number image i ≡ get_or ts i 0
@@ -114,7 +146,7 @@ named_is size image ts small is =
       | inl low ↦
           cond-true (nat_lt i 126) (u32_of (image 1) (8 + 4 * i)) (header_number image (i - 126)) (lt-ltb i 126 low)
           ∙ ap (λ s. u32_of s (8 + 4 * i)) is.bytes
-          ∙ number_of-commit_bytes ts i (targets_small (header_of (image 0)) size ts small is.valid) low lt
+          ∙ number_of-commit_bytes_in (named_area image) ts i (targets_small (header_of (image 0)) size ts small is.valid) low lt
       | inr high ↦
           cond-false (nat_lt i 126) (u32_of (image 1) (8 + 4 * i)) (header_number image (i - 126)) (le-ltb i 126 high)
           ∙ is.more (i - 126) (omega (arith, high, lt))
@@ -127,9 +159,9 @@ unfolding targets_in
 targets_in-commit size image ts small is =
     let header = header_of (image 0) in
     ap (targets_if size image) (named_is size image ts small is)
-    ∙ cond-true (are_targets header size ts && bytes_eq (image 1) (commit_bytes ts)) ts []
-    (and_from (are_targets header size ts) (bytes_eq (image 1) (commit_bytes ts)) ((are_targets-decides header size ts).1 is.valid)
-    ((bytes_eq-Decides (image 1) (commit_bytes ts)).1 is.bytes))
+    ∙ cond-true (are_targets header size ts && is_spelled (header_of (image 0)) (image 1) ts) ts []
+    (and_from (are_targets header size ts) (is_spelled (header_of (image 0)) (image 1) ts) ((are_targets-decides header size ts).1 is.valid)
+    ((spelled_decides (header_of (image 0)) (image 1) ts).1 (is.area, is.bytes)))
 
 -- an image has one list of targets
 pub same_targets : (size : ℕ) (image : SectorMap) (ts us : List ℕ) → size < 2 ^ 32 → IsCommit size image ts → IsCommit size image us → ts ≡ us
@@ -142,14 +174,14 @@ commit_in size image small valid =
 
 -- ---- targets that an image names, and that pass both tests
 -- a list with the numbers that an image names is what it names
-pub named_by_numbers : (image : SectorMap) (ts : List ℕ) → u32_of (image 1) 4 ≡ length ts
+pub named_by_numbers : (image : SectorMap) (ts : List ℕ) → named_count image ≡ length ts
     → ((i : ℕ) → i < 126 → i < length ts → get_or ts i 0 ≡ u32_of (image 1) (8 + 4 * i))
     → ((k : ℕ) → 126 + k < length ts → header_number image k ≡ get_or ts (126 + k) 0)
-    → named_targets image (u32_of (image 1) 4) ≡ ts
+    → named_targets image (named_count image) ≡ ts
 named_by_numbers image ts count first more =
-    ext_get_or 0 (named_targets image (u32_of (image 1) 4)) ts (length-named image (u32_of (image 1) 4) ∙ count) (λ i below.
-    let lt : i < length ts = omega (arith, below, length-named image (u32_of (image 1) 4), count) in
-    get_or-map-range_with_len (target_number image) 0 (u32_of (image 1) 4) i i 0 (omega (arith, lt, count)) (omega arith)
+    ext_get_or 0 (named_targets image (named_count image)) ts (length-named image (named_count image) ∙ count) (λ i below.
+    let lt : i < length ts = omega (arith, below, length-named image (named_count image), count) in
+    get_or-map-range_with_len (target_number image) 0 (named_count image) i i 0 (omega (arith, lt, count)) (omega arith)
     ∙ each i lt)
   where
     each : (i : ℕ) → i < length ts → target_number image i ≡ get_or ts i 0
@@ -169,26 +201,27 @@ named_more image n k lt =
     ∙ ap (header_number image) (omega arith))
 
 -- what an image names is its commit where it passes both tests
-pub named_commit : (size : ℕ) (image : SectorMap) → let ts = named_targets image (u32_of (image 1) 4) in
-    AreTargets (header_of (image 0)) size ts → image 1 ≡ commit_bytes ts → IsCommit size image ts
+pub named_commit : (size : ℕ) (image : SectorMap) → let ts = named_targets image (named_count image) in
+    AreTargets (header_of (image 0)) size ts → IsSpelled (header_of (image 0)) (image 1) ts → IsCommit size image ts
 named_commit size image valid bytes = record {
-  bytes = bytes;
-  more = λ k lt. named_more image (u32_of (image 1) 4) k (omega (arith, lt, length-named image (u32_of (image 1) 4)));
+  bytes = bytes.1;
+  area = bytes.0;
+  more = λ k lt. named_more image (named_count image) k (omega (arith, lt, length-named image (named_count image)));
   valid = valid;
 }
 
-passed : (size : ℕ) (image : SectorMap) (ts : List ℕ) → (are_targets (header_of (image 0)) size ts && bytes_eq (image 1) (commit_bytes ts)) ≡ true
-    → AreTargets (header_of (image 0)) size ts × (image 1 ≡ commit_bytes ts)
+passed : (size : ℕ) (image : SectorMap) (ts : List ℕ) → (are_targets (header_of (image 0)) size ts && is_spelled (header_of (image 0)) (image 1) ts) ≡ true
+    → AreTargets (header_of (image 0)) size ts × (IsSpelled (header_of (image 0)) (image 1) ts)
 passed size image ts e =
-    let parts = and_parts (are_targets (header_of (image 0)) size ts) (bytes_eq (image 1) (commit_bytes ts)) e in
-    ((are_targets-decides (header_of (image 0)) size ts).0 parts.0, (bytes_eq-Decides (image 1) (commit_bytes ts)).0 parts.1)
+    let parts = and_parts (are_targets (header_of (image 0)) size ts) (is_spelled (header_of (image 0)) (image 1) ts) e in
+    ((are_targets-decides (header_of (image 0)) size ts).0 parts.0, (spelled_decides (header_of (image 0)) (image 1) ts).0 parts.1)
 
 -- an image without a valid commit has no targets
 pub targets_in-invalid : (size : ℕ) (image : SectorMap) → (IsValidCommit size image → ⊥) → targets_in size image ≡ []
 unfolding targets_in
 targets_in-invalid size image none =
-    let ts = named_targets image (u32_of (image 1) 4) in
-    let test = are_targets (header_of (image 0)) size ts && bytes_eq (image 1) (commit_bytes ts) in
+    let ts = named_targets image (named_count image) in
+    let test = are_targets (header_of (image 0)) size ts && is_spelled (header_of (image 0)) (image 1) ts in
     cond-false test ts []
     (false_from_ne_true test (λ e. let both = passed size image ts e in none (record { targets = ts; is = named_commit size image both.0 both.1 })))
 
@@ -196,19 +229,19 @@ targets_in-invalid size image none =
 pub targets_in-valid : (size : ℕ) (image : SectorMap) → AreTargets (header_of (image 0)) size (targets_in size image)
 unfolding targets_in
 targets_in-valid size image =
-    let ts = named_targets image (u32_of (image 1) 4) in chosen ts (are_targets (header_of (image 0)) size ts && bytes_eq (image 1) (commit_bytes ts)) refl
+    let ts = named_targets image (named_count image) in chosen ts (are_targets (header_of (image 0)) size ts && is_spelled (header_of (image 0)) (image 1) ts) refl
   where
-    chosen : (ts : List ℕ) (b : Bool) → (are_targets (header_of (image 0)) size ts && bytes_eq (image 1) (commit_bytes ts)) ≡ b
+    chosen : (ts : List ℕ) (b : Bool) → (are_targets (header_of (image 0)) size ts && is_spelled (header_of (image 0)) (image 1) ts) ≡ b
         → AreTargets (header_of (image 0)) size (cond b ts [])
     chosen ts true e = (passed size image ts e).0
     chosen ts false e = no_targets (header_of (image 0)) size
 
 -- an image with other targets, or with another commit sector, than what it names has no valid commit
-pub not_valid : (size : ℕ) (image : SectorMap) (ts : List ℕ) → size < 2 ^ 32 → named_targets image (u32_of (image 1) 4) ≡ ts
-    → (AreTargets (header_of (image 0)) size ts → image 1 ≡ commit_bytes ts → ⊥) → IsValidCommit size image → ⊥
+pub not_valid : (size : ℕ) (image : SectorMap) (ts : List ℕ) → size < 2 ^ 32 → named_targets image (named_count image) ≡ ts
+    → (AreTargets (header_of (image 0)) size ts → IsSpelled (header_of (image 0)) (image 1) ts → ⊥) → IsValidCommit size image → ⊥
 not_valid size image ts small names none valid =
     let same : valid.targets ≡ ts = sym (named_is size image valid.targets small valid.is) ∙ names in
-    none (subst (AreTargets (header_of (image 0)) size) same valid.is.valid) (valid.is.bytes ∙ ap commit_bytes same)
+    none (subst (AreTargets (header_of (image 0)) size) same valid.is.valid) (subst (IsSpelled (header_of (image 0)) (image 1)) same (valid.is.area, valid.is.bytes))
 
 -- ---- an image whose superblock, commit sector, header and log are those of another one, valid or not
 named_same : (image new : SectorMap) (n : ℕ) → new 1 ≡ image 1 → ((k : ℕ) → 126 + k < n → header_number new k ≡ header_number image k) → named_targets new n ≡ named_targets image n
@@ -232,22 +265,23 @@ named_same image new n one header =
     ]
 
 -- too many targets are none
-too_many : (size : ℕ) (image : SectorMap) → max_targets (header_of (image 0)) < u32_of (image 1) 4 → targets_in size image ≡ []
+too_many : (size : ℕ) (image : SectorMap) → max_targets (header_of (image 0)) < named_count image → targets_in size image ≡ []
 unfolding targets_in
 too_many size image many =
-    let ts = named_targets image (u32_of (image 1) 4) in
-    let test = are_targets (header_of (image 0)) size ts && bytes_eq (image 1) (commit_bytes ts) in
+    let ts = named_targets image (named_count image) in
+    let test = are_targets (header_of (image 0)) size ts && is_spelled (header_of (image 0)) (image 1) ts in
     cond-false test ts []
-    (false_from_ne_true test (λ e. let few = (passed size image ts e).0.few in omega (arith, few, many, length-named image (u32_of (image 1) 4))))
+    (false_from_ne_true test (λ e. let few = (passed size image ts e).0.few in omega (arith, few, many, length-named image (named_count image))))
 
 pub targets_in-alike : (size : ℕ) (image new : SectorMap) → header_of (new 0) ≡ header_of (image 0) → new 1 ≡ image 1
-    → ((k : ℕ) → k < header_of (image 0) → new (2 + k) ≡ image (2 + k)) → targets_in size new ≡ targets_in size image
+    → ((k : ℕ) → k < header_of (image 0) → new (named_start image + k) ≡ image (named_start image + k)) → targets_in size new ≡ targets_in size image
 unfolding targets_in
-targets_in-alike size image new super one header = elim (cases_lt (max_targets (header_of (image 0))) (u32_of (image 1) 4)) [
-  | inl many ↦ too_many size new (omega (arith, many, super, ap (λ s. u32_of s 4) one)) ∙ sym (too_many size image many)
+targets_in-alike size image new super one header = elim (cases_lt (max_targets (header_of (image 0))) (named_count image)) [
+  | inl many ↦ too_many size new (omega (arith, many, super, ap count_in one)) ∙ sym (too_many size image many)
   | inr few ↦
-      let n = u32_of (image 1) 4 in
-      let same : named_targets new (u32_of (new 1) 4) ≡ named_targets image n =
-      ap (named_targets new) (ap (λ s. u32_of s 4) one) ∙ named_same image new n one (λ k lt. ap (λ s. u32_of s (4 * (k % 128))) (header (k / 128) (omega (arith, lt, few)))) in
-      (λ j. cond (are_targets (super j) size (same j) && bytes_eq (one j) (commit_bytes (same j))) (same j) [])
+      let n = named_count image in
+      let same : named_targets new (named_count new) ≡ named_targets image n =
+      ap (named_targets new) (ap count_in one)
+      ∙ named_same image new n one (λ k lt. ap (λ (at : ℕ). u32_of (new (at + k / 128)) (4 * (k % 128))) (same_start image new super one) ∙ ap (λ s. u32_of s (4 * (k % 128))) (header (k / 128) (omega (arith, lt, few)))) in
+      (λ j. cond (are_targets (super j) size (same j) && is_spelled (super j) (one j) (same j)) (same j) [])
 ]

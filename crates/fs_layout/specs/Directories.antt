@@ -9,8 +9,10 @@ use Rattle.std.specs.List.{list_all, flat_map}
 use Rattle.std.specs.Str.{bytes_eq}
 use Rattle.fs_layout.specs.declared.fault.LayoutFault.{LayoutFault}
 use Rattle.fs_layout.specs.declared.fault.LayoutFault.TheVariants.{BadNumber, NotZero}
-use Rattle.fs_layout.specs.declared.slot.TheConstants.{MAX_NAME, SLOT_SIZE}
+use Rattle.fs_layout.specs.declared.slot.TheConstants.{MAX_NAME}
 use Rattle.fs_layout.specs.Bytes.{IsBytes, window, le32, zeros, u32_of, are_zero, SectorMap}
+use Rattle.fs_layout.specs.declared.version.Version.{Version}
+use Rattle.fs_layout.specs.Version.{max_name, max_names, slot_size, block_slots}
 use Rattle.fs_layout.specs.declared.inode.Kind.TheVariants as kinds
 use Rattle.fs_layout.specs.declared.inode.Inode.{Inode}
 use Rattle.fs_layout.specs.Maps.{name_cmp, with_entry}
@@ -18,7 +20,7 @@ use Rattle.fs_layout.specs.Images.{pointer, Holds, HasNoHole}
 
 -- ---- one slot
 
--- 1 to `MAX_NAME` bytes, none of them `/` or zero, and neither `.` nor `..`
+-- 1 to `MAX_NAME` bytes, as many as the version with the longest names allows, none of them `/` or zero, and neither `.` nor `..`
 pub record IsName (name : List ℕ) : Type 0 where
   pub not_empty : 0 < length name
   pub short : length name ≤ MAX_NAME
@@ -38,33 +40,34 @@ pub record NamedInode : Type 0 where
   pub name : List ℕ
 
 -- the inode, the name's length, zeros, the name, zeros
-abbrev pub slot_bytes : NamedInode → List ℕ
-slot_bytes v = le32 v.inode ++ (length v.name ∷ (zeros 3 ++ (v.name ++ zeros (MAX_NAME - length v.name))))
+abbrev pub slot_bytes : Version → NamedInode → List ℕ
+slot_bytes version v = le32 v.inode ++ (length v.name ∷ (zeros 3 ++ (v.name ++ zeros (max_name version - length v.name))))
 
--- the name is one, and each number fits its field
-pub record FitsSlot (v : NamedInode) : Type 0 where
+-- the name is one of this version, and each number fits its field
+pub record FitsSlot (version : Version) (v : NamedInode) : Type 0 where
   pub inode : v.inode < 2 ^ 32
   pub name : IsName v.name
+  pub short : length v.name ≤ max_name version
   pub bytes : IsBytes v.name
 
--- a name stands in the bytes, and all that is not in use is zero
-abbrev pub has_name : List ℕ → Bool
-has_name s = nat_le (slice_index s 4) MAX_NAME && name_test (window s 8 (slice_index s 4))
+-- a name of this version stands in the bytes, and all that is not in use is zero
+abbrev pub has_name : Version → List ℕ → Bool
+has_name version s = nat_le (slice_index s 4) (max_name version) && name_test (window s 8 (slice_index s 4))
 
 abbrev pub has_zeros : List ℕ → Bool
 has_zeros s = are_zero (window s 5 3) && are_zero (drop (8 + slice_index s 4) s)
 
 -- the slot that these bytes are, or the first fault
-unfoldable pub slot_of : List ℕ → Result NamedInode LayoutFault
-slot_of s =
-    if has_name s then
+unfoldable pub slot_of : Version → List ℕ → Result NamedInode LayoutFault
+slot_of version s =
+    if has_name version s then
     (if has_zeros s then Ok (record { inode = u32_of s 0; name = window s 8 (slice_index s 4) }) else Err NotZero)
     else Err BadNumber
 
 -- ---- slots one after the other
 
-abbrev pub slots_bytes : List NamedInode → List ℕ
-slots_bytes slots = flat_map slot_bytes slots
+abbrev pub slots_bytes : Version → List NamedInode → List ℕ
+slots_bytes version slots = flat_map (slot_bytes version) slots
 
 -- the names of the slots as a map
 unfoldable pub names_of_slots : List NamedInode → List (List ℕ × ℕ)
@@ -78,29 +81,31 @@ HaveDistinctNames slots = AllPairs (λ a b. a.name ≢ b.name) slots
 -- ---- the slots of an inode
 
 -- how many slots a directory has
-abbrev pub slot_count : Inode → ℕ
-slot_count v = v.size / SLOT_SIZE
+abbrev pub slot_count : Version → Inode → ℕ
+slot_count version v = v.size / slot_size version
 
 -- the bytes of slot k
-unfoldable pub stored_slot : SectorMap → Inode → ℕ → List ℕ
-stored_slot m v k = window (m (pointer m v (k / 4))) (SLOT_SIZE * (k % 4)) SLOT_SIZE
+unfoldable pub stored_slot : Version → SectorMap → Inode → ℕ → List ℕ
+stored_slot version m v k =
+    window (m (pointer m v (k / block_slots version))) (slot_size version * (k % block_slots version)) (slot_size version)
 
 abbrev pub slot_or_none : Result NamedInode LayoutFault → NamedInode
 slot_or_none (Ok x) = x
 slot_or_none (Err e) = record { inode = 0; name = [] }
 
 -- slot k, one of no name where its bytes are none
-unfoldable pub slot_at : SectorMap → Inode → ℕ → NamedInode
-slot_at m v k = slot_or_none (slot_of (stored_slot m v k))
+unfoldable pub slot_at : Version → SectorMap → Inode → ℕ → NamedInode
+slot_at version m v k = slot_or_none (slot_of version (stored_slot version m v k))
 
 -- ---- a directory
 
--- The inode is a directory, and this map has its names. The slots may stand in any order.
-pub record HasNames (image : SectorMap) (v : Inode) (names : List (List ℕ × ℕ)) : Type 0 where
+-- The inode is a directory, and this map has its names, no more than the version allows. The slots may stand in any order.
+pub record HasNames (version : Version) (image : SectorMap) (v : Inode) (names : List (List ℕ × ℕ)) : Type 0 where
   pub kind : v.kind ≡ kinds.Directory
   pub slots : List NamedInode
   pub are : names ≡ names_of_slots slots
   pub apart : HaveDistinctNames slots
-  pub each : All FitsSlot slots
-  pub holds : Holds image v (slots_bytes slots)
+  pub each : All (FitsSlot version) slots
+  pub few : length slots ≤ max_names version
+  pub holds : Holds image v (slots_bytes version slots)
   pub whole : HasNoHole image v

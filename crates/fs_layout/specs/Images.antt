@@ -1,5 +1,5 @@
 -- Where things lie in an image.
---     inode_bitmap, block_bitmap, map_bits        where the bitmaps begin, and how many bits the latter has
+--     inode_map_bits, map_bits        how many bits the inode bitmap and the block bitmap have
 --     IsData        a data sector
 --     HasWholeTables        the bitmaps and the inode table are whole sectors
 --     bit, free_sectors        a bit of a bitmap; how many data sectors are free
@@ -15,21 +15,16 @@ use Rattle.fs_layout.specs.declared.inode.Inode.{Inode}
 use Rattle.fs_layout.specs.declared.inode.TheConstants.{INODE_SIZE, DIRECT_BLOCKS, SECTOR_POINTERS}
 use Rattle.fs_layout.specs.declared.fault.LayoutFault.{LayoutFault}
 use Rattle.fs_layout.specs.declared.place.Place.{Place}
-use Rattle.fs_layout.specs.declared.place.TheConstants.{INODE_BITMAP, BLOCK_BITMAP, SECTOR_BITS}
+use Rattle.fs_layout.specs.declared.place.TheConstants.{SECTOR_BITS}
 use Rattle.fs_layout.specs.Bytes.{SectorMap, IsSector, window, zeros, u32_of}
 use Rattle.fs_layout.specs.Inode.{inode_of, free_inode}
 
--- the sector of the inode bitmap
-abbrev pub inode_bitmap : ℕ
-inode_bitmap = INODE_BITMAP
+-- the number of bits of the inode bitmap, and of the block bitmap
+abbrev pub inode_map_bits : Place → ℕ
+inode_map_bits p = SECTOR_BITS * (p.block_bitmap - p.inode_bitmap)
 
--- the first sector of the block bitmap
-abbrev pub block_bitmap : ℕ
-block_bitmap = BLOCK_BITMAP
-
--- the number of bits of the block bitmap
 abbrev pub map_bits : Place → ℕ
-map_bits p = SECTOR_BITS * (p.table - block_bitmap)
+map_bits p = SECTOR_BITS * (p.table - p.block_bitmap)
 
 -- a data sector
 abbrev pub IsData : Place → ℕ → Type 0
@@ -37,7 +32,7 @@ IsData p s = (p.first_data ≤ s) × (s < p.sectors)
 
 -- each sector of the bitmaps and of the inode table is whole
 abbrev pub HasWholeTables : Place → SectorMap → Type 0
-HasWholeTables p image = (s : ℕ) → inode_bitmap ≤ s → s < p.first_data → IsSector (image s)
+HasWholeTables p image = (s : ℕ) → p.inode_bitmap ≤ s → s < p.first_data → IsSector (image s)
 
 -- bit n of the bitmap that begins at a sector
 unfoldable pub bit : SectorMap → ℕ → ℕ → Bool
@@ -45,7 +40,7 @@ bit image start n = nat_eq (bit_at (get_or (image (start + n / SECTOR_BITS)) (n 
 
 -- how many data sectors have a clear bit
 abbrev pub free_sectors : Place → SectorMap → ℕ
-free_sectors p image = count_by (λ s. not (bit image block_bitmap s)) (range_with_len p.first_data (p.sectors - p.first_data))
+free_sectors p image = count_by (λ s. not (bit image p.block_bitmap s)) (range_with_len p.first_data (p.sectors - p.first_data))
 
 -- the bytes of inode n
 unfoldable pub stored : Place → SectorMap → ℕ → List ℕ

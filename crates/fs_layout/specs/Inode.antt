@@ -5,7 +5,7 @@ use Rattle.fs_layout.specs.declared.inode.Kind.TheVariants.{Free, File, Director
 use Rattle.fs_layout.specs.declared.inode.Inode.{Inode}
 use Rattle.fs_layout.specs.declared.fault.LayoutFault.{LayoutFault}
 use Rattle.fs_layout.specs.declared.fault.LayoutFault.TheVariants.{BadKind, BadNumber, NotZero}
-use Rattle.fs_layout.specs.declared.inode.TheConstants.{DIRECT_BLOCKS, MAX_FILE_SIZE, MAX_DIRECTORY_SIZE, MAX_LINK_SIZE}
+use Rattle.fs_layout.specs.declared.inode.TheConstants.{DIRECT_BLOCKS, MAX_FILE_SIZE, MAX_DIRECTORY_SIZE, MAX_LINK_SIZE, OLDER_DIRECTORY_SIZE}
 use Rattle.fs_layout.specs.declared.inode.TheConstants.Inode.{FREE}
 use Rattle.fs_layout.specs.declared.slot.TheConstants.{SLOT_SIZE}
 use Rattle.fs_layout.specs.Bytes.{le16, le32, le64, le32s, zeros, u16_of, u32_of, u64_of, u32s_of, are_zero}
@@ -29,7 +29,7 @@ inode_bytes v =
     le16 (kind_number v.kind) ++ (le16 v.mode ++ (le32 v.uid ++ (le32 v.gid ++ (le32 v.names ++ (le64 v.size
     ++ (le32 v.parent ++ (le32 v.acl ++ (le32 v.default_acl ++ (le32s v.direct ++ (le32 v.indirect ++ (le32 v.double_indirect ++ zeros 36)))))))))))
 
--- mode and size are in the range of the kind
+-- mode and size are in the range of the kind, in the version that allows most
 abbrev pub numbers_fit : Kind → ℕ → ℕ → Bool
 numbers_fit Free mode size = true
 numbers_fit File mode size = nat_le mode 0o777 && nat_le size MAX_FILE_SIZE
@@ -87,13 +87,34 @@ fields_end File = 92
 fields_end Directory = 92
 fields_end Link = 92
 
-abbrev pub inode_if : Option Kind → List ℕ → Result Inode LayoutFault
-inode_if None s = Err BadKind
-inode_if (Some kind) s =
-    if inode_fits (fields_of kind s) then
+-- a directory has no more bytes than versions 1 and 2 allow
+abbrev pub is_small_directory : Kind → ℕ → Bool
+is_small_directory Free size = true
+is_small_directory File size = true
+is_small_directory Directory size = nat_le size OLDER_DIRECTORY_SIZE
+is_small_directory Link size = true
+
+-- mode and size are in the range of the kind in versions 1 and 2
+unfoldable pub older_inode_fits : Inode → Bool
+older_inode_fits v = inode_fits v && is_small_directory v.kind v.size
+
+-- that, and each number fits its field
+pub record FitsOlderInode (v : Inode) : Type 0 where
+  pub fields : FitsInode v
+  pub older : IsTrue (older_inode_fits v)
+
+-- the inode of this kind that bytes are, if it fits, or the first fault
+abbrev pub inode_if : (Inode → Bool) → Option Kind → List ℕ → Result Inode LayoutFault
+inode_if fits None s = Err BadKind
+inode_if fits (Some kind) s =
+    if fits (fields_of kind s) then
     (if are_zero (drop (fields_end kind) s) then Ok (fields_of kind s) else Err NotZero)
     else Err BadNumber
 
 -- the inode that 128 bytes are, or the first fault
 unfoldable pub inode_of : List ℕ → Result Inode LayoutFault
-inode_of s = inode_if (kind_of (u16_of s 0)) s
+inode_of s = inode_if inode_fits (kind_of (u16_of s 0)) s
+
+-- the inode that they are in versions 1 and 2, or the first fault
+unfoldable pub older_inode_of : List ℕ → Result Inode LayoutFault
+older_inode_of s = inode_if older_inode_fits (kind_of (u16_of s 0)) s

@@ -2,6 +2,7 @@
 --     Keeps, Puts        sectors that are the same, and one that is written
 --     PutsEntry, ReplacesBlock        a number is written into the sector of pointers that has it; bytes with another block
 --     Turns, Gains, Loses        what an inode has for one thing changes
+--     IsInodeMap, IsBlockMap, IsFree        a sector of a bitmap, and a data sector that is free
 --     MarksSector, MarksInode, Allocates, Frees        one bit of a bitmap is written; a sector is taken by it, or released
 --     IsOwnedApart        what an inode owns is in the data, has its bit set, and serves one thing
 --     Rewrites, Takes, Releases        the writes for an inode: into what it owns, with one more sector, with one less
@@ -12,10 +13,9 @@ use Rattle.std.specs.Prelude.{◌≡◌, ◌≢◌, ℕ, suc, ◌+◌, ◌*◌, 
 use Rattle.fs_layout.specs.declared.inode.Inode.{Inode}
 use Rattle.fs_layout.specs.declared.inode.TheConstants.{INODE_SIZE}
 use Rattle.fs_layout.specs.declared.place.Place.{Place}
-use Rattle.fs_layout.specs.declared.place.TheConstants.{SECTOR_BITS}
 use Rattle.fs_layout.specs.Bytes.{SectorMap, IsSector, splice, le32}
 use Rattle.fs_layout.specs.Inode.{inode_bytes, inode_of}
-use Rattle.fs_layout.specs.Images.{HasWholeTables, own_count, holder, place_in_holder, number_on, Part, part, map_bits, bit, inode_bitmap, block_bitmap, stored, inode_at, Owns}
+use Rattle.fs_layout.specs.Images.{HasWholeTables, own_count, holder, place_in_holder, number_on, Part, part, inode_map_bits, map_bits, bit, stored, inode_at, Owns}
 
 -- the sectors that the inode owns in old are the same in new
 abbrev pub Keeps : SectorMap → SectorMap → Inode → Type 0
@@ -63,38 +63,41 @@ Loses old new v w at s = Turns old new v w at s 0
 abbrev pub with_direct : Inode → ℕ → ℕ → Inode
 with_direct v k s = record v { direct = set v.direct k s }
 
--- a sector of the block bitmap
+-- a sector of the inode bitmap, and of the block bitmap
+abbrev pub IsInodeMap : Place → ℕ → Type 0
+IsInodeMap p s = (p.inode_bitmap ≤ s) × (s < p.block_bitmap)
+
 abbrev pub IsBlockMap : Place → ℕ → Type 0
-IsBlockMap p s = (block_bitmap ≤ s) × (s < p.table)
+IsBlockMap p s = (p.block_bitmap ≤ s) × (s < p.table)
 
 -- a data sector that is free
 abbrev pub IsFree : Place → SectorMap → ℕ → Type 0
-IsFree p image s = (p.first_data ≤ s) × (s < p.sectors) × (bit image block_bitmap s ≡ false)
+IsFree p image s = (p.first_data ≤ s) × (s < p.sectors) × (bit image p.block_bitmap s ≡ false)
 
 -- what the inode owns is in the data, has its bit set, and serves one thing
 pub record IsOwnedApart (p : Place) (image : SectorMap) (v : Inode) : Type 0 where
-  pub each : (s : ℕ) → Owns image v s → (p.first_data ≤ s) × (s < p.sectors) × IsTrue (bit image block_bitmap s)
+  pub each : (s : ℕ) → Owns image v s → (p.first_data ≤ s) × (s < p.sectors) × IsTrue (bit image p.block_bitmap s)
   pub whole : (s : ℕ) → Owns image v s → IsSector (image s)
   pub once : (s : ℕ) → (a b : Owns image v s) → a.at ≡ b.at
 
 -- of the block bitmap no bit but that of sector s differs, and nothing else does
 pub record MarksSector (p : Place) (s : ℕ) (old new : SectorMap) : Type 0 where
   pub sectors : HasWholeTables p new
-  pub bits : (t : ℕ) → t < map_bits p → t ≢ s → bit new block_bitmap t ≡ bit old block_bitmap t
+  pub bits : (t : ℕ) → t < map_bits p → t ≢ s → bit new p.block_bitmap t ≡ bit old p.block_bitmap t
   pub others : (t : ℕ) → (IsBlockMap p t → ⊥) → new t ≡ old t
 
 -- the free sector s is taken and its bit set, and then x is written there
 pub record Allocates (p : Place) (s : ℕ) (x : List ℕ) (old mid new : SectorMap) : Type 0 where
   pub free : IsFree p old s
   pub mark : MarksSector p s old mid
-  pub set : IsTrue (bit mid block_bitmap s)
+  pub set : IsTrue (bit mid p.block_bitmap s)
   pub put : Puts s x mid new
   pub whole : IsSector x
 
 -- the bit of sector s is cleared
 pub record Frees (p : Place) (s : ℕ) (old new : SectorMap) : Type 0 where
   pub mark : MarksSector p s old new
-  pub clear : bit new block_bitmap s ≡ false
+  pub clear : bit new p.block_bitmap s ≡ false
 
 -- only sectors that the inode owns differ
 pub record Rewrites (v : Inode) (old new : SectorMap) : Type 0 where
@@ -104,8 +107,8 @@ pub record Rewrites (v : Inode) (old new : SectorMap) : Type 0 where
 -- The free sector s is taken and its bit set. Besides, only sectors that the inode owns differ.
 pub record Takes (p : Place) (v : Inode) (s : ℕ) (old new : SectorMap) : Type 0 where
   pub free : IsFree p old s
-  pub set : IsTrue (bit new block_bitmap s)
-  pub bits : (t : ℕ) → t < map_bits p → t ≢ s → bit new block_bitmap t ≡ bit old block_bitmap t
+  pub set : IsTrue (bit new p.block_bitmap s)
+  pub bits : (t : ℕ) → t < map_bits p → t ≢ s → bit new p.block_bitmap t ≡ bit old p.block_bitmap t
   pub sectors : HasWholeTables p new
   pub here : IsSector (new s)
   pub whole : (t : ℕ) → Owns old v t → IsSector (new t)
@@ -113,8 +116,8 @@ pub record Takes (p : Place) (v : Inode) (s : ℕ) (old new : SectorMap) : Type 
 
 -- The bit of sector s is cleared. Besides, only sectors that the inode owns differ.
 pub record Releases (p : Place) (v : Inode) (s : ℕ) (old new : SectorMap) : Type 0 where
-  pub clear : bit new block_bitmap s ≡ false
-  pub bits : (t : ℕ) → t < map_bits p → t ≢ s → bit new block_bitmap t ≡ bit old block_bitmap t
+  pub clear : bit new p.block_bitmap s ≡ false
+  pub bits : (t : ℕ) → t < map_bits p → t ≢ s → bit new p.block_bitmap t ≡ bit old p.block_bitmap t
   pub sectors : HasWholeTables p new
   pub whole : (t : ℕ) → t ≢ s → Owns old v t → IsSector (new t)
   pub others : (t : ℕ) → (Owns old v t → ⊥) → (IsBlockMap p t → ⊥) → new t ≡ old t
@@ -124,14 +127,14 @@ pub record Releases (p : Place) (v : Inode) (s : ℕ) (old new : SectorMap) : Ty
 pub record ChangesOwned (p : Place) (v w : Inode) (old new : SectorMap) : Type 0 where
   pub sectors : HasWholeTables p new
   pub whole : (s : ℕ) → Owns new w s → IsSector (new s)
-  pub others : (s : ℕ) → p.first_data ≤ s → s < p.sectors → IsTrue (bit old block_bitmap s) → (Owns old v s → ⊥) → new s ≡ old s
+  pub others : (s : ℕ) → p.first_data ≤ s → s < p.sectors → IsTrue (bit old p.block_bitmap s) → (Owns old v s → ⊥) → new s ≡ old s
   pub fresh : (s : ℕ) → Owns new w s → Owns old v s ⊎ IsFree p old s
   pub once : (s : ℕ) → (a b : Owns new w s) → a.at ≡ b.at
   -- what w owns is set; what is no longer set was v's; what is newly set is w's; what was v's and is set is w's
-  pub taken : (s : ℕ) → s < map_bits p → Owns new w s → IsTrue (bit new block_bitmap s)
-  pub released : (s : ℕ) → s < map_bits p → IsTrue (bit old block_bitmap s) → bit new block_bitmap s ≡ false → Owns old v s
-  pub gained : (s : ℕ) → s < map_bits p → IsTrue (bit new block_bitmap s) → bit old block_bitmap s ≡ false → Owns new w s
-  pub stayed : (s : ℕ) → s < map_bits p → IsTrue (bit new block_bitmap s) → Owns old v s → Owns new w s
+  pub taken : (s : ℕ) → s < map_bits p → Owns new w s → IsTrue (bit new p.block_bitmap s)
+  pub released : (s : ℕ) → s < map_bits p → IsTrue (bit old p.block_bitmap s) → bit new p.block_bitmap s ≡ false → Owns old v s
+  pub gained : (s : ℕ) → s < map_bits p → IsTrue (bit new p.block_bitmap s) → bit old p.block_bitmap s ≡ false → Owns new w s
+  pub stayed : (s : ℕ) → s < map_bits p → IsTrue (bit new p.block_bitmap s) → Owns old v s → Owns new w s
 
 -- that, and below the data only the block bitmap differs
 pub record ChangesBlocks (p : Place) (v w : Inode) (old new : SectorMap) : Type 0 where
@@ -148,10 +151,10 @@ pub record ChangesInode (p : Place) (n : ℕ) (old new : SectorMap) : Type 0 whe
   pub owned : ChangesOwned p (inode_at p old n) (inode_at p new n) old new
   pub valid : inode_of (stored p new n) ≡ Ok (inode_at p new n)
   pub table : (m : ℕ) → m < p.inodes → m ≢ n → stored p new m ≡ stored p old m
-  pub inode_bits : (m : ℕ) → m < SECTOR_BITS → m ≢ n → bit new inode_bitmap m ≡ bit old inode_bitmap m
+  pub inode_bits : (m : ℕ) → m < inode_map_bits p → m ≢ n → bit new p.inode_bitmap m ≡ bit old p.inode_bitmap m
 
 -- of the inode bitmap no bit but that of inode n differs, and nothing else does
-pub record MarksInode (n : ℕ) (old new : SectorMap) : Type 0 where
-  pub whole : IsSector (new inode_bitmap)
-  pub bits : (m : ℕ) → m < SECTOR_BITS → m ≢ n → bit new inode_bitmap m ≡ bit old inode_bitmap m
-  pub others : (s : ℕ) → s ≢ inode_bitmap → new s ≡ old s
+pub record MarksInode (p : Place) (n : ℕ) (old new : SectorMap) : Type 0 where
+  pub sectors : HasWholeTables p new
+  pub bits : (m : ℕ) → m < inode_map_bits p → m ≢ n → bit new p.inode_bitmap m ≡ bit old p.inode_bitmap m
+  pub others : (s : ℕ) → (IsInodeMap p s → ⊥) → new s ≡ old s

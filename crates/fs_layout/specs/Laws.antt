@@ -5,10 +5,9 @@ use Rattle.std.specs.List.{range_with_len}
 use Rattle.std.specs.declared.cmp.Ordering.{Ordering}
 use Rattle.posix_acl.specs.AccessList.{AccessList, IsAcl, IsSomeAcl, list_numbers, mode_bits}
 use Rattle.fs_layout.specs.declared.inode.Inode.{Inode}
-use Rattle.fs_layout.specs.declared.inode.TheConstants.{MAX_DIRECTORY_SIZE}
 use Rattle.fs_layout.specs.declared.place.Place.{Place}
-use Rattle.fs_layout.specs.declared.place.TheConstants.{FIRST_LOG_SECTOR}
-use Rattle.fs_layout.specs.declared.slot.TheConstants.{MAX_NAMES, SLOT_SIZE}
+use Rattle.fs_layout.specs.declared.version.Version.{Version}
+use Rattle.fs_layout.specs.Version.{slot_size, max_names, max_directory_size}
 use Rattle.fs_layout.specs.Bytes.{IsBytes, IsSector, SectorMap, splice, window}
 use Rattle.fs_layout.specs.Inode.{FitsInode}
 use Rattle.fs_layout.specs.Directories.{NamedInode, FitsSlot, slot_bytes, slots_bytes, slot_of}
@@ -16,7 +15,7 @@ use Rattle.fs_layout.specs.AclSector.{FitsAclSector, acl_sector_of}
 use Rattle.fs_layout.specs.Images.{inode_at, pointer}
 use Rattle.fs_layout.specs.Ownership.{IsConsistent, Agrees}
 use Rattle.fs_layout.specs.InodeChanges.{Keeps, ChangesBlocks, ChangesInode, Saves}
-use Rattle.fs_layout.specs.Commit.{IsCommit, IsValidCommit}
+use Rattle.fs_layout.specs.Commit.{IsCommit, IsValidCommit, named_start}
 use Rattle.fs_layout.specs.Header.{header_of}
 use Rattle.fs_layout.specs.Recovered.{recovered}
 use Rattle.fs_layout.specs.Maps.{name_cmp, get, with_entry, without, IsMap}
@@ -31,7 +30,7 @@ pub record AreNumbersAsBytes (n : ℕ) (bytes : ℕ → List ℕ) (number : List
 -- on a disk of so many sectors a target has its log sector's content, and each other sector its own
 pub record IsRecovery (size : ℕ) : Type 0 where
   pub target : (image : SectorMap) (targets : List ℕ) (k : ℕ) → IsCommit size image targets → k < length targets
-      → recovered size image (get_or targets k 0) ≡ image (FIRST_LOG_SECTOR + header_of (image 0) + k)
+      → recovered size image (get_or targets k 0) ≡ image (named_start image + header_of (image 0) + k)
   pub other : (image : SectorMap) (targets : List ℕ) (s : ℕ) → IsCommit size image targets → (Contains targets s → ⊥)
       → recovered size image s ≡ image s
   pub invalid : (image : SectorMap) (s : ℕ) → (IsValidCommit size image → ⊥) → recovered size image s ≡ image s
@@ -85,10 +84,11 @@ pub record AreNamesOf (slots : List NamedInode) : Type 0 where
   pub each : (name : List ℕ) (n : ℕ)
       → (get name_cmp (names_of_slots slots) name ≡ Some n) ↔ Contains slots (record { inode = n; name = name })
 
--- A name fits its slot, and so do as many slots as a directory has names the bytes of the largest one.
-pub record SlotsHoldNames : Type 0 where
-  pub slot : (x : NamedInode) → FitsSlot x → length (slot_bytes x) ≡ SLOT_SIZE
-  pub slots : (slots : List NamedInode) → All FitsSlot slots → length slots ≤ MAX_NAMES → length (slots_bytes slots) ≤ MAX_DIRECTORY_SIZE
+-- In each version a name fits its slot, and so do as many slots as a directory has names the bytes of the largest one.
+pub record SlotsHoldNames (version : Version) : Type 0 where
+  pub slot : (x : NamedInode) → FitsSlot version x → length (slot_bytes version x) ≡ slot_size version
+  pub slots : (slots : List NamedInode) → All (FitsSlot version) slots → length slots ≤ max_names version
+      → length (slots_bytes version slots) ≤ max_directory_size version
 
 abbrev pub SlotsHaveNames : Type 0
 SlotsHaveNames = (slots : List NamedInode) → HaveDistinctNames slots → AreNamesOf slots
@@ -96,22 +96,25 @@ SlotsHaveNames = (slots : List NamedInode) → HaveDistinctNames slots → AreNa
 -- A directory has one map of names,
 abbrev pub OneMapOfNames : Type 0
 OneMapOfNames =
-    (image : SectorMap) (v : Inode) (names others : List (List ℕ × ℕ)) → HasNames image v names → HasNames image v others → names ≡ others
+    (version : Version) (image : SectorMap) (v : Inode) (names others : List (List ℕ × ℕ))
+    → HasNames version image v names → HasNames version image v others → names ≡ others
 
 -- which its slots say, each read by itself, where the sectors of its blocks are whole,
-pub record AreRead (image : SectorMap) (v : Inode) (names : List (List ℕ × ℕ)) : Type 0 where
-  pub each : (k : ℕ) → k < slot_count v → slot_of (stored_slot image v k) ≡ Ok (slot_at image v k)
-  pub apart : (j k : ℕ) → j < k → k < slot_count v → (slot_at image v j).name ≢ (slot_at image v k).name
-  pub are : names ≡ names_of_slots (map (slot_at image v) (range_with_len 0 (slot_count v)))
+pub record AreRead (version : Version) (image : SectorMap) (v : Inode) (names : List (List ℕ × ℕ)) : Type 0 where
+  pub each : (k : ℕ) → k < slot_count version v → slot_of version (stored_slot version image v k) ≡ Ok (slot_at version image v k)
+  pub apart : (j k : ℕ) → j < k → k < slot_count version v → (slot_at version image v j).name ≢ (slot_at version image v k).name
+  pub are : names ≡ names_of_slots (map (slot_at version image v) (range_with_len 0 (slot_count version v)))
 
 abbrev pub NamesAreRead : Type 0
 NamesAreRead =
-    (image : SectorMap) (v : Inode) (names : List (List ℕ × ℕ)) → HasNames image v names
-    → ((k : ℕ) → pointer image v k ≢ 0 → IsSector (image (pointer image v k))) → AreRead image v names
+    (version : Version) (image : SectorMap) (v : Inode) (names : List (List ℕ × ℕ)) → HasNames version image v names
+    → ((k : ℕ) → pointer image v k ≢ 0 → IsSector (image (pointer image v k))) → AreRead version image v names
 
 -- and which stays where the sectors that it owns stay.
 abbrev pub NamesStay : Type 0
-NamesStay = (old new : SectorMap) (v : Inode) (names : List (List ℕ × ℕ)) → Keeps old new v → HasNames old v names → HasNames new v names
+NamesStay =
+    (version : Version) (old new : SectorMap) (v : Inode) (names : List (List ℕ × ℕ))
+    → Keeps old new v → HasNames version old v names → HasNames version new v names
 
 -- A valid ACL has a sector of its own.
 pub record HasSector (a : AccessList) : Type 0 where

@@ -7,7 +7,7 @@ use Rattle.fs_layout.specs.declared.place.Place.{Place}
 use Rattle.fs_layout.specs.Bytes.{SectorMap, IsSector}
 use Rattle.fs_layout.specs.Inode.{inode_of}
 use Rattle.fs_layout.specs.Place.{IsPlace}
-use Rattle.fs_layout.specs.Images.{IsData, HasWholeTables, map_bits, bit, block_bitmap, inode_bitmap, stored, inode_at, Owns}
+use Rattle.fs_layout.specs.Images.{IsData, HasWholeTables, map_bits, bit, stored, inode_at, Owns}
 
 -- an inode of the disk owns s
 pub record IsOwned (p : Place) (image : SectorMap) (s : ℕ) : Type 0 where
@@ -27,9 +27,9 @@ pub record IsConsistent (p : Place) (image : SectorMap) : Type 0 where
   pub sole : (n m s : ℕ) → n < p.inodes → m < p.inodes → (a : Owns image (inode_at p image n) s)
       → (b : Owns image (inode_at p image m) s) → (n ≡ m) × (a.at ≡ b.at)
   pub block_bits : (s : ℕ) → s < map_bits p
-      → IsTrue (bit image block_bitmap s) ↔ ((s < p.first_data) ⊎ ((p.sectors ≤ s) ⊎ IsOwned p image s))
+      → IsTrue (bit image p.block_bitmap s) ↔ ((s < p.first_data) ⊎ ((p.sectors ≤ s) ⊎ IsOwned p image s))
 
 -- alike where a consistent image says something: in its tables, and in the data sectors that are used
 pub record Agrees (p : Place) (old new : SectorMap) : Type 0 where
-  pub tables : (s : ℕ) → inode_bitmap ≤ s → s < p.first_data → new s ≡ old s
-  pub used : (s : ℕ) → IsData p s → IsTrue (bit old block_bitmap s) → new s ≡ old s
+  pub tables : (s : ℕ) → p.inode_bitmap ≤ s → s < p.first_data → new s ≡ old s
+  pub used : (s : ℕ) → IsData p s → IsTrue (bit old p.block_bitmap s) → new s ≡ old s

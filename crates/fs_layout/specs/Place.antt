@@ -1,39 +1,85 @@
 -- Where the parts of a disk begin.
---     laid_out_in, place_in        the layout of a disk, by its version
+--     are_in_range, allows_header        how many sectors, inodes and header sectors a disk may have
+--     laid_out_in, place_in        the layout of a disk, by its version and its header sectors
 --     laid_out, the_place        that of a new disk
+--     super_for, place_for        the superblock of a layout, and the layout that a superblock gives
 --     IsPlace        what each layout has
-use Rattle.std.specs.Prelude.{ℕ, ◌+◌, ◌-◌, ◌*◌, ◌≤◌, Option, Some, None, nat_lt, ◌||◌, if◌then◌else◌}
+use Rattle.std.specs.Prelude.{◌≡◌, ℕ, ◌+◌, ◌-◌, ◌*◌, ◌≤◌, Bool, Option, Some, None, nat_eq, nat_le, nat_lt, not, ◌&&◌, if◌then◌else◌}
 use Rattle.std.specs.Int.{div_ceil}
 use Rattle.fs_layout.specs.declared.place.Place.{Place}
 use Rattle.fs_layout.specs.declared.version.Version.{Version}
-use Rattle.fs_layout.specs.Version.{newest}
-use Rattle.fs_layout.specs.declared.place.TheConstants.{BLOCK_BITMAP, SECTOR_BITS}
+use Rattle.fs_layout.specs.declared.version.Version.TheVariants.{One, Two, Three}
+use Rattle.fs_layout.specs.declared.superblock.Super.{Super}
+use Rattle.fs_layout.specs.Version.{newest, max_sectors, max_inodes}
+use Rattle.fs_layout.specs.declared.header.TheConstants.{MAX_HEADER}
+use Rattle.fs_layout.specs.Header.{log_end, max_delta}
+use Rattle.fs_layout.specs.declared.place.TheConstants.{SECTOR_BITS}
 
--- so many sectors and inodes, one part right after the other: a sector of the block bitmap for each `SECTOR_BITS` sectors,
--- a sector of the inode table for each four inodes, and the data
-abbrev pub laid_out_in : Version → ℕ → ℕ → Place
-laid_out_in version sectors inodes =
-    let table = BLOCK_BITMAP + div_ceil sectors SECTOR_BITS in
-    record { version = version; sectors = sectors; inodes = inodes; table = table; first_data = table + div_ceil inodes 4 }
+-- so many sectors and inodes, one part right after the other behind the log: a sector of the inode bitmap for each `SECTOR_BITS`
+-- inodes, one of the block bitmap for each `SECTOR_BITS` sectors, one of the inode table for each four inodes, and the data
+abbrev pub laid_out_in : Version → ℕ → ℕ → ℕ → Place
+laid_out_in version header sectors inodes =
+    let inode_bitmap = log_end header in
+    let block_bitmap = inode_bitmap + div_ceil inodes SECTOR_BITS in
+    let table = block_bitmap + div_ceil sectors SECTOR_BITS in
+    record {
+      version = version;
+      sectors = sectors;
+      inodes = inodes;
+      header = header;
+      inode_bitmap = inode_bitmap;
+      block_bitmap = block_bitmap;
+      table = table;
+      first_data = table + div_ceil inodes 4;
+    }
 
 abbrev pub laid_out : ℕ → ℕ → Place
-laid_out sectors inodes = laid_out_in newest sectors inodes
+laid_out sectors inodes = laid_out_in newest 0 sectors inodes
+
+-- the numbers of sectors and inodes are in the range of the version
+abbrev pub are_in_range : Version → ℕ → ℕ → Bool
+are_in_range version sectors inodes =
+    (nat_le 1024 sectors && nat_le sectors (max_sectors version)) && (nat_le 16 inodes && nat_le inodes (max_inodes version))
+
+-- A disk of this version may have so many header sectors: in versions 1 and 2 none, and else as many as a log area may have, with
+-- which a call that puts each sector of the bitmaps has room for 47 more.
+unfoldable pub allows_header : Version → ℕ → ℕ → ℕ → Bool
+allows_header One header sectors inodes = nat_eq header 0
+allows_header Two header sectors inodes = nat_eq header 0
+allows_header Three header sectors inodes =
+    (nat_le 1 header && nat_le header MAX_HEADER)
+    && nat_le (div_ceil inodes SECTOR_BITS + div_ceil sectors SECTOR_BITS + 47) (max_delta header)
 
 -- the layout of a disk; None where these numbers are out of range, or leave fewer than 64 data sectors
-unfoldable pub place_in : Version → ℕ → ℕ → Option Place
-place_in version sectors inodes =
-    if nat_lt sectors 1024 || nat_lt 65536 sectors || nat_lt inodes 16 || nat_lt SECTOR_BITS inodes then None else
-    (if nat_lt sectors ((laid_out_in version sectors inodes).first_data + 64) then None else Some (laid_out_in version sectors inodes))
+unfoldable pub place_in : Version → ℕ → ℕ → ℕ → Option Place
+place_in version header sectors inodes =
+    if not (are_in_range version sectors inodes) then None else
+    (if not (allows_header version header sectors inodes) then None else
+    (if nat_lt sectors ((laid_out_in version header sectors inodes).first_data + 64) then None else
+    Some (laid_out_in version header sectors inodes)))
 
 abbrev pub the_place : ℕ → ℕ → Option Place
-the_place sectors inodes = place_in newest sectors inodes
+the_place sectors inodes = place_in newest 0 sectors inodes
 
--- what each layout has: both numbers in range, a bit for each sector, room for each inode, and 64 data sectors
+-- the superblock of a disk of this layout
+abbrev pub super_for : Place → Super
+super_for p = record { version = p.version; sectors = p.sectors; inodes = p.inodes; header = p.header }
+
+-- the layout of a disk with this superblock; None where a disk may not have these numbers
+abbrev pub place_for : Super → Option Place
+place_for v = place_in v.version v.header v.sectors v.inodes
+
+-- what each layout has: the numbers in range, one part behind the other, a bit for each inode and each sector, room for each inode,
+-- and 64 data sectors; and a call may put each sector of the bitmaps, and 47 more
 pub record IsPlace (place : Place) : Type 0 where
   pub least_sectors : 1024 ≤ place.sectors
-  pub most_sectors : place.sectors ≤ 65536
+  pub most_sectors : place.sectors ≤ max_sectors place.version
   pub least_inodes : 16 ≤ place.inodes
-  pub most_inodes : place.inodes ≤ SECTOR_BITS
-  pub bits : place.sectors ≤ SECTOR_BITS * (place.table - BLOCK_BITMAP)
+  pub most_inodes : place.inodes ≤ max_inodes place.version
+  pub header : place.header ≤ MAX_HEADER
+  pub log : place.inode_bitmap ≡ log_end place.header
+  pub inode_bits : place.inodes ≤ SECTOR_BITS * (place.block_bitmap - place.inode_bitmap)
+  pub bits : place.sectors ≤ SECTOR_BITS * (place.table - place.block_bitmap)
   pub slots : place.inodes ≤ 4 * (place.first_data - place.table)
+  pub room : place.table - place.inode_bitmap + 47 ≤ max_delta place.header
   pub data_sectors : place.first_data + 64 ≤ place.sectors

@@ -1,16 +1,16 @@
 //! The commit: sector 1, and the header behind it.
 
-ghost use Rattle.std.specs.Prelude.{◌≡◌, ◌≤◌, ◌<◌, ◌+◌, ◌-◌, ◌*◌, ◌↔◌, ℕ, List, [], length, take, get_or, IfOk, IfSome, IfNone, Ok, IsTrue};
+ghost use Rattle.std.specs.Prelude.{◌≡◌, ◌≤◌, ◌<◌, ◌+◌, ◌-◌, ◌*◌, ◌/◌, ◌%◌, ◌↔◌, ℕ, List, [], length, take, get_or, IfOk, IfSome, IfNone, Ok, IsTrue};
 ghost use Rattle.std.specs.Int.{div_ceil};
 ghost use Rattle.fs_layout.specs.Bytes.{u32_of};
-ghost use Rattle.fs_layout.specs.Commit.{commit_bytes, commit_of, FitsCommit, AreDistinct, AreTargets};
+ghost use Rattle.fs_layout.specs.Commit.{area_in, commit_bytes, commit_bytes_in, commit_of, count_in, FitsCommit, AreDistinct, AreTargets, IsSpelled};
 ghost use Rattle.fs_layout.specs.Header.{max_targets};
 ghost use Rattle.fs_layout.specs.declared.header.TheConstants.{MAX_HEADER};
 
 use crate::bytes::{are_zero, get_u32s, put_u32, put_u32s, put_zeros, u32_at};
 use crate::fault::LayoutFault;
-use crate::header::{MAX_HEADER, max_targets};
-use crate::place::{FIRST_LOG_SECTOR, INODE_BITMAP};
+use crate::header::{MAX_HEADER, log_end, max_targets};
+use crate::place::FIRST_LOG_SECTOR;
 use std::marker::Model;
 
 /// The most targets that the commit sector has. Those past them stand in the header.
@@ -26,7 +26,7 @@ const COMMIT_MAGIC: u32 = 0x4a4f4e49;
 
 /// What a commit says: the sectors that recovery writes, in the order of their contents in the log.
 ///
-/// The content for target `i`, counted from 0, lies behind the header: `i` sectors past [`FIRST_LOG_SECTOR`] and the header's. A
+/// The content for target `i`, counted from 0, lies `i` sectors behind the header of the log area that the commit names. A
 /// commit without targets is idle, another one is sealed. A contract sees a commit as the list of its targets.
 #[derive(Drop)]
 pub struct Commit {
@@ -77,14 +77,15 @@ impl Commit {
         &self.targets[..self.count]
     }
 
-    fn put(&self, to: &mut [u8])
-        requires { length to.old ≡ 512 }
-        ensures { to.new ≡ commit_bytes self.now }
+    fn put(&self, area: u32, to: &mut [u8])
+        requires len { length to.old ≡ 512 }
+        requires area { area ≤ 1 }
+        ensures { to.new ≡ commit_bytes_in area self.now }
     {
         let targets = self.targets();
         let first = first_targets(targets);
         put_u32(to, 0, COMMIT_MAGIC);
-        put_u32(to, 4, targets.len() as u32);
+        put_u32(to, 4, targets.len() as u32 + 0x8000_0000 * area);
         put_u32s(to, 8, first);
         put_zeros(to, 8 + 4 * first.len(), 504 - 4 * first.len());
     }
@@ -127,8 +128,9 @@ impl Commit {
         if max_targets(header) < targets.len() {
             return false;
         }
+        let first = log_end(header);
         for target in targets {
-            if *target < INODE_BITMAP + 129 * header || sectors <= *target {
+            if *target < first || sectors <= *target {
                 return false;
             }
         }
@@ -154,16 +156,37 @@ impl Commit {
         header_bytes(&self.targets[from..from + HEADER_TARGETS])
     }
 
+    /// The log area that the content of a commit sector names.
+    pub fn area_in(from: &[u8; 512]) -> u32
+        ensures value { result ≡ area_in from.now }
+        ensures one { result ≤ 1 }
+    {
+        u32_at(from, 4) / 0x8000_0000
+    }
+
+    /// The content is that of a commit sector with these targets, and it names a log area in which they may be, where the header
+    /// has so many sectors.
+    pub fn is_spelled_by(&self, header: u32, content: &[u8; 512]) -> bool
+        ensures { IsTrue result ↔ IsSpelled header content.now self.now }
+    {
+        let area = Commit::area_in(content);
+        if header < area || self.count < area as usize {
+            return false;
+        }
+        self.to_sector_in(area) == *content
+    }
+
     /// As many targets as a commit sector counts, of which the first are read from it; the others are for
     /// [`Commit::read_header`]. None where a header of so many sectors has no room for them.
     pub fn counted(from: &[u8; 512], header: u32) -> Option<Commit>
         requires { header ≤ MAX_HEADER }
-        ensures count { IfSome result (λ targets. length targets ≡ u32_of from.now 4) }
+        ensures count { IfSome result (λ targets. length targets ≡ count_in from.now) }
         ensures first { IfSome result (λ targets. (i : ℕ) → i < MAX_TARGETS → i < length targets
             → get_or targets i 0 ≡ u32_of from.now (8 + 4 * i)) }
-        ensures none { IfNone result (max_targets header < u32_of from.now 4) }
+        ensures few { IfSome result (λ targets. length targets ≤ max_targets header) }
+        ensures none { IfNone result (max_targets header < count_in from.now) }
     {
-        let count = u32_at(from, 4) as usize;
+        let count = (u32_at(from, 4) % 0x8000_0000) as usize;
         if max_targets(header) < count {
             return None;
         }
@@ -189,7 +212,17 @@ impl Commit {
         requires { at ≡ 0 }
         ensures { to.new ≡ commit_bytes self.now }
     {
-        self.put(&mut to[at..at + 512]);
+        self.put(0, &mut to[at..at + 512]);
+    }
+
+    /// The content of the commit sector of a commit in this log area: the highest bit of the number says which.
+    pub fn to_sector_in(&self, area: u32) -> [u8; 512]
+        requires { area ≤ 1 }
+        ensures { result ≡ commit_bytes_in area self.now }
+    {
+        let mut content = [0; 512];
+        self.put(area, &mut content);
+        content
     }
 
     /// The content of the commit sector.

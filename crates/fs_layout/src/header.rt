@@ -1,39 +1,19 @@
-//! The header of the log: the sectors behind the commit sector that have those targets of a commit which it has no room for.
+//! The header of the log: the first sectors of a log area, which have those targets of a commit that the commit sector has no
+//! room for; and where the areas lie.
 
-ghost use Rattle.std.specs.Prelude.{◌≡◌, ◌≤◌, ℕ};
-ghost use Rattle.fs_layout.specs.Header.{header_in, header_of, max_targets};
+ghost use Rattle.std.specs.Prelude.{◌≡◌, ◌≤◌};
+ghost use Rattle.fs_layout.specs.Header.{area_start, header_of, log_end, max_targets, other_area};
 ghost use Rattle.fs_layout.specs.declared.header.TheConstants.{MAX_HEADER};
 
 use crate::commit::{HEADER_TARGETS, MAX_TARGETS};
-use crate::place::Place;
+use crate::place::FIRST_LOG_SECTOR;
 use crate::superblock::Super;
-use crate::version::Version;
+
+/// The first sector behind the log of a disk without a header: no target of a commit lies before it.
+pub const LEAST_LOG_END: u32 = 128;
 
 /// The most sectors of a header. No version of the layout has more than 0: what is reserved for a commit grows with this.
 pub const MAX_HEADER: u32 = 1;
-
-impl Version {
-    // How many sectors the header of a disk of this version has.
-    fn header(self) -> u32
-        ensures value { (sectors inodes : ℕ) → result ≡ header_in self sectors inodes }
-        ensures most { result ≤ MAX_HEADER }
-    {
-        match self {
-            Version::One => 0,
-            Version::Two => 0,
-        }
-    }
-}
-
-impl Place {
-    /// How many sectors the header of this disk has.
-    pub fn header(self) -> u32
-        ensures value { result ≡ header_in self.version self.sectors self.inodes }
-        ensures most { result ≤ MAX_HEADER }
-    {
-        self.version.header()
-    }
-}
 
 /// The most targets of a commit whose header has so many sectors.
 pub fn max_targets(header: u32) -> usize
@@ -41,6 +21,39 @@ pub fn max_targets(header: u32) -> usize
     ensures { result ≡ max_targets header }
 {
     MAX_TARGETS + HEADER_TARGETS * (header as usize)
+}
+
+/// The first sector behind the log, where the header has so many sectors.
+pub fn log_end(header: u32) -> u32
+    requires { header ≤ MAX_HEADER }
+    ensures { result ≡ log_end header }
+{
+    if header == 0 {
+        return LEAST_LOG_END;
+    }
+    LEAST_LOG_END + 129 * header + 126 + 129 * header
+}
+
+/// The first sector of a log area, where the header has so many sectors.
+pub fn area_start(header: u32, area: u32) -> u32
+    requires { header ≤ MAX_HEADER }
+    ensures { result ≡ area_start header area }
+{
+    if area == 0 || header == 0 {
+        return FIRST_LOG_SECTOR;
+    }
+    FIRST_LOG_SECTOR + 126 + 129 * header
+}
+
+/// The log area for the commit after one in this area: the other one, where there are two.
+pub fn other_area(header: u32, area: u32) -> u32
+    requires { area ≤ 1 }
+    ensures { result ≡ other_area header area }
+{
+    if header == 0 {
+        return 0;
+    }
+    1 - area
 }
 
 /// How many sectors the header of a disk has whose sector 0 has this content.
@@ -52,7 +65,7 @@ pub fn header_of(content: &[u8; 512]) -> u32
     ensures most { result ≤ MAX_HEADER }
 {
     match Super::read_from(content, 0) {
-        Ok(v) => v.version.header(),
-        Err(_) => 0,
+        Ok(v) if v.header <= MAX_HEADER => v.header,
+        _ => 0,
     }
 }

@@ -3,13 +3,13 @@
 ghost use Rattle.std.specs.Prelude.{◌≡◌, ◌≤◌, ◌+◌, ℕ, length, IfOk, Ok};
 ghost use Rattle.fs_layout.specs.Bytes.{SectorMap, splice, window};
 ghost use Rattle.fs_layout.specs.Images.{pointer, number_on, HasPointersAbove, number_in};
-ghost use Rattle.fs_layout.specs.Inode.{inode_bytes, inode_of, inode_fits, kind_number, kind_of, fields_end, IsInode, FitsInode};
+ghost use Rattle.fs_layout.specs.Inode.{inode_bytes, inode_of, older_inode_of, inode_fits, kind_number, kind_of, fields_end, IsInode, FitsInode, FitsOlderInode};
 
 use crate::bytes::{
     are_zero, get_u32s, put_u16, put_u32, put_u32s, put_u64, put_zeros, u16_at, u32_at, u64_at,
 };
 use crate::fault::LayoutFault;
-use crate::slot::{MAX_NAMES, SLOT_SIZE};
+use crate::slot::SLOT_SIZE;
 
 /// The bytes of an inode in the inode table.
 pub const INODE_SIZE: usize = 128;
@@ -35,14 +35,17 @@ pub const DIRECT_SIZE: u64 = 512 * DIRECT_BLOCKS;
 /// The most bytes of a file, in the version that allows most.
 pub const MAX_FILE_SIZE: u64 = 512 * MAX_BLOCKS;
 
-/// The most bytes of a directory: those of [`crate::MAX_NAMES`] slots.
-pub const MAX_DIRECTORY_SIZE: u64 = (MAX_NAMES * SLOT_SIZE) as u64;
+/// The most bytes of a directory, in the version that allows most.
+pub const MAX_DIRECTORY_SIZE: u64 = 8388608;
+
+/// The most bytes of a directory in versions 1 and 2.
+pub const OLDER_DIRECTORY_SIZE: u64 = 71680;
 
 /// The most bytes of a link's target.
 pub const MAX_LINK_SIZE: u64 = 512;
 
-/// The most names of one file or link.
-pub const MAX_INODE_NAMES: u32 = 500;
+/// The most names of one file or link, in the version that allows most.
+pub const MAX_INODE_NAMES: u32 = 65000;
 
 /// The bit of a directory's mode that restricts who removes its names (sticky).
 pub const S_ISVTX: u16 = 0o1000;
@@ -108,7 +111,7 @@ pub struct Inode {
     pub gid: u32,
     /// How many names the inode has in directories; of a directory 1.
     pub names: u32,
-    /// The bytes of a file, at most [`MAX_FILE_SIZE`]; [`SLOT_SIZE`] for each slot of a directory, at most
+    /// The bytes of a file, at most [`MAX_FILE_SIZE`]; those of a directory's slots, a multiple of [`SLOT_SIZE`], at most
     /// [`MAX_DIRECTORY_SIZE`]; the bytes of a link's target, 1 to [`MAX_LINK_SIZE`].
     pub size: u64,
     /// The inode of the directory that a directory lies in, the root's own for the root; else 0.
@@ -208,6 +211,18 @@ impl Inode {
         Ok(inode)
     }
 
+    // As `get` in versions 1 and 2. The size's range comes before the zeros.
+    fn get_older(from: &[u8]) -> Result<Inode, LayoutFault>
+        requires { length from.now ≡ INODE_SIZE }
+        ensures { result ≡ older_inode_of from.now }
+    {
+        let is_directory = u16_at(from, 0) == 2;
+        if is_directory && u64_at(from, 16) > OLDER_DIRECTORY_SIZE {
+            return Err(LayoutFault::BadNumber);
+        }
+        Inode::get(from)
+    }
+
     /// Where the blocks end that the inode can have, by which sectors of pointers it has.
     pub fn block_end(&self) -> u64
         ensures most { result ≤ MAX_BLOCKS }
@@ -263,8 +278,21 @@ impl Inode {
         self.put(&mut to[at..at + INODE_SIZE]);
     }
 
-    /// Reads the [`INODE_SIZE`] bytes from `at` on.
+    /// Reads the [`INODE_SIZE`] bytes from `at` on, of a disk of version 1 or 2.
     pub fn read_from(from: &[u8; 512], at: usize) -> Result<Inode, LayoutFault>
+        requires { at + INODE_SIZE ≤ 512 }
+        // What is read is spelled so.
+        ensures found { IfOk result (λ v. (window from.now at INODE_SIZE ≡ inode_bytes v) × FitsOlderInode v) }
+        // What is spelled so is read.
+        ensures only { (v : Inode) → FitsOlderInode v → window from.now at INODE_SIZE ≡ inode_bytes v → result ≡ Ok v }
+        // Which fault it is.
+        ensures first_fault { result ≡ older_inode_of (window from.now at INODE_SIZE) }
+    {
+        Inode::get_older(&from[at..at + INODE_SIZE])
+    }
+
+    /// Reads the [`INODE_SIZE`] bytes from `at` on, whatever the disk's version: whether it allows the size is not asked.
+    pub fn read_any(from: &[u8; 512], at: usize) -> Result<Inode, LayoutFault>
         requires { at + INODE_SIZE ≤ 512 }
         // What is read is spelled so.
         ensures found { IfOk result (λ v. (window from.now at INODE_SIZE ≡ inode_bytes v) × FitsInode v) }

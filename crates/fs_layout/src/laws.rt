@@ -4,6 +4,7 @@ ghost use Rattle.fs_layout.specs.Bytes.{le16, le32, le64, u16_of, u32_of, u64_of
 ghost use Rattle.std.specs.Prelude.{ℕ};
 ghost use Rattle.std.specs.Ordering.{nat_cmp};
 ghost use Rattle.fs_layout.specs.Maps.{name_cmp};
+ghost use Rattle.fs_layout.specs.declared.version.Version.{Version};
 ghost use Rattle.fs_layout.specs.Laws.{AreNumbersAsBytes, RecoversEach, OneInodeChanges, SavingEnds, RestsOnUsed, SomeConsistent, HaveEntries, SlotsHoldNames, SlotsHaveNames, OneMapOfNames, NamesAreRead, NamesStay, AclsHaveSectors, HoldsOneAcl, ModeTellsTheRest};
 
 /// A number of 16 bits that is read from bytes is written as these bytes, and one that is written is read again.
@@ -56,10 +57,10 @@ pub fn maps_have_entries()
     ensures numbers { HaveEntries ℕ nat_cmp }
 {}
 
-/// A slot is [`crate::SLOT_SIZE`] bytes whatever name of up to [`crate::MAX_NAME`] it has, and the slots of up to
-/// [`crate::MAX_NAMES`] names are at most [`crate::MAX_DIRECTORY_SIZE`] bytes.
+/// In each version a slot has the same bytes whatever name it has ([`crate::Version::slot_size`]), and the slots of as many names
+/// as a directory may have are at most [`crate::Version::max_directory_size`] bytes.
 pub fn names_fit_their_slots()
-    ensures { SlotsHoldNames }
+    ensures { (version : Version) → SlotsHoldNames version }
 {}
 
 /// Slots without a name that stands twice are a map of names with an entry for each slot. A directory has one such map,

@@ -1,10 +1,11 @@
 //! Where the parts of a disk begin.
 
-ghost use Rattle.std.specs.Prelude.{◌≡◌, ◌+◌, ◌*◌, ◌/◌, ◌%◌, ◌<◌, ◌≤◌, ◌^◌, IfSome};
-ghost use Rattle.fs_layout.specs.Place.{place_in, the_place, IsPlace};
+ghost use Rattle.std.specs.Prelude.{IsTrue, ◌≡◌, ◌+◌, ◌*◌, ◌/◌, ◌%◌, ◌<◌, ◌≤◌, ◌^◌, IfSome};
+ghost use Rattle.fs_layout.specs.Place.{allows_header, are_in_range, place_in, the_place, IsPlace};
 ghost use Rattle.fs_layout.specs.Version.{max_file_size};
-ghost use Rattle.fs_layout.specs.declared.inode.TheConstants.{MAX_DIRECTORY_SIZE, MAX_FILE_SIZE};
+ghost use Rattle.fs_layout.specs.declared.inode.TheConstants.{OLDER_DIRECTORY_SIZE, MAX_FILE_SIZE};
 
+use crate::header::{MAX_HEADER, log_end};
 use crate::inode::INODE_SIZE;
 use crate::version::Version;
 
@@ -14,21 +15,13 @@ pub const COMMIT_SECTOR: u32 = 1;
 /// The first log sector: that of the first target of a commit.
 pub const FIRST_LOG_SECTOR: u32 = 2;
 
-/// The sector of the inode bitmap, right behind the log. No sector before it is a commit's target.
-pub const INODE_BITMAP: u32 = 128;
-
-/// The first sector of the block bitmap.
-pub const BLOCK_BITMAP: u32 = 129;
-
 /// The bits that a sector of a bitmap has.
 pub const SECTOR_BITS: u32 = 4096;
 
 /// The inode of the root.
 pub const ROOT: u32 = 1;
 
-/// The layout of a disk: its version, how many sectors and inodes it has, and where the inode table and the data begin.
-///
-/// The inode bitmap is sector [`INODE_BITMAP`] and the block bitmap begins at sector [`BLOCK_BITMAP`], on each disk.
+/// The layout of a disk: its version, how many sectors and inodes it has, and where its parts begin, one right after the other.
 #[derive(Clone, Copy)]
 pub struct Place {
     /// The version of the layout.
@@ -37,6 +30,12 @@ pub struct Place {
     pub sectors: u32,
     /// The number of inodes; inode 0 is never used.
     pub inodes: u32,
+    /// The number of header sectors of a log area; 0 in versions 1 and 2, which have one area without a header.
+    pub header: u32,
+    /// The first sector of the inode bitmap, right behind the log. No sector before it is a commit's target.
+    pub inode_bitmap: u32,
+    /// The first sector of the block bitmap.
+    pub block_bitmap: u32,
     /// The first sector of the inode table.
     pub table: u32,
     /// The first data sector.
@@ -47,7 +46,7 @@ impl Place {
     /// The most bytes of a file on this disk.
     pub fn max_file_size(self) -> u64
         ensures value { result ≡ max_file_size self.version }
-        ensures least { MAX_DIRECTORY_SIZE ≤ result }
+        ensures least { OLDER_DIRECTORY_SIZE ≤ result }
         ensures most { result ≤ MAX_FILE_SIZE }
     {
         self.version.max_file_size()
@@ -75,19 +74,50 @@ pub fn place_of(sectors: u32, inodes: u32) -> Option<Place>
     ensures value { result ≡ the_place sectors inodes }
     ensures room { IfSome result IsPlace }
 {
-    place_in(Version::NEWEST, sectors, inodes)
+    place_in(Version::NEWEST, 0, sectors, inodes)
 }
 
-// The layout in this version of a disk of so many sectors and inodes; None where a disk may not have these numbers.
+// The numbers are in the range of the version.
+fn are_in_range(version: Version, sectors: u32, inodes: u32) -> bool
+    ensures { result ≡ are_in_range version sectors inodes }
+{
+    let sectors_fit = 1024 <= sectors && sectors <= version.max_sectors();
+    let inodes_fit = 16 <= inodes && inodes <= version.max_inodes();
+    sectors_fit && inodes_fit
+}
+
+// A disk of this version, with numbers in range, may have so many header sectors.
+#[tactic(auto, unfolding(crate::specs::Place::allows_header))]
+fn allows_header(version: Version, header: u32, sectors: u32, inodes: u32) -> bool
+    requires { IsTrue (are_in_range version sectors inodes) }
+    ensures { result ≡ allows_header version header sectors inodes }
+{
+    match version {
+        Version::One | Version::Two => header == 0,
+        Version::Three => {
+            let bitmaps = inodes.div_ceil(SECTOR_BITS) + sectors.div_ceil(SECTOR_BITS);
+            let in_range = 1 <= header && header <= MAX_HEADER;
+            in_range && bitmaps + 47 <= 64 + 128 * header
+        }
+    }
+}
+
+// The layout in this version of a disk with so many header sectors, of so many sectors and inodes; None where a disk may not have
+// these numbers.
 #[tactic(auto, unfolding(crate::specs::Place::place_in))]
-pub(crate) fn place_in(version: Version, sectors: u32, inodes: u32) -> Option<Place>
-    ensures value { result ≡ place_in version sectors inodes }
+pub(crate) fn place_in(version: Version, header: u32, sectors: u32, inodes: u32) -> Option<Place>
+    ensures value { result ≡ place_in version header sectors inodes }
     ensures room { IfSome result IsPlace }
 {
-    if sectors < 1024 || 65536 < sectors || inodes < 16 || SECTOR_BITS < inodes {
+    if !are_in_range(version, sectors, inodes) {
         return None;
     }
-    let table = BLOCK_BITMAP + sectors.div_ceil(SECTOR_BITS);
+    if !allows_header(version, header, sectors, inodes) {
+        return None;
+    }
+    let inode_bitmap = log_end(header);
+    let block_bitmap = inode_bitmap + inodes.div_ceil(SECTOR_BITS);
+    let table = block_bitmap + sectors.div_ceil(SECTOR_BITS);
     let first_data = table + inodes.div_ceil(4);
     if sectors < first_data + 64 {
         return None;
@@ -96,6 +126,9 @@ pub(crate) fn place_in(version: Version, sectors: u32, inodes: u32) -> Option<Pl
         version,
         sectors,
         inodes,
+        header,
+        inode_bitmap,
+        block_bitmap,
         table,
         first_data,
     })

@@ -1,21 +1,24 @@
-//! A slot of a directory, 128 bytes.
+//! A slot of a directory, of 128 or 256 bytes by the disk's version.
 
-ghost use Rattle.std.specs.Prelude.{◌≡◌, ◌≤◌, ◌+◌, ◌↔◌, length, IfOk, Ok, IsTrue};
+ghost use Rattle.std.specs.Prelude.{◌≡◌, ◌≤◌, ◌+◌, ◌↔◌, ℕ, length, IfOk, Ok, IsTrue};
 ghost use Rattle.fs_layout.specs.Bytes.{splice, window};
 ghost use Rattle.fs_layout.specs.Directories.{NamedInode, IsName, FitsSlot, slot_bytes, slot_of};
+ghost use Rattle.fs_layout.specs.Version.{max_name, slot_size};
+ghost use Rattle.fs_layout.specs.declared.version.Version.TheVariants.{Two};
 
 use crate::bytes::{are_zero, put_bytes, put_u32, put_zeros, u32_at};
 use crate::fault::LayoutFault;
+use crate::version::Version;
 use std::marker::Model;
 
-/// The bytes of a slot.
+/// The bytes of a slot in versions 1 and 2. In each version a directory shows so many bytes of size for each name.
 pub const SLOT_SIZE: usize = 128;
 
-/// The most bytes that a name has.
-pub const MAX_NAME: usize = 120;
+/// The most bytes of a slot, in the version with the longest names.
+pub const MAX_SLOT_SIZE: usize = 256;
 
-/// The most names that a directory has.
-pub const MAX_NAMES: usize = 560;
+/// The most bytes of a name, in the version with the longest names.
+pub const MAX_NAME: usize = 248;
 
 /// An inode and a name that it has in a directory. A contract sees both by `NamedInode`.
 #[derive(Drop)]
@@ -80,25 +83,26 @@ impl Slot {
         &self.name[..self.length]
     }
 
-    fn put(&self, to: &mut [u8])
-        requires { length to.old ≡ SLOT_SIZE }
-        ensures { to.new ≡ slot_bytes self.now }
+    fn put(&self, version: Version, to: &mut [u8])
+        requires room { length to.old ≡ slot_size version }
+        requires short { length self.now.name ≤ max_name version }
+        ensures { to.new ≡ slot_bytes version self.now }
     {
         let name = self.name();
         put_u32(to, 0, self.inode());
         put_bytes(to, 4, &[name.len() as u8]);
         put_zeros(to, 5, 3);
         put_bytes(to, 8, name);
-        put_zeros(to, 8 + name.len(), MAX_NAME - name.len());
+        put_zeros(to, 8 + name.len(), version.max_name() - name.len());
     }
 
     #[tactic(auto, unfolding(crate::specs::Directories::slot_of))]
-    fn get(from: &[u8]) -> Result<Slot, LayoutFault>
-        requires { length from.now ≡ SLOT_SIZE }
-        ensures { result ≡ slot_of from.now }
+    fn get(version: Version, from: &[u8]) -> Result<Slot, LayoutFault>
+        requires { length from.now ≡ slot_size version }
+        ensures { result ≡ slot_of version from.now }
     {
         let length = from[4] as usize;
-        if MAX_NAME < length {
+        if version.max_name() < length {
             return Err(LayoutFault::BadNumber);
         }
         let name = &from[8..8 + length];
@@ -114,24 +118,48 @@ impl Slot {
         Ok(Slot::new(u32_at(from, 0), name))
     }
 
-    /// Writes the [`SLOT_SIZE`] bytes from `at` on.
-    pub fn write_to(&self, to: &mut [u8; 512], at: usize)
-        requires { at + SLOT_SIZE ≤ 512 }
-        ensures { to.new ≡ splice to.old at (slot_bytes self.now) }
+    /// Writes the bytes of a slot of this version from `at` on.
+    pub fn write_in(&self, version: Version, to: &mut [u8; 512], at: usize)
+        requires room { at + slot_size version ≤ 512 }
+        requires short { length self.now.name ≤ max_name version }
+        ensures { to.new ≡ splice to.old at (slot_bytes version self.now) }
     {
-        self.put(&mut to[at..at + SLOT_SIZE]);
+        self.put(version, &mut to[at..at + version.slot_size()]);
     }
 
-    /// Reads the [`SLOT_SIZE`] bytes from `at` on. Whether there is such an inode is not asked.
+    /// Reads the bytes of a slot of this version from `at` on. Whether there is such an inode is not asked.
+    pub fn read_in(version: Version, from: &[u8; 512], at: usize) -> Result<Slot, LayoutFault>
+        requires { at + slot_size version ≤ 512 }
+        // What is read is spelled so.
+        ensures found { IfOk result (λ v. (window from.now at (slot_size version) ≡ slot_bytes version v) × FitsSlot version v) }
+        // What is spelled so is read.
+        ensures only { (v : NamedInode) → FitsSlot version v → window from.now at (slot_size version) ≡ slot_bytes version v
+            → result ≡ Ok v }
+        // Which fault it is.
+        ensures first_fault { result ≡ slot_of version (window from.now at (slot_size version)) }
+    {
+        Slot::get(version, &from[at..at + version.slot_size()])
+    }
+
+    /// Writes the [`SLOT_SIZE`] bytes of versions 1 and 2 from `at` on.
+    pub fn write_to(&self, to: &mut [u8; 512], at: usize)
+        requires room { at + SLOT_SIZE ≤ 512 }
+        requires short { length self.now.name ≤ max_name Two }
+        ensures { to.new ≡ splice to.old at (slot_bytes Two self.now) }
+    {
+        self.write_in(Version::Two, to, at);
+    }
+
+    /// Reads the [`SLOT_SIZE`] bytes of versions 1 and 2 from `at` on. Whether there is such an inode is not asked.
     pub fn read_from(from: &[u8; 512], at: usize) -> Result<Slot, LayoutFault>
         requires { at + SLOT_SIZE ≤ 512 }
         // What is read is spelled so.
-        ensures found { IfOk result (λ v. (window from.now at SLOT_SIZE ≡ slot_bytes v) × FitsSlot v) }
+        ensures found { IfOk result (λ v. (window from.now at SLOT_SIZE ≡ slot_bytes Two v) × FitsSlot Two v) }
         // What is spelled so is read.
-        ensures only { (v : NamedInode) → FitsSlot v → window from.now at SLOT_SIZE ≡ slot_bytes v → result ≡ Ok v }
+        ensures only { (v : NamedInode) → FitsSlot Two v → window from.now at SLOT_SIZE ≡ slot_bytes Two v → result ≡ Ok v }
         // Which fault it is.
-        ensures first_fault { result ≡ slot_of (window from.now at SLOT_SIZE) }
+        ensures first_fault { result ≡ slot_of Two (window from.now at SLOT_SIZE) }
     {
-        Slot::get(&from[at..at + SLOT_SIZE])
+        Slot::read_in(Version::Two, from, at)
     }
 }

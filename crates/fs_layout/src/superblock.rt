@@ -1,8 +1,8 @@
 //! The superblock, sector 0.
 
-ghost use Rattle.std.specs.Prelude.{◌≡◌, length, IfOk, IfSome, Ok};
-ghost use Rattle.fs_layout.specs.Place.{IsPlace};
-ghost use Rattle.fs_layout.specs.Superblock.{super_bytes, super_of, super_for, place_for, FitsSuper};
+ghost use Rattle.std.specs.Prelude.{◌≡◌, ◌≤◌, length, IfOk, IfSome, Ok};
+ghost use Rattle.fs_layout.specs.Place.{IsPlace, super_for, place_for};
+ghost use Rattle.fs_layout.specs.Superblock.{super_bytes, super_of, numbers_end, FitsSuper};
 
 use crate::bytes::{are_zero, put_u32, put_zeros, u32_at};
 use crate::fault::LayoutFault;
@@ -21,6 +21,21 @@ pub struct Super {
     pub sectors: u32,
     /// The number of inodes; inode 0 is never used.
     pub inodes: u32,
+    /// The number of header sectors of a log area; 0 in versions 1 and 2, whose superblock doesn't have it.
+    pub header: u32,
+}
+
+impl Version {
+    // Where the numbers of a superblock of this version end.
+    fn numbers_end(self) -> usize
+        ensures value { result ≡ numbers_end self }
+        ensures within { result ≤ 512 }
+    {
+        match self {
+            Version::One | Version::Two => 16,
+            Version::Three => 20,
+        }
+    }
 }
 
 impl Super {
@@ -32,6 +47,7 @@ impl Super {
             version: place.version,
             sectors: place.sectors,
             inodes: place.inodes,
+            header: place.header,
         }
     }
 
@@ -40,7 +56,7 @@ impl Super {
         ensures value { result ≡ place_for self }
         ensures room { IfSome result IsPlace }
     {
-        place_in(self.version, self.sectors, self.inodes)
+        place_in(self.version, self.header, self.sectors, self.inodes)
     }
 
     fn put(&self, to: &mut [u8])
@@ -51,7 +67,8 @@ impl Super {
         put_u32(to, 4, self.version.number());
         put_u32(to, 8, self.sectors);
         put_u32(to, 12, self.inodes);
-        put_zeros(to, 16, 496);
+        put_u32(to, 16, self.header);
+        put_zeros(to, 20, 492);
     }
 
     #[tactic(auto, unfolding(crate::specs::Superblock::super_of))]
@@ -65,15 +82,17 @@ impl Super {
         let Some(version) = Version::of_number(u32_at(from, 4)) else {
             return Err(LayoutFault::BadVersion);
         };
-        if !are_zero(&from[16..]) {
+        if !are_zero(&from[version.numbers_end()..]) {
             return Err(LayoutFault::NotZero);
         }
         let sectors = u32_at(from, 8);
         let inodes = u32_at(from, 12);
+        let header = u32_at(from, 16);
         Ok(Super {
             version,
             sectors,
             inodes,
+            header,
         })
     }
 

@@ -10,8 +10,9 @@ use Rattle.fs_layout.specs.declared.inode.Kind.TheVariants as kinds
 use Rattle.fs_layout.specs.declared.place.Place.{Place}
 use Rattle.fs_layout.specs.Bytes.{SectorMap, IsSector, IsBytes, u16_of}
 use Rattle.fs_layout.specs.Inode.{inode_fits, FitsInode}
+use Rattle.fs_layout.specs.Version.{max_name}
 use Rattle.fs_layout.specs.Place.{IsPlace}
-use Rattle.fs_layout.specs.Images.{bit, inode_bitmap, HasWholeTables, stored, inode_at, pointer, Owns, byte_in, byte_at, Holds}
+use Rattle.fs_layout.specs.Images.{inode_map_bits, bit, HasWholeTables, stored, inode_at, pointer, Owns, byte_in, byte_at, Holds}
 use Rattle.fs_layout.specs.Ownership.{IsConsistent}
 use Rattle.fs_model.specs.Limits.{root}
 use Rattle.fs_layout.specs.Maps.{name_cmp, get, IsMap}
@@ -29,7 +30,7 @@ use Rattle.fs_model.proofs.KindFields.{kind_field, inode_fits_at}
 use Rattle.fs_model.proofs.Marks.{marks}
 use Rattle.fs_layout.proofs.ImageSlots.{length-slots_of, slot_there, HasWholeBlocks}
 use Rattle.fs_model.proofs.StoredTrees.{StoresAt, Stores, unnamed, names_there, names_are_slots, used_is, directory_there, directory_stored, below_if, stored_at, directory_slots, no_namings, is_directory_kind-true}
-use Rattle.fs_model.proofs.BuiltNodes.{file_node, link_node, directory_node, whole_blocks, directory_fits, link_fits}
+use Rattle.fs_model.proofs.BuiltNodes.{file_node, link_node, directory_node, whole_blocks, link_fits}
 
 -- what is owned by an inode of kind k, if it is free
 module _ (p : Place) (m : SectorMap) (place : IsPlace p) (sectors : (s : ℕ) → s < p.sectors → IsSector (m s)) (rules : (r : ImageRule) → ObeysEach p m r) where
@@ -55,7 +56,7 @@ module _ (p : Place) (m : SectorMap) (place : IsPlace p) (sectors : (s : ℕ) �
   acls n lt = rules Acls n lt
 
   abbrev Picked : ℕ → Type 0
-  Picked n = (o : Option Node) × StoresAt m (inode_at p m n) o
+  Picked n = (o : Option Node) × StoresAt p.version m (inode_at p m n) o
 
   pick : (n : ℕ) → n < p.inodes → Picked n
   pick n lt = go (inode_at p m n).kind refl
@@ -65,18 +66,18 @@ module _ (p : Place) (m : SectorMap) (place : IsPlace p) (sectors : (s : ℕ) �
 
       go : (k : Kind) → (inode_at p m n).kind ≡ k → Picked n
       go kinds.Free e = (None, (fits n lt).valid.free e)
-      go kinds.File e = let x = file_node m (inode_at p m n) (whole n lt) numbers (out n lt) (acls n lt) e in (Some x.0, x.1)
+      go kinds.File e = let x = file_node m (inode_at p m n) (whole n lt) p.version numbers (out n lt) (acls n lt) e in (Some x.0, x.1)
       go kinds.Directory e =
-          let x = directory_node m (inode_at p m n) (whole n lt) numbers (out n lt) (acls n lt) e
-          (λ k below. (rules Slots n lt e k below).is) (rules NamesApart n lt e) in
+          let x = directory_node m (inode_at p m n) (whole n lt) p.version numbers (out n lt) (acls n lt) e
+          (λ k below. (rules Slots n lt e k below).is) (rules NamesApart n lt e) (good n lt).allowed in
           (Some x.0, x.1)
-      go kinds.Link e = let x = link_node m (inode_at p m n) (whole n lt) numbers (out n lt) (acls n lt) e in (Some x.0, x.1)
+      go kinds.Link e = let x = link_node m (inode_at p m n) (whole n lt) p.version numbers (out n lt) (acls n lt) e in (Some x.0, x.1)
 
   choose : (n : ℕ) → (n < p.inodes) ⊎ (p.inodes ≤ n) → Option Node
   choose n (inl lt) = (pick n lt).0
   choose n (inr ge) = None
 
-  chosen : (n : ℕ) → (c : (n < p.inodes) ⊎ (p.inodes ≤ n)) → n < p.inodes → StoresAt m (inode_at p m n) (choose n c)
+  chosen : (n : ℕ) → (c : (n < p.inodes) ⊎ (p.inodes ≤ n)) → n < p.inodes → StoresAt p.version m (inode_at p m n) (choose n c)
   unfolding choose
   chosen n (inl lt) below = (pick n lt).1
   chosen n (inr ge) below = absurd (omega (arith, ge, below))
@@ -98,7 +99,7 @@ module _ (p : Place) (m : SectorMap) (place : IsPlace p) (sectors : (s : ℕ) �
     numbers = listed-IsMap what 0 p.inodes;
     past = λ n ge. get-past what 0 p.inodes n (omega (arith, ge));
     blocks = blocks;
-    nodes = λ n lt. subst (StoresAt m (inode_at p m n)) (sym (at n lt)) (chosen n (cases_lt n p.inodes) lt);
+    nodes = λ n lt. subst (StoresAt p.version m (inode_at p m n)) (sym (at n lt)) (chosen n (cases_lt n p.inodes) lt);
   }
 
   -- ---- parents
@@ -106,11 +107,11 @@ module _ (p : Place) (m : SectorMap) (place : IsPlace p) (sectors : (s : ℕ) �
   names_counted : (n : ℕ) → names_of tree n ≡ namings p m n
   names_counted n = names_are_slots p m tree stores n
 
-  names_rule : (n : ℕ) → n < p.inodes → HasNameCount (inode_at p m n).kind n (inode_at p m n).names (names_of tree n)
-  names_rule n lt = subst (HasNameCount (inode_at p m n).kind n (inode_at p m n).names) (sym (names_counted n)) (rules Names n lt)
+  names_rule : (n : ℕ) → n < p.inodes → HasNameCount p.version (inode_at p m n).kind n (inode_at p m n).names (names_of tree n)
+  names_rule n lt = subst (HasNameCount p.version (inode_at p m n).kind n (inode_at p m n).names) (sym (names_counted n)) (rules Names n lt)
 
   directory_names : (n : ℕ) → n < p.inodes → (inode_at p m n).kind ≡ kinds.Directory → ((inode_at p m n).names ≡ 1) × (names_of tree n ≡ (cond (n == root) 0 1))
-  directory_names n lt kind = subst (λ k. HasNameCount k n (inode_at p m n).names (names_of tree n)) kind (names_rule n lt)
+  directory_names n lt kind = subst (λ k. HasNameCount p.version k n (inode_at p m n).names (names_of tree n)) kind (names_rule n lt)
 
   at_most_one : (b : Bool) → cond b 0 1 ≤ 1
   at_most_one true = omega arith
@@ -132,12 +133,12 @@ module _ (p : Place) (m : SectorMap) (place : IsPlace p) (sectors : (s : ℕ) �
         sym (parent_is tree v.parent n (omega (arith, here, more)) (omega (arith, one, few)))
   ]
 
-  is_directory_named : (n x : ℕ) → 1 ≤ namings_in m (inode_at p m n) x → (inode_at p m n).kind ≡ kinds.Directory
+  is_directory_named : (n x : ℕ) → 1 ≤ namings_in p.version m (inode_at p m n) x → (inode_at p m n).kind ≡ kinds.Directory
   is_directory_named n x some = go (is_directory_kind (inode_at p m n).kind) refl
     where
       go : (b : Bool) → is_directory_kind (inode_at p m n).kind ≡ b → (inode_at p m n).kind ≡ kinds.Directory
       go true e = is_directory_kind-true (inode_at p m n).kind e
-      go false e = absurd (let none = no_namings m (inode_at p m n) x e in omega (arith, none, some))
+      go false e = absurd (let none = no_namings p.version m (inode_at p m n) x e in omega (arith, none, some))
 
   reaches : {d : ℕ} → GoesUp p m d → d < p.inodes → (inode_at p m d).kind ≡ kinds.Directory → IsUnderRoot tree d
   reaches at_root lt kind = is_root
@@ -176,22 +177,23 @@ module _ (p : Place) (m : SectorMap) (place : IsPlace p) (sectors : (s : ℕ) �
             (out n lt).target h.kind i (omega (arith, below, size)) (h.holds.byte i ∙ get_or_default target i 0 d below ∙ e);
       }
 
-  entry_is : (n : ℕ) → n < p.inodes → {a : _} {d : _} → (h : HoldsDirectory m (inode_at p m n) a d) → (name : List ℕ) (x : ℕ)
-      → get name_cmp (names_of_slots h.names.slots) name ≡ Some x → IsEntry tree name x
+  entry_is : (n : ℕ) → n < p.inodes → {a : _} {d : _} → (h : HoldsDirectory p.version m (inode_at p m n) a d) → (name : List ℕ) (x : ℕ)
+      → get name_cmp (names_of_slots h.names.slots) name ≡ Some x → IsEntry (room_of p) tree name x
   entry_is n lt h name x e =
-      let none = slot_at m (inode_at p m n) 0 in
+      let none = slot_at p.version m (inode_at p m n) 0 in
       let r = named_by h.names.slots none name x e in
-      let same = directory_slots m (inode_at p m n) (blocks n lt) h in
+      let same = directory_slots p.version m (inode_at p m n) (blocks n lt) h in
       let fit = h.names.each r.at none r.below in
-      let below : r.at < slot_count (inode_at p m n) = (let l = r.below in let c = ap length same in omega (arith, l, c, length-slots_of m (inode_at p m n))) in
+      let below : r.at < slot_count p.version (inode_at p m n) = (let l = r.below in let c = ap length same in omega (arith, l, c, length-slots_of p.version m (inode_at p m n))) in
       let slot = rules Slots n lt h.names.kind r.at below in
-      let here : slot_at m (inode_at p m n) r.at ≡ get_or h.names.slots r.at none = sym (slot_there m (inode_at p m n) r.at none below) ∙ ap (λ (q : List NamedInode). get_or q r.at none) (sym same) in
-      let number : (slot_at m (inode_at p m n) r.at).inode ≡ x = ap (λ (s : NamedInode). s.inode) here ∙ r.inode_is in
+      let here : slot_at p.version m (inode_at p m n) r.at ≡ get_or h.names.slots r.at none = sym (slot_there p.version m (inode_at p m n) r.at none below) ∙ ap (λ (q : List NamedInode). get_or q r.at none) (sym same) in
+      let number : (slot_at p.version m (inode_at p m n) r.at).inode ≡ x = ap (λ (s : NamedInode). s.inode) here ∙ r.inode_is in
       let used : is_used (inode_at p m x).kind ≡ true = (
-      subst (λ q. is_used (inode_at p m q).kind ≡ true) number (used_if (inode_at p m (slot_at m (inode_at p m n) r.at).inode).kind slot.used)) in
+      subst (λ q. is_used (inode_at p m q).kind ≡ true) number (used_if (inode_at p m (slot_at p.version m (inode_at p m n) r.at).inode).kind slot.used)) in
       let few : x < p.inodes = subst (λ q. q < p.inodes) number slot.below in
       record {
         is_name = subst IsName r.name_is fit.name;
+        short = subst (λ q. length q ≤ max_name p.version) r.name_is fit.short;
         bytes = subst IsBytes r.name_is fit.bytes;
         leads = ((λ z. slot.not_root (number ∙ z)), used_is p m tree stores x few ∙ used);
       }
@@ -202,18 +204,17 @@ module _ (p : Place) (m : SectorMap) (place : IsPlace p) (sectors : (s : ℕ) �
       used_if kinds.Directory ne = refl
       used_if kinds.Link ne = refl
 
-  directory_is : (n : ℕ) → n < p.inodes → {a : _} {d : Directory} → (h : HoldsDirectory m (inode_at p m n) a d) → IsDirectory tree d
+  directory_is : (n : ℕ) → n < p.inodes → {a : _} {d : Directory} → (h : HoldsDirectory p.version m (inode_at p m n) a d) → IsDirectory (room_of p) tree d
   directory_is n lt {d = d} h =
-      let numbers = directory_fits (inode_at p m n) h.names.kind (fits n lt).valid.numbers in
-      let same = ap length (directory_slots m (inode_at p m n) (blocks n lt) h) in
       let count = ap length h.names.are in
+      let most = h.names.few in
       record {
         names = subst (IsMap name_cmp) (sym h.names.are) (names-IsMap h.names.slots);
-        few = omega (arith, numbers.1, same, count, length-names h.names.slots h.names.apart, length-slots_of m (inode_at p m n));
+        few = omega (arith, most, count, length-names h.names.slots h.names.apart);
         each = λ name x e. entry_is n lt h name x (ap (λ q. get name_cmp q name) (sym h.names.are) ∙ e);
       }
 
-  body_is : (n : ℕ) → n < p.inodes → (b : Body) → HoldsBody m (inode_at p m n) b → IsBody (room_of p) tree b
+  body_is : (n : ℕ) → n < p.inodes → (b : Body) → HoldsBody p.version m (inode_at p m n) b → IsBody (room_of p) tree b
   body_is n lt (File a bytes) h =
       let size = h.holds.size in
       let few = (good n lt).allowed.size h.kind in
@@ -221,22 +222,22 @@ module _ (p : Place) (m : SectorMap) (place : IsPlace p) (sectors : (s : ℕ) �
   body_is n lt (Dir a d) h = (h.acl, h.default, directory_is n lt h)
   body_is n lt (Link target) h = target_is n lt target h
 
-  names_fit : (n : ℕ) → n < p.inodes → (b : Body) → HoldsBody m (inode_at p m n) b → NamesFit n b (names_of tree n)
-  names_fit n lt (File a bytes) h = (subst (λ k. HasNameCount k n (inode_at p m n).names (names_of tree n)) h.kind (names_rule n lt)).1
-  names_fit n lt (Dir a d) h = (subst (λ k. HasNameCount k n (inode_at p m n).names (names_of tree n)) h.names.kind (names_rule n lt)).1
-  names_fit n lt (Link target) h = let x = subst (λ k. HasNameCount k n (inode_at p m n).names (names_of tree n)) h.kind (names_rule n lt) in (x.1, x.2)
+  names_fit : (n : ℕ) → n < p.inodes → (b : Body) → HoldsBody p.version m (inode_at p m n) b → NamesFit (room_of p) n b (names_of tree n)
+  names_fit n lt (File a bytes) h = (subst (λ k. HasNameCount p.version k n (inode_at p m n).names (names_of tree n)) h.kind (names_rule n lt)).1
+  names_fit n lt (Dir a d) h = (subst (λ k. HasNameCount p.version k n (inode_at p m n).names (names_of tree n)) h.names.kind (names_rule n lt)).1
+  names_fit n lt (Link target) h = let x = subst (λ k. HasNameCount p.version k n (inode_at p m n).names (names_of tree n)) h.kind (names_rule n lt) in (x.1, x.2)
 
-  names_said : (n : ℕ) → n < p.inodes → (b : Body) → HoldsBody m (inode_at p m n) b → (inode_at p m n).names ≡ names_field b (names_of tree n)
-  names_said n lt (File a bytes) h = (subst (λ k. HasNameCount k n (inode_at p m n).names (names_of tree n)) h.kind (names_rule n lt)).0
-  names_said n lt (Dir a d) h = (subst (λ k. HasNameCount k n (inode_at p m n).names (names_of tree n)) h.names.kind (names_rule n lt)).0
-  names_said n lt (Link target) h = (subst (λ k. HasNameCount k n (inode_at p m n).names (names_of tree n)) h.kind (names_rule n lt)).0
+  names_said : (n : ℕ) → n < p.inodes → (b : Body) → HoldsBody p.version m (inode_at p m n) b → (inode_at p m n).names ≡ names_field b (names_of tree n)
+  names_said n lt (File a bytes) h = (subst (λ k. HasNameCount p.version k n (inode_at p m n).names (names_of tree n)) h.kind (names_rule n lt)).0
+  names_said n lt (Dir a d) h = (subst (λ k. HasNameCount p.version k n (inode_at p m n).names (names_of tree n)) h.names.kind (names_rule n lt)).0
+  names_said n lt (Link target) h = (subst (λ k. HasNameCount p.version k n (inode_at p m n).names (names_of tree n)) h.kind (names_rule n lt)).0
 
-  parent_said : (n : ℕ) → n < p.inodes → (b : Body) → HoldsBody m (inode_at p m n) b → (inode_at p m n).parent ≡ parent_field b (parent tree n)
+  parent_said : (n : ℕ) → n < p.inodes → (b : Body) → HoldsBody p.version m (inode_at p m n) b → (inode_at p m n).parent ≡ parent_field b (parent tree n)
   parent_said n lt (File a bytes) h = (rules Parents n lt).none (λ e. let c : kinds.File ≡ kinds.Directory = sym h.kind ∙ e in cc)
   parent_said n lt (Dir a d) h = parent_field_is n lt h.names.kind
   parent_said n lt (Link target) h = (rules Parents n lt).none (λ e. let c : kinds.Link ≡ kinds.Directory = sym h.kind ∙ e in cc)
 
-  node_held : (n : ℕ) → n < p.inodes → (o : Option Node) → StoresAt m (inode_at p m n) o
+  node_held : (n : ℕ) → n < p.inodes → (o : Option Node) → StoresAt p.version m (inode_at p m n) o
       → HoldsPlaced p m n (option_map (λ node. record { node = node; names = names_of tree n; parent = parent tree n }) o)
   node_held n lt None h = h
   node_held n lt (Some node) h = record {
@@ -306,7 +307,7 @@ module _ (p : Place) (m : SectorMap) (place : IsPlace p) (sectors : (s : ℕ) �
       go None = refl
       go (Some node) = refl
 
-  inode_bit : (n : ℕ) → n < 4096 → bit m inode_bitmap n ≡ (nat_eq n 0 || nat_le p.inodes n || is_some (placed tree n))
+  inode_bit : (n : ℕ) → n < inode_map_bits p → bit m p.inode_bitmap n ≡ (nat_eq n 0 || nat_le p.inodes n || is_some (placed tree n))
   inode_bit n small = elim (cases_lt n p.inodes) [
     | inl lt ↦
         let used : is_some (placed tree n) ≡ not (nat_eq (u16_of (stored p m n) 0) 0) =

@@ -12,7 +12,7 @@ use Rattle.fs_model.specs.declared.event.Event.{Event}
 use Rattle.fs_model.specs.declared.event.Event.TheVariants.{Spawn, Exit, Call as Calls, Enter, Fsync, Sync, Statfs, Arm, Restart}
 use Rattle.fs_model.specs.declared.reply.Reply.{Reply}
 use Rattle.fs_model.specs.Nodes.{Node, names_in}
-use Rattle.fs_model.specs.Trees.{Tree, node_at, with_node, names_of}
+use Rattle.fs_model.specs.Trees.{Tree, Room, node_at, with_node, names_of}
 use Rattle.fs_model.specs.Processes.{Process, Desks}
 use Rattle.fs_model.specs.TreeChanges.{Make, changed, swept}
 use Rattle.fs_model.specs.States.{State, IsState, MayBeFree}
@@ -36,7 +36,8 @@ use Rattle.fs_model.proofs.Swept.{stays, kept, get-filter, at-swept, named_stays
 
 -- ---- a node is made, and named
 
-module _ (t : Tree) (numbers : IsMap nat_cmp t) (dir : ℕ) (name : List ℕ) (is : IsNameAt t dir name None) (n : ℕ) (node : Node) (new : node_at t n ≡ None) where
+module _ {room : Room} (t : Tree) (numbers : IsMap nat_cmp t) (dir : ℕ) (name : List ℕ) (is : IsNameAt room t dir name None)
+    (n : ℕ) (node : Node) (new : node_at t n ≡ None) where
   abbrev w : Tree
   w = with_node t n node
 
@@ -91,7 +92,8 @@ some_kept : (keeps : ℕ × Node → Bool) (m : ℕ) (o : Option Node) → is_so
 some_kept keeps m None h = h
 some_kept keeps m (Some node) h = refl
 
-made_stays : (s : State) (desks : Desks) (dir : ℕ) (name : List ℕ) (n : ℕ) (node : Node) → IsState s → IsNameAt s.tree dir name None → node_at s.tree n ≡ None
+made_stays : (s : State) (desks : Desks) (dir : ℕ) (name : List ℕ) (n : ℕ) (node : Node) → IsState s → IsNameAt s.room s.tree dir name None
+    → node_at s.tree n ≡ None
     → MayBeLeft s.room (changed s.tree (Make dir name n node)) desks → Made s.tree (swept (changed s.tree (Make dir name n node)) desks) n
 made_stays s desks dir name n node is at new left =
     let made = changed s.tree (Make dir name n node) in

@@ -55,7 +55,7 @@ use Rattle.fs_model.proofs.ConfinedSteps.{Confines}
 abbrev pub UsesNumber : Scene → (ℕ → Effect) → Type 0
 UsesNumber c effect =
     ((n m : ℕ) → effect n ≡ effect m)
-    ⊎ (IsNameAt c.state.tree c.first.dir c.first.name None × ((node : Node) × ((n : ℕ) → (effect n).change ≡ Make c.first.dir c.first.name n node)))
+    ⊎ (IsNameAt c.state.room c.state.tree c.first.dir c.first.name None × ((node : Node) × ((n : ℕ) → (effect n).change ≡ Make c.first.dir c.first.name n node)))
 
 module _ (c : Scene) where
   abbrev open_as : Flags → ℕ → Option ℕ → ℕ → Effect
@@ -67,7 +67,7 @@ module _ (c : Scene) where
     reply = Fd (least_unused 0 c.process.descriptors);
   }
 
-  open_uses : (flags : Flags) (mode : ℕ) (form : Form) → IsWalked c.state.tree form c.first → (o : Option ℕ) → c.first.ino ≡ o
+  open_uses : (flags : Flags) (mode : ℕ) (form : Form) → IsWalked c.state.room c.state.tree form c.first → (o : Option ℕ) → c.first.ino ≡ o
       → UsesNumber c (open_as flags mode c.first.ino)
   open_uses flags mode form walked None e =
       inr (walked.new e, (born_file c.process.cred c.process.umask mode (dir_node c c.first), λ n. ap (λ o. (open_as flags mode o n).change) e))

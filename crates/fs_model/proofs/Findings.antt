@@ -89,7 +89,7 @@ module _ (p : Place) (m : SectorMap) where
 same_place : (sectors : ℕ) (image : SectorMap) (p q : Place) → IsPlaceOf sectors image p → IsPlaceOf sectors image q → p ≡ q
 same_place sectors image p q x y =
     let super : x.super ≡ y.super = same_ok x.super y.super (super_of (image 0)) x.super_is y.super_is in
-    let place : Some p ≡ Some q = sym x.has_place ∙ ap (λ (s : Super). place_in s.version sectors s.inodes) super ∙ y.has_place in
+    let place : Some p ≡ Some q = sym x.has_place ∙ ap (λ (s : Super). place_in s.version s.header sectors s.inodes) super ∙ y.has_place in
     cc
 
 least_is_one : (p : Place) (m : SectorMap) (r : ImageRule) (i j : ℕ) → IsLeastFailure p m r i → IsLeastFailure p m r j → i ≡ j

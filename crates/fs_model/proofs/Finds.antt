@@ -85,15 +85,16 @@ module _ (room : Room) (t : Tree) (is : IsTree room t) where
   arrival_reached false follow None h = tt
   arrival_reached is_last follow (Some n) h = node_reached (follow || not is_last) n (node_at t n) (h n refl)
 
-  pub lookup_reached : (is_last follow : Bool) (dir : ℕ) (name : List ℕ) (o : Option Node) → node_at t dir ≡ o → Reached (looked_up t is_last follow dir name o)
-  lookup_reached is_last follow dir name o at = looked_up_is Reached t is_last follow dir name o tt tt (λ node e.
+  pub lookup_reached : (is_last follow : Bool) (dir : ℕ) (name : List ℕ) (o : Option Node) → node_at t dir ≡ o
+      → Reached (looked_up room t is_last follow dir name o)
+  lookup_reached is_last follow dir name o at = looked_up_is Reached room t is_last follow dir name o tt tt (λ node e.
       arrival_reached is_last follow (named_inode t dir (names_in node.body) name) (λ n f. number_there dir node name n (at ∙ e) f))
 
   -- what the trail found is there
-  pub finds_are_there : (cwd : ℕ) (form : Form) (path : List ℕ) → IsThere t cwd → (n : ℕ) → (trail_of t cwd form path).found ≡ Some n → IsThere t n
+  pub finds_are_there : (cwd : ℕ) (form : Form) (path : List ℕ) → IsThere t cwd → (n : ℕ) → (trail_of room t cwd form path).found ≡ Some n → IsThere t n
   unfolding trail_of
   finds_are_there cwd form path there =
       let parts = parts_of path in
       let follow = follows_last form parts in
-      finds_such t (IsThere t) start_there follow (λ is_last dir name at. lookup_reached is_last follow dir name (node_at t dir) refl) links_limit
+      finds_such room t (IsThere t) start_there follow (λ is_last dir name at. lookup_reached is_last follow dir name (node_at t dir) refl) links_limit
       (start_of parts cwd) parts.names parts.slash_at_end (start_there parts cwd there)

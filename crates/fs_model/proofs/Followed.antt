@@ -55,13 +55,13 @@ module _ (room : Room) (t : Tree) (is : IsTree room t) where
   arrival_reached false None = tt
   arrival_reached is_last (Some n) = node_reached n (node_at t n) refl
 
-  lookup_reached : (is_last : Bool) (dir : ℕ) (name : List ℕ) (o : Option Node) → Reached (looked_up t is_last true dir name o)
+  lookup_reached : (is_last : Bool) (dir : ℕ) (name : List ℕ) (o : Option Node) → Reached (looked_up room t is_last true dir name o)
   lookup_reached is_last dir name o =
-      looked_up_is Reached t is_last true dir name o tt tt (λ node e. arrival_reached is_last (named_inode t dir (names_in node.body) name))
+      looked_up_is Reached room t is_last true dir name o tt tt (λ node e. arrival_reached is_last (named_inode t dir (names_in node.body) name))
 
-  pub followed_no_link : (cwd : ℕ) (path : List ℕ) → IsDirectoryAt t cwd → (n : ℕ) → (trail_of t cwd Follow path).found ≡ Some n → NoLink t n
+  pub followed_no_link : (cwd : ℕ) (path : List ℕ) → IsDirectoryAt t cwd → (n : ℕ) → (trail_of room t cwd Follow path).found ≡ Some n → NoLink t n
   unfolding trail_of
   followed_no_link cwd path d =
       let parts = parts_of path in
-      finds_such t (NoLink t) start_no_link true (λ is_last dir name at. lookup_reached is_last dir name (node_at t dir)) links_limit
+      finds_such room t (NoLink t) start_no_link true (λ is_last dir name at. lookup_reached is_last dir name (node_at t dir)) links_limit
       (start_of parts cwd) parts.names parts.slash_at_end (start_no_link parts cwd (directory_no_link t cwd d))

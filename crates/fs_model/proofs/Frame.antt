@@ -1,5 +1,5 @@
 -- One inode changes, and all others hold what they held.
-use Rattle.std.specs.Prelude.{◌≡◌, ◌≢◌, ℕ, ◌+◌, ◌/◌, ◌<◌, nat_eq, nat_le, ◌||◌, Option, Some, is_some, cond}
+use Rattle.std.specs.Prelude.{◌≡◌, ◌≢◌, ℕ, ◌<◌, nat_eq, nat_le, ◌||◌, Option, Some, is_some, cond}
 use Rattle.std.proofs.Common.{refl, sym, ap, ◌∙◌, subst, inl, inr, arith}
 use Rattle.std.proofs.lemmas.Bool.{cases_eq}
 use Rattle.std.specs.Option.{option_map}
@@ -8,11 +8,10 @@ use Rattle.fs_layout.specs.declared.inode.Inode.{Inode}
 use Rattle.fs_layout.specs.declared.place.Place.{Place}
 use Rattle.fs_layout.specs.Bytes.{SectorMap}
 use Rattle.fs_layout.specs.Inode.{FitsInode}
-use Rattle.fs_layout.specs.Images.{bit, inode_bitmap, inode_at}
+use Rattle.fs_layout.specs.Images.{inode_map_bits, bit, inode_at}
 use Rattle.fs_layout.specs.Ownership.{Agrees}
 use Rattle.fs_layout.specs.InodeChanges.{ChangesBlocks, ChangesInode, Saves}
-use Rattle.fs_layout.proofs.Bits.{bit_kept}
-use Rattle.fs_layout.proofs.Agree.{agree_consistent, agree_inode, agree_keeps}
+use Rattle.fs_layout.proofs.Agree.{agree_consistent, agree_inode, agree_inode_bit, agree_keeps}
 use Rattle.fs_layout.proofs.Consistent.{stays_consistent, other_inode, other_keeps, saved_stays_consistent}
 use Rattle.fs_layout.specs.Maps.{IsMap}
 use Rattle.fs_model.specs.Nodes.{Node, names_in}
@@ -32,10 +31,10 @@ one_node_changes p n old new what then h c is = record {
   nodes = λ m lm. elim (cases_eq m n) [
     | inl e ↦ subst (λ k. HoldsPlaced p new k (then k)) (sym e) is.here
     | inr ne ↦ subst (HoldsPlaced p new m) (sym (is.others m ne))
-        (placed_kept (what m) old new (inode_at p old m) (inode_at p new m) (other_inode h.consistent is.below c m lm ne) (other_keeps h.consistent is.below c m lm ne) (h.nodes m lm))
+        (placed_kept p.version (what m) old new (inode_at p old m) (inode_at p new m) (other_inode h.consistent is.below c m lm ne) (other_keeps h.consistent is.below c m lm ne) (h.nodes m lm))
   ];
   inode_bits = λ m few. elim (cases_eq m n) [
-    | inl e ↦ subst (λ k. bit new inode_bitmap k ≡ (nat_eq k 0 || nat_le p.inodes k || is_some (then k))) (sym e) is.marked
+    | inl e ↦ subst (λ k. bit new p.inode_bitmap k ≡ (nat_eq k 0 || nat_le p.inodes k || is_some (then k))) (sym e) is.marked
     | inr ne ↦ c.inode_bits m few ne ∙ h.inode_bits m few ∙ ap (λ o. nat_eq m 0 || nat_le p.inodes m || is_some o) (sym (is.others m ne))
   ];
 }
@@ -44,20 +43,19 @@ one_node_changes p n old new what then h c is = record {
 pub agreed : (p : Place) (old new : SectorMap) (what : ℕ → Option Placed) → HoldsAll p old what → Agrees p old new → HoldsAll p new what
 agreed p old new what h same = record {
   consistent = agree_consistent h.consistent same;
-  nodes = λ n lt. placed_kept (what n) old new (inode_at p old n) (inode_at p new n) (agree_inode h.consistent same n lt) (agree_keeps h.consistent same n lt) (h.nodes n lt);
-  inode_bits = λ n few.
-      bit_kept old new inode_bitmap n (same.tables (inode_bitmap + n / 4096) (omega arith) (let a = h.consistent.place.bits in let b = h.consistent.place.least_sectors in let c = h.consistent.place.slots in let d = h.consistent.place.least_inodes in omega (arith, few, a, b, c, d)))
-      ∙ h.inode_bits n few;
+  nodes = λ n lt. placed_kept p.version (what n) old new (inode_at p old n) (inode_at p new n) (agree_inode h.consistent same n lt) (agree_keeps h.consistent same n lt) (h.nodes n lt);
+  inode_bits = λ n few. agree_inode_bit h.consistent same n few ∙ h.inode_bits n few;
 }
 
 -- Inode n changes its blocks, is saved as w, and holds node y then, where it held a node before: all else stands.
 pub saved_node : (p : Place) (n : ℕ) (old mid new : SectorMap) (what then : ℕ → Option Placed) (w : Inode) (x y : Placed)
     → HoldsAll p old what → n < p.inodes → what n ≡ Some x → then n ≡ Some y → ((m : ℕ) → m ≢ n → then m ≡ what m)
-    → ChangesBlocks p (inode_at p old n) w old mid → HoldsNode mid w y → FitsInode w → Saves p n w mid new → HoldsAll p new then
+    → ChangesBlocks p (inode_at p old n) w old mid → HoldsNode p.version mid w y → FitsInode w → Saves p n w mid new → HoldsAll p new then
 saved_node p n old mid new what then w x y h lt was now others blocks holds fits saves =
     let saved = (saved_stays_consistent h.consistent lt refl fits blocks saves).1 in
-    let here : HoldsNode new (inode_at p new n) y = subst (λ u. HoldsNode new u y) (sym saved.is) (node_kept mid new w y saved.keeps holds) in
-    let few : n < 4096 = let most = h.consistent.place.most_inodes in omega (arith, lt, most) in
+    let here : HoldsNode p.version new (inode_at p new n) y =
+    subst (λ u. HoldsNode p.version new u y) (sym saved.is) (node_kept p.version mid new w y saved.keeps holds) in
+    let few : n < inode_map_bits p = let bits = h.consistent.place.inode_bits in omega (arith, lt, bits) in
     let both : is_some (what n) ≡ is_some (then n) = ap is_some was ∙ sym (ap is_some now) in
     one_node_changes p n old new what then h saved.changes (record {
       below = lt;

@@ -7,7 +7,7 @@ use Rattle.std.proofs.lemmas.Bool.{ne_eqb}
 use Rattle.std.proofs.lemmas.Bool.Decides.{nat_tests}
 use Rattle.fs_layout.specs.declared.place.Place.{Place}
 use Rattle.fs_layout.specs.Bytes.{SectorMap}
-use Rattle.fs_layout.specs.Images.{bit, inode_bitmap}
+use Rattle.fs_layout.specs.Images.{inode_map_bits, bit}
 use Rattle.fs_model.specs.Nodes.{Node}
 use Rattle.fs_model.specs.Trees.{Tree, node_at, names_of, parent, free_inodes, IsTree}
 use Rattle.fs_model.specs.Stands.{HoldsAll, placed, room_of}
@@ -39,12 +39,12 @@ module _ (p : Place) (image : SectorMap) (t : Tree) (held : HoldsAll p image (pl
   used n = is_some (node_at t n)
 
   clear : ℕ → Bool
-  clear n = not (bit image inode_bitmap n)
+  clear n = not (bit image p.inode_bitmap n)
 
-  few : (n : ℕ) → n < p.inodes → n < 4096
-  few n lt = let most = held.consistent.place.most_inodes in omega (arith, lt, most)
+  few : (n : ℕ) → n < p.inodes → n < inode_map_bits p
+  few n lt = let bits = held.consistent.place.inode_bits in omega (arith, lt, bits)
 
-  bit_is : (n : ℕ) → n < p.inodes → bit image inode_bitmap n ≡ (nat_eq n 0 || nat_le p.inodes n || used n)
+  bit_is : (n : ℕ) → n < p.inodes → bit image p.inode_bitmap n ≡ (nat_eq n 0 || nat_le p.inodes n || used n)
   unfolding used
   bit_is n lt =
       held.inode_bits n (few n lt)
@@ -89,6 +89,6 @@ module _ (p : Place) (image : SectorMap) (t : Tree) (held : HoldsAll p image (pl
       let no_use : one_if (used 0) ≡ 0 = ap one_if zero_unused in
       omega (arith, tail, clears, uses, no_clear, no_use, inodes)
 
-  pub free_are_clear : free_inodes (room_of p) t ≡ count_by (λ n. not (bit image inode_bitmap n)) (range_with_len 0 p.inodes)
+  pub free_are_clear : free_inodes (room_of p) t ≡ count_by (λ n. not (bit image p.inode_bitmap n)) (range_with_len 0 p.inodes)
   unfolding clear
   free_are_clear = let least = held.consistent.place.least_inodes in all_but_zero (p.inodes - 1) (omega (arith, least))

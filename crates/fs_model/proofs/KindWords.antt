@@ -2,6 +2,7 @@
 use Rattle.std.specs.Prelude.{◌≡◌, Some, option_map}
 use Rattle.std.proofs.Common.{refl}
 use Rattle.fs_layout.specs.declared.inode.Inode.{Inode}
+use Rattle.fs_layout.specs.declared.version.Version.{Version}
 use Rattle.fs_layout.specs.Bytes.{SectorMap}
 use Rattle.fs_model.specs.declared.reply.FileType.{FileType}
 use Rattle.fs_model.specs.declared.reply.FileType.TheVariants as types
@@ -14,10 +15,11 @@ types_come_back types.File = refl
 types_come_back types.Directory = refl
 types_come_back types.Link = refl
 
-pub stored_kinds_agree : (image : SectorMap) (v : Inode) (x : Placed) → HoldsNode image v x → v.kind ≡ kind_of_type (type_of x.node.body)
-stored_kinds_agree image v x holds = go x.node.body holds.body
+pub stored_kinds_agree : (version : Version) (image : SectorMap) (v : Inode) (x : Placed) → HoldsNode version image v x
+    → v.kind ≡ kind_of_type (type_of x.node.body)
+stored_kinds_agree version image v x holds = go x.node.body holds.body
   where
-    go : (b : Body) → HoldsBody image v b → v.kind ≡ kind_of_type (type_of b)
+    go : (b : Body) → HoldsBody version image v b → v.kind ≡ kind_of_type (type_of b)
     go (File a bytes) h = h.kind
     go (Dir a d) h = h.names.kind
     go (Link target) h = h.kind

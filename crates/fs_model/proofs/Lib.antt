@@ -92,3 +92,4 @@ pub mod VeiledDemands
 pub mod VeiledRefusals
 pub mod VeiledScenes
 pub mod Veils
+pub mod VersionLimits

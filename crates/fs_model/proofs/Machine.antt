@@ -30,11 +30,11 @@ use Rattle.fs_model.specs.Walks.{first_refusal, found_of}
 use Rattle.fs_model.specs.Rows.{row_of}
 use Rattle.fs_model.specs.Steps.{Choice, firm_refusal, other_refusal, after, state_after}
 use Rattle.fs_layout.specs.declared.version.Version.TheVariants.{One}
-use Rattle.fs_layout.specs.Version.{max_file_size}
+use Rattle.fs_model.specs.Stands.{room_with}
 
 abbrev pub fresh : State
 fresh = record {
-  room = record { inodes = 64; sectors = 878; file_limit = max_file_size One };
+  room = room_with One 64 878;
   tree = empty_tree;
   desks = [];
   free = 878;
@@ -45,7 +45,7 @@ abbrev pub least_choice : State → Choice
 least_choice s = record { number = least_unused 1 s.tree; pid = least_unused 1 s.desks; free = 0 }
 
 abbrev pub filled : State → State
-filled s = record s { free = s.room.sectors - sectors_needed s.tree }
+filled s = record s { free = s.room.sectors - sectors_needed s.room s.tree }
 
 abbrev pub went : State → Event → Demand → Demand → Reply × State
 went s e (Some r) _ = (Refused r, s)

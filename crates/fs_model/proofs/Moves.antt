@@ -4,8 +4,8 @@ use Rattle.fs_model.specs.Nodes.{Body, File, Dir, Link}
 use Rattle.fs_model.specs.Trees.{Tree, Room, IsEntry, IsBody}
 use Rattle.fs_model.proofs.Finds.{IsThere}
 
-pub entry_moves : (t u : Tree) (name : List ℕ) (n : ℕ) → (IsThere t n → IsThere u n) → IsEntry t name n → IsEntry u name n
-entry_moves t u name n still is = record { is_name = is.is_name; bytes = is.bytes; leads = (is.leads.0, still is.leads.1) }
+pub entry_moves : (room : Room) (t u : Tree) (name : List ℕ) (n : ℕ) → (IsThere t n → IsThere u n) → IsEntry room t name n → IsEntry room u name n
+entry_moves room t u name n still is = record { is_name = is.is_name; short = is.short; bytes = is.bytes; leads = (is.leads.0, still is.leads.1) }
 
 pub body_moves : (room : Room) (t u : Tree) (b : Body) → ((n : ℕ) → IsThere t n → IsThere u n) → IsBody room t b → IsBody room u b
 body_moves room t u (File a bytes) still is = is
@@ -15,7 +15,7 @@ body_moves room t u (Dir a d) still is = (
   record {
     names = is.2.names;
     few = is.2.few;
-    each = λ name n e. entry_moves t u name n (still n) (is.2.each name n e);
+    each = λ name n e. entry_moves room t u name n (still n) (is.2.each name n e);
   },
 )
 body_moves room t u (Link target) still is = is

@@ -9,17 +9,16 @@ use Rattle.posix_acl.proofs.Laws.{minimal_valid}
 use Rattle.fs_layout.specs.declared.place.Place.{Place}
 use Rattle.fs_layout.specs.Bytes.{SectorMap}
 use Rattle.fs_layout.specs.Inode.{FitsInode, free_inode, inode_of}
-use Rattle.fs_layout.specs.Version.{newest}
-use Rattle.fs_layout.specs.Place.{IsPlace, place_in}
-use Rattle.fs_layout.specs.Superblock.{super_for}
+use Rattle.fs_layout.specs.Version.{newest, version_number, version_of}
+use Rattle.fs_layout.specs.Place.{IsPlace, place_in, laid_out, super_for}
 use Rattle.std.specs.Option.{option_map}
-use Rattle.fs_layout.specs.Images.{IsData, bit, block_bitmap, inode_at, stored, free_sectors}
+use Rattle.fs_layout.specs.Images.{IsData, bit, inode_at, stored, free_sectors}
 use Rattle.fs_layout.specs.Ownership.{IsConsistent}
 use Rattle.fs_layout.specs.Recovered.{recovered}
 use Rattle.fs_layout.proofs.Bits.{has_bit, set_or_clear, free_sectors_all}
 use Rattle.fs_layout.proofs.Free.{HasNoSector, owns_nothing, holds_nothing, free_has_no_sector, free_fits, consistent_without_owners}
 use Rattle.fs_layout.proofs.UsedInodes.{made_fits}
-use Rattle.fs_layout.proofs.Places.{place_is_place, place_is_laid_out}
+use Rattle.fs_layout.proofs.Places.{numbers_most, place_is_laid_out, place_is_place}
 use Rattle.fs_layout.proofs.RecoveryLaw.{idle_commit, recovered-idle}
 use Rattle.fs_layout.proofs.Saves.{inode_there, valid_there}
 use Rattle.fs_model.specs.Limits.{root}
@@ -86,7 +85,7 @@ empty_is_tree room many = record {
 
 module _ (p : Place) (image : SectorMap) (h : IsNewImage p image) where
   place : IsPlace p
-  place = place_is_place newest p.sectors p.inodes h.has_place
+  place = place_is_place newest 0 p.sectors p.inodes h.has_place
 
   few : root < p.inodes
   few = let many = place.least_inodes in omega (arith, many)
@@ -112,15 +111,16 @@ module _ (p : Place) (image : SectorMap) (h : IsNewImage p image) where
   consistent : IsConsistent p image
   consistent = consistent_without_owners p image place h.tables valid (λ n s lt o. owns_nothing image (inode_at p image n) s (no_sector n lt) o) h.block_bits
 
-  root_held : HoldsNode image root_inode (record { node = root_node; names = 0; parent = root })
+  root_held : HoldsNode p.version image root_inode (record { node = root_node; names = 0; parent = root })
   unfolding names_of_slots
-  root_held = node_held image root_inode _ refl refl refl refl refl (record {
+  root_held = node_held p.version image root_inode _ refl refl refl refl refl (record {
     names = record {
       kind = refl;
       slots = [];
       are = refl;
       apart = λ i j d lt within. absurd (omega (arith, within));
-      each = All-nil FitsSlot;
+      each = All-nil (FitsSlot p.version);
+      few = omega arith;
       holds = holds_nothing image root_inode root_has_no_sector refl;
       whole = λ k lt none. absurd (omega (arith, lt));
     };
@@ -141,14 +141,14 @@ module _ (p : Place) (image : SectorMap) (h : IsNewImage p image) where
     consistent = consistent;
     nodes = λ n lt. elim (cases_eq n root) [
       | inl e ↦ subst (λ k. HoldsPlaced p image k (placed empty_tree k)) (sym e)
-          (subst (λ v. HoldsNode image v (record { node = root_node; names = 0; parent = root })) (sym the_root) root_held)
+          (subst (λ v. HoldsNode p.version image v (record { node = root_node; names = 0; parent = root })) (sym the_root) root_held)
       | inr ne ↦ subst (HoldsPlaced p image n) (sym (none_placed n ne)) (the_others n lt ne)
     ];
     inode_bits = λ n lt. h.inode_bits n lt ∙ ap (λ b. nat_eq n 0 || nat_le p.inodes n || b) (marked n);
   }
 
-  clear : (s : ℕ) → IsData p s → bit image block_bitmap s ≡ false
-  clear s at = elim (set_or_clear (bit image block_bitmap s)) [
+  clear : (s : ℕ) → IsData p s → bit image p.block_bitmap s ≡ false
+  clear s at = elim (set_or_clear (bit image p.block_bitmap s)) [
     | inl set ↦ elim ((h.block_bits s (has_bit place s at.1)).0 set) [
       | inl low ↦ absurd (let from = at.0 in omega (arith, from, low))
       | inr past ↦ absurd (let to = at.1 in omega (arith, to, past))
@@ -157,22 +157,40 @@ module _ (p : Place) (image : SectorMap) (h : IsNewImage p image) where
   ]
 
   small : p.sectors < 2 ^ 32
-  small = let most = place.most_sectors in omega (arith, most)
+  small = let most = numbers_most place in omega (arith, most.0)
+
+  inodes_small : p.inodes < 2 ^ 32
+  inodes_small = let most = numbers_most place in omega (arith, most.1)
 
   idle : recovered p.sectors image ≡ image
   idle = λ i s. recovered-idle p.sectors image s small h.commit i
 
-  -- it says its own version
-  own_place : place_in p.version p.sectors p.inodes ≡ Some p
-  own_place =
-      ap (λ v. place_in v p.sectors p.inodes) (ap (λ (q : Place). q.version) (place_is_laid_out {version = newest} p.sectors p.inodes h.has_place)) ∙ h.has_place
+  laid : p ≡ laid_out p.sectors p.inodes
+  laid = place_is_laid_out {version = newest} p.sectors p.inodes h.has_place
+
+  -- it says its own version, and how many header sectors it has
+  own_place : place_in p.version p.header p.sectors p.inodes ≡ Some p
+  own_place = ap (λ (q : Place). place_in q.version q.header p.sectors p.inodes) laid ∙ h.has_place
+
+  -- the version is read
+  known : version_of (version_number p.version) ≡ Some p.version
+  known = ap (λ (q : Place). version_of (version_number q.version)) laid ∙ sym (ap (λ (q : Place). Some q.version) laid)
+
+  no_header : p.header ≡ 0
+  no_header = ap (λ (q : Place). q.header) laid
 
   pub new_disk_stands : Stands p.sectors image (room_of p) empty_tree (p.sectors - p.first_data)
   new_disk_stands = record {
     super = super_for p;
     place = p;
     super_is = h.super;
-    super_fits = record { sectors = small; inodes = (let most = place.most_inodes in omega (arith, most)) };
+    super_fits = record {
+      known = known;
+      sectors = small;
+      inodes = inodes_small;
+      header = omega (arith, no_header);
+      no_header = λ e. no_header;
+    };
     same_size = refl;
     has_place = own_place;
     commit_is = record { targets = []; is = idle_commit p.sectors image h.commit };

@@ -10,13 +10,13 @@ use Rattle.std.proofs.lemmas.List.FromFn.{get_or-map-range_with_len, length-map-
 use Rattle.fs_layout.specs.declared.inode.TheConstants.{INODE_SIZE}
 use Rattle.fs_layout.specs.declared.place.Place.{Place}
 use Rattle.fs_layout.specs.Bytes.{SectorMap, IsBytes, IsSector, window, zeros, le16, le32, le64, le32s}
-use Rattle.fs_layout.specs.Superblock.{super_bytes, super_for}
+use Rattle.fs_layout.specs.Superblock.{super_bytes}
 use Rattle.fs_layout.specs.Commit.{commit_bytes}
 use Rattle.fs_layout.specs.Inode.{inode_bytes, free_inode}
 use Rattle.fs_layout.specs.Version.{newest}
-use Rattle.fs_layout.specs.Place.{IsPlace, place_in, the_place, laid_out}
-use Rattle.fs_layout.specs.Images.{HasWholeTables, map_bits, bit, inode_bitmap, block_bitmap, stored}
-use Rattle.fs_layout.proofs.Places.{place_is_place, after_map}
+use Rattle.fs_layout.specs.Place.{IsPlace, allows_header, place_in, the_place, laid_out, super_for}
+use Rattle.fs_layout.specs.Images.{HasWholeTables, inode_map_bits, map_bits, bit, stored}
+use Rattle.fs_layout.proofs.Places.{after_map, place_is_place}
 use Rattle.fs_layout.proofs.Sectors.{IsBytes-append, IsBytes-zeros, IsBytes-inode_bytes}
 use Rattle.fs_layout.proofs.SplicedBytes.{IsSector-zeros}
 use Rattle.fs_model.specs.Limits.{root}
@@ -103,12 +103,14 @@ root_sector : List ℕ
 root_sector = zeros INODE_SIZE ++ (inode_bytes root_inode ++ zeros 256)
 
 module _ (p : Place) where
-  inode_marks : ℕ → Bool
-  inode_marks n = nat_eq n 0 || nat_le p.inodes n || nat_eq n root
+  -- of the inode bitmap's sector s
+  inode_marks : ℕ → ℕ → Bool
+  inode_marks s n =
+      nat_eq (4096 * (s - p.inode_bitmap) + n) 0 || nat_le p.inodes (4096 * (s - p.inode_bitmap) + n) || nat_eq (4096 * (s - p.inode_bitmap) + n) root
 
   -- of the block bitmap's sector s
   block_marks : ℕ → ℕ → Bool
-  block_marks s n = nat_lt (4096 * (s - 129) + n) p.first_data || nat_le p.sectors (4096 * (s - 129) + n)
+  block_marks s n = nat_lt (4096 * (s - p.block_bitmap) + n) p.first_data || nat_le p.sectors (4096 * (s - p.block_bitmap) + n)
 
   table_sector : ℕ → List ℕ
   table_sector s = cond (nat_eq s p.table) root_sector (zeros 512)
@@ -117,45 +119,49 @@ module _ (p : Place) where
   from_map s = cond (nat_lt s p.table) (bit_sector (block_marks s)) (table_sector s)
 
   tables : ℕ → List ℕ
-  tables s = cond (nat_eq s 128) (bit_sector inode_marks) (from_map s)
+  tables s = cond (nat_lt s p.block_bitmap) (bit_sector (inode_marks s)) (from_map s)
 
   new_image : SectorMap
   new_image zero = super_bytes (super_for p)
   new_image (suc zero) = commit_bytes []
-  new_image (suc (suc s)) = cond (nat_lt (suc (suc s)) 128) (zeros 512) (tables (suc (suc s)))
+  new_image (suc (suc s)) = cond (nat_lt (suc (suc s)) p.inode_bitmap) (zeros 512) (tables (suc (suc s)))
 
 -- ---- what stands where
 
-module _ (p : Place) where
-  above_log : (s : ℕ) → 128 ≤ s → new_image p s ≡ tables p s
+module _ (p : Place) (place : IsPlace p) where
+  above_log : (s : ℕ) → p.inode_bitmap ≤ s → new_image p s ≡ tables p s
   unfolding new_image
-  above_log zero ge = absurd (omega arith)
-  above_log (suc zero) ge = absurd (omega arith)
-  above_log (suc (suc s)) ge = ap (λ b. cond b (zeros 512) (tables p (suc (suc s)))) (le-ltb (suc (suc s)) 128 ge)
+  above_log zero ge = let order = after_map place in absurd (omega (arith, ge, order.0))
+  above_log (suc zero) ge = let order = after_map place in absurd (omega (arith, ge, order.0))
+  above_log (suc (suc s)) ge = ap (λ b. cond b (zeros 512) (tables p (suc (suc s)))) (le-ltb (suc (suc s)) p.inode_bitmap ge)
 
-  inode_map : new_image p 128 ≡ bit_sector (inode_marks p)
-  unfolding tables new_image
-  inode_map = refl
-
-  past_inode_map : (s : ℕ) → 128 < s → new_image p s ≡ from_map p s
+  inode_map : (s : ℕ) → p.inode_bitmap ≤ s → s < p.block_bitmap → new_image p s ≡ bit_sector (inode_marks p s)
   unfolding tables
-  past_inode_map s gt = above_log s (omega arith) ∙ ap (λ b. cond b (bit_sector (inode_marks p)) (from_map p s)) (ne_eqb s 128 (λ e. omega arith))
+  inode_map s ge lt = above_log s ge ∙ ap (λ b. cond b (bit_sector (inode_marks p s)) (from_map p s)) (lt-ltb s p.block_bitmap lt)
 
-  block_map : (s : ℕ) → 128 < s → s < p.table → new_image p s ≡ bit_sector (block_marks p s)
+  past_inode_map : (s : ℕ) → p.block_bitmap ≤ s → new_image p s ≡ from_map p s
+  unfolding tables
+  past_inode_map s ge =
+      let order = after_map place in
+      above_log s (omega (arith, order.1, ge)) ∙ ap (λ b. cond b (bit_sector (inode_marks p s)) (from_map p s)) (le-ltb s p.block_bitmap ge)
+
+  block_map : (s : ℕ) → p.block_bitmap ≤ s → s < p.table → new_image p s ≡ bit_sector (block_marks p s)
   unfolding from_map
-  block_map s gt lt = past_inode_map s gt ∙ ap (λ b. cond b (bit_sector (block_marks p s)) (table_sector p s)) (lt-ltb s p.table lt)
+  block_map s ge lt = past_inode_map s ge ∙ ap (λ b. cond b (bit_sector (block_marks p s)) (table_sector p s)) (lt-ltb s p.table lt)
 
-  inode_table : (s : ℕ) → 128 < s → p.table ≤ s → new_image p s ≡ table_sector p s
+  inode_table : (s : ℕ) → p.table ≤ s → new_image p s ≡ table_sector p s
   unfolding from_map
-  inode_table s gt ge = past_inode_map s gt ∙ ap (λ b. cond b (bit_sector (block_marks p s)) (table_sector p s)) (le-ltb s p.table ge)
+  inode_table s ge =
+      let order = after_map place in
+      past_inode_map s (omega (arith, order.2, ge)) ∙ ap (λ b. cond b (bit_sector (block_marks p s)) (table_sector p s)) (le-ltb s p.table ge)
 
-  root_there : 128 < p.table → new_image p p.table ≡ root_sector
+  root_there : new_image p p.table ≡ root_sector
   unfolding table_sector
-  root_there gt = inode_table p.table gt (omega arith) ∙ ap (λ b. cond b root_sector (zeros 512)) (eq-eqb p.table p.table refl)
+  root_there = inode_table p.table (omega arith) ∙ ap (λ b. cond b root_sector (zeros 512)) (eq-eqb p.table p.table refl)
 
-  zeros_there : (s : ℕ) → 128 < p.table → p.table < s → new_image p s ≡ zeros 512
+  zeros_there : (s : ℕ) → p.table < s → new_image p s ≡ zeros 512
   unfolding table_sector
-  zeros_there s gt past = inode_table s (omega arith) (omega arith) ∙ ap (λ b. cond b root_sector (zeros 512)) (ne_eqb s p.table (λ e. omega arith))
+  zeros_there s past = inode_table s (omega (arith, past)) ∙ ap (λ b. cond b root_sector (zeros 512)) (ne_eqb s p.table (λ e. omega (arith, e, past)))
 
 -- ---- inodes
 
@@ -195,39 +201,37 @@ root_sector_whole = record { len = refl; bytes = root_sector_bytes }
 
 module _ (p : Place) (there : the_place p.sectors p.inodes ≡ Some p) where
   place : IsPlace p
-  place = place_is_place newest p.sectors p.inodes there
-
-  past_map : 128 < p.table
-  past_map = let after = after_map place in omega (arith, after)
+  place = place_is_place newest 0 p.sectors p.inodes there
 
   whole_tables : HasWholeTables p (new_image p)
-  whole_tables s from to = elim (cases_eq s 128) [
-    | inl e ↦ subst (λ k. IsSector (new_image p k)) (sym e) (subst IsSector (sym (inode_map p)) (bit_sector_whole (inode_marks p)))
-    | inr ne ↦ elim (cases_lt s p.table) [
-      | inl lt ↦ subst IsSector (sym (block_map p s (omega arith) lt)) (bit_sector_whole (block_marks p s))
+  whole_tables s from to = elim (cases_lt s p.block_bitmap) [
+    | inl first ↦ subst IsSector (sym (inode_map p place s from first)) (bit_sector_whole (inode_marks p s))
+    | inr past ↦ elim (cases_lt s p.table) [
+      | inl lt ↦ subst IsSector (sym (block_map p place s past lt)) (bit_sector_whole (block_marks p s))
       | inr ge ↦ elim (cases_eq s p.table) [
-        | inl e ↦ subst (λ k. IsSector (new_image p k)) (sym e) (subst IsSector (sym (root_there p past_map)) root_sector_whole)
-        | inr other ↦ subst IsSector (sym (zeros_there p s past_map (omega arith))) IsSector-zeros
+        | inl e ↦ subst (λ k. IsSector (new_image p k)) (sym e) (subst IsSector (sym (root_there p place)) root_sector_whole)
+        | inr other ↦ subst IsSector (sym (zeros_there p place s (omega (arith, ge, other)))) IsSector-zeros
       ]
     ]
   ]
 
-  inode_bits : (n : ℕ) → n < 4096 → bit (new_image p) inode_bitmap n ≡ (nat_eq n 0 || nat_le p.inodes n || nat_eq n root)
+  inode_bits : (n : ℕ) → n < inode_map_bits p → bit (new_image p) p.inode_bitmap n ≡ (nat_eq n 0 || nat_le p.inodes n || nat_eq n root)
   unfolding inode_marks
   inode_bits n lt =
-      let sector : inode_bitmap + n / 4096 ≡ 128 = omega arith in
-      let at : n % 4096 ≡ n = omega arith in
-      bit_there (new_image p) inode_bitmap n (inode_marks p) (ap (new_image p) sector ∙ inode_map p) ∙ ap (inode_marks p) at
+      let k : ℕ = p.inode_bitmap + n / 4096 in
+      let at : 4096 * (k - p.inode_bitmap) + n % 4096 ≡ n = omega arith in
+      bit_there (new_image p) p.inode_bitmap n (inode_marks p k) (inode_map p place k (omega arith) (omega (arith, lt)))
+      ∙ ap (λ m. nat_eq m 0 || nat_le p.inodes m || nat_eq m root) at
 
-  block_bit : (s : ℕ) → s < map_bits p → bit (new_image p) block_bitmap s ≡ (nat_lt s p.first_data || nat_le p.sectors s)
+  block_bit : (s : ℕ) → s < map_bits p → bit (new_image p) p.block_bitmap s ≡ (nat_lt s p.first_data || nat_le p.sectors s)
   unfolding block_marks
   block_bit s lt =
-      let k : ℕ = block_bitmap + s / 4096 in
-      let at : 4096 * (k - 129) + s % 4096 ≡ s = omega arith in
-      bit_there (new_image p) block_bitmap s (block_marks p k) (block_map p k (omega arith) (omega (arith, lt)))
+      let k : ℕ = p.block_bitmap + s / 4096 in
+      let at : 4096 * (k - p.block_bitmap) + s % 4096 ≡ s = omega arith in
+      bit_there (new_image p) p.block_bitmap s (block_marks p k) (block_map p place k (omega arith) (omega (arith, lt)))
       ∙ ap (λ n. nat_lt n p.first_data || nat_le p.sectors n) at
 
-  block_bits : (s : ℕ) → s < map_bits p → IsTrue (bit (new_image p) block_bitmap s) ↔ ((s < p.first_data) ⊎ (p.sectors ≤ s))
+  block_bits : (s : ℕ) → s < map_bits p → IsTrue (bit (new_image p) p.block_bitmap s) ↔ ((s < p.first_data) ⊎ (p.sectors ≤ s))
   block_bits s lt = (
     λ set. elim (from_or (nat_lt s p.first_data) (nat_le p.sectors s) (sym (block_bit s lt) ∙ set)) [
       | inl low ↦ inl (ltb-true s p.first_data low)
@@ -243,15 +247,15 @@ module _ (p : Place) (there : the_place p.sectors p.inodes ≡ Some p) where
   unfolding stored
   root_is =
       let sector : p.table + root / 4 ≡ p.table = omega arith in
-      ap (λ s. window s INODE_SIZE INODE_SIZE) (ap (new_image p) sector ∙ root_there p past_map) ∙ root_quarter
+      ap (λ s. window s INODE_SIZE INODE_SIZE) (ap (new_image p) sector ∙ root_there p place) ∙ root_quarter
 
   others_free : (n : ℕ) → n < p.inodes → n ≢ root → stored p (new_image p) n ≡ inode_bytes free_inode
   unfolding stored
   others_free n lt ne = elim (cases_lt n 4) [
     | inl few ↦
         let sector : p.table + n / 4 ≡ p.table = omega arith in
-        ap (λ s. window s (INODE_SIZE * (n % 4)) INODE_SIZE) (ap (new_image p) sector ∙ root_there p past_map) ∙ other_quarter (n % 4) (omega arith) (λ e. ne (omega arith))
-    | inr more ↦ ap (λ s. window s (INODE_SIZE * (n % 4)) INODE_SIZE) (zeros_there p (p.table + n / 4) past_map (omega arith)) ∙ free_quarter (n % 4) (omega arith)
+        ap (λ s. window s (INODE_SIZE * (n % 4)) INODE_SIZE) (ap (new_image p) sector ∙ root_there p place) ∙ other_quarter (n % 4) (omega arith) (λ e. ne (omega arith))
+    | inr more ↦ ap (λ s. window s (INODE_SIZE * (n % 4)) INODE_SIZE) (zeros_there p place (p.table + n / 4) (omega (arith, more))) ∙ free_quarter (n % 4) (omega arith)
   ]
 
   new_image_is_new : IsNewImage p (new_image p)
@@ -275,7 +279,7 @@ small_disk : Place
 small_disk = laid_out 1024 64
 
 small_disk_is_there : the_place 1024 64 ≡ Some small_disk
-unfolding place_in small_disk
+unfolding place_in allows_header small_disk
 small_disk_is_there = refl
 
 -- and so some image stands for a tree

@@ -19,7 +19,7 @@ use Rattle.fs_model.specs.declared.walk.Found.{Found}
 use Rattle.fs_model.specs.declared.call.Flags.{Flags}
 use Rattle.fs_model.specs.Limits.{links_limit}
 use Rattle.fs_model.specs.Nodes.{Node, Body, File, Dir, Link, names_in}
-use Rattle.fs_model.specs.Trees.{Tree, node_at}
+use Rattle.fs_model.specs.Trees.{Tree, Room, node_at}
 use Rattle.fs_model.specs.Processes.{Process, cwd_of}
 use Rattle.fs_model.specs.Demands.{Demand, refuse, or_else, first_of, only_if, decided, allowed_by, search_only, write_and_search, perms, failed_with, accessed_at, permission_of, permission_on, search_of, search_on}
 use Rattle.fs_model.specs.Parts.{is_empty, parts_of, start_of, path_checks}
@@ -125,15 +125,15 @@ node_spares : (goes : Bool) (n : ℕ) (o : Option Node) → OutcomeSpares (reach
 node_spares goes n None = tt
 node_spares goes n (Some node) = body_spares goes n node.body
 
-module _ (t : Tree) (follow : Bool) where
+module _ (room : Room) (t : Tree) (follow : Bool) where
   arrival_spares : (is_last : Bool) (o : Option ℕ) → OutcomeSpares (arrival t is_last follow o)
   arrival_spares true None = tt
   arrival_spares false None = refl
   arrival_spares is_last (Some n) = node_spares (follow || not is_last) n (node_at t n)
 
-  lookup_spares : (is_last : Bool) (dir : ℕ) (name : List ℕ) (o : Option Node) → OutcomeSpares (looked_up t is_last follow dir name o)
+  lookup_spares : (is_last : Bool) (dir : ℕ) (name : List ℕ) (o : Option Node) → OutcomeSpares (looked_up room t is_last follow dir name o)
   lookup_spares is_last dir name o =
-      looked_up_is OutcomeSpares t is_last follow dir name o refl refl (λ node e. arrival_spares is_last (named_inode t dir (names_in node.body) name))
+      looked_up_is OutcomeSpares room t is_last follow dir name o refl refl (λ node e. arrival_spares is_last (named_inode t dir (names_in node.body) name))
 
   abbrev GoesSpared : Option GoesOn → Type 0
   GoesSpared None = Unit {0}
@@ -154,23 +154,23 @@ module _ (t : Tree) (follow : Bool) where
   onward_spares behind rest dir name names slash (Through target) on more spares = through_spares behind dir name names slash target on
 
   names_spare : (behind : Option GoesOn) (dir : ℕ) (names : List (List ℕ)) (slash : Bool) → GoesSpared behind
-      → LookupsSpare (lookups_from t follow behind dir names slash).lookups
+      → LookupsSpare (lookups_from room t follow behind dir names slash).lookups
   names_spare behind dir [] slash on = tt
   names_spare behind dir (name ∷ names) slash on =
-      onward_spares behind (λ n. lookups_from t follow behind n names slash) dir name names slash
-      (looked_up t (is_empty names) follow dir name (node_at t dir)) on (λ n. names_spare behind n names slash on)
+      onward_spares behind (λ n. lookups_from room t follow behind n names slash) dir name names slash
+      (looked_up room t (is_empty names) follow dir name (node_at t dir)) on (λ n. names_spare behind n names slash on)
       (lookup_spares (is_empty names) dir name (node_at t dir))
 
-  links_spare : (links dir : ℕ) (names : List (List ℕ)) (slash : Bool) → LookupsSpare (trail_with t follow links dir names slash).lookups
+  links_spare : (links dir : ℕ) (names : List (List ℕ)) (slash : Bool) → LookupsSpare (trail_with room t follow links dir names slash).lookups
   links_spare zero dir names slash = names_spare None dir names slash tt
   links_spare (suc links) dir names slash =
-      names_spare (Some (trail_with t follow links)) dir names slash (λ d ns s. links_spare links d ns s)
+      names_spare (Some (trail_with room t follow links)) dir names slash (λ d ns s. links_spare links d ns s)
 
-trail_spares : (t : Tree) (cwd : ℕ) (form : Form) (path : List ℕ) → LookupsSpare (trail_of t cwd form path).lookups
+trail_spares : (room : Room) (t : Tree) (cwd : ℕ) (form : Form) (path : List ℕ) → LookupsSpare (trail_of room t cwd form path).lookups
 unfolding trail_of
-trail_spares t cwd form path =
+trail_spares room t cwd form path =
     let parts = parts_of path in
-    links_spare t (follows_last form parts) links_limit (start_of parts cwd) parts.names parts.slash_at_end
+    links_spare room t (follows_last form parts) links_limit (start_of parts cwd) parts.names parts.slash_at_end
 
 lookups_spare : (cred : Credential) (t : Tree) (walk k : ℕ) (lookups : List Lookup) → LookupsSpare lookups → Spares (least_refusal cred t walk k lookups)
 lookups_spare cred t walk k [] all = refl
@@ -179,16 +179,17 @@ lookups_spare cred t walk k (l ∷ lookups) all =
     (either (search_on cred t l.dir walk k) (failed_with l.fault) (searched cred t l.dir walk k) all.0)
     (lookups_spare cred t walk (k + 1) lookups all.1)
 
-pub walk_spares : (t : Tree) (cred : Credential) (walk cwd : ℕ) (form : Form) (path : List ℕ) → Spares (first_refusal t cred walk form (trail_of t cwd form path))
+pub walk_spares : (room : Room) (t : Tree) (cred : Credential) (walk cwd : ℕ) (form : Form) (path : List ℕ)
+    → Spares (first_refusal t cred walk form (trail_of room t cwd form path))
 unfolding first_refusal
-walk_spares t cred walk cwd form path =
-    let trail = trail_of t cwd form path in
+walk_spares room t cred walk cwd form path =
+    let trail = trail_of room t cwd form path in
     either (least_refusal cred t walk 0 trail.lookups) (slash_refusal t form trail)
-    (lookups_spare cred t walk 0 trail.lookups (trail_spares t cwd form path)) (refused ENOTDIR _ refl)
+    (lookups_spare cred t walk 0 trail.lookups (trail_spares room t cwd form path)) (refused ENOTDIR _ refl)
 
-pub walks_spare : (t : Tree) (p : Process) (k : ℕ) (walks : List (Form × List ℕ)) → AllSpare (walk_refusals t p k walks)
-walks_spare t p k [] = tt
-walks_spare t p k (walk ∷ walks) = (walk_spares t p.cred k (cwd_of p k) walk.0 walk.1, walks_spare t p (k + 1) walks)
+pub walks_spare : (room : Room) (t : Tree) (p : Process) (k : ℕ) (walks : List (Form × List ℕ)) → AllSpare (walk_refusals room t p k walks)
+walks_spare room t p k [] = tt
+walks_spare room t p k (walk ∷ walks) = (walk_spares room t p.cred k (cwd_of p k) walk.0 walk.1, walks_spare room t p (k + 1) walks)
 
 pub paths_spare : (walks : List (Form × List ℕ)) → AllSpare (flat_map (λ walk. path_checks walk.1) walks)
 paths_spare [] = tt

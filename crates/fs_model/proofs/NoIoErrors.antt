@@ -10,7 +10,7 @@ use Rattle.fs_model.specs.declared.walk.Form.{Form}
 use Rattle.fs_model.specs.declared.event.Event.{Event}
 use Rattle.fs_model.specs.declared.event.Event.TheVariants.{Spawn, Exit, Call as Calls, Enter, Fsync, Sync, Statfs, Arm, Restart}
 use Rattle.fs_layout.specs.Maps.{get}
-use Rattle.fs_model.specs.Trees.{Tree}
+use Rattle.fs_model.specs.Trees.{Tree, Room}
 use Rattle.fs_model.specs.Processes.{Process}
 use Rattle.fs_model.specs.States.{State}
 use Rattle.fs_model.specs.Demands.{Demand}
@@ -33,9 +33,9 @@ early_spares p row spares =
 
 late_spares : (s : State) (p : Process) (row : Row) → RowSpares row → Spares (late_refusal s p row)
 late_spares s p row spares =
-    let walks = walk_refusals s.tree p 1 row.walks in
+    let walks = walk_refusals s.room s.tree p 1 row.walks in
     first_spares (walks ++ row.demands (scene_of s p row))
-    (both walks (row.demands (scene_of s p row)) (walks_spare s.tree p 1 row.walks) (spares.demands (scene_of s p row)))
+    (both walks (row.demands (scene_of s p row)) (walks_spare s.room s.tree p 1 row.walks) (spares.demands (scene_of s p row)))
 
 -- ---- events
 
@@ -73,10 +73,10 @@ other_spares s (Restart choice arm) = refl
 
 -- ---- the laws
 
-pub walks_are_no_eio : (t : Tree) (cred : Credential) (walk cwd : ℕ) (form : Form) (path : List ℕ)
-    → first_refusal t cred walk form (trail_of t cwd form path) ≢ Some (Failed EIO)
-walks_are_no_eio t cred walk cwd form path =
-    not_eio (first_refusal t cred walk form (trail_of t cwd form path)) (walk_spares t cred walk cwd form path)
+pub walks_are_no_eio : (room : Room) (t : Tree) (cred : Credential) (walk cwd : ℕ) (form : Form) (path : List ℕ)
+    → first_refusal t cred walk form (trail_of room t cwd form path) ≢ Some (Failed EIO)
+walks_are_no_eio room t cred walk cwd form path =
+    not_eio (first_refusal t cred walk form (trail_of room t cwd form path)) (walk_spares room t cred walk cwd form path)
 
 pub firm_is_no_eio : (s : State) (e : Event) → firm_refusal s e ≢ Some (Failed EIO)
 firm_is_no_eio s e = not_eio (firm_refusal s e) (firm_spares s e)

@@ -5,6 +5,7 @@ use Rattle.posix_acl.specs.AccessList.{mode_bits}
 use Rattle.fs_layout.specs.declared.inode.TheConstants.{S_ISGID, S_ISVTX}
 use Rattle.fs_layout.specs.declared.inode.Kind.TheVariants as kinds
 use Rattle.fs_layout.specs.declared.inode.Inode.{Inode}
+use Rattle.fs_layout.specs.declared.version.Version.{Version}
 use Rattle.fs_layout.specs.Bytes.{SectorMap}
 use Rattle.fs_layout.proofs.Held.{Holds-unique}
 use Rattle.fs_model.specs.Nodes.{Node, Body, File, Dir, Link, Directory, shown_mode}
@@ -35,31 +36,32 @@ bits_same m n s g t h a b e =
     let low = one_bit m n S_ISVTX s t a b high.0 in
     (low.0, low.1, high.1)
 
-body_same : (image : SectorMap) (v : Inode) (x y : Body) → shown_mode x ≡ shown_mode y → HoldsBody image v x → HoldsBody image v y → x ≡ y
-body_same image v (File a s) (File b t) m h k =
+body_same : (version : Version) (image : SectorMap) (v : Inode) (x y : Body) → shown_mode x ≡ shown_mode y → HoldsBody version image v x
+    → HoldsBody version image v y → x ≡ y
+body_same version image v (File a s) (File b t) m h k =
     ap (λ z. File z s) (access_same image v.acl a b h.acl k.acl m h.has_acl k.has_acl)
     ∙ ap (λ z. File b z) (Holds-unique image v s t h.holds k.holds)
-body_same image v (Dir a d) (Dir b e) m h k =
+body_same version image v (Dir a d) (Dir b e) m h k =
     let bits = bits_same (mode_bits a) (mode_bits b) d.sticky d.set_group_id e.sticky e.set_group_id (mode_small a) (mode_small b) m in
     ap (λ z. Dir z d) (access_same image v.acl a b h.acl k.acl bits.0 h.has_acl k.has_acl)
-    ∙ ap (λ z. Dir b z) (directory_same d e (names_same image v d.names e.names h.names k.names) (default_same image v.default_acl d.default e.default h.default k.default h.has_default k.has_default) bits.2 bits.1)
-body_same image v (Link s) (Link t) m h k = ap (λ z. Link z) (Holds-unique image v s t h.holds k.holds)
-body_same image v (File a s) (Dir b e) m h k = let c : kinds.File ≡ kinds.Directory = sym h.kind ∙ k.names.kind in absurd cc
-body_same image v (File a s) (Link t) m h k = let c : kinds.File ≡ kinds.Link = sym h.kind ∙ k.kind in absurd cc
-body_same image v (Dir a d) (File b t) m h k = let c : kinds.Directory ≡ kinds.File = sym h.names.kind ∙ k.kind in absurd cc
-body_same image v (Dir a d) (Link t) m h k = let c : kinds.Directory ≡ kinds.Link = sym h.names.kind ∙ k.kind in absurd cc
-body_same image v (Link s) (File b t) m h k = let c : kinds.Link ≡ kinds.File = sym h.kind ∙ k.kind in absurd cc
-body_same image v (Link s) (Dir b e) m h k = let c : kinds.Link ≡ kinds.Directory = sym h.kind ∙ k.names.kind in absurd cc
+    ∙ ap (λ z. Dir b z) (directory_same d e (names_same version image v d.names e.names h.names k.names) (default_same image v.default_acl d.default e.default h.default k.default h.has_default k.has_default) bits.2 bits.1)
+body_same version image v (Link s) (Link t) m h k = ap (λ z. Link z) (Holds-unique image v s t h.holds k.holds)
+body_same version image v (File a s) (Dir b e) m h k = let c : kinds.File ≡ kinds.Directory = sym h.kind ∙ k.names.kind in absurd cc
+body_same version image v (File a s) (Link t) m h k = let c : kinds.File ≡ kinds.Link = sym h.kind ∙ k.kind in absurd cc
+body_same version image v (Dir a d) (File b t) m h k = let c : kinds.Directory ≡ kinds.File = sym h.names.kind ∙ k.kind in absurd cc
+body_same version image v (Dir a d) (Link t) m h k = let c : kinds.Directory ≡ kinds.Link = sym h.names.kind ∙ k.kind in absurd cc
+body_same version image v (Link s) (File b t) m h k = let c : kinds.Link ≡ kinds.File = sym h.kind ∙ k.kind in absurd cc
+body_same version image v (Link s) (Dir b e) m h k = let c : kinds.Link ≡ kinds.Directory = sym h.kind ∙ k.names.kind in absurd cc
 
 node_parts : (x y : Node) → x.owner ≡ y.owner → x.group ≡ y.group → x.body ≡ y.body → x ≡ y
 node_parts x y e f g = let whole : record x { owner = x.owner } ≡ record y { owner = y.owner } = rw (e, f, g) refl in whole
 
-pub node_same : (image : SectorMap) (v : Inode) (x y : Placed) → HoldsNode image v x → HoldsNode image v y → x.node ≡ y.node
-node_same image v x y h k =
-    node_parts x.node y.node (sym h.owner ∙ k.owner) (sym h.group ∙ k.group) (body_same image v x.node.body y.node.body (sym h.mode ∙ k.mode) h.body k.body)
+pub node_same : (version : Version) (image : SectorMap) (v : Inode) (x y : Placed) → HoldsNode version image v x → HoldsNode version image v y → x.node ≡ y.node
+node_same version image v x y h k =
+    node_parts x.node y.node (sym h.owner ∙ k.owner) (sym h.group ∙ k.group) (body_same version image v x.node.body y.node.body (sym h.mode ∙ k.mode) h.body k.body)
 
 -- a free inode holds no node
-pub body_not_free : (image : SectorMap) (v : Inode) (b : Body) → HoldsBody image v b → v.kind ≡ kinds.Free → ⊥
-body_not_free image v (File a s) h e = let c : kinds.File ≡ kinds.Free = sym h.kind ∙ e in cc
-body_not_free image v (Dir a d) h e = let c : kinds.Directory ≡ kinds.Free = sym h.names.kind ∙ e in cc
-body_not_free image v (Link s) h e = let c : kinds.Link ≡ kinds.Free = sym h.kind ∙ e in cc
+pub body_not_free : (version : Version) (image : SectorMap) (v : Inode) (b : Body) → HoldsBody version image v b → v.kind ≡ kinds.Free → ⊥
+body_not_free version image v (File a s) h e = let c : kinds.File ≡ kinds.Free = sym h.kind ∙ e in cc
+body_not_free version image v (Dir a d) h e = let c : kinds.Directory ≡ kinds.Free = sym h.names.kind ∙ e in cc
+body_not_free version image v (Link s) h e = let c : kinds.Link ≡ kinds.Free = sym h.kind ∙ e in cc

@@ -5,6 +5,7 @@ use Rattle.std.specs.Option.{option_map}
 use Rattle.std.proofs.lemmas.Bool.{cases_lt}
 use Rattle.fs_layout.specs.declared.place.Place.{Place}
 use Rattle.fs_layout.specs.declared.inode.Inode.{Inode}
+use Rattle.fs_layout.specs.declared.version.Version.{Version}
 use Rattle.fs_layout.specs.Bytes.{SectorMap}
 use Rattle.fs_layout.specs.Inode.{free_inode}
 use Rattle.fs_layout.specs.Images.{inode_at, free_sectors}
@@ -25,12 +26,14 @@ abbrev placed_at : Tree → ℕ → Node → Placed
 placed_at t n node = record { node = node; names = names_of t n; parent = parent t n }
 
 -- what an inode holds is there in both trees, or in none
-option_same : (image : SectorMap) (v : Inode) (f g : Node → Placed) (x y : Option Node) → ((n : Node) → (f n).node ≡ n) → ((n : Node) → (g n).node ≡ n)
-    → MatchOption (option_map f x) (v ≡ free_inode) (λ z. HoldsNode image v z) → MatchOption (option_map g y) (v ≡ free_inode) (λ z. HoldsNode image v z) → x ≡ y
-option_same image v f g None None ff gg h k = refl
-option_same image v f g None (Some y) ff gg h k = absurd (body_not_free image v (g y).node.body k.body (ap (λ w. w.kind) h))
-option_same image v f g (Some x) None ff gg h k = absurd (body_not_free image v (f x).node.body h.body (ap (λ w. w.kind) k))
-option_same image v f g (Some x) (Some y) ff gg h k = ap (λ z. Some z) (sym (ff x) ∙ node_same image v (f x) (g y) h k ∙ gg y)
+option_same : (version : Version) (image : SectorMap) (v : Inode) (f g : Node → Placed) (x y : Option Node) → ((n : Node) → (f n).node ≡ n)
+    → ((n : Node) → (g n).node ≡ n)
+    → MatchOption (option_map f x) (v ≡ free_inode) (λ z. HoldsNode version image v z)
+    → MatchOption (option_map g y) (v ≡ free_inode) (λ z. HoldsNode version image v z) → x ≡ y
+option_same version image v f g None None ff gg h k = refl
+option_same version image v f g None (Some y) ff gg h k = absurd (body_not_free version image v (g y).node.body k.body (ap (λ w. w.kind) h))
+option_same version image v f g (Some x) None ff gg h k = absurd (body_not_free version image v (f x).node.body h.body (ap (λ w. w.kind) k))
+option_same version image v f g (Some x) (Some y) ff gg h k = ap (λ z. Some z) (sym (ff x) ∙ node_same version image v (f x) (g y) h k ∙ gg y)
 
 -- past the inode count there is nothing
 past : (room : Room) (t : Tree) (n : ℕ) → IsTree room t → room.inodes ≤ n → (o : Option Node) → node_at t n ≡ o → node_at t n ≡ None
@@ -41,7 +44,7 @@ at_same : (p : Place) (image : SectorMap) (t u : Tree) → HoldsAll p image (pla
     → IsTree (room_of p) t → IsTree (room_of p) u → (n : ℕ) → node_at t n ≡ node_at u n
 at_same p image t u h k it iu n =
     elim (cases_lt n p.inodes) [
-      | inl lt ↦ option_same image (inode_at p image n) (placed_at t n) (placed_at u n) (node_at t n) (node_at u n) (λ m. refl) (λ m. refl) (h.nodes n lt) (k.nodes n lt)
+      | inl lt ↦ option_same p.version image (inode_at p image n) (placed_at t n) (placed_at u n) (node_at t n) (node_at u n) (λ m. refl) (λ m. refl) (h.nodes n lt) (k.nodes n lt)
       | inr ge ↦ past (room_of p) t n it ge (node_at t n) refl ∙ sym (past (room_of p) u n iu ge (node_at u n) refl)
     ]
 
@@ -57,7 +60,7 @@ pub one_tree : (sectors : ℕ) (image : SectorMap) (room room' : Room) (t t' : T
     → Stands sectors image room t free → Stands sectors image room' t' free' → AreSame room room' t t' free free'
 one_tree sectors image room room' t t' free free' x y =
     let super : x.super ≡ y.super = same_spelling 512 FitsSuper super_bytes super_of super_codec x.super y.super x.super_fits y.super_fits (sym x.super_is ∙ y.super_is) in
-    let place : x.place ≡ y.place = some_same x.place y.place _ _ x.has_place y.has_place (ap (λ s. place_in s.version sectors s.inodes) super) in
+    let place : x.place ≡ y.place = some_same x.place y.place _ _ x.has_place y.has_place (ap (λ s. place_in s.version s.header sectors s.inodes) super) in
     let now : SectorMap = recovered sectors image in
     let held : HoldsAll y.place now (placed t) = subst (λ p. HoldsAll p now (placed t)) place x.holds in
     let first : IsTree (room_of y.place) t = subst (λ r. IsTree r t) (x.room_is ∙ ap room_of place) x.tree_is in

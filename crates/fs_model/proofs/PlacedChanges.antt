@@ -8,7 +8,7 @@ use Rattle.fs_layout.specs.declared.place.Place.{Place}
 use Rattle.fs_layout.specs.Bytes.{SectorMap}
 use Rattle.fs_layout.specs.InodeChanges.{ChangesInode}
 use Rattle.fs_layout.specs.Inode.{free_inode}
-use Rattle.fs_layout.specs.Images.{bit, inode_bitmap, inode_at}
+use Rattle.fs_layout.specs.Images.{bit, inode_at}
 use Rattle.fs_layout.specs.Maps.{name_cmp, with_entry, without}
 use Rattle.fs_layout.proofs.NameMaps.{leading}
 use Rattle.fs_model.specs.Nodes.{Node, names_in}
@@ -34,7 +34,7 @@ use Rattle.fs_model.proofs.Unchanged.{open_stays}
 -- ---- what making a node asks
 
 pub record MakesNode (s : State) (dir : ℕ) (directory : Node) (name : List ℕ) (n : ℕ) (now : Node) : Type 0 where
-  pub takes : TakesNewName s.tree dir directory name
+  pub takes : TakesNewName s.room s.tree dir directory name
   pub positive : 1 ≤ n
   pub below : n < s.room.inodes
   pub unused : node_at s.tree n ≡ None
@@ -49,8 +49,8 @@ module _ (s : State) (is : IsState s) (up : IsFalse s.halted) (desks : Desks) (s
   same_held = subst (λ u. HoldsAll p old (placed u)) (sym (open_stays s.room s.tree s.desks desks is.tree (is.desks up) still)) held
 
   module _ (new : SectorMap) (n : ℕ) (was now : Node) (at : node_at s.tree n ≡ Some was) (may : MayReplace s.room s.tree was now) (changes : ChangesInode p n old new)
-      (used : bit new inode_bitmap n ≡ bit old inode_bitmap n)
-      (here : HoldsNode new (inode_at p new n) (record { node = now; names = names_of s.tree n; parent = parent s.tree n })) where
+      (used : bit new p.inode_bitmap n ≡ bit old p.inode_bitmap n)
+      (here : HoldsNode p.version new (inode_at p new n) (record { node = now; names = names_of s.tree n; parent = parent s.tree n })) where
     names_stay : (x : ℕ) → names_of (with_node s.tree n now) x ≡ names_of s.tree x
     names_stay x = names_of-rewritten s.tree n was now is.tree.numbers at may.names x
 
@@ -70,9 +70,9 @@ module _ (s : State) (is : IsState s) (up : IsFalse s.halted) (desks : Desks) (s
         (placed_once (placed s.tree) (placed (with_node s.tree n now)) n _ there (placed_elsewhere s.tree n was now is.tree.numbers at may.names)))
 
   module _ (mid new : SectorMap) (dir : ℕ) (directory : Node) (name : List ℕ) (n : ℕ) (now : Node) (makes : MakesNode s dir directory name n now)
-      (first : ChangesInode p n old mid) (taken : IsTrue (bit mid inode_bitmap n)) (born : HoldsNode mid (inode_at p mid n) (record { node = now; names = 1; parent = dir }))
-      (second : ChangesInode p dir mid new) (used : bit new inode_bitmap dir ≡ bit mid inode_bitmap dir)
-      (here : HoldsNode new (inode_at p new dir) (record { node = renamed_node directory (with_entry name_cmp (names_in directory.body) name n); names = names_of s.tree dir; parent = parent s.tree dir })) where
+      (first : ChangesInode p n old mid) (taken : IsTrue (bit mid p.inode_bitmap n)) (born : HoldsNode p.version mid (inode_at p mid n) (record { node = now; names = 1; parent = dir }))
+      (second : ChangesInode p dir mid new) (used : bit new p.inode_bitmap dir ≡ bit mid p.inode_bitmap dir)
+      (here : HoldsNode p.version new (inode_at p new dir) (record { node = renamed_node directory (with_entry name_cmp (names_in directory.body) name n); names = names_of s.tree dir; parent = parent s.tree dir })) where
     abbrev w : Tree
     w = with_node s.tree n now
 
@@ -81,7 +81,7 @@ module _ (s : State) (is : IsState s) (up : IsFalse s.halted) (desks : Desks) (s
 
     adds : AddsName s.room s.tree w dir directory name n now
     adds =
-        makes_name s.room s.tree dir directory name n now is.tree makes.takes makes.positive makes.below makes.unused makes.newborn
+        makes_name s.room is.room.some_names s.tree dir directory name n now is.tree makes.takes makes.positive makes.below makes.unused makes.newborn
 
     parents : (x : ℕ) → parent w x ≡ parent s.tree x
     parents x =
@@ -121,11 +121,12 @@ module _ (s : State) (is : IsState s) (up : IsFalse s.halted) (desks : Desks) (s
         (placed_twice (placed s.tree) (placed made) n dir _ _ node_now (added_dir s.room s.tree w dir directory name n now is.tree adds parents)
         (added_others s.room s.tree w dir directory name n now is.tree adds parents)))
 
-  module _ (mid new : SectorMap) (dir : ℕ) (directory : Node) (name : List ℕ) (n : ℕ) (target : Node) (gives : GivesName s.tree dir directory name n target)
-      (first : ChangesInode p n old mid) (taken : bit mid inode_bitmap n ≡ bit old inode_bitmap n)
-      (counted : HoldsNode mid (inode_at p mid n) (record { node = target; names = names_of s.tree n + 1; parent = parent (changed s.tree (AddName dir name n)) n }))
-      (second : ChangesInode p dir mid new) (used : bit new inode_bitmap dir ≡ bit mid inode_bitmap dir)
-      (here : HoldsNode new (inode_at p new dir) (record { node = renamed_node directory (with_entry name_cmp (names_in directory.body) name n); names = names_of s.tree dir; parent = parent s.tree dir })) where
+  module _ (mid new : SectorMap) (dir : ℕ) (directory : Node) (name : List ℕ) (n : ℕ) (target : Node)
+      (gives : GivesName s.room s.tree dir directory name n target)
+      (first : ChangesInode p n old mid) (taken : bit mid p.inode_bitmap n ≡ bit old p.inode_bitmap n)
+      (counted : HoldsNode p.version mid (inode_at p mid n) (record { node = target; names = names_of s.tree n + 1; parent = parent (changed s.tree (AddName dir name n)) n }))
+      (second : ChangesInode p dir mid new) (used : bit new p.inode_bitmap dir ≡ bit mid p.inode_bitmap dir)
+      (here : HoldsNode p.version new (inode_at p new dir) (record { node = renamed_node directory (with_entry name_cmp (names_in directory.body) name n); names = names_of s.tree dir; parent = parent s.tree dir })) where
     given : AddsName s.room s.tree s.tree dir directory name n target
     given = gives_name s.room s.tree dir directory name n target is.tree gives
 
@@ -141,8 +142,8 @@ module _ (s : State) (is : IsState s) (up : IsFalse s.halted) (desks : Desks) (s
         ∙ nothing_goes s is up desks still linked (added_is_tree s.room s.tree s.tree dir directory name n target is.tree given) (added_keeps_types s.room s.tree s.tree dir directory name n target is.tree given)
         (added_nameless s.room s.tree s.tree dir directory name n target is.tree given (λ x. refl))
 
-    counted_then : HoldsNode mid (inode_at p mid n) (record { node = target; names = names_of s.tree n + 1; parent = parent linked n })
-    counted_then = subst (λ u. HoldsNode mid (inode_at p mid n) (record { node = target; names = names_of s.tree n + 1; parent = parent u n })) linked_is counted
+    counted_then : HoldsNode p.version mid (inode_at p mid n) (record { node = target; names = names_of s.tree n + 1; parent = parent linked n })
+    counted_then = subst (λ u. HoldsNode p.version mid (inode_at p mid n) (record { node = target; names = names_of s.tree n + 1; parent = parent u n })) linked_is counted
 
     -- what is no directory was named once more
     pub add_held : HoldsAll p new (placed (swept (changed s.tree (AddName dir name n)) desks))
@@ -158,8 +159,8 @@ module _ (s : State) (is : IsState s) (up : IsFalse s.halted) (desks : Desks) (s
         (added_others s.room s.tree s.tree dir directory name n target is.tree given (λ x. refl))))
 
   module _ (mid new : SectorMap) (dir : ℕ) (directory : Node) (name : List ℕ) (m : ℕ) (target : Node) (takes : TakesName s.tree s.desks dir directory name m)
-      (at : node_at s.tree m ≡ Some target) (first : ChangesInode p dir old mid) (used : bit mid inode_bitmap dir ≡ bit old inode_bitmap dir)
-      (here : HoldsNode mid (inode_at p mid dir) (record { node = renamed_node directory (without name_cmp (names_in directory.body) name); names = names_of s.tree dir; parent = parent s.tree dir }))
+      (at : node_at s.tree m ≡ Some target) (first : ChangesInode p dir old mid) (used : bit mid p.inode_bitmap dir ≡ bit old p.inode_bitmap dir)
+      (here : HoldsNode p.version mid (inode_at p mid dir) (record { node = renamed_node directory (without name_cmp (names_in directory.body) name); names = names_of s.tree dir; parent = parent s.tree dir }))
       (second : ChangesInode p m mid new) where
     abbrev taken_tree : Tree
     taken_tree = renamed s.tree dir directory (without name_cmp (names_in directory.body) name)
@@ -187,17 +188,17 @@ module _ (s : State) (is : IsState s) (up : IsFalse s.halted) (desks : Desks) (s
         (taken_others s is up desks still dir directory name m takes)))
 
     -- a name was taken from what stays
-    pub take_held : (not (names_of s.tree m - 1 == 0) || lives_nameless desks m target.body) ≡ true → bit new inode_bitmap m ≡ bit mid inode_bitmap m
-        → HoldsNode new (inode_at p new m) (record { node = target; names = names_of s.tree m - 1; parent = parent (changed s.tree (TakeName dir name)) m })
+    pub take_held : (not (names_of s.tree m - 1 == 0) || lives_nameless desks m target.body) ≡ true → bit new p.inode_bitmap m ≡ bit mid p.inode_bitmap m
+        → HoldsNode p.version new (inode_at p new m) (record { node = target; names = names_of s.tree m - 1; parent = parent (changed s.tree (TakeName dir name)) m })
         → HoldsAll p new (placed (swept (changed s.tree (TakeName dir name)) desks))
     take_held stay marked counted =
         taken_then _ (taken_stays s is up desks still dir directory name m takes target at stay)
         (one_replaced p m mid new between between_held below second _ _
         (placing_other dir _ (placed s.tree) m (taken_apart s is up desks still dir directory name m takes) ∙ placed_from s.tree m (Some target) _ _ at refl refl)
-        (subst (λ u. HoldsNode new (inode_at p new m) (record { node = target; names = names_of s.tree m - 1; parent = parent u m })) taken_is counted) marked)
+        (subst (λ u. HoldsNode p.version new (inode_at p new m) (record { node = target; names = names_of s.tree m - 1; parent = parent u m })) taken_is counted) marked)
 
     -- the last name was taken
-    pub drop_held : (not (names_of s.tree m - 1 == 0) || lives_nameless desks m target.body) ≡ false → bit new inode_bitmap m ≡ false
+    pub drop_held : (not (names_of s.tree m - 1 == 0) || lives_nameless desks m target.body) ≡ false → bit new p.inode_bitmap m ≡ false
         → inode_at p new m ≡ free_inode → HoldsAll p new (placed (swept (changed s.tree (TakeName dir name)) desks))
     drop_held goes clear free =
         taken_then None (taken_goes s is up desks still dir directory name m takes target at goes)

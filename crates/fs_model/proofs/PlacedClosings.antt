@@ -8,7 +8,7 @@ use Rattle.fs_layout.specs.declared.place.Place.{Place}
 use Rattle.fs_layout.specs.Bytes.{SectorMap}
 use Rattle.fs_layout.specs.InodeChanges.{ChangesInode}
 use Rattle.fs_layout.specs.Inode.{free_inode}
-use Rattle.fs_layout.specs.Images.{bit, inode_bitmap, inode_at}
+use Rattle.fs_layout.specs.Images.{bit, inode_at}
 use Rattle.fs_model.specs.Nodes.{Node, Body, File, Dir, Link}
 use Rattle.fs_model.specs.Trees.{Tree, Room, node_at, names_of, IsTree}
 use Rattle.fs_model.specs.Processes.{Desks, is_open}
@@ -58,7 +58,7 @@ module _ (room : Room) (t : Tree) (is : IsTree room t) (was now : Desks) (n : �
       ]
 
   -- it goes
-  pub close_drop_held : (new : SectorMap) → stays t now (n, node) ≡ false → n < p.inodes → ChangesInode p n old new → bit new inode_bitmap n ≡ false
+  pub close_drop_held : (new : SectorMap) → stays t now (n, node) ≡ false → n < p.inodes → ChangesInode p n old new → bit new p.inode_bitmap n ≡ false
       → inode_at p new n ≡ free_inode → HoldsAll p new (placed (swept t now))
   close_drop_held new goes below changes clear free =
       same_placed p new (placing n None (placed (swept t was))) (placed (swept t now))

@@ -7,11 +7,12 @@ use Rattle.std.specs.Prelude.{◌≡◌, ◌≢◌, ℕ, ◌-◌, ◌<◌, ◌�
 use Rattle.std.proofs.Common.{refl, sym, ap, arith, ◌∙◌, subst, inl, inr}
 use Rattle.std.proofs.lemmas.Bool.{cases_eq}
 use Rattle.fs_layout.specs.declared.inode.Inode.{Inode}
+use Rattle.fs_layout.specs.declared.version.Version.{Version}
 use Rattle.fs_layout.specs.declared.place.Place.{Place}
 use Rattle.fs_layout.specs.Bytes.{SectorMap}
 use Rattle.fs_layout.specs.InodeChanges.{ChangesInode}
 use Rattle.fs_layout.specs.Inode.{free_inode}
-use Rattle.fs_layout.specs.Images.{bit, inode_bitmap, inode_at}
+use Rattle.fs_layout.specs.Images.{bit, inode_at}
 use Rattle.fs_layout.specs.Maps.{name_cmp, with_entry, without}
 use Rattle.fs_layout.proofs.NameMaps.{Names, leading, once_same, once_other, lost_of, leading_if}
 use Rattle.fs_model.specs.Limits.{root}
@@ -50,8 +51,8 @@ as_node : (o : Option Placed) (x y : Node) (names up : ℕ) → o ≡ Some (reco
 as_node o x y names up is same = is ∙ ap (λ q. Some (record { node = q; names = names; parent = up })) same
 
 -- where what is no directory is named isn't stored
-pub named_anywhere : (image : SectorMap) (v : Inode) (x : Placed) (up : ℕ) → IsFalse (is_directory x.node.body) → HoldsNode image v x → HoldsNode image v (record x { parent = up })
-named_anywhere image v x up other h = record {
+pub named_anywhere : (version : Version) (image : SectorMap) (v : Inode) (x : Placed) (up : ℕ) → IsFalse (is_directory x.node.body) → HoldsNode version image v x → HoldsNode version image v (record x { parent = up })
+named_anywhere version image v x up other h = record {
   owner = h.owner;
   group = h.group;
   mode = h.mode;
@@ -67,7 +68,7 @@ named_anywhere image v x up other h = record {
 
 module _ (s : State) (is : IsState s) (up : IsFalse s.halted) (desks : Desks) (still : (n : ℕ) → IsTrue (is_open s.desks n) → IsTrue (is_open desks n))
     (dir : ℕ) (directory : Node) (name : List ℕ) (n : ℕ) (to_dir : ℕ) (to_directory : Node) (to_name : List ℕ) (o : Option ℕ)
-    (moves : MovesName s.tree s.desks dir directory name n to_dir to_directory to_name o) (target : Node) (at : node_at s.tree n ≡ Some target) where
+    (moves : MovesName s.room s.tree s.desks dir directory name n to_dir to_directory to_name o) (target : Node) (at : node_at s.tree n ≡ Some target) where
   abbrev pub less : Names
   less = without name_cmp (names_in directory.body) name
 
@@ -190,8 +191,8 @@ module _ (s : State) (is : IsState s) (up : IsFalse s.halted) (desks : Desks) (s
   -- ---- the image
 
   module _ (p : Place) (room : s.room ≡ room_of p) where
-    module _ (old mid : SectorMap) (held : HoldsAll p old (placed s.tree)) (first : ChangesInode p dir old mid) (used : bit mid inode_bitmap dir ≡ bit old inode_bitmap dir)
-        (here : HoldsNode mid (inode_at p mid dir) (record { node = renamed_node directory less; names = names_of s.tree dir; parent = parent s.tree dir })) where
+    module _ (old mid : SectorMap) (held : HoldsAll p old (placed s.tree)) (first : ChangesInode p dir old mid) (used : bit mid p.inode_bitmap dir ≡ bit old p.inode_bitmap dir)
+        (here : HoldsNode p.version mid (inode_at p mid dir) (record { node = renamed_node directory less; names = names_of s.tree dir; parent = parent s.tree dir })) where
       taken_held : HoldsAll p mid taken
       taken_held =
           one_replaced p dir old mid (placed s.tree) held (node_below s p is room dir directory moves.stands) first _ _
@@ -217,18 +218,18 @@ module _ (s : State) (is : IsState s) (up : IsFalse s.halted) (desks : Desks) (s
       to_below = node_below s p is room to_dir to_directory moves.to_stands
 
       -- the directory to which the name goes, before it has it
-      pub middle_held : HoldsNode mid (inode_at p mid to_dir) (record { node = middle.node; names = names_of s.tree to_dir; parent = parent s.tree to_dir })
+      pub middle_held : HoldsNode p.version mid (inode_at p mid to_dir) (record { node = middle.node; names = names_of s.tree to_dir; parent = parent s.tree to_dir })
       middle_held = held_at p mid taken taken_held to_dir to_below _ middle_is
 
       -- the name was taken, and given
-      pub begun_held : (new : SectorMap) → ChangesInode p to_dir mid new → bit new inode_bitmap to_dir ≡ bit mid inode_bitmap to_dir
-          → HoldsNode new (inode_at p new to_dir) (record { node = renamed_node middle.node more; names = names_of s.tree to_dir; parent = parent s.tree to_dir })
+      pub begun_held : (new : SectorMap) → ChangesInode p to_dir mid new → bit new p.inode_bitmap to_dir ≡ bit mid p.inode_bitmap to_dir
+          → HoldsNode p.version new (inode_at p new to_dir) (record { node = renamed_node middle.node more; names = names_of s.tree to_dir; parent = parent s.tree to_dir })
           → HoldsAll p new begun
       begun_held new second same now = one_replaced p to_dir mid new taken taken_held to_below second _ _ middle_is now same
 
     -- one directory gave up the name and got it, at once
-    pub begun_here : (old new : SectorMap) → HoldsAll p old (placed s.tree) → dir ≡ to_dir → ChangesInode p dir old new → bit new inode_bitmap dir ≡ bit old inode_bitmap dir
-        → HoldsNode new (inode_at p new dir) (record { node = renamed_node directory (with_entry name_cmp less to_name n); names = names_of s.tree dir; parent = parent s.tree dir })
+    pub begun_here : (old new : SectorMap) → HoldsAll p old (placed s.tree) → dir ≡ to_dir → ChangesInode p dir old new → bit new p.inode_bitmap dir ≡ bit old p.inode_bitmap dir
+        → HoldsNode p.version new (inode_at p new dir) (record { node = renamed_node directory (with_entry name_cmp less to_name n); names = names_of s.tree dir; parent = parent s.tree dir })
         → HoldsAll p new begun
     begun_here old new held one changes same here =
         same_placed p new (placing dir (Some now) (placed s.tree)) begun
@@ -272,25 +273,25 @@ module _ (s : State) (is : IsState s) (up : IsFalse s.halted) (desks : Desks) (s
     parent_then d = moved_parent s.room s.tree s.desks dir directory name n to_dir to_directory to_name o is.tree moves (record { node = target; is_there = at; directory = d }) n_not_root
 
     -- a directory has its new parent
-    pub parent_held : (mid new : SectorMap) → HoldsAll p mid begun → IsTrue (is_directory target.body) → ChangesInode p n mid new → bit new inode_bitmap n ≡ bit mid inode_bitmap n
-        → HoldsNode new (inode_at p new n) (record { node = target; names = names_of s.tree n; parent = to_dir }) → HoldsAll p new arrived
+    pub parent_held : (mid new : SectorMap) → HoldsAll p mid begun → IsTrue (is_directory target.body) → ChangesInode p n mid new → bit new p.inode_bitmap n ≡ bit mid p.inode_bitmap n
+        → HoldsNode p.version new (inode_at p new n) (record { node = target; names = names_of s.tree n; parent = to_dir }) → HoldsAll p new arrived
     parent_held mid new held d changes same here =
         one_replaced p n mid new begun held n_below changes _ _ begun_n
-        (subst (λ k. HoldsNode new (inode_at p new n) (record { node = target; names = names_of s.tree n; parent = k })) (sym (parent_then d)) here) same
+        (subst (λ k. HoldsNode p.version new (inode_at p new n) (record { node = target; names = names_of s.tree n; parent = k })) (sym (parent_then d)) here) same
 
     -- what is no directory, or stays in its directory, has none to get
     pub no_parent_held : (image : SectorMap) → HoldsAll p image begun → IsFalse (is_directory target.body) ⊎ (dir ≡ to_dir) → HoldsAll p image arrived
     no_parent_held image held why = restated p image begun held n _ _ begun_n (go (is_directory target.body) refl)
       where
-        was : HoldsNode image (inode_at p image n) (record { node = target; names = names_of s.tree n; parent = parent s.tree n })
+        was : HoldsNode p.version image (inode_at p image n) (record { node = target; names = names_of s.tree n; parent = parent s.tree n })
         was = held_at p image begun held n n_below _ begun_n
 
-        go : (b : Bool) → is_directory target.body ≡ b → HoldsNode image (inode_at p image n) (record { node = target; names = names_of s.tree n; parent = parent u n })
-        go false e = named_anywhere image (inode_at p image n) _ (parent u n) e was
+        go : (b : Bool) → is_directory target.body ≡ b → HoldsNode p.version image (inode_at p image n) (record { node = target; names = names_of s.tree n; parent = parent u n })
+        go false e = named_anywhere p.version image (inode_at p image n) _ (parent u n) e was
         go true e =
             let same : dir ≡ to_dir = elim why [ inl other ↦ absurd cc | inr same ↦ same ] in
             let stays_there : parent s.tree n ≡ parent u n = parent_was (record { node = target; is_there = at; directory = e }) ∙ same ∙ sym (parent_then e) in
-            subst (λ k. HoldsNode image (inode_at p image n) (record { node = target; names = names_of s.tree n; parent = k })) stays_there was
+            subst (λ k. HoldsNode p.version image (inode_at p image n) (record { node = target; names = names_of s.tree n; parent = k })) stays_there was
 
     moved_then : (image : SectorMap) → HoldsAll p image (placed (swept u desks)) → HoldsAll p image (placed (swept (changed s.tree (MoveName dir name to_dir to_name)) desks))
     moved_then image h = subst (λ w. HoldsAll p image (placed (swept w desks))) (sym (moved_is s.room s.tree s.desks dir directory name n to_dir to_directory to_name o is.tree moves)) h
@@ -333,18 +334,18 @@ module _ (s : State) (is : IsState s) (up : IsFalse s.halted) (desks : Desks) (s
             (placed_once arrived (placed (swept u desks)) m q is_q (λ x ne. as_arrived x (ap (λ z. lost_of z x) led ∙ once_other m x (λ e. ne (sym e))))))
 
         -- what was replaced stays
-        pub move_take_held : (not (names_of s.tree m - 1 == 0) || lives_nameless desks m replaced.body) ≡ true → bit new inode_bitmap m ≡ bit mid inode_bitmap m
-            → HoldsNode new (inode_at p new m) (record { node = replaced; names = names_of s.tree m - 1; parent = parent (changed s.tree (MoveName dir name to_dir to_name)) m })
+        pub move_take_held : (not (names_of s.tree m - 1 == 0) || lives_nameless desks m replaced.body) ≡ true → bit new p.inode_bitmap m ≡ bit mid p.inode_bitmap m
+            → HoldsNode p.version new (inode_at p new m) (record { node = replaced; names = names_of s.tree m - 1; parent = parent (changed s.tree (MoveName dir name to_dir to_name)) m })
             → HoldsAll p new (placed (swept (changed s.tree (MoveName dir name to_dir to_name)) desks))
         move_take_held stay same here =
             replaced_then _
             (placed_stays u desks loses.numbers gone m replaced at_then (ap (λ k. not (k == 0) || lives_nameless desks m replaced.body) names_less ∙ stay)
             ∙ ap (λ k. Some (record { node = replaced; names = k; parent = parent u m })) names_less)
             (one_replaced p m mid new arrived held m_below changes _ _ arrived_m
-            (subst (λ w. HoldsNode new (inode_at p new m) (record { node = replaced; names = names_of s.tree m - 1; parent = parent w m })) (moved_is s.room s.tree s.desks dir directory name n to_dir to_directory to_name o is.tree moves) here) same)
+            (subst (λ w. HoldsNode p.version new (inode_at p new m) (record { node = replaced; names = names_of s.tree m - 1; parent = parent w m })) (moved_is s.room s.tree s.desks dir directory name n to_dir to_directory to_name o is.tree moves) here) same)
 
         -- it goes
-        pub move_drop_held : (not (names_of s.tree m - 1 == 0) || lives_nameless desks m replaced.body) ≡ false → bit new inode_bitmap m ≡ false
+        pub move_drop_held : (not (names_of s.tree m - 1 == 0) || lives_nameless desks m replaced.body) ≡ false → bit new p.inode_bitmap m ≡ false
             → inode_at p new m ≡ free_inode → HoldsAll p new (placed (swept (changed s.tree (MoveName dir name to_dir to_name)) desks))
         move_drop_held goes clear free =
             replaced_then None

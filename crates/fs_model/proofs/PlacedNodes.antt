@@ -12,7 +12,7 @@ use Rattle.std.specs.Ordering.{nat_cmp}
 use Rattle.fs_layout.specs.declared.place.Place.{Place}
 use Rattle.fs_layout.specs.Bytes.{SectorMap}
 use Rattle.fs_layout.specs.Inode.{free_inode}
-use Rattle.fs_layout.specs.Images.{bit, inode_bitmap, inode_at}
+use Rattle.fs_layout.specs.Images.{bit, inode_at}
 use Rattle.fs_layout.specs.InodeChanges.{ChangesInode}
 use Rattle.fs_layout.specs.Maps.{IsMap}
 use Rattle.fs_model.specs.Nodes.{Node, type_of}
@@ -68,7 +68,7 @@ placed_twice what next a b x y at_a at_b others = placed_once (placing a x what)
 
 module _ (p : Place) (n : ℕ) (old new : SectorMap) (what : ℕ → Option Placed) (h : HoldsAll p old what) (below : n < p.inodes) (changes : ChangesInode p n old new) where
   -- inode n holds this then
-  pub one_placed : (o : Option Placed) → HoldsPlaced p new n o → bit new inode_bitmap n ≡ (nat_eq n 0 || nat_le p.inodes n || is_some o)
+  pub one_placed : (o : Option Placed) → HoldsPlaced p new n o → bit new p.inode_bitmap n ≡ (nat_eq n 0 || nat_le p.inodes n || is_some o)
       → HoldsAll p new (placing n o what)
   one_placed o here marked =
       one_node_changes p n old new what (placing n o what) h changes (record {
@@ -79,14 +79,14 @@ module _ (p : Place) (n : ℕ) (old new : SectorMap) (what : ℕ → Option Plac
       })
 
   -- where it held a node before
-  pub one_replaced : (x y : Placed) → what n ≡ Some x → HoldsNode new (inode_at p new n) y → bit new inode_bitmap n ≡ bit old inode_bitmap n
+  pub one_replaced : (x y : Placed) → what n ≡ Some x → HoldsNode p.version new (inode_at p new n) y → bit new p.inode_bitmap n ≡ bit old p.inode_bitmap n
       → HoldsAll p new (placing n (Some y) what)
   one_replaced x y was here same =
       one_placed (Some y) here
-      (same ∙ h.inode_bits n (let most = h.consistent.place.most_inodes in omega (arith, below, most)) ∙ ap (λ q. nat_eq n 0 || nat_le p.inodes n || is_some q) was)
+      (same ∙ h.inode_bits n (let bits = h.consistent.place.inode_bits in omega (arith, below, bits)) ∙ ap (λ q. nat_eq n 0 || nat_le p.inodes n || is_some q) was)
 
   -- where it holds none
-  pub one_dropped : 1 ≤ n → inode_at p new n ≡ free_inode → bit new inode_bitmap n ≡ false → HoldsAll p new (placing n None what)
+  pub one_dropped : 1 ≤ n → inode_at p new n ≡ free_inode → bit new p.inode_bitmap n ≡ false → HoldsAll p new (placing n None what)
   one_dropped some free clear =
       let low = below in
       let positive : nat_eq n 0 ≡ false = grind (arith, nat_tests) in
@@ -94,11 +94,11 @@ module _ (p : Place) (n : ℕ) (old new : SectorMap) (what : ℕ → Option Plac
       one_placed None free (clear ∙ sym (ap (λ b. b || nat_le p.inodes n || false) positive ∙ ap (λ b. b || false) inside))
 
 module _ (p : Place) (image : SectorMap) (what : ℕ → Option Placed) (h : HoldsAll p image what) (n : ℕ) where
-  pub held_at : n < p.inodes → (x : Placed) → what n ≡ Some x → HoldsNode image (inode_at p image n) x
+  pub held_at : n < p.inodes → (x : Placed) → what n ≡ Some x → HoldsNode p.version image (inode_at p image n) x
   held_at below x was = subst (HoldsPlaced p image n) was (h.nodes n below)
 
   -- nothing changes, and inode n holds another node as well
-  pub restated : (x y : Placed) → what n ≡ Some x → HoldsNode image (inode_at p image n) y → HoldsAll p image (placing n (Some y) what)
+  pub restated : (x y : Placed) → what n ≡ Some x → HoldsNode p.version image (inode_at p image n) y → HoldsAll p image (placing n (Some y) what)
   restated x y was here = record {
     consistent = h.consistent;
     nodes = λ m lt. elim (cases_eq m n) [
@@ -160,9 +160,9 @@ module _ (s : State) (is : IsState s) (up : IsFalse s.halted) (desks : Desks) (s
       → stays u desks (n, node) ≡ true
   stays_if n node old was type names =
       let fits = is.desks up in
-      let fit : NamesFit n node.body (names_of s.tree n) = same_fit n (names_of s.tree n) node.body old.body type (is.tree.each n old was).names in
+      let fit : NamesFit s.room n node.body (names_of s.tree n) = same_fit s.room n (names_of s.tree n) node.body old.body type (is.tree.each n old was).names in
       ap (λ k. not (k == 0) || lives_nameless desks n node.body) names
-      ∙ fitting_stays desks n node.body (names_of s.tree n) fit (λ none ne. still n (fits.nameless n old was none ne))
+      ∙ fitting_stays s.room desks n node.body (names_of s.tree n) fit (λ none ne. still n (fits.nameless n old was none ne))
       (λ e. same_directory node.body old.body type ∙ root_directory s.room s.tree n old is.tree was e)
 
   -- and all of it is as it was

@@ -1,13 +1,13 @@
 -- What an image stands for rests on what it reads as after recovery: superblock, tables and used data sectors. So it rests
 -- on the superblock, the commit sector with its log, and the sectors from the bitmaps on.
 use Rattle.std.specs.Prelude.{◌≡◌, ℕ, ◌<◌, ◌≤◌}
-use Rattle.std.proofs.Common.{sym, ap, arith, ◌∙◌}
+use Rattle.std.proofs.Common.{sym, ap, subst, arith, ◌∙◌}
 use Rattle.fs_layout.specs.Bytes.{SectorMap}
-use Rattle.fs_layout.specs.Header.{header_of}
+use Rattle.fs_layout.specs.Header.{header_of, log_end}
 use Rattle.fs_layout.specs.Recovered.{recovered}
 use Rattle.fs_layout.proofs.Agree.{same_agrees, agree_free_sectors}
 use Rattle.fs_layout.proofs.Places.{place_is_laid_out, place_is_place}
-use Rattle.fs_layout.proofs.RecoveryLaw.{recovered-alike, recovered-super, valid_alike}
+use Rattle.fs_layout.proofs.RecoveryLaw.{log_there, recovered-alike, recovered-super, valid_alike}
 use Rattle.fs_model.specs.Trees.{Tree, Room}
 use Rattle.fs_model.specs.Stands.{placed, Stands}
 use Rattle.fs_model.specs.Laws.{ReadsAlike, SaysSame}
@@ -34,9 +34,12 @@ pub standing_rests : (sectors : ℕ) (old new : SectorMap) (room : Room) (t : Tr
 standing_rests sectors old new room t free same x =
     let p = x.place in
     let size : p.sectors ≡ sectors = ap (λ q. q.sectors) (place_is_laid_out sectors x.super.inodes x.has_place) in
-    let place = place_is_place _ sectors x.super.inodes x.has_place in
-    let each : (s : ℕ) → 128 ≤ s → s < p.sectors → recovered sectors new s ≡ recovered sectors old s =
-    λ s past low. recovered-alike sectors old new s (ap header_of same.super) same.commit same.header same.log (same.others s past (omega (arith, low, size))) in
+    let place = place_is_place _ _ sectors x.super.inodes x.has_place in
+    let log : log_end (header_of (old 0)) ≡ p.inode_bitmap = log_there x.super (old 0) sectors x.super_fits x.super_is x.has_place in
+    let each : (s : ℕ) → p.inode_bitmap ≤ s → s < p.sectors → recovered sectors new s ≡ recovered sectors old s =
+    λ s past low.
+    recovered-alike sectors old new s (ap header_of same.super) same.commit same.header same.log
+    (same.others s (subst (λ n. n ≤ s) (sym log) past) (omega (arith, low, size))) in
     standing_rests_on_reading sectors old new room t free x (record {
       commit = valid_alike sectors old new (ap header_of same.super) same.commit same.header x.commit_is;
       super = recovered-super sectors new ∙ same.super ∙ sym (recovered-super sectors old);

@@ -56,8 +56,8 @@ pub under : (t u : Tree) → ((d : ℕ) → parent u d ≡ parent t d) → {d : 
 under t u same is_root = is_root
 under t u same (is_in d below) = is_in d (subst (IsUnderRoot u) (sym (same d)) (under t u same below))
 
-fits_moves : (n : ℕ) (b : Body) (names names' : ℕ) → names' ≡ names → NamesFit n b names → NamesFit n b names'
-fits_moves n b names names' e h = subst (NamesFit n b) (sym e) h
+fits_moves : (room : Room) (n : ℕ) (b : Body) (names names' : ℕ) → names' ≡ names → NamesFit room n b names → NamesFit room n b names'
+fits_moves room n b names names' e h = subst (NamesFit room n b) (sym e) h
 
 -- what a rewritten object has to be
 pub record MayStandFor (room : Room) (t : Tree) (k : ℕ) (old new : Node) : Type 0 where
@@ -66,7 +66,7 @@ pub record MayStandFor (room : Room) (t : Tree) (k : ℕ) (old new : Node) : Typ
   pub owner : new.owner < 2 ^ 32
   pub group : new.group < 2 ^ 32
   pub body : IsBody room t new.body
-  pub fits : NamesFit k new.body (names_of t k)
+  pub fits : NamesFit room k new.body (names_of t k)
 
 pub rewritten_is_tree : (room : Room) (t : Tree) (k : ℕ) (old new : Node) → IsTree room t → node_at t k ≡ Some old → MayStandFor room t k old new → IsTree room (with_node t k new)
 rewritten_is_tree room t k old new h was w = record {
@@ -110,7 +110,7 @@ rewritten_is_tree room t k old new h was w = record {
           owner = w.owner;
           group = w.group;
           body = body_moves room t (with_node t k new) new.body (λ q h. there q ∙ h) w.body;
-          names = fits_moves k new.body _ _ (names_of-rewritten t k old new h.numbers was w.names k) w.fits;
+          names = fits_moves room k new.body _ _ (names_of-rewritten t k old new h.numbers was w.names k) w.fits;
           under_root = λ d. under t (with_node t k new) parents (was_node.under_root (sym w.kind ∙ d));
         }))
     each n node false c e =
@@ -121,6 +121,6 @@ rewritten_is_tree room t k old new h was w = record {
           owner = was_node.owner;
           group = was_node.group;
           body = body_moves room t (with_node t k new) node.body (λ q h. there q ∙ h) was_node.body;
-          names = fits_moves n node.body _ _ (names_of-rewritten t k old new h.numbers was w.names n) was_node.names;
+          names = fits_moves room n node.body _ _ (names_of-rewritten t k old new h.numbers was w.names n) was_node.names;
           under_root = λ d. under t (with_node t k new) parents (was_node.under_root d);
         }

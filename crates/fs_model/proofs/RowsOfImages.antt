@@ -10,6 +10,7 @@ use Rattle.posix_acl.specs.AccessList.{AccessList, IsAcl, minimal}
 use Rattle.posix_acl.proofs.Laws.{minimal_valid}
 use Rattle.fs_layout.specs.declared.inode.Kind.TheVariants as kinds
 use Rattle.fs_layout.specs.declared.inode.Inode.{Inode}
+use Rattle.fs_layout.specs.declared.version.Version.TheVariants.{One}
 use Rattle.fs_layout.specs.Bytes.{IsBytes, SectorMap, le16, le32, zeros}
 use Rattle.fs_layout.specs.Inode.{free_inode}
 use Rattle.fs_layout.specs.AclSector.{entries_bytes, acl_content}
@@ -143,9 +144,9 @@ directory_inode = with_block 149 (record free_inode { kind = kinds.Directory; mo
 link_inode : Inode
 link_inode = with_block 150 (record free_inode { kind = kinds.Link; mode = 0o777; names = 2; size = 1 })
 
-a_file_with_an_acl : HoldsNode image file_inode (record { node = record { owner = 1000; group = 100; body = File acl (codes "hello") }; names = 1; parent = 1 })
+a_file_with_an_acl : HoldsNode One image file_inode (record { node = record { owner = 1000; group = 100; body = File acl (codes "hello") }; names = 1; parent = 1 })
 unfolding file_inode with_block acl image acl_sector file_block acl_content entries_bytes le16 le32 zeros
-a_file_with_an_acl = node_held image file_inode _ refl refl refl refl refl (record {
+a_file_with_an_acl = node_held One image file_inode _ refl refl refl refl refl (record {
   kind = refl;
   holds = one_block_holds image file_inode 147 (codes "hello")
       (one_block image file_inode 147 (codes "hello") refl refl refl (λ e. omega (arith, e)) refl refl (omega arith) (omega arith));
@@ -179,7 +180,7 @@ slots_are_apart =
 abbrev IsPlain : ℕ → Type 0
 IsPlain b = (b ≢ 0) × (b ≢ 47)
 
-letter_fits : (n b : ℕ) → n < 2 ^ 32 → b < 256 → b ≢ 0 → b ≢ 47 → b ≢ 46 → FitsSlot (record { inode = n; name = b ∷ [] })
+letter_fits : (n b : ℕ) → n < 2 ^ 32 → b < 256 → b ≢ 0 → b ≢ 47 → b ≢ 46 → FitsSlot One (record { inode = n; name = b ∷ [] })
 letter_fits n b fits byte none slash dot = record {
   inode = fits;
   name = record {
@@ -189,6 +190,7 @@ letter_fits n b fits byte none slash dot = record {
     not_dot = λ e. dot (ap (λ s. get_or s 0 0) e);
     not_dot_dot = λ e. let len = ap length e in absurd (omega (arith, len));
   };
+  short = omega arith;
   bytes = one_byte;
 }
   where
@@ -196,29 +198,30 @@ letter_fits n b fits byte none slash dot = record {
     one_byte zero = byte
     one_byte (suc i) = let e = get_or_past (b ∷ []) (suc i) 0 (omega arith) in omega (arith, e)
 
-slots_fit : All FitsSlot slots
+slots_fit : All (FitsSlot One) slots
 slots_fit =
-    All-cons FitsSlot slot_b (slot_a ∷ []) (letter_fits 3 98 (omega arith) (omega arith) (λ e. omega (arith, e)) (λ e. omega (arith, e)) (λ e. omega (arith, e)))
-    (All-cons FitsSlot slot_a [] (letter_fits 2 97 (omega arith) (omega arith) (λ e. omega (arith, e)) (λ e. omega (arith, e)) (λ e. omega (arith, e))) (All-nil FitsSlot))
+    All-cons (FitsSlot One) slot_b (slot_a ∷ []) (letter_fits 3 98 (omega arith) (omega arith) (λ e. omega (arith, e)) (λ e. omega (arith, e)) (λ e. omega (arith, e)))
+    (All-cons (FitsSlot One) slot_a [] (letter_fits 2 97 (omega arith) (omega arith) (λ e. omega (arith, e)) (λ e. omega (arith, e)) (λ e. omega (arith, e))) (All-nil (FitsSlot One)))
 
-directory_has_a_block : HasOneBlock image directory_inode 149 (slots_bytes slots)
+directory_has_a_block : HasOneBlock image directory_inode 149 (slots_bytes One slots)
 unfolding directory_inode with_block image slots_block le32 zeros
-directory_has_a_block = one_block image directory_inode 149 (slots_bytes slots) refl refl refl (λ e. omega (arith, e)) refl refl (omega arith) (omega arith)
+directory_has_a_block = one_block image directory_inode 149 (slots_bytes One slots) refl refl refl (λ e. omega (arith, e)) refl refl (omega arith) (omega arith)
 
 abbrev two_names : Directory
 two_names = record { names = (codes "a", 2) ∷ (codes "b", 3) ∷ []; default = None; set_group_id = true; sticky = true }
 
-a_directory_with_two_names : HoldsNode image directory_inode (record { node = record { owner = 0; group = 0; body = Dir (minimal 0o755) two_names }; names = 1; parent = 1 })
+a_directory_with_two_names : HoldsNode One image directory_inode (record { node = record { owner = 0; group = 0; body = Dir (minimal 0o755) two_names }; names = 1; parent = 1 })
 unfolding directory_inode with_block names_of_slots zeros
-a_directory_with_two_names = node_held image directory_inode _ refl refl refl refl refl (record {
+a_directory_with_two_names = node_held One image directory_inode _ refl refl refl refl refl (record {
   names = record {
     kind = refl;
     slots = slots;
     are = refl;
     apart = slots_are_apart;
     each = slots_fit;
-    holds = one_block_holds image directory_inode 149 (slots_bytes slots) directory_has_a_block;
-    whole = one_block_is_whole image directory_inode 149 (slots_bytes slots) directory_has_a_block;
+    few = omega arith;
+    holds = one_block_holds image directory_inode 149 (slots_bytes One slots) directory_has_a_block;
+    whole = one_block_is_whole image directory_inode 149 (slots_bytes One slots) directory_has_a_block;
   };
   acl = minimal_valid 0o755;
   default = tt;
@@ -232,9 +235,9 @@ link_has_a_block : HasOneBlock image link_inode 150 (codes "a")
 unfolding link_inode with_block image target_block zeros
 link_has_a_block = one_block image link_inode 150 (codes "a") refl refl refl (λ e. omega (arith, e)) refl refl (omega arith) (omega arith)
 
-a_link_with_two_names : HoldsNode image link_inode (record { node = record { owner = 0; group = 0; body = Link (codes "a") }; names = 2; parent = 1 })
+a_link_with_two_names : HoldsNode One image link_inode (record { node = record { owner = 0; group = 0; body = Link (codes "a") }; names = 2; parent = 1 })
 unfolding link_inode with_block zeros
-a_link_with_two_names = node_held image link_inode _ refl refl refl refl refl (record {
+a_link_with_two_names = node_held One image link_inode _ refl refl refl refl refl (record {
   kind = refl;
   holds = one_block_holds image link_inode 150 (codes "a") link_has_a_block;
   whole = one_block_is_whole image link_inode 150 (codes "a") link_has_a_block;

@@ -3,14 +3,16 @@ use Rattle.std.specs.Prelude.{◌≡◌, ℕ, zero, suc, ◌+◌, ◌/◌, ◌%�
 use Rattle.std.proofs.Common.{refl}
 use Rattle.posix_acl.specs.Entries.{perms_of}
 use Rattle.posix_acl.specs.AccessList.{AccessList, minimal}
-use Rattle.fs_cred.specs.declared.errno.Errno.TheVariants.{ENOSPC, EMLINK}
+use Rattle.fs_cred.specs.declared.errno.Errno.TheVariants.{ENOSPC, EMLINK, ENAMETOOLONG}
 use Rattle.fs_cred.specs.Verdicts.{verdict}
 use Rattle.fs_model.specs.declared.call.AclType.TheVariants.{Access as AccessAcl, Default as DefaultAcl}
 use Rattle.fs_model.specs.declared.call.Call.TheVariants.{Open, Write, Stat, Truncate, SetAcl, Mkdir, Link, Symlink, Rename}
 use Rattle.fs_model.specs.declared.reply.Reply.TheVariants.{Done, Pid, Fd, Wrote, Space}
 use Rattle.fs_model.specs.declared.event.Event.TheVariants.{Call as Calls, Statfs}
 use Rattle.fs_model.specs.Nodes.{Node, Dir, File}
+use Rattle.fs_layout.specs.declared.version.Version.TheVariants.{Three}
 use Rattle.fs_model.specs.States.{State}
+use Rattle.fs_model.specs.Stands.{room_with}
 use Rattle.fs_model.specs.Trails.{trail_of}
 use Rattle.fs_model.specs.Walks.{first_refusal, found_of}
 use Rattle.fs_model.specs.Rows.{row_of}
@@ -52,6 +54,18 @@ pub many_names : replies crowded (
     Pid 1 ∷ Done ∷ failed EMLINK ∷ shows_file 3 0o644 500 0 0 0 ∷ Done ∷ failed ENOSPC ∷ shows_file 4 0o644 60 0 0 0 ∷ shows_directory 2 0o755 0 0 71680 ∷ []
 unfolding verdict trail_of first_refusal found_of row_of firm_refusal other_refusal after
 many_names = refl
+
+-- a disk of the third version
+abbrev of_version_three : State
+of_version_three = record fresh { room = room_with Three 64 878 }
+
+-- its names have up to 248 bytes, and two of them take a block; 128 bytes each are shown
+pub longer_names : replies of_version_three (
+    user 0 0 [] ∷ Calls 1 (Mkdir (codes "/" ++ replicate 249 122) 0o755) ∷ Calls 1 (Mkdir (codes "/" ++ replicate 248 122) 0o755)
+    ∷ Calls 1 (Mkdir (codes "/a") 0o755) ∷ Statfs ∷ Calls 1 (Mkdir (codes "/b") 0o755) ∷ Statfs ∷ Calls 1 (Stat (codes "/")) ∷ []) ≡
+    Pid 1 ∷ failed ENAMETOOLONG ∷ Done ∷ Done ∷ Space 877 60 ∷ Done ∷ Space 876 59 ∷ shows_directory 1 0o755 0 0 384 ∷ []
+unfolding verdict trail_of first_refusal found_of row_of firm_refusal other_refusal after
+longer_names = refl
 
 -- a disk with 17 data sectors
 abbrev of_17_sectors : State

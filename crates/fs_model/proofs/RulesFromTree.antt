@@ -1,5 +1,5 @@
 -- An image that holds a tree obeys the rules.
-use Rattle.std.specs.Prelude.{◌≡◌, ◌≢◌, ℕ, ◌+◌, ◌%◌, ◌<◌, ◌≤◌, ◌==◌, ◌||◌, nat_lt, nat_le, nat_eq, not, Bool, true, false, cond, List, length, get_or, Option, Some, None, is_some, IsTrue, Ok}
+use Rattle.std.specs.Prelude.{◌≡◌, ◌≢◌, ℕ, ◌+◌, ◌*◌, ◌%◌, ◌<◌, ◌≤◌, ◌==◌, ◌||◌, nat_lt, nat_le, nat_eq, not, Bool, true, false, cond, List, length, get_or, Option, Some, None, is_some, IsTrue, Ok}
 use Rattle.std.proofs.Common.{refl, sym, ap, arith, ◌∙◌, subst, inl, inr}
 use Rattle.std.specs.Option.{option_map}
 use Rattle.std.proofs.lemmas.Bool.{cases_eq, cases_lt}
@@ -9,16 +9,17 @@ use Rattle.posix_acl.specs.AccessList.{AccessList, IsAcl, is_extended, mode_bits
 use Rattle.fs_layout.specs.declared.inode.TheConstants.{S_ISGID, S_ISVTX}
 use Rattle.fs_layout.specs.declared.inode.Kind.TheVariants as kinds
 use Rattle.fs_layout.specs.declared.inode.Inode.{Inode}
+use Rattle.fs_layout.specs.declared.version.Version.{Version}
 use Rattle.fs_layout.specs.declared.place.Place.{Place}
 use Rattle.fs_layout.specs.Bytes.{SectorMap, u16_of}
 use Rattle.fs_layout.specs.Inode.{free_inode, inode_fits}
 use Rattle.fs_layout.specs.AclSector.{acl_sector_of, acl_content, HoldsAcl}
-use Rattle.fs_layout.specs.Images.{stored, inode_at, pointer, Holds, HasNoHole}
+use Rattle.fs_layout.specs.Images.{inode_map_bits, stored, inode_at, pointer, Holds, HasNoHole}
 use Rattle.fs_layout.proofs.AclSectorLaw.{acl_sector_codec}
 use Rattle.fs_layout.proofs.Free.{free_has_no_sector, holds_nothing, inode_fits_there}
 use Rattle.fs_layout.proofs.Parts.{owns_block}
 use Rattle.fs_layout.proofs.Pointers.{trimmed_double}
-use Rattle.fs_layout.specs.Version.{max_file_size}
+use Rattle.fs_layout.specs.Version.{max_file_size, max_inode_names, max_directory_size, slot_size}
 use Rattle.fs_model.specs.Limits.{root}
 use Rattle.fs_layout.specs.Maps.{name_cmp, get}
 use Rattle.fs_model.specs.Nodes.{Node, Body, File, Dir, Link, Directory, shown_mode}
@@ -31,10 +32,12 @@ use Rattle.fs_layout.specs.Directories.{HasNames, stored_slot, slot_at, slot_cou
 use Rattle.fs_model.specs.Rules.{ImageRule, InodeBits, Inodes, InData, OwnedOnce, BlockBits, LaidOut, Acls, Slots, NamesApart, Names, Parents, Ways, ObeysEach, IsBit, IsLaidOut, IsStoredAcl, HasSomeAccessAcl, HasSomeDefaultAcl, HasAcls, IsAllowed, IsGoodInode, IsGoodSlot, HasNameCount, HasParent, AreNamesApart, GoesUp, at_root, above, namings, namings_in}
 use Rattle.fs_layout.proofs.SlotNames.{slot_leads}
 use Rattle.fs_model.specs.Summaries.{is_used}
-use Rattle.fs_model.proofs.BuiltNodes.{directory_fits, link_fits}
+use Rattle.fs_model.proofs.BuiltNodes.{link_fits}
 use Rattle.fs_model.proofs.KindFields.{kind_field}
 use Rattle.fs_model.proofs.Marks.{marks}
-use Rattle.fs_layout.proofs.ImageSlots.{slot_is, count_is}
+use Rattle.fs_layout.proofs.ImageSlots.{length-slots, slot_is, count_is}
+use Rattle.fs_layout.proofs.SlotSizes.{slots_most}
+use Rattle.fs_model.proofs.VersionLimits.{slots_even, directory_low}
 use Rattle.fs_model.proofs.StoredTrees.{StoresAt, Stores, unnamed, names_there, names_are_slots, used_is, directory_there, directory_stored, below_if}
 
 -- ---- one inode
@@ -61,12 +64,12 @@ laid_out_if m v bytes h whole target = record {
       (target e).no_zero i 0 below (sym (h.byte i) ∙ zero);
 }
 
-body_laid_out : (room : Room) (t : Tree) (m : SectorMap) (v : Inode) (b : Body) → HoldsBody m v b → IsBody room t b → IsLaidOut m v
-body_laid_out room t m v (File a bytes) h is =
+body_laid_out : (version : Version) (room : Room) (t : Tree) (m : SectorMap) (v : Inode) (b : Body) → HoldsBody version m v b → IsBody room t b → IsLaidOut m v
+body_laid_out version room t m v (File a bytes) h is =
     laid_out_if m v bytes h.holds (λ ne. absurd (ne h.kind)) (λ e. absurd (let c : kinds.File ≡ kinds.Link = sym h.kind ∙ e in cc))
-body_laid_out room t m v (Dir a d) h is =
+body_laid_out version room t m v (Dir a d) h is =
     laid_out_if m v _ h.names.holds (λ ne. h.names.whole) (λ e. absurd (let c : kinds.Directory ≡ kinds.Link = sym h.names.kind ∙ e in cc))
-body_laid_out room t m v (Link target) h is = laid_out_if m v target h.holds (λ ne. h.whole) (λ e. is)
+body_laid_out version room t m v (Link target) h is = laid_out_if m v target h.holds (λ ne. h.whole) (λ e. is)
 
 stored_acl : (s : List ℕ) (a : AccessList) → IsAcl a → s ≡ acl_content a → IsStoredAcl s a
 unfolding acl_content
@@ -88,8 +91,8 @@ low_bits mode low true false small e = omega (arith, small, e)
 low_bits mode low false true small e = omega (arith, small, e)
 low_bits mode low false false small e = omega (arith, small, e)
 
-body_acls : (m : SectorMap) (v : Inode) (b : Body) → HoldsBody m v b → v.mode ≡ shown_mode b → HasAcls m v
-body_acls m v (File a bytes) h mode =
+body_acls : (version : Version) (m : SectorMap) (v : Inode) (b : Body) → HoldsBody version m v b → v.mode ≡ shown_mode b → HasAcls m v
+body_acls version m v (File a bytes) h mode =
     let small = mode_small a in
     record {
       access = access_stored m v a (is_extended a) refl h.acl (omega (arith, small, mode)) h.has_acl;
@@ -97,13 +100,13 @@ body_acls m v (File a bytes) h mode =
       no_link = λ e. absurd (let c : kinds.File ≡ kinds.Link = sym h.kind ∙ e in cc);
       only_directory = λ ne. h.no_default;
     }
-body_acls m v (Dir a d) h mode = record {
+body_acls version m v (Dir a d) h mode = record {
   access = access_stored m v a (is_extended a) refl h.acl (low_bits v.mode (mode_bits a) d.sticky d.set_group_id (mode_small a) mode) h.has_acl;
   default = default_stored m v d.default h.default h.has_default;
   no_link = λ e. absurd (let c : kinds.Directory ≡ kinds.Link = sym h.names.kind ∙ e in cc);
   only_directory = λ ne. absurd (ne h.names.kind);
 }
-body_acls m v (Link target) h mode = record {
+body_acls version m v (Link target) h mode = record {
   access = λ some. absurd (some h.no_acl);
   default = λ some. absurd (some h.no_default);
   no_link = λ e. h.no_acl;
@@ -118,47 +121,66 @@ free_acls m = record {
   only_directory = λ ne. refl;
 }
 
-body_has_names : (n : ℕ) (m : SectorMap) (v : Inode) (b : Body) (count : ℕ) → HoldsBody m v b → NamesFit n b count → v.names ≡ names_field b count
-    → HasNameCount v.kind n v.names count
-body_has_names n m v (File a bytes) count h fit e = subst (λ k. HasNameCount k n v.names count) (sym h.kind) (e, fit)
-body_has_names n m v (Dir a d) count h fit e = subst (λ k. HasNameCount k n v.names count) (sym h.names.kind) (e, fit)
-body_has_names n m v (Link target) count h fit e = subst (λ k. HasNameCount k n v.names count) (sym h.kind) (e, fit.0, fit.1)
+body_has_names : (version : Version) (room : Room) → room.names_limit ≡ max_inode_names version
+    → (n : ℕ) (m : SectorMap) (v : Inode) (b : Body) (count : ℕ) → HoldsBody version m v b → NamesFit room n b count → v.names ≡ names_field b count
+    → HasNameCount version v.kind n v.names count
+body_has_names version room same n m v (File a bytes) count h fit e =
+    subst (λ k. HasNameCount version k n v.names count) (sym h.kind) (e, subst (λ q. count ≤ q) same fit)
+body_has_names version room same n m v (Dir a d) count h fit e = subst (λ k. HasNameCount version k n v.names count) (sym h.names.kind) (e, fit)
+body_has_names version room same n m v (Link target) count h fit e =
+    subst (λ k. HasNameCount version k n v.names count) (sym h.kind) (e, fit.0, subst (λ q. count ≤ q) same fit.1)
 
-no_parent : (m : SectorMap) (v : Inode) (b : Body) (parent : ℕ) → HoldsBody m v b → v.parent ≡ parent_field b parent → v.kind ≢ kinds.Directory → v.parent ≡ 0
-no_parent m v (File a bytes) parent h e ne = e
-no_parent m v (Dir a d) parent h e ne = absurd (ne h.names.kind)
-no_parent m v (Link target) parent h e ne = e
+no_parent : (version : Version) (m : SectorMap) (v : Inode) (b : Body) (parent : ℕ) → HoldsBody version m v b
+    → v.parent ≡ parent_field b parent → v.kind ≢ kinds.Directory → v.parent ≡ 0
+no_parent version m v (File a bytes) parent h e ne = e
+no_parent version m v (Dir a d) parent h e ne = absurd (ne h.names.kind)
+no_parent version m v (Link target) parent h e ne = e
 
-its_parent : (m : SectorMap) (v : Inode) (b : Body) (parent : ℕ) → HoldsBody m v b → v.parent ≡ parent_field b parent → v.kind ≡ kinds.Directory → v.parent ≡ parent
-its_parent m v (File a bytes) parent h e k = absurd (let c : kinds.File ≡ kinds.Directory = sym h.kind ∙ k in cc)
-its_parent m v (Dir a d) parent h e k = e
-its_parent m v (Link target) parent h e k = absurd (let c : kinds.Link ≡ kinds.Directory = sym h.kind ∙ k in cc)
+its_parent : (version : Version) (m : SectorMap) (v : Inode) (b : Body) (parent : ℕ) → HoldsBody version m v b
+    → v.parent ≡ parent_field b parent → v.kind ≡ kinds.Directory → v.parent ≡ parent
+its_parent version m v (File a bytes) parent h e k = absurd (let c : kinds.File ≡ kinds.Directory = sym h.kind ∙ k in cc)
+its_parent version m v (Dir a d) parent h e k = e
+its_parent version m v (Link target) parent h e k = absurd (let c : kinds.Link ≡ kinds.Directory = sym h.kind ∙ k in cc)
 
 -- what a version allows
-body_allowed : (room : Room) (t : Tree) (m : SectorMap) (v : Inode) (b : Body) → HoldsBody m v b → IsBody room t b → IsTrue (inode_fits v)
-    → IsAllowed room.file_limit v
-body_allowed room t m v (File a bytes) h is fits =
+body_allowed : (version : Version) (room : Room) → room.file_limit ≡ max_file_size version
+    → (t : Tree) (m : SectorMap) (v : Inode) (b : Body) → HoldsBody version m v b → IsBody room t b → IsTrue (inode_fits v)
+    → IsAllowed version v
+body_allowed version room same t m v (File a bytes) h is fits =
     let size = h.holds.size in
     let few = is.1 in
     record {
-      size = λ e. omega (arith, size, few);
-      double_indirect = λ low. trimmed_double m v h.holds.trim (omega (arith, size, few, low));
+      size = λ e. omega (arith, size, few, same);
+      double_indirect = λ low. trimmed_double m v h.holds.trim (omega (arith, size, few, same, low));
+      directory = λ e. absurd (let c : kinds.File ≡ kinds.Directory = sym h.kind ∙ e in cc);
+      slots = λ e. absurd (let c : kinds.File ≡ kinds.Directory = sym h.kind ∙ e in cc);
     }
-body_allowed room t m v (Dir a d) h is fits =
-    let few = (directory_fits v h.names.kind fits).1 in
+body_allowed version room same t m v (Dir a d) h is fits =
+    let n = h.names in
+    let size : v.size ≡ slot_size version * length n.slots = n.holds.size ∙ length-slots version n.slots n.each in
+    let few : v.size ≤ max_directory_size version = subst (λ q. q ≤ max_directory_size version) (sym size) (slots_most version (length n.slots) n.few) in
     record {
       size = λ e. absurd (let c : kinds.Directory ≡ kinds.File = sym h.names.kind ∙ e in cc);
-      double_indirect = λ low. trimmed_double m v h.names.holds.trim (omega (arith, few));
+      double_indirect = λ low. trimmed_double m v n.holds.trim (let most = directory_low version low in omega (arith, few, most));
+      directory = λ e. few;
+      slots = λ e. slots_even version (length n.slots) v.size size;
     }
-body_allowed room t m v (Link target) h is fits =
+body_allowed version room same t m v (Link target) h is fits =
     let few = (link_fits v h.kind fits).2 in
     record {
       size = λ e. absurd (let c : kinds.Link ≡ kinds.File = sym h.kind ∙ e in cc);
       double_indirect = λ low. trimmed_double m v h.holds.trim (omega (arith, few));
+      directory = λ e. absurd (let c : kinds.Link ≡ kinds.Directory = sym h.kind ∙ e in cc);
+      slots = λ e. absurd (let c : kinds.Link ≡ kinds.Directory = sym h.kind ∙ e in cc);
     }
 
-free_allowed : (limit : ℕ) → IsAllowed limit free_inode
-free_allowed limit = record { size = λ e. absurd (let c : kinds.Free ≡ kinds.File = e in cc); double_indirect = λ low. refl }
+free_allowed : (version : Version) → IsAllowed version free_inode
+free_allowed version = record {
+  size = λ e. absurd (let c : kinds.Free ≡ kinds.File = e in cc);
+  double_indirect = λ low. refl;
+  directory = λ e. absurd (let c : kinds.Free ≡ kinds.Directory = e in cc);
+  slots = λ e. absurd (let c : kinds.Free ≡ kinds.Directory = e in cc);
+}
 
 -- ---- the whole tree
 
@@ -173,7 +195,7 @@ module _ (p : Place) (m : SectorMap) (t : Tree) (held : HoldsAll p m (placed t))
       go None e = refl
       go (Some node) e = absurd (let below = (is.each n node e).below in omega (arith, ge, below))
 
-  stored_if : (n : ℕ) (o : Option Node) → HoldsPlaced p m n (option_map (put n) o) → StoresAt m (inode_at p m n) o
+  stored_if : (n : ℕ) (o : Option Node) → HoldsPlaced p m n (option_map (put n) o) → StoresAt p.version m (inode_at p m n) o
   stored_if n None h = h
   stored_if n (Some node) h = record { owner = h.owner; group = h.group; mode = h.mode; body = h.body }
 
@@ -187,7 +209,7 @@ module _ (p : Place) (m : SectorMap) (t : Tree) (held : HoldsAll p m (placed t))
 
   -- a fact of each inode, free or not
   by_node : (Q : ℕ → Type 0) (n : ℕ) → n < p.inodes → (inode_at p m n ≡ free_inode → Q n)
-      → ((node : Node) → node_at t n ≡ Some node → HoldsNode m (inode_at p m n) (put n node) → Q n) → Q n
+      → ((node : Node) → node_at t n ≡ Some node → HoldsNode p.version m (inode_at p m n) (put n node) → Q n) → Q n
   by_node Q n lt free used = go (node_at t n) refl (held.nodes n lt)
     where
       go : (o : Option Node) → node_at t n ≡ o → HoldsPlaced p m n (option_map (put n) o) → Q n
@@ -200,9 +222,9 @@ module _ (p : Place) (m : SectorMap) (t : Tree) (held : HoldsAll p m (placed t))
   good : (n : ℕ) → n < p.inodes → IsGoodInode p m n
   good n lt = record {
     is = held.consistent.valid n lt;
-    allowed = by_node (λ q. IsAllowed (max_file_size p.version) (inode_at p m q)) n lt
-        (λ free. subst (IsAllowed (max_file_size p.version)) (sym free) (free_allowed (max_file_size p.version)))
-        (λ node at h. body_allowed (room_of p) t m (inode_at p m n) node.body h.body (is.each n node at).body (inode_fits_there held.consistent n lt).valid.numbers);
+    allowed = by_node (λ q. IsAllowed p.version (inode_at p m q)) n lt
+        (λ free. subst (IsAllowed p.version) (sym free) (free_allowed p.version))
+        (λ node at h. body_allowed p.version (room_of p) refl t m (inode_at p m n) node.body h.body (is.each n node at).body (inode_fits_there held.consistent n lt).valid.numbers);
     none = λ e. by_node (λ q. (inode_at p m q).kind ≡ kinds.Free) n lt (λ free. ap (λ (v : Inode). v.kind) free)
         (λ node at h. absurd (let positive = (is.each n node at).positive in omega (arith, positive, e)));
     top = λ e. subst (λ q. (inode_at p m q).kind ≡ kinds.Directory) (sym e) (directory_stored p m t stores root is.root_is_there).1;
@@ -215,7 +237,7 @@ module _ (p : Place) (m : SectorMap) (t : Tree) (held : HoldsAll p m (placed t))
       go None = refl
       go (Some node) = refl
 
-  inode_bit : (n : ℕ) → n < 4096 → IsBit p m n
+  inode_bit : (n : ℕ) → n < inode_map_bits p → IsBit p m n
   inode_bit n small = elim (cases_lt n p.inodes) [
     | inl lt ↦
         let used : is_some (placed t n) ≡ not (nat_eq (u16_of (stored p m n) 0) 0) =
@@ -238,58 +260,59 @@ module _ (p : Place) (m : SectorMap) (t : Tree) (held : HoldsAll p m (placed t))
   laid_out : (n : ℕ) → n < p.inodes → IsLaidOut m (inode_at p m n)
   laid_out n lt =
       by_node (λ q. IsLaidOut m (inode_at p m q)) n lt (λ free. subst (IsLaidOut m) (sym free) (free_laid_out m))
-      (λ node at h. body_laid_out (room_of p) t m (inode_at p m n) node.body h.body (is.each n node at).body)
+      (λ node at h. body_laid_out p.version (room_of p) t m (inode_at p m n) node.body h.body (is.each n node at).body)
 
   acls : (n : ℕ) → n < p.inodes → HasAcls m (inode_at p m n)
   acls n lt =
       by_node (λ q. HasAcls m (inode_at p m q)) n lt (λ free. subst (HasAcls m) (sym free) (free_acls m))
-      (λ node at h. body_acls m (inode_at p m n) node.body h.body h.mode)
+      (λ node at h. body_acls p.version m (inode_at p m n) node.body h.body h.mode)
 
-  names : (n : ℕ) → n < p.inodes → HasNameCount (inode_at p m n).kind n (inode_at p m n).names (namings p m n)
+  names : (n : ℕ) → n < p.inodes → HasNameCount p.version (inode_at p m n).kind n (inode_at p m n).names (namings p m n)
   names n lt =
-      by_node (λ q. HasNameCount (inode_at p m q).kind q (inode_at p m q).names (namings p m q)) n lt
-      (λ free. subst (λ v. HasNameCount v.kind n v.names (namings p m n)) (sym free) tt)
-      (λ node at h. subst (HasNameCount (inode_at p m n).kind n (inode_at p m n).names) (sym (count_there n))
-      (body_has_names n m (inode_at p m n) node.body (names_of t n) h.body (is.each n node at).names h.names))
+      by_node (λ q. HasNameCount p.version (inode_at p m q).kind q (inode_at p m q).names (namings p m q)) n lt
+      (λ free. subst (λ v. HasNameCount p.version v.kind n v.names (namings p m n)) (sym free) tt)
+      (λ node at h. subst (HasNameCount p.version (inode_at p m n).kind n (inode_at p m n).names) (sym (count_there n))
+      (body_has_names p.version (room_of p) refl n m (inode_at p m n) node.body (names_of t n) h.body (is.each n node at).names h.names))
 
   -- ---- directories
 
   -- what stands at a directory's number
   record DirectoryAt (n : ℕ) : Type 0 where
     dir : Directory
-    names : HasNames m (inode_at p m n) dir.names
-    valid : IsDirectory t dir
+    names : HasNames p.version m (inode_at p m n) dir.names
+    valid : IsDirectory (room_of p) t dir
 
   directory_at : (n : ℕ) → n < p.inodes → (inode_at p m n).kind ≡ kinds.Directory → DirectoryAt n
   directory_at n lt kind =
       by_node DirectoryAt n lt (λ free. absurd (let c : kinds.Free ≡ kinds.Directory = sym (ap (λ (v : Inode). v.kind) free) ∙ kind in cc))
       (λ node at h. go node.body h.body (is.each n node at).body)
     where
-      go : (b : Body) → HoldsBody m (inode_at p m n) b → IsBody (room_of p) t b → DirectoryAt n
+      go : (b : Body) → HoldsBody p.version m (inode_at p m n) b → IsBody (room_of p) t b → DirectoryAt n
       go (File a bytes) h is = absurd (let c : kinds.File ≡ kinds.Directory = sym h.kind ∙ kind in cc)
       go (Dir a d) h is = record { dir = d; names = h.names; valid = is.2 }
       go (Link target) h is = absurd (let c : kinds.Link ≡ kinds.Directory = sym h.kind ∙ kind in cc)
 
-  read_slot : (n : ℕ) (lt : n < p.inodes) (x : DirectoryAt n) (k : ℕ) (d : NamedInode) → k < slot_count (inode_at p m n)
-      → (k < length x.names.slots) × (slot_of (stored_slot m (inode_at p m n) k) ≡ Ok (slot_at m (inode_at p m n) k))
-      × (slot_at m (inode_at p m n) k ≡ get_or x.names.slots k d)
+  read_slot : (n : ℕ) (lt : n < p.inodes) (x : DirectoryAt n) (k : ℕ) (d : NamedInode) → k < slot_count p.version (inode_at p m n)
+      → (k < length x.names.slots) × (slot_of p.version (stored_slot p.version m (inode_at p m n) k) ≡ Ok (slot_at p.version m (inode_at p m n) k))
+      × (slot_at p.version m (inode_at p m n) k ≡ get_or x.names.slots k d)
   read_slot n lt x k d below =
       let h = x.names in
-      let count = count_is m (inode_at p m n) h.slots h.whole (stores.blocks n lt) h.each h.holds in
+      let count = count_is p.version m (inode_at p m n) h.slots h.whole (stores.blocks n lt) h.each h.holds in
       let there : k < length x.names.slots = omega (arith, below, count) in
-      let both = slot_is m (inode_at p m n) h.slots h.whole (stores.blocks n lt) h.each h.holds k d there in
+      let both = slot_is p.version m (inode_at p m n) h.slots h.whole (stores.blocks n lt) h.each h.holds k d there in
       (there, both.0, both.1)
 
-  slot : (n : ℕ) → n < p.inodes → (inode_at p m n).kind ≡ kinds.Directory → (k : ℕ) → k < slot_count (inode_at p m n) → IsGoodSlot p m (inode_at p m n) k
+  slot : (n : ℕ) → n < p.inodes → (inode_at p m n).kind ≡ kinds.Directory → (k : ℕ) → k < slot_count p.version (inode_at p m n)
+      → IsGoodSlot p m (inode_at p m n) k
   slot n lt kind k below =
       let x = directory_at n lt kind in
-      let none = slot_at m (inode_at p m n) k in
+      let none = slot_at p.version m (inode_at p m n) k in
       let r = read_slot n lt x k none below in
       let s = get_or x.names.slots k none in
       let leads : get name_cmp x.dir.names s.name ≡ Some s.inode =
       ap (λ q. get name_cmp q s.name) x.names.are ∙ slot_leads x.names.slots none k x.names.apart r.0 in
       let entry = (x.valid.each s.name s.inode leads).leads in
-      let number : s.inode ≡ (slot_at m (inode_at p m n) k).inode = ap (λ (q : NamedInode). q.inode) (sym r.2) in
+      let number : s.inode ≡ (slot_at p.version m (inode_at p m n) k).inode = ap (λ (q : NamedInode). q.inode) (sym r.2) in
       let few : s.inode < p.inodes = there s.inode entry.1 in
       let used : is_used (inode_at p m s.inode).kind ≡ true = sym (used_is p m t stores s.inode few) ∙ entry.1 in
       record {
@@ -306,10 +329,10 @@ module _ (p : Place) (m : SectorMap) (t : Tree) (held : HoldsAll p m (placed t))
           go None e some = absurd (let c : false ≡ true = some in cc)
           go (Some node) e some = below_if p m t stores q node e
 
-  apart_names : (n : ℕ) → n < p.inodes → (inode_at p m n).kind ≡ kinds.Directory → AreNamesApart m (inode_at p m n)
+  apart_names : (n : ℕ) → n < p.inodes → (inode_at p m n).kind ≡ kinds.Directory → AreNamesApart p.version m (inode_at p m n)
   apart_names n lt kind j k less below =
       let x = directory_at n lt kind in
-      let none = slot_at m (inode_at p m n) k in
+      let none = slot_at p.version m (inode_at p m n) k in
       let a = read_slot n lt x j none (omega (arith, less, below)) in
       let b = read_slot n lt x k none below in
       λ e. x.names.apart j k none less b.0 (ap (λ (q : NamedInode). q.name) (sym a.2) ∙ e ∙ ap (λ (q : NamedInode). q.name) b.2)
@@ -318,10 +341,10 @@ module _ (p : Place) (m : SectorMap) (t : Tree) (held : HoldsAll p m (placed t))
   parent_there n lt kind =
       by_node (λ q. (inode_at p m q).parent ≡ parent t q) n lt
       (λ free. absurd (let c : kinds.Free ≡ kinds.Directory = sym (ap (λ (v : Inode). v.kind) free) ∙ kind in cc))
-      (λ node at h. its_parent m (inode_at p m n) node.body (parent t n) h.body h.parent kind)
+      (λ node at h. its_parent p.version m (inode_at p m n) node.body (parent t n) h.body h.parent kind)
 
   its_names : (n : ℕ) → n < p.inodes → (inode_at p m n).kind ≡ kinds.Directory → names_of t n ≡ (cond (n == root) 0 1)
-  its_names n lt kind = sym (count_there n) ∙ (subst (λ k. HasNameCount k n (inode_at p m n).names (namings p m n)) kind (names n lt)).1
+  its_names n lt kind = sym (count_there n) ∙ (subst (λ k. HasNameCount p.version k n (inode_at p m n).names (namings p m n)) kind (names n lt)).1
 
   parents : (n : ℕ) → n < p.inodes → HasParent p m n
   parents n lt = record {
@@ -333,14 +356,14 @@ module _ (p : Place) (m : SectorMap) (t : Tree) (held : HoldsAll p m (placed t))
         let some = parent_names t n is.numbers (omega (arith, one)) in
         let here = names_there p m t stores (parent t n) n up.0 in
         let same = parent_there n lt kind in
-        subst (λ q. (q < p.inodes) × (1 ≤ namings_in m (inode_at p m q) n)) (sym same) (up.0, omega (arith, some, here));
+        subst (λ q. (q < p.inodes) × (1 ≤ namings_in p.version m (inode_at p m q) n)) (sym same) (up.0, omega (arith, some, here));
     top = λ e.
         let kind = (good n lt).top e in
         let top : (n == root) ≡ true = grind (arith, nat_tests) in
         parent_there n lt kind ∙ unnamed t n (its_names n lt kind ∙ ap (λ b. cond b 0 1) top);
     none = λ ne.
         by_node (λ q. (inode_at p m q).parent ≡ 0) n lt (λ free. ap (λ (v : Inode). v.parent) free)
-        (λ node at h. no_parent m (inode_at p m n) node.body (parent t n) h.body h.parent ne);
+        (λ node at h. no_parent p.version m (inode_at p m n) node.body (parent t n) h.body h.parent ne);
   }
 
   goes_up : {d : ℕ} → IsUnderRoot t d → IsDirectoryAt t d → GoesUp p m d

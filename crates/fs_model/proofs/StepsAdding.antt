@@ -5,7 +5,7 @@ use Rattle.std.proofs.lemmas.Bool.{cases_eq}
 use Rattle.std.specs.Ordering.{nat_cmp, eq_by_cmp}
 use Rattle.fs_layout.specs.Bytes.{IsBytes}
 use Rattle.fs_layout.specs.Directories.{IsName}
-use Rattle.fs_model.specs.Limits.{root, entries_limit, names_limit}
+use Rattle.fs_model.specs.Limits.{root}
 use Rattle.fs_layout.specs.Maps.{get, name_cmp, with_entry, IsMap}
 use Rattle.fs_model.specs.Nodes.{Node, Body, File, Dir, Link, is_directory, names_in, with_names}
 use Rattle.fs_model.specs.Trees.{Tree, Room, node_at, names_of, parent, NamesFit, IsEntry, IsUnderRoot, is_in, IsNode, IsDirectoryAt, IsTree}
@@ -19,17 +19,19 @@ use Rattle.fs_model.proofs.StepsNaming.{leading_stays, renamed_node, renamed, at
 use Rattle.fs_model.proofs.StepsParents.{names_at, parent_is, parent_kept, under_all, directory_named, parent_at, under_root}
 
 -- a directory takes a name: it is new there, and there is room
-pub record TakesNewName (t : Tree) (dir : ℕ) (directory : Node) (name : List ℕ) : Type 0 where
+pub record TakesNewName (room : Room) (t : Tree) (dir : ℕ) (directory : Node) (name : List ℕ) : Type 0 where
   pub stands : node_at t dir ≡ Some directory
   pub is_dir : IsTrue (is_directory directory.body)
   pub is_new : get name_cmp (names_in directory.body) name ≡ None
-  pub has_room : length (names_in directory.body) < entries_limit
+  pub has_room : length (names_in directory.body) < room.entries_limit
   pub is_name : IsName name
+  pub short : length name ≤ room.name_limit
   pub bytes : IsBytes name
 
 -- as it does where no entry of it has the name
-pub takes_new : {t : Tree} {dir : ℕ} {name : List ℕ} (x : IsNameAt t dir name None) → length (names_in x.node.body) < entries_limit → TakesNewName t dir x.node name
-takes_new x few = record { stands = x.stands; is_dir = x.directory; is_new = x.leads; has_room = few; is_name = x.is_name; bytes = x.bytes }
+pub takes_new : {room : Room} {t : Tree} {dir : ℕ} {name : List ℕ} (x : IsNameAt room t dir name None)
+    → length (names_in x.node.body) < room.entries_limit → TakesNewName room t dir x.node name
+takes_new x few = record { stands = x.stands; is_dir = x.directory; is_new = x.leads; has_room = few; is_name = x.is_name; short = x.short; bytes = x.bytes }
 
 -- From t, or from t with a new node in it, which is w: a name is added in a directory.
 pub record AddsName (room : Room) (t w : Tree) (dir : ℕ) (directory : Node) (name : List ℕ) (n : ℕ) (target : Node) : Type 0 where
@@ -40,10 +42,10 @@ pub record AddsName (room : Room) (t w : Tree) (dir : ℕ) (directory : Node) (n
   pub names : (k : ℕ) → names_at w k ≡ names_at t k
   pub counts : (x : ℕ) → names_of w x ≡ names_of t x
   pub types : KeepsTypes t w
-  pub takes : TakesNewName t dir directory name
+  pub takes : TakesNewName room t dir directory name
   pub apart : (d : ℕ) → IsDirectoryAt t d → d ≢ n
   pub shape : IsShape room t n target
-  pub fits : NamesFit n target.body (names_of t n + 1)
+  pub fits : NamesFit room n target.body (names_of t n + 1)
   pub unnamed : IsTrue (is_directory target.body) → names_of t n ≡ 0
 
 module _ (room : Room) (t w : Tree) (dir : ℕ) (directory : Node) (name : List ℕ) (n : ℕ) (target : Node) (is : IsTree room t) (adds : AddsName room t w dir directory name n target) where
@@ -88,15 +90,16 @@ module _ (room : Room) (t w : Tree) (dir : ℕ) (directory : Node) (name : List 
         subst (λ q. 1 ≤ leading x q) (sym same) some
   ]
 
-  entry_is : (q : List ℕ) (k : ℕ) → get name_cmp new q ≡ Some k → IsEntry u q k
+  entry_is : (q : List ℕ) (k : ℕ) → get name_cmp new q ≡ Some k → IsEntry room u q k
   entry_is q k e = go (eq_by_cmp name_cmp q name) refl (sym (get-with_name (names_in directory.body) name n q) ∙ e)
     where
-      go : (b : Bool) → eq_by_cmp name_cmp q name ≡ b → cond b (Some n) (get name_cmp (names_in directory.body) q) ≡ Some k → IsEntry u q k
+      go : (b : Bool) → eq_by_cmp name_cmp q name ≡ b → cond b (Some n) (get name_cmp (names_in directory.body) q) ≡ Some k → IsEntry room u q k
       go true t i =
           let same : q ≡ name = tied_names q name t in
           let it : n ≡ k = cc in
-          subst (IsEntry u q) it (subst (λ z. IsEntry u z n) (sym same) (record {
+          subst (IsEntry room u q) it (subst (λ z. IsEntry room u z n) (sym same) (record {
             is_name = adds.takes.is_name;
+            short = adds.takes.short;
             bytes = adds.takes.bytes;
             leads = (
               (λ e. adds.apart root is.root_is_there (sym e)),
@@ -104,17 +107,17 @@ module _ (room : Room) (t w : Tree) (dir : ℕ) (directory : Node) (name : List 
             );
           }))
       go false f i =
-          entry_moves t u q k (there k) ((are_names room t directory.body (is.each dir directory adds.takes.stands).body).each q k i)
+          entry_moves room t u q k (there k) ((are_names room t directory.body (is.each dir directory adds.takes.stands).body).each q k i)
 
-  are_new : AreNames u new
+  are_new : AreNames room u new
   are_new =
       let were = are_names room t directory.body (is.each dir directory adds.takes.stands).body in
       record {
         rising = with_name-IsMap (names_in directory.body) name n were.rising;
         few =
             let len = length-with_name (names_in directory.body) name n were.rising adds.takes.is_new in
-            let room = adds.takes.has_room in
-            omega (arith, len, room);
+            let free = adds.takes.has_room in
+            omega (arith, len, free);
         each = entry_is;
       }
 
@@ -169,7 +172,7 @@ module _ (room : Room) (t w : Tree) (dir : ℕ) (directory : Node) (name : List 
         group = was.group;
         body = body_renamed room t u directory.body new adds.takes.is_dir are_new was.body;
       })
-      (same_fit dir (names_of u dir) (with_names new directory.body) directory.body type (subst (NamesFit dir directory.body) (sym (count_other dir dir_apart)) was.names))
+      (same_fit room dir (names_of u dir) (with_names new directory.body) directory.body type (subst (NamesFit room dir directory.body) (sym (count_other dir dir_apart)) was.names))
       (λ d. climbs dir (record { node = directory; is_there = adds.takes.stands; directory = adds.takes.is_dir }))
 
   target_is : IsNode room u n target
@@ -182,13 +185,13 @@ module _ (room : Room) (t w : Tree) (dir : ℕ) (directory : Node) (name : List 
         group = adds.shape.group;
         body = body_moves room t u target.body there adds.shape.body;
       })
-      (let all = count n in let one = once_same n n refl in let same : names_of t n + 1 ≡ names_of u n = omega (arith, all, one) in subst (NamesFit n target.body) same adds.fits)
+      (let all = count n in let one = once_same n n refl in let same : names_of t n + 1 ≡ names_of u n = omega (arith, all, one) in subst (NamesFit room n target.body) same adds.fits)
       new_climbs
 
   other_is : (m : ℕ) (node : Node) → m ≢ n → node_at t m ≡ Some node → IsNode room u m node
   other_is m node ne at =
       let was = is.each m node at in
-      node_from_shape room u m node (old_shape m node was) (subst (NamesFit m node.body) (sym (count_other m ne)) was.names)
+      node_from_shape room u m node (old_shape m node was) (subst (NamesFit room m node.body) (sym (count_other m ne)) was.names)
       (λ d. climbs m (record { node = node; is_there = at; directory = d }))
 
   node_is : (m : ℕ) (node : Node) → node_at u m ≡ Some node → IsNode room u m node
@@ -217,19 +220,19 @@ module _ (room : Room) (t w : Tree) (dir : ℕ) (directory : Node) (name : List 
 
 -- ---- a name for what is no directory
 
-pub record GivesName (t : Tree) (dir : ℕ) (directory : Node) (name : List ℕ) (n : ℕ) (target : Node) : Type 0 where
-  pub takes : TakesNewName t dir directory name
+pub record GivesName (room : Room) (t : Tree) (dir : ℕ) (directory : Node) (name : List ℕ) (n : ℕ) (target : Node) : Type 0 where
+  pub takes : TakesNewName room t dir directory name
   pub there : node_at t n ≡ Some target
   pub no_directory : IsFalse (is_directory target.body)
-  pub few : names_of t n < names_limit
+  pub few : names_of t n < room.names_limit
 
-one_name_more : (n : ℕ) (b : Body) (names : ℕ) → IsFalse (is_directory b) → names < names_limit → NamesFit n b (names + 1)
-one_name_more n (File a bytes) names d few = omega (arith, few)
-one_name_more n (Dir a dir) names d few = absurd cc
-one_name_more n (Link target) names d few = (omega arith, omega (arith, few))
+one_name_more : (room : Room) (n : ℕ) (b : Body) (names : ℕ) → IsFalse (is_directory b) → names < room.names_limit → NamesFit room n b (names + 1)
+one_name_more room n (File a bytes) names d few = omega (arith, few)
+one_name_more room n (Dir a dir) names d few = absurd cc
+one_name_more room n (Link target) names d few = (omega arith, omega (arith, few))
 
 pub gives_name : (room : Room) (t : Tree) (dir : ℕ) (directory : Node) (name : List ℕ) (n : ℕ) (target : Node) → IsTree room t
-    → GivesName t dir directory name n target → AddsName room t t dir directory name n target
+    → GivesName room t dir directory name n target → AddsName room t t dir directory name n target
 gives_name room t dir directory name n target is gives =
     let node = is.each n target gives.there in
     record {
@@ -243,7 +246,7 @@ gives_name room t dir directory name n target is gives =
       takes = gives.takes;
       apart = apart;
       shape = record { positive = node.positive; below = node.below; owner = node.owner; group = node.group; body = node.body };
-      fits = one_name_more n target.body (names_of t n) gives.no_directory gives.few;
+      fits = one_name_more room n target.body (names_of t n) gives.no_directory gives.few;
       unnamed = λ d. absurd (let other = gives.no_directory in cc);
     }
   where

@@ -97,8 +97,8 @@ IsAcl-with_mode_bits : (a : AccessList) (mode : ℕ) → IsAcl a → IsAcl (with
 IsAcl-with_mode_bits a mode is = IsAcl-with_classes a (perms_of (mode / 64)) (perms_of (mode / 8)) (perms_of mode) is
 
 -- a directory with the same names
-same_names : (t : Tree) (d e : Directory) → e.names ≡ d.names → IsDirectory t d → IsDirectory t e
-same_names t d e same is = record {
+same_names : (room : Room) (t : Tree) (d e : Directory) → e.names ≡ d.names → IsDirectory room t d → IsDirectory room t e
+same_names room t d e same is = record {
   names = rw same is.names;
   few = rw same is.few;
   each = rw same is.each;
@@ -107,7 +107,7 @@ same_names t d e same is = record {
 body_with_mode : (room : Room) (t : Tree) (cred : Credential) (group mode : ℕ) (b : Body) → IsBody room t b
     → IsBody room t (with_mode cred group mode b)
 body_with_mode room t cred group mode (File a s) is = (IsAcl-with_mode_bits a mode is.0, is.1, is.2)
-body_with_mode room t cred group mode (Dir a d) is = (IsAcl-with_mode_bits a mode is.0, is.1, same_names t d _ refl is.2)
+body_with_mode room t cred group mode (Dir a d) is = (IsAcl-with_mode_bits a mode is.0, is.1, same_names room t d _ refl is.2)
 body_with_mode room t cred group mode (Link target) is = is
 
 acl_keeps : (which : AclType) (acl : Option AccessList) (b : Body)
@@ -123,7 +123,7 @@ acl_keeps Access (Some acl) (Link target) = (refl, refl)
 body_with_acl : (room : Room) (t : Tree) (which : AclType) (acl : Option AccessList) (b : Body) → IsSomeAcl acl → IsBody room t b
     → IsBody room t (with_set_acl which acl b)
 body_with_acl room t Default acl (File a s) valid is = is
-body_with_acl room t Default acl (Dir a d) valid is = (is.0, valid, same_names t d _ refl is.2)
+body_with_acl room t Default acl (Dir a d) valid is = (is.0, valid, same_names room t d _ refl is.2)
 body_with_acl room t Default acl (Link target) valid is = is
 body_with_acl room t Access None b valid is = is
 body_with_acl room t Access (Some acl) (File a s) valid is = (valid, is.1, is.2)

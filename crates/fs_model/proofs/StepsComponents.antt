@@ -6,7 +6,7 @@ use Rattle.std.proofs.lemmas.List.Elements.{All-from_recursion}
 use Rattle.std.specs.List.{AllByRecursion, filter, list_any, slice_split, onto_first}
 use Rattle.fs_layout.specs.Bytes.{IsBytes}
 use Rattle.fs_layout.specs.Directories.{IsName}
-use Rattle.fs_model.specs.Limits.{name_limit}
+use Rattle.fs_layout.specs.declared.slot.TheConstants.{MAX_NAME}
 use Rattle.fs_model.specs.Trees.{IsTarget}
 use Rattle.fs_model.specs.Parts.{slash, is_empty, parts_of}
 use Rattle.fs_model.specs.Trails.{is_dot, is_dot_dot}
@@ -104,7 +104,7 @@ components_append [] ys a b = b
 components_append (x ∷ xs) ys a b = (a.0, components_append xs ys a.1 b)
 
 -- a component that is short and neither `.` nor `..` is a name
-pub component_is_name : (name : List ℕ) → IsComponent name → length name ≤ name_limit → is_dot name ≡ false → is_dot_dot name ≡ false → IsName name
+pub component_is_name : (name : List ℕ) → IsComponent name → length name ≤ MAX_NAME → is_dot name ≡ false → is_dot_dot name ≡ false → IsName name
 component_is_name name is short dot dots = record {
   not_empty = is.not_empty;
   short = short;

@@ -39,15 +39,15 @@ node_is_there t n there = go (node_at t n) there
     go (Some node) h = refl
 
 module _ (room : Room) (t : Tree) (is : IsTree room t) (cwd : ℕ) (there : IsThere t cwd) where
-  found_is_there : (walk : Form × List ℕ) (n : ℕ) → (found_by t cwd walk).ino ≡ Some n → IsThere t n
+  found_is_there : (walk : Form × List ℕ) (n : ℕ) → (found_by room t cwd walk).ino ≡ Some n → IsThere t n
   unfolding found_of
   found_is_there walk n e = finds_are_there room t is cwd walk.0 walk.1 there n e
 
-  first_is_there : (walks : List (Form × List ℕ)) (n : ℕ) → (first_found t cwd walks).ino ≡ Some n → IsThere t n
+  first_is_there : (walks : List (Form × List ℕ)) (n : ℕ) → (first_found room t cwd walks).ino ≡ Some n → IsThere t n
   first_is_there [] n e = absurd cc
   first_is_there (walk ∷ walks) n e = found_is_there walk n e
 
-  second_is_there : (walks : List (Form × List ℕ)) (n : ℕ) → (second_found t cwd walks).ino ≡ Some n → IsThere t n
+  second_is_there : (walks : List (Form × List ℕ)) (n : ℕ) → (second_found room t cwd walks).ino ≡ Some n → IsThere t n
   second_is_there [] n e = absurd cc
   second_is_there (walk ∷ walks) n e = first_is_there walks n e
 

@@ -1,8 +1,9 @@
 -- What a walk that isn't refused has found: a name that is new in a directory, or one that stands there.
-use Rattle.std.specs.Prelude.{◌≡◌, ℕ, ◌==◌, Bool, true, false, ◌||◌, cond, List, [], ◌∷◌, Option, None, Some, is_some, IsTrue}
-use Rattle.std.proofs.Common.{refl, sym, ap, ◌∙◌, subst}
+use Rattle.std.specs.Prelude.{◌≡◌, ℕ, ◌≤◌, ◌==◌, Bool, true, false, ◌||◌, cond, List, [], ◌∷◌, length, Option, None, Some, is_some, IsTrue}
+use Rattle.std.proofs.Common.{refl, sym, ap, arith, ◌∙◌, subst}
 use Rattle.std.specs.List.{list_any}
 use Rattle.fs_cred.specs.Credentials.{Credential}
+use Rattle.fs_layout.specs.declared.slot.TheConstants.{MAX_NAME}
 use Rattle.fs_layout.specs.Bytes.{IsBytes}
 use Rattle.fs_layout.specs.Directories.{IsName}
 use Rattle.fs_layout.specs.Maps.{get, name_cmp}
@@ -22,18 +23,19 @@ use Rattle.fs_model.proofs.StepsComponents.{IsComponent, path_bytes, component_i
 use Rattle.fs_model.proofs.StepsTrails.{HaveNoFault, unrefused_walk, WasLookedUp, IsEnd, EndsIn, trail_ends}
 
 -- a name in a directory, and what it leads to there
-pub record IsNameAt (t : Tree) (dir : ℕ) (name : List ℕ) (o : Option ℕ) : Type 0 where
+pub record IsNameAt (room : Room) (t : Tree) (dir : ℕ) (name : List ℕ) (o : Option ℕ) : Type 0 where
   pub node : Node
   pub stands : node_at t dir ≡ Some node
   pub directory : IsTrue (is_directory node.body)
   pub is_name : IsName name
+  pub short : length name ≤ room.name_limit
   pub bytes : IsBytes name
   pub leads : get name_cmp (names_in node.body) name ≡ o
 
 -- a name that isn't there is new; and the last name of a walk that ends before it leads to what was found
-pub record IsWalked (t : Tree) (form : Form) (f : Found) : Type 0 where
-  pub new : f.ino ≡ None → IsNameAt t f.dir f.name None
-  pub old : form ≡ Parent → is_special f ≡ false → IsNameAt t f.dir f.name f.ino
+pub record IsWalked (room : Room) (t : Tree) (form : Form) (f : Found) : Type 0 where
+  pub new : f.ino ≡ None → IsNameAt room t f.dir f.name None
+  pub old : form ≡ Parent → is_special f ≡ false → IsNameAt room t f.dir f.name f.ino
 
 -- ---- the last component
 
@@ -63,7 +65,7 @@ special_dots name h = go (is_dot name) (is_dot_dot name) h
     go false true h = absurd cc
     go false false h = (refl, refl)
 
-module _ (room : Room) (t : Tree) (is : IsTree room t) (follow : Bool) (start : ℕ) where
+module _ (room : Room) (limit : room.name_limit ≤ MAX_NAME) (t : Tree) (is : IsTree room t) (follow : Bool) (start : ℕ) where
   -- the end is the last lookup
   last_absent : (lookups : List Lookup) (found : Option ℕ) → EndsIn room t is follow lookups found → found ≡ None
       → IsEnd room t is follow (last_lookup start lookups) found
@@ -77,42 +79,43 @@ module _ (room : Room) (t : Tree) (is : IsTree room t) (follow : Bool) (start : 
   last_some (l ∷ []) found ends some = ends
   last_some (_ ∷ l ∷ lookups) found ends some = last_some (l ∷ lookups) found ends refl
 
-  name_at : (l : Lookup) (o : Option ℕ) → IsComponent l.name → WasLookedUp t l.dir l.name o → (is_dot l.name ≡ false) × (is_dot_dot l.name ≡ false)
-      → IsNameAt t l.dir l.name o
+  name_at : (l : Lookup) (o : Option ℕ) → IsComponent l.name → WasLookedUp room t l.dir l.name o → (is_dot l.name ≡ false) × (is_dot_dot l.name ≡ false)
+      → IsNameAt room t l.dir l.name o
   name_at l o component was dots = record {
     node = was.node;
     stands = was.stands;
     directory = was.directory;
-    is_name = component_is_name l.name component was.short dots.0 dots.1;
+    is_name = component_is_name l.name component (let few = was.short in omega (arith, few, limit)) dots.0 dots.1;
+    short = was.short;
     bytes = component.bytes;
     leads = other_number t l.dir (names_in was.node.body) l.name o dots.0 dots.1 was.leads;
   }
 
   new_at_end : (lookups : List Lookup) (found : Option ℕ) → EndsIn room t is follow lookups found → found ≡ None
-      → IsNameAt t (last_lookup start lookups).dir (last_lookup start lookups).name None
+      → IsNameAt room t (last_lookup start lookups).dir (last_lookup start lookups).name None
   new_at_end lookups found ends none =
       let l = last_lookup start lookups in
       let end = last_absent lookups found ends none in
       let absent : end.led ≡ None = end.absent none in
-      let was : WasLookedUp t l.dir l.name None = subst (WasLookedUp t l.dir l.name) absent end.was in
+      let was : WasLookedUp room t l.dir l.name None = subst (WasLookedUp room t l.dir l.name) absent end.was in
       name_at l None end.name was (absent_dots t l.dir (names_in was.node.body) l.name was.leads)
 
   old_at_end : (lookups : List Lookup) (found : Option ℕ) → EndsIn room t is follow lookups found → follow ≡ false
       → (is_top (cond (is_empty lookups) Top (last_of_name (last_lookup start lookups).name))
       || is_last_dot (cond (is_empty lookups) Top (last_of_name (last_lookup start lookups).name))
       || is_last_dot_dot (cond (is_empty lookups) Top (last_of_name (last_lookup start lookups).name))) ≡ false
-      → IsNameAt t (last_lookup start lookups).dir (last_lookup start lookups).name found
+      → IsNameAt room t (last_lookup start lookups).dir (last_lookup start lookups).name found
   old_at_end lookups found ends unfollowed special = go (is_empty lookups) refl special
     where
       go : (b : Bool) → is_empty lookups ≡ b
           → (is_top (cond b Top (last_of_name (last_lookup start lookups).name)) || is_last_dot (cond b Top (last_of_name (last_lookup start lookups).name))
           || is_last_dot_dot (cond b Top (last_of_name (last_lookup start lookups).name))) ≡ false
-          → IsNameAt t (last_lookup start lookups).dir (last_lookup start lookups).name found
+          → IsNameAt room t (last_lookup start lookups).dir (last_lookup start lookups).name found
       go true empty h = absurd cc
       go false some h =
           let l = last_lookup start lookups in
           let end = last_some lookups found ends some in
-          let was : WasLookedUp t l.dir l.name found = subst (WasLookedUp t l.dir l.name) (end.exact unfollowed) end.was in
+          let was : WasLookedUp room t l.dir l.name found = subst (WasLookedUp room t l.dir l.name) (end.exact unfollowed) end.was in
           name_at l found end.name was (special_dots l.name h)
 
 -- ---- a walk
@@ -125,16 +128,18 @@ unfolding first_refusal
 walk_is_clean t cred k form trail h =
     unrefused_walk cred t k 0 trail.lookups (first_met (least_refusal cred t k 0 trail.lookups) (slash_refusal t form trail) h)
 
-pub is_walked : (room : Room) (t : Tree) (is : IsTree room t) (cred : Credential) (cwd k : ℕ) (walk : Form × List ℕ) → IsBytes walk.1
-    → list_any (λ b. b == 0) walk.1 ≡ false → first_refusal t cred k walk.0 (trail_in t cwd walk) ≡ None → IsWalked t walk.0 (found_by t cwd walk)
+pub is_walked : (room : Room) → room.name_limit ≤ MAX_NAME
+    → (t : Tree) (is : IsTree room t) (cred : Credential) (cwd k : ℕ) (walk : Form × List ℕ) → IsBytes walk.1
+    → list_any (λ b. b == 0) walk.1 ≡ false → first_refusal t cred k walk.0 (trail_in room t cwd walk) ≡ None
+    → IsWalked room t walk.0 (found_by room t cwd walk)
 unfolding found_of
-is_walked room t is cred cwd k walk bytes no_zero unrefused_it =
-    let trail = trail_of t cwd walk.0 walk.1 in
+is_walked room limit t is cred cwd k walk bytes no_zero unrefused_it =
+    let trail = trail_of room t cwd walk.0 walk.1 in
     let start = start_of (parts_of walk.1) cwd in
     let follow = follows_last walk.0 (parts_of walk.1) in
     let clean : HaveNoFault trail.lookups = walk_is_clean t cred k walk.0 trail unrefused_it in
     let ends = trail_ends room t is cwd walk.0 walk.1 (path_bytes walk.1 bytes no_zero) clean in
     record {
-      new = λ none. new_at_end room t is follow start trail.lookups trail.found ends none;
-      old = λ form special. old_at_end room t is follow start trail.lookups trail.found ends (parent_follows walk.0 walk.1 form) special;
+      new = λ none. new_at_end room limit t is follow start trail.lookups trail.found ends none;
+      old = λ form special. old_at_end room limit t is follow start trail.lookups trail.found ends (parent_follows walk.0 walk.1 form) special;
     }

@@ -34,16 +34,16 @@ same_link (Link s) (File b t) e = absurd cc
 same_link (Link s) (Dir b d) e = absurd cc
 same_link (Link s) (Link t) e = refl
 
-pub same_fit : (n names : ℕ) (b c : Body) → type_of b ≡ type_of c → NamesFit n c names → NamesFit n b names
-same_fit n names (File a s) (File b t) e fits = fits
-same_fit n names (File a s) (Dir b d) e fits = absurd cc
-same_fit n names (File a s) (Link t) e fits = absurd cc
-same_fit n names (Dir a d) (File b t) e fits = absurd cc
-same_fit n names (Dir a d) (Dir b c) e fits = fits
-same_fit n names (Dir a d) (Link t) e fits = absurd cc
-same_fit n names (Link s) (File b t) e fits = absurd cc
-same_fit n names (Link s) (Dir b d) e fits = absurd cc
-same_fit n names (Link s) (Link t) e fits = fits
+pub same_fit : (room : Room) (n names : ℕ) (b c : Body) → type_of b ≡ type_of c → NamesFit room n c names → NamesFit room n b names
+same_fit room n names (File a s) (File b t) e fits = fits
+same_fit room n names (File a s) (Dir b d) e fits = absurd cc
+same_fit room n names (File a s) (Link t) e fits = absurd cc
+same_fit room n names (Dir a d) (File b t) e fits = absurd cc
+same_fit room n names (Dir a d) (Dir b c) e fits = fits
+same_fit room n names (Dir a d) (Link t) e fits = absurd cc
+same_fit room n names (Link s) (File b t) e fits = absurd cc
+same_fit room n names (Link s) (Dir b d) e fits = absurd cc
+same_fit room n names (Link s) (Link t) e fits = fits
 
 -- ---- all nodes
 
@@ -110,7 +110,7 @@ replaced_is_tree room t n old new is was may =
       owner = may.owner;
       group = may.group;
       body = may.body;
-      fits = same_fit n (names_of t n) new.body old.body may.same (is.each n old was).names;
+      fits = same_fit room n (names_of t n) new.body old.body may.same (is.each n old was).names;
     })
 
 pub replaced_keeps_types : (t : Tree) (n : ℕ) (old new : Node) → node_at t n ≡ Some old → type_of new.body ≡ type_of old.body

@@ -1,9 +1,10 @@
 -- What the walks of a call have found, and what it leaves where nothing refuses.
-use Rattle.std.specs.Prelude.{◌≡◌, ℕ, ◌==◌, Bool, true, false, not, ◌&&◌, cond, List, [], ◌∷◌, None, Some}
+use Rattle.std.specs.Prelude.{◌≡◌, ℕ, ◌≤◌, ◌==◌, Bool, true, false, not, ◌&&◌, cond, List, [], ◌∷◌, None, Some}
 use Rattle.std.proofs.Common.{refl, sym, ap, subst}
 use Rattle.std.specs.List.{AllByRecursion, list_any, flat_map}
 use Rattle.std.specs.Ordering.{nat_cmp}
 use Rattle.fs_cred.specs.declared.errno.Errno.TheVariants.{EINVAL}
+use Rattle.fs_layout.specs.declared.slot.TheConstants.{MAX_NAME}
 use Rattle.fs_layout.specs.Bytes.{IsBytes}
 use Rattle.fs_model.specs.declared.call.Flags.{Flags}
 use Rattle.fs_model.specs.declared.call.Call.{Call}
@@ -44,27 +45,29 @@ AreBytes walks = AllByRecursion (λ w. IsBytes w.1) walks
 -- what the first walk found, and the second
 abbrev pub FirstWalked : Scene → Walks → Type 0
 FirstWalked c [] = Unit {0}
-FirstWalked c (walk ∷ _) = IsWalked c.state.tree walk.0 c.first
+FirstWalked c (walk ∷ _) = IsWalked c.state.room c.state.tree walk.0 c.first
 
 abbrev pub SecondWalked : Scene → Walks → Type 0
 SecondWalked c [] = Unit {0}
 SecondWalked c (_ ∷ []) = Unit {0}
-SecondWalked c (_ ∷ walk ∷ _) = IsWalked c.state.tree walk.0 c.second
+SecondWalked c (_ ∷ walk ∷ _) = IsWalked c.state.room c.state.tree walk.0 c.second
 
-pub first_walked : (s : State) (p : Process) (row : Row) (walks : Walks) → IsTree s.room s.tree → row.walks ≡ walks → AreBytes walks
-    → AreMet (flat_map (λ w. path_checks w.1) walks) → AreMet (walk_refusals s.tree p 1 walks) → FirstWalked (scene_of s p row) walks
-first_walked s p row [] is e bytes asked met = tt
-first_walked s p row (walk ∷ walks) is e bytes asked met =
-    let found = is_walked s.room s.tree is p.cred p.cwd 1 walk bytes.0 (unrefused EINVAL (list_any (λ b. b == 0) walk.1) asked.1.0) met.0 in
-    subst (λ ws. IsWalked s.tree walk.0 (first_found s.tree p.cwd ws)) (sym e) found
+pub first_walked : (s : State) (p : Process) (row : Row) (walks : Walks) → s.room.name_limit ≤ MAX_NAME → IsTree s.room s.tree
+    → row.walks ≡ walks → AreBytes walks
+    → AreMet (flat_map (λ w. path_checks w.1) walks) → AreMet (walk_refusals s.room s.tree p 1 walks) → FirstWalked (scene_of s p row) walks
+first_walked s p row [] limit is e bytes asked met = tt
+first_walked s p row (walk ∷ walks) limit is e bytes asked met =
+    let found = is_walked s.room limit s.tree is p.cred p.cwd 1 walk bytes.0 (unrefused EINVAL (list_any (λ b. b == 0) walk.1) asked.1.0) met.0 in
+    subst (λ ws. IsWalked s.room s.tree walk.0 (first_found s.room s.tree p.cwd ws)) (sym e) found
 
-pub second_walked : (s : State) (p : Process) (row : Row) (walks : Walks) → IsTree s.room s.tree → row.walks ≡ walks → AreBytes walks
-    → AreMet (flat_map (λ w. path_checks w.1) walks) → AreMet (walk_refusals s.tree p 1 walks) → SecondWalked (scene_of s p row) walks
-second_walked s p row [] is e bytes asked met = tt
-second_walked s p row (_ ∷ []) is e bytes asked met = tt
-second_walked s p row (_ ∷ walk ∷ walks) is e bytes asked met =
-    let found = is_walked s.room s.tree is p.cred p.second_cwd 2 walk bytes.1.0 (unrefused EINVAL (list_any (λ b. b == 0) walk.1) asked.1.1.1.1.0) met.1.0 in
-    subst (λ ws. IsWalked s.tree walk.0 (second_found s.tree p.second_cwd ws)) (sym e) found
+pub second_walked : (s : State) (p : Process) (row : Row) (walks : Walks) → s.room.name_limit ≤ MAX_NAME → IsTree s.room s.tree
+    → row.walks ≡ walks → AreBytes walks
+    → AreMet (flat_map (λ w. path_checks w.1) walks) → AreMet (walk_refusals s.room s.tree p 1 walks) → SecondWalked (scene_of s p row) walks
+second_walked s p row [] limit is e bytes asked met = tt
+second_walked s p row (_ ∷ []) limit is e bytes asked met = tt
+second_walked s p row (_ ∷ walk ∷ walks) limit is e bytes asked met =
+    let found = is_walked s.room limit s.tree is p.cred p.second_cwd 2 walk bytes.1.0 (unrefused EINVAL (list_any (λ b. b == 0) walk.1) asked.1.1.1.1.0) met.1.0 in
+    subst (λ ws. IsWalked s.room s.tree walk.0 (second_found s.room s.tree p.second_cwd ws)) (sym e) found
 
 -- ---- a call that nothing refuses
 
@@ -87,8 +90,8 @@ unrefused_call s p call is fits bytes early late =
       arguments = arguments_met p row early;
       early = early_met p row early;
       demands = demands_met s p row late;
-      first = first_walked s p row row.walks is.tree refl bytes paths walks;
-      second = second_walked s p row row.walks is.tree refl bytes paths walks;
+      first = first_walked s p row row.walks is.room.name_limit is.tree refl bytes paths walks;
+      second = second_walked s p row row.walks is.room.name_limit is.tree refl bytes paths walks;
     }
 
 -- ---- what it leaves
@@ -105,7 +108,8 @@ module _ (c : Scene) (is : IsScene c) (pid : ℕ) (here : get nat_cmp c.state.de
   answer_leaves = fits_leave (answers c Done) (answer_fits c is Done)
 
   pub open_leaves : (path : List ℕ) (flags : Flags) (mode new : ℕ) → AreMet (open_early flags path c.process) → AreMet (open_demands flags c)
-      → IsWalked c.state.tree (open_form flags) c.first → HasNewNumber c.state (open_change flags mode c new) → Leaves (open_effect flags mode c new)
+      → IsWalked c.state.room c.state.tree (open_form flags) c.first → HasNewNumber c.state (open_change flags mode c new)
+      → Leaves (open_effect flags mode c new)
   open_leaves path flags mode new asked met walked fresh = go (is_found c.first) refl
     where
       go : (b : Bool) → is_found c.first ≡ b → Leaves (open_effect flags mode c new)
@@ -121,7 +125,8 @@ module _ (c : Scene) (is : IsScene c) (pid : ℕ) (here : get nat_cmp c.state.de
           fits_leave (open_effect flags mode c new)
           (open_new_fits c is (walked.new none) asks.1.1.1.1.0 new number.0 number.1 number.2 flags mode path none asked)
 
-  pub renames_leave : IsWalked c.state.tree Parent c.first → IsWalked c.state.tree Parent c.second → AreMet (rename_demands c) → Leaves (rename_effect c)
+  pub renames_leave : IsWalked c.state.room c.state.tree Parent c.first → IsWalked c.state.room c.state.tree Parent c.second
+      → AreMet (rename_demands c) → Leaves (rename_effect c)
   renames_leave first second met = go (is_same c) refl
     where
       go : (b : Bool) → is_same c ≡ b → Leaves (changes c (cond b Same (MoveName c.first.dir c.first.name c.second.dir c.second.name)))

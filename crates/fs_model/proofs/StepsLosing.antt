@@ -38,12 +38,12 @@ pub record LosesNames (room : Room) (t u : Tree) (desks : Desks) (lost : ℕ →
   pub under : (n : ℕ) → IsDirectoryAt t n → lost n ≡ 0 → IsUnderRoot u n
 
 -- a file may lose names, and a link that has one left
-fewer_fit : (desks : Desks) (n : ℕ) (b : Body) (had lost names : ℕ) → names + lost ≡ had → NamesFit n b had
-    → (IsTrue (is_directory b) → lost ≡ 0) → n ≢ root → (not (names == 0) || lives_nameless desks n b) ≡ true → NamesFit n b names
-fewer_fit desks n (File a bytes) had lost names e fits keeps ne stay = omega (arith, e, fits)
-fewer_fit desks n (Dir a d) had lost names e fits keeps ne stay =
-    let none = keeps refl in let same : had ≡ names = omega (arith, e, none) in subst (NamesFit n (Dir a d)) same fits
-fewer_fit desks n (Link target) had lost names e fits keeps ne stay = (some (names == 0) refl stay, (let most = fits.1 in omega (arith, e, most)))
+fewer_fit : (room : Room) (desks : Desks) (n : ℕ) (b : Body) (had lost names : ℕ) → names + lost ≡ had → NamesFit room n b had
+    → (IsTrue (is_directory b) → lost ≡ 0) → n ≢ root → (not (names == 0) || lives_nameless desks n b) ≡ true → NamesFit room n b names
+fewer_fit room desks n (File a bytes) had lost names e fits keeps ne stay = omega (arith, e, fits)
+fewer_fit room desks n (Dir a d) had lost names e fits keeps ne stay =
+    let none = keeps refl in let same : had ≡ names = omega (arith, e, none) in subst (NamesFit room n (Dir a d)) same fits
+fewer_fit room desks n (Link target) had lost names e fits keeps ne stay = (some (names == 0) refl stay, (let most = fits.1 in omega (arith, e, most)))
   where
     some : (b : Bool) → (names == 0) ≡ b → (not b || n == root) ≡ true → 1 ≤ names
     some true z stay = absurd (let other : (n == root) ≡ false = grind (arith, nat_tests) in cc)
@@ -99,18 +99,18 @@ module _ (room : Room) (t u : Tree) (desks : Desks) (lost : ℕ → ℕ) (is : I
       let group : node.group < 2 ^ 32 = (let e = s.group in let small = old.group in omega (arith, e, small)) in
       node_from_shape room u n node
       (record { positive = old.positive; below = old.below; owner = owner; group = group; body = s.body })
-      (fits s (same_fit n (names_of t n) node.body s.old.body s.same old.names))
+      (fits s (same_fit room n (names_of t n) node.body s.old.body s.same old.names))
       (λ d. h.under n (was_directory n node s d) (lost_none n node (was_directory n node s d) d stay))
     where
-      fits : Stood room t u n node → NamesFit n node.body (names_of t n) → NamesFit n node.body (names_of u n)
+      fits : Stood room t u n node → NamesFit room n node.body (names_of t n) → NamesFit room n node.body (names_of u n)
       fits s fit = elim (cases_eq n root) [
         | inl e ↦
             let none : lost n ≡ 0 = elim (cases_lt 0 (lost n)) [ inl some ↦ absurd (h.not_root n some e) | inr none ↦ omega (arith, none) ] in
             let all = h.counts n in
             let same : names_of t n ≡ names_of u n = omega (arith, all, none) in
-            subst (NamesFit n node.body) same fit
+            subst (NamesFit room n node.body) same fit
         | inr ne ↦
-            fewer_fit desks n node.body (names_of t n) (lost n) (names_of u n) (h.counts n) fit
+            fewer_fit room desks n node.body (names_of t n) (lost n) (names_of u n) (h.counts n) fit
             (λ d. lost_none n node (was_directory n node s d) d stay) ne stay
       ]
 

@@ -98,13 +98,14 @@ nothing_leads room t n is none = elim (cases_lt (names_of t n) 1) [
         let absent : is_some (node_at t n) ≡ false = ap is_some none in
         cc
 
-first_fits : (n : ℕ) (b : Body) → n ≢ root → NamesFit n b 1
-first_fits n (File a bytes) ne = omega arith
-first_fits n (Dir a d) ne = let other : (n == root) ≡ false = grind (arith, nat_tests) in sym (ap (λ q. cond q 0 1) other)
-first_fits n (Link target) ne = (omega arith, omega arith)
+first_fits : (room : Room) → 1 ≤ room.names_limit → (n : ℕ) (b : Body) → n ≢ root → NamesFit room n b 1
+first_fits room some n (File a bytes) ne = some
+first_fits room some n (Dir a d) ne = let other : (n == root) ≡ false = grind (arith, nat_tests) in sym (ap (λ q. cond q 0 1) other)
+first_fits room some n (Link target) ne = (omega arith, some)
 
-module _ (room : Room) (t : Tree) (dir : ℕ) (directory : Node) (name : List ℕ) (n : ℕ) (new : Node) (is : IsTree room t)
-    (takes : TakesNewName t dir directory name) (positive : 1 ≤ n) (below : n < room.inodes) (none : node_at t n ≡ None) (newborn : IsNewborn room t new) where
+module _ (room : Room) (some : 1 ≤ room.names_limit) (t : Tree) (dir : ℕ) (directory : Node) (name : List ℕ) (n : ℕ) (new : Node) (is : IsTree room t)
+    (takes : TakesNewName room t dir directory name) (positive : 1 ≤ n) (below : n < room.inodes) (none : node_at t n ≡ None)
+    (newborn : IsNewborn room t new) where
   apart_from : (d : ℕ) → IsDirectoryAt t d → d ≢ n
   apart_from d there e =
       let at : node_at t n ≡ Some there.node = ap (node_at t) (sym e) ∙ there.is_there in
@@ -147,6 +148,6 @@ module _ (room : Room) (t : Tree) (dir : ℕ) (directory : Node) (name : List �
         shape = record { positive = positive; below = below; owner = newborn.owner; group = newborn.group; body = newborn.body };
         fits =
             let one : 1 ≡ names_of t n + 1 = omega (arith, nameless) in
-            subst (NamesFit n new.body) one (first_fits n new.body (λ e. apart_from root is.root_is_there (sym e)));
+            subst (NamesFit room n new.body) one (first_fits room some n new.body (λ e. apart_from root is.root_is_there (sym e)));
         unnamed = λ d. nameless;
       }

@@ -5,7 +5,7 @@ use Rattle.std.proofs.lemmas.Bool.{cases_eq}
 use Rattle.std.specs.Ordering.{nat_cmp, eq_by_cmp}
 use Rattle.fs_layout.specs.Bytes.{IsBytes}
 use Rattle.fs_layout.specs.Directories.{IsName}
-use Rattle.fs_model.specs.Limits.{root, entries_limit}
+use Rattle.fs_model.specs.Limits.{root}
 use Rattle.fs_layout.specs.Maps.{get, name_cmp, with_entry, without, IsMap}
 use Rattle.fs_model.specs.Nodes.{Node, is_directory, names_in, with_names}
 use Rattle.fs_model.specs.Trees.{Tree, Room, node_at, names_of, parent, lookup, lookup_in, IsEntry, IsUnderRoot, is_in, IsDirectoryAt, IsTree}
@@ -23,7 +23,7 @@ use Rattle.fs_model.proofs.StepsTaking.{once_is, are_names_without}
 use Rattle.fs_model.proofs.StepsUp.{IsOutside, outside_differs, outside_above}
 
 -- from a directory a name that leads to n goes to another directory, or another name
-pub record MovesName (t : Tree) (desks : Desks) (dir : ℕ) (directory : Node) (name : List ℕ) (n : ℕ) (to_dir : ℕ) (to_directory : Node) (to_name : List ℕ) (o : Option ℕ) : Type 0 where
+pub record MovesName (room : Room) (t : Tree) (desks : Desks) (dir : ℕ) (directory : Node) (name : List ℕ) (n : ℕ) (to_dir : ℕ) (to_directory : Node) (to_name : List ℕ) (o : Option ℕ) : Type 0 where
   pub stands : node_at t dir ≡ Some directory
   pub is_dir : IsTrue (is_directory directory.body)
   pub leads : get name_cmp (names_in directory.body) name ≡ Some n
@@ -31,9 +31,10 @@ pub record MovesName (t : Tree) (desks : Desks) (dir : ℕ) (directory : Node) (
   pub is_to_dir : IsTrue (is_directory to_directory.body)
   pub to_leads : get name_cmp (names_in to_directory.body) to_name ≡ o
   pub is_name : IsName to_name
+  pub short : length to_name ≤ room.name_limit
   pub bytes : IsBytes to_name
   pub other : (m : ℕ) → o ≡ Some m → m ≢ n
-  pub has_room : o ≡ None → dir ≢ to_dir → length (names_in to_directory.body) < entries_limit
+  pub has_room : o ≡ None → dir ≢ to_dir → length (names_in to_directory.body) < room.entries_limit
   pub empty : (m : ℕ) → o ≡ Some m → IsDirectoryAt t m → names_at t m ≡ []
   pub unused : (m : ℕ) → o ≡ Some m → IsDirectoryAt t m → is_in_use desks m ≡ false
   pub outside : IsDirectoryAt t n → IsOutside t n to_dir
@@ -45,17 +46,17 @@ pub record Between (room : Room) (t v : Tree) (to_dir : ℕ) (to_name : List ℕ
   pub directory : IsTrue (is_directory node.body)
   pub stood : Stood room t t to_dir node
   pub leads : get name_cmp (names_in node.body) to_name ≡ o
-  pub short : o ≡ None → length (names_in node.body) + 1 ≤ entries_limit
+  pub short : o ≡ None → length (names_in node.body) + 1 ≤ room.entries_limit
 
 module _ (room : Room) (t : Tree) (desks : Desks) (dir : ℕ) (directory : Node) (name : List ℕ) (n : ℕ) (to_dir : ℕ) (to_directory : Node) (to_name : List ℕ) (o : Option ℕ)
-    (is : IsTree room t) (moves : MovesName t desks dir directory name n to_dir to_directory to_name o) where
+    (is : IsTree room t) (moves : MovesName room t desks dir directory name n to_dir to_directory to_name o) where
   abbrev less : Names
   less = without name_cmp (names_in directory.body) name
 
   abbrev v : Tree
   v = renamed t dir directory (without name_cmp (names_in directory.body) name)
 
-  pub were : AreNames t (names_in directory.body)
+  pub were : AreNames room t (names_in directory.body)
   were = are_names room t directory.body (is.each dir directory moves.stands).body
 
   v_there : (q : ℕ) → IsThere t q → IsThere v q
@@ -73,7 +74,7 @@ module _ (room : Room) (t : Tree) (desks : Desks) (dir : ℕ) (directory : Node)
     owner = refl;
     group = refl;
     body =
-        body_renamed room t t directory.body less moves.is_dir (are_names_without t (names_in directory.body) name n were moves.leads)
+        body_renamed room t t directory.body less moves.is_dir (are_names_without room t (names_in directory.body) name n were moves.leads)
         (is.each dir directory moves.stands).body;
   }
 
@@ -133,7 +134,7 @@ module _ (room : Room) (t : Tree) (desks : Desks) (dir : ℕ) (directory : Node)
       directory = moves.is_to_dir;
       stood = stood_itself to_dir to_directory moves.to_stands;
       leads = moves.to_leads;
-      short = λ none. (let room = moves.has_room none ne in omega (arith, room));
+      short = λ none. (let free = moves.has_room none ne in omega (arith, free));
     }
   ]
 
@@ -146,7 +147,7 @@ module _ (room : Room) (t : Tree) (desks : Desks) (dir : ℕ) (directory : Node)
   there : (q : ℕ) → IsThere t q → IsThere moved q
   there q h = still_there v to_dir (renamed_node between.node new) q (v_there q h)
 
-  between_are : AreNames t (names_in between.node.body)
+  between_are : AreNames room t (names_in between.node.body)
   between_are = are_names room t between.node.body between.stood.body
 
   -- ---- counts
@@ -167,28 +168,28 @@ module _ (room : Room) (t : Tree) (desks : Desks) (dir : ℕ) (directory : Node)
 
   -- ---- nodes
 
-  entry_is : (q : List ℕ) (k : ℕ) → get name_cmp new q ≡ Some k → IsEntry moved q k
+  entry_is : (q : List ℕ) (k : ℕ) → get name_cmp new q ≡ Some k → IsEntry room moved q k
   entry_is q k e = go (eq_by_cmp name_cmp q to_name) refl (sym (get-with_name (names_in between.node.body) to_name n q) ∙ e)
     where
-      go : (b : Bool) → eq_by_cmp name_cmp q to_name ≡ b → cond b (Some n) (get name_cmp (names_in between.node.body) q) ≡ Some k → IsEntry moved q k
+      go : (b : Bool) → eq_by_cmp name_cmp q to_name ≡ b → cond b (Some n) (get name_cmp (names_in between.node.body) q) ≡ Some k → IsEntry room moved q k
       go true t i =
           let same : q ≡ to_name = tied_names q to_name t in
           let it : n ≡ k = cc in
           let old = (were.each name n moves.leads).leads in
-          subst (IsEntry moved q) it (subst (λ z. IsEntry moved z n) (sym same) (record { is_name = moves.is_name; bytes = moves.bytes; leads = (old.0, there n old.1) }))
-      go false f i = entry_moves t moved q k (there k) (between_are.each q k i)
+          subst (IsEntry room moved q) it (subst (λ z. IsEntry room moved z n) (sym same) (record { is_name = moves.is_name; short = moves.short; bytes = moves.bytes; leads = (old.0, there n old.1) }))
+      go false f i = entry_moves room t moved q k (there k) (between_are.each q k i)
 
-  new_few : (p : Option ℕ) → o ≡ p → length new ≤ entries_limit
+  new_few : (p : Option ℕ) → o ≡ p → length new ≤ room.entries_limit
   new_few None e =
       let len = length-with_name (names_in between.node.body) to_name n between_are.rising (between.leads ∙ e) in
-      let room = between.short e in
-      omega (arith, len, room)
+      let free = between.short e in
+      omega (arith, len, free)
   new_few (Some k) e =
       let len = length-set_name (names_in between.node.body) to_name n k between_are.rising (between.leads ∙ e) in
       let few = between_are.few in
       omega (arith, len, few)
 
-  are_new : AreNames moved new
+  are_new : AreNames room moved new
   are_new = record {
     rising = with_name-IsMap (names_in between.node.body) to_name n between_are.rising;
     few = new_few o refl;

@@ -3,7 +3,6 @@ use Rattle.std.specs.Prelude.{◌≡◌, ◌≢◌, ℕ, ◌+◌, ◌^◌, ◌<�
 use Rattle.std.proofs.Common.{refl, sym, ap, subst, arith, ◌∙◌, inl, inr}
 use Rattle.std.proofs.lemmas.Bool.{cases_eq}
 use Rattle.std.specs.Ordering.{nat_cmp}
-use Rattle.fs_model.specs.Limits.{entries_limit}
 use Rattle.fs_layout.specs.Maps.{get, name_cmp, IsMap}
 use Rattle.fs_model.specs.Nodes.{Node, Body, File, Dir, Link, is_directory, names_in, with_names, type_of}
 use Rattle.fs_model.specs.Trees.{Tree, Room, node_at, with_node, names_for, names_of, NamesFit, IsEntry, IsBody, IsUnderRoot, IsNode}
@@ -89,7 +88,7 @@ pub record IsShape (room : Room) (u : Tree) (n : ℕ) (node : Node) : Type 0 whe
   pub group : node.group < 2 ^ 32
   pub body : IsBody room u node.body
 
-pub node_from_shape : (room : Room) (u : Tree) (n : ℕ) (node : Node) → IsShape room u n node → NamesFit n node.body (names_of u n)
+pub node_from_shape : (room : Room) (u : Tree) (n : ℕ) (node : Node) → IsShape room u n node → NamesFit room n node.body (names_of u n)
     → (IsTrue (is_directory node.body) → IsUnderRoot u n) → IsNode room u n node
 node_from_shape room u n node shape names under = record {
   positive = shape.positive;
@@ -102,19 +101,19 @@ node_from_shape room u n node shape names under = record {
 }
 
 -- what a directory may have for names
-pub record AreNames (u : Tree) (names : Names) : Type 0 where
+pub record AreNames (room : Room) (u : Tree) (names : Names) : Type 0 where
   pub rising : IsMap name_cmp names
-  pub few : length names ≤ entries_limit
-  pub each : (name : List ℕ) (n : ℕ) → get name_cmp names name ≡ Some n → IsEntry u name n
+  pub few : length names ≤ room.entries_limit
+  pub each : (name : List ℕ) (n : ℕ) → get name_cmp names name ≡ Some n → IsEntry room u name n
 
-pub body_renamed : (room : Room) (t u : Tree) (b : Body) (names : Names) → IsTrue (is_directory b) → AreNames u names → IsBody room t b
+pub body_renamed : (room : Room) (t u : Tree) (b : Body) (names : Names) → IsTrue (is_directory b) → AreNames room u names → IsBody room t b
     → IsBody room u (with_names names b)
 body_renamed room t u (File a s) names d are is = absurd cc
 body_renamed room t u (Dir a dir) names d are is = (is.0, is.1, record { names = are.rising; few = are.few; each = are.each })
 body_renamed room t u (Link target) names d are is = absurd cc
 
 -- the names of a directory in a tree
-pub are_names : (room : Room) (t : Tree) (b : Body) → IsBody room t b → AreNames t (names_in b)
+pub are_names : (room : Room) (t : Tree) (b : Body) → IsBody room t b → AreNames room t (names_in b)
 are_names room t (File a s) is = record { rising = refl; few = omega arith; each = λ name n e. absurd cc }
 are_names room t (Dir a d) is = record { rising = is.2.names; few = is.2.few; each = is.2.each }
 are_names room t (Link target) is = record { rising = refl; few = omega arith; each = λ name n e. absurd cc }

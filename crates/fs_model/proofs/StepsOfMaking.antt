@@ -10,10 +10,10 @@ use Rattle.fs_layout.specs.Bytes.{IsBytes}
 use Rattle.fs_model.specs.declared.call.Flags.{Flags}
 use Rattle.fs_model.specs.declared.reply.Reply.{Reply}
 use Rattle.fs_model.specs.declared.reply.Reply.TheVariants.{Done, Fd}
-use Rattle.fs_model.specs.Limits.{entries_limit, descriptors_limit, names_limit, target_limit}
+use Rattle.fs_model.specs.Limits.{descriptors_limit, target_limit}
 use Rattle.fs_layout.specs.Maps.{get, name_cmp, with_entry}
 use Rattle.fs_model.specs.Nodes.{Node, is_directory, names_in, with_bytes}
-use Rattle.fs_model.specs.Trees.{Tree, node_at, with_node, names_of, IsTarget, IsTree}
+use Rattle.fs_model.specs.Trees.{Tree, Room, node_at, with_node, names_of, IsTarget, IsTree}
 use Rattle.fs_model.specs.Births.{the_node, born_file, born_directory, born_link}
 use Rattle.fs_model.specs.Processes.{least_unused}
 use Rattle.fs_model.specs.TreeChanges.{Same, Rewrite, Make, AddName, with_names_at, named, changed}
@@ -37,7 +37,7 @@ use Rattle.fs_model.proofs.StepsProcesses.{with_descriptor_fits, least_is_low}
 -- ---- what a name stands in
 
 -- the directory is what stands at the number
-pub dir_is_there : (t : Tree) (dir : ℕ) (name : List ℕ) (o : Option ℕ) → IsNameAt t dir name o
+pub dir_is_there : {room : Room} (t : Tree) (dir : ℕ) (name : List ℕ) (o : Option ℕ) → IsNameAt room t dir name o
     → (node_at t dir ≡ Some (the_node t dir)) × IsTrue (is_directory (the_node t dir).body) × (get name_cmp (names_in (the_node t dir).body) name ≡ o)
 dir_is_there t dir name o x =
     let at = node_is_there t dir (ap is_some x.stands) in
@@ -57,7 +57,7 @@ is_new_if f met = no_find f.ino (or_parts (is_found f) (is_special f) (unrefused
 
 -- ---- a new node
 
-module _ (c : Scene) (is : IsScene c) (name : IsNameAt c.state.tree c.first.dir c.first.name None) (met : no_names c c.first ≡ None)
+module _ (c : Scene) (is : IsScene c) (name : IsNameAt c.state.room c.state.tree c.first.dir c.first.name None) (met : no_names c c.first ≡ None)
     (n : ℕ) (positive : 1 ≤ n) (below : n < c.state.room.inodes) (none : node_at c.state.tree n ≡ None) where
   abbrev Place : Node
   Place = dir_node c c.first
@@ -65,15 +65,18 @@ module _ (c : Scene) (is : IsScene c) (name : IsNameAt c.state.tree c.first.dir 
   pub dir_at : node_at c.state.tree c.first.dir ≡ Some (dir_node c c.first)
   dir_at = (dir_is_there c.state.tree c.first.dir c.first.name None name).0
 
-  has_room : length (names_in (dir_node c c.first).body) < entries_limit
-  has_room = let full : nat_le entries_limit (length (names_in (dir_node c c.first).body)) ≡ false = unrefused ENOSPC _ met in grind (arith, nat_tests)
+  has_room : length (names_in (dir_node c c.first).body) < c.state.room.entries_limit
+  has_room =
+      let full : nat_le c.state.room.entries_limit (length (names_in (dir_node c c.first).body)) ≡ false = unrefused ENOSPC _ met in
+      grind (arith, nat_tests)
 
   pub adds : (new : Node) → IsNewborn c.state.room c.state.tree new
       → AddsName c.state.room c.state.tree (with_node c.state.tree n new) c.first.dir (dir_node c c.first) c.first.name n new
   adds new newborn =
       let x = dir_is_there c.state.tree c.first.dir c.first.name None name in
-      makes_name c.state.room c.state.tree c.first.dir (dir_node c c.first) c.first.name n new is.state.tree
-      (record { stands = x.0; is_dir = x.1; is_new = x.2; has_room = has_room; is_name = name.is_name; bytes = name.bytes }) positive below none newborn
+      makes_name c.state.room is.state.room.some_names c.state.tree c.first.dir (dir_node c c.first) c.first.name n new is.state.tree
+      (record { stands = x.0; is_dir = x.1; is_new = x.2; has_room = has_room; is_name = name.is_name; short = name.short; bytes = name.bytes })
+      positive below none newborn
 
   abbrev made : Node → Tree
   made new = changed c.state.tree (Make c.first.dir c.first.name n new)
@@ -185,7 +188,7 @@ target_is target bytes met =
 
 -- ---- link
 
-pub link_fits : (c : Scene) → IsScene c → IsNameAt c.state.tree c.second.dir c.second.name None → AreMet (link_demands c)
+pub link_fits : (c : Scene) → IsScene c → IsNameAt c.state.room c.state.tree c.second.dir c.second.name None → AreMet (link_demands c)
     → EffectFits c.state (link_effect c)
 link_fits c is name met =
     let t = c.state.tree in
@@ -196,13 +199,13 @@ link_fits c is name met =
     let directory = dir_node c c.second in
     let x = dir_is_there t dir c.second.name None name in
     let no_directory : is_directory target.body ≡ false = and_false (is_found c.first) (is_directory target.body) (unrefused EPERM (is_directory_found c c.first) met.1.1.1.0) found in
-    let many : nat_le names_limit (names_of t n) ≡ false = unrefused EMLINK _ met.1.1.1.1.1.1.1.0 in
-    let few : names_of t n < names_limit = grind (arith, nat_tests) in
-    let full : nat_le entries_limit (length (names_in directory.body)) ≡ false = unrefused ENOSPC _ met.1.1.1.1.1.1.1.1.1.0 in
-    let free : length (names_in directory.body) < entries_limit = grind (arith, nat_tests) in
+    let many : nat_le c.state.room.names_limit (names_of t n) ≡ false = unrefused EMLINK _ met.1.1.1.1.1.1.1.0 in
+    let few : names_of t n < c.state.room.names_limit = grind (arith, nat_tests) in
+    let full : nat_le c.state.room.entries_limit (length (names_in directory.body)) ≡ false = unrefused ENOSPC _ met.1.1.1.1.1.1.1.1.1.0 in
+    let free : length (names_in directory.body) < c.state.room.entries_limit = grind (arith, nat_tests) in
     let adds =
     gives_name c.state.room t dir directory c.second.name n target is.state.tree (record {
-      takes = record { stands = x.0; is_dir = x.1; is_new = x.2; has_room = free; is_name = name.is_name; bytes = name.bytes };
+      takes = record { stands = x.0; is_dir = x.1; is_new = x.2; has_room = free; is_name = name.is_name; short = name.short; bytes = name.bytes };
       there = first_at c is found;
       no_directory = no_directory;
       few = few;

@@ -56,7 +56,7 @@ module _ (c : Scene) (is : IsScene c) (pid : ℕ) (here : get nat_cmp c.state.de
 
   -- ---- unlink and rmdir
 
-  taken_leaves : IsNameAt c.state.tree c.first.dir c.first.name c.first.ino → is_found c.first ≡ true
+  taken_leaves : IsNameAt c.state.room c.state.tree c.first.dir c.first.name c.first.ino → is_found c.first ≡ true
       → (IsDirectoryAt c.state.tree (number c.first) → names_at c.state.tree (number c.first) ≡ [])
       → (IsDirectoryAt c.state.tree (number c.first) → is_in_use c.state.desks (number c.first) ≡ false)
       → MayBeLeft c.state.room (changed c.state.tree (TakeName c.first.dir c.first.name)) (with_entry nat_cmp c.state.desks pid c.process)
@@ -76,7 +76,7 @@ module _ (c : Scene) (is : IsScene c) (pid : ℕ) (here : get nat_cmp c.state.de
         unused = unused;
       })))
 
-  pub unlink_leaves : IsWalked c.state.tree Parent c.first → AreMet (unlink_demands c)
+  pub unlink_leaves : IsWalked c.state.room c.state.tree Parent c.first → AreMet (unlink_demands c)
       → MayBeLeft c.state.room (changed c.state.tree (TakeName c.first.dir c.first.name)) (with_entry nat_cmp c.state.desks pid c.process)
   unlink_leaves walked met =
       let special : is_special c.first ≡ false = unrefused EISDIR (is_special c.first) met.0 in
@@ -86,7 +86,7 @@ module _ (c : Scene) (is : IsScene c) (pid : ℕ) (here : get nat_cmp c.state.de
       (λ d. absurd (let yes = found_directory c is found d in cc))
       (λ d. absurd (let yes = found_directory c is found d in cc))
 
-  pub rmdir_leaves : IsWalked c.state.tree Parent c.first → AreMet (rmdir_demands c)
+  pub rmdir_leaves : IsWalked c.state.room c.state.tree Parent c.first → AreMet (rmdir_demands c)
       → MayBeLeft c.state.room (changed c.state.tree (TakeName c.first.dir c.first.name)) (with_entry nat_cmp c.state.desks pid c.process)
   rmdir_leaves walked met =
       let top : ends_top c.first ≡ false = unrefused EBUSY (ends_top c.first) met.0 in

@@ -9,7 +9,6 @@ use Rattle.std.proofs.lemmas.Bool.{or_from, or_parts}
 use Rattle.std.proofs.lemmas.Bool.Decides.{nat_tests}
 use Rattle.std.specs.Ordering.{nat_cmp}
 use Rattle.fs_cred.specs.declared.errno.Errno.TheVariants.{EBUSY, EINVAL, ENOTEMPTY, ENOSPC}
-use Rattle.fs_model.specs.Limits.{entries_limit}
 use Rattle.fs_layout.specs.Maps.{get, with_entry}
 use Rattle.fs_model.specs.Nodes.{is_directory, names_in}
 use Rattle.fs_model.specs.Trees.{node_at, is_within, IsDirectoryAt}
@@ -104,9 +103,9 @@ module _ (c : Scene) (is : IsScene c) (asks : IsRenamed c) (same : is_same c ≡
       let both : (not (is_found c.second) && moves c) ≡ true = ap (λ b. b && moves c) new ∙ goes in
       subst (λ b. AreMet (only_if b (no_blocks c ∷ no_names c c.second ∷ []))) both asks.space
 
-  pub has_room : c.second.ino ≡ None → c.first.dir ≢ c.second.dir → length (names_in (dir_node c c.second).body) < entries_limit
+  pub has_room : c.second.ino ≡ None → c.first.dir ≢ c.second.dir → length (names_in (dir_node c c.second).body) < c.state.room.entries_limit
   has_room none ne =
-      let full : nat_le entries_limit (length (names_in (dir_node c c.second).body)) ≡ false = unrefused ENOSPC _ (space_met none ne).1.0 in
+      let full : nat_le c.state.room.entries_limit (length (names_in (dir_node c c.second).body)) ≡ false = unrefused ENOSPC _ (space_met none ne).1.0 in
       grind (arith, nat_tests)
 
   pub replaced_empty : (m : ℕ) → c.second.ino ≡ Some m → names_at c.state.tree m ≡ []
@@ -133,8 +132,8 @@ module _ (c : Scene) (is : IsScene c) (asks : IsRenamed c) (same : is_same c ≡
       and_false (is_directory_found c c.first) (is_within (length c.state.tree) c.state.tree (number c.first) c.second.dir)
       (unrefused EINVAL (is_directory_found c c.first && is_within (length c.state.tree) c.state.tree (number c.first) c.second.dir) asks.directories.0) both
 
-  moves_name : IsNameAt c.state.tree c.first.dir c.first.name c.first.ino → IsNameAt c.state.tree c.second.dir c.second.name c.second.ino
-      → MovesName c.state.tree c.state.desks c.first.dir (dir_node c c.first) c.first.name (number c.first) c.second.dir (dir_node c c.second) c.second.name c.second.ino
+  moves_name : IsNameAt c.state.room c.state.tree c.first.dir c.first.name c.first.ino → IsNameAt c.state.room c.state.tree c.second.dir c.second.name c.second.ino
+      → MovesName c.state.room c.state.tree c.state.desks c.first.dir (dir_node c c.first) c.first.name (number c.first) c.second.dir (dir_node c c.second) c.second.name c.second.ino
   moves_name from to =
       let x = dir_is_there c.state.tree c.first.dir c.first.name c.first.ino from in
       let y = dir_is_there c.state.tree c.second.dir c.second.name c.second.ino to in
@@ -146,6 +145,7 @@ module _ (c : Scene) (is : IsScene c) (asks : IsRenamed c) (same : is_same c ≡
         is_to_dir = y.1;
         to_leads = y.2;
         is_name = to.is_name;
+        short = to.short;
         bytes = to.bytes;
         other = others;
         has_room = has_room;
@@ -156,7 +156,7 @@ module _ (c : Scene) (is : IsScene c) (asks : IsRenamed c) (same : is_same c ≡
             (record { node = dir_node c c.second; is_there = y.0; directory = y.1 }) (outside d);
       }
 
-  rename_loses : IsWalked c.state.tree Parent c.first → IsWalked c.state.tree Parent c.second
+  rename_loses : IsWalked c.state.room c.state.tree Parent c.first → IsWalked c.state.room c.state.tree Parent c.second
       → LosesNames c.state.room c.state.tree (changed c.state.tree (MoveName c.first.dir c.first.name c.second.dir c.second.name)) c.state.desks (lost_of c.second.ino)
   rename_loses from to =
       let a = from.old refl asks.first in
@@ -168,7 +168,7 @@ module _ (c : Scene) (is : IsScene c) (asks : IsRenamed c) (same : is_same c ≡
       c.second.name c.second.ino is.state.tree (moves_name a b))
 
 pub rename_leaves : (c : Scene) (is : IsScene c) (pid : ℕ) → get nat_cmp c.state.desks pid ≡ Some c.process
-    → IsWalked c.state.tree Parent c.first → IsWalked c.state.tree Parent c.second → AreMet (rename_demands c) → is_same c ≡ false
+    → IsWalked c.state.room c.state.tree Parent c.first → IsWalked c.state.room c.state.tree Parent c.second → AreMet (rename_demands c) → is_same c ≡ false
     → MayBeLeft c.state.room (changed c.state.tree (MoveName c.first.dir c.first.name c.second.dir c.second.name)) (with_entry nat_cmp c.state.desks pid c.process)
 rename_leaves c is pid here from to met same =
     loses_leaves c is pid here (MoveName c.first.dir c.first.name c.second.dir c.second.name) (lost_of c.second.ino)

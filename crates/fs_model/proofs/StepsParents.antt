@@ -115,15 +115,15 @@ directory_if t k x some = go (node_at t k) refl some
     go None at some = absurd (omega (arith, some))
     go (Some v) at some = record { node = v; is_there = at; directory = is_directory_if x v.body some }
 
-once_named : (n : ℕ) (b : Body) (names : ℕ) → IsTrue (is_directory b) → n ≢ root → NamesFit n b names → names ≡ 1
-once_named n (File a bytes) names d ne fits = absurd cc
-once_named n (Dir a dir) names d ne fits = let other : (n == root) ≡ false = grind (arith, nat_tests) in fits ∙ ap (λ q. cond q 0 1) other
-once_named n (Link target) names d ne fits = absurd cc
+once_named : (room : Room) (n : ℕ) (b : Body) (names : ℕ) → IsTrue (is_directory b) → n ≢ root → NamesFit room n b names → names ≡ 1
+once_named room n (File a bytes) names d ne fits = absurd cc
+once_named room n (Dir a dir) names d ne fits = let other : (n == root) ≡ false = grind (arith, nat_tests) in fits ∙ ap (λ q. cond q 0 1) other
+once_named room n (Link target) names d ne fits = absurd cc
 
 module _ (room : Room) (t : Tree) (is : IsTree room t) where
   -- a directory but for the root has one name
   pub directory_named : (x : ℕ) → IsDirectoryAt t x → x ≢ root → names_of t x ≡ 1
-  directory_named x d ne = once_named x d.node.body (names_of t x) d.directory ne (is.each x d.node d.is_there).names
+  directory_named x d ne = once_named room x d.node.body (names_of t x) d.directory ne (is.each x d.node d.is_there).names
 
   -- in a directory
   pub parent_at : (x : ℕ) → IsDirectoryAt t x → x ≢ root → IsDirectoryAt t (parent t x)

@@ -149,11 +149,11 @@ left_is_state s u desks free room h may = record {
 -- ---- where the tree is one before the sweep
 
 -- a directory has a name, or is the root
-directory_lives : (desks : Desks) (n : ℕ) (b : Body) (names : ℕ) → NamesFit n b names → IsTrue (is_directory b)
+directory_lives : (room : Room) (desks : Desks) (n : ℕ) (b : Body) (names : ℕ) → NamesFit room n b names → IsTrue (is_directory b)
     → (not (names == 0) || lives_nameless desks n b) ≡ true
-directory_lives desks n (File a bytes) names fits d = absurd cc
-directory_lives desks n (Link target) names fits d = absurd cc
-directory_lives desks n (Dir a dir) names fits d = elim (cases_eq n root) [
+directory_lives room desks n (File a bytes) names fits d = absurd cc
+directory_lives room desks n (Link target) names fits d = absurd cc
+directory_lives room desks n (Dir a dir) names fits d = elim (cases_eq n root) [
   | inl e ↦ or_right (not (names == 0)) (n == root) (let k : (n == root) ≡ true = grind (arith, nat_tests) in k)
   | inr ne ↦
       let other : (n == root) ≡ false = grind (arith, nat_tests) in
@@ -163,19 +163,19 @@ directory_lives desks n (Dir a dir) names fits d = elim (cases_eq n root) [
 ]
 
 -- what goes has no names in it
-goes_empty : (desks : Desks) (n : ℕ) (b : Body) (names : ℕ) → NamesFit n b names → (not (names == 0) || lives_nameless desks n b) ≡ false
+goes_empty : (room : Room) (desks : Desks) (n : ℕ) (b : Body) (names : ℕ) → NamesFit room n b names → (not (names == 0) || lives_nameless desks n b) ≡ false
     → names_in b ≡ []
-goes_empty desks n (File a bytes) names fits gone = refl
-goes_empty desks n (Link target) names fits gone = refl
-goes_empty desks n (Dir a d) names fits gone =
-    absurd (let lives : (not (names == 0) || n == root) ≡ true = directory_lives desks n (Dir a d) names fits refl in cc)
+goes_empty room desks n (File a bytes) names fits gone = refl
+goes_empty room desks n (Link target) names fits gone = refl
+goes_empty room desks n (Dir a d) names fits gone =
+    absurd (let lives : (not (names == 0) || n == root) ≡ true = directory_lives room desks n (Dir a d) names fits refl in cc)
 
 pub tree_may_be_swept : (room : Room) (t : Tree) (desks : Desks) → IsTree room t → MayBeSwept room t desks
 tree_may_be_swept room t desks is = record {
   numbers = is.numbers;
   root_is_there = is.root_is_there;
   each = λ n node e _. is.each n node e;
-  gone = λ n node e k. goes_empty desks n node.body (names_of t n) (is.each n node e).names k;
+  gone = λ n node e k. goes_empty room desks n node.body (names_of t n) (is.each n node e).names k;
 }
 
 pub tree_may_be_left : (room : Room) (u : Tree) (desks : Desks) → IsTree room u → IsMap nat_cmp desks → length desks ≤ processes_limit
@@ -185,5 +185,5 @@ tree_may_be_left room u desks is pids few processes = record {
   pids = pids;
   few = few;
   processes = processes;
-  used = λ n node at d _. directory_lives desks n node.body (names_of u n) (is.each n node at).names d;
+  used = λ n node at d _. directory_lives room desks n node.body (names_of u n) (is.each n node at).names d;
 }

@@ -24,9 +24,9 @@ once_is m n some = elim (cases_eq n m) [
 ]
 
 -- a directory's names without one
-pub are_names_without : (t : Tree) (names : Names) (name : List ℕ) (m : ℕ) → AreNames t names → get name_cmp names name ≡ Some m
-    → AreNames t (without name_cmp names name)
-are_names_without t names name m are here = record {
+pub are_names_without : (room : Room) (t : Tree) (names : Names) (name : List ℕ) (m : ℕ) → AreNames room t names → get name_cmp names name ≡ Some m
+    → AreNames room t (without name_cmp names name)
+are_names_without room t names name m are here = record {
   rising = without_name-IsMap names name are.rising;
   few = let len = length-without_name names name m are.rising here in let few = are.few in omega (arith, len, few);
   each = λ q k e. are.each q k (kept (not (eq_by_cmp name_cmp name q)) (get name_cmp names q) k (sym (get-without_name names name q) ∙ e));
@@ -36,11 +36,11 @@ are_names_without t names name m are here = record {
     kept true o k e = e
     kept false o k e = absurd cc
 
-names_move : (t u : Tree) (names : Names) → ((n : ℕ) → IsThere t n → IsThere u n) → AreNames t names → AreNames u names
-names_move t u names still are = record {
+names_move : (room : Room) (t u : Tree) (names : Names) → ((n : ℕ) → IsThere t n → IsThere u n) → AreNames room t names → AreNames room u names
+names_move room t u names still are = record {
   rising = are.rising;
   few = are.few;
-  each = λ q k e. entry_moves t u q k (still k) (are.each q k e);
+  each = λ q k e. entry_moves room t u q k (still k) (are.each q k e);
 }
 
 -- a name that leads to m is taken
@@ -58,7 +58,7 @@ module _ (room : Room) (t : Tree) (desks : Desks) (dir : ℕ) (directory : Node)
   abbrev u : Tree
   u = renamed t dir directory (without name_cmp (names_in directory.body) name)
 
-  were : AreNames t (names_in directory.body)
+  were : AreNames room t (names_in directory.body)
   were = are_names room t directory.body (is.each dir directory takes.stands).body
 
   pub fewer : (x : ℕ) → leading x new + once_if m x ≡ leading x (names_in directory.body)
@@ -86,7 +86,7 @@ module _ (room : Room) (t : Tree) (desks : Desks) (dir : ℕ) (directory : Node)
           group = refl;
           body =
               body_renamed room t u directory.body new takes.is_dir
-              (names_move t u new there (are_names_without t (names_in directory.body) name m were takes.leads))
+              (names_move room t u new there (are_names_without room t (names_in directory.body) name m were takes.leads))
               (is.each dir directory takes.stands).body;
         })
     | inr ne ↦

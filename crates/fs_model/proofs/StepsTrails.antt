@@ -6,7 +6,7 @@ use Rattle.std.specs.List.{AllByRecursion}
 use Rattle.fs_cred.specs.Credentials.{Credential}
 use Rattle.fs_cred.specs.declared.errno.Errno.{Errno}
 use Rattle.fs_cred.specs.declared.errno.Errno.TheVariants.{ENOTDIR, ENAMETOOLONG}
-use Rattle.fs_model.specs.Limits.{name_limit, links_limit}
+use Rattle.fs_model.specs.Limits.{links_limit}
 use Rattle.fs_model.specs.Nodes.{Node, Body, File, Dir, Link, is_directory, names_in}
 use Rattle.fs_model.specs.Trees.{Tree, Room, node_at, IsTree, IsTarget, IsBody}
 use Rattle.fs_model.specs.Demands.{failed_with, search_on}
@@ -37,22 +37,22 @@ unrefused_walk cred t walk k (l ∷ lookups) h =
 -- ---- one lookup
 
 -- the name was looked up in a directory, and led to this
-pub record WasLookedUp (t : Tree) (dir : ℕ) (name : List ℕ) (o : Option ℕ) : Type 0 where
+pub record WasLookedUp (room : Room) (t : Tree) (dir : ℕ) (name : List ℕ) (o : Option ℕ) : Type 0 where
   pub node : Node
   pub stands : node_at t dir ≡ Some node
   pub directory : IsTrue (is_directory node.body)
-  pub short : length name ≤ name_limit
+  pub short : length name ≤ room.name_limit
   pub leads : named_inode t dir (names_in node.body) name ≡ o
 
 module _ (room : Room) (t : Tree) (is : IsTree room t) (follow : Bool) where
   abbrev LooksUp : Bool → ℕ → List ℕ → Outcome → Type 0
   LooksUp is_last dir name (Faulty e) = Unit {0}
-  LooksUp is_last dir name Absent = WasLookedUp t dir name None
-  LooksUp is_last dir name (Reaches n) = WasLookedUp t dir name (Some n)
-  LooksUp is_last dir name (Through target) = (n : ℕ) × WasLookedUp t dir name (Some n) × IsTarget target × ((follow || not is_last) ≡ true)
+  LooksUp is_last dir name Absent = WasLookedUp room t dir name None
+  LooksUp is_last dir name (Reaches n) = WasLookedUp room t dir name (Some n)
+  LooksUp is_last dir name (Through target) = (n : ℕ) × WasLookedUp room t dir name (Some n) × IsTarget target × ((follow || not is_last) ≡ true)
 
   reaches_body : (is_last goes : Bool) (dir : ℕ) (name : List ℕ) (n : ℕ) (b : Body) → goes ≡ (follow || not is_last) → IsBody room t b
-      → WasLookedUp t dir name (Some n) → LooksUp is_last dir name (reached_body goes n b)
+      → WasLookedUp room t dir name (Some n) → LooksUp is_last dir name (reached_body goes n b)
   reaches_body is_last true dir name n (File a bytes) e body was = was
   reaches_body is_last true dir name n (Dir a d) e body was = was
   reaches_body is_last true dir name n (Link target) e body was = (n, was, body, sym e)
@@ -61,23 +61,23 @@ module _ (room : Room) (t : Tree) (is : IsTree room t) (follow : Bool) where
   reaches_body is_last false dir name n (Link target) e body was = was
 
   reaches_node : (is_last : Bool) (dir : ℕ) (name : List ℕ) (n : ℕ) (o : Option Node) → node_at t n ≡ o
-      → WasLookedUp t dir name (Some n) → LooksUp is_last dir name (reached (follow || not is_last) n o)
+      → WasLookedUp room t dir name (Some n) → LooksUp is_last dir name (reached (follow || not is_last) n o)
   reaches_node is_last dir name n None at was = was
   reaches_node is_last dir name n (Some node) at was =
       reaches_body is_last (follow || not is_last) dir name n node.body refl (is.each n node at).body was
 
-  arrives : (is_last : Bool) (dir : ℕ) (name : List ℕ) (o : Option ℕ) → WasLookedUp t dir name o
+  arrives : (is_last : Bool) (dir : ℕ) (name : List ℕ) (o : Option ℕ) → WasLookedUp room t dir name o
       → LooksUp is_last dir name (arrival t is_last follow o)
   arrives true dir name None was = was
   arrives false dir name None was = tt
   arrives is_last dir name (Some n) was = reaches_node is_last dir name n (node_at t n) refl was
 
   looks_up : (is_last : Bool) (dir : ℕ) (name : List ℕ) (o : Option Node) → node_at t dir ≡ o
-      → LooksUp is_last dir name (looked_up t is_last follow dir name o)
+      → LooksUp is_last dir name (looked_up room t is_last follow dir name o)
   looks_up is_last dir name None at = tt
-  looks_up is_last dir name (Some node) at = go (is_directory node.body) refl (nat_lt name_limit (length name)) refl
+  looks_up is_last dir name (Some node) at = go (is_directory node.body) refl (nat_lt room.name_limit (length name)) refl
     where
-      go : (directory : Bool) → is_directory node.body ≡ directory → (long : Bool) → nat_lt name_limit (length name) ≡ long
+      go : (directory : Bool) → is_directory node.body ≡ directory → (long : Bool) → nat_lt room.name_limit (length name) ≡ long
           → LooksUp is_last dir name (cond (not directory) (Faulty ENOTDIR) (cond long (Faulty ENAMETOOLONG) (arrival t is_last follow (named_inode t dir (names_in node.body) name))))
       go false d long l = tt
       go true d true l = tt
@@ -91,7 +91,7 @@ module _ (room : Room) (t : Tree) (is : IsTree room t) (follow : Bool) where
   pub record IsEnd (l : Lookup) (found : Option ℕ) : Type 0 where
     pub name : IsComponent l.name
     pub led : Option ℕ
-    pub was : WasLookedUp t l.dir l.name led
+    pub was : WasLookedUp room t l.dir l.name led
     pub absent : found ≡ None → led ≡ None
     pub exact : follow ≡ false → led ≡ found
 
@@ -126,10 +126,10 @@ module _ (room : Room) (t : Tree) (is : IsTree room t) (follow : Bool) where
   something None rest dir name names slash (Through target) = refl
   something (Some go_on) rest dir name names slash (Through target) = refl
 
-  all_looked_up : (behind : Option GoesOn) → LooksUpAll (lookups_from t follow behind)
+  all_looked_up : (behind : Option GoesOn) → LooksUpAll (lookups_from room t follow behind)
   all_looked_up behind dir [] slash = refl
   all_looked_up behind dir (name ∷ names) slash =
-      something behind (λ n. lookups_from t follow behind n names slash) dir name names slash (looked_up t (is_empty names) follow dir name (node_at t dir))
+      something behind (λ n. lookups_from room t follow behind n names slash) dir name names slash (looked_up room t (is_empty names) follow dir name (node_at t dir))
 
   not_empty_append : (xs ys : List (List ℕ)) → is_empty ys ≡ false → is_empty (xs ++ ys) ≡ false
   not_empty_append [] ys h = h
@@ -142,7 +142,7 @@ module _ (room : Room) (t : Tree) (is : IsTree room t) (follow : Bool) where
 
   through_ends : (behind : Option GoesOn) (dir : ℕ) (name : List ℕ) (names : List (List ℕ)) (slash : Bool) (target : List ℕ)
       → IfGoes GoesWell behind → IfGoes LooksUpAll behind → IsComponent name → AreComponents names → IsTarget target
-      → (follow || not (is_empty names)) ≡ true → (o : Option ℕ) → WasLookedUp t dir name o
+      → (follow || not (is_empty names)) ≡ true → (o : Option ℕ) → WasLookedUp room t dir name o
       → HaveNoFault (through_if behind dir name names slash target).lookups
       → EndsIn (through_if behind dir name names slash target).lookups (through_if behind dir name names slash target).found
   through_ends None dir name names slash target goes all is_name are is_target followed o was none = absurd (let h = none.0 in cc)
@@ -193,33 +193,33 @@ module _ (room : Room) (t : Tree) (is : IsTree room t) (follow : Bool) where
   onward_ends behind rest dir name names slash (Through target) goes all is_name are was on last none =
       through_ends behind dir name names slash target goes all is_name are was.2 was.3 (Some was.0) was.1 none
 
-  names_end : (behind : Option GoesOn) → IfGoes GoesWell behind → IfGoes LooksUpAll behind → GoesWell (lookups_from t follow behind)
+  names_end : (behind : Option GoesOn) → IfGoes GoesWell behind → IfGoes LooksUpAll behind → GoesWell (lookups_from room t follow behind)
   names_end behind goes all dir [] slash are none = refl
   names_end behind goes all dir (name ∷ names) slash are none =
-      onward_ends behind (λ n. lookups_from t follow behind n names slash) dir name names slash
-      (looked_up t (is_empty names) follow dir name (node_at t dir)) goes all are.0 are.1
+      onward_ends behind (λ n. lookups_from room t follow behind n names slash) dir name names slash
+      (looked_up room t (is_empty names) follow dir name (node_at t dir)) goes all are.0 are.1
       (looks_up (is_empty names) dir name (node_at t dir) refl)
       (λ n clean. names_end behind goes all n names slash are.1 clean)
       (λ n empty. found_here names slash n empty)
       none
     where
-      found_here : (names : List (List ℕ)) (slash : Bool) (n : ℕ) → is_empty (lookups_from t follow behind n names slash).lookups ≡ true
-          → (lookups_from t follow behind n names slash).found ≡ Some n
+      found_here : (names : List (List ℕ)) (slash : Bool) (n : ℕ) → is_empty (lookups_from room t follow behind n names slash).lookups ≡ true
+          → (lookups_from room t follow behind n names slash).found ≡ Some n
       found_here [] slash n empty = refl
       found_here (x ∷ xs) slash n empty = absurd (let h = all_looked_up behind n (x ∷ xs) slash in cc)
 
-  links_end : (links : ℕ) → GoesWell (trail_with t follow links)
+  links_end : (links : ℕ) → GoesWell (trail_with room t follow links)
   links_end zero = names_end None tt tt
-  links_end (suc links) = names_end (Some (trail_with t follow links)) (links_end links) (looks_up_links links)
+  links_end (suc links) = names_end (Some (trail_with room t follow links)) (links_end links) (looks_up_links links)
     where
-      looks_up_links : (links : ℕ) → LooksUpAll (trail_with t follow links)
+      looks_up_links : (links : ℕ) → LooksUpAll (trail_with room t follow links)
       looks_up_links zero = all_looked_up None
-      looks_up_links (suc links) = all_looked_up (Some (trail_with t follow links))
+      looks_up_links (suc links) = all_looked_up (Some (trail_with room t follow links))
 
 -- the last lookup of a path's trail
 pub trail_ends : (room : Room) (t : Tree) (is : IsTree room t) (cwd : ℕ) (form : Form) (path : List ℕ) → ArePathBytes path
-    → HaveNoFault (trail_of t cwd form path).lookups
-    → EndsIn room t is (follows_last form (parts_of path)) (trail_of t cwd form path).lookups (trail_of t cwd form path).found
+    → HaveNoFault (trail_of room t cwd form path).lookups
+    → EndsIn room t is (follows_last form (parts_of path)) (trail_of room t cwd form path).lookups (trail_of room t cwd form path).found
 unfolding trail_of
 trail_ends room t is cwd form path bytes none =
     let parts = parts_of path in

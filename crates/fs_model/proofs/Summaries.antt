@@ -6,6 +6,7 @@ use Rattle.std.specs.Option.{option_map}
 use Rattle.std.specs.Ordering.{nat_cmp}
 use Rattle.std.proofs.lemmas.List.Sums.{sum_by-cons}
 use Rattle.fs_layout.specs.declared.inode.Inode.{Inode}
+use Rattle.fs_layout.specs.declared.version.Version.{Version}
 use Rattle.fs_layout.specs.declared.place.Place.{Place}
 use Rattle.fs_layout.specs.Bytes.{SectorMap}
 use Rattle.fs_layout.specs.Inode.{free_inode}
@@ -34,32 +35,33 @@ pub length_is : (t : Tree) → length t ≡ count_by (λ (e : ℕ × Node). true
 length_is [] = refl
 length_is (e ∷ t) = let rest = length_is t in omega (arith, rest, sum_by-cons (λ (q : ℕ × Node). 1) e t)
 
-body_is_file : (m : SectorMap) (v : Inode) (b : Body) → HoldsBody m v b → is_file_body b ≡ is_file_kind v.kind
-body_is_file m v (File a bytes) h = sym (ap is_file_kind h.kind)
-body_is_file m v (Dir a d) h = sym (ap is_file_kind h.names.kind)
-body_is_file m v (Link target) h = sym (ap is_file_kind h.kind)
+body_is_file : (version : Version) (m : SectorMap) (v : Inode) (b : Body) → HoldsBody version m v b → is_file_body b ≡ is_file_kind v.kind
+body_is_file version m v (File a bytes) h = sym (ap is_file_kind h.kind)
+body_is_file version m v (Dir a d) h = sym (ap is_file_kind h.names.kind)
+body_is_file version m v (Link target) h = sym (ap is_file_kind h.kind)
 
-body_is_directory : (m : SectorMap) (v : Inode) (b : Body) → HoldsBody m v b → is_directory b ≡ is_directory_kind v.kind
-body_is_directory m v (File a bytes) h = sym (ap is_directory_kind h.kind)
-body_is_directory m v (Dir a d) h = sym (ap is_directory_kind h.names.kind)
-body_is_directory m v (Link target) h = sym (ap is_directory_kind h.kind)
+body_is_directory : (version : Version) (m : SectorMap) (v : Inode) (b : Body) → HoldsBody version m v b → is_directory b ≡ is_directory_kind v.kind
+body_is_directory version m v (File a bytes) h = sym (ap is_directory_kind h.kind)
+body_is_directory version m v (Dir a d) h = sym (ap is_directory_kind h.names.kind)
+body_is_directory version m v (Link target) h = sym (ap is_directory_kind h.kind)
 
-body_is_link : (m : SectorMap) (v : Inode) (b : Body) → HoldsBody m v b → is_link b ≡ is_link_kind v.kind
-body_is_link m v (File a bytes) h = sym (ap is_link_kind h.kind)
-body_is_link m v (Dir a d) h = sym (ap is_link_kind h.names.kind)
-body_is_link m v (Link target) h = sym (ap is_link_kind h.kind)
+body_is_link : (version : Version) (m : SectorMap) (v : Inode) (b : Body) → HoldsBody version m v b → is_link b ≡ is_link_kind v.kind
+body_is_link version m v (File a bytes) h = sym (ap is_link_kind h.kind)
+body_is_link version m v (Dir a d) h = sym (ap is_link_kind h.names.kind)
+body_is_link version m v (Link target) h = sym (ap is_link_kind h.kind)
 
-body_is_used : (m : SectorMap) (v : Inode) (b : Body) → HoldsBody m v b → true ≡ is_used v.kind
-body_is_used m v (File a bytes) h = sym (ap is_used h.kind)
-body_is_used m v (Dir a d) h = sym (ap is_used h.names.kind)
-body_is_used m v (Link target) h = sym (ap is_used h.kind)
+body_is_used : (version : Version) (m : SectorMap) (v : Inode) (b : Body) → HoldsBody version m v b → true ≡ is_used v.kind
+body_is_used version m v (File a bytes) h = sym (ap is_used h.kind)
+body_is_used version m v (Dir a d) h = sym (ap is_used h.names.kind)
+body_is_used version m v (Link target) h = sym (ap is_used h.kind)
 
 -- of a file the names field is the number of its names
-file_names : (m : SectorMap) (v : Inode) (x : Placed) (none : Bool → Bool) → HoldsNode m v x
+file_names : (version : Version) (m : SectorMap) (v : Inode) (x : Placed) (none : Bool → Bool) → HoldsNode version m v x
     → (is_file_body x.node.body && none (x.names == 0)) ≡ (is_file_kind v.kind && none (v.names == 0))
-file_names m v x none h = go x.node.body h.body h.names
+file_names version m v x none h = go x.node.body h.body h.names
   where
-    go : (b : Body) → HoldsBody m v b → v.names ≡ names_field b x.names → (is_file_body b && none (x.names == 0)) ≡ (is_file_kind v.kind && none (v.names == 0))
+    go : (b : Body) → HoldsBody version m v b → v.names ≡ names_field b x.names
+        → (is_file_body b && none (x.names == 0)) ≡ (is_file_kind v.kind && none (v.names == 0))
     go (File a bytes) h e = ap (λ (n : ℕ). none (n == 0)) (sym e) ∙ sym (ap (λ k. is_file_kind k && none (v.names == 0)) h.kind)
     go (Dir a d) h e = sym (ap (λ k. is_file_kind k && none (v.names == 0)) h.names.kind)
     go (Link target) h e = sym (ap (λ k. is_file_kind k && none (v.names == 0)) h.kind)
@@ -70,7 +72,7 @@ module _ (p : Place) (m : SectorMap) (t : Tree) (held : HoldsAll p m (placed t))
 
   -- a count of nodes, whose test an inode answers alike, and a free one denies
   by_inodes : (f : ℕ × Node → Bool) (g : Inode → Bool) → g free_inode ≡ false
-      → ((n : ℕ) (node : Node) → HoldsNode m (inode_at p m n) (put p m t held is n node) → f (n, node) ≡ g (inode_at p m n))
+      → ((n : ℕ) (node : Node) → HoldsNode p.version m (inode_at p m n) (put p m t held is n node) → f (n, node) ≡ g (inode_at p m n))
       → count_by f t ≡ count_by (λ n. g (inode_at p m n)) (range_with_len 0 p.inodes)
   by_inodes f g free same =
       count_is f (λ n. g (inode_at p m n)) t p.inodes all.past all.numbers (λ n lt. go n (node_at t n) (held.nodes n lt))
@@ -82,20 +84,20 @@ module _ (p : Place) (m : SectorMap) (t : Tree) (held : HoldsAll p m (placed t))
   pub files_counted : named_files t ≡ count_by (λ n. is_file_kind (inode_at p m n).kind && not ((inode_at p m n).names == 0)) (range_with_len 0 p.inodes)
   files_counted =
       by_inodes (λ e. is_file_body e.1.body && not (names_of t e.0 == 0)) (λ v. is_file_kind v.kind && not (v.names == 0)) refl
-      (λ n node h. file_names m (inode_at p m n) (put p m t held is n node) not h)
+      (λ n node h. file_names p.version m (inode_at p m n) (put p m t held is n node) not h)
 
   pub nameless_counted : nameless_files t ≡ count_by (λ n. is_file_kind (inode_at p m n).kind && (inode_at p m n).names == 0) (range_with_len 0 p.inodes)
   nameless_counted =
       by_inodes (λ e. is_file_body e.1.body && names_of t e.0 == 0) (λ v. is_file_kind v.kind && v.names == 0) refl
-      (λ n node h. file_names m (inode_at p m n) (put p m t held is n node) (λ b. b) h)
+      (λ n node h. file_names p.version m (inode_at p m n) (put p m t held is n node) (λ b. b) h)
 
   pub directories_counted : directories t ≡ count_by (λ n. is_directory_kind (inode_at p m n).kind) (range_with_len 0 p.inodes)
   directories_counted =
-      by_inodes (λ e. is_directory e.1.body) (λ v. is_directory_kind v.kind) refl (λ n node h. body_is_directory m (inode_at p m n) node.body h.body)
+      by_inodes (λ e. is_directory e.1.body) (λ v. is_directory_kind v.kind) refl (λ n node h. body_is_directory p.version m (inode_at p m n) node.body h.body)
 
   pub links_counted : links t ≡ count_by (λ n. is_link_kind (inode_at p m n).kind) (range_with_len 0 p.inodes)
-  links_counted = by_inodes (λ e. is_link e.1.body) (λ v. is_link_kind v.kind) refl (λ n node h. body_is_link m (inode_at p m n) node.body h.body)
+  links_counted = by_inodes (λ e. is_link e.1.body) (λ v. is_link_kind v.kind) refl (λ n node h. body_is_link p.version m (inode_at p m n) node.body h.body)
 
   pub nodes_counted : length t ≡ count_by (λ n. is_used (inode_at p m n).kind) (range_with_len 0 p.inodes)
   nodes_counted =
-      length_is t ∙ by_inodes (λ e. true) (λ v. is_used v.kind) refl (λ n node h. body_is_used m (inode_at p m n) node.body h.body)
+      length_is t ∙ by_inodes (λ e. true) (λ v. is_used v.kind) refl (λ n node h. body_is_used p.version m (inode_at p m n) node.body h.body)

@@ -158,7 +158,7 @@ module _ (room : Room) (t : Tree) (desks : Desks) (h : MayBeSwept room t desks) 
           let all : names_for n node.body ≤ names_of t n = among t d node n e in
           let same : names_for n node.body ≡ names_for n (Dir a dir) = ap (names_for n) is in
           let some : 1 ≤ names_of t n = omega arith in
-          record { is_name = old.is_name; bytes = old.bytes; leads = (old.leads.0, still_there n old.leads.1 some) };
+          record { is_name = old.is_name; short = old.short; bytes = old.bytes; leads = (old.leads.0, still_there n old.leads.1 some) };
     },
   )
   body-swept d node e (Link target) is w = w
@@ -200,16 +200,17 @@ module _ (room : Room) (t : Tree) (desks : Desks) (h : MayBeSwept room t desks) 
           owner = old.owner;
           group = old.group;
           body = body-swept n node was.0 node.body refl old.body;
-          names = subst (NamesFit n node.body) (sym (names_of-filter (stays t desks) t h.numbers h.gone n)) old.names;
+          names = subst (NamesFit room n node.body) (sym (names_of-filter (stays t desks) t h.numbers h.gone n)) old.names;
           under_root = λ d. under t (swept t desks) (parent-filter (stays t desks) t h.numbers h.gone) (old.under_root d);
         };
   }
 
 -- nothing that is nameless in a tree, but for the root, has names in it
-nameless : (desks : Desks) (n : ℕ) (b : Body) (names : ℕ) → NamesFit n b names → (not (names == 0) || lives_nameless desks n b) ≡ false → names_in b ≡ []
-nameless desks n (File a bytes) names fits gone = refl
-nameless desks n (Link target) names fits gone = refl
-nameless desks n (Dir a d) names fits gone = go (n == root) refl fits gone
+nameless : (room : Room) (desks : Desks) (n : ℕ) (b : Body) (names : ℕ) → NamesFit room n b names
+    → (not (names == 0) || lives_nameless desks n b) ≡ false → names_in b ≡ []
+nameless room desks n (File a bytes) names fits gone = refl
+nameless room desks n (Link target) names fits gone = refl
+nameless room desks n (Dir a d) names fits gone = go (n == root) refl fits gone
   where
     go : (b : Bool) → (n == root) ≡ b → names ≡ (if b then 0 else 1) → (not (names == 0) || b) ≡ false → d.names ≡ []
     go true e f g = absurd (let z : (names == 0) ≡ true = grind (arith, nat_tests) in let no : (not (names == 0) || true) ≡ true = ap (λ z. not z || true) z in cc)
@@ -222,7 +223,7 @@ sweep_keeps room t desks h =
       numbers = h.numbers;
       root_is_there = h.root_is_there;
       each = λ n node e _. h.each n node e;
-      gone = λ n node e k. nameless desks n node.body (names_of t n) (h.each n node e).names k;
+      gone = λ n node e k. nameless room desks n node.body (names_of t n) (h.each n node e).names k;
     })
 
 -- a tree without its nameless files is a tree
@@ -240,6 +241,6 @@ filter_again f g same (e ∷ t) = go (g e) refl (filter_again f g same t)
 -- without its nameless files a tree has none
 pub pruned_twice : (room : Room) (t : Tree) → IsTree room t → pruned (pruned t) ≡ pruned t
 pruned_twice room t h =
-    let gone : DropsNoNames (stays t []) t t = λ n node e k. nameless [] n node.body (names_of t n) (h.each n node e).names k in
+    let gone : DropsNoNames (stays t []) t t = λ n node e k. nameless room [] n node.body (names_of t n) (h.each n node e).names k in
     filter_again (stays (pruned t) []) (stays t [])
     (λ e. ap (λ k. not (k == 0) || lives_nameless [] e.0 e.1.body) (names_of-filter (stays t []) t h.numbers gone e.0)) t

@@ -8,13 +8,14 @@ use Rattle.std.proofs.lemmas.List.{length-append}
 use Rattle.std.proofs.lemmas.List.Sums.{sum_by-cons, count_by-le-length}
 use Rattle.std.proofs.lemmas.List.FromFn.{length-range_with_len}
 use Rattle.posix_acl.specs.AccessList.{AccessList, is_extended}
-use Rattle.fs_layout.specs.declared.slot.TheConstants.{SLOT_SIZE}
 use Rattle.fs_layout.specs.declared.inode.Inode.{Inode}
+use Rattle.fs_layout.specs.declared.version.Version.{Version}
 use Rattle.fs_layout.specs.declared.place.Place.{Place}
 use Rattle.fs_layout.specs.Bytes.{SectorMap}
+use Rattle.fs_layout.specs.Version.{slot_size}
 use Rattle.fs_layout.specs.Inode.{free_inode}
 use Rattle.fs_layout.specs.Ownership.{IsOwned}
-use Rattle.fs_layout.specs.Images.{IsData, bit, block_bitmap, number_on, first_block, pointer, Part, AccessAcl, DefaultAcl, OnLevel, part, Owns, Holds, inode_at, free_sectors}
+use Rattle.fs_layout.specs.Images.{IsData, bit, number_on, first_block, pointer, Part, AccessAcl, DefaultAcl, OnLevel, part, Owns, Holds, inode_at, free_sectors}
 use Rattle.fs_layout.specs.Recovered.{recovered}
 use Rattle.fs_layout.proofs.Bits.{has_bit, set_or_clear}
 use Rattle.fs_layout.proofs.Free.{HasNoSector, owns_nothing, free_has_no_sector}
@@ -82,25 +83,25 @@ length-content image v size =
     let e = length-numbers image v 2 (count_on 2 size) in
     omega (arith, a, b, c, d, e)
 
-abbrev taken : SectorMap → Inode → Body → List ℕ
-taken image v (File a bytes) = content image v (length bytes) ++ only (is_extended a) v.acl
-taken image v (Dir a d) = (content image v (SLOT_SIZE * length d.names) ++ only (is_extended a) v.acl) ++ only (is_some d.default) v.default_acl
-taken image v (Link target) = pointer image v 0 ∷ []
+abbrev taken : ℕ → SectorMap → Inode → Body → List ℕ
+taken slot image v (File a bytes) = content image v (length bytes) ++ only (is_extended a) v.acl
+taken slot image v (Dir a d) = (content image v (slot * length d.names) ++ only (is_extended a) v.acl) ++ only (is_some d.default) v.default_acl
+taken slot image v (Link target) = pointer image v 0 ∷ []
 
-length-taken : (image : SectorMap) (v : Inode) (b : Body) → length (taken image v b) ≡ sectors_of b
-length-taken image v (File a bytes) =
+length-taken : (slot : ℕ) (image : SectorMap) (v : Inode) (b : Body) → length (taken slot image v b) ≡ sectors_of slot b
+length-taken slot image v (File a bytes) =
     let x = length-append (content image v (length bytes)) (only (is_extended a) v.acl) in
     let y = length-content image v (length bytes) in
     let z = length-only (is_extended a) v.acl in
     omega (arith, x, y, z)
-length-taken image v (Dir a d) =
-    let w = length-append (content image v (SLOT_SIZE * length d.names) ++ only (is_extended a) v.acl) (only (is_some d.default) v.default_acl) in
-    let x = length-append (content image v (SLOT_SIZE * length d.names)) (only (is_extended a) v.acl) in
-    let y = length-content image v (SLOT_SIZE * length d.names) in
+length-taken slot image v (Dir a d) =
+    let w = length-append (content image v (slot * length d.names) ++ only (is_extended a) v.acl) (only (is_some d.default) v.default_acl) in
+    let x = length-append (content image v (slot * length d.names)) (only (is_extended a) v.acl) in
+    let y = length-content image v (slot * length d.names) in
     let z = length-only (is_extended a) v.acl in
     let q = length-only (is_some d.default) v.default_acl in
     omega (arith, w, x, y, z, q)
-length-taken image v (Link target) = refl
+length-taken slot image v (Link target) = refl
 
 -- ---- each sector that an inode owns is one of these
 
@@ -154,22 +155,23 @@ module _ (image : SectorMap) (v : Inode) where
   in_link bytes h short (suc (suc zero)) i some = absurd (some (h.trim 2 i (let size = h.size in omega (arith, size, short))))
   in_link bytes h short (suc (suc (suc level))) i some = absurd (some (no_number_on image v level i))
 
-  part_taken : (b : Body) → HoldsBody image v b → length (target_in b) ≤ target_limit → (at : Part) → part image v at ≢ 0 → Names (taken image v b) (part image v at)
+  part_taken : (version : Version) (b : Body) → HoldsBody version image v b → length (target_in b) ≤ target_limit → (at : Part)
+      → part image v at ≢ 0 → Names (taken (slot_size version) image v b) (part image v at)
   unfolding part
-  part_taken (File a bytes) h short AccessAcl some =
+  part_taken version (File a bytes) h short AccessAcl some =
       in_second (content image v (length bytes)) (only (is_extended a) v.acl) v.acl (in_only (is_extended a) v.acl (acl_is_extended image v.acl a h.has_acl some))
-  part_taken (File a bytes) h short DefaultAcl some = absurd (some h.no_default)
-  part_taken (File a bytes) h short (OnLevel level i) some =
+  part_taken version (File a bytes) h short DefaultAcl some = absurd (some h.no_default)
+  part_taken version (File a bytes) h short (OnLevel level i) some =
       in_first (content image v (length bytes)) (only (is_extended a) v.acl) (number_on image v level i) (in_bytes (length bytes) bytes h.holds refl level i some)
-  part_taken (Dir a d) h short at some = in_directory at some
+  part_taken version (Dir a d) h short at some = in_directory at some
     where
-      len : length (slots_bytes h.names.slots) ≡ SLOT_SIZE * length d.names
-      len = let n = h.names in let x = length-slots n.slots n.each in let y = ap length n.are ∙ length-names n.slots n.apart in omega (arith, x, y)
+      len : length (slots_bytes version h.names.slots) ≡ slot_size version * length d.names
+      len = let n = h.names in length-slots version n.slots n.each ∙ ap (λ k. slot_size version * k) (sym (ap length n.are ∙ length-names n.slots n.apart))
 
       bytes : List ℕ
-      bytes = content image v (SLOT_SIZE * length d.names)
+      bytes = content image v (slot_size version * length d.names)
 
-      in_directory : (at : Part) → part image v at ≢ 0 → Names (taken image v (Dir a d)) (part image v at)
+      in_directory : (at : Part) → part image v at ≢ 0 → Names (taken (slot_size version) image v (Dir a d)) (part image v at)
       in_directory AccessAcl some =
           in_first (bytes ++ only (is_extended a) v.acl) (only (is_some d.default) v.default_acl) v.acl
           (in_second bytes (only (is_extended a) v.acl) v.acl (in_only (is_extended a) v.acl (acl_is_extended image v.acl a h.has_acl some)))
@@ -179,36 +181,40 @@ module _ (image : SectorMap) (v : Inode) where
       in_directory (OnLevel level i) some =
           in_first (bytes ++ only (is_extended a) v.acl) (only (is_some d.default) v.default_acl) (number_on image v level i)
           (in_first bytes (only (is_extended a) v.acl) (number_on image v level i)
-          (in_bytes (SLOT_SIZE * length d.names) (slots_bytes h.names.slots) h.names.holds len level i some))
-  part_taken (Link target) h short AccessAcl some = absurd (some h.no_acl)
-  part_taken (Link target) h short DefaultAcl some = absurd (some h.no_default)
-  part_taken (Link target) h short (OnLevel level i) some = in_link target h.holds short level i some
+          (in_bytes (slot_size version * length d.names) (slots_bytes version h.names.slots) h.names.holds len level i some))
+  part_taken version (Link target) h short AccessAcl some = absurd (some h.no_acl)
+  part_taken version (Link target) h short DefaultAcl some = absurd (some h.no_default)
+  part_taken version (Link target) h short (OnLevel level i) some = in_link target h.holds short level i some
 
-  owned_is_taken : (b : Body) (s : ℕ) → HoldsBody image v b → length (target_in b) ≤ target_limit → Owns image v s → Names (taken image v b) s
-  owned_is_taken b s h short o = subst (Names (taken image v b)) o.is (part_taken b h short o.at (λ none. o.some (sym o.is ∙ none)))
+  owned_is_taken : (version : Version) (b : Body) (s : ℕ) → HoldsBody version image v b → length (target_in b) ≤ target_limit
+      → Owns image v s → Names (taken (slot_size version) image v b) s
+  owned_is_taken version b s h short o =
+      subst (Names (taken (slot_size version) image v b)) o.is (part_taken version b h short o.at (λ none. o.some (sym o.is ∙ none)))
 
 -- ---- what all inodes own
 
 module _ (p : Place) (image : SectorMap) where
   abbrev all_taken : Tree → List ℕ
   all_taken [] = []
-  all_taken (e ∷ t) = taken image (inode_at p image e.0) e.1.body ++ all_taken t
+  all_taken (e ∷ t) = taken (slot_size p.version) image (inode_at p image e.0) e.1.body ++ all_taken t
 
-  length-all_taken : (t : Tree) → length (all_taken t) ≡ sectors_needed t
-  length-all_taken [] = refl
-  length-all_taken (e ∷ t) =
-      let whole = length-append (taken image (inode_at p image e.0) e.1.body) (all_taken t) in
-      let here = length-taken image (inode_at p image e.0) e.1.body in
-      let rest = length-all_taken t in
-      omega (arith, whole, here, rest, sum_by-cons (λ (e : ℕ × Node). sectors_of e.1.body) e t)
+  length-all_taken : (room : Room) → room.slot_size ≡ slot_size p.version → (t : Tree) → length (all_taken t) ≡ sectors_needed room t
+  length-all_taken room same [] = refl
+  length-all_taken room same (e ∷ t) =
+      let whole = length-append (taken (slot_size p.version) image (inode_at p image e.0) e.1.body) (all_taken t) in
+      let here = length-taken (slot_size p.version) image (inode_at p image e.0) e.1.body in
+      let size : sectors_of room.slot_size e.1.body ≡ sectors_of (slot_size p.version) e.1.body = ap (λ k. sectors_of k e.1.body) same in
+      let rest = length-all_taken room same t in
+      omega (arith, whole, here, size, rest, sum_by-cons (λ (e : ℕ × Node). sectors_of room.slot_size e.1.body) e t)
 
-  in_all : (t : Tree) (n s : ℕ) (node : Node) → node_at t n ≡ Some node → Names (taken image (inode_at p image n) node.body) s → Names (all_taken t) s
+  in_all : (t : Tree) (n s : ℕ) (node : Node) → node_at t n ≡ Some node
+      → Names (taken (slot_size p.version) image (inode_at p image n) node.body) s → Names (all_taken t) s
   in_all [] n s node there i = absurd cc
   in_all (e ∷ t) n s node there i = elim (in_rest e t n node there) [
     | inl here ↦
-        in_first (taken image (inode_at p image e.0) e.1.body) (all_taken t) s
-        (subst (λ m. Names (taken image (inode_at p image e.0) m.body) s) here.1 (subst (λ k. Names (taken image (inode_at p image k) node.body) s) here.0 i))
-    | inr rest ↦ in_second (taken image (inode_at p image e.0) e.1.body) (all_taken t) s (in_all t n s node rest i)
+        in_first (taken (slot_size p.version) image (inode_at p image e.0) e.1.body) (all_taken t) s
+        (subst (λ m. Names (taken (slot_size p.version) image (inode_at p image e.0) m.body) s) here.1 (subst (λ k. Names (taken (slot_size p.version) image (inode_at p image k) node.body) s) here.0 i))
+    | inr rest ↦ in_second (taken (slot_size p.version) image (inode_at p image e.0) e.1.body) (all_taken t) s (in_all t n s node rest i)
   ]
 
   short_target : (room : Room) (t : Tree) (b : Body) → IsBody room t b → length (target_in b) ≤ target_limit
@@ -221,15 +227,15 @@ module _ (p : Place) (image : SectorMap) where
   owned_is_needed room t is h s o = go (node_at t o.by) refl (h.nodes o.by o.below)
     where
       go : (x : Option Node) → node_at t o.by ≡ x
-          → MatchOption (option_map (λ node. record { node = node; names = names_of t o.by; parent = parent t o.by }) x) (inode_at p image o.by ≡ free_inode) (λ z. HoldsNode image (inode_at p image o.by) z)
+          → MatchOption (option_map (λ node. record { node = node; names = names_of t o.by; parent = parent t o.by }) x) (inode_at p image o.by ≡ free_inode) (λ z. HoldsNode p.version image (inode_at p image o.by) z)
           → Names (all_taken t) s
       go None e free = absurd (owns_nothing image (inode_at p image o.by) s (subst HasNoSector (sym free) free_has_no_sector) o.is)
       go (Some node) e held =
-          in_all t o.by s node e (owned_is_taken image (inode_at p image o.by) node.body s held.body (short_target room t node.body (is.each o.by node e).body) o.is)
+          in_all t o.by s node e (owned_is_taken image (inode_at p image o.by) p.version node.body s held.body (short_target room t node.body (is.each o.by node e).body) o.is)
 
   free_or_needed : (room : Room) (t : Tree) → IsTree room t → HoldsAll p image (placed t) → (s : ℕ) → IsData p s
-      → (not (bit image block_bitmap s) ≡ true) ⊎ Names (all_taken t) s
-  free_or_needed room t is h s at = elim (set_or_clear (bit image block_bitmap s)) [
+      → (not (bit image p.block_bitmap s) ≡ true) ⊎ Names (all_taken t) s
+  free_or_needed room t is h s at = elim (set_or_clear (bit image p.block_bitmap s)) [
     | inr clear ↦ inl (ap not clear)
     | inl set ↦ elim ((h.consistent.block_bits s (has_bit h.consistent.place s at.1)).0 set) [
       | inl low ↦ absurd (let from = at.0 in omega (arith, from, low))
@@ -238,13 +244,14 @@ module _ (p : Place) (image : SectorMap) where
     ]
   ]
 
-  pub count_may_be_free : (room : Room) (t : Tree) → room.sectors ≡ p.sectors - p.first_data → IsTree room t → HoldsAll p image (placed t)
+  pub count_may_be_free : (room : Room) (t : Tree) → room.sectors ≡ p.sectors - p.first_data → room.slot_size ≡ slot_size p.version
+      → IsTree room t → HoldsAll p image (placed t)
       → MayBeFree room t (free_sectors p image)
-  count_may_be_free room t size is h =
+  count_may_be_free room t size slots is h =
       let all : ℕ = p.sectors - p.first_data in
-      let free : ℕ → Bool = λ s. not (bit image block_bitmap s) in
+      let free : ℕ → Bool = λ s. not (bit image p.block_bitmap s) in
       let enough = passes_or_named (all_taken t) free p.first_data all (λ s from to. free_or_needed room t is h s (from, omega (arith, to))) in
-      let need = length-all_taken t in
+      let need = length-all_taken room slots t in
       let few = count_by-le-length free (range_with_len p.first_data all) in
       let len = length-range_with_len p.first_data all in
       record { least = omega (arith, enough, need, size); most = omega (arith, few, len, size) }
@@ -254,4 +261,4 @@ pub free_within_bounds : (sectors : ℕ) (image : SectorMap) (room : Room) (t : 
 free_within_bounds sectors image room t free h =
     let now : SectorMap = recovered sectors image in
     let size : room.sectors ≡ h.place.sectors - h.place.first_data = ap (λ r. r.sectors) h.room_is in
-    subst (MayBeFree room t) (sym h.free_is) (count_may_be_free h.place now room t size h.tree_is h.holds)
+    subst (MayBeFree room t) (sym h.free_is) (count_may_be_free h.place now room t size (ap (λ r. r.slot_size) h.room_is) h.tree_is h.holds)

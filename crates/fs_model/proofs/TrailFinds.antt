@@ -1,11 +1,11 @@
 -- What a trail finds: what is so of where it begins, and of all that its lookups reach.
 use Rattle.std.specs.Prelude.{◌≡◌, ℕ, zero, suc, Bool, ◌&&◌, ◌||◌, List, [], ◌∷◌, ◌++◌, Option, None, Some}
 use Rattle.std.proofs.Common.{subst}
-use Rattle.fs_model.specs.Trees.{Tree, node_at}
+use Rattle.fs_model.specs.Trees.{Tree, Room, node_at}
 use Rattle.fs_model.specs.Parts.{Parts, parts_of, start_of, is_empty}
 use Rattle.fs_model.specs.Trails.{Trail, Outcome, Faulty, Absent, Reaches, Through, GoesOn, looked_up, onward, through_if, lookups_from, trail_with}
 
-module _ (t : Tree) (P : ℕ → Type 0) where
+module _ (room : Room) (t : Tree) (P : ℕ → Type 0) where
   abbrev pub ReachesSuch : Outcome → Type 0
   ReachesSuch (Reaches n) = P n
   ReachesSuch _ = Unit {0}
@@ -18,7 +18,7 @@ module _ (t : Tree) (P : ℕ → Type 0) where
   GoesSuch (Some go_on) = (dir : ℕ) (names : List (List ℕ)) (slash : Bool) → P dir → FindsSuch (go_on dir names slash)
 
   module _ (starts : (parts : Parts) (dir : ℕ) → P dir → P (start_of parts dir)) (follow : Bool)
-      (reaches : (is_last : Bool) (dir : ℕ) (name : List ℕ) → P dir → ReachesSuch (looked_up t is_last follow dir name (node_at t dir))) where
+      (reaches : (is_last : Bool) (dir : ℕ) (name : List ℕ) → P dir → ReachesSuch (looked_up room t is_last follow dir name (node_at t dir))) where
     through_such : (behind : Option GoesOn) (dir : ℕ) (name : List ℕ) (names : List (List ℕ)) (slash : Bool) (target : List ℕ)
         → GoesSuch behind → P dir → FindsSuch (through_if behind dir name names slash target)
     through_such None dir name names slash target h at n e = absurd cc
@@ -32,14 +32,14 @@ module _ (t : Tree) (P : ℕ → Type 0) where
     onward_such behind rest dir name names slash (Reaches k) h at r more n e = more k r n e
     onward_such behind rest dir name names slash (Through target) h at r more n e = through_such behind dir name names slash target h at n e
 
-    names_such : (behind : Option GoesOn) (dir : ℕ) (names : List (List ℕ)) (slash : Bool) → GoesSuch behind → P dir → FindsSuch (lookups_from t follow behind dir names slash)
+    names_such : (behind : Option GoesOn) (dir : ℕ) (names : List (List ℕ)) (slash : Bool) → GoesSuch behind → P dir → FindsSuch (lookups_from room t follow behind dir names slash)
     names_such behind dir [] slash h at n e = let same : dir ≡ n = cc in subst P same at
     names_such behind dir (name ∷ names) slash h at n e =
-        onward_such behind (λ k. lookups_from t follow behind k names slash) dir name names slash
-        (looked_up t (is_empty names) follow dir name (node_at t dir)) h at
+        onward_such behind (λ k. lookups_from room t follow behind k names slash) dir name names slash
+        (looked_up room t (is_empty names) follow dir name (node_at t dir)) h at
         (reaches (is_empty names) dir name at)
         (λ k found. names_such behind k names slash h found) n e
 
-    pub finds_such : (links dir : ℕ) (names : List (List ℕ)) (slash : Bool) → P dir → FindsSuch (trail_with t follow links dir names slash)
+    pub finds_such : (links dir : ℕ) (names : List (List ℕ)) (slash : Bool) → P dir → FindsSuch (trail_with room t follow links dir names slash)
     finds_such zero dir names slash at = names_such None dir names slash tt at
-    finds_such (suc links) dir names slash at = names_such (Some (trail_with t follow links)) dir names slash (λ p ns s h. finds_such links p ns s h) at
+    finds_such (suc links) dir names slash at = names_such (Some (trail_with room t follow links)) dir names slash (λ p ns s h. finds_such links p ns s h) at

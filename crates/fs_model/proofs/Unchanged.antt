@@ -29,12 +29,12 @@ all_stay keeps (e ∷ t) m h =
     ∙ ap (λ r. e ∷ r) (all_stay keeps t (right _ _ m) (at_rest keeps (λ n node. keeps (n, node) ≡ true) e t m h))
 
 -- a node that fits stays: by its names, as the root, or by who has it open
-pub fitting_stays : (desks : Desks) (n : ℕ) (b : Body) (names : ℕ) → NamesFit n b names
+pub fitting_stays : (room : Room) (desks : Desks) (n : ℕ) (b : Body) (names : ℕ) → NamesFit room n b names
     → (names ≡ 0 → n ≢ root → IsTrue (is_open desks n)) → (n ≡ root → IsTrue (is_directory b))
     → (not (names == 0) || lives_nameless desks n b) ≡ true
-fitting_stays desks n b names fits opened rooted = go (names == 0) refl b fits rooted
+fitting_stays room desks n b names fits opened rooted = go (names == 0) refl b fits rooted
   where
-    go : (zero : Bool) → (names == 0) ≡ zero → (b : Body) → NamesFit n b names → (n ≡ root → IsTrue (is_directory b))
+    go : (zero : Bool) → (names == 0) ≡ zero → (b : Body) → NamesFit room n b names → (n ≡ root → IsTrue (is_directory b))
         → (not zero || lives_nameless desks n b) ≡ true
     go false z b fits rooted = refl
     go true z (File a bytes) fits rooted = elim (cases_eq n root) [
@@ -66,7 +66,7 @@ pub open_stays : (room : Room) (t : Tree) (old new : Desks) → IsTree room t �
     → ((n : ℕ) → IsTrue (is_open old n) → IsTrue (is_open new n)) → swept t new ≡ t
 open_stays room t old new is fits still =
     all_stay (stays t new) t is.numbers
-    (λ n node e. fitting_stays new n node.body (names_of t n) (is.each n node e).names (λ none ne. still n (fits.nameless n node e none ne)) (root_directory room t n node is e))
+    (λ n node e. fitting_stays room new n node.body (names_of t n) (is.each n node e).names (λ none ne. still n (fits.nameless n node e none ne)) (root_directory room t n node is e))
 
 pub nothing_to_drop : (room : Room) (t : Tree) (desks : Desks) → IsTree room t → FitsTree t desks → swept t desks ≡ t
 nothing_to_drop room t desks is fits = open_stays room t desks desks is fits (λ n still. still)
@@ -90,8 +90,8 @@ rewriting_keeps t n old new m was names = record {
   count = length-with_entry t n new m ∙ ap (λ o. cond (is_some o) (length t) (length t + 1)) was;
   names = names_of-rewritten t n old new m was names;
   parents = parent-rewritten t n old new m was names;
-  need =
-      let sectors : ℕ × Node → ℕ = λ e. sectors_of e.1.body in
-      let had : summand sectors n (get nat_cmp t n) ≡ sectors_of old.body = ap (summand sectors n) was in
+  need = λ room.
+      let sectors : ℕ × Node → ℕ = λ e. sectors_of room.slot_size e.1.body in
+      let had : summand sectors n (get nat_cmp t n) ≡ sectors_of room.slot_size old.body = ap (summand sectors n) was in
       omega (arith, sum-with_entry sectors t n new m, had);
 }

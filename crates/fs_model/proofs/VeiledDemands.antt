@@ -8,7 +8,6 @@ use Rattle.fs_model.specs.declared.call.Whence.{Whence}
 use Rattle.fs_model.specs.declared.call.Whence.TheVariants.{Set, Cur, End}
 use Rattle.fs_model.specs.declared.call.AclType.{AclType}
 use Rattle.fs_model.specs.declared.call.Flags.{Flags}
-use Rattle.fs_model.specs.Limits.{entries_limit}
 use Rattle.fs_model.specs.Nodes.{directory_in, is_directory, is_link, names_in, bytes_in}
 use Rattle.fs_model.specs.Trees.{is_within}
 use Rattle.fs_model.specs.Processes.{the_descriptor}
@@ -61,7 +60,7 @@ module _ (c : Scene) where
   dir f walk = permission_on-veil c.process.cred c.state.tree f.dir (perms false true true) walk (f.step - 1)
 
   full : (f : Found) → no_names v f ≡ no_names c f
-  full f = ap (λ ns. refuse ENOSPC (nat_le entries_limit (length ns))) (names_at f.dir)
+  full f = ap (λ ns. refuse ENOSPC (nat_le c.state.room.entries_limit (length ns))) (names_at f.dir)
 
   no_room : no_inodes v ≡ no_inodes c
   no_room = ap (λ k. refuse ENOSPC (c.state.room.inodes - 1 - k == 0)) (length-veil c.state.tree)

@@ -25,9 +25,9 @@ use Rattle.fs_model.proofs.EachCall.{each_call}
 late-veil : (s : State) (p : Process) (call : Call) → late_refusal (veiled_state s) p (row_of call) ≡ late_refusal s p (row_of call)
 late-veil s p call =
     let row = row_of call in
-    ap (λ c. first_of (walk_refusals (veil s.tree) p 1 row.walks ++ row.demands c)) (scene_of-veil s p row)
-    ∙ ap (λ ds. first_of (walk_refusals (veil s.tree) p 1 row.walks ++ ds)) ((each_call call).asks (scene_of s p row))
-    ∙ ap (λ ds. first_of (ds ++ row.demands (scene_of s p row))) (walk_refusals-veil s.tree p 1 row.walks)
+    ap (λ c. first_of (walk_refusals s.room (veil s.tree) p 1 row.walks ++ row.demands c)) (scene_of-veil s p row)
+    ∙ ap (λ ds. first_of (walk_refusals s.room (veil s.tree) p 1 row.walks ++ ds)) ((each_call call).asks (scene_of s p row))
+    ∙ ap (λ ds. first_of (ds ++ row.demands (scene_of s p row))) (walk_refusals-veil s.room s.tree p 1 row.walks)
 
 is_there-veil : (t : Tree) (n : ℕ) → is_some (node_at (veil t) n) ≡ is_some (node_at t n)
 is_there-veil t n = ap is_some (node_at-veil t n) ∙ go (node_at t n)

@@ -5,7 +5,7 @@ use Rattle.std.specs.Option.{option_map}
 use Rattle.std.proofs.lemmas.List.{length-replicate}
 use Rattle.std.proofs.lemmas.List.Sums.{sum_by-cons}
 use Rattle.fs_model.specs.Nodes.{Node, Body, File, bytes_in, shown_mode, shown_size, type_of, acl_in, default_in}
-use Rattle.fs_model.specs.Trees.{Tree, node_at, names_of, names_for, parent, is_within}
+use Rattle.fs_model.specs.Trees.{Tree, Room, node_at, names_of, names_for, parent, is_within}
 use Rattle.fs_model.specs.Processes.{Process, cwd_of}
 use Rattle.fs_model.specs.Limits.{root}
 use Rattle.fs_model.specs.Births.{the_node, no_node}
@@ -50,29 +50,30 @@ same_veil pid s t is = sym (veiled_state-seen _ s) ∙ ap veiled_state is.same �
 
 -- ---- walks
 
-pub found_by-veil : (t : Tree) (cwd : ℕ) (walk : Form × List ℕ) → found_by (veil t) cwd walk ≡ found_by t cwd walk
-found_by-veil t cwd walk = ap (λ trail. found_of trail (start_of (parts_of walk.1) cwd)) (trail_of-veil t cwd walk.0 walk.1)
+pub found_by-veil : (room : Room) (t : Tree) (cwd : ℕ) (walk : Form × List ℕ) → found_by room (veil t) cwd walk ≡ found_by room t cwd walk
+found_by-veil room t cwd walk = ap (λ trail. found_of trail (start_of (parts_of walk.1) cwd)) (trail_of-veil room t cwd walk.0 walk.1)
 
-pub first_found-veil : (t : Tree) (cwd : ℕ) (walks : List (Form × List ℕ)) → first_found (veil t) cwd walks ≡ first_found t cwd walks
-first_found-veil t cwd [] = refl
-first_found-veil t cwd (walk ∷ walks) = found_by-veil t cwd walk
+pub first_found-veil : (room : Room) (t : Tree) (cwd : ℕ) (walks : List (Form × List ℕ)) → first_found room (veil t) cwd walks ≡ first_found room t cwd walks
+first_found-veil room t cwd [] = refl
+first_found-veil room t cwd (walk ∷ walks) = found_by-veil room t cwd walk
 
-pub second_found-veil : (t : Tree) (cwd : ℕ) (walks : List (Form × List ℕ)) → second_found (veil t) cwd walks ≡ second_found t cwd walks
-second_found-veil t cwd [] = refl
-second_found-veil t cwd (walk ∷ walks) = first_found-veil t cwd walks
+pub second_found-veil : (room : Room) (t : Tree) (cwd : ℕ) (walks : List (Form × List ℕ)) → second_found room (veil t) cwd walks ≡ second_found room t cwd walks
+second_found-veil room t cwd [] = refl
+second_found-veil room t cwd (walk ∷ walks) = first_found-veil room t cwd walks
 
-pub walk_refusals-veil : (t : Tree) (p : Process) (k : ℕ) (walks : List (Form × List ℕ)) → walk_refusals (veil t) p k walks ≡ walk_refusals t p k walks
-walk_refusals-veil t p k [] = refl
-walk_refusals-veil t p k (walk ∷ walks) =
-    ap (λ trail. first_refusal (veil t) p.cred k walk.0 trail ∷ walk_refusals (veil t) p (k + 1) walks) (trail_of-veil t (cwd_of p k) walk.0 walk.1)
-    ∙ ap (λ d. d ∷ walk_refusals (veil t) p (k + 1) walks) (first_refusal-veil t p.cred k walk.0 (trail_in t (cwd_of p k) walk))
-    ∙ ap (λ ds. first_refusal t p.cred k walk.0 (trail_in t (cwd_of p k) walk) ∷ ds) (walk_refusals-veil t p (k + 1) walks)
+pub walk_refusals-veil : (room : Room) (t : Tree) (p : Process) (k : ℕ) (walks : List (Form × List ℕ))
+    → walk_refusals room (veil t) p k walks ≡ walk_refusals room t p k walks
+walk_refusals-veil room t p k [] = refl
+walk_refusals-veil room t p k (walk ∷ walks) =
+    ap (λ trail. first_refusal (veil t) p.cred k walk.0 trail ∷ walk_refusals room (veil t) p (k + 1) walks) (trail_of-veil room t (cwd_of p k) walk.0 walk.1)
+    ∙ ap (λ d. d ∷ walk_refusals room (veil t) p (k + 1) walks) (first_refusal-veil t p.cred k walk.0 (trail_in room t (cwd_of p k) walk))
+    ∙ ap (λ ds. first_refusal t p.cred k walk.0 (trail_in room t (cwd_of p k) walk) ∷ ds) (walk_refusals-veil room t p (k + 1) walks)
 
 -- the scene of a call
 pub scene_of-veil : (s : State) (p : Process) (row : Row) → scene_of (veiled_state s) p row ≡ veiled_scene (scene_of s p row)
 scene_of-veil s p row =
-    ap (λ f. record { state = veiled_state s; process = p; first = f; second = second_found (veil s.tree) p.second_cwd row.walks }) (first_found-veil s.tree p.cwd row.walks)
-    ∙ ap (λ f. record { state = veiled_state s; process = p; first = first_found s.tree p.cwd row.walks; second = f }) (second_found-veil s.tree p.second_cwd row.walks)
+    ap (λ f. record { state = veiled_state s; process = p; first = f; second = second_found s.room (veil s.tree) p.second_cwd row.walks }) (first_found-veil s.room s.tree p.cwd row.walks)
+    ∙ ap (λ f. record { state = veiled_state s; process = p; first = first_found s.room s.tree p.cwd row.walks; second = f }) (second_found-veil s.room s.tree p.second_cwd row.walks)
 
 -- ---- what is shown of a node
 

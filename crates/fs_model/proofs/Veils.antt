@@ -5,9 +5,9 @@ use Rattle.std.specs.Option.{option_map}
 use Rattle.std.specs.Ordering.{nat_cmp, eq_by_cmp}
 use Rattle.fs_layout.specs.Maps.{get, name_cmp}
 use Rattle.fs_model.specs.Nodes.{Node, Body, File, Dir, Link, directory_in, is_directory, is_link, names_in, target_in, accessed_body, accessed}
-use Rattle.fs_model.specs.Trees.{Tree, node_at, names_for, parent}
+use Rattle.fs_model.specs.Trees.{Tree, Room, node_at, names_for, parent}
 use Rattle.fs_model.specs.Alike.{blotted}
-use Rattle.fs_model.specs.Limits.{name_limit, links_limit}
+use Rattle.fs_model.specs.Limits.{links_limit}
 use Rattle.fs_model.specs.Parts.{parts_of, start_of, is_empty}
 use Rattle.fs_cred.specs.declared.errno.Errno.TheVariants.{ENOTDIR, ENAMETOOLONG}
 use Rattle.fs_cred.specs.Credentials.{Credential}
@@ -90,22 +90,22 @@ arrival-veil t is_last follow None = refl
 arrival-veil t is_last follow (Some n) =
     ap (reached (follow || not is_last) n) (node_at-veil t n) ∙ reached-veiled (follow || not is_last) n (node_at t n)
 
-looked_up-veiled : (t : Tree) (is_last follow : Bool) (dir : ℕ) (name : List ℕ) (o : Option Node)
-    → looked_up (veil t) is_last follow dir name (option_map veiled o) ≡ looked_up t is_last follow dir name o
-looked_up-veiled t is_last follow dir name None = refl
-looked_up-veiled t is_last follow dir name (Some node) =
+looked_up-veiled : (room : Room) (t : Tree) (is_last follow : Bool) (dir : ℕ) (name : List ℕ) (o : Option Node)
+    → looked_up room (veil t) is_last follow dir name (option_map veiled o) ≡ looked_up room t is_last follow dir name o
+looked_up-veiled room t is_last follow dir name None = refl
+looked_up-veiled room t is_last follow dir name (Some node) =
     ap (λ o. look (is_some o) (arrival (veil t) is_last follow (named_inode (veil t) dir (names_in (blotted node.body)) name))) (directory_in-blotted node.body)
     ∙ ap (λ ns. look (is_directory node.body) (arrival (veil t) is_last follow (named_inode (veil t) dir ns name))) (names_in-blotted node.body)
     ∙ ap (λ o. look (is_directory node.body) (arrival (veil t) is_last follow o)) (named_inode-veil t dir (names_in node.body) name)
     ∙ ap (look (is_directory node.body)) (arrival-veil t is_last follow (named_inode t dir (names_in node.body) name))
   where
     look : Bool → Outcome → Outcome
-    look b o = if not b then Faulty ENOTDIR else (if nat_lt name_limit (length name) then Faulty ENAMETOOLONG else o)
+    look b o = if not b then Faulty ENOTDIR else (if nat_lt room.name_limit (length name) then Faulty ENAMETOOLONG else o)
 
-pub looked_up-veil : (t : Tree) (is_last follow : Bool) (dir : ℕ) (name : List ℕ)
-    → looked_up (veil t) is_last follow dir name (node_at (veil t) dir) ≡ looked_up t is_last follow dir name (node_at t dir)
-looked_up-veil t is_last follow dir name =
-    ap (looked_up (veil t) is_last follow dir name) (node_at-veil t dir) ∙ looked_up-veiled t is_last follow dir name (node_at t dir)
+pub looked_up-veil : (room : Room) (t : Tree) (is_last follow : Bool) (dir : ℕ) (name : List ℕ)
+    → looked_up room (veil t) is_last follow dir name (node_at (veil t) dir) ≡ looked_up room t is_last follow dir name (node_at t dir)
+looked_up-veil room t is_last follow dir name =
+    ap (looked_up room (veil t) is_last follow dir name) (node_at-veil t dir) ∙ looked_up-veiled room t is_last follow dir name (node_at t dir)
 
 -- what goes on behind a link is the same from everywhere
 abbrev pub SameBehind : Option GoesOn → Option GoesOn → Type 0
@@ -130,27 +130,27 @@ onward-same g h same rest rest' on dir name names slash Absent = refl
 onward-same g h same rest rest' on dir name names slash (Reaches n) = ap (after_lookup dir name) (on n)
 onward-same g h same rest rest' on dir name names slash (Through target) = through-same g h same dir name names slash target
 
-lookups_from-veil : (t : Tree) (follow : Bool) (g h : Option GoesOn) → SameBehind g h → (names : List (List ℕ)) (dir : ℕ) (slash : Bool)
-    → lookups_from (veil t) follow g dir names slash ≡ lookups_from t follow h dir names slash
-lookups_from-veil t follow g h same [] dir slash = refl
-lookups_from-veil t follow g h same (name ∷ names) dir slash =
-    ap (onward g (λ n. lookups_from (veil t) follow g n names slash) dir name names slash) (looked_up-veil t (is_empty names) follow dir name)
-    ∙ onward-same g h same (λ n. lookups_from (veil t) follow g n names slash) (λ n. lookups_from t follow h n names slash)
-    (λ n. lookups_from-veil t follow g h same names n slash) dir name names slash
-    (looked_up t (is_empty names) follow dir name (node_at t dir))
+lookups_from-veil : (room : Room) (t : Tree) (follow : Bool) (g h : Option GoesOn) → SameBehind g h → (names : List (List ℕ)) (dir : ℕ) (slash : Bool)
+    → lookups_from room (veil t) follow g dir names slash ≡ lookups_from room t follow h dir names slash
+lookups_from-veil room t follow g h same [] dir slash = refl
+lookups_from-veil room t follow g h same (name ∷ names) dir slash =
+    ap (onward g (λ n. lookups_from room (veil t) follow g n names slash) dir name names slash) (looked_up-veil room t (is_empty names) follow dir name)
+    ∙ onward-same g h same (λ n. lookups_from room (veil t) follow g n names slash) (λ n. lookups_from room t follow h n names slash)
+    (λ n. lookups_from-veil room t follow g h same names n slash) dir name names slash
+    (looked_up room t (is_empty names) follow dir name (node_at t dir))
 
-trail_with-veil : (t : Tree) (follow : Bool) (links dir : ℕ) (names : List (List ℕ)) (slash : Bool)
-    → trail_with (veil t) follow links dir names slash ≡ trail_with t follow links dir names slash
-trail_with-veil t follow zero dir names slash = lookups_from-veil t follow None None tt names dir slash
-trail_with-veil t follow (suc links) dir names slash =
-    lookups_from-veil t follow (Some (trail_with (veil t) follow links)) (Some (trail_with t follow links))
-    (λ dir names slash. trail_with-veil t follow links dir names slash) names dir slash
+trail_with-veil : (room : Room) (t : Tree) (follow : Bool) (links dir : ℕ) (names : List (List ℕ)) (slash : Bool)
+    → trail_with room (veil t) follow links dir names slash ≡ trail_with room t follow links dir names slash
+trail_with-veil room t follow zero dir names slash = lookups_from-veil room t follow None None tt names dir slash
+trail_with-veil room t follow (suc links) dir names slash =
+    lookups_from-veil room t follow (Some (trail_with room (veil t) follow links)) (Some (trail_with room t follow links))
+    (λ dir names slash. trail_with-veil room t follow links dir names slash) names dir slash
 
-pub trail_of-veil : (t : Tree) (cwd : ℕ) (form : Form) (path : List ℕ) → trail_of (veil t) cwd form path ≡ trail_of t cwd form path
+pub trail_of-veil : (room : Room) (t : Tree) (cwd : ℕ) (form : Form) (path : List ℕ) → trail_of room (veil t) cwd form path ≡ trail_of room t cwd form path
 unfolding trail_of
-trail_of-veil t cwd form path =
+trail_of-veil room t cwd form path =
     let parts = parts_of path in
-    trail_with-veil t (follows_last form parts) links_limit (start_of parts cwd) parts.names parts.slash_at_end
+    trail_with-veil room t (follows_last form parts) links_limit (start_of parts cwd) parts.names parts.slash_at_end
 
 -- ---- demands on what stands at a number
 

@@ -8,18 +8,18 @@ use Rattle.fs_cred.specs.declared.refusal.Refusal.TheVariants.{Failed}
 use Rattle.fs_cred.specs.Credentials.{Credential}
 use Rattle.fs_layout.specs.declared.inode.Inode.{Inode}
 use Rattle.fs_layout.specs.declared.place.Place.{Place}
-use Rattle.fs_layout.specs.declared.place.TheConstants.{COMMIT_SECTOR, FIRST_LOG_SECTOR, INODE_BITMAP}
+use Rattle.fs_layout.specs.declared.place.TheConstants.{COMMIT_SECTOR}
 use Rattle.fs_layout.specs.declared.superblock.Super.{Super}
 use Rattle.fs_layout.specs.declared.version.Version.{Version}
 use Rattle.fs_layout.specs.Bytes.{SectorMap}
-use Rattle.fs_layout.specs.Commit.{IsValidCommit, targets_in}
+use Rattle.fs_layout.specs.Commit.{named_start, IsValidCommit, targets_in}
 use Rattle.fs_layout.specs.Place.{the_place}
 use Rattle.fs_layout.specs.Superblock.{super_bytes, FitsSuper, with_version}
-use Rattle.fs_layout.specs.Version.{max_file_size}
-use Rattle.fs_layout.specs.Images.{bit, inode_bitmap, inode_at}
+use Rattle.fs_layout.specs.Version.{max_file_size, slot_size}
+use Rattle.fs_layout.specs.Images.{bit, inode_at}
 use Rattle.fs_layout.specs.InodeChanges.{ChangesInode}
 use Rattle.fs_layout.specs.Ownership.{Agrees}
-use Rattle.fs_layout.specs.Header.{header_of}
+use Rattle.fs_layout.specs.Header.{header_of, log_end}
 use Rattle.fs_layout.specs.Recovered.{recovered}
 use Rattle.fs_model.specs.declared.event.Event.{Event}
 use Rattle.fs_model.specs.declared.event.EventReply.TheVariants.{Reply as Replies}
@@ -61,8 +61,8 @@ NoneRefuses =
 -- EIO is answered where the disk fails, and for nothing that a call demands: no walk is refused with it,
 abbrev pub WalksRefuseOtherwise : Type 0
 WalksRefuseOtherwise =
-    (t : Tree) (cred : Credential) (walk cwd : ℕ) (form : Form) (path : List ℕ)
-    → first_refusal t cred walk form (trail_of t cwd form path) ≢ Some (Failed EIO)
+    (room : Room) (t : Tree) (cred : Credential) (walk cwd : ℕ) (form : Form) (path : List ℕ)
+    → first_refusal t cred walk form (trail_of room t cwd form path) ≢ Some (Failed EIO)
 
 -- no event early, where nothing stands in for the refusal,
 abbrev pub FirmRefusesOtherwise : Type 0
@@ -106,7 +106,8 @@ pub record IsRewritten (t u : Tree) (old new : Node) : Type 0 where
   pub count : length u ≡ length t
   pub names : (n : ℕ) → names_of u n ≡ names_of t n
   pub parents : (d : ℕ) → parent u d ≡ parent t d
-  pub need : sectors_needed u + sectors_of old.body ≡ sectors_needed t + sectors_of new.body
+  pub need : (room : Room) → sectors_needed room u + sectors_of room.slot_size old.body
+      ≡ sectors_needed room t + sectors_of room.slot_size new.body
 
 abbrev pub RewritingKeeps : Type 0
 RewritingKeeps =
@@ -125,7 +126,9 @@ TypesComeBack = (t : FileType) → type_of_kind (kind_of_type t) ≡ Some t
 
 -- an inode has the kind of the node that it holds,
 abbrev pub StoredKindsAgree : Type 0
-StoredKindsAgree = (image : SectorMap) (v : Inode) (x : Placed) → HoldsNode image v x → v.kind ≡ kind_of_type (type_of x.node.body)
+StoredKindsAgree =
+    (version : Version) (image : SectorMap) (v : Inode) (x : Placed) → HoldsNode version image v x
+    → v.kind ≡ kind_of_type (type_of x.node.body)
 
 -- and as a node of that kind access to it is decided, if at all.
 abbrev pub AccessKindsAgree : Type 0
@@ -147,15 +150,15 @@ abbrev pub CountsFit : Type 0
 CountsFit =
     (sectors : ℕ) (image : SectorMap) (room : Room) (t : Tree) (free : ℕ) → Stands sectors image room t free → MayBeFree room t free
 
--- On a disk of so many sectors two images say the same: superblock, commit sector, header, the log sectors that a sealed commit
--- uses, and all sectors from the bitmaps on are alike.
+-- On a disk of so many sectors two images say the same: superblock, commit sector, header and log sectors that a sealed commit
+-- uses, and all sectors behind the log are alike.
 pub record SaysSame (sectors : ℕ) (old new : SectorMap) : Type 0 where
   pub super : new 0 ≡ old 0
   pub commit : new COMMIT_SECTOR ≡ old COMMIT_SECTOR
-  pub header : (k : ℕ) → k < header_of (old 0) → new (FIRST_LOG_SECTOR + k) ≡ old (FIRST_LOG_SECTOR + k)
+  pub header : (k : ℕ) → k < header_of (old 0) → new (named_start old + k) ≡ old (named_start old + k)
   pub log : (k : ℕ) → k < length (targets_in sectors old)
-      → new (FIRST_LOG_SECTOR + header_of (old 0) + k) ≡ old (FIRST_LOG_SECTOR + header_of (old 0) + k)
-  pub others : (s : ℕ) → INODE_BITMAP ≤ s → s < sectors → new s ≡ old s
+      → new (named_start old + header_of (old 0) + k) ≡ old (named_start old + header_of (old 0) + k)
+  pub others : (s : ℕ) → log_end (header_of (old 0)) ≤ s → s < sectors → new s ≡ old s
 
 -- Then they stand for the same.
 abbrev pub StandingRests : Type 0
@@ -176,12 +179,14 @@ StandingRestsOnReading =
     (sectors : ℕ) (old new : SectorMap) (room : Room) (t : Tree) (free : ℕ) → (stands : Stands sectors old room t free)
     → ReadsAlike sectors stands.place old new → Stands sectors new room t free
 
--- The superblock of the new image says another version, whose files may be as large; else the two are alike.
+-- The superblock of the new image says another version, whose files may be as large, and whose slots take as many bytes; else the
+-- two are alike. Versions with such slots have names as long, and as many of them, and the same disks.
 pub record IsInVersion (version : Version) (sectors : ℕ) (old new : SectorMap) (super : Super) : Type 0 where
   pub was : old 0 ≡ super_bytes super
   pub fits : FitsSuper super
   pub says : new 0 ≡ super_bytes (with_version version super)
   pub larger : max_file_size super.version ≤ max_file_size version
+  pub slots : slot_size super.version ≡ slot_size version
   pub others : (s : ℕ) → 1 ≤ s → s < sectors → new s ≡ old s
 
 -- Then the new one stands for the same tree, in a room of larger files.
@@ -194,19 +199,19 @@ StandsInVersion =
 abbrev pub FindsAreThere : Type 0
 FindsAreThere =
     (room : Room) (t : Tree) (cwd n : ℕ) (form : Form) (path : List ℕ) → IsTree room t → IsTrue (is_some (node_at t cwd))
-    → (trail_of t cwd form path).found ≡ Some n → IsTrue (is_some (node_at t n))
+    → (trail_of room t cwd form path).found ≡ Some n → IsTrue (is_some (node_at t n))
 
 -- Where a link at the end of a path is followed, what is found is none.
 abbrev pub FollowedAreNoLinks : Type 0
 FollowedAreNoLinks =
     (room : Room) (t : Tree) (cwd n : ℕ) (path : List ℕ) (node : Node) → IsTree room t → IsDirectoryAt t cwd
-    → (trail_of t cwd Follow path).found ≡ Some n → node_at t n ≡ Some node → IsFalse (is_link node.body)
+    → (trail_of room t cwd Follow path).found ≡ Some n → node_at t n ≡ Some node → IsFalse (is_link node.body)
 
 -- One inode changes with what it owns, and holds what it is to hold then; all others are to hold what they held.
 pub record OneIsPlaced (p : Place) (n : ℕ) (new : SectorMap) (what then : ℕ → Option Placed) : Type 0 where
   pub below : n < p.inodes
   pub here : HoldsPlaced p new n (then n)
-  pub marked : bit new inode_bitmap n ≡ (nat_eq n 0 || nat_le p.inodes n || is_some (then n))
+  pub marked : bit new p.inode_bitmap n ≡ (nat_eq n 0 || nat_le p.inodes n || is_some (then n))
   pub others : (m : ℕ) → m ≢ n → then m ≡ what m
 
 -- Then all hold what they are to hold.
@@ -267,4 +272,4 @@ NumbersAreCounts = (p : Place) (image : SectorMap) (t : Tree) → HoldsAll p ima
 abbrev pub FreeAreClear : Type 0
 FreeAreClear =
     (p : Place) (image : SectorMap) (t : Tree) → HoldsAll p image (placed t) → IsTree (room_of p) t
-    → free_inodes (room_of p) t ≡ count_by (λ n. not (bit image inode_bitmap n)) (range_with_len 0 p.inodes)
+    → free_inodes (room_of p) t ≡ count_by (λ n. not (bit image p.inode_bitmap n)) (range_with_len 0 p.inodes)

@@ -1,17 +1,13 @@
 -- The limits of this file system: our own values for the names of limits.h (POSIX.1-2017). Those that the layout gives are
--- its constants.
---     name_limit, path_limit, links_limit        NAME_MAX, PATH_MAX less 1, SYMLOOP_MAX
---     target_limit, names_limit, entries_limit        SYMLINK_MAX, LINK_MAX, the names in one directory
+-- its constants; those that differ by its version are a disk's room (NAME_MAX, LINK_MAX, the names in one directory).
+--     path_limit, links_limit        PATH_MAX less 1, SYMLOOP_MAX
+--     target_limit        SYMLINK_MAX
 --     descriptors_limit, processes_limit, move_limit        OPEN_MAX, CHILD_MAX, bytes in one read or write
 --     least_free        free data sectors without which nothing is taken
 --     root        the number of the root's inode
 use Rattle.std.specs.Prelude.{ℕ}
-use Rattle.fs_layout.specs.declared.inode.TheConstants.{MAX_INODE_NAMES, MAX_LINK_SIZE}
+use Rattle.fs_layout.specs.declared.inode.TheConstants.{MAX_LINK_SIZE}
 use Rattle.fs_layout.specs.declared.place.TheConstants.{ROOT}
-use Rattle.fs_layout.specs.declared.slot.TheConstants.{MAX_NAME, MAX_NAMES}
-
-abbrev pub name_limit : ℕ
-name_limit = MAX_NAME
 
 abbrev pub path_limit : ℕ
 path_limit = 1023
@@ -21,13 +17,6 @@ links_limit = 40
 
 abbrev pub target_limit : ℕ
 target_limit = MAX_LINK_SIZE
-
--- of one file or symbolic link
-abbrev pub names_limit : ℕ
-names_limit = MAX_INODE_NAMES
-
-abbrev pub entries_limit : ℕ
-entries_limit = MAX_NAMES
 
 -- of one process
 abbrev pub descriptors_limit : ℕ

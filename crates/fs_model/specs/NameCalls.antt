@@ -5,7 +5,7 @@ use Rattle.std.specs.Prelude.{ℕ, ◌==◌, nat_lt, nat_le, not, ◌&&◌, List
 use Rattle.std.specs.List.{list_any}
 use Rattle.fs_cred.specs.declared.errno.Errno.TheVariants.{EPERM, ENOENT, EBUSY, ENOTDIR, EISDIR, EINVAL, EMLINK, ENAMETOOLONG, ENOTEMPTY}
 use Rattle.fs_model.specs.declared.reply.Reply.TheVariants.{Target}
-use Rattle.fs_model.specs.Limits.{names_limit, target_limit}
+use Rattle.fs_model.specs.Limits.{target_limit}
 use Rattle.fs_model.specs.Nodes.{is_link, target_in}
 use Rattle.fs_model.specs.Trees.{names_of}
 use Rattle.fs_model.specs.Processes.{is_in_use}
@@ -77,7 +77,7 @@ link_demands s =
     ∷ must_be_new s.second
     ∷ refuse ENOENT s.second.slash
     ∷ permission_at_dir s s.second 2
-    ∷ refuse EMLINK (nat_le names_limit (names_of s.state.tree (number s.first)))
+    ∷ refuse EMLINK (nat_le s.state.room.names_limit (names_of s.state.tree (number s.first)))
     ∷ no_blocks s
     ∷ no_names s s.second
     ∷ []

@@ -7,13 +7,12 @@ use Rattle.posix_acl.specs.AccessList.{minimal}
 use Rattle.fs_layout.specs.declared.inode.Kind.TheVariants as kinds
 use Rattle.fs_layout.specs.declared.inode.Inode.{Inode}
 use Rattle.fs_layout.specs.declared.place.Place.{Place}
-use Rattle.fs_layout.specs.declared.place.TheConstants.{SECTOR_BITS}
 use Rattle.fs_layout.specs.Bytes.{SectorMap}
-use Rattle.fs_layout.specs.Superblock.{super_bytes, super_for}
+use Rattle.fs_layout.specs.Superblock.{super_bytes}
 use Rattle.fs_layout.specs.Commit.{commit_bytes}
 use Rattle.fs_layout.specs.Inode.{inode_bytes, free_inode}
-use Rattle.fs_layout.specs.Place.{the_place}
-use Rattle.fs_layout.specs.Images.{HasWholeTables, map_bits, bit, inode_bitmap, block_bitmap, stored}
+use Rattle.fs_layout.specs.Place.{the_place, super_for}
+use Rattle.fs_layout.specs.Images.{HasWholeTables, inode_map_bits, map_bits, bit, stored}
 use Rattle.fs_model.specs.Limits.{root}
 use Rattle.fs_model.specs.Nodes.{Dir}
 use Rattle.fs_model.specs.Trees.{Tree}
@@ -39,7 +38,7 @@ pub record IsNewImage (p : Place) (image : SectorMap) : Type 0 where
   pub super : image 0 ≡ super_bytes (super_for p)
   pub commit : image 1 ≡ commit_bytes []
   pub tables : HasWholeTables p image
-  pub inode_bits : (n : ℕ) → n < SECTOR_BITS → bit image inode_bitmap n ≡ (nat_eq n 0 || nat_le p.inodes n || nat_eq n root)
-  pub block_bits : (s : ℕ) → s < map_bits p → IsTrue (bit image block_bitmap s) ↔ ((s < p.first_data) ⊎ (p.sectors ≤ s))
+  pub inode_bits : (n : ℕ) → n < inode_map_bits p → bit image p.inode_bitmap n ≡ (nat_eq n 0 || nat_le p.inodes n || nat_eq n root)
+  pub block_bits : (s : ℕ) → s < map_bits p → IsTrue (bit image p.block_bitmap s) ↔ ((s < p.first_data) ⊎ (p.sectors ≤ s))
   pub root_is : stored p image root ≡ inode_bytes root_inode
   pub free : (n : ℕ) → n < p.inodes → n ≢ root → stored p image n ≡ inode_bytes free_inode

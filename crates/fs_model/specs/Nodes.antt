@@ -103,7 +103,7 @@ shown_mode (File a _) = mode_bits a
 shown_mode (Dir a d) = mode_bits a + (if d.sticky then S_ISVTX else 0) + (if d.set_group_id then S_ISGID else 0)
 shown_mode (Link _) = 511
 
--- our own rule for a directory: a slot for each name
+-- our own rule for a directory: the bytes of the smallest slot for each name
 abbrev pub shown_size : Body → ℕ
 shown_size (File _ bytes) = length bytes
 shown_size (Dir _ d) = SLOT_SIZE * length d.names
@@ -124,7 +124,8 @@ sectors_for bytes =
 abbrev pub acl_sectors : AccessList → ℕ
 acl_sectors a = if is_extended a then 1 else 0
 
-abbrev pub sectors_of : Body → ℕ
-sectors_of (File a bytes) = sectors_for (length bytes) + acl_sectors a
-sectors_of (Dir a d) = sectors_for (SLOT_SIZE * length d.names) + acl_sectors a + (if is_some d.default then 1 else 0)
-sectors_of (Link target) = 1
+-- where a directory's slot takes so many bytes
+abbrev pub sectors_of : ℕ → Body → ℕ
+sectors_of slot (File a bytes) = sectors_for (length bytes) + acl_sectors a
+sectors_of slot (Dir a d) = sectors_for (slot * length d.names) + acl_sectors a + (if is_some d.default then 1 else 0)
+sectors_of slot (Link target) = 1

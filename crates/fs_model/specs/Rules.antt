@@ -12,10 +12,10 @@ use Rattle.posix_acl.specs.AccessList.{AccessList, IsAcl, is_extended, list_numb
 use Rattle.fs_layout.specs.declared.superblock.Super.{Super}
 use Rattle.fs_layout.specs.declared.inode.Kind.{Kind}
 use Rattle.fs_layout.specs.declared.inode.Kind.TheVariants as kinds
+use Rattle.fs_layout.specs.declared.version.Version.{Version}
 use Rattle.fs_layout.specs.declared.inode.TheConstants.{INDIRECT_END}
 use Rattle.fs_layout.specs.declared.inode.Inode.{Inode}
 use Rattle.fs_layout.specs.declared.place.Place.{Place}
-use Rattle.fs_layout.specs.declared.place.TheConstants.{SECTOR_BITS}
 use Rattle.fs_layout.specs.Bytes.{SectorMap, IsSector, u16_of}
 use Rattle.fs_layout.specs.Superblock.{super_of}
 use Rattle.fs_layout.specs.Commit.{IsValidCommit}
@@ -23,11 +23,11 @@ use Rattle.fs_layout.specs.Inode.{inode_of}
 use Rattle.fs_layout.specs.AclSector.{acl_sector_of}
 use Rattle.fs_layout.specs.Directories.{slot_count, stored_slot, slot_at, slot_of}
 use Rattle.fs_layout.specs.Place.{place_in}
-use Rattle.fs_layout.specs.Version.{max_file_size}
-use Rattle.fs_layout.specs.Images.{bit, inode_bitmap, block_bitmap, map_bits, IsData, stored, inode_at, Owns, byte_at, IsTrimmed, HasNoHole}
+use Rattle.fs_layout.specs.Version.{max_file_size, max_inode_names, max_directory_size, slot_size}
+use Rattle.fs_layout.specs.Images.{bit, inode_map_bits, map_bits, IsData, stored, inode_at, Owns, byte_at, IsTrimmed, HasNoHole}
 use Rattle.fs_layout.specs.Ownership.{IsOwned}
 use Rattle.fs_layout.specs.Recovered.{recovered}
-use Rattle.fs_model.specs.Limits.{root, names_limit}
+use Rattle.fs_model.specs.Limits.{root}
 
 -- ---- the superblock and the commit sector
 
@@ -36,7 +36,7 @@ pub record IsPlaceOf (sectors : ℕ) (image : SectorMap) (p : Place) : Type 0 wh
   pub super : Super
   pub super_is : super_of (image 0) ≡ Ok super
   pub same_size : super.sectors ≡ sectors
-  pub has_place : place_in super.version sectors super.inodes ≡ Some p
+  pub has_place : place_in super.version super.header sectors super.inodes ≡ Some p
 
 pub record HasPlace (sectors : ℕ) (image : SectorMap) : Type 0 where
   pub place : Place
@@ -51,30 +51,33 @@ is_directory_kind kinds.Directory = true
 is_directory_kind kinds.Link = false
 
 -- how many slots of an inode name n; none, if it is no directory
-abbrev pub namings_in : SectorMap → Inode → ℕ → ℕ
-namings_in m v n = if is_directory_kind v.kind then count_by (λ k. (slot_at m v k).inode == n) (range_with_len 0 (slot_count v)) else 0
+abbrev pub namings_in : Version → SectorMap → Inode → ℕ → ℕ
+namings_in version m v n =
+    if is_directory_kind v.kind then count_by (λ k. (slot_at version m v k).inode == n) (range_with_len 0 (slot_count version v)) else 0
 
 -- how many slots of the disk name n
 abbrev pub namings : Place → SectorMap → ℕ → ℕ
-namings p m n = sum_by (λ d. namings_in m (inode_at p m d) n) (range_with_len 0 p.inodes)
+namings p m n = sum_by (λ d. namings_in p.version m (inode_at p m d) n) (range_with_len 0 p.inodes)
 
 -- ---- what single rules ask
 
 -- Rule 3. The bits of 0, of 1 and from the inode count on are set, any other exactly where the kind isn't 0.
 abbrev pub IsBit : Place → SectorMap → ℕ → Type 0
-IsBit p m n = bit m inode_bitmap n ≡ (nat_lt n 2 || nat_le p.inodes n || not (nat_eq (u16_of (stored p m n) 0) 0))
+IsBit p m n = bit m p.inode_bitmap n ≡ (nat_lt n 2 || nat_le p.inodes n || not (nat_eq (u16_of (stored p m n) 0) 0))
 
--- a file has at most so many bytes, and no inode a double indirect sector where no file reaches past the blocks of the
--- indirect one
-pub record IsAllowed (limit : ℕ) (v : Inode) : Type 0 where
-  pub size : v.kind ≡ kinds.File → v.size ≤ limit
-  pub double_indirect : limit ≤ 512 * INDIRECT_END → v.double_indirect ≡ 0
+-- A file and a directory have at most the bytes that the version allows, a directory those of whole slots, and no inode has a
+-- double indirect sector where no file reaches past the blocks of the indirect one.
+pub record IsAllowed (version : Version) (v : Inode) : Type 0 where
+  pub size : v.kind ≡ kinds.File → v.size ≤ max_file_size version
+  pub double_indirect : max_file_size version ≤ 512 * INDIRECT_END → v.double_indirect ≡ 0
+  pub directory : v.kind ≡ kinds.Directory → v.size ≤ max_directory_size version
+  pub slots : v.kind ≡ kinds.Directory → v.size % slot_size version ≡ 0
 
 -- Rule 4. The bytes are an inode: a free one, all zero, or one with a valid kind, mode and size, as the version allows it, and
 -- zeros where nothing is kept; 0 is free, and 1 a directory.
 pub record IsGoodInode (p : Place) (m : SectorMap) (n : ℕ) : Type 0 where
   pub is : inode_of (stored p m n) ≡ Ok (inode_at p m n)
-  pub allowed : IsAllowed (max_file_size p.version) (inode_at p m n)
+  pub allowed : IsAllowed p.version (inode_at p m n)
   pub none : n ≡ 0 → (inode_at p m n).kind ≡ kinds.Free
   pub top : n ≡ root → (inode_at p m n).kind ≡ kinds.Directory
 
@@ -89,7 +92,7 @@ IsOwnedOnce p m s =
 
 -- Rule 7. The bit is set exactly for a sector that is owned, below the data or past the end.
 abbrev pub IsBlockBit : Place → SectorMap → ℕ → Type 0
-IsBlockBit p m s = IsTrue (bit m block_bitmap s) ↔ ((s < p.first_data) ⊎ ((p.sectors ≤ s) ⊎ IsOwned p m s))
+IsBlockBit p m s = IsTrue (bit m p.block_bitmap s) ↔ ((s < p.first_data) ⊎ ((p.sectors ≤ s) ⊎ IsOwned p m s))
 
 -- Rule 8. Past the size there is no block, no sector of pointers by which only such blocks are found, and no byte but zeros;
 -- only files have holes; no byte of a link's target is zero.
@@ -124,27 +127,28 @@ pub record HasAcls (m : SectorMap) (v : Inode) : Type 0 where
 
 -- Rule 10, of one slot. It is valid, and its inode is in use and isn't the root.
 pub record IsGoodSlot (p : Place) (m : SectorMap) (v : Inode) (k : ℕ) : Type 0 where
-  pub is : slot_of (stored_slot m v k) ≡ Ok (slot_at m v k)
-  pub below : (slot_at m v k).inode < p.inodes
-  pub used : (inode_at p m (slot_at m v k).inode).kind ≢ kinds.Free
-  pub not_root : (slot_at m v k).inode ≢ root
+  pub is : slot_of p.version (stored_slot p.version m v k) ≡ Ok (slot_at p.version m v k)
+  pub below : (slot_at p.version m v k).inode < p.inodes
+  pub used : (inode_at p m (slot_at p.version m v k).inode).kind ≢ kinds.Free
+  pub not_root : (slot_at p.version m v k).inode ≢ root
 
 -- Rule 11. No two slots have one name.
-abbrev pub AreNamesApart : SectorMap → Inode → Type 0
-AreNamesApart m v = (j k : ℕ) → j < k → k < slot_count v → (slot_at m v j).name ≢ (slot_at m v k).name
+abbrev pub AreNamesApart : Version → SectorMap → Inode → Type 0
+AreNamesApart version m v =
+    (j k : ℕ) → j < k → k < slot_count version v → (slot_at version m v j).name ≢ (slot_at version m v k).name
 
--- Rule 12. The names field of a file or a link is the number of slots that name it, at most `names_limit`, of a link at least 1;
--- that of a directory is 1, and one slot names it, the root none.
-abbrev pub HasNameCount : Kind → ℕ → ℕ → ℕ → Type 0
-HasNameCount kinds.Free n field count = Unit {0}
-HasNameCount kinds.File n field count = (field ≡ count) × (count ≤ names_limit)
-HasNameCount kinds.Directory n field count = (field ≡ 1) × (count ≡ (if n == root then 0 else 1))
-HasNameCount kinds.Link n field count = (field ≡ count) × (1 ≤ count) × (count ≤ names_limit)
+-- Rule 12. The names field of a file or a link is the number of slots that name it, at most as many as the version allows, of a
+-- link at least 1; that of a directory is 1, and one slot names it, the root none.
+abbrev pub HasNameCount : Version → Kind → ℕ → ℕ → ℕ → Type 0
+HasNameCount version kinds.Free n field count = Unit {0}
+HasNameCount version kinds.File n field count = (field ≡ count) × (count ≤ max_inode_names version)
+HasNameCount version kinds.Directory n field count = (field ≡ 1) × (count ≡ (if n == root then 0 else 1))
+HasNameCount version kinds.Link n field count = (field ≡ count) × (1 ≤ count) × (count ≤ max_inode_names version)
 
 -- Rule 13. The parent field of a directory is the one that names it, of the root it is the root, of any other inode 0.
 pub record HasParent (p : Place) (m : SectorMap) (n : ℕ) : Type 0 where
   pub named : (inode_at p m n).kind ≡ kinds.Directory → n ≢ root → (inode_at p m n).parent < p.inodes
-      × (1 ≤ namings_in m (inode_at p m (inode_at p m n).parent) n)
+      × (1 ≤ namings_in p.version m (inode_at p m (inode_at p m n).parent) n)
   pub top : n ≡ root → (inode_at p m n).parent ≡ root
   pub none : (inode_at p m n).kind ≢ kinds.Directory → (inode_at p m n).parent ≡ 0
 
@@ -176,16 +180,17 @@ rule_number Ways = 14
 -- The recovered image m of a disk with this place obeys the rule at a number: that of an inode, but for rule 3 of a bit,
 -- for 6 of a sector and for 7 of a bit. Numbers out of range obey.
 abbrev pub Obeys : Place → SectorMap → ImageRule → ℕ → Type 0
-Obeys p m InodeBits n = n < SECTOR_BITS → IsBit p m n
+Obeys p m InodeBits n = n < inode_map_bits p → IsBit p m n
 Obeys p m Inodes n = n < p.inodes → IsGoodInode p m n
 Obeys p m InData n = n < p.inodes → IsInData p m n
 Obeys p m OwnedOnce s = IsOwnedOnce p m s
 Obeys p m BlockBits s = s < map_bits p → IsBlockBit p m s
 Obeys p m LaidOut n = n < p.inodes → IsLaidOut m (inode_at p m n)
 Obeys p m Acls n = n < p.inodes → HasAcls m (inode_at p m n)
-Obeys p m Slots d = d < p.inodes → (inode_at p m d).kind ≡ kinds.Directory → (k : ℕ) → k < slot_count (inode_at p m d) → IsGoodSlot p m (inode_at p m d) k
-Obeys p m NamesApart d = d < p.inodes → (inode_at p m d).kind ≡ kinds.Directory → AreNamesApart m (inode_at p m d)
-Obeys p m Names n = n < p.inodes → HasNameCount (inode_at p m n).kind n (inode_at p m n).names (namings p m n)
+Obeys p m Slots d = d < p.inodes → (inode_at p m d).kind ≡ kinds.Directory → (k : ℕ) → k < slot_count p.version (inode_at p m d)
+    → IsGoodSlot p m (inode_at p m d) k
+Obeys p m NamesApart d = d < p.inodes → (inode_at p m d).kind ≡ kinds.Directory → AreNamesApart p.version m (inode_at p m d)
+Obeys p m Names n = n < p.inodes → HasNameCount p.version (inode_at p m n).kind n (inode_at p m n).names (namings p m n)
 Obeys p m Parents n = n < p.inodes → HasParent p m n
 Obeys p m Ways d = d < p.inodes → (inode_at p m d).kind ≡ kinds.Directory → GoesUp p m d
 

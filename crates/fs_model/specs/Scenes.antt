@@ -12,7 +12,7 @@ use Rattle.fs_cred.specs.declared.refusal.Need.TheVariants.{Own, Remove}
 use Rattle.fs_cred.specs.Ownership.{may_own, sticky_allows}
 use Rattle.fs_model.specs.declared.reply.Reply.{Reply}
 use Rattle.fs_model.specs.declared.reply.Reply.TheVariants.{Done}
-use Rattle.fs_model.specs.Limits.{entries_limit, least_free}
+use Rattle.fs_model.specs.Limits.{least_free}
 use Rattle.fs_model.specs.Nodes.{Node, Body, is_directory, names_in}
 use Rattle.fs_model.specs.Trees.{free_inodes}
 use Rattle.fs_model.specs.Processes.{Process, descriptor, the_descriptor}
@@ -138,7 +138,7 @@ abbrev pub no_inodes : Scene → Demand
 no_inodes s = refuse ENOSPC (free_inodes s.state.room s.state.tree == 0)
 
 abbrev pub no_names : Scene → Found → Demand
-no_names s f = refuse ENOSPC (nat_le entries_limit (length (names_in (dir_node s f).body)))
+no_names s f = refuse ENOSPC (nat_le s.state.room.entries_limit (length (names_in (dir_node s f).body)))
 
 -- space for a new node under the first path
 abbrev pub space_to_make : Scene → List Demand

@@ -1,20 +1,19 @@
 -- An image stands for a tree: our own layout.
 --     HoldsAll        each inode holds what is placed at its number
 --     placed        what a tree places at each number
---     room_of, room_in        the room of a disk, and in another version
+--     room_with, room_of, room_in        the room of numbers in a version, of a disk, and of the disk in another version
 --     Stands        the whole: of a disk of so many sectors the image stands for a tree, with so many free sectors
 use Rattle.std.specs.Prelude.{◌≡◌, ℕ, ◌-◌, ◌<◌, nat_eq, nat_le, ◌||◌, Option, Some, is_some, MatchOption}
 use Rattle.std.specs.Option.{option_map}
 use Rattle.fs_layout.specs.declared.superblock.Super.{Super}
 use Rattle.fs_layout.specs.declared.place.Place.{Place}
-use Rattle.fs_layout.specs.declared.place.TheConstants.{SECTOR_BITS}
 use Rattle.fs_layout.specs.declared.version.Version.{Version}
 use Rattle.fs_layout.specs.Bytes.{SectorMap}
 use Rattle.fs_layout.specs.Superblock.{super_bytes, FitsSuper}
 use Rattle.fs_layout.specs.Inode.{free_inode}
-use Rattle.fs_layout.specs.Version.{max_file_size}
+use Rattle.fs_layout.specs.Version.{max_file_size, max_name, max_names, max_inode_names, slot_size}
 use Rattle.fs_layout.specs.Place.{place_in}
-use Rattle.fs_layout.specs.Images.{bit, inode_bitmap, inode_at, free_sectors}
+use Rattle.fs_layout.specs.Images.{inode_map_bits, bit, inode_at, free_sectors}
 use Rattle.fs_layout.specs.Ownership.{IsConsistent}
 use Rattle.fs_layout.specs.Commit.{IsValidCommit}
 use Rattle.fs_layout.specs.Recovered.{recovered}
@@ -24,25 +23,37 @@ use Rattle.fs_model.specs.StoredNodes.{Placed, HoldsNode}
 -- an inode holds the node that is placed at its number, or is free where none is
 abbrev pub HoldsPlaced : Place → SectorMap → ℕ → Option Placed → Type 0
 HoldsPlaced p image n o =
-    MatchOption o (inode_at p image n ≡ free_inode) (λ x. HoldsNode image (inode_at p image n) x)
+    MatchOption o (inode_at p image n ≡ free_inode) (λ x. HoldsNode p.version image (inode_at p image n) x)
 
 -- Each inode holds what `what` has at its number, or is free. The inode bitmap says which are not; inode 0 isn't used.
 pub record HoldsAll (p : Place) (image : SectorMap) (what : ℕ → Option Placed) : Type 0 where
   pub consistent : IsConsistent p image
   pub nodes : (n : ℕ) → n < p.inodes → HoldsPlaced p image n (what n)
-  pub inode_bits : (n : ℕ) → n < SECTOR_BITS → bit image inode_bitmap n ≡ (nat_eq n 0 || nat_le p.inodes n || is_some (what n))
+  pub inode_bits : (n : ℕ) → n < inode_map_bits p → bit image p.inode_bitmap n ≡ (nat_eq n 0 || nat_le p.inodes n || is_some (what n))
 
 -- what inode n is to hold for the tree
 abbrev pub placed : Tree → ℕ → Option Placed
 placed t n = option_map (λ node. record { node = node; names = names_of t n; parent = parent t n }) (node_at t n)
 
--- so many inodes and data sectors, and files of at most so many bytes
+-- so many inodes and data sectors, with the limits of a version
+abbrev pub room_with : Version → ℕ → ℕ → Room
+room_with version inodes sectors = record {
+  inodes = inodes;
+  sectors = sectors;
+  file_limit = max_file_size version;
+  name_limit = max_name version;
+  entries_limit = max_names version;
+  names_limit = max_inode_names version;
+  slot_size = slot_size version;
+}
+
+-- those of this disk
 abbrev pub room_of : Place → Room
-room_of p = record { inodes = p.inodes; sectors = p.sectors - p.first_data; file_limit = max_file_size p.version }
+room_of p = room_with p.version p.inodes (p.sectors - p.first_data)
 
 -- the same disk in another version
 abbrev pub room_in : Version → Room → Room
-room_in version room = record { inodes = room.inodes; sectors = room.sectors; file_limit = max_file_size version }
+room_in version room = room_with version room.inodes room.sectors
 
 -- A sealed commit counts as if its targets were written. Log and free sectors may hold anything.
 pub record Stands (sectors : ℕ) (image : SectorMap) (room : Room) (tree : Tree) (free : ℕ) : Type 0 where
@@ -51,7 +62,7 @@ pub record Stands (sectors : ℕ) (image : SectorMap) (room : Room) (tree : Tree
   pub super_is : image 0 ≡ super_bytes super
   pub super_fits : FitsSuper super
   pub same_size : super.sectors ≡ sectors
-  pub has_place : place_in super.version sectors super.inodes ≡ Some place
+  pub has_place : place_in super.version super.header sectors super.inodes ≡ Some place
   pub commit_is : IsValidCommit sectors image
   pub room_is : room ≡ room_of place
   pub holds : HoldsAll place (recovered sectors image) (placed tree)

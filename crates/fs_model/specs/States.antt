@@ -7,7 +7,9 @@ use Rattle.std.specs.Prelude.{◌≡◌, ◌≢◌, ℕ, ◌-◌, ◌^◌, ◌<�
 use Rattle.std.specs.Ordering.{nat_cmp}
 use Rattle.fs_cred.specs.Credentials.{IsCredential}
 use Rattle.fs_model.specs.Limits.{root, descriptors_limit, processes_limit}
-use Rattle.fs_layout.specs.declared.place.TheConstants.{SECTOR_BITS}
+use Rattle.fs_layout.specs.declared.version.Version.TheVariants.{Three}
+use Rattle.fs_layout.specs.Version.{max_sectors, max_inodes}
+use Rattle.fs_layout.specs.declared.slot.TheConstants.{MAX_NAME}
 use Rattle.fs_layout.specs.Maps.{get, IsMap}
 use Rattle.fs_model.specs.Nodes.{Node, is_link, is_directory}
 use Rattle.fs_model.specs.Trees.{Tree, Room, node_at, names_of, sectors_needed, IsTree, IsDirectoryAt}
@@ -20,15 +22,19 @@ pub record State : Type 0 where
   pub free : ℕ
   pub halted : Bool
 
--- inodes and data sectors of the largest disk; the end of a file is an offset that lseek() can give
+-- inodes and data sectors of the largest disk; the end of a file is an offset that lseek() can give; a name is at most as long as
+-- in any version, and a file or a link may have one name, and no more than its inode can count
 pub record IsRoom (room : Room) : Type 0 where
-  pub inodes : room.inodes ≤ SECTOR_BITS
-  pub sectors : room.sectors ≤ 65536
+  pub inodes : room.inodes ≤ max_inodes Three
+  pub sectors : room.sectors ≤ max_sectors Three
   pub file_limit : room.file_limit < 2 ^ 63
+  pub name_limit : room.name_limit ≤ MAX_NAME
+  pub some_names : 1 ≤ room.names_limit
+  pub names_limit : room.names_limit < 2 ^ 32
 
 -- at least what the tree, written without holes, leaves; at most all
 pub record MayBeFree (room : Room) (t : Tree) (free : ℕ) : Type 0 where
-  pub least : room.sectors - sectors_needed t ≤ free
+  pub least : room.sectors - sectors_needed room t ≤ free
   pub most : free ≤ room.sectors
 
 -- a descriptor is for a file or a directory that is there, and a directory isn't written

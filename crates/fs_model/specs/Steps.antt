@@ -18,7 +18,7 @@ use Rattle.fs_model.specs.declared.event.Event.{Event}
 use Rattle.fs_model.specs.declared.event.Event.TheVariants.{Spawn, Exit, Call as Calls, Enter, Fsync, Statfs, Arm, Restart}
 use Rattle.fs_model.specs.Limits.{processes_limit}
 use Rattle.fs_layout.specs.Maps.{get, with_entry, without}
-use Rattle.fs_model.specs.Trees.{Tree, node_at, free_inodes}
+use Rattle.fs_model.specs.Trees.{Tree, Room, node_at, free_inodes}
 use Rattle.fs_model.specs.Processes.{Process, Desks, new_process, cwd_of, standing_at}
 use Rattle.fs_model.specs.TreeChanges.{Change, Same, Make, changed, swept}
 use Rattle.fs_model.specs.States.{State, MayBeFree}
@@ -34,34 +34,35 @@ use Rattle.fs_model.specs.Rows.{row_of}
 
 -- ---- what a call finds
 
-abbrev pub trail_in : Tree → ℕ → Form × List ℕ → Trail
-trail_in t cwd walk = trail_of t cwd walk.0 walk.1
+abbrev pub trail_in : Room → Tree → ℕ → Form × List ℕ → Trail
+trail_in room t cwd walk = trail_of room t cwd walk.0 walk.1
 
 -- the refusals of the walks, the first of them with number k
-abbrev pub walk_refusals : Tree → Process → ℕ → List (Form × List ℕ) → List Demand
-walk_refusals t p k [] = []
-walk_refusals t p k (walk ∷ walks) = first_refusal t p.cred k walk.0 (trail_in t (cwd_of p k) walk) ∷ walk_refusals t p (k + 1) walks
+abbrev pub walk_refusals : Room → Tree → Process → ℕ → List (Form × List ℕ) → List Demand
+walk_refusals room t p k [] = []
+walk_refusals room t p k (walk ∷ walks) =
+    first_refusal t p.cred k walk.0 (trail_in room t (cwd_of p k) walk) ∷ walk_refusals room t p (k + 1) walks
 
 abbrev pub nothing_found : Found
 nothing_found = record { dir = 0; name = []; last = Top; ino = None; slash = false; step = 0 }
 
-abbrev pub found_by : Tree → ℕ → Form × List ℕ → Found
-found_by t cwd walk = found_of (trail_in t cwd walk) (start_of (parts_of walk.1) cwd)
+abbrev pub found_by : Room → Tree → ℕ → Form × List ℕ → Found
+found_by room t cwd walk = found_of (trail_in room t cwd walk) (start_of (parts_of walk.1) cwd)
 
-abbrev pub first_found : Tree → ℕ → List (Form × List ℕ) → Found
-first_found t cwd [] = nothing_found
-first_found t cwd (walk ∷ _) = found_by t cwd walk
+abbrev pub first_found : Room → Tree → ℕ → List (Form × List ℕ) → Found
+first_found room t cwd [] = nothing_found
+first_found room t cwd (walk ∷ _) = found_by room t cwd walk
 
-abbrev pub second_found : Tree → ℕ → List (Form × List ℕ) → Found
-second_found t cwd [] = nothing_found
-second_found t cwd (_ ∷ walks) = first_found t cwd walks
+abbrev pub second_found : Room → Tree → ℕ → List (Form × List ℕ) → Found
+second_found room t cwd [] = nothing_found
+second_found room t cwd (_ ∷ walks) = first_found room t cwd walks
 
 abbrev pub scene_of : State → Process → Row → Scene
 scene_of s p row = record {
   state = s;
   process = p;
-  first = first_found s.tree p.cwd row.walks;
-  second = second_found s.tree p.second_cwd row.walks;
+  first = first_found s.room s.tree p.cwd row.walks;
+  second = second_found s.room s.tree p.second_cwd row.walks;
 }
 
 -- ---- refusals
@@ -72,7 +73,7 @@ early_refusal p row = first_of (row.arguments ++ flat_map (λ walk. path_checks 
 
 -- its walks, and what it asks of what they have found
 abbrev pub late_refusal : State → Process → Row → Demand
-late_refusal s p row = first_of (walk_refusals s.tree p 1 row.walks ++ row.demands (scene_of s p row))
+late_refusal s p row = first_of (walk_refusals s.room s.tree p 1 row.walks ++ row.demands (scene_of s p row))
 
 -- ESRCH where the process isn't there, and else what is asked of it
 abbrev pub demand_of : (Process → Demand) → Option Process → Demand

@@ -5,6 +5,7 @@ use Rattle.std.specs.Prelude.{◌≡◌, ℕ, List}
 use Rattle.posix_acl.specs.AccessList.{AccessList, IsAcl, IsSomeAcl}
 use Rattle.fs_layout.specs.declared.inode.Kind.TheVariants as kinds
 use Rattle.fs_layout.specs.declared.inode.Inode.{Inode}
+use Rattle.fs_layout.specs.declared.version.Version.{Version}
 use Rattle.fs_layout.specs.Bytes.{SectorMap}
 use Rattle.fs_layout.specs.Images.{Holds, HasNoHole}
 use Rattle.fs_layout.specs.Directories.{HasNames}
@@ -23,8 +24,8 @@ pub record HoldsFile (image : SectorMap) (v : Inode) (a : AccessList) (bytes : L
   pub has_acl : HoldsAcl image v.acl (kept_acl a)
   pub no_default : v.default_acl ≡ 0
 
-pub record HoldsDirectory (image : SectorMap) (v : Inode) (a : AccessList) (d : Directory) : Type 0 where
-  pub names : HasNames image v d.names
+pub record HoldsDirectory (version : Version) (image : SectorMap) (v : Inode) (a : AccessList) (d : Directory) : Type 0 where
+  pub names : HasNames version image v d.names
   pub acl : IsAcl a
   pub default : IsSomeAcl d.default
   pub has_acl : HoldsAcl image v.acl (kept_acl a)
@@ -37,10 +38,10 @@ pub record HoldsLink (image : SectorMap) (v : Inode) (target : List ℕ) : Type 
   pub no_acl : v.acl ≡ 0
   pub no_default : v.default_acl ≡ 0
 
-abbrev pub HoldsBody : SectorMap → Inode → Body → Type 0
-HoldsBody image v (File a bytes) = HoldsFile image v a bytes
-HoldsBody image v (Dir a d) = HoldsDirectory image v a d
-HoldsBody image v (Link target) = HoldsLink image v target
+abbrev pub HoldsBody : Version → SectorMap → Inode → Body → Type 0
+HoldsBody version image v (File a bytes) = HoldsFile image v a bytes
+HoldsBody version image v (Dir a d) = HoldsDirectory version image v a d
+HoldsBody version image v (Link target) = HoldsLink image v target
 
 -- what the names field and the parent field say
 abbrev pub names_field : Body → ℕ → ℕ
@@ -53,10 +54,10 @@ parent_field (File a bytes) parent = 0
 parent_field (Dir a d) parent = parent
 parent_field (Link target) parent = 0
 
-pub record HoldsNode (image : SectorMap) (v : Inode) (x : Placed) : Type 0 where
+pub record HoldsNode (version : Version) (image : SectorMap) (v : Inode) (x : Placed) : Type 0 where
   pub owner : v.uid ≡ x.node.owner
   pub group : v.gid ≡ x.node.group
   pub mode : v.mode ≡ shown_mode x.node.body
   pub names : v.names ≡ names_field x.node.body x.names
   pub parent : v.parent ≡ parent_field x.node.body x.parent
-  pub body : HoldsBody image v x.node.body
+  pub body : HoldsBody version image v x.node.body

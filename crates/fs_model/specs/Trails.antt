@@ -7,10 +7,10 @@ use Rattle.fs_cred.specs.declared.errno.Errno.{Errno}
 use Rattle.fs_cred.specs.declared.errno.Errno.TheVariants.{ENOENT, ENOTDIR, ENAMETOOLONG, ELOOP}
 use Rattle.fs_model.specs.declared.walk.Form.{Form}
 use Rattle.fs_model.specs.declared.walk.Form.TheVariants.{Follow, NoFollow, Parent}
-use Rattle.fs_model.specs.Limits.{name_limit, links_limit}
+use Rattle.fs_model.specs.Limits.{links_limit}
 use Rattle.fs_layout.specs.Maps.{name_cmp, get}
 use Rattle.fs_model.specs.Nodes.{Node, Body, Link, is_directory, names_in}
-use Rattle.fs_model.specs.Trees.{Tree, node_at, parent}
+use Rattle.fs_model.specs.Trees.{Tree, Room, node_at, parent}
 use Rattle.fs_model.specs.Parts.{Parts, parts_of, start_of, is_empty}
 
 -- whether a final link is followed
@@ -64,12 +64,12 @@ abbrev pub arrival : Tree → Bool → Bool → Option ℕ → Outcome
 arrival t is_last follow None = if is_last then Absent else Faulty ENOENT
 arrival t is_last follow (Some n) = reached (follow || not is_last) n (node_at t n)
 
--- one name, looked up in a node: first the node has to be a directory, then the name short enough
-abbrev pub looked_up : Tree → Bool → Bool → ℕ → List ℕ → Option Node → Outcome
-looked_up t is_last follow dir name None = Faulty ENOTDIR
-looked_up t is_last follow dir name (Some node) =
+-- one name, looked up in a node: first the node has to be a directory, then the name short enough for the disk
+abbrev pub looked_up : Room → Tree → Bool → Bool → ℕ → List ℕ → Option Node → Outcome
+looked_up room t is_last follow dir name None = Faulty ENOTDIR
+looked_up room t is_last follow dir name (Some node) =
     if not (is_directory node.body) then Faulty ENOTDIR
-    else (if nat_lt name_limit (length name) then Faulty ENAMETOOLONG
+    else (if nat_lt room.name_limit (length name) then Faulty ENAMETOOLONG
     else arrival t is_last follow (named_inode t dir (names_in node.body) name))
 
 abbrev pub after_lookup : ℕ → List ℕ → Trail → Trail
@@ -103,22 +103,22 @@ onward behind_link rest dir name names slash Absent = ends_at dir name None slas
 onward behind_link rest dir name names slash (Reaches n) = after_lookup dir name (rest n)
 onward behind_link rest dir name names slash (Through target) = through_if behind_link dir name names slash target
 
-module _ (t : Tree) (follow : Bool) where
+module _ (room : Room) (t : Tree) (follow : Bool) where
   -- each name in turn. `behind_link` goes on behind a link, if one more may be followed
   abbrev pub lookups_from : Option GoesOn → GoesOn
   lookups_from behind_link dir [] slash = record { lookups = []; found = Some dir; slash = slash }
   lookups_from behind_link dir (name ∷ names) slash =
       onward behind_link (λ n. lookups_from behind_link n names slash) dir name names slash
-      (looked_up t (is_empty names) follow dir name (node_at t dir))
+      (looked_up room t (is_empty names) follow dir name (node_at t dir))
 
   -- a trail on which so many links may be followed
   abbrev pub trail_with : ℕ → GoesOn
   trail_with zero = lookups_from None
   trail_with (suc links) = lookups_from (Some (trail_with links))
 
-abbrev pub trail_of_parts : Tree → ℕ → Form → Parts → Trail
-trail_of_parts t cwd form parts =
-    trail_with t (follows_last form parts) links_limit (start_of parts cwd) parts.names parts.slash_at_end
+abbrev pub trail_of_parts : Room → Tree → ℕ → Form → Parts → Trail
+trail_of_parts room t cwd form parts =
+    trail_with room t (follows_last form parts) links_limit (start_of parts cwd) parts.names parts.slash_at_end
 
-unfoldable pub trail_of : Tree → ℕ → Form → List ℕ → Trail
-trail_of t cwd form path = trail_of_parts t cwd form (parts_of path)
+unfoldable pub trail_of : Room → Tree → ℕ → Form → List ℕ → Trail
+trail_of room t cwd form path = trail_of_parts room t cwd form (parts_of path)

@@ -10,7 +10,7 @@ use Rattle.std.specs.Ordering.{nat_cmp}
 use Rattle.posix_acl.specs.AccessList.{IsAcl, IsSomeAcl}
 use Rattle.fs_layout.specs.Bytes.{IsBytes}
 use Rattle.fs_layout.specs.Directories.{IsName}
-use Rattle.fs_model.specs.Limits.{root, entries_limit, names_limit, target_limit}
+use Rattle.fs_model.specs.Limits.{root, target_limit}
 use Rattle.fs_layout.specs.Maps.{name_cmp, get, with_entry, IsMap}
 use Rattle.fs_model.specs.Nodes.{Node, Body, File, Dir, Link, Directory, is_directory, names_in, sectors_of}
 
@@ -48,26 +48,33 @@ abbrev pub is_within : ℕ → Tree → ℕ → ℕ → Bool
 is_within zero t m d = d == m
 is_within (suc far) t m d = d == m || (not (d == root) && is_within far t m (parent t d))
 
--- what a disk has room for: inode numbers below `inodes`, `sectors` of data, files of at most `file_limit` bytes
+-- what a disk has room for: inode numbers below `inodes`, `sectors` of data, files of at most `file_limit` bytes, names of at
+-- most `name_limit`, at most `entries_limit` of them in one directory and `names_limit` of one file or link; each takes
+-- `slot_size` bytes of its directory
 pub record Room : Type 0 where
   pub inodes : ℕ
   pub sectors : ℕ
   pub file_limit : ℕ
+  pub name_limit : ℕ
+  pub entries_limit : ℕ
+  pub names_limit : ℕ
+  pub slot_size : ℕ
 
 -- something stands at the number, and it isn't the root
 abbrev pub MayHaveName : Tree → ℕ → Type 0
 MayHaveName t n = (n ≢ root) × IsTrue (is_some (node_at t n))
 
 -- a name, and what it leads to
-pub record IsEntry (t : Tree) (name : List ℕ) (n : ℕ) : Type 0 where
+pub record IsEntry (room : Room) (t : Tree) (name : List ℕ) (n : ℕ) : Type 0 where
   pub is_name : IsName name
+  pub short : length name ≤ room.name_limit
   pub bytes : IsBytes name
   pub leads : MayHaveName t n
 
-pub record IsDirectory (t : Tree) (d : Directory) : Type 0 where
+pub record IsDirectory (room : Room) (t : Tree) (d : Directory) : Type 0 where
   pub names : IsMap name_cmp d.names
-  pub few : length d.names ≤ entries_limit
-  pub each : (name : List ℕ) (n : ℕ) → get name_cmp d.names name ≡ Some n → IsEntry t name n
+  pub few : length d.names ≤ room.entries_limit
+  pub each : (name : List ℕ) (n : ℕ) → get name_cmp d.names name ≡ Some n → IsEntry room t name n
 
 -- a link's target: at least one byte, none of them zero
 pub record IsTarget (target : List ℕ) : Type 0 where
@@ -79,14 +86,14 @@ pub record IsTarget (target : List ℕ) : Type 0 where
 -- what is true of each kind of object in a tree
 abbrev pub IsBody : Room → Tree → Body → Type 0
 IsBody room t (File a bytes) = IsAcl a × (length bytes ≤ room.file_limit) × IsBytes bytes
-IsBody room t (Dir a d) = IsAcl a × IsSomeAcl d.default × IsDirectory t d
+IsBody room t (Dir a d) = IsAcl a × IsSomeAcl d.default × IsDirectory room t d
 IsBody room t (Link target) = IsTarget target
 
 -- the names that an object may have: the root none, another directory one, a link some, a file any number
-abbrev pub NamesFit : ℕ → Body → ℕ → Type 0
-NamesFit n (Dir _ _) names = names ≡ (if n == root then 0 else 1)
-NamesFit n (Link _) names = (1 ≤ names) × (names ≤ names_limit)
-NamesFit n (File _ _) names = names ≤ names_limit
+abbrev pub NamesFit : Room → ℕ → Body → ℕ → Type 0
+NamesFit room n (Dir _ _) names = names ≡ (if n == root then 0 else 1)
+NamesFit room n (Link _) names = (1 ≤ names) × (names ≤ room.names_limit)
+NamesFit room n (File _ _) names = names ≤ room.names_limit
 
 -- going up from d leads to the root
 pub data IsUnderRoot (t : Tree) : ℕ → Type 0 where
@@ -99,7 +106,7 @@ pub record IsNode (room : Room) (t : Tree) (n : ℕ) (node : Node) : Type 0 wher
   pub owner : node.owner < 2 ^ 32
   pub group : node.group < 2 ^ 32
   pub body : IsBody room t node.body
-  pub names : NamesFit n node.body (names_of t n)
+  pub names : NamesFit room n node.body (names_of t n)
   pub under_root : IsTrue (is_directory node.body) → IsUnderRoot t n
 
 -- a directory stands at n
@@ -114,8 +121,8 @@ pub record IsTree (room : Room) (t : Tree) : Type 0 where
   pub root_is_there : IsDirectoryAt t root
   pub each : (n : ℕ) (node : Node) → node_at t n ≡ Some node → IsNode room t n node
 
-abbrev pub sectors_needed : Tree → ℕ
-sectors_needed t = sum_by (λ e. sectors_of e.1.body) t
+abbrev pub sectors_needed : Room → Tree → ℕ
+sectors_needed room t = sum_by (λ e. sectors_of room.slot_size e.1.body) t
 
 -- inode 0 isn't used
 abbrev pub free_inodes : Room → Tree → ℕ

@@ -148,8 +148,8 @@ pub fn standing_rests_on_what_is_used()
     ensures sectors { StandingRests }
 {}
 
-/// An image of which the superblock alone says another version, whose files may be as large, stands for the same tree, in a
-/// room of that version.
+/// An image of which the superblock alone says another version, whose files may be as large and whose slots take as many bytes,
+/// stands for the same tree, in a room of that version.
 pub fn an_image_stands_in_another_version()
     ensures { StandsInVersion }
 {}

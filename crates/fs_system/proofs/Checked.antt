@@ -1,10 +1,12 @@
 -- A mount after a check, which only reads.
-use Rattle.std.proofs.Common.{refl, sym, subst, arith, ◌∙◌}
-use Rattle.sector_disk.specs.Disk.{DiskState, Image, IsImage, LeavesOnly, OnlyReads}
+use Rattle.std.proofs.Common.{◌≡◌, ℕ, length, refl, sym, subst, arith, ◌∙◌}
+use Rattle.sector_disk.specs.Disk.{DiskState, Image, sector, IsImage, LeavesOnly, OnlyReads}
 use Rattle.sector_disk.proofs.Moments.{failed_later, narrowed, reads_then, weaker}
 use Rattle.fs_model.specs.declared.event.RestartFault.{RestartFault}
 use Rattle.fs_model.specs.declared.event.RestartFault.TheVariants as restarts
 use Rattle.fs_model.specs.States.{State}
+use Rattle.fs_model.specs.Stands.{Stands}
+use Rattle.fs_model.specs.Trees.{Tree, Room}
 use Rattle.fs_system.specs.Mounts.{IsNotMounted, Mounts, FailsToMount}
 use Rattle.fs_system.specs.Mounting.{StandsAsBefore, fault_of}
 use Rattle.fs_images.specs.Standing.{StandsFor, StandsForSome}
@@ -29,6 +31,11 @@ module _ (old mid : DiskState) (reads : OnlyReads old mid) where
   pub then_refused : (now : DiskState) (fault : RestartFault) → FailsToMount mid now fault → IsNotMounted old now (fault_of fault)
   then_refused now restarts.DiskFault failed = then_fails now restarts.DiskFault failed
   then_refused now restarts.OutOfMemory failed = then_fails now restarts.OutOfMemory failed
+
+  -- a disk that was found clean stands for a tree then
+  pub then_stands_for_some : length old.seen ≡ old.size → (room : Room) (t : Tree) (free : ℕ) → Stands old.size (sector old.seen) room t free → StandsForSome mid.seen
+  then_stands_for_some size room t free stands =
+      subst StandsForSome (sym reads.narrowed.seen) (room, t, free, subst (λ n. Stands n (sector old.seen) room t free) (sym size) stands)
 
   -- at any moment
   module _ (only_now : (image : Image) → old.left_since old.moment image → IsImage old image) where

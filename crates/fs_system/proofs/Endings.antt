@@ -150,7 +150,9 @@ module _ {p : Place} {map old_map : SectorMap} {now before : Desks} {s : State} 
   tree_is = swept_is_tree s.room (changed s.tree d.change) now d.left.tree
 
   may_be_free : MayBeFree s.room (swept (changed s.tree d.change) now) (free_sectors p map)
-  may_be_free = count_may_be_free p map s.room (swept (changed s.tree d.change) now) (ap (λ (r : Room). r.sectors) at.same_room) tree_is d.holds
+  may_be_free =
+      count_may_be_free p map s.room (swept (changed s.tree d.change) now) (ap (λ (r : Room). r.sectors) at.same_room)
+      (ap (λ (r : Room). r.slot_size) at.same_room) tree_is d.holds
 
   pub done_state_of : IsStateOf p map now done_state
   done_state_of = record {

@@ -7,8 +7,8 @@ use Rattle.fs_layout.specs.Bytes.{SectorMap}
 use Rattle.fs_cred.specs.declared.errno.Errno.TheVariants.{EIO}
 use Rattle.fs_cred.specs.declared.refusal.Refusal.TheVariants.{Failed}
 use Rattle.redo_journal.specs.Meaning.{SameMap}
-use Rattle.fs_layout.specs.Header.{header_of, max_delta}
-use Rattle.fs_layout.proofs.RecoveryLaw.{log_before_bitmaps}
+use Rattle.fs_layout.specs.Header.{header_of, log_end, max_delta}
+use Rattle.fs_layout.proofs.RecoveryLaw.{header_there, log_there}
 use Rattle.sector_txn.specs.Images.{LeavesOneOf}
 use Rattle.sector_txn.specs.Sectors.{TxnState}
 use Rattle.sector_txn.proofs.Images.{maps_same, after_reads}
@@ -37,11 +37,13 @@ pub begins_ready : (p : Place) (txn : TxnState) (desks : Desks) (s : State) → 
     → IsReady p txn desks
 begins_ready p txn desks s header room r =
     let sectors : p.sectors ≡ txn.disk.size = ap (λ (q : Place). q.sectors) (place_is_laid_out txn.disk.size r.disk_is.super.inodes r.disk_is.has_place) in
+    let there = header ∙ header_there r.disk_is.super (txn.sectors 0) txn.disk.size r.disk_is.super_fits r.disk_is.super_is r.disk_is.has_place in
+    let ends = ap log_end header ∙ log_there r.disk_is.super (txn.sectors 0) txn.disk.size r.disk_is.super_fits r.disk_is.super_is r.disk_is.has_place in
     let sound : IsSound p txn =
-    sound_from p txn r.state_of.holds.consistent (omega (arith, sectors)) (omega (arith, header, log_before_bitmaps r.disk_is.super (txn.sectors 0) r.disk_is.super_fits r.disk_is.super_is)) (outside_set p txn.sectors (placed s.tree) r.state_of.holds) in
+    sound_from p txn r.state_of.holds.consistent (omega (arith, sectors)) (omega (arith, ends)) (outside_set p txn.sectors (placed s.tree) r.state_of.holds) in
     record {
       sound = sound;
-      spare = spare_first p _ txn.disk.size r.disk_is.super.inodes txn r.disk_is.has_place room;
+      spare = spare_first p txn r.state_of.holds.consistent.place (room ∙ ap max_delta there);
       state = s;
       is_state = r.state_of;
     }

@@ -146,7 +146,7 @@ module _ (room : Room) (t : Tree) (is : IsTree room t) (n : ℕ) where
   stood : (m : ℕ) (node : Node) → node_at t m ≡ Some node → stays t was (m, node) ≡ true
   stood m node at =
       let fits = is.each m node at in
-      fitting_stays was m node.body (names_of t m) fits.names (λ none ne. opened m fits.below) (root_directory room t m node is at)
+      fitting_stays room was m node.body (names_of t m) fits.names (λ none ne. opened m fits.below) (root_directory room t m node is at)
 
   was_held : (p : Place) (map : SectorMap) → HoldsAll p map (placed t) → HoldsAll p map (placed (swept t was))
   was_held p map held = same_placed p map (placed t) (placed (swept t was)) held (λ m. go m (node_at t m) refl)
@@ -221,12 +221,12 @@ module _ (p : Place) (n : ℕ) (old new : TxnState) (t : Tree) (h : HoldsTree p 
     count : (b : Body) → node.body ≡ b → (inode_at p old.sectors n).names ≡ names_field b (names_of t n)
     count b e = (held_node h n node at).names ∙ ap (λ x. names_field x (names_of t n)) e
 
-    fits : (b : Body) → node.body ≡ b → NamesFit n b (names_of t n)
-    fits b e = subst (λ x. NamesFit n x (names_of t n)) e (h.tree.each n node at).names
+    fits : (b : Body) → node.body ≡ b → NamesFit (room_of p) n b (names_of t n)
+    fits b e = subst (λ x. NamesFit (room_of p) n x (names_of t n)) e (h.tree.each n node at).names
 
     something : (b : Body) → node.body ≡ b → LeavesInode p n false old new → IsFreed p n new.sectors t
     something b e (stays_open opened same) = absurd cc
-    something b e (was_free free same) = absurd (body_not_free old.sectors (inode_at p old.sectors n) node.body (held_node h n node at).body free)
+    something b e (was_free free same) = absurd (body_not_free p.version old.sectors (inode_at p old.sectors n) node.body (held_node h n node at).body free)
     something (File a bytes) e (has_name some same) = unchanged same (some_here node at (λ none ne. some (count (File a bytes) e ∙ none)))
     something (File a bytes) e (goes shut none used drops) =
         let no_names : names_of t n ≡ 0 = sym (count (File a bytes) e) ∙ none in

@@ -5,12 +5,11 @@ use Rattle.sector_disk.specs.Disk.{DiskState, Image, sector, LeavesOnly}
 use Rattle.sector_disk.proofs.Moments.{weaker}
 use Rattle.fs_layout.specs.declared.place.Place.{Place}
 use Rattle.fs_layout.specs.Bytes.{SectorMap}
-use Rattle.fs_layout.specs.Images.{block_bitmap, free_sectors}
+use Rattle.fs_layout.specs.Images.{free_sectors}
 use Rattle.fs_layout.specs.Recovered.{recovered}
-use Rattle.fs_layout.proofs.Agree.{same_agrees}
-use Rattle.fs_layout.proofs.Bits.{bit_kept, free_sectors_kept}
-use Rattle.fs_layout.proofs.Places.{place_is_place}
-use Rattle.fs_layout.proofs.RecoveryLaw.{log_before_bitmaps, recovered-super}
+use Rattle.fs_layout.specs.Ownership.{Agrees}
+use Rattle.fs_layout.proofs.Agree.{same_agrees, agree_free_sectors}
+use Rattle.fs_layout.proofs.RecoveryLaw.{log_there, recovered-super}
 use Rattle.redo_journal.specs.Meaning.{SameMap, ReadsAs, MeansAs, EachReadsAs}
 use Rattle.sector_txn.specs.Images.{IsOneOf, LeavesOneOf}
 use Rattle.fs_model.specs.Trees.{Tree, Room, IsTree}
@@ -31,17 +30,12 @@ pub record HoldsCounted (p : Place) (map : SectorMap) (t : Tree) (free : ℕ) : 
 pub holds_same : (size : ℕ) (p : Place) (old new : SectorMap) (t : Tree) (free : ℕ) → SameMap new old → IsDiskOf size p old → HoldsCounted p old t free
     → HoldsCounted p new t free
 holds_same size p old new t free same disk h =
-    let place = place_is_place _ size disk.super.inodes disk.has_place in
-    let least = place.least_sectors in
-    let most = place.most_sectors in
-    let log = log_before_bitmaps disk.super (old 0) disk.super_fits disk.super_is in
-    let each : (s : ℕ) → 128 ≤ s → s < p.sectors → new s ≡ old s = λ s past low. same s (inr (omega (arith, log, past))) in
-    let bits : free_sectors p new ≡ free_sectors p old =
-    free_sectors_kept p old new (λ s at. bit_kept old new block_bitmap s (let to = at.1 in each (block_bitmap + s / 4096) (omega arith) (omega (arith, to, least, most)))) in
+    let log = log_there disk.super (old 0) size disk.super_fits disk.super_is disk.has_place in
+    let agrees : Agrees p old new = same_agrees h.holds.consistent.place (λ s past low. same s (inr (omega (arith, log, past)))) in
     record {
-      holds = agreed p old new (placed t) h.holds (same_agrees place each);
+      holds = agreed p old new (placed t) h.holds agrees;
       tree_is = h.tree_is;
-      free_is = h.free_is ∙ sym bits;
+      free_is = h.free_is ∙ sym (agree_free_sectors h.holds.consistent agrees);
     }
 
 pub disk_same : (size : ℕ) (p : Place) (old new : SectorMap) → SameMap new old → IsDiskOf size p old → IsDiskOf size p new

@@ -333,11 +333,12 @@ module _ {D : Type 0} (state : D → DiskState) where
               subst (λ (x : System D). FlushesFor state x (record { base = Some (Ok after); place = place; desks = procs }) e Done) seen_so
               (flush_done place procs e before after same run lasting later quiet)
 
-          pub last_done : (disk : D) → disk ≡ after.disk → HappensLast state fs disk Sync Done
-          last_done disk here =
-              subst (λ (d : D). HappensLast state fs d Sync Done) (sym here)
-              (subst (λ (x : System D). HappensLast state x after.disk Sync Done) seen_so
-              (λ s r. let done = flush_done place procs Sync before after same run lasting later quiet refl s r (sync_firm s) in (done.0, done.2)))
+        -- the disk is handed back
+        pub last_closed : (disk : D) → LeavesOldOr (present state before) (state before.disk) (state disk) → EachReadsAs (present state before) (state disk)
+            → (state before.disk).failures ≤ (state disk).failures → (state disk).failed_writes ≡ (state before.disk).failed_writes → HappensLast state fs disk Sync Done
+        last_closed disk run lasting later quiet =
+            subst (λ (x : System D). HappensLast state x disk Sync Done) seen_so
+            (λ s r. (s, does_flush (state before.disk) (state disk) place (present state before) procs s r run later Sync refl (sync_firm s) lasting quiet))
 
         module _ (broken : D) (run : LeavesOldOr (present state before) (state before.disk) (state broken)) (later : (state before.disk).failures ≤ (state broken).failures)
             (failed : HasFailed (state before.disk) (state broken)) (unwritten : HasFailedToWrite (state before.disk) (state broken)) where

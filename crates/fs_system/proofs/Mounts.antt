@@ -104,7 +104,8 @@ module _ (old : DiskState) (size : length old.seen ≡ old.size) (room : Room) (
 
     may_be_free : MayBeFree room (pruned t) (free_sectors place map)
     may_be_free =
-        count_may_be_free place map room (pruned t) (ap (λ (r : Room). r.sectors) room_is) (pruned_is_tree room t stands.tree_is) stored.holds.holds
+        count_may_be_free place map room (pruned t) (ap (λ (r : Room). r.sectors) room_is) (ap (λ (r : Room). r.slot_size) room_is)
+        (pruned_is_tree room t stands.tree_is) stored.holds.holds
 
     found_state : IsState state_found
     found_state =

@@ -4,7 +4,7 @@ use Rattle.std.specs.Prelude.{not, count_by}
 use Rattle.std.specs.List.{range_with_len}
 use Rattle.fs_layout.specs.declared.place.Place.{Place}
 use Rattle.fs_layout.specs.Bytes.{SectorMap}
-use Rattle.fs_layout.specs.Images.{bit, inode_bitmap, free_sectors}
+use Rattle.fs_layout.specs.Images.{bit, free_sectors}
 use Rattle.fs_layout.specs.Place.{place_in}
 use Rattle.fs_layout.specs.Superblock.{FitsSuper, super_bytes, super_of}
 use Rattle.fs_layout.proofs.SuperLaw.{super_codec}
@@ -28,17 +28,17 @@ some_same p q x y e f g = cc
 one_place : (size : ℕ) (map : SectorMap) (p q : Place) → IsDiskOf size p map → IsDiskOf size q map → p ≡ q
 one_place size map p q x y =
     let super : x.super ≡ y.super = same_spelling 512 FitsSuper super_bytes super_of super_codec x.super y.super x.super_fits y.super_fits (sym x.super_is ∙ y.super_is) in
-    some_same p q _ _ x.has_place y.has_place (ap (λ v. place_in v.version size v.inodes) super)
+    some_same p q _ _ x.has_place y.has_place (ap (λ v. place_in v.version v.header size v.inodes) super)
 
 -- what was counted is so of each state of this map
 pub counted_tells : (size : ℕ) (p : Place) (map : SectorMap) (desks : Desks) (s : State) → IsRunning size p map desks s → (free : FreeSpace)
-    → free.sectors ≡ free_sectors p map → free.inodes ≡ count_by (λ n. not (bit map inode_bitmap n)) (range_with_len 0 p.inodes) → TellsSpace size map free
+    → free.sectors ≡ free_sectors p map → free.inodes ≡ count_by (λ n. not (bit map p.inode_bitmap n)) (range_with_len 0 p.inodes) → TellsSpace size map free
 counted_tells size p map desks s r free all clear = record {
   sectors = λ q others t on. on.state_of.free_is ∙ ap (λ k. free_sectors k map) (one_place size map q p on.disk_is r.disk_is) ∙ sym all;
   inodes = λ q others t on.
       let held = tree_held q map others t on.state_of in
       ap (λ (k : Room). free_inodes k t.tree) on.state_of.same_room ∙ free_are_clear q map t.tree held.holds held.tree_is
-      ∙ ap (λ (k : Place). count_by (λ n. not (bit map inode_bitmap n)) (range_with_len 0 k.inodes)) (one_place size map q p on.disk_is r.disk_is) ∙ sym clear;
+      ∙ ap (λ (k : Place). count_by (λ n. not (bit map k.inode_bitmap n)) (range_with_len 0 k.inodes)) (one_place size map q p on.disk_is r.disk_is) ∙ sym clear;
 }
 
 -- It is so of the same map.

@@ -8,12 +8,13 @@ use Rattle.fs_layout.specs.Bytes.{SectorMap}
 use Rattle.fs_layout.specs.Header.{header_of, log_end}
 use Rattle.fs_layout.specs.Place.{place_in}
 use Rattle.fs_layout.specs.Inode.{free_inode}
-use Rattle.fs_layout.specs.Images.{bit, inode_bitmap, inode_at}
+use Rattle.fs_layout.specs.Images.{bit, inode_at, inode_map_bits}
 use Rattle.fs_layout.specs.Ownership.{IsConsistent, Agrees}
 use Rattle.fs_layout.specs.Recovered.{recovered}
 use Rattle.fs_layout.proofs.Agree.{same_agrees, agree_consistent, agree_inode, agree_inode_bit, agree_block_bit}
-use Rattle.fs_layout.proofs.Places.{place_is_laid_out}
-use Rattle.fs_layout.proofs.RecoveryLaw.{log_before_bitmaps}
+use Rattle.fs_layout.proofs.Places.{place_is_laid_out, after_map}
+use Rattle.fs_layout.proofs.RecoveryLaw.{log_there}
+use Rattle.fs_layout.proofs.Bits.{inode_has_bit}
 use Rattle.redo_journal.specs.Meaning.{SameMap, data_of}
 use Rattle.redo_journal.proofs.Meaning.{data_super}
 use Rattle.sector_txn.specs.Sectors.{TxnState}
@@ -30,7 +31,7 @@ use Rattle.fs_system.specs.Sound.{IsSoundDisk}
 
 -- ---- a map that holds nodes
 module _ (p : Place) (image : SectorMap) (what : ℕ → Option Placed) (holds : HoldsAll p image what) where
-  pub outside_set : (n : ℕ) → n < 4096 → (n ≡ 0) ⊎ (p.inodes ≤ n) → IsTrue (bit image inode_bitmap n)
+  pub outside_set : (n : ℕ) → n < inode_map_bits p → (n ≡ 0) ⊎ (p.inodes ≤ n) → IsTrue (bit image p.inode_bitmap n)
   outside_set n low (inl none) = holds.inode_bits n low ∙ ap (λ b. b || nat_le p.inodes n || is_some (what n)) (eq-eqb n 0 none)
   outside_set n low (inr past) = holds.inode_bits n low ∙ either (nat_eq n 0) (nat_le p.inodes n) (is_some (what n)) (le-leb p.inodes n past)
     where
@@ -42,7 +43,7 @@ module _ (p : Place) (image : SectorMap) (what : ℕ → Option Placed) (holds :
   pub held_rest : (disk : DiskState) → p.sectors ≤ disk.size → HasRestSet p image
   held_rest disk size =
       let txn : TxnState = record { sectors = image; before = image; has_put = λ n. false; room = 64; header = 0; disk = disk } in
-      (sound_from p txn holds.consistent size (omega arith) outside_set).bitmaps.rest
+      (sound_from p txn holds.consistent size (let from = (after_map holds.consistent.place).0 in omega (arith, from)) outside_set).bitmaps.rest
 
   free_where_none : (n : ℕ) (o : Option Placed) → is_some o ≡ false → HoldsPlaced p image n o → inode_at p image n ≡ free_inode
   free_where_none n None none is = is
@@ -50,8 +51,7 @@ module _ (p : Place) (image : SectorMap) (what : ℕ → Option Placed) (holds :
 
   pub held_clear : ClearAreFree p image
   held_clear n low clear =
-      let few = holds.consistent.place.most_inodes in
-      let none = (or_parts (nat_eq n 0 || nat_le p.inodes n) (is_some (what n)) (sym (holds.inode_bits n (omega (arith, few, low))) ∙ clear)).1 in
+      let none = (or_parts (nat_eq n 0 || nat_le p.inodes n) (is_some (what n)) (sym (holds.inode_bits n (inode_has_bit holds.consistent.place n low)) ∙ clear)).1 in
       free_where_none n (what n) none (holds.nodes n low)
 
 -- a disk that stands for a tree, whose size is the length of its image
@@ -66,19 +66,22 @@ standing_is_sound room t free disk len stands =
     let size : stands.place.sectors ≤ disk.size = omega (arith, sectors, len) in
     record {
       has_place =
-          ap (λ v. place_in v stands.place.sectors stands.place.inodes) (ap (λ (q : Place). q.version) laid)
-          ∙ ap (λ k. place_in stands.super.version k stands.place.inodes) (sym sectors)
-          ∙ ap (place_in stands.super.version (length disk.seen)) (sym inodes)
+          ap (λ v. place_in v stands.place.header stands.place.sectors stands.place.inodes) (ap (λ (q : Place). q.version) laid)
+          ∙ ap (λ h. place_in stands.super.version h stands.place.sectors stands.place.inodes) (ap (λ (q : Place). q.header) laid)
+          ∙ ap (λ k. place_in stands.super.version stands.super.header k stands.place.inodes) (sym sectors)
+          ∙ ap (place_in stands.super.version stands.super.header (length disk.seen)) (sym inodes)
           ∙ stands.has_place;
       sectors = size;
-      log = log_before_bitmaps stands.super (data_of disk 0) stands.super_fits (data_super disk ∙ stands.super_is);
+      log =
+          let ends = log_there stands.super (data_of disk 0) (length disk.seen) stands.super_fits (data_super disk ∙ stands.super_is) stands.has_place in
+          omega (arith, ends);
       consistent = holds.consistent;
       rest = held_rest stands.place (data_of disk) (placed t) holds disk size;
       clear = held_clear stands.place (data_of disk) (placed t) holds;
     }
 
 -- ---- maps that agree from the bitmaps on
-module _ (p : Place) (old new : SectorMap) (consistent : IsConsistent p old) (log : log_end (header_of (old 0)) ≤ inode_bitmap) (same : SameMap new old) where
+module _ (p : Place) (old new : SectorMap) (consistent : IsConsistent p old) (log : log_end (header_of (old 0)) ≤ p.inode_bitmap) (same : SameMap new old) where
   agrees : Agrees p old new
   agrees = same_agrees consistent.place (λ s past low. same s (inr (omega (arith, log, past))))
 
@@ -91,8 +94,7 @@ module _ (p : Place) (old new : SectorMap) (consistent : IsConsistent p old) (lo
 
   pub clear_same : ClearAreFree p old → ClearAreFree p new
   clear_same clear n low none =
-      let few = consistent.place.most_inodes in
-      agree_inode consistent agrees n low ∙ clear n low (sym (agree_inode_bit consistent agrees n (omega (arith, few, low))) ∙ none)
+      agree_inode consistent agrees n low ∙ clear n low (sym (agree_inode_bit consistent agrees n (inode_has_bit consistent.place n low)) ∙ none)
 
 -- a transaction that shows a sound disk
 pub shown_is_sound : (p : Place) (disk : DiskState) (txn : TxnState) → IsSoundDisk p disk → SameMap txn.sectors (data_of disk) → disk.size ≤ txn.disk.size
@@ -102,7 +104,7 @@ shown_is_sound p disk txn sound same size header =
     let bitmaps : HasBitmaps p txn = record {
       place = consistent.place;
       disk = omega (arith, sound.sectors, size);
-      header = omega (arith, header, ap header_of (same 0 (inl refl)), sound.log);
+      header = omega (arith, ap log_end (header ∙ ap header_of (same 0 (inl refl))), sound.log);
       tables = consistent.sectors;
       rest = rest_same p (data_of disk) txn.sectors sound.consistent sound.log same sound.rest;
     } in

@@ -16,8 +16,8 @@ use Rattle.fs_layout.specs.Images.{free_sectors}
 use Rattle.fs_layout.specs.Recovered.{recovered}
 use Rattle.fs_layout.proofs.Places.{place_is_laid_out}
 use Rattle.redo_journal.specs.Meaning.{SameMap, EachReadsAs, data_of}
-use Rattle.fs_layout.specs.Header.{header_of, max_delta}
-use Rattle.fs_layout.proofs.RecoveryLaw.{log_before_bitmaps}
+use Rattle.fs_layout.specs.Header.{header_of, log_end, max_delta}
+use Rattle.fs_layout.proofs.RecoveryLaw.{header_there, log_there}
 use Rattle.sector_txn.specs.Images.{IsOneOf, LeavesOneOf, LeavesOldOr}
 use Rattle.sector_txn.specs.Sectors.{TxnState}
 use Rattle.sector_txn.specs.Stores.{StoreView, disk_after}
@@ -58,11 +58,14 @@ stored_same {size} {size'} {p} {old} {new} {t} sized same is =
 pub begins_sound : (p : Place) (txn : TxnState) (t : Tree) → txn.header ≡ header_of (txn.sectors 0) → IsStored txn.disk.size p txn.sectors t → IsSound p txn
 begins_sound p txn t header is =
     let sectors : p.sectors ≡ txn.disk.size = ap (λ (q : Place). q.sectors) (place_is_laid_out txn.disk.size is.disk_is.super.inodes is.disk_is.has_place) in
-    sound_from p txn is.holds.holds.consistent (omega (arith, sectors)) (omega (arith, header, log_before_bitmaps is.disk_is.super (txn.sectors 0) is.disk_is.super_fits is.disk_is.super_is)) (outside_set p txn.sectors (placed t) is.holds.holds)
+    let ends = ap log_end header ∙ log_there is.disk_is.super (txn.sectors 0) txn.disk.size is.disk_is.super_fits is.disk_is.super_is is.disk_is.has_place in
+    sound_from p txn is.holds.holds.consistent (omega (arith, sectors)) (omega (arith, ends)) (outside_set p txn.sectors (placed t) is.holds.holds)
 
-pub begins_spare : (p : Place) (txn : TxnState) (t : Tree) → txn.room ≡ max_delta txn.header → IsStored txn.disk.size p txn.sectors t → HasSpare p 1 txn
-begins_spare p txn t room is =
-    let spare = spare_first p _ txn.disk.size is.disk_is.super.inodes txn is.disk_is.has_place room in omega (arith, spare)
+pub begins_spare : (p : Place) (txn : TxnState) (t : Tree) → txn.header ≡ header_of (txn.sectors 0) → txn.room ≡ max_delta txn.header
+    → IsStored txn.disk.size p txn.sectors t → HasSpare p 1 txn
+begins_spare p txn t header room is =
+    let there = header ∙ header_there is.disk_is.super (txn.sectors 0) txn.disk.size is.disk_is.super_fits is.disk_is.super_is is.disk_is.has_place in
+    let spare = spare_first p txn is.holds.holds.consistent.place (room ∙ ap max_delta there) in omega (arith, spare)
 
 -- a store that was opened on a disk which stands for a tree
 pub opened_tree : (old new : DiskState) (map : SectorMap) (room : Room) (t : Tree) (free : ℕ) → length old.seen ≡ old.size → new.size ≡ old.size

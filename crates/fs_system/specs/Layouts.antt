@@ -12,4 +12,4 @@ pub record IsDiskOf (size : ℕ) (p : Place) (map : SectorMap) : Type 0 where
   pub super_is : map 0 ≡ super_bytes super
   pub super_fits : FitsSuper super
   pub same_size : super.sectors ≡ size
-  pub has_place : place_in super.version size super.inodes ≡ Some p
+  pub has_place : place_in super.version super.header size super.inodes ≡ Some p

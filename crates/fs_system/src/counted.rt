@@ -2,7 +2,8 @@
 
 ghost use Rattle.std.specs.Prelude.{◌≡◌, ℕ, false, Some, IsOk, IfOk};
 ghost use Rattle.fs_layout.specs.Header.{header_of, max_delta};
-ghost use Rattle.redo_journal.specs.Meaning.{SameMap, EachReadsAs};
+ghost use Rattle.redo_journal.specs.Meaning.{SameMap, EachReadsAs, disk_of};
+ghost use Rattle.redo_journal.specs.States.{IsIdle};
 ghost use Rattle.sector_disk.specs.Disk.{IsSame, ForgetsPast, Elapses, HasCause, HasWriteCause};
 ghost use Rattle.sector_txn.specs.Images.{LeavesOneOf, LeavesOldOr};
 ghost use Rattle.sector_txn.specs.Stores.{present, map_before, map_now, txn_state, disk_after};
@@ -123,6 +124,18 @@ impl<D: Disk> CountedStore<D> {
         ensures past { ForgetsPast (D.state self.old.disk) (D.state self.new.disk) }
     {
         self.store.forget();
+    }
+
+    /// The disk, handed back clean: all that was kept is in its place, and no commit is there.
+    pub(crate) fn close(self) -> Result<D, Broken<D>>
+        ensures images { LeavesOldOr (present D.state self) (D.state self.disk) (D.state (disk_of result)) }
+        ensures lasting { IfOk result (λ disk. EachReadsAs (present D.state self) (D.state disk)) }
+        ensures idle { IfOk result (λ disk. IsIdle (D.state disk)) }
+        ensures cause { HasCause (D.state self.disk) (D.state (disk_of result)) result }
+        ensures told { HasWriteCause (D.state self.disk) (D.state (disk_of result)) result }
+    {
+        let CountedStore { store, free: _ } = self;
+        store.close()
     }
 
     /// The disk. What was kept since the last flush may be lost at a stop.

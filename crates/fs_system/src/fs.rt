@@ -1,8 +1,9 @@
 //! A file system on a disk.
 
-ghost use Rattle.std.specs.Prelude.{◌≡◌, ◌≤◌, Some, Ok, IfOk, IfErr, IsTrue};
+ghost use Rattle.std.specs.Prelude.{◌≡◌, ◌≤◌, None, Some, Ok, IfOk, IfErr, IsTrue};
 ghost use Rattle.sector_disk.specs.Disk.{IsSame, ForgetsPast, Elapses, HasCause, HasFailed, LeavesOnly};
 ghost use Rattle.redo_journal.specs.Meaning.{SameMap, EachReadsAs, MeansAsBefore, data_of};
+ghost use Rattle.redo_journal.specs.States.{IsIdle};
 ghost use Rattle.sector_txn.specs.Stores.{StoreView, present, disk_after};
 ghost use Rattle.fs_model.specs.Processes.{Desks};
 ghost use Rattle.fs_model.specs.States.{State};
@@ -391,17 +392,18 @@ impl<D: Disk + Drop> Fs<D> {
         forget_past(base);
     }
 
-    /// Makes stable what was done before, and gives the disk back, also with an error: EIO, where the device failed or the
-    /// file system is halted. The disk may be mounted again.
+    /// Makes stable what was done before, and gives the disk back clean, without a commit; with an error as it is: EIO, where the
+    /// device failed or the file system is halted. The disk may be mounted again.
     pub fn unmount(self) -> (D, Option<Errno>)
         ensures does { HappensLast D.state self result.0 Sync (unmounted result.1) }
+        ensures clean { result.1 ≡ None → IsIdle (D.state result.0) }
         ensures halted { (disk : D) → self.base ≡ Some (Err disk) → result.0 ≡ disk }
         ensures again { EachStandsForSome (D.state result.0) }
     {
         let Fs { base, .. } = self;
         match base {
-            Some(Ok(store)) => match store.flush() {
-                Ok(store) => (store.into_disk(), None),
+            Some(Ok(store)) => match store.close() {
+                Ok(disk) => (disk, None),
                 Err(broken) => (broken.into_disk(), Some(Errno::EIO)),
             },
             Some(Err(broken)) => (broken.into_disk(), Some(Errno::EIO)),

@@ -5,7 +5,7 @@ use Rattle.fs_layout.specs.declared.inode.Inode.{Inode}
 use Rattle.fs_layout.specs.declared.place.Place.{Place}
 use Rattle.fs_layout.specs.Inode.{FitsInode}
 use Rattle.fs_layout.specs.AclSector.{kept_acl}
-use Rattle.fs_layout.specs.Images.{levels, AccessAcl, DefaultAcl, part, bit, inode_at, inode_bitmap}
+use Rattle.fs_layout.specs.Images.{levels, AccessAcl, DefaultAcl, part, bit, inode_at}
 use Rattle.fs_layout.specs.InodeChanges.{Saves}
 use Rattle.fs_layout.proofs.Consistent.{owned_is_apart}
 use Rattle.fs_layout.proofs.OneAcl.{mode_small}
@@ -36,7 +36,7 @@ pub record IsSavedWith (p : Place) (n : ℕ) (w : Inode) (sector : Inode → ℕ
   pub none : sector (inode_at p new.sectors n) ≡ 0 → TakesSpare p 1 old new
   pub fields : KeepsFields w (inode_at p new.sectors n)
   pub bytes : KeepsBytes old.sectors new.sectors (inode_at p old.sectors n) (inode_at p new.sectors n)
-  pub used : bit new.sectors inode_bitmap n ≡ bit old.sectors inode_bitmap n
+  pub used : bit new.sectors p.inode_bitmap n ≡ bit old.sectors p.inode_bitmap n
 
 -- it follows where the inode as it is saved, x, has sector y for the ACL, and the fields of w
 saved_with : {p : Place} {n y taken : ℕ} {w x : Inode} {t0 t1 t2 : TxnState} (sector : Inode → ℕ) → IsAclSaved p n (inode_at p t0.sectors n) x taken t0 t1 t2 → sector x ≡ y

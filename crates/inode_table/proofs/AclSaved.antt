@@ -4,7 +4,7 @@ use Rattle.fs_layout.specs.declared.inode.Inode.{Inode}
 use Rattle.fs_layout.specs.declared.place.Place.{Place}
 use Rattle.fs_layout.specs.Bytes.{SectorMap}
 use Rattle.fs_layout.specs.Inode.{FitsInode}
-use Rattle.fs_layout.specs.Images.{levels, Part, Block, bit, inode_at, inode_bitmap}
+use Rattle.fs_layout.specs.Images.{levels, Part, Block, bit, inode_at}
 use Rattle.fs_layout.specs.Ownership.{IsConsistent}
 use Rattle.fs_layout.specs.InodeChanges.{Keeps, ChangesBlocks, Saves}
 use Rattle.fs_layout.proofs.Blocks.{fields_change}
@@ -13,6 +13,7 @@ use Rattle.fs_layout.proofs.Consistent.{owned_is_apart, saved_stays_consistent}
 use Rattle.fs_layout.proofs.Parts.{HasNoPointers}
 use Rattle.fs_layout.proofs.Places.{after_map}
 use Rattle.fs_layout.proofs.Saves.{IsSaved}
+use Rattle.fs_layout.proofs.Bits.{inode_has_bit}
 use Rattle.sector_txn.specs.Sectors.{TxnState, SameStore, PutsOnly}
 use Rattle.sector_txn.proofs.TransactionRuns.{changes_joined}
 use Rattle.bit_alloc.specs.Room.{bitmaps}
@@ -31,7 +32,7 @@ bytes_joined first then = record { bytes = λ held h. then.bytes held (first.byt
 pub record IsAclSaved (p : Place) (n : ℕ) (v w : Inode) (taken : ℕ) (t0 t1 t2 : TxnState) : Type 0 where
   pub is : inode_at p t2.sectors n ≡ w
   pub keeps : Keeps t1.sectors t2.sectors w
-  pub bit_same : bit t2.sectors inode_bitmap n ≡ bit t0.sectors inode_bitmap n
+  pub bit_same : bit t2.sectors p.inode_bitmap n ≡ bit t0.sectors p.inode_bitmap n
   pub sound : SameStore t0 t2 → IsSound p t2
   pub touches : {x : ℕ} → PutsOnly (IsForAcl p x) (bitmaps p) 1 t0 t1 → PutsOnly (λ t. t ≡ p.table + n / 4) [] 1 t1 t2 → Touches p n taken 2 t0 t2
   pub bytes : KeepsBytes t0.sectors t2.sectors v (inode_at p t2.sectors n)
@@ -53,17 +54,16 @@ module _ (p : Place) (n : ℕ) (u w : Inode) (at : Part) (taken : ℕ) (t0 t1 t2
   pub acl_saved : HasNoPointers at → ((k : ℕ) → Block k ≢ at) → u.size ≡ (inode_at p t0.sectors n).size → w.size ≡ u.size
       → IsAclSaved p n (inode_at p t0.sectors n) w taken t0 t1 t2
   acl_saved ne none size same =
-      let few = sound.consistent.place.most_inodes in
       let from = after_map sound.consistent.place in
       let mid = bytes_joined (stored_keeps_bytes st ne none size) (fields_keep_bytes t1.sectors u w same numbers) in
       record {
         is = saved.1.is;
         keeps = saved.1.keeps;
-        bit_same = saved.1.inode_bits n (omega (arith, few, lt));
+        bit_same = saved.1.inode_bits n (inode_has_bit sound.consistent.place n lt);
         sound = λ store. sound_after sound store saved.0 (λ m low none. saved.1.inode_bits m low);
         touches = λ {x} acl_put inode_put. record {
           puts = changes_joined (puts_acl p n acl_put) (puts_inode p n inode_put);
-          super = saves.others 0 (λ e. omega (arith, from, e)) ∙ st.low 0 (omega arith);
+          super = saves.others 0 (λ e. omega (arith, from, e)) ∙ st.low 0 (omega (arith, from));
           inode = saved.1.changes;
           free = let a = st.free in omega (arith, a, saved.1.free);
         };

@@ -7,7 +7,7 @@ use Rattle.fs_layout.specs.declared.inode.Inode.{Inode}
 use Rattle.fs_layout.specs.declared.place.Place.{Place}
 use Rattle.fs_layout.specs.Bytes.{SectorMap}
 use Rattle.fs_layout.specs.Inode.{free_inode}
-use Rattle.fs_layout.specs.Images.{AccessAcl, DefaultAcl, part, Holds, bit, free_sectors, inode_at, inode_bitmap}
+use Rattle.fs_layout.specs.Images.{AccessAcl, DefaultAcl, part, Holds, inode_map_bits, bit, free_sectors, inode_at}
 use Rattle.fs_layout.specs.Ownership.{IsConsistent}
 use Rattle.fs_layout.specs.InodeChanges.{IsOwnedApart, MarksInode, ChangesBlocks, ChangesInode, Saves}
 use Rattle.fs_layout.proofs.Composes.{apart_after, both_changes, both_inodes}
@@ -36,7 +36,7 @@ without_acls image v len h = record {
 
 module _ {p : Place} {n : ℕ} {m0 m1 m2 m3 m4 : SectorMap}
     (h : IsConsistent p m0) (lt : n < p.inodes) (empty : Holds m0 (inode_at p m0 n) [])
-    (mark : MarksInode n m0 m1) (access : GivesBack p (inode_at p m0 n).acl m1 m2) (default : GivesBack p (inode_at p m0 n).default_acl m2 m3)
+    (mark : MarksInode p n m0 m1) (access : GivesBack p (inode_at p m0 n).acl m1 m2) (default : GivesBack p (inode_at p m0 n).default_acl m2 m3)
     (saves : Saves p n free_inode m3 m4) where
   first : ChangesInode p n m0 m1 × (inode_at p m1 n ≡ inode_at p m0 n)
   first = marks_change h lt mark
@@ -82,7 +82,7 @@ module _ {p : Place} {n : ℕ} {m0 m1 m2 m3 m4 : SectorMap}
   freed_is = saved.1.is
 
   -- the inode bitmap is as the mark left it
-  pub freed_bits : (m : ℕ) → m < 4096 → bit m4 inode_bitmap m ≡ bit m1 inode_bitmap m
+  pub freed_bits : (m : ℕ) → m < inode_map_bits p → bit m4 p.inode_bitmap m ≡ bit m1 p.inode_bitmap m
   freed_bits = saved.1.inode_bits
 
   pub freed_free_sectors : free_sectors p m0 ≤ free_sectors p m4
@@ -93,4 +93,5 @@ module _ {p : Place} {n : ℕ} {m0 m1 m2 m3 m4 : SectorMap}
   pub freed_super : m4 0 ≡ m0 0
   freed_super =
       let from = after_map h.place in
-      saves.others 0 (λ e. omega (arith, from, e)) ∙ third.low 0 (omega arith) ∙ second.low 0 (omega arith) ∙ mark.others 0 (λ e. omega (arith, e))
+      saves.others 0 (λ e. omega (arith, from, e)) ∙ third.low 0 (omega (arith, from)) ∙ second.low 0 (omega (arith, from))
+      ∙ mark.others 0 (λ i. let past = i.0 in omega (arith, past, from))

@@ -3,8 +3,9 @@ use Rattle.std.proofs.Common.{◌≡◌, ℕ, ◌+◌, ◌/◌, [], sym, subst, 
 use Rattle.fs_layout.specs.declared.inode.Inode.{Inode}
 use Rattle.fs_layout.specs.declared.place.Place.{Place}
 use Rattle.fs_layout.specs.Inode.{free_inode}
-use Rattle.fs_layout.specs.Images.{Holds, bit, inode_at, inode_bitmap}
+use Rattle.fs_layout.specs.Images.{Holds, bit, inode_at}
 use Rattle.fs_layout.specs.InodeChanges.{MarksInode, Saves}
+use Rattle.fs_layout.proofs.Bits.{inode_has_bit}
 use Rattle.sector_txn.specs.Sectors.{TxnState, IsUnchanged, PutsOnly}
 use Rattle.sector_txn.proofs.TransactionRuns.{changes_joined}
 use Rattle.bit_alloc.specs.declared.bitmap.Bitmap.TheVariants.{Inodes}
@@ -23,11 +24,11 @@ pub record IsFreed (p : Place) (n : ℕ) (old new : TxnState) : Type 0 where
   pub touches : Touches p n 0 1 old new
   pub puts : PutsOnly (IsForSaving p n 0) (bitmaps p) 1 old new
   pub free : inode_at p new.sectors n ≡ free_inode
-  pub unused : bit new.sectors inode_bitmap n ≡ false
+  pub unused : bit new.sectors p.inode_bitmap n ≡ false
 
 -- ---- what has been put so far
 module _ (p : Place) (n : ℕ) (t0 t1 t2 : TxnState) (sound : IsSound p t0) (number : IsNumber p Inodes n)
-    (read : IsUnchanged t0 t1) (bit_put : PutsOnly (λ t. t ≡ inode_bitmap + n / 4096) (bitmaps p) 0 t1 t2) where
+    (read : IsUnchanged t0 t1) (bit_put : PutsOnly (λ t. t ≡ p.inode_bitmap + n / 4096) (bitmaps p) 0 t1 t2) where
   pub puts_2 : PutsOnly (IsForAcl p 0) (bitmaps p) 0 t0 t2
   puts_2 = changes_joined (puts_nothing p read) (puts_inode_map n sound.consistent.place number.1 bit_put)
 
@@ -49,8 +50,8 @@ module _ (p : Place) (n : ℕ) (v : Inode) (t0 t1 t2 t3 t4 t5 : TxnState) (sound
     (given : GivesNumber p Inodes n t1.sectors t2.sectors) (access : GivesBack p v.acl t2.sectors t3.sectors)
     (default : GivesBack p v.default_acl t3.sectors t4.sectors) (saves : Saves p n free_inode t4.sectors t5.sectors)
     (puts : PutsOnly (IsForSaving p n 0) (bitmaps p) 1 t0 t5) where
-  mark : MarksInode n t0.sectors t2.sectors
-  mark = subst (λ m. MarksInode n m t2.sectors) (sym (map_unchanged read)) given.mark
+  mark : MarksInode p n t0.sectors t2.sectors
+  mark = subst (λ m. MarksInode p n m t2.sectors) (sym (map_unchanged read)) given.mark
 
   access_back : GivesBack p (inode_at p t0.sectors n).acl t2.sectors t3.sectors
   access_back = subst (λ (u : Inode). GivesBack p u.acl t2.sectors t3.sectors) is access
@@ -61,11 +62,9 @@ module _ (p : Place) (n : ℕ) (v : Inode) (t0 t1 t2 t3 t4 t5 : TxnState) (sound
   free_is : inode_at p t5.sectors n ≡ free_inode
   free_is = freed_is sound.consistent number.1 empty mark access_back default_back saves
 
-  free_unused : bit t5.sectors inode_bitmap n ≡ false
+  free_unused : bit t5.sectors p.inode_bitmap n ≡ false
   free_unused =
-      let few = sound.consistent.place.most_inodes in
-      let lt = number.1 in
-      freed_bits sound.consistent number.1 empty mark access_back default_back saves n (omega (arith, few, lt)) ∙ given.clear
+      freed_bits sound.consistent number.1 empty mark access_back default_back saves n (inode_has_bit sound.consistent.place n number.1) ∙ given.clear
 
   free_sound : IsSound p t5
   free_sound =

@@ -8,7 +8,7 @@ use Rattle.fs_layout.specs.declared.place.Place.{Place}
 use Rattle.fs_layout.specs.Bytes.{SectorMap, zeros}
 use Rattle.fs_layout.specs.Inode.{FitsInode, free_inode}
 use Rattle.fs_layout.specs.AclSector.{kept_acl}
-use Rattle.fs_layout.specs.Images.{AccessAcl, DefaultAcl, Holds, part, bit, free_sectors, inode_at, inode_bitmap}
+use Rattle.fs_layout.specs.Images.{AccessAcl, DefaultAcl, Holds, part, bit, free_sectors, inode_at}
 use Rattle.fs_layout.specs.Ownership.{IsConsistent}
 use Rattle.fs_layout.specs.InodeChanges.{IsOwnedApart, ChangesBlocks, ChangesInode, Saves}
 use Rattle.fs_layout.proofs.Blocks.{fields_change}
@@ -21,6 +21,7 @@ use Rattle.fs_layout.proofs.Places.{after_map}
 use Rattle.fs_layout.proofs.Pointers.{turns_acl, turns_default_acl}
 use Rattle.fs_layout.proofs.Saves.{IsSaved}
 use Rattle.fs_layout.proofs.SplicedBytes.{get_or-zeros}
+use Rattle.fs_layout.proofs.Bits.{inode_has_bit}
 use Rattle.sector_txn.specs.Sectors.{TxnState, SameStore, PutsOnly}
 use Rattle.sector_txn.proofs.TransactionRuns.{changes_joined}
 use Rattle.bit_alloc.specs.declared.bitmap.TakeFault.{TakeFault}
@@ -54,7 +55,7 @@ blank_has_no_sector v blank = record {
 -- what has come of it
 pub record IsMade (p : Place) (n : ℕ) (inode : Inode) (a : AccessList) (d : Option AccessList) (old new : TxnState) : Type 0 where
   pub sound : IsSound p new
-  pub used : IsTrue (bit new.sectors inode_bitmap n)
+  pub used : IsTrue (bit new.sectors p.inode_bitmap n)
   pub touches : Touches p n (acls_take a d) 3 old new
   pub fields : KeepsFields (with_acl_bits inode a) (inode_at p new.sectors n)
   pub empty : Holds new.sectors (inode_at p new.sectors n) []
@@ -85,7 +86,7 @@ too_few_for_default p old new a d content left is few =
 
 -- ---- what has been put so far
 module _ (p : Place) (n : ℕ) (t0 t1 : TxnState) (sound : IsSound p t0) (lt : n < p.inodes)
-    (bit_put : PutsOnly (λ t. t ≡ inode_bitmap + n / 4096) (bitmaps p) 0 t0 t1) where
+    (bit_put : PutsOnly (λ t. t ≡ p.inode_bitmap + n / 4096) (bitmaps p) 0 t0 t1) where
   pub made_puts_1 : PutsOnly (IsSectorFor p n) (bitmaps p) 0 t0 t1
   made_puts_1 = puts_inode_bit n n sound.consistent.place lt bit_put
 
@@ -161,11 +162,9 @@ module _ (p : Place) (n : ℕ) (inode : Inode) (a : AccessList) (y : ℕ) (t0 t1
         sound_after sound store saved.0
         (λ m few none. saved.1.inode_bits m few ∙ taken.mark.bits m few (λ e. none (subst (IsNumber p Inodes) (sym e) number)))
 
-    made_used : IsTrue (bit t4.sectors inode_bitmap n)
+    made_used : IsTrue (bit t4.sectors p.inode_bitmap n)
     made_used =
-        let few = sound.consistent.place.most_inodes in
-        let lt = taken.free.1 in
-        saved.1.inode_bits n (omega (arith, few, lt)) ∙ taken.set
+        saved.1.inode_bits n (inode_has_bit sound.consistent.place n taken.free.1) ∙ taken.set
 
     made_touches : PutsOnly (IsSectorFor p n) (bitmaps p) 3 t0 t4 → Touches p n (acls_take a d) 3 t0 t4
     made_touches puts =
@@ -174,7 +173,8 @@ module _ (p : Place) (n : ℕ) (inode : Inode) (a : AccessList) (y : ℕ) (t0 t1
         let g = third.free in
         record {
           puts = puts;
-          super = saves.others 0 (λ e. omega (arith, from, e)) ∙ third.low 0 (omega arith) ∙ second.low 0 (omega arith) ∙ taken.mark.others 0 (λ e. omega (arith, e));
+          super = saves.others 0 (λ e. omega (arith, from, e)) ∙ third.low 0 (omega (arith, from)) ∙ second.low 0 (omega (arith, from))
+              ∙ taken.mark.others 0 (λ i. let past = i.0 in omega (arith, past, from));
           inode = both_inodes now.place first.0 saved.1.changes;
           free = omega (arith, f, g, saved.1.free);
         }

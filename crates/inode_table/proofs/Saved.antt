@@ -4,7 +4,7 @@ use Rattle.fs_layout.specs.declared.inode.Inode.{Inode}
 use Rattle.fs_layout.specs.declared.place.Place.{Place}
 use Rattle.fs_layout.specs.Bytes.{SectorMap}
 use Rattle.fs_layout.specs.Inode.{FitsInode}
-use Rattle.fs_layout.specs.Images.{bit, inode_at, inode_bitmap, levels}
+use Rattle.fs_layout.specs.Images.{bit, inode_at, levels}
 use Rattle.fs_layout.specs.Ownership.{IsConsistent}
 use Rattle.fs_layout.specs.InodeChanges.{Keeps, ChangesBlocks, Saves}
 use Rattle.fs_layout.proofs.Blocks.{fields_change}
@@ -13,6 +13,7 @@ use Rattle.fs_layout.proofs.Held.{NeedsPointers, HasSameBlocks, Holds-again, Has
 use Rattle.fs_layout.proofs.Parts.{number_on_alike, owns_acl, owns_default_acl, Holds-kept, HasNoHole-kept}
 use Rattle.fs_layout.proofs.Places.{after_map}
 use Rattle.fs_layout.proofs.Saves.{IsSaved}
+use Rattle.fs_layout.proofs.Bits.{inode_has_bit}
 use Rattle.sector_txn.specs.Sectors.{TxnState, SameStore, PutsOnly}
 use Rattle.bit_alloc.specs.Inodes.{IsSound, Touches, KeepsBytes, KeepsAccess, KeepsDefault, KeepsAcls}
 use Rattle.inode_table.specs.Inodes.{DiffersInAttributes}
@@ -96,5 +97,5 @@ module _ (p : Place) (n : ℕ) (w : Inode) (old new : TxnState)
       subst (λ (u : Inode). KeepsAcls old.sectors new.sectors (inode_at p old.sectors n) u) (sym saved.1.is)
       (record { access = saved_keeps_access access saved.1.keeps; default = saved_keeps_default default saved.1.keeps })
 
-  pub attributes_keep_bit : n < 4096 → bit new.sectors inode_bitmap n ≡ bit old.sectors inode_bitmap n
-  attributes_keep_bit few = saved.1.inode_bits n few
+  pub attributes_keep_bit : bit new.sectors p.inode_bitmap n ≡ bit old.sectors p.inode_bitmap n
+  attributes_keep_bit = saved.1.inode_bits n (inode_has_bit sound.consistent.place n lt)

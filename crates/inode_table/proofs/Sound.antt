@@ -2,7 +2,7 @@
 use Rattle.std.proofs.Common.{◌≡◌, ℕ, ◌+◌, ◌/◌, ◌<◌, ◌≤◌, List, [], refl, arith, inl, inr}
 use Rattle.fs_layout.specs.declared.place.Place.{Place}
 use Rattle.fs_layout.specs.Place.{IsPlace}
-use Rattle.fs_layout.specs.Images.{IsData, map_bits, inode_bitmap, block_bitmap}
+use Rattle.fs_layout.specs.Images.{IsData, map_bits}
 use Rattle.fs_layout.proofs.Places.{after_map}
 use Rattle.sector_txn.specs.Sectors.{TxnState, IsUnchanged, IsPut, PutsOnly}
 use Rattle.sector_txn.proofs.TransactionRuns.{changes_nothing, changes_read, changes_put, changes_joined, changes_beside, changes_weaker}
@@ -16,9 +16,11 @@ pub puts_data : (p : Place) (shared : List ℕ) {s : ℕ} {x : List ℕ} {old ne
 puts_data p shared {s} put at = changes_put {R = IsForAcl p s} (changes_nothing shared) put (inr (at, refl))
 
 -- a sector of the block bitmap is put
-pub puts_bitmap : (p : Place) (x : ℕ) {s : ℕ} {old new : TxnState} → s < map_bits p → PutsOnly (λ t. t ≡ block_bitmap + s / 4096) (bitmaps p) 0 old new
+pub puts_bitmap : (p : Place) (x : ℕ) {s : ℕ} {old new : TxnState} → IsPlace p → s < map_bits p → PutsOnly (λ t. t ≡ p.block_bitmap + s / 4096) (bitmaps p) 0 old new
     → PutsOnly (IsForAcl p x) (bitmaps p) 0 old new
-puts_bitmap p x few puts = changes_weaker {Q = IsForAcl p x} (λ t e. inl (omega (arith, e), omega (arith, e, few))) (omega arith) puts
+puts_bitmap p x place few puts =
+    let after = after_map place in
+    changes_weaker {Q = IsForAcl p x} (λ t e. inl (omega (arith, e, after), omega (arith, e, few))) (omega arith) puts
 
 -- a sector is read and put
 pub reads_and_puts : {n : ℕ} {x : List ℕ} {old mid new : TxnState} → IsUnchanged old mid → IsPut n x mid new → PutsOnly (λ t. t ≡ n) [] 1 old new
@@ -61,13 +63,13 @@ puts_saved p n x puts =
     changes_weaker {Q = IsSectorFor p n} (λ t way. elim way [ inl e ↦ inr (inl e) | inr (inl map) ↦ inl map | inr (inr at) ↦ inr (inr at.0) ]) (omega arith) puts
 
 -- the sector of the inode bitmap is that of a bitmap
-pub puts_inode_map : {p : Place} (m : ℕ) {old new : TxnState} → IsPlace p → m < p.inodes → PutsOnly (λ t. t ≡ inode_bitmap + m / 4096) (bitmaps p) 0 old new
+pub puts_inode_map : {p : Place} (m : ℕ) {old new : TxnState} → IsPlace p → m < p.inodes → PutsOnly (λ t. t ≡ p.inode_bitmap + m / 4096) (bitmaps p) 0 old new
     → PutsOnly (IsForAcl p 0) (bitmaps p) 0 old new
 puts_inode_map {p} m place lt puts =
     let from = after_map place in
-    let few = place.most_inodes in
+    let few = place.inode_bits in
     changes_weaker {Q = IsForAcl p 0} (λ t e. inl (omega (arith, e), omega (arith, e, from, few, lt))) (omega arith) puts
 
-pub puts_inode_bit : {p : Place} (n m : ℕ) {old new : TxnState} → IsPlace p → m < p.inodes → PutsOnly (λ t. t ≡ inode_bitmap + m / 4096) (bitmaps p) 0 old new
+pub puts_inode_bit : {p : Place} (n m : ℕ) {old new : TxnState} → IsPlace p → m < p.inodes → PutsOnly (λ t. t ≡ p.inode_bitmap + m / 4096) (bitmaps p) 0 old new
     → PutsOnly (IsSectorFor p n) (bitmaps p) 0 old new
 puts_inode_bit {p} n m place lt puts = puts_acl p n (puts_inode_map m place lt puts)

@@ -31,7 +31,7 @@ pub record HasStored (p : Place) (v w : Inode) (at : Part) (taken : ℕ) (old ne
   -- what the inode has for something else is the same
   pub others : (s : ℕ) → (o : Owns old v s) → o.at ≢ at → new s ≡ old s
   pub turns : (other : Part) → other ≢ at → part new w other ≡ part old v other
-  pub low : (s : ℕ) → s < 128 → new s ≡ old s
+  pub low : (s : ℕ) → s < p.inode_bitmap → new s ≡ old s
   pub free : free_sectors p old ≤ free_sectors p new + taken
 
 module _ {p : Place} {v w : Inode} {at : Part} {x : ℕ} {old new : SectorMap}
@@ -69,7 +69,7 @@ module _ {p : Place} {v w : Inode} {at : Part} {x : ℕ} {old new : SectorMap}
         changes = loses place apart some t (releases_alone place apart g.mark g.clear);
         others = λ s o ne. marks_keeps place apart g.mark s o;
         turns = t.others;
-        low = λ s lt. g.mark.others s (λ b. let l = b.0 in omega (arith, l, lt));
+        low = λ s lt. g.mark.others s (λ b. let l = b.0 in let a = after_map place in omega (arith, l, a, lt));
         free = let f = g.count (apart.each x owned).2 in omega (arith, f);
       }
 
@@ -86,7 +86,7 @@ module _ {p : Place} {v w : Inode} {at : Part} {x : ℕ} {old new : SectorMap}
             let from = after_map place in
             let to = before_data place in
             let d = k.free.0 in
-            put.others s (λ e. omega (arith, d, from, to, lt, e)) ∙ k.mark.others s (λ b. let l = b.0 in omega (arith, l, lt));
+            put.others s (λ e. omega (arith, d, from, to, lt, e)) ∙ k.mark.others s (λ b. let l = b.0 in omega (arith, l, from, lt));
         free = let f = gains_free_sectors place a in omega (arith, f);
       }
 

@@ -18,7 +18,7 @@ use Rattle.fs_layout.proofs.Saves.{in_table, put_saves}
 pub inode_on_disk : {p : Place} {n size at : ℕ} → at ≡ p.table + n / 4 → IsPlace p → n < p.inodes → p.sectors ≤ size → at < size
 inode_on_disk {p} {n} is place lt disk = let i = in_table p n place lt in let d = place.data_sectors in omega (arith, i, d, disk, is)
 
-pub inode_above : {p : Place} (n : ℕ) → IsPlace p → 128 ≤ p.table + n / 4
+pub inode_above : {p : Place} (n : ℕ) → IsPlace p → p.inode_bitmap ≤ p.table + n / 4
 inode_above n place = let a = after_map place in omega (arith, a)
 
 -- a sector of the table is read, and the inode in it: it is valid

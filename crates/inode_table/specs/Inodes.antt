@@ -7,7 +7,7 @@ use Rattle.fs_layout.specs.declared.inode.Inode.{Inode}
 use Rattle.fs_layout.specs.declared.place.Place.{Place}
 use Rattle.fs_layout.specs.Bytes.{SectorMap}
 use Rattle.fs_layout.specs.Inode.{free_inode}
-use Rattle.fs_layout.specs.Images.{bit, inode_bitmap, inode_at}
+use Rattle.fs_layout.specs.Images.{bit, inode_at}
 
 -- the inode stands in the table
 abbrev pub IsInodeOf : Place → SectorMap → Inode → Type 0
@@ -19,4 +19,4 @@ DiffersInAttributes v w = w ≡ (record v { mode = w.mode; uid = w.uid; gid = w.
 
 -- an inode whose bit is clear is free
 abbrev pub ClearAreFree : Place → SectorMap → Type 0
-ClearAreFree p image = (n : ℕ) → n < p.inodes → bit image inode_bitmap n ≡ false → inode_at p image n ≡ free_inode
+ClearAreFree p image = (n : ℕ) → n < p.inodes → bit image p.inode_bitmap n ≡ false → inode_at p image n ≡ free_inode

@@ -14,7 +14,7 @@ use Rattle.bit_alloc.specs.Bitmaps.{TakesNumber, GivesNumber}
 
 -- a sector of a bitmap, or the data sector x, which the ACL has afterwards; where it has none, x is 0 and no data sector
 abbrev pub IsForAcl : Place → ℕ → ℕ → Type 0
-IsForAcl p x s = ((128 ≤ s) × (s < p.table)) ⊎ (IsData p s × (s ≡ x))
+IsForAcl p x s = ((p.inode_bitmap ≤ s) × (s < p.table)) ⊎ (IsData p s × (s ≡ x))
 
 -- one of these, or that of inode n
 abbrev pub IsForSaving : Place → ℕ → ℕ → ℕ → Type 0

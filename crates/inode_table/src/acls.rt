@@ -5,7 +5,7 @@ ghost use Rattle.std.specs.Option.{option_copied};
 ghost use Rattle.posix_acl.specs.AccessList.{AccessList};
 ghost use Rattle.fs_layout.specs.Inode.{FitsInode};
 ghost use Rattle.fs_layout.specs.AclSector.{kept_acl};
-ghost use Rattle.fs_layout.specs.Images.{bit, free_sectors, inode_at, inode_bitmap};
+ghost use Rattle.fs_layout.specs.Images.{bit, free_sectors, inode_at};
 ghost use Rattle.sector_txn.specs.Sectors.{SameStore, IsUnchanged, PutsOnly};
 ghost use Rattle.bit_alloc.specs.Faults.{HasCauseOf};
 ghost use Rattle.bit_alloc.specs.Room.{bitmaps, HasSpare, TakesSpare};
@@ -101,7 +101,7 @@ pub fn save_acl<S: Sectors>(
     ensures access { OnOk result (HasAcl (S.state s.new).sectors (inode_at place (S.state s.new).sectors n) acl.now) }
     ensures default { OnOk result (KeepsDefault (S.state s.old).sectors (S.state s.new).sectors
         (inode_at place (S.state s.old).sectors n) (inode_at place (S.state s.new).sectors n)) }
-    ensures used { OnOk result (bit (S.state s.new).sectors inode_bitmap n ≡ bit (S.state s.old).sectors inode_bitmap n) }
+    ensures used { OnOk result (bit (S.state s.new).sectors place.inode_bitmap n ≡ bit (S.state s.old).sectors place.inode_bitmap n) }
     ensures full { IfErr result (λ e. e ≡ TakeFault.Full
         → free_sectors place (S.state s.old).sectors < acl_takes inode.now.acl (kept_acl acl.now)) }
     ensures cause { HasCauseOf TakeFault.DiskFault (S.state s.old).disk (S.state s.new).disk result }
@@ -146,7 +146,7 @@ pub fn save_default_acl<S: Sectors>(
         (inode_at place (S.state s.old).sectors n) (inode_at place (S.state s.new).sectors n)) }
     ensures default { OnOk result (HasDefaultAcl (S.state s.new).sectors (inode_at place (S.state s.new).sectors n)
         (option_copied acl.entry)) }
-    ensures used { OnOk result (bit (S.state s.new).sectors inode_bitmap n ≡ bit (S.state s.old).sectors inode_bitmap n) }
+    ensures used { OnOk result (bit (S.state s.new).sectors place.inode_bitmap n ≡ bit (S.state s.old).sectors place.inode_bitmap n) }
     ensures full { IfErr result (λ e. e ≡ TakeFault.Full
         → free_sectors place (S.state s.old).sectors < acl_takes inode.now.default_acl (option_copied acl.entry)) }
     ensures cause { HasCauseOf TakeFault.DiskFault (S.state s.old).disk (S.state s.new).disk result }

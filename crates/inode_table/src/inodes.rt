@@ -6,7 +6,7 @@ ghost use Rattle.sector_disk.specs.Disk.{HasCause};
 ghost use Rattle.fs_layout.specs.Header.{log_end};
 ghost use Rattle.fs_layout.specs.Place.{IsPlace};
 ghost use Rattle.fs_layout.specs.Inode.{FitsInode, free_inode};
-ghost use Rattle.fs_layout.specs.Images.{HasWholeTables, Holds, bit, free_sectors, inode_at, inode_bitmap};
+ghost use Rattle.fs_layout.specs.Images.{HasWholeTables, Holds, bit, free_sectors, inode_at};
 ghost use Rattle.fs_layout.specs.InodeChanges.{Saves};
 ghost use Rattle.sector_txn.specs.Sectors.{SameStore, IsUnchanged, PutsOnly};
 ghost use Rattle.bit_alloc.specs.declared.bitmap.Bitmap.TheVariants.{Inodes};
@@ -38,7 +38,7 @@ pub fn load<S: Sectors>(s: &mut S, place: Place, n: u32) -> Result<Inode, DiskFa
     let at = place.inode_offset(n);
     let read = s.read_with(
         place.inode_sector(n),
-        |content| Inode::read_from(content, at),
+        |content| Inode::read_any(content, at),
     )?;
     let Ok(inode) = read else { unreachable!() };
     Ok(inode)
@@ -54,7 +54,7 @@ pub fn write_inode<S: Sectors>(
 ) -> Result<(), DiskFault>
     requires place { IsPlace place }
     requires on_disk { place.sectors ≤ (S.state s.old).disk.size }
-    requires header { log_end (S.state s.old).header ≤ inode_bitmap }
+    requires header { log_end (S.state s.old).header ≤ place.inode_bitmap }
     requires tables { HasWholeTables place (S.state s.old).sectors }
     requires below { n < place.inodes }
     requires fits { FitsInode inode.now }
@@ -87,7 +87,7 @@ pub fn save<S: Sectors>(s: &mut S, place: Place, n: u32, inode: &Inode) -> Resul
         (inode_at place (S.state s.old).sectors n) (inode_at place (S.state s.new).sectors n)) }
     ensures acls { OnOk result (KeepsAcls (S.state s.old).sectors (S.state s.new).sectors
         (inode_at place (S.state s.old).sectors n) (inode_at place (S.state s.new).sectors n)) }
-    ensures used { OnOk result (bit (S.state s.new).sectors inode_bitmap n ≡ bit (S.state s.old).sectors inode_bitmap n) }
+    ensures used { OnOk result (bit (S.state s.new).sectors place.inode_bitmap n ≡ bit (S.state s.old).sectors place.inode_bitmap n) }
     ensures cause { HasCause (S.state s.old).disk (S.state s.new).disk result }
 {
     write_inode(s, place, n, inode)?;
@@ -112,7 +112,7 @@ pub fn new_inode<S: Sectors>(
     ensures store { SameStore (S.state s.old) (S.state s.new) }
     ensures sound { OnOk result (IsSound place (S.state s.new)) }
     ensures free { IfOk result (IsFreeNumber place Inodes (S.state s.old).sectors) }
-    ensures used { IfOk result (λ n. IsTrue (bit (S.state s.new).sectors inode_bitmap n)) }
+    ensures used { IfOk result (λ n. IsTrue (bit (S.state s.new).sectors place.inode_bitmap n)) }
     ensures touches { IfOk result (λ n. Touches place n (acls_take access.now (option_copied default.entry)) 3
         (S.state s.old) (S.state s.new)) }
     ensures fields { IfOk result (λ n. KeepsFields (with_acl_bits inode.now access.now) (inode_at place (S.state s.new).sectors n)) }
@@ -149,7 +149,7 @@ pub fn free_inode<S: Sectors>(s: &mut S, place: Place, n: u32) -> Result<(), Dis
     ensures touches { OnOk result (Touches place n 0 1 (S.state s.old) (S.state s.new)) }
     ensures puts { OnOk result (PutsOnly (IsForSaving place n 0) (bitmaps place) 1 (S.state s.old) (S.state s.new)) }
     ensures free { OnOk result (inode_at place (S.state s.new).sectors n ≡ free_inode) }
-    ensures unused { OnOk result (bit (S.state s.new).sectors inode_bitmap n ≡ false) }
+    ensures unused { OnOk result (bit (S.state s.new).sectors place.inode_bitmap n ≡ false) }
     ensures cause { HasCause (S.state s.old).disk (S.state s.new).disk result }
 {
     let inode = load(s, place, n)?;

@@ -14,7 +14,7 @@ use Rattle.fs_layout.specs.declared.place.Place.{Place}
 use Rattle.fs_layout.specs.AclSector.{kept_acl}
 use Rattle.fs_layout.specs.Bytes.{SectorMap, IsBytes}
 use Rattle.fs_layout.specs.Inode.{FitsInode, free_inode}
-use Rattle.fs_layout.specs.Images.{Holds, bit, inode_at, inode_bitmap}
+use Rattle.fs_layout.specs.Images.{Holds, bit, inode_at}
 use Rattle.fs_layout.proofs.UsedInodes.{made_fits}
 use Rattle.sector_txn.specs.Sectors.{TxnState}
 use Rattle.bit_alloc.specs.declared.bitmap.Bitmap.TheVariants.{Inodes}
@@ -68,7 +68,7 @@ both_bits bits few = go (bits / S_ISVTX % 2 == 1) (bits / S_ISGID % 2 == 1) refl
     go false false x y = let s : bits / S_ISVTX % 2 ≡ 0 = grind (arith, nat_tests) in let g : bits / S_ISGID % 2 ≡ 0 = grind (arith, nat_tests) in omega (arith, few, s, g)
 
 module _ {p : Place} {n taken more : ℕ} {old new : TxnState} (free : IsFreeNumber p Inodes old.sectors n) (touches : Touches p n taken more old new)
-    (used : IsTrue (bit new.sectors inode_bitmap n)) where
+    (used : IsTrue (bit new.sectors p.inode_bitmap n)) where
   pub directory_taken : (dir uid gid bits : ℕ) → bits < 2048 → (a : AccessList) (default : Option AccessList)
       → KeepsFields (with_acl_bits (new_directory dir uid gid bits) a) (inode_at p new.sectors n) → Holds new.sectors (inode_at p new.sectors n) []
       → HasAcl new.sectors (inode_at p new.sectors n) a → HasDefaultAcl new.sectors (inode_at p new.sectors n) default

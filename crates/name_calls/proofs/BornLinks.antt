@@ -13,7 +13,7 @@ use Rattle.fs_layout.specs.declared.inode.Inode.{Inode}
 use Rattle.fs_layout.specs.declared.inode.Kind.TheVariants.{Link}
 use Rattle.fs_layout.specs.declared.place.Place.{Place}
 use Rattle.fs_layout.specs.Bytes.{SectorMap, IsBytes}
-use Rattle.fs_layout.specs.Images.{Holds, HasNoHole, bit, inode_at, inode_bitmap}
+use Rattle.fs_layout.specs.Images.{Holds, HasNoHole, bit, inode_at}
 use Rattle.sector_txn.specs.Sectors.{TxnState}
 use Rattle.bit_alloc.specs.declared.bitmap.Bitmap.TheVariants.{Inodes}
 use Rattle.bit_alloc.specs.Bitmaps.{IsFreeNumber}
@@ -56,7 +56,7 @@ pub none_free : {a : Type 0} {k : ℕ} → a ⊎ (k ≡ 0) → a ⊎ (k < 1)
 none_free why = elim why [ inl x ↦ inl x | inr none ↦ inr (omega (arith, none)) ]
 
 module _ {p : Place} {n taken more : ℕ} {old new : TxnState} (free : IsFreeNumber p Inodes old.sectors n) (touches : Touches p n taken more old new)
-    (used : IsTrue (bit new.sectors inode_bitmap n)) where
+    (used : IsTrue (bit new.sectors p.inode_bitmap n)) where
   pub link_taken : (dir uid gid : ℕ) (directory : Inode) (cred : Credential) (target : List ℕ) → uid ≡ cred.uid
       → gid ≡ (if directory.mode / S_ISGID % 2 == 1 then directory.gid else cred.gid) → IsNewLink uid gid (inode_at p new.sectors n)
       → HasNoAcls (inode_at p new.sectors n) → Holds new.sectors (inode_at p new.sectors n) target → HasNoHole new.sectors (inode_at p new.sectors n)

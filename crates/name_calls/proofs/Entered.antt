@@ -74,7 +74,7 @@ directory_access t n a d =
     no_file a.node.owner a.node.group a.node.body a.access (ap (λ (u : Node). is_directory u.body) (sym same) ∙ d.directory) a.is
 
 module _ {p : Place} {map : SectorMap} {t : Tree} (h : HoldsTree p map t) (f : Found) (n : ℕ) (v : Inode) (i : IsInodeFound p map f n v) (there : IsThere t n) (cred : Credential) where
-  node : IsNode map t f n v
+  node : IsNode p.version map t f n v
   node = node_of h f n v i.number i.inode there
 
   abbrev other_kind : Demand

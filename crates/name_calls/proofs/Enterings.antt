@@ -48,7 +48,7 @@ module _ {p : Place} {map : SectorMap} {t : Tree} (h : HoldsTree p map t) (n : �
           let free = subst (λ (o : Option Node). HoldsPlaced p map n (option_map (λ m. record { node = m; names = names_of t n; parent = parent t n }) o)) at (h.holds.nodes n below) in
           ap (λ (v : Inode). type_of_kind v.kind) free
       go (Some node) at =
-          ap type_of_kind (stored_kinds_agree map (inode_at p map n) (record { node = node; names = names_of t n; parent = parent t n }) (held_node h n node at))
+          ap type_of_kind (stored_kinds_agree p.version map (inode_at p map n) (record { node = node; names = names_of t n; parent = parent t n }) (held_node h n node at))
           ∙ types_come_back (type_of node.body)
 
   -- past it nothing stands

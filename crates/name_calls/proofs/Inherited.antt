@@ -47,12 +47,12 @@ bits_below true false = omega arith
 bits_below false true = omega arith
 bits_below false false = omega arith
 
-module _ {p : Place} {map : SectorMap} {t : Tree} (h : HoldsTree p map t) {dir : ℕ} {name : List ℕ} (i : IsNewIn t dir name) (v : Inode) (is : v ≡ inode_at p map dir) where
+module _ {p : Place} {map : SectorMap} {t : Tree} (h : HoldsTree p map t) {dir : ℕ} {name : List ℕ} (i : IsNewIn p t dir name) (v : Inode) (is : v ≡ inode_at p map dir) where
   abbrev node : Node
   node = i.directory.node
 
-  held : HoldsNode map v (record { node = node; names = names_of t dir; parent = parent t dir })
-  held = subst (λ (w : Inode). HoldsNode map w (record { node = node; names = names_of t dir; parent = parent t dir })) (sym is) (held_node h dir node i.directory.is_there)
+  held : HoldsNode p.version map v (record { node = node; names = names_of t dir; parent = parent t dir })
+  held = subst (λ (w : Inode). HoldsNode p.version map w (record { node = node; names = names_of t dir; parent = parent t dir })) (sym is) (held_node h dir node i.directory.is_there)
 
   it_is : the_node t dir ≡ node
   it_is = the_node_is t dir node i.directory.is_there
@@ -72,7 +72,7 @@ module _ {p : Place} {map : SectorMap} {t : Tree} (h : HoldsTree p map t) {dir :
       ∙ ap (λ (k : ℕ). if (the_directory (the_node t dir)).set_group_id then k else cred.gid) (held.group ∙ sym (ap (λ (u : Node). u.group) it_is))
 
   pub default_held : HasDefaultAcl map v (default_in node.body)
-  default_held = default_says map v node.body i.directory.directory held.body
+  default_held = default_says p.version map v node.body i.directory.directory held.body
 
   default_given : default_in node.body ≡ (the_directory (the_node t dir)).default
   default_given = default_is node.owner node.group node.body i.directory.directory ∙ sym (ap (λ (u : Node). (the_directory u).default) it_is)
@@ -111,13 +111,13 @@ module _ {p : Place} {map : SectorMap} {t : Tree} (h : HoldsTree p map t) {dir :
 
 -- ---- since before reads
 
-module _ (p : Place) {old mid : TxnState} {t : Tree} (h : HoldsTree p old.sectors t) (f : Found) (i : IsNewIn t f.dir f.name) (same : IsUnchanged old mid)
+module _ (p : Place) {old mid : TxnState} {t : Tree} (h : HoldsTree p old.sectors t) (f : Found) (i : IsNewIn p t f.dir f.name) (same : IsUnchanged old mid)
     (name : List ℕ) (named : name ≡ f.name) where
   pub may_then : (cred : Credential) → first_of (make_asked p old.sectors cred t f.dir (f.step - 1)) ≡ None → (u : Tree) × CanMake p mid.sectors u f.dir name
   may_then cred met = (
     t,
     subst (CanMake p mid.sectors t f.dir) (sym named)
-        (kept (λ (m : SectorMap). CanMake p m t f.dir f.name) same (may_make cred (f.step - 1) met h i.directory f.name i.is_name i.is_new)),
+        (kept (λ (m : SectorMap). CanMake p m t f.dir f.name) same (may_make cred (f.step - 1) met h i.directory f.name i.is_name i.short i.is_new)),
   )
 
   pub link_placed : (v : Inode) → v ≡ inode_at p old.sectors f.dir → (cred who : Credential) (target bytes : List ℕ) → who ≡ cred → bytes ≡ target → (new : SectorMap)

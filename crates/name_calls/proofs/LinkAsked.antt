@@ -11,17 +11,18 @@ use Rattle.fs_layout.specs.declared.inode.Inode.{Inode}
 use Rattle.fs_layout.specs.declared.place.Place.{Place}
 use Rattle.fs_layout.specs.Bytes.{SectorMap}
 use Rattle.fs_layout.specs.Images.{inode_at}
+use Rattle.fs_layout.specs.Version.{max_names, max_inode_names}
 use Rattle.fs_model.specs.declared.walk.Found.{Found}
 use Rattle.fs_model.specs.Births.{the_node}
 use Rattle.fs_model.specs.Demands.{Demand, refuse, first_of, permission_on, write_and_search}
-use Rattle.fs_model.specs.Limits.{names_limit, entries_limit, least_free}
+use Rattle.fs_model.specs.Limits.{least_free}
 use Rattle.fs_model.specs.NameCalls.{link_demands}
 use Rattle.fs_model.specs.Nodes.{Node, is_directory, names_in}
 use Rattle.fs_model.specs.Processes.{Process, Desks}
 use Rattle.fs_model.specs.Rules.{is_directory_kind}
 use Rattle.fs_model.specs.Scenes.{is_found, is_special, number, must_be_there}
 use Rattle.fs_model.specs.States.{State}
-use Rattle.fs_model.specs.Trees.{Tree, names_of}
+use Rattle.fs_model.specs.Trees.{Room, Tree, names_of}
 use Rattle.fs_model.proofs.StepsDemands.{first_met, then_met, unrefused, and_false}
 use Rattle.path_walk.specs.Answers.{refused_or}
 use Rattle.path_walk.specs.HeldTrees.{HoldsTree, IsThere}
@@ -45,22 +46,22 @@ module _ (p : Place) (map : SectorMap) (cred : Credential) (t : Tree) (dir step 
   allowed = permission_on cred t dir write_and_search 2 step
 
   abbrev many : Demand
-  many = refuse EMLINK (nat_le names_limit names)
+  many = refuse EMLINK (nat_le (max_inode_names p.version) names)
 
   pub place_denied : Refuses (permission_on cred t dir write_and_search 2 step) (first_of (place_asked p map cred t dir step names))
   place_denied = refuses_first allowed (many ∷ room_asked p map t dir)
 
   module _ (granted : permission_on cred t dir write_and_search 2 step ≡ None) where
-    pub place_many : Refuses (refuse EMLINK (nat_le names_limit names)) (first_of (place_asked p map cred t dir step names))
+    pub place_many : Refuses (refuse EMLINK (nat_le (max_inode_names p.version) names)) (first_of (place_asked p map cred t dir step names))
     place_many = refuses_next allowed (many ∷ room_asked p map t dir) granted (refuses_first many (room_asked p map t dir))
 
-    pub place_full : checked (refuse EMLINK (nat_le names_limit names)) ≡ Ok tt
+    pub place_full : checked (refuse EMLINK (nat_le (max_inode_names p.version) names)) ≡ Ok tt
         → Refuses (first_of (room_asked p map t dir)) (first_of (place_asked p map cred t dir step names))
     place_full few =
         refuses_next allowed (many ∷ room_asked p map t dir) granted
         (refuses_next many (room_asked p map t dir) (demand_met many few) (λ (e : Refusal) is. is))
 
-  pub place_met : permission_on cred t dir write_and_search 2 step ≡ None → checked (refuse EMLINK (nat_le names_limit names)) ≡ Ok tt
+  pub place_met : permission_on cred t dir write_and_search 2 step ≡ None → checked (refuse EMLINK (nat_le (max_inode_names p.version) names)) ≡ Ok tt
       → checked (first_of (room_asked p map t dir)) ≡ Ok tt → first_of (place_asked p map cred t dir step names) ≡ None
   place_met granted few free =
       both_met allowed (many ∷ room_asked p map t dir) granted
@@ -69,10 +70,10 @@ module _ (p : Place) (map : SectorMap) (cred : Credential) (t : Tree) (dir step 
 -- ---- what is to get the name
 
 pub node_found : {p : Place} {map : SectorMap} {t : Tree} {f : Found} {n : ℕ} {v : Inode} → HoldsTree p map t → IsInodeFound p map f n v
-    → ((m : ℕ) → f.ino ≡ Some m → IsThere t m) → IsNode map t f n v
+    → ((m : ℕ) → f.ino ≡ Some m → IsThere t m) → IsNode p.version map t f n v
 node_found {p} {map} {t} {f} {n} {v} h i there = node_of h f n v i.number i.inode (there n i.some)
 
-module _ {p : Place} {map : SectorMap} {t : Tree} {f : Found} {n : ℕ} {v : Inode} (k : IsInodeFound p map f n v) (node : IsNode map t f n v) where
+module _ {p : Place} {map : SectorMap} {t : Tree} {f : Found} {n : ℕ} {v : Inode} (k : IsInodeFound p map f n v) (node : IsNode p.version map t f n v) where
   abbrev kinds_asked : Bool → List Demand
   kinds_asked b = refuse ENOTDIR (f.slash && not b) ∷ refuse EPERM b ∷ []
 
@@ -80,7 +81,7 @@ module _ {p : Place} {map : SectorMap} {t : Tree} {f : Found} {n : ℕ} {v : Ino
       ≡ (refuse ENOTDIR (f.slash && (is_found f && not (is_directory (the_node t (number f)).body)))
       ∷ refuse EPERM (is_found f && is_directory (the_node t (number f)).body) ∷ [])
   kind_says =
-      ap kinds_asked (body_kind_is map v node.node.body node.holds.body)
+      ap kinds_asked (body_kind_is p.version map v node.node.body node.holds.body)
       ∙ ap (λ (u : Node). kinds_asked (is_directory u.body)) (sym node.is)
       ∙ ap (λ (o : Option ℕ). refuse ENOTDIR (f.slash && (is_some o && not (is_directory (the_node t (number f)).body)))
       ∷ refuse EPERM (is_some o && is_directory (the_node t (number f)).body) ∷ []) (sym k.some)
@@ -101,13 +102,13 @@ module _ (t : Tree) (f : Found) where
     pub source_absent : Refuses (must_be_there f) (first_of (source_asked t f))
     source_absent = refuses_others special (must_be_there f ∷ others) (demand_met (first_of special) plain) (refuses_first (must_be_there f) others)
 
-    pub source_other : {p : Place} {map : SectorMap} {n : ℕ} {v : Inode} → IsInodeFound p map f n v → IsNode map t f n v
+    pub source_other : {p : Place} {map : SectorMap} {n : ℕ} {v : Inode} → IsInodeFound p map f n v → IsNode p.version map t f n v
         → Refuses (first_of (refuse ENOTDIR (f.slash && not (is_directory_kind v.kind)) ∷ refuse EPERM (is_directory_kind v.kind) ∷ [])) (first_of (source_asked t f))
     source_other k node =
         refuses_others special (must_be_there f ∷ others) (demand_met (first_of special) plain)
         (refuses_next (must_be_there f) others k.met (λ (e : Refusal) is. ap first_of (sym (kind_says k node)) ∙ is))
 
-  pub source_all_met : checked (first_of (refuse EPERM (is_special f) ∷ [])) ≡ Ok tt → {p : Place} {map : SectorMap} {n : ℕ} {v : Inode} → IsInodeFound p map f n v → IsNode map t f n v
+  pub source_all_met : checked (first_of (refuse EPERM (is_special f) ∷ [])) ≡ Ok tt → {p : Place} {map : SectorMap} {n : ℕ} {v : Inode} → IsInodeFound p map f n v → IsNode p.version map t f n v
       → checked (first_of (refuse ENOTDIR (f.slash && not (is_directory_kind v.kind)) ∷ refuse EPERM (is_directory_kind v.kind) ∷ [])) ≡ Ok tt
       → first_of (source_asked t f) ≡ None
   source_all_met plain {p} {map} {n} {v} k node is =
@@ -138,9 +139,9 @@ module _ {p : Place} {map : SectorMap} {desks : Desks} {q : Process} {f g : Foun
   abbrev last : List Demand
   last =
       permission_on q.cred s.tree g.dir write_and_search 2 (g.step - 1)
-      ∷ refuse EMLINK (nat_le names_limit (names_of s.tree (number f)))
+      ∷ refuse EMLINK (nat_le s.room.names_limit (names_of s.tree (number f)))
       ∷ refuse ENOSPC (nat_lt s.free least_free)
-      ∷ refuse ENOSPC (nat_le entries_limit (length (names_in (the_node s.tree g.dir).body)))
+      ∷ refuse ENOSPC (nat_le s.room.entries_limit (length (names_in (the_node s.tree g.dir).body)))
       ∷ []
 
   pub source_refuses : Refuses (first_of (source_asked s.tree f)) (first_of (link_demands (scene_with s q f g)))
@@ -150,7 +151,7 @@ module _ {p : Place} {map : SectorMap} {desks : Desks} {q : Process} {f g : Foun
   name_refuses met = refuses_others source (name ++ last) met (refuses_some name last)
 
   module _ (source_met : first_of (source_asked s.tree f) ≡ None) (name_met : first_of (link_name_asked g) ≡ None) {n : ℕ} {v : Inode} (k : IsInodeFound p map f n v) where
-    pub source_node : IsNode map s.tree f n v
+    pub source_node : IsNode p.version map s.tree f n v
     source_node = node_of (state_tree i.is_state) f n v k.number k.inode (first_there i n k.some)
 
     -- it is no directory
@@ -170,10 +171,15 @@ module _ {p : Place} {map : SectorMap} {desks : Desks} {q : Process} {f g : Foun
     last_is =
         ap (λ (c : ℕ). place_asked p map q.cred s.tree g.dir (g.step - 1) c) (source_names ∙ ap (names_of s.tree) (sym k.number))
         ∙ ap (λ (c : ℕ). permission_on q.cred s.tree g.dir write_and_search 2 (g.step - 1)
-        ∷ refuse EMLINK (nat_le names_limit (names_of s.tree (number f)))
+        ∷ refuse EMLINK (nat_le (max_inode_names p.version) (names_of s.tree (number f)))
         ∷ refuse ENOSPC (nat_lt c least_free)
-        ∷ refuse ENOSPC (nat_le entries_limit (length (names_in (the_node s.tree g.dir).body)))
+        ∷ refuse ENOSPC (nat_le (max_names p.version) (length (names_in (the_node s.tree g.dir).body)))
         ∷ []) (sym i.is_state.free_is)
+        ∙ ap (λ (r : Room). permission_on q.cred s.tree g.dir write_and_search 2 (g.step - 1)
+        ∷ refuse EMLINK (nat_le r.names_limit (names_of s.tree (number f)))
+        ∷ refuse ENOSPC (nat_lt s.free least_free)
+        ∷ refuse ENOSPC (nat_le r.entries_limit (length (names_in (the_node s.tree g.dir).body)))
+        ∷ []) (sym i.is_state.same_room)
 
     pub place_refuses : Refuses (first_of (place_asked p map q.cred s.tree g.dir (g.step - 1) v.names)) (first_of (link_demands (scene_with s q f g)))
     place_refuses =

@@ -16,6 +16,7 @@ use Rattle.fs_layout.specs.Bytes.{SectorMap}
 use Rattle.fs_layout.specs.Directories.{HasNames}
 use Rattle.fs_layout.specs.Images.{inode_at}
 use Rattle.fs_layout.specs.Maps.{name_cmp, with_entry}
+use Rattle.fs_layout.specs.Version.{max_inode_names}
 use Rattle.fs_layout.proofs.Saves.{inode_kept}
 use Rattle.sector_txn.specs.Sectors.{TxnState}
 use Rattle.fs_model.specs.declared.call.Call.TheVariants.{Link}
@@ -24,7 +25,7 @@ use Rattle.fs_model.specs.declared.walk.Found.{Found}
 use Rattle.fs_model.specs.Births.{the_node}
 use Rattle.fs_model.specs.TreeChanges.{AddName, changed, swept}
 use Rattle.fs_model.specs.Demands.{Demand, refuse, first_of, permission_on, write_and_search}
-use Rattle.fs_model.specs.Limits.{names_limit, entries_limit, least_free}
+use Rattle.fs_model.specs.Limits.{least_free}
 use Rattle.fs_model.specs.NameCalls.{link_demands, link_effect}
 use Rattle.fs_model.specs.Nodes.{Node, is_directory, names_in}
 use Rattle.fs_model.specs.Processes.{Process, Desks, is_open}
@@ -33,7 +34,7 @@ use Rattle.fs_model.specs.Scenes.{number}
 use Rattle.fs_model.specs.Stands.{HoldsAll, placed}
 use Rattle.fs_model.specs.States.{State}
 use Rattle.fs_model.specs.StoredNodes.{Placed, HoldsNode}
-use Rattle.fs_model.specs.Trees.{names_of, parent, IsDirectoryAt}
+use Rattle.fs_model.specs.Trees.{Room, names_of, parent, IsDirectoryAt}
 use Rattle.fs_model.proofs.OneNode.{body_not_free}
 use Rattle.fs_model.proofs.PlacedChanges.{add_held}
 use Rattle.fs_model.proofs.PlacedNodes.{placed_from, placing, placing_other, one_replaced, held_at, node_below}
@@ -77,9 +78,9 @@ pub record IsLinkable (p : Place) (map : SectorMap) (s : State) (q : Process) (f
 abbrev place_demands : State → Process → Found → Found → List Demand
 place_demands s q f g =
     permission_on q.cred s.tree g.dir write_and_search 2 (g.step - 1)
-    ∷ refuse EMLINK (nat_le names_limit (names_of s.tree (number f)))
+    ∷ refuse EMLINK (nat_le s.room.names_limit (names_of s.tree (number f)))
     ∷ refuse ENOSPC (nat_lt s.free least_free)
-    ∷ refuse ENOSPC (nat_le entries_limit (length (names_in (the_node s.tree g.dir).body)))
+    ∷ refuse ENOSPC (nat_le s.room.entries_limit (length (names_in (the_node s.tree g.dir).body)))
     ∷ []
 
 parts : (s : State) (q : Process) (f g : Found) → first_of (link_demands (scene_with s q f g)) ≡ None
@@ -113,7 +114,7 @@ module _ {p : Place} {map : SectorMap} {q : Process} {f g : Found} (s : State) {
 
 module _ {p : Place} {map : SectorMap} {desks : Desks} {q : Process} {f g : Found} {s : State} (i : FindsBoth p map desks q f g s) where
   -- the name is new in a directory
-  pub name_at : first_of (link_name_asked g) ≡ None → IsNameAt s.tree g.dir g.name None
+  pub name_at : first_of (link_name_asked g) ≡ None → IsNameAt s.room s.tree g.dir g.name None
   name_at met = (second_walked i).new (is_link_name g (ap (λ (o : Demand). refused_or {A = Unit {0}} o (Ok tt)) met)).1
 
   pub name_dir : first_of (link_name_asked g) ≡ None → IsDirectoryAt s.tree g.dir
@@ -123,16 +124,17 @@ module _ {p : Place} {map : SectorMap} {desks : Desks} {q : Process} {f g : Foun
     last_met : first_of (place_demands s q f g) ≡ None
     last_met = (parts s q f g l.met).2
 
-    few_are : names_of s.tree n < names_limit
+    few_are : names_of s.tree n < max_inode_names p.version
     few_are =
         let two = then_met (permission_on q.cred s.tree g.dir write_and_search 2 (g.step - 1)) _ last_met in
-        let many : nat_le names_limit (names_of s.tree (number f)) ≡ false =
-        unrefused EMLINK (nat_le names_limit (names_of s.tree (number f))) (first_met (refuse EMLINK (nat_le names_limit (names_of s.tree (number f)))) _ two) in
-        let few : names_of s.tree (number f) < names_limit = grind (arith, nat_tests) in
-        subst (λ (m : ℕ). names_of s.tree m < names_limit) l.inode.number few
+        let many : nat_le s.room.names_limit (names_of s.tree (number f)) ≡ false =
+        unrefused EMLINK (nat_le s.room.names_limit (names_of s.tree (number f))) (first_met (refuse EMLINK (nat_le s.room.names_limit (names_of s.tree (number f)))) _ two) in
+        let few : names_of s.tree (number f) < s.room.names_limit = grind (arith, nat_tests) in
+        subst (λ (r : Room). names_of s.tree n < r.names_limit) i.is_state.same_room
+        (subst (λ (m : ℕ). names_of s.tree m < s.room.names_limit) l.inode.number few)
 
-    pub few_names : v.names < names_limit
-    few_names = subst (λ (m : ℕ). m < names_limit) (sym (source_names i l.source_met l.name_met l.inode)) few_are
+    pub few_names : v.names < max_inode_names p.version
+    few_names = subst (λ (m : ℕ). m < max_inode_names p.version) (sym (source_names i l.source_met l.name_met l.inode)) few_are
 
     pub link_may : MayLink p map s.tree g.dir g.name n
     unfolding name_at name_dir
@@ -140,20 +142,22 @@ module _ {p : Place} {map : SectorMap} {desks : Desks} {q : Process} {f g : Foun
         let x = name_at l.name_met in
         let node = source_node i l.source_met l.name_met l.inode in
         let two = then_met (permission_on q.cred s.tree g.dir write_and_search 2 (g.step - 1)) _ last_met in
-        let three = then_met (refuse EMLINK (nat_le names_limit (names_of s.tree (number f)))) _ two in
+        let three = then_met (refuse EMLINK (nat_le s.room.names_limit (names_of s.tree (number f)))) _ two in
         let low : nat_lt s.free least_free ≡ false = unrefused ENOSPC (nat_lt s.free least_free) (first_met (refuse ENOSPC (nat_lt s.free least_free)) _ three) in
         let four = then_met (refuse ENOSPC (nat_lt s.free least_free)) _ three in
-        let full : nat_le entries_limit (length (names_in (the_node s.tree g.dir).body)) ≡ false =
-        unrefused ENOSPC (nat_le entries_limit (length (names_in (the_node s.tree g.dir).body)))
-        (first_met (refuse ENOSPC (nat_le entries_limit (length (names_in (the_node s.tree g.dir).body)))) None four) in
-        let some : length (names_in (the_node s.tree g.dir).body) < entries_limit = grind (arith, nat_tests) in
+        let full : nat_le s.room.entries_limit (length (names_in (the_node s.tree g.dir).body)) ≡ false =
+        unrefused ENOSPC (nat_le s.room.entries_limit (length (names_in (the_node s.tree g.dir).body)))
+        (first_met (refuse ENOSPC (nat_le s.room.entries_limit (length (names_in (the_node s.tree g.dir).body)))) None four) in
+        let some : length (names_in (the_node s.tree g.dir).body) < s.room.entries_limit = grind (arith, nat_tests) in
         let enough : least_free ≤ s.free = grind (arith, nat_tests) in
         record {
           directory = name_dir l.name_met;
           is_name = x.is_name;
+          short = subst (λ (r : Room). length g.name ≤ r.name_limit) i.is_state.same_room x.short;
           bytes = x.bytes;
           is_new = x.leads;
-          has_room = subst (λ (u : Node). length (names_in u.body) < entries_limit) (the_node_is s.tree g.dir x.node x.stands) some;
+          has_room = subst (λ (r : Room). length (names_in x.node.body) < r.entries_limit) i.is_state.same_room
+              (subst (λ (u : Node). length (names_in u.body) < s.room.entries_limit) (the_node_is s.tree g.dir x.node x.stands) some);
           enough = subst (λ (k : ℕ). least_free ≤ k) i.is_state.free_is enough;
           target = node.node;
           there = node.at;
@@ -188,18 +192,26 @@ module _ {p : Place} (old : TxnState) {desks : Desks} {s : State} (at : IsStateO
       let both : true ≡ false = sym may.directory.directory ∙ ap (λ (u : Node). is_directory u.body) same ∙ may.no_directory in
       cc
 
-  target_held : HoldsNode old.sectors (inode_at p old.sectors n) is_target
+  target_held : HoldsNode p.version old.sectors (inode_at p old.sectors n) is_target
   target_held = held_node (state_tree at) n may.target may.there
 
   pub target_used : (inode_at p old.sectors n).kind ≢ kinds.Free
-  target_used e = body_not_free old.sectors (inode_at p old.sectors n) may.target.body target_held.body e
+  target_used e = body_not_free p.version old.sectors (inode_at p old.sectors n) may.target.body target_held.body e
 
-  gives : GivesName s.tree dir directory name n may.target
+  gives : GivesName s.room s.tree dir directory name n may.target
   gives = record {
-    takes = record { stands = may.directory.is_there; is_dir = may.directory.directory; is_new = may.is_new; has_room = may.has_room; is_name = may.is_name; bytes = may.bytes };
+    takes = record {
+      stands = may.directory.is_there;
+      is_dir = may.directory.directory;
+      is_new = may.is_new;
+      has_room = subst (λ (r : Room). length (names_in directory.body) < r.entries_limit) (sym at.same_room) may.has_room;
+      is_name = may.is_name;
+      short = subst (λ (r : Room). length name ≤ r.name_limit) (sym at.same_room) may.short;
+      bytes = may.bytes;
+    };
     there = may.there;
     no_directory = may.no_directory;
-    few = may.few;
+    few = subst (λ (r : Room). names_of s.tree n < r.names_limit) (sym at.same_room) may.few;
   }
 
   module _ {names : ℕ} (more : names ≡ (inode_at p old.sectors n).names + 1) {mid : TxnState} (counts : Counts p n names old mid) where
@@ -209,7 +221,7 @@ module _ {p : Place} (old : TxnState) {desks : Desks} {s : State} (at : IsStateO
     count_is : names ≡ names_of s.tree n + 1
     count_is = more ∙ ap (λ (k : ℕ). k + 1) (target_held.names ∙ field_is may.target.body (names_of s.tree n) may.no_directory)
 
-    counted : (up : ℕ) → HoldsNode mid.sectors (inode_at p mid.sectors n) (record { node = may.target; names = names_of s.tree n + 1; parent = up })
+    counted : (up : ℕ) → HoldsNode p.version mid.sectors (inode_at p mid.sectors n) (record { node = may.target; names = names_of s.tree n + 1; parent = up })
     counted up =
         counted_held old.sectors mid.sectors v (inode_at p mid.sectors n) is_target target_held (names_of s.tree n + 1) up may.no_directory
         (counts.saved ∙ ap (λ (k : ℕ). record v { names = k }) count_is) counts.bytes counts.acls
@@ -218,7 +230,7 @@ module _ {p : Place} (old : TxnState) {desks : Desks} {s : State} (at : IsStateO
     pub dir_same : inode_at p mid.sectors dir ≡ inode_at p old.sectors dir
     dir_same = inode_kept p dir old.sectors mid.sectors (counts.touches.inode.table dir dir_below apart)
 
-    dir_held : HoldsNode mid.sectors (inode_at p mid.sectors dir) is_dir
+    dir_held : HoldsNode p.version mid.sectors (inode_at p mid.sectors dir) is_dir
     dir_held =
         held_at p mid.sectors (placing n (Some (record { node = may.target; names = names_of s.tree n + 1; parent = 0 })) (placed s.tree))
         (one_replaced p n old.sectors mid.sectors (placed s.tree) at.holds target_below counts.touches.inode _ _
@@ -227,8 +239,8 @@ module _ {p : Place} (old : TxnState) {desks : Desks} {s : State} (at : IsStateO
         (placing_other n (Some (record { node = may.target; names = names_of s.tree n + 1; parent = 0 })) (placed s.tree) dir apart
         ∙ placed_from s.tree dir (Some directory) _ _ may.directory.is_there refl refl)
 
-    dir_names : HasNames mid.sectors (inode_at p mid.sectors dir) (names_in directory.body)
-    dir_names = names_say mid.sectors (inode_at p mid.sectors dir) directory.body may.directory.directory dir_held.body
+    dir_names : HasNames p.version mid.sectors (inode_at p mid.sectors dir) (names_in directory.body)
+    dir_names = names_say p.version mid.sectors (inode_at p mid.sectors dir) directory.body may.directory.directory dir_held.body
 
     pub dir_room : MayBeNamed p mid.sectors dir name
     dir_room =
@@ -237,6 +249,7 @@ module _ {p : Place} (old : TxnState) {desks : Desks} {s : State} (at : IsStateO
         record {
           below = dir_below;
           is_name = may.is_name;
+          short = may.short;
           names = names_in directory.body;
           are = dir_names;
           is_new = may.is_new;

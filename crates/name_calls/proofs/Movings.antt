@@ -6,7 +6,7 @@
 --     entry_super, moved_same        the names have changed, and what was moved stands as before
 --     follow_super, moved_none        its parent, too; the whole where nothing was replaced
 --     replaced_number, replaced_same, replaced_used, replaced_named, replaced_holds        what was replaced; the whole
-use Rattle.std.specs.Prelude.{◌≡◌, ◌≢◌, ◌⊎◌, ℕ, ◌+◌, ◌-◌, ◌==◌, ◌<◌, ◌≤◌, ◌^◌, Bool, true, false, not, ◌||◌, List, Option, None, Some, is_some, IsTrue, IsFalse}
+use Rattle.std.specs.Prelude.{◌≡◌, ◌≢◌, ◌⊎◌, ℕ, ◌+◌, ◌-◌, ◌==◌, ◌<◌, ◌≤◌, ◌^◌, Bool, true, false, not, ◌||◌, List, length, Option, None, Some, is_some, IsTrue, IsFalse}
 use Rattle.std.proofs.Common.{refl, sym, ap, subst, arith, inl, inr, ◌∙◌}
 use Rattle.std.proofs.lemmas.Bool.{ne_eqb}
 use Rattle.fs_layout.specs.declared.inode.Inode.{Inode}
@@ -33,7 +33,7 @@ use Rattle.fs_model.specs.Rules.{is_directory_kind}
 use Rattle.fs_model.specs.Stands.{HoldsAll, placed}
 use Rattle.fs_model.specs.States.{State}
 use Rattle.fs_model.specs.StoredNodes.{Placed, HoldsNode}
-use Rattle.fs_model.specs.Trees.{names_of, parent, IsEntry}
+use Rattle.fs_model.specs.Trees.{Room, names_of, parent, IsEntry}
 use Rattle.fs_model.proofs.OneNode.{body_not_free}
 use Rattle.fs_model.proofs.PlacedMoves.{middle, begun, arrived, apart_to, apart_from, begun_n, middle_held, begun_held, begun_here, parent_held, no_parent_held, move_held, m_not_from, m_not_to, arrived_m, move_take_held, move_drop_held}
 use Rattle.fs_model.proofs.PlacedNodes.{held_at, node_below}
@@ -118,7 +118,7 @@ module _ {p : Place} (old : TxnState) {desks : Desks} {s : State} (at : IsStateO
   still : (k : ℕ) → IsTrue (is_open s.desks k) → IsTrue (is_open desks k)
   still k is = subst (λ (d : Desks). IsTrue (is_open d k)) at.same_desks is
 
-  moves : MovesName s.tree s.desks dir directory name n to_dir to_directory to_name o
+  moves : MovesName s.room s.tree s.desks dir directory name n to_dir to_directory to_name o
   moves = record {
     stands = may.directory.is_there;
     is_dir = may.directory.directory;
@@ -127,9 +127,10 @@ module _ {p : Place} (old : TxnState) {desks : Desks} {s : State} (at : IsStateO
     is_to_dir = may.to_directory.directory;
     to_leads = may.to_leads;
     is_name = may.is_name;
+    short = subst (λ (r : Room). length to_name ≤ r.name_limit) (sym at.same_room) may.short;
     bytes = may.bytes;
     other = may.other;
-    has_room = λ none ne. (may.has_room none ne).0;
+    has_room = λ none ne. subst (λ (r : Room). length (names_in to_directory.body) < r.entries_limit) (sym at.same_room) (may.has_room none ne).0;
     empty = λ m led d. ap names_or d.is_there ∙ may.empty m led d;
     unused = may.unused;
     outside = λ d. is_outside s.room s.tree n to_dir at.is_state.tree may.to_directory (may.outside d);
@@ -167,13 +168,13 @@ module _ {p : Place} (old : TxnState) {desks : Desks} {s : State} (at : IsStateO
   pub moved_below : n < p.inodes
   moved_below = node_below s p at.is_state at.same_room n target.node target.at
 
-  dir_held : HoldsNode old.sectors (inode_at p old.sectors dir) is_dir
+  dir_held : HoldsNode p.version old.sectors (inode_at p old.sectors dir) is_dir
   dir_held = held_node (state_tree at) dir directory may.directory.is_there
 
   pub moved_used : (inode_at p old.sectors n).kind ≢ kinds.Free
-  moved_used e = body_not_free old.sectors (inode_at p old.sectors n) target.node.body (held_node (state_tree at) n target.node target.at).body e
+  moved_used e = body_not_free p.version old.sectors (inode_at p old.sectors n) target.node.body (held_node (state_tree at) n target.node target.at).body e
 
-  dir_names : HasNames old.sectors (inode_at p old.sectors dir) (names_in directory.body)
+  dir_names : HasNames p.version old.sectors (inode_at p old.sectors dir) (names_in directory.body)
   dir_names = held_names (state_tree at) dir may.directory
 
   has_first : get name_cmp (names_in directory.body) name ≢ None
@@ -185,7 +186,7 @@ module _ {p : Place} (old : TxnState) {desks : Desks} {s : State} (at : IsStateO
 
   -- and not the other one, where nothing is to be replaced in it
   pub named_here : dir ≡ to_dir → o ≡ None
-      → (names : List (List ℕ × ℕ)) × HasNames old.sectors (inode_at p old.sectors dir) names × (get name_cmp names name ≢ None) × (get name_cmp names to_name ≡ None)
+      → (names : List (List ℕ × ℕ)) × HasNames p.version old.sectors (inode_at p old.sectors dir) names × (get name_cmp names name ≢ None) × (get name_cmp names to_name ≡ None)
   named_here one none =
       let stands = may.directory.is_there in
       let also = may.to_directory.is_there in
@@ -196,24 +197,24 @@ module _ {p : Place} (old : TxnState) {desks : Desks} {s : State} (at : IsStateO
         ap (λ (u : Node). get name_cmp (names_in u.body) to_name) same ∙ may.to_leads ∙ none,
       )
 
-  pub leads_first : HasNames old.sectors (inode_at p old.sectors dir) (names_in directory.body) × (get name_cmp (names_in directory.body) name ≡ Some n)
+  pub leads_first : HasNames p.version old.sectors (inode_at p old.sectors dir) (names_in directory.body) × (get name_cmp (names_in directory.body) name ≡ Some n)
   leads_first = (dir_names, may.leads)
 
   -- ---- the name is gone from the directory
 
   module _ {mid : SectorMap} (removes : ChangesNames p dir (λ names. without name_cmp names name) old.sectors mid) where
-    here : HoldsNode mid (inode_at p mid dir) (record is_dir { node = renamed_node directory fewer })
+    here : HoldsNode p.version mid (inode_at p mid dir) (record is_dir { node = renamed_node directory fewer })
     here =
         names_held old.sectors mid (inode_at p old.sectors dir) (inode_at p mid dir) is_dir dir_held fewer may.directory.directory
         removes.kept removes.acls (removes.named (names_in directory.body) dir_names)
 
-    to_held : HoldsNode mid (inode_at p mid to_dir) (record { node = between.node; names = names_of s.tree to_dir; parent = parent s.tree to_dir })
+    to_held : HoldsNode p.version mid (inode_at p mid to_dir) (record { node = between.node; names = names_of s.tree to_dir; parent = parent s.tree to_dir })
     to_held =
         middle_held s at.is_state at.up desks still dir directory name n to_dir to_directory to_name o moves target.node target.at p at.same_room
         old.sectors mid at.holds removes.change removes.used here
 
-    to_names : HasNames mid (inode_at p mid to_dir) (names_in between.node.body)
-    to_names = names_say mid (inode_at p mid to_dir) between.node.body between.directory to_held.body
+    to_names : HasNames p.version mid (inode_at p mid to_dir) (names_in between.node.body)
+    to_names = names_say p.version mid (inode_at p mid to_dir) between.node.body between.directory to_held.body
 
     -- the other name may lead to what it led to
     pub may_lead : free_sectors p old.sectors ≤ free_sectors p mid + 0 → (o ≡ None → dir ≢ to_dir) → MayLead p mid to_dir to_name o
@@ -227,10 +228,11 @@ module _ {p : Place} (old : TxnState) {desks : Desks} {s : State} (at : IsStateO
             record {
               below = to_below;
               is_name = may.is_name;
+              short = may.short;
               names = names_in between.node.body;
               are = to_names;
               is_new = between.leads ∙ e;
-              few = omega (arith, few);
+              few = let free = subst (λ (r : Room). length (names_in between.node.body) + 1 ≤ r.entries_limit) at.same_room few in omega (arith, free);
               enough = omega (arith, enough, left);
             }
         go (Some m) e =
@@ -269,7 +271,7 @@ module _ {p : Place} (old : TxnState) {desks : Desks} {s : State} (at : IsStateO
         (apart_from s at.is_state at.up desks still dir directory name n to_dir to_directory to_name o moves target.node target.at)
         (apart_to s at.is_state at.up desks still dir directory name n to_dir to_directory to_name o moves target.node target.at)
 
-    target_held : HoldsNode mid (inode_at p mid n) is_target
+    target_held : HoldsNode p.version mid (inode_at p mid n) is_target
     target_held =
         held_at p mid then_begun (entry_held mid entry) n moved_below is_target
         (begun_n s at.is_state at.up desks still dir directory name n to_dir to_directory to_name o moves target.node target.at p at.same_room)
@@ -313,7 +315,7 @@ module _ {p : Place} (old : TxnState) {desks : Desks} {s : State} (at : IsStateO
       -- ---- what was replaced
 
       module _ {m : ℕ} (led : o ≡ Some m) where
-        entry_is : IsEntry s.tree to_name m
+        entry_is : IsEntry s.room s.tree to_name m
         entry_is =
             (are_names s.room s.tree to_directory.body (at.is_state.tree.each to_dir to_directory may.to_directory.is_there).body).each to_name m
             (may.to_leads ∙ led)
@@ -335,11 +337,11 @@ module _ {p : Place} (old : TxnState) {desks : Desks} {s : State} (at : IsStateO
             (m_not_from s at.is_state at.up desks still dir directory name n to_dir to_directory to_name o moves target.node target.at p at.same_room m led replaced.node replaced.at)
             (m_not_to s at.is_state at.up desks still dir directory name n to_dir to_directory to_name o moves target.node target.at p at.same_room m led replaced.node replaced.at)
 
-        was_held : HoldsNode old.sectors (inode_at p old.sectors m) is_replaced
+        was_held : HoldsNode p.version old.sectors (inode_at p old.sectors m) is_replaced
         was_held = held_node (state_tree at) m replaced.node replaced.at
 
         pub replaced_used : (inode_at p old.sectors m).kind ≢ kinds.Free
-        replaced_used e = body_not_free old.sectors (inode_at p old.sectors m) replaced.node.body was_held.body e
+        replaced_used e = body_not_free p.version old.sectors (inode_at p old.sectors m) replaced.node.body was_held.body e
 
         some_name : 1 ≤ names_of s.tree m
         some_name =
@@ -357,7 +359,7 @@ module _ {p : Place} (old : TxnState) {desks : Desks} {s : State} (at : IsStateO
         one_name d =
             directory_named s.room s.tree at.is_state.tree m (record { node = replaced.node; is_there = replaced.at; directory = d }) entry_is.leads.0
 
-        replaced_held : HoldsNode now (inode_at p now m) is_replaced
+        replaced_held : HoldsNode p.version now (inode_at p now m) is_replaced
         replaced_held =
             held_at p now then_arrived followed m replaced_number.1 is_replaced
             (arrived_m s at.is_state at.up desks still dir directory name n to_dir to_directory to_name o moves target.node target.at p at.same_room m led replaced.node replaced.at)

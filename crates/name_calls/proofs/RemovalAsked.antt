@@ -16,6 +16,7 @@ use Rattle.fs_layout.specs.declared.inode.TheConstants.{S_ISGID, S_ISVTX}
 use Rattle.fs_layout.specs.declared.inode.Inode.{Inode}
 use Rattle.fs_layout.specs.declared.inode.Kind.TheVariants as kinds
 use Rattle.fs_layout.specs.declared.place.Place.{Place}
+use Rattle.fs_layout.specs.declared.version.Version.{Version}
 use Rattle.fs_layout.specs.Bytes.{SectorMap}
 use Rattle.fs_layout.specs.Directories.{HasNames}
 use Rattle.fs_layout.specs.Images.{inode_at}
@@ -47,8 +48,8 @@ type_says (File a bytes) = refl
 type_says (Dir a d) = refl
 type_says (Link target) = refl
 
-pub body_kind_is : (image : SectorMap) (v : Inode) (b : Body) → HoldsBody image v b → is_directory_kind v.kind ≡ is_directory b
-body_kind_is image v b h = ap is_directory_kind (body_kind image v b h) ∙ type_says b
+pub body_kind_is : (version : Version) (image : SectorMap) (v : Inode) (b : Body) → HoldsBody version image v b → is_directory_kind v.kind ≡ is_directory b
+body_kind_is version image v b h = ap is_directory_kind (body_kind version image v b h) ∙ type_says b
 
 sticky_bit : (n : ℕ) (s g : Bool) → n < 512 → ((n + cond s S_ISVTX 0 + cond g S_ISGID 0) / S_ISVTX % 2 == 1) ≡ s
 sticky_bit n true true lt = let e : (n + 512 + 1024) / S_ISVTX % 2 ≡ 1 = omega (arith, lt) in ap (λ (k : ℕ). k == 1) e
@@ -65,7 +66,7 @@ sticky_says owner group (Link target) m is e = absurd (cc)
 
 -- what S_ISVTX of a directory asks
 pub yields : {p : Place} {map : SectorMap} {t : Tree} (h : HoldsTree p map t) (cred : Credential) {f : Found} (directory : IsDirectoryAt t f.dir)
-    {n : ℕ} {v : Inode} (node : IsNode map t f n v) {d : Inode} → d ≡ inode_at p map f.dir → (walk : ℕ)
+    {n : ℕ} {v : Inode} (node : IsNode p.version map t f n v) {d : Inode} → d ≡ inode_at p map f.dir → (walk : ℕ)
     → allowed_by walk (f.step - 1) Remove (sticky_allows cred (the_directory (the_node t f.dir)).sticky (the_node t f.dir).owner (the_node t (number f)).owner)
     ≡ sticky_asked cred d v walk (f.step - 1)
 yields {p} {map} {t} h cred {f} directory {n} {v} node {d} d_is walk =
@@ -103,14 +104,14 @@ module _ {p : Place} {map : SectorMap} {t : Tree} (h : HoldsTree p map t) {f : F
   removal_absent = refuses_first absent (slashed ∷ allowed ∷ yielded ∷ [])
 
   module _ {n : ℕ} {v : Inode} (i : IsInodeFound p map f n v) where
-    node : IsNode map t f n v
+    node : IsNode p.version map t f n v
     node = node_of h f n v i.number i.inode (named.found n i.some)
 
     slash_is : slashed ≡ refuse ENOTDIR (f.slash && not (is_directory_kind v.kind))
     slash_is =
         ap (λ (o : Option ℕ). refuse ENOTDIR (f.slash && (is_some o && not (is_directory (the_node t (number f)).body)))) i.some
         ∙ ap (λ (u : Node). refuse ENOTDIR (f.slash && not (is_directory u.body))) node.is
-        ∙ ap (λ (b : Bool). refuse ENOTDIR (f.slash && not b)) (sym (body_kind_is map v node.node.body node.holds.body))
+        ∙ ap (λ (b : Bool). refuse ENOTDIR (f.slash && not b)) (sym (body_kind_is p.version map v node.node.body node.holds.body))
 
     -- it is no directory, and named as one
     pub removal_slashed : Refuses (refuse ENOTDIR (f.slash && not (is_directory_kind v.kind))) (first_of (removal_asked cred t f))
@@ -155,12 +156,12 @@ empty_says (x ∷ xs) true says = let none = says.0 refl in absurd (cc)
 empty_says (x ∷ xs) false says = refl
 
 -- it is a directory that isn't in use, and a test says whether it has names
-pub directory_checked : (image : SectorMap) (v : Inode) (b : Body) → HoldsBody image v b → v.kind ≡ kinds.Directory → (used empty : Bool) → used ≡ false
-    → ((names : List (List ℕ × ℕ)) → HasNames image v names → (IsTrue empty → names ≡ []) × (names ≡ [] → IsTrue empty))
+pub directory_checked : (version : Version) (image : SectorMap) (v : Inode) (b : Body) → HoldsBody version image v b → v.kind ≡ kinds.Directory → (used empty : Bool) → used ≡ false
+    → ((names : List (List ℕ × ℕ)) → HasNames version image v names → (IsTrue empty → names ≡ []) × (names ≡ [] → IsTrue empty))
     → first_of (directory_asked b used) ≡ refuse ENOTEMPTY (not empty)
-directory_checked image v (File a bytes) h is used empty free says = absurd (let c : kinds.File ≡ kinds.Directory = sym h.kind ∙ is in cc)
-directory_checked image v (Dir a d) h is used empty free says =
+directory_checked version image v (File a bytes) h is used empty free says = absurd (let c : kinds.File ≡ kinds.Directory = sym h.kind ∙ is in cc)
+directory_checked version image v (Dir a d) h is used empty free says =
     ap (λ (u : Bool). or_else (refuse EBUSY u) (or_else (refuse ENOTEMPTY (not (is_empty d.names))) None)) free
     ∙ or_else-none (refuse ENOTEMPTY (not (is_empty d.names)))
     ∙ ap (λ (e : Bool). refuse ENOTEMPTY (not e)) (empty_says d.names empty (says d.names h.names))
-directory_checked image v (Link target) h is used empty free says = absurd (let c : kinds.Link ≡ kinds.Directory = sym h.kind ∙ is in cc)
+directory_checked version image v (Link target) h is used empty free says = absurd (let c : kinds.Link ≡ kinds.Directory = sym h.kind ∙ is in cc)

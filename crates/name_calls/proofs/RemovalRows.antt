@@ -85,13 +85,13 @@ last_is_name targets.Directory f none =
     ap (λ (b : Bool). b || ends_dot f || ends_dot_dot f) top ∙ ap (λ (b : Bool). b || ends_dot_dot f) dot ∙ dots
 
 module _ {p : Place} {map : SectorMap} {desks : Desks} {q : Process} {f : Found} {s : State} (i : FindsName p map desks q f s) where
-  name_at : is_special f ≡ false → IsNameAt s.tree f.dir f.name f.ino
+  name_at : is_special f ≡ false → IsNameAt s.room s.tree f.dir f.name f.ino
   name_at special =
       let later = then_met (refuse ENOENT (is_empty i.path)) _ i.found.checked in
       let no_zero = unrefused EINVAL (list_any (λ b. b == 0) i.path) (first_met (refuse EINVAL (list_any (λ b. b == 0) i.path)) _ later) in
-      let walked : IsWalked s.tree Parent (found_by s.tree q.cwd (Parent, i.path)) =
-      is_walked s.room s.tree i.is_state.is_state.tree q.cred q.cwd 1 (Parent, i.path) i.bytes no_zero i.found.unrefused in
-      (subst (IsWalked s.tree Parent) (sym i.found.is) walked).old refl special
+      let walked : IsWalked s.room s.tree Parent (found_by s.room s.tree q.cwd (Parent, i.path)) =
+      is_walked s.room i.is_state.is_state.room.name_limit s.tree i.is_state.is_state.tree q.cred q.cwd 1 (Parent, i.path) i.bytes no_zero i.found.unrefused in
+      (subst (IsWalked s.room s.tree Parent) (sym i.found.is) walked).old refl special
 
   pub name_there : is_special f ≡ false → IsNamedThere s.tree f
   name_there special =
@@ -124,11 +124,11 @@ module _ {p : Place} {map : SectorMap} {desks : Desks} {q : Process} {f : Found}
       removal_refuses = refuses_others last (removal ++ target) (demand_met (first_of last) is) (refuses_some removal target)
 
   module _ {n : ℕ} {v : Inode} (k : IsInodeFound p map f n v) where
-    pub node : IsNode map s.tree f n v
+    pub node : IsNode p.version map s.tree f n v
     node = node_of (state_tree i.is_state) f n v k.number k.inode (found_there n i.is_state i.found k.some)
 
     -- what it is
-    pub node_held : HoldsBody map v node.node.body
+    pub node_held : HoldsBody p.version map v node.node.body
     node_held = node.holds.body
 
     -- what is asked of it

@@ -19,7 +19,7 @@ use Rattle.fs_model.specs.declared.reply.Reply.TheVariants.{Done}
 use Rattle.fs_model.specs.declared.walk.Found.{Found}
 use Rattle.fs_model.specs.TreeChanges.{Same, MoveName, changed, swept}
 use Rattle.fs_model.specs.Demands.{Demand, first_of, only_if}
-use Rattle.fs_model.specs.Limits.{entries_limit, least_free}
+use Rattle.fs_model.specs.Limits.{least_free}
 use Rattle.fs_model.specs.Nodes.{Node, names_in}
 use Rattle.fs_model.specs.Processes.{Process, Desks, is_open}
 use Rattle.fs_model.specs.RenameCall.{is_same, rename_demands, rename_effect}
@@ -27,7 +27,7 @@ use Rattle.fs_model.specs.Rows.{row_of}
 use Rattle.fs_model.specs.Scenes.{Scene, is_found, number, changes}
 use Rattle.fs_model.specs.Stands.{HoldsAll, placed}
 use Rattle.fs_model.specs.States.{State}
-use Rattle.fs_model.specs.Trees.{Tree, is_within, IsDirectoryAt}
+use Rattle.fs_model.specs.Trees.{Room, Tree, is_within, IsDirectoryAt}
 use Rattle.fs_model.proofs.PlacedChanges.{same_held}
 use Rattle.fs_model.proofs.StepsDemands.{first_met, unrefused}
 use Rattle.fs_model.proofs.StepsDemands as demands
@@ -88,8 +88,8 @@ module _ (s : State) (q : Process) (f g : Found) where
 abbrev pub Renamed : Type 0
 Renamed = ℕ × Inode × Option (ℕ × Inode)
 
-named_there : (t : Tree) (x : Found) → IsNameAt t x.dir x.name x.ino → ((m : ℕ) → x.ino ≡ Some m → IsThere t m) → IsNamedThere t x
-named_there t x at there = record { directory = record { node = at.node; is_there = at.stands; directory = at.directory }; found = there }
+named_there : (room : Room) (t : Tree) (x : Found) → IsNameAt room t x.dir x.name x.ino → ((m : ℕ) → x.ino ≡ Some m → IsThere t m) → IsNamedThere t x
+named_there room t x at there = record { directory = record { node = at.node; is_there = at.stands; directory = at.directory }; found = there }
 
 pub record IsRenamable (p : Place) (map : SectorMap) (desks : Desks) (q : Process) (f g : Found) (n : ℕ) (v : Inode) (there : Option (ℕ × Inode)) (s : State) : Type 0 where
   pub met : first_of (rename_demands (scene_with s q f g)) ≡ None
@@ -105,8 +105,8 @@ module _ {p : Place} {map : SectorMap} {desks : Desks} {q : Process} {f g : Foun
         let same : number f ≡ n = ap (λ (x : Renamed). x.0) is in
         record {
           is_state = i.is_state;
-          first = named_there s.tree f ((first_walked i).old refl named.first) (first_there i);
-          second = named_there s.tree g ((second_walked i).old refl named.second) (second_there i);
+          first = named_there s.room s.tree f ((first_walked i).old refl named.first) (first_there i);
+          second = named_there s.room s.tree g ((second_walked i).old refl named.second) (second_there i);
           leads = number_of f named.found ∙ ap Some same;
           inode = sym (ap (λ (x : Renamed). x.1) is) ∙ ap (inode_at p map) same;
           replaced_is = sym (ap (λ (x : Renamed). x.2) is);
@@ -160,10 +160,10 @@ module _ {p : Place} {map : SectorMap} {desks : Desks} {q : Process} {f g : Foun
   asks : IsRenamed (scene_with s q f g)
   asks = rename_asks (scene_with s q f g) (demands.all_met (rename_demands (scene_with s q f g)) r.met) differ
 
-  from : IsNameAt s.tree f.dir f.name f.ino
+  from : IsNameAt s.room s.tree f.dir f.name f.ino
   from = (first_walked i).old refl asks.first
 
-  to : IsNameAt s.tree g.dir g.name g.ino
+  to : IsNameAt s.room s.tree g.dir g.name g.ino
   to = (second_walked i).old refl asks.second
 
   number_is : number f ≡ n
@@ -183,10 +183,12 @@ module _ {p : Place} {map : SectorMap} {desks : Desks} {q : Process} {f g : Foun
     to_directory = record { node = to.node; is_there = to.stands; directory = to.directory };
     to_leads = to.leads;
     is_name = to.is_name;
+    short = subst (λ (k : Room). length g.name ≤ k.name_limit) i.is_state.same_room to.short;
     bytes = to.bytes;
     other = λ m some same. others scene (is_scene i) asks differ m some (same ∙ sym number_is);
     has_room = λ none ne. (
-      subst (λ (u : Node). length (names_in u.body) < entries_limit) (the_node_is s.tree g.dir to.node to.stands) (has_room scene (is_scene i) asks differ none ne),
+      subst (λ (k : Room). length (names_in to.node.body) < k.entries_limit) i.is_state.same_room
+          (subst (λ (u : Node). length (names_in u.body) < s.room.entries_limit) (the_node_is s.tree g.dir to.node to.stands) (has_room scene (is_scene i) asks differ none ne)),
       enough none ne,
     );
     empty = λ m some d. sym (ap names_or d.is_there) ∙ replaced_empty scene (is_scene i) asks differ m some;

@@ -28,12 +28,12 @@ use Rattle.fs_layout.specs.declared.inode.Kind.{Kind}
 use Rattle.fs_layout.specs.declared.inode.Kind.TheVariants as kinds
 use Rattle.fs_layout.specs.declared.place.Place.{Place}
 use Rattle.fs_layout.specs.Bytes.{SectorMap}
-use Rattle.fs_layout.specs.Images.{inode_at}
+use Rattle.fs_layout.specs.Images.{free_sectors, inode_at}
 use Rattle.sector_txn.specs.Sectors.{TxnState, IsUnchanged}
 use Rattle.fs_model.specs.declared.walk.Found.{Found}
 use Rattle.fs_model.specs.Births.{the_node, the_directory}
 use Rattle.fs_model.specs.Demands.{Demand, refuse, first_of, only_if, decided, allowed_by, permission_of, permission_on, perms, write_and_search}
-use Rattle.fs_model.specs.Limits.{entries_limit, least_free}
+use Rattle.fs_model.specs.Limits.{least_free}
 use Rattle.fs_model.specs.Nodes.{Node, Body, File, Dir, Link, is_directory, names_in}
 use Rattle.fs_model.specs.Parts.{is_empty}
 use Rattle.fs_model.specs.Processes.{Process, Desks, is_in_use}
@@ -41,7 +41,7 @@ use Rattle.fs_model.specs.RenameCall.{rename_permissions, rename_kinds, rename_d
 use Rattle.fs_model.specs.Rules.{is_directory_kind}
 use Rattle.fs_model.specs.Scenes.{Scene, is_found, number}
 use Rattle.fs_model.specs.States.{State}
-use Rattle.fs_model.specs.Trees.{Tree, is_within, IsDirectoryAt}
+use Rattle.fs_model.specs.Trees.{Room, Tree, is_within, IsDirectoryAt}
 use Rattle.path_walk.specs.Answers.{refused_or}
 use Rattle.path_walk.specs.HeldTrees.{HoldsTree, IsThere, HasAccess}
 use Rattle.call_parts.proofs.Calling.{state_tree, met_ok, or_else-none, both_met}
@@ -154,13 +154,13 @@ module _ {p : Place} {map : SectorMap} {desks : Desks} {f g : Found} {n : ℕ} {
     met = ap (λ (o : Option ℕ). refuse ENOENT (not (is_some o))) r.leads;
   }
 
-  pub node_first : IsNode map s.tree f n v
+  pub node_first : IsNode p.version map s.tree f n v
   node_first = node_of (state_tree r.is_state) f n v (ap (λ (o : Option ℕ). unwrap_or o 0) r.leads) r.inode (r.first.found n r.leads)
 
   pub directory_of : v.kind ≡ kinds.Directory → IsDirectoryAt s.tree n
   directory_of is =
       let x = node_first in
-      record { node = x.node; is_there = x.at; directory = sym (body_kind_is map v x.node.body x.holds.body) ∙ ap is_directory_kind is }
+      record { node = x.node; is_there = x.at; directory = sym (body_kind_is p.version map v x.node.body x.holds.body) ∙ ap is_directory_kind is }
 
   -- ---- both directories
 
@@ -345,13 +345,14 @@ module _ {p : Place} {map : SectorMap} {desks : Desks} {f g : Found} {n : ℕ} {
     -- ---- room for a name
 
     abbrev space : List Demand
-    space = refuse ENOSPC (nat_lt s.free least_free) ∷ refuse ENOSPC (nat_le entries_limit (length (names_in (the_node s.tree g.dir).body))) ∷ []
+    space = refuse ENOSPC (nat_lt s.free least_free) ∷ refuse ENOSPC (nat_le s.room.entries_limit (length (names_in (the_node s.tree g.dir).body))) ∷ []
 
     pub room_is : is_some g.ino ≡ false → f.dir ≢ g.dir → rename_space (scene_with s q f g) ≡ room_asked p map s.tree g.dir
     room_is none goes =
         ap (λ (b : Bool). only_if (not b && not (f.dir == g.dir)) space) none
         ∙ ap (λ (b : Bool). only_if (not b) space) (other_number_is f.dir g.dir goes)
-        ∙ ap (λ (c : ℕ). refuse ENOSPC (nat_lt c least_free) ∷ refuse ENOSPC (nat_le entries_limit (length (names_in (the_node s.tree g.dir).body))) ∷ []) r.is_state.free_is
+        ∙ ap (λ (c : ℕ). refuse ENOSPC (nat_lt c least_free) ∷ refuse ENOSPC (nat_le s.room.entries_limit (length (names_in (the_node s.tree g.dir).body))) ∷ []) r.is_state.free_is
+        ∙ ap (λ (k : Room). refuse ENOSPC (nat_lt (free_sectors p map) least_free) ∷ refuse ENOSPC (nat_le k.entries_limit (length (names_in (the_node s.tree g.dir).body))) ∷ []) r.is_state.same_room
 
 -- the same after reads
 pub to_rename_kept : {p : Place} {old new : TxnState} {desks : Desks} {f g : Found} {n : ℕ} {v : Inode} {there : Option (ℕ × Inode)} {s : State} → IsUnchanged old new
@@ -401,7 +402,7 @@ module _ {p : Place} {map : SectorMap} {t : Tree} (h : HoldsTree p map t) (g : F
         ∙ ap (λ (names : List (List ℕ × ℕ)). first_of (refuse EBUSY (false && is_in_use desks m) ∷ refuse ENOTEMPTY (not (is_empty names)) ∷ [])) (no_names body (kind_is ∙ other))
 
     -- what its inode holds
-    pub there_body : (v : Inode) → v ≡ inode_at p map m → IsNode map t g m v
+    pub there_body : (v : Inode) → v ≡ inode_at p map m → IsNode p.version map t g m v
     there_body v is = node_of h g m v (ap (λ (o : Option ℕ). unwrap_or o 0) some) is (there m some)
 
     -- it is one

@@ -11,6 +11,7 @@ use Rattle.fs_layout.specs.declared.inode.Inode.{Inode}
 use Rattle.fs_layout.specs.declared.inode.Kind.{Kind}
 use Rattle.fs_layout.specs.declared.inode.Kind.TheVariants as kinds
 use Rattle.fs_layout.specs.declared.place.Place.{Place}
+use Rattle.fs_layout.specs.declared.version.Version.{Version}
 use Rattle.fs_layout.specs.Bytes.{SectorMap}
 use Rattle.fs_layout.specs.Directories.{HasNames}
 use Rattle.fs_layout.specs.Images.{inode_at}
@@ -56,28 +57,28 @@ field_is (File a bytes) names other = refl
 field_is (Dir a d) names other = absurd (cc)
 field_is (Link target) names other = refl
 
-stays_says : (image : SectorMap) (v : Inode) (b : Body) (names n : ℕ) (desks : Desks) (opened : Bool) → HoldsBody image v b → v.names ≡ names_field b names
+stays_says : (version : Version) (image : SectorMap) (v : Inode) (b : Body) (names n : ℕ) (desks : Desks) (opened : Bool) → HoldsBody version image v b → v.names ≡ names_field b names
     → (IsTrue (is_directory b) → names ≡ 1) → (n == root) ≡ false → opened ≡ is_open desks n
     → stays_with v.kind (v.names - 1) opened ≡ (not (names - 1 == 0) || lives_nameless desks n b)
-stays_says image v (File a bytes) names n desks opened h are one other is =
+stays_says version image v (File a bytes) names n desks opened h are one other is =
     ap (λ (k : Kind). stays_with k (v.names - 1) opened) h.kind ∙ ap (λ m. stays_with kinds.File (m - 1) opened) are
     ∙ ap (λ o. not (names - 1 == 0) || o) is
-stays_says image v (Dir a d) names n desks opened h are one other is =
+stays_says version image v (Dir a d) names n desks opened h are one other is =
     ap (λ (k : Kind). stays_with k (v.names - 1) opened) h.names.kind ∙ ap (λ m. stays_with kinds.Directory (m - 1) opened) are
     ∙ sym (ap (λ m. not (m - 1 == 0) || n == root) (one refl) ∙ other)
-stays_says image v (Link target) names n desks opened h are one other is =
+stays_says version image v (Link target) names n desks opened h are one other is =
     ap (λ (k : Kind). stays_with k (v.names - 1) opened) h.kind ∙ ap (λ m. stays_with kinds.Link (m - 1) opened) are
     ∙ sym (ap (λ o. not (names - 1 == 0) || o) other)
 
 -- an inode of this node loses a name
 module _ {p : Place} {n : ℕ} (desks : Desks) {mid new : TxnState} {node : Node} {names up : ℕ}
-    (held : HoldsNode mid.sectors (inode_at p mid.sectors n) (record { node = node; names = names; parent = up })) (one : IsTrue (is_directory node.body) → names ≡ 1)
+    (held : HoldsNode p.version mid.sectors (inode_at p mid.sectors n) (record { node = node; names = names; parent = up })) (one : IsTrue (is_directory node.body) → names ≡ 1)
     (other : (n == root) ≡ false) (opened : Bool) (is : opened ≡ is_open desks n) (loses : LosesName p n opened mid new) where
   abbrev v : Inode
   v = inode_at p mid.sectors n
 
   stays_is : stays_with v.kind (v.names - 1) opened ≡ (not (names - 1 == 0) || lives_nameless desks n node.body)
-  stays_is = stays_says mid.sectors v node.body names n desks opened held.body held.names one other is
+  stays_is = stays_says p.version mid.sectors v node.body names n desks opened held.body held.names one other is
 
   -- no directory stays
   no_directory : (not (names - 1 == 0) || lives_nameless desks n node.body) ≡ true → is_directory node.body ≡ false
@@ -96,7 +97,7 @@ module _ {p : Place} {n : ℕ} (desks : Desks) {mid new : TxnState} {node : Node
   left_counts stay = loses.stays (stays_is ∙ stay)
 
   pub left_held : (not (names - 1 == 0) || lives_nameless desks n node.body) ≡ true → (above : ℕ)
-      → HoldsNode new.sectors (inode_at p new.sectors n) (record { node = node; names = names - 1; parent = above })
+      → HoldsNode p.version new.sectors (inode_at p new.sectors n) (record { node = node; names = names - 1; parent = above })
   left_held stay above =
       let counts = left_counts stay in
       let file = no_directory stay in
@@ -140,10 +141,10 @@ module _ {p : Place} (old : TxnState) {desks : Desks} {s : State} (at : IsStateO
   apart : n ≢ dir
   apart = taken_apart s at.is_state at.up desks still dir directory name n takes
 
-  dir_held : HoldsNode old.sectors (inode_at p old.sectors dir) (record { node = directory; names = names_of s.tree dir; parent = parent s.tree dir })
+  dir_held : HoldsNode p.version old.sectors (inode_at p old.sectors dir) (record { node = directory; names = names_of s.tree dir; parent = parent s.tree dir })
   dir_held = held_node (state_tree at) dir directory may.directory.is_there
 
-  dir_names : HasNames old.sectors (inode_at p old.sectors dir) (names_in directory.body)
+  dir_names : HasNames p.version old.sectors (inode_at p old.sectors dir) (names_in directory.body)
   dir_names = held_names (state_tree at) dir may.directory
 
   -- the directory has the name
@@ -171,7 +172,7 @@ module _ {p : Place} (old : TxnState) {desks : Desks} {s : State} (at : IsStateO
     abbrev fewer : Placed
     fewer = record { node = renamed_node directory (without name_cmp (names_in directory.body) name); names = names_of s.tree dir; parent = parent s.tree dir }
 
-    here : HoldsNode mid.sectors (inode_at p mid.sectors dir) fewer
+    here : HoldsNode p.version mid.sectors (inode_at p mid.sectors dir) fewer
     here =
         names_held old.sectors mid.sectors (inode_at p old.sectors dir) (inode_at p mid.sectors dir)
         (record { node = directory; names = names_of s.tree dir; parent = parent s.tree dir }) dir_held (without name_cmp (names_in directory.body) name)
@@ -181,7 +182,7 @@ module _ {p : Place} (old : TxnState) {desks : Desks} {s : State} (at : IsStateO
     pub target_same : inode_at p mid.sectors n ≡ inode_at p old.sectors n
     target_same = inode_kept p n old.sectors mid.sectors (removes.touches.inode.table n is_number.1 apart)
 
-    pub target_held : HoldsNode mid.sectors (inode_at p mid.sectors n) (record { node = may.target; names = names_of s.tree n; parent = parent s.tree n })
+    pub target_held : HoldsNode p.version mid.sectors (inode_at p mid.sectors n) (record { node = may.target; names = names_of s.tree n; parent = parent s.tree n })
     target_held =
         held_at p mid.sectors (placing dir (Some fewer) (placed s.tree))
         (one_replaced p dir old.sectors mid.sectors (placed s.tree) at.holds dir_below removes.touches.inode _ _

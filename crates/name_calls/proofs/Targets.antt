@@ -10,6 +10,7 @@ use Rattle.fs_layout.specs.declared.inode.Inode.{Inode}
 use Rattle.fs_layout.specs.declared.inode.Kind.{Kind}
 use Rattle.fs_layout.specs.declared.inode.Kind.TheVariants as kinds
 use Rattle.fs_layout.specs.declared.place.Place.{Place}
+use Rattle.fs_layout.specs.declared.version.Version.{Version}
 use Rattle.fs_layout.specs.Bytes.{SectorMap}
 use Rattle.fs_layout.specs.Images.{Holds}
 use Rattle.fs_model.specs.declared.call.Call.TheVariants.{Readlink}
@@ -55,10 +56,10 @@ link_kind kinds.Link e = refl
 pub is_kind_of_link : (k : Kind) → refused_or {A = Unit {0}} (refuse EINVAL (not (is_link_kind k))) (Ok tt) ≡ Ok tt → k ≡ kinds.Link
 is_kind_of_link k is = link_kind k (no_other (is_link_kind k) (met_ok {A = Unit {0}} (refuse EINVAL (not (is_link_kind k))) tt tt is).0)
 
-target_says : (map : SectorMap) (v : Inode) (b : Body) → is_link b ≡ true → HoldsBody map v b → Holds map v (target_in b)
-target_says map v (File a bytes) is h = absurd (cc)
-target_says map v (Dir a d) is h = absurd (cc)
-target_says map v (Link target) is h = h.holds
+target_says : (version : Version) (map : SectorMap) (v : Inode) (b : Body) → is_link b ≡ true → HoldsBody version map v b → Holds map v (target_in b)
+target_says version map v (File a bytes) is h = absurd (cc)
+target_says version map v (Dir a d) is h = absurd (cc)
+target_says version map v (Link target) is h = h.holds
 
 -- what is asked after it is there
 abbrev pub readlink_rest : Tree → Found → List Demand
@@ -66,7 +67,7 @@ readlink_rest t f = refuse EINVAL (not (is_link (the_node t (number f)).body)) �
 
 module _ {p : Place} {map : SectorMap} {t : Tree} (h : HoldsTree p map t) (f : Found) (n : ℕ) (v : Inode) (i : IsInodeFound p map f n v) (there : IsThere t n) where
   -- the node that was found
-  pub node : IsNode map t f n v
+  pub node : IsNode p.version map t f n v
   node = node_of h f n v i.number i.inode there
 
   abbrev pub target_of : List ℕ
@@ -76,7 +77,7 @@ module _ {p : Place} {map : SectorMap} {t : Tree} (h : HoldsTree p map t) (f : F
   other_kind = refuse EINVAL (not (is_link (the_node t (number f)).body))
 
   kind_is : refuse EINVAL (not (is_link_kind v.kind)) ≡ other_kind
-  kind_is = ap (λ (b : Bool). refuse EINVAL (not b)) (link_says map v node.node.body node.holds.body ∙ sym (ap (λ (u : Node). is_link u.body) node.is))
+  kind_is = ap (λ (b : Bool). refuse EINVAL (not b)) (link_says p.version map v node.node.body node.holds.body ∙ sym (ap (λ (u : Node). is_link u.body) node.is))
 
   -- it is no link
   pub other_kind_refused : {A : Type 0} (x : A) (e : Refusal) (old new : DiskState) → refused_or {A = Unit {0}} (refuse EINVAL (not (is_link_kind v.kind))) (Ok tt) ≡ Err e
@@ -92,7 +93,7 @@ module _ {p : Place} {map : SectorMap} {t : Tree} (h : HoldsTree p map t) (f : F
 
     pub target_holds : Holds map v target_of
     target_holds =
-        target_says map v node.node.body
+        target_says p.version map v node.node.body
         (ap (λ (u : Node). is_link u.body) (sym node.is) ∙ no_other (is_link (the_node t (number f)).body) kind_met) node.holds.body
 
     pub target_told : (target : List ℕ) → target_of ≡ target

@@ -9,10 +9,11 @@ use Rattle.fs_layout.specs.declared.place.Place.{Place}
 use Rattle.fs_layout.specs.Bytes.{SectorMap, IsBytes}
 use Rattle.fs_layout.specs.InodeChanges.{ChangesInode}
 use Rattle.fs_layout.specs.Directories.{IsName}
-use Rattle.fs_layout.specs.Images.{bit, free_sectors, inode_at, inode_bitmap}
+use Rattle.fs_layout.specs.Images.{bit, free_sectors, inode_at}
 use Rattle.fs_layout.specs.Maps.{name_cmp, get, with_entry, without}
+use Rattle.fs_layout.specs.Version.{max_name, max_names}
 use Rattle.bit_alloc.specs.Inodes.{KeepsBytes, KeepsAcls}
-use Rattle.fs_model.specs.Limits.{entries_limit, least_free}
+use Rattle.fs_model.specs.Limits.{least_free}
 use Rattle.fs_model.specs.Nodes.{names_in}
 use Rattle.fs_model.specs.Processes.{is_in_use}
 use Rattle.fs_model.specs.States.{State}
@@ -28,9 +29,10 @@ pub record MayMove (p : Place) (map : SectorMap) (s : State) (dir : ℕ) (name :
   pub to_directory : IsDirectoryAt s.tree to_dir
   pub to_leads : get name_cmp (names_in to_directory.node.body) to_name ≡ replaced
   pub is_name : IsName to_name
+  pub short : length to_name ≤ max_name p.version
   pub bytes : IsBytes to_name
   pub other : (m : ℕ) → replaced ≡ Some m → m ≢ n
-  pub has_room : replaced ≡ None → dir ≢ to_dir → (length (names_in to_directory.node.body) < entries_limit) × (least_free ≤ free_sectors p map)
+  pub has_room : replaced ≡ None → dir ≢ to_dir → (length (names_in to_directory.node.body) < max_names p.version) × (least_free ≤ free_sectors p map)
   pub empty : (m : ℕ) → replaced ≡ Some m → (d : IsDirectoryAt s.tree m) → names_in d.node.body ≡ []
   pub unused : (m : ℕ) → replaced ≡ Some m → IsDirectoryAt s.tree m → IsFalse (is_in_use s.desks m)
   pub outside : IsDirectoryAt s.tree n → is_within (length s.tree) s.tree n to_dir ≡ false
@@ -55,7 +57,7 @@ pub record GetsParent (p : Place) (n parent : ℕ) (old new : SectorMap) : Type 
   pub saved : inode_at p new n ≡ record (inode_at p old n) { parent = parent }
   pub bytes : KeepsBytes old new (inode_at p old n) (inode_at p new n)
   pub acls : KeepsAcls old new (inode_at p old n) (inode_at p new n)
-  pub used : bit new inode_bitmap n ≡ bit old inode_bitmap n
+  pub used : bit new p.inode_bitmap n ≡ bit old p.inode_bitmap n
 
 -- what goes from directory dir to to_dir: a directory gets another one as its parent, and nothing else changes
 pub data ParentFollows (p : Place) (n dir to_dir : ℕ) (old new : SectorMap) : Type 0 where

@@ -87,10 +87,10 @@ fn make_directory<S: Sectors>(
     requires sound { IsSound caller.now.place (S.state s.old) }
     requires spare { HasSpare caller.now.place 47 (S.state s.old) }
     requires name { (t : Tree) × HoldsTree caller.now.place (S.state s.old).sectors t
-        × IsNewIn t walked.now.found.dir walked.now.found.name }
+        × IsNewIn caller.now.place t walked.now.found.dir walked.now.found.name }
     ensures store { SameStore (S.state s.old) (S.state s.new) }
     ensures each { (t : Tree) → HoldsTree caller.now.place (S.state s.old).sectors t
-        → IsNewIn t walked.now.found.dir walked.now.found.name
+        → IsNewIn caller.now.place t walked.now.found.dir walked.now.found.name
         → IsMade caller.now.place (S.state s.old) (S.state s.new) walked.now.process.now.cred t walked.now.found
         (born_directory walked.now.process.now.cred walked.now.process.now.umask mode
         (the_node t walked.now.found.dir)) result }

@@ -1,8 +1,8 @@
 //! More names for what is there: POSIX.1-2017, link().
 
 ghost use Rattle.std.specs.Prelude.{◌≡◌, ◌-◌, ◌<◌, nat_le, ℕ, [], ◌∷◌, not, ◌&&◌, Some, Ok, OnOk, IfErr};
-ghost use Rattle.call_parts.specs.DiskWords.{inode_at, SameStore, IsUnchanged, IsSound, HasSpare};
-ghost use Rattle.call_parts.specs.ModelWords.{AddName, changed, swept, refuse, first_of, names_limit, link_demands, Desks, is_directory_kind, number, is_special, HoldsAll, placed, State, Tree, IsDirectoryAt, refused_or, FailsToRead, IsAnswered, HoldsTree, IsThere};
+ghost use Rattle.call_parts.specs.DiskWords.{inode_at, max_inode_names, SameStore, IsUnchanged, IsSound, HasSpare};
+ghost use Rattle.call_parts.specs.ModelWords.{AddName, changed, swept, refuse, first_of, link_demands, Desks, is_directory_kind, number, is_special, HoldsAll, placed, State, Tree, IsDirectoryAt, refused_or, FailsToRead, IsAnswered, HoldsTree, IsThere};
 ghost use Rattle.fs_model.specs.declared.call.Call.TheVariants.{Link};
 ghost use Rattle.call_parts.specs.Performing.{IsStateOf, IsReadyFor, PerformsFor};
 ghost use Rattle.name_calls.specs.Linking.{source_asked, place_asked, MayLink};
@@ -14,7 +14,7 @@ use call_parts::{
     name_inode, set_names, walk_both,
 };
 use fs_cred::{Errno, Refusal};
-use fs_layout::{Inode, Kind, MAX_INODE_NAMES, Place};
+use fs_layout::{Inode, Kind, Place};
 use fs_model::{Found, Last, Path, Reply};
 use open_files::Process;
 use sector_txn::Sectors;
@@ -59,10 +59,11 @@ fn check_source<S: Sectors>(s: &mut S, place: Place, found: &Found) -> Result<(u
 }
 
 // Asks whether what has so many names may have one more.
-fn check_count(names: u32) -> Result<(), Refusal>
-    ensures { result ≡ refused_or (refuse Errno.EMLINK (nat_le names_limit names)) (Ok tt) }
+fn check_count(place: Place, names: u32) -> Result<(), Refusal>
+    ensures { result ≡ refused_or (refuse Errno.EMLINK (nat_le (max_inode_names place.version) names)) (Ok tt) }
 {
-    if names >= MAX_INODE_NAMES {
+    let most = place.version.max_inode_names();
+    if names >= most {
         return Err(Refusal::Failed(Errno::EMLINK));
     }
     Ok(())
@@ -87,7 +88,7 @@ fn check_place<S: Sectors>(
     ensures same { IsUnchanged (S.state s.old) (S.state s.new) }
 {
     let directory = ask_directory(s, caller, process, found, 2)?;
-    check_count(names)?;
+    check_count(caller.place, names)?;
     ask_for_name(s, caller.place, &directory)?;
     Ok(directory)
 }
@@ -136,7 +137,7 @@ fn add_name<S: Sectors>(
 ) -> Result<(), Refusal>
     requires sound { IsSound place (S.state s.old) }
     requires inode { inode.now ≡ inode_at place (S.state s.old).sectors n }
-    requires few { inode.now.names < names_limit }
+    requires few { inode.now.names < max_inode_names place.version }
     requires directory { directory ≡ inode_at place (S.state s.old).sectors dir }
     requires may { (desks : Desks) × (st : State) × IsStateOf place (S.state s.old).sectors desks st
         × MayLink place (S.state s.old).sectors st.tree dir name.now n }
@@ -157,7 +158,7 @@ fn add_name<S: Sectors>(
 ///
 /// EPERM: `old` leads to a directory, or ends in no name. ENOENT: it leads to nothing, or `new` ends in a slash. ENOTDIR: `old`
 /// ends in a slash. EEXIST: there is something of the new name, or `new` ends in no name. EMLINK: there are
-/// [`MAX_INODE_NAMES`] names already.
+/// [`fs_layout::Version::max_inode_names`] names already.
 pub fn link<S: Sectors>(s: &mut S, caller: &Caller, old: &Path, new: &Path) -> CallResult
     requires ready { IsReadyFor caller.now (S.state s.old) }
     ensures { PerformsFor caller.now (Link old.now new.now) (S.state s.old) (S.state s.new) result }

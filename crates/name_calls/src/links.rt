@@ -88,11 +88,11 @@ fn make_link<S: Sectors>(
     requires sound { IsSound caller.now.place (S.state s.old) }
     requires spare { HasSpare caller.now.place 47 (S.state s.old) }
     requires name { (t : Tree) × HoldsTree caller.now.place (S.state s.old).sectors t
-        × IsNewIn t walked.now.found.dir walked.now.found.name }
+        × IsNewIn caller.now.place t walked.now.found.dir walked.now.found.name }
     requires target { IsTarget target.now }
     ensures store { SameStore (S.state s.old) (S.state s.new) }
     ensures each { (t : Tree) → HoldsTree caller.now.place (S.state s.old).sectors t
-        → IsNewIn t walked.now.found.dir walked.now.found.name
+        → IsNewIn caller.now.place t walked.now.found.dir walked.now.found.name
         → IsMade caller.now.place (S.state s.old) (S.state s.new) walked.now.process.now.cred t walked.now.found
         (born_link walked.now.process.now.cred target.now (the_node t walked.now.found.dir)) result }
 {

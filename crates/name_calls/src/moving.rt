@@ -1,7 +1,7 @@
 //! Moving names: what rename() changes.
 
-ghost use Rattle.std.specs.Prelude.{◌≡◌, ◌≢◌, ◌<◌, ℕ, List, None, Some, OnOk, IfErr};
-ghost use Rattle.call_parts.specs.DiskWords.{IsName, HasNames, inode_at, name_cmp, get, with_entry, without, SameStore, IsSound, HasSpare, TakesSpare};
+ghost use Rattle.std.specs.Prelude.{◌≡◌, ◌≢◌, ◌<◌, ◌≤◌, ℕ, List, length, None, Some, OnOk, IfErr};
+ghost use Rattle.call_parts.specs.DiskWords.{IsName, HasNames, max_name, inode_at, name_cmp, get, with_entry, without, SameStore, IsSound, HasSpare, TakesSpare};
 ghost use Rattle.call_parts.specs.ModelWords.{MoveName, changed, swept, Desks, HoldsAll, placed, State, FailsToRead};
 ghost use Rattle.call_parts.specs.Performing.{IsStateOf};
 ghost use Rattle.call_parts.specs.Given.{ChangesNames};
@@ -31,15 +31,16 @@ fn rename_here<S: Sectors>(
     requires sound { IsSound place (S.state s.old) }
     requires below { dir < place.inodes }
     requires named { (names : List (List ℕ × ℕ))
-        × HasNames (S.state s.old).sectors (inode_at place (S.state s.old).sectors dir) names
+        × HasNames place.version (S.state s.old).sectors (inode_at place (S.state s.old).sectors dir) names
         × (get name_cmp names name.now ≢ None) × (get name_cmp names to_name.now ≡ None) }
     requires is_name { IsName to_name.now }
+    requires short { length to_name.now ≤ max_name place.version }
     requires spare { HasSpare place 1 (S.state s.old) }
     ensures store { SameStore (S.state s.old) (S.state s.new) }
     ensures sound { OnOk result (IsSound place (S.state s.new)) }
     ensures taken { OnOk result (TakesSpare place 1 (S.state s.old) (S.state s.new)) }
     ensures renames { OnOk result ((names : List (List ℕ × ℕ)) (n : ℕ)
-        → HasNames (S.state s.old).sectors (inode_at place (S.state s.old).sectors dir) names
+        → HasNames place.version (S.state s.old).sectors (inode_at place (S.state s.old).sectors dir) names
         → get name_cmp names name.now ≡ Some n
         → ChangesNames place dir (λ all. with_entry name_cmp (without name_cmp all name.now) to_name.now n)
         (S.state s.old).sectors (S.state s.new).sectors) }
@@ -88,10 +89,10 @@ fn add_entry<S: Sectors>(
 ) -> Result<(), Refusal>
     requires sound { IsSound place (S.state s.old) }
     requires room { MayBeNamed place (S.state s.old).sectors dir name.now }
-    requires spare { HasSpare place 3 (S.state s.old) }
+    requires spare { HasSpare place 4 (S.state s.old) }
     ensures store { SameStore (S.state s.old) (S.state s.new) }
     ensures sound { OnOk result (IsSound place (S.state s.new)) }
-    ensures taken { OnOk result (TakesSpare place 3 (S.state s.old) (S.state s.new)) }
+    ensures taken { OnOk result (TakesSpare place 4 (S.state s.old) (S.state s.new)) }
     ensures leads { OnOk result (ChangesNames place dir (λ names. with_entry name_cmp names name.now n)
         (S.state s.old).sectors (S.state s.new).sectors) }
     ensures fault { IfErr result (FailsToRead (S.state s.old).disk (S.state s.new).disk) }
@@ -105,10 +106,10 @@ fn add_entry<S: Sectors>(
 fn give_name<S: Sectors>(s: &mut S, place: Place, second: &Found, n: u32) -> Result<(), Refusal>
     requires sound { IsSound place (S.state s.old) }
     requires may { MayLead place (S.state s.old).sectors second.now.dir second.now.name second.now.ino }
-    requires spare { HasSpare place 3 (S.state s.old) }
+    requires spare { HasSpare place 4 (S.state s.old) }
     ensures store { SameStore (S.state s.old) (S.state s.new) }
     ensures sound { OnOk result (IsSound place (S.state s.new)) }
-    ensures taken { OnOk result (TakesSpare place 3 (S.state s.old) (S.state s.new)) }
+    ensures taken { OnOk result (TakesSpare place 4 (S.state s.old) (S.state s.new)) }
     ensures leads { OnOk result (ChangesNames place second.now.dir (λ names. with_entry name_cmp names second.now.name n)
         (S.state s.old).sectors (S.state s.new).sectors) }
     ensures fault { IfErr result (FailsToRead (S.state s.old).disk (S.state s.new).disk) }
@@ -133,10 +134,10 @@ fn move_entry<S: Sectors>(
     requires may { (desks : Desks) × (st : State) × IsStateOf place (S.state s.old).sectors desks st
         × MayMove place (S.state s.old).sectors st first.now.dir first.now.name n
         second.now.dir second.now.name second.now.ino }
-    requires spare { HasSpare place 7 (S.state s.old) }
+    requires spare { HasSpare place 9 (S.state s.old) }
     ensures store { SameStore (S.state s.old) (S.state s.new) }
     ensures sound { OnOk result (IsSound place (S.state s.new)) }
-    ensures taken { OnOk result (TakesSpare place 7 (S.state s.old) (S.state s.new)) }
+    ensures taken { OnOk result (TakesSpare place 9 (S.state s.old) (S.state s.new)) }
     ensures moves { OnOk result (MovesEntry place first.now.dir first.now.name n second.now.dir second.now.name second.now.ino
         (S.state s.old).sectors (S.state s.new).sectors) }
     ensures fault { IfErr result (FailsToRead (S.state s.old).disk (S.state s.new).disk) }

@@ -3,6 +3,7 @@
 ghost use Rattle.std.specs.Prelude.{◌≡◌, ◌<◌, Ok, OnOk, IfErr};
 ghost use Rattle.call_parts.specs.DiskWords.{SectorMap, inode_at, SameStore, IsUnchanged, IsSound, HasSpare};
 ghost use Rattle.call_parts.specs.ModelWords.{TakeName, changed, swept, first_of, Body, is_in_use, number, HoldsAll, placed, State, HoldsBody, Tree, refused_or, FailsToRead, IsAnswered, HoldsTree};
+ghost use Rattle.fs_layout.specs.declared.version.Version.{Version};
 ghost use Rattle.fs_model.specs.declared.call.Call.TheVariants.{Unlink, Rmdir};
 ghost use Rattle.call_parts.specs.Paths.{scene_at};
 ghost use Rattle.call_parts.specs.Performing.{IsStateOf, IsReadyFor, PerformsFor};
@@ -85,7 +86,7 @@ fn check_removal<S: Sectors>(
 
 /// Asks whether what is to go is an empty directory that isn't in use.
 pub(crate) fn check_directory(procs: &Procs, n: u32, inode: &Inode) -> Result<(), Refusal>
-    ensures { (image : SectorMap) (b : Body) → HoldsBody image inode.now b
+    ensures { (version : Version) (image : SectorMap) (b : Body) → HoldsBody version image inode.now b
         → result ≡ refused_or (first_of (directory_asked b (is_in_use procs.now n))) (Ok tt) }
 {
     if inode.kind != Kind::Directory {
@@ -102,7 +103,7 @@ pub(crate) fn check_directory(procs: &Procs, n: u32, inode: &Inode) -> Result<()
 
 // Asks whether what is to go is what the call removes.
 fn check_kind(procs: &Procs, n: u32, inode: &Inode, what: Target) -> Result<(), Refusal>
-    ensures { (image : SectorMap) (b : Body) → HoldsBody image inode.now b
+    ensures { (version : Version) (image : SectorMap) (b : Body) → HoldsBody version image inode.now b
         → result ≡ refused_or (first_of (kind_asked what b (is_in_use procs.now n))) (Ok tt) }
 {
     match what {

@@ -16,10 +16,11 @@ use Rattle.fs_layout.specs.declared.place.Place.{Place}
 use Rattle.fs_layout.specs.Bytes.{SectorMap}
 use Rattle.fs_layout.specs.Images.{inode_at}
 use Rattle.fs_layout.specs.Maps.{name_cmp, get}
+use Rattle.fs_layout.specs.Version.{max_name}
 use Rattle.fs_model.specs.Demands.{Demand, accessed_at, decided, search_of, search_on, search_only}
-use Rattle.fs_model.specs.Limits.{name_limit}
 use Rattle.fs_model.specs.Nodes.{Node, Body, File, Dir, Link, is_directory, names_in, accessed, accessed_body}
 use Rattle.fs_model.specs.Rules.{is_directory_kind}
+use Rattle.fs_model.specs.Stands.{room_of}
 use Rattle.fs_model.specs.Trails.{Faulty, arrival, is_dot, is_dot_dot, looked_up, named_inode}
 use Rattle.fs_model.specs.Trees.{Tree, node_at, parent, IsDirectoryAt}
 use Rattle.path_walk.specs.Answers.{refused_or}
@@ -109,41 +110,41 @@ module _ {p : Place} {image : SectorMap} {t : Tree} (h : HoldsTree p image t) (n
         ap (search_of cred walk k) x.at
         ∙ ap (λ (b : Bool). if b then None else decided walk k Search (verdict cred x.node search_only)) x.kind
 
-    lookup_as : lookup_of t cred walk k n name ≡ refused_or (search_on cred t n walk k) (found_as (looked_up t true false n name (Some s.node)))
-    lookup_as = ap (λ (o : Option Node). refused_or (search_on cred t n walk k) (found_as (looked_up t true false n name o))) s.at
+    lookup_as : lookup_of (room_of p) t cred walk k n name ≡ refused_or (search_on cred t n walk k) (found_as (looked_up (room_of p) t true false n name (Some s.node)))
+    lookup_as = ap (λ (o : Option Node). refused_or (search_on cred t n walk k) (found_as (looked_up (room_of p) t true false n name o))) s.at
 
-    pub no_directory : is_directory_kind v.kind ≡ false → lookup_of t cred walk k n name ≡ Err (Failed ENOTDIR)
+    pub no_directory : is_directory_kind v.kind ≡ false → lookup_of (room_of p) t cred walk k n name ≡ Err (Failed ENOTDIR)
     no_directory e =
         let none : search_on cred t n walk k ≡ None =
         ap (λ (o : Option Node). search_of cred walk k (option_and_then accessed o)) s.at
         ∙ not_searched cred walk k s.node.owner s.node.group s.node.body (sym kind_is ∙ e) in
-        lookup_as ∙ ap (λ (d : Demand). refused_or d (found_as (looked_up t true false n name (Some s.node)))) none
+        lookup_as ∙ ap (λ (d : Demand). refused_or d (found_as (looked_up (room_of p) t true false n name (Some s.node)))) none
         ∙ ap (λ (b : Bool). found_as (if not b then Faulty ENOTDIR
-        else (if nat_lt name_limit (length name) then Faulty ENAMETOOLONG else arrival t true false (named_inode t n (names_in s.node.body) name)))) (sym kind_is ∙ e)
+        else (if nat_lt (max_name p.version) (length name) then Faulty ENAMETOOLONG else arrival t true false (named_inode t n (names_in s.node.body) name)))) (sym kind_is ∙ e)
 
     -- search is refused
     pub search_refused : (x : IsSearched image t n v) (e : Refusal)
-        → refused_or {A = Unit {0}} (decided walk k Search (verdict cred x.node search_only)) (Ok tt) ≡ Err e → lookup_of t cred walk k n name ≡ Err e
+        → refused_or {A = Unit {0}} (decided walk k Search (verdict cred x.node search_only)) (Ok tt) ≡ Err e → lookup_of (room_of p) t cred walk k n name ≡ Err e
     search_refused x e r =
-        refused_on (search_on cred t n walk k) e (found_as (looked_up t true false n name (node_at t n)))
+        refused_on (search_on cred t n walk k) e (found_as (looked_up (room_of p) t true false n name (node_at t n)))
         (ap (λ (d : Demand). refused_or {A = Unit {0}} d (Ok tt)) (search_is x) ∙ r)
 
     -- or it isn't
     module _ (e : is_directory_kind v.kind ≡ true) (x : IsSearched image t n v)
         (r : refused_or {A = Unit {0}} (decided walk k Search (verdict cred x.node search_only)) (Ok tt) ≡ Ok tt) where
-      past_search : lookup_of t cred walk k n name
-          ≡ found_as (if nat_lt name_limit (length name) then Faulty ENAMETOOLONG else arrival t true false (named_inode t n (names_in s.node.body) name))
+      past_search : lookup_of (room_of p) t cred walk k n name
+          ≡ found_as (if nat_lt (max_name p.version) (length name) then Faulty ENAMETOOLONG else arrival t true false (named_inode t n (names_in s.node.body) name))
       past_search =
           let none : search_on cred t n walk k ≡ None = search_is x ∙ not_refused (decided walk k Search (verdict cred x.node search_only)) r in
-          lookup_as ∙ ap (λ (d : Demand). refused_or d (found_as (looked_up t true false n name (Some s.node)))) none
+          lookup_as ∙ ap (λ (d : Demand). refused_or d (found_as (looked_up (room_of p) t true false n name (Some s.node)))) none
           ∙ ap (λ (b : Bool). found_as (if not b then Faulty ENOTDIR
-          else (if nat_lt name_limit (length name) then Faulty ENAMETOOLONG else arrival t true false (named_inode t n (names_in s.node.body) name)))) (sym kind_is ∙ e)
+          else (if nat_lt (max_name p.version) (length name) then Faulty ENAMETOOLONG else arrival t true false (named_inode t n (names_in s.node.body) name)))) (sym kind_is ∙ e)
 
-      pub too_long : nat_lt name_limit (length name) ≡ true → lookup_of t cred walk k n name ≡ Err (Failed ENAMETOOLONG)
+      pub too_long : nat_lt (max_name p.version) (length name) ≡ true → lookup_of (room_of p) t cred walk k n name ≡ Err (Failed ENAMETOOLONG)
       too_long l =
           past_search ∙ ap (λ (b : Bool). found_as (if b then Faulty ENAMETOOLONG else arrival t true false (named_inode t n (names_in s.node.body) name))) l
 
-      pub is_named : nat_lt name_limit (length name) ≡ false → (o : Option ℕ) → named_inode t n (names_in s.node.body) name ≡ o → lookup_of t cred walk k n name ≡ Ok o
+      pub is_named : nat_lt (max_name p.version) (length name) ≡ false → (o : Option ℕ) → named_inode t n (names_in s.node.body) name ≡ o → lookup_of (room_of p) t cred walk k n name ≡ Ok o
       is_named l o named =
           past_search ∙ ap (λ (b : Bool). found_as (if b then Faulty ENAMETOOLONG else arrival t true false (named_inode t n (names_in s.node.body) name))) l
           ∙ found_alone t (named_inode t n (names_in s.node.body) name) ∙ ap (λ (q : Option ℕ). Ok q) named

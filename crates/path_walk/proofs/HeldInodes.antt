@@ -52,10 +52,10 @@ module _ {p : Place} {image : SectorMap} {t : Tree} (h : HoldsTree p image t) (n
   abbrev pub v : Inode
   v = inode_at p image n
 
-  acl_says : (b : Body) (x : AccessNode) → node.body ≡ b → HoldsBody image v b → accessed_body v.uid v.gid b ≡ Some x → HasAcl image v x.acl
-  acl_says b x is held e = (access_says image v v.uid v.gid b x refl refl ((held_node h n node at).mode ∙ ap shown_mode is) held e).acl
+  acl_says : (b : Body) (x : AccessNode) → node.body ≡ b → HoldsBody p.version image v b → accessed_body v.uid v.gid b ≡ Some x → HasAcl image v x.acl
+  acl_says b x is held e = (access_says p.version image v v.uid v.gid b x refl refl ((held_node h n node at).mode ∙ ap shown_mode is) held e).acl
 
-  body_says : (b : Body) → node.body ≡ b → HoldsBody image v b → IsBody (room_of p) t b → IsSoundInode p image v
+  body_says : (b : Body) → node.body ≡ b → HoldsBody p.version image v b → IsBody (room_of p) t b → IsSoundInode p image v
   body_says (File a bytes) is held fits = record {
     directory = λ e. absurd (no_directory_file v held.kind e);
     acl = λ e. (a, acl_says (File a bytes) (record { kind = nodes.File; owner = v.uid; group = v.gid; acl = a }) is held refl);

@@ -9,6 +9,7 @@ use Rattle.fs_layout.specs.declared.inode.TheConstants.{S_ISGID, S_ISVTX}
 use Rattle.fs_layout.specs.declared.inode.Inode.{Inode}
 use Rattle.fs_layout.specs.declared.inode.Kind.TheVariants as kinds
 use Rattle.fs_layout.specs.declared.place.Place.{Place}
+use Rattle.fs_layout.specs.declared.version.Version.{Version}
 use Rattle.fs_layout.specs.Bytes.{SectorMap}
 use Rattle.fs_layout.specs.Images.{inode_at, Holds}
 use Rattle.fs_layout.specs.Directories.{HasNames}
@@ -48,15 +49,15 @@ low_bits n false true lt = omega (arith, lt)
 low_bits n false false lt = omega (arith, lt)
 
 -- an inode of a directory has the kind of one, and no other has
-kind_says : (image : SectorMap) (v : Inode) (b : Body) → HoldsBody image v b → is_directory_kind v.kind ≡ is_directory b
-kind_says image v (File a bytes) h = ap is_directory_kind h.kind
-kind_says image v (Dir a d) h = ap is_directory_kind h.names.kind
-kind_says image v (Link target) h = ap is_directory_kind h.kind
+kind_says : (version : Version) (image : SectorMap) (v : Inode) (b : Body) → HoldsBody version image v b → is_directory_kind v.kind ≡ is_directory b
+kind_says version image v (File a bytes) h = ap is_directory_kind h.kind
+kind_says version image v (Dir a d) h = ap is_directory_kind h.names.kind
+kind_says version image v (Link target) h = ap is_directory_kind h.kind
 
 -- what access is decided on
-pub access_says : (image : SectorMap) (v : Inode) (owner group : ℕ) (b : Body) (x : AccessNode) → v.uid ≡ owner → v.gid ≡ group → v.mode ≡ shown_mode b
-    → HoldsBody image v b → accessed_body owner group b ≡ Some x → HasAccess image v x
-access_says image v owner group (File a bytes) x o g m h e =
+pub access_says : (version : Version) (image : SectorMap) (v : Inode) (owner group : ℕ) (b : Body) (x : AccessNode) → v.uid ≡ owner → v.gid ≡ group → v.mode ≡ shown_mode b
+    → HoldsBody version image v b → accessed_body owner group b ≡ Some x → HasAccess image v x
+access_says version image v owner group (File a bytes) x o g m h e =
     let is : record { kind = nodes.File; owner = owner; group = group; acl = a } ≡ x = cc in
     subst (HasAccess image v) is (record {
       kind = h.kind;
@@ -64,7 +65,7 @@ access_says image v owner group (File a bytes) x o g m h e =
       group = g;
       acl = record { valid = h.acl; stored = h.has_acl; bits = (let small = mode_small a in omega (arith, m, small)) };
     })
-access_says image v owner group (Dir a d) x o g m h e =
+access_says version image v owner group (Dir a d) x o g m h e =
     let is : record { kind = nodes.Directory; owner = owner; group = group; acl = a } ≡ x = cc in
     subst (HasAccess image v) is (record {
       kind = h.names.kind;
@@ -72,24 +73,24 @@ access_says image v owner group (Dir a d) x o g m h e =
       group = g;
       acl = record { valid = h.acl; stored = h.has_acl; bits = ap (λ (n : ℕ). n % 512) m ∙ low_bits (mode_bits a) d.sticky d.set_group_id (mode_small a) };
     })
-access_says image v owner group (Link target) x o g m h e = absurd (cc)
+access_says version image v owner group (Link target) x o g m h e = absurd (cc)
 
 -- a directory's names, and its default ACL
-pub names_say : (image : SectorMap) (v : Inode) (b : Body) → IsTrue (is_directory b) → HoldsBody image v b → HasNames image v (names_in b)
-names_say image v (File a bytes) is h = absurd (cc)
-names_say image v (Dir a d) is h = h.names
-names_say image v (Link target) is h = absurd (cc)
+pub names_say : (version : Version) (image : SectorMap) (v : Inode) (b : Body) → IsTrue (is_directory b) → HoldsBody version image v b → HasNames version image v (names_in b)
+names_say version image v (File a bytes) is h = absurd (cc)
+names_say version image v (Dir a d) is h = h.names
+names_say version image v (Link target) is h = absurd (cc)
 
-pub default_says : (image : SectorMap) (v : Inode) (b : Body) → IsTrue (is_directory b) → HoldsBody image v b → HasDefaultAcl image v (default_in b)
-default_says image v (File a bytes) is h = absurd (cc)
-default_says image v (Dir a d) is h = record { valid = h.default; stored = h.has_default }
-default_says image v (Link target) is h = absurd (cc)
+pub default_says : (version : Version) (image : SectorMap) (v : Inode) (b : Body) → IsTrue (is_directory b) → HoldsBody version image v b → HasDefaultAcl image v (default_in b)
+default_says version image v (File a bytes) is h = absurd (cc)
+default_says version image v (Dir a d) is h = record { valid = h.default; stored = h.has_default }
+default_says version image v (Link target) is h = absurd (cc)
 
 -- a file's bytes
-pub bytes_say : (image : SectorMap) (v : Inode) (b : Body) → v.kind ≡ kinds.File → HoldsBody image v b → Holds image v (bytes_in b)
-bytes_say image v (File a bytes) is h = h.holds
-bytes_say image v (Dir a d) is h = absurd (let c : kinds.Directory ≡ kinds.File = sym h.names.kind ∙ is in cc)
-bytes_say image v (Link target) is h = absurd (let c : kinds.Link ≡ kinds.File = sym h.kind ∙ is in cc)
+pub bytes_say : (version : Version) (image : SectorMap) (v : Inode) (b : Body) → v.kind ≡ kinds.File → HoldsBody version image v b → Holds image v (bytes_in b)
+bytes_say version image v (File a bytes) is h = h.holds
+bytes_say version image v (Dir a d) is h = absurd (let c : kinds.Directory ≡ kinds.File = sym h.names.kind ∙ is in cc)
+bytes_say version image v (Link target) is h = absurd (let c : kinds.Link ≡ kinds.File = sym h.kind ∙ is in cc)
 
 -- what is stored of where a directory is named
 pub parent_says : (b : Body) (parent : ℕ) → IsTrue (is_directory b) → parent_field b parent ≡ parent
@@ -104,17 +105,17 @@ module _ {p : Place} {image : SectorMap} {t : Tree} (h : HoldsTree p image t) wh
 
   -- its inode holds it
   pub held_node : (n : ℕ) (node : Node) → node_at t n ≡ Some node
-      → HoldsNode image (inode_at p image n) (record { node = node; names = names_of t n; parent = parent t n })
+      → HoldsNode p.version image (inode_at p image n) (record { node = node; names = names_of t n; parent = parent t n })
   held_node n node at =
       subst (λ (o : Option Node). HoldsPlaced p image n (option_map (λ m. record { node = m; names = names_of t n; parent = parent t n }) o)) at
       (h.holds.nodes n (number_below n (is_there t n node at)))
 
   pub held_kind : (n : ℕ) (node : Node) → node_at t n ≡ Some node → is_directory_kind (inode_at p image n).kind ≡ is_directory node.body
-  held_kind n node at = kind_says image (inode_at p image n) node.body (held_node n node at).body
+  held_kind n node at = kind_says p.version image (inode_at p image n) node.body (held_node n node at).body
 
   -- of a directory: its names, and its parent
-  pub held_names : (n : ℕ) → (d : IsDirectoryAt t n) → HasNames image (inode_at p image n) (names_in d.node.body)
-  held_names n d = names_say image (inode_at p image n) d.node.body d.directory (held_node n d.node d.is_there).body
+  pub held_names : (n : ℕ) → (d : IsDirectoryAt t n) → HasNames p.version image (inode_at p image n) (names_in d.node.body)
+  held_names n d = names_say p.version image (inode_at p image n) d.node.body d.directory (held_node n d.node d.is_there).body
 
   pub held_parent : (n : ℕ) → IsDirectoryAt t n → (inode_at p image n).parent ≡ parent t n
   held_parent n d = (held_node n d.node d.is_there).parent ∙ parent_says d.node.body (parent t n) d.directory
@@ -127,11 +128,11 @@ module _ {p : Place} {image : SectorMap} {t : Tree} (h : HoldsTree p image t) wh
       go None at e = absurd (cc)
       go (Some node) at e =
           let held = held_node n node at in
-          access_says image (inode_at p image n) node.owner node.group node.body x held.owner held.group held.mode held.body e
+          access_says p.version image (inode_at p image n) node.owner node.group node.body x held.owner held.group held.mode held.body e
 
   -- of a symbolic link: its target
   pub held_target : (n : ℕ) (node : Node) (target : List ℕ) → node_at t n ≡ Some node → node.body ≡ Link target → Holds image (inode_at p image n) target
-  held_target n node target at is = (subst (HoldsBody image (inode_at p image n)) is (held_node n node at).body).holds
+  held_target n node target at is = (subst (HoldsBody p.version image (inode_at p image n)) is (held_node n node at).body).holds
 
   -- what a name in a directory leads to is there
   pub named_there : (n : ℕ) (d : IsDirectoryAt t n) (name : List ℕ) (m : ℕ) → named_inode t n (names_in d.node.body) name ≡ Some m → IsThere t m

@@ -1,5 +1,5 @@
 -- What reads leave as it was.
-use Rattle.std.proofs.Common.{◌≡◌, ◌≤◌, ◌∙◌, Result, Ok, Err, sym, ap, subst, arith, inl, inr, ◌⊎◌}
+use Rattle.std.proofs.Common.{◌≡◌, ◌≤◌, ◌∙◌, Result, Ok, Err, sym, ap, subst, inl, inr, ◌⊎◌}
 use Rattle.std.specs.Prelude.{IsErr, IsErrAnd, IfOk, IfErr, OnOk}
 use Rattle.sector_disk.specs.Disk.{DiskState}
 use Rattle.sector_disk.proofs.Moments.{failed_later}
@@ -8,7 +8,6 @@ use Rattle.fs_cred.specs.declared.refusal.Refusal.{Refusal}
 use Rattle.fs_cred.specs.declared.refusal.Refusal.TheVariants.{Failed}
 use Rattle.fs_layout.specs.declared.place.Place.{Place}
 use Rattle.fs_layout.specs.Bytes.{SectorMap}
-use Rattle.fs_layout.specs.Images.{HasWholeTables}
 use Rattle.fs_layout.specs.Ownership.{IsConsistent}
 use Rattle.sector_txn.specs.Sectors.{TxnState, IsUnchanged}
 use Rattle.bit_alloc.specs.Faults.{HasCauseOf}

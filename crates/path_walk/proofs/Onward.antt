@@ -8,12 +8,11 @@ use Rattle.fs_cred.specs.declared.refusal.Refusal.{Refusal}
 use Rattle.fs_cred.specs.declared.refusal.Refusal.TheVariants.{Failed}
 use Rattle.fs_model.specs.declared.walk.Form.{Form}
 use Rattle.fs_model.specs.declared.walk.Found.{Found}
-use Rattle.fs_model.specs.Limits.{name_limit}
 use Rattle.fs_model.specs.Demands.{Demand, refuse, or_else, search_on}
 use Rattle.fs_model.specs.Nodes.{Node, Body, File, Dir, Link, is_directory, names_in}
 use Rattle.fs_model.specs.Parts.{parts_of, start_of, is_empty}
 use Rattle.fs_model.specs.Trails.{Lookup, Trail, Outcome, Faulty, Absent, Reaches, Through, GoesOn, reached, reached_body, named_inode, arrival, looked_up, after_lookup, ends_at, through_if, onward, lookups_from, trail_with}
-use Rattle.fs_model.specs.Trees.{Tree, node_at}
+use Rattle.fs_model.specs.Trees.{Tree, Room, node_at}
 use Rattle.fs_model.specs.Walks.{least_refusal, slash_refusal, is_parent_form, is_nondirectory}
 use Rattle.path_walk.specs.Answers.{refused_or}
 use Rattle.path_walk.specs.Lookups.{looked_up_alone, found_as, lookup_of}
@@ -126,10 +125,10 @@ module _ (t : Tree) (cred : Credential) (walk : ℕ) (form : Form) where
   by_arrival is_last follow None = refl
   by_arrival is_last follow (Some n) = sym (ap (widened is_last follow) (alone_reaches n (node_at t n)))
 
-  by_node : (is_last follow : Bool) (dir : ℕ) (name : List ℕ) (o : Option Node)
-      → looked_up t is_last follow dir name o ≡ widened is_last follow (looked_up t true false dir name o)
-  by_node is_last follow dir name None = refl
-  by_node is_last follow dir name (Some node) = go (is_directory node.body) (nat_lt name_limit (length name))
+  by_node : (room : Room) (is_last follow : Bool) (dir : ℕ) (name : List ℕ) (o : Option Node)
+      → looked_up room t is_last follow dir name o ≡ widened is_last follow (looked_up room t true false dir name o)
+  by_node room is_last follow dir name None = refl
+  by_node room is_last follow dir name (Some node) = go (is_directory node.body) (nat_lt room.name_limit (length name))
     where
       go : (directory long : Bool)
           → cond (not directory) (Faulty ENOTDIR) (cond long (Faulty ENAMETOOLONG) (arrival t is_last follow (named_inode t dir (names_in node.body) name)))
@@ -143,9 +142,9 @@ module _ (t : Tree) (cred : Credential) (walk : ℕ) (form : Form) where
   is_arrival_through None target e = cc
   is_arrival_through (Some n) target e = let r : reached false n (node_at t n) ≡ Reaches n = alone_reaches n (node_at t n) in cc
 
-  never_through : (dir : ℕ) (name : List ℕ) (o : Option Node) (target : List ℕ) → looked_up t true false dir name o ≢ Through target
-  never_through dir name None target e = cc
-  never_through dir name (Some node) target e = go (is_directory node.body) (nat_lt name_limit (length name)) e
+  never_through : (room : Room) (dir : ℕ) (name : List ℕ) (o : Option Node) (target : List ℕ) → looked_up room t true false dir name o ≢ Through target
+  never_through room dir name None target e = cc
+  never_through room dir name (Some node) target e = go (is_directory node.body) (nat_lt room.name_limit (length name)) e
     where
       go : (directory long : Bool)
           → cond (not directory) (Faulty ENOTDIR) (cond long (Faulty ENAMETOOLONG) (arrival t true false (named_inode t dir (names_in node.body) name))) ≡ Through target → ⊥
@@ -154,39 +153,39 @@ module _ (t : Tree) (cred : Credential) (walk : ℕ) (form : Form) where
       go true false e = is_arrival_through (named_inode t dir (names_in node.body) name) target e
 
   -- ---- the walk with so many links
-  abbrev pub links_behind : Bool → ℕ → Option GoesOn
-  links_behind follow zero = None
-  links_behind follow (suc links) = Some (trail_with t follow links)
+  abbrev pub links_behind : Room → Bool → ℕ → Option GoesOn
+  links_behind room follow zero = None
+  links_behind room follow (suc links) = Some (trail_with room t follow links)
 
-  pub with_links : (follow : Bool) (links : ℕ) → trail_with t follow links ≡ lookups_from t follow (links_behind follow links)
-  with_links follow zero = refl
-  with_links follow (suc links) = refl
+  pub with_links : (room : Room) (follow : Bool) (links : ℕ) → trail_with room t follow links ≡ lookups_from room t follow (links_behind room follow links)
+  with_links room follow zero = refl
+  with_links room follow (suc links) = refl
 
-  module _ (follow : Bool) (links k : ℕ) (m : Lookup) (dir : ℕ) (name : List ℕ) (names : List (List ℕ)) (slash : Bool) where
+  module _ (room : Room) (follow : Bool) (links k : ℕ) (m : Lookup) (dir : ℕ) (name : List ℕ) (names : List (List ℕ)) (slash : Bool) where
     abbrev whole : Result Found Refusal
-    whole = rest_of t cred walk form k m (trail_with t follow links dir (name ∷ names) slash)
+    whole = rest_of t cred walk form k m (trail_with room t follow links dir (name ∷ names) slash)
 
     abbrev rest : ℕ → Trail
-    rest n = trail_with t follow links n names slash
+    rest n = trail_with room t follow links n names slash
 
     abbrev then_after : Outcome → Result Found Refusal
-    then_after o = after dir name names slash k (links_behind follow links) rest (widened (is_empty names) follow o)
+    then_after o = after dir name names slash k (links_behind room follow links) rest (widened (is_empty names) follow o)
 
-    pub one_lookup : whole ≡ refused_or (search_on cred t dir walk k) (then_after (looked_up_alone t dir name))
+    pub one_lookup : whole ≡ refused_or (search_on cred t dir walk k) (then_after (looked_up_alone room t dir name))
     one_lookup =
-        ap (λ (go_on : GoesOn). rest_of t cred walk form k m (go_on dir (name ∷ names) slash)) (with_links follow links)
-        ∙ by_outcome k m (links_behind follow links) (λ n. lookups_from t follow (links_behind follow links) n names slash) dir name names slash
-        (looked_up t (is_empty names) follow dir name (node_at t dir))
+        ap (λ (go_on : GoesOn). rest_of t cred walk form k m (go_on dir (name ∷ names) slash)) (with_links room follow links)
+        ∙ by_outcome k m (links_behind room follow links) (λ n. lookups_from room t follow (links_behind room follow links) n names slash) dir name names slash
+        (looked_up room t (is_empty names) follow dir name (node_at t dir))
         ∙ ap (λ (o : Outcome). refused_or (search_on cred t dir walk k)
-        (after dir name names slash k (links_behind follow links) (λ n. lookups_from t follow (links_behind follow links) n names slash) o))
-        (by_node (is_empty names) follow dir name (node_at t dir))
+        (after dir name names slash k (links_behind room follow links) (λ n. lookups_from room t follow (links_behind room follow links) n names slash) o))
+        (by_node room (is_empty names) follow dir name (node_at t dir))
         ∙ ap (λ (go_on : GoesOn). refused_or (search_on cred t dir walk k)
-        (after dir name names slash k (links_behind follow links) (λ n. go_on n names slash) (widened (is_empty names) follow (looked_up_alone t dir name))))
-        (sym (with_links follow links))
+        (after dir name names slash k (links_behind room follow links) (λ n. go_on n names slash) (widened (is_empty names) follow (looked_up_alone room t dir name))))
+        (sym (with_links room follow links))
 
     -- the lookup is refused
-    pub is_refused : (e : Refusal) → lookup_of t cred walk k dir name ≡ Err e → whole ≡ Err e
-    is_refused e h = one_lookup ∙ go (search_on cred t dir walk k) (looked_up_alone t dir name) (never_through dir name (node_at t dir)) h
+    pub is_refused : (e : Refusal) → lookup_of room t cred walk k dir name ≡ Err e → whole ≡ Err e
+    is_refused e h = one_lookup ∙ go (search_on cred t dir walk k) (looked_up_alone room t dir name) (never_through room dir name (node_at t dir)) h
       where
         go : (d : Demand) (o : Outcome) → ((target : List ℕ) → o ≢ Through target) → refused_or d (found_as o) ≡ Err e → refused_or d (then_after o) ≡ Err e
         go (Some r) o never h = let same : r ≡ e = cc in ap (λ (x : Refusal). Err x) same
@@ -196,11 +195,11 @@ module _ (t : Tree) (cred : Credential) (walk : ℕ) (form : Form) where
         go None (Through target) never h = absurd (never target refl)
 
     -- the name leads to nothing
-    pub is_absent : lookup_of t cred walk k dir name ≡ Ok None
+    pub is_absent : lookup_of room t cred walk k dir name ≡ Ok None
         → whole ≡ (if is_empty names then Ok (found_at (k + 1) (done dir name) None slash) else Err (Failed ENOENT))
-    is_absent h = one_lookup ∙ go (search_on cred t dir walk k) (looked_up_alone t dir name) (never_through dir name (node_at t dir)) h
+    is_absent h = one_lookup ∙ go (search_on cred t dir walk k) (looked_up_alone room t dir name) (never_through room dir name (node_at t dir)) h
       where
-        last : (b : Bool) → after dir name names slash k (links_behind follow links) rest (if b then Absent else Faulty ENOENT)
+        last : (b : Bool) → after dir name names slash k (links_behind room follow links) rest (if b then Absent else Faulty ENOENT)
             ≡ (if b then Ok (found_at (k + 1) (done dir name) None slash) else Err (Failed ENOENT))
         last true = refl
         last false = refl
@@ -214,9 +213,9 @@ module _ (t : Tree) (cred : Credential) (walk : ℕ) (form : Form) where
         go None (Through target) never h = absurd (never target refl)
 
     -- the name leads to inode n
-    pub is_found : (n : ℕ) → lookup_of t cred walk k dir name ≡ Ok (Some n)
-        → whole ≡ after dir name names slash k (links_behind follow links) rest (reached (follow || not (is_empty names)) n (node_at t n))
-    is_found n h = one_lookup ∙ go (search_on cred t dir walk k) (looked_up_alone t dir name) (never_through dir name (node_at t dir)) h
+    pub is_found : (n : ℕ) → lookup_of room t cred walk k dir name ≡ Ok (Some n)
+        → whole ≡ after dir name names slash k (links_behind room follow links) rest (reached (follow || not (is_empty names)) n (node_at t n))
+    is_found n h = one_lookup ∙ go (search_on cred t dir walk k) (looked_up_alone room t dir name) (never_through room dir name (node_at t dir)) h
       where
         go : (d : Demand) (o : Outcome) → ((target : List ℕ) → o ≢ Through target) → refused_or d (found_as o) ≡ Ok (Some n)
             → refused_or d (then_after o) ≡ then_after (Reaches n)

@@ -8,6 +8,7 @@ use Rattle.fs_cred.specs.declared.refusal.Refusal.{Refusal}
 use Rattle.fs_cred.specs.declared.refusal.Refusal.TheVariants.{Failed}
 use Rattle.fs_layout.specs.declared.inode.Inode.{Inode}
 use Rattle.fs_layout.specs.declared.place.Place.{Place}
+use Rattle.fs_layout.specs.declared.version.Version.{Version}
 use Rattle.fs_layout.specs.Bytes.{SectorMap}
 use Rattle.fs_layout.specs.Images.{inode_at, Holds}
 use Rattle.fs_model.specs.declared.walk.Form.{Form}
@@ -64,64 +65,64 @@ module _ (t : Tree) (cred : Credential) (number : ℕ) (form : Form) where
       ∙ ap (λ (n : ℕ). found (last_from (done start []) trail.lookups) (nat_eq (0 + length trail.lookups) 0) n)
       (let same : length trail.lookups ≡ 0 + length trail.lookups = omega arith in same)
 
-same_rest : (t : Tree) (cred : Credential) (form : Form) {n n' k k' l l' h h' : ℕ} {m m' : Lookup} {f f' s s' : Bool} {ns ns' : List (List ℕ)}
+same_rest : (room : Room) (t : Tree) (cred : Credential) (form : Form) {n n' k k' l l' h h' : ℕ} {m m' : Lookup} {f f' s s' : Bool} {ns ns' : List (List ℕ)}
     → n ≡ n' → k ≡ k' → m ≡ m' → f ≡ f' → l ≡ l' → h ≡ h' → ns ≡ ns' → s ≡ s'
-    → rest_of t cred n form k m (trail_with t f l h ns s) ≡ rest_of t cred n' form k' m' (trail_with t f' l' h' ns' s')
-same_rest t cred form a b c d e f g h = cc
+    → rest_of t cred n form k m (trail_with room t f l h ns s) ≡ rest_of t cred n' form k' m' (trail_with room t f' l' h' ns' s')
+same_rest room t cred form a b c d e f g h = cc
 
-module _ (t : Tree) (cred : Credential) (form : Form) where
+module _ (room : Room) (t : Tree) (cred : Credential) (form : Form) where
   -- at the start its walk is the whole one
   pub start_stage : (number cwd : ℕ) (path : List ℕ) (follow : Bool) (w : Walker) → IsStart cwd path number w → follow ≡ follows_last form (parts_of path)
-      → walk_of t cred number form cwd path ≡ stage_of t cred form follow w (names_ahead w)
+      → walk_of room t cred number form cwd path ≡ stage_of room t cred form follow w (names_ahead w)
   unfolding trail_of
   start_stage number cwd path follow w start is =
       let from : ℕ = start_of (parts_of path) cwd in
       let last : done from [] ≡ last_done w = ap (λ (d : ℕ). done d []) (sym start.here ∙ sym start.dir) ∙ ap (done w.dir) (sym start.name) in
       let names : components_of path ≡ names_ahead w = ap components_of (sym start.rest) ∙ ap (λ (n : ℕ). components_of (drop n w.rest.items)) (sym start.at) in
-      started t cred number form from (trail_with t (follows_last form (parts_of path)) links_limit from (components_of path) (parts_of path).slash_at_end)
-      ∙ same_rest t cred form (sym start.number_is) (sym start.step) last (sym is) (sym start.links) (sym start.here) names (sym start.slash)
+      started t cred number form from (trail_with room t (follows_last form (parts_of path)) links_limit from (components_of path) (parts_of path).slash_at_end)
+      ∙ same_rest room t cred form (sym start.number_is) (sym start.step) last (sym is) (sym start.links) (sym start.here) names (sym start.slash)
 
   -- a component is taken
   any_last : (number : ℕ) (follow : Bool) (links k : ℕ) (m m' : Lookup) (dir : ℕ) (name : List ℕ) (names : List (List ℕ)) (slash : Bool)
-      → rest_of t cred number form k m (trail_with t follow links dir (name ∷ names) slash)
-      ≡ rest_of t cred number form k m' (trail_with t follow links dir (name ∷ names) slash)
+      → rest_of t cred number form k m (trail_with room t follow links dir (name ∷ names) slash)
+      ≡ rest_of t cred number form k m' (trail_with room t follow links dir (name ∷ names) slash)
   any_last number follow links k m m' dir name names slash =
-      one_lookup t cred number form follow links k m dir name names slash ∙ sym (one_lookup t cred number form follow links k m' dir name names slash)
+      one_lookup t cred number form room follow links k m dir name names slash ∙ sym (one_lookup t cred number form room follow links k m' dir name names slash)
 
   pub taken_stage : (follow : Bool) (old new : Walker) → HasTaken old new
-      → stage_of t cred form follow old (names_ahead old) ≡ stage_of t cred form follow new (new.name.items ∷ names_ahead new)
+      → stage_of room t cred form follow old (names_ahead old) ≡ stage_of room t cred form follow new (new.name.items ∷ names_ahead new)
   taken_stage follow old new taken =
       let is = taken.is in
-      same_rest t cred form (sym (ap (λ (w : Walker). w.number) is)) (sym (ap (λ (w : Walker). w.step) is)) refl refl (sym (ap (λ (w : Walker). w.links) is))
+      same_rest room t cred form (sym (ap (λ (w : Walker). w.number) is)) (sym (ap (λ (w : Walker). w.step) is)) refl refl (sym (ap (λ (w : Walker). w.links) is))
       (sym (ap (λ (w : Walker). w.here) is)) taken.names (sym (ap (λ (w : Walker). w.slash) is))
       ∙ any_last new.number follow new.links new.step (last_done old) (last_done new) new.here new.name.items (names_ahead new) new.slash
 
   -- no component is left
   pub end_stage : (p : Place) (image : SectorMap) (follow : Bool) (w : Walker) → HoldsTree p image t → IsAt p image w → IsThere t w.here → names_ahead w ≡ []
-      → stage_of t cred form follow w (names_ahead w) ≡ arrival_of form w
+      → stage_of room t cred form follow w (names_ahead w) ≡ arrival_of form w
   end_stage p image follow w h at there none =
       let s = stands t w.here there in
       let kind : is_nondirectory t (Some w.here) ≡ not (is_directory_kind w.inode.kind) =
       ap is_nondirectory_node s.at ∙ ap not (sym (held_kind h w.here s.node s.at)) ∙ ap (λ (v : Inode). not (is_directory_kind v.kind)) (sym at.inode) in
-      ap (stage_of t cred form follow w) none
-      ∙ ap (λ (go_on : GoesOn). rest_of t cred w.number form w.step (last_done w) (go_on w.here [] w.slash)) (with_links t cred w.number form follow w.links)
+      ap (stage_of room t cred form follow w) none
+      ∙ ap (λ (go_on : GoesOn). rest_of t cred w.number form w.step (last_done w) (go_on w.here [] w.slash)) (with_links t cred w.number form room follow w.links)
       ∙ arrived t cred w.number form w.step (last_done w) w.here w.slash
       ∙ ap (λ (b : Bool). refused_or (refuse ENOTDIR (not (is_parent_form form) && w.slash && b)) (Ok (found_at w.step (last_done w) (Some w.here) w.slash))) kind
 
   -- ---- a lookup
   module _ (follow : Bool) (w : Walker) (taken : w.dir ≡ w.here) where
     abbrev stage : Result Found Refusal
-    stage = stage_of t cred form follow w (w.name.items ∷ names_ahead w)
+    stage = stage_of room t cred form follow w (w.name.items ∷ names_ahead w)
 
     abbrev answer : Result (Option ℕ) Refusal
-    answer = lookup_of t cred w.number w.step w.here w.name.items
+    answer = lookup_of room t cred w.number w.step w.here w.name.items
 
     pub refused_stage : (e : Refusal) → answer ≡ Err e → stage ≡ Err e
-    refused_stage e a = is_refused t cred w.number form follow w.links w.step (last_done w) w.here w.name.items (names_ahead w) w.slash e a
+    refused_stage e a = is_refused t cred w.number form room follow w.links w.step (last_done w) w.here w.name.items (names_ahead w) w.slash e a
 
     absent_stage : answer ≡ Ok None
         → stage ≡ (if is_empty (names_ahead w) then Ok (found_at (w.step + 1) (done w.here w.name.items) None w.slash) else Err (Failed ENOENT))
-    absent_stage a = is_absent t cred w.number form follow w.links w.step (last_done w) w.here w.name.items (names_ahead w) w.slash a
+    absent_stage a = is_absent t cred w.number form room follow w.links w.step (last_done w) w.here w.name.items (names_ahead w) w.slash a
 
     pub lost_stage : answer ≡ Ok None → is_empty (names_ahead w) ≡ false → stage ≡ Err (Failed ENOENT)
     lost_stage a more =
@@ -138,29 +139,29 @@ module _ (t : Tree) (cred : Credential) (form : Form) where
     module _ (n : ℕ) (a : answer ≡ Ok (Some n)) where
       -- it stands at what was found
       pub moved_stage : reached (follow || not (is_empty (names_ahead w))) n (node_at t n) ≡ Reaches n → (new : Walker) → (v : Inode)
-          → new ≡ (record w { step = w.step + 1; here = n; inode = v }) → stage ≡ stage_of t cred form follow new (names_ahead new)
+          → new ≡ (record w { step = w.step + 1; here = n; inode = v }) → stage ≡ stage_of room t cred form follow new (names_ahead new)
       moved_stage r new v is =
-          is_found t cred w.number form follow w.links w.step (last_done w) w.here w.name.items (names_ahead w) w.slash n a
-          ∙ ap (after t cred w.number form w.here w.name.items (names_ahead w) w.slash w.step (links_behind t cred w.number form follow w.links)
-          (λ j. trail_with t follow w.links j (names_ahead w) w.slash)) r
-          ∙ ap (λ (d : ℕ). rest_of t cred w.number form (w.step + 1) (done d w.name.items) (trail_with t follow w.links n (names_ahead w) w.slash)) (sym taken)
-          ∙ ap (λ (u : Walker). stage_of t cred form follow u (names_ahead u)) (sym is)
+          is_found t cred w.number form room follow w.links w.step (last_done w) w.here w.name.items (names_ahead w) w.slash n a
+          ∙ ap (after t cred w.number form w.here w.name.items (names_ahead w) w.slash w.step (links_behind t cred w.number form room follow w.links)
+          (λ j. trail_with room t follow w.links j (names_ahead w) w.slash)) r
+          ∙ ap (λ (d : ℕ). rest_of t cred w.number form (w.step + 1) (done d w.name.items) (trail_with room t follow w.links n (names_ahead w) w.slash)) (sym taken)
+          ∙ ap (λ (u : Walker). stage_of room t cred form follow u (names_ahead u)) (sym is)
 
       -- it is a link to be followed
       module _ (target : List ℕ) (r : reached (follow || not (is_empty (names_ahead w))) n (node_at t n) ≡ Through target) where
-        link_stage : stage ≡ behind t cred w.number form w.here w.name.items (names_ahead w) w.slash w.step (links_behind t cred w.number form follow w.links) target
+        link_stage : stage ≡ behind t cred w.number form w.here w.name.items (names_ahead w) w.slash w.step (links_behind t cred w.number form room follow w.links) target
         link_stage =
-            is_found t cred w.number form follow w.links w.step (last_done w) w.here w.name.items (names_ahead w) w.slash n a
-            ∙ ap (after t cred w.number form w.here w.name.items (names_ahead w) w.slash w.step (links_behind t cred w.number form follow w.links)
-            (λ j. trail_with t follow w.links j (names_ahead w) w.slash)) r
+            is_found t cred w.number form room follow w.links w.step (last_done w) w.here w.name.items (names_ahead w) w.slash n a
+            ∙ ap (after t cred w.number form w.here w.name.items (names_ahead w) w.slash w.step (links_behind t cred w.number form room follow w.links)
+            (λ j. trail_with room t follow w.links j (names_ahead w) w.slash)) r
 
         pub looped_stage : w.links ≡ 0 → stage ≡ Err (Failed ELOOP)
         looped_stage none =
             link_stage
-            ∙ ap (λ (l : ℕ). behind t cred w.number form w.here w.name.items (names_ahead w) w.slash w.step (links_behind t cred w.number form follow l) target) none
+            ∙ ap (λ (l : ℕ). behind t cred w.number form w.here w.name.items (names_ahead w) w.slash w.step (links_behind t cred w.number form room follow l) target) none
 
         pub behind_stage : (mid new : Walker) → mid ≡ (record w { step = w.step + 1 }) → IsBehind target (is_empty (names_ahead w)) mid new
-            → stage ≡ stage_of t cred form follow new (names_ahead new)
+            → stage ≡ stage_of room t cred form follow new (names_ahead new)
         behind_stage mid new is b =
             let links : w.links ≡ suc new.links = sym (ap (λ (v : Walker). v.links) is) ∙ sym b.links ∙ omega arith in
             let here : start_of (parts_of target) w.here ≡ new.here =
@@ -177,8 +178,8 @@ module _ (t : Tree) (cred : Credential) (form : Form) where
             let last : done w.here w.name.items ≡ last_done new =
             ap (λ (d : ℕ). done d w.name.items) (sym taken) ∙ ap last_done (sym is) ∙ sym (ap last_done b.is) in
             link_stage
-            ∙ ap (λ (l : ℕ). behind t cred w.number form w.here w.name.items (names_ahead w) w.slash w.step (links_behind t cred w.number form follow l) target) links
-            ∙ same_rest t cred form number step last refl refl here names at_end
+            ∙ ap (λ (l : ℕ). behind t cred w.number form w.here w.name.items (names_ahead w) w.slash w.step (links_behind t cred w.number form room follow l) target) links
+            ∙ same_rest room t cred form number step last refl refl here names at_end
 
 -- ---- what is reached
 moved_body : (goes : Bool) (n : ℕ) (b : Body) → (is_link b && goes) ≡ false → reached_body goes n b ≡ Reaches n
@@ -189,10 +190,10 @@ moved_body false n (File a bytes) e = refl
 moved_body false n (Dir a d) e = refl
 moved_body false n (Link target) e = refl
 
-link_kind : (image : SectorMap) (v : Inode) (b : Body) → HoldsBody image v b → is_link_kind v.kind ≡ is_link b
-link_kind image v (File a bytes) h = ap is_link_kind h.kind
-link_kind image v (Dir a d) h = ap is_link_kind h.names.kind
-link_kind image v (Link target) h = ap is_link_kind h.kind
+link_kind : (version : Version) (image : SectorMap) (v : Inode) (b : Body) → HoldsBody version image v b → is_link_kind v.kind ≡ is_link b
+link_kind version image v (File a bytes) h = ap is_link_kind h.kind
+link_kind version image v (Dir a d) h = ap is_link_kind h.names.kind
+link_kind version image v (Link target) h = ap is_link_kind h.kind
 
 -- a link has a target
 record IsLinkTo (b : Body) : Type 0 where
@@ -224,7 +225,7 @@ module _ {p : Place} {image : SectorMap} {t : Tree} (h : HoldsTree p image t) (n
   s = stands t n there
 
   kind_is : is_link_kind v.kind ≡ is_link s.node.body
-  kind_is = ap (λ (u : Inode). is_link_kind u.kind) is ∙ link_kind image (inode_at p image n) s.node.body (held_node h n s.node s.at).body
+  kind_is = ap (λ (u : Inode). is_link_kind u.kind) is ∙ link_kind p.version image (inode_at p image n) s.node.body (held_node h n s.node s.at).body
 
   pub is_moved : (is_link_kind v.kind && goes) ≡ false → reached goes n (node_at t n) ≡ Reaches n
   is_moved e = ap (reached goes n) s.at ∙ moved_body goes n s.node.body (ap (λ (b : Bool). b && goes) (sym kind_is) ∙ e)

@@ -21,9 +21,9 @@ use Rattle.path_walk.specs.Stages.{IsBehind, IsWay}
 
 -- what a lookup finds is there
 pub found_there : {p : Place} {image : SectorMap} {t : Tree} → HoldsTree p image t → (cred : Credential) (walk k dir : ℕ) (name : List ℕ) (n : ℕ)
-    → lookup_of t cred walk k dir name ≡ Ok (Some n) → IsThere t n
+    → lookup_of (room_of p) t cred walk k dir name ≡ Ok (Some n) → IsThere t n
 found_there {p} {image} {t} h cred walk k dir name n e =
-    go (search_on cred t dir walk k) (looked_up_alone t dir name) (lookup_reached (room_of p) t h.tree true false dir name (node_at t dir) refl) e
+    go (search_on cred t dir walk k) (looked_up_alone (room_of p) t dir name) (lookup_reached (room_of p) t h.tree true false dir name (node_at t dir) refl) e
   where
     go : (d : Demand) (o : Outcome) → Reached (room_of p) t h.tree o → refused_or d (found_as o) ≡ Ok (Some n) → IsThere t n
     go (Some f) o r e = absurd (cc)

@@ -21,7 +21,7 @@ NumbersAreBelow = (p : Place) (image : SectorMap) (t : Tree) (n : ℕ) → Holds
 abbrev pub NodesAreHeld : Type 0
 NodesAreHeld =
     (p : Place) (image : SectorMap) (t : Tree) (n : ℕ) (node : Node) → HoldsTree p image t → node_at t n ≡ Some node
-    → HoldsNode image (inode_at p image n) (record { node = node; names = names_of t n; parent = parent t n })
+    → HoldsNode p.version image (inode_at p image n) (record { node = node; names = names_of t n; parent = parent t n })
 
 -- The inode says which is a directory,
 abbrev pub KindsAreHeld : Type 0
@@ -33,7 +33,7 @@ KindsAreHeld =
 abbrev pub DirectoriesAreHeld : Type 0
 DirectoriesAreHeld =
     (p : Place) (image : SectorMap) (t : Tree) (n : ℕ) → HoldsTree p image t → (d : IsDirectoryAt t n)
-    → HasNames image (inode_at p image n) (names_in d.node.body) × ((inode_at p image n).parent ≡ parent t n)
+    → HasNames p.version image (inode_at p image n) (names_in d.node.body) × ((inode_at p image n).parent ≡ parent t n)
 
 -- of a file or a directory what access is decided on;
 abbrev pub AccessIsHeld : Type 0

@@ -8,12 +8,12 @@ use Rattle.fs_cred.specs.declared.refusal.Refusal.TheVariants.{Failed}
 use Rattle.fs_cred.specs.Credentials.{Credential}
 use Rattle.fs_model.specs.Demands.{search_on}
 use Rattle.fs_model.specs.Trails.{Outcome, Faulty, Absent, Reaches, Through, looked_up}
-use Rattle.fs_model.specs.Trees.{Tree, node_at}
+use Rattle.fs_model.specs.Trees.{Tree, Room, node_at}
 use Rattle.path_walk.specs.Answers.{refused_or}
 
 -- As the last name, where a link isn't followed: that a name is absent, or a link, is no fault yet.
-abbrev pub looked_up_alone : Tree → ℕ → List ℕ → Outcome
-looked_up_alone t dir name = looked_up t true false dir name (node_at t dir)
+abbrev pub looked_up_alone : Room → Tree → ℕ → List ℕ → Outcome
+looked_up_alone room t dir name = looked_up room t true false dir name (node_at t dir)
 
 -- the inode that it leads to, if any
 abbrev pub found_as : Outcome → Result (Option ℕ) Refusal
@@ -23,5 +23,5 @@ found_as (Reaches n) = Ok (Some n)
 found_as (Through target) = Ok None
 
 -- lookup number k of a walk
-abbrev pub lookup_of : Tree → Credential → ℕ → ℕ → ℕ → List ℕ → Result (Option ℕ) Refusal
-lookup_of t cred walk k dir name = refused_or (search_on cred t dir walk k) (found_as (looked_up_alone t dir name))
+abbrev pub lookup_of : Room → Tree → Credential → ℕ → ℕ → ℕ → List ℕ → Result (Option ℕ) Refusal
+lookup_of room t cred walk k dir name = refused_or (search_on cred t dir walk k) (found_as (looked_up_alone room t dir name))

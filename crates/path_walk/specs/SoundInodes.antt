@@ -16,7 +16,7 @@ use Rattle.inode_table.specs.Acls.{HasAcl}
 -- names that lead to inodes of the disk, and a parent
 pub record LeadsOn (p : Place) (image : SectorMap) (v : Inode) : Type 0 where
   pub names : List (List ℕ × ℕ)
-  pub has : HasNames image v names
+  pub has : HasNames p.version image v names
   pub inside : (name : List ℕ) (n : ℕ) → get name_cmp names name ≡ Some n → n < p.inodes
   pub parent : v.parent < p.inodes
 

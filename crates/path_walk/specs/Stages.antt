@@ -21,7 +21,7 @@ use Rattle.fs_model.specs.Walks.{is_parent_form}
 use Rattle.fs_cred.specs.declared.errno.Errno.TheVariants.{ENOTDIR}
 use Rattle.sector_disk.specs.Disk.{DiskState}
 use Rattle.fs_model.specs.Trails.{Lookup, trail_with}
-use Rattle.fs_model.specs.Trees.{Tree}
+use Rattle.fs_model.specs.Trees.{Tree, Room}
 use Rattle.path_walk.specs.declared.walker.Walker.{Walker}
 use Rattle.path_walk.specs.Answers.{refused_or, Interrupts}
 use Rattle.path_walk.specs.HeldTrees.{IsThere}
@@ -34,9 +34,9 @@ abbrev pub last_done : Walker → Lookup
 last_done w = record { dir = w.dir; name = w.name.items; fault = None }
 
 -- what the walk answers, where these names are still to be looked up
-abbrev pub stage_of : Tree → Credential → Form → Bool → Walker → List (List ℕ) → Result Found Refusal
-stage_of t cred form follow w names =
-    rest_of t cred w.number form w.step (last_done w) (trail_with t follow w.links w.here names w.slash)
+abbrev pub stage_of : Room → Tree → Credential → Form → Bool → Walker → List (List ℕ) → Result Found Refusal
+stage_of room t cred form follow w names =
+    rest_of t cred w.number form w.step (last_done w) (trail_with room t follow w.links w.here names w.slash)
 
 -- it has the inode at which it stands
 pub record IsAt (p : Place) (image : SectorMap) (w : Walker) : Type 0 where
@@ -85,13 +85,13 @@ pub record IsBehind (target : List ℕ) (is_last : Bool) (old new : Walker) : Ty
   pub is : new ≡ (record old { here = new.here; inode = new.inode; rest = new.rest; at = 0; slash = new.slash; links = new.links })
 
 -- one lookup of the component that was taken: it goes on, or has found nothing, or is refused
-abbrev pub IsStep : DiskState → DiskState → Tree → Credential → Form → Bool → Walker → Walker → Result Bool Refusal → Type 0
-IsStep disk disk' t cred form follow old new (Ok true) =
-    (stage_of t cred form follow old (old.name.items ∷ names_ahead old) ≡ stage_of t cred form follow new (names_ahead new)) × IsThere t new.here
-IsStep disk disk' t cred form follow old new (Ok false) =
-    stage_of t cred form follow old (old.name.items ∷ names_ahead old) ≡ Ok (found_at new.step (last_done new) None new.slash)
-IsStep disk disk' t cred form follow old new (Err e) =
-    (stage_of t cred form follow old (old.name.items ∷ names_ahead old) ≡ Err e) ⊎ Interrupts disk disk' e
+abbrev pub IsStep : DiskState → DiskState → Room → Tree → Credential → Form → Bool → Walker → Walker → Result Bool Refusal → Type 0
+IsStep disk disk' room t cred form follow old new (Ok true) =
+    (stage_of room t cred form follow old (old.name.items ∷ names_ahead old) ≡ stage_of room t cred form follow new (names_ahead new)) × IsThere t new.here
+IsStep disk disk' room t cred form follow old new (Ok false) =
+    stage_of room t cred form follow old (old.name.items ∷ names_ahead old) ≡ Ok (found_at new.step (last_done new) None new.slash)
+IsStep disk disk' room t cred form follow old new (Err e) =
+    (stage_of room t cred form follow old (old.name.items ∷ names_ahead old) ≡ Err e) ⊎ Interrupts disk disk' e
 
 -- one lookup more, with the same way ahead or behind one link more
 pub record IsWay (old new : Walker) : Type 0 where

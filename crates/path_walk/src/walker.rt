@@ -5,6 +5,7 @@ ghost use Rattle.fs_cred.specs.declared.refusal.Refusal.{Refusal};
 ghost use Rattle.fs_model.specs.declared.walk.Form.{Form};
 ghost use Rattle.fs_model.specs.Parts.{is_empty};
 ghost use Rattle.fs_model.specs.Trees.{Tree};
+ghost use Rattle.fs_model.specs.Stands.{room_of};
 ghost use Rattle.fs_model.specs.Summaries.{is_link_kind};
 ghost use Rattle.fs_model.specs.Rules.{is_directory_kind};
 ghost use Rattle.path_walk.specs.Words.{Holds, IsUnchanged, IsSound, IsInodeOf, Interrupts, IsCaused, IsAnswered};
@@ -21,7 +22,7 @@ use crate::components::{
 use crate::links::read_target;
 use crate::reads::{find, load_inode};
 use fs_cred::{Cred, Errno, Refusal};
-use fs_layout::{Inode, Kind, MAX_NAME, Place, ROOT};
+use fs_layout::{Inode, Kind, Place, ROOT};
 use fs_model::{Form, Found, Last, Name, Path};
 use sector_txn::Sectors;
 use std::alloc::Global;
@@ -177,7 +178,7 @@ impl Walker {
         requires inodes { HasSoundInodes place (S.state s.old).sectors }
         ensures each { (t : Tree) → HoldsTree place (S.state s.old).sectors t → IsThere t self.now.here
             → IsAnswered (S.state s.old).disk (S.state s.new).disk
-            (lookup_of t cred.now self.now.number self.now.step self.now.here self.now.name.items) result }
+            (lookup_of (room_of place) t cred.now self.now.number self.now.step self.now.here self.now.name.items) result }
         ensures below { IfOk result (λ found. (m : ℕ) → found ≡ Some m → m < place.inodes) }
         ensures cause { IfErr result (IsCaused (S.state s.old).disk (S.state s.new).disk) }
         ensures same { IsUnchanged (S.state s.old) (S.state s.new) }
@@ -186,7 +187,8 @@ impl Walker {
             return Err(Refusal::Failed(Errno::ENOTDIR));
         }
         search(alloc, s, place, cred, &self.inode, self.number, self.step)?;
-        if self.name.len() > MAX_NAME {
+        let longest = place.version.max_name();
+        if self.name.len() > longest {
             return Err(Refusal::Failed(Errno::ENAMETOOLONG));
         }
         let found = find(s, place, self.here, &self.inode, &self.name)?;
@@ -247,7 +249,7 @@ impl Walker {
         requires steps { self.old.step + 1 < 2 ^ 64 }
         requires inodes { HasSoundInodes place (S.state s.old).sectors }
         ensures each { (t : Tree) → HoldsTree place (S.state s.old).sectors t → IsThere t self.old.here
-            → (form : Form) → IsStep (S.state s.old).disk (S.state s.new).disk t cred.now form follow self.old self.new result }
+            → (form : Form) → IsStep (S.state s.old).disk (S.state s.new).disk (room_of place) t cred.now form follow self.old self.new result }
         ensures at { OnOk result (IsAt place (S.state s.old).sectors self.new) }
         ensures way { OnOk result (IsWay self.old self.new) }
         ensures cause { IfErr result (IsCaused (S.state s.old).disk (S.state s.new).disk) }

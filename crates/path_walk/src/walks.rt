@@ -4,6 +4,7 @@ ghost use Rattle.std.specs.Prelude.{◌≡◌, ◌<◌, ◌≤◌, length, None,
 ghost use Rattle.fs_model.specs.Demands.{first_of};
 ghost use Rattle.fs_model.specs.Parts.{path_checks};
 ghost use Rattle.fs_model.specs.Limits.{path_limit};
+ghost use Rattle.fs_model.specs.Stands.{room_of};
 ghost use Rattle.fs_model.specs.Trees.{Tree};
 ghost use Rattle.path_walk.specs.Words.{IsUnchanged, HasCauseOf, IsSound, IsAnswered};
 ghost use Rattle.path_walk.specs.HeldTrees.{HoldsTree, IsThere};
@@ -38,7 +39,7 @@ pub fn walk<S: Sectors>(
     requires start { cwd < place.inodes }
     requires short { length path.now ≤ path_limit }
     ensures each { (t : Tree) → HoldsTree place (S.state s.old).sectors t → IsThere t cwd
-        → IsAnswered (S.state s.old).disk (S.state s.new).disk (walk_of t cred.now number form cwd path.now) result }
+        → IsAnswered (S.state s.old).disk (S.state s.new).disk (walk_of (room_of place) t cred.now number form cwd path.now) result }
     ensures same { IsUnchanged (S.state s.old) (S.state s.new) }
     ensures cause { HasCauseOf (Refusal.Failed Errno.EIO) (S.state s.old).disk (S.state s.new).disk result }
 {
@@ -71,7 +72,7 @@ pub fn resolve<S: Sectors>(
     ensures checked { (refusal : Refusal) → first_of (path_checks path.now) ≡ Some refusal → result ≡ Err refusal }
     ensures each { first_of (path_checks path.now) ≡ None
         → (t : Tree) → HoldsTree place (S.state s.old).sectors t → IsThere t cwd
-        → IsAnswered (S.state s.old).disk (S.state s.new).disk (walk_of t cred.now 1 form cwd path.now) result }
+        → IsAnswered (S.state s.old).disk (S.state s.new).disk (walk_of (room_of place) t cred.now 1 form cwd path.now) result }
     ensures valid { IfOk result (λ found. first_of (path_checks path.now) ≡ None) }
     ensures same { IsUnchanged (S.state s.old) (S.state s.new) }
     ensures cause { HasCauseOf (Refusal.Failed Errno.EIO) (S.state s.old).disk (S.state s.new).disk result }

@@ -1,4 +1,5 @@
 mod Both
+pub mod Areas
 pub mod Entries
 pub mod Puts
 mod Places

@@ -1,18 +1,23 @@
 -- What images mean, a lemma for each step of a commit.
-use Rattle.std.proofs.Common.{◌≡◌, inl, inr, ⊎_elim, ℕ, suc, ◌+◌, ◌*◌, ◌/◌, ◌%◌, ◌^◌, ◌≤◌, ◌<◌, cond, List, [], ◌∷◌, length, eqb, arith, refl, sym, ◌∙◌, ap, subst}
-use Rattle.std.proofs.lemmas.Bool.{cond-false, ne_eqb}
+use Rattle.std.proofs.Common.{◌≡◌, inl, inr, ⊎_elim, ℕ, suc, ◌+◌, ◌*◌, ◌/◌, ◌%◌, ◌^◌, ◌≤◌, ◌<◌, cond, List, [], ◌∷◌, length, eqb, get_or, get_or-set_same, set, arith, refl, sym, ◌∙◌, ap, subst}
+use Rattle.std.proofs.lemmas.Bool.{cases_eq, cases_lt, cond-false, ne_eqb}
+use Rattle.std.proofs.lemmas.List.{ext_get_or, get_or_past}
 use Rattle.std.proofs.lemmas.List.Elements.{All-head, All-tail}
-use Rattle.std.specs.Prelude.{All}
+use Rattle.std.specs.Prelude.{All, Contains}
 use Rattle.fs_layout.specs.Bytes.{SectorMap, u32_of}
-use Rattle.fs_layout.specs.Header.{header_of, log_end, max_targets}
-use Rattle.fs_layout.specs.Commit.{AreTargets, IsCommit, IsValidCommit, commit_bytes}
+use Rattle.fs_layout.specs.Header.{header_of, log_end, max_targets, area_start, next_area, other_area}
+use Rattle.fs_layout.specs.Commit.{AreTargets, IsArea, IsCommit, IsValidCommit, named_area, named_start, commit_bytes, commit_bytes_in}
 use Rattle.fs_layout.specs.Recovered.{replayed, recovered}
-use Rattle.fs_layout.proofs.RecoveryLaw.{idle_commit, low_no_target, recovered-commit, recovered-idle, recovered-installed, recovered-same, recovered-super}
+use Rattle.fs_layout.proofs.RecoveryLaw.{contains_at, idle_commit, low_no_target, target_or_none, recovered-commit, recovered-idle, recovered-installed, recovered-same, recovered-super}
 use Rattle.sector_disk.specs.Disk.{DiskState, Image, sector, AddsOnly, Elapses, IsImage, IsImageOr, IsNarrowed, IsStable, LeavesOnly, IsWrite, OnlyReads}
 use Rattle.sector_disk.proofs.Moments.{holds_now, image_or, joined, narrowed, one_call, stays, stays_or, stable_image, weaker}
 use Rattle.redo_journal.specs.Batch.{Entry, IsBatch, IsOnDisk, targets, content_at, with_batch}
 use Rattle.redo_journal.specs.Meaning.{IsMapped, SameMap, data_of, HasValidCommit, ReadsAs, IsEither, LeavesSameMap, MeansAs, MeansAsBefore}
-use Rattle.redo_journal.specs.States.{HasHeader, IsAtRest, IsIdle, IsLogged, IsInstalled, HoldsHeader, HoldsLog, HoldsTargets, HasReplayed, InLog, InTargets}
+use Rattle.redo_journal.specs.States.{log_at, next_at, HasHeader, HasNext, IsAtRest, IsIdle, IsInPlace, IsReady, IsLogged, IsSealed, IsInstalled, HoldsHeader, HoldsLog, HoldsTargets, HasReplayed, InLog, InTargets}
+use Rattle.fs_layout.proofs.CommitLaw.{number_of_word}
+use Rattle.fs_layout.proofs.Targets.{area_room, header_most, no_targets, same_start, word_of}
+use Rattle.redo_journal.proofs.Areas.{area_spelled, next_alone, next_idle, next_small, next_other, areas_apart}
+use Rattle.redo_journal.proofs.Writing.{written_other}
 use Rattle.redo_journal.proofs.Entries.{length-targets, target_is}
 
 -- ---- which sectors a map has
@@ -51,18 +56,22 @@ rest_reads ts disk rest image is =
     }
 
 -- a commit is that of each image with the same superblock, commit sector, and numbers in the header
-commit_stays : (size : ℕ) (old new : SectorMap) (ts : List ℕ) → new 0 ≡ old 0 → new 1 ≡ old 1 → ((k : ℕ) → 126 + k < length ts → new (2 + k / 128) ≡ old (2 + k / 128))
+commit_stays : (size : ℕ) (old new : SectorMap) (ts : List ℕ) → new 0 ≡ old 0 → new 1 ≡ old 1 → ((k : ℕ) → 126 + k < length ts → new (named_start old + k / 128) ≡ old (named_start old + k / 128))
     → IsCommit size old ts → IsCommit size new ts
-commit_stays size old new ts super commit header is = record {
-  bytes = commit ∙ is.bytes;
-  more = λ k lt. ap (λ s. u32_of s (4 * (k % 128))) (header k lt) ∙ is.more k lt;
-  valid = subst (λ s. AreTargets (header_of s) size ts) (sym super) is.valid;
-}
+commit_stays size old new ts super commit header is =
+    let start : named_start new ≡ named_start old = same_start old new (ap header_of super) commit in
+    record {
+      bytes = commit ∙ is.bytes ∙ (λ j. commit_bytes_in (u32_of (sym commit j) 4 / 0x8000_0000) ts);
+      area = subst (λ s. IsArea (header_of s) (named_area new) ts) (sym super) (subst (λ s. IsArea (header_of (old 0)) (u32_of s 4 / 0x8000_0000) ts) (sym commit) is.area);
+      more = λ k lt. ap (λ (at : ℕ). u32_of (new (at + k / 128)) (4 * (k % 128))) start ∙ ap (λ s. u32_of s (4 * (k % 128))) (header k lt) ∙ is.more k lt;
+      valid = subst (λ s. AreTargets (header_of s) size ts) (sym super) is.valid;
+    }
 
 -- the same where all is the same before the bitmaps
 commit_stays_low : (size : ℕ) (old new : SectorMap) (ts : List ℕ) → ((n : ℕ) → n < log_end (header_of (old 0)) → new n ≡ old n) → IsCommit size old ts → IsCommit size new ts
 commit_stays_low size old new ts low is =
-    commit_stays size old new ts (low 0 (omega arith)) (low 1 (omega arith)) (λ k lt. let few = is.valid.few in low (2 + k / 128) (omega (arith, lt, few))) is
+    let room = area_room (header_of (old 0)) (named_area old) in
+    commit_stays size old new ts (low 0 (omega arith)) (low 1 (omega arith)) (λ k lt. let few = is.valid.few in low (named_start old + k / 128) (omega (arith, lt, few, room.1))) is
 
 -- a call after which reads give the same, and a stop may leave nothing else, leaves a disk at rest
 pub rest_stays : (ts : List ℕ) (old new : DiskState) → IsNarrowed old new → IsAtRest ts old → IsAtRest ts new
@@ -79,21 +88,143 @@ rest_stays ts old new changes rest = record {
 pub has_stays : (old new : DiskState) (header : ℕ) → IsNarrowed old new → HasHeader header old → HasHeader header new
 has_stays old new header changes has = record { is = has.is ∙ ap (λ (l : Image). header_of (sector l 0)) (sym changes.seen); most = has.most }
 
-pub idle_data : (disk : DiskState) → IsIdle disk → (n : ℕ) → data_of disk n ≡ sector disk.seen n
-idle_data disk idle n = recovered-idle disk.size (sector disk.seen) n idle.small idle.commit.bytes
+-- ---- between two commits
+-- what is not written is what reads give, but for the commit's targets
+pub kept : {R : ℕ → List ℕ → Type 0} (ts : List ℕ) (disk : DiskState) → IsInPlace ts disk → (image : Image) → IsImageOr R disk image
+    → (n : ℕ) → ((c : List ℕ) → R n c → ⊥) → (Contains ts n → ⊥) → sector image n ≡ sector disk.seen n
+kept {R} ts disk place image is n none other = elim (cases_lt n disk.size) [
+  | inl below ↦
+      ⊎_elim (λ was. ⊎_elim (λ same. same) (λ target. absurd (other target)) (place.stable n (sector image n) below was)) (λ new. absurd (none (sector image n) new)) (is.each n below)
+  | inr past ↦ get_or_past image n [] (omega (arith, past, is.size)) ∙ sym (get_or_past disk.seen n [] (omega (arith, past, place.whole)))
+]
 
--- ---- while the log is written
-pub log_keeps : (disk : DiskState) → IsIdle disk → (image : Image) → IsImageOr (InLog (header_on disk)) disk image → ReadsAs disk.size (data_of disk) image
-log_keeps disk idle image is =
-    let commit : sector image 1 ≡ sector disk.seen 1 = stays idle.stable idle.whole is 1 (λ content log. omega (arith, log.0)) in
+-- a disk reads as what reads give
+pub place_data : (ts : List ℕ) (disk : DiskState) → IsInPlace ts disk → (n : ℕ) → data_of disk n ≡ sector disk.seen n
+place_data ts disk place n = recovered-installed disk.size (sector disk.seen) ts n place.small place.commit place.in_place
+
+pub ready_data : (disk : DiskState) → IsReady disk → (n : ℕ) → data_of disk n ≡ sector disk.seen n
+ready_data disk ready n = place_data ready.sectors disk ready.is n
+
+-- what is written beside superblock, commit sector, the log in use and the map leaves all images reading as before
+pub place_keeps : {R : ℕ → List ℕ → Type 0} (ts : List ℕ) (disk : DiskState) → IsInPlace ts disk
+    → ((n : ℕ) (c : List ℕ) → R n c → (2 ≤ n) × (n < log_end (header_on disk))
+    × (0 < length ts → named_start (sector disk.seen) ≤ n → n < named_start (sector disk.seen) + 126 + 129 * header_on disk → ⊥))
+    → (image : Image) → IsImageOr R disk image → ReadsAs disk.size (data_of disk) image
+place_keeps {R} ts disk place apart image is =
+    let header = header_on disk in
+    let start = named_start (sector disk.seen) in
+    let valid = place.commit.valid in
+    let few = valid.few in
+    let room = area_room header (named_area (sector disk.seen)) in
+    let low : (n : ℕ) → n < log_end header → ((c : List ℕ) → R n c → ⊥) → sector image n ≡ sector disk.seen n =
+    λ n below none. kept ts disk place image is n none (λ target. low_no_target header disk.size ts n valid below target) in
+    let super : sector image 0 ≡ sector disk.seen 0 = low 0 (omega arith) (λ c r. let a = (apart 0 c r).0 in omega (arith, a)) in
+    let one : sector image 1 ≡ sector disk.seen 1 = low 1 (omega arith) (λ c r. let a = (apart 1 c r).0 in omega (arith, a)) in
+    let used : (k : ℕ) → 0 < length ts → k < 126 + 129 * header → sector image (start + k) ≡ sector disk.seen (start + k) =
+    λ k some lt. low (start + k) (omega (arith, lt, room.1)) (λ c r. (apart (start + k) c r).2 some (omega arith) (omega (arith, lt))) in
+    let commit = commit_stays disk.size (sector disk.seen) (sector image) ts super one (λ k lt. used (k / 128) (omega (arith, lt)) (omega (arith, lt, few))) place.commit in
     record {
       whole = is.size;
-      commit = valid_with disk.size (sector image) [] (idle_commit disk.size (sector image) (commit ∙ idle.commit.bytes));
+      commit = valid_with disk.size (sector image) ts commit;
       reads = λ n part.
-          recovered-idle disk.size (sector image) n idle.small (commit ∙ idle.commit.bytes)
-          ∙ stays idle.stable idle.whole is n (λ content log. data_is_not disk n n part (omega (arith, log.0)) log.1 refl)
-          ∙ sym (idle_data disk idle n);
+          recovered-same disk.size (sector disk.seen) (sector image) ts n place.small place.commit commit super one
+          (λ k lt. ap (sector image) (omega arith) ∙ used (header + k) (omega (arith, lt)) (omega (arith, lt, few)) ∙ ap (sector disk.seen) (omega arith))
+          (λ none. kept ts disk place image is n (λ c r. let a = apart n c r in data_is_not disk n n part (omega (arith, a.0)) a.1 refl) none);
     }
+
+abbrev Nothing : ℕ → List ℕ → Type 0
+Nothing n content = ⊥
+
+-- so at rest
+pub ready_reads : (disk : DiskState) → IsReady disk → (image : Image) → IsImage disk image → ReadsAs disk.size (data_of disk) image
+ready_reads disk ready image is =
+    place_keeps {R = Nothing} ready.sectors disk ready.is (λ n c none. absurd none) image (record { size = is.size; each = λ n below. inl (is.each n below) })
+
+-- the log in use isn't the next one
+pub next_apart : (disk : DiskState) (ready : IsReady disk) → (n : ℕ) → 0 < length ready.sectors → named_start (sector disk.seen) ≤ n → n < named_start (sector disk.seen) + 126 + 129 * header_on disk
+    → (content : List ℕ) → InLog (header_on disk) (next_at disk.seen) n content → ⊥
+next_apart disk ready n some low high content log =
+    let commit = ready.is.commit in
+    let header = header_on disk in
+    let few = commit.valid.few in
+    let word = word_of disk.size (sector disk.seen) ready.sectors commit in
+    elim (cases_lt 0 header) [
+      | inl there ↦
+          areas_apart header (named_area (sector disk.seen)) (length ready.sectors) (u32_of (sector disk.seen 1) 4) n word.0 some (omega (arith, few, header_most (sector disk.seen 0))) commit.area.one there low high log.0 log.1
+      | inr none ↦ let empty = ready.alone (omega (arith, none)) in omega (arith, empty, some)
+    ]
+
+-- a call after which reads give the same, and a stop may leave nothing else
+pub ready_stays : (old new : DiskState) → IsNarrowed old new → IsReady old → IsReady new
+ready_stays old new changes ready =
+    let is = ready.is in
+    let seen : new.seen ≡ old.seen = changes.seen in
+    record {
+      sectors = ready.sectors;
+      is = record {
+        room = omega (arith, is.room, changes.size);
+        small = omega (arith, is.small, changes.size);
+        whole = ap length seen ∙ is.whole ∙ sym changes.size;
+        stable = λ n content below may.
+            ⊎_elim (λ same. inl (same ∙ ap (λ (l : Image). sector l n) (sym seen))) (λ target. inr target)
+            (is.stable n content (omega (arith, below, changes.size)) (changes.nothing_else n content may));
+        commit = subst (λ k. IsCommit k (sector new.seen) ready.sectors) (sym changes.size) (subst (λ (l : Image). IsCommit old.size (sector l) ready.sectors) (sym seen) is.commit);
+        in_place = subst (λ (l : Image). HasReplayed (log_at l) ready.sectors (sector l) l) (sym seen) is.in_place;
+      };
+      alone = λ none. ready.alone (ap (λ (l : Image). header_of (sector l 0)) (sym seen) ∙ none);
+    }
+
+pub next_stays : (old new : DiskState) (area : ℕ) → IsNarrowed old new → HasNext area old → HasNext area new
+next_stays old new area changes next = next ∙ ap next_at (sym changes.seen)
+
+-- where the commit sector is idle
+pub idle_ready : (disk : DiskState) → IsIdle disk → IsReady disk
+idle_ready disk idle = record {
+  sectors = [];
+  is = record {
+    room = idle.room;
+    small = idle.small;
+    whole = idle.whole;
+    stable = λ n content below may. inl (idle.stable n content below may);
+    commit = idle.commit;
+    in_place = λ k lt. absurd (omega (arith, lt));
+  };
+  alone = λ none. refl;
+}
+
+pub ready_idle : (disk : DiskState) → IsReady disk → header_on disk ≡ 0 → IsIdle disk
+ready_idle disk ready alone = of ready.sectors ready.is (ready.alone alone)
+  where
+    of : (ts : List ℕ) → IsInPlace ts disk → length ts ≡ 0 → IsIdle disk
+    of [] is none = record {
+      room = is.room;
+      small = is.small;
+      whole = is.whole;
+      stable = λ n content below may. ⊎_elim (λ same. same) (λ target. absurd (omega (arith, target.1))) (is.stable n content below may);
+      commit = is.commit;
+    }
+    of (t ∷ ts) is none = absurd (omega (arith, none))
+
+pub idle_next : (disk : DiskState) → IsIdle disk → HasNext 0 disk
+idle_next disk idle =
+    let word : u32_of (sector disk.seen 1) 4 ≡ 0 = (word_of disk.size (sector disk.seen) [] idle.commit).0 ∙ omega (arith, idle.commit.area.some) in
+    sym (next_idle (header_on disk) (u32_of (sector disk.seen 1) 4) word)
+
+-- with all stable
+pub ready_installed : (ts : List ℕ) (disk : DiskState) → IsInPlace ts disk → IsStable disk → IsInstalled ts disk
+ready_installed ts disk place stable = record {
+  at_rest = record { room = place.room; small = place.small; whole = place.whole; stable = stable; commit = place.commit };
+  in_place = place.in_place;
+}
+
+pub settled_from : (old new : DiskState) → IsReady old → IsNarrowed old new → IsStable new → (sectors : List ℕ) × IsInstalled sectors new
+settled_from old new ready changes stable = let after = ready_stays old new changes ready in (after.sectors, ready_installed after.sectors new after.is stable)
+
+-- ---- while the log is written
+pub log_keeps : (disk : DiskState) → IsReady disk → (image : Image) → IsImageOr (InLog (header_on disk) (next_at disk.seen)) disk image → ReadsAs disk.size (data_of disk) image
+log_keeps disk ready image is =
+    let room = area_room (header_on disk) (next_at disk.seen) in
+    place_keeps {R = InLog (header_on disk) (next_at disk.seen)} ready.sectors disk ready.is (λ n c log. (omega (arith, log.0, room.0), omega (arith, log.1, room.1), λ some low high. next_apart disk ready n some low high c log)) image is
 
 -- two steps that write there
 pub adds_joined : {R : ℕ → List ℕ → Type 0} {old mid new : DiskState} → AddsOnly R old mid → AddsOnly R mid new → AddsOnly R old new
@@ -109,34 +240,94 @@ or_joined first image is = record {
 }
 
 -- with header and log written and all stable, the batch is logged
-pub logged_from : (entries : List Entry) (header : ℕ) (old headed logged new : DiskState) → IsIdle old → HasHeader header old → length entries ≤ max_targets header → IsBatch entries
-    → IsOnDisk header old.size entries → AddsOnly (InLog header) old new → IsImage new new.seen → HoldsHeader entries headed.seen
-    → ((n : ℕ) → n < 2 + header → sector logged.seen n ≡ sector headed.seen n) → HoldsLog header entries logged.seen → new.seen ≡ logged.seen → IsStable new → IsLogged entries new
-logged_from entries header old headed logged new idle has few batch on_disk adds shown in_header below in_log same stable =
-    let image : IsImageOr (InLog header) old new.seen = image_or adds new.seen shown in
-    let size = adds.size in
-    let super : sector new.seen 0 ≡ sector old.seen 0 = stays idle.stable idle.whole image 0 (λ content log. omega (arith, log.0)) in
-    let commit : sector new.seen 1 ≡ sector old.seen 1 = stays idle.stable idle.whole image 1 (λ content log. omega (arith, log.0)) in
+pub others_low : (header area : ℕ) (old new : Image) → ((n : ℕ) → (area_start header area ≤ n → n < area_start header area + 126 + 129 * header → ⊥) → sector new n ≡ sector old n)
+    → (n : ℕ) → n < 2 → sector new n ≡ sector old n
+others_low header area old new others n low = let room = area_room header area in others n (λ le lt. omega (arith, le, low, room.0))
+
+pub logged_others : (header area count : ℕ) (old headed logged : Image) → count ≤ max_targets header
+    → ((n : ℕ) → (area_start header area ≤ n → n < area_start header area + header → ⊥) → sector headed n ≡ sector old n)
+    → ((n : ℕ) → (area_start header area + header ≤ n → n < area_start header area + 126 + 129 * header → ⊥) → sector logged n ≡ sector headed n)
+    → (n : ℕ) → (area_start header area ≤ n → n < area_start header area + 126 + 129 * header → ⊥) → sector logged n ≡ sector old n
+logged_others header area count old headed logged few first then n out = then n (λ le lt. out (omega (arith, le)) lt) ∙ first n (λ le lt. out le (omega (arith, lt)))
+
+pub next_same : (old new : Image) → sector new 0 ≡ sector old 0 → sector new 1 ≡ sector old 1 → next_at new ≡ next_at old
+next_same old new super one = λ j. next_area (header_of (super j)) (u32_of (one j) 4)
+
+pub logged_from : (entries : List Entry) (header area : ℕ) (old headed logged new : DiskState) → IsReady old → HasHeader header old → HasNext area old → length entries ≤ max_targets header → IsBatch entries
+    → IsOnDisk header old.size entries → new.size ≡ old.size → length new.seen ≡ new.size → HoldsHeader (area_start header area) entries headed.seen
+    → ((n : ℕ) → (area_start header area ≤ n → n < area_start header area + header → ⊥) → sector headed.seen n ≡ sector old.seen n)
+    → ((n : ℕ) → (area_start header area + header ≤ n → n < area_start header area + 126 + 129 * header → ⊥) → sector logged.seen n ≡ sector headed.seen n)
+    → HoldsLog (area_start header area + header) entries logged.seen → new.seen ≡ logged.seen → IsStable new → IsLogged entries new
+logged_from entries header area old headed logged new ready has next few batch on_disk size whole in_header first then in_log same stable =
+    let place = ready.is in
+    let ts = ready.sectors in
+    let valid = place.commit.valid in
+    let short = valid.few in
+    let others : (n : ℕ) → (area_start header area ≤ n → n < area_start header area + 126 + 129 * header → ⊥) → sector new.seen n ≡ sector old.seen n =
+    λ n out. ap (λ (l : Image). sector l n) same ∙ logged_others header area (length entries) old.seen headed.seen logged.seen few first then n out in
+    let super : sector new.seen 0 ≡ sector old.seen 0 = others_low header area old.seen new.seen others 0 (omega arith) in
+    let one : sector new.seen 1 ≡ sector old.seen 1 = others_low header area old.seen new.seen others 1 (omega arith) in
     let is : header ≡ header_on new = has.is ∙ ap header_of (sym super) in
+    let to : area ≡ next_at new.seen = next ∙ sym (next_same old.seen new.seen super one) in
+    let old_start = named_start (sector old.seen) in
+    let start : named_start (sector new.seen) ≡ old_start = same_start (sector old.seen) (sector new.seen) (ap header_of super) one in
+    let used : (k : ℕ) → 0 < length ts → k < 126 + 129 * header_on old → sector new.seen (old_start + k) ≡ sector old.seen (old_start + k) =
+    λ k some lt. others (old_start + k) (λ le high.
+    next_apart old ready (old_start + k) some (omega arith) (omega (arith, lt)) []
+    (subst (λ (h : ℕ). InLog h (next_at old.seen) (old_start + k) []) has.is (subst (λ (a : ℕ). InLog header a (old_start + k) []) next (le, high)))) in
+    let high : (n : ℕ) → log_end header ≤ n → sector new.seen n ≡ sector old.seen n = λ n le. let room = area_room header area in others n (λ _ lt. omega (arith, le, lt, room.1)) in
     record {
       valid = subst (λ h. AreTargets h new.size (targets entries)) is (record {
         few = omega (arith, few, length-targets entries);
         in_range = λ k d lt. let t = on_disk k d lt in (t.0, omega (arith, t.1, size));
         apart = batch.apart;
       });
-      at_rest = record {
-        room = omega (arith, idle.room, size);
-        small = omega (arith, idle.small, size);
-        whole = shown.size;
-        stable = stable;
-        commit = idle_commit new.size (sector new.seen) (commit ∙ idle.commit.bytes);
+      ready = record {
+        sectors = ts;
+        is = record {
+          room = omega (arith, place.room, size);
+          small = omega (arith, place.small, size);
+          whole = whole;
+          stable = λ n content below may. inl (stable n content below may);
+          commit = subst (λ k. IsCommit k (sector new.seen) ts) (sym size)
+              (commit_stays old.size (sector old.seen) (sector new.seen) ts super one (λ k lt. used (k / 128) (omega (arith, lt)) (omega (arith, lt, short))) place.commit);
+          in_place = λ k lt.
+              let range = valid.in_range k 0 lt in
+              high (get_or ts k 0) (subst (λ h. log_end h ≤ get_or ts k 0) (sym has.is) range.0)
+              ∙ place.in_place k lt
+              ∙ ap (sector old.seen) (omega arith) ∙ sym (used (header_on old + k) (omega (arith, lt)) (omega (arith, lt, short)))
+              ∙ (λ j. sector new.seen (sym start j + (header_of (sym super j) + k))) ∙ ap (sector new.seen) (omega arith);
+        };
+        alone = λ none. ready.alone (sym has.is ∙ is ∙ none);
       };
+      stable = λ _. stable;
       header = λ k lt.
-          ap (λ (l : Image). u32_of (sector l (2 + k / 128)) (4 * (k % 128))) same
-          ∙ ap (λ s. u32_of s (4 * (k % 128))) (below (2 + k / 128) (omega (arith, lt, few)))
+          (λ j. u32_of (sector new.seen (area_start (sym is j) (sym to j) + k / 128)) (4 * (k % 128)))
+          ∙ ap (λ (l : Image). u32_of (sector l (area_start header area + k / 128)) (4 * (k % 128))) same
+          ∙ ap (λ s. u32_of s (4 * (k % 128))) (then (area_start header area + k / 128) (λ le _. omega (arith, le, lt, few)))
           ∙ in_header k lt;
-      log = λ k lt. ap (λ h. sector new.seen (2 + h + k)) (sym is) ∙ ap (λ (l : Image). sector l (2 + header + k)) same ∙ in_log k lt;
+      log = λ k lt.
+          (λ j. sector new.seen (area_start (sym is j) (sym to j) + sym is j + k)) ∙ ap (λ (l : Image). sector l (area_start header area + header + k)) same ∙ in_log k lt;
     }
+
+-- an empty batch is
+pub nothing_valid : (entries : List Entry) (header size : ℕ) → length entries ≡ 0 → AreTargets header size (targets entries)
+nothing_valid [] header size none = no_targets header size
+nothing_valid (e ∷ entries) header size none = absurd (omega (arith, none))
+
+-- a batch that isn't empty
+pub filled : (entries : List Entry) → (entries ≡ [] → ⊥) → 0 < length entries
+filled [] some = absurd (some refl)
+filled (e ∷ entries) some = omega arith
+
+pub nothing_logged : (entries : List Entry) (disk : DiskState) → IsReady disk → length entries ≡ 0 → AreTargets (header_on disk) disk.size (targets entries) → IsLogged entries disk
+nothing_logged entries disk ready none valid = record {
+  valid = valid;
+  ready = ready;
+  stable = λ some. absurd (omega (arith, some, none));
+  header = λ k lt. absurd (omega (arith, lt, none));
+  log = λ k lt. absurd (omega (arith, lt, none));
+}
 
 -- what lies before the log, after a step that leaves the same map
 pub header_same : (old new : DiskState) (header : ℕ) → SameMap (data_of new) (data_of old) → HasHeader header old → HasHeader header new
@@ -182,42 +373,112 @@ super_on_disk entries header size f on_disk = super_apart entries f (λ k d lt. 
 pub batch_super : (entries : List Entry) (header size : ℕ) (f : SectorMap) → AreTargets header size (targets entries) → with_batch entries f 0 ≡ f 0
 batch_super entries header size f valid = super_on_disk entries header size f valid.in_range
 
-not_sealed : (entries : List Entry) (content : List ℕ) (disk : DiskState) → IsLogged entries disk → (image : Image) → IsImageOr (IsWrite 1 content) disk image → sector image 1 ≡ sector disk.seen 1 → ReadsAs disk.size (data_of disk) image
-not_sealed entries content disk logged image is old =
-    let idle = logged.at_rest in
+-- with the commit sector as it was
+not_sealed : (entries : List Entry) (content : List ℕ) (disk : DiskState) → 0 < length entries → IsLogged entries disk → (image : Image) → IsImageOr (IsWrite 1 content) disk image → sector image 1 ≡ sector disk.seen 1 → ReadsAs disk.size (data_of disk) image
+not_sealed entries content disk some logged image is old =
+    let place = logged.ready.is in
+    let same : image ≡ disk.seen = ext_get_or [] image disk.seen (is.size ∙ sym place.whole) (λ n below. elim (cases_eq n 1) [
+      | inl here ↦ ap (sector image) here ∙ old ∙ ap (sector disk.seen) (sym here)
+      | inr there ↦ stays (logged.stable some) place.whole is n (λ c write. there write.0)
+    ]) in
     record {
       whole = is.size;
-      commit = valid_with disk.size (sector image) [] (idle_commit disk.size (sector image) (old ∙ idle.commit.bytes));
-      reads = λ n part.
-          recovered-idle disk.size (sector image) n idle.small (old ∙ idle.commit.bytes)
-          ∙ stays idle.stable idle.whole is n (λ c write. data_is_not disk n 1 part (omega arith) (omega arith) write.0)
-          ∙ sym (idle_data disk idle n);
+      commit = subst (λ (l : Image). IsValidCommit disk.size (sector l)) (sym same) (valid_with disk.size (sector disk.seen) logged.ready.sectors place.commit);
+      reads = λ n part. ap (λ (l : Image). recovered disk.size (sector l) n) same;
     }
 
-pub sealed_reads : (entries : List Entry) (content : List ℕ) (disk : DiskState) → IsLogged entries disk → (image : Image) → IsImageOr (IsWrite 1 content) disk image → sector image 1 ≡ commit_bytes (targets entries) → ReadsAs disk.size (with_batch entries (data_of disk)) image
-sealed_reads entries content disk logged image is written =
-    let idle = logged.at_rest in
+-- with the new one: the batch's commit, in the next area
+sealed_commit : (entries : List Entry) (disk : DiskState) → 0 < length entries → IsLogged entries disk → (image : Image) → sector image 1 ≡ commit_bytes_in (next_at disk.seen) (targets entries)
+    → ((n : ℕ) → (n ≡ 1 → ⊥) → sector image n ≡ sector disk.seen n)
+    → (IsCommit disk.size (sector image) (targets entries)) × (named_start (sector image) ≡ area_start (header_on disk) (next_at disk.seen))
+sealed_commit entries disk some logged image written stay =
     let header = header_on disk in
-    let stay : (n : ℕ) → (n ≡ 1 → ⊥) → sector image n ≡ sector disk.seen n = λ n other. stays idle.stable idle.whole is n (λ c write. other write.0) in
+    let next = next_at disk.seen in
+    let ts = targets entries in
+    let few = logged.valid.few in
+    let small = next_small header (u32_of (sector disk.seen 1) 4) in
+    let room = area_room header next in
     let super : sector image 0 ≡ sector disk.seen 0 = stay 0 (λ e. omega (arith, e)) in
-    let commit : IsCommit disk.size (sector image) (targets entries) = record {
-      bytes = written;
-      more = λ k lt.
-          let fits : 126 + k < length entries = omega (arith, lt, length-targets entries) in
-          ap (λ s. u32_of s (4 * (k % 128))) (stay (2 + k / 128) (λ e. omega (arith, e))) ∙ logged.header k fits ∙ sym (target_is entries (126 + k) fits);
-      valid = subst (λ s. AreTargets (header_of s) disk.size (targets entries)) (sym super) logged.valid;
-    } in
-    let log : (k : ℕ) → k < length entries → sector image (2 + header_of (sector image 0) + k) ≡ content_at entries k =
-    λ k lt. ap (λ s. sector image (2 + header_of s + k)) super ∙ stay (2 + header + k) (λ e. omega (arith, e)) ∙ logged.log k lt in
+    let short : length ts < 0x8000_0000 = omega (arith, few, header_most (sector disk.seen 0)) in
+    let area : named_area (sector image) ≡ next = area_spelled (sector image 1) ts next written short small.0 in
+    let start : named_start (sector image) ≡ area_start header next = (λ j. area_start (header_of (super j)) (area j)) in (
+      record {
+        bytes = written ∙ ap (λ (a : ℕ). commit_bytes_in a ts) (sym area);
+        area = subst (λ s. IsArea (header_of s) (named_area (sector image)) ts) (sym super)
+            (subst (λ (a : ℕ). IsArea header a ts) (sym area) (record { one = small.0; there = small.1; some = omega (arith, small.0, some, length-targets entries) }));
+        more = λ k lt.
+            let fits : 126 + k < length entries = omega (arith, lt, length-targets entries) in
+            ap (λ (at : ℕ). u32_of (sector image (at + k / 128)) (4 * (k % 128))) start
+            ∙ ap (λ s. u32_of s (4 * (k % 128))) (stay (area_start header next + k / 128) (λ e. omega (arith, e, room.0))) ∙ logged.header k fits ∙ sym (target_is entries (126 + k) fits);
+        valid = subst (λ s. AreTargets (header_of s) disk.size ts) (sym super) logged.valid;
+      },
+      start,
+    )
+
+-- and its log
+sealed_log : (entries : List Entry) (disk : DiskState) → IsLogged entries disk → (image : Image) → named_start (sector image) ≡ area_start (header_on disk) (next_at disk.seen)
+    → ((n : ℕ) → (n ≡ 1 → ⊥) → sector image n ≡ sector disk.seen n) → HoldsLog (log_at image) entries image
+sealed_log entries disk logged image start stay k lt =
+    let header = header_on disk in
+    let from = area_start header (next_at disk.seen) in
+    let room = area_room header (next_at disk.seen) in
+    let super : sector image 0 ≡ sector disk.seen 0 = stay 0 (λ e. omega (arith, e)) in
+    (λ j. sector image (start j + header_of (super j) + k)) ∙ stay (from + header + k) (λ e. omega (arith, e, room.0)) ∙ logged.log k lt
+
+pub sealed_reads : (entries : List Entry) (content : List ℕ) (disk : DiskState) → 0 < length entries → IsLogged entries disk → (image : Image) → IsImageOr (IsWrite 1 content) disk image
+    → sector image 1 ≡ commit_bytes_in (next_at disk.seen) (targets entries) → ReadsAs disk.size (with_batch entries (data_of disk)) image
+sealed_reads entries content disk some logged image is written =
+    let place = logged.ready.is in
+    let header = header_on disk in
+    let stay : (n : ℕ) → (n ≡ 1 → ⊥) → sector image n ≡ sector disk.seen n = λ n other. stays (logged.stable some) place.whole is n (λ c write. other write.0) in
+    let commit = sealed_commit entries disk some logged image written stay in
+    let log = sealed_log entries disk logged image commit.1 stay in
     record {
       whole = is.size;
-      commit = valid_with disk.size (sector image) (targets entries) commit;
+      commit = valid_with disk.size (sector image) (targets entries) commit.0;
       reads = λ n part.
           let here : IsMapped (header_of (data_of disk 0)) n = mapped_by (with_batch entries (data_of disk)) (data_of disk) n (batch_super entries header disk.size (data_of disk) logged.valid) part in
-          recovered-commit disk.size (sector image) (targets entries) n idle.small commit
-          ∙ replayed_batch (sector image) (2 + header_of (sector image 0)) entries log n
-          ∙ with_batch_same entries (sector image) (data_of disk) n (stay n (data_is_not disk n 1 here (omega arith) (omega arith)) ∙ sym (idle_data disk idle n));
+          recovered-commit disk.size (sector image) (targets entries) n place.small commit.0
+          ∙ replayed_batch (sector image) (log_at image) entries log n
+          ∙ with_batch_same entries (sector image) (data_of disk) n (stay n (data_is_not disk n 1 here (omega arith) (omega arith)) ∙ sym (ready_data disk logged.ready n));
     }
+
+-- the commit is there, and all is stable
+pub sealed_from : (entries : List Entry) (content : List ℕ) (area : ℕ) (old new : DiskState) → 0 < length entries → IsLogged entries old → HasNext area old → content ≡ commit_bytes_in area (targets entries)
+    → AddsOnly (IsWrite 1 content) old new → length new.seen ≡ new.size → new.seen ≡ set old.seen 1 content → IsStable new → IsSealed entries new
+sealed_from entries content area old new some logged next spelled adds whole put stable =
+    let place = logged.ready.is in
+    let stay : (n : ℕ) → (n ≡ 1 → ⊥) → sector new.seen n ≡ sector old.seen n = λ n other. written_other old.seen new.seen 1 n content put other in
+    let written : sector new.seen 1 ≡ commit_bytes_in (next_at old.seen) (targets entries) =
+    ap (λ (l : Image). sector l 1) put ∙ get_or-set_same old.seen 1 content [] (omega (arith, place.whole, place.room)) ∙ spelled ∙ ap (λ (a : ℕ). commit_bytes_in a (targets entries)) next in
+    let commit = sealed_commit entries old some logged new.seen written stay in
+    record {
+      none = λ none. absurd (omega (arith, none, some));
+      at_rest = λ _. record {
+        room = omega (arith, place.room, adds.size);
+        small = omega (arith, place.small, adds.size);
+        whole = whole;
+        stable = stable;
+        commit = subst (λ k. IsCommit k (sector new.seen) (targets entries)) (sym adds.size) commit.0;
+      };
+      log = sealed_log entries old logged new.seen commit.1 stay;
+    }
+
+-- and the next area is the other one
+pub sealed_next : (entries : List Entry) (content : List ℕ) (header area : ℕ) (old new : DiskState) → 0 < length entries → IsLogged entries old → HasHeader header old → HasNext area old
+    → content ≡ commit_bytes_in area (targets entries) → new.seen ≡ set old.seen 1 content → HasNext (other_area header area) new
+sealed_next entries content header area old new some logged has next spelled put =
+    let place = logged.ready.is in
+    let few = logged.valid.few in
+    let small = next_small (header_on old) (u32_of (sector old.seen 1) 4) in
+    let one : area ≤ 1 = omega (arith, next, small.0) in
+    let short : length (targets entries) < 0x8000_0000 = omega (arith, few, header_most (sector old.seen 0)) in
+    let super : sector new.seen 0 ≡ sector old.seen 0 = written_other old.seen new.seen 1 0 content put (λ e. omega (arith, e)) in
+    let written : sector new.seen 1 ≡ commit_bytes_in area (targets entries) =
+    ap (λ (l : Image). sector l 1) put ∙ get_or-set_same old.seen 1 content [] (omega (arith, place.whole, place.room)) ∙ spelled in
+    let word : u32_of (sector new.seen 1) 4 ≡ length (targets entries) + 0x8000_0000 * area = ap (λ s. u32_of s 4) written ∙ number_of_word area (targets entries) (omega (arith, short, one)) in
+    next_other header area (length (targets entries)) (u32_of (sector new.seen 1) 4) word (omega (arith, some, length-targets entries)) short one
+    ∙ ap (λ (h : ℕ). next_area h (u32_of (sector new.seen 1) 4)) (has.is ∙ ap header_of (sym super))
 
 -- an empty batch changes nothing
 with_nothing : (entries : List Entry) (f : SectorMap) (n : ℕ) → length entries ≡ 0 → with_batch entries f n ≡ f n
@@ -226,7 +487,7 @@ with_nothing (e ∷ entries) f n none = absurd (omega (arith, none))
 
 pub nothing_sealed : (entries : List Entry) (disk : DiskState) → IsLogged entries disk → length entries ≡ 0 → (image : Image) → IsImage disk image → ReadsAs disk.size (with_batch entries (data_of disk)) image
 nothing_sealed entries disk logged none image is =
-    let reads = rest_reads [] disk logged.at_rest image is in
+    let reads = ready_reads disk logged.ready image is in
     let map = with_batch entries (data_of disk) in
     record {
       whole = reads.whole;
@@ -234,12 +495,15 @@ nothing_sealed entries disk logged none image is =
       reads = λ n part. reads.reads n (mapped_by map (data_of disk) n (with_nothing entries (data_of disk) 0 none) part) ∙ sym (with_nothing entries (data_of disk) n none);
     }
 
-pub seal_either : (entries : List Entry) (content : List ℕ) (disk : DiskState) → content ≡ commit_bytes (targets entries) → IsLogged entries disk → (image : Image) → IsImageOr (IsWrite 1 content) disk image
+pub nothing_is_sealed : (entries : List Entry) (disk : DiskState) → IsLogged entries disk → length entries ≡ 0 → IsSealed entries disk
+nothing_is_sealed entries disk logged none = record { none = λ _. logged.ready; at_rest = λ some. absurd (omega (arith, some, none)); log = λ k lt. absurd (omega (arith, lt, none)) }
+
+pub seal_either : (entries : List Entry) (content : List ℕ) (area : ℕ) (disk : DiskState) → 0 < length entries → HasNext area disk → content ≡ commit_bytes_in area (targets entries) → IsLogged entries disk → (image : Image) → IsImageOr (IsWrite 1 content) disk image
     → IsEither disk.size (data_of disk) (with_batch entries (data_of disk)) image
-seal_either entries content disk same logged image is =
-    ⊎_elim (λ (old : sector image 1 ≡ sector disk.seen 1). inl (not_sealed entries content disk logged image is old))
-    (λ (new : IsWrite 1 content 1 (sector image 1)). inr (sealed_reads entries content disk logged image is (new.1 ∙ same)))
-    (stays_or logged.at_rest.stable is 1 (omega (arith, logged.at_rest.room)))
+seal_either entries content area disk some next same logged image is =
+    ⊎_elim (λ (old : sector image 1 ≡ sector disk.seen 1). inl (not_sealed entries content disk some logged image is old))
+    (λ (new : IsWrite 1 content 1 (sector image 1)). inr (sealed_reads entries content disk some logged image is (new.1 ∙ same ∙ ap (λ (a : ℕ). commit_bytes_in a (targets entries)) next)))
+    (stays_or (logged.stable some) is 1 (omega (arith, logged.ready.is.room)))
 
 -- ---- while the targets are written
 low_stays : (ts : List ℕ) (disk : DiskState) → IsAtRest ts disk → (image : Image) → IsImageOr (InTargets ts) disk image → (n : ℕ) → n < log_end (header_on disk) → sector image n ≡ sector disk.seen n
@@ -254,18 +518,20 @@ targets_keep ts disk rest image is =
       whole = is.size;
       commit = valid_with disk.size (sector image) ts commit;
       reads = λ n part.
-          recovered-same disk.size (sector disk.seen) (sector image) ts n rest.small rest.commit commit (low 0 (omega arith))
-          (λ k lt. low (2 + header_on disk + k) (omega (arith, lt, few)))
+          recovered-same disk.size (sector disk.seen) (sector image) ts n rest.small rest.commit commit (low 0 (omega arith)) (low 1 (omega arith))
+          (λ k lt. let room = area_room (header_on disk) (named_area (sector disk.seen)) in low (log_at disk.seen + k) (omega (arith, lt, few, room.1)))
           (λ none. stays rest.stable rest.whole is n (λ content target. none target));
     }
 
 -- with the targets written and all stable, the commit is installed
-pub installed_from : (ts : List ℕ) (old new : DiskState) → IsAtRest ts old → IsImageOr (InTargets ts) old new.seen → new.size ≡ old.size → HasReplayed (header_on old) ts (sector old.seen) new.seen
+pub installed_from : (ts : List ℕ) (old new : DiskState) → IsAtRest ts old → IsImageOr (InTargets ts) old new.seen → new.size ≡ old.size → HasReplayed (log_at old.seen) ts (sector old.seen) new.seen
     → IsStable new → IsInstalled ts new
 installed_from ts old new rest is size in_place stable =
     let low = low_stays ts old rest new.seen is in
     let few = rest.commit.valid.few in
     let header : header_on new ≡ header_on old = ap header_of (low 0 (omega arith)) in
+    let start : named_start (sector new.seen) ≡ named_start (sector old.seen) = same_start (sector old.seen) (sector new.seen) header (low 1 (omega arith)) in
+    let room = area_room (header_on old) (named_area (sector old.seen)) in
     record {
       at_rest = record {
         room = omega (arith, rest.room, size);
@@ -275,12 +541,42 @@ installed_from ts old new rest is size in_place stable =
         commit = subst (λ n. IsCommit n (sector new.seen) ts) (sym size) (commit_stays_low old.size (sector old.seen) (sector new.seen) ts low rest.commit);
       };
       in_place = λ k lt.
-          in_place k lt ∙ sym (low (2 + header_on old + k) (omega (arith, lt, few))) ∙ ap (λ h. sector new.seen (2 + h + k)) (sym header);
+          in_place k lt ∙ sym (low (log_at old.seen + k) (omega (arith, lt, few, room.1))) ∙ (λ j. sector new.seen (sym start j + sym header j + k));
     }
 
+-- with the targets written, though not stable
+pub placed_from : (ts : List ℕ) (old new : DiskState) → IsAtRest ts old → 0 < header_on old → AddsOnly (InTargets ts) old new → IsImage new new.seen → HasReplayed (log_at old.seen) ts (sector old.seen) new.seen → IsReady new
+placed_from ts old new rest there adds shown in_place =
+    let is = image_or adds new.seen shown in
+    let low = low_stays ts old rest new.seen is in
+    let few = rest.commit.valid.few in
+    let header : header_on new ≡ header_on old = ap header_of (low 0 (omega arith)) in
+    let start : named_start (sector new.seen) ≡ named_start (sector old.seen) = same_start (sector old.seen) (sector new.seen) header (low 1 (omega arith)) in
+    let room = area_room (header_on old) (named_area (sector old.seen)) in
+    record {
+      sectors = ts;
+      is = record {
+        room = omega (arith, rest.room, adds.size);
+        small = omega (arith, rest.small, adds.size);
+        whole = shown.size;
+        stable = λ n content below may. elim (target_or_none ts n) [
+          | inl found ↦ inr (contains_at ts found.0 n found.1.0 found.1.1)
+          | inr none ↦
+              ⊎_elim (λ was. inl (rest.stable n content (omega (arith, below, adds.size)) was ∙ sym (stays rest.stable rest.whole is n (λ c target. none target)))) (λ target. inr target) (adds.nothing_else n content may)
+        ];
+        commit = subst (λ n. IsCommit n (sector new.seen) ts) (sym adds.size) (commit_stays_low old.size (sector old.seen) (sector new.seen) ts low rest.commit);
+        in_place = λ k lt.
+            in_place k lt ∙ sym (low (log_at old.seen + k) (omega (arith, lt, few, room.1))) ∙ (λ j. sector new.seen (sym start j + sym header j + k));
+      };
+      alone = λ none. absurd (omega (arith, none, header, there));
+    }
+
+pub placed_next : (ts : List ℕ) (old new : DiskState) → IsAtRest ts old → AddsOnly (InTargets ts) old new → IsImage new new.seen → next_at new.seen ≡ next_at old.seen
+placed_next ts old new rest adds shown = let low = low_stays ts old rest new.seen (image_or adds new.seen shown) in next_same old.seen new.seen (low 0 (omega arith)) (low 1 (omega arith))
+
 -- a batch that is in its place and in the log
-pub batch_replayed : (header : ℕ) (entries : List Entry) (old new : Image) → HoldsLog header entries old → HoldsTargets entries new → HasReplayed header (targets entries) (sector old) new
-batch_replayed header entries old new log in_place k lt =
+pub batch_replayed : (from : ℕ) (entries : List Entry) (old new : Image) → HoldsLog from entries old → HoldsTargets entries new → HasReplayed from (targets entries) (sector old) new
+batch_replayed from entries old new log in_place k lt =
     let fits : k < length entries = omega (arith, lt, length-targets entries) in
     ap (sector new) (target_is entries k fits) ∙ in_place k fits ∙ sym (log k fits)
 
@@ -291,15 +587,16 @@ clear_keeps ts content disk same installed image is =
     let stay : (n : ℕ) → (n ≡ 1 → ⊥) → sector image n ≡ sector disk.seen n = λ n other. stays rest.stable rest.whole is n (λ c write. other write.0) in
     let apart : (n : ℕ) → IsMapped (header_of (data_of disk 0)) n → n ≡ 1 → ⊥ = λ n part. data_is_not disk n 1 part (omega arith) (omega arith) in
     let super : sector image 0 ≡ sector disk.seen 0 = stay 0 (λ e. omega (arith, e)) in
+    let room = area_room (header_on disk) (named_area (sector disk.seen)) in
     ⊎_elim
     (λ (old : sector image 1 ≡ sector disk.seen 1).
-    let commit = commit_stays disk.size (sector disk.seen) (sector image) ts super old (λ k lt. stay (2 + k / 128) (λ e. omega (arith, e))) rest.commit in
+    let commit = commit_stays disk.size (sector disk.seen) (sector image) ts super old (λ k lt. stay (named_start (sector disk.seen) + k / 128) (λ e. omega (arith, e, room.0))) rest.commit in
     record {
       whole = is.size;
       commit = valid_with disk.size (sector image) ts commit;
       reads = λ n part.
-          recovered-same disk.size (sector disk.seen) (sector image) ts n rest.small rest.commit commit super
-          (λ k lt. stay (2 + header_on disk + k) (λ e. omega (arith, e))) (λ none. stay n (apart n part));
+          recovered-same disk.size (sector disk.seen) (sector image) ts n rest.small rest.commit commit super old
+          (λ k lt. stay (log_at disk.seen + k) (λ e. omega (arith, e, room.0))) (λ none. stay n (apart n part));
     })
     (λ (new : IsWrite 1 content 1 (sector image 1)). record {
       whole = is.size;
@@ -310,6 +607,26 @@ clear_keeps ts content disk same installed image is =
           ∙ sym (recovered-installed disk.size (sector disk.seen) ts n rest.small rest.commit installed.in_place);
     })
     (stays_or rest.stable is 1 (omega (arith, rest.room)))
+
+-- after it
+pub cleared_from : (ts : List ℕ) (content : List ℕ) (old new : DiskState) → IsInstalled ts old → content ≡ commit_bytes [] → AddsOnly (IsWrite 1 content) old new → length new.seen ≡ new.size
+    → new.seen ≡ set old.seen 1 content → IsStable new → IsIdle new
+cleared_from ts content old new installed same adds whole put stable =
+    let rest = installed.at_rest in
+    record {
+      room = omega (arith, rest.room, adds.size);
+      small = omega (arith, rest.small, adds.size);
+      whole = whole;
+      stable = stable;
+      commit = idle_commit new.size (sector new.seen) (ap (λ (l : Image). sector l 1) put ∙ get_or-set_same old.seen 1 content [] (omega (arith, rest.whole, rest.room)) ∙ same);
+    }
+
+-- one log area is always the next one
+pub alone_next : (old new : DiskState) (header : ℕ) → header ≡ 0 → HasHeader header old → HasHeader header new → next_at new.seen ≡ next_at old.seen
+alone_next old new header zero was is =
+    let none : header_on old ≡ 0 = sym was.is ∙ zero in
+    let same : header_on new ≡ header_on old = sym is.is ∙ was.is in
+    next_alone (header_on new) (u32_of (sector new.seen 1) 4) (same ∙ none) ∙ sym (next_alone (header_on old) (u32_of (sector old.seen 1) 4) none)
 
 -- ---- what means the same
 -- what reads as a later disk reads as the earlier one

@@ -2,7 +2,6 @@
 use Rattle.std.proofs.Common.{◌≡◌, inl, inr, ℕ, ◌+◌, ◌*◌, ◌/◌, ◌%◌, ◌<◌, List, [], length, get_or, set, arith, ◌∙◌, sym, ap, get_or-set_other, get_or-set_same}
 use Rattle.std.proofs.lemmas.Bool.{cases_eq, cases_lt}
 use Rattle.fs_layout.specs.Bytes.{u32_of}
-use Rattle.fs_layout.specs.Commit.{header_number}
 use Rattle.sector_disk.specs.Disk.{Image, sector}
 
 -- The first i contents are in their sectors. A write puts the next one into a sector of its own.
@@ -21,37 +20,41 @@ written_more at content old new i fits written apart before k lt = elim (cases_e
 ]
 
 -- The first header sectors have their numbers. A write puts the next one.
-pub header_more : (number : ℕ → ℕ) (count at : ℕ) (content : List ℕ) (old new : Image) → 2 + at < length old → new ≡ set old (2 + at) content
+pub header_more : (from : ℕ) (number : ℕ → ℕ) (count at : ℕ) (content : List ℕ) (old new : Image) → from + at < length old → new ≡ set old (from + at) content
     → ((k : ℕ) → k < 128 → 126 + 128 * at + k < count → u32_of content (4 * k) ≡ number (128 * at + k))
-    → ((k : ℕ) → k < 128 * at → 126 + k < count → header_number (sector old) k ≡ number k)
-    → (k : ℕ) → k < 128 * (at + 1) → 126 + k < count → header_number (sector new) k ≡ number k
-header_more number count at content old new fits written numbers before k near lt = elim (cases_lt k (128 * at)) [
+    → ((k : ℕ) → k < 128 * at → 126 + k < count → u32_of (sector old (from + k / 128)) (4 * (k % 128)) ≡ number k)
+    → (k : ℕ) → k < 128 * (at + 1) → 126 + k < count → u32_of (sector new (from + k / 128)) (4 * (k % 128)) ≡ number k
+header_more from number count at content old new fits written numbers before k near lt = elim (cases_lt k (128 * at)) [
   | inl low ↦
       ap (λ s. u32_of s (4 * (k % 128)))
-      (ap (λ (l : Image). sector l (2 + k / 128)) written ∙ get_or-set_other old (2 + at) (2 + k / 128) content [] (λ (e : 2 + k / 128 ≡ 2 + at). omega (arith, low, e)))
+      (ap (λ (l : Image). sector l (from + k / 128)) written ∙ get_or-set_other old (from + at) (from + k / 128) content [] (λ (e : from + k / 128 ≡ from + at). omega (arith, low, e)))
       ∙ before k low lt
   | inr high ↦
       let here : k / 128 ≡ at = omega (arith, near, high) in
       let back : 128 * at + k % 128 ≡ k = omega (arith, near, high) in
       ap (λ s. u32_of s (4 * (k % 128)))
-      (ap (λ j. sector new (2 + j)) here ∙ ap (λ (l : Image). sector l (2 + at)) written ∙ get_or-set_same old (2 + at) content [] fits)
+      (ap (λ j. sector new (from + j)) here ∙ ap (λ (l : Image). sector l (from + at)) written ∙ get_or-set_same old (from + at) content [] fits)
       ∙ numbers (k % 128) (omega arith) (omega (arith, back, lt)) ∙ ap number back
 ]
 
 -- The numbers of the first header sectors were read. Those of the next one are read too.
-pub header_read : (count at : ℕ) (old new : List ℕ) (image : Image) → ((i : ℕ) → i < 126 + 128 * at → get_or new i 0 ≡ get_or old i 0)
-    → ((k : ℕ) → k < 128 * at → 126 + k < count → header_number (sector image) k ≡ get_or old (126 + k) 0)
-    → ((k : ℕ) → k < 128 → 126 + 128 * at + k < count → get_or new (126 + 128 * at + k) 0 ≡ u32_of (sector image (2 + at)) (4 * k))
-    → (k : ℕ) → k < 128 * (at + 1) → 126 + k < count → header_number (sector image) k ≡ get_or new (126 + k) 0
-header_read count at old new image kept before read k near lt = elim (cases_lt k (128 * at)) [
+pub header_read : (from count at : ℕ) (old new : List ℕ) (image : Image) → ((i : ℕ) → i < 126 + 128 * at → get_or new i 0 ≡ get_or old i 0)
+    → ((k : ℕ) → k < 128 * at → 126 + k < count → u32_of (sector image (from + k / 128)) (4 * (k % 128)) ≡ get_or old (126 + k) 0)
+    → ((k : ℕ) → k < 128 → 126 + 128 * at + k < count → get_or new (126 + 128 * at + k) 0 ≡ u32_of (sector image (from + at)) (4 * k))
+    → (k : ℕ) → k < 128 * (at + 1) → 126 + k < count → u32_of (sector image (from + k / 128)) (4 * (k % 128)) ≡ get_or new (126 + k) 0
+header_read from count at old new image kept before read k near lt = elim (cases_lt k (128 * at)) [
   | inl low ↦ before k low lt ∙ sym (kept (126 + k) (omega (arith, low)))
   | inr high ↦
       let here : k / 128 ≡ at = omega (arith, near, high) in
       let back : 126 + 128 * at + k % 128 ≡ 126 + k = omega (arith, near, high) in
-      ap (λ j. u32_of (sector image (2 + j)) (4 * (k % 128))) here
+      ap (λ j. u32_of (sector image (from + j)) (4 * (k % 128))) here
       ∙ sym (read (k % 128) (omega arith) (omega (arith, back, lt))) ∙ ap (λ j. get_or new j 0) back
 ]
 
 -- a write to this sector of this content
 pub written_so : (old new : Image) (at n : ℕ) (content next : List ℕ) → new ≡ set old at content → at ≡ n → content ≡ next → new ≡ set old n next
 written_so old new at n content next written is same = written ∙ (λ j. set old (is j) (same j))
+
+-- a sector that isn't written
+pub written_other : (old new : Image) (at n : ℕ) (content : List ℕ) → new ≡ set old at content → (n ≡ at → ⊥) → sector new n ≡ sector old n
+written_other old new at n content written other = ap (λ (l : Image). sector l n) written ∙ get_or-set_other old at n content [] other

@@ -7,7 +7,7 @@
 use Rattle.std.specs.Prelude.{ℕ, ◌≡◌, ◌<◌, ◌≤◌, ◌+◌, Bool, true, false, List, [], ◌∷◌, length, map, All, slice_index_or, if◌then◌else◌, nat_eq, not, count_by}
 use Rattle.std.specs.List.{zip}
 use Rattle.fs_layout.specs.declared.commit.TheConstants.{MAX_LOG_SECTORS}
-use Rattle.fs_layout.specs.declared.place.TheConstants.{INODE_BITMAP}
+use Rattle.fs_layout.specs.declared.header.TheConstants.{LEAST_LOG_END}
 use Rattle.fs_layout.specs.Bytes.{SectorMap}
 use Rattle.fs_layout.specs.Commit.{AreDistinct}
 use Rattle.fs_layout.specs.Header.{log_end}
@@ -30,7 +30,7 @@ content_at entries k = (slice_index_or entries k (0, [])).1
 -- at most as many sectors as any commit has, each once, and none before the bitmaps
 pub record IsBatch (entries : List Entry) : Type 0 where
   pub few : length entries ≤ MAX_LOG_SECTORS
-  pub high : All (λ t. INODE_BITMAP ≤ t) (targets entries)
+  pub high : All (λ t. LEAST_LOG_END ≤ t) (targets entries)
   pub apart : AreDistinct (targets entries)
 
 -- a disk of so many sectors, so many of them header sectors, has each of them behind its log

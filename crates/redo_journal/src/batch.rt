@@ -2,7 +2,7 @@
 
 ghost use Rattle.std.specs.Prelude.{◌≡◌, ◌↔◌, ◌≤◌, ◌<◌, ◌+◌, [], ℕ, List, IsTrue, true, false, length, IfOk, IfSome, IfNone, if◌then◌else◌, nat_eq};
 ghost use Rattle.fs_layout.specs.declared.commit.TheConstants.{MAX_LOG_SECTORS};
-ghost use Rattle.fs_layout.specs.declared.place.TheConstants.{INODE_BITMAP};
+ghost use Rattle.fs_layout.specs.declared.header.TheConstants.{LEAST_LOG_END};
 ghost use Rattle.fs_layout.specs.Bytes.{SectorMap};
 ghost use Rattle.fs_layout.specs.Header.{log_end};
 ghost use Rattle.fs_layout.specs.InodeChanges.{Puts};
@@ -84,7 +84,7 @@ impl Batch {
 
     /// Sets the content for a sector. A new sector goes last.
     pub fn put(&mut self, n: u32, from: &[u8; 512])
-        requires part { INODE_BITMAP ≤ n }
+        requires part { LEAST_LOG_END ≤ n }
         requires room { has_entry self.old n ≡ false → length self.old < MAX_LOG_SECTORS }
         ensures put { self.new ≡ put_entry self.old n from.now }
         ensures map { (sectors : SectorMap) → Puts n from.now (with_batch self.old sectors) (with_batch self.new sectors) }

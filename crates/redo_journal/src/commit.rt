@@ -1,25 +1,32 @@
 //! The steps of a commit, and what images mean while they run.
 
-ghost use Rattle.std.specs.Prelude.{◌≡◌, ◌≤◌, ℕ, List, length, IsOk, OnOk};
-ghost use Rattle.fs_layout.specs.Commit.{commit_bytes};
+ghost use Rattle.std.specs.Prelude.{◌≡◌, ◌≤◌, ℕ, List, length, IsOk, IfOk, OnOk};
+ghost use Rattle.fs_layout.specs.Commit.{named_area, commit_bytes_in};
 ghost use Rattle.fs_layout.specs.Header.{max_targets};
 ghost use Rattle.redo_journal.specs.Batch.{IsOnDisk, targets, with_batch};
 ghost use Rattle.redo_journal.specs.Meaning.{data_of, EachReadsAs, LeavesSameMap, LeavesAllOrNone};
-ghost use Rattle.redo_journal.specs.States.{HasHeader, IsAtRest, IsIdle, IsLogged, IsSealed, IsInstalled};
-ghost use Rattle.sector_disk.specs.Disk.{HasCause, HasWriteCause, CountsWrites};
+ghost use Rattle.redo_journal.specs.States.{next_at, log_at, HasHeader, HasNext, HoldsLog, IsAtRest, IsIdle, IsReady, IsLogged, IsSealed, IsInstalled};
+ghost use Rattle.sector_disk.specs.Disk.{sector, HasCause, HasWriteCause, CountsWrites};
 
 use crate::Batch;
 use crate::steps::{copy_log, write_header, write_log, write_targets};
-use fs_layout::{COMMIT_SECTOR, Commit};
+use fs_layout::{COMMIT_SECTOR, Commit, other_area};
 use sector_disk::{Disk, DiskFault, write_synced};
 
-/// Writes the batch into the log and syncs. Each image reads as before.
-pub(crate) fn log_batch<D: Disk>(disk: &mut D, header: u32, batch: &Batch) -> Result<(), DiskFault>
-    requires idle { IsIdle (D.state disk.old) }
+/// Writes the batch into a log area and syncs. Each image reads as before.
+pub(crate) fn log_batch<D: Disk>(
+    disk: &mut D,
+    header: u32,
+    area: u32,
+    batch: &Batch,
+) -> Result<(), DiskFault>
+    requires ready { IsReady (D.state disk.old) }
     requires header { HasHeader header (D.state disk.old) }
+    requires next { HasNext area (D.state disk.old) }
     requires few { length batch.now ≤ max_targets header }
     requires on_disk { IsOnDisk header (D.state disk.old).size batch.now }
     ensures logged { OnOk result (IsLogged batch.now (D.state disk.new)) }
+    ensures next { OnOk result (HasNext area (D.state disk.new)) }
     ensures any_moment { LeavesSameMap (D.state disk.old) (D.state disk.new) }
     ensures empty { length batch.now ≡ 0 → IsOk result × (disk.new ≡ disk.old) }
     ensures size { (D.state disk.new).size ≡ (D.state disk.old).size }
@@ -29,15 +36,23 @@ pub(crate) fn log_batch<D: Disk>(disk: &mut D, header: u32, batch: &Batch) -> Re
     if batch.sectors().is_empty() {
         return Ok(());
     }
-    write_header(disk, header, batch)?;
-    write_log(disk, header, batch)?;
+    write_header(disk, header, area, batch)?;
+    write_log(disk, header, area, batch)?;
     disk.sync()
 }
 
-/// Writes the commit sector and syncs. Each image reads as before, or with the whole batch.
-pub(crate) fn seal_batch<D: Disk>(disk: &mut D, batch: &Batch) -> Result<(), DiskFault>
-    requires { IsLogged batch.now (D.state disk.old) }
+/// Writes the commit sector and syncs. Each image reads as before, or with the whole batch. It answers the area of the next commit.
+pub(crate) fn seal_batch<D: Disk>(
+    disk: &mut D,
+    header: u32,
+    area: u32,
+    batch: &Batch,
+) -> Result<u32, DiskFault>
+    requires logged { IsLogged batch.now (D.state disk.old) }
+    requires header { HasHeader header (D.state disk.old) }
+    requires next { HasNext area (D.state disk.old) }
     ensures sealed { OnOk result (IsSealed batch.now (D.state disk.new)) }
+    ensures next { IfOk result (λ next. HasNext next (D.state disk.new)) }
     ensures lasting { OnOk result (EachReadsAs (with_batch batch.now (data_of (D.state disk.old))) (D.state disk.new)) }
     ensures any_moment { LeavesAllOrNone batch.now (D.state disk.old) (D.state disk.new) }
     ensures empty { length batch.now ≡ 0 → IsOk result × (disk.new ≡ disk.old) }
@@ -46,15 +61,23 @@ pub(crate) fn seal_batch<D: Disk>(disk: &mut D, batch: &Batch) -> Result<(), Dis
     ensures told { HasWriteCause (D.state disk.old) (D.state disk.new) result }
 {
     if batch.is_empty() {
-        return Ok(());
+        return Ok(area);
     }
-    write_synced(disk, COMMIT_SECTOR, &commit_sector(batch))
+    write_synced(disk, COMMIT_SECTOR, &commit_sector(area, batch))?;
+    Ok(other_area(header, area))
 }
 
-/// Writes the batch's sectors and syncs, and takes the commit away and syncs. Each image reads as before.
-pub(crate) fn install_batch<D: Disk>(disk: &mut D, batch: &Batch) -> Result<(), DiskFault>
-    requires { IsSealed batch.now (D.state disk.old) }
-    ensures idle { OnOk result (IsIdle (D.state disk.new)) }
+/// Writes the batch's sectors. Where the log has one area it then syncs, takes the commit away, and syncs. Each image reads as
+/// before.
+pub(crate) fn install_batch<D: Disk>(
+    disk: &mut D,
+    header: u32,
+    batch: &Batch,
+) -> Result<(), DiskFault>
+    requires sealed { IsSealed batch.now (D.state disk.old) }
+    requires header { HasHeader header (D.state disk.old) }
+    ensures ready { OnOk result (IsReady (D.state disk.new)) }
+    ensures next { OnOk result (next_at (D.state disk.new).seen ≡ next_at (D.state disk.old).seen) }
     ensures any_moment { LeavesSameMap (D.state disk.old) (D.state disk.new) }
     ensures empty { length batch.now ≡ 0 → IsOk result × (disk.new ≡ disk.old) }
     ensures size { (D.state disk.new).size ≡ (D.state disk.old).size }
@@ -64,13 +87,17 @@ pub(crate) fn install_batch<D: Disk>(disk: &mut D, batch: &Batch) -> Result<(), 
     if batch.is_empty() {
         return Ok(());
     }
-    put_in_place(disk, batch)?;
-    clear_commit(disk)
+    if header == 0 {
+        put_in_place(disk, batch)?;
+        return clear_commit(disk);
+    }
+    write_targets(disk, batch)
 }
 
 // Writes the batch's contents to its sectors and syncs. The commit stays.
 fn put_in_place<D: Disk>(disk: &mut D, batch: &Batch) -> Result<(), DiskFault>
-    requires { IsSealed batch.now (D.state disk.old) }
+    requires rest { IsAtRest (targets batch.now) (D.state disk.old) }
+    requires log { HoldsLog (log_at (D.state disk.old).seen) batch.now (D.state disk.old).seen }
     ensures installed { OnOk result (IsInstalled (targets batch.now) (D.state disk.new)) }
     ensures any_moment { LeavesSameMap (D.state disk.old) (D.state disk.new) }
     ensures size { (D.state disk.new).size ≡ (D.state disk.old).size }
@@ -86,10 +113,12 @@ fn put_in_place<D: Disk>(disk: &mut D, batch: &Batch) -> Result<(), DiskFault>
 pub(crate) fn install_log<D: Disk>(
     disk: &mut D,
     header: u32,
+    area: u32,
     sectors: &[u32],
 ) -> Result<(), DiskFault>
     requires rest { IsAtRest sectors.now (D.state disk.old) }
     requires header { HasHeader header (D.state disk.old) }
+    requires area { area ≡ named_area (sector (D.state disk.old).seen) }
     ensures idle { OnOk result (IsIdle (D.state disk.new)) }
     ensures any_moment { LeavesSameMap (D.state disk.old) (D.state disk.new) }
     ensures size { (D.state disk.new).size ≡ (D.state disk.old).size }
@@ -99,22 +128,36 @@ pub(crate) fn install_log<D: Disk>(
     if sectors.is_empty() {
         return Ok(());
     }
-    replay(disk, header, sectors)?;
+    replay(disk, header, area, sectors)?;
     clear_commit(disk)
 }
 
 // Writes the log's contents to the commit's sectors and syncs. The commit stays.
-fn replay<D: Disk>(disk: &mut D, header: u32, sectors: &[u32]) -> Result<(), DiskFault>
+fn replay<D: Disk>(disk: &mut D, header: u32, area: u32, sectors: &[u32]) -> Result<(), DiskFault>
     requires rest { IsAtRest sectors.now (D.state disk.old) }
     requires header { HasHeader header (D.state disk.old) }
+    requires area { area ≡ named_area (sector (D.state disk.old).seen) }
     ensures installed { OnOk result (IsInstalled sectors.now (D.state disk.new)) }
     ensures any_moment { LeavesSameMap (D.state disk.old) (D.state disk.new) }
     ensures size { (D.state disk.new).size ≡ (D.state disk.old).size }
     ensures cause { HasCause (D.state disk.old) (D.state disk.new) result }
     ensures counted { CountsWrites (D.state disk.old) (D.state disk.new) result }
 {
-    copy_log(disk, header, sectors)?;
+    copy_log(disk, header, area, sectors)?;
     disk.sync()
+}
+
+/// Syncs, takes the commit away, and syncs. Each image reads as before.
+pub(crate) fn settle_commit<D: Disk>(disk: &mut D) -> Result<(), DiskFault>
+    requires { IsReady (D.state disk.old) }
+    ensures idle { OnOk result (IsIdle (D.state disk.new)) }
+    ensures any_moment { LeavesSameMap (D.state disk.old) (D.state disk.new) }
+    ensures size { (D.state disk.new).size ≡ (D.state disk.old).size }
+    ensures cause { HasCause (D.state disk.old) (D.state disk.new) result }
+    ensures told { HasWriteCause (D.state disk.old) (D.state disk.new) result }
+{
+    disk.sync()?;
+    clear_commit(disk)
 }
 
 // Takes the commit away and syncs.
@@ -130,8 +173,9 @@ fn clear_commit<D: Disk>(disk: &mut D) -> Result<(), DiskFault>
 }
 
 // The content of a commit sector that names the batch's sectors.
-fn commit_sector(batch: &Batch) -> [u8; 512]
-    ensures { result ≡ commit_bytes (targets batch.now) }
+fn commit_sector(area: u32, batch: &Batch) -> [u8; 512]
+    requires { area ≤ 1 }
+    ensures { result ≡ commit_bytes_in area (targets batch.now) }
 {
-    Commit::new(batch.sectors()).to_sector()
+    Commit::new(batch.sectors()).to_sector_in(area)
 }

@@ -8,11 +8,11 @@ ghost use Rattle.redo_journal.specs.States.{header_at, HasHeader, IsIdle, IsLogg
 ghost use Rattle.sector_disk.specs.Disk.{IsSame, ForgetsPast, Elapses, OnlyReads, HasCause, HasWriteCause};
 
 use crate::Batch;
-use crate::commit::{install_batch, log_batch, seal_batch};
+use crate::commit::{install_batch, log_batch, seal_batch, settle_commit};
 use sector_disk::{CrashDisk, Disk, DiskFault};
 use std::marker::Model;
 
-/// A disk on which no commit is under way.
+/// A disk between two commits. Where the log has two areas the last one stays, with its batch in place; else none is there.
 ///
 /// A contract sees each of the four states as its disk. Any of them may be dropped, which is as if the disk were
 /// stopped: [`Journal::open`] settles what that leaves.
@@ -21,16 +21,18 @@ pub struct Journal<D: Disk> {
     disk: D,
     // How many sectors the header of the log has.
     header: u32,
+    // The log area that the next commit goes into.
+    area: u32,
 }
 
 impl<D: Disk> Model for Journal<D> {
-    ghost use Rattle.redo_journal.specs.States.{IsIdle, HasHeader};
+    ghost use Rattle.redo_journal.specs.States.{IsReady, HasHeader, HasNext};
 
     ghost Value = { D };
 
     ghost view = { λ j. j.disk };
 
-    ghost invariant = { λ j. IsIdle (D.state j.disk) × HasHeader j.header (D.state j.disk) };
+    ghost invariant = { λ j. IsReady (D.state j.disk) × HasHeader j.header (D.state j.disk) × HasNext j.area (D.state j.disk) };
 }
 
 /// A disk with a batch in its log. Its images still read as without the batch.
@@ -38,16 +40,17 @@ impl<D: Disk> Model for Journal<D> {
 pub struct Logged<D: Disk> {
     disk: D,
     header: u32,
+    area: u32,
 }
 
 impl<D: Disk> Model for Logged<D> {
-    ghost use Rattle.redo_journal.specs.States.{HasHeader};
+    ghost use Rattle.redo_journal.specs.States.{HasHeader, HasNext};
 
     ghost Value = { D };
 
     ghost view = { λ j. j.disk };
 
-    ghost invariant = { λ j. HasHeader j.header (D.state j.disk) };
+    ghost invariant = { λ j. HasHeader j.header (D.state j.disk) × HasNext j.area (D.state j.disk) };
 }
 
 /// A disk with the commit of a batch. Its images read as with the batch, though the batch's sectors aren't written.
@@ -55,16 +58,17 @@ impl<D: Disk> Model for Logged<D> {
 pub struct Sealed<D: Disk> {
     disk: D,
     header: u32,
+    area: u32,
 }
 
 impl<D: Disk> Model for Sealed<D> {
-    ghost use Rattle.redo_journal.specs.States.{HasHeader};
+    ghost use Rattle.redo_journal.specs.States.{HasHeader, HasNext};
 
     ghost Value = { D };
 
     ghost view = { λ j. j.disk };
 
-    ghost invariant = { λ j. HasHeader j.header (D.state j.disk) };
+    ghost invariant = { λ j. HasHeader j.header (D.state j.disk) × HasNext j.area (D.state j.disk) };
 }
 
 /// A disk that has failed within a commit. Only [`Journal::open`] tells how far the commit came.
@@ -86,17 +90,21 @@ impl<D: Disk> Journal<D> {
         requires header { HasHeader header (D.state disk) }
         ensures { result ≡ disk }
     {
-        Journal { disk, header }
+        Journal {
+            disk,
+            header,
+            area: 0,
+        }
     }
 
     /// Does nothing: its clause tells a caller's proof what is true of each journal.
-    pub fn tell_idle(&self)
-        ensures { IsIdle (D.state self.now) }
+    pub fn tell_ready(&self)
+        ensures { EachReadsAs (data_of (D.state self.now)) (D.state self.now) }
     {
         let _disk = &self.disk;
     }
 
-    /// Writes the batch into the log and syncs.
+    /// Writes the batch into the log and syncs: into the area that the last commit isn't in.
     pub fn log(self, batch: &Batch) -> Result<Logged<D>, Broken<D>>
         requires on_disk { IsOnDisk (header_at (D.state self).seen) (D.state self).size batch.now }
         requires few { length batch.now ≤ max_targets (header_at (D.state self).seen) }
@@ -114,9 +122,13 @@ impl<D: Disk> Journal<D> {
         ensures cause { HasCause (D.state self) (D.state (disk_of result)) result }
         ensures told { HasWriteCause (D.state self) (D.state (disk_of result)) result }
     {
-        let Journal { mut disk, header } = self;
-        match log_batch(&mut disk, header, batch) {
-            Ok(()) => Ok(Logged { disk, header }),
+        let Journal {
+            mut disk,
+            header,
+            area,
+        } = self;
+        match log_batch(&mut disk, header, area, batch) {
+            Ok(()) => Ok(Logged { disk, header, area }),
             Err(DiskFault) => Err(Broken { disk }),
         }
     }
@@ -149,12 +161,45 @@ impl<D: Disk> Journal<D> {
         self.disk.forget();
     }
 
+    /// Syncs, takes the last commit away, and syncs: so the disk is handed back clean.
+    pub fn settle(self) -> Result<Journal<D>, Broken<D>>
+        ensures idle { IfOk result (λ journal. IsIdle (D.state journal)) }
+        ensures same { IfOk result (λ journal. SameMap (data_of (D.state journal)) (data_of (D.state self))) }
+
+        // A stop at any moment of the call leaves what reads as before it.
+        ensures any_moment { LeavesSameMap (D.state self) (D.state (disk_of result)) }
+
+        // Where the log has one area no commit is there, and the disk isn't called.
+        ensures alone { header_at (D.state self).seen ≡ 0 → result ≡ Ok self }
+
+        ensures size { (D.state (disk_of result)).size ≡ (D.state self).size }
+        ensures cause { HasCause (D.state self) (D.state (disk_of result)) result }
+        ensures told { HasWriteCause (D.state self) (D.state (disk_of result)) result }
+    {
+        let Journal {
+            mut disk,
+            header,
+            area,
+        } = self;
+        if header == 0 {
+            return Ok(Journal { disk, header, area });
+        }
+        match settle_commit(&mut disk) {
+            Ok(()) => Ok(Journal::on(disk, header)),
+            Err(DiskFault) => Err(Broken { disk }),
+        }
+    }
+
     /// The disk.
     pub fn into_disk(self) -> D
         ensures disk { result ≡ self }
-        ensures idle { IsIdle (D.state result) }
+        ensures ready { EachReadsAs (data_of (D.state result)) (D.state result) }
     {
-        let Journal { disk, header: _ } = self;
+        let Journal {
+            disk,
+            header: _,
+            area: _,
+        } = self;
         disk
     }
 }
@@ -193,17 +238,21 @@ impl<D: Disk> Logged<D> {
         ensures cause { HasCause (D.state self) (D.state (disk_of result)) result }
         ensures told { HasWriteCause (D.state self) (D.state (disk_of result)) result }
     {
-        let Logged { mut disk, header } = self;
-        match seal_batch(&mut disk, batch) {
-            Ok(()) => Ok(Sealed { disk, header }),
+        let Logged {
+            mut disk,
+            header,
+            area,
+        } = self;
+        match seal_batch(&mut disk, header, area, batch) {
+            Ok(area) => Ok(Sealed { disk, header, area }),
             Err(DiskFault) => Err(Broken { disk }),
         }
     }
 }
 
 impl<D: Disk> Sealed<D> {
-    /// Writes the batch's sectors and syncs, and then takes the commit away and syncs. The batch is the one that was
-    /// sealed.
+    /// Writes the batch's sectors. The batch is the one that was sealed. Where the log has one area it then syncs, takes the
+    /// commit away, and syncs.
     pub fn install(self, batch: &Batch) -> Result<Journal<D>, Broken<D>>
         requires { IsSealed batch.now (D.state self) }
 
@@ -219,9 +268,13 @@ impl<D: Disk> Sealed<D> {
         ensures cause { HasCause (D.state self) (D.state (disk_of result)) result }
         ensures told { HasWriteCause (D.state self) (D.state (disk_of result)) result }
     {
-        let Sealed { mut disk, header } = self;
-        match install_batch(&mut disk, batch) {
-            Ok(()) => Ok(Journal { disk, header }),
+        let Sealed {
+            mut disk,
+            header,
+            area,
+        } = self;
+        match install_batch(&mut disk, header, batch) {
+            Ok(()) => Ok(Journal { disk, header, area }),
             Err(DiskFault) => Err(Broken { disk }),
         }
     }

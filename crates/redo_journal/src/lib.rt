@@ -1,8 +1,12 @@
 //! A redo journal: a batch of sectors is written whole or not at all, whenever the disk is stopped.
 //!
-//! A commit goes through three states. [`Journal::log`] writes the batch into the log sectors, [`Logged::seal`]
-//! writes the commit sector, which names the batch's sectors, and [`Sealed::install`] writes these and takes the
-//! commit away. Each step ends with a sync, so that no step's writes are on the disk before the last step's are.
+//! A commit goes through three states. [`Journal::log`] writes the batch into a log area, [`Logged::seal`] writes the
+//! commit sector, which names the area and the batch's sectors, and [`Sealed::install`] writes these.
+//!
+//! Where the log has one area, installing also takes the commit away, and each step ends with a sync, so that no step's
+//! writes are on the disk before the last step's are. Where it has two, commits use them in turn, and a sealed commit stays
+//! until the next one: its sectors are written without a sync, since that of the next log comes before the next seal.
+//! [`Journal::settle`] takes the last commit away.
 #![tactic(auto)]
 
 mod batch;

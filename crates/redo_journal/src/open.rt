@@ -1,8 +1,8 @@
 //! What a stop has left is settled before a journal is there.
 
 ghost use Rattle.std.specs.Prelude.{◌≡◌, ◌≤◌, ◌<◌, ℕ, List, IfOk, IfErr, OnOk, IsErrOf, MatchOption};
-ghost use Rattle.fs_layout.specs.Commit.{IsCommit};
-ghost use Rattle.fs_layout.specs.declared.place.TheConstants.{INODE_BITMAP};
+ghost use Rattle.fs_layout.specs.Commit.{IsCommit, named_area};
+ghost use Rattle.fs_layout.specs.declared.header.TheConstants.{LEAST_LOG_END};
 ghost use Rattle.redo_journal.specs.declared.open.OpenFault.TheVariants.{DiskFault as Device};
 ghost use Rattle.redo_journal.specs.Meaning.{SameMap, data_of, disk_opened, HasValidCommit, MeansAs, MeansAsBefore};
 ghost use Rattle.redo_journal.specs.States.{HasHeader, IsIdle};
@@ -36,7 +36,7 @@ impl<D: Disk> Journal<D> {
     ///
     /// An error gives the disk back. It may be opened again.
     pub fn open(disk: D) -> Result<Journal<D>, (OpenFault, D)>
-        requires { INODE_BITMAP ≤ (D.state disk).size }
+        requires { LEAST_LOG_END ≤ (D.state disk).size }
 
         ensures same { SameMap (data_of (D.state (disk_opened result))) (data_of (D.state disk)) }
 
@@ -61,7 +61,7 @@ impl<D: Disk> Journal<D> {
 
 // Syncs and recovers.
 fn settle<D: Disk>(disk: &mut D) -> Result<u32, OpenFault>
-    requires { INODE_BITMAP ≤ (D.state disk.old).size }
+    requires { LEAST_LOG_END ≤ (D.state disk.old).size }
     ensures idle { OnOk result (IsIdle (D.state disk.new)) }
     ensures header { IfOk result (λ header. HasHeader header (D.state disk.new)) }
     ensures any_moment { LeavesOnly (D.state disk.old) (D.state disk.new) (MeansAsBefore (D.state disk.old)) }
@@ -79,7 +79,7 @@ fn settle<D: Disk>(disk: &mut D) -> Result<u32, OpenFault>
 
 // Writes the batch of a commit to its sectors, from the log, and takes the commit away. It answers how many sectors the header has.
 fn recover<D: Disk>(disk: &mut D) -> Result<u32, OpenFault>
-    requires room { INODE_BITMAP ≤ (D.state disk.old).size }
+    requires room { LEAST_LOG_END ≤ (D.state disk.old).size }
     requires stable { IsStable (D.state disk.old) }
     ensures idle { OnOk result (IsIdle (D.state disk.new)) }
     ensures header { IfOk result (λ header. HasHeader header (D.state disk.new)) }
@@ -91,21 +91,22 @@ fn recover<D: Disk>(disk: &mut D) -> Result<u32, OpenFault>
     ensures cause { IsErrOf result OpenFault.DiskFault → HasFailed (D.state disk.old) (D.state disk.new) }
     ensures counted { CountsWrites (D.state disk.old) (D.state disk.new) result }
 {
-    let (header, found) = find_commit(disk)?;
+    let (header, area, found) = find_commit(disk)?;
     match found {
         None => Err(OpenFault::BadCommitSector),
         Some(commit) => {
-            install_log(disk, header, commit.targets())?;
+            install_log(disk, header, area, commit.targets())?;
             Ok(header)
         }
     }
 }
 
-// How many sectors the header has, and the commit, if it is valid.
-fn find_commit<D: Disk>(disk: &mut D) -> Result<(u32, Option<Commit>), DiskFault>
-    requires room { INODE_BITMAP ≤ (D.state disk.old).size }
+// How many sectors the header has, the log area that the commit sector names, and the commit, if it is valid.
+fn find_commit<D: Disk>(disk: &mut D) -> Result<(u32, u32, Option<Commit>), DiskFault>
+    requires room { LEAST_LOG_END ≤ (D.state disk.old).size }
     ensures header { IfOk result (λ found. HasHeader found.0 (D.state disk.old)) }
-    ensures commit { IfOk result (λ found. MatchOption found.1 (HasValidCommit (D.state disk.old).size (D.state disk.old).seen → ⊥)
+    ensures area { IfOk result (λ found. found.1 ≡ named_area (sector (D.state disk.old).seen)) }
+    ensures commit { IfOk result (λ found. MatchOption found.2 (HasValidCommit (D.state disk.old).size (D.state disk.old).seen → ⊥)
         (λ targets. IsCommit (D.state disk.old).size (sector (D.state disk.old).seen) targets)) }
     ensures reads { OnlyReads (D.state disk.old) (D.state disk.new) }
     ensures cause { HasCause (D.state disk.old) (D.state disk.new) result }
@@ -113,6 +114,6 @@ fn find_commit<D: Disk>(disk: &mut D) -> Result<(u32, Option<Commit>), DiskFault
     let mut content = [0; 512];
     disk.read(0, &mut content)?;
     let header = header_of(&content);
-    let commit = read_commit(disk, header)?;
-    Ok((header, commit))
+    let (area, commit) = read_commit(disk, header)?;
+    Ok((header, area, commit))
 }

@@ -1,12 +1,12 @@
 -- What a stop leaves of a store, from one call to the next.
-use Rattle.std.proofs.Common.{◌≡◌, inl, inr, ⊎_elim, ℕ, List, [], refl, ◌∙◌, subst}
+use Rattle.std.proofs.Common.{◌≡◌, inl, inr, ⊎_elim, ℕ, List, refl, ◌∙◌, subst}
+use Rattle.std.specs.Prelude.{Result, Ok, Err, IfOk}
 use Rattle.fs_layout.specs.Bytes.{SectorMap}
 use Rattle.sector_disk.specs.Disk.{DiskState, Image, IsImage, IsNarrowed, OnlyReads}
 use Rattle.sector_disk.proofs.Moments.{joined, narrowed, reads_then, started, weaker}
 use Rattle.redo_journal.specs.Batch.{Entry, IsOnDisk, with_batch}
-use Rattle.redo_journal.specs.Meaning.{SameMap, LeavesAllOrNone, LeavesSameMap, MeansAs, MeansAsBefore, data_of}
-use Rattle.redo_journal.specs.States.{IsIdle}
-use Rattle.redo_journal.proofs.Meaning.{batch_same, either_on, reads_means, reads_same, rest_valid, same_chain, super_on_disk}
+use Rattle.redo_journal.specs.Meaning.{EachReadsAs, SameMap, LeavesAllOrNone, LeavesSameMap, MeansAs, MeansAsBefore, data_of}
+use Rattle.redo_journal.proofs.Meaning.{batch_same, either_on, reads_means, reads_same, same_chain, super_on_disk}
 use Rattle.sector_txn.specs.Images.{IsOneOf, LeavesOldOr, LeavesOneOf}
 
 -- an image means what it means itself
@@ -37,11 +37,23 @@ installed_left entries old sealed new size same first second =
     joined first (weaker (λ image reads. inr (reads_same old.size sealed.size (data_of sealed) (with_batch entries (data_of old)) size same image reads)) second)
 
 -- what reads as before a commit means what the disk shows then
-pub commit_left : (entries : List Entry) (old new : DiskState) → IsIdle old → IsImage old old.seen → new.size ≡ old.size → LeavesAllOrNone entries old new
+pub commit_left : (entries : List Entry) (old new : DiskState) → EachReadsAs (data_of old) old → IsImage old old.seen → new.size ≡ old.size → LeavesAllOrNone entries old new
     → LeavesOldOr (with_batch entries (data_of old)) old new
-commit_left entries old new idle seen size run = record {
+commit_left entries old new reads_so seen size run = record {
   size = size;
-  any_moment = weaker (λ image. ⊎_elim (λ reads. inl (old.seen, seen, reads_means old image (rest_valid [] old idle) reads)) (λ reads. inr (inl reads))) run;
+  any_moment = weaker (λ image. ⊎_elim (λ reads. inl (old.seen, seen, reads_means old image (reads_so old.seen seen).commit reads)) (λ reads. inr (inl reads))) run;
+}
+
+-- two facts of what a call gave
+pub if_ok_both : {A E : Type 0} {P Q R : A → Type 0} (r : Result A E) → ((a : A) → P a → Q a → R a) → IfOk r P → IfOk r Q → IfOk r R
+if_ok_both (Ok a) both p q = both a p q
+if_ok_both (Err e) both p q = p
+
+-- after a commit, a step that leaves the same map
+pub closed_left : (after : SectorMap) (old mid new : DiskState) → new.size ≡ mid.size → SameMap (data_of mid) after → LeavesOldOr after old mid → LeavesSameMap mid new → LeavesOldOr after old new
+closed_left after old mid new size same first then = record {
+  size = size ∙ first.size;
+  any_moment = joined first.any_moment (weaker (λ image reads. inr (inl (reads_same old.size mid.size (data_of mid) after first.size same image reads))) then);
 }
 
 -- for a caller that speaks of one map more

@@ -4,7 +4,7 @@ ghost use Rattle.std.specs.Prelude.{◌≡◌, ◌<◌, ◌≤◌, ℕ, length, 
 ghost use Rattle.std.specs.Fn.{FnOnceReturnsAt};
 ghost use Rattle.fs_layout.specs.Header.{max_targets};
 ghost use Rattle.redo_journal.specs.Batch.{IsOnDisk, with_batch};
-ghost use Rattle.redo_journal.specs.Meaning.{IsMapped, SameMap, data_of, disk_of};
+ghost use Rattle.redo_journal.specs.Meaning.{EachReadsAs, LeavesSameMap, IsMapped, SameMap, data_of, disk_of};
 ghost use Rattle.redo_journal.specs.States.{header_at, HasHeader, IsIdle};
 ghost use Rattle.sector_disk.specs.Disk.{IsSame, ForgetsPast, Elapses, OnlyReads, HasCause, HasWriteCause};
 ghost use Rattle.sector_txn.specs.Images.{LeavesOldOr};
@@ -48,10 +48,10 @@ impl<D: Disk> CachedJournal<D> {
     }
 
     /// Does nothing: its clause tells a caller's proof what is true of each journal.
-    pub(crate) fn tell_idle(&self)
-        ensures { IsIdle (D.state self.now) }
+    pub(crate) fn tell_ready(&self)
+        ensures { EachReadsAs (data_of (D.state self.now)) (D.state self.now) }
     {
-        self.journal.tell_idle();
+        self.journal.tell_ready();
     }
 
     /// How many sectors the header of the log has.
@@ -139,6 +139,23 @@ impl<D: Disk> CachedJournal<D> {
         ensures { ForgetsPast (D.state self.old) (D.state self.new) }
     {
         self.journal.forget();
+    }
+
+    /// Takes the last commit away, and gives the disk back, which has none then.
+    pub(crate) fn close(self) -> Result<D, Broken<D>>
+        ensures same { IfOk result (λ disk. SameMap (data_of (D.state disk)) (data_of (D.state self))) }
+        ensures idle { IfOk result (λ disk. IsIdle (D.state disk)) }
+        ensures lasting { IfOk result (λ disk. EachReadsAs (data_of (D.state disk)) (D.state disk)) }
+        ensures any_moment { LeavesSameMap (D.state self) (D.state (disk_of result)) }
+        ensures size { (D.state (disk_of result)).size ≡ (D.state self).size }
+        ensures cause { HasCause (D.state self) (D.state (disk_of result)) result }
+        ensures told { HasWriteCause (D.state self) (D.state (disk_of result)) result }
+    {
+        let CachedJournal { journal, clean: _ } = self;
+        match journal.settle() {
+            Ok(journal) => Ok(journal.into_disk()),
+            Err(broken) => Err(broken),
+        }
     }
 
     /// The disk.

@@ -31,7 +31,7 @@ pub(crate) fn commit<D: Disk>(journal: Journal<D>, batch: &Batch) -> Result<Jour
 
     ensures told { HasWriteCause (D.state journal) (D.state (disk_of result)) result }
 {
-    journal.tell_idle();
+    journal.tell_ready();
     match journal.log(batch) {
         Ok(logged) => match logged.seal(batch) {
             Ok(sealed) => sealed.install(batch),

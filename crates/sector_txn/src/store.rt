@@ -3,8 +3,8 @@
 
 ghost use Rattle.std.specs.Prelude.{◌≡◌, ℕ, [], false, Some, IsOk, IfOk, MatchResult};
 ghost use Rattle.fs_layout.specs.Header.{header_of, max_delta};
-ghost use Rattle.redo_journal.specs.Meaning.{SameMap, EachReadsAs, data_of};
-ghost use Rattle.redo_journal.specs.States.{header_at};
+ghost use Rattle.redo_journal.specs.Meaning.{SameMap, EachReadsAs, data_of, disk_of};
+ghost use Rattle.redo_journal.specs.States.{header_at, IsIdle};
 ghost use Rattle.sector_disk.specs.Disk.{IsSame, ForgetsPast, Elapses, HasCause, HasWriteCause};
 ghost use Rattle.sector_txn.specs.Images.{LeavesOneOf, LeavesOldOr};
 ghost use Rattle.sector_txn.specs.Stores.{present, map_before, map_now, txn_state, disk_after};
@@ -74,7 +74,7 @@ impl<D: Disk> Store<D> {
         ensures map { IfOk result (λ store. SameMap (present D.state store) (data_of (D.state journal))) }
         ensures lasting { IfOk result (λ store. EachReadsAs (present D.state store) (D.state store.disk)) }
     {
-        journal.tell_idle();
+        journal.tell_ready();
         match reserved(alloc) {
             Ok((waiting, delta, hints)) => Ok(Store {
                 journal: CachedJournal::new(alloc, journal),
@@ -134,7 +134,7 @@ impl<D: Disk> Store<D> {
         } = self;
         match journal.commit(&waiting) {
             Ok(journal) => {
-                journal.tell_idle();
+                journal.tell_ready();
                 waiting.clear();
                 Ok(Store {
                     journal,
@@ -143,6 +143,33 @@ impl<D: Disk> Store<D> {
                     hints,
                 })
             }
+            Err(broken) => Err(broken),
+        }
+    }
+
+    /// The disk, handed back clean: all that was kept is in its place, and no commit is there.
+    pub fn close(self) -> Result<D, Broken<D>>
+        ensures map { IfOk result (λ disk. SameMap (data_of (D.state disk)) (present D.state self)) }
+        ensures idle { IfOk result (λ disk. IsIdle (D.state disk)) }
+
+        // A stop at any moment of the call leaves what means as before it, or reads as the store.
+        ensures images { LeavesOldOr (present D.state self) (D.state self.disk) (D.state (disk_of result)) }
+
+        // From `Ok` on it leaves what reads as the store.
+        ensures lasting { IfOk result (λ disk. EachReadsAs (present D.state self) (D.state disk)) }
+
+        ensures cause { HasCause (D.state self.disk) (D.state (disk_of result)) result }
+
+        ensures told { HasWriteCause (D.state self.disk) (D.state (disk_of result)) result }
+    {
+        let Store {
+            journal,
+            waiting: kept,
+            delta: _,
+            hints: _,
+        } = self;
+        match journal.commit(&kept) {
+            Ok(journal) => journal.close(),
             Err(broken) => Err(broken),
         }
     }

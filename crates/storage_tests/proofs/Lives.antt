@@ -4,8 +4,11 @@ use Rattle.std.proofs.lemmas.List.FromFn.{length-range_with_len}
 use Rattle.fs_layout.specs.declared.inode.Inode.{Inode}
 use Rattle.fs_layout.specs.declared.place.Place.{Place}
 use Rattle.fs_layout.specs.Bytes.{SectorMap}
+use Rattle.fs_layout.specs.Header.{log_end}
 use Rattle.fs_layout.specs.Images.{Holds, inode_at}
 use Rattle.fs_layout.specs.Ownership.{IsConsistent}
+use Rattle.fs_layout.specs.Place.{IsPlace}
+use Rattle.fs_layout.proofs.Places.{after_map}
 use Rattle.sector_txn.specs.Sectors.{TxnState, IsUnchanged}
 use Rattle.sector_txn.proofs.TransactionRuns.{lacking_at_most}
 use Rattle.bit_alloc.specs.Inodes.{IsSound, KeepsBytes}
@@ -26,9 +29,13 @@ pub same_attributes : (p : Place) (n : ℕ) (old new : TxnState) → IsUnchanged
 same_attributes p n old new same v is =
     subst (λ (w : Inode). DiffersInAttributes w v) (is ∙ ap (λ (image : SectorMap). inode_at p image n) (map_unchanged same)) refl
 
+-- a log without a header ends before the bitmaps of each layout
+pub log_without_header : {p : Place} {header : ℕ} → IsPlace p → header ≡ 0 → log_end header ≤ p.inode_bitmap
+log_without_header place none = let after = after_map place in omega (arith, ap log_end none, after)
+
 -- all bitmaps can be put, and so many sectors more
-pub has_spare : (p : Place) (k : ℕ) (txn : TxnState) → (p.table - 128) + k ≤ txn.room → HasSpare p k txn
-has_spare p k txn room = omega (arith, room, lacking_at_most txn (bitmaps p), length-range_with_len 128 (p.table - 128))
+pub has_spare : (p : Place) (k : ℕ) (txn : TxnState) → (p.table - p.inode_bitmap) + k ≤ txn.room → HasSpare p k txn
+has_spare p k txn room = omega (arith, room, lacking_at_most txn (bitmaps p), length-range_with_len p.inode_bitmap (p.table - p.inode_bitmap))
 
 -- an inode that is read and then saved holds nothing, if it held nothing
 pub empty_after : (p : Place) (n : ℕ) (old mid new : TxnState) → IsUnchanged old mid

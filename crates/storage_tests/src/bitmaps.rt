@@ -2,7 +2,6 @@
 
 ghost use Rattle.std.specs.Prelude.{◌≤◌, OnOk};
 ghost use Rattle.fs_layout.specs.Header.{log_end};
-ghost use Rattle.fs_layout.specs.Images.{inode_bitmap};
 ghost use Rattle.fs_layout.specs.Place.{IsPlace};
 ghost use Rattle.bit_alloc.specs.Bitmaps.{HasBitmaps};
 ghost use Rattle.bit_alloc.specs.Room.{HasSpare};
@@ -110,7 +109,7 @@ fn agreed_without<S: Sectors>(
 ) -> Result<usize, Fail>
     requires place { IsPlace place }
     requires disk { place.sectors ≤ (S.state s.old.inner).disk.size }
-    requires header { log_end (S.state s.old.inner).header ≤ inode_bitmap }
+    requires header { log_end (S.state s.old.inner).header ≤ place.inode_bitmap }
 {
     put_all_but(s, place, Bitmap::Inodes, &[]);
     put_all_but(s, place, Bitmap::Blocks, &[]);

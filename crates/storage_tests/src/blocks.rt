@@ -2,7 +2,7 @@
 
 ghost use Rattle.std.specs.Prelude.{◌≡◌, ◌≢◌, ◌≤◌, ◌<◌, IfOk, OnOk};
 ghost use Rattle.fs_layout.specs.declared.inode.Kind.TheVariants.{Free};
-ghost use Rattle.fs_layout.specs.Images.{inode_at, inode_bitmap};
+ghost use Rattle.fs_layout.specs.Images.{inode_at};
 ghost use Rattle.fs_layout.specs.Header.{log_end};
 ghost use Rattle.fs_layout.specs.Place.{IsPlace};
 ghost use Rattle.bit_alloc.specs.Inodes.{IsSound};
@@ -74,7 +74,7 @@ fn perform<S: Sectors>(s: &mut S, place: Place, n: u32, call: Call) -> Result<[u
     ensures sound { OnOk result (IsSound place (S.state s.new)) }
 {
     let mut inode = load(s, place, n)?;
-    if s.room() < (place.table - 128) as usize + 13 {
+    if s.room() < (place.table - place.inode_bitmap) as usize + 13 {
         return Err(Fail::new("no room"));
     }
     let Kind::File = inode.kind else {
@@ -145,7 +145,7 @@ fn agreed_on_blank<S: Sectors>(
 ) -> Result<usize, Fail>
     requires place { IsPlace place }
     requires disk { place.sectors ≤ (S.state s.old.inner).disk.size }
-    requires header { log_end (S.state s.old.inner).header ≤ inode_bitmap }
+    requires header { log_end (S.state s.old.inner).header ≤ place.inode_bitmap }
 {
     put_blank(s, place);
     if !is_blank(s, place)? {

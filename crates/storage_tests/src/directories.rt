@@ -1,17 +1,19 @@
 //! Calls on directories of a few names and of many, with what each reads and puts.
 
-ghost use Rattle.std.specs.Prelude.{◌≡◌, ◌≤◌, ◌<◌, ℕ, List, IfOk, OnOk};
+ghost use Rattle.std.specs.Prelude.{◌≡◌, ◌≤◌, ◌<◌, ℕ, List, length, IfOk, OnOk};
 ghost use Rattle.fs_layout.specs.Header.{log_end};
 ghost use Rattle.fs_layout.specs.Place.{IsPlace};
-ghost use Rattle.fs_layout.specs.Images.{inode_at, inode_bitmap};
+ghost use Rattle.fs_layout.specs.Images.{inode_at};
+ghost use Rattle.fs_layout.specs.declared.slot.TheConstants.{MAX_NAME};
+ghost use Rattle.fs_layout.specs.Version.{max_name};
 ghost use Rattle.fs_layout.specs.Directories.{IsName, HasNames};
 ghost use Rattle.bit_alloc.specs.Inodes.{IsSound};
 ghost use Rattle.bit_alloc.specs.Room.{HasSpare};
 
-use crate::maps::{end, new_map, parsed};
+use crate::maps::{end, map_of_version, parsed};
 use blank_map::{Counted, is_blank, put_blank};
 use dir_core::{DirFault, insert, is_empty, list, lookup, remove, rename, replace};
-use fs_layout::{Inode, Kind, Place, is_name};
+use fs_layout::{Inode, Kind, MAX_NAME, Place, Version, is_name};
 use inode_table::{load, new_inode};
 use posix_acl::Acl;
 use sector_txn::Sectors;
@@ -37,9 +39,23 @@ enum Call {
 // number of names then.
 type Seen = (Result<usize, DirFault>, u32, u32);
 
-// Name number i, one of two bytes.
-fn name_of(i: u32) -> [u8; 2] {
-    [64 + (i / 64 % 64) as u8, 64 + (i % 64) as u8]
+// Name number i, with as many bytes as the longest name has.
+fn name_of(i: u32) -> [u8; MAX_NAME] {
+    let mut name = [b'x'; MAX_NAME];
+    name[0] = 64 + (i / 64 % 64) as u8;
+    name[1] = 64 + (i % 64) as u8;
+    name
+}
+
+// How many of them it has: two in the versions of short names, and in the other each number that a name may have, by turns.
+fn len_of(version: Version, i: u32) -> usize
+    ensures most { result ≤ MAX_NAME }
+    ensures short { result ≤ max_name version }
+{
+    match version {
+        Version::One | Version::Two => 2,
+        Version::Three => MAX_NAME - (i % 247) as usize,
+    }
 }
 
 // Adds so many names, the i-th of which leads to inode i + 2.
@@ -53,21 +69,21 @@ fn fill<S: Sectors>(
     requires sound { IsSound place (S.state s.old) }
     requires below { n < place.inodes }
     requires there { inode.old ≡ inode_at place (S.state s.old).sectors n }
-    requires directory { (names : List (List ℕ × ℕ)) × HasNames (S.state s.old).sectors inode.old names }
+    requires directory { (names : List (List ℕ × ℕ)) × HasNames place.version (S.state s.old).sectors inode.old names }
     requires few { count ≤ 560 }
     ensures sound { OnOk result (IsSound place (S.state s.new)) }
     ensures there { OnOk result (inode.new ≡ inode_at place (S.state s.new).sectors n) }
-    ensures directory { OnOk result ((names : List (List ℕ × ℕ)) × HasNames (S.state s.new).sectors inode.new names) }
+    ensures directory { OnOk result ((names : List (List ℕ × ℕ)) × HasNames place.version (S.state s.new).sectors inode.new names) }
 {
     for i in 0..count {
-        if s.room() < (place.table - 128) as usize + 3 {
+        if s.room() < (place.table - place.inode_bitmap) as usize + 4 {
             return Err(Fail::new("no room"));
         }
-        let name = name_of(i);
-        if !is_name(&name) {
+        let name = &name_of(i)[..len_of(place.version, i)];
+        if !is_name(name) {
             return Err(Fail::new("no name"));
         }
-        let Ok(()) = insert(s, place, n, inode, &name, i + 2) else {
+        let Ok(()) = insert(s, place, n, inode, name, i + 2) else {
             return Err(Fail::new("not added"));
         };
     }
@@ -85,7 +101,7 @@ fn renamed<S: Sectors>(
     requires sound { IsSound place (S.state s.old) }
     requires below { n < place.inodes }
     requires there { inode.now ≡ inode_at place (S.state s.old).sectors n }
-    requires directory { (names : List (List ℕ × ℕ)) × HasNames (S.state s.old).sectors inode.now names }
+    requires directory { (names : List (List ℕ × ℕ)) × HasNames place.version (S.state s.old).sectors inode.now names }
     requires spare { HasSpare place 1 (S.state s.old) }
 {
     let new_name = b"new";
@@ -111,9 +127,10 @@ fn perform<S: Sectors>(
     requires sound { IsSound place (S.state s.old) }
     requires below { n < place.inodes }
     requires there { inode.old ≡ inode_at place (S.state s.old).sectors n }
-    requires directory { (names : List (List ℕ × ℕ)) × HasNames (S.state s.old).sectors inode.old names }
+    requires directory { (names : List (List ℕ × ℕ)) × HasNames place.version (S.state s.old).sectors inode.old names }
     requires name { IsName name.now }
-    requires spare { HasSpare place 4 (S.state s.old) }
+    requires short { length name.now ≤ max_name place.version }
+    requires spare { HasSpare place 5 (S.state s.old) }
 {
     match call {
         Call::Lookup => return Ok(lookup(s, place, inode, name)?.unwrap_or(0) as usize),
@@ -123,7 +140,7 @@ fn perform<S: Sectors>(
         Call::Replace => replace(s, place, n, inode, name, 9)?,
         Call::Rename => renamed(s, place, n, inode, name)?,
     }
-    Ok((inode.size / 128) as usize)
+    Ok((inode.size / place.version.slot_size() as u64) as usize)
 }
 
 // What a call on a name sees in a new directory of so many names, on a map without inodes.
@@ -136,7 +153,7 @@ fn seen_on_blank<S: Sectors>(
 ) -> Result<Seen, Fail>
     requires place { IsPlace place }
     requires disk { place.sectors ≤ (S.state s.old.inner).disk.size }
-    requires header { log_end (S.state s.old.inner).header ≤ inode_bitmap }
+    requires header { log_end (S.state s.old.inner).header ≤ place.inode_bitmap }
 {
     let (count, call, i, _) = *row;
     put_blank(s, place);
@@ -158,19 +175,19 @@ fn seen_on_blank<S: Sectors>(
         return Err(Fail::new("not empty"));
     }
     fill(s, place, n, &mut inode, count)?;
-    let name = name_of(i);
-    if !is_name(&name) || s.room() < (place.table - 128) as usize + 4 {
+    let name = &name_of(i)[..len_of(place.version, i)];
+    if !is_name(name) || s.room() < (place.table - place.inode_bitmap) as usize + 5 {
         return Err(Fail::new("no room"));
     }
     s.gets = 0;
     s.puts = 0;
-    let given = perform(alloc, s, place, n, &mut inode, call, &name);
+    let given = perform(alloc, s, place, n, &mut inode, call, name);
     Ok((given, s.gets, s.puts))
 }
 
 // The same on a new disk.
-fn seen_on_disk(alloc: Global, access: &Acl, row: &Row) -> Result<Seen, Fail> {
-    let (place, mut s) = new_map(alloc, SECTORS, INODES)?;
+fn seen_on_disk(alloc: Global, version: Version, access: &Acl, row: &Row) -> Result<Seen, Fail> {
+    let (place, mut s) = map_of_version(alloc, version, SECTORS, INODES)?;
     let seen = seen_on_blank(alloc, &mut s, place, access, row);
     end(s);
     seen
@@ -180,9 +197,9 @@ fn seen_on_disk(alloc: Global, access: &Acl, row: &Row) -> Result<Seen, Fail> {
 type Row = (u32, Call, u32, Seen);
 
 // How many rows are as they say, up to the first that isn't.
-fn agreed(alloc: Global, access: &Acl, rows: &[Row]) -> Result<usize, Fail> {
+fn agreed(alloc: Global, version: Version, access: &Acl, rows: &[Row]) -> Result<usize, Fail> {
     for (i, row) in rows.iter().enumerate() {
-        if seen_on_disk(alloc, access, row)? != row.3 {
+        if seen_on_disk(alloc, version, access, row)? != row.3 {
             return Ok(i);
         }
     }
@@ -190,9 +207,9 @@ fn agreed(alloc: Global, access: &Acl, rows: &[Row]) -> Result<usize, Fail> {
 }
 
 // The same of directories with an ACL of their mode.
-fn agreed_of(alloc: Global, rows: &[Row]) -> Result<usize, Fail> {
+fn agreed_of(alloc: Global, version: Version, rows: &[Row]) -> Result<usize, Fail> {
     let access = parsed(alloc, b"user::rwx,group::r-x,other::---")?;
-    agreed(alloc, &access, rows)
+    agreed(alloc, version, &access, rows)
 }
 
 // Of the names no sector is read twice, and none behind that of the name; from 49 names on there is a sector of pointers, which
@@ -218,7 +235,7 @@ const READS: [Row; 15] = [
 #[test]
 fn reads(rt: HostRuntime) -> Result<(), Fail> {
     let rows: &[Row] = &READS;
-    let seen = agreed_of(rt.alloc(), rows)?;
+    let seen = agreed_of(rt.alloc(), Version::NEWEST, rows)?;
     assert!(rt; seen == rows.len(), "{seen}");
     Ok(())
 }
@@ -250,7 +267,32 @@ const CHANGES: [Row; 19] = [
 #[test]
 fn changes(rt: HostRuntime) -> Result<(), Fail> {
     let rows: &[Row] = &CHANGES;
-    let seen = agreed_of(rt.alloc(), rows)?;
+    let seen = agreed_of(rt.alloc(), Version::NEWEST, rows)?;
+    assert!(rt; seen == rows.len(), "{seen}");
+    Ok(())
+}
+
+// In version 3 a block has two names of up to 248 bytes.
+const LONG: [Row; 13] = [
+    (1, Call::List, 0, (Ok(1), 1, 0)),
+    (3, Call::Lookup, 2, (Ok(4), 2, 0)),
+    (24, Call::Lookup, 23, (Ok(25), 12, 0)),
+    (24, Call::Lookup, 24, (Ok(0), 12, 0)),
+    (25, Call::Lookup, 24, (Ok(26), 14, 0)),
+    (96, Call::List, 0, (Ok(96), 49, 0)),
+    (0, Call::Insert, 0, (Ok(1), 2, 3)),
+    (1, Call::Insert, 1, (Ok(2), 3, 2)),
+    (2, Call::Insert, 2, (Ok(3), 3, 3)),
+    (24, Call::Insert, 24, (Ok(25), 15, 6)),
+    (96, Call::Insert, 95, (Err(DirFault::Exists), 49, 0)),
+    (2, Call::Remove, 0, (Ok(1), 5, 3)),
+    (26, Call::Rename, 25, (Ok(26), 30, 1)),
+];
+
+#[test]
+fn long_names(rt: HostRuntime) -> Result<(), Fail> {
+    let rows: &[Row] = &LONG;
+    let seen = agreed_of(rt.alloc(), Version::Three, rows)?;
     assert!(rt; seen == rows.len(), "{seen}");
     Ok(())
 }

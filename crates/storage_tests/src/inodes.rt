@@ -2,7 +2,6 @@
 
 ghost use Rattle.std.specs.Prelude.{◌≤◌};
 ghost use Rattle.fs_layout.specs.Header.{log_end};
-ghost use Rattle.fs_layout.specs.Images.{inode_bitmap};
 ghost use Rattle.fs_layout.specs.Place.{IsPlace};
 ghost use Rattle.bit_alloc.specs.Inodes.{IsSound};
 ghost use Rattle.bit_alloc.specs.Room.{HasSpare};
@@ -35,9 +34,9 @@ fn is_written_as(acl: &Acl, text: &[u8]) -> Result<bool, Fail> {
 // The first bytes of a sector of the map.
 fn first_bytes<S: Sectors>(s: &mut S, place: Place, n: u32) -> Result<[u8; 24], Fail>
     requires disk { place.sectors ≤ (S.state s.old).disk.size }
-    requires header { log_end (S.state s.old).header ≤ inode_bitmap }
+    requires header { log_end (S.state s.old).header ≤ place.inode_bitmap }
 {
-    if n < 128 || place.sectors <= n {
+    if n < place.inode_bitmap || place.sectors <= n {
         return Err(Fail::new("no sector"));
     }
     let mut content = [0; 512];
@@ -86,7 +85,7 @@ fn stored_on_blank<S: Sectors>(
 ) -> Result<Stored, Fail>
     requires place { IsPlace place }
     requires disk { place.sectors ≤ (S.state s.old.inner).disk.size }
-    requires header { log_end (S.state s.old.inner).header ≤ inode_bitmap }
+    requires header { log_end (S.state s.old.inner).header ≤ place.inode_bitmap }
 {
     put_blank(s, place);
     if !is_blank(s, place)? {

@@ -2,7 +2,6 @@
 
 ghost use Rattle.std.specs.Prelude.{◌≤◌, IfOk};
 ghost use Rattle.fs_layout.specs.Header.{log_end};
-ghost use Rattle.fs_layout.specs.Images.{inode_bitmap};
 ghost use Rattle.fs_layout.specs.Place.{IsPlace};
 
 use blank_map::{Counted, idle_store};
@@ -13,7 +12,16 @@ use sector_txn::{Sectors, Txn};
 use std::alloc::Global;
 use std::test::Fail;
 
+// The fewest header sectors that a disk of this version has.
+fn least_header(version: Version) -> u32 {
+    match version {
+        Version::One | Version::Two => 0,
+        Version::Three => 1,
+    }
+}
+
 // A transaction on a new disk of so many sectors, laid out in this version for so many inodes.
+#[tactic(auto, using(crate::proofs::Lives::log_without_header))]
 pub(super) fn map_of_version(
     alloc: Global,
     version: Version,
@@ -22,12 +30,13 @@ pub(super) fn map_of_version(
 ) -> Result<(Place, Counted<Txn<MemDisk>>), Fail>
     ensures place { IfOk result (λ map. IsPlace map.0) }
     ensures disk { IfOk result (λ map. map.0.sectors ≤ (⟦<Txn<MemDisk> as Sectors>⟧.state map.1.inner).disk.size) }
-    ensures header { IfOk result (λ map. log_end (⟦<Txn<MemDisk> as Sectors>⟧.state map.1.inner).header ≤ inode_bitmap) }
+    ensures header { IfOk result (λ map. log_end (⟦<Txn<MemDisk> as Sectors>⟧.state map.1.inner).header ≤ map.0.inode_bitmap) }
 {
     let superblock = Super {
         version,
         sectors,
         inodes,
+        header: least_header(version),
     };
     let place = superblock.place().ok_or("no place")?;
     if place.sectors != sectors {
@@ -45,7 +54,7 @@ pub(super) fn new_map(
 ) -> Result<(Place, Counted<Txn<MemDisk>>), Fail>
     ensures place { IfOk result (λ map. IsPlace map.0) }
     ensures disk { IfOk result (λ map. map.0.sectors ≤ (⟦<Txn<MemDisk> as Sectors>⟧.state map.1.inner).disk.size) }
-    ensures header { IfOk result (λ map. log_end (⟦<Txn<MemDisk> as Sectors>⟧.state map.1.inner).header ≤ inode_bitmap) }
+    ensures header { IfOk result (λ map. log_end (⟦<Txn<MemDisk> as Sectors>⟧.state map.1.inner).header ≤ map.0.inode_bitmap) }
 {
     map_of_version(alloc, Version::NEWEST, sectors, inodes)
 }

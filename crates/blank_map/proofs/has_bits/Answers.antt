@@ -18,7 +18,7 @@ loop-n-preserved g c =
     let map = c.args.map in
     let n = c.loop-n.n in
     let image : SectorMap = (g.S.Sectors.state c.args.s.now).sectors in
-    let first = first_sector map in
+    let first = first_sector p map in
     let unread = sym (ap (λ (of : SectorMap). bit of first n) (map_unchanged c.loop-n.invariant.same)) in
     let here = subst (λ b. IsTrue b ↔ (IsNumber p map n → ⊥)) (c.in_ok-taken.ensures.taken ∙ unread) (c.may_be.ensures c.if-not-may_be.false) in
     record {

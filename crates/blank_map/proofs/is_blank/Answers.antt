@@ -1,4 +1,4 @@
-use Rattle.std.proofs.Common.{◌≡◌, ◌<◌, ◌≤◌, ◌+◌, ◌-◌, ◌/◌, ℕ, replicate, subst, arith, inl, inr, ◌⊎◌, ◌↔◌, IsTrue}
+use Rattle.std.proofs.Common.{◌≡◌, ◌<◌, ◌≤◌, ◌+◌, ◌-◌, ◌/◌, ℕ, replicate, subst, arith, inl, inr, ◌⊎◌, ◌↔◌, IsTrue, ap}
 use Rattle.std.proofs.lemmas.Bool.{leb-true, cases_lt}
 use Rattle.std.proofs.lemmas.List.FromFn.{length-range_with_len}
 use Rattle.fs_layout.specs.declared.place.Place.{Place}
@@ -6,7 +6,7 @@ use Rattle.fs_layout.specs.Bytes.{SectorMap, zeros}
 use Rattle.fs_layout.specs.Header.{log_end}
 use Rattle.fs_layout.specs.Inode.{free_inode}
 use Rattle.fs_layout.specs.Place.{IsPlace}
-use Rattle.fs_layout.specs.Images.{HasWholeTables, inode_bitmap, block_bitmap, map_bits, bit, inode_at, Owns}
+use Rattle.fs_layout.specs.Images.{HasWholeTables, inode_map_bits, map_bits, bit, inode_at, Owns}
 use Rattle.fs_layout.proofs.Free.{free_where_zeros, free_has_no_sector, owns_nothing, consistent_without_owners}
 use Rattle.fs_layout.proofs.Saves.{in_table}
 use Rattle.sector_txn.specs.Sectors.{TxnState}
@@ -23,12 +23,12 @@ use Rattle.blank_map.proofs.is_blank.Goals as goal
 zero_there : (p : Place) (image : SectorMap) → IsPlace p → ((t : ℕ) → p.table ≤ t → t < p.first_data → image t ≡ replicate 512 0)
     → (n : ℕ) → n < p.inodes → image (p.table + n / 4) ≡ zeros 512
 unfolding zeros
-zero_there p image place zero n lt = let i = in_table p n place lt in zero (p.table + n / 4) (omega arith) i.1
+zero_there p image place zero n lt = let i = in_table p n place lt in zero (p.table + n / 4) i.0 i.1
 
-blank_is_sound : (p : Place) (t : TxnState) → IsPlace p → p.sectors ≤ t.disk.size → log_end t.header ≤ inode_bitmap → HasWholeTables p t.sectors
+blank_is_sound : (p : Place) (t : TxnState) → IsPlace p → p.sectors ≤ t.disk.size → log_end t.header ≤ p.inode_bitmap → HasWholeTables p t.sectors
     → ((n : ℕ) → n < p.inodes → t.sectors (p.table + n / 4) ≡ zeros 512)
-    → ((n : ℕ) → n < 4096 → IsTrue (bit t.sectors inode_bitmap n) ↔ (IsNumber p Inodes n → ⊥))
-    → ((n : ℕ) → n < map_bits p → IsTrue (bit t.sectors block_bitmap n) ↔ (IsNumber p Blocks n → ⊥)) → IsSound p t
+    → ((n : ℕ) → n < inode_map_bits p → IsTrue (bit t.sectors p.inode_bitmap n) ↔ (IsNumber p Inodes n → ⊥))
+    → ((n : ℕ) → n < map_bits p → IsTrue (bit t.sectors p.block_bitmap n) ↔ (IsNumber p Blocks n → ⊥)) → IsSound p t
 blank_is_sound p t place disk header whole zero inodes blocks =
     sound_from p t (consistent_without_owners p t.sectors place whole (λ n lt. (free_where_zeros p t.sectors n (zero n lt)).1) none bits) disk header outside
   where
@@ -36,7 +36,7 @@ blank_is_sound p t place disk header whole zero inodes blocks =
     none n s lt o =
         owns_nothing t.sectors free_inode s free_has_no_sector (subst (λ v. Owns t.sectors v s) (free_where_zeros p t.sectors n (zero n lt)).0 o)
 
-    outside : (n : ℕ) → n < 4096 → (n ≡ 0) ⊎ (p.inodes ≤ n) → IsTrue (bit t.sectors inode_bitmap n)
+    outside : (n : ℕ) → n < inode_map_bits p → (n ≡ 0) ⊎ (p.inodes ≤ n) → IsTrue (bit t.sectors p.inode_bitmap n)
     outside n low (inl e) = (inodes n low).1 (λ is. let from = is.0 in omega (arith, from, e))
     outside n low (inr past) = (inodes n low).1 (λ is. let below = is.1 in omega (arith, below, past))
 
@@ -50,7 +50,7 @@ blank_is_sound p t place disk header whole zero inodes blocks =
     apart s (inl low) is = let from = is.0 in omega (arith, from, low)
     apart s (inr past) is = let below = is.1 in omega (arith, below, past)
 
-    bits : (s : ℕ) → s < map_bits p → IsTrue (bit t.sectors block_bitmap s) ↔ ((s < p.first_data) ⊎ (p.sectors ≤ s))
+    bits : (s : ℕ) → s < map_bits p → IsTrue (bit t.sectors p.block_bitmap s) ↔ ((s < p.first_data) ⊎ (p.sectors ≤ s))
     bits s fits = (λ yes. side s ((blocks s fits).0 yes), λ o. (blocks s fits).1 (apart s o))
 
 pub returns-clause-sound : goal.returns-clause-sound
@@ -64,12 +64,12 @@ returns-clause-sound g c = λ yes.
     let third = c.in_ok-blocks.ensures in
     let all = unchanged_joined (unchanged_joined first.same second.same) third.same in
     let last = unchanged_joined second.same third.same in
-    blank_is_sound p t3 c.requires.place (omega (arith, c.requires.disk, all.store.reads.narrowed.size)) (omega (arith, c.requires.header, all.store.header))
+    blank_is_sound p t3 c.requires.place (omega (arith, c.requires.disk, all.store.reads.narrowed.size)) (omega (arith, c.requires.header, ap log_end all.store.header))
     (subst (HasWholeTables p) (map_unchanged all) (first.tables c.if-not-zero.false))
     (subst (λ (image : SectorMap). (n : ℕ) → n < p.inodes → image (p.table + n / 4) ≡ zeros 512) (map_unchanged all)
     (zero_there p _ c.requires.place (first.zero c.if-not-zero.false)))
-    (subst (λ (image : SectorMap). (n : ℕ) → n < 4096 → IsTrue (bit image inode_bitmap n) ↔ (IsNumber p Inodes n → ⊥)) (map_unchanged last) (second.set c.if-not-inodes.false))
-    (subst (λ (image : SectorMap). (n : ℕ) → n < map_bits p → IsTrue (bit image block_bitmap n) ↔ (IsNumber p Blocks n → ⊥)) (map_unchanged third.same) (third.set c.if-not-blocks.false))
+    (subst (λ (image : SectorMap). (n : ℕ) → n < inode_map_bits p → IsTrue (bit image p.inode_bitmap n) ↔ (IsNumber p Inodes n → ⊥)) (map_unchanged last) (second.set c.if-not-inodes.false))
+    (subst (λ (image : SectorMap). (n : ℕ) → n < map_bits p → IsTrue (bit image p.block_bitmap n) ↔ (IsNumber p Blocks n → ⊥)) (map_unchanged third.same) (third.set c.if-not-blocks.false))
 
 pub returns-clause-clear : goal.returns-clause-clear
 returns-clause-clear g c = λ yes n lt clear.
@@ -81,4 +81,11 @@ returns-clause-clear g c = λ yes n lt clear.
     (free_where_zeros p (g.S.Sectors.state c.has_bits-2.new.s).sectors n (zero n lt)).0
 
 pub returns-clause-spare : goal.returns-clause-spare
-returns-clause-spare g c = λ yes. omega (arith, leb-true _ _ yes, lacking_at_most (g.S.Sectors.state c.has_bits-2.new.s) (bitmaps c.args.place), length-range_with_len 128 (c.args.place.table - 128), c.room.ensures)
+returns-clause-spare g c = λ yes.
+    omega (
+      arith,
+      leb-true _ _ yes,
+      lacking_at_most (g.S.Sectors.state c.has_bits-2.new.s) (bitmaps c.args.place),
+      length-range_with_len c.args.place.inode_bitmap (c.args.place.table - c.args.place.inode_bitmap),
+      c.room.ensures,
+    )

@@ -4,7 +4,7 @@ ghost use Rattle.std.specs.Prelude.{◌≡◌, ◌≤◌, ◌<◌, ◌*◌, ℕ,
 ghost use Rattle.fs_layout.specs.Bytes.{IsBytes};
 ghost use Rattle.fs_layout.specs.Header.{log_end};
 ghost use Rattle.fs_layout.specs.Place.{IsPlace};
-ghost use Rattle.fs_layout.specs.Images.{HasWholeTables, bit, inode_bitmap};
+ghost use Rattle.fs_layout.specs.Images.{HasWholeTables, bit};
 ghost use Rattle.sector_txn.specs.Sectors.{SameStore, IsUnchanged};
 ghost use Rattle.bit_alloc.specs.Bitmaps.{first_sector, bit_count, IsNumber, HasBitmaps};
 ghost use Rattle.bit_alloc.specs.Room.{HasSpare};
@@ -25,12 +25,12 @@ pub(super) fn is_number(place: Place, map: Bitmap, n: u32) -> bool
 }
 
 // The first sector of the bitmap.
-fn first(map: Bitmap) -> u32
-    ensures { result ≡ first_sector map }
+fn first(place: Place, map: Bitmap) -> u32
+    ensures { result ≡ first_sector place map }
 {
     match map {
-        Bitmap::Inodes => 128,
-        Bitmap::Blocks => 129,
+        Bitmap::Inodes => place.inode_bitmap,
+        Bitmap::Blocks => place.block_bitmap,
     }
 }
 
@@ -40,8 +40,8 @@ fn sectors(place: Place, map: Bitmap) -> u32
     ensures { 4096 * result ≡ bit_count place map }
 {
     match map {
-        Bitmap::Inodes => 1,
-        Bitmap::Blocks => place.table - 129,
+        Bitmap::Inodes => place.block_bitmap - place.inode_bitmap,
+        Bitmap::Blocks => place.table - place.block_bitmap,
     }
 }
 
@@ -49,14 +49,14 @@ fn sectors(place: Place, map: Bitmap) -> u32
 pub(super) fn put_all_but<S: Sectors>(s: &mut S, place: Place, map: Bitmap, clear: &[u32])
     requires place { IsPlace place }
     requires disk { place.sectors ≤ (S.state s.old).disk.size }
-    requires header { log_end (S.state s.old).header ≤ inode_bitmap }
+    requires header { log_end (S.state s.old).header ≤ place.inode_bitmap }
     ensures { SameStore (S.state s.old) (S.state s.new) }
 {
     for k in 0..sectors(place, map) {
         if s.room() == 0 {
             return;
         }
-        s.put(first(map) + k, &sector_without(k, clear));
+        s.put(first(place, map) + k, &sector_without(k, clear));
     }
 }
 
@@ -76,7 +76,7 @@ fn sector_without(k: u32, clear: &[u32]) -> [u8; 512] {
 pub(super) fn is_ready<S: Sectors>(s: &mut S, place: Place) -> Result<bool, DiskFault>
     requires place { IsPlace place }
     requires disk { place.sectors ≤ (S.state s.old).disk.size }
-    requires header { log_end (S.state s.old).header ≤ inode_bitmap }
+    requires header { log_end (S.state s.old).header ≤ place.inode_bitmap }
     ensures bitmaps { IfOk result (λ b. IsTrue b → HasBitmaps place (S.state s.new)) }
     ensures room { IfOk result (λ b. IsTrue b → HasSpare place 0 (S.state s.new)) }
 {
@@ -89,19 +89,19 @@ pub(super) fn is_ready<S: Sectors>(s: &mut S, place: Place) -> Result<bool, Disk
     if !blocks {
         return Ok(false);
     }
-    Ok(s.room() >= (place.table - 128) as usize)
+    Ok(s.room() >= (place.table - place.inode_bitmap) as usize)
 }
 
 // Each sector that is read is whole.
 fn read_tables<S: Sectors>(s: &mut S, place: Place) -> Result<(), DiskFault>
     requires place { IsPlace place }
     requires disk { place.sectors ≤ (S.state s.old).disk.size }
-    requires header { log_end (S.state s.old).header ≤ inode_bitmap }
+    requires header { log_end (S.state s.old).header ≤ place.inode_bitmap }
     ensures tables { OnOk result (HasWholeTables place (S.state s.new).sectors) }
     ensures same { IsUnchanged (S.state s.old) (S.state s.new) }
 {
     let mut sector = [0; 512];
-    for n in 128..place.first_data {
+    for n in place.inode_bitmap..place.first_data {
         s.get(n, &mut sector)?;
         tell_bytes(&sector);
     }
@@ -119,9 +119,9 @@ fn tell_bytes(bytes: &[u8])
 fn has_rest_set<S: Sectors>(s: &mut S, place: Place, map: Bitmap) -> Result<bool, DiskFault>
     requires place { IsPlace place }
     requires disk { place.sectors ≤ (S.state s.old).disk.size }
-    requires header { log_end (S.state s.old).header ≤ inode_bitmap }
+    requires header { log_end (S.state s.old).header ≤ place.inode_bitmap }
     ensures set { IfOk result (λ b. IsTrue b → (n : ℕ) → n < bit_count place map → (IsNumber place map n → ⊥)
-        → IsTrue (bit (S.state s.new).sectors (first_sector map) n)) }
+        → IsTrue (bit (S.state s.new).sectors (first_sector place map) n)) }
     ensures same { IsUnchanged (S.state s.old) (S.state s.new) }
 {
     for n in 0..4096 * sectors(place, map) {

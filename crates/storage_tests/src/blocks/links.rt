@@ -2,7 +2,6 @@
 
 ghost use Rattle.std.specs.Prelude.{◌≤◌, OnOk};
 ghost use Rattle.fs_layout.specs.Header.{log_end};
-ghost use Rattle.fs_layout.specs.Images.{inode_bitmap};
 ghost use Rattle.fs_layout.specs.Place.{IsPlace};
 ghost use Rattle.sector_txn.specs.Sectors.{IsUnchanged};
 ghost use Rattle.bit_alloc.specs.Bitmaps.{HasBitmaps};
@@ -66,7 +65,7 @@ fn life<S: Sectors>(s: &mut Counted<S>, place: Place, target: &[u8]) -> Result<L
 fn life_on_blank<S: Sectors>(s: &mut Counted<S>, place: Place, target: &[u8]) -> Result<Life, Fail>
     requires place { IsPlace place }
     requires disk { place.sectors ≤ (S.state s.old.inner).disk.size }
-    requires header { log_end (S.state s.old.inner).header ≤ inode_bitmap }
+    requires header { log_end (S.state s.old.inner).header ≤ place.inode_bitmap }
 {
     put_blank(s, place);
     if !is_blank(s, place)? {

@@ -3,7 +3,7 @@
 ghost use Rattle.std.specs.Prelude.{◌≡◌, ◌≤◌, ◌<◌, [], IfOk, OnOk};
 ghost use Rattle.fs_layout.specs.Header.{log_end};
 ghost use Rattle.fs_layout.specs.Place.{IsPlace};
-ghost use Rattle.fs_layout.specs.Images.{Holds, inode_at, inode_bitmap};
+ghost use Rattle.fs_layout.specs.Images.{Holds, inode_at};
 ghost use Rattle.fs_layout.specs.Inode.{FitsInode};
 ghost use Rattle.bit_alloc.specs.declared.bitmap.Bitmap.TheVariants.{Inodes};
 ghost use Rattle.bit_alloc.specs.Bitmaps.{IsNumber};
@@ -134,7 +134,7 @@ fn saved<S: Sectors>(
         → Holds (S.state s.new.inner).sectors (inode_at place (S.state s.new.inner).sectors n) []) }
 {
     let inode = load(s, place, n)?;
-    if s.room() < (place.table - 128) as usize + 2 {
+    if s.room() < (place.table - place.inode_bitmap) as usize + 2 {
         return Err(Fail::new("no room"));
     }
     let Kind::File = inode.kind else {
@@ -210,7 +210,7 @@ fn life<S: Sectors>(
     };
     let (n, made, same) = made(alloc, s, place, &inode, first.0, first.1)?;
     let saved = saves(s, place, n, then.0, then.1)?;
-    if s.room() <= (place.table - 128) as usize {
+    if s.room() <= (place.table - place.inode_bitmap) as usize {
         return Err(Fail::new("no room"));
     }
     s.gets = 0;
@@ -229,7 +229,7 @@ fn life_on_blank<S: Sectors>(
 ) -> Result<Life, Fail>
     requires place { IsPlace place }
     requires disk { place.sectors ≤ (S.state s.old.inner).disk.size }
-    requires header { log_end (S.state s.old.inner).header ≤ inode_bitmap }
+    requires header { log_end (S.state s.old.inner).header ≤ place.inode_bitmap }
 {
     put_blank(s, place);
     if !is_blank(s, place)? {

@@ -9,13 +9,13 @@ use Rattle.bit_alloc.proofs.counts.count_up_to.Goals as goal
 
 pub loop-k-init : goal.loop-k-init
 loop-k-init g c =
-    let none = none_counted (g.S.Sectors.state c.args.s.now).sectors (first_sector c.args.map) in
+    let none = none_counted (g.S.Sectors.state c.args.s.now).sectors (first_sector c.args.place c.args.map) in
     record { same = unchanged_nothing; some = omega arith; all = λ less. sym none }
 
 pub loop-k-preserved : goal.loop-k-preserved
 loop-k-preserved g c =
     let image : SectorMap = (g.S.Sectors.state c.args.s.now).sectors in
-    let start : ℕ = first_sector c.args.map in
+    let start : ℕ = first_sector c.args.place c.args.map in
     let sector : List ℕ = c.get.new.to in
     let so_far = c.loop-k.invariant in
     let here : sector ≡ image (start + c.loop-k.k) =
@@ -37,7 +37,7 @@ overflow_add-free g c =
     omega (
       arith,
       c.loop-k.invariant.some,
-      counted_at_most image (first_sector c.args.map) (4096 * c.loop-k.k),
+      counted_at_most image (first_sector c.args.place c.args.map) (4096 * c.loop-k.k),
       c.count_clear_up_to-free.ensures.some,
       counted_at_most (λ _. sector) 0 4096,
       c.loop-k-test.true,
@@ -49,7 +49,7 @@ overflow_add-free g c =
 pub returns-then-free-enough-clause-some : goal.returns-then-free-enough-clause-some
 returns-then-free-enough-clause-some g c =
     let image : SectorMap = (g.S.Sectors.state c.args.s.now).sectors in
-    let start : ℕ = first_sector c.args.map in
+    let start : ℕ = first_sector c.args.place c.args.map in
     let within : 4096 * c.loop-k.k ≤ bit_count c.args.place c.args.map = omega (arith, c.loop-k-test.true, c.sectors-k-end.ensures) in
     omega (
       arith,
@@ -62,7 +62,7 @@ returns-then-free-enough-clause-some g c =
 pub returns-clause-some : goal.returns-clause-some
 returns-clause-some g c =
     let image : SectorMap = (g.S.Sectors.state c.args.s.now).sectors in
-    let start : ℕ = first_sector c.args.map in
+    let start : ℕ = first_sector c.args.place c.args.map in
     let within : 4096 * c.loop-k.k ≤ bit_count c.args.place c.args.map = omega (arith, c.loop-k.auto.k-end, c.sectors-k-end.ensures) in
     omega (
       arith,
@@ -74,7 +74,7 @@ returns-clause-some g c =
 pub returns-clause-all : goal.returns-clause-all
 returns-clause-all g c = λ less.
     let image : SectorMap = (g.S.Sectors.state c.args.s.now).sectors in
-    let start : ℕ = first_sector c.args.map in
+    let start : ℕ = first_sector c.args.place c.args.map in
     let all : 4096 * c.loop-k.k ≡ bit_count c.args.place c.args.map = omega (arith, c.loop-k.auto.k-end, c.loop-k-test.false, c.sectors-k-end.ensures) in
     let end : clear_below image start (4096 * c.loop-k.k) ≡ clear_below image start (bit_count c.args.place c.args.map) = ap (clear_below image start) all in
     omega (arith, c.loop-k.invariant.all less, end, numbers_counted c.args.place c.args.map image c.requires.place c.requires.rest)

@@ -7,6 +7,6 @@ use Rattle.bit_alloc.proofs.counts.count_up_to.Given as goal
 abbrev pub invariant-loop-k : goal.invariant-loop-k
 invariant-loop-k g l = record {
   same : IsUnchanged (g.S.Sectors.state l.initial.s) (g.S.Sectors.state l.s);
-  some : l.free ≤ clear_below (g.S.Sectors.state l.initial.s).sectors (first_sector l.map) (4096 * l.k);
-  all : l.free < l.enough → l.free ≡ clear_below (g.S.Sectors.state l.initial.s).sectors (first_sector l.map) (4096 * l.k);
+  some : l.free ≤ clear_below (g.S.Sectors.state l.initial.s).sectors (first_sector l.place l.map) (4096 * l.k);
+  all : l.free < l.enough → l.free ≡ clear_below (g.S.Sectors.state l.initial.s).sectors (first_sector l.place l.map) (4096 * l.k);
 }

@@ -22,11 +22,11 @@ returns-clause-marks g c =
     let n : ℕ = c.args.n in
     let s : List ℕ = c.args.sector.now in
     let at : ℕ = c.first.result in
-    let is : s ≡ old.sectors (sector_of map n) = c.requires.content in
+    let is : s ≡ old.sectors (sector_of c.args.place map n) = c.requires.content in
     let whole : IsSector s = record { len = c.told-sector; bytes = c.fits-sector } in
-    let put = puts_byte map n c.with_bit.result at s old new c.first.ensures is c.told-sector c.put.ensures in
-    let then = whole_then map n c.with_bit.result at s old new c.first.ensures whole c.with_bit.type_inv c.put.ensures in
-    let others : (i : ℕ) → i < 8 → i ≢ n % 8 → bit_at c.with_bit.result i ≡ bit_at (get_or (old.sectors (sector_of map n)) (n % 4096 / 8) 0) i =
+    let put = puts_byte c.args.place map n c.with_bit.result at s old new c.first.ensures is c.told-sector c.put.ensures in
+    let then = whole_then c.args.place map n c.with_bit.result at s old new c.first.ensures whole c.with_bit.type_inv c.put.ensures in
+    let others : (i : ℕ) → i < 8 → i ≢ n % 8 → bit_at c.with_bit.result i ≡ bit_at (get_or (old.sectors (sector_of c.args.place map n)) (n % 4096 / 8) 0) i =
     λ i lt ne. c.with_bit.ensures.others i lt ne ∙ ap (λ (t : List ℕ). bit_at (get_or t (n % 4096 / 8) 0) i) is in
     written_marks c.args.place map n c.with_bit.result old.sectors new.sectors c.requires.bitmaps.place c.requires.number.1 c.requires.bitmaps.tables put then others
 
@@ -34,7 +34,7 @@ pub returns-clause-bit : goal.returns-clause-bit
 returns-clause-bit g c =
     let old = g.S.Sectors.state c.args.s.now in
     let new = g.S.Sectors.state c.put.new.self in
-    bit_put_same (puts_byte c.args.map c.args.n c.with_bit.result c.first.result c.args.sector.now old new c.first.ensures c.requires.content c.told-sector c.put.ensures)
+    bit_put_same (puts_byte c.args.place c.args.map c.args.n c.with_bit.result c.first.result c.args.sector.now old new c.first.ensures c.requires.content c.told-sector c.put.ensures)
     ∙ c.with_bit.ensures.here
 
 pub returns-clause-puts : goal.returns-clause-puts

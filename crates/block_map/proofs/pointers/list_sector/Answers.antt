@@ -1,4 +1,5 @@
-use Rattle.std.proofs.Common.{refl, arith}
+use Rattle.std.proofs.Common.{refl, arith, ap}
+use Rattle.fs_layout.specs.Header.{log_end}
 use Rattle.fs_layout.specs.Bytes.{zeros}
 use Rattle.fs_layout.specs.Images.{holder}
 use Rattle.sector_txn.proofs.TransactionRuns.{still_put, store_joined}
@@ -22,7 +23,7 @@ returns-in_err-number-clause-full g c = λ is.
 
 pub put-requires-clause-part : goal.put-requires-clause-part
 put-requires-clause-part g c =
-    omega (arith, (listed_within (g.S.Sectors.state c.args.s.now).header c.args.blocks.now.inode 2 (holder 1 c.args.index) (may_within c.requires.may) c.requires.index.1 c.requires.index.2).0, c.in_ok-number.ensures.store.header)
+    omega (arith, (listed_within (g.S.Sectors.state c.args.s.now).header c.args.blocks.now.inode 2 (holder 1 c.args.index) (may_within c.requires.may) c.requires.index.1 c.requires.index.2).0, ap log_end c.in_ok-number.ensures.store.header)
 
 pub put-requires-clause-on_disk : goal.put-requires-clause-on_disk
 put-requires-clause-on_disk g c =

@@ -1,6 +1,7 @@
 use Rattle.std.proofs.Common.{◌≡◌, ◌≤◌, ◌+◌, ◌-◌, ◌/◌, ◌%◌, refl, sym, ap, subst, ◌∙◌, length, take, drop, arith, rules}
 use Rattle.std.specs.Prelude.{min}
 use Rattle.std.proofs.lemmas.List.{length-take-le, length-drop}
+use Rattle.fs_layout.specs.Header.{log_end}
 use Rattle.fs_layout.specs.Images.{pointer, byte_in}
 use Rattle.block_map.specs.Blocks.{IsWithin}
 use Rattle.block_map.proofs.Numbers.{at_hand_before, at_hand_unchanged, number_within, pointer_before, within_unchanged}
@@ -26,7 +27,7 @@ read_block-requires-clause-within g c =
     let w = number_within (g.S.Sectors.state c.args.s.now).header c.args.inode.now k c.requires.within is some in
     let first = c.loop-done.invariant.same.store in
     let then = c.in_ok-load.ensures.same.store in
-    (omega (arith, w.0, first.header, then.header), omega (arith, w.1, first.reads.narrowed.size, then.reads.narrowed.size))
+    (omega (arith, w.0, ap log_end first.header, ap log_end then.header), omega (arith, w.1, first.reads.narrowed.size, then.reads.narrowed.size))
 
 pub loop-done-init : goal.loop-done-init
 loop-done-init g c = record {

@@ -1,5 +1,6 @@
 use Rattle.std.proofs.Common.{◌≡◌, ◌-◌, ◌/◌, ◌%◌, ℕ, sym, ap, subst, ◌∙◌, arith}
 use Rattle.std.specs.Int.{div_ceil}
+use Rattle.fs_layout.specs.Header.{log_end}
 use Rattle.fs_layout.specs.declared.inode.TheConstants.{DIRECT_BLOCKS, SECTOR_POINTERS}
 use Rattle.fs_layout.specs.declared.inode.Inode.{Inode}
 use Rattle.fs_layout.specs.Images.{number_on, HasPointers}
@@ -31,7 +32,7 @@ give_from-requires-clause-room g c =
 pub cut_sector-requires-clause-within : goal.cut_sector-requires-clause-within
 cut_sector-requires-clause-within g c = λ some.
     let w = listed_within (g.S.Sectors.state c.args.s.now).header c.args.inode.now 1 _ (may_within c.requires.may) c.in_ok-sector.ensures.number some in (
-      omega (arith, w.0, c.in_ok-sector.ensures.same.store.header, c.in_ok-above.ensures.same.store.header, c.in_ok-give_from.ensures.store.header),
+      omega (arith, w.0, ap log_end c.in_ok-sector.ensures.same.store.header, ap log_end c.in_ok-above.ensures.same.store.header, ap log_end c.in_ok-give_from.ensures.store.header),
       omega (arith, w.1, c.in_ok-sector.ensures.same.store.reads.narrowed.size, c.in_ok-above.ensures.same.store.reads.narrowed.size, c.in_ok-give_from.ensures.store.reads.narrowed.size),
     )
 
@@ -44,7 +45,7 @@ pub cut_sector-requires-2-clause-within : goal.cut_sector-requires-2-clause-with
 cut_sector-requires-2-clause-within g c = λ some.
     let is = number_before c.in_ok-sector.ensures.same c.args.inode.now 2 0 c.in_ok-above.ensures.number in
     let w = listed_within (g.S.Sectors.state c.args.s.now).header c.args.inode.now 2 0 (may_within c.requires.may) is some in (
-      omega (arith, w.0, c.in_ok-sector.ensures.same.store.header, c.in_ok-above.ensures.same.store.header, c.in_ok-give_from.ensures.store.header, c.cut_sector.ensures.puts.store.header),
+      omega (arith, w.0, ap log_end c.in_ok-sector.ensures.same.store.header, ap log_end c.in_ok-above.ensures.same.store.header, ap log_end c.in_ok-give_from.ensures.store.header, ap log_end c.cut_sector.ensures.puts.store.header),
       omega (arith, w.1, c.in_ok-sector.ensures.same.store.reads.narrowed.size, c.in_ok-above.ensures.same.store.reads.narrowed.size, c.in_ok-give_from.ensures.store.reads.narrowed.size, c.cut_sector.ensures.puts.store.reads.narrowed.size),
     )
 

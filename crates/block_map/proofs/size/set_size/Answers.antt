@@ -1,5 +1,6 @@
 use Rattle.std.proofs.Common.{sym, arith}
 use Rattle.fs_layout.proofs.Parts.{Holds-kept, HasNoHole-kept}
+use Rattle.sector_txn.proofs.TransactionRuns.{store_joined}
 use Rattle.block_map.proofs.Saving.{IsEnded, saved_after}
 use Rattle.block_map.proofs.Sizing.{may_change, size_limit}
 use Rattle.block_map.specs.Sizes.{put_to}
@@ -27,3 +28,6 @@ returns-clause-held g c = λ held h. Holds-kept (ended g c).keeps (c.in_ok-resiz
 
 pub returns-clause-whole : goal.returns-clause-whole
 returns-clause-whole g c = λ none less. HasNoHole-kept (ended g c).keeps (c.in_ok-resize.ensures.resized.whole none less)
+
+pub returns-clause-store : goal.returns-clause-store
+returns-clause-store g c = store_joined c.in_ok-resize.ensures.store c.in_ok-write_inode.ensures.store

@@ -1,8 +1,10 @@
 use Rattle.std.proofs.Common.{◌≡◌, ◌≢◌, ◌∷◌, ◌++◌, ℕ, List, refl, sym, ap, subst, ◌∙◌, arith, rules}
+use Rattle.fs_layout.specs.Header.{log_end}
 use Rattle.fs_layout.specs.declared.inode.Inode.{Inode}
 use Rattle.fs_layout.specs.declared.inode.TheConstants.{DIRECT_BLOCKS}
 use Rattle.fs_layout.specs.Images.{holder, pointer}
 use Rattle.sector_txn.specs.Sectors.{lacking}
+use Rattle.sector_txn.proofs.TransactionRuns.{store_joined}
 use Rattle.bit_alloc.specs.Room.{bitmaps}
 use Rattle.block_map.specs.Steps.{WritesBlock}
 use Rattle.block_map.proofs.Numbers.{at_hand_near, listed_within, loaded_sector, number_within}
@@ -52,7 +54,7 @@ put_pointer-requires-clause-within g c =
     let ge = c.if-k-lt-DIRECT_BLOCKS.false in
     let sector = loaded_sector c.requires.loaded ge in
     let w = listed_within (g.S.Sectors.state c.args.s.now).header c.args.blocks.now.inode 1 (holder DIRECT_BLOCKS c.args.k) (may_within c.requires.may) (sym sector) (λ e. c.requires.pointers ge (sector ∙ e)) in
-    (omega (arith, w.0, c.in_ok-number.ensures.store.header), omega (arith, w.1, c.in_ok-number.ensures.store.reads.narrowed.size))
+    (omega (arith, w.0, ap log_end c.in_ok-number.ensures.store.header), omega (arith, w.1, c.in_ok-number.ensures.store.reads.narrowed.size))
 
 pub put_pointer-requires-clause-room : goal.put_pointer-requires-clause-room
 put_pointer-requires-clause-room g c = λ none.
@@ -103,3 +105,6 @@ returns-else-k-lt-DIRECT_BLOCKS-clause-at_hand g c =
     c.in_ok-number.ensures.taken.1 c.in_ok-number.ensures.free c.in_ok-number.ensures.bitmaps ge (sym sector) has
     (c.requires.loaded.at_hand.is has) c.put_pointer.ensures.pointers c.put_pointer.ensures.put.sectors c.put_pointer.ensures.put.store (pointers_puts 1 (holder DIRECT_BLOCKS c.args.k) c.requires.may (sym sector) has c.in_ok-number.ensures.puts c.put_pointer.ensures.put)
     _ c.put_pointer.ensures.inode (c.put_pointer.ensures.here.0 ∙ c.requires.loaded.index ge) c.put_pointer.ensures.here.1 refl
+
+pub returns-else-k-lt-DIRECT_BLOCKS-clause-store : goal.returns-else-k-lt-DIRECT_BLOCKS-clause-store
+returns-else-k-lt-DIRECT_BLOCKS-clause-store g c = store_joined c.in_ok-number.ensures.store c.put_pointer.ensures.put.store

@@ -1,4 +1,5 @@
-use Rattle.std.proofs.Common.{◌≡◌, ◌≢◌, ◌+◌, ◌*◌, ◌/◌, ◌%◌, ℕ, sym, subst, ◌∙◌, arith, rules}
+use Rattle.std.proofs.Common.{◌≡◌, ◌≢◌, ◌+◌, ◌*◌, ◌/◌, ◌%◌, ℕ, sym, subst, ◌∙◌, arith, rules, ap}
+use Rattle.fs_layout.specs.Header.{log_end}
 use Rattle.fs_layout.specs.Bytes.{IsSector, splice}
 use Rattle.fs_layout.specs.declared.inode.Inode.{Inode}
 use Rattle.block_map.specs.Blocks.{IsWithin}
@@ -22,7 +23,7 @@ rewrite-requires-clause-part g c =
     let may = used_may_change c.requires.sound c.requires.below c.requires.inode c.requires.used in
     let is = loaded_number (g.S.Sectors.state c.args.s.now).sectors (c.args.offset / 512) (c.number.ensures (g.S.Sectors.state c.args.s.now).sectors c.in_ok-load.ensures.loaded) (c.in_ok-load.ensures.inode ∙ c.new-blocks.ensures.inode) in
     let w = number_within (g.S.Sectors.state c.args.s.now).header c.args.inode.now (c.args.offset / 512) (may_within may) is (λ e. c.requires.no_hole (sym is ∙ e)) in
-    omega (arith, w.0, c.in_ok-load.ensures.same.store.header)
+    omega (arith, w.0, ap log_end c.in_ok-load.ensures.same.store.header)
 
 pub rewrite-requires-clause-on_disk : goal.rewrite-requires-clause-on_disk
 rewrite-requires-clause-on_disk g c =

@@ -1,6 +1,7 @@
 use Rattle.std.proofs.Common.{Ok, sym, ap, ◌∙◌}
 use Rattle.fs_layout.specs.declared.inode.Inode.{Inode}
 use Rattle.fs_layout.specs.Images.{inode_at}
+use Rattle.fs_layout.specs.Version.{max_directory_size}
 use Rattle.fs_model.specs.Demands.{first_of, permission_on, write_and_search}
 use Rattle.block_map.proofs.Runs.{unchanged_joined}
 use Rattle.path_walk.specs.Answers.{refused_or}
@@ -63,7 +64,7 @@ returns-in_err-check_names-clause-each g c = λ t h d.
     answered_err {A = Inode} old.disk new.disk (refused_or (first_of (make_asked c.args.caller.now.place old.sectors c.args.cred.now t c.args.dir c.args.step)) (Ok v))
     c.from_residual-in_err-check_names.result e r.0 r.1
     (make_crowded h c.args.dir d c.args.cred.now c.args.step v e old.disk new.disk granted enough some
-    (size_as (answered_as (permission_on c.args.cred.now t c.args.dir write_and_search 1 c.args.step) (c.in_ok-directory.ensures.each t h d)) (sym c.in_err-check_names.ensures)))
+    (size_as (max_directory_size c.args.caller.now.place.version) (answered_as (permission_on c.args.cred.now t c.args.dir write_and_search 1 c.args.step) (c.in_ok-directory.ensures.each t h d)) (sym c.in_err-check_names.ensures)))
 
 pub returns-clause-each : goal.returns-clause-each
 returns-clause-each g c = λ t h d.
@@ -73,7 +74,7 @@ returns-clause-each g c = λ t h d.
     let granted = make_granted h c.args.dir d c.args.cred.now c.args.step _ c.in_ok-directory.directory (c.in_ok-directory.ensures.each t h d) in
     let enough = make_enough h c.args.dir d c.args.cred.now c.args.step first c.in_ok-ask_for_sectors.ensures.each in
     let some = make_some h c.args.dir d c.args.cred.now c.args.step second c.in_ok-ask_for_inode.ensures.each in
-    let met = make_met h c.args.dir d c.args.cred.now c.args.step granted enough some (size_as (answered_as (permission_on c.args.cred.now t c.args.dir write_and_search 1 c.args.step) (c.in_ok-directory.ensures.each t h d)) (sym c.in_ok-check_names.ensures)) in
+    let met = make_met h c.args.dir d c.args.cred.now c.args.step granted enough some (size_as (max_directory_size c.args.caller.now.place.version) (answered_as (permission_on c.args.cred.now t c.args.dir write_and_search 1 c.args.step) (c.in_ok-directory.ensures.each t h d)) (sym c.in_ok-check_names.ensures)) in
     ap (λ o. refused_or {A = Inode} o (Ok (inode_at c.args.caller.now.place old.sectors c.args.dir))) met ∙ ap (λ (w : Inode). Ok w) (sym (answered_as (permission_on c.args.cred.now t c.args.dir write_and_search 1 c.args.step) (c.in_ok-directory.ensures.each t h d)))
 
 pub ask_for_sectors-requires : goal.ask_for_sectors-requires
@@ -82,3 +83,19 @@ ask_for_sectors-requires g c = (sound_kept c.in_ok-directory.ensures.same c.requ
 pub ask_for_inode-requires : goal.ask_for_inode-requires
 ask_for_inode-requires g c =
     (sound_kept (unchanged_joined c.in_ok-directory.ensures.same c.in_ok-ask_for_sectors.ensures.same) c.requires.sound).bitmaps
+
+-- ---- the same
+pub returns-in_err-ask_for_sectors-clause-same : goal.returns-in_err-ask_for_sectors-clause-same
+returns-in_err-ask_for_sectors-clause-same g c = unchanged_joined c.in_ok-directory.ensures.same c.in_err-ask_for_sectors.ensures.same
+
+pub returns-in_err-ask_for_inode-clause-same : goal.returns-in_err-ask_for_inode-clause-same
+returns-in_err-ask_for_inode-clause-same g c =
+    unchanged_joined (unchanged_joined c.in_ok-directory.ensures.same c.in_ok-ask_for_sectors.ensures.same) c.in_err-ask_for_inode.ensures.same
+
+pub returns-in_err-check_names-clause-same : goal.returns-in_err-check_names-clause-same
+returns-in_err-check_names-clause-same g c =
+    unchanged_joined (unchanged_joined c.in_ok-directory.ensures.same c.in_ok-ask_for_sectors.ensures.same) c.in_ok-ask_for_inode.ensures.same
+
+pub returns-clause-same : goal.returns-clause-same
+returns-clause-same g c =
+    unchanged_joined (unchanged_joined c.in_ok-directory.ensures.same c.in_ok-ask_for_sectors.ensures.same) c.in_ok-ask_for_inode.ensures.same

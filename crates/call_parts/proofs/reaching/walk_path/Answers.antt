@@ -1,11 +1,14 @@
 use Rattle.fs_cred.specs.declared.refusal.Refusal.{Refusal}
 use Rattle.fs_cred.specs.declared.refusal.Refusal.TheVariants.{Failed}
 use Rattle.std.specs.Ordering.{nat_cmp}
-use Rattle.std.proofs.Common.{ap, ◌∙◌}
+use Rattle.std.proofs.Common.{Ok, Err, sym, ap, subst, ◌∙◌}
 use Rattle.fs_layout.specs.Maps.{get}
 use Rattle.fs_layout.specs.Bytes.{SectorMap}
 use Rattle.fs_model.specs.Processes.{Desks}
 use Rattle.fs_model.specs.States.{State}
+use Rattle.fs_model.specs.Trees.{Room}
+use Rattle.path_walk.specs.Answers.{IsAnswered}
+use Rattle.path_walk.specs.Walked.{walk_of}
 use Rattle.path_walk.proofs.HeldInodes.{held_inodes}
 use Rattle.path_walk.proofs.Kept.{failed_with, kept_back}
 use Rattle.call_parts.specs.Performing.{IsStateOf}
@@ -57,7 +60,9 @@ returns-in_err-found-clause-refused g c =
     (λ (e : Refusal). (s : State) → IsStateOf c.args.caller.now.place old.sectors c.args.caller.now.procs.now s
     → RefusesWalk old.disk new.disk s c.args.caller.now.pid c.args.checks c.args.form c.args.path.now e) r.0 r.1
     (λ s at. unwalked old.disk new.disk s c.args.caller.now.pid q (same_process at c.args.caller.now.pid q there) c.args.checks c.args.form c.args.path.now e c.in_ok-checks.was
-    (λ x h. same_err e x (found.checked x h)) (λ none. found.each none s.tree (state_tree at) (cwd_there at c.args.caller.now.pid q there)))
+    (λ x h. same_err e x (found.checked x h)) (λ none.
+    subst (λ (r : Room). IsAnswered old.disk new.disk (walk_of r s.tree q.cred 1 c.args.form q.cwd c.args.path.now) (Err e)) (sym at.same_room)
+    (found.each none s.tree (state_tree at) (cwd_there at c.args.caller.now.pid q there))))
 
 pub returns-clause-walked : goal.returns-clause-walked
 returns-clause-walked g c =
@@ -74,5 +79,6 @@ returns-clause-walked g c =
       found = λ s at.
           let before = kept_back (λ (m : SectorMap). IsStateOf c.args.caller.now.place m c.args.caller.now.procs.now s) found.same at in
           resolved old.disk new.disk c.in_ok-found.found (same_process before c.args.caller.now.pid q there) found.valid
-          (found.each found.valid s.tree (state_tree before) (cwd_there before c.args.caller.now.pid q there));
+          (subst (λ (r : Room). IsAnswered old.disk new.disk (walk_of r s.tree q.cred 1 c.args.form q.cwd c.args.path.now) (Ok c.in_ok-found.found)) (sym before.same_room)
+          (found.each found.valid s.tree (state_tree before) (cwd_there before c.args.caller.now.pid q there)));
     }

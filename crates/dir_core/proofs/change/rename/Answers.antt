@@ -2,6 +2,7 @@ use Rattle.std.proofs.Common.{◌≡◌, ℕ, List, None, Some, refl, ap, subst,
 use Rattle.fs_layout.specs.Maps.{name_cmp, get, with_entry, without}
 use Rattle.fs_layout.specs.Directories.{NamedInode, HasNames}
 use Rattle.fs_layout.proofs.OneSlots.{names_same}
+use Rattle.sector_txn.proofs.TransactionRuns.{store_joined}
 use Rattle.block_map.proofs.Joins.{sound_after_reads, content_after_reads}
 use Rattle.dir_core.proofs.Changing.{slots_there, slots_after_reads, directory_within, found_there, said_by_slots, added, leads_to_found, apart_renamed, names_renamed}
 use Rattle.dir_core.proofs.change.rename.Goals as goal
@@ -33,7 +34,10 @@ returns-clause-names g c = λ names to h leads.
     let at = c.in_ok-found.ensures.found h.slots (slots_there h) in
     let mid = slots_after_reads c.in_ok-found.ensures.same (slots_there h) in
     let none : get name_cmp names new_name ≡ None =
-    ap (λ (m : List (List ℕ × ℕ)). get name_cmp m new_name) (names_same old v names c.requires.directory.0 h c.requires.directory.1) ∙ c.requires.directory.2 in
+    ap (λ (m : List (List ℕ × ℕ)). get name_cmp m new_name) (names_same c.args.place.version old v names c.requires.directory.0 h c.requires.directory.1) ∙ c.requires.directory.2 in
     let same : found.inode ≡ to = leads_to_found h name found at leads in
-    subst (λ (k : ℕ). HasNames new v (with_entry name_cmp (without name_cmp names name) new_name k)) same
+    subst (λ (k : ℕ). HasNames c.args.place.version new v (with_entry name_cmp (without name_cmp names name) new_name k)) same
     (names_renamed h found.slot x y at.0 (at.1 x) none (c.in_ok-set_slot.ensures.slots h.slots mid (apart_renamed h found.slot x y at.0 (at.1 x) none)))
+
+pub returns-clause-store : goal.returns-clause-store
+returns-clause-store g c = store_joined c.in_ok-found.ensures.same.store c.in_ok-set_slot.ensures.store

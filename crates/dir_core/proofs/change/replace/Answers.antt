@@ -1,5 +1,6 @@
 use Rattle.std.proofs.Common.{Some, refl}
 use Rattle.fs_layout.specs.Directories.{NamedInode}
+use Rattle.sector_txn.proofs.TransactionRuns.{store_joined}
 use Rattle.block_map.proofs.Joins.{sound_after_reads, content_after_reads}
 use Rattle.dir_core.proofs.Changing.{slots_there, slots_after_reads, directory_within, found_there, found_name, said_by_slots, added, apart_led, names_led}
 use Rattle.dir_core.proofs.change.replace.Goals as goal
@@ -13,7 +14,12 @@ set_slot-requires-clause-sound g c = sound_after_reads c.requires.sound c.in_ok-
 pub set_slot-requires-clause-name : goal.set_slot-requires-clause-name
 set_slot-requires-clause-name g c =
     let h = c.requires.directory.1 in
-    found_name h.slots c.args.name.now c.in_ok-found.found h.each (c.in_ok-found.ensures.found h.slots (slots_there h))
+    (found_name h.slots c.args.name.now c.in_ok-found.found h.each (c.in_ok-found.ensures.found h.slots (slots_there h))).0
+
+pub set_slot-requires-clause-short : goal.set_slot-requires-clause-short
+set_slot-requires-clause-short g c =
+    let h = c.requires.directory.1 in
+    (found_name h.slots c.args.name.now c.in_ok-found.found h.each (c.in_ok-found.ensures.found h.slots (slots_there h))).1
 
 pub returns-clause-change : goal.returns-clause-change
 returns-clause-change g c = content_after_reads c.in_ok-found.ensures.same c.in_ok-set_slot.ensures.change
@@ -29,3 +35,6 @@ returns-clause-names g c = λ names h.
       λ none. found_there h.slots name h.apart (Some found) at refl (said_by_slots name h none),
       names_led h found.slot x y at.0 (at.1 x) refl (c.in_ok-set_slot.ensures.slots h.slots mid (apart_led h found.slot x y at.0 (at.1 x) refl)),
     )
+
+pub returns-clause-store : goal.returns-clause-store
+returns-clause-store g c = store_joined c.in_ok-found.ensures.same.store c.in_ok-set_slot.ensures.store

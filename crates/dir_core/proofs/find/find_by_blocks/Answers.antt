@@ -1,9 +1,12 @@
-use Rattle.std.proofs.Common.{◌≡◌, length, arith, rules, subst, ◌∙◌}
-use Rattle.dir_core.specs.Slots.{IsFoundInBlock}
+use Rattle.std.proofs.Common.{◌≡◌, ℕ, ◌*◌, ◌+◌, ◌/◌, ◌≤◌, Some, length, arith, rules, sym, ap, subst, ◌∙◌}
+use Rattle.std.specs.Int.{div_ceil}
+use Rattle.fs_layout.specs.Version.{block_slots}
+use Rattle.dir_core.specs.Slots.{IsFoundIn, IsFoundInBlock}
 use Rattle.block_map.proofs.Numbers.{at_hand_unchanged}
 use Rattle.block_map.proofs.Runs.{unchanged_joined}
 use Rattle.dir_core.proofs.Found.{absent_in_block, found_in_block}
 use Rattle.dir_core.proofs.Pieces.{slots_are}
+use Rattle.dir_core.proofs.SlotPlaces.{blocks_reach}
 use Rattle.dir_core.proofs.Scans.{within_later, block_before}
 use Rattle.dir_core.proofs.find.find_by_blocks.Goals as goal
 
@@ -17,13 +20,17 @@ loop-k-preserved g c =
     let seen = c.in_ok-found.ensures.made in
     let block = seen.block in
     let here = block_before c.loop-k.invariant.same c.args.inode.now c.loop-k.blocks.inode k block c.loop-k.invariant.inode seen.bytes in
-    let said : (length block ≡ 512) × IsFoundInBlock block c.args.name.now c.in_ok-found.found = search rules in
+    let said : (length block ≡ 512) × IsFoundInBlock c.args.version block c.args.name.now c.in_ok-found.found = search rules in
     record {
       same = unchanged_joined c.loop-k.invariant.same c.in_ok-found.ensures.same;
       inode = c.in_ok-found.ensures.inode ∙ c.loop-k.invariant.inode;
       pointers = at_hand_unchanged c.in_ok-found.ensures.same c.in_ok-found.ensures.at_hand;
-      absent = λ slots h. absent_in_block h block c.args.name.now k said.0 here (subst (IsFoundInBlock block c.args.name.now) c.in_default.is said.1) (c.loop-k.invariant.absent slots h);
+      absent = λ slots h.
+          absent_in_block h block c.args.name.now k said.0 here (subst (IsFoundInBlock c.args.version block c.args.name.now) c.in_default.is said.1) (c.loop-k.invariant.absent slots h);
     }
+
+pub returns-in-Some-clause-same : goal.returns-in-Some-clause-same
+returns-in-Some-clause-same g c = unchanged_joined c.loop-k.invariant.same c.in_ok-found.ensures.same
 
 pub returns-in-Some-clause-found : goal.returns-in-Some-clause-found
 returns-in-Some-clause-found g c = λ slots h.
@@ -31,9 +38,18 @@ returns-in-Some-clause-found g c = λ slots h.
     let seen = c.in_ok-found.ensures.made in
     let block = seen.block in
     let here = block_before c.loop-k.invariant.same c.args.inode.now c.loop-k.blocks.inode k block c.loop-k.invariant.inode seen.bytes in
-    let said : (length block ≡ 512) × IsFoundInBlock block c.args.name.now c.in_ok-found.found = search rules in
-    found_in_block h block c.args.name.now k c.in-Some.found said.0 c.requires.len.0 here (subst (IsFoundInBlock block c.args.name.now) c.in-Some.is said.1)
+    let said : (length block ≡ 512) × IsFoundInBlock c.args.version block c.args.name.now c.in_ok-found.found = search rules in
+    let is =
+    found_in_block h block c.args.name.now k c.in-Some.found said.0 c.requires.len.0 here (subst (IsFoundInBlock c.args.version block c.args.name.now) c.in-Some.is said.1) in
+    subst (λ (b : ℕ). IsFoundIn slots c.args.name.now (Some (record { slot = b * k + c.in-Some.found.slot; inode = c.in-Some.found.inode })))
+    (sym c.block_slots-block_slots.ensures) is
 
 pub returns-clause-found : goal.returns-clause-found
 returns-clause-found g c = λ slots h n d lt.
-    c.loop-k.invariant.absent slots h n d (omega (arith, c.loop-k-test.false, slots_are h, lt)) lt
+    let count : c.args.inode.now.size / c.slot_size-slot_size.result ≡ length slots =
+    ap (λ (w : ℕ). c.args.inode.now.size / w) c.slot_size-slot_size.ensures ∙ slots_are h in
+    let ends : c.div_ceil-k-end.result ≡ div_ceil (length slots) (block_slots c.args.version) =
+    c.div_ceil-k-end.ensures ∙ ap (λ (m : ℕ). div_ceil m c.block_slots-block_slots.result) count
+    ∙ ap (λ (b : ℕ). div_ceil (length slots) b) c.block_slots-block_slots.ensures in
+    let all = blocks_reach c.args.version c.loop-k.k (length slots) (subst (λ (m : ℕ). m ≤ c.loop-k.k) ends c.loop-k-test.false) in
+    c.loop-k.invariant.absent slots h n d (omega (arith, lt, all)) lt

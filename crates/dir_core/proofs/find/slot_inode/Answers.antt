@@ -7,7 +7,7 @@ use Rattle.dir_core.proofs.find.slot_inode.Goals as goal
 
 pub returns : goal.returns
 unfolding u32_of
-returns c = λ x is.
+returns c = λ version x is.
     let block = c.args.block.now in
     let rest = drop c.args.at block in
     c.read_u32.ensures

@@ -6,12 +6,12 @@ use Rattle.fs_check.proofs.acls.acls.Goals as goal
 
 pub has_good_acls-requires-clause-access : goal.has_good_acls-requires-clause-access
 has_good_acls-requires-clause-access g c =
-    acl_on_disk (g.D.Disk.state c.args.disk.now) (g.D.Disk.state c.loop-n.disk) c.args.opened.now.place c.args.opened.now.commit c.args.inodes.now c.loop-n.n _
+    acl_on_disk (g.D.Disk.state c.args.disk.now) (g.D.Disk.state c.loop-n.disk) c.args.opened.now.place c.args.inodes.now c.loop-n.n _
     c.loop-n.invariant.reads c.requires.opened c.requires.table c.requires.before c.loop-n-test.true
 
 pub has_good_acls-requires-clause-default : goal.has_good_acls-requires-clause-default
 has_good_acls-requires-clause-default g c =
-    default_acl_on_disk (g.D.Disk.state c.args.disk.now) (g.D.Disk.state c.loop-n.disk) c.args.opened.now.place c.args.opened.now.commit c.args.inodes.now c.loop-n.n _
+    default_acl_on_disk (g.D.Disk.state c.args.disk.now) (g.D.Disk.state c.loop-n.disk) c.args.opened.now.place c.args.inodes.now c.loop-n.n _
     c.loop-n.invariant.reads c.requires.opened c.requires.table c.requires.before c.loop-n-test.true
 
 pub loop-n-preserved : goal.loop-n-preserved

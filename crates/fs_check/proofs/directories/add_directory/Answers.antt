@@ -4,8 +4,8 @@ use Rattle.std.proofs.lemmas.Option.{MatchOption-at_some}
 use Rattle.fs_layout.specs.declared.inode.TheConstants.{MAX_DIRECTORY_SIZE}
 use Rattle.fs_layout.specs.declared.inode.Inode.{Inode}
 use Rattle.fs_layout.specs.declared.inode.Kind.TheVariants.{Directory}
-use Rattle.fs_layout.specs.Images.{Owns, IsData}
-use Rattle.fs_layout.specs.Directories.{HaveDistinctNames}
+use Rattle.fs_layout.specs.Images.{Owns, IsData, inode_at}
+use Rattle.fs_layout.specs.Directories.{HaveDistinctNames, slot_count}
 use Rattle.fs_model.specs.Rules.{Obeys, InData, Inodes, NamesApart}
 use Rattle.fs_check.specs.Checks.{meaning}
 use Rattle.fs_check.specs.Naming.{AreSlots, HasGoodSlots}
@@ -13,7 +13,7 @@ use Rattle.sector_disk.proofs.Moments.{reads_nothing}
 use Rattle.fs_check.proofs.Carrying.{same_error}
 use Rattle.fs_check.proofs.Tables.{table_place}
 use Rattle.fs_check.proofs.Tests.{inode_here, blank}
-use Rattle.fs_check.proofs.Tallies.{directory_size, same_naming, next_naming, has_room, adds_same, naming_same}
+use Rattle.fs_check.proofs.Tallies.{directory_size, same_naming, next_naming, few_slots, has_room, adds_same, naming_same}
 use Rattle.fs_check.proofs.directories.add_directory.Goals as goal
 
 pub returns-then-ne-clause-names : goal.returns-then-ne-clause-names
@@ -50,20 +50,18 @@ add_slots-requires-clause-room g c =
     let d = c.args.d in
     let below = c.requires.below in
     let at = table_place _ _ p d c.requires.opened.place below in
-    let on_disk = at.on_disk in
-    let small = at.small in
+    let some = at.few in
     let here = inode_here p m c.args.inodes.now d blank c.requires.table below in
     let is : (get_or c.args.inodes.now d blank).kind ≡ Directory = search rules in
     let size = directory_size p m d (c.requires.before Inodes (omega arith) d below) (sym (ap (λ (v : Inode). v.kind) here) ∙ is) in
-    let found : AreSlots m (get_or c.args.inodes.now d blank) c.in-Some.slots.items =
+    let found : AreSlots p.version m (get_or c.args.inodes.now d blank) c.in-Some.slots.items =
     (MatchOption-at_some _ _ c.in-Some.slots c.in-Some.is c.in_ok-slots.ensures.slots).1 in
     let len = found.len in
-    let same = ap (λ (v : Inode). v.size) here in
     let seen = ap length c.deref.ensures.value in
-    subst (λ (l : List ℕ). (n : ℕ) → n < length l → get_or l n 0 + length c.deref.result.now < 4294967296) (sym c.deref_mut.ensures.value) (λ n lt.
-    let room = has_room p m d c.in-Some.slots.items c.args.names.now.counts.items c.args.names.now.directories.items (omega (arith, on_disk, small))
+    subst (λ (l : List ℕ). (n : ℕ) → n < length l → get_or l n 0 + length c.deref.result.now < 18446744073709551616) (sym c.deref_mut.ensures.value) (λ n lt.
+    let room = has_room p m d c.in-Some.slots.items c.args.names.now.counts.items c.args.names.now.directories.items some
     (λ k low kind. directory_size p m k (c.requires.before Inodes (omega arith) k (omega (arith, low, below))) kind)
-    (omega (arith, len, same, size)) c.requires.names.tally n lt in
+    (let few = few_slots p.version (inode_at p m d) size in let count = ap (slot_count p.version) here in omega (arith, len, count, few)) c.requires.names.tally n lt in
     omega (arith, room, seen))
 
 pub returns-clause-test : goal.returns-clause-test
@@ -84,9 +82,9 @@ returns-clause-names g c =
     let slots = c.in-Some.slots.items in
     let here = inode_here p m c.args.inodes.now d blank c.requires.table c.requires.below in
     let is : (get_or c.args.inodes.now d blank).kind ≡ Directory = search rules in
-    let found : AreSlots m (get_or c.args.inodes.now d blank) c.in-Some.slots.items =
+    let found : AreSlots p.version m (get_or c.args.inodes.now d blank) c.in-Some.slots.items =
     (MatchOption-at_some _ _ c.in-Some.slots c.in-Some.is c.in_ok-slots.ensures.slots).1 in
-    let are = subst (λ v. AreSlots m v slots) here found in
+    let are = subst (λ v. AreSlots p.version m v slots) here found in
     let adds = adds_same d slots c.deref.result.now names.counts.items names.directories.items c.add_slots.new.counts c.add_slots.new.directories
     c.deref_mut.result.now c.deref_mut-2.result.now c.deref.ensures.value c.deref_mut.ensures.value c.deref_mut-2.ensures.value c.add_slots.ensures in
     λ t. naming_same p m (d + 1) c.add_slots.new.counts c.add_slots.new.directories _ _ c.first_repeated-names.result

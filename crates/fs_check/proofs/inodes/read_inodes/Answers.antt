@@ -24,7 +24,7 @@ loop-n-preserved g c =
     let v = c.in-Some.inode in
     let told = c.in-Some.ensures in
     let pushed = c.in_ok-push-in-Some.ensures.items in
-    let good = good_is p (meaning s0) n c.max_file_size.result c.read_table.new.table (Some v) c.max_file_size.ensures.value (here c.loop-n-test.true)
+    let good = good_is p (meaning s0) n c.read_table.new.table (Some v) (here c.loop-n-test.true)
     told.is told.allowed told.free told.top told.none in
     record {
       reads = reads_joined so_far.reads c.in_ok-read_table.ensures.passed.reads;
@@ -42,7 +42,7 @@ returns-in-None-clause-passed g c =
     let here = sector_back (g.D.Disk.state c.args.disk.now) (g.D.Disk.state c.loop-n.disk) p c.loop-n.n c.read_table.new.table so_far.reads
     c.in_ok-read_table.ensures.table in
     let told = c.in-None.ensures in
-    let bad = good_is p (meaning (g.D.Disk.state c.args.disk.now)) c.loop-n.n c.max_file_size.result c.read_table.new.table None c.max_file_size.ensures.value (here lt)
+    let bad = good_is p (meaning (g.D.Disk.state c.args.disk.now)) c.loop-n.n c.read_table.new.table None (here lt)
     told.is told.allowed told.free told.top told.none in
     record {
       reads = reads_joined so_far.reads c.in_ok-read_table.ensures.passed.reads;

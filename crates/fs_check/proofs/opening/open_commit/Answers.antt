@@ -10,12 +10,12 @@ pub read_commit-requires-clause-room : goal.read_commit-requires-clause-room
 read_commit-requires-clause-room g c = let many = many_sectors _ _ (record { place = c.args.place; is = c.requires }) in omega (arith, many)
 
 pub read_commit-requires-clause-header : goal.read_commit-requires-clause-header
-read_commit-requires-clause-header g c = has_header (g.D.Disk.state c.args.disk.now) c.args.place c.header.result c.requires c.header.ensures.value c.header.ensures.most
+read_commit-requires-clause-header g c = has_header (g.D.Disk.state c.args.disk.now) c.args.place c.requires
 
 pub returns-in-Some-clause-targets : goal.returns-in-Some-clause-targets
 returns-in-Some-clause-targets g c =
     let disk = g.D.Disk.state c.args.disk.now in
-    subst (λ found. MatchOption found (IsValidCommit disk.size (sector disk.seen) → ⊥) (λ targets. IsCommit disk.size (sector disk.seen) targets)) c.in-Some.is c.in_ok-found.ensures.commit
+    subst (λ found. MatchOption found (IsValidCommit disk.size (sector disk.seen) → ⊥) (λ targets. IsCommit disk.size (sector disk.seen) targets)) c.in-Some.is c.in_ok-area.ensures.commit
 
 pub returns-in-None-clause-passed : goal.returns-in-None-clause-passed
 returns-in-None-clause-passed g c =
@@ -24,5 +24,5 @@ returns-in-None-clause-passed g c =
       reads = c.read_commit.ensures.reads;
       reason =
           no_commit (record { place = c.args.place; is = c.requires })
-          (subst (λ found. MatchOption found (IsValidCommit disk.size (sector disk.seen) → ⊥) (λ targets. IsCommit disk.size (sector disk.seen) targets)) c.in-None.is c.in_ok-found.ensures.commit);
+          (subst (λ found. MatchOption found (IsValidCommit disk.size (sector disk.seen) → ⊥) (λ targets. IsCommit disk.size (sector disk.seen) targets)) c.in-None.is c.in_ok-area.ensures.commit);
     }

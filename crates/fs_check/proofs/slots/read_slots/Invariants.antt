@@ -1,17 +1,22 @@
-use Rattle.std.proofs.Common.{◌≡◌, ◌≢◌, ◌/◌, ◌%◌, ◌<◌, ℕ, length, get_or}
+use Rattle.std.proofs.Common.{◌≡◌, ◌≢◌, ◌%◌, ◌<◌, ℕ, length, get_or}
 use Rattle.std.specs.Prelude.{Ok}
-use Rattle.fs_layout.specs.Images.{pointer}
+use Rattle.fs_layout.specs.Version.{block_slots}
 use Rattle.fs_layout.specs.Directories.{NamedInode, slot_at, slot_of, stored_slot}
 use Rattle.sector_disk.specs.Disk.{OnlyReads}
 use Rattle.fs_check.specs.Checks.{meaning}
+use Rattle.fs_check.specs.Naming.{block_of_slot}
+use Rattle.fs_check.specs.Owning.{AreAtHand}
 use Rattle.fs_check.proofs.slots.read_slots.Given as goal
 
 abbrev pub invariant-loop-k : goal.invariant-loop-k
 invariant-loop-k g l = record {
   reads : OnlyReads (g.D.Disk.state l.fn.disk) (g.D.Disk.state l.disk);
-  block : l.k % 4 ≢ 0 → l.block ≡ meaning (g.D.Disk.state l.fn.disk) (pointer (meaning (g.D.Disk.state l.fn.disk)) l.inode (l.k / 4));
+  at_hand : AreAtHand (meaning (g.D.Disk.state l.fn.disk)) l.inode l.pointers;
+  block : l.k % block_slots l.opened.place.version ≢ 0
+      → l.block ≡ block_of_slot l.opened.place.version (meaning (g.D.Disk.state l.fn.disk)) l.inode l.k;
   len : length l.slots.items ≡ l.k;
-  valid : (j : ℕ) → j < l.k → slot_of (stored_slot (meaning (g.D.Disk.state l.fn.disk)) l.inode j)
-      ≡ Ok (slot_at (meaning (g.D.Disk.state l.fn.disk)) l.inode j);
-  each : (d : NamedInode) (j : ℕ) → j < l.k → get_or l.slots.items j d ≡ slot_at (meaning (g.D.Disk.state l.fn.disk)) l.inode j;
+  valid : (j : ℕ) → j < l.k → slot_of l.opened.place.version (stored_slot l.opened.place.version (meaning (g.D.Disk.state l.fn.disk)) l.inode j)
+      ≡ Ok (slot_at l.opened.place.version (meaning (g.D.Disk.state l.fn.disk)) l.inode j);
+  each : (d : NamedInode) (j : ℕ) → j < l.k
+      → get_or l.slots.items j d ≡ slot_at l.opened.place.version (meaning (g.D.Disk.state l.fn.disk)) l.inode j;
 }

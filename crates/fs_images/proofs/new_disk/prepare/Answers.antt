@@ -13,7 +13,7 @@ pub write-requires : goal.write-requires
 write-requires g c = omega (arith, (place_on_disk _ c.args.place.inodes c.args.place c.requires.place).least)
 
 pub write_tables-requires-clause-place : goal.write_tables-requires-clause-place
-write_tables-requires-clause-place g c = place_is_place newest _ c.args.place.inodes c.requires.place
+write_tables-requires-clause-place g c = place_is_place newest 0 _ c.args.place.inodes c.requires.place
 
 pub write_tables-requires-clause-room : goal.write_tables-requires-clause-room
 write_tables-requires-clause-room g c =

@@ -1,5 +1,6 @@
 use Rattle.std.proofs.Common.{◌≡◌, ◌<◌, ◌≤◌, ◌∙◌, length, arith}
 use Rattle.sector_disk.proofs.Moments.{adds_write, goes_on, image_or}
+use Rattle.fs_layout.proofs.Places.{after_map}
 use Rattle.fs_images.proofs.MakingMoments.{same_beside, table_more}
 use Rattle.fs_images.proofs.new_disk.write_tables.Goals as goal
 
@@ -9,7 +10,8 @@ loop-n-preserved g c =
     let n = c.loop-n.n in
     let last = g.D.Disk.state c.loop-n.disk in
     let after = g.D.Disk.state c.write.new.self in
-    let from : 128 ≤ n = c.loop-n.auto.n in
+    let first = after_map c.requires.place in
+    let from : 128 ≤ n = omega (arith, c.loop-n.auto.n, first.0) in
     let whole : length last.seen ≡ last.size = (g.met.D.Disk.seen_is_image c.loop-n.disk).size in
     let fits : n < length last.seen = omega (arith, whole, so_far.adds.size, c.loop-n-test.true, c.requires.room) in
     let put = c.in_ok-write.ensures.written.seen in

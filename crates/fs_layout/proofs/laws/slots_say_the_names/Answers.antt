@@ -13,4 +13,4 @@ pub returns-clause-read : goal.returns-clause-read
 returns-clause-read c = are_read
 
 pub returns-clause-stay : goal.returns-clause-stay
-returns-clause-stay c = λ old new v names keeps h. HasNames-kept keeps h
+returns-clause-stay c = λ version old new v names keeps h. HasNames-kept keeps h

@@ -20,7 +20,7 @@ leave-requires-clause-spare g c =
     let state = g.D.Disk.state in
     let some = c.requires.tree in
     let began = c.begin-txn.ensures in
-    begins_spare c.args.place (txn_state state c.begin-txn.result) some.0 began.room
+    begins_spare c.args.place (txn_state state c.begin-txn.result) some.0 began.header began.room
     (stored_same (ap (λ d. (state d).size) began.disk) began.map some.1.stored)
 
 pub returns-in-Ok-keep-clause-frees : goal.returns-in-Ok-keep-clause-frees

@@ -4,6 +4,7 @@ use Rattle.fs_layout.specs.Inode.{FitsInode}
 use Rattle.fs_layout.specs.InodeChanges.{Saves}
 use Rattle.fs_layout.proofs.OneAcl.{mode_small}
 use Rattle.bit_alloc.proofs.Soundness.{spare_then}
+use Rattle.sector_txn.proofs.TransactionRuns.{store_joined}
 use Rattle.inode_table.specs.Storing.{Stores}
 use Rattle.inode_table.proofs.Bits.{with_bits_fits, empty_no_link}
 use Rattle.inode_table.proofs.Made.{made_puts_1, made_puts_4, left_free, IsMade, made, through_try, too_few_for_access, too_few_for_default}
@@ -40,6 +41,11 @@ returns-in_err-default_acl-clause-full g c =
     through_try _ c.from_residual-in_err-default_acl.result c.in_err-default_acl.field-0.0 c.from_residual-in_err-default_acl.ensures
     (λ full. inr (too_few_for_default p t0.sectors t2.sectors a (option_copied c.args.default) c.content_of.result left c.content_of.ensures.content
     (c.in_err-default_acl.ensures.full full)))
+
+pub returns-in_err-write_inode-clause-store : goal.returns-in_err-write_inode-clause-store
+returns-in_err-write_inode-clause-store g c =
+    store_joined (store_joined c.in_ok-n.ensures.puts.store c.in_ok-acl.ensures.puts.store)
+    (store_joined c.in_ok-default_acl.ensures.puts.store c.in_err-write_inode.ensures.store)
 
 pub write_inode-requires-clause-fits : goal.write_inode-requires-clause-fits
 write_inode-requires-clause-fits g c =

@@ -27,6 +27,4 @@ returns-clause-acls g c = attributes_keep_acls c.args.place c.args.n c.args.inod
 
 pub returns-clause-used : goal.returns-clause-used
 returns-clause-used g c =
-    let few = c.requires.sound.consistent.place.most_inodes in
-    let below = c.requires.below in
-    attributes_keep_bit c.args.place c.args.n c.args.inode.now (g.S.Sectors.state c.args.s.now) (g.S.Sectors.state c.write_inode.new.s) c.requires.sound c.requires.below c.requires.attributes c.requires.fits c.in_ok-write_inode.ensures.saved (omega (arith, few, below))
+    attributes_keep_bit c.args.place c.args.n c.args.inode.now (g.S.Sectors.state c.args.s.now) (g.S.Sectors.state c.write_inode.new.s) c.requires.sound c.requires.below c.requires.attributes c.requires.fits c.in_ok-write_inode.ensures.saved

@@ -1,4 +1,5 @@
-use Rattle.std.proofs.Common.{◌≡◌, ℕ, [], arith, inr, subst}
+use Rattle.std.proofs.Common.{◌≡◌, ℕ, [], ap, arith, inr, subst}
+use Rattle.fs_layout.specs.Header.{log_end}
 use Rattle.sector_txn.specs.Sectors.{PutsOnly}
 use Rattle.inode_table.proofs.Tables.{inode_above, inode_on_disk, sector_saves}
 use Rattle.inode_table.proofs.Sound.{reads_and_puts}
@@ -19,4 +20,4 @@ pub get-requires-clause-part : goal.get-requires-clause-part
 get-requires-clause-part g c = inr (omega (arith, c.inode_sector-at.ensures, inode_above c.args.n c.requires.place, c.requires.header))
 
 pub put-requires-clause-part : goal.put-requires-clause-part
-put-requires-clause-part g c = omega (arith, c.inode_sector-at.ensures, inode_above c.args.n c.requires.place, c.requires.header, c.in_ok-get.ensures.same.store.header)
+put-requires-clause-part g c = omega (arith, c.inode_sector-at.ensures, inode_above c.args.n c.requires.place, c.requires.header, ap log_end c.in_ok-get.ensures.same.store.header)

@@ -15,7 +15,7 @@ pub returns-clause-puts : goal.returns-clause-puts
 returns-clause-puts g c =
     let p = c.args.place in
     let free = c.in_ok-to.ensures.taken.free in
-    changes_joined (puts_bitmap p c.in_ok-to.to (has_bit c.requires.bitmaps.place c.in_ok-to.to free.1) c.in_ok-to.ensures.puts)
+    changes_joined (puts_bitmap p c.in_ok-to.to c.requires.bitmaps.place (has_bit c.requires.bitmaps.place c.in_ok-to.to free.1) c.in_ok-to.ensures.puts)
     (puts_data p (bitmaps p) c.put-2.ensures (free.0, free.1))
 
 pub returns-clause-bitmaps : goal.returns-clause-bitmaps

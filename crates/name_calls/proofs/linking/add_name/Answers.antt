@@ -2,6 +2,7 @@ use Rattle.std.proofs.Common.{◌≢◌, ◌+◌, sym, ap, subst, ◌∙◌}
 use Rattle.sector_txn.proofs.TransactionRuns.{store_joined}
 use Rattle.fs_layout.specs.declared.inode.Inode.{Inode}
 use Rattle.fs_layout.specs.declared.inode.Kind.TheVariants as kinds
+use Rattle.call_parts.proofs.Refuses.{fails_later}
 use Rattle.name_calls.proofs.Linkings.{target_below, target_used, dir_same, dir_room, link_holds}
 use Rattle.name_calls.proofs.linking.add_name.Goals as goal
 
@@ -28,6 +29,10 @@ name_inode-requires-clause-room g c =
 
 pub returns-in_err-name_inode-clause-store : goal.returns-in_err-name_inode-clause-store
 returns-in_err-name_inode-clause-store g c = store_joined c.in_ok-set_names.ensures.store c.in_err-name_inode.ensures.store
+
+pub returns-in_err-name_inode-clause-fault : goal.returns-in_err-name_inode-clause-fault
+returns-in_err-name_inode-clause-fault g c =
+    fails_later (g.S.Sectors.state c.name_inode.new.s).disk _ _ c.from_residual-in_err-name_inode.ensures c.in_ok-set_names.ensures.store c.in_err-name_inode.ensures.err
 
 pub returns-clause-store : goal.returns-clause-store
 returns-clause-store g c = store_joined c.in_ok-set_names.ensures.store c.in_ok-name_inode.ensures.store

@@ -23,7 +23,7 @@ name_inode-requires-clause-room g c =
 
 pub name_inode-requires-clause-spare : goal.name_inode-requires-clause-spare
 name_inode-requires-clause-spare g c =
-    spare_unchanged c.args.place 3 (g.S.Sectors.state c.args.s.now) (g.S.Sectors.state c.load_inode.new.s) c.requires.spare c.in_ok-directory.ensures.same
+    spare_unchanged c.args.place 4 (g.S.Sectors.state c.args.s.now) (g.S.Sectors.state c.load_inode.new.s) c.requires.spare c.in_ok-directory.ensures.same
 
 pub returns-in_err-name_inode-clause-store : goal.returns-in_err-name_inode-clause-store
 returns-in_err-name_inode-clause-store g c = store_joined c.in_ok-directory.ensures.same.store c.in_err-name_inode.ensures.store
@@ -35,7 +35,7 @@ pub returns-clause-sound : goal.returns-clause-sound
 returns-clause-sound g c = c.in_ok-name_inode.ensures.sound
 
 pub returns-clause-taken : goal.returns-clause-taken
-returns-clause-taken g c = taken_after c.args.place 3 (g.S.Sectors.state c.name_inode.new.s) c.in_ok-directory.ensures.same c.in_ok-name_inode.ensures.taken
+returns-clause-taken g c = taken_after c.args.place 4 (g.S.Sectors.state c.name_inode.new.s) c.in_ok-directory.ensures.same c.in_ok-name_inode.ensures.taken
 
 pub returns-clause-leads : goal.returns-clause-leads
 returns-clause-leads g c =

@@ -1,3 +1,4 @@
+use Rattle.sector_txn.proofs.TransactionRuns.{store_joined}
 use Rattle.bit_alloc.proofs.Transactions.{puts_after}
 use Rattle.path_walk.proofs.Kept.{sound_kept}
 use Rattle.call_parts.proofs.Removed.{names_changed, fails_to_change}
@@ -5,6 +6,9 @@ use Rattle.name_calls.proofs.moving.lead_name.Goals as goal
 
 pub replace-requires-clause-sound : goal.replace-requires-clause-sound
 replace-requires-clause-sound g c = sound_kept c.in_ok-directory.ensures.same c.requires.sound
+
+pub returns-in-Ok-clause-store : goal.returns-in-Ok-clause-store
+returns-in-Ok-clause-store g c = store_joined c.in_ok-directory.ensures.same.store c.in-Ok.ensures.store
 
 pub returns-in-Ok-clause-sound : goal.returns-in-Ok-clause-sound
 returns-in-Ok-clause-sound g c = c.in-Ok.ensures.change.sound

@@ -21,9 +21,9 @@ rename_here-requires-clause-named g c =
     let old = g.S.Sectors.state c.args.s.now in
     let f = c.args.first.now in
     let none = is_nothing c.args.second.now.ino c.is_none.result c.is_none.ensures c.if-is_none.true in
-    subst (λ (q : List ℕ). (names : List (List ℕ × ℕ)) × HasNames old.sectors (inode_at p old.sectors f.dir) names
+    subst (λ (q : List ℕ). (names : List (List ℕ × ℕ)) × HasNames p.version old.sectors (inode_at p old.sectors f.dir) names
     × (get name_cmp names q ≢ None) × (get name_cmp names c.bytes-to_name.result.now ≡ None)) (sym c.bytes-name.ensures.all)
-    (subst (λ (q : List ℕ). (names : List (List ℕ × ℕ)) × HasNames old.sectors (inode_at p old.sectors f.dir) names
+    (subst (λ (q : List ℕ). (names : List (List ℕ × ℕ)) × HasNames p.version old.sectors (inode_at p old.sectors f.dir) names
     × (get name_cmp names f.name ≢ None) × (get name_cmp names q ≡ None)) (sym c.bytes-to_name.ensures.all)
     (named_here old x.2 x.3 c.if-first-second.true none))
 
@@ -50,7 +50,7 @@ pub remove_name-requires-clause-named : goal.remove_name-requires-clause-named
 remove_name-requires-clause-named g c =
     let x = c.requires.may in
     let old = g.S.Sectors.state c.args.s.now in
-    subst (λ (q : List ℕ). (names : List (List ℕ × ℕ)) × HasNames old.sectors (inode_at c.args.place old.sectors c.args.first.now.dir) names
+    subst (λ (q : List ℕ). (names : List (List ℕ × ℕ)) × HasNames c.args.place.version old.sectors (inode_at c.args.place old.sectors c.args.first.now.dir) names
     × (get name_cmp names q ≢ None)) (sym c.bytes-name.ensures.all) (named_first old x.2 x.3)
 
 pub give_name-requires-clause-may : goal.give_name-requires-clause-may

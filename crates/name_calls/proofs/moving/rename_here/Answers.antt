@@ -4,6 +4,7 @@ use Rattle.fs_layout.specs.Bytes.{SectorMap}
 use Rattle.fs_layout.specs.Directories.{HasNames}
 use Rattle.fs_layout.specs.Maps.{name_cmp, get}
 use Rattle.fs_layout.proofs.OneSlots.{names_same}
+use Rattle.sector_txn.proofs.TransactionRuns.{store_joined}
 use Rattle.bit_alloc.proofs.Transactions.{puts_after}
 use Rattle.path_walk.proofs.Kept.{kept, sound_kept}
 use Rattle.call_parts.proofs.Removed.{names_changed, fails_to_change}
@@ -17,10 +18,13 @@ rename-requires-clause-directory g c =
     let named = c.requires.named in
     let old = g.S.Sectors.state c.args.s.now in (
       named.0,
-      kept (λ (m : SectorMap). HasNames m c.in_ok-directory.directory named.0) c.in_ok-directory.ensures.same
-          (subst (λ (v : Inode). HasNames old.sectors v named.0) (sym c.in_ok-directory.ensures.found) named.1),
+      kept (λ (m : SectorMap). HasNames c.args.place.version m c.in_ok-directory.directory named.0) c.in_ok-directory.ensures.same
+          (subst (λ (v : Inode). HasNames c.args.place.version old.sectors v named.0) (sym c.in_ok-directory.ensures.found) named.1),
       named.3,
     )
+
+pub returns-in-Ok-clause-store : goal.returns-in-Ok-clause-store
+returns-in-Ok-clause-store g c = store_joined c.in_ok-directory.ensures.same.store c.in-Ok.ensures.store
 
 pub returns-in-Ok-clause-sound : goal.returns-in-Ok-clause-sound
 returns-in-Ok-clause-sound g c = c.in-Ok.ensures.change.sound
@@ -34,11 +38,11 @@ returns-in-Ok-clause-renames g c = λ names n has leads.
     let mid = g.S.Sectors.state c.load_inode.new.s in
     let same = c.in_ok-directory.ensures.same in
     let found = c.in_ok-directory.ensures.found in
-    let there = kept (λ (m : SectorMap). HasNames m c.in_ok-directory.directory names) same (subst (λ (v : Inode). HasNames old.sectors v names) (sym found) has) in
+    let there = kept (λ (m : SectorMap). HasNames c.args.place.version m c.in_ok-directory.directory names) same (subst (λ (v : Inode). HasNames c.args.place.version old.sectors v names) (sym found) has) in
     names_changed same found c.in-Ok.ensures.change
     (λ all h.
     c.in-Ok.ensures.names all n h
-    (ap (λ ns. get name_cmp ns c.args.name.now) (names_same mid.sectors c.in_ok-directory.directory all names h there) ∙ leads))
+    (ap (λ ns. get name_cmp ns c.args.name.now) (names_same c.args.place.version mid.sectors c.in_ok-directory.directory all names h there) ∙ leads))
 
 pub returns-in-Err-clause-fault : goal.returns-in-Err-clause-fault
 returns-in-Err-clause-fault g c =

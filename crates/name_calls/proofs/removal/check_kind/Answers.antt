@@ -11,13 +11,13 @@ use Rattle.name_calls.proofs.RemovalAsked.{body_kind_is}
 use Rattle.name_calls.proofs.removal.check_kind.Goals as goal
 
 pub returns-in-NoDirectory : goal.returns-in-NoDirectory
-returns-in-NoDirectory c = λ image b h.
+returns-in-NoDirectory c = λ version image b h.
     c.check_no_directory.ensures
-    ∙ ap (λ (d : Bool). checked (refuse EISDIR d)) (body_kind_is image c.args.inode.now b h)
+    ∙ ap (λ (d : Bool). checked (refuse EISDIR d)) (body_kind_is version image c.args.inode.now b h)
     ∙ ap checked (sym (or_else-none (refuse EISDIR (is_directory b))))
     ∙ ap (λ (w : Target). checked (first_of (kind_asked w b (is_in_use c.args.procs.now c.args.n)))) (sym c.in-NoDirectory.is)
 
 pub returns-in-Directory : goal.returns-in-Directory
-returns-in-Directory c = λ image b h.
-    c.check_directory.ensures image b h
+returns-in-Directory c = λ version image b h.
+    c.check_directory.ensures version image b h
     ∙ ap (λ (w : Target). checked (first_of (kind_asked w b (is_in_use c.args.procs.now c.args.n)))) (sym c.in-Directory.is)

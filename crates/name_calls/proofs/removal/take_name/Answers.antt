@@ -5,6 +5,7 @@ use Rattle.fs_layout.specs.Images.{inode_at}
 use Rattle.fs_model.specs.Processes.{is_open}
 use Rattle.fs_model.proofs.OneNode.{body_not_free}
 use Rattle.sector_txn.proofs.TransactionRuns.{store_joined}
+use Rattle.call_parts.proofs.Refuses.{fails_later}
 use Rattle.name_calls.proofs.Droppings.{lost_super}
 use Rattle.name_calls.proofs.Takings.{dir_below, is_number, named_there, target_same, target_held, target_named, taken_holds}
 use Rattle.name_calls.proofs.removal.take_name.Goals as goal
@@ -27,7 +28,7 @@ lose_name-requires-clause-used g c =
     let mid = g.S.Sectors.state c.remove_name.new.s in
     let removes = c.in_ok-remove_name.ensures.removes in
     subst (λ (v : Inode). v.kind ≢ kinds.Free) (sym (c.requires.inode ∙ sym (target_same old x.1 x.2 removes)))
-    (λ e. body_not_free mid.sectors (inode_at c.args.place mid.sectors c.args.n) x.2.target.body (target_held old x.1 x.2 removes).body e)
+    (λ e. body_not_free c.args.place.version mid.sectors (inode_at c.args.place mid.sectors c.args.n) x.2.target.body (target_held old x.1 x.2 removes).body e)
 
 pub lose_name-requires-clause-number : goal.lose_name-requires-clause-number
 lose_name-requires-clause-number g c = let x = c.requires.may in is_number (g.S.Sectors.state c.args.s.now) x.1 x.2
@@ -40,6 +41,11 @@ lose_name-requires-clause-named g c =
 
 pub returns-in_err-lose_name-clause-store : goal.returns-in_err-lose_name-clause-store
 returns-in_err-lose_name-clause-store g c = store_joined c.in_ok-remove_name.ensures.store c.in_err-lose_name.ensures.store
+
+pub returns-in_err-lose_name-clause-fault : goal.returns-in_err-lose_name-clause-fault
+returns-in_err-lose_name-clause-fault g c =
+    fails_later (g.S.Sectors.state c.lose_name.new.s).disk _ _ c.from_residual-in_err-lose_name.ensures c.in_ok-remove_name.ensures.store
+    c.in_err-lose_name.ensures.fault
 
 pub returns-clause-store : goal.returns-clause-store
 returns-clause-store g c = store_joined c.in_ok-remove_name.ensures.store c.in_ok-lose_name.ensures.store

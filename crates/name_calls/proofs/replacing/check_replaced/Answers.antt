@@ -20,7 +20,7 @@ returns-in_err-check_directory c = λ p map t g h there is.
     let kind : c.in-Some.inode.kind ≡ kinds.Directory = search rules in
     let x = there_body h g there c.args.procs.now c.in-Some.n at.0 c.in-Some.inode at.1 in
     is_err c.from_residual.result c.in_err-check_directory.field-0.0 r.0 r.1
-    ∙ c.in_err-check_directory.ensures map x.node.body x.holds.body
+    ∙ c.in_err-check_directory.ensures p.version map x.node.body x.holds.body
     ∙ ap checked (directory_replaced h g there c.args.procs.now c.in-Some.n at.0 c.in-Some.inode at.1 kind)
 
 pub returns : goal.returns
@@ -28,5 +28,5 @@ returns c = λ p map t g h there is.
     let at = there_some p map g.ino c.in-Some.n c.in-Some.inode (sym c.in-Some.is ∙ is) in
     let kind : c.in-Some.inode.kind ≡ kinds.Directory = search rules in
     let x = there_body h g there c.args.procs.now c.in-Some.n at.0 c.in-Some.inode at.1 in
-    c.in_ok-check_directory.ensures map x.node.body x.holds.body
+    c.in_ok-check_directory.ensures p.version map x.node.body x.holds.body
     ∙ ap checked (directory_replaced h g there c.args.procs.now c.in-Some.n at.0 c.in-Some.inode at.1 kind)

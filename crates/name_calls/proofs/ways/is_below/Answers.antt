@@ -48,6 +48,9 @@ loop-at-preserved g c =
           );
     }
 
+pub returns-in_err-at-clause-same : goal.returns-in_err-at-clause-same
+returns-in_err-at-clause-same g c = unchanged_joined c.loop-at.invariant.same c.in_err-at.ensures.same
+
 pub returns-clause-each : goal.returns-clause-each
 returns-clause-each g c = λ t h d.
     let at = c.loop-at.at in

@@ -41,7 +41,7 @@ returns-in-Err-clause-err g c = inr (refl, c.in-Err.ensures.cause.fault)
 pub returns-in-Ok-clause-each : goal.returns-in-Ok-clause-each
 returns-in-Ok-clause-each g c = λ t h d.
     let image = (g.S.Sectors.state c.args.s.now).sectors in
-    let names = subst (λ (v : Inode). HasNames image v (names_in d.node.body)) (sym c.requires.inode) (held_names h c.args.n d) in
+    let names = subst (λ (v : Inode). HasNames c.args.place.version image v (names_in d.node.body)) (sym c.requires.inode) (held_names h c.args.n d) in
     ap (λ (o : Option ℕ). Ok o)
     (name_is t c.args.n (names_in d.node.body) c.args.name.now (sym c.is_dot.ensures ∙ c.if-is_dot.false) (sym c.is_dot_dot.ensures ∙ c.if-is_dot_dot.false)
     ∙ sym (c.in-Ok.ensures.found (names_in d.node.body) names))

@@ -1,4 +1,5 @@
 use Rattle.std.proofs.Common.{◌≡◌, ◌+◌, ◌*◌}
+use Rattle.fs_model.specs.Stands.{room_of}
 use Rattle.fs_model.specs.Trees.{Tree}
 use Rattle.sector_txn.specs.Sectors.{IsUnchanged}
 use Rattle.path_walk.specs.HeldTrees.{HoldsTree, IsThere}
@@ -12,7 +13,7 @@ invariant-loop-walker g l = record {
   at : IsAt l.place (g.S.Sectors.state l.fn.s).sectors l.walker;
   room : HasRoom l.walker;
   each : (t : Tree) → HoldsTree l.place (g.S.Sectors.state l.fn.s).sectors t → IsThere t l.cwd
-      → (walk_of t l.cred l.number l.form l.cwd l.path ≡ stage_of t l.cred l.form l.follow l.walker (names_ahead l.walker)) × IsThere t l.walker.here;
+      → (walk_of (room_of l.place) t l.cred l.number l.form l.cwd l.path ≡ stage_of (room_of l.place) t l.cred l.form l.follow l.walker (names_ahead l.walker)) × IsThere t l.walker.here;
 }
 
 abbrev pub decreases-loop-walker : goal.decreases-loop-walker

@@ -1,41 +1,61 @@
-use Rattle.std.proofs.Common.{ℕ, [], subst}
+use Rattle.std.proofs.Common.{◌≡◌, ◌<◌, ℕ, length, sym, ◌∙◌, ap, subst, arith}
+use Rattle.std.proofs.lemmas.Bool.{eqb-true}
+use Rattle.redo_journal.proofs.Entries.{length-targets}
 use Rattle.std.proofs.lemmas.Result.{on_ok_weaker}
-use Rattle.sector_disk.specs.Disk.{DiskState, Image, IsImageOr}
+use Rattle.fs_layout.specs.Header.{header_of}
+use Rattle.sector_disk.specs.Disk.{DiskState, Image, IsImageOr, sector}
 use Rattle.sector_disk.proofs.Moments.{adds_narrowed, goes_on, image_or, joined, started, weaker}
-use Rattle.redo_journal.specs.States.{HasHeader, InLog, IsIdle}
+use Rattle.redo_journal.specs.States.{HasHeader, HasNext, InLog, IsReady}
 use Rattle.redo_journal.specs.Meaning.{ReadsAs, data_of}
-use Rattle.redo_journal.proofs.Meaning.{adds_joined, log_keeps, logged_from, or_joined, rest_reads}
+use Rattle.redo_journal.proofs.Meaning.{adds_joined, log_keeps, logged_from, logged_others, next_same, nothing_logged, nothing_valid, or_joined, others_low, ready_reads}
 use Rattle.redo_journal.proofs.commit.log_batch.Goals as goal
 
 -- images while header and log are written read as before
-keeps : (header : ℕ) (disk : DiskState) → IsIdle disk → HasHeader header disk → (image : Image) → IsImageOr (InLog header) disk image → ReadsAs disk.size (data_of disk) image
-keeps header disk idle has image is = log_keeps disk idle image (subst (λ h. IsImageOr (InLog h) disk image) has.is is)
+keeps : (header area : ℕ) (disk : DiskState) → IsReady disk → HasHeader header disk → HasNext area disk → (image : Image) → IsImageOr (InLog header area) disk image → ReadsAs disk.size (data_of disk) image
+keeps header area disk ready has next image is =
+    log_keeps disk ready image (subst (λ (a : ℕ). IsImageOr (InLog (header_of (sector disk.seen 0)) a) disk image) next (subst (λ (h : ℕ). IsImageOr (InLog h area) disk image) has.is is))
 
 pub returns-in_err-write_header-clause-any_moment : goal.returns-in_err-write_header-clause-any_moment
 returns-in_err-write_header-clause-any_moment g c =
-    weaker (keeps c.args.header (g.D.Disk.state c.args.disk.now) c.requires.idle c.requires.header) c.write_header.ensures.any_moment
+    weaker (keeps c.args.header c.args.area (g.D.Disk.state c.args.disk.now) c.requires.ready c.requires.header c.requires.next) c.write_header.ensures.any_moment
 
 pub returns-in_err-write_log-clause-any_moment : goal.returns-in_err-write_log-clause-any_moment
 returns-in_err-write_log-clause-any_moment g c =
-    let keep = keeps c.args.header (g.D.Disk.state c.args.disk.now) c.requires.idle c.requires.header in
+    let keep = keeps c.args.header c.args.area (g.D.Disk.state c.args.disk.now) c.requires.ready c.requires.header c.requires.next in
     joined (weaker keep c.write_header.ensures.any_moment) (weaker (λ image is. keep image (or_joined c.write_header.ensures.adds image is)) c.write_log.ensures.any_moment)
 
 pub returns-clause-any_moment : goal.returns-clause-any_moment
 returns-clause-any_moment g c =
-    let keep = keeps c.args.header (g.D.Disk.state c.args.disk.now) c.requires.idle c.requires.header in
+    let keep = keeps c.args.header c.args.area (g.D.Disk.state c.args.disk.now) c.requires.ready c.requires.header c.requires.next in
     let adds = adds_narrowed (adds_joined c.write_header.ensures.adds c.write_log.ensures.adds) c.sync.ensures.changes in
     goes_on (joined (weaker keep c.write_header.ensures.any_moment) (weaker (λ image is. keep image (or_joined c.write_header.ensures.adds image is)) c.write_log.ensures.any_moment)) c.sync.ensures.time
     (λ image is. keep image (image_or adds image is))
 
 pub returns-then-is_empty-clause-any_moment : goal.returns-then-is_empty-clause-any_moment
-returns-then-is_empty-clause-any_moment g c = started (g.met.D.Disk.only_now c.args.disk.now) (rest_reads [] (g.D.Disk.state c.args.disk.now) c.requires.idle)
+returns-then-is_empty-clause-any_moment g c = started (g.met.D.Disk.only_now c.args.disk.now) (ready_reads (g.D.Disk.state c.args.disk.now) c.requires.ready)
 
 pub returns-clause-logged : goal.returns-clause-logged
 returns-clause-logged g c =
     let state = g.D.Disk.state in
     let adds = adds_narrowed (adds_joined c.write_header.ensures.adds c.write_log.ensures.adds) c.sync.ensures.changes in
     on_ok_weaker c.sync.result
-    (logged_from c.args.batch.now c.args.header (state c.args.disk.now) (state c.write_header.new.disk) (state c.write_log.new.disk) (state c.sync.new.self) c.requires.idle c.requires.header c.requires.few
-    c.sectors.ensures.batch c.requires.on_disk adds (g.met.D.Disk.seen_is_image c.sync.new.self) c.in_ok-write_header.ensures.written c.write_log.ensures.below c.in_ok-write_log.ensures.written
+    (logged_from c.args.batch.now c.args.header c.args.area (state c.args.disk.now) (state c.write_header.new.disk) (state c.write_log.new.disk) (state c.sync.new.self) c.requires.ready c.requires.header c.requires.next c.requires.few
+    c.sectors.ensures.batch c.requires.on_disk adds.size (g.met.D.Disk.seen_is_image c.sync.new.self).size c.in_ok-write_header.ensures.written c.write_header.ensures.others c.write_log.ensures.others c.in_ok-write_log.ensures.written
     c.sync.ensures.changes.seen)
     c.sync.ensures.stable
+
+pub returns-clause-next : goal.returns-clause-next
+returns-clause-next g c =
+    let state = g.D.Disk.state in
+    let old = state c.args.disk.now in
+    let logged = state c.write_log.new.disk in
+    let others = logged_others c.args.header c.args.area (length c.args.batch.now) old.seen (state c.write_header.new.disk).seen logged.seen c.requires.few c.write_header.ensures.others c.write_log.ensures.others in
+    let seen = c.sync.ensures.changes.seen in
+    let same : (n : ℕ) → n < 2 → sector (state c.sync.new.self).seen n ≡ sector old.seen n = λ n low. ap (λ (l : Image). sector l n) seen ∙ others_low c.args.header c.args.area old.seen logged.seen others n low in
+    on_ok_weaker c.sync.result (λ _. c.requires.next ∙ sym (next_same old.seen (state c.sync.new.self).seen (same 0 (omega arith)) (same 1 (omega arith)))) c.sync.ensures.stable
+
+pub returns-then-is_empty-clause-logged : goal.returns-then-is_empty-clause-logged
+returns-then-is_empty-clause-logged g c =
+    let none : length c.args.batch.now ≡ 0 =
+    omega (arith, eqb-true (length c.sectors.result.now) 0 (sym c.is_empty.ensures ∙ c.if-is_empty.true), ap length c.sectors.ensures.sectors, length-targets c.args.batch.now) in
+    nothing_logged c.args.batch.now (g.D.Disk.state c.args.disk.now) c.requires.ready none (nothing_valid c.args.batch.now _ _ none)

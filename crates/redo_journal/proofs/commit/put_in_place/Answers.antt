@@ -3,15 +3,15 @@ use Rattle.std.proofs.lemmas.Result.{on_ok_weaker}
 use Rattle.sector_disk.proofs.Moments.{adds_narrowed, goes_on, image_or, weaker}
 use Rattle.redo_journal.specs.Batch.{targets}
 use Rattle.redo_journal.proofs.Meaning.{targets_keep, installed_from, batch_replayed}
-use Rattle.redo_journal.specs.States.{header_at, HoldsTargets}
+use Rattle.redo_journal.specs.States.{log_at, HoldsTargets}
 use Rattle.redo_journal.proofs.commit.put_in_place.Goals as goal
 
 pub returns-in_err-write_targets-clause-any_moment : goal.returns-in_err-write_targets-clause-any_moment
-returns-in_err-write_targets-clause-any_moment g c = weaker (targets_keep (targets c.args.batch.now) (g.D.Disk.state c.args.disk.now) c.requires.at_rest) c.write_targets.ensures.any_moment
+returns-in_err-write_targets-clause-any_moment g c = weaker (targets_keep (targets c.args.batch.now) (g.D.Disk.state c.args.disk.now) c.requires.rest) c.write_targets.ensures.any_moment
 
 pub returns-clause-any_moment : goal.returns-clause-any_moment
 returns-clause-any_moment g c =
-    let keep = targets_keep (targets c.args.batch.now) (g.D.Disk.state c.args.disk.now) c.requires.at_rest in
+    let keep = targets_keep (targets c.args.batch.now) (g.D.Disk.state c.args.disk.now) c.requires.rest in
     let adds = adds_narrowed c.write_targets.ensures.adds c.sync.ensures.changes in
     goes_on (weaker keep c.write_targets.ensures.any_moment) c.sync.ensures.time (λ image is. keep image (image_or adds image is))
 
@@ -25,5 +25,5 @@ returns-clause-installed g c =
     let image = image_or adds after.seen (g.met.D.Disk.seen_is_image c.sync.new.self) in
     let in_place = subst (HoldsTargets entries) (sym changes.seen) c.in_ok-write_targets.ensures.written in
     on_ok_weaker c.sync.result
-    (installed_from (targets entries) before after c.requires.at_rest image adds.size (batch_replayed (header_at before.seen) entries before.seen after.seen c.requires.log in_place))
+    (installed_from (targets entries) before after c.requires.rest image adds.size (batch_replayed (log_at before.seen) entries before.seen after.seen c.requires.log in_place))
     c.sync.ensures.stable

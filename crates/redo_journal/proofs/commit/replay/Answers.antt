@@ -1,9 +1,10 @@
-use Rattle.std.proofs.Common.{sym, subst}
+use Rattle.std.proofs.Common.{ℕ, ◌+◌, sym, subst}
 use Rattle.std.proofs.lemmas.Result.{on_ok_weaker}
+use Rattle.fs_layout.specs.Header.{area_start}
 use Rattle.sector_disk.specs.Disk.{sector}
 use Rattle.sector_disk.proofs.Moments.{adds_narrowed, goes_on, image_or, weaker}
 use Rattle.redo_journal.proofs.Meaning.{targets_keep, installed_from}
-use Rattle.redo_journal.specs.States.{header_at, HasReplayed}
+use Rattle.redo_journal.specs.States.{log_at, HasReplayed}
 use Rattle.redo_journal.proofs.commit.replay.Goals as goal
 
 pub returns-in_err-copy_log-clause-any_moment : goal.returns-in_err-copy_log-clause-any_moment
@@ -23,7 +24,7 @@ returns-clause-installed g c =
     let changes = c.sync.ensures.changes in
     let adds = adds_narrowed c.copy_log.ensures.adds changes in
     let image = image_or adds after.seen (g.met.D.Disk.seen_is_image c.sync.new.self) in
-    let is = c.requires.header.is in
-    let written = subst (λ h. HasReplayed h sectors (sector before.seen) (g.D.Disk.state c.copy_log.new.disk).seen) is c.in_ok-copy_log.ensures.written in
-    let in_place = subst (HasReplayed (header_at before.seen) sectors (sector before.seen)) (sym changes.seen) written in
+    let written : HasReplayed (log_at before.seen) sectors (sector before.seen) (g.D.Disk.state c.copy_log.new.disk).seen =
+    subst (λ (n : ℕ). HasReplayed n sectors (sector before.seen) (g.D.Disk.state c.copy_log.new.disk).seen) (λ j. area_start (c.requires.header.is j) (c.requires.area j) + c.requires.header.is j) c.in_ok-copy_log.ensures.written in
+    let in_place = subst (HasReplayed (log_at before.seen) sectors (sector before.seen)) (sym changes.seen) written in
     on_ok_weaker c.sync.result (installed_from sectors before after c.requires.rest image adds.size in_place) c.sync.ensures.stable

@@ -15,11 +15,12 @@ loop-at-preserved g c =
     let len : length c.loop-at.commit ≡ length c.args.counted = so_far.count in
     record {
       few = so_far.few;
+      most = so_far.most;
       room = so_far.room;
       count = here.count ∙ so_far.count;
       first = λ i low. here.before i (omega (arith, low)) ∙ so_far.first i low;
       more =
-          header_read (length c.args.counted) at c.loop-at.commit c.read_header.new.commit first.seen here.before so_far.more
-          (λ k low lt. c.in_ok-read_header.ensures.read k low (omega (arith, lt, len)) ∙ ap (λ (l : Image). u32_of (sector l (2 + at)) (4 * k)) seen);
+          header_read c.args.from (length c.args.counted) at c.loop-at.commit c.read_header.new.commit first.seen here.before so_far.more
+          (λ k low lt. c.in_ok-read_header.ensures.read k low (omega (arith, lt, len)) ∙ ap (λ (l : Image). u32_of (sector l (c.args.from + at)) (4 * k)) seen);
       reads = reads_more so_far.reads here.same here.time here.cause.later here.quiet (g.met.D.Disk.counts_now c.loop-at.disk);
     }

@@ -1,6 +1,8 @@
 use Rattle.std.proofs.Common.{◌≡◌, ◌<◌, ◌+◌, ◌∙◌, [], length, get_or, set, arith, ap, get_or-set_other}
 use Rattle.sector_disk.specs.Disk.{Image, sector}
 use Rattle.sector_disk.proofs.Moments.{adds_write, adds_narrowed, goes_on, image_or}
+use Rattle.fs_layout.specs.Header.{area_start}
+use Rattle.fs_layout.proofs.Targets.{area_room}
 use Rattle.redo_journal.proofs.Entries.{apart_at, in_at, range_at}
 use Rattle.redo_journal.proofs.Writing.{written_more}
 use Rattle.redo_journal.proofs.steps.copy_log.Goals as goal
@@ -26,8 +28,10 @@ loop-target-preserved g c =
     let range = range_at header first.size sectors so_far.valid i lt in
     let whole : length last.seen ≡ last.size = (g.met.D.Disk.seen_is_image c.loop-target.disk).size in
     let fits : get_or sectors i 0 < length last.seen = omega (arith, whole, so_far.adds.size, range.1) in
-    let content : c.read.new.to ≡ sector first.seen (2 + header + i) =
-    c.in_ok-read.ensures.content ∙ so_far.low c.loop-target.from (omega (arith, so_far.from, lt, few)) ∙ ap (sector first.seen) so_far.from in
+    let begin = area_start header c.args.area in
+    let room = area_room header c.args.area in
+    let content : c.read.new.to ≡ sector first.seen (begin + header + i) =
+    c.in_ok-read.ensures.content ∙ so_far.low c.loop-target.from (omega (arith, so_far.from, lt, few, room.1)) ∙ ap (sector first.seen) so_far.from in
     let put : after.seen ≡ set last.seen (get_or sectors i 0) c.read.new.to =
     c.in_ok-write.ensures.written.seen ∙ ap (λ (l : Image). set l (get_or sectors i 0) c.read.new.to) c.read.ensures.same.narrowed.seen in
     let read = adds_narrowed so_far.adds c.read.ensures.same.narrowed in
@@ -41,7 +45,7 @@ loop-target-preserved g c =
           ∙ get_or-set_other last.seen (get_or sectors i 0) n c.read.new.to [] (λ (e : n ≡ get_or sectors i 0). omega (arith, low, e, range.0))
           ∙ so_far.low n low;
       written =
-          written_more (λ k. get_or sectors k 0) (λ k. sector first.seen (2 + header + k)) last.seen after.seen i fits
+          written_more (λ k. get_or sectors k 0) (λ k. sector first.seen (begin + header + k)) last.seen after.seen i fits
           (put ∙ ap (set last.seen (get_or sectors i 0)) content)
           (λ k low same. apart_at sectors so_far.valid.apart k i low lt same) so_far.written;
       adds = adds;

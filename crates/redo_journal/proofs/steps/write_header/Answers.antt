@@ -1,8 +1,10 @@
-use Rattle.std.proofs.Common.{◌≡◌, ◌<◌, ◌+◌, ◌*◌, ◌∙◌, ℕ, List, length, get_or, arith, ap}
+use Rattle.std.proofs.Common.{◌≡◌, ◌<◌, ◌+◌, ◌*◌, ◌∙◌, ℕ, List, length, get_or, arith, ap, set}
 use Rattle.sector_disk.proofs.Moments.{adds_write, goes_on, image_or}
+use Rattle.fs_layout.specs.Header.{area_start}
+use Rattle.fs_layout.proofs.Targets.{area_room}
 use Rattle.redo_journal.specs.Batch.{target_at, targets}
 use Rattle.redo_journal.proofs.Entries.{length-targets, target_is}
-use Rattle.redo_journal.proofs.Writing.{header_more}
+use Rattle.redo_journal.proofs.Writing.{header_more, written_other}
 use Rattle.redo_journal.proofs.steps.write_header.Goals as goal
 
 pub loop-at-preserved : goal.loop-at-preserved
@@ -18,18 +20,23 @@ loop-at-preserved g c =
     let begins : 126 + 128 * at < length entries = omega (arith, c.loop-at-test.true, c.header_sectors-at-end.ensures, ap length of_entries, length-targets entries) in
     let low : at < header = omega (arith, begins, few) in
     let whole : length last.seen ≡ last.size = (g.met.D.Disk.seen_is_image c.loop-at.disk).size in
-    let fits : 2 + at < length last.seen = omega (arith, whole, so_far.room, so_far.adds.size, low) in
-    let adds = adds_write so_far.adds c.write.ensures.changes (λ k content is same. (omega (arith, is), omega (arith, is, low))) in
+    let from = area_start header c.args.area in
+    let starts : c.area_start-from.result ≡ from = c.area_start-from.ensures in
+    let range = area_room header c.args.area in
+    let fits : from + at < length last.seen = omega (arith, whole, so_far.room, so_far.adds.size, low, range.1) in
+    let adds = adds_write so_far.adds c.write.ensures.changes (λ k content is same. (omega (arith, is, starts), omega (arith, is, low, starts))) in
+    let put : after.seen ≡ set last.seen (from + at) c.header_sector.result = c.in_ok-write.ensures.written.seen ∙ ap (λ (n : ℕ). set last.seen n c.header_sector.result) (omega (arith, starts)) in
     record {
       most = so_far.most;
       few = few;
       room = so_far.room;
       written =
-          header_more (λ k. target_at entries (126 + k)) (length entries) at c.header_sector.result last.seen after.seen fits c.in_ok-write.ensures.written.seen
+          header_more from (λ k. target_at entries (126 + k)) (length entries) at c.header_sector.result last.seen after.seen fits put
           (λ k near lt.
           c.header_sector.ensures k near (omega (arith, lt, ap length of_entries, length-targets entries))
           ∙ ap (λ (l : List ℕ). get_or l (126 + 128 * at + k) 0) of_entries ∙ target_is entries (126 + 128 * at + k) lt ∙ ap (target_at entries) (omega arith))
           so_far.written;
+      others = λ n out. written_other last.seen after.seen (from + at) n c.header_sector.result put (λ e. out (omega (arith, e)) (omega (arith, e, low))) ∙ so_far.others n out;
       adds = adds;
       since = goes_on so_far.since c.write.ensures.time (image_or adds);
       failures = omega (arith, so_far.failures, c.write.ensures.cause.later);

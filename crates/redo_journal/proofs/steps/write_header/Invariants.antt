@@ -1,7 +1,7 @@
-use Rattle.std.proofs.Common.{◌≡◌, ◌≤◌, ◌<◌, ◌+◌, ◌*◌, ℕ, length}
-use Rattle.fs_layout.specs.Commit.{header_number}
+use Rattle.std.proofs.Common.{◌≡◌, ◌≤◌, ◌<◌, ◌+◌, ◌*◌, ◌/◌, ◌%◌, ℕ, length}
+use Rattle.fs_layout.specs.Bytes.{u32_of}
 use Rattle.fs_layout.specs.declared.header.TheConstants.{MAX_HEADER}
-use Rattle.fs_layout.specs.Header.{log_end, max_targets}
+use Rattle.fs_layout.specs.Header.{area_start, log_end, max_targets}
 use Rattle.sector_disk.specs.Disk.{AddsOnly, IsImageOr, LeavesOnly, sector}
 use Rattle.redo_journal.specs.Batch.{target_at}
 use Rattle.redo_journal.specs.States.{InLog}
@@ -12,9 +12,10 @@ invariant-loop-at g l = record {
   most : l.header ≤ MAX_HEADER;
   few : length l.batch ≤ max_targets l.header;
   room : log_end l.header ≤ (g.D.Disk.state l.initial.disk).size;
-  written : (k : ℕ) → k < 128 * l.at → 126 + k < length l.batch → header_number (sector (g.D.Disk.state l.disk).seen) k ≡ target_at l.batch (126 + k);
-  adds : AddsOnly (InLog l.header) (g.D.Disk.state l.initial.disk) (g.D.Disk.state l.disk);
-  since : LeavesOnly (g.D.Disk.state l.initial.disk) (g.D.Disk.state l.disk) (IsImageOr (InLog l.header) (g.D.Disk.state l.initial.disk));
+  written : (k : ℕ) → k < 128 * l.at → 126 + k < length l.batch → u32_of (sector (g.D.Disk.state l.disk).seen (area_start l.header l.area + k / 128)) (4 * (k % 128)) ≡ target_at l.batch (126 + k);
+  others : (n : ℕ) → (area_start l.header l.area ≤ n → n < area_start l.header l.area + l.header → ⊥) → sector (g.D.Disk.state l.disk).seen n ≡ sector (g.D.Disk.state l.initial.disk).seen n;
+  adds : AddsOnly (InLog l.header l.area) (g.D.Disk.state l.initial.disk) (g.D.Disk.state l.disk);
+  since : LeavesOnly (g.D.Disk.state l.initial.disk) (g.D.Disk.state l.disk) (IsImageOr (InLog l.header l.area) (g.D.Disk.state l.initial.disk));
   failures : (g.D.Disk.state l.initial.disk).failures ≤ (g.D.Disk.state l.disk).failures;
   failed_writes : (g.D.Disk.state l.disk).failed_writes ≡ (g.D.Disk.state l.initial.disk).failed_writes;
 }

@@ -1,8 +1,9 @@
-use Rattle.std.proofs.Common.{◌≡◌, ◌<◌, ◌+◌, ◌∙◌, ℕ, List, [], length, get_or, arith, subst, set, ap, get_or-set_other}
-use Rattle.sector_disk.specs.Disk.{Image, sector}
+use Rattle.std.proofs.Common.{◌≡◌, ◌<◌, ◌+◌, ◌∙◌, ℕ, List, [], length, get_or, arith, subst, set, ap}
 use Rattle.sector_disk.proofs.Moments.{adds_write, goes_on, image_or}
+use Rattle.fs_layout.specs.Header.{area_start}
+use Rattle.fs_layout.proofs.Targets.{area_room}
 use Rattle.redo_journal.proofs.Entries.{content_is, length-contents}
-use Rattle.redo_journal.proofs.Writing.{written_more}
+use Rattle.redo_journal.proofs.Writing.{written_more, written_other}
 use Rattle.redo_journal.proofs.steps.write_log.Goals as goal
 
 pub loop-content-preserved : goal.loop-content-preserved
@@ -14,20 +15,22 @@ loop-content-preserved g c =
     let after = g.D.Disk.state c.write.new.self in
     let whole : length last.seen ≡ last.size = (g.met.D.Disk.seen_is_image c.loop-content.disk).size in
     let header = c.args.header in
-    let fits : 2 + header + i < length last.seen = omega (arith, whole, so_far.at, so_far.room, so_far.few, so_far.adds.size, c.loop-content-test.true) in
+    let from = area_start header c.args.area in
+    let range = area_room header c.args.area in
+    let lt = c.loop-content-test.true in
+    let fits : from + header + i < length last.seen = omega (arith, whole, so_far.at, so_far.room, so_far.few, so_far.adds.size, lt, range.1) in
+    let put : after.seen ≡ set last.seen (from + header + i) (get_or items i []) = subst (λ n. after.seen ≡ set last.seen n (get_or items i [])) so_far.at c.in_ok-write.ensures.written.seen in
     let adds = adds_write so_far.adds c.write.ensures.changes (λ k content is same. (omega (arith, is, so_far.at), omega (arith, is, so_far.at, so_far.few, c.loop-content-test.true))) in
     record {
       at = omega (arith, so_far.at);
       most = so_far.most;
       few = so_far.few;
       room = so_far.room;
-      below = λ n low.
-          ap (λ (l : Image). sector l n) c.in_ok-write.ensures.written.seen
-          ∙ get_or-set_other last.seen c.loop-content.at n (get_or items i []) [] (λ (e : n ≡ c.loop-content.at). omega (arith, low, e, so_far.at))
-          ∙ so_far.below n low;
+      others = λ n out.
+          written_other last.seen after.seen (from + header + i) n (get_or items i []) put (λ e. out (omega (arith, e)) (omega (arith, e, lt, so_far.few))) ∙ so_far.others n out;
       written =
-          written_more (λ k. 2 + header + k) (λ k. get_or items k []) last.seen after.seen i fits
-          (subst (λ n. after.seen ≡ set last.seen n (get_or items i [])) so_far.at c.in_ok-write.ensures.written.seen)
+          written_more (λ k. from + header + k) (λ k. get_or items k []) last.seen after.seen i fits
+          put
           (λ k lt same. omega (arith, lt, same)) so_far.written;
       adds = adds;
       since = goes_on so_far.since c.write.ensures.time (image_or adds);

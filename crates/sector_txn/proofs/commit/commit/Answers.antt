@@ -10,7 +10,7 @@ use Rattle.sector_txn.proofs.commit.commit.Goals as goal
 pub returns-in-Err-clause-images : goal.returns-in-Err-clause-images
 returns-in-Err-clause-images g c =
     let before = g.D.Disk.state c.args.journal in
-    commit_left c.args.batch.now before (g.D.Disk.state c.in-Err.broken) c.tell_idle.ensures (g.met.D.Disk.seen_is_image c.args.journal) c.in-Err.ensures.size
+    commit_left c.args.batch.now before (g.D.Disk.state c.in-Err.broken) c.tell_ready.ensures (g.met.D.Disk.seen_is_image c.args.journal) c.in-Err.ensures.size
     (weaker (λ image reads. inl reads) c.in-Err.ensures.any_moment)
 
 pub returns-in-Err-seal-clause-images : goal.returns-in-Err-seal-clause-images
@@ -20,7 +20,7 @@ returns-in-Err-seal-clause-images g c =
     let broken = g.D.Disk.state c.in-Err-seal.broken in
     let first = c.in-Ok.ensures in
     let second = c.in-Err-seal.ensures in
-    commit_left c.args.batch.now before broken c.tell_idle.ensures (g.met.D.Disk.seen_is_image c.args.journal) (second.size ∙ first.size)
+    commit_left c.args.batch.now before broken c.tell_ready.ensures (g.met.D.Disk.seen_is_image c.args.journal) (second.size ∙ first.size)
     (sealed_left c.args.batch.now _ before logged broken c.requires.on_disk first.size first.same first.any_moment second.any_moment)
 
 pub returns-in-Ok-seal-clause-images : goal.returns-in-Ok-seal-clause-images
@@ -33,7 +33,7 @@ returns-in-Ok-seal-clause-images g c =
     let first = c.in-Ok.ensures in
     let second = c.in-Ok-seal.ensures in
     let third = c.install.ensures in
-    commit_left batch before after c.tell_idle.ensures (g.met.D.Disk.seen_is_image c.args.journal) (third.size ∙ second.size ∙ first.size)
+    commit_left batch before after c.tell_ready.ensures (g.met.D.Disk.seen_is_image c.args.journal) (third.size ∙ second.size ∙ first.size)
     (installed_left batch before sealed after (second.size ∙ first.size) (sealed_same batch _ before logged sealed c.requires.on_disk first.same second.changed)
     (sealed_left batch _ before logged sealed c.requires.on_disk first.size first.same first.any_moment second.any_moment) third.any_moment)
 

@@ -46,7 +46,7 @@ write_at-requires-clause-spare g c =
       arith,
       put_few c.in-Write.offset (length bytes) few,
       lacking_at_most (g.S.Sectors.state c.load.new.s) (bitmaps c.args.place),
-      length-range_with_len 128 (c.args.place.table - 128),
+      length-range_with_len c.args.place.inode_bitmap (c.args.place.table - c.args.place.inode_bitmap),
       c.room.ensures,
       c.if-room-place.false,
     )
@@ -55,7 +55,14 @@ pub overwrite_direct-requires-clause-sound : goal.overwrite_direct-requires-clau
 overwrite_direct-requires-clause-sound g c = sound_after_reads c.requires.sound c.in_ok-inode.ensures.same
 
 pub overwrite_direct-requires-clause-spare : goal.overwrite_direct-requires-clause-spare
-overwrite_direct-requires-clause-spare g c = omega (arith, lacking_at_most (g.S.Sectors.state c.load.new.s) (bitmaps c.args.place), length-range_with_len 128 (c.args.place.table - 128), c.room.ensures, c.if-room-place.false)
+overwrite_direct-requires-clause-spare g c =
+    omega (
+      arith,
+      lacking_at_most (g.S.Sectors.state c.load.new.s) (bitmaps c.args.place),
+      length-range_with_len c.args.place.inode_bitmap (c.args.place.table - c.args.place.inode_bitmap),
+      c.room.ensures,
+      c.if-room-place.false,
+    )
 
 pub set_size-requires-clause-sound : goal.set_size-requires-clause-sound
 set_size-requires-clause-sound g c = sound_after_reads c.requires.sound c.in_ok-inode.ensures.same
@@ -64,7 +71,14 @@ pub set_size-requires-clause-inode : goal.set_size-requires-clause-inode
 set_size-requires-clause-inode g c = c.in_ok-inode.ensures.found ∙ ap (λ image. inode_at c.args.place image c.args.n) (map_unchanged c.in_ok-inode.ensures.same)
 
 pub set_size-requires-clause-spare : goal.set_size-requires-clause-spare
-set_size-requires-clause-spare g c = omega (arith, lacking_at_most (g.S.Sectors.state c.load.new.s) (bitmaps c.args.place), length-range_with_len 128 (c.args.place.table - 128), c.room.ensures, c.if-room-place.false)
+set_size-requires-clause-spare g c =
+    omega (
+      arith,
+      lacking_at_most (g.S.Sectors.state c.load.new.s) (bitmaps c.args.place),
+      length-range_with_len c.args.place.inode_bitmap (c.args.place.table - c.args.place.inode_bitmap),
+      c.room.ensures,
+      c.if-room-place.false,
+    )
 
 pub release_all-requires-clause-sound : goal.release_all-requires-clause-sound
 release_all-requires-clause-sound g c = sound_after_reads c.requires.sound c.in_ok-inode.ensures.same
@@ -73,7 +87,14 @@ pub release_all-requires-clause-inode : goal.release_all-requires-clause-inode
 release_all-requires-clause-inode g c = c.in_ok-inode.ensures.found ∙ ap (λ image. inode_at c.args.place image c.args.n) (map_unchanged c.in_ok-inode.ensures.same)
 
 pub release_all-requires-clause-spare : goal.release_all-requires-clause-spare
-release_all-requires-clause-spare g c = omega (arith, lacking_at_most (g.S.Sectors.state c.load.new.s) (bitmaps c.args.place), length-range_with_len 128 (c.args.place.table - 128), c.room.ensures, c.if-room-place.false)
+release_all-requires-clause-spare g c =
+    omega (
+      arith,
+      lacking_at_most (g.S.Sectors.state c.load.new.s) (bitmaps c.args.place),
+      length-range_with_len c.args.place.inode_bitmap (c.args.place.table - c.args.place.inode_bitmap),
+      c.room.ensures,
+      c.if-room-place.false,
+    )
 
 pub returns-in-Err-TooBig : goal.returns-in-Err-TooBig
 returns-in-Err-TooBig g c =

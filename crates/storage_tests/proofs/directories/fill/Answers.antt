@@ -6,7 +6,13 @@ use Rattle.storage_tests.proofs.directories.fill.Goals as goal
 
 pub insert-requires-clause-spare : goal.insert-requires-clause-spare
 insert-requires-clause-spare g c =
-    omega (arith, lacking_at_most (g.S.Sectors.state c.loop-i.s) (bitmaps c.args.place), length-range_with_len 128 (c.args.place.table - 128), c.room.ensures, c.if-room-place.false)
+    omega (
+      arith,
+      lacking_at_most (g.S.Sectors.state c.loop-i.s) (bitmaps c.args.place),
+      length-range_with_len c.args.place.inode_bitmap (c.args.place.table - c.args.place.inode_bitmap),
+      c.room.ensures,
+      c.if-room-place.false,
+    )
 
 pub loop-i-preserved : goal.loop-i-preserved
 loop-i-preserved g c =

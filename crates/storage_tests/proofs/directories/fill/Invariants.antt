@@ -8,5 +8,5 @@ abbrev pub invariant-loop-i : goal.invariant-loop-i
 invariant-loop-i g l = record {
   sound : IsSound l.place (g.S.Sectors.state l.s);
   there : l.inode ≡ inode_at l.place (g.S.Sectors.state l.s).sectors l.n;
-  directory : (names : List (List ℕ × ℕ)) × HasNames (g.S.Sectors.state l.s).sectors l.inode names;
+  directory : (names : List (List ℕ × ℕ)) × HasNames l.place.version (g.S.Sectors.state l.s).sectors l.inode names;
 }

@@ -1,5 +1,6 @@
 use Rattle.std.proofs.Common.{◌≡◌, ℕ, List, get_or, refl, sym, ap, ◌∙◌, arith, inr}
 use Rattle.std.proofs.lemmas.Fn.{gave_at}
+use Rattle.fs_layout.specs.Header.{log_end}
 use Rattle.fs_layout.specs.Bytes.{zeros}
 use Rattle.fs_layout.specs.Images.{pointer}
 use Rattle.fs_layout.proofs.Parts.{byte_in_is}
@@ -12,7 +13,7 @@ use Rattle.block_map.proofs.blocks.Blocks.read_with.Goals as goal
 pub read_with-requires-clause-part : goal.read_with-requires-clause-part
 read_with-requires-clause-part g c =
     let is = loaded_number (g.S.Sectors.state c.args.s.now).sectors c.args.k (c.number-number.ensures (g.S.Sectors.state c.args.s.now).sectors c.in_ok-load.ensures.loaded) c.in_ok-load.ensures.inode in
-    inr (omega (arith, (number_within (g.S.Sectors.state c.args.s.now).header c.args.self.now.inode c.args.k c.requires.within is c.if-number-eq0.false).0, c.in_ok-load.ensures.same.store.header))
+    inr (omega (arith, (number_within (g.S.Sectors.state c.args.s.now).header c.args.self.now.inode c.args.k c.requires.within is c.if-number-eq0.false).0, ap log_end c.in_ok-load.ensures.same.store.header))
 
 pub read_with-requires-clause-on_disk : goal.read_with-requires-clause-on_disk
 read_with-requires-clause-on_disk g c =

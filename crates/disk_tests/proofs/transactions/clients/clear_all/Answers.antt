@@ -3,6 +3,7 @@ use Rattle.std.specs.Prelude.{replicate}
 use Rattle.std.proofs.lemmas.Bool.{cases_eq}
 use Rattle.std.proofs.lemmas.List.{get_or_default}
 use Rattle.std.proofs.lemmas.List.Elements.{Contains-get_or}
+use Rattle.fs_layout.specs.Header.{log_end}
 use Rattle.sector_txn.specs.Sectors.{lacking}
 use Rattle.sector_txn.proofs.TransactionRuns.{changes_put_shared, room_for}
 use Rattle.disk_tests.proofs.transactions.clients.clear_all.Goals as goal
@@ -42,7 +43,7 @@ returns-clause-cleared g c = λ n (k, lt, is).
     subst (λ (m : ℕ). (g.S.Sectors.state c.loop-n.s).sectors m ≡ replicate 512 0) found (c.loop-n.invariant.cleared k (omega (arith, lt, c.loop-n-test.false)))
 
 pub put-requires-clause-part : goal.put-requires-clause-part
-put-requires-clause-part g c = omega (arith, (c.requires.part c.loop-n.n-index 0 c.loop-n-test.true).0, c.loop-n.invariant.changes.store.header)
+put-requires-clause-part g c = omega (arith, (c.requires.part c.loop-n.n-index 0 c.loop-n-test.true).0, ap log_end c.loop-n.invariant.changes.store.header)
 
 pub put-requires-clause-on_disk : goal.put-requires-clause-on_disk
 put-requires-clause-on_disk g c = omega (arith, (c.requires.part c.loop-n.n-index 0 c.loop-n-test.true).1, c.loop-n.invariant.changes.store.reads.narrowed.size)

@@ -1,6 +1,7 @@
 use Rattle.std.proofs.Common.{◌∙◌, arith}
+use Rattle.fs_layout.proofs.CommitLaw.{in_first}
 use Rattle.fs_layout.proofs.Codecs.{whole_written}
 use Rattle.fs_layout.proofs.commit.Commit.write_to.Goals as goal
 
 pub returns : goal.returns
-returns c = whole_written c.args.to.now _ c.args.at _ 512 c.requires (omega arith) (omega arith) ∙ c.put.ensures
+returns c = whole_written c.args.to.now _ c.args.at _ 512 c.requires (omega arith) (omega arith) ∙ c.put.ensures ∙ in_first _

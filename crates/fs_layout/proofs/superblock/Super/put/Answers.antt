@@ -14,5 +14,6 @@ returns c =
     let b1 = next_write old _ _ _ (le32 (version_number s.version)) 4 b0 refl (c.put_u32-2.ensures ∙ ap (λ (n : ℕ). splice c.put_u32.new.to 4 (le32 n)) c.number.ensures) in
     let b2 = next_write old _ _ _ (le32 s.sectors) 8 b1 refl c.put_u32-3.ensures in
     let b3 = next_write old _ _ _ (le32 s.inodes) 12 b2 refl c.put_u32-4.ensures in
-    let b4 = next_write old _ _ _ (zeros 496) 16 b3 refl c.put_zeros.ensures in
-    all_written old _ _ b4 c.requires
+    let b4 = next_write old _ _ _ (le32 s.header) 16 b3 refl c.put_u32-5.ensures in
+    let b5 = next_write old _ _ _ (zeros 492) 20 b4 refl c.put_zeros.ensures in
+    all_written old _ _ b5 c.requires

@@ -1,8 +1,14 @@
 use Rattle.std.proofs.Common.{sym, subst}
 use Rattle.fs_system.specs.Mounts.{IsNotMounted}
 use Rattle.fs_system.specs.Seen.{disk_in}
-use Rattle.fs_system.proofs.Checked.{then_mounts, then_refused, then_stands}
+use Rattle.fs_system.proofs.Checked.{then_mounts, then_refused, then_stands, then_stands_for_some}
 use Rattle.fs_system.proofs.fs.Fs.mount.Goals as goal
+
+pub mount_checked-requires : goal.mount_checked-requires
+mount_checked-requires g c =
+    let clean = c.in_default.ensures.clean in
+    then_stands_for_some (g.D.Disk.state c.args.disk) (g.D.Disk.state c.check.new.disk) c.in_default.ensures.passed.reads
+    (g.met.D.Disk.seen_is_image c.args.disk).size clean.0 clean.1 clean.2 clean.3
 
 pub returns-in-Ok-clause-mounted : goal.returns-in-Ok-clause-mounted
 returns-in-Ok-clause-mounted g c =

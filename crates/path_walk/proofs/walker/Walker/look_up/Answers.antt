@@ -5,8 +5,9 @@ use Rattle.fs_cred.specs.declared.node.NodeKind.TheVariants as nodes
 use Rattle.fs_layout.specs.declared.inode.Inode.{Inode}
 use Rattle.fs_layout.specs.Bytes.{SectorMap}
 use Rattle.fs_layout.specs.Images.{inode_at}
-use Rattle.fs_model.specs.Limits.{name_limit}
+use Rattle.fs_layout.specs.Version.{max_name}
 use Rattle.fs_model.specs.Nodes.{names_in}
+use Rattle.fs_model.specs.Stands.{room_of}
 use Rattle.fs_model.specs.Trails.{named_inode}
 use Rattle.path_walk.specs.HeldTrees.{HoldsTree}
 use Rattle.path_walk.specs.SoundInodes.{LeadsOn, IsSoundInode}
@@ -40,18 +41,18 @@ returns-in_err-search-clause-each g c = λ t h there.
     let new = g.S.Sectors.state c.search.new.s in
     let x = searched h w.here there w.inode c.requires.at.inode (sym c.is_directory.ensures ∙ c.if-not-is_directory.false) in
     let r = c.from_residual.ensures in
-    answered_err old.disk new.disk (lookup_of t c.args.cred.now w.number w.step w.here w.name.items) c.from_residual.result c.in_err-search.field-0.0 r.0 r.1
+    answered_err old.disk new.disk (lookup_of (room_of c.args.place) t c.args.cred.now w.number w.step w.here w.name.items) c.from_residual.result c.in_err-search.field-0.0 r.0 r.1
     (elim (c.in_err-search.ensures.each x.node x.has) [
       | inl e ↦ inl (search_refused h w.here there w.inode c.requires.at.inode c.args.cred.now w.number w.step w.name.items x c.in_err-search.field-0.0 e)
       | inr way ↦ inr way
     ])
 
-pub returns-then-len-gt-MAX_NAME-clause-each : goal.returns-then-len-gt-MAX_NAME-clause-each
-returns-then-len-gt-MAX_NAME-clause-each g c = λ t h there.
+pub returns-then-len-longest-clause-each : goal.returns-then-len-longest-clause-each
+returns-then-len-longest-clause-each g c = λ t h there.
     let w = c.args.self.now in
     let is = sym c.is_directory.ensures ∙ c.if-not-is_directory.false in
     let x = searched h w.here there w.inode c.requires.at.inode is in
-    let long : nat_lt name_limit (length w.name.items) ≡ true = grind (arith, nat_tests) in
+    let long : nat_lt (max_name c.args.place.version) (length w.name.items) ≡ true = grind (arith, nat_tests) in
     inl (too_long h w.here there w.inode c.requires.at.inode c.args.cred.now w.number w.step w.name.items is x (c.in_ok-search.ensures.each x.node x.has) long)
 
 pub find-requires-clause-sound : goal.find-requires-clause-sound
@@ -95,7 +96,7 @@ returns-in_err-found-clause-each g c = λ t h there.
     let new = g.S.Sectors.state c.find.new.s in
     let d = directory_at h w.here there w.inode c.requires.at.inode (sym c.is_directory.ensures ∙ c.if-not-is_directory.false) in
     let r = c.from_residual-in_err-found.ensures in
-    answered_err old.disk new.disk (lookup_of t c.args.cred.now w.number w.step w.here w.name.items) c.from_residual-in_err-found.result c.in_err-found.field-0.0 r.0 r.1
+    answered_err old.disk new.disk (lookup_of (room_of c.args.place) t c.args.cred.now w.number w.step w.here w.name.items) c.from_residual-in_err-found.result c.in_err-found.field-0.0 r.0 r.1
     (inr (interrupts_later new.disk c.in_ok-search.ensures.same (interrupted mid.disk new.disk _ c.in_err-found.field-0.0
     (c.in_err-found.ensures.each t (kept (λ m. HoldsTree c.args.place m t) c.in_ok-search.ensures.same h) d))))
 
@@ -108,7 +109,7 @@ returns-clause-each g c = λ t h there.
     let is = sym c.is_directory.ensures ∙ c.if-not-is_directory.false in
     let x = searched h w.here there w.inode c.requires.at.inode is in
     let d = directory_at h w.here there w.inode c.requires.at.inode is in
-    let short : nat_lt name_limit (length w.name.items) ≡ false = grind (arith, nat_tests) in
+    let short : nat_lt (max_name c.args.place.version) (length w.name.items) ≡ false = grind (arith, nat_tests) in
     let named = c.in_ok-found.ensures.each t (kept (λ m. HoldsTree c.args.place m t) c.in_ok-search.ensures.same h) d in
     is_named h w.here there w.inode c.requires.at.inode c.args.cred.now w.number w.step w.name.items is x (c.in_ok-search.ensures.each x.node x.has) short c.in_ok-found.found
     (ap (named_inode t w.here (names_in d.node.body)) (sym c.deref.ensures.value) ∙ same_ok _ _ named)

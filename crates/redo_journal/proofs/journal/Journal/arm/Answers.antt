@@ -1,10 +1,10 @@
-use Rattle.std.proofs.Common.{◌∙◌, [], ap, subst}
+use Rattle.std.proofs.Common.{◌∙◌, ap, subst}
 use Rattle.sector_disk.specs.Disk.{Elapses, IsSame}
-use Rattle.redo_journal.proofs.Meaning.{rest_stays, has_stays}
+use Rattle.redo_journal.proofs.Meaning.{ready_stays, has_stays, next_stays}
 use Rattle.redo_journal.proofs.journal.Journal.arm.Goals as goal
 
 pub invariant_of-self : goal.invariant_of-self
-invariant_of-self g c = let same = c.arm.ensures.same.narrowed in (rest_stays [] _ _ same c.self.invariant.0, has_stays _ _ _ same c.self.invariant.1)
+invariant_of-self g c = let same = c.arm.ensures.same.narrowed in (ready_stays _ _ same c.self.invariant.0, has_stays _ _ _ same c.self.invariant.1, next_stays _ _ _ same c.self.invariant.2)
 
 pub returns-clause-unchanged : goal.returns-clause-unchanged
 returns-clause-unchanged g c = subst (λ d. IsSame (g.D.Disk.state d) (g.D.Disk.state c.arm.new.self)) c.self.view_is c.arm.ensures.same

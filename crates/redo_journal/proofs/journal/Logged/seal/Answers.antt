@@ -7,9 +7,11 @@ use Rattle.redo_journal.proofs.journal.Logged.seal.Goals as goal
 pub invariant_of-result : goal.invariant_of-result
 invariant_of-result g c =
     let old = g.D.Disk.state c.self.inside.disk in
-    let new = g.D.Disk.state c.seal_batch.new.disk in
-    header_sealed c.args.batch.now old new _ (batch_super c.args.batch.now _ _ (data_of old) c.requires.valid)
-    (c.in-Ok.ensures.lasting new.seen (g.met.D.Disk.seen_is_image c.seal_batch.new.disk)).reads c.self.invariant
+    let new = g.D.Disk.state c.seal_batch.new.disk in (
+      header_sealed c.args.batch.now old new _ (batch_super c.args.batch.now _ _ (data_of old) c.requires.valid)
+          (c.in-Ok.ensures.lasting new.seen (g.met.D.Disk.seen_is_image c.seal_batch.new.disk)).reads c.self.invariant.0,
+      c.in-Ok.ensures.next,
+    )
 
 pub returns-in-Ok-clause-changed : goal.returns-in-Ok-clause-changed
 returns-in-Ok-clause-changed g c =

@@ -1,4 +1,4 @@
-use Rattle.std.proofs.Common.{subst}
+use Rattle.std.proofs.Common.{subst, sym, ◌∙◌}
 use Rattle.redo_journal.specs.Meaning.{SameMap, data_of}
 use Rattle.redo_journal.proofs.Meaning.{header_same, same_map}
 use Rattle.redo_journal.proofs.journal.Sealed.install.Goals as goal
@@ -7,9 +7,10 @@ pub invariant_of-result : goal.invariant_of-result
 invariant_of-result g c =
     let old = g.D.Disk.state c.self.inside.disk in
     let new = g.D.Disk.state c.install_batch.new.disk in (
-      c.in-Ok.ensures.idle,
+      c.in-Ok.ensures.ready,
       header_same old new _
-          (same_map old new (g.met.D.Disk.counts_now c.install_batch.new.disk) (g.met.D.Disk.seen_is_image c.install_batch.new.disk) c.install_batch.ensures.size c.install_batch.ensures.any_moment) c.self.invariant,
+          (same_map old new (g.met.D.Disk.counts_now c.install_batch.new.disk) (g.met.D.Disk.seen_is_image c.install_batch.new.disk) c.install_batch.ensures.size c.install_batch.ensures.any_moment) c.self.invariant.0,
+      c.self.invariant.1 ∙ sym c.in-Ok.ensures.next,
     )
 
 pub returns-in-Ok-clause-same : goal.returns-in-Ok-clause-same

@@ -1,8 +1,8 @@
-use Rattle.std.proofs.Common.{◌≡◌, subst, [], refl}
+use Rattle.std.proofs.Common.{◌≡◌, subst, refl}
 use Rattle.redo_journal.specs.Batch.{with_batch}
 use Rattle.redo_journal.specs.Meaning.{EachReadsAs, SameMap, data_of}
 use Rattle.redo_journal.specs.States.{header_at}
-use Rattle.redo_journal.proofs.Meaning.{header_after, rest_reads, reads_same}
+use Rattle.redo_journal.proofs.Meaning.{header_after, reads_same}
 use Rattle.sector_txn.specs.Images.{LeavesOldOr}
 use Rattle.sector_txn.specs.Stores.{present}
 use Rattle.sector_txn.proofs.store.Store.flush.Goals as goal
@@ -30,7 +30,7 @@ returns-in-Ok-clause-lasting g c =
     let after = state c.in-Ok.journal in
     subst (λ store. EachReadsAs (present state store) after) c.self.view_is
     (subst (λ entries. EachReadsAs (with_batch entries (data_of (state c.self.inside.journal))) after) c.deref.ensures
-    (λ image is. reads_same after.size after.size _ _ refl c.in-Ok.ensures.changed image (rest_reads [] after c.tell_idle.ensures image is)))
+    (λ image is. reads_same after.size after.size _ _ refl c.in-Ok.ensures.changed image (c.tell_ready.ensures image is)))
 
 pub returns-in-Ok-clause-header : goal.returns-in-Ok-clause-header
 returns-in-Ok-clause-header g c =

@@ -1,9 +1,10 @@
-use Rattle.std.proofs.Common.{◌≡◌, ◌<◌, ◌-◌, ℕ, subst, arith, IsTrue}
+use Rattle.std.proofs.Common.{◌≡◌, ◌<◌, ◌-◌, ℕ, subst, arith, IsTrue, ap}
 use Rattle.std.proofs.lemmas.Bool.{leb-true}
 use Rattle.std.proofs.lemmas.List.FromFn.{length-range_with_len}
+use Rattle.fs_layout.specs.Header.{log_end}
 use Rattle.fs_layout.specs.declared.place.Place.{Place}
 use Rattle.fs_layout.specs.Bytes.{SectorMap}
-use Rattle.fs_layout.specs.Images.{HasWholeTables, inode_bitmap, block_bitmap, map_bits, bit}
+use Rattle.fs_layout.specs.Images.{HasWholeTables, inode_map_bits, map_bits, bit}
 use Rattle.sector_txn.proofs.TransactionRuns.{lacking_at_most}
 use Rattle.bit_alloc.specs.declared.bitmap.Bitmap.TheVariants.{Inodes, Blocks}
 use Rattle.bit_alloc.specs.Bitmaps.{IsNumber, HasRestSet}
@@ -13,9 +14,9 @@ use Rattle.storage_tests.proofs.bitmaps.tables.is_ready.Goals as goal
 
 -- what each check says of the map that it has left is so at the end
 rest_of : (p : Place) (a b : SectorMap) → a ≡ b
-    → ((n : ℕ) → n < 4096 → (IsNumber p Inodes n → ⊥) → IsTrue (bit a inode_bitmap n))
-    → ((n : ℕ) → n < map_bits p → (IsNumber p Blocks n → ⊥) → IsTrue (bit b block_bitmap n)) → HasRestSet p b
-rest_of p a b same inodes blocks Inodes n low ban = subst (λ (image : SectorMap). IsTrue (bit image inode_bitmap n)) same (inodes n low ban)
+    → ((n : ℕ) → n < inode_map_bits p → (IsNumber p Inodes n → ⊥) → IsTrue (bit a p.inode_bitmap n))
+    → ((n : ℕ) → n < map_bits p → (IsNumber p Blocks n → ⊥) → IsTrue (bit b p.block_bitmap n)) → HasRestSet p b
+rest_of p a b same inodes blocks Inodes n low ban = subst (λ (image : SectorMap). IsTrue (bit image p.inode_bitmap n)) same (inodes n low ban)
 rest_of p a b same inodes blocks Blocks n low ban = blocks n low ban
 
 pub returns-clause-bitmaps : goal.returns-clause-bitmaps
@@ -27,11 +28,18 @@ returns-clause-bitmaps g c = λ yes.
     record {
       place = c.requires.place;
       disk = omega (arith, c.requires.disk, whole.store.reads.narrowed.size);
-      header = omega (arith, c.requires.header, whole.store.header);
+      header = omega (arith, c.requires.header, ap log_end whole.store.header);
       tables = subst (HasWholeTables c.args.place) (map_unchanged (unchanged_joined first.same second.same)) read.tables;
       rest = rest_of c.args.place (g.S.Sectors.state c.has_rest_set.new.s).sectors (g.S.Sectors.state c.has_rest_set-2.new.s).sectors (map_unchanged second.same)
           (first.set c.if-not-inodes.false) (second.set c.if-not-blocks.false);
     }
 
 pub returns-clause-room : goal.returns-clause-room
-returns-clause-room g c = λ yes. omega (arith, leb-true _ _ yes, lacking_at_most (g.S.Sectors.state c.has_rest_set-2.new.s) (bitmaps c.args.place), length-range_with_len 128 (c.args.place.table - 128), c.room.ensures)
+returns-clause-room g c = λ yes.
+    omega (
+      arith,
+      leb-true _ _ yes,
+      lacking_at_most (g.S.Sectors.state c.has_rest_set-2.new.s) (bitmaps c.args.place),
+      length-range_with_len c.args.place.inode_bitmap (c.args.place.table - c.args.place.inode_bitmap),
+      c.room.ensures,
+    )

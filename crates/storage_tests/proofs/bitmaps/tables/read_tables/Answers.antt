@@ -5,8 +5,8 @@ use Rattle.fs_layout.specs.Bytes.{SectorMap, IsSector}
 use Rattle.bit_alloc.proofs.Transactions.{unchanged_joined}
 use Rattle.storage_tests.proofs.bitmaps.tables.read_tables.Goals as goal
 
-whole_so_far : (image : SectorMap) (n : ℕ) → ((t : ℕ) → 128 ≤ t → t < n → IsSector (image t)) → IsSector (image n) → (t : ℕ) → 128 ≤ t → t < n + 1 → IsSector (image t)
-whole_so_far image n before here t from to = elim (cases_lt t n) [
+whole_so_far : (image : SectorMap) (first n : ℕ) → ((t : ℕ) → first ≤ t → t < n → IsSector (image t)) → IsSector (image n) → (t : ℕ) → first ≤ t → t < n + 1 → IsSector (image t)
+whole_so_far image first n before here t from to = elim (cases_lt t n) [
   | inl lt ↦ before t from lt
   | inr ge ↦ let is : n ≡ t = omega arith in subst (λ (u : ℕ). IsSector (image u)) is here
 ]
@@ -19,5 +19,5 @@ loop-n-preserved g c =
     let read : IsSector sector = record { len = c.get.array_long; bytes = c.tell_bytes.ensures } in
     record {
       same = unchanged_joined c.loop-n.invariant.same c.in_ok-get.ensures.same;
-      whole = whole_so_far image c.loop-n.n c.loop-n.invariant.whole (subst IsSector here read);
+      whole = whole_so_far image c.args.place.inode_bitmap c.loop-n.n c.loop-n.invariant.whole (subst IsSector here read);
     }

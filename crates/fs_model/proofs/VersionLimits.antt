@@ -1,0 +1,86 @@
+-- The limits of each version, and how they go together.
+use Rattle.std.specs.Prelude.{Some, List, ◌∷◌, ◌++◌, ◌-◌, length}
+use Rattle.std.proofs.Common.{◌≡◌, ℕ, ◌*◌, ◌/◌, ◌%◌, ◌≤◌, refl, ap, arith}
+use Rattle.std.specs.List.{flat_map}
+use Rattle.fs_layout.specs.declared.inode.TheConstants.{INDIRECT_END}
+use Rattle.fs_layout.specs.declared.version.Version.{Version}
+use Rattle.fs_layout.specs.declared.version.Version.TheVariants.{One, Two, Three}
+use Rattle.fs_layout.specs.Place.{allows_header}
+use Rattle.fs_layout.specs.Superblock.{numbers_end}
+use Rattle.fs_layout.specs.Version.{version_number, version_of, max_sectors, max_inodes, max_file_size, max_name, max_names, max_inode_names, slot_size, max_directory_size}
+use Rattle.fs_layout.specs.Bytes.{le32, zeros}
+use Rattle.fs_layout.specs.Directories.{NamedInode, slots_bytes}
+
+-- ---- versions whose slots take as many bytes
+
+-- names are as long, and there are as many of them
+pub record HasSameNames (old new : Version) : Type 0 where
+  pub name : max_name old ≡ max_name new
+  pub names : max_names old ≡ max_names new
+  pub inode_names : max_inode_names old ≡ max_inode_names new
+
+pub same_names : (old new : Version) → slot_size old ≡ slot_size new → HasSameNames old new
+same_names One One e = record { name = refl; names = refl; inode_names = refl }
+same_names One Two e = record { name = refl; names = refl; inode_names = refl }
+same_names One Three e = absurd (omega (arith, e))
+same_names Two One e = record { name = refl; names = refl; inode_names = refl }
+same_names Two Two e = record { name = refl; names = refl; inode_names = refl }
+same_names Two Three e = absurd (omega (arith, e))
+same_names Three One e = absurd (omega (arith, e))
+same_names Three Two e = absurd (omega (arith, e))
+same_names Three Three e = record { name = refl; names = refl; inode_names = refl }
+
+-- the number of one is read where that of the other is
+pub known_as : (old new : Version) → version_of (version_number old) ≡ Some old → slot_size old ≡ slot_size new
+    → version_of (version_number new) ≡ Some new
+known_as One One known e = refl
+known_as One Two known e = refl
+known_as One Three known e = absurd (omega (arith, e))
+known_as Two One known e = refl
+known_as Two Two known e = refl
+known_as Two Three known e = absurd (omega (arith, e))
+known_as Three new known e = absurd cc
+
+-- so slots are spelled alike
+pub same_slots : (old new : Version) (slots : List NamedInode) → HasSameNames old new → slots_bytes old slots ≡ slots_bytes new slots
+same_slots old new slots same =
+    ap (λ n. flat_map (λ v. le32 v.inode ++ (length v.name ∷ (zeros 3 ++ (v.name ++ zeros (n - length v.name))))) slots) same.name
+
+-- a disk of the one may have the numbers of one of the other, and its superblock as many of them
+pub record HasSameRange (old new : Version) : Type 0 where
+  pub sectors : max_sectors old ≡ max_sectors new
+  pub inodes : max_inodes old ≡ max_inodes new
+  pub header : (header sectors inodes : ℕ) → allows_header old header sectors inodes ≡ allows_header new header sectors inodes
+  pub numbers : numbers_end old ≡ numbers_end new
+
+pub same_range : (old new : Version) → slot_size old ≡ slot_size new → HasSameRange old new
+unfolding allows_header
+same_range One One e = record { sectors = refl; inodes = refl; header = λ h s i. refl; numbers = refl }
+same_range One Two e = record { sectors = refl; inodes = refl; header = λ h s i. refl; numbers = refl }
+same_range One Three e = absurd (omega (arith, e))
+same_range Two One e = record { sectors = refl; inodes = refl; header = λ h s i. refl; numbers = refl }
+same_range Two Two e = record { sectors = refl; inodes = refl; header = λ h s i. refl; numbers = refl }
+same_range Two Three e = absurd (omega (arith, e))
+same_range Three One e = absurd (omega (arith, e))
+same_range Three Two e = absurd (omega (arith, e))
+same_range Three Three e = record { sectors = refl; inodes = refl; header = λ h s i. refl; numbers = refl }
+
+-- ---- the size of a directory
+
+-- of no more bytes than the largest one, it has no more names
+pub names_most : (version : Version) (size : ℕ) → size ≤ max_directory_size version → size / slot_size version ≤ max_names version
+names_most One size few = omega (arith, few)
+names_most Two size few = omega (arith, few)
+names_most Three size few = omega (arith, few)
+
+-- the bytes of slots are whole slots
+pub slots_even : (version : Version) (n size : ℕ) → size ≡ slot_size version * n → size % slot_size version ≡ 0
+slots_even One n size is = omega (arith, is)
+slots_even Two n size is = omega (arith, is)
+slots_even Three n size is = omega (arith, is)
+
+-- where no file reaches past the blocks of the indirect sector, no directory does
+pub directory_low : (version : Version) → max_file_size version ≤ 512 * INDIRECT_END → max_directory_size version ≤ 512 * INDIRECT_END
+directory_low One low = omega arith
+directory_low Two low = absurd (omega (arith, low))
+directory_low Three low = absurd (omega (arith, low))
