@@ -27,7 +27,7 @@ use Rattle.fuse_plans.specs.Callers.{between, done_between, standing_refusal, by
 use Rattle.fuse_plans.specs.NamePlans.{removal, remove, move_name}
 use Rattle.fuse_plans.specs.AclPlans.{set_acl, set_xattr, remove_xattr}
 use Rattle.fuse_plans.specs.Nobody.{needs_nobody_in}
-use Rattle.fuse_plans.specs.Serving.{plan_of, asked_for, response_of, answered, answered_as, request_plan}
+use Rattle.fuse_plans.specs.Serving.{Task, Replying, Silently, plan_of, asked_for, response_of, answered, answered_as, request_plan}
 use Rattle.fuse_plans.specs.Alterations.{Alteration, alterations_by, alterations_in, changes_at_once, AreTold, MayBeAsked, AsksOnly}
 use Rattle.fuse_plans.specs.Laws.{FailuresChangeNothing}
 use Rattle.fuse_plans.proofs.AllEnds.{AllEnd, all-followed_by, all-run}
@@ -240,9 +240,9 @@ clean-set_xattr r name value = quiet->>= (search pieces) (λ which. quiet->>= (s
 clean-remove_xattr : (r : Asked) (name : List ℕ) → Clean (remove_xattr r name)
 clean-remove_xattr r name = quiet->>= (search pieces) (λ which. clean-set_acl r which None)
 
-abbrev CleanIfAny : Option (Work ReplyBody) → Type 0
-CleanIfAny None = Unit {0}
-CleanIfAny (Some w) = Clean w
+abbrev CleanIfAny : Task → Type 0
+CleanIfAny (Silently f) = Unit {0}
+CleanIfAny (Replying w) = Clean w
 
 clean-plan : (r : Asked) (value : Option (Option AccessList)) (operation : Operation) → changes_at_once operation ≡ true → CleanIfAny (plan_of r value operation)
 clean-plan r value (Unlink name) is = clean-remove r (removal false) name
@@ -263,11 +263,12 @@ sure-answer : (r : Result ReplyBody Stop × Server) → (IsStopped r → ⊥) �
 sure-answer (Ok body, t) went failed = failed
 sure-answer (Err e, t) went failed = went tt
 
-spares-answered : (memory : Bool) (work : Option (Work ReplyBody)) (s : Server) → CleanIfAny work → SparesFailures HasFailed (answered memory work s)
-spares-answered memory None s clean = tt
-spares-answered true (Some w) s clean =
+spares-answered : (memory : Bool) (work : Task) (s : Server) → CleanIfAny work → SparesFailures HasFailed (answered memory work s)
+spares-answered true (Silently f) s clean = tt
+spares-answered false (Silently f) s clean = tt
+spares-answered true (Replying w) s clean =
     spares-followed_by IsStopped HasFailed (w s) (λ r. Finish (response_of r.0, r.1)) (clean.at s) sure-answer (λ r. tt)
-spares-answered false (Some w) s clean = tt
+spares-answered false (Replying w) s clean = tt
 
 -- where the plan ended so, what may have changed something was refused
 refused-first : {X : Type 0} (F : X → Type 0) (p : Plan X) (g e : Event) (reply : Reply) (es : List Event) (replies : List Reply) (x : X) → e ≡ g

@@ -21,7 +21,6 @@ use Rattle.fuse_plans.specs.declared.reply.ReplyBody.{ReplyBody}
 use Rattle.fuse_plans.specs.declared.request.Asked.{Asked}
 use Rattle.fuse_plans.specs.Plans.{Plan, Finish, Ask, IsRunOf}
 use Rattle.fuse_plans.specs.Requests.{asked_of}
-use Rattle.fuse_plans.specs.Works.{Work}
 use Rattle.fuse_plans.specs.Callers.{look}
 use Rattle.fuse_plans.specs.Conduct.{IsOfHandle}
 use Rattle.fuse_plans.specs.NamePlans.{removal}
@@ -30,7 +29,7 @@ use Rattle.fuse_plans.specs.DirectoryPlans.{take_directory_if, take_directory, o
 use Rattle.fuse_plans.specs.AclPlans.{acl_named, an_object, sized, get_xattr, attribute_names, list_xattrs, set_acl, set_xattr, remove_xattr}
 use Rattle.fuse_plans.specs.Nobody.{is_judged, needs_nobody, needs_nobody_in, unless_masked}
 use Rattle.fuse_plans.specs.Masks.{is_masked}
-use Rattle.fuse_plans.specs.Serving.{or_looker, begin, count_space, end, plan_of, asked_for, response_of, answered, answered_as, request_plan}
+use Rattle.fuse_plans.specs.Serving.{Task, Replying, Silently, or_looker, begin, count_space, end, plan_of, asked_for, response_of, answered, answered_as, request_plan}
 use Rattle.fuse_plans.specs.Alterations.{sets_list, IsToldIn, MayBeAsked, AsksOnly}
 use Rattle.fuse_plans.specs.Laws.{RequestsChangeWhatTheySay, RunsChangeWhatRequestsSay}
 use Rattle.fuse_plans.proofs.AlterPieces.{pieces, Gives, gives-give, gives-stop, gives-if, gives->>=, asks-then, told-two, asks-followed_by, Asks, asks-give, asks-stop, asks-keep, asks->>=, asks-when, asks-needed, asks-needed_then, asks-on}
@@ -192,13 +191,13 @@ module _ {o : Option Operation} where
 -- ---- requests
 
 -- the work of a request, if it has a reply
-abbrev AsksIfAny : Option Operation → Option (Work ReplyBody) → Type 0
-AsksIfAny o None = Unit {0}
-AsksIfAny o (Some w) = Asks o w
+abbrev AsksIfAny : Option Operation → Task → Type 0
+AsksIfAny o (Silently f) = Unit {0}
+AsksIfAny o (Replying w) = Asks o w
 
 asks-plan : (r : Asked) (value : Option (Option AccessList)) (operation : Operation) → AsksIfAny (Some operation) (plan_of r value operation)
 asks-plan r value (Lookup name) = asks-find_name r name
-asks-plan r value Forget = tt
+asks-plan r value (Forget count) = tt
 asks-plan r value GetAttr = asks-get_attributes r
 asks-plan r value (SetAttr changes) = asks-set_attributes r changes
 asks-plan r value ReadLink = asks-read_link r
@@ -228,7 +227,7 @@ asks-plan r value (Access mask) = asks-ask_access r mask
 asks-plan r value (Create name flags mode umask) = asks-create_file flags.0 (λ is. (is, refl)) r name mode umask refl
 asks-plan r value Interrupt = tt
 asks-plan r value Destroy = asks-end
-asks-plan r value BatchForget = tt
+asks-plan r value (BatchForget batch) = tt
 asks-plan r value SyncFs = asks-sync_all
 asks-plan r value Unknown = asks-stop _
 
@@ -236,10 +235,11 @@ asks-asked_for : (r : Asked) (value : Option (Option AccessList)) (operation : O
 asks-asked_for r value None = asks-stop _
 asks-asked_for r value (Some operation) = asks-plan r value operation
 
-asks-answered : (o : Option Operation) (memory : Bool) (work : Option (Work ReplyBody)) (s : Server) → AsksIfAny o work → AsksOnly (MayBeAsked o) (answered memory work s)
-asks-answered o memory None s asks = tt
-asks-answered o true (Some w) s asks = asks-followed_by (MayBeAsked o) (w s) (λ r. Finish (response_of r.0, r.1)) (asks.at s) (λ r. tt)
-asks-answered o false (Some w) s asks = tt
+asks-answered : (o : Option Operation) (memory : Bool) (work : Task) (s : Server) → AsksIfAny o work → AsksOnly (MayBeAsked o) (answered memory work s)
+asks-answered o true (Silently f) s asks = tt
+asks-answered o false (Silently f) s asks = tt
+asks-answered o true (Replying w) s asks = asks-followed_by (MayBeAsked o) (w s) (λ r. Finish (response_of r.0, r.1)) (asks.at s) (λ r. tt)
+asks-answered o false (Replying w) s asks = tt
 
 asks-is_judged : (o : Option Operation) (node : ℕ) (judges : Bool) (s : Server) → AsksOnly (MayBeAsked o) (is_judged node judges s)
 asks-is_judged o node false s = tt

@@ -22,8 +22,8 @@ use Rattle.fuse_protocol.specs.declared.reply.Time.{Time}
 use Rattle.fuse_state.specs.declared.directory.OpenDirectory.{OpenDirectory}
 use Rattle.fuse_state.specs.declared.place.Place.{Place}
 use Rattle.fuse_state.specs.Changes.{is_gone, found}
-use Rattle.fuse_state.specs.Servers.{Server, times_of, with_listing, with_listing_of, with_name, with_generation, directory_of, with_handle, without_handle, opened, without_directory, with_end, with_the_looker, with_acls_offered}
-use Rattle.fuse_plans.specs.declared.reply.ReplyBody.{ReplyBody}
+use Rattle.fuse_state.specs.Servers.{Server, forgotten, all_forgotten, times_of, with_listing, with_listing_of, with_name, once_more, with_generation, directory_of, with_handle, without_handle, opened, without_directory, with_end, with_the_looker, with_acls_offered}
+use Rattle.fuse_state.proofs.Forgotten.{forgotten_keeps, all_forgotten_keep}
 use Rattle.fuse_plans.specs.declared.request.Asked.{Asked}
 use Rattle.fuse_plans.specs.declared.stop.Stop.{Stop}
 use Rattle.fuse_plans.specs.declared.stop.Stop.TheVariants.{Refuses, Lacks}
@@ -40,7 +40,7 @@ use Rattle.fuse_plans.specs.DirectoryPlans.{take_directory_if, take_directory, o
 use Rattle.fuse_plans.specs.AclPlans.{an_object, get_xattr, attribute_names, list_xattrs}
 use Rattle.fuse_plans.specs.Masks.{acl_of}
 use Rattle.fuse_plans.specs.Nobody.{needs_nobody_in}
-use Rattle.fuse_plans.specs.Serving.{or_looker, begin, count_space, end, plan_of, asked_for, response_of, answered, answered_as, request_plan}
+use Rattle.fuse_plans.specs.Serving.{Task, Replying, Silently, or_looker, begin, count_space, end, plan_of, asked_for, response_of, answered, answered_as, request_plan}
 use Rattle.fuse_plans.specs.Alterations.{Alteration, resizes, resizes_open, says_change, says_change_in, IsToldIn}
 use Rattle.fuse_plans.specs.Laws.{OthersChangeNothing, OthersKeepTimes}
 use Rattle.fuse_plans.proofs.AllEnds.{AllEnd, all-weaker, all-followed_by, all-run}
@@ -227,7 +227,7 @@ ruleset pieces = (basics, keeps-caller, keeps-caller_with_room, keeps-the_looker
 found-keeps : (p : Place) (n : ℕ) (kind : FileType) → KeepsTimes (found p n kind)
 found-keeps p n kind s = choose (is_gone s n)
   where
-    choose : (b : Bool) → SameTimes s (with_name p n kind (if b then with_generation n s else s))
+    choose : (b : Bool) → SameTimes s (once_more n (with_name p n kind (if b then with_generation n s else s)))
     choose true = record { times = refl; start = refl }
     choose false = record { times = refl; start = refl }
 
@@ -389,13 +389,25 @@ keeps-begin offer = search (pieces, keeps-or_looker, acls-keep) depth 20
 said-so : true ≡ false → ⊥
 said-so is = absurd (cc)
 
-abbrev KeepsIfAny : Option (Work ReplyBody) → Type 0
-KeepsIfAny None = Unit {0}
-KeepsIfAny (Some w) = Timeless w
+abbrev KeepsIfAny : Task → Type 0
+KeepsIfAny (Silently f) = KeepsTimes f
+KeepsIfAny (Replying w) = Timeless w
+
+forgotten-keep : (node count : ℕ) → KeepsTimes (forgotten node count)
+forgotten-keep node count s = record {
+  times = forgotten_keeps (λ t. t.times) (λ l t. refl) (λ k m t. refl) node count s;
+  start = forgotten_keeps (λ t. t.settings.start) (λ l t. refl) (λ k m t. refl) node count s;
+}
+
+all_forgotten-keep : (batch : List (ℕ × ℕ)) → KeepsTimes (all_forgotten batch)
+all_forgotten-keep batch s = record {
+  times = all_forgotten_keep (λ t. t.times) (λ l t. refl) (λ k m t. refl) batch s;
+  start = all_forgotten_keep (λ t. t.settings.start) (λ l t. refl) (λ k m t. refl) batch s;
+}
 
 keeps-plan : (r : Asked) (value : Option (Option AccessList)) (operation : Operation) → says_change operation ≡ false → KeepsIfAny (plan_of r value operation)
 keeps-plan r value (Lookup name) none = keeps-find_name r name
-keeps-plan r value Forget none = tt
+keeps-plan r value (Forget count) none = forgotten-keep r.node count
 keeps-plan r value GetAttr none = keeps-get_attributes r
 keeps-plan r value ReadLink none = keeps-read_link r
 keeps-plan r value (Open flags) none = keeps-open_file r flags.0 none
@@ -411,9 +423,9 @@ keeps-plan r value (ReadDir extent) none = keeps-read_directory r.node extent
 keeps-plan r value (ReleaseDir handle) none = keeps-close_directory handle
 keeps-plan r value FSyncDir none = keeps-sync_all
 keeps-plan r value (Access mask) none = keeps-ask_access r mask
-keeps-plan r value Interrupt none = tt
+keeps-plan r value Interrupt none = times-self
 keeps-plan r value Destroy none = keeps-end
-keeps-plan r value BatchForget none = tt
+keeps-plan r value (BatchForget batch) none = all_forgotten-keep batch
 keeps-plan r value SyncFs none = keeps-sync_all
 keeps-plan r value Unknown none = keeps-stop _
 keeps-plan r value _ none = absurd (said-so none)
@@ -422,11 +434,12 @@ keeps-asked_for : (r : Asked) (value : Option (Option AccessList)) (operation : 
 keeps-asked_for r value None none = keeps-stop _
 keeps-asked_for r value (Some operation) none = keeps-plan r value operation none
 
-keeps-answered : (memory : Bool) (work : Option (Work ReplyBody)) (s : Server) → KeepsIfAny work → AllEnd (λ x. SameTimes s x.1) (answered memory work s)
-keeps-answered memory None s keeps = times-self s
-keeps-answered true (Some w) s keeps =
+keeps-answered : (memory : Bool) (work : Task) (s : Server) → KeepsIfAny work → AllEnd (λ x. SameTimes s x.1) (answered memory work s)
+keeps-answered true (Silently f) s keeps = keeps s
+keeps-answered false (Silently f) s keeps = times-self s
+keeps-answered true (Replying w) s keeps =
     all-followed_by (λ x. SameTimes s x.1) (λ x. SameTimes s x.1) (w s) (λ r. Finish (response_of r.0, r.1)) (keeps.at s) (λ r same. same)
-keeps-answered false (Some w) s keeps = times-self s
+keeps-answered false (Replying w) s keeps = times-self s
 
 same-times_of : {s t : Server} → SameTimes s t → (n : ℕ) → times_of t n ≡ times_of s n
 same-times_of {s} {t} same n =

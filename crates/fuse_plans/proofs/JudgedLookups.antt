@@ -37,7 +37,7 @@ use Rattle.fuse_plans.specs.NamePlans.{or_absent, searched_directory, keeps_abse
 use Rattle.fuse_plans.specs.Masks.{told_acl, acl_of, may_hide, hides, seen_by_looker, asks_list, is_masked}
 use Rattle.fuse_plans.specs.Nobody.{unless_masked, is_judged, needs_nobody_in}
 use Rattle.fuse_plans.specs.Requests.{Request, asked_of}
-use Rattle.fuse_plans.specs.Serving.{answered, asked_for, response_of, request_plan}
+use Rattle.fuse_plans.specs.Serving.{Replying, answered, asked_for, response_of, request_plan}
 use Rattle.fuse_plans.specs.Laws.{IsDoneBy, MayBeRefused, is_masked as masked, looker_refused, JudgedLookupsAreGranted}
 use Rattle.fuse_plans.proofs.PlanLaws.{run-parts, keeps-follows}
 use Rattle.fuse_plans.proofs.Conducts.{keeps-followed_by, keeps-weaker}
@@ -591,7 +591,7 @@ AnswerBlamed m (Fails e, t) = IsTrue (is_for EACCES e) → m ≡ true
 AnswerBlamed m _ = Unit {0}
 
 answer-blames : (r : Asked) (name : List ℕ) (s : Server) (memory : Bool) → r.needs_nobody ≡ true
-    → KeepsTo (watching (is_by s.looker) denies) AnswerBlamed false (answered memory (Some (find_name r name)) s)
+    → KeepsTo (watching (is_by s.looker) denies) AnswerBlamed false (answered memory (Replying (find_name r name)) s)
 answer-blames r name s true nobody =
     keeps-followed_by (watching (is_by s.looker) denies) (Ends (is_by s.looker) denies s.looker (Blamed s.looker)) AnswerBlamed (find_name r name s)
     (λ q. Finish (response_of q.0, q.1)) false ((blames-find_name s.looker r name nobody).goes false s tt refl) answer
@@ -654,13 +654,13 @@ may_be_later p es replies x runs (looker_refused pid e refusal after own is aske
 -- a look-up that is answered in two parts
 in_parts : (r : Request) (s t : Server) (name : List ℕ) (e : Stop) → IsTrue (is_for EACCES e) → (nobody : Bool)
     → (first after : List Event) (replied rest : List Reply) → IsRunOf (is_judged r.node true s) first replied nobody
-    → IsRunOf {X = Response × Server} (answered r.memory (Some (find_name (asked_of r nobody) name)) s) after rest (Fails e, t)
+    → IsRunOf {X = Response × Server} (answered r.memory (Replying (find_name (asked_of r nobody) name)) s) after rest (Fails e, t)
     → MayBeRefused s.looker (first ++ after) (replied ++ rest)
 in_parts r s t name e for true first after replied rest found ran =
     may_be_later (is_judged r.node true s) first replied true found
     (is-denied_looker s.looker after rest
     (was_seen (is_by s.looker) denies after rest
-    ((keeps-follows (watching (is_by s.looker) denies) AnswerBlamed (answered r.memory (Some (find_name (asked_of r true) name)) s) after rest (Fails e, t) false
+    ((keeps-follows (watching (is_by s.looker) denies) AnswerBlamed (answered r.memory (Replying (find_name (asked_of r true) name)) s) after rest (Fails e, t) false
     (answer-blames (asked_of r true) name s r.memory refl) ran).1 for)))
 in_parts r s t name e for false first after replied rest found ran = may_be_more after rest (is-masked s r.node first replied found)
 
@@ -668,9 +668,9 @@ pub judged_lookups_are_granted : JudgedLookupsAreGranted
 unfolding request_plan
 judged_lookups_are_granted r s t name es replies e asks judged for runs =
     let ran =
-    subst (λ b. IsRunOf {X = Response × Server} (followed_by (is_judged r.node b s) (λ nobody. answered r.memory (Some (find_name (asked_of r nobody) name)) s)) es replies (Fails e, t)) judged
+    subst (λ b. IsRunOf {X = Response × Server} (followed_by (is_judged r.node b s) (λ nobody. answered r.memory (Replying (find_name (asked_of r nobody) name)) s)) es replies (Fails e, t)) judged
     (subst (λ o. IsRunOf {X = Response × Server} (followed_by (needs_nobody_in r.node o s) (λ nobody. answered r.memory (asked_for (asked_of r nobody) r.value o) s)) es replies (Fails e, t)) asks runs) in
-    let parts = run-parts (is_judged r.node true s) (λ nobody. answered r.memory (Some (find_name (asked_of r nobody) name)) s) es replies (Fails e, t) ran in
+    let parts = run-parts (is_judged r.node true s) (λ nobody. answered r.memory (Replying (find_name (asked_of r nobody) name)) s) es replies (Fails e, t) ran in
     subst (λ l. MayBeRefused s.looker l replies) (sym parts.all_events)
     (subst (λ l. MayBeRefused s.looker (parts.first_events ++ parts.later_events) l) (sym parts.all_replies)
     (in_parts r s t name e for parts.middle parts.first_events parts.later_events parts.first_replies parts.later_replies parts.first parts.later))

@@ -40,7 +40,7 @@ use Rattle.fuse_plans.specs.DirectoryPlans.{take_directory, take_directory_if, r
 use Rattle.fuse_plans.specs.AclPlans.{sized, set_acl}
 use Rattle.fuse_plans.specs.Requests.{Request, asked_of}
 use Rattle.fuse_plans.specs.Nobody.{is_judged, needs_nobody_in}
-use Rattle.fuse_plans.specs.Serving.{begin, count_space, end, plan_of, asked_for, answered, answered_as, request_plan}
+use Rattle.fuse_plans.specs.Serving.{Task, Replying, Silently, begin, count_space, end, plan_of, asked_for, answered, answered_as, request_plan}
 use Rattle.fuse_plans.specs.Laws.{names_an_object, IsDoneBy}
 use Rattle.fuse_plans.specs.KeepingLaws.{name_valid_in, MayKeepName, is_looked_up, is_new, NamesAreKeptWhereJudged, IsMissing, OnlyMissingNamesAreAbsent}
 use Rattle.fuse_plans.proofs.PlanLaws.{run-parts}
@@ -145,10 +145,10 @@ for-file_in r name mode umask d valid =
 
 -- ---- requests that tell no name
 
--- Some work, that tells none
-abbrev IfTellsNone : Option (Work ReplyBody) → Type 0
-IfTellsNone None = Unit {0}
-IfTellsNone (Some w) = TellsFor 0 w
+-- work, that tells none
+abbrev IfTellsNone : Task → Type 0
+IfTellsNone (Silently f) = Unit {0}
+IfTellsNone (Replying w) = TellsFor 0 w
 
 for-sized : (size has : ℕ) (body : ReplyBody) → IsFor 0 body → TellsFor 0 (sized size has body)
 for-sized size has body is = so-if _ _ _ (so-give _ (refl, refl)) (so-if _ _ _ (so-stop _) (so-give body is))
@@ -193,7 +193,7 @@ for-set_acl r which acl =
 
 plain-plan : (r : Asked) (value : Option (Option AccessList)) (operation : Operation) → names_an_object operation ≡ false → IfTellsNone (plan_of r value operation)
 plain-plan r value (Lookup name) is = absurd (cc)
-plain-plan r value Forget is = tt
+plain-plan r value (Forget count) is = tt
 plain-plan r value GetAttr is = so-after _ (λ n. so-after _ (λ status. so-kept _ (λ s. (refl, refl))))
 plain-plan r value (SetAttr changes) is =
     so-after _ (λ n. so-after _ (λ pid. so-after _ (λ kind. so-after _ (λ changed. so-after _ (λ status. so-after _ (λ timed. so-kept _ (λ s. (refl, refl))))))))
@@ -206,7 +206,7 @@ plain-plan r value (RmDir name) is = so-after _ (λ who. so-after _ (λ done. so
 plain-plan r value (Rename name new_directory new_name flags) is =
     so-after _ (λ may. so-after _ (λ d. so-after _ (λ new. so-after _ (λ pid. so-after _ (λ free. so-after _ (λ done. so-after _ (λ moved. so-give _ (refl, refl))))))))
 plain-plan r value (Link node name) is =
-    so-after _ (λ d. so-after _ (λ n. so-after _ (λ pid. so-after _ (λ linked. so-after _ (λ kind. so-after _ (λ noted. so-after _ (λ status. so-kept _ (λ s. (refl, refl)))))))))
+    so-after _ (λ d. so-after _ (λ n. so-after _ (λ pid. so-after _ (λ linked. so-after _ (λ kind. so-after _ (λ noted. so-after _ (λ status. so-after _ (λ counted. so-kept _ (λ s. (refl, refl))))))))))
 plain-plan r value (Open flags) is =
     so-after _ (λ n. so-after _ (λ mode. so-after _ (λ pid. so-after _ (λ asked. so-after _ (λ handle. so-kept _ (λ s. (refl, refl)))))))
 plain-plan r value (Read extent) is = so-after _ (λ sought. so-after _ (λ bytes. so-give _ (refl, refl)))
@@ -227,7 +227,7 @@ plain-plan r value (Access mask) is = so-after _ (λ n. so-after _ (λ kind. so-
 plain-plan r value (Create name flags mode umask) is = absurd (cc)
 plain-plan r value Interrupt is = tt
 plain-plan r value Destroy is = for-end
-plain-plan r value BatchForget is = tt
+plain-plan r value (BatchForget batch) is = tt
 plain-plan r value SyncFs is = for-sync_all
 plain-plan r value Unknown is = so-stop _
 
@@ -583,30 +583,37 @@ find_missing r name s t valid es replies nobody runs =
 
 -- ---- each request
 
-record Worked (w : Option (Work ReplyBody)) (s t : Server) (es : List Event) (replies : List Reply) (body : ReplyBody) : Type 0 where
+record Worked (w : Task) (s t : Server) (es : List Event) (replies : List Reply) (body : ReplyBody) : Type 0 where
   work : Work ReplyBody
-  is : w ≡ Some work
+  is : w ≡ Replying work
   runs : EndsWell (work s) es replies body t
 
-worked : (memory : Bool) (w : Option (Work ReplyBody)) (s t : Server) (es : List Event) (replies : List Reply) (body : ReplyBody)
+worked : (memory : Bool) (w : Task) (s t : Server) (es : List Event) (replies : List Reply) (body : ReplyBody)
     → IsRunOf {X = Response × Server} (answered memory w s) es replies (Says body, t) → Worked w s t es replies body
-worked memory None s t es replies body runs =
+worked true (Silently f) s t es replies body runs =
+    let ends = finished (Silence, f s) (Says body, t) es replies runs in
+    absurd (let no : Says body ≡ Silence = ap (λ q. q.0) ends.2 in cc)
+worked false (Silently f) s t es replies body runs =
     let ends = finished (Silence, s) (Says body, t) es replies runs in
     absurd (let no : Says body ≡ Silence = ap (λ q. q.0) ends.2 in cc)
-worked true (Some w) s t es replies body runs = record { work = w; is = refl; runs = was_told (w s) body t es replies runs }
-worked false (Some w) s t es replies body runs =
+worked true (Replying w) s t es replies body runs = record { work = w; is = refl; runs = was_told (w s) body t es replies runs }
+worked false (Replying w) s t es replies body runs =
     let ends = finished (Fails (failed ENOMEM), s) (Says body, t) es replies runs in
     absurd (let no : Says body ≡ Fails (failed ENOMEM) = ap (λ q. q.0) ends.2 in cc)
 
 -- of an answer that tells no name
-told_none : (w : Option (Work ReplyBody)) (s t : Server) (es : List Event) (replies : List Reply) (body : ReplyBody) → IfTellsNone w → Worked w s t es replies body → IsFor 0 body
-told_none None s t es replies body none done = absurd (let no : None ≡ Some done.work = done.is in cc)
-told_none (Some w) s t es replies body none done = so-run done.work s t es replies body (subst IfTellsNone done.is none) done.runs
+told_none : (w : Task) (s t : Server) (es : List Event) (replies : List Reply) (body : ReplyBody) → IfTellsNone w → Worked w s t es replies body → IsFor 0 body
+told_none (Silently f) s t es replies body none done = absurd (let no : Silently f ≡ Replying done.work = done.is in cc)
+told_none (Replying w) s t es replies body none done = so-run done.work s t es replies body (subst IfTellsNone done.is none) done.runs
 
 -- the work that is there
-work_is : (w v : Work ReplyBody) (s t : Server) (es : List Event) (replies : List Reply) (body : ReplyBody) → Some w ≡ Some v → EndsWell (v s) es replies body t
+abbrev work_in : Work ReplyBody → Task → Work ReplyBody
+work_in w (Replying v) = v
+work_in w (Silently f) = w
+
+work_is : (w v : Work ReplyBody) (s t : Server) (es : List Event) (replies : List Reply) (body : ReplyBody) → Replying w ≡ Replying v → EndsWell (v s) es replies body t
     → EndsWell (w s) es replies body t
-work_is w v s t es replies body is runs = subst (λ (o : Option (Work ReplyBody)). EndsWell (unwrap_or o w s) es replies body t) (sym is) runs
+work_is w v s t es replies body is runs = subst (λ (o : Task). EndsWell (work_in w o s) es replies body t) (sym is) runs
 
 nothing_before : (r : Request) (s : Server) (b nobody : Bool) (first after : List Event) (replied rest : List Reply) → IsRunOf (Finish b) first replied nobody
     → Kept r s after rest → Kept r s (first ++ after) (replied ++ rest)
@@ -650,7 +657,7 @@ module _ (r : Request) (s t : Server) (body : ReplyBody) (lt : 0 < name_valid_in
       → IsRunOf (needs_nobody_in r.node operation s) first replied nobody → Worked (asked_for (asked_of r nobody) r.value operation) s t after rest body
       → Kept r s (first ++ after) (replied ++ rest)
   operation_kept None asks nobody first after replied rest found done =
-      absurd (positive _ lt (told_none (Some (stop (failed EINVAL))) s t after rest body (so-stop _) done).0)
+      absurd (positive _ lt (told_none (Replying (stop (failed EINVAL))) s t after rest body (so-stop _) done).0)
   operation_kept (Some operation) asks nobody first after replied rest found done = choose (names_an_object operation) refl
     where
       choose : (b : Bool) → names_an_object operation ≡ b → Kept r s (first ++ after) (replied ++ rest)
@@ -669,18 +676,18 @@ names_are_kept_where_judged r s t body es replies lt runs =
 -- ---- nothing has the name
 
 there-named : (r : Asked) (value : Option (Option AccessList)) (operation : Operation) → names_an_object operation ≡ true
-    → ((name : List ℕ) → operation ≡ Lookup name → ⊥) → (w : Work ReplyBody) → plan_of r value operation ≡ Some w → TellsSo IsThere w
+    → ((name : List ℕ) → operation ≡ Lookup name → ⊥) → (w : Work ReplyBody) → plan_of r value operation ≡ Replying w → TellsSo IsThere w
 there-named r value (Lookup name) is other w same = absurd (other name refl)
 there-named r value (SymLink name target) is other w same =
-    subst (λ o. TellsSo IsThere (unwrap_or o w)) same (so-after _ (λ d. so-after _ (λ valid. so-after _ (λ pid. so-weaker (λ body is_for. is_for.1) (for-make_by r.now valid pid d (Symlink target name) name)))))
+    subst (λ o. TellsSo IsThere (work_in w o)) same (so-after _ (λ d. so-after _ (λ valid. so-after _ (λ pid. so-weaker (λ body is_for. is_for.1) (for-make_by r.now valid pid d (Symlink target name) name)))))
 there-named r value (MkNod name mode umask) is other w same =
-    subst (λ o. TellsSo IsThere (unwrap_or o w)) same
+    subst (λ o. TellsSo IsThere (work_in w o)) same
     (so-after _ (λ file. so-after _ (λ d. so-after _ (λ valid. so-weaker (λ body is_for. is_for.1) (for-file_in r name mode umask d valid)))))
 there-named r value (MkDir name mode umask) is other w same =
-    subst (λ o. TellsSo IsThere (unwrap_or o w)) same
+    subst (λ o. TellsSo IsThere (work_in w o)) same
     (so-after _ (λ d. so-after _ (λ valid. so-after _ (λ pid. so-after _ (λ masked. so-weaker (λ body is_for. is_for.1) (for-make_by r.now valid pid d (Mkdir name (bit_and mode 0o7777)) name))))))
 there-named r value (Create name flags mode umask) is other w same =
-    subst (λ o. TellsSo IsThere (unwrap_or o w)) same
+    subst (λ o. TellsSo IsThere (work_in w o)) same
     (so-after _ (λ plain. so-after _ (λ way. so-after _ (λ d. so-after _ (λ valid.
     so-weaker (λ body is_for. is_for.1) (for-create_in r name way flags.0 mode umask d valid))))))
 there-named r value _ is other w same = absurd (cc)
@@ -716,7 +723,7 @@ module _ (r : Request) (s t : Server) (valid : ℕ) where
 
   operation_missing : (operation : Option Operation) (nobody : Bool) (after : List Event) (rest : List Reply)
       → Worked (asked_for (asked_of r nobody) r.value operation) s t after rest (Absent valid) → IsMissing s.looker after rest
-  operation_missing None nobody after rest done = absurd (never (told_none (Some (stop (failed EINVAL))) s t after rest (Absent valid) (so-stop _) done).1)
+  operation_missing None nobody after rest done = absurd (never (told_none (Replying (stop (failed EINVAL))) s t after rest (Absent valid) (so-stop _) done).1)
   operation_missing (Some operation) nobody after rest done = choose (names_an_object operation) refl
     where
       choose : (b : Bool) → names_an_object operation ≡ b → IsMissing s.looker after rest

@@ -18,7 +18,7 @@ use Rattle.fuse_plans.specs.declared.reply.ReplyBody.{ReplyBody}
 use Rattle.fuse_protocol.specs.declared.operation.Operation.TheVariants.{Rename, Link}
 use Rattle.fuse_protocol.specs.declared.reply.Time.{Time}
 use Rattle.fuse_state.specs.declared.place.Place.{Place}
-use Rattle.fuse_state.specs.Servers.{Server, places_of, named, kind_of, with_generation, with_name, without_name}
+use Rattle.fuse_state.specs.Servers.{once_more, Server, places_of, named, kind_of, with_generation, with_name, without_name}
 use Rattle.fuse_state.specs.Changes.{is_gone, found, changed_if, removed, named_if, moved_to, moved, linked}
 use Rattle.fuse_state.proofs.StateLaws.{all_places_then}
 use Rattle.fuse_plans.specs.Acts.{Subject, given_name, node_of_object, IsGivenName, IsNewName, is_new, IsStandingDirectory, IsObject, IsKnownPlace, IsOfRequest, is_given, is_new_name, named_in, path_changed, ActsWithin, on_one, changes, moves, links, without_path}
@@ -26,7 +26,7 @@ use Rattle.fuse_plans.specs.Conduct.{Known, Rights, conduct, Fits, stays}
 use Rattle.fuse_plans.specs.Works.{give, stop, kept, keep, ◌>>=◌, ◌>>◌}
 use Rattle.fuse_plans.specs.Callers.{caller, the_looker, by_places}
 use Rattle.fuse_plans.specs.NamePlans.{place, plain_name, directory_for, tell_entry, found_or_absent, or_absent, new_valid, searched_directory, find_inside, find_name, made, directory_and_caller, make_link, make_directory, open_and_close, make_file, remove, none_there, may_move, rename, move_name, link_by_place, add_link}
-use Rattle.fuse_plans.proofs.Conducts.{Any, Still, SameOwn, LeftTo, Does, Lasts, DoesTo, Gives, does-give, does-stop, does-kept, does->>=, does-attempt, does-lasts, lasts->>=, ends->>=, keep-lasts, then-lasts, then-does_to, does-does_to, attempt-does_to, gives-give}
+use Rattle.fuse_plans.proofs.Conducts.{Any, Still, SameOwn, LeftTo, Does, Lasts, DoesTo, Gives, does-give, does-stop, does-kept, does-keep, does->>=, does-attempt, does-lasts, lasts->>=, ends->>=, keep-lasts, then-lasts, then-does_to, does-does_to, attempt-does_to, gives-give}
 use Rattle.fuse_plans.proofs.Calls.{AsksOf, CanCall, ActsAt, does-obtain, does-between, does-done_between, does-by_places, known-places, does-look_inside, lasts-with_looker, looks, does-look, is-object, gives-number, gives-standing_directory}
 use Rattle.fuse_plans.proofs.MaskConducts.{does-new_valid_of}
 use Rattle.fuse_plans.proofs.Chosen.{OfCaller, about-caller, gives-with, does-caller, does-caller_with_room}
@@ -252,4 +252,4 @@ module _ {rights : Rights} (r : Asked) (is : rights.cred ≡ r.cred) (node : rig
       lasts->>= (does-link_by_place pid n d name object in_it) (λ done.
       lasts->>= (does-kept _) (λ kind.
       keep-lasts {Q = Leads rights n} (linked r.now (named_in d name) n kind) (linked-same r.now (named_in d name) n kind) (linked-leads r.now pid d n name kind object in_it)
-      (does-lasts (does->>= (does-look n (record { object = object; places = λ s leads. leads })) (λ status. does-tell_entry 0 status))))))))
+      (does-lasts (does->>= (does-look n (record { object = object; places = λ s leads. leads })) (λ status. does->>= (does-keep (once_more status.inode) (λ s. (refl, refl)) (λ s leads. leads)) (λ counted. does-tell_entry 0 status)))))))))

@@ -45,7 +45,7 @@ is_lookup _ = false
 
 pub at_once : (node : ℕ) (operation : Operation) (s : Server) → is_lookup operation ≡ false → needs_nobody node operation s ≡ Finish (not (needs_caller operation))
 at_once node (Lookup name) s is = absurd (cc)
-at_once node Forget s is = refl
+at_once node (Forget count) s is = refl
 at_once node GetAttr s is = refl
 at_once node (SetAttr changes) s is = refl
 at_once node ReadLink s is = refl
@@ -75,7 +75,7 @@ at_once node (Access mask) s is = refl
 at_once node (Create name flags mode umask) s is = refl
 at_once node Interrupt s is = refl
 at_once node Destroy s is = refl
-at_once node BatchForget s is = refl
+at_once node (BatchForget batch) s is = refl
 at_once node SyncFs s is = refl
 at_once node Unknown s is = refl
 
@@ -123,7 +123,7 @@ module _ (rights : Rights) (node : ℕ) (same : rights.subject.node ≡ node) (s
 alike-plan : (r : Asked) (cred : Option Credential) (value : Option (Option AccessList)) (operation : Operation) → needs_caller operation ≡ false
     → plan_of (record r { cred = cred }) value operation ≡ plan_of r value operation
 alike-plan r cred value (Lookup name) is = absurd (cc)
-alike-plan r cred value Forget is = refl
+alike-plan r cred value (Forget count) is = refl
 alike-plan r cred value GetAttr is = refl
 alike-plan r cred value (SetAttr changes) is = absurd (cc)
 alike-plan r cred value ReadLink is = refl
@@ -153,7 +153,7 @@ alike-plan r cred value (Access mask) is = absurd (cc)
 alike-plan r cred value (Create name flags mode umask) is = absurd (cc)
 alike-plan r cred value Interrupt is = refl
 alike-plan r cred value Destroy is = refl
-alike-plan r cred value BatchForget is = refl
+alike-plan r cred value (BatchForget batch) is = refl
 alike-plan r cred value SyncFs is = refl
 alike-plan r cred value Unknown is = refl
 

@@ -40,7 +40,7 @@ use Rattle.fuse_plans.specs.Flags.{mode_in, is_trunc}
 use Rattle.fuse_plans.specs.Laws.{OpenedIsTheObject}
 use Rattle.fuse_plans.specs.Requests.{asked_of}
 use Rattle.fuse_plans.specs.Nobody.{needs_nobody_in}
-use Rattle.fuse_plans.specs.Serving.{answered, asked_for, response_of, request_plan}
+use Rattle.fuse_plans.specs.Serving.{Replying, answered, asked_for, response_of, request_plan}
 use Rattle.fuse_plans.proofs.PlanLaws.{run-parts}
 
 -- ---- what is asked
@@ -376,7 +376,7 @@ was_told (Ask e next) body t (g ∷ es) [] runs = elim runs [ ]
 was_told (Ask e next) body t (g ∷ es) (reply ∷ replies) runs = (runs.0, was_told (next reply) body t es replies runs.1)
 
 answered_held : (r : Asked) (flags : ℕ) (memory : Bool) (s t : Server) (es : List Event) (replies : List Reply) (handle : ℕ) (keeping : OpenedFlags)
-    → IsRunOf {X = Response × Server} (answered memory (Some (open_file r flags)) s) es replies (Says (Opened handle keeping), t) → OfNode r s t es replies handle
+    → IsRunOf {X = Response × Server} (answered memory (Replying (open_file r flags)) s) es replies (Says (Opened handle keeping), t) → OfNode r s t es replies handle
 answered_held r flags true s t es replies handle keeping runs = file_held r flags s t es replies handle keeping (was_told (open_file r flags s) (Opened handle keeping) t es replies runs)
 answered_held r flags false s t es replies handle keeping runs =
     let ends = finished (Fails (failed ENOMEM), s) (Says (Opened handle keeping), t) es replies runs in

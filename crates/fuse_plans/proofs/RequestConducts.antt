@@ -16,7 +16,8 @@ use Rattle.fuse_protocol.specs.declared.operation.Offer.{Offer}
 use Rattle.fuse_protocol.specs.declared.operation.Operation.{Operation}
 use Rattle.fuse_protocol.specs.declared.operation.Operation.TheVariants.{Lookup, Forget, GetAttr, SetAttr, ReadLink, SymLink, MkNod, MkDir, Unlink, RmDir, Rename, Link, Open, Read, Write, StatFs, Release, FSync, SetXAttr, GetXAttr, ListXAttr, RemoveXAttr, Init, OpenDir, ReadDir, ReleaseDir, FSyncDir, Access, Create, Interrupt, Destroy, BatchForget, SyncFs, Unknown}
 use Rattle.fuse_plans.specs.declared.reply.ReplyBody.{ReplyBody}
-use Rattle.fuse_state.specs.Servers.{Server, with_the_looker, with_acls_offered, WithinShares}
+use Rattle.fuse_state.specs.Servers.{Server, with_the_looker, with_acls_offered, WithinShares, forgotten, all_forgotten}
+use Rattle.fuse_state.proofs.Forgotten.{forgotten_keeps, all_forgotten_keep}
 use Rattle.fuse_state.proofs.Holders.{holding_of, same_within}
 use Rattle.fuse_plans.specs.Works.{Work, give, stop, kept, keep, goes_on, ◌>>=◌, ◌>>◌, ask, unless_refused, replied_pid}
 use Rattle.fuse_plans.specs.Requests.{Request, asked_of}
@@ -24,10 +25,10 @@ use Rattle.fuse_plans.specs.Nobody.{needs_nobody_in}
 use Rattle.fuse_plans.specs.Acts.{name_of_operation, given_name, node_asked, node_of_object}
 use Rattle.fuse_plans.specs.Conduct.{Known, Rights, conduct, after_begin, after_spawn}
 use Rattle.fuse_plans.specs.NamePlans.{removal}
-use Rattle.fuse_plans.specs.Serving.{agreed, later_version, or_looker, offers_acls, begin, plan_of, asked_for, response_of, answered, answered_as, request_plan}
+use Rattle.fuse_plans.specs.Serving.{Task, Replying, Silently, agreed, later_version, or_looker, offers_acls, begin, plan_of, asked_for, response_of, answered, answered_as, request_plan}
 use Rattle.fuse_plans.specs.Laws.{RunsBehave, server_rights, Begun, BeginningBehaves, handle_of_operation, handle_in, is_beginning, is_init, rights_of, known_in, Ends, RequestsBehave}
 use Rattle.fuse_plans.proofs.PlanLaws.{keeps-follows}
-use Rattle.fuse_plans.proofs.Conducts.{Any, Still, Left, Lasts, does-stop, does-lasts, keeps-followed_by}
+use Rattle.fuse_plans.proofs.Conducts.{Any, Still, SameOwn, Left, Lasts, does-stop, does-lasts, keeps-followed_by}
 use Rattle.fuse_plans.proofs.Calls.{AsksOf}
 use Rattle.fuse_plans.proofs.NobodyConducts.{AtHome, keeps-needs_nobody_in}
 use Rattle.fuse_plans.proofs.NameConducts.{lasts-find_name, lasts-make_link, lasts-make_directory, lasts-make_file, lasts-remove, lasts-move_name, lasts-add_link}
@@ -35,9 +36,17 @@ use Rattle.fuse_plans.proofs.FileConducts.{lasts-open_file, lasts-create_file, d
 use Rattle.fuse_plans.proofs.OtherConducts.{HandleIs, lasts-get_attributes, lasts-set_attributes, lasts-set_xattr, lasts-remove_xattr, lasts-ask_access, lasts-open_directory, lasts-read_link, lasts-read_directory, does-close_directory, lasts-get_xattr, lasts-list_xattrs, does-sync_all, does-sync_file, does-count_space, does-end}
 
 -- the work of a request, if it has a reply
-abbrev LastsIfAny : Rights → Option (Work ReplyBody) → Type 0
-LastsIfAny rights None = Unit {0}
-LastsIfAny rights (Some w) = Lasts rights (Still rights) w
+abbrev LastsIfAny : Rights → Task → Type 0
+LastsIfAny rights (Silently f) = SameOwn f
+LastsIfAny rights (Replying w) = Lasts rights (Still rights) w
+
+forgotten-same : (node count : ℕ) → SameOwn (forgotten node count)
+forgotten-same node count s =
+    (forgotten_keeps holding_of (λ l t. refl) (λ k m t. refl) node count s, forgotten_keeps (λ t. t.looker) (λ l t. refl) (λ k m t. refl) node count s)
+
+all_forgotten-same : (batch : List (ℕ × ℕ)) → SameOwn (all_forgotten batch)
+all_forgotten-same batch s =
+    (all_forgotten_keep holding_of (λ l t. refl) (λ k m t. refl) batch s, all_forgotten_keep (λ t. t.looker) (λ l t. refl) (λ k m t. refl) batch s)
 
 handle_is : (rights : Rights) (o : Option ℕ) → rights.handle ≡ o → HandleIs rights o
 handle_is rights None is = tt
@@ -56,7 +65,7 @@ module _ (rights : Rights) (r : Asked) (is : rights.cred ≡ r.cred) (node : rig
   does-plan : (value : Option (Option AccessList)) (operation : Operation) → rights.subject.operation ≡ Some operation → IsFalse (is_beginning operation)
       → rights.handle ≡ handle_of_operation operation → LastsIfAny rights (plan_of r value operation)
   does-plan value (Lookup name) asks other given = lasts-find_name r is node name (gives_name _ asks name refl)
-  does-plan value Forget asks other given = tt
+  does-plan value (Forget count) asks other given = forgotten-same r.node count
   does-plan value GetAttr asks other given = lasts-get_attributes r is (of_node _ asks (λ k. refl))
   does-plan value (SetAttr changes) asks other given = lasts-set_attributes r is (of_node _ asks (λ k. refl)) changes (handle_is rights changes.handle given)
   does-plan value ReadLink asks other given = lasts-read_link r is (of_node _ asks (λ k. refl))
@@ -84,9 +93,9 @@ module _ (rights : Rights) (r : Asked) (is : rights.cred ≡ r.cred) (node : rig
   does-plan value FSyncDir asks other given = does-lasts does-sync_all
   does-plan value (Access mask) asks other given = lasts-ask_access r is (of_node _ asks (λ k. refl)) mask
   does-plan value (Create name flags mode umask) asks other given = lasts-create_file r is node (of_node _ asks (λ k. refl)) name flags.0 mode umask (gives_name _ asks name refl)
-  does-plan value Interrupt asks other given = tt
+  does-plan value Interrupt asks other given = λ s. (refl, refl)
   does-plan value Destroy asks other given = does-lasts does-end
-  does-plan value BatchForget asks other given = tt
+  does-plan value (BatchForget batch) asks other given = all_forgotten-same batch
   does-plan value SyncFs asks other given = does-lasts does-sync_all
   does-plan value Unknown asks other given = does-lasts (does-stop _)
 
@@ -103,18 +112,24 @@ answers_end rights s same start known r left = record {
   shares = λ within. left.shares (subst WithinShares (sym start) within);
 }
 
-answers : (rights : Rights) (s : Server) → rights.looker ≡ s.looker → rights.subject.start ≡ s → (memory : Bool) (work : Option (Work ReplyBody)) → LastsIfAny rights work
+answers : (rights : Rights) (s : Server) → rights.looker ≡ s.looker → rights.subject.start ≡ s → (memory : Bool) (work : Task) → LastsIfAny rights work
     → (known : Known) → known.away ≡ None → known.processes ≡ s.processes → KeepsTo (conduct rights) (Ends s) known (answered memory work s)
-answers rights s same start memory None lasts known home processes =
+answers rights s same start true (Silently f) holds known home processes = record {
+  home = home;
+  processes = processes ∙ ap (λ h. h.0) (sym (holds s).0);
+  looker = (holds s).1;
+  shares = λ within. same_within s (f s) (holds s).0 within;
+}
+answers rights s same start false (Silently f) holds known home processes =
     record { home = home; processes = processes; looker = refl; shares = λ within. within }
-answers rights s same start true (Some w) lasts known home processes =
+answers rights s same start true (Replying w) lasts known home processes =
     keeps-followed_by (conduct rights) (Left rights Any) (Ends s) (w s) (λ r. Finish (response_of r.0, r.1)) known
     (lasts.goes known s (record { home = home; processes = processes; looker = sym same; shares = λ within. subst WithinShares start within; holds = begins_still }))
     (λ n r left. answers_end rights s same start n r left)
   where
     begins_still : Still rights s
     begins_still = record { kinds = ap (λ t. t.kinds) (sym start); generations = ap (λ t. t.generations) (sym start); names = ap (λ t. t.names) (sym start) }
-answers rights s same start false (Some w) lasts known home processes =
+answers rights s same start false (Replying w) lasts known home processes =
     record { home = home; processes = processes; looker = refl; shares = λ within. within }
 
 pub requests_behave : RequestsBehave
@@ -194,7 +209,7 @@ begins_alone r s offer = choose (nat_lt offer.major 7) (nat_lt 7 offer.major)
     choose false true = (refl, refl)
     choose false false = welcomes r s offer s.looker
 
-begins : (r : Request) (s : Server) (memory : Bool) (offer : Offer) → KeepsTo (conduct (server_rights r s)) (Begun s) (known_in s) (answered memory (Some (begin offer)) s)
+begins : (r : Request) (s : Server) (memory : Bool) (offer : Offer) → KeepsTo (conduct (server_rights r s)) (Begun s) (known_in s) (answered memory (Replying (begin offer)) s)
 begins r s true offer =
     keeps-followed_by (conduct (server_rights r s)) (Alone s) (Begun s) (begin offer s) (λ r. Finish (response_of r.0, r.1)) (known_in s) (begins_alone r s offer)
     (λ known q left. record { home = left.0; processes = ap (λ k. k.0) left.1; shares = same_within s q.1 left.1 })

@@ -57,14 +57,14 @@ pub unlink_open : played new (
     ∷ asks 1 0 0 (Some []) 1000000035 (AddLink 4294967299 (codes "v2")) (Done ∷ Done ∷ Done ∷ Done ∷ (Shown (status 3 File 493 2 0 0 0)) ∷ Done ∷ [])
     ∷ asks 1 0 0 (Some []) 1000000036 (Lookup (codes "v")) (Done ∷ (Shown (status 3 File 493 2 0 0 0)) ∷ Done ∷ [])
     ∷ asks 4294967299 0 0 (Some []) 1000000037 (OpenFile (record { 0 = 32770 })) (Done ∷ (Fd 0) ∷ Done ∷ (Shown (status 3 File 493 2 0 0 0)) ∷ [])
-    ∷ asks 4294967298 0 0 None 1000000038 (Forget) []
+    ∷ asks 4294967298 0 0 None 1000000038 (Forget 1) []
     ∷ asks 1 0 0 (Some []) 1000000039 (Lookup (codes "v2")) (Done ∷ (Shown (status 3 File 493 2 0 0 0)) ∷ Done ∷ [])
     ∷ asks 1 0 0 (Some []) 1000000040 (UnlinkName (codes "v2")) (Done ∷ Done ∷ Done ∷ [])
     ∷ asks 4294967299 0 0 (Some []) 1000000041 (SetAttr (record { mode = (Some 33152); uid = None; gid = None; size = None; atime = None; mtime = None; handle = None })) (Done ∷ Done ∷ Done ∷ Done ∷ (Shown (status 3 File 384 1 0 0 0)) ∷ Done ∷ [])
     ∷ asks 1 0 0 (Some []) 1000000042 (Lookup (codes "v")) (Done ∷ (Shown (status 3 File 384 1 0 0 0)) ∷ Done ∷ [])
     ∷ asks 1 0 0 (Some []) 1000000043 (UnlinkName (codes "v")) (Done ∷ Done ∷ Done ∷ [])
     ∷ asks 4294967299 0 0 None 1000000044 (Release 64) (Done ∷ [])
-    ∷ asks 4294967299 0 0 None 1000000045 (Forget) []
+    ∷ asks 4294967299 0 0 None 1000000045 (Forget 1) []
     ∷ asks 1 0 0 (Some []) 1000000046 (GetAttr) ((Shown (status 1 Directory 493 1 0 0 128)) ∷ [])
     ∷ asks 1 0 0 (Some []) 1000000047 (StatFs) ((Space 877 61) ∷ [])
     ∷ []) ≡

@@ -38,7 +38,7 @@ use Rattle.fuse_plans.specs.FilePlans.{or_opened, open_or_make, show_open, look_
 use Rattle.fuse_plans.specs.Laws.{told_entry, names_an_object, LeadsToShown, ToldNodesLeadToObjects}
 use Rattle.fuse_plans.specs.Requests.{asked_of}
 use Rattle.fuse_plans.specs.Nobody.{needs_nobody_in}
-use Rattle.fuse_plans.specs.Serving.{response_of, plan_of, asked_for, answered, answered_as, request_plan}
+use Rattle.fuse_plans.specs.Serving.{Task, Replying, Silently, response_of, plan_of, asked_for, answered, answered_as, request_plan}
 use Rattle.fuse_plans.proofs.PlanLaws.{run-parts}
 use Rattle.fuse_plans.proofs.AllEnds.{AllEnd, all-weaker, all-followed_by, all-run}
 use Rattle.fuse_plans.proofs.Staying.{Stays, stays-new_valid}
@@ -392,10 +392,10 @@ tells-create_file r name flags file_mode umask =
 
 -- ---- each request
 
--- Some work, that tells
-abbrev IfTells : Option (Work ReplyBody) → Type 0
-IfTells None = ⊥
-IfTells (Some w) = Tells w
+-- work, that tells
+abbrev IfTells : Task → Type 0
+IfTells (Silently f) = ⊥
+IfTells (Replying w) = Tells w
 
 tells-plan : (r : Asked) (value : Option (Option AccessList)) (operation : Operation) → IsTrue (names_an_object operation) → IfTells (plan_of r value operation)
 tells-plan r value (Lookup name) is = tells-find_name r name
@@ -415,14 +415,15 @@ abbrev AnswerOf : Server → Response × Server → Type 0
 AnswerOf s (Says body, t) = ToldOf s (Ok body, t)
 AnswerOf s _ = Unit {0}
 
-tells-answer : (s : Server) (memory : Bool) (work : Option (Work ReplyBody)) → IfTells work → AllEnd (AnswerOf s) (answered memory work s)
-tells-answer s memory None tells = absurd tells
-tells-answer s true (Some w) tells = all-followed_by (ToldOf s) (AnswerOf s) (w s) (λ r. Finish (response_of r.0, r.1)) (tells.at s) answer
+tells-answer : (s : Server) (memory : Bool) (work : Task) → IfTells work → AllEnd (AnswerOf s) (answered memory work s)
+tells-answer s true (Silently f) tells = absurd tells
+tells-answer s false (Silently f) tells = absurd tells
+tells-answer s true (Replying w) tells = all-followed_by (ToldOf s) (AnswerOf s) (w s) (λ r. Finish (response_of r.0, r.1)) (tells.at s) answer
   where
     answer : (r : Result ReplyBody Stop × Server) → ToldOf s r → AnswerOf s (response_of r.0, r.1)
     answer (Ok body, t) of_body = of_body
     answer (Err e, t) nothing = tt
-tells-answer s false (Some w) tells = tt
+tells-answer s false (Replying w) tells = tt
 
 pub told_nodes_lead_to_objects : ToldNodesLeadToObjects
 unfolding request_plan

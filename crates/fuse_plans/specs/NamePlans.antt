@@ -16,7 +16,7 @@ use Rattle.fuse_protocol.specs.declared.reply.Time.{Time}
 use Rattle.fuse_plans.specs.declared.reply.ReplyBody.{ReplyBody}
 use Rattle.fuse_plans.specs.declared.reply.ReplyBody.TheVariants.{Nothing, Found, Absent}
 use Rattle.fuse_plans.specs.declared.reply.Attributes.{Attributes}
-use Rattle.fuse_state.specs.Servers.{Server, node_of, kind_of, places_of, times_of, born}
+use Rattle.fuse_state.specs.Servers.{Server, node_of, kind_of, places_of, times_of, once_more, born}
 use Rattle.fuse_state.specs.Changes.{found, removed, moved, linked}
 use Rattle.fuse_state.specs.declared.place.Place.{Place}
 use Rattle.fuse_state.specs.declared.settings.Settings.{Settings}
@@ -274,6 +274,7 @@ tell_linked now p n = do
   kind ← kept (λ s. kind_of s n)
   keep (linked now p n kind)
   status ← look n
+  keep (once_more status.inode)
   tell_entry 0 status
 
 -- who asks gives an object one more name

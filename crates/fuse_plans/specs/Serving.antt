@@ -1,5 +1,5 @@
 -- The plan of each request, and of requests one after another.
---     plan_of        of an operation
+--     Task, plan_of        of an operation
 --     answered_as        the answer, once it is known whether who asks counts
 --     request_plan        of a request, with its answer
 --     requests_plan        of several, one after another
@@ -22,7 +22,7 @@ use Rattle.fuse_plans.specs.declared.reply.ReplyBody.{ReplyBody}
 use Rattle.fuse_plans.specs.declared.reply.ReplyBody.TheVariants.{Space, Agreed}
 use Rattle.fuse_plans.specs.declared.reply.Response.{Response}
 use Rattle.fuse_plans.specs.declared.reply.Response.TheVariants.{Silence, Says, Fails}
-use Rattle.fuse_state.specs.Servers.{Server, with_the_looker, with_acls_offered, with_end}
+use Rattle.fuse_state.specs.Servers.{Server, forgotten, all_forgotten, with_the_looker, with_acls_offered, with_end}
 use Rattle.fuse_state.specs.declared.settings.Settings.{Settings}
 use Rattle.fuse_plans.specs.Works.{Work, give, stop, kept, keep, ◌>>=◌, ◌>>◌, obtain, replied_pid, replied_space}
 use Rattle.fuse_plans.specs.Nobody.{needs_nobody_in}
@@ -95,46 +95,51 @@ end = do
 
 -- ---- each operation
 
--- None: there is no reply. The value of an attribute is that of the request.
-abbrev pub plan_of : Asked → Option (Option AccessList) → Operation → Option (Work ReplyBody)
-plan_of r value (Lookup name) = Some (find_name r name)
-plan_of r value Forget = None
-plan_of r value GetAttr = Some (get_attributes r)
-plan_of r value (SetAttr changes) = Some (set_attributes r changes)
-plan_of r value ReadLink = Some (read_link r)
-plan_of r value (SymLink name target) = Some (make_link r name target)
-plan_of r value (MkNod name mode umask) = Some (make_file r name mode umask)
-plan_of r value (MkDir name mode umask) = Some (make_directory r name mode umask)
-plan_of r value (Unlink name) = Some (remove r (removal false) name)
-plan_of r value (RmDir name) = Some (remove r (removal true) name)
-plan_of r value (Rename name new_directory new_name flags) = Some (move_name r name new_directory new_name flags)
-plan_of r value (Link node name) = Some (add_link r node name)
-plan_of r value (Open flags) = Some (open_file r flags.0)
-plan_of r value (Read extent) = Some (read_file extent)
-plan_of r value (Write handle offset bytes) = Some (write_file r handle offset bytes)
-plan_of r value StatFs = Some count_space
-plan_of r value (Release handle) = Some (close_file handle)
-plan_of r value (FSync handle) = Some (sync_file handle)
-plan_of r value (SetXAttr name bytes) = Some (set_xattr r name value)
-plan_of r value (GetXAttr name size) = Some (get_xattr r name size)
-plan_of r value (ListXAttr size) = Some (list_xattrs r size)
-plan_of r value (RemoveXAttr name) = Some (remove_xattr r name)
-plan_of r value (Init offer) = Some (begin offer)
-plan_of r value OpenDir = Some (open_directory r)
-plan_of r value (ReadDir extent) = Some (read_directory r.node extent)
-plan_of r value (ReleaseDir handle) = Some (close_directory handle)
-plan_of r value FSyncDir = Some sync_all
-plan_of r value (Access mask) = Some (ask_access r mask)
-plan_of r value (Create name flags mode umask) = Some (create_file r name flags.0 mode umask)
-plan_of r value Interrupt = None
-plan_of r value Destroy = Some end
-plan_of r value BatchForget = None
-plan_of r value SyncFs = Some sync_all
-plan_of r value Unknown = Some (stop (Lacks ENOSYS))
+-- What an operation takes: work, whose result is replied; or nothing of the machine and no reply, but a change of what the server keeps.
+pub data Task : Type 0 where
+  Replying : Work ReplyBody → Task
+  Silently : (Server → Server) → Task
+
+-- The value of an attribute is that of the request.
+abbrev pub plan_of : Asked → Option (Option AccessList) → Operation → Task
+plan_of r value (Lookup name) = Replying (find_name r name)
+plan_of r value (Forget count) = Silently (forgotten r.node count)
+plan_of r value GetAttr = Replying (get_attributes r)
+plan_of r value (SetAttr changes) = Replying (set_attributes r changes)
+plan_of r value ReadLink = Replying (read_link r)
+plan_of r value (SymLink name target) = Replying (make_link r name target)
+plan_of r value (MkNod name mode umask) = Replying (make_file r name mode umask)
+plan_of r value (MkDir name mode umask) = Replying (make_directory r name mode umask)
+plan_of r value (Unlink name) = Replying (remove r (removal false) name)
+plan_of r value (RmDir name) = Replying (remove r (removal true) name)
+plan_of r value (Rename name new_directory new_name flags) = Replying (move_name r name new_directory new_name flags)
+plan_of r value (Link node name) = Replying (add_link r node name)
+plan_of r value (Open flags) = Replying (open_file r flags.0)
+plan_of r value (Read extent) = Replying (read_file extent)
+plan_of r value (Write handle offset bytes) = Replying (write_file r handle offset bytes)
+plan_of r value StatFs = Replying count_space
+plan_of r value (Release handle) = Replying (close_file handle)
+plan_of r value (FSync handle) = Replying (sync_file handle)
+plan_of r value (SetXAttr name bytes) = Replying (set_xattr r name value)
+plan_of r value (GetXAttr name size) = Replying (get_xattr r name size)
+plan_of r value (ListXAttr size) = Replying (list_xattrs r size)
+plan_of r value (RemoveXAttr name) = Replying (remove_xattr r name)
+plan_of r value (Init offer) = Replying (begin offer)
+plan_of r value OpenDir = Replying (open_directory r)
+plan_of r value (ReadDir extent) = Replying (read_directory r.node extent)
+plan_of r value (ReleaseDir handle) = Replying (close_directory handle)
+plan_of r value FSyncDir = Replying sync_all
+plan_of r value (Access mask) = Replying (ask_access r mask)
+plan_of r value (Create name flags mode umask) = Replying (create_file r name flags.0 mode umask)
+plan_of r value Interrupt = Silently (λ s. s)
+plan_of r value Destroy = Replying end
+plan_of r value (BatchForget batch) = Silently (all_forgotten batch)
+plan_of r value SyncFs = Replying sync_all
+plan_of r value Unknown = Replying (stop (Lacks ENOSYS))
 
 -- of a request whose body may not be of its form
-abbrev pub asked_for : Asked → Option (Option AccessList) → Option Operation → Option (Work ReplyBody)
-asked_for r value None = Some (stop (failed EINVAL))
+abbrev pub asked_for : Asked → Option (Option AccessList) → Option Operation → Task
+asked_for r value None = Replying (stop (failed EINVAL))
 asked_for r value (Some operation) = plan_of r value operation
 
 -- ---- requests
@@ -143,11 +148,12 @@ abbrev pub response_of : Result ReplyBody Stop → Response
 response_of (Ok body) = Says body
 response_of (Err e) = Fails e
 
--- Where memory is lacking for what is added, nothing is asked.
-abbrev pub answered : Bool → Option (Work ReplyBody) → Server → Plan (Response × Server)
-answered memory None s = Finish (Silence, s)
-answered true (Some w) s = followed_by (w s) (λ r. Finish (response_of r.0, r.1))
-answered false (Some w) s = Finish (Fails (failed ENOMEM), s)
+-- Where memory is lacking for what is added, nothing is asked, and nothing changes.
+abbrev pub answered : Bool → Task → Server → Plan (Response × Server)
+answered true (Silently f) s = Finish (Silence, f s)
+answered false (Silently f) s = Finish (Silence, s)
+answered true (Replying w) s = followed_by (w s) (λ r. Finish (response_of r.0, r.1))
+answered false (Replying w) s = Finish (Fails (failed ENOMEM), s)
 
 -- once it is known whether who asks counts
 abbrev pub answered_as : Bool → Request → Server → Plan (Response × Server)

@@ -1,4 +1,5 @@
 pub mod AclEntries
+pub mod Batches
 pub mod Runs
 pub mod SpelledRequests
 pub mod Texts

@@ -2,6 +2,7 @@ pub mod AclValues
 pub mod Bytes
 pub mod Flags
 pub mod Entries
+pub mod Forgets
 pub mod Names
 pub mod Operations
 pub mod Replies

@@ -14,6 +14,7 @@ use Rattle.fuse_protocol.specs.declared.operation.NewTime.TheVariants.{Now, At}
 use Rattle.fuse_protocol.specs.declared.operation.Operation.{Operation}
 use Rattle.fuse_protocol.specs.declared.operation.Operation.TheVariants.{Lookup, Forget, GetAttr, SetAttr, ReadLink, SymLink, MkNod, MkDir, Unlink, RmDir, Rename, Link, Open, Read, Write, StatFs, Release, FSync, SetXAttr, GetXAttr, ListXAttr, RemoveXAttr, Init, OpenDir, ReadDir, ReleaseDir, FSyncDir, Access, Create, Interrupt, Destroy, BatchForget, SyncFs, Unknown}
 use Rattle.fuse_protocol.specs.Bytes.{u32_of, u64_of}
+use Rattle.fuse_protocol.specs.Forgets.{forget_count, batch_of}
 use Rattle.fuse_protocol.specs.Names.{text_of, name_from}
 
 -- a value, where the body has at least so many bytes
@@ -117,16 +118,16 @@ init_of s = where_long s 16 (Init (record { major = u32_of s 0; minor = u32_of s
 
 -- ---- the table
 
--- An operation of an opcode that isn't in the table is unknown, whatever its body. That nothing is told back is so with
--- FORGET, BATCH_FORGET and INTERRUPT: their bodies aren't asked for anything.
+-- An operation of an opcode that isn't in the table is unknown, whatever its body. Nothing is told back of a FORGET, a
+-- BATCH_FORGET and an INTERRUPT, whatever the body of these.
 unfoldable pub other_operation : ℕ → List ℕ → Option Operation
 other_operation code s =
-    if code == FORGET then Some Forget else
+    if code == FORGET then Some (Forget (forget_count s)) else
     (if code == STATFS then Some StatFs else
     (if code == INIT then init_of s else
     (if code == INTERRUPT then Some Interrupt else
     (if code == DESTROY then Some Destroy else
-    (if code == BATCH_FORGET then Some BatchForget else
+    (if code == BATCH_FORGET then Some (BatchForget (batch_of s)) else
     (if code == SYNCFS then where_long s 8 SyncFs else
     Some Unknown))))))
 

@@ -2,6 +2,7 @@
 #![tactic(auto)]
 
 mod acl_value;
+mod batch;
 mod bytes;
 mod entry;
 mod flags;
@@ -13,6 +14,7 @@ mod reply;
 mod request;
 
 pub use acl_value::{AclValueFault, push_acl_value, read_acl_value, write_acl_value};
+pub use batch::Batch;
 pub use entry::{DirectoryEntry, EntryKind, push_entry};
 pub use flags::{InitFlags, OpenFlags, OpenedFlags};
 pub use laws::spellings_are_read;

@@ -1,8 +1,10 @@
 //! What a request asks for: its opcode, and the body behind its header.
 
 ghost use Rattle.std.specs.Prelude.{◌≡◌, ◌≤◌, ◌+◌, length};
+ghost use Rattle.fuse_protocol.specs.Forgets.{forget_count};
 ghost use Rattle.fuse_protocol.specs.Operations.{where_long, where_set, new_time, attr_changes, operation_of, object_operation, handle_operation, other_operation, symlink_of, make_node_of, make_directory_of, rename_of, rename2_of, link_of, create_of, set_xattr_of, get_xattr_of, set_attr_of, init_of, write_of, extent_of, first_number, first_handle};
 
+use crate::batch::{Batch, parse_batch};
 use crate::bytes::{u32_at, u64_at};
 use crate::flags::{InitFlags, OpenFlags};
 use crate::opcode;
@@ -14,8 +16,8 @@ use crate::piece::{Name, Piece, name_at, piece_at};
 pub enum Operation<'a> {
     /// What has the name.
     Lookup(Name<'a>),
-    /// The kernel holds the node less often. There is no reply.
-    Forget,
+    /// The kernel forgets the node so often. There is no reply.
+    Forget(u64),
     /// The attributes.
     GetAttr,
     /// To change attributes.
@@ -109,7 +111,7 @@ pub enum Operation<'a> {
     /// The last request.
     Destroy,
     /// As [`Operation::Forget`], of several nodes. There is no reply.
-    BatchForget,
+    BatchForget(Batch<'a>),
     /// All is to last.
     SyncFs,
     /// An operation that isn't spoken.
@@ -236,12 +238,12 @@ fn parse_other_operation(code: u32, body: &[u8]) -> Option<Operation<'_>>
     ensures { result ≡ other_operation code body.now }
 {
     match code {
-        opcode::FORGET => Some(Operation::Forget),
+        opcode::FORGET => Some(Operation::Forget(forget_count(body))),
         opcode::STATFS => Some(Operation::StatFs),
         opcode::INIT => parse_init(body),
         opcode::INTERRUPT => Some(Operation::Interrupt),
         opcode::DESTROY => Some(Operation::Destroy),
-        opcode::BATCH_FORGET => Some(Operation::BatchForget),
+        opcode::BATCH_FORGET => Some(Operation::BatchForget(parse_batch(body))),
         opcode::SYNCFS => where_long(body, 8, Operation::SyncFs),
         _ => Some(Operation::Unknown),
     }
@@ -277,6 +279,16 @@ fn first_handle(body: &[u8], size: usize) -> Option<u64>
         return None;
     }
     Some(u64_at(body, 0))
+}
+
+// How often a node is forgotten. A body that is too short forgets nothing.
+fn forget_count(body: &[u8]) -> u64
+    ensures { result ≡ forget_count body.now }
+{
+    if body.len() < 8 {
+        return 0;
+    }
+    u64_at(body, 0)
 }
 
 fn parse_symlink(body: &[u8]) -> Option<Operation<'_>>

@@ -21,7 +21,8 @@ fn refused(operation: &Operation<'_>) -> Response
         → answered false (plan_of asked value operation.now) s ≡ Finish (result, s) }
 {
     match operation {
-        Operation::Forget | Operation::Interrupt | Operation::BatchForget => Response::Silence,
+        Operation::Forget(_) | Operation::Interrupt | Operation::BatchForget(_) =>
+            Response::Silence,
         _ => Response::Fails(Stop::ENOMEM),
     }
 }

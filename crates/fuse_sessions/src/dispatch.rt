@@ -6,7 +6,7 @@ ghost use Rattle.fuse_plans.specs.FilePlans.{write_file};
 ghost use Rattle.fuse_sessions.specs.Families.{family_of};
 ghost use Rattle.fuse_sessions.specs.Performing.{Answered};
 ghost use Rattle.fuse_plans.specs.Plans.{CarriesOut};
-ghost use Rattle.fuse_plans.specs.Serving.{answered, plan_of, response_of};
+ghost use Rattle.fuse_plans.specs.Serving.{Replying, answered, plan_of, response_of};
 ghost use Rattle.fuse_sessions.specs.declared.family.Family.TheVariants as families;
 ghost use Rattle.fuse_plans.specs.declared.request.Asked.{Asked as AskedBy};
 
@@ -145,7 +145,26 @@ impl<M: Machine> Session<M> {
             Family::OnAcl => self.perform_on_acl(asked, value, operation),
             Family::ByHandle => self.perform_by_handle(asked, operation),
             Family::OnWhole => self.perform_on_whole(operation),
-            Family::Silent => Ok(Response::Silence),
+            Family::Silent => Ok(self.perform_silently(asked, operation)),
+        }
+    }
+
+    // Requests without a reply.
+    fn perform_silently(&mut self, asked: &Asked, operation: &Operation<'_>) -> Response
+        requires { family_of operation.now ≡ families.Silent }
+        ensures { (value : Option (Option AccessList)) → Answered M.Serves (plan_of asked.entry.now value operation.now) self.old self.new result }
+    {
+        match operation {
+            Operation::Forget(count) => {
+                self.server.forget(asked.node, *count);
+                Response::Silence
+            }
+            Operation::BatchForget(batch) => {
+                self.server.forget_all(batch);
+                Response::Silence
+            }
+            Operation::Interrupt => Response::Silence,
+            _ => unreachable!(),
         }
     }
 
@@ -337,7 +356,7 @@ impl<M: Machine> Session<M> {
         bytes: &Piece<'_>,
     ) -> Result<Response, AllocError>
         requires { 8 ≤ self.old.server.room }
-        ensures answered { IfOk result (Answered M.Serves (Some (write_file asked.entry.now handle offset bytes.now)) self.old self.new) }
+        ensures answered { IfOk result (Answered M.Serves (Replying (write_file asked.entry.now handle offset bytes.now)) self.old self.new) }
         ensures stays { OnErr result (self.new ≡ self.old) }
     {
         let bytes = bytes.bytes();

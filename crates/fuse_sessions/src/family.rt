@@ -50,7 +50,7 @@ pub(crate) fn family_of(operation: &Operation<'_>) -> Family
         | Operation::FSync(_)
         | Operation::ReadDir(_)
         | Operation::ReleaseDir(_) => Family::ByHandle,
-        Operation::Forget | Operation::Interrupt | Operation::BatchForget => Family::Silent,
+        Operation::Forget(_) | Operation::Interrupt | Operation::BatchForget(_) => Family::Silent,
         _ => Family::OnWhole,
     }
 }

@@ -176,12 +176,13 @@ impl<M: Machine> Session<M> {
 
     // The object has the name too.
     fn tell_linked(&mut self, now: Time, place: Place, inode: u32) -> Result<ReplyBody, Stop>
-        requires { 3 ≤ self.old.server.room }
+        requires { 4 ≤ self.old.server.room }
         ensures { Did M.Serves (tell_linked now place inode) self.old self.new result }
     {
         let kind = self.server.kind_of(inode);
         self.server.note_linked(now, place, inode, kind);
         let status = self.look(inode)?;
+        self.server.note_told(status.inode);
         Ok(found_body(&self.server, 0, status))
     }
 
@@ -194,7 +195,7 @@ impl<M: Machine> Session<M> {
         name: Path,
     ) -> Result<ReplyBody, Stop>
         requires copy { copy ≡ asked.now.cred }
-        requires room { 4 ≤ self.old.server.room }
+        requires room { 5 ≤ self.old.server.room }
         ensures { Did M.Serves (add_link asked.entry.now old_node name) self.old self.new result }
     {
         let directory = self.directory_for(asked.node, &name)?;
@@ -212,7 +213,7 @@ impl<M: Machine> Session<M> {
         name: Path,
     ) -> Result<ReplyBody, Stop>
         requires copy { copy ≡ asked.now.cred }
-        requires room { 4 ≤ self.old.server.room }
+        requires room { 5 ≤ self.old.server.room }
         ensures { Did M.Serves (link_as asked.entry.now inode directory name) self.old self.new result }
     {
         let pid = self.caller(copy)?;

@@ -1,5 +1,6 @@
 pub mod Searched
 pub mod Edited
+pub mod Elsewhere
 pub mod Chosen
 pub mod Keyed
 pub mod Orders
@@ -7,6 +8,7 @@ pub mod NamesKept
 pub mod Indexed
 pub mod HeldPlaces
 pub mod StateLaws
+pub mod Forgotten
 pub mod KeptShares
 pub mod Holders
 pub mod RowsOfShares

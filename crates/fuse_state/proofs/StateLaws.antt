@@ -30,7 +30,7 @@ chosen true true m n known same is = ap Some is
 chosen true false m n known same is = absurd (cc)
 chosen false c m n known same is = absurd (cc)
 
-not_chosen : (b c : Bool) (m : ℕ) → c ≡ false → (if b && c then Some m else None) ≡ None
+pub not_chosen : (b c : Bool) (m : ℕ) → c ≡ false → (if b && c then Some m else None) ≡ None
 not_chosen true true m other = absurd (cc)
 not_chosen true false m other = refl
 not_chosen false c m other = refl
@@ -41,10 +41,10 @@ low_part g n lt = omega arith
 high_part : (g n : ℕ) → n < 2 ^ 32 → (2 ^ 32 * g + n) / 2 ^ 32 ≡ g
 high_part g n lt = omega arith
 
-equal : (a b : ℕ) → a ≡ b → (a == b) ≡ true
+pub equal : (a b : ℕ) → a ≡ b → (a == b) ≡ true
 equal a b same = grind (arith, nat_tests)
 
-unequal : (a b : ℕ) → a ≢ b → (a == b) ≡ false
+pub unequal : (a b : ℕ) → a ≢ b → (a == b) ≡ false
 unequal a b other = grind (arith, nat_tests)
 
 pub lead_back : NodesLeadBack
@@ -55,11 +55,11 @@ lead_back s n lt known =
     (equal (generation_of s (node_of s n % 2 ^ 32)) (node_of s n / 2 ^ 32) (ap (generation_of s) low ∙ sym high)) low
 
 -- the generation of a number in a map where it has been set
-set_same : (m : List (ℕ × ℕ)) (n g : ℕ) → unwrap_or (get nat_cmp (with_entry nat_cmp m n g) n) 0 ≡ g
+pub set_same : (m : List (ℕ × ℕ)) (n g : ℕ) → unwrap_or (get nat_cmp (with_entry nat_cmp m n g) n) 0 ≡ g
 set_same m n g =
     ap (λ o. unwrap_or o 0) (get-with_entry m n g n ∙ ap (λ b. cond b (Some g) (get nat_cmp m n)) (ties n n refl))
 
-set_other : (m : List (ℕ × ℕ)) (n g q : ℕ) → q ≢ n → get nat_cmp (with_entry nat_cmp m n g) q ≡ get nat_cmp m q
+pub set_other : (m : List (ℕ × ℕ)) (n g q : ℕ) → q ≢ n → get nat_cmp (with_entry nat_cmp m n g) q ≡ get nat_cmp m q
 set_other m n g q other = get-with_entry m n g q ∙ ap (λ b. cond b (Some g) (get nat_cmp m q)) (apart q n other)
 
 one_more : (g : ℕ) → (g + 1) % 2 ^ 32 ≢ g

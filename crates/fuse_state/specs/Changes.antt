@@ -7,7 +7,7 @@ use Rattle.fs_model.specs.Limits.{root}
 use Rattle.fs_model.specs.declared.reply.FileType.{FileType}
 use Rattle.fuse_protocol.specs.declared.reply.Time.{Time}
 use Rattle.fuse_state.specs.declared.place.Place.{Place}
-use Rattle.fuse_state.specs.Servers.{Server, with_generation, kind_of, named, place_of, with_name, without_name, touched, changed, born, handle_for}
+use Rattle.fuse_state.specs.Servers.{Server, with_generation, kind_of, named, place_of, with_name, without_name, once_more, touched, changed, born, handle_for}
 
 -- The kernel was told of an object with this number, but none of its names is left, and it isn't open. So it may be no more, and
 -- what has the number from now on may be another object. The root always stays.
@@ -18,9 +18,9 @@ is_gone s n = not (n == root) && (is_some (kind_of s n) && (is_none (place_of s 
 abbrev pub renewed : ℕ → Server → Server
 renewed n s = if is_gone s n then with_generation n s else s
 
--- a name is found to lead to an object
+-- a name is found to lead to an object, of which the kernel is told
 abbrev pub found : Place → ℕ → FileType → Server → Server
-found p n kind s = with_name p n kind (renewed n s)
+found p n kind s = once_more n (with_name p n kind (renewed n s))
 
 abbrev pub changed_if : Time → Option ℕ → Server → Server
 changed_if now None s = s

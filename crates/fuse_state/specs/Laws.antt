@@ -3,10 +3,11 @@
 --     NodesLeadBack, StaleNodesLeadNowhere, NewNodesLedNowhere, OtherNodesStay        nodes
 --     FoundNodesLeadBack, GoneNodesLeadNowhere, FoundNodesLedNowhere, KnownNodesStay, OtherNodesStayThen        nodes of what is found
 --     NamesAreKept, AddedNamesArePlaces        names
+--     ToldNodesAreCounted, NodesStayUntilForgotten, ForgottenNodesAreFree, ForgettingSparesOthers        what the kernel forgets
 --     NewServersKeepShares, OneMoreKeepsShares, OneFewerKeepsShares, FurtherUsersMayHold, RootMayHold        shares
-use Rattle.std.specs.Prelude.{◌≡◌, ◌≢◌, ℕ, ◌<◌, ◌^◌, true, List, length, None, Some, IsSome, IsTrue, IsFalse}
+use Rattle.std.specs.Prelude.{◌≡◌, ◌≢◌, ℕ, ◌+◌, ◌<◌, ◌≤◌, ◌^◌, min, true, List, [], length, None, Some, IsSome, IsTrue, IsFalse}
 use Rattle.std.specs.List.{Contains}
-use Rattle.fs_model.specs.Limits.{descriptors_limit}
+use Rattle.fs_model.specs.Limits.{root, descriptors_limit}
 use Rattle.fs_model.specs.declared.reply.FileType.{FileType}
 use Rattle.fuse_protocol.specs.declared.reply.Time.{Time}
 use Rattle.fuse_state.specs.declared.place.Place.{Place}
@@ -14,7 +15,7 @@ use Rattle.fuse_state.specs.declared.settings.Settings.{Settings}
 use Rattle.fuse_state.specs.declared.shares.Shares.{Shares}
 use Rattle.fuse_state.specs.Shares.{count_of, may_hold, HasEach, KeepsShares, OneMore}
 use Rattle.fuse_state.specs.Changes.{is_gone, found}
-use Rattle.fuse_state.specs.Servers.{Server, new_server, WithinShares, generation_of, kind_of, node_of, number_of, named, places_of, with_name, without_name, born, handle_of, owner_of, descriptor_of}
+use Rattle.fuse_state.specs.Servers.{Server, new_server, WithinShares, generation_of, kind_of, node_of, number_of, lookups_of, most_lookups, once_more, left_of, forgotten, named, places_of, with_name, without_name, born, handle_of, owner_of, descriptor_of}
 
 abbrev pub HandlesTellDescriptors : Type 0
 HandlesTellDescriptors = (pid fd : ℕ) → fd < descriptors_limit → (owner_of (handle_of pid fd) ≡ pid) × (descriptor_of (handle_of pid fd) ≡ fd)
@@ -81,6 +82,64 @@ NamesAreKept = (s : Server) (p : Place) (n : ℕ) (kind : FileType) → KeepsNam
 -- a name that was added is among the places of its object
 abbrev pub AddedNamesArePlaces : Type 0
 AddedNamesArePlaces = (s : Server) (p : Place) (n : ℕ) (kind : FileType) → Contains (places_of (with_name p n kind s) n) p
+
+-- ---- what the kernel forgets
+
+-- a node that is told is counted once more
+pub record CountsOnce (s t : Server) (n : ℕ) : Type 0 where
+  pub counted : lookups_of t (node_of t n) ≡ min most_lookups (lookups_of s (node_of t n) + 1)
+  pub besides : (node : ℕ) → node ≢ node_of t n → lookups_of t node ≡ lookups_of s node
+
+-- where its object is found, is new, or got one more name
+pub record CountsTold (s : Server) (now : Time) (p : Place) (n : ℕ) (kind : FileType) : Type 0 where
+  pub by_found : CountsOnce s (found p n kind s) n
+  pub by_born : CountsOnce s (born now p n kind s) n
+  pub by_told : CountsOnce s (once_more n s) n
+
+abbrev pub ToldNodesAreCounted : Type 0
+ToldNodesAreCounted = (s : Server) (now : Time) (p : Place) (n : ℕ) (kind : FileType) → CountsTold s now p n kind
+
+-- Each node leads where it did, and each name.
+pub record LeadsAsBefore (s t : Server) : Type 0 where
+  pub nodes : (node : ℕ) → number_of t node ≡ number_of s node
+  pub names : (p : Place) → named t p ≡ named s p
+
+-- As long as a node is forgotten less often than it was told, nothing leads elsewhere for it, and the rest of its count is left.
+pub record StaysKnown (s t : Server) (node left : ℕ) : Type 0 where
+  pub leads : LeadsAsBefore s t
+  pub count : lookups_of t node ≡ left
+
+abbrev pub NodesStayUntilForgotten : Type 0
+NodesStayUntilForgotten =
+    (s : Server) (node count : ℕ) → count < lookups_of s node → StaysKnown s (forgotten node count s) node (left_of (lookups_of s node) count)
+
+-- Once it is forgotten as often as it was told, it leads nowhere, its object has no kind and no names, and it isn't counted.
+pub record IsFree (t : Server) (node n : ℕ) : Type 0 where
+  pub node_leads : number_of t node ≡ None
+  pub kind : kind_of t n ≡ None
+  pub places : places_of t n ≡ []
+  pub count : lookups_of t node ≡ 0
+
+abbrev pub ForgottenNodesAreFree : Type 0
+ForgottenNodesAreFree =
+    (s : Server) (node n count : ℕ) → number_of s node ≡ Some n → n ≢ root → lookups_of s node ≤ count → lookups_of s node < most_lookups
+    → IsFree (forgotten node count s) node n
+
+-- Each other node leads where it did, and so does each name of another object, also in a directory that is forgotten; the root is
+-- always known; what is open stays open; and each object has the times that it had, and each number the generation.
+pub record Spares (s t : Server) (node : ℕ) : Type 0 where
+  pub nodes : (other : ℕ) → other ≢ node → number_of t other ≡ number_of s other
+  pub names : (p : Place) (n : ℕ) → named s p ≡ Some n → number_of s node ≢ Some n → named t p ≡ Some n
+  pub absent : (p : Place) → named s p ≡ None → named t p ≡ None
+  pub counts : (other : ℕ) → other ≢ node → lookups_of t other ≡ lookups_of s other
+  pub at_root : kind_of t root ≡ kind_of s root
+  pub handles : t.handles ≡ s.handles
+  pub directories : t.directories ≡ s.directories
+  pub times : t.times ≡ s.times
+  pub generations : t.generations ≡ s.generations
+
+abbrev pub ForgettingSparesOthers : Type 0
+ForgettingSparesOthers = (s : Server) (node count : ℕ) → Spares s (forgotten node count s) node
 
 -- ---- shares
 

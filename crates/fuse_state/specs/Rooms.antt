@@ -10,9 +10,10 @@ pub record Kept : Type 0 where
   pub room : ℕ
 
 -- each table has the room, and the handles of so many directories are numbers of 64 bits
-pub record HasRoom (room generations kinds names times processes handles directories next_directory : ℕ) : Type 0 where
+pub record HasRoom (room generations kinds lookups names times processes handles directories next_directory : ℕ) : Type 0 where
   pub for_generations : room ≤ generations
   pub for_kinds : room ≤ kinds
+  pub for_lookups : room ≤ lookups
   pub for_names : room ≤ names
   pub for_times : room ≤ times
   pub for_processes : room ≤ processes

@@ -1,6 +1,8 @@
 -- What a server keeps between requests. Its maps are lists of entries with rising keys.
 --     Server, new_server        the whole
 --     node_of, number_of        nodes, by which the kernel names objects, and the numbers of their inodes
+--     lookups_of, once_more        how often the kernel was told a node, and hasn't forgotten it since
+--     forgotten, all_forgotten        it forgets nodes
 --     named, with_name, without_name, born        names, all that were found and still stand
 --     place_cmp, places_of, place_of        the order of places, and where an object is known
 --     times_of, touched, changed        times of objects
@@ -10,7 +12,7 @@
 --     may_take_process, may_open_directory        whether a user may hold one more
 --     opened, with_listing, without_directory        open directories
 --     WithinShares        none holds more than it may
-use Rattle.std.specs.Prelude.{◌≡◌, ℕ, ◌+◌, ◌*◌, ◌/◌, ◌%◌, ◌^◌, ◌==◌, ◌≤◌, nat_eq, nat_lt, nat_le, Bool, true, false, not, ◌&&◌, List, [], ◌∷◌, length, map, Option, None, Some, is_some, unwrap_or, if◌then◌else◌}
+use Rattle.std.specs.Prelude.{◌≡◌, ℕ, ◌+◌, ◌-◌, ◌*◌, min, ◌/◌, ◌%◌, ◌^◌, ◌==◌, ◌≤◌, nat_eq, nat_lt, nat_le, Bool, true, false, not, ◌&&◌, List, [], ◌∷◌, length, map, Option, None, Some, is_some, unwrap_or, if◌then◌else◌}
 use Rattle.std.specs.declared.cmp.Ordering.{Ordering}
 use Rattle.std.specs.Ordering.{nat_cmp, ordering_then}
 use Rattle.std.specs.List.{filter}
@@ -31,9 +33,11 @@ pub record Server : Type 0 where
   pub settings : Settings
   -- how often each number was given to a new object, modulo 2 ^ 32
   pub generations : List (ℕ × ℕ)
-  -- of the objects that the kernel was told of
+  -- of the objects that the kernel was told of, and hasn't forgotten
   pub kinds : List (ℕ × FileType)
-  -- the names that were found and still stand, and which inodes they lead to
+  -- how often it was told each node, and hasn't forgotten it since
+  pub lookups : List (ℕ × ℕ)
+  -- the names that were found and still stand, and which inodes they lead to: those of objects that it hasn't forgotten
   pub names : List (Place × ℕ)
   pub times : List (ℕ × Times)
   -- the processes of callers, and the server's own
@@ -55,6 +59,7 @@ new_server settings = record {
   settings = settings;
   generations = [];
   kinds = (root, Directory) ∷ [];
+  lookups = [];
   names = [];
   times = [];
   processes = [];
@@ -87,6 +92,22 @@ number_of s node =
     let n = node % 2 ^ 32 in
     if is_some (kind_of s n) && generation_of s n == node / 2 ^ 32 then Some n else None
 
+-- ---- how often the kernel was told a node
+
+abbrev pub lookups_of : Server → ℕ → ℕ
+lookups_of s node = unwrap_or (get nat_cmp s.lookups node) 0
+
+-- a count is a number of 64 bits
+abbrev pub most_lookups : ℕ
+most_lookups = 2 ^ 64 - 1
+
+abbrev pub with_lookups : ℕ → ℕ → Server → Server
+with_lookups node count s = record s { lookups = with_entry nat_cmp s.lookups node count }
+
+-- the kernel is told the node of an object
+abbrev pub once_more : ℕ → Server → Server
+once_more n s = with_lookups (node_of s n) (min most_lookups (lookups_of s (node_of s n) + 1)) s
+
 -- ---- names
 
 -- the order of places: by directories, and in each by names
@@ -100,6 +121,10 @@ named s p = get place_cmp s.names p
 -- where an object is known by these names, in the order of places
 abbrev pub places_in : List (Place × ℕ) → ℕ → List Place
 places_in names n = map (λ e. e.0) (filter (λ e. e.1 == n) names)
+
+-- the names that lead to others
+abbrev pub names_elsewhere : List (Place × ℕ) → ℕ → List (Place × ℕ)
+names_elsewhere names n = filter (λ e. not (e.1 == n)) names
 
 abbrev pub places_of : Server → ℕ → List Place
 places_of s n = places_in s.names n
@@ -144,7 +169,38 @@ changed now n s = with_times n (record (times_of s n) { ctime = now }) s
 abbrev pub born : Time → Place → ℕ → FileType → Server → Server
 born now p n kind s =
     let u = with_times n (record { atime = now; mtime = now; ctime = now }) (with_generation n s) in
-    touched now p.directory (with_name p n kind u)
+    touched now p.directory (once_more n (with_name p n kind u))
+
+-- ---- what the kernel forgets
+
+-- Neither the object nor its names are known any more. Its times stay, since nothing else has them, and how often its number was
+-- given; and so do names in it: what has such a name may be known, and is still found by it.
+abbrev pub without_object : ℕ → Server → Server
+without_object n s = record s { kinds = without nat_cmp s.kinds n; names = names_elsewhere s.names n }
+
+-- The object of a node isn't known any more, if the node leads to one. The root always is.
+abbrev pub without_object_of : Option ℕ → Server → Server
+without_object_of None s = s
+without_object_of (Some n) s = if n == root then s else without_object n s
+
+abbrev pub without_node : ℕ → Server → Server
+without_node node s = without_object_of (number_of s node) (record s { lookups = without nat_cmp s.lookups node })
+
+-- how often a node is still known: one that was told too often to be counted is known for good
+abbrev pub left_of : ℕ → ℕ → ℕ
+left_of told count = if told == most_lookups then told else told - count
+
+abbrev pub with_left : ℕ → ℕ → Server → Server
+with_left node left s = if left == 0 then without_node node s else with_lookups node left s
+
+-- The kernel forgets a node so often. Once that is as often as it was told it, its object isn't known any more.
+abbrev pub forgotten : ℕ → ℕ → Server → Server
+forgotten node count s = with_left node (left_of (lookups_of s node) count) s
+
+-- one after another
+abbrev pub all_forgotten : List (ℕ × ℕ) → Server → Server
+all_forgotten [] s = s
+all_forgotten (e ∷ batch) s = all_forgotten batch (forgotten e.0 e.1 s)
 
 -- ---- processes and descriptors
 

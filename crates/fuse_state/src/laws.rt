@@ -1,5 +1,5 @@
 //! Laws of what a server keeps, each proved by a function that does nothing: its contract is the law.
-ghost use Rattle.fuse_state.specs.Laws.{HandlesTellDescriptors, NodesLeadBack, StaleNodesLeadNowhere, NewNodesLedNowhere, OtherNodesStay, FoundNodesLeadBack, GoneNodesLeadNowhere, FoundNodesLedNowhere, KnownNodesStay, OtherNodesStayThen, NamesAreKept, AddedNamesArePlaces, NewServersKeepShares, OneMoreKeepsShares, OneFewerKeepsShares, FurtherUsersMayHold, RootMayHold};
+ghost use Rattle.fuse_state.specs.Laws.{HandlesTellDescriptors, NodesLeadBack, StaleNodesLeadNowhere, NewNodesLedNowhere, OtherNodesStay, FoundNodesLeadBack, GoneNodesLeadNowhere, FoundNodesLedNowhere, KnownNodesStay, OtherNodesStayThen, NamesAreKept, AddedNamesArePlaces, ToldNodesAreCounted, NodesStayUntilForgotten, ForgottenNodesAreFree, ForgettingSparesOthers, NewServersKeepShares, OneMoreKeepsShares, OneFewerKeepsShares, FurtherUsersMayHold, RootMayHold};
 
 /// A handle tells its process and its descriptor: no two of these have the same.
 pub fn handles_tell_descriptors()
@@ -33,6 +33,23 @@ pub fn found_nodes_lead_to_objects()
 pub fn names_are_kept()
     ensures names { NamesAreKept }
     ensures place { AddedNamesArePlaces }
+{}
+
+/// Each time that a node is told - its object is found, is new, or got one more name - it is counted once more, and no other is.
+pub fn told_nodes_are_counted()
+    ensures { ToldNodesAreCounted }
+{}
+
+/// As long as the kernel has forgotten a node less often than it was told it, each node and each name leads where it did.
+///
+/// Once it has forgotten it as often, the node leads nowhere, its object has no kind and no names, and nothing is counted of it: the
+/// tables have only what the kernel knows. Each other node leads where it did then, and each name of another object: also a name in the
+/// directory that is forgotten, by which that object is still found. The root is never forgotten. What is open stays open, and times and
+/// generations stay, which nothing else could tell again.
+pub fn forgotten_nodes_are_free()
+    ensures stay { NodesStayUntilForgotten }
+    ensures free { ForgottenNodesAreFree }
+    ensures others { ForgettingSparesOthers }
 {}
 
 /// As long as each user takes only what it may, others find some.

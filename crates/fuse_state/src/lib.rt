@@ -23,8 +23,8 @@ pub use directory::OpenDirectory;
 pub use handle::{descriptor_of, handle_of, owner_of};
 pub use keeping::Keeping;
 pub use laws::{
-    found_nodes_lead_to_objects, handles_tell_descriptors, names_are_kept, nodes_lead_to_objects,
-    shares_are_kept,
+    forgotten_nodes_are_free, found_nodes_lead_to_objects, handles_tell_descriptors,
+    names_are_kept, nodes_lead_to_objects, shares_are_kept, told_nodes_are_counted,
 };
 pub use place::Place;
 pub use server::{REQUEST_ROOM, Server};

@@ -1,11 +1,11 @@
 //! Names that were found, each kept once, and found by its place and by the inode that it leads to.
 //!
 //! A map that hashes would put names in no order, and `BTreeMap` reserves no room.
-ghost use Rattle.std.specs.Prelude.{◌≡◌, ◌+◌, ◌^◌, ◌<◌, ◌≤◌, [], length, drop, slice_get, slice_index_or, None, Some, option_copied, OnOk, IsSome, IfSome, IsNone, MatchResult};
+ghost use Rattle.std.specs.Prelude.{◌≡◌, ◌+◌, ◌^◌, ◌<◌, ◌≤◌, [], length, drop, slice_get, slice_index_or, None, Some, option_copied, OnOk, IsSome, IfSome, IsNone, IsTrue, IsFalse, MatchResult};
 ghost use Rattle.fs_layout.specs.Maps.{get, with_entry, without, IsMap};
 ghost use Rattle.fuse_state.specs.Names.{by_places, by_inodes, found, compare_place, compare_found, is_below, leads_to, found_at, found_cmp, keys_of, Stand, BeginsAt};
 ghost use Rattle.fuse_state.specs.declared.place.Place.{Place as PlaceOf};
-ghost use Rattle.fuse_state.specs.Servers.{place_cmp, places_in};
+ghost use Rattle.fuse_state.specs.Servers.{place_cmp, places_in, names_elsewhere};
 ghost use Rattle.fuse_state.specs.Tables.{IsAt, IsGap};
 
 use crate::borrower::Borrower;
@@ -133,6 +133,40 @@ impl Names {
         let _placed = self.by_place.remove(at);
         let _held = self.by_inode.remove(behind);
         let _found = self.found.try_remove(key);
+    }
+
+    // The first of the names that lead to an inode goes. Says whether there was one.
+    fn remove_first(&mut self, inode: u32) -> bool
+        ensures others { names_elsewhere self.new.0 inode ≡ names_elsewhere self.old.0 inode }
+        ensures none { IsFalse result → self.new.0 ≡ names_elsewhere self.old.0 inode }
+        ensures fewer { IsTrue result → length self.new.0 < length self.old.0 }
+        ensures room { self.new.1 ≡ self.old.1 }
+    {
+        let Some(key) = key_of(&self.found, &self.by_inode, inode, 0) else {
+            return false;
+        };
+        let Some(found) = self.found.get(key) else {
+            unreachable!()
+        };
+        let Ok(at) = search_places(&self.found, &self.by_place, &found.place) else {
+            unreachable!()
+        };
+        let Ok(behind) = search_inodes(&self.found, &self.by_inode, found.inode, &found.place)
+        else {
+            unreachable!()
+        };
+        let _placed = self.by_place.remove(at);
+        let _held = self.by_inode.remove(behind);
+        let _found = self.found.try_remove(key);
+        true
+    }
+
+    /// No name leads to an inode any more.
+    pub(crate) fn remove_all(&mut self, inode: u32)
+        ensures removed { self.new.0 ≡ names_elsewhere self.old.0 inode }
+        ensures room { self.new.1 ≡ self.old.1 }
+    {
+        while self.remove_first(inode) {}
     }
 
     /// One of the names that lead to an inode, in the order of their places.

@@ -4,6 +4,7 @@ ghost use Rattle.fuse_state.specs.Servers.{new_server, with_the_looker, with_acl
 
 mod changes;
 mod directories;
+mod forgets;
 mod handles;
 mod names;
 mod nodes;
@@ -33,6 +34,7 @@ pub struct Server {
     settings: Settings,
     generations: Table<u32>,
     kinds: Table<FileType>,
+    lookups: Table<u64>,
     names: Names,
     times: Table<Times>,
     processes: Table<Cred>,
@@ -54,6 +56,7 @@ impl Model for Server {
         settings = s.settings;
         generations = s.generations.0;
         kinds = s.kinds.0;
+        lookups = s.lookups.0;
         names = s.names.0;
         times = s.times.0;
         processes = s.processes.0;
@@ -66,7 +69,7 @@ impl Model for Server {
       room = s.room;
     } };
 
-    ghost invariant = { λ s. HasRoom s.room s.generations.1 s.kinds.1 s.names.1 s.times.1 s.processes.1 s.handles.1 s.directories.1 s.next_directory };
+    ghost invariant = { λ s. HasRoom s.room s.generations.1 s.kinds.1 s.lookups.1 s.names.1 s.times.1 s.processes.1 s.handles.1 s.directories.1 s.next_directory };
 }
 
 impl Server {
@@ -81,6 +84,7 @@ impl Server {
             settings,
             generations: Table::new(alloc),
             kinds,
+            lookups: Table::new(alloc),
             names: Names::new(alloc),
             times: Table::new(alloc),
             processes: Table::new(alloc),
@@ -101,6 +105,7 @@ impl Server {
     {
         self.generations.reserve(REQUEST_ROOM)?;
         self.kinds.reserve(REQUEST_ROOM)?;
+        self.lookups.reserve(REQUEST_ROOM)?;
         self.names.reserve(REQUEST_ROOM)?;
         self.times.reserve(REQUEST_ROOM)?;
         self.processes.reserve(REQUEST_ROOM)?;

@@ -1,7 +1,7 @@
 //! What no clause says: which answers follow which changes, and where the limits are.
 use fs_cred::{Cred, CredFault};
 use fs_model::{Call, FileType, Listing, Name};
-use fuse_protocol::Time;
+use fuse_protocol::{Operation, Time, parse_request};
 use fuse_state::{
     Borrower, Keeping, Place, Server, Settings, Times, descriptor_of, handle_of, owner_of,
 };
@@ -28,6 +28,9 @@ enum Step {
     Written(u64, u32),
     Changed(u64, u32),
     TimesSet(u64, u32),
+    // The kernel forgets a node so often, or what a request of these bytes says.
+    Forgotten(u64, u64),
+    Heard(&'static [u8]),
     Named(Entry),
     // The directory and the letter of the first name.
     Directory(u32),
@@ -226,6 +229,23 @@ fn letter(server: &Server, inode: u32) -> u64 {
     }
 }
 
+fn forgotten(server: &mut Server, node: u64, count: u64) -> Result<u64, AllocError> {
+    server.forget(node, count);
+    Ok(0)
+}
+
+fn heard(server: &mut Server, bytes: &[u8]) -> Result<u64, AllocError> {
+    let Ok(request) = parse_request(bytes) else {
+        return Err(AllocError);
+    };
+    match &request.operation {
+        Operation::Forget(count) => server.forget(request.node, *count),
+        Operation::BatchForget(batch) => server.forget_all(batch),
+        _ => return Err(AllocError),
+    }
+    Ok(0)
+}
+
 // The answer: 0 for nothing, and where something happens.
 fn answered(server: &mut Server, alloc: Global, step: Step) -> Result<u64, AllocError> {
     match step {
@@ -248,6 +268,8 @@ fn answered(server: &mut Server, alloc: Global, step: Step) -> Result<u64, Alloc
         Step::Written(now, inode) => written(server, now, inode),
         Step::Changed(now, inode) => changed(server, now, inode),
         Step::TimesSet(time, inode) => times_set(server, time, inode),
+        Step::Forgotten(node, count) => forgotten(server, node, count),
+        Step::Heard(bytes) => heard(server, bytes),
         Step::Named(name) => named(server, alloc, name),
         Step::Directory(inode) => Ok(directory(server, inode)),
         Step::Letter(inode) => Ok(letter(server, inode)),
@@ -373,6 +395,78 @@ const ROWS: [(Step, u64); 99] = [
     (Step::Node(1), 1),
 ];
 
+// Node 5 is forgotten once; by a body of 4 bytes; nodes 8 and 9 once; and two nodes, of which the body has one, 9.
+const FORGET: &[u8] =
+    b"\x30\0\0\0\x02\0\0\0\x64\0\0\0\0\0\0\0\x05\0\0\0\0\0\0\0\0\0\0\0\0\0\0\0\0\0\0\0\0\0\0\0\x01\0\0\0\0\0\0\0";
+
+const SHORT: &[u8] =
+    b"\x2c\0\0\0\x02\0\0\0\x66\0\0\0\0\0\0\0\x05\0\0\0\0\0\0\0\0\0\0\0\0\0\0\0\0\0\0\0\0\0\0\0\x01\0\0\0";
+
+const BATCH: &[u8] =
+    b"\x50\0\0\0\x2a\0\0\0\x68\0\0\0\0\0\0\0\0\0\0\0\0\0\0\0\0\0\0\0\0\0\0\0\0\0\0\0\0\0\0\0\x02\0\0\0\0\0\0\0\
+      \x08\0\0\0\0\0\0\0\x01\0\0\0\0\0\0\0\x09\0\0\0\0\0\0\0\x01\0\0\0\0\0\0\0";
+
+const CUT: &[u8] =
+    b"\x40\0\0\0\x2a\0\0\0\x6a\0\0\0\0\0\0\0\0\0\0\0\0\0\0\0\0\0\0\0\0\0\0\0\0\0\0\0\0\0\0\0\x02\0\0\0\0\0\0\0\
+      \x09\0\0\0\0\0\0\0\x01\0\0\0\0\0\0\0";
+
+const FORGETS: [(Step, u64); 47] = [
+    // What was told twice and is forgotten once is known; a body that is too short forgets nothing.
+    (Step::Found((1, b'a'), 5), 0),
+    (Step::Found((1, b'a'), 5), 0),
+    (Step::Heard(FORGET), 0),
+    (Step::Number(5), 5),
+    (Step::Named((1, b'a')), 5),
+    (Step::Heard(SHORT), 0),
+    (Step::Number(5), 5),
+    (Step::Heard(FORGET), 0),
+    (Step::Number(5), 0),
+    (Step::Named((1, b'a')), 0),
+    (Step::Directory(5), 0),
+    // It is found again, with the node that it had.
+    (Step::Found((1, b'a'), 5), 0),
+    (Step::Node(5), 5),
+    (Step::Number(5), 5),
+    (Step::Named((1, b'a')), 5),
+    // A name in a directory that is forgotten leads where it did, until what it leads to is forgotten.
+    (Step::Found((5, b'b'), 6), 0),
+    (Step::Linked(20, (1, b'c'), 6), 0),
+    (Step::Forgotten(5, 1), 0),
+    (Step::Number(5), 0),
+    (Step::Named((5, b'b')), 6),
+    (Step::Lent(6, 1), 98),
+    // All names of what is forgotten go; its times stay.
+    (Step::Written(70, 6), 0),
+    (Step::Forgotten(6, 1), 0),
+    (Step::Number(6), 0),
+    (Step::Named((5, b'b')), 0),
+    (Step::Named((1, b'c')), 0),
+    (Step::Mtime(6), 70),
+    // A node that is stale is no other.
+    (Step::Made(80, (1, b'd'), 7), 0),
+    (Step::Forgotten(7, 9), 0),
+    (Step::Number(4_294_967_303), 7),
+    (Step::Forgotten(4_294_967_303, 0), 0),
+    (Step::Number(4_294_967_303), 7),
+    (Step::Forgotten(4_294_967_303, 9), 0),
+    (Step::Number(4_294_967_303), 0),
+    // Several at once, each as often as it says.
+    (Step::Found((1, b'e'), 8), 0),
+    (Step::Found((1, b'f'), 9), 0),
+    (Step::Found((1, b'g'), 9), 0),
+    (Step::Heard(BATCH), 0),
+    (Step::Number(8), 0),
+    (Step::Named((1, b'e')), 0),
+    (Step::Number(9), 9),
+    (Step::Heard(CUT), 0),
+    (Step::Number(9), 0),
+    (Step::Named((1, b'g')), 0),
+    // The root is never forgotten.
+    (Step::Found((7, b'r'), 1), 0),
+    (Step::Forgotten(1, 9), 0),
+    (Step::Number(1), 1),
+];
+
 // The first row that is answered otherwise, and how; one behind the last if there is none.
 fn other_answer(
     server: &mut Server,
@@ -397,6 +491,14 @@ fn other_answer_at_start(alloc: Global, rows: &[(Step, u64)]) -> Result<(usize, 
 #[test]
 fn answers_follow_changes(rt: HostRuntime) -> Result<(), Fail> {
     let rows: &[(Step, u64)] = &ROWS;
+    let (row, answer) = other_answer_at_start(rt.alloc(), rows)?;
+    assert!(rt; row == rows.len(), "row {row}: {answer}");
+    Ok(())
+}
+
+#[test]
+fn forgotten_nodes_go(rt: HostRuntime) -> Result<(), Fail> {
+    let rows: &[(Step, u64)] = &FORGETS;
     let (row, answer) = other_answer_at_start(rt.alloc(), rows)?;
     assert!(rt; row == rows.len(), "row {row}: {answer}");
     Ok(())

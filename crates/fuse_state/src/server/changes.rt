@@ -50,7 +50,7 @@ impl Server {
         ensures room { self.old.room ≤ self.new.room + 2 }
     {
         self.renew(inode);
-        self.add_name(place, inode, kind);
+        self.add_found(place, inode, kind);
     }
 
     /// A name was removed.

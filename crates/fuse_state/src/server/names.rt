@@ -1,7 +1,7 @@
 //! Names that were found and still stand.
 ghost use Rattle.std.specs.Prelude.{◌≡◌, ◌+◌, ◌^◌, ◌<◌, ◌≤◌, slice_get, option_copied, Some, None, IsNone, IsSome, IfSome};
 ghost use Rattle.fuse_state.specs.declared.place.Place.{Place as PlaceOf};
-ghost use Rattle.fuse_state.specs.Servers.{named, places_of, place_of, with_name, without_name, born};
+ghost use Rattle.fuse_state.specs.Servers.{named, places_of, place_of, with_name, without_name, once_more, born};
 
 use super::Server;
 use crate::borrower::Borrower;
@@ -36,6 +36,20 @@ impl Server {
         self.room -= 1;
     }
 
+    // The same, and the kernel is told of the object.
+    pub(super) fn add_found(&mut self, place: Place, inode: u32, kind: FileType)
+        requires { 1 ≤ self.old.room }
+        ensures kept { self.new.server ≡ once_more inode (with_name place inode kind self.old.server) }
+        ensures room { self.old.room ≤ self.new.room + 1 }
+    {
+        let node = self.node_of(inode);
+        let count = self.next_lookups(node);
+        self.lookups.put(node, count);
+        self.kinds.put(u64::from(inode), kind);
+        self.names.put(place, inode);
+        self.room -= 1;
+    }
+
     /// A name is gone.
     pub fn remove_name(&mut self, place: &Place)
         ensures kept { self.new.server ≡ without_name place.now self.old.server }
@@ -60,7 +74,7 @@ impl Server {
             },
         );
         let directory = place.directory;
-        self.add_name(place, inode, kind);
+        self.add_found(place, inode, kind);
         self.touch(now, directory);
     }
 

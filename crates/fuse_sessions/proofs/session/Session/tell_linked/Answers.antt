@@ -9,4 +9,4 @@ returns-in_err-status g c =
 pub returns : goal.returns
 returns g c =
     reads _ _ c.kind_of-kind.ensures (keeps _ _ refl c.note_linked.ensures.kept (then-ok _ c.in_ok-status.ensures.did
-    (reads-last _ _ c.found_body.ensures)))
+    (keeps _ _ refl c.note_told.ensures.kept (reads-last _ _ c.found_body.ensures))))
