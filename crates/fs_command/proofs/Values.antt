@@ -36,7 +36,7 @@ run_sound : Each (Sound (leaf 1).rules) (leaf 1).rules
 run_sound = ((refl, inl (refl, refl, refl)), ((refl, inl (refl, refl, refl)), ((refl, inr (inr (refl, refl))), tt)))
 
 check_sound : Each (Sound (leaf 2).rules) (leaf 2).rules
-check_sound = ((refl, inl (refl, refl, refl)), ((refl, inr (inr (refl, refl))), tt))
+check_sound = ((refl, inl (refl, refl, refl)), ((refl, inr (inl (refl, refl, refl, refl, refl, refl))), ((refl, inr (inr (refl, refl))), tt)))
 
 upgrade_sound : Each (Sound (leaf 3).rules) (leaf 3).rules
 upgrade_sound = ((refl, inl (refl, refl, refl)), ((refl, inr (inr (refl, refl))), tt))
@@ -60,7 +60,8 @@ run_has words fault =
 check_has : HasAll (leaf 2)
 check_has words fault =
     let image = (leaf_values (leaf 2) words check_sound refl fault).0 refl in
-    inr (inr (inl (refl, (image.0, image.1))))
+    let explain = (leaf_flags (leaf 2) words check_sound fault).1.0 (refl, refl, refl, refl, refl, refl) in
+    inr (inr (inl (refl, (image.0, image.1), explain)))
 
 upgrade_has : HasAll (leaf 3)
 upgrade_has words fault =

@@ -50,7 +50,7 @@ abbrev pub run : App
 run = with_rule (with_rule (new_app (codes "run")) image) (new_rule (codes "SCRIPT"))
 
 abbrev pub check : App
-check = with_rule (new_app (codes "check")) image
+check = with_rule (with_rule (new_app (codes "check")) image) (flag (codes "explain"))
 
 abbrev pub upgrade : App
 upgrade = with_rule (new_app (codes "upgrade")) image
@@ -88,7 +88,7 @@ SaysRun rows (Run image script) = (first_of (codes "IMAGE") rows ≡ Some image)
 SaysRun rows job = ⊥
 
 abbrev pub SaysCheck : List Row → Job → Type 0
-SaysCheck rows (Check image) = first_of (codes "IMAGE") rows ≡ Some image
+SaysCheck rows (Check image explain) = (first_of (codes "IMAGE") rows ≡ Some image) × (is_given (codes "explain") rows ≡ explain)
 SaysCheck rows job = ⊥
 
 abbrev pub SaysUpgrade : List Row → Job → Type 0
@@ -105,7 +105,7 @@ abbrev pub SaysJob : Option (Text × List Row) → Job → Type 0
 SaysJob named Memory = named ≡ None
 SaysJob named (Mkfs image sectors inodes) = (rows : List Row) × (named ≡ Some (codes "mkfs", rows)) × SaysMkfs rows (Mkfs image sectors inodes)
 SaysJob named (Run image script) = (rows : List Row) × (named ≡ Some (codes "run", rows)) × SaysRun rows (Run image script)
-SaysJob named (Check image) = (rows : List Row) × (named ≡ Some (codes "check", rows)) × SaysCheck rows (Check image)
+SaysJob named (Check image explain) = (rows : List Row) × (named ≡ Some (codes "check", rows)) × SaysCheck rows (Check image explain)
 SaysJob named (Upgrade image) = (rows : List Row) × (named ≡ Some (codes "upgrade", rows)) × SaysUpgrade rows (Upgrade image)
 SaysJob named (Fuse image denials own_rules) =
     (rows : List Row) × (named ≡ Some (codes "fuse", rows)) × SaysFuse rows (Fuse image denials own_rules)
@@ -157,7 +157,7 @@ abbrev pub IsWhole : Text × List Row → Type 0
 IsWhole named = ((named.0 ≡ codes "mkfs") × IsGiven (codes "IMAGE") named.1
     × IsNumberGiven 1024 65536 (codes "sectors") named.1 × IsNumberGiven 16 4096 (codes "inodes") named.1)
     ⊎ (((named.0 ≡ codes "run") × IsGiven (codes "IMAGE") named.1)
-    ⊎ (((named.0 ≡ codes "check") × IsGiven (codes "IMAGE") named.1)
+    ⊎ (((named.0 ≡ codes "check") × IsGiven (codes "IMAGE") named.1 × IsFlag (codes "explain") named.1)
     ⊎ (((named.0 ≡ codes "upgrade") × IsGiven (codes "IMAGE") named.1)
     ⊎ ((named.0 ≡ codes "fuse") × IsGiven (codes "IMAGE") named.1 × IsFlag (codes "own-rules") named.1))))
 

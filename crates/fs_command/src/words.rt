@@ -13,12 +13,13 @@ use std::alloc::{AllocError, Global};
 use std::marker::Model;
 use thiserror::Error as ThisError;
 
-const VERSION: &str = "0.1.0";
+// The version of the program, and the newest layout that it makes.
+const VERSION: &str = "0.1.0, layout 2";
 
 const USAGE: &str = "inofs
        inofs mkfs IMAGE --sectors N --inodes N
        inofs run IMAGE [SCRIPT]
-       inofs check IMAGE
+       inofs check [--explain] IMAGE
        inofs upgrade IMAGE
        inofs fuse IMAGE [--denials FILE] [--own-rules]";
 
@@ -84,6 +85,8 @@ pub enum Job {
     Check {
         /// The image's path.
         image: Text,
+        /// A sentence says what the rule of a finding asks.
+        explain: bool,
     },
     /// To upgrade an image.
     Upgrade {
@@ -215,10 +218,12 @@ fn run_job(alloc: Global, matches: &ArgMatches<'_>) -> Result<Job, AllocError>
 // The job of `check`.
 fn check_job(alloc: Global, matches: &ArgMatches<'_>) -> Result<Job, AllocError>
     requires image { IsGiven (codes "IMAGE") (rows_of (found_of matches.now)) }
+    requires explain { IsFlag (codes "explain") (rows_of (found_of matches.now)) }
     ensures { IfOk result (SaysCheck (rows_of (found_of matches.now))) }
 {
     let image = Text::new(alloc, matches.get_str("IMAGE").unwrap())?;
-    Ok(Job::Check { image })
+    let explain = matches.get_flag("explain");
+    Ok(Job::Check { image, explain })
 }
 
 // The job of `upgrade`.
@@ -301,9 +306,11 @@ fn run_command<'a>(alloc: Global) -> Result<Command<'a>, AllocError>
 fn check_command<'a>(alloc: Global) -> Result<Command<'a>, AllocError>
     ensures { IfOk result (λ command. app_of command ≡ check) }
 {
+    let explain = flag(alloc, "explain").help("Say what the rule of a finding asks");
     Command::new(alloc, "check")
         .about("Check an image")
-        .arg(image(alloc).help("The image"))
+        .arg(image(alloc).help("The image"))?
+        .arg(explain)
 }
 
 // The words of `upgrade`.

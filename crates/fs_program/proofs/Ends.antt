@@ -45,7 +45,7 @@ placed sectors inodes size place has same =
 -- where there is one, mkfs refuses nothing
 pub refuses_nothing : (sectors inodes : ℕ) (place : Place) → the_place sectors inodes ≡ Some place → mkfs_refusal sectors inodes ≡ None
 refuses_nothing sectors inodes place has =
-    let is : IsPlace (laid_out sectors inodes) = subst IsPlace (place_is_laid_out sectors inodes has) (place_is_place newest sectors inodes has) in
+    let is : IsPlace (laid_out sectors inodes) = subst IsPlace (place_is_laid_out sectors inodes has) (place_is_place newest 0 sectors inodes has) in
     (place_or_too_small sectors inodes (record {
       size = record { least = is.least_sectors; most = is.most_sectors };
       least = is.least_inodes;

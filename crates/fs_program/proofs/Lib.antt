@@ -1,3 +1,4 @@
 mod Ends
+mod Findings
 mod News
 mod Sessions

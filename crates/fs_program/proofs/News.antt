@@ -1,11 +1,12 @@
 -- What a mount finds on a new disk.
-use Rattle.std.specs.Prelude.{◌≡◌, ℕ, length, Ok}
+use Rattle.std.specs.Prelude.{◌≡◌, ℕ, ◌+◌, ◌*◌, length, Ok}
 use Rattle.std.proofs.Common.{refl, ap, ◌∙◌, arith}
 use Rattle.sector_disk.specs.Disk.{DiskState, IsStable}
 use Rattle.fs_layout.specs.declared.place.Place.{Place}
 use Rattle.fs_layout.specs.Place.{laid_out}
 use Rattle.fs_layout.proofs.Places.{place_is_laid_out}
-use Rattle.fs_model.specs.Trees.{sectors_needed}
+use Rattle.fs_model.specs.Nodes.{sectors_for}
+use Rattle.fs_model.specs.Trees.{Room, sectors_needed}
 use Rattle.fs_model.specs.TreeChanges.{pruned}
 use Rattle.fs_model.specs.States.{State}
 use Rattle.fs_model.specs.Stands.{room_of}
@@ -18,8 +19,11 @@ use Rattle.fs_system.specs.Seen.{System, disk_in, IsIn}
 use Rattle.fs_system.proofs.Played.{seen_in, the_disk}
 use Rattle.fs_program.specs.Programs.{IsNew, Begins}
 
-none_needed : sectors_needed (pruned empty_tree) ≡ 0
-none_needed = refl
+none_of : (slot : ℕ) → slot * 0 ≡ 0
+none_of slot = omega arith
+
+none_needed : (room : Room) → sectors_needed room (pruned empty_tree) ≡ 0
+none_needed room = ap (λ (k : ℕ). 0 + ((sectors_for k + 0) + 0)) (none_of room.slot_size)
 
 mounted_is_new : (before now : DiskState) (sectors inodes : ℕ) (s : State) → length before.seen ≡ sectors → IsNewDisk inodes before.seen
     → Mounts before now s → IsNew sectors inodes s
@@ -35,7 +39,7 @@ mounted_is_new before now sectors inodes s size new mounts =
       room = room ∙ ap (λ (p : Place). room_of p) place;
       tree = ap (λ x. x.tree) is;
       desks = ap (λ x. x.desks) is;
-      free = omega (arith, least, most, none_needed, same);
+      free = omega (arith, least, most, none_needed s.room, same);
       running = ap (λ x. x.halted) is;
     }
 

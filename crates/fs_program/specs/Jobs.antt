@@ -6,7 +6,7 @@
 --     RunsOn, RunEnds        a script is run on a disk that is mounted for it
 --     MemoryEnds, ImageMkfsEnds, ImageRunEnds, ImageCheckEnds, ImageUpgradeEnds        the jobs but that of serving
 --     JobEnds, ProgramEnds        a job, and what the program does for its words
-use Rattle.std.specs.Prelude.{◌≡◌, ◌⊎◌, ℕ, List, Option, None, IsSome, IsTrue, Result, Ok, Err, OnOk}
+use Rattle.std.specs.Prelude.{◌≡◌, ◌⊎◌, ℕ, Bool, List, Option, None, IsSome, IsTrue, Result, Ok, Err, OnOk}
 use Rattle.std.specs.Io.KnownBytes.{Appends}
 use Rattle.sector_disk.specs.Disk.{DiskState, IsFresh, IsStable, LeavesOnly, OnlyReads}
 use Rattle.fs_layout.specs.Place.{laid_out, the_place}
@@ -37,7 +37,7 @@ use Rattle.fs_program.specs.Serving.{ImageFuseEnds}
 use Rattle.fs_program.specs.Programs.{RunsInMemory}
 use Rattle.fs_command.specs.Statuses.{code_of, status_of}
 use Rattle.fs_program.specs.Streams.{Reading, Writing}
-use Rattle.fs_program.specs.Texts.{made_text, clean_text, finding_text, version_text}
+use Rattle.fs_program.specs.Texts.{made_text, clean_text, found_text, version_text}
 use Rattle.fs_command.specs.Words.{AsksFor, Refuses, words_status}
 use Rattle.fs_command.specs.declared.failure.Failure.{Failure}
 use Rattle.fs_command.specs.declared.failure.Failure.TheVariants as failures
@@ -87,15 +87,15 @@ pub data MkfsEnds (old now : DiskState) (inodes : ℕ) (w : Writing) (result : R
   is_made : IsNewDisk inodes now.seen → IsStable now → Tells w (made_text (laid_out old.size inodes)) Done result
       → MkfsEnds old now inodes w result
 
--- A disk is to be checked.
-pub data CheckEnds (old now : DiskState) (w : Writing) (result : Result Status Failure) : Type 0 where
+-- A disk is to be checked, and a finding explained or not.
+pub data CheckEnds (old now : DiskState) (explain : Bool) (w : Writing) (result : Result Status Failure) : Type 0 where
   is_clean : (summary : Summary) → IsClean old summary → Tells w (clean_text summary) Done result
-      → CheckEnds old now w result
-  has_finding : (finding : Finding) → IsFirst old finding.rule finding.at → Tells w (finding_text finding) Faulty result
-      → CheckEnds old now w result
+      → CheckEnds old now explain w result
+  has_finding : (finding : Finding) → IsFirst old finding.rule finding.at → Tells w (found_text explain finding) Faulty result
+      → CheckEnds old now explain w result
   -- the device failed, or memory ran out
   is_unchecked : (fault : CheckFault) → IsReason IsNone old now fault → IsUndone w (failures.Check fault) result
-      → CheckEnds old now w result
+      → CheckEnds old now explain w result
 
 -- A disk is to be upgraded.
 pub data UpgradeEnds (old now : DiskState) (w : Writing) (result : Result Status Failure) : Type 0 where
@@ -152,10 +152,10 @@ pub data ImageRunEnds {D : Type 0} (state : D → DiskState) (script : Option (L
   opens : (disk : D) (own : Reading) → IsFresh (state disk) (state disk).seen → (script ≡ None → own ≡ r)
       → RunEnds state disk own w result → ImageRunEnds state script r w result
 
-pub data ImageCheckEnds {D : Type 0} (state : D → DiskState) (w : Writing) (result : Result Status Failure) : Type 0 where
-  cannot_check : IsUndone w failures.NotOpened result → ImageCheckEnds state w result
+pub data ImageCheckEnds {D : Type 0} (state : D → DiskState) (explain : Bool) (w : Writing) (result : Result Status Failure) : Type 0 where
+  cannot_check : IsUndone w failures.NotOpened result → ImageCheckEnds state explain w result
   checks : (old now : D) → IsFresh (state old) (state old).seen → OnlyReads (state old) (state now)
-      → CheckEnds (state old) (state now) w result → ImageCheckEnds state w result
+      → CheckEnds (state old) (state now) explain w result → ImageCheckEnds state explain w result
 
 pub data ImageUpgradeEnds {D : Type 0} (state : D → DiskState) (w : Writing) (result : Result Status Failure) : Type 0 where
   has_no_image : IsUndone w failures.NotOpened result → ImageUpgradeEnds state w result
@@ -167,7 +167,7 @@ abbrev pub JobEnds : {M F : Type 0} → (M → DiskState) → (F → DiskState) 
 JobEnds memory file r w Memory result = MemoryEnds memory r w result
 JobEnds memory file r w (Mkfs image sectors inodes) result = ImageMkfsEnds file sectors inodes w result
 JobEnds memory file r w (Run image script) result = ImageRunEnds file script r w result
-JobEnds memory file r w (Check image) result = ImageCheckEnds file w result
+JobEnds memory file r w (Check image explain) result = ImageCheckEnds file explain w result
 JobEnds memory file r w (Upgrade image) result = ImageUpgradeEnds file w result
 JobEnds memory file r w (Fuse image denials own_rules) result = ImageFuseEnds file denials own_rules result
 

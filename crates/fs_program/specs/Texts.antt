@@ -1,15 +1,16 @@
 -- What the program prints of an image, a line each.
 --     made_text        that it was made
 --     clean_text        what a clean one has
---     finding_text        which rule fails
+--     finding_text, found_text        which rule fails, and with or without what that rule asks
 --     version_text        which version it has
-use Rattle.std.specs.Prelude.{ℕ, ◌-◌, Bool, List, ◌++◌, codes, if◌then◌else◌}
+use Rattle.std.specs.Prelude.{ℕ, ◌-◌, Bool, List, [], ◌++◌, codes, if◌then◌else◌}
 use Rattle.std.specs.Fmt.{decimal}
 use Rattle.fs_layout.specs.declared.place.Place.{Place}
 use Rattle.fs_layout.specs.Version.{version_number}
 use Rattle.fs_check.specs.declared.faults.Finding.{Finding}
 use Rattle.fs_check.specs.declared.faults.Summary.{Summary}
 use Rattle.fs_images.specs.Upgrading.{target}
+use Rattle.fs_program.specs.Explanations.{explanation_text}
 
 abbrev pub made_text : Place → List ℕ
 made_text place =
@@ -31,6 +32,9 @@ clean_text s = kinds_text s ++ room_text s ++ (codes " pending " ++ yes_text s.p
 
 abbrev pub finding_text : Finding → List ℕ
 finding_text f = codes "finding " ++ decimal f.rule ++ codes " " ++ decimal f.at ++ codes "\n"
+
+abbrev pub found_text : Bool → Finding → List ℕ
+found_text explain f = finding_text f ++ (if explain then explanation_text f else [])
 
 abbrev pub version_text : List ℕ
 version_text = codes "version " ++ decimal (version_number target) ++ codes "\n"

@@ -1,14 +1,15 @@
 //! What the jobs do on a disk, and what they print.
 
-ghost use Rattle.std.specs.Prelude.{◌≡◌, OnOk, is_ok, if◌then◌else◌, Some, Ok};
+ghost use Rattle.std.specs.Prelude.{◌≡◌, ◌≤◌, OnOk, is_ok, if◌then◌else◌, Some, Ok};
 ghost use Rattle.std.specs.Io.KnownBytes.{Appends};
 ghost use Rattle.sector_disk.specs.Disk.{LeavesOnly, OnlyReads};
 ghost use Rattle.fs_layout.specs.Place.{IsPlace, the_place};
 ghost use Rattle.fs_images.specs.Upgrading.{IsHalfUpgraded};
 ghost use Rattle.fs_program.specs.Jobs.{MkfsEnds, RunEnds, CheckEnds, UpgradeEnds, ended, run_status};
 ghost use Rattle.fs_program.specs.Streams.{reading, writing};
-ghost use Rattle.fs_program.specs.Texts.{made_text, kinds_text, room_text, yes_text, clean_text, finding_text, version_text};
+ghost use Rattle.fs_program.specs.Texts.{made_text, kinds_text, room_text, yes_text, clean_text, finding_text, found_text, version_text};
 
+use crate::explaining::print_explanation;
 use fs_check::{CheckFault, Finding, Summary, check};
 use fs_command::{Failure, Status};
 use fs_images::{mkfs, upgrade};
@@ -115,23 +116,35 @@ fn tell_run<E: Write>(ran: Result<Count, RunFault>, err: &mut E) -> Status
 
 // ---- checking
 
-/// Checks a disk, and prints what it has, or which rule fails.
+/// Checks a disk, and prints what it has, or which rule fails and, if that is to be explained, what it asks.
 pub(crate) fn check_disk<D: Disk, O: Write>(
     alloc: Global,
     disk: &mut D,
+    explain: bool,
     out: &mut Watched<O>,
 ) -> Result<Status, Failure>
     ensures reads { OnlyReads (D.state disk.old) (D.state disk.new) }
-    ensures ends { CheckEnds (D.state disk.old) (D.state disk.new) (writing O.contents out.old out.new) result }
+    ensures ends { CheckEnds (D.state disk.old) (D.state disk.new) explain (writing O.contents out.old out.new) result }
 {
     match check(alloc, disk) {
         Ok(summary) => Ok(written(print_summary(&summary, out), Status::Done)),
         Err(CheckFault::Found(finding)) => {
-            Ok(written(print_finding(finding, out), Status::Faulty))
+            Ok(written(print_found(finding, explain, out), Status::Faulty))
         }
         Err(CheckFault::DiskFault) => Err(Failure::Check(CheckFault::DiskFault)),
         Err(CheckFault::OutOfMemory) => Err(Failure::Check(CheckFault::OutOfMemory)),
     }
+}
+
+fn print_found<O: Write>(finding: Finding, explain: bool, out: &mut O) -> io::Result<()>
+    requires { (1 ≤ finding.rule) × (finding.rule ≤ 14) }
+    ensures { OnOk result (Appends (O.contents out.old) (O.contents out.new) (found_text explain finding)) }
+{
+    print_finding(finding, out)?;
+    if explain {
+        print_explanation(finding, out)?;
+    }
+    Ok(())
 }
 
 fn print_finding<O: Write>(finding: Finding, out: &mut O) -> io::Result<()>

@@ -79,7 +79,7 @@ fn perform_job<R: Files<File: DiskFile> + AllocGlobal + Clock, I: Read, O: Write
             inodes,
         } => make_image(rt, image, *sectors, *inodes, out),
         Job::Run { image, script } => run_image(rt, image, script.as_ref(), input, out, err),
-        Job::Check { image } => check_image(rt, image, out),
+        Job::Check { image, explain } => check_image(rt, image, *explain, out),
         Job::Upgrade { image } => upgrade_image(rt, image, out),
         Job::Fuse {
             image,
@@ -148,12 +148,13 @@ fn run_image<R: Files<File: DiskFile> + AllocGlobal, I: Read, O: Write, E: Write
 fn check_image<R: Files<File: DiskFile> + AllocGlobal, O: Write>(
     rt: &R,
     image: &Text,
+    explain: bool,
     out: &mut Watched<O>,
 ) -> Result<Status, Failure>
-    ensures { ImageCheckEnds ⟦<FileDisk<R::File> as Disk>⟧.state (writing O.contents out.old out.new) result }
+    ensures { ImageCheckEnds ⟦<FileDisk<R::File> as Disk>⟧.state explain (writing O.contents out.old out.new) result }
 {
     let mut disk = open_image(rt, image)?;
-    check_disk(rt.alloc(), &mut disk, out)
+    check_disk(rt.alloc(), &mut disk, explain, out)
 }
 
 fn upgrade_image<R: Files<File: DiskFile> + AllocGlobal, O: Write>(

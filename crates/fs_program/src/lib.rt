@@ -5,6 +5,7 @@
 
 mod denials;
 mod disks;
+mod explaining;
 mod jobs;
 mod memory;
 mod served;

@@ -132,15 +132,21 @@ const NO_COMMAND: &str = "error: unrecognized subcommand 'fsck'
 Usage: inofs
        inofs mkfs IMAGE --sectors N --inodes N
        inofs run IMAGE [SCRIPT]
-       inofs check IMAGE
+       inofs check [--explain] IMAGE
        inofs upgrade IMAGE
        inofs fuse IMAGE [--denials FILE] [--own-rules]
 
 For more information, try '--help'.
 ";
 
+// What is said of an image without a superblock.
+const NO_SUPERBLOCK: &str = "finding 1 0
+sector 0: a superblock has to stand here, of a known version, with the image's own number of sectors and numbers in range; none \
+does, so nothing else is found; nothing is repaired: take the image from a backup
+";
+
 // A row finds what those before it have left.
-static ROWS: [Row; 20] = [
+static ROWS: [Row; 21] = [
     // No file is made.
     (
         Change::Nothing,
@@ -178,6 +184,12 @@ static ROWS: [Row; 20] = [
     ),
     (Change::Nothing, "check @d", "", (0, FILLED, "")),
     (Change::Byte(0, 0), "check @d", "", (1, "finding 1 0\n", "")),
+    (
+        Change::Nothing,
+        "check --explain @d",
+        "",
+        (1, NO_SUPERBLOCK, ""),
+    ),
     (
         Change::Nothing,
         "run @d",

@@ -44,7 +44,7 @@ fn told_job(alloc: Global, job: &Job) -> Result<String, AllocError> {
             image,
             script: None,
         } => format!(in alloc; "run {}", image.as_str()),
-        Job::Check { image } => format!(in alloc; "check {}", image.as_str()),
+        Job::Check { image, explain } => { format!(in alloc; "check {} {explain}", image.as_str()) }
         Job::Upgrade { image } => format!(in alloc; "upgrade {}", image.as_str()),
         Job::Fuse {
             image,
@@ -71,7 +71,7 @@ fn told_fault(alloc: Global, fault: &WordsFault) -> Result<String, AllocError> {
 // ---- what is asked for
 
 // Lines, and what they ask for.
-static JOBS: [(&str, &str); 14] = [
+static JOBS: [(&str, &str); 15] = [
     ("inofs", "memory"),
     (
         "inofs mkfs a.img --sectors 1024 --inodes 16",
@@ -88,8 +88,9 @@ static JOBS: [(&str, &str); 14] = [
     ("inofs run a.img", "run a.img"),
     ("inofs run a.img s", "run a.img s"),
     ("inofs run -- --help s", "run --help s"),
-    ("inofs check a.img", "check a.img"),
-    ("/usr/bin/inofs check check", "check check"),
+    ("inofs check a.img", "check a.img false"),
+    ("inofs check a.img --explain", "check a.img true"),
+    ("/usr/bin/inofs check check", "check check false"),
     ("inofs upgrade a.img", "upgrade a.img"),
     ("inofs fuse a.img", "fuse a.img false"),
     ("inofs fuse a.img --own-rules", "fuse a.img true"),
@@ -101,7 +102,7 @@ static JOBS: [(&str, &str); 14] = [
 ];
 
 // Lines that ask for no job.
-static BAD: [&str; 36] = [
+static BAD: [&str; 38] = [
     "inofs mkfs",
     "inofs mkfs a.img",
     "inofs mkfs a.img --sectors 1024",
@@ -122,6 +123,8 @@ static BAD: [&str; 36] = [
     "inofs run a.img --sectors 1024",
     "inofs check",
     "inofs check a.img b.img",
+    "inofs check --explain",
+    "inofs check a.img --explain=true",
     "inofs upgrade",
     "inofs upgrade a.img b.img",
     "inofs fuse",
@@ -177,7 +180,7 @@ pub(crate) const HELP: &str = "A file system in an image, with a journal and acc
 Usage: inofs
        inofs mkfs IMAGE --sectors N --inodes N
        inofs run IMAGE [SCRIPT]
-       inofs check IMAGE
+       inofs check [--explain] IMAGE
        inofs upgrade IMAGE
        inofs fuse IMAGE [--denials FILE] [--own-rules]
 
@@ -228,7 +231,7 @@ static TEXTS: [(&str, &str); 6] = [
     ("inofs --help", HELP),
     ("inofs mkfs --help", MKFS_HELP),
     ("inofs fuse --help", FUSE_HELP),
-    ("inofs --version", "inofs 0.1.0\n"),
+    ("inofs --version", "inofs 0.1.0, layout 2\n"),
     (
         "inofs mkfs a.img --sectors 1023 --inodes 16",
         "error: invalid value '1023' for '--sectors <N>': 1023 is not in 1024..=65536\n\n\

@@ -15,7 +15,7 @@ returns-in-Err g c =
     cannot_make c.in-Err.fault (c.in-Err.ensures.fault none) (refl, refl)
 
 pub print_made-requires : goal.print_made-requires
-print_made-requires g c = place_is_place newest (g.D.Disk.state c.args.disk.now).size c.args.place.inodes c.requires
+print_made-requires g c = place_is_place newest 0 (g.D.Disk.state c.args.disk.now).size c.args.place.inodes c.requires
 
 pub returns : goal.returns
 returns g c =

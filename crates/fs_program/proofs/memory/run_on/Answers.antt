@@ -1,4 +1,4 @@
-use Rattle.std.specs.Prelude.{◌≡◌, Bool, Result, Err}
+use Rattle.std.specs.Prelude.{◌≡◌, Bool, Result, Ok, Err}
 use Rattle.fs_shell.specs.Watching.{FailsWhere}
 use Rattle.fs_shell.specs.declared.answer.Count.{Count}
 use Rattle.fs_shell.specs.declared.fault.RunFault.{RunFault}
@@ -19,6 +19,18 @@ passed_on old new fault why ran = record {
   failed = λ told. ran.failed (cc);
   same = λ other. ran.same (λ told. other (cc));
 }
+
+passed_ok : (old new : Bool) (count : Count) (why : RunFault) → FailsWhere old new (TellsRun (Ok count) why) → FailsWhere old new (Tells (Ok count) why)
+passed_ok old new count why ran = record {
+  failed = λ told. ran.failed (cc);
+  same = λ other. ran.same (λ told. other (cc));
+}
+
+pub returns-in-Ok-clause-read_fault : goal.returns-in-Ok-clause-read_fault
+returns-in-Ok-clause-read_fault g c = passed_ok _ _ c.in-Ok.count ReadFault c.in-Ok.ensures.read_fault
+
+pub returns-in-Ok-clause-write_fault : goal.returns-in-Ok-clause-write_fault
+returns-in-Ok-clause-write_fault g c = passed_ok _ _ c.in-Ok.count WriteFault c.in-Ok.ensures.write_fault
 
 pub returns-in-Ok-clause-ran : goal.returns-in-Ok-clause-ran
 returns-in-Ok-clause-ran g c =
