@@ -1,0 +1,43 @@
+"""What mkfs(8) and fsck(8) call: the helpers' statuses and texts, beside a mounted image and a damaged one."""
+import subprocess
+
+from mounts import TOP
+
+ROOT_MODE = 130 * 512 + 128 + 2  # where an image of 1,024 sectors has the mode of inode 1
+
+FINDING = ('finding 4 1\ninode 1: its kind, mode, size and unused bytes have to be as the layout\'s version allows, with inode 0 free and '
+           'inode 1 a directory; they are not; nothing is repaired: take the image from a backup\n')
+CLEAN = 'clean files 0 dirs 1 links 0 nameless 0 blocks 878 inodes 62 pending no\n'
+MOUNTED = ' is mounted.\nfsck.inofs: Cannot continue, aborting.\n'
+MADE = 'made 1024 sectors 64 inodes 878 free\n'
+SMALL = '--sectors', '1024', '--inodes=64'
+
+
+def helpers(mounted, told):
+    image = mounted.image
+    path = f'{image}: '
+
+    def asks(name, *words):
+        said = mounted.run(TOP / f'mount/{name}.inofs', *words, stdout=subprocess.PIPE, stderr=subprocess.STDOUT, text=True)
+        return said.returncode, said.stdout
+
+    def expect(name, words, status, text):
+        told.compare('Helpers', f'{name}.inofs {" ".join(map(str, words))}', None, asks(name, *words), (status, text))
+
+    image.unlink()
+    expect('mkfs', (*SMALL, image), 0, MADE)
+    expect('mkfs', (*SMALL, image), 1, 'image: exists\n')
+    expect('fsck', (image,), 0, path + CLEAN)
+    expect('fsck', ('-a', '-C', '0', image), 0, path + CLEAN)
+    mounted.begin()
+    expect('fsck', ('-n', image), 8, str(image) + MOUNTED)
+    mounted.end()
+    with image.open('r+b') as file:
+        file.seek(ROOT_MODE)
+        file.write(b'\xff\xff')
+    expect('fsck', ('-f', '-y', image), 4, path + FINDING)
+    expect('fsck', ('/dev/null',), 8, '/dev/null: image: cannot open\n')
+    told.compare('Helpers', 'bad words', None, [asks(*words)[0] for words in (('fsck',), ('fsck', '-x', image), ('mkfs',), ('mkfs', image, image))],
+                 [16, 16, 1, 1])
+    image.unlink()
+    expect('mkfs', (image,), 0, 'made 65536 sectors 4096 inodes 64367 free\n')
