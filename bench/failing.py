@@ -8,6 +8,7 @@ import pathlib
 import subprocess
 
 SECONDS = 20  # how long a run may take
+ENOMEM, FAULT_8, EIO = 'error ENOMEM 12', 'fault 8 OutOfMemory', 'error EIO 5'
 MOST_FAULTS = 100_000  # of one sweep
 
 # Counts what the program asks for, and lets the call FAULT_AT of the kind FAULT_KIND fail: an allocation (memory); one that is

@@ -14,7 +14,6 @@ LOOK_UPS = 200
 OVERLAYS = 10
 CREATIONS = 10_000
 MOST_NAMES = 400
-MAX_NAME = 120
 HELD = []  # what a worker holds open
 
 
@@ -165,13 +164,13 @@ def is_own(file, numbers):
     return attempt(os.pread, file, 9, 0) in (b'held', 'ESTALE') and (seen == 'ESTALE' or seen.st_ino not in numbers)
 
 
-def names_in_turn(folder, closed):
+def names_in_turn(folder, closed, max_name):
     """Makes files in turn with names that can't be made, and removes half of them where there are many: what went wrong."""
     make_file(folder / 'held')
     held = os.open(folder / 'held', os.O_RDONLY)
     os.unlink(folder / 'held')
     make_file(folder / 'first')
-    failing = [(folder / ('n' * (MAX_NAME + 1)), 'ENAMETOOLONG'), (folder / 'first', 'EEXIST'), (closed / 'f', 'EACCES'),
+    failing = [(folder / ('n' * (max_name + 1)), 'ENAMETOOLONG'), (folder / 'first', 'EEXIST'), (closed / 'f', 'EACCES'),
                (folder / 'none/f', 'ENOENT')]
     made, wrong = {'first': os.stat(folder / 'first').st_ino}, set()
     for number in range(CREATIONS):
@@ -195,7 +194,8 @@ def names_in_turn(folder, closed):
 
 def failing_names(mounted, told):
     folder, closed = work_dir(mounted, 'names', 1000), work_dir(mounted, 'shut', mode=0o700)
-    told.compare('names', f'{CREATIONS:,} creations', None, as_user('ann', lambda: names_in_turn(folder, closed)), '[]')
+    longest = mounted.layout().max_name
+    told.compare('names', f'{CREATIONS:,} creations', None, as_user('ann', lambda: names_in_turn(folder, closed, longest)), '[]')
 
 
 # ---- a server that is killed

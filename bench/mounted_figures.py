@@ -139,11 +139,11 @@ def mounted_image(mounted):
 
 
 @contextlib.contextmanager
-def mounted_by_fuse2fs(folder):
+def mounted_by_fuse2fs(folder, layout):
     """An image of as many bytes and inodes, with what fuse2fs has as its defaults."""
     image, place = folder / 'ext4', folder / 'fuse2fs'
     place.mkdir()
-    subprocess.run(['mke2fs', '-q', '-t', 'ext4', '-N', '4096', image, '32M'], check=True, stdout=subprocess.DEVNULL)
+    subprocess.run(['mke2fs', '-q', '-t', 'ext4', '-N', str(layout.inodes), image, layout.size], check=True, stdout=subprocess.DEVNULL)
     subprocess.run(['fuse2fs', image, place], check=True)
     try:
         yield place
@@ -158,7 +158,7 @@ def with_fixed_replies(folder, words):
     shell.write_text(f'#!/bin/sh\nexec {program} {words} "$@"\n')
     shell.chmod(0o755)
     (folder / 'fixed').mkdir()
-    return mounted_image(Mounted(folder / 'fixed', shell))
+    return mounted_image(Mounted(folder / 'fixed', shell, layouts=[2]))
 
 
 def servers(mounted, words):
@@ -169,7 +169,7 @@ def servers(mounted, words):
     else:
         print(f'{BARE}: not tried, cc is not here')
     if shutil.which('fuse2fs') and shutil.which('mke2fs'):
-        yield OTHER, mounted_by_fuse2fs(mounted.folder)
+        yield OTHER, mounted_by_fuse2fs(mounted.folder, mounted.layout())
     else:
         print(f'{OTHER}: not tried, it is not here')
     yield LOCAL, contextlib.nullcontext(mounted.local)

@@ -2,7 +2,8 @@
 
 A line is `USER: COMMAND`, which a shell of the user's performs in the root of either side, or `USER: !CALL WORD..`, one of the
 functions below. What stands in brackets before the user is the number in docs/MOUNT.md under which a difference of that step is
-known. Lines `== TITLE: TOOL..` begin a group, which needs these tools; groups build on none but themselves.
+known, as `[8]`, or as `[8 on 2]` where it is known on images of that version of the layout alone. Lines `== TITLE: TOOL..` begin a group,
+which needs these tools; groups build on none but themselves.
 """
 import mmap
 import os
@@ -14,7 +15,7 @@ import time
 from mounts import ACLS, SECONDS, acl_bytes, acls_of, attempt, become
 
 STEPS = (pathlib.Path(__file__).resolve().parent / 'mounted.steps').read_text()
-LINE = re.compile(r'(?:\[(\d+)\] )?(\w+): (.*)')
+LINE = re.compile(r'(?:\[(\d+)(?: on (\d))?\] )?(\w+): (.*)')
 
 
 # ---- calls that no tool makes
@@ -152,8 +153,27 @@ def holes(path):
 
 
 def limits(folder):
-    """The longest name and target that are taken."""
-    return [attempt(os.mkdir, f'{folder}/{"n" * length}') for length in (120, 121)]
+    """The longest names that are taken, in one layout and the other, and those that are one byte longer."""
+    return [attempt(os.mkdir, f'{folder}/{"n" * length}') for length in (120, 121, 248, 249)]
+
+
+def long_name(folder, length):
+    """A name that is made, listed, changed and removed."""
+    names = ['l' * length, 'm' * length]
+    os.mkdir(f'{folder}/{names[0]}')
+    os.rename(f'{folder}/{names[0]}', f'{folder}/{names[1]}')
+    listed = [name in os.listdir(folder) for name in names]
+    os.rmdir(f'{folder}/{names[1]}')
+    return listed
+
+
+def crowd(path, count):
+    """How many names a directory takes, and how many it lists then."""
+    os.mkdir(path)
+    made = [attempt(os.mkdir, f'{path}/{number}') for number in range(count)]
+    listed = len(os.listdir(path))
+    shutil.rmtree(path)
+    return made.count(None), listed
 
 
 def opens(path, words):
@@ -181,7 +201,7 @@ def listing_while_removed(path):
 CALLS = {call.__name__: call for call in (
     set_acl, remove_acl, list_attributes, acls_of, unlinked_open_file, rename_over_open_file, shared_map, private_map,
     map_of_unlinked, appends, removed_directory, stat_of_removed_directory, descriptor_calls, times, times_move,
-    times_of_directories, holes, limits, opens, listing_while_removed)}
+    times_of_directories, holes, limits, long_name, crowd, opens, listing_while_removed)}
 for name in ('chmod', 'chown', 'link', 'symlink', 'rename', 'unlink', 'rmdir', 'mkdir', 'mkfifo', 'truncate', 'access', 'lchown'):
     CALLS[name] = getattr(os, name)
 
@@ -238,7 +258,7 @@ def take_steps(mounted, compare):
             print(f'{title}: not tried, {" and ".join(missing)} not here', flush=True)
             continue
         for line in lines:
-            number, user, command = LINE.fullmatch(line).groups()
+            number, version, user, command = LINE.fullmatch(line).groups()
             answers = [performed(user, command, side) for side in mounted.sides()]
-            compare(title, line, number, *answers)
+            compare(title, line, number if version in (None, str(mounted.version)) else None, *answers)
         print(f'{title}: {len(lines)} steps, {time.monotonic() - began:.0f} seconds', flush=True)

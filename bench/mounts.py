@@ -1,5 +1,7 @@
 """A mounted image beside a directory of the machine's own file system, and users who work on both."""
+import collections
 import hashlib
+import itertools
 import os
 import pathlib
 import pickle
@@ -17,6 +19,10 @@ SECONDS = 120  # how long a step may take
 USERS = {'root': (0, [0]), 'ann': (1000, [100]), 'bob': (1001, [101, 200]), 'cy': (1002, [100, 200]), 'dan': (1003, [103])}
 ACLS = {'access': 'system.posix_acl_access', 'default': 'system.posix_acl_default'}
 TAGS = {'u': (1, 2), 'g': (4, 8), 'm': (16, 16), 'o': (32, 32)}  # of an unnamed entry and of a named one
+# How an image of a version of the layout is made, how large it is then, and how long its names may be.
+Layout = collections.namedtuple('Layout', 'verb numbers size inodes max_name')
+LAYOUTS = {2: Layout('mkfs', ('--sectors', '65536', '--inodes', '4096'), '32M', 4096, 120),
+           3: Layout('format', ('--size', '64M', '--inodes', '8192'), '64M', 8192, 248)}
 
 
 def become(user):
@@ -177,9 +183,9 @@ def as_user(user, work):
 
 
 class Mounted:
-    """A folder with an image that is mounted, and a directory beside it."""
+    """A folder with an image that is mounted, and a directory beside it. Its images have these versions of the layout by turns."""
 
-    def __init__(self, folder, program, options=()):
+    def __init__(self, folder, program, options=(), layouts=(3, 2)):
         self.folder = pathlib.Path(folder)
         self.image, self.mount, self.local = self.folder / 'image', self.folder / 'mount', self.folder / 'local'
         self.options = ['rw', f'denials={self.folder}/denials', *options]
@@ -188,14 +194,19 @@ class Mounted:
         (words / 'inofs').symlink_to(pathlib.Path(program).resolve())
         self.environment = {**os.environ, 'PATH': f'{words}:{os.environ["PATH"]}'}
         self.mount.mkdir()
-        self.fresh()
+        self.versions, self.version = itertools.cycle(layouts), None
 
     def fresh(self):
         """A new image in place of the last one, and an empty directory."""
         self.image.unlink(missing_ok=True)
         shutil.rmtree(self.local, ignore_errors=True)
         self.local.mkdir(mode=0o755)
-        self.run('inofs', 'mkfs', self.image, '--sectors', '65536', '--inodes', '4096', check=True, stdout=subprocess.DEVNULL)
+        self.version = next(self.versions)
+        self.run('inofs', self.layout().verb, self.image, *self.layout().numbers, check=True, stdout=subprocess.DEVNULL)
+
+    def layout(self):
+        """That of the image."""
+        return LAYOUTS[self.version]
 
     def run(self, *words, **options):
         return subprocess.run(words, env=self.environment, **options)

@@ -7,8 +7,8 @@ import subprocess
 import time
 
 from failing import SECONDS, Outcome, Wrong, counted, demand, environment, faults, told
-from images import (LOOK, MKFS, PROGRAM, STATES, TABLE, clean, looked_at, made_or_not, remove_image, restore, run, text_of,
-                    unchanged)
+from images import (LOOK, PROGRAM, STATES, TABLE, clean, content_of, layout, looked_at, made_or_not, remove_image, restore, run,
+                    text_of, unchanged)
 
 REFUSED = Outcome([], 3, 'image: cannot open')
 THERE = Outcome([], 3, 'image: exists')
@@ -45,12 +45,12 @@ class First:
 
 def refused():
     """Nobody else has the image: a second program asks for its lock alone, and one that makes an image not even for that."""
-    content = pathlib.Path('image').read_bytes()
-    for words, wanted, calls in ((['run', 'image'], REFUSED, 1), (['check', 'image'], REFUSED, 1), (MKFS, THERE, 0)):
+    content = content_of('image')
+    for words, wanted, calls in ((['run', 'image'], REFUSED, 1), (['check', 'image'], REFUSED, 1), (layout().words, THERE, 0)):
         seen = run(words, text_of(LOOK))
         demand(seen == wanted, f'{words} beside it: {told(seen)}')
         demand(counted('call') == calls, f'{words} beside it: {counted("call")} calls on the image')
-    demand(pathlib.Path('image').read_bytes() == content, 'the image has changed')
+    demand(content_of('image') == content, 'the image has changed')
 
 
 def beside(first, number, job, whole, how):
@@ -136,6 +136,6 @@ def two_programs(rows):
     sweep('run', Job(['run', 'image'], lines, lambda: restore('new'), ended_whole, found_of_kill(rows)))
     sweep('check', Job(['check', 'image'], [], lambda: restore('base'), lambda seen: unchanged('base'),
                        lambda seen: unchanged('base')))
-    sweep('mkfs', Job(MKFS, [], remove_image, made_whole, looks_through))
+    sweep(layout().words[0], Job(layout().words, [], remove_image, made_whole, looks_through))
     for how in ('killed', 'ends'):
         TABLE.case('Two programs: the first waits for a line', how, lambda: plainly(lines, how))

@@ -1,11 +1,12 @@
 //! What a bitmap says.
 
-ghost use Rattle.std.specs.Prelude.{◌≡◌, ◌≤◌, ◌<◌, IfOk, IsTrue, ◌↔◌};
+ghost use Rattle.std.specs.Prelude.{◌≡◌, ◌≤◌, ◌<◌, ◌+◌, ◌*◌, IfOk, IsTrue, ◌↔◌};
 ghost use Rattle.fs_layout.specs.Place.{IsPlace};
 ghost use Rattle.fs_layout.specs.Images.{bit};
 ghost use Rattle.sector_disk.specs.Disk.{HasCause};
 ghost use Rattle.sector_txn.specs.Sectors.{IsUnchanged};
 ghost use Rattle.fs_layout.specs.Header.{log_end};
+ghost use Rattle.bit_alloc.specs.Bits.{clear_below};
 ghost use Rattle.bit_alloc.specs.Bitmaps.{first_sector, bit_count, free_numbers, HasBitmaps};
 
 use crate::Bitmap;
@@ -36,11 +37,12 @@ pub fn count_free<S: Sectors>(s: &mut S, place: Place, map: Bitmap) -> Result<u3
     ensures same { IsUnchanged (S.state s.old) (S.state s.new) }
     ensures cause { HasCause (S.state s.old).disk (S.state s.new).disk result }
 {
-    let free = count_up_to(s, place, map, u32::MAX)?;
+    let sectors = map.sectors(place);
+    let free = count_between(s, place, map, 0, sectors, u32::MAX)?;
     Ok(free)
 }
 
-/// Whether at least k numbers are free. It reads no further once it knows.
+/// Whether at least k numbers are free. It reads no further once it knows, and begins behind the sectors that were full lately.
 pub fn has_free<S: Sectors>(s: &mut S, place: Place, map: Bitmap, k: u32) -> Result<bool, DiskFault>
     requires { HasBitmaps place (S.state s.old) }
     ensures free { IfOk result (λ b. IsTrue b ↔ (k ≤ free_numbers place map (S.state s.old).sectors)) }
@@ -50,7 +52,7 @@ pub fn has_free<S: Sectors>(s: &mut S, place: Place, map: Bitmap, k: u32) -> Res
     Ok(count_up_to(s, place, map, k)? >= k)
 }
 
-// Counts sectors until so many numbers are known to be free.
+// Counts all sectors until so many numbers are known to be free.
 fn count_up_to<S: Sectors>(
     s: &mut S,
     place: Place,
@@ -63,14 +65,52 @@ fn count_up_to<S: Sectors>(
     ensures same { IsUnchanged (S.state s.old) (S.state s.new) }
     ensures cause { HasCause (S.state s.old).disk (S.state s.new).disk result }
 {
+    let sectors = map.sectors(place);
+    let first = map.first_sought(s, 0, sectors);
+    let free = count_between(s, place, map, first, sectors, enough)?;
+    if free >= enough {
+        return Ok(free);
+    }
+    Ok(free + count_between(s, place, map, 0, first, enough - free)?)
+}
+
+// Counts the bitmap's sectors from one on up to another until so many numbers are known to be free.
+fn count_between<S: Sectors>(
+    s: &mut S,
+    place: Place,
+    map: Bitmap,
+    from: u32,
+    to: u32,
+    enough: u32,
+) -> Result<u32, DiskFault>
+    requires bitmaps { HasBitmaps place (S.state s.old) }
+    requires range { (from ≤ to) × (4096 * to ≤ bit_count place map) }
+    ensures some { IfOk result (λ k. clear_below (S.state s.old).sectors (first_sector place map) (4096 * from) + k
+        ≤ clear_below (S.state s.old).sectors (first_sector place map) (4096 * to)) }
+    ensures all { IfOk result (λ k. k < enough → clear_below (S.state s.old).sectors (first_sector place map) (4096 * from) + k
+        ≡ clear_below (S.state s.old).sectors (first_sector place map) (4096 * to)) }
+    ensures same { IsUnchanged (S.state s.old) (S.state s.new) }
+    ensures cause { HasCause (S.state s.old).disk (S.state s.new).disk result }
+{
+    let sectors = map.sectors(place);
     let mut sector = [0; 512];
     let mut free = 0;
-    for k in 0..map.sectors(place) {
+    for k in from..to {
         if free >= enough {
             return Ok(free);
         }
         s.get(map.first(place) + k, &mut sector)?;
         free += count_clear_up_to(&sector, enough - free);
+        pass_by_full(s, map, free, k + 1, sectors);
     }
     Ok(free)
+}
+
+// Where nothing is free so far, a later search goes on at the next sector.
+fn pass_by_full<S: Sectors>(s: &mut S, map: Bitmap, free: u32, next: u32, sectors: u32)
+    ensures { IsUnchanged (S.state s.old) (S.state s.new) }
+{
+    if free == 0 {
+        map.pass_by(s, 0, next, sectors);
+    }
 }

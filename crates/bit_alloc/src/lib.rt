@@ -4,7 +4,8 @@
 //! for one, and [`count_free`] and [`has_free`] count those that the set lacks. [`first_clear`] is the search in one
 //! sector. No call takes memory.
 //!
-//! The bitmap of the inodes is one sector, that of the blocks 1 to 16. So many of its sectors each call reads and puts:
+//! So many of a bitmap's sectors each call reads and puts. In a bitmap of more than 16 a search passes those by that were full lately:
+//! it leaves hints of them.
 //!
 //! | Call | `get` | `put` |
 //! |---|---|---|
@@ -20,6 +21,7 @@ mod bits;
 mod counts;
 mod laws;
 mod marks;
+mod search;
 
 pub use bitmap::{Bitmap, TakeFault};
 pub use bits::first_clear;

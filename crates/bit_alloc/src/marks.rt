@@ -15,7 +15,8 @@ use sector_disk::DiskFault;
 use sector_txn::Sectors;
 
 /// Takes a number that is free. The sectors of the bitmap are looked at in turn, from that of `near` on, round to the one
-/// before it, and the number is the lowest one in the first of them that isn't full; no clause says so. `near` may be any number.
+/// before it, but for those that were full lately, and the number is the lowest one in the first of them that isn't full; no clause says
+/// so. `near` may be any number.
 pub fn take<S: Sectors>(s: &mut S, place: Place, map: Bitmap, near: u32) -> Result<u32, TakeFault>
     requires bitmaps { HasBitmaps place (S.state s.old) }
     requires room { HasSpare place 0 (S.state s.old) }
@@ -28,14 +29,17 @@ pub fn take<S: Sectors>(s: &mut S, place: Place, map: Bitmap, near: u32) -> Resu
 {
     let mut sector = [0; 512];
     let sectors = map.sectors(place);
+    let from = near / 4096;
+    let first = map.first_sought(s, from, sectors);
     for turn in 0..sectors {
-        let k = (near / 4096 + turn) % sectors;
+        let k = (first + turn) % sectors;
         s.get(map.first(place) + k, &mut sector)?;
         if let Some(i) = first_clear(&sector) {
             let n = 4096 * k + i;
             put_bit(s, place, map, n, &mut sector, true);
             return Ok(n);
         }
+        map.pass_by(s, from, k + 1, sectors);
     }
     Err(TakeFault::Full)
 }

@@ -1,5 +1,5 @@
-//! A map of sectors on which no inode is used, for the tests of the crates above: made, and found to be one; with the store
-//! under it, and a transaction that counts.
+//! A map of sectors on which no inode is used, for the tests of the crates above: made, and found to be one; and a
+//! transaction that counts.
 //!
 //! What calls on inodes ask of a map, no test can say of one that it has made sector by sector. So it is looked at once:
 //! where [`is_blank`] says yes, calls may begin.
@@ -17,12 +17,10 @@ ghost use Rattle.bit_alloc.specs.Room.{HasSpare};
 ghost use Rattle.bit_alloc.specs.Inodes.{IsSound};
 
 mod counted;
-mod idle;
 
 use bit_alloc::{Bitmap, is_taken};
 pub use counted::Counted;
 use fs_layout::Place;
-pub use idle::idle_store;
 use sector_disk::DiskFault;
 use sector_txn::Sectors;
 

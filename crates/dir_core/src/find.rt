@@ -69,7 +69,7 @@ fn find_in_block(version: Version, block: &[u8; 512], name: &[u8]) -> Option<Fou
 }
 
 // Under this key the slot of a name is left as a hint. Names may share a key.
-fn hint_key(inode: &Inode, name: &[u8]) -> u32 {
+pub(crate) fn hint_key(inode: &Inode, name: &[u8]) -> u32 {
     let mut key = inode.direct[0];
     for byte in name {
         key = key.wrapping_mul(31).wrapping_add(u32::from(*byte));
@@ -175,5 +175,7 @@ pub(crate) fn find_slot<S: Sectors>(
         s.leave_hint(key, found.slot);
         return Ok(Some(found));
     }
+    // Whoever makes the name next, and then asks for it, finds it behind all others.
+    s.leave_hint(key, inode.size / version.slot_size() as u64);
     Ok(None)
 }

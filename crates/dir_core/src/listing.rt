@@ -13,6 +13,7 @@ ghost use Rattle.dir_core.specs.Slots.{HasSlots, IsBlock, name_entry};
 ghost use Rattle.dir_core.specs.declared.fault.DirFault.TheVariants.{DiskFault as Device, OutOfMemory};
 
 use crate::DirFault;
+use crate::find::hint_key;
 use block_map::Blocks;
 use fs_layout::{Inode, Place, Slot, Version};
 use sector_disk::DiskFault;
@@ -83,6 +84,19 @@ fn sort_by_name(slots: &mut [Slot])
     slots.sort_unstable_by(|a, b| a.name().cmp(b.name()));
 }
 
+// Leaves word where each name stands: whoever lists a directory asks for its names next.
+fn leave_hints<S: Sectors>(s: &mut S, inode: &Inode, slots: &[Slot])
+    ensures { IsUnchanged (S.state s.old) (S.state s.new) }
+{
+    // One block needs no hint.
+    if inode.size <= 512 {
+        return;
+    }
+    for (k, slot) in slots.iter().enumerate() {
+        s.leave_hint(hint_key(inode, slot.name()), k as u64);
+    }
+}
+
 /// All names of a directory of the table, each with its inode, in the bytewise order of the names.
 ///
 /// Room for all of them is taken first. It is refused by [`DirFault::DiskFault`] and [`DirFault::OutOfMemory`] alone.
@@ -102,6 +116,7 @@ pub fn list<S: Sectors>(
     ensures cause { HasCauseOf DirFault.DiskFault (S.state s.old).disk (S.state s.new).disk result }
 {
     let mut slots = read_slots(alloc, s, place.version, inode)?;
+    leave_hints(s, inode, &slots);
     sort_by_name(&mut slots);
     Ok(slots)
 }

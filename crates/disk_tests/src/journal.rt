@@ -25,9 +25,10 @@ fn disk_with(alloc: Global, count: u8) -> Result<MemDisk, AllocError>
 
 // So many sectors from 200 on, whose bytes are 7, 8 and so on.
 fn batch_of(alloc: Global, count: u8) -> Result<Batch, AllocError>
-    ensures { IfOk result (λ batch. (size : ℕ) → 200 + count ≤ size → IsOnDisk 0 size batch) }
+    ensures on_disk { IfOk result (λ batch. (size : ℕ) → 200 + count ≤ size → IsOnDisk 0 size batch.entries) }
+    ensures most { IfOk result (λ batch. batch.most ≡ 126) }
 {
-    let mut batch = Batch::new(alloc)?;
+    let mut batch = Batch::new(alloc, 126)?;
     for k in 0..count {
         if batch.len() < 126 {
             batch.put(200 + u32::from(k), &[k.wrapping_add(7); 512]);
@@ -38,7 +39,7 @@ fn batch_of(alloc: Global, count: u8) -> Result<Batch, AllocError>
 
 // The disk after a commit, from its last step on.
 fn disk_after_sealed<D: Disk>(sealed: Sealed<D>, batch: &Batch) -> D
-    requires { IsSealed batch.now (D.state sealed) }
+    requires { IsSealed batch.now.entries (D.state sealed) }
     ensures { (D.state result).size ≡ (D.state sealed).size }
 {
     match sealed.install(batch) {
@@ -47,8 +48,8 @@ fn disk_after_sealed<D: Disk>(sealed: Sealed<D>, batch: &Batch) -> D
     }
 }
 
-fn disk_after_logged<D: Disk>(logged: Logged<D>, batch: &Batch) -> D
-    requires { IsLogged batch.now (D.state logged) }
+pub(super) fn disk_after_logged<D: Disk>(logged: Logged<D>, batch: &Batch) -> D
+    requires { IsLogged batch.now.entries (D.state logged) }
     ensures { (D.state result).size ≡ (D.state logged).size }
 {
     match logged.seal(batch) {
@@ -60,8 +61,8 @@ fn disk_after_logged<D: Disk>(logged: Logged<D>, batch: &Batch) -> D
 // The disk after a commit.
 fn disk_after<D: Disk>(journal: Journal<D>, batch: &Batch) -> D
     requires header { header_at (D.state journal).seen ≡ 0 }
-    requires few { length batch.now ≤ MAX_TARGETS }
-    requires on_disk { IsOnDisk 0 (D.state journal).size batch.now }
+    requires few { length batch.now.entries ≤ MAX_TARGETS }
+    requires on_disk { IsOnDisk 0 (D.state journal).size batch.now.entries }
     ensures { (D.state result).size ≡ (D.state journal).size }
 {
     match journal.log(batch) {
@@ -91,7 +92,7 @@ fn opened<D: Disk + Drop>(disk: D) -> Option<Journal<D>>
 // The disk after a commit of which so many writes and syncs pass; none where the batch has more targets than the commit sector.
 fn committed<D: CrashDisk + Drop>(disk: D, batch: &Batch, passes: u64) -> Option<D>
     requires room { 128 ≤ (D.state disk).size }
-    requires on_disk { IsOnDisk 0 (D.state disk).size batch.now }
+    requires on_disk { IsOnDisk 0 (D.state disk).size batch.now.entries }
     ensures { IfSome result (λ after. (D.state after).size ≡ (D.state disk).size) }
 {
     if batch.len() > 126 {
@@ -105,7 +106,7 @@ fn committed<D: CrashDisk + Drop>(disk: D, batch: &Batch, passes: u64) -> Option
 // The same, and a stop.
 fn stopped<D: CrashDisk + Drop>(disk: D, batch: &Batch, passes: u64, choice: &[u8]) -> Option<D>
     requires room { 128 ≤ (D.state disk).size }
-    requires on_disk { IsOnDisk 0 (D.state disk).size batch.now }
+    requires on_disk { IsOnDisk 0 (D.state disk).size batch.now.entries }
     ensures { IfSome result (λ after. (D.state after).size ≡ (D.state disk).size) }
 {
     let mut disk = committed(disk, batch, passes)?;
@@ -166,7 +167,7 @@ fn bytes_after_stop<D: CrashDisk + Drop>(
     choice: &[u8],
 ) -> Option<(u8, u8)>
     requires room { 202 ≤ (D.state disk).size }
-    requires on_disk { IsOnDisk 0 (D.state disk).size batch.now }
+    requires on_disk { IsOnDisk 0 (D.state disk).size batch.now.entries }
 {
     let disk = stopped(disk, batch, passes, choice)?;
     bytes_of(disk)
@@ -226,7 +227,7 @@ fn bytes_after_stops<D: CrashDisk + Drop>(
     later: &[u8],
 ) -> Option<(u8, u8)>
     requires room { 202 ≤ (D.state disk).size }
-    requires on_disk { IsOnDisk 0 (D.state disk).size batch.now }
+    requires on_disk { IsOnDisk 0 (D.state disk).size batch.now.entries }
 {
     let disk = stopped(disk, batch, passes, choice)?;
     let disk = stopped_within_opening(disk, openings.0, later);
@@ -297,7 +298,7 @@ fn bytes_after_fault<D: Disk + Drop>(disk: D) -> Option<(u8, u8)>
 
 // A disk whose batch is sealed: of its commit log and commit sector are written, and nothing more.
 fn sealed_disk(alloc: Global, batch: &Batch) -> Option<MemDisk>
-    requires { IsOnDisk 0 512 batch.now }
+    requires { IsOnDisk 0 512 batch.now.entries }
     ensures { IfSome result (λ disk. (⟦<MemDisk as Disk>⟧.state disk).size ≡ 512) }
 {
     let passes = batch.len() as u64 + 3;
@@ -363,7 +364,7 @@ fn a_disk_that_is_not_opened_is_given_back(rt: HostRuntime) -> Result<(), Fail> 
 // None of the writes and syncs of a commit fails where so many pass.
 fn is_committed<D: CrashDisk + Drop>(disk: D, batch: &Batch, passes: u64) -> bool
     requires room { 128 ≤ (D.state disk).size }
-    requires on_disk { IsOnDisk 0 (D.state disk).size batch.now }
+    requires on_disk { IsOnDisk 0 (D.state disk).size batch.now.entries }
 {
     match committed(disk, batch, passes) {
         Some(disk) => disk.failures() == 0,
@@ -381,7 +382,7 @@ fn is_opened<D: CrashDisk + Drop>(disk: D, passes: u64) -> bool
 
 // How many writes and syncs a commit makes: that many have to pass.
 fn commit_calls(alloc: Global, batch: &Batch) -> Option<u64>
-    requires on_disk { IsOnDisk 0 512 batch.now }
+    requires on_disk { IsOnDisk 0 512 batch.now.entries }
 {
     for passes in 0..300 {
         if is_committed(disk_with(alloc, 0).ok()?, batch, passes) {
@@ -393,7 +394,7 @@ fn commit_calls(alloc: Global, batch: &Batch) -> Option<u64>
 
 // How many an opening makes once the batch is sealed.
 fn recovery_calls(alloc: Global, batch: &Batch) -> Option<u64>
-    requires on_disk { IsOnDisk 0 512 batch.now }
+    requires on_disk { IsOnDisk 0 512 batch.now.entries }
 {
     for passes in 0..300 {
         if is_opened(sealed_disk(alloc, batch)?, passes) {
@@ -426,7 +427,7 @@ fn writes_and_syncs_are_counted(rt: HostRuntime) -> Result<(), Fail> {
 // What is read after a fault within a seal, once the disk is armed again.
 fn bytes_after_arming<D: CrashDisk + Drop>(disk: D, batch: &Batch) -> Option<(u8, u8)>
     requires room { 202 ≤ (D.state disk).size }
-    requires on_disk { IsOnDisk 0 (D.state disk).size batch.now }
+    requires on_disk { IsOnDisk 0 (D.state disk).size batch.now.entries }
 {
     if batch.len() > 126 {
         return None;

@@ -9,3 +9,5 @@ mod image_files;
 mod journal;
 #[cfg(test)]
 mod transactions;
+#[cfg(test)]
+mod two_areas;

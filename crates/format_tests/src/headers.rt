@@ -27,26 +27,27 @@ fn a_header_pushes_the_first_target_back(rt: HostRuntime) {
     }
 }
 
-// A commit of the sectors 300 to 499.
-fn long_commit() -> Commit {
+// The sectors 300 to 499.
+fn many_targets() -> [u32; 200] {
     let mut targets = [0; 200];
     for k in 0..200 {
         targets[k] = 300 + k as u32;
     }
-    Commit::new(&targets)
+    targets
 }
 
-// Whether its two sectors begin so, whether it is read back from them, and whether it is where there is no header.
+// Whether the two sectors of a commit with these begin so, whether it is read back from them, and whether it is where there is no
+// header.
 fn seen() -> Option<[bool; 4]> {
-    let commit = long_commit();
-    let sector = commit.to_sector();
-    let header = commit.header_sector(0);
+    let targets = many_targets();
+    let sector = Commit::sector_with(0, &targets);
+    let header = Commit::header_sector(&targets, 0);
     let mut read = Commit::counted(&sector, 1)?;
     read.read_header(0, &header);
     Some([
         sector.starts_with(b"INOJ\xc8\0\0\0\x2c\x01\0\0"),
         header.starts_with(b"\xaa\x01\0\0\xab\x01\0\0"),
-        read.targets() == commit.targets(),
+        read.targets() == targets.as_slice(),
         Commit::counted(&sector, 0).is_some(),
     ])
 }

@@ -8,6 +8,8 @@ use posix_acl::EntryNumbers;
 #[derive(Clone, Copy, Debug)]
 enum Part {
     Super,
+    // The superblock of a disk with header sectors.
+    NextSuper,
     Commit,
     Inode,
     // An inode of any version.
@@ -23,7 +25,7 @@ impl Part {
     // Where it begins, and how many bytes it has.
     fn window(self) -> (usize, usize) {
         match self {
-            Part::Super | Part::Commit | Part::AclSector => (0, 512),
+            Part::Super | Part::NextSuper | Part::Commit | Part::AclSector => (0, 512),
             Part::Inode | Part::AnyInode => (128, 128),
             Part::Slot => (256, 128),
             Part::LongSlot => (0, 256),
@@ -39,11 +41,10 @@ const SUPERBLOCK: Super = Super {
     header: 0,
 };
 
-// One of the version that isn't read yet.
 const NEXT_SUPERBLOCK: Super = Super {
     version: Version::Three,
-    sectors: 65536,
-    inodes: 4096,
+    sectors: 2048,
+    inodes: 64,
     header: 1,
 };
 
@@ -80,7 +81,7 @@ const USER: EntryNumbers = EntryNumbers {
 const SUPER_BYTES: &[u8] = &[0x49, 0x4e, 0x4f, 0x53, 2, 0, 0, 0, 0, 4, 0, 0, 0x40];
 
 const NEXT_SUPER_BYTES: &[u8] = &[
-    0x49, 0x4e, 0x4f, 0x53, 3, 0, 0, 0, 0, 0, 1, 0, 0, 0x10, 0, 0, 1,
+    0x49, 0x4e, 0x4f, 0x53, 3, 0, 0, 0, 0, 8, 0, 0, 0x40, 0, 0, 0, 1,
 ];
 
 const IDLE_BYTES: &[u8] = &[0x49, 0x4e, 0x4f, 0x4a];
@@ -100,9 +101,13 @@ const LARGEST_FILE: &[u8] = &[
 
 const DIRECTORY: &[u8] = &[2, 0, 0xff, 7, 0, 0, 0, 0, 0, 0, 0, 0, 0, 0, 0, 0, 0x80];
 
-// Those of as many bytes as versions 1 and 2 allow, and as the next does.
+// Those of as many bytes as versions 1 and 2 allow, of 300 slots of version 3, and of as many as it allows.
 const FULL_DIRECTORY: &[u8] = &[
     2, 0, 0xff, 7, 0, 0, 0, 0, 0, 0, 0, 0, 0, 0, 0, 0, 0, 0x18, 1,
+];
+
+const LONG_DIRECTORY: &[u8] = &[
+    2, 0, 0xff, 7, 0, 0, 0, 0, 0, 0, 0, 0, 0, 0, 0, 0, 0, 0x2c, 1,
 ];
 
 const LARGEST_DIRECTORY: &[u8] = &[
@@ -197,6 +202,9 @@ fn is_slot(part: Part, sector: &[u8; 512], name: &[u8]) -> bool {
 fn is_read_again(part: Part) -> bool {
     match part {
         Part::Super => Super::read_from(&sector_of(part, SUPER_BYTES), 0) == Ok(SUPERBLOCK),
+        Part::NextSuper => {
+            Super::read_from(&sector_of(part, NEXT_SUPER_BYTES), 0) == Ok(NEXT_SUPERBLOCK)
+        }
         Part::Commit => match Commit::read_from(&sector_of(part, COMMIT_BYTES), 0) {
             Ok(read) => read.targets() == TARGETS.as_slice(),
             Err(_) => false,
@@ -222,6 +230,11 @@ fn is_as_said(part: Part, sector: &[u8; 512], bytes: &[u8]) -> bool {
 fn structures_are_as_the_format_says(rt: HostRuntime) {
     for (part, sector, bytes) in [
         (Part::Super, written_super(&SUPERBLOCK), SUPER_BYTES),
+        (
+            Part::NextSuper,
+            written_super(&NEXT_SUPERBLOCK),
+            NEXT_SUPER_BYTES,
+        ),
         (Part::Commit, written_commit(&Commit::idle()), IDLE_BYTES),
         (
             Part::Commit,
@@ -250,20 +263,34 @@ fn structures_are_as_the_format_says(rt: HostRuntime) {
 
 // What is read of a part's bytes where some of them are changed: the first that is, the one past the last, and their
 // new value.
-static READS: [(Part, &[u8], usize, usize, u8, Option<LayoutFault>); 85] = [
+static READS: [(Part, &[u8], usize, usize, u8, Option<LayoutFault>); 94] = [
     (Part::Super, SUPER_BYTES, 0, 0, 0, None),
     (Part::Super, SUPER_BYTES, 0, 1, 0x48, Some(BadMagic)),
     (Part::Super, SUPER_BYTES, 3, 4, 0, Some(BadMagic)),
     (Part::Super, SUPER_BYTES, 4, 5, 1, None),
     (Part::Super, SUPER_BYTES, 4, 5, 0, Some(BadVersion)),
-    (Part::Super, SUPER_BYTES, 4, 5, 3, Some(BadVersion)),
+    (Part::Super, SUPER_BYTES, 4, 5, 3, None),
+    (Part::Super, SUPER_BYTES, 4, 5, 4, Some(BadVersion)),
     (Part::Super, SUPER_BYTES, 7, 8, 1, Some(BadVersion)),
     (Part::Super, SUPER_BYTES, 16, 17, 1, Some(NotZero)),
     (Part::Super, SUPER_BYTES, 511, 512, 1, Some(NotZero)),
     (Part::Super, SUPER_BYTES, 0, 512, 1, Some(BadMagic)),
-    (Part::Super, NEXT_SUPER_BYTES, 0, 0, 0, Some(BadVersion)),
-    (Part::Super, NEXT_SUPER_BYTES, 16, 17, 0, Some(BadVersion)),
-    (Part::Super, NEXT_SUPER_BYTES, 4, 5, 2, Some(NotZero)),
+    (Part::NextSuper, NEXT_SUPER_BYTES, 0, 0, 0, None),
+    (Part::NextSuper, NEXT_SUPER_BYTES, 4, 5, 1, Some(NotZero)),
+    (Part::NextSuper, NEXT_SUPER_BYTES, 4, 5, 2, Some(NotZero)),
+    (Part::NextSuper, NEXT_SUPER_BYTES, 4, 5, 4, Some(BadVersion)),
+    (Part::NextSuper, NEXT_SUPER_BYTES, 8, 16, 0xff, None),
+    (Part::NextSuper, NEXT_SUPER_BYTES, 16, 17, 0, None),
+    (Part::NextSuper, NEXT_SUPER_BYTES, 16, 20, 0xff, None),
+    (Part::NextSuper, NEXT_SUPER_BYTES, 20, 21, 1, Some(NotZero)),
+    (
+        Part::NextSuper,
+        NEXT_SUPER_BYTES,
+        511,
+        512,
+        1,
+        Some(NotZero),
+    ),
     (Part::Commit, IDLE_BYTES, 0, 0, 0, None),
     (Part::Commit, COMMIT_BYTES, 0, 0, 0, None),
     (Part::Commit, COMMIT_BYTES, 0, 1, 0x48, Some(BadMagic)),
@@ -301,6 +328,8 @@ static READS: [(Part, &[u8], usize, usize, u8, Option<LayoutFault>); 85] = [
         0x40,
         Some(BadNumber),
     ),
+    (Part::Inode, LONG_DIRECTORY, 0, 0, 0, Some(BadNumber)),
+    (Part::AnyInode, LONG_DIRECTORY, 0, 0, 0, None),
     (Part::AnyInode, LARGEST_DIRECTORY, 0, 0, 0, None),
     (
         Part::AnyInode,
@@ -379,7 +408,7 @@ fn fault_with(part: Part, bytes: &[u8], first: usize, end: usize, byte: u8) -> O
 
 fn fault_of(part: Part, sector: &[u8; 512]) -> Option<LayoutFault> {
     match part {
-        Part::Super => Super::read_from(sector, 0).err(),
+        Part::Super | Part::NextSuper => Super::read_from(sector, 0).err(),
         Part::Commit => Commit::read_from(sector, 0).err(),
         Part::Inode => Inode::read_from(sector, 128).err(),
         Part::AnyInode => Inode::read_any(sector, 128).err(),
@@ -419,33 +448,111 @@ fn long_names_are_written_and_read(rt: HostRuntime) {
     }
 }
 
-#[test]
-fn header_sectors_are_written(rt: HostRuntime) {
-    let written = written_super(&NEXT_SUPERBLOCK);
-    assert!(rt;
-        written == sector_of(Part::Super, NEXT_SUPER_BYTES),
-        "1 header sector"
-    );
-}
+// Where the parts of a disk begin: the bitmaps, the inode table and the data.
+type Starts = (u32, u32, u32, u32);
 
-// Where a part of a disk begins: the bitmaps, the inode table and the data.
-type Starts = Option<(u32, u32, u32, u32)>;
+// How many header sectors a new disk of a version has, of so many sectors and inodes, its starts, and how many data sectors it has.
+type NewDisk = Option<(u32, Starts, u32)>;
 
-// That on a new disk of so many sectors and inodes.
-static PLACES: [(u32, u32, Starts); 9] = [
-    (1024, 64, Some((128, 129, 130, 146))),
-    (4096, 16, Some((128, 129, 130, 134))),
-    (4097, 17, Some((128, 129, 131, 136))),
-    (65536, 4096, Some((128, 129, 145, 1169))),
-    (1023, 64, None),
-    (65537, 64, None),
-    (1024, 15, None),
-    (1024, 4097, None),
-    (1024, 4096, None),
+static NEW_DISKS: [(Version, u32, u32, NewDisk); 29] = [
+    (Version::Two, 1024, 64, Some((0, (128, 129, 130, 146), 878))),
+    (
+        Version::Two,
+        4096,
+        16,
+        Some((0, (128, 129, 130, 134), 3962)),
+    ),
+    (
+        Version::Two,
+        4097,
+        17,
+        Some((0, (128, 129, 131, 136), 3961)),
+    ),
+    (
+        Version::One,
+        65536,
+        4096,
+        Some((0, (128, 129, 145, 1169), 64367)),
+    ),
+    (
+        Version::Two,
+        65536,
+        4096,
+        Some((0, (128, 129, 145, 1169), 64367)),
+    ),
+    (Version::Two, 1023, 64, None),
+    (Version::One, 65537, 64, None),
+    (Version::Two, 65537, 64, None),
+    (Version::Two, 1024, 15, None),
+    (Version::One, 65536, 4097, None),
+    (Version::Two, 65536, 4097, None),
+    (Version::Two, 1024, 4096, None),
+    (
+        Version::Three,
+        2048,
+        64,
+        Some((1, (512, 513, 514, 530), 1518)),
+    ),
+    (
+        Version::Three,
+        65535,
+        4096,
+        Some((1, (512, 513, 529, 1553), 63982)),
+    ),
+    (
+        Version::Three,
+        65536,
+        4096,
+        Some((2, (770, 771, 787, 1811), 63725)),
+    ),
+    (
+        Version::Three,
+        131072,
+        8192,
+        Some((4, (1286, 1288, 1320, 3368), 127704)),
+    ),
+    (
+        Version::Three,
+        262144,
+        16384,
+        Some((8, (2318, 2322, 2386, 6482), 255662)),
+    ),
+    (
+        Version::Three,
+        2097152,
+        65536,
+        Some((31, (8252, 8268, 8780, 25164), 2071988)),
+    ),
+    (
+        Version::Three,
+        16777216,
+        1048576,
+        Some((34, (9026, 9282, 13378, 275522), 16501694)),
+    ),
+    (
+        Version::Three,
+        1024,
+        16,
+        Some((1, (512, 513, 514, 518), 506)),
+    ),
+    (
+        Version::Three,
+        1024,
+        1784,
+        Some((1, (512, 513, 514, 960), 64)),
+    ),
+    (Version::Three, 1024, 1785, None),
+    (Version::Three, 1023, 64, None),
+    (Version::Three, 16777217, 64, None),
+    (Version::Three, 1024, 15, None),
+    (Version::Three, 16777216, 1048577, None),
+    (Version::Three, 0, 0, None),
+    (Version::Two, 0, 0, None),
+    (Version::Three, u32::MAX, u32::MAX, None),
 ];
 
-// That on one of each version, with so many header sectors too.
-static PLACES_BY_VERSION: [(Version, u32, u32, u32, Starts); 14] = [
+// The starts of a disk of each version, with so many header sectors.
+static PLACES: [(Version, u32, u32, u32, Option<Starts>); 16] = [
     (Version::One, 0, 4097, 17, Some((128, 129, 131, 136))),
     (Version::One, 1, 4097, 17, None),
     (Version::One, 0, 65537, 17, None),
@@ -456,36 +563,52 @@ static PLACES_BY_VERSION: [(Version, u32, u32, u32, Starts); 14] = [
     (Version::Three, 1, 65536, 4096, Some((512, 513, 529, 1553))),
     (Version::Three, 1, 589824, 4096, Some((512, 513, 657, 1681))),
     (Version::Three, 1, 585728, 4097, Some((512, 514, 657, 1682))),
+    (
+        Version::Three,
+        63,
+        65536,
+        4096,
+        Some((16508, 16509, 16525, 17549)),
+    ),
     (Version::Three, 0, 65536, 4096, None),
+    (Version::Three, 64, 65536, 4096, None),
     (Version::Three, u32::MAX, 65536, 4096, None),
     (Version::Three, 1, 589825, 4096, None),
     (Version::Three, 1, 585728, 8193, None),
 ];
 
-fn starts_of(place: Option<Place>) -> Starts {
-    let place = place?;
-    Some((
+fn starts_of(place: Place) -> Starts {
+    (
         place.inode_bitmap,
         place.block_bitmap,
         place.table,
         place.first_data,
+    )
+}
+
+fn new_disk(version: Version, sectors: u32, inodes: u32) -> NewDisk {
+    let place = place_of(version, sectors, inodes)?;
+    Some((
+        place.header,
+        starts_of(place),
+        place.sectors.saturating_sub(place.first_data),
     ))
 }
 
 #[test]
 fn places_are_as_the_format_says(rt: HostRuntime) {
-    for &(sectors, inodes, starts) in &PLACES {
-        let found = starts_of(place_of(sectors, inodes));
-        assert!(rt; found == starts, "{sectors} sectors and {inodes} inodes");
+    for &(version, sectors, inodes, wanted) in &NEW_DISKS {
+        let found = new_disk(version, sectors, inodes);
+        assert!(rt; found == wanted, "{sectors} sectors and {inodes} inodes");
     }
-    for &(version, header, sectors, inodes, starts) in &PLACES_BY_VERSION {
+    for &(version, header, sectors, inodes, starts) in &PLACES {
         let superblock = Super {
             version,
             sectors,
             inodes,
             header,
         };
-        let found = starts_of(superblock.place());
+        let found = superblock.place().map(starts_of);
         assert!(rt;
             found == starts,
             "{header} header sectors, {sectors} sectors and {inodes} inodes"

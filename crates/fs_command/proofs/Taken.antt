@@ -507,3 +507,30 @@ flags_at c (a ∷ rest) rows ok each = (flag_at c rows a ok each.0, flags_at c r
 pub leaf_flags : (s : Shape) (words : List Text) → Each (Sound s.rules) s.rules → level_fault s [] nothing_held words false [] ≡ []
     → Each (λ a. IsSwitch a → IsFlag a.id (rows_after s.rules [] words)) s.rules
 leaf_flags s words each fault = flags_at s.rules s.rules (rows_after s.rules [] words) (leaf_rows s words each fault).0 each
+
+-- ---- what may be given
+
+-- the text is a value that the argument takes, as it is read
+abbrev pub IsTakenText : Rule → Text → Type 0
+IsTakenText a text = (v : Text) × (text ≡ read_as (reading_by a) v) × (value_passes a v ≡ true)
+
+-- the text of an argument, where it has one
+text_at : (c : List Rule) (rows : List Row) (a : Rule) → RowsTold c rows → Sound c a → (text : Text) → one_of a.id rows ≡ Some text → IsTakenText a text
+text_at c rows a ok sound text = go (find (λ r. bytes_eq r.id a.id) rows) refl
+  where
+    go : (o : Option Row) → find (λ r. bytes_eq r.id a.id) rows ≡ o → option_and_then row_text o ≡ Some text → IsTakenText a text
+    go None e given = cc
+    go (Some r) e given =
+        let t = row_at c rows a r ok sound e in
+        let read : row_text r ≡ Some (read_as (reading_by a) t.0) = ap (option_map (read_as r.reading)) t.1 ∙ ap (λ how. Some (read_as how t.0)) t.3 in
+        (t.0, ap (λ o. option_map_or (λ z. z) o text) (sym given ∙ read), t.2)
+
+texts_at : (c xs : List Rule) (rows : List Row) → RowsTold c rows → Each (Sound c) xs
+    → Each (λ a. (text : Text) → one_of a.id rows ≡ Some text → IsTakenText a text) xs
+texts_at c [] rows ok each = tt
+texts_at c (a ∷ rest) rows ok each = (text_at c rows a ok each.0, texts_at c rest rows ok each.1)
+
+-- the texts of a command whose words have no fault
+pub leaf_texts : (s : Shape) (words : List Text) → Each (Sound s.rules) s.rules → level_fault s [] nothing_held words false [] ≡ []
+    → Each (λ a. (text : Text) → one_of a.id (rows_after s.rules [] words) ≡ Some text → IsTakenText a text) s.rules
+leaf_texts s words each fault = texts_at s.rules s.rules (rows_after s.rules [] words) (leaf_rows s words each fault).0 each

@@ -1,6 +1,6 @@
 -- Where the program's definition finds no fault in the words, the command has its values.
 use Rattle.std.specs.Prelude.{◌≡◌, ℕ, true, false, List, [], Option, Some, None, find, option_map}
-use Rattle.std.proofs.Common.{sym, refl, subst, inl, inr}
+use Rattle.std.proofs.Common.{◌∙◌, sym, refl, ap, subst, inl, inr}
 use Rattle.std.specs.Option.{option_map_or}
 use Rattle.std.specs.Str.Parse.{digits_value, without_leading_plus}
 use Rattle.std.specs.List.{slice_index_or}
@@ -12,7 +12,7 @@ use Rattle.clap.specs.declared.builder.value_parser.ValueParser.TheVariants as v
 use Rattle.clap.specs.Words.{subcommand_of}
 use Rattle.clap.proofs.ValueTestLemmas.{accepts-Accepts}
 use Rattle.fs_command.specs.Words.{HasValues, IsNumberFor, IsWhole, command_line}
-use Rattle.fs_command.proofs.Taken.{Each, Sound, found_holds, leaf_flags, leaf_values, no_kinds}
+use Rattle.fs_command.proofs.Taken.{Each, Sound, found_holds, leaf_flags, leaf_texts, leaf_values, no_kinds}
 
 counted : (least most : ℕ) (o : Option Text) (v : Text) → o ≡ Some v → accepts false (vp.Unsigned least most) v ≡ true → (n : ℕ) × IsNumberFor least most o n
 counted least most o v e passes =
@@ -32,16 +32,19 @@ leaf i = slice_index_or (built command_line).subs i (built command_line).top
 mkfs_sound : Each (Sound (leaf 0).rules) (leaf 0).rules
 mkfs_sound = ((refl, inl (refl, refl, refl)), ((refl, inl (refl, refl, refl)), ((refl, inl (refl, refl, refl)), ((refl, inr (inr (refl, refl))), tt))))
 
-run_sound : Each (Sound (leaf 1).rules) (leaf 1).rules
+format_sound : Each (Sound (leaf 1).rules) (leaf 1).rules
+format_sound = ((refl, inl (refl, refl, refl)), ((refl, inl (refl, refl, refl)), ((refl, inl (refl, refl, refl)), ((refl, inr (inr (refl, refl))), tt))))
+
+run_sound : Each (Sound (leaf 2).rules) (leaf 2).rules
 run_sound = ((refl, inl (refl, refl, refl)), ((refl, inl (refl, refl, refl)), ((refl, inr (inr (refl, refl))), tt)))
 
-check_sound : Each (Sound (leaf 2).rules) (leaf 2).rules
+check_sound : Each (Sound (leaf 3).rules) (leaf 3).rules
 check_sound = ((refl, inl (refl, refl, refl)), ((refl, inr (inl (refl, refl, refl, refl, refl, refl))), ((refl, inr (inr (refl, refl))), tt)))
 
-upgrade_sound : Each (Sound (leaf 3).rules) (leaf 3).rules
+upgrade_sound : Each (Sound (leaf 4).rules) (leaf 4).rules
 upgrade_sound = ((refl, inl (refl, refl, refl)), ((refl, inr (inr (refl, refl))), tt))
 
-fuse_sound : Each (Sound (leaf 4).rules) (leaf 4).rules
+fuse_sound : Each (Sound (leaf 5).rules) (leaf 5).rules
 fuse_sound = ((refl, inl (refl, refl, refl)), ((refl, inl (refl, refl, refl)), ((refl, inr (inl (refl, refl, refl, refl, refl, refl))), ((refl, inr (inr (refl, refl))), tt))))
 
 mkfs_has : HasAll (leaf 0)
@@ -52,30 +55,38 @@ mkfs_has words fault =
     let inodes = values.1.1.0 refl in
     inl (refl, (image.0, image.1), counted 1024 65536 _ sectors.0 sectors.2 sectors.3, counted 16 4096 _ inodes.0 inodes.2 inodes.3)
 
-run_has : HasAll (leaf 1)
+format_has : HasAll (leaf 1)
+format_has words fault =
+    let values = leaf_values (leaf 1) words format_sound refl fault in
+    let image = values.0 refl in
+    let size = values.1.0 refl in
+    let inodes = (leaf_texts (leaf 1) words format_sound fault).1.1.0 in
+    inr (inl (refl, (image.0, image.1), (size.0, size.1), λ text is. counted 16 1048576 _ (inodes text is).0 (is ∙ ap Some (inodes text is).1) (inodes text is).2))
+
+run_has : HasAll (leaf 2)
 run_has words fault =
-    let image = (leaf_values (leaf 1) words run_sound refl fault).0 refl in
-    inr (inl (refl, (image.0, image.1)))
+    let image = (leaf_values (leaf 2) words run_sound refl fault).0 refl in
+    inr (inr (inl (refl, (image.0, image.1))))
 
-check_has : HasAll (leaf 2)
+check_has : HasAll (leaf 3)
 check_has words fault =
-    let image = (leaf_values (leaf 2) words check_sound refl fault).0 refl in
-    let explain = (leaf_flags (leaf 2) words check_sound fault).1.0 (refl, refl, refl, refl, refl, refl) in
-    inr (inr (inl (refl, (image.0, image.1), explain)))
+    let image = (leaf_values (leaf 3) words check_sound refl fault).0 refl in
+    let explain = (leaf_flags (leaf 3) words check_sound fault).1.0 (refl, refl, refl, refl, refl, refl) in
+    inr (inr (inr (inl (refl, (image.0, image.1), explain))))
 
-upgrade_has : HasAll (leaf 3)
+upgrade_has : HasAll (leaf 4)
 upgrade_has words fault =
-    let image = (leaf_values (leaf 3) words upgrade_sound refl fault).0 refl in
-    inr (inr (inr (inl (refl, (image.0, image.1)))))
+    let image = (leaf_values (leaf 4) words upgrade_sound refl fault).0 refl in
+    inr (inr (inr (inr (inl (refl, (image.0, image.1))))))
 
-fuse_has : HasAll (leaf 4)
+fuse_has : HasAll (leaf 5)
 fuse_has words fault =
-    let image = (leaf_values (leaf 4) words fuse_sound refl fault).0 refl in
-    let own_rules = (leaf_flags (leaf 4) words fuse_sound fault).1.1.0 (refl, refl, refl, refl, refl, refl) in
-    inr (inr (inr (inr (refl, (image.0, image.1), own_rules))))
+    let image = (leaf_values (leaf 5) words fuse_sound refl fault).0 refl in
+    let own_rules = (leaf_flags (leaf 5) words fuse_sound fault).1.1.0 (refl, refl, refl, refl, refl, refl) in
+    inr (inr (inr (inr (inr (refl, (image.0, image.1), own_rules)))))
 
 each_has : Each HasAll (built command_line).subs
-each_has = (mkfs_has, (run_has, (check_has, (upgrade_has, (fuse_has, tt)))))
+each_has = (mkfs_has, (format_has, (run_has, (check_has, (upgrade_has, (fuse_has, tt))))))
 
 entered_has : (stop : Option (Text × List Text)) → entered_fault (built command_line) stop ≡ [] → HasValues (entered (built command_line) stop)
 entered_has None fault = tt

@@ -1,9 +1,9 @@
 -- What the words of the command line ask for.
 --     command_line     `clap`'s definition of the command line
---     AsksFor             a job is what that definition reads from the words
+--     AsksFor          a job is what that definition reads from the words
 --     Refuses          a fault is one that it gives them
 --     words_status     the status of a fault
-use Rattle.std.specs.Prelude.{◌≡◌, ◌≢◌, ◌≤◌, ◌⊎◌, ℕ, List, Option, Some, None, codes, true, false}
+use Rattle.std.specs.Prelude.{◌≡◌, ◌≢◌, ◌≤◌, ◌⊎◌, ℕ, List, [], Option, Some, None, codes, true, false}
 use Rattle.std.specs.Str.Parse.{IsNumeral, digits_value, without_leading_plus}
 use Rattle.clap.specs.Words.{App, Row, Rule, Text, IsAmong, fault_of, first_of, kind_of, new_app, new_rule, one_of, subcommand_of, with_rule, with_subcommand}
 use Rattle.clap.specs.Takes.{is_given}
@@ -13,10 +13,11 @@ use Rattle.clap.specs.declared.builder.value_parser.ValueParser.TheVariants as v
 use Rattle.clap.specs.declared.error.Error.{Error}
 use Rattle.clap.specs.declared.error.kind.ErrorKind.{ErrorKind}
 use Rattle.clap.specs.declared.error.kind.ErrorKind.TheVariants as kind
+use Rattle.fs_command.specs.Sizes.{IsNoSize, IsSize, usual_inodes}
 use Rattle.fs_command.specs.declared.words.Job.{Job}
-use Rattle.fs_command.specs.declared.words.Job.TheVariants.{Memory, Mkfs, Run, Check, Upgrade, Fuse}
+use Rattle.fs_command.specs.declared.words.Job.TheVariants.{Memory, Mkfs, Format, Run, Check, Upgrade, Fuse}
 use Rattle.fs_command.specs.declared.words.WordsFault.{WordsFault}
-use Rattle.fs_command.specs.declared.words.WordsFault.TheVariants.{Help, BadWords, OutOfMemory}
+use Rattle.fs_command.specs.declared.words.WordsFault.TheVariants.{Help, BadWords, BadSize, OutOfMemory}
 use Rattle.fs_command.specs.declared.status.Status.{Status}
 use Rattle.fs_command.specs.declared.status.Status.TheVariants as statuses
 
@@ -26,14 +27,13 @@ use Rattle.fs_command.specs.declared.status.Status.TheVariants as statuses
 abbrev pub image : Rule
 image = record (new_rule (codes "IMAGE")) { required = true }
 
--- `--name N`, which has to be given, with a number in its range
+-- the argument has to be given
+abbrev pub needed : Rule → Rule
+needed rule = record rule { required = true }
+
+-- `--name N`, which may be given, with a number in its range
 abbrev pub number_option : Text → ℕ → ℕ → Rule
-number_option name least most = record (new_rule name) {
-  long = Some name;
-  value_names = 1;
-  required = true;
-  parser = Some (vp.Unsigned least most);
-}
+number_option name least most = record (new_rule name) { long = Some name; value_names = 1; parser = Some (vp.Unsigned least most) }
 
 -- `--name TEXT`, which may be given
 abbrev pub text_option : Text → Rule
@@ -44,7 +44,12 @@ abbrev pub flag : Text → Rule
 flag name = record (new_rule name) { long = Some name; action = Some SetTrue }
 
 abbrev pub mkfs : App
-mkfs = with_rule (with_rule (with_rule (new_app (codes "mkfs")) image) (number_option (codes "sectors") 1024 65536)) (number_option (codes "inodes") 16 4096)
+mkfs = with_rule (with_rule (with_rule (new_app (codes "mkfs")) image)
+    (needed (number_option (codes "sectors") 1024 65536))) (needed (number_option (codes "inodes") 16 4096))
+
+abbrev pub format : App
+format = with_rule (with_rule (with_rule (new_app (codes "format")) image)
+    (needed (text_option (codes "size")))) (number_option (codes "inodes") 16 1048576)
 
 abbrev pub run : App
 run = with_rule (with_rule (new_app (codes "run")) image) (new_rule (codes "SCRIPT"))
@@ -65,8 +70,8 @@ alone = record (new_app (codes "inofs")) {
 }
 
 abbrev pub command_line : App
-command_line = with_subcommand (with_subcommand (with_subcommand (with_subcommand (with_subcommand alone
-    mkfs.top) run.top) check.top) upgrade.top) fuse.top
+command_line = with_subcommand (with_subcommand (with_subcommand (with_subcommand (with_subcommand (with_subcommand alone
+    mkfs.top) format.top) run.top) check.top) upgrade.top) fuse.top
 
 -- ---- what it reads
 
@@ -76,12 +81,28 @@ IsNumberFor least most None n = ⊥
 IsNumberFor least most (Some text) n =
     IsNumeral 10 (without_leading_plus text) × (n ≡ digits_value 10 (without_leading_plus text)) × (least ≤ n) × (n ≤ most)
 
+-- the same, or the usual number where there is no text
+abbrev pub IsNumberOr : ℕ → ℕ → ℕ → Option Text → ℕ → Type 0
+IsNumberOr usual least most None n = n ≡ usual
+IsNumberOr usual least most (Some text) n = IsNumberFor least most (Some text) n
+
+-- the text says a size of so many sectors
+abbrev pub IsSizeFor : Option Text → ℕ → Type 0
+IsSizeFor None sectors = ⊥
+IsSizeFor (Some text) sectors = IsSize text sectors
+
 -- the job of each command, by the values of its arguments
 abbrev pub SaysMkfs : List Row → Job → Type 0
 SaysMkfs rows (Mkfs image sectors inodes) = (first_of (codes "IMAGE") rows ≡ Some image)
     × IsNumberFor 1024 65536 (one_of (codes "sectors") rows) sectors
     × IsNumberFor 16 4096 (one_of (codes "inodes") rows) inodes
 SaysMkfs rows job = ⊥
+
+abbrev pub SaysFormat : List Row → Job → Type 0
+SaysFormat rows (Format image sectors inodes) = (first_of (codes "IMAGE") rows ≡ Some image)
+    × IsSizeFor (first_of (codes "size") rows) sectors
+    × IsNumberOr (usual_inodes sectors) 16 1048576 (one_of (codes "inodes") rows) inodes
+SaysFormat rows job = ⊥
 
 abbrev pub SaysRun : List Row → Job → Type 0
 SaysRun rows (Run image script) = (first_of (codes "IMAGE") rows ≡ Some image) × (first_of (codes "SCRIPT") rows ≡ script)
@@ -104,6 +125,8 @@ SaysFuse rows job = ⊥
 abbrev pub SaysJob : Option (Text × List Row) → Job → Type 0
 SaysJob named Memory = named ≡ None
 SaysJob named (Mkfs image sectors inodes) = (rows : List Row) × (named ≡ Some (codes "mkfs", rows)) × SaysMkfs rows (Mkfs image sectors inodes)
+SaysJob named (Format image sectors inodes) =
+    (rows : List Row) × (named ≡ Some (codes "format", rows)) × SaysFormat rows (Format image sectors inodes)
 SaysJob named (Run image script) = (rows : List Row) × (named ≡ Some (codes "run", rows)) × SaysRun rows (Run image script)
 SaysJob named (Check image explain) = (rows : List Row) × (named ≡ Some (codes "check", rows)) × SaysCheck rows (Check image explain)
 SaysJob named (Upgrade image) = (rows : List Row) × (named ≡ Some (codes "upgrade", rows)) × SaysUpgrade rows (Upgrade image)
@@ -124,18 +147,33 @@ IsShown k = (k ≡ kind.DisplayHelp) ⊎ (k ≡ kind.DisplayVersion)
 abbrev pub IsSortOf : Error → WordsFault → Type 0
 IsSortOf error (Help e) = (e ≡ error) × IsShown (kind_of e)
 IsSortOf error (BadWords e) = (e ≡ error) × (IsShown (kind_of e) → ⊥) × (kind_of e ≢ kind.OutOfMemory)
+IsSortOf error BadSize = ⊥
 IsSortOf error OutOfMemory = kind_of error ≡ kind.OutOfMemory
 
--- the definition gives the words an error of this kind; memory may run out at any words
+-- the size is given and is none in range; memory may run out at any values
+abbrev pub HasBadSize : List Row → WordsFault → Type 0
+HasBadSize rows BadSize = (text : Text) × (first_of (codes "size") rows ≡ Some text) × IsNoSize text
+HasBadSize rows OutOfMemory = Unit {0}
+HasBadSize rows fault = ⊥
+
+-- the command is `format`, and its size is none in range; memory may run out at any command
+abbrev pub HasBadValue : Option (Text × List Row) → WordsFault → Type 0
+HasBadValue named BadSize = (rows : List Row) × (named ≡ Some (codes "format", rows)) × HasBadSize rows BadSize
+HasBadValue named OutOfMemory = Unit {0}
+HasBadValue named fault = ⊥
+
+-- the definition gives the words an error of this kind; or it gives none, and the size is bad; memory may run out at any words
 abbrev pub Refuses : List Text → WordsFault → Type 0
 Refuses words (Help e) = IsAmong (kind_of e) (fault_of command_line words) × IsShown (kind_of e)
 Refuses words (BadWords e) = IsAmong (kind_of e) (fault_of command_line words) × (IsShown (kind_of e) → ⊥)
+Refuses words BadSize = (fault_of command_line words ≡ []) × HasBadValue (subcommand_of command_line words) BadSize
 Refuses words OutOfMemory = Unit {0}
 
 -- done where a text was asked for, else bad words
 abbrev pub words_status : WordsFault → Status
 words_status (Help e) = statuses.Done
 words_status (BadWords e) = statuses.BadWords
+words_status BadSize = statuses.BadWords
 words_status OutOfMemory = statuses.BadWords
 
 -- ---- what is met where words are taken
@@ -148,18 +186,24 @@ IsGiven id rows = (text : Text) × (first_of id rows ≡ Some text)
 abbrev pub IsNumberGiven : ℕ → ℕ → Text → List Row → Type 0
 IsNumberGiven least most id rows = (n : ℕ) × IsNumberFor least most (one_of id rows) n
 
+-- the argument has no value, or one that is a number in the range
+abbrev pub IsNumberIfGiven : ℕ → ℕ → Text → List Row → Type 0
+IsNumberIfGiven least most id rows = (text : Text) → one_of id rows ≡ Some text → IsNumberGiven least most id rows
+
 -- the flag's value is true where the words have it, and else false or none
 abbrev pub IsFlag : Text → List Row → Type 0
 IsFlag id rows = (one_of id rows ≡ Some (bool_text (is_given id rows))) ⊎ ((one_of id rows ≡ None) × (is_given id rows ≡ false))
 
--- the command is one of the five, and has the values that have to be given
+-- the command is one of the six, and has the values that have to be given
 abbrev pub IsWhole : Text × List Row → Type 0
 IsWhole named = ((named.0 ≡ codes "mkfs") × IsGiven (codes "IMAGE") named.1
     × IsNumberGiven 1024 65536 (codes "sectors") named.1 × IsNumberGiven 16 4096 (codes "inodes") named.1)
+    ⊎ (((named.0 ≡ codes "format") × IsGiven (codes "IMAGE") named.1
+    × IsGiven (codes "size") named.1 × IsNumberIfGiven 16 1048576 (codes "inodes") named.1)
     ⊎ (((named.0 ≡ codes "run") × IsGiven (codes "IMAGE") named.1)
     ⊎ (((named.0 ≡ codes "check") × IsGiven (codes "IMAGE") named.1 × IsFlag (codes "explain") named.1)
     ⊎ (((named.0 ≡ codes "upgrade") × IsGiven (codes "IMAGE") named.1)
-    ⊎ ((named.0 ≡ codes "fuse") × IsGiven (codes "IMAGE") named.1 × IsFlag (codes "own-rules") named.1))))
+    ⊎ ((named.0 ≡ codes "fuse") × IsGiven (codes "IMAGE") named.1 × IsFlag (codes "own-rules") named.1)))))
 
 abbrev pub HasValues : Option (Text × List Row) → Type 0
 HasValues None = Unit {0}

@@ -4,6 +4,7 @@
 #![tactic(auto)]
 
 mod failure;
+mod size;
 mod status;
 mod words;
 

@@ -1,10 +1,12 @@
 //! What the words of the command line ask for.
 ghost use Rattle.std.specs.Prelude.{◌≡◌, MatchResult, IfOk, [], codes, map, string_bytes, false};
 ghost use Rattle.clap.specs.Words.{app_of, found_of, rows_of, rule_of, fault_of, subcommand_rows_of};
-ghost use Rattle.fs_command.specs.Words.{command_line, alone, mkfs, run, check, upgrade, fuse};
-ghost use Rattle.fs_command.specs.Words.{image, number_option, text_option, flag, IsGiven, IsNumberGiven, IsFlag, words_status};
-ghost use Rattle.fs_command.specs.Words.{HasValues, AsksFor, SaysJob, SaysMkfs, SaysRun, SaysCheck, SaysUpgrade, SaysFuse, Refuses};
+ghost use Rattle.fs_command.specs.Words.{command_line, alone, mkfs, format, run, check, upgrade, fuse};
+ghost use Rattle.fs_command.specs.Words.{image, needed, number_option, text_option, flag, words_status};
+ghost use Rattle.fs_command.specs.Words.{HasValues, IsGiven, IsNumberGiven, IsNumberIfGiven, IsFlag, AsksFor, SaysJob, Refuses};
+ghost use Rattle.fs_command.specs.Words.{SaysMkfs, SaysFormat, SaysRun, SaysCheck, SaysUpgrade, SaysFuse, HasBadSize, HasBadValue};
 
+use crate::size::{sectors_of_size, usual_inodes};
 use crate::status::Status;
 use clap::builder::ValueParser;
 use clap::error::ErrorKind;
@@ -14,10 +16,11 @@ use std::marker::Model;
 use thiserror::Error as ThisError;
 
 // The version of the program, and the newest layout that it makes.
-const VERSION: &str = "0.1.0, layout 2";
+const VERSION: &str = "0.1.0, layout 3";
 
 const USAGE: &str = "inofs
        inofs mkfs IMAGE --sectors N --inodes N
+       inofs format IMAGE --size SIZE [--inodes N]
        inofs run IMAGE [SCRIPT]
        inofs check [--explain] IMAGE
        inofs upgrade IMAGE
@@ -65,8 +68,17 @@ impl Text {
 pub enum Job {
     /// To run the script on the standard input, on a new disk in memory.
     Memory,
-    /// To make an image.
+    /// To make an image of the second layout.
     Mkfs {
+        /// The image's path.
+        image: Text,
+        /// How many sectors of 512 bytes it has.
+        sectors: u32,
+        /// How many inodes, 0 too.
+        inodes: u32,
+    },
+    /// To make an image of the third layout.
+    Format {
         /// The image's path.
         image: Text,
         /// How many sectors of 512 bytes it has.
@@ -113,6 +125,9 @@ pub enum WordsFault {
     /// They aren't those of any job. The error's text says what is wrong.
     #[error("{0}")]
     BadWords(Error),
+    /// The size of the image to be made is none, or out of range.
+    #[error("error: invalid value for '--size <SIZE>': 512K to 8G, in bytes or with K, M or G behind\n")]
+    BadSize,
     /// Memory ran out.
     #[error("error: out of memory\n")]
     OutOfMemory,
@@ -149,7 +164,8 @@ impl WordsFault {
     {
         match self {
             WordsFault::Help(_) => Status::Done,
-            WordsFault::BadWords(_) | WordsFault::OutOfMemory => Status::BadWords,
+            WordsFault::BadWords(_) | WordsFault::BadSize | WordsFault::OutOfMemory =>
+                Status::BadWords,
         }
     }
 }
@@ -157,33 +173,36 @@ impl WordsFault {
 /// What the words of a command line ask for. The first is the program's name, as `env::args` has it.
 pub fn parse_words(alloc: Global, words: &[String]) -> Result<Job, WordsFault>
     // The job is what `clap`'s definition of the command line reads from the words. It refuses words by a kind of error
-    // that the definition gives them, or for want of memory.
+    // that the definition gives them, for a size out of range, or for want of memory.
     ensures said { MatchResult result (AsksFor (map string_bytes words.now)) (Refuses (map string_bytes words.now)) }
     ensures taken { IfOk result (λ _. fault_of command_line (map string_bytes words.now) ≡ []) }
 {
     let matches = program(alloc)?.try_get_matches_from(words)?;
-    Ok(named_job(alloc, &matches)?)
+    named_job(alloc, &matches)
 }
 
 // The job of the command that the words name.
-fn named_job(alloc: Global, matches: &ArgMatches<'_>) -> Result<Job, AllocError>
+fn named_job(alloc: Global, matches: &ArgMatches<'_>) -> Result<Job, WordsFault>
     requires { HasValues (subcommand_rows_of matches.now) }
-    ensures { IfOk result (SaysJob (subcommand_rows_of matches.now)) }
+    ensures { MatchResult result (SaysJob (subcommand_rows_of matches.now)) (HasBadValue (subcommand_rows_of matches.now)) }
 {
     if let Some(matches) = matches.subcommand_matches("mkfs") {
-        return mkfs_job(alloc, matches);
+        return Ok(mkfs_job(alloc, matches)?);
+    }
+    if let Some(matches) = matches.subcommand_matches("format") {
+        return format_job(alloc, matches);
     }
     if let Some(matches) = matches.subcommand_matches("run") {
-        return run_job(alloc, matches);
+        return Ok(run_job(alloc, matches)?);
     }
     if let Some(matches) = matches.subcommand_matches("check") {
-        return check_job(alloc, matches);
+        return Ok(check_job(alloc, matches)?);
     }
     if let Some(matches) = matches.subcommand_matches("upgrade") {
-        return upgrade_job(alloc, matches);
+        return Ok(upgrade_job(alloc, matches)?);
     }
     if let Some(matches) = matches.subcommand_matches("fuse") {
-        return fuse_job(alloc, matches);
+        return Ok(fuse_job(alloc, matches)?);
     }
     Ok(Job::Memory)
 }
@@ -199,6 +218,27 @@ fn mkfs_job(alloc: Global, matches: &ArgMatches<'_>) -> Result<Job, AllocError>
         image: Text::new(alloc, matches.get_str("IMAGE").unwrap())?,
         sectors: matches.get_one::<u32>("sectors").unwrap(),
         inodes: matches.get_one::<u32>("inodes").unwrap(),
+    })
+}
+
+// The job of `format`.
+fn format_job(alloc: Global, matches: &ArgMatches<'_>) -> Result<Job, WordsFault>
+    requires image { IsGiven (codes "IMAGE") (rows_of (found_of matches.now)) }
+    requires size { IsGiven (codes "size") (rows_of (found_of matches.now)) }
+    requires inodes { IsNumberIfGiven 16 1048576 (codes "inodes") (rows_of (found_of matches.now)) }
+    ensures { MatchResult result (SaysFormat (rows_of (found_of matches.now))) (HasBadSize (rows_of (found_of matches.now))) }
+{
+    let Some(sectors) = sectors_of_size(matches.get_str("size").unwrap()) else {
+        return Err(WordsFault::BadSize);
+    };
+    let inodes = matches
+        .get_one::<u32>("inodes")
+        .unwrap_or(usual_inodes(sectors));
+    let image = Text::new(alloc, matches.get_str("IMAGE").unwrap())?;
+    Ok(Job::Format {
+        image,
+        sectors,
+        inodes,
     })
 }
 
@@ -260,6 +300,7 @@ fn program<'a>(alloc: Global) -> Result<Command<'a>, AllocError>
 {
     program_alone(alloc)
         .subcommand(mkfs_command(alloc)?)?
+        .subcommand(format_command(alloc)?)?
         .subcommand(run_command(alloc)?)?
         .subcommand(check_command(alloc)?)?
         .subcommand(upgrade_command(alloc)?)?
@@ -282,12 +323,33 @@ fn program_alone<'a>(alloc: Global) -> Command<'a>
 fn mkfs_command<'a>(alloc: Global) -> Result<Command<'a>, AllocError>
     ensures { IfOk result (λ command. app_of command ≡ mkfs) }
 {
-    let sectors = number(alloc, "sectors", 1024, 65536).help("Sectors of 512 bytes, 1024 to 65536");
-    let inodes = number(alloc, "inodes", 16, 4096).help("Inodes, 16 to 4096");
+    let sectors = number(alloc, "sectors", 1024, 65536)
+        .required(true)
+        .help("Sectors of 512 bytes, 1024 to 65536");
+    let inodes = number(alloc, "inodes", 16, 4096)
+        .required(true)
+        .help("Inodes, 16 to 4096");
     Command::new(alloc, "mkfs")
-        .about("Make an image with an empty file system")
+        .about("Make an image of the second layout with an empty file system")
         .arg(image(alloc).help("The image, which must not exist"))?
         .arg(sectors)?
+        .arg(inodes)
+}
+
+// The words of `format`.
+fn format_command<'a>(alloc: Global) -> Result<Command<'a>, AllocError>
+    ensures { IfOk result (λ command. app_of command ≡ format) }
+{
+    let size = text_option(alloc, "size", "SIZE")
+        .required(true)
+        .help("Bytes, or with K, M or G: 512K to 8G");
+    let inodes = number(alloc, "inodes", 16, 1048576).help(
+        "Inodes, 16 to 1048576; without it one for 32 sectors",
+    );
+    Command::new(alloc, "format")
+        .about("Make an image of the third layout with an empty file system")
+        .arg(image(alloc).help("The image, which must not exist"))?
+        .arg(size)?
         .arg(inodes)
 }
 
@@ -318,7 +380,7 @@ fn upgrade_command<'a>(alloc: Global) -> Result<Command<'a>, AllocError>
     ensures { IfOk result (λ command. app_of command ≡ upgrade) }
 {
     Command::new(alloc, "upgrade")
-        .about("Upgrade an image to the newest version of the layout")
+        .about("Upgrade an image of the first layout to the second")
         .arg(image(alloc).help("The image"))
 }
 
@@ -345,7 +407,7 @@ fn image<'a>(alloc: Global) -> Arg<'a>
     Arg::new(alloc, "IMAGE").required(true)
 }
 
-// A number that has to be given, within its bounds.
+// A number that may be given, within its bounds.
 fn number<'a>(alloc: Global, name: &'a str, least: u64, most: u64) -> Arg<'a>
     ensures rule { rule_of result ≡ number_option name.entry.now least most }
     ensures local { result.global ≡ false }
@@ -353,7 +415,6 @@ fn number<'a>(alloc: Global, name: &'a str, least: u64, most: u64) -> Arg<'a>
     Arg::new(alloc, name)
         .long(name)
         .value_name("N")
-        .required(true)
         .value_parser(ValueParser::unsigned(least, most))
 }
 

@@ -1,11 +1,14 @@
 -- What mkfs refuses, from its tests one by one.
-use Rattle.std.proofs.Common.{◌≡◌, ℕ, ◌+◌, ◌<◌, ◌≤◌, Bool, true, false, cond, nat_lt, Option, Some, None, refl, sym, ◌∙◌, arith}
+use Rattle.std.proofs.Common.{◌≡◌, ℕ, ◌+◌, ◌<◌, ◌≤◌, Bool, true, false, cond, not, nat_lt, Option, Some, None, refl, sym, ap, ◌∙◌, arith}
 use Rattle.std.specs.Prelude.{MatchResult}
 use Rattle.std.specs.Option.{ok_or}
 use Rattle.std.proofs.lemmas.Bool.{le-leb}
 use Rattle.std.proofs.lemmas.Bool.Decides.{nat_tests}
 use Rattle.fs_layout.specs.declared.place.Place.{Place}
-use Rattle.fs_layout.specs.Place.{allows_header, laid_out, place_in, the_place}
+use Rattle.fs_layout.specs.declared.version.Version.{Version}
+use Rattle.fs_layout.specs.Version.{max_sectors, max_inodes}
+use Rattle.fs_layout.specs.Place.{allows_header, are_in_range, laid_out, new_header, place_in, the_place}
+use Rattle.fs_layout.proofs.Places.{new_header_allowed}
 use Rattle.fs_images.specs.declared.faults.MkfsFault.TheVariants.{BadSize, BadInodes, TooSmall}
 use Rattle.fs_images.specs.Making.{is_out_of, mkfs_refusal}
 
@@ -20,35 +23,55 @@ is_within : (least most n : ℕ) → least ≤ n → n ≤ most → is_out_of le
 is_within least most n ge le = grind (arith, nat_tests)
 
 -- ---- the first refusal
-pub bad_size : (sectors inodes : ℕ) → is_out_of 1024 65536 sectors ≡ true → mkfs_refusal sectors inodes ≡ Some BadSize
+pub bad_size : (version : Version) (sectors inodes : ℕ) → is_out_of 1024 (max_sectors version) sectors ≡ true
+    → mkfs_refusal version sectors inodes ≡ Some BadSize
 unfolding mkfs_refusal
-bad_size sectors inodes out = rw out refl
+bad_size version sectors inodes out = rw out refl
 
 -- the disk's size is in its range
-pub record IsSize (sectors : ℕ) : Type 0 where
+pub record IsSize (version : Version) (sectors : ℕ) : Type 0 where
   pub least : 1024 ≤ sectors
-  pub most : sectors ≤ 65536
+  pub most : sectors ≤ max_sectors version
 
-pub bad_inodes : (sectors inodes : ℕ) → IsSize sectors → is_out_of 16 4096 inodes ≡ true → mkfs_refusal sectors inodes ≡ Some BadInodes
+pub bad_inodes : (version : Version) (sectors inodes : ℕ) → IsSize version sectors → is_out_of 16 (max_inodes version) inodes ≡ true
+    → mkfs_refusal version sectors inodes ≡ Some BadInodes
 unfolding mkfs_refusal
-bad_inodes sectors inodes size out = rw (is_within 1024 65536 sectors size.least size.most, out) refl
+bad_inodes version sectors inodes size out = rw (is_within 1024 (max_sectors version) sectors size.least size.most, out) refl
 
 -- both numbers are in their ranges
-pub record AreInRange (sectors inodes : ℕ) : Type 0 where
-  pub size : IsSize sectors
+pub record AreInRange (version : Version) (sectors inodes : ℕ) : Type 0 where
+  pub size : IsSize version sectors
   pub least : 16 ≤ inodes
-  pub most : inodes ≤ 4096
+  pub most : inodes ≤ max_inodes version
 
-last_refusal : (sectors inodes : ℕ) → AreInRange sectors inodes
-    → mkfs_refusal sectors inodes ≡ cond (nat_lt sectors ((laid_out sectors inodes).first_data + 64)) (Some TooSmall) None
+-- the data sectors that are left are too few
+abbrev is_full : Version → ℕ → ℕ → Bool
+is_full version sectors inodes = nat_lt sectors ((laid_out version sectors inodes).first_data + 64)
+
+last_refusal : (version : Version) (sectors inodes : ℕ) → AreInRange version sectors inodes
+    → mkfs_refusal version sectors inodes ≡ cond (is_full version sectors inodes) (Some TooSmall) None
 unfolding mkfs_refusal
-last_refusal sectors inodes fit = rw (is_within 1024 65536 sectors fit.size.least fit.size.most, is_within 16 4096 inodes fit.least fit.most) refl
+last_refusal version sectors inodes fit =
+    rw (is_within 1024 (max_sectors version) sectors fit.size.least fit.size.most, is_within 16 (max_inodes version) inodes fit.least fit.most) refl
 
-last_test : (sectors inodes : ℕ) → AreInRange sectors inodes
-    → the_place sectors inodes ≡ cond (nat_lt sectors ((laid_out sectors inodes).first_data + 64)) None (Some (laid_out sectors inodes))
-unfolding place_in allows_header
-last_test sectors inodes fit =
-    rw (le-leb 1024 sectors fit.size.least, le-leb sectors 65536 fit.size.most, le-leb 16 inodes fit.least, le-leb inodes 4096 fit.most) refl
+range_passed : (version : Version) (sectors inodes : ℕ) → AreInRange version sectors inodes → are_in_range version sectors inodes ≡ true
+range_passed version sectors inodes fit =
+    rw (
+      le-leb 1024 sectors fit.size.least,
+      le-leb sectors (max_sectors version) fit.size.most,
+      le-leb 16 inodes fit.least,
+      le-leb inodes (max_inodes version) fit.most,
+    ) refl
+
+last_test : (version : Version) (sectors inodes : ℕ) → AreInRange version sectors inodes
+    → the_place version sectors inodes ≡ cond (is_full version sectors inodes) None (Some (laid_out version sectors inodes))
+unfolding place_in
+last_test version sectors inodes fit =
+    let range = range_passed version sectors inodes fit in
+    let allowed = new_header_allowed version sectors inodes range in
+    ap (λ b. cond (not b) None (cond (not (allows_header version (new_header version sectors inodes) sectors inodes)) None
+    (cond (is_full version sectors inodes) None (Some (laid_out version sectors inodes))))) range
+    ∙ ap (λ b. cond (not b) None (cond (is_full version sectors inodes) None (Some (laid_out version sectors inodes)))) allowed
 
 none_then : (b : Bool) (l : Place) → None ≡ cond b None (Some l) → cond b (Some TooSmall) None ≡ Some TooSmall
 none_then true l e = refl
@@ -59,11 +82,15 @@ some_then true l p e = absurd cc
 some_then false l p e = refl
 
 -- there is a place, or no room for the data
-pub place_or_too_small : (sectors inodes : ℕ) → AreInRange sectors inodes → (o : Option Place) → o ≡ the_place sectors inodes
-    → MatchResult (ok_or o TooSmall) (λ p. (mkfs_refusal sectors inodes ≡ None) × (the_place sectors inodes ≡ Some p)) (λ f. mkfs_refusal sectors inodes ≡ Some f)
-place_or_too_small sectors inodes fit None e =
-    last_refusal sectors inodes fit ∙ none_then (nat_lt sectors ((laid_out sectors inodes).first_data + 64)) (laid_out sectors inodes) (e ∙ last_test sectors inodes fit)
-place_or_too_small sectors inodes fit (Some p) e = (
-  last_refusal sectors inodes fit ∙ some_then (nat_lt sectors ((laid_out sectors inodes).first_data + 64)) (laid_out sectors inodes) p (e ∙ last_test sectors inodes fit),
+pub place_or_too_small : (version : Version) (sectors inodes : ℕ) → AreInRange version sectors inodes → (o : Option Place)
+    → o ≡ the_place version sectors inodes
+    → MatchResult (ok_or o TooSmall) (λ p. (mkfs_refusal version sectors inodes ≡ None) × (the_place version sectors inodes ≡ Some p))
+    (λ f. mkfs_refusal version sectors inodes ≡ Some f)
+place_or_too_small version sectors inodes fit None e =
+    last_refusal version sectors inodes fit
+    ∙ none_then (is_full version sectors inodes) (laid_out version sectors inodes) (e ∙ last_test version sectors inodes fit)
+place_or_too_small version sectors inodes fit (Some p) e = (
+  last_refusal version sectors inodes fit
+      ∙ some_then (is_full version sectors inodes) (laid_out version sectors inodes) p (e ∙ last_test version sectors inodes fit),
   sym e,
 )

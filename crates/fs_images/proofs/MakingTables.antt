@@ -10,8 +10,7 @@ use Rattle.fs_layout.specs.Bytes.{SectorMap, IsBytes, IsSector, window, zeros, l
 use Rattle.fs_layout.specs.Commit.{commit_bytes}
 use Rattle.fs_layout.specs.Inode.{IsInode, free_inode, inode_bytes, inode_fits}
 use Rattle.fs_layout.specs.Images.{bit, stored}
-use Rattle.fs_layout.specs.Version.{newest}
-use Rattle.fs_layout.specs.Place.{IsPlace, super_for, the_place}
+use Rattle.fs_layout.specs.Place.{IsPlace, new_header, super_for, the_place}
 use Rattle.fs_layout.specs.Superblock.{super_bytes}
 use Rattle.fs_layout.proofs.Places.{after_map, before_data, place_is_place}
 use Rattle.fs_layout.proofs.Sectors.{IsSector-splice, IsBytes-inode_bytes}
@@ -179,7 +178,7 @@ bit_of_sector image start n =
 root_and_none : (most n : ℕ) → is_outside 2 most n ≡ (nat_eq n 0 || nat_le most n || nat_eq n root)
 root_and_none most n = grind (arith, nat_tests)
 
-pub new_image : (p : Place) (image : SectorMap) → the_place p.sectors p.inodes ≡ Some p → image 0 ≡ super_bytes (super_for p)
+pub new_image : (p : Place) (image : SectorMap) → the_place p.version p.sectors p.inodes ≡ Some p → image 0 ≡ super_bytes (super_for p)
     → image 1 ≡ commit_bytes [] → ((s : ℕ) → p.inode_bitmap ≤ s → s < p.first_data → IsNewTable p s (image s)) → IsNewImage p image
 unfolding stored
 new_image p image has_place super commit tables = record {
@@ -221,7 +220,7 @@ new_image p image has_place super commit tables = record {
 }
   where
     place : IsPlace p
-    place = place_is_place newest 0 p.sectors p.inodes has_place
+    place = place_is_place p.version (new_header p.version p.sectors p.inodes) p.sectors p.inodes has_place
 
     order : (128 ≤ p.inode_bitmap) × (p.inode_bitmap < p.block_bitmap) × (p.block_bitmap < p.table)
     order = after_map place

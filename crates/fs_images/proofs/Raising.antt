@@ -1,66 +1,91 @@
 -- What stands on a disk while it is upgraded, and then.
-use Rattle.std.proofs.Common.{◌≡◌, ℕ, ◌<◌, ◌≤◌, List, [], length, refl, sym, ap, subst, ◌∙◌, arith, inl, inr, Result, Some, set, get_or-set_same, get_or-set_other}
+use Rattle.std.proofs.Common.{◌≡◌, ℕ, ◌<◌, ◌≤◌, List, [], length, refl, sym, ap, subst, ◌∙◌, arith, inl, inr, Result, Ok, Err, set, get_or-set_same, get_or-set_other}
 use Rattle.std.proofs.lemmas.Bool.{cases_eq}
 use Rattle.std.proofs.lemmas.List.{ext_get_or, length-set}
-use Rattle.sector_disk.specs.Disk.{DiskState, Image, sector, IsImage, IsImageOr, IsNarrowed, IsStable, IsWrite, Elapses, LeavesOnly, OnlyReads}
+use Rattle.std.specs.Prelude.{OnErr}
+use Rattle.sector_disk.specs.Disk.{DiskState, Image, sector, IsImage, IsImageOr, IsNarrowed, IsSame, IsStable, IsWrite, Elapses, LeavesOnly, OnlyReads}
 use Rattle.sector_disk.proofs.Moments.{goes_on, joined, narrowed, one_call, reads_then, stable_image, stays, stays_or, weaker}
 use Rattle.fs_layout.specs.declared.superblock.Super.{Super}
 use Rattle.fs_layout.specs.declared.version.Version.{Version}
 use Rattle.fs_layout.specs.declared.version.Version.TheVariants.{One, Two, Three}
-use Rattle.fs_layout.specs.Superblock.{super_bytes, super_of, with_version, FitsSuper}
+use Rattle.fs_layout.specs.Superblock.{numbers_end, super_bytes, super_of, with_version, FitsSuper}
 use Rattle.fs_layout.proofs.Codecs.{same_spelling}
 use Rattle.fs_layout.proofs.SuperLaw.{super_codec}
-use Rattle.fs_layout.specs.Version.{version_number, version_of, max_file_size, slot_size}
+use Rattle.fs_layout.specs.Version.{max_file_size, slot_size}
 use Rattle.fs_model.specs.Stands.{Stands, room_in}
 use Rattle.fs_model.proofs.Upgraded.{stands_in_version}
 use Rattle.fs_images.specs.Standing.{StandsFor, StandsForSome, StandsAs}
-use Rattle.fs_images.specs.Upgrading.{target, IsSuperOf, SaysVersion, StandsInTarget, IsHalfUpgraded, IsUpgraded, SyncsAlone}
+use Rattle.fs_images.specs.Upgrading.{raised, IsSuperOf, SaysVersion, StandsRaised, IsHalfUpgraded, IsUpgraded, SyncsAlone}
+
+-- ---- a superblock says one version
+
+one_super : (image : Image) (v w : Super) → IsSuperOf image v → IsSuperOf image w → v ≡ w
+one_super image v w one other = same_spelling 512 FitsSuper super_bytes super_of super_codec v w one.fits other.fits (sym one.is ∙ other.is)
 
 -- ---- one image
 
--- in no version a file may be larger
-larger : (version : Version) → max_file_size version ≤ max_file_size target
+-- after an upgrade a file may be as large as before, or larger
+larger : (version : Version) → max_file_size version ≤ max_file_size (raised version)
 larger One = omega arith
 larger Two = omega arith
 larger Three = omega arith
 
--- each version that a superblock can say has slots of the same size
-same_slots : (version : Version) → version_of (version_number version) ≡ Some version → slot_size version ≡ slot_size target
-same_slots One known = refl
-same_slots Two known = refl
-same_slots Three known = absurd cc
+-- the superblock has as many numbers
+same_end : (version : Version) → numbers_end version ≡ numbers_end (raised version)
+same_end One = refl
+same_end Two = refl
+same_end Three = refl
+
+-- and slots are of the same size
+same_slots : (version : Version) → slot_size version ≡ slot_size (raised version)
+same_slots One = refl
+same_slots Two = refl
+same_slots Three = refl
 
 -- with the superblock of the new version
-raised : (from image : Image) (super : Super) → IsSuperOf from super → length image ≡ length from
-    → sector image 0 ≡ super_bytes (with_version target super) → ((n : ℕ) → 1 ≤ n → sector image n ≡ sector from n) → StandsInTarget from image
-raised from image super is size says others = λ room t free stands.
-    subst (λ (k : ℕ). Stands k (sector image) (room_in target room) t free) (sym size)
-    (stands_in_version target (length from) (sector from) (sector image) super room t free stands (record {
+raised_stands : (from image : Image) (super : Super) → IsSuperOf from super → length image ≡ length from
+    → sector image 0 ≡ super_bytes (with_version (raised super.version) super) → ((n : ℕ) → 1 ≤ n → sector image n ≡ sector from n)
+    → StandsRaised from image
+raised_stands from image super is size says others = λ room t free stands.
+    let same : super ≡ stands.super = one_super from super stands.super is (record { is = stands.super_is; fits = stands.super_fits }) in
+    subst (λ (v : Super). StandsFor (room_in (raised v.version) room) image t free) same
+    (subst (λ (k : ℕ). Stands k (sector image) (room_in (raised super.version) room) t free) (sym size)
+    (stands_in_version (raised super.version) (length from) (sector from) (sector image) super room t free stands (record {
       was = is.is;
       fits = is.fits;
       says = says;
       larger = larger super.version;
-      slots = same_slots super.version is.fits.known;
+      slots = same_slots super.version;
       others = λ n some below. others n some;
-    }))
+    })))
 
 -- it has it already
-same_super : (super : Super) → super.version ≡ target → super ≡ with_version target super
+same_super : (super : Super) → super.version ≡ raised super.version → super ≡ with_version (raised super.version) super
 same_super super is = ap (λ (v : Version). with_version v super) is
 
-has_target : (image : Image) (super : Super) → IsSuperOf image super → super.version ≡ target → StandsInTarget image image
-has_target image super is same = raised image image super is refl (is.is ∙ ap super_bytes (same_super super same)) (λ n some. refl)
+stands_already : (image : Image) (super : Super) → IsSuperOf image super → super.version ≡ raised super.version → StandsRaised image image
+stands_already image super is same = raised_stands image image super is refl (is.is ∙ ap super_bytes (same_super super same)) (λ n some. refl)
 
 same_stands_as : (from image : Image) → image ≡ from → StandsAs from image
 same_stands_as from image same = λ room t free stands. subst (λ (i : Image). StandsFor room i t free) (sym same) stands
 
+-- the numbers fit their fields in the new version too
+raised_fits : (super : Super) → FitsSuper super → FitsSuper (with_version (raised super.version) super)
+raised_fits super fits = record {
+  sectors = fits.sectors;
+  inodes = fits.inodes;
+  header = fits.header;
+  no_header = λ e. fits.no_header (same_end super.version ∙ e);
+}
+
 -- ---- while the superblock is written
 
 pub half_written : (old : DiskState) (super : Super) (content : List ℕ) → IsStable old → IsImage old old.seen → 0 < old.size → IsSuperOf old.seen super
-    → content ≡ super_bytes (with_version target super) → (image : Image) → IsImageOr (IsWrite 0 content) old image → IsHalfUpgraded old image
+    → content ≡ super_bytes (with_version (raised super.version) super) → (image : Image) → IsImageOr (IsWrite 0 content) old image
+    → IsHalfUpgraded old image
 half_written old super content stable seen room is_super says image is = elim (stays_or stable is 0 room) [
   | inl was ↦ (old.seen, seen, inl (same_stands_as old.seen image (same was)))
-  | inr new ↦ (old.seen, seen, inr (raised old.seen image super is_super (is.size ∙ sym seen.size) (new.1 ∙ says) others))
+  | inr new ↦ (old.seen, seen, inr (raised_stands old.seen image super is_super (is.size ∙ sym seen.size) (new.1 ∙ says) others))
 ]
   where
     others : (n : ℕ) → 1 ≤ n → sector image n ≡ sector old.seen n
@@ -75,14 +100,19 @@ half_written old super content stable seen room is_super says image is = elim (s
 
 -- once it is
 pub written_upgraded : (old mid new : DiskState) (super : Super) (content : List ℕ) → StandsForSome old.seen → IsSuperOf old.seen super
-    → content ≡ super_bytes (with_version target super) → 0 < length old.seen → mid.seen ≡ old.seen → IsImage new new.seen
-    → new.seen ≡ set mid.seen 0 content → IsStable new → IsUpgraded old new
+    → content ≡ super_bytes (with_version (raised super.version) super) → 0 < length old.seen → mid.seen ≡ old.seen → IsImage new new.seen
+    → new.seen ≡ set mid.seen 0 content → IsStable new → IsUpgraded (raised super.version) old new
 written_upgraded old mid new super content some is says room stays seen written stable = record {
   some = some;
+  says = (
+    with_version (raised super.version) super,
+    record { is = first ∙ says; fits = raised_fits super is.fits },
+    refl,
+  );
   each = λ image left.
       let same : image ≡ new.seen = stable_image stable seen.size left in
-      raised old.seen image super is (ap length same ∙ ap length put ∙ length-set old.seen 0 content)
-      (ap (λ (i : Image). sector i 0) same ∙ ap (λ (i : Image). sector i 0) put ∙ get_or-set_same old.seen 0 content [] room ∙ says)
+      raised_stands old.seen image super is (ap length same ∙ ap length put ∙ length-set old.seen 0 content)
+      (ap (λ (i : Image). sector i 0) same ∙ first ∙ says)
       (λ n later. ap (λ (i : Image). sector i n) same ∙ others n later);
   stable = stable;
   others = others;
@@ -91,17 +121,21 @@ written_upgraded old mid new super content some is says room stays seen written 
     put : new.seen ≡ set old.seen 0 content
     put = written ∙ ap (λ (i : Image). set i 0 content) stays
 
+    first : sector new.seen 0 ≡ content
+    first = ap (λ (i : Image). sector i 0) put ∙ get_or-set_same old.seen 0 content [] room
+
     others : (n : ℕ) → 1 ≤ n → sector new.seen n ≡ sector old.seen n
     others n later = ap (λ (i : Image). sector i n) put ∙ get_or-set_other old.seen 0 n content [] (λ (e : n ≡ 0). omega (arith, later, e))
 
 -- where it has the version already
-pub synced_upgraded : (old new : DiskState) (super : Super) → StandsForSome old.seen → IsSuperOf old.seen super → super.version ≡ target
-    → new.seen ≡ old.seen → IsImage new new.seen → IsStable new → IsUpgraded old new
+pub synced_upgraded : (old new : DiskState) (super : Super) → StandsForSome old.seen → IsSuperOf old.seen super → super.version ≡ raised super.version
+    → new.seen ≡ old.seen → IsImage new new.seen → IsStable new → IsUpgraded super.version old new
 synced_upgraded old new super some is same stays seen stable = record {
   some = some;
+  says = (super, subst (λ (i : Image). IsSuperOf i super) (sym stays) is, refl);
   each = λ image left.
       let now : image ≡ old.seen = stable_image stable seen.size left ∙ stays in
-      subst (λ (i : Image). StandsInTarget old.seen i) (sym now) (has_target old.seen super is same);
+      subst (λ (i : Image). StandsRaised old.seen i) (sym now) (stands_already old.seen super is same);
   stable = stable;
   others = λ n later. ap (λ (i : Image). sector i n) stays;
 }
@@ -135,11 +169,25 @@ synced_then old mid new so_far first second time = goes_on so_far time (λ image
 
 -- and then the superblock is written
 pub written_then : (old mid new : DiskState) (super : Super) (content : List ℕ) → LeavesOnly old mid (IsHalfUpgraded old) → IsNarrowed old mid
-    → IsStable mid → IsImage mid mid.seen → 0 < mid.size → IsSuperOf old.seen super → content ≡ super_bytes (with_version target super)
-    → LeavesOnly mid new (IsImageOr (IsWrite 0 content) mid) → LeavesOnly old new (IsHalfUpgraded old)
+    → IsStable mid → IsImage mid mid.seen → 0 < mid.size → IsSuperOf old.seen super
+    → content ≡ super_bytes (with_version (raised super.version) super) → LeavesOnly mid new (IsImageOr (IsWrite 0 content) mid) → LeavesOnly old new (IsHalfUpgraded old)
 written_then old mid new super content so_far changes stable seen room is says run =
     let super_is : IsSuperOf mid.seen super = subst (λ (i : Image). IsSuperOf i super) (sym changes.seen) is in
     joined so_far (weaker (λ image may. from_narrowed old mid changes image (half_written mid super content stable seen room super_is says image may)) run)
+
+-- nothing is changed where the superblock is read and the sync fails
+same_joined : {old mid new : DiskState} → IsSame old mid → IsSame mid new → IsSame old new
+same_joined first second = record {
+  narrowed = narrowed_joined first.narrowed second.narrowed;
+  kept = λ n content holds. second.kept n content (first.kept n content holds);
+}
+
+on_err : {T E P : Type 0} (r : Result T E) → P → OnErr r P
+on_err (Ok x) p = tt
+on_err (Err e) p = p
+
+pub not_synced : {T E : Type 0} (old mid new : DiskState) (result : Result T E) → IsSame old mid → IsSame mid new → SyncsAlone old new result
+not_synced old mid new result first second = record { narrowed = (same_joined first second).narrowed; failed = on_err result (same_joined first second) }
 
 -- ---- after a check, which only reads
 
@@ -149,27 +197,16 @@ module _ (old mid : DiskState) (reads : OnlyReads old mid) where
   check_then new only_now run =
       reads_then reads (weaker (from_narrowed old mid reads.narrowed) run) (λ image left. as_it_was old image (only_now image left))
 
-  pub then_upgraded : (new : DiskState) → IsUpgraded mid new → IsUpgraded old new
-  then_upgraded new is = record {
+  pub then_upgraded : (version : Version) (new : DiskState) → IsUpgraded version mid new → IsUpgraded version old new
+  then_upgraded version new is = record {
     some = subst StandsForSome reads.narrowed.seen is.some;
-    each = λ image left. subst (λ (i : Image). StandsInTarget i image) reads.narrowed.seen (is.each image left);
+    says = is.says;
+    each = λ image left. subst (λ (i : Image). StandsRaised i image) reads.narrowed.seen (is.each image left);
     stable = is.stable;
     others = λ n later. is.others n later ∙ ap (λ (i : Image). sector i n) reads.narrowed.seen;
   }
 
-  pub then_narrowed : {T E : Type 0} (new : DiskState) (result : Result T E) → (SaysVersion target mid.seen → SyncsAlone mid new result)
-      → SaysVersion target old.seen → IsNarrowed old new
-  then_narrowed new result alone says =
-      narrowed_joined reads.narrowed (alone (subst (SaysVersion target) (sym reads.narrowed.seen) says)).narrowed
-
--- ---- a superblock says one version
-
-one_super : (image : Image) (v w : Super) → IsSuperOf image v → IsSuperOf image w → v ≡ w
-one_super image v w one other = same_spelling 512 FitsSuper super_bytes super_of super_codec v w one.fits other.fits (sym one.is ∙ other.is)
-
--- not another one
-pub says_other : {A : Type 0} (image : Image) (v : Super) → IsSuperOf image v → v.version ≡ One → SaysVersion Two image → A
-says_other image v is one (w, other, two) =
-    let same : v.version ≡ w.version = ap (λ (u : Super). u.version) (one_super image v w is other) in
-    let bad : One ≡ Two = sym one ∙ same ∙ two in
-    absurd cc
+  pub then_narrowed : {T E : Type 0} (new : DiskState) (result : Result T E) → ((SaysVersion One mid.seen → ⊥) → SyncsAlone mid new result)
+      → (SaysVersion One old.seen → ⊥) → IsNarrowed old new
+  then_narrowed new result alone other =
+      narrowed_joined reads.narrowed (alone (λ says. other (subst (SaysVersion One) reads.narrowed.seen says))).narrowed

@@ -8,6 +8,8 @@
 use Rattle.std.specs.Prelude.{◌≡◌, ◌⊎◌, ℕ, ◌+◌, ◌-◌, ◌<◌, ◌≤◌, Bool, nat_lt, ◌||◌, List, [], length, Option, Some, None, if◌then◌else◌}
 use Rattle.sector_disk.specs.Disk.{DiskState, Image, sector, HasFailed, IsImage, IsStable}
 use Rattle.fs_layout.specs.declared.place.Place.{Place}
+use Rattle.fs_layout.specs.declared.version.Version.{Version}
+use Rattle.fs_layout.specs.Version.{max_sectors, max_inodes}
 use Rattle.fs_layout.specs.Bytes.{zeros}
 use Rattle.fs_layout.specs.Commit.{commit_bytes}
 use Rattle.fs_layout.specs.Place.{laid_out, the_place}
@@ -23,20 +25,20 @@ abbrev pub is_out_of : ℕ → ℕ → ℕ → Bool
 is_out_of least most n = nat_lt n least || nat_lt most n
 
 -- the first refusal, in this order: the disk's size, the number of inodes, the data sectors that are left
-unfoldable pub mkfs_refusal : ℕ → ℕ → Option MkfsFault
-mkfs_refusal sectors inodes =
-    if is_out_of 1024 65536 sectors then Some BadSize else
-    (if is_out_of 16 4096 inodes then Some BadInodes else
-    (if nat_lt sectors ((laid_out sectors inodes).first_data + 64) then Some TooSmall else None))
+unfoldable pub mkfs_refusal : Version → ℕ → ℕ → Option MkfsFault
+mkfs_refusal version sectors inodes =
+    if is_out_of 1024 (max_sectors version) sectors then Some BadSize else
+    (if is_out_of 16 (max_inodes version) inodes then Some BadInodes else
+    (if nat_lt sectors ((laid_out version sectors inodes).first_data + 64) then Some TooSmall else None))
 
 -- the device has failed since
 abbrev pub IsDeviceFault : DiskState → DiskState → MkfsFault → Type 0
 IsDeviceFault before now fault = (fault ≡ DiskFault) × HasFailed before now
 
--- The image is that of a new disk with so many inodes: it stands for an empty root, and all its data sectors are free.
-pub record IsNewDisk (inodes : ℕ) (image : Image) : Type 0 where
+-- The image is that of a new disk of this version, with so many inodes: it stands for an empty root, and all its data sectors are free.
+pub record IsNewDisk (version : Version) (inodes : ℕ) (image : Image) : Type 0 where
   pub place : Place
-  pub has_place : the_place (length image) inodes ≡ Some place
+  pub has_place : the_place version (length image) inodes ≡ Some place
   pub new : IsNewImage place (sector image)
   pub stands : StandsFor (room_of place) image empty_tree (place.sectors - place.first_data)
 
@@ -49,12 +51,12 @@ abbrev pub IsHalfCleared : DiskState → Image → Type 0
 IsHalfCleared before image = IsImage before image ⊎ HasNoSuperblock image
 
 -- while it is written again: no superblock, or the new disk
-abbrev pub IsHalfDone : ℕ → Image → Type 0
-IsHalfDone inodes image = HasNoSuperblock image ⊎ IsNewDisk inodes image
+abbrev pub IsHalfDone : Version → ℕ → Image → Type 0
+IsHalfDone version inodes image = HasNoSuperblock image ⊎ IsNewDisk version inodes image
 
 -- in the whole: what it might have left before, no superblock, or the new disk
-abbrev pub IsHalfMade : DiskState → ℕ → Image → Type 0
-IsHalfMade before inodes image = IsImage before image ⊎ IsHalfDone inodes image
+abbrev pub IsHalfMade : DiskState → Version → ℕ → Image → Type 0
+IsHalfMade before version inodes image = IsImage before image ⊎ IsHalfDone version inodes image
 
 -- ---- what the steps may write, and where
 -- any content in any sector but the first
@@ -75,7 +77,7 @@ pub record IsCleared (disk : DiskState) : Type 0 where
 
 -- that, and all but the superblock is as on a new disk
 pub record IsPrepared (p : Place) (disk : DiskState) : Type 0 where
-  pub has_place : the_place disk.size p.inodes ≡ Some p
+  pub has_place : the_place p.version disk.size p.inodes ≡ Some p
   pub at_rest : IsCleared disk
   pub commit : sector disk.seen 1 ≡ commit_bytes []
   pub tables : HoldsNewTables p disk.seen

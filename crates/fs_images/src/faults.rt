@@ -11,10 +11,10 @@ use thiserror::Error;
 /// Why [`mkfs`](crate::mkfs) made none: the first of these that holds, in this order.
 #[derive(Clone, Copy, Debug, PartialEq, Eq, Error)]
 pub enum MkfsFault {
-    /// The disk has fewer than 1,024 sectors, or more than 65,536.
+    /// The disk has fewer than 1,024 sectors, or more than the version allows.
     #[error("BadSize")]
     BadSize,
-    /// Fewer than 16 inodes are asked for, or more than 4,096.
+    /// Fewer than 16 inodes are asked for, or more than the version allows.
     #[error("BadInodes")]
     BadInodes,
     /// So many inodes leave fewer than 64 sectors for data.

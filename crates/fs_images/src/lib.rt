@@ -1,4 +1,4 @@
-//! Images of file systems: making one on a disk, and upgrading it to the newest version of the layout.
+//! Images of file systems: making one on a disk, and upgrading one of the first version of the layout.
 //!
 //! `specs/` also says what the images that a disk may leave stand for (`Standing.antt`), of which all above speaks.
 #![tactic(auto)]

@@ -8,51 +8,51 @@ ghost use Rattle.fs_images.specs.Making.{BehindSuperblock, HasNoSuperblock, Hold
 
 use crate::MkfsFault;
 use crate::new_tables::table_sector;
-use fs_layout::{COMMIT_SECTOR, Commit, Place, Super, place_of};
+use fs_layout::{COMMIT_SECTOR, Commit, Place, Super, Version, place_of};
 use sector_disk::{Disk, DiskFault, write_synced};
 
 const SUPERBLOCK: u32 = 0;
 
-/// Makes a file system with so many inodes on the disk, whose root is an empty directory of user 0, 0755.
+/// Makes a file system of this version with so many inodes on the disk, whose root is an empty directory of user 0, 0755.
 ///
 /// The superblock is cleared first and written last, with a sync after each step: a disk on which this was stopped
-/// halfway has none, and isn't taken for a file system.
-pub fn mkfs<D: Disk>(disk: &mut D, inodes: u32) -> Result<(), MkfsFault>
+/// halfway has none, and isn't taken for a file system. The log stays as it is.
+pub fn mkfs<D: Disk>(disk: &mut D, version: Version, inodes: u32) -> Result<(), MkfsFault>
     // The first refusal in order; the disk isn't touched.
-    ensures refused { (f : MkfsFault) → mkfs_refusal (D.state disk.old).size inodes ≡ Some f → (result ≡ Err f) × (disk.new ≡ disk.old) }
-    ensures fault { mkfs_refusal (D.state disk.old).size inodes ≡ None
+    ensures refused { (f : MkfsFault) → mkfs_refusal version (D.state disk.old).size inodes ≡ Some f → (result ≡ Err f) × (disk.new ≡ disk.old) }
+    ensures fault { mkfs_refusal version (D.state disk.old).size inodes ≡ None
         → IfErr result (IsDeviceFault (D.state disk.old) (D.state disk.new)) }
-    ensures made { OnOk result (IsNewDisk inodes (D.state disk.new).seen) }
+    ensures made { OnOk result (IsNewDisk version inodes (D.state disk.new).seen) }
     ensures stable { OnOk result (IsStable (D.state disk.new)) }
-    ensures any_moment { LeavesOnly (D.state disk.old) (D.state disk.new) (IsHalfMade (D.state disk.old) inodes) }
+    ensures any_moment { LeavesOnly (D.state disk.old) (D.state disk.new) (IsHalfMade (D.state disk.old) version inodes) }
     ensures size { (D.state disk.new).size ≡ (D.state disk.old).size }
     ensures failures { (D.state disk.old).failures ≤ (D.state disk.new).failures }
 {
-    let place = place_for(disk.size(), inodes)?;
+    let place = place_for(version, disk.size(), inodes)?;
     write_all(disk, place).map_err(|_| MkfsFault::DiskFault)
 }
 
 // Where the parts of the disk are to lie.
-fn place_for(sectors: u32, inodes: u32) -> Result<Place, MkfsFault>
+fn place_for(version: Version, sectors: u32, inodes: u32) -> Result<Place, MkfsFault>
     ensures { MatchResult result
-        (λ p. (mkfs_refusal sectors inodes ≡ None) × (the_place sectors inodes ≡ Some p))
-        (λ f. mkfs_refusal sectors inodes ≡ Some f) }
+        (λ p. (mkfs_refusal version sectors inodes ≡ None) × (the_place version sectors inodes ≡ Some p))
+        (λ f. mkfs_refusal version sectors inodes ≡ Some f) }
 {
-    if sectors < 1024 || 65536 < sectors {
+    if sectors < 1024 || version.max_sectors() < sectors {
         return Err(MkfsFault::BadSize);
     }
-    if inodes < 16 || 4096 < inodes {
+    if inodes < 16 || version.max_inodes() < inodes {
         return Err(MkfsFault::BadInodes);
     }
-    place_of(sectors, inodes).ok_or(MkfsFault::TooSmall)
+    place_of(version, sectors, inodes).ok_or(MkfsFault::TooSmall)
 }
 
 // Writes the new disk: its superblock last, after all else is stable.
 fn write_all<D: Disk>(disk: &mut D, place: Place) -> Result<(), DiskFault>
-    requires { the_place (D.state disk.old).size place.inodes ≡ Some place }
-    ensures made { OnOk result (IsNewDisk place.inodes (D.state disk.new).seen) }
+    requires { the_place place.version (D.state disk.old).size place.inodes ≡ Some place }
+    ensures made { OnOk result (IsNewDisk place.version place.inodes (D.state disk.new).seen) }
     ensures stable { OnOk result (IsStable (D.state disk.new)) }
-    ensures any_moment { LeavesOnly (D.state disk.old) (D.state disk.new) (IsHalfMade (D.state disk.old) place.inodes) }
+    ensures any_moment { LeavesOnly (D.state disk.old) (D.state disk.new) (IsHalfMade (D.state disk.old) place.version place.inodes) }
     ensures size { (D.state disk.new).size ≡ (D.state disk.old).size }
     ensures cause { HasCause (D.state disk.old) (D.state disk.new) result }
 {
@@ -75,7 +75,7 @@ fn clear_superblock<D: Disk>(disk: &mut D) -> Result<(), DiskFault>
 // Writes all but the superblock, and syncs.
 fn prepare<D: Disk>(disk: &mut D, place: Place) -> Result<(), DiskFault>
     requires cleared { IsCleared (D.state disk.old) }
-    requires place { the_place (D.state disk.old).size place.inodes ≡ Some place }
+    requires place { the_place place.version (D.state disk.old).size place.inodes ≡ Some place }
     ensures prepared { OnOk result (IsPrepared place (D.state disk.new)) }
     ensures any_moment { LeavesOnly (D.state disk.old) (D.state disk.new) HasNoSuperblock }
     ensures size { (D.state disk.new).size ≡ (D.state disk.old).size }
@@ -105,9 +105,9 @@ fn write_tables<D: Disk>(disk: &mut D, place: Place) -> Result<(), DiskFault>
 // Writes the superblock, and syncs.
 fn write_superblock<D: Disk>(disk: &mut D, place: Place) -> Result<(), DiskFault>
     requires { IsPrepared place (D.state disk.old) }
-    ensures made { OnOk result (IsNewDisk place.inodes (D.state disk.new).seen) }
+    ensures made { OnOk result (IsNewDisk place.version place.inodes (D.state disk.new).seen) }
     ensures stable { OnOk result (IsStable (D.state disk.new)) }
-    ensures any_moment { LeavesOnly (D.state disk.old) (D.state disk.new) (IsHalfDone place.inodes) }
+    ensures any_moment { LeavesOnly (D.state disk.old) (D.state disk.new) (IsHalfDone place.version place.inodes) }
     ensures size { (D.state disk.new).size ≡ (D.state disk.old).size }
     ensures cause { HasCause (D.state disk.old) (D.state disk.new) result }
 {

@@ -1,10 +1,11 @@
-//! Upgrading a file system to the newest version of the layout.
+//! Upgrading a file system to the second version of the layout.
 
-ghost use Rattle.std.specs.Prelude.{◌≡◌, ◌≤◌, IfOk, IfErr, OnOk};
+ghost use Rattle.std.specs.Prelude.{◌≡◌, ◌≤◌, IfOk, IfErr};
 ghost use Rattle.sector_disk.specs.Disk.{HasCause, IsSame, Elapses, IsNarrowed, LeavesOnly};
 ghost use Rattle.fs_layout.specs.Superblock.{super_bytes, with_version};
+ghost use Rattle.fs_layout.specs.declared.version.Version.TheVariants.{One, Two};
 ghost use Rattle.fs_images.specs.Standing.{StandsForSome};
-ghost use Rattle.fs_images.specs.Upgrading.{target, IsSuperOf, SaysVersion, SyncsAlone, IsHalfUpgraded, IsUpgraded, IsNotUpgraded};
+ghost use Rattle.fs_images.specs.Upgrading.{IsSuperOf, SaysVersion, SyncsAlone, IsHalfUpgraded, IsUpgraded, IsNotUpgraded};
 
 use crate::faults::UpgradeFault;
 use fs_check::check;
@@ -14,41 +15,43 @@ use std::alloc::Global;
 
 const SUPERBLOCK: u32 = 0;
 
-/// Upgrades the file system on the disk to the newest version of the layout: its files may be larger then.
+/// Upgrades the file system on the disk from the first version of the layout to the second, in which its files may be larger, and
+/// answers the version that it has then.
 ///
 /// The disk is checked first, and a disk that stands for no tree is only read. Nothing but the superblock is written, between
-/// two syncs; a commit that is sealed stays as it is. A disk of the newest version is synced alone.
-pub fn upgrade<D: Disk>(alloc: Global, disk: &mut D) -> Result<(), UpgradeFault>
-    ensures upgraded { OnOk result (IsUpgraded (D.state disk.old) (D.state disk.new)) }
+/// two syncs; a commit that is sealed stays as it is. A disk of another version is synced alone: none leads to the third.
+pub fn upgrade<D: Disk>(alloc: Global, disk: &mut D) -> Result<Version, UpgradeFault>
+    ensures upgraded { IfOk result (λ version. IsUpgraded version (D.state disk.old) (D.state disk.new)) }
     ensures failed { IfErr result (IsNotUpgraded (D.state disk.old) (D.state disk.new)) }
     // A stop at any moment of the call leaves what stands for what it did before, with the old limit of a file or the new one.
     ensures any_moment { LeavesOnly (D.state disk.old) (D.state disk.new) (IsHalfUpgraded (D.state disk.old)) }
-    // A disk of the newest version isn't written.
-    ensures unwritten { SaysVersion target (D.state disk.old).seen → IsNarrowed (D.state disk.old) (D.state disk.new) }
+    // A disk of another version than the first isn't written.
+    ensures unwritten { (SaysVersion One (D.state disk.old).seen → ⊥) → IsNarrowed (D.state disk.old) (D.state disk.new) }
     ensures size { (D.state disk.new).size ≡ (D.state disk.old).size }
     ensures failures { (D.state disk.old).failures ≤ (D.state disk.new).failures }
 {
     check(alloc, disk)?;
-    raise_version(disk)?;
-    Ok(())
+    Ok(raise_version(disk)?)
 }
 
 // Upgrades a disk that stands for a tree.
-fn raise_version<D: Disk>(disk: &mut D) -> Result<(), DiskFault>
+fn raise_version<D: Disk>(disk: &mut D) -> Result<Version, DiskFault>
     requires { StandsForSome (D.state disk.old).seen }
-    ensures upgraded { OnOk result (IsUpgraded (D.state disk.old) (D.state disk.new)) }
+    ensures upgraded { IfOk result (λ version. IsUpgraded version (D.state disk.old) (D.state disk.new)) }
     ensures any_moment { LeavesOnly (D.state disk.old) (D.state disk.new) (IsHalfUpgraded (D.state disk.old)) }
-    ensures unwritten { SaysVersion target (D.state disk.old).seen → SyncsAlone (D.state disk.old) (D.state disk.new) result }
+    ensures unwritten { (SaysVersion One (D.state disk.old).seen → ⊥) → SyncsAlone (D.state disk.old) (D.state disk.new) result }
     ensures size { (D.state disk.new).size ≡ (D.state disk.old).size }
     ensures cause { HasCause (D.state disk.old) (D.state disk.new) result }
 {
     let superblock = read_superblock(disk)?;
     disk.sync()?;
     match superblock.version {
-        Version::One => write_synced(disk, SUPERBLOCK, &raised(superblock)),
-        Version::Two => Ok(()),
-        // No disk has it yet.
-        Version::Three => unreachable!(),
+        Version::One => {
+            write_synced(disk, SUPERBLOCK, &raised(superblock))?;
+            Ok(Version::Two)
+        }
+        Version::Two => Ok(Version::Two),
+        Version::Three => Ok(Version::Three),
     }
 }
 
@@ -68,9 +71,9 @@ fn read_superblock<D: Disk>(disk: &mut D) -> Result<Super, DiskFault>
     Ok(superblock)
 }
 
-// The content of the superblock in the newest version.
+// The content of the superblock in the second version.
 fn raised(superblock: Super) -> [u8; 512]
-    ensures { result ≡ super_bytes (with_version target superblock) }
+    ensures { result ≡ super_bytes (with_version Two superblock) }
 {
     let raised = Super {
         version: Version::Two,

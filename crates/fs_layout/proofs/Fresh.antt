@@ -7,6 +7,7 @@ use Rattle.std.proofs.lemmas.List.{get_or_append_left, get_or-append_right, get_
 use Rattle.std.proofs.lemmas.Nat.Bits.{bit_at_ones, bit_at_ones_above, bit_at-zero}
 use Rattle.fs_layout.specs.declared.place.Place.{Place}
 use Rattle.fs_layout.specs.Bytes.{SectorMap, IsBytes, IsSector, zeros}
+use Rattle.fs_layout.specs.declared.version.Version.TheVariants.{Two}
 use Rattle.fs_layout.specs.Place.{IsPlace, laid_out}
 use Rattle.fs_layout.specs.Images.{bit, free_sectors, inode_at}
 use Rattle.fs_layout.specs.Ownership.{IsConsistent}
@@ -148,7 +149,7 @@ unfolding full_ends
 full_ends_whole = record { len = length-parts 18 3 109 384; bytes = full_ends_small }
 
 pub small_disk : Place
-small_disk = laid_out 1024 64
+small_disk = laid_out Two 1024 64
 
 small_disk_is_place : IsPlace small_disk
 unfolding small_disk

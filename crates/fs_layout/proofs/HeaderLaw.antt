@@ -23,10 +23,10 @@ read_at count at k w i old new from room wide is lt within =
     in_part at w k i old new room len lt = grind (arith, common_steps)
 
 -- numbers that were written from the first byte on
-pub written_numbers : (old new xs : List ℕ) (k : ℕ) → length old ≡ 4 * length xs → new ≡ splice old 0 (le32s xs) → ((i : ℕ) → get_or xs i 0 < 2 ^ 32) → k < length xs
+pub written_numbers : (old new xs : List ℕ) (k : ℕ) → new ≡ splice old 0 (le32s xs) → ((i : ℕ) → get_or xs i 0 < 2 ^ 32) → k < length xs
     → u32_of new (4 * k) ≡ get_or xs k 0
 unfolding splice
-written_numbers old new xs k len is small lt =
+written_numbers old new xs k is small lt =
     let rest = drop (0 + length (le32s xs)) old in
     ap (u32_of new) (omega arith) ∙ sym (get_or-u32s_of new 0 (length xs) k lt)
     ∙ ap (λ (l : List ℕ). get_or l k 0) (read32s xs new 0 rest is small)

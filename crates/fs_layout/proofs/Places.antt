@@ -1,6 +1,6 @@
 -- What follows from a disk's having a place, and what a place says of where its parts stand.
 use Rattle.std.proofs.Common.{◌≡◌, ℕ, zero, suc, ◌+◌, ◌*◌, ◌<◌, ◌≤◌, Bool, true, false, cond, Option, Some, None, refl, sym, subst, arith, nat_le, nat_lt, not, ◌&&◌}
-use Rattle.std.proofs.lemmas.Bool.{and_parts, eqb-true, leb-true, ltb-false}
+use Rattle.std.proofs.lemmas.Bool.{and_parts, eqb-true, leb-true, le-leb, lt-leb, ltb-false}
 use Rattle.std.specs.Int.{div_ceil}
 use Rattle.fs_layout.specs.declared.header.TheConstants.{MAX_HEADER, LEAST_LOG_END}
 use Rattle.fs_layout.specs.declared.place.Place.{Place}
@@ -9,7 +9,7 @@ use Rattle.fs_layout.specs.declared.version.Version.{Version}
 use Rattle.fs_layout.specs.declared.version.Version.TheVariants.{One, Two, Three}
 use Rattle.fs_layout.specs.Header.{log_end, max_delta}
 use Rattle.fs_layout.specs.Version.{max_sectors, max_inodes}
-use Rattle.fs_layout.specs.Place.{IsPlace, allows_header, are_in_range, place_in, laid_out_in}
+use Rattle.fs_layout.specs.Place.{IsPlace, allows_header, are_in_range, least_header, new_header, place_in, laid_out_in}
 
 -- a disk of the third version may have the most sectors and inodes
 numbers_to : (version : Version) → (max_sectors version ≤ max_sectors Three) × (max_inodes version ≤ max_inodes Three)
@@ -85,6 +85,32 @@ has_header Three header s i r e =
     let both = and_parts (nat_le 1 header && nat_le header MAX_HEADER) (nat_le bitmaps (max_delta header)) e in
     let few = and_parts (nat_le 1 header) (nat_le header MAX_HEADER) both.0 in
     record { most = leb-true header MAX_HEADER few.1; room = leb-true bitmaps (max_delta header) both.1 }
+
+-- a new disk may have the header sectors that it gets
+pub new_header_allowed : (version : Version) (sectors inodes : ℕ) → are_in_range version sectors inodes ≡ true
+    → allows_header version (new_header version sectors inodes) sectors inodes ≡ true
+unfolding allows_header
+new_header_allowed One s i range = refl
+new_header_allowed Two s i range = refl
+new_header_allowed Three s i range =
+    let r = in_range Three s i range in
+    let a = r.sectors_to in
+    let b = r.inodes_to in
+    rw (
+      le-leb 1 (new_header Three s i) (omega arith),
+      le-leb (new_header Three s i) MAX_HEADER (omega (arith, a, b)),
+      le-leb (div_ceil i SECTOR_BITS + div_ceil s SECTOR_BITS + 47) (max_delta (new_header Three s i)) (omega (arith, a, b)),
+    ) refl
+
+-- and with fewer than the fewest there is no room
+pub too_few_headers : (header sectors inodes : ℕ) → header < least_header sectors inodes → allows_header Three header sectors inodes ≡ false
+unfolding allows_header
+too_few_headers header s i few =
+    rw (lt-leb (div_ceil i SECTOR_BITS + div_ceil s SECTOR_BITS + 47) (max_delta header) (omega (arith, few))) (and_false (nat_le 1 header && nat_le header MAX_HEADER))
+  where
+    and_false : (b : Bool) → (b && false) ≡ false
+    and_false true = refl
+    and_false false = refl
 
 -- numbers that passed both tests are small
 pub numbers_allowed : (version : Version) (header sectors inodes : ℕ) → are_in_range version sectors inodes ≡ true → allows_header version header sectors inodes ≡ true

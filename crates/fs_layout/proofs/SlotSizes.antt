@@ -18,12 +18,6 @@ slot_bounds One = (omega arith, omega arith)
 slot_bounds Two = (omega arith, omega arith)
 slot_bounds Three = (omega arith, omega arith)
 
--- a size of whole slots is one of pieces of 128 bytes
-pub even_size : (version : Version) (size : ℕ) → size % slot_size version ≡ 0 → size % SLOT_SIZE ≡ 0
-even_size One size even = omega (arith, even)
-even_size Two size even = omega (arith, even)
-even_size Three size even = omega (arith, even)
-
 -- ---- many
 pub slots_none : (version : Version) → slot_size version * 0 ≡ 0
 slots_none One = refl

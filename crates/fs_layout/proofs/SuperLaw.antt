@@ -66,7 +66,14 @@ number_of_version : (n : ℕ) (v : Version) → version_of n ≡ Some v → n �
 number_of_version zero v e = absurd cc
 number_of_version (suc zero) v e = let f : One ≡ v = cc in ap version_number f
 number_of_version (suc (suc zero)) v e = let f : Two ≡ v = cc in ap version_number f
-number_of_version (suc (suc (suc n))) v e = absurd cc
+number_of_version (suc (suc (suc zero))) v e = let f : Three ≡ v = cc in ap version_number f
+number_of_version (suc (suc (suc (suc n)))) v e = absurd cc
+
+-- each version has a number of its own
+version_known : (v : Version) → version_of (version_number v) ≡ Some v
+version_known One = refl
+version_known Two = refl
+version_known Three = refl
 
 number_small : (v : Version) → version_number v < 2 ^ 32
 number_small One = omega arith
@@ -83,7 +90,6 @@ back_if (Some version) s v k len small magic e =
     let number : u32_of s 4 ≡ version_number version = number_of_version (u32_of s 4) version k in
     let tail : HasTail version s = tail_read version s len small c.0 in
     let fit : FitsSuper (fields version s) = record {
-      known = ap version_of (sym number) ∙ k;
       sectors = u32_small s 8 small;
       inodes = u32_small s 12 small;
       header = u32_small s 16 small;
@@ -103,7 +109,7 @@ again v f =
     let s = super_bytes v in
     let magic : u32_of s 0 ≡ super_magic = read32 s 0 super_magic (drop 4 s) refl (omega arith) in
     let n : u32_of s 4 ≡ version_number v.version = read32 s 4 (version_number v.version) (drop 8 s) refl (number_small v.version) in
-    let version : version_of (u32_of s 4) ≡ Some v.version = ap version_of n ∙ f.known in
+    let version : version_of (u32_of s 4) ≡ Some v.version = ap version_of n ∙ version_known v.version in
     let sectors : u32_of s 8 ≡ v.sectors = read32 s 8 v.sectors (drop 12 s) refl f.sectors in
     let inodes : u32_of s 12 ≡ v.inodes = read32 s 12 v.inodes (drop 16 s) refl f.inodes in
     let header : u32_of s 16 ≡ v.header = read32 s 16 v.header (drop 20 s) refl f.header in

@@ -1,12 +1,14 @@
--- Laws that functions without a body prove: numbers as bytes, what a recovered image is, what changing one inode
+-- Laws that functions without a body prove: numbers as bytes, header sectors of new disks, what a recovered image is, what changing one inode
 -- leaves alone, and what maps, a directory's names and stored ACLs are.
-use Rattle.std.specs.Prelude.{ℕ, ◌+◌, ◌<◌, ◌≤◌, ◌^◌, ◌≡◌, ◌≢◌, List, length, map, get_or, Option, None, Some, Ok, All, Contains, ◌↔◌}
+use Rattle.std.specs.Prelude.{ℕ, ◌+◌, ◌<◌, ◌≤◌, ◌^◌, ◌≡◌, ◌≢◌, List, length, map, get_or, Option, None, Some, Ok, All, Contains, ◌↔◌, true, false}
 use Rattle.std.specs.List.{range_with_len}
 use Rattle.std.specs.declared.cmp.Ordering.{Ordering}
 use Rattle.posix_acl.specs.AccessList.{AccessList, IsAcl, IsSomeAcl, list_numbers, mode_bits}
 use Rattle.fs_layout.specs.declared.inode.Inode.{Inode}
 use Rattle.fs_layout.specs.declared.place.Place.{Place}
 use Rattle.fs_layout.specs.declared.version.Version.{Version}
+use Rattle.fs_layout.specs.declared.version.Version.TheVariants.{Three}
+use Rattle.fs_layout.specs.Place.{allows_header, are_in_range, least_header, new_header}
 use Rattle.fs_layout.specs.Version.{slot_size, max_names, max_directory_size}
 use Rattle.fs_layout.specs.Bytes.{IsBytes, IsSector, SectorMap, splice, window}
 use Rattle.fs_layout.specs.Inode.{FitsInode}
@@ -38,6 +40,16 @@ pub record IsRecovery (size : ℕ) : Type 0 where
 -- on each disk whose size fits 32 bits
 abbrev pub RecoversEach : Type 0
 RecoversEach = (size : ℕ) → size < 2 ^ 32 → IsRecovery size
+
+-- A disk of this version, with numbers in their ranges, may have as many header sectors as a new one has, and none has fewer than the
+-- fewest.
+pub record AllowsNewHeader (version : Version) (sectors inodes : ℕ) : Type 0 where
+  pub allowed : allows_header version (new_header version sectors inodes) sectors inodes ≡ true
+  pub least : (header : ℕ) → header < least_header sectors inodes → allows_header Three header sectors inodes ≡ false
+
+abbrev pub NewHeadersAreAllowed : Type 0
+NewHeadersAreAllowed =
+    (version : Version) (sectors inodes : ℕ) → are_in_range version sectors inodes ≡ true → AllowsNewHeader version sectors inodes
 
 -- In a consistent image, where inode n changes with what it owns, the image stays consistent, and each other inode is
 -- the same with all that it owns.

@@ -1,19 +1,21 @@
 -- Where the parts of a disk begin.
 --     are_in_range, allows_header        how many sectors, inodes and header sectors a disk may have
 --     laid_out_in, place_in        the layout of a disk, by its version and its header sectors
---     laid_out, the_place        that of a new disk
+--     least_header, new_header        how many header sectors a new disk has
+--     laid_out, the_place        the layout of a new disk
 --     super_for, place_for        the superblock of a layout, and the layout that a superblock gives
 --     IsPlace        what each layout has
-use Rattle.std.specs.Prelude.{◌≡◌, ℕ, ◌+◌, ◌-◌, ◌*◌, ◌≤◌, Bool, Option, Some, None, nat_eq, nat_le, nat_lt, not, ◌&&◌, if◌then◌else◌}
+use Rattle.std.specs.Prelude.{◌≡◌, ℕ, ◌+◌, ◌-◌, ◌*◌, ◌/◌, ◌≤◌, min, max, Bool, Option, Some, None, nat_eq, nat_le, nat_lt, not, ◌&&◌, if◌then◌else◌}
 use Rattle.std.specs.Int.{div_ceil}
 use Rattle.fs_layout.specs.declared.place.Place.{Place}
 use Rattle.fs_layout.specs.declared.version.Version.{Version}
 use Rattle.fs_layout.specs.declared.version.Version.TheVariants.{One, Two, Three}
 use Rattle.fs_layout.specs.declared.superblock.Super.{Super}
-use Rattle.fs_layout.specs.Version.{newest, max_sectors, max_inodes}
+use Rattle.fs_layout.specs.Version.{max_sectors, max_inodes}
 use Rattle.fs_layout.specs.declared.header.TheConstants.{MAX_HEADER}
 use Rattle.fs_layout.specs.Header.{log_end, max_delta}
-use Rattle.fs_layout.specs.declared.place.TheConstants.{SECTOR_BITS}
+use Rattle.fs_layout.specs.declared.commit.TheConstants.{HEADER_TARGETS}
+use Rattle.fs_layout.specs.declared.place.TheConstants.{SECTOR_BITS, SECTORS_A_HEADER, MOST_NEW_HEADER}
 
 -- so many sectors and inodes, one part right after the other behind the log: a sector of the inode bitmap for each `SECTOR_BITS`
 -- inodes, one of the block bitmap for each `SECTOR_BITS` sectors, one of the inode table for each four inodes, and the data
@@ -32,9 +34,6 @@ laid_out_in version header sectors inodes =
       table = table;
       first_data = table + div_ceil inodes 4;
     }
-
-abbrev pub laid_out : ℕ → ℕ → Place
-laid_out sectors inodes = laid_out_in newest 0 sectors inodes
 
 -- the numbers of sectors and inodes are in the range of the version
 abbrev pub are_in_range : Version → ℕ → ℕ → Bool
@@ -58,8 +57,23 @@ place_in version header sectors inodes =
     (if nat_lt sectors ((laid_out_in version header sectors inodes).first_data + 64) then None else
     Some (laid_out_in version header sectors inodes)))
 
-abbrev pub the_place : ℕ → ℕ → Option Place
-the_place sectors inodes = place_in newest 0 sectors inodes
+-- the fewest header sectors with which a call that puts each sector of the bitmaps has room for 47 more
+abbrev pub least_header : ℕ → ℕ → ℕ
+least_header sectors inodes = div_ceil (div_ceil inodes SECTOR_BITS + div_ceil sectors SECTOR_BITS - 17) HEADER_TARGETS
+
+-- A new disk of version 3 has a header sector for each `SECTORS_A_HEADER` sectors, up to `MOST_NEW_HEADER`, so that the syncs of a
+-- large disk carry more; but not fewer than it needs, nor none.
+abbrev pub new_header : Version → ℕ → ℕ → ℕ
+new_header One sectors inodes = 0
+new_header Two sectors inodes = 0
+new_header Three sectors inodes = max (max (least_header sectors inodes) (min (sectors / SECTORS_A_HEADER) MOST_NEW_HEADER)) 1
+
+abbrev pub laid_out : Version → ℕ → ℕ → Place
+laid_out version sectors inodes = laid_out_in version (new_header version sectors inodes) sectors inodes
+
+-- the layout of a new disk of this version; None where these numbers are out of range, or leave fewer than 64 data sectors
+abbrev pub the_place : Version → ℕ → ℕ → Option Place
+the_place version sectors inodes = place_in version (new_header version sectors inodes) sectors inodes
 
 -- the superblock of a disk of this layout
 abbrev pub super_for : Place → Super

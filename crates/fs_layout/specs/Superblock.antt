@@ -1,5 +1,5 @@
 -- The superblock, sector 0: its bytes, and what bytes are read as.
-use Rattle.std.specs.Prelude.{ℕ, ◌≡◌, ◌<◌, ◌^◌, ◌++◌, List, drop, Option, Some, None, Result, Ok, Err, nat_eq, if◌then◌else◌}
+use Rattle.std.specs.Prelude.{ℕ, ◌≡◌, ◌<◌, ◌^◌, ◌++◌, List, drop, Option, None, Some, Result, Ok, Err, nat_eq, if◌then◌else◌}
 use Rattle.fs_layout.specs.declared.superblock.Super.{Super}
 use Rattle.fs_layout.specs.declared.fault.LayoutFault.{LayoutFault}
 use Rattle.fs_layout.specs.declared.fault.LayoutFault.TheVariants.{BadMagic, BadVersion, NotZero}
@@ -22,9 +22,8 @@ numbers_end One = 16
 numbers_end Two = 16
 numbers_end Three = 20
 
--- the version's number is one that is read, and the numbers fit their fields; without a field the number is 0
+-- the numbers fit their fields; without a field the number is 0
 pub record FitsSuper (v : Super) : Type 0 where
-  pub known : version_of (version_number v.version) ≡ Some v.version
   pub sectors : v.sectors < 2 ^ 32
   pub inodes : v.inodes < 2 ^ 32
   pub header : v.header < 2 ^ 32

@@ -1,5 +1,4 @@
 -- The versions of the layout.
---     newest        the version of a new disk
 --     version_number, version_of        the number of a version, and the version of a number
 --     max_sectors, max_inodes        the most sectors and inodes of a disk
 --     max_file_size        the most bytes of a file
@@ -11,9 +10,6 @@ use Rattle.fs_layout.specs.declared.version.Version.{Version}
 use Rattle.fs_layout.specs.declared.version.Version.TheVariants.{One, Two, Three}
 use Rattle.fs_layout.specs.declared.inode.TheConstants.{INDIRECT_END, DOUBLE_INDIRECT_END}
 
-abbrev pub newest : Version
-newest = Two
-
 abbrev pub version_number : Version → ℕ
 version_number One = 1
 version_number Two = 2
@@ -23,7 +19,8 @@ abbrev pub version_of : ℕ → Option Version
 version_of zero = None
 version_of (suc zero) = Some One
 version_of (suc (suc zero)) = Some Two
-version_of (suc (suc (suc n))) = None
+version_of (suc (suc (suc zero))) = Some Three
+version_of (suc (suc (suc (suc n)))) = None
 
 abbrev pub max_sectors : Version → ℕ
 max_sectors One = 65536

@@ -20,7 +20,7 @@ pub const MAX_TARGETS: usize = 126;
 pub const HEADER_TARGETS: usize = 128;
 
 /// The most targets that a commit has: where the header is the largest, one of [`MAX_HEADER`] sectors.
-pub const MAX_LOG_SECTORS: usize = 254;
+pub const MAX_LOG_SECTORS: usize = 8190;
 
 const COMMIT_MAGIC: u32 = 0x4a4f4e49;
 
@@ -77,12 +77,12 @@ impl Commit {
         &self.targets[..self.count]
     }
 
-    fn put(&self, area: u32, to: &mut [u8])
+    fn put(area: u32, targets: &[u32], to: &mut [u8])
         requires len { length to.old ≡ 512 }
         requires area { area ≤ 1 }
-        ensures { to.new ≡ commit_bytes_in area self.now }
+        requires few { length targets.now ≤ MAX_LOG_SECTORS }
+        ensures { to.new ≡ commit_bytes_in area targets.now }
     {
-        let targets = self.targets();
         let first = first_targets(targets);
         put_u32(to, 0, COMMIT_MAGIC);
         put_u32(to, 4, targets.len() as u32 + 0x8000_0000 * area);
@@ -141,19 +141,26 @@ impl Commit {
     pub fn header_sectors(&self) -> usize
         ensures { result ≡ div_ceil (length self.now - MAX_TARGETS) HEADER_TARGETS }
     {
-        self.count
-            .saturating_sub(MAX_TARGETS)
-            .div_ceil(HEADER_TARGETS)
+        Commit::header_sectors_for(self.count)
     }
 
-    /// The content of a sector of the header, counted from 0: the targets past those of the sectors before it.
-    pub fn header_sector(&self, at: usize) -> [u8; 512]
-        requires { at < MAX_HEADER }
-        ensures { (k : ℕ) → k < HEADER_TARGETS → MAX_TARGETS + HEADER_TARGETS * at + k < length self.now
-            → u32_of result (4 * k) ≡ get_or self.now (MAX_TARGETS + HEADER_TARGETS * at + k) 0 }
+    /// How many sectors of the header have targets of a commit with so many.
+    pub fn header_sectors_for(count: usize) -> usize
+        ensures { result ≡ div_ceil (count - MAX_TARGETS) HEADER_TARGETS }
     {
-        let from = MAX_TARGETS + HEADER_TARGETS * at;
-        header_bytes(&self.targets[from..from + HEADER_TARGETS])
+        count.saturating_sub(MAX_TARGETS).div_ceil(HEADER_TARGETS)
+    }
+
+    /// The content of a sector of the header, counted from 0, of a commit with these targets: those past the ones of the sectors
+    /// before it.
+    pub fn header_sector(targets: &[u32], at: usize) -> [u8; 512]
+        requires most { at < MAX_HEADER }
+        requires some { MAX_TARGETS + HEADER_TARGETS * at ≤ length targets.now }
+        ensures { (k : ℕ) → k < HEADER_TARGETS → MAX_TARGETS + HEADER_TARGETS * at + k < length targets.now
+            → u32_of result (4 * k) ≡ get_or targets.now (MAX_TARGETS + HEADER_TARGETS * at + k) 0 }
+    {
+        let rest = &targets[MAX_TARGETS + HEADER_TARGETS * at..];
+        header_bytes(&rest[..rest.len().min(HEADER_TARGETS)])
     }
 
     /// The log area that the content of a commit sector names.
@@ -212,7 +219,7 @@ impl Commit {
         requires { at ≡ 0 }
         ensures { to.new ≡ commit_bytes self.now }
     {
-        self.put(0, &mut to[at..at + 512]);
+        Commit::put(0, self.targets(), &mut to[at..at + 512]);
     }
 
     /// The content of the commit sector of a commit in this log area: the highest bit of the number says which.
@@ -220,8 +227,17 @@ impl Commit {
         requires { area ≤ 1 }
         ensures { result ≡ commit_bytes_in area self.now }
     {
+        Commit::sector_with(area, self.targets())
+    }
+
+    /// The same of a commit with these targets, which needs no memory for as many as a commit may have.
+    pub fn sector_with(area: u32, targets: &[u32]) -> [u8; 512]
+        requires area { area ≤ 1 }
+        requires few { length targets.now ≤ MAX_LOG_SECTORS }
+        ensures { result ≡ commit_bytes_in area targets.now }
+    {
         let mut content = [0; 512];
-        self.put(area, &mut content);
+        Commit::put(area, targets, &mut content);
         content
     }
 
@@ -250,8 +266,8 @@ impl Commit {
 
 // A sector of the header, with these targets.
 fn header_bytes(targets: &[u32]) -> [u8; 512]
-    requires { length targets.now ≡ HEADER_TARGETS }
-    ensures { (k : ℕ) → k < HEADER_TARGETS → u32_of result (4 * k) ≡ get_or targets.now k 0 }
+    requires { length targets.now ≤ HEADER_TARGETS }
+    ensures { (k : ℕ) → k < length targets.now → u32_of result (4 * k) ≡ get_or targets.now k 0 }
 {
     let mut content = [0; 512];
     put_u32s(&mut content, 0, targets);

@@ -12,8 +12,8 @@ use crate::superblock::Super;
 /// The first sector behind the log of a disk without a header: no target of a commit lies before it.
 pub const LEAST_LOG_END: u32 = 128;
 
-/// The most sectors of a header. No version of the layout has more than 0: what is reserved for a commit grows with this.
-pub const MAX_HEADER: u32 = 1;
+/// The most sectors of a header. What is reserved for a commit grows with how many a disk has.
+pub const MAX_HEADER: u32 = 63;
 
 /// The most targets of a commit whose header has so many sectors.
 pub fn max_targets(header: u32) -> usize

@@ -5,7 +5,7 @@ ghost use Rattle.std.specs.Prelude.{ℕ};
 ghost use Rattle.std.specs.Ordering.{nat_cmp};
 ghost use Rattle.fs_layout.specs.Maps.{name_cmp};
 ghost use Rattle.fs_layout.specs.declared.version.Version.{Version};
-ghost use Rattle.fs_layout.specs.Laws.{AreNumbersAsBytes, RecoversEach, OneInodeChanges, SavingEnds, RestsOnUsed, SomeConsistent, HaveEntries, SlotsHoldNames, SlotsHaveNames, OneMapOfNames, NamesAreRead, NamesStay, AclsHaveSectors, HoldsOneAcl, ModeTellsTheRest};
+ghost use Rattle.fs_layout.specs.Laws.{AreNumbersAsBytes, NewHeadersAreAllowed, RecoversEach, OneInodeChanges, SavingEnds, RestsOnUsed, SomeConsistent, HaveEntries, SlotsHoldNames, SlotsHaveNames, OneMapOfNames, NamesAreRead, NamesStay, AclsHaveSectors, HoldsOneAcl, ModeTellsTheRest};
 
 /// A number of 16 bits that is read from bytes is written as these bytes, and one that is written is read again.
 pub fn numbers_of_16_bits()
@@ -20,6 +20,12 @@ pub fn numbers_of_32_bits()
 /// The same of 64 bits.
 pub fn numbers_of_64_bits()
     ensures { AreNumbersAsBytes 8 le64 u64_of }
+{}
+
+/// With as many header sectors as [`crate::place_of`] gives a disk, a call that puts each sector of the bitmaps has room for 47 more:
+/// so the layout of a new disk is refused for its numbers' ranges and for too few data sectors alone.
+pub fn new_headers_are_allowed()
+    ensures { NewHeadersAreAllowed }
 {}
 
 /// In a recovered image the targets of a sealed commit have the contents of their log sectors, and each other sector

@@ -1,10 +1,11 @@
 //! Where the parts of a disk begin.
 
 ghost use Rattle.std.specs.Prelude.{IsTrue, ◌≡◌, ◌+◌, ◌*◌, ◌/◌, ◌%◌, ◌<◌, ◌≤◌, ◌^◌, IfSome};
-ghost use Rattle.fs_layout.specs.Place.{allows_header, are_in_range, place_in, the_place, IsPlace};
+ghost use Rattle.fs_layout.specs.Place.{allows_header, are_in_range, new_header, place_in, the_place, IsPlace};
 ghost use Rattle.fs_layout.specs.Version.{max_file_size};
 ghost use Rattle.fs_layout.specs.declared.inode.TheConstants.{OLDER_DIRECTORY_SIZE, MAX_FILE_SIZE};
 
+use crate::commit::HEADER_TARGETS;
 use crate::header::{MAX_HEADER, log_end};
 use crate::inode::INODE_SIZE;
 use crate::version::Version;
@@ -17,6 +18,12 @@ pub const FIRST_LOG_SECTOR: u32 = 2;
 
 /// The bits that a sector of a bitmap has.
 pub const SECTOR_BITS: u32 = 4096;
+
+/// Of so many sectors a new disk of version 3 has one header sector more.
+const SECTORS_A_HEADER: u32 = 32768;
+
+/// The most header sectors of a new disk that needs no more: a log area of theirs has two mebibytes.
+const MOST_NEW_HEADER: u32 = 31;
 
 /// The inode of the root.
 pub const ROOT: u32 = 1;
@@ -69,12 +76,29 @@ impl Place {
     }
 }
 
-/// The layout of a new disk of so many sectors and inodes; None where a disk may not have these numbers.
-pub fn place_of(sectors: u32, inodes: u32) -> Option<Place>
-    ensures value { result ≡ the_place sectors inodes }
+/// The layout of a new disk of this version, with so many sectors and inodes; None where a disk may not have these numbers.
+pub fn place_of(version: Version, sectors: u32, inodes: u32) -> Option<Place>
+    ensures value { result ≡ the_place version sectors inodes }
     ensures room { IfSome result IsPlace }
 {
-    place_in(Version::NEWEST, 0, sectors, inodes)
+    let header = new_header(version, sectors, inodes);
+    place_in(version, header, sectors, inodes)
+}
+
+// How many header sectors a new disk has.
+fn new_header(version: Version, sectors: u32, inodes: u32) -> u32
+    ensures { result ≡ new_header version sectors inodes }
+{
+    match version {
+        Version::One | Version::Two => 0,
+        Version::Three => {
+            let bitmaps = inodes.div_ceil(SECTOR_BITS) + sectors.div_ceil(SECTOR_BITS);
+            let least = bitmaps.saturating_sub(17).div_ceil(HEADER_TARGETS as u32);
+            least
+                .max((sectors / SECTORS_A_HEADER).min(MOST_NEW_HEADER))
+                .max(1)
+        }
+    }
 }
 
 // The numbers are in the range of the version.

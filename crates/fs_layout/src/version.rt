@@ -13,14 +13,11 @@ pub enum Version {
     One,
     /// Those, and those of one double indirect sector.
     Two,
-    /// As many; longer names, and more of them. No disk has it yet: there is no version of the number 3.
+    /// As many; longer names, and more of them, on larger disks. Those in use are made in it; no older one is upgraded to it.
     Three,
 }
 
 impl Version {
-    /// The version of a new disk.
-    pub const NEWEST: Version = Version::Two;
-
     /// The number of the version, as the superblock has it.
     pub fn number(self) -> u32
         ensures { result ≡ version_number self }
@@ -39,6 +36,7 @@ impl Version {
         match number {
             1 => Some(Version::One),
             2 => Some(Version::Two),
+            3 => Some(Version::Three),
             _ => None,
         }
     }

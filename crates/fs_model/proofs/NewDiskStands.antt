@@ -9,8 +9,10 @@ use Rattle.posix_acl.proofs.Laws.{minimal_valid}
 use Rattle.fs_layout.specs.declared.place.Place.{Place}
 use Rattle.fs_layout.specs.Bytes.{SectorMap}
 use Rattle.fs_layout.specs.Inode.{FitsInode, free_inode, inode_of}
-use Rattle.fs_layout.specs.Version.{newest, version_number, version_of}
-use Rattle.fs_layout.specs.Place.{IsPlace, place_in, laid_out, super_for}
+use Rattle.fs_layout.specs.declared.version.Version.{Version}
+use Rattle.fs_layout.specs.declared.version.Version.TheVariants.{One, Two, Three}
+use Rattle.fs_layout.specs.Place.{IsPlace, place_in, laid_out, new_header, super_for}
+use Rattle.fs_layout.specs.Superblock.{numbers_end}
 use Rattle.std.specs.Option.{option_map}
 use Rattle.fs_layout.specs.Images.{IsData, bit, inode_at, stored, free_sectors}
 use Rattle.fs_layout.specs.Ownership.{IsConsistent}
@@ -83,9 +85,15 @@ empty_is_tree room many = record {
 
 -- ---- the image
 
+-- where a superblock has no number of header sectors, a new disk has none of them
+without_header : (version : Version) (sectors inodes : ℕ) → numbers_end version ≡ 16 → new_header version sectors inodes ≡ 0
+without_header One sectors inodes e = refl
+without_header Two sectors inodes e = refl
+without_header Three sectors inodes e = absurd (omega (arith, e))
+
 module _ (p : Place) (image : SectorMap) (h : IsNewImage p image) where
   place : IsPlace p
-  place = place_is_place newest 0 p.sectors p.inodes h.has_place
+  place = place_is_place p.version (new_header p.version p.sectors p.inodes) p.sectors p.inodes h.has_place
 
   few : root < p.inodes
   few = let many = place.least_inodes in omega (arith, many)
@@ -165,19 +173,12 @@ module _ (p : Place) (image : SectorMap) (h : IsNewImage p image) where
   idle : recovered p.sectors image ≡ image
   idle = λ i s. recovered-idle p.sectors image s small h.commit i
 
-  laid : p ≡ laid_out p.sectors p.inodes
-  laid = place_is_laid_out {version = newest} p.sectors p.inodes h.has_place
+  header_is : p.header ≡ new_header p.version p.sectors p.inodes
+  header_is = ap (λ (q : Place). q.header) (place_is_laid_out p.sectors p.inodes h.has_place)
 
-  -- it says its own version, and how many header sectors it has
+  -- it says how many header sectors it has
   own_place : place_in p.version p.header p.sectors p.inodes ≡ Some p
-  own_place = ap (λ (q : Place). place_in q.version q.header p.sectors p.inodes) laid ∙ h.has_place
-
-  -- the version is read
-  known : version_of (version_number p.version) ≡ Some p.version
-  known = ap (λ (q : Place). version_of (version_number q.version)) laid ∙ sym (ap (λ (q : Place). Some q.version) laid)
-
-  no_header : p.header ≡ 0
-  no_header = ap (λ (q : Place). q.header) laid
+  own_place = ap (λ (n : ℕ). place_in p.version n p.sectors p.inodes) header_is ∙ h.has_place
 
   pub new_disk_stands : Stands p.sectors image (room_of p) empty_tree (p.sectors - p.first_data)
   new_disk_stands = record {
@@ -185,11 +186,10 @@ module _ (p : Place) (image : SectorMap) (h : IsNewImage p image) where
     place = p;
     super_is = h.super;
     super_fits = record {
-      known = known;
       sectors = small;
       inodes = inodes_small;
-      header = omega (arith, no_header);
-      no_header = λ e. no_header;
+      header = let few = place.header in omega (arith, few);
+      no_header = λ e. header_is ∙ without_header p.version p.sectors p.inodes e;
     };
     same_size = refl;
     has_place = own_place;

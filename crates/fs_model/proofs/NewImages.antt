@@ -13,8 +13,8 @@ use Rattle.fs_layout.specs.Bytes.{SectorMap, IsBytes, IsSector, window, zeros, l
 use Rattle.fs_layout.specs.Superblock.{super_bytes}
 use Rattle.fs_layout.specs.Commit.{commit_bytes}
 use Rattle.fs_layout.specs.Inode.{inode_bytes, free_inode}
-use Rattle.fs_layout.specs.Version.{newest}
-use Rattle.fs_layout.specs.Place.{IsPlace, allows_header, place_in, the_place, laid_out, super_for}
+use Rattle.fs_layout.specs.declared.version.Version.TheVariants.{Two}
+use Rattle.fs_layout.specs.Place.{IsPlace, allows_header, new_header, place_in, the_place, laid_out, super_for}
 use Rattle.fs_layout.specs.Images.{HasWholeTables, inode_map_bits, map_bits, bit, stored}
 use Rattle.fs_layout.proofs.Places.{after_map, place_is_place}
 use Rattle.fs_layout.proofs.Sectors.{IsBytes-append, IsBytes-zeros, IsBytes-inode_bytes}
@@ -199,9 +199,9 @@ root_sector_whole = record { len = refl; bytes = root_sector_bytes }
 
 -- ---- it is a new image
 
-module _ (p : Place) (there : the_place p.sectors p.inodes ≡ Some p) where
+module _ (p : Place) (there : the_place p.version p.sectors p.inodes ≡ Some p) where
   place : IsPlace p
-  place = place_is_place newest 0 p.sectors p.inodes there
+  place = place_is_place p.version (new_header p.version p.sectors p.inodes) p.sectors p.inodes there
 
   whole_tables : HasWholeTables p (new_image p)
   whole_tables s from to = elim (cases_lt s p.block_bitmap) [
@@ -272,13 +272,13 @@ module _ (p : Place) (there : the_place p.sectors p.inodes ≡ Some p) where
   }
 
 -- Each disk that has a place has such an image.
-pub new_images_exist : (p : Place) → the_place p.sectors p.inodes ≡ Some p → (image : SectorMap) × IsNewImage p image
+pub new_images_exist : (p : Place) → the_place p.version p.sectors p.inodes ≡ Some p → (image : SectorMap) × IsNewImage p image
 new_images_exist p there = (new_image p, new_image_is_new p there)
 
 small_disk : Place
-small_disk = laid_out 1024 64
+small_disk = laid_out Two 1024 64
 
-small_disk_is_there : the_place 1024 64 ≡ Some small_disk
+small_disk_is_there : the_place Two 1024 64 ≡ Some small_disk
 unfolding place_in allows_header small_disk
 small_disk_is_there = refl
 
@@ -286,5 +286,5 @@ small_disk_is_there = refl
 pub some_image_stands : (sectors : ℕ) × (image : SectorMap) × (room : Room) × (t : Tree) × (free : ℕ) × Stands sectors image room t free
 unfolding small_disk
 some_image_stands =
-    let image : SectorMap = new_image (laid_out 1024 64) in
-    (1024, image, room_of (laid_out 1024 64), empty_tree, 878, new_disk_stands (laid_out 1024 64) image (new_image_is_new (laid_out 1024 64) small_disk_is_there))
+    let image : SectorMap = new_image (laid_out Two 1024 64) in
+    (1024, image, room_of (laid_out Two 1024 64), empty_tree, 878, new_disk_stands (laid_out Two 1024 64) image (new_image_is_new (laid_out Two 1024 64) small_disk_is_there))

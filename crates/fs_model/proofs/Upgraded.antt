@@ -29,7 +29,7 @@ use Rattle.fs_model.specs.Trees.{Tree, Room, names_of, IsDirectory, IsBody, Name
 use Rattle.fs_model.specs.Laws.{IsInVersion}
 use Rattle.fs_model.proofs.Frame.{agreed}
 use Rattle.fs_model.proofs.NodesHeld.{node_held}
-use Rattle.fs_model.proofs.VersionLimits.{HasSameNames, HasSameRange, same_names, same_range, same_slots, known_as}
+use Rattle.fs_model.proofs.VersionLimits.{HasSameNames, HasSameRange, same_names, same_range, same_slots}
 
 -- ---- the place
 
@@ -239,7 +239,6 @@ has_room version p {room = room} is larger same =
 -- the superblock says the other version as well as it says its own
 super_in_version : (version : Version) (super : Super) → slot_size super.version ≡ slot_size version → FitsSuper super → FitsSuper (with_version version super)
 super_in_version version super slots fits = record {
-  known = known_as super.version version fits.known slots;
   sectors = fits.sectors;
   inodes = fits.inodes;
   header = fits.header;

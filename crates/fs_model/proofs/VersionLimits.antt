@@ -7,7 +7,7 @@ use Rattle.fs_layout.specs.declared.version.Version.{Version}
 use Rattle.fs_layout.specs.declared.version.Version.TheVariants.{One, Two, Three}
 use Rattle.fs_layout.specs.Place.{allows_header}
 use Rattle.fs_layout.specs.Superblock.{numbers_end}
-use Rattle.fs_layout.specs.Version.{version_number, version_of, max_sectors, max_inodes, max_file_size, max_name, max_names, max_inode_names, slot_size, max_directory_size}
+use Rattle.fs_layout.specs.Version.{max_sectors, max_inodes, max_file_size, max_name, max_names, max_inode_names, slot_size, max_directory_size}
 use Rattle.fs_layout.specs.Bytes.{le32, zeros}
 use Rattle.fs_layout.specs.Directories.{NamedInode, slots_bytes}
 
@@ -29,17 +29,6 @@ same_names Two Three e = absurd (omega (arith, e))
 same_names Three One e = absurd (omega (arith, e))
 same_names Three Two e = absurd (omega (arith, e))
 same_names Three Three e = record { name = refl; names = refl; inode_names = refl }
-
--- the number of one is read where that of the other is
-pub known_as : (old new : Version) → version_of (version_number old) ≡ Some old → slot_size old ≡ slot_size new
-    → version_of (version_number new) ≡ Some new
-known_as One One known e = refl
-known_as One Two known e = refl
-known_as One Three known e = absurd (omega (arith, e))
-known_as Two One known e = refl
-known_as Two Two known e = refl
-known_as Two Three known e = absurd (omega (arith, e))
-known_as Three new known e = absurd cc
 
 -- so slots are spelled alike
 pub same_slots : (old new : Version) (slots : List NamedInode) → HasSameNames old new → slots_bytes old slots ≡ slots_bytes new slots

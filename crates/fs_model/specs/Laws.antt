@@ -228,7 +228,7 @@ NewDiskStands =
 
 -- Each disk that has a place has such an image,
 abbrev pub NewImagesExist : Type 0
-NewImagesExist = (p : Place) → the_place p.sectors p.inodes ≡ Some p → (image : SectorMap) × IsNewImage p image
+NewImagesExist = (p : Place) → the_place p.version p.sectors p.inodes ≡ Some p → (image : SectorMap) × IsNewImage p image
 
 -- and so there is an image that stands for a tree.
 abbrev pub SomeImageStands : Type 0

@@ -34,7 +34,7 @@ root_inode = record free_inode { kind = kinds.Directory; mode = 0o755; names = 1
 -- The commit sector is idle. All inodes but the root's are free. Of the block bitmap the bits below the data and past the
 -- end are set.
 pub record IsNewImage (p : Place) (image : SectorMap) : Type 0 where
-  pub has_place : the_place p.sectors p.inodes ≡ Some p
+  pub has_place : the_place p.version p.sectors p.inodes ≡ Some p
   pub super : image 0 ≡ super_bytes (super_for p)
   pub commit : image 1 ≡ commit_bytes []
   pub tables : HasWholeTables p image

@@ -1,11 +1,11 @@
 -- How jobs end, from what their parts say.
-use Rattle.std.proofs.Common.{◌≡◌, inl, inr, ℕ, List, Option, None, Some, Result, Ok, Err, sym, ap, ap₂, subst, ◌∙◌}
+use Rattle.std.proofs.Common.{◌≡◌, inl, inr, ℕ, List, None, Some, Result, Ok, Err, sym, ap, subst, ◌∙◌}
 use Rattle.std.specs.Prelude.{OnOk, IsTrue, is_ok, if◌then◌else◌}
 use Rattle.std.specs.Io.KnownBytes.{Appends}
 use Rattle.sector_disk.specs.Disk.{DiskState}
 use Rattle.fs_layout.specs.declared.place.Place.{Place}
-use Rattle.fs_layout.specs.Place.{IsPlace, laid_out, the_place}
-use Rattle.fs_layout.specs.Version.{newest}
+use Rattle.fs_layout.specs.declared.version.Version.{Version}
+use Rattle.fs_layout.specs.Place.{IsPlace, laid_out, new_header, the_place}
 use Rattle.fs_layout.proofs.Places.{place_is_laid_out, place_is_place}
 use Rattle.fs_model.specs.States.{State}
 use Rattle.fs_model.specs.declared.event.Event.TheVariants.{Sync}
@@ -37,16 +37,20 @@ tells w line (Err e) status told wrote is = inr (ap Ok is)
 -- ---- a layout
 
 -- a disk of so many sectors has it
-pub placed : (sectors inodes size : ℕ) (place : Place) → the_place sectors inodes ≡ Some place → size ≡ place.sectors → the_place size place.inodes ≡ Some place
-placed sectors inodes size place has same =
+pub placed : (version : Version) (sectors inodes size : ℕ) (place : Place) → the_place version sectors inodes ≡ Some place → size ≡ place.sectors
+    → the_place place.version size place.inodes ≡ Some place
+placed version sectors inodes size place has same =
     let is = place_is_laid_out sectors inodes has in
-    ap₂ the_place (same ∙ ap (λ (p : Place). p.sectors) is) (ap (λ (p : Place). p.inodes) is) ∙ has
+    ap (λ (p : Place). the_place p.version size p.inodes) is
+    ∙ ap (λ (n : ℕ). the_place version n inodes) (same ∙ ap (λ (p : Place). p.sectors) is) ∙ has
 
 -- where there is one, mkfs refuses nothing
-pub refuses_nothing : (sectors inodes : ℕ) (place : Place) → the_place sectors inodes ≡ Some place → mkfs_refusal sectors inodes ≡ None
-refuses_nothing sectors inodes place has =
-    let is : IsPlace (laid_out sectors inodes) = subst IsPlace (place_is_laid_out sectors inodes has) (place_is_place newest 0 sectors inodes has) in
-    (place_or_too_small sectors inodes (record {
+pub refuses_nothing : (version : Version) (sectors inodes : ℕ) (place : Place) → the_place version sectors inodes ≡ Some place
+    → mkfs_refusal version sectors inodes ≡ None
+refuses_nothing version sectors inodes place has =
+    let is : IsPlace (laid_out version sectors inodes) =
+    subst IsPlace (place_is_laid_out sectors inodes has) (place_is_place version (new_header version sectors inodes) sectors inodes has) in
+    (place_or_too_small version sectors inodes (record {
       size = record { least = is.least_sectors; most = is.most_sectors };
       least = is.least_inodes;
       most = is.most_inodes;

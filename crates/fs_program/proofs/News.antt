@@ -3,6 +3,7 @@ use Rattle.std.specs.Prelude.{◌≡◌, ℕ, ◌+◌, ◌*◌, length, Ok}
 use Rattle.std.proofs.Common.{refl, ap, ◌∙◌, arith}
 use Rattle.sector_disk.specs.Disk.{DiskState, IsStable}
 use Rattle.fs_layout.specs.declared.place.Place.{Place}
+use Rattle.fs_layout.specs.declared.version.Version.{Version}
 use Rattle.fs_layout.specs.Place.{laid_out}
 use Rattle.fs_layout.proofs.Places.{place_is_laid_out}
 use Rattle.fs_model.specs.Nodes.{sectors_for}
@@ -25,12 +26,13 @@ none_of slot = omega arith
 none_needed : (room : Room) → sectors_needed room (pruned empty_tree) ≡ 0
 none_needed room = ap (λ (k : ℕ). 0 + ((sectors_for k + 0) + 0)) (none_of room.slot_size)
 
-mounted_is_new : (before now : DiskState) (sectors inodes : ℕ) (s : State) → length before.seen ≡ sectors → IsNewDisk inodes before.seen
-    → Mounts before now s → IsNew sectors inodes s
-mounted_is_new before now sectors inodes s size new mounts =
+mounted_is_new : (before now : DiskState) (version : Version) (sectors inodes : ℕ) (s : State) → length before.seen ≡ sectors
+    → IsNewDisk version inodes before.seen → Mounts before now s → IsNew version sectors inodes s
+mounted_is_new before now version sectors inodes s size new mounts =
     let found = mounts.each (room_of new.place) empty_tree _ new.stands in
     let is = found.is_mounted in
-    let place : new.place ≡ laid_out sectors inodes = place_is_laid_out (length before.seen) inodes new.has_place ∙ ap (λ (n : ℕ). laid_out n inodes) size in
+    let place : new.place ≡ laid_out version sectors inodes =
+    place_is_laid_out (length before.seen) inodes new.has_place ∙ ap (λ (n : ℕ). laid_out version n inodes) size in
     let room : s.room ≡ room_of new.place = ap (λ x. x.room) is in
     let least = found.free.least in
     let most = found.free.most in
@@ -44,10 +46,10 @@ mounted_is_new before now sectors inodes s size new mounts =
     }
 
 -- so a run begins
-pub begins : {D : Type 0} (state : D → DiskState) (made : D) (fs : System D) (sectors inodes : ℕ) (s : State) → IsIn state fs s
-    → length (state made).seen ≡ sectors → IsNewDisk inodes (state made).seen → IsStable (state made) → Mounts (state made) (disk_in state fs.base) s
-    → (c : Config D) × IsConfig state (Ok fs) c × Begins state sectors inodes c
-begins state made fs sectors inodes s here size new stable mounts =
+pub begins : {D : Type 0} (state : D → DiskState) (made : D) (fs : System D) (version : Version) (sectors inodes : ℕ) (s : State)
+    → IsIn state fs s → length (state made).seen ≡ sectors → IsNewDisk version inodes (state made).seen → IsStable (state made)
+    → Mounts (state made) (disk_in state fs.base) s → (c : Config D) × IsConfig state (Ok fs) c × Begins state version sectors inodes c
+begins state made fs version sectors inodes s here size new stable mounts =
     let there = the_disk state fs s here in (
       Up s there.0,
       (there.1, here),
@@ -58,7 +60,7 @@ begins state made fs sectors inodes s here size new stable mounts =
         now = there.0;
         s = s;
         mounts = seen_in state (λ d. Mounts (state made) d s) fs.base there.0 there.1 mounts;
-        is_new = mounted_is_new (state made) (disk_in state fs.base) sectors inodes s size new mounts;
+        is_new = mounted_is_new (state made) (disk_in state fs.base) version sectors inodes s size new mounts;
         is_start = refl;
       },
     )

@@ -9,6 +9,8 @@
 use Rattle.std.specs.Prelude.{◌≡◌, ◌⊎◌, ℕ, Bool, List, Option, None, IsSome, IsTrue, Result, Ok, Err, OnOk}
 use Rattle.std.specs.Io.KnownBytes.{Appends}
 use Rattle.sector_disk.specs.Disk.{DiskState, IsFresh, IsStable, LeavesOnly, OnlyReads}
+use Rattle.fs_layout.specs.declared.version.Version.{Version}
+use Rattle.fs_layout.specs.declared.version.Version.TheVariants.{Two, Three}
 use Rattle.fs_layout.specs.Place.{laid_out, the_place}
 use Rattle.fs_model.specs.States.{State}
 use Rattle.fs_model.specs.declared.event.Event.TheVariants.{Sync}
@@ -45,7 +47,7 @@ use Rattle.fs_program.specs.declared.memory.TheConstants.{SECTORS, INODES}
 use Rattle.fs_command.specs.declared.status.Status.{Status}
 use Rattle.fs_command.specs.declared.status.Status.TheVariants.{Done, Faulty, Failed}
 use Rattle.fs_command.specs.declared.words.Job.{Job}
-use Rattle.fs_command.specs.declared.words.Job.TheVariants.{Memory, Mkfs, Run, Check, Upgrade, Fuse}
+use Rattle.fs_command.specs.declared.words.Job.TheVariants.{Memory, Mkfs, Format, Run, Check, Upgrade, Fuse}
 use Rattle.fs_command.specs.declared.words.WordsFault.{WordsFault}
 
 -- ---- statuses
@@ -80,12 +82,12 @@ Tells w line status result = (Appends w.before w.after line × (result ≡ Ok st
 
 -- ---- on a disk
 
--- A file system is to be made on a disk that has room for so many inodes.
-pub data MkfsEnds (old now : DiskState) (inodes : ℕ) (w : Writing) (result : Result Status Failure) : Type 0 where
+-- A file system of this version is to be made on a disk that has room for so many inodes.
+pub data MkfsEnds (old now : DiskState) (version : Version) (inodes : ℕ) (w : Writing) (result : Result Status Failure) : Type 0 where
   cannot_make : (fault : MkfsFault) → IsDeviceFault old now fault → IsUndone w (failures.Mkfs fault) result
-      → MkfsEnds old now inodes w result
-  is_made : IsNewDisk inodes now.seen → IsStable now → Tells w (made_text (laid_out old.size inodes)) Done result
-      → MkfsEnds old now inodes w result
+      → MkfsEnds old now version inodes w result
+  is_made : IsNewDisk version inodes now.seen → IsStable now → Tells w (made_text (laid_out version old.size inodes)) Done result
+      → MkfsEnds old now version inodes w result
 
 -- A disk is to be checked, and a finding explained or not.
 pub data CheckEnds (old now : DiskState) (explain : Bool) (w : Writing) (result : Result Status Failure) : Type 0 where
@@ -101,7 +103,7 @@ pub data CheckEnds (old now : DiskState) (explain : Bool) (w : Writing) (result 
 pub data UpgradeEnds (old now : DiskState) (w : Writing) (result : Result Status Failure) : Type 0 where
   cannot_upgrade : (fault : UpgradeFault) → IsNotUpgraded old now fault → IsUndone w (failures.Upgrade fault) result
       → UpgradeEnds old now w result
-  is_upgraded : IsUpgraded old now → Tells w version_text Done result → UpgradeEnds old now w result
+  is_upgraded : (version : Version) → IsUpgraded version old now → Tells w (version_text version) Done result → UpgradeEnds old now w result
 
 -- A disk was mounted, a script was run on its file system, and then that was unmounted, however the run had ended. The
 -- unmount makes all stable, as sync does.
@@ -132,18 +134,19 @@ pub data RunEnds {D : Type 0} (state : D → DiskState) (disk : D) (r : Reading)
 -- A script is to be run on a new disk in memory.
 pub record MemoryEnds {D : Type 0} (state : D → DiskState) (r : Reading) (w : Writing) (result : Result Status Failure) : Type 0 where
   pub ran : Result Count Failure
-  pub runs : RunsInMemory state SECTORS INODES r w (w.after ≡ w.before) ran
+  pub runs : RunsInMemory state Two SECTORS INODES r w (w.after ≡ w.before) ran
   pub read_fault : FailsWhere r.had_failed r.has_failed (ran ≡ Err (failures.Run ReadFault))
   pub write_fault : FailsWhere w.had_failed w.has_failed (ran ≡ Err (failures.Run WriteFault))
   pub flushed : OnOk ran (IsTrue w.is_flushed)
   pub is_end : result ≡ memory_end ran
 
-pub data ImageMkfsEnds {D : Type 0} (state : D → DiskState) (sectors inodes : ℕ) (w : Writing) (result : Result Status Failure) : Type 0 where
-  has_no_place : the_place sectors inodes ≡ None → IsUndone w (failures.Mkfs TooSmall) result → ImageMkfsEnds state sectors inodes w result
-  exists : IsUndone w failures.Exists result → ImageMkfsEnds state sectors inodes w result
-  is_not_created : IsUndone w failures.NotCreated result → ImageMkfsEnds state sectors inodes w result
-  is_created : (old now : D) → (state old).size ≡ sectors → MkfsEnds (state old) (state now) inodes w result
-      → ImageMkfsEnds state sectors inodes w result
+-- An image of this version is to be made.
+pub data ImageMkfsEnds {D : Type 0} (state : D → DiskState) (version : Version) (sectors inodes : ℕ) (w : Writing) (result : Result Status Failure) : Type 0 where
+  has_no_place : the_place version sectors inodes ≡ None → IsUndone w (failures.Mkfs TooSmall) result → ImageMkfsEnds state version sectors inodes w result
+  exists : IsUndone w failures.Exists result → ImageMkfsEnds state version sectors inodes w result
+  is_not_created : IsUndone w failures.NotCreated result → ImageMkfsEnds state version sectors inodes w result
+  is_created : (old now : D) → (state old).size ≡ sectors → MkfsEnds (state old) (state now) version inodes w result
+      → ImageMkfsEnds state version sectors inodes w result
 
 -- The script is that of the standard input, unless it is in a file.
 pub data ImageRunEnds {D : Type 0} (state : D → DiskState) (script : Option (List ℕ)) (r : Reading) (w : Writing) (result : Result Status Failure) : Type 0 where
@@ -165,7 +168,8 @@ pub data ImageUpgradeEnds {D : Type 0} (state : D → DiskState) (w : Writing) (
 -- A job ends so, on disks in memory and in files.
 abbrev pub JobEnds : {M F : Type 0} → (M → DiskState) → (F → DiskState) → Reading → Writing → Job → Result Status Failure → Type 0
 JobEnds memory file r w Memory result = MemoryEnds memory r w result
-JobEnds memory file r w (Mkfs image sectors inodes) result = ImageMkfsEnds file sectors inodes w result
+JobEnds memory file r w (Mkfs image sectors inodes) result = ImageMkfsEnds file Two sectors inodes w result
+JobEnds memory file r w (Format image sectors inodes) result = ImageMkfsEnds file Three sectors inodes w result
 JobEnds memory file r w (Run image script) result = ImageRunEnds file script r w result
 JobEnds memory file r w (Check image explain) result = ImageCheckEnds file explain w result
 JobEnds memory file r w (Upgrade image) result = ImageUpgradeEnds file w result

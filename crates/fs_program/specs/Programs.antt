@@ -4,6 +4,7 @@
 --     Fails, RunsInMemory        what a failure says; what a run on a new disk in memory comes to
 use Rattle.std.specs.Prelude.{◌≡◌, ℕ, List, [], Option, Result, Ok, Err, IsFalse, MatchResult}
 use Rattle.sector_disk.specs.Disk.{DiskState, IsStable}
+use Rattle.fs_layout.specs.declared.version.Version.{Version}
 use Rattle.fs_layout.specs.Place.{laid_out}
 use Rattle.fs_model.specs.Stands.{room_of}
 use Rattle.fs_model.specs.States.{State}
@@ -20,29 +21,29 @@ use Rattle.fs_program.specs.Streams.{Reading, Writing}
 use Rattle.fs_command.specs.declared.failure.Failure.{Failure}
 use Rattle.fs_command.specs.declared.failure.Failure.TheVariants.{Exists, NotCreated, NotOpened, NoScript, NoDenials, Mkfs, Mount, Check, Upgrade, Run, Serve, Unmount}
 
--- on a disk of so many sectors, with so many inodes: an empty root, all data sectors free, and no process
-pub record IsNew (sectors inodes : ℕ) (s : State) : Type 0 where
-  pub room : s.room ≡ room_of (laid_out sectors inodes)
+-- on a disk of this version, of so many sectors, with so many inodes: an empty root, all data sectors free, and no process
+pub record IsNew (version : Version) (sectors inodes : ℕ) (s : State) : Type 0 where
+  pub room : s.room ≡ room_of (laid_out version sectors inodes)
   pub tree : s.tree ≡ empty_tree
   pub desks : s.desks ≡ []
   pub free : s.free ≡ s.room.sectors
   pub running : IsFalse s.halted
 
--- A new disk, all of it stable, was mounted.
-pub record Begins {D : Type 0} (state : D → DiskState) (sectors inodes : ℕ) (start : Config D) : Type 0 where
+-- A new disk of this version, all of it stable, was mounted.
+pub record Begins {D : Type 0} (state : D → DiskState) (version : Version) (sectors inodes : ℕ) (start : Config D) : Type 0 where
   pub made : D
-  pub is_new_disk : IsNewDisk inodes (state made).seen
+  pub is_new_disk : IsNewDisk version inodes (state made).seen
   pub stable : IsStable (state made)
   pub now : D
   pub s : State
   pub mounts : Mounts (state made) (state now) s
-  pub is_new : IsNew sectors inodes s
+  pub is_new : IsNew version sectors inodes s
   pub is_start : start ≡ Up s now
 
 -- A run that begins so.
-abbrev pub RunsFromNew : {D : Type 0} → (D → DiskState) → ℕ → ℕ → Option (List ℕ) → Option (List ℕ) → Option (List ℕ) → Result Count RunFault → Type 0
-RunsFromNew {D} state sectors inodes input before after result =
-    (c : Config D) × Begins state sectors inodes c × (d : Config D) × Ran state input before after c d result
+abbrev pub RunsFromNew : {D : Type 0} → (D → DiskState) → Version → ℕ → ℕ → Option (List ℕ) → Option (List ℕ) → Option (List ℕ) → Result Count RunFault → Type 0
+RunsFromNew {D} state version sectors inodes input before after result =
+    (c : Config D) × Begins state version sectors inodes c × (d : Config D) × Ran state input before after c d result
 
 -- The run ended early, and then it was one; or it didn't begin, and then nothing was read or written.
 abbrev pub Fails : (RunFault → Type 0) → Type 0 → Failure → Type 0
@@ -60,8 +61,8 @@ Fails ran untouched (Upgrade fault) = ⊥
 Fails ran untouched (Serve fault) = ⊥
 Fails ran untouched Unmount = ⊥
 
--- A script is to be run on a new disk of so many sectors, with so many inodes.
-abbrev pub RunsInMemory : {D : Type 0} → (D → DiskState) → ℕ → ℕ → Reading → Writing → Type 0 → Result Count Failure → Type 0
-RunsInMemory state sectors inodes r w untouched result = MatchResult result
-    (λ count. RunsFromNew state sectors inodes r.input w.before w.after (Ok count))
-    (Fails (λ fault. RunsFromNew state sectors inodes r.input w.before w.after (Err fault)) untouched)
+-- A script is to be run on a new disk of this version, of so many sectors, with so many inodes.
+abbrev pub RunsInMemory : {D : Type 0} → (D → DiskState) → Version → ℕ → ℕ → Reading → Writing → Type 0 → Result Count Failure → Type 0
+RunsInMemory state version sectors inodes r w untouched result = MatchResult result
+    (λ count. RunsFromNew state version sectors inodes r.input w.before w.after (Ok count))
+    (Fails (λ fault. RunsFromNew state version sectors inodes r.input w.before w.after (Err fault)) untouched)

@@ -6,6 +6,7 @@
 use Rattle.std.specs.Prelude.{◌≡◌, ◌-◌, Bool, not, List, ℕ, Option, IsSome, Result, Ok, Err}
 use Rattle.sector_disk.specs.Disk.{DiskState, IsFresh}
 use Rattle.fs_layout.specs.declared.place.Place.{Place}
+use Rattle.fs_layout.specs.Version.{max_name}
 use Rattle.fs_model.specs.States.{State}
 use Rattle.fs_model.specs.declared.event.Event.TheVariants.{Sync}
 use Rattle.fs_model.specs.declared.reply.Reply.{Reply}
@@ -25,7 +26,8 @@ use Rattle.fs_command.specs.declared.failure.Failure.TheVariants as failures
 use Rattle.fs_command.specs.declared.status.Status.{Status}
 use Rattle.fs_command.specs.declared.status.Status.TheVariants.{Done, Failed}
 
--- Writes have up to 1 MiB. With its own rules the kernel judges no ACLs. All data sectors and all inodes are shown.
+-- Writes have up to 1 MiB. With its own rules the kernel judges no ACLs. All data sectors and all inodes are shown, and how long a
+-- name may be.
 abbrev pub settings_of : Place → Bool → Time → Settings
 settings_of place own_rules start = record {
   max_write = 1048576;
@@ -33,6 +35,7 @@ settings_of place own_rules start = record {
   keeping = usually_kept;
   sectors = place.sectors - place.first_data;
   inodes = place.inodes;
+  max_name = max_name place.version;
   start = start;
 }
 

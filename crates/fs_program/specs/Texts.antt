@@ -6,10 +6,10 @@
 use Rattle.std.specs.Prelude.{ℕ, ◌-◌, Bool, List, [], ◌++◌, codes, if◌then◌else◌}
 use Rattle.std.specs.Fmt.{decimal}
 use Rattle.fs_layout.specs.declared.place.Place.{Place}
+use Rattle.fs_layout.specs.declared.version.Version.{Version}
 use Rattle.fs_layout.specs.Version.{version_number}
 use Rattle.fs_check.specs.declared.faults.Finding.{Finding}
 use Rattle.fs_check.specs.declared.faults.Summary.{Summary}
-use Rattle.fs_images.specs.Upgrading.{target}
 use Rattle.fs_program.specs.Explanations.{explanation_text}
 
 abbrev pub made_text : Place → List ℕ
@@ -36,5 +36,5 @@ finding_text f = codes "finding " ++ decimal f.rule ++ codes " " ++ decimal f.at
 abbrev pub found_text : Bool → Finding → List ℕ
 found_text explain f = finding_text f ++ (if explain then explanation_text f else [])
 
-abbrev pub version_text : List ℕ
-version_text = codes "version " ++ decimal (version_number target) ++ codes "\n"
+abbrev pub version_text : Version → List ℕ
+version_text version = codes "version " ++ decimal (version_number version) ++ codes "\n"

@@ -56,10 +56,10 @@ pub(crate) fn make_on_disk<D: Disk, O: Write>(
     place: Place,
     out: &mut Watched<O>,
 ) -> Result<Status, Failure>
-    requires { the_place (D.state disk.old).size place.inodes ≡ Some place }
-    ensures { MkfsEnds (D.state disk.old) (D.state disk.new) place.inodes (writing O.contents out.old out.new) result }
+    requires { the_place place.version (D.state disk.old).size place.inodes ≡ Some place }
+    ensures { MkfsEnds (D.state disk.old) (D.state disk.new) place.version place.inodes (writing O.contents out.old out.new) result }
 {
-    if let Err(fault) = mkfs(disk, place.inodes) {
+    if let Err(fault) = mkfs(disk, place.version, place.inodes) {
         return Err(Failure::Mkfs(fault));
     }
     Ok(written(print_made(place, out), Status::Done))
@@ -205,15 +205,15 @@ pub(crate) fn upgrade_disk<D: Disk, O: Write>(
     ensures any_moment { LeavesOnly (D.state disk.old) (D.state disk.new) (IsHalfUpgraded (D.state disk.old)) }
     ensures ends { UpgradeEnds (D.state disk.old) (D.state disk.new) (writing O.contents out.old out.new) result }
 {
-    if let Err(fault) = upgrade(alloc, disk) {
-        return Err(Failure::Upgrade(fault));
+    match upgrade(alloc, disk) {
+        Ok(version) => Ok(written(print_version(version, out), Status::Done)),
+        Err(fault) => Err(Failure::Upgrade(fault)),
     }
-    Ok(written(print_version(out), Status::Done))
 }
 
-fn print_version<O: Write>(out: &mut O) -> io::Result<()>
-    ensures { OnOk result (Appends (O.contents out.old) (O.contents out.new) version_text) }
+fn print_version<O: Write>(version: Version, out: &mut O) -> io::Result<()>
+    ensures { OnOk result (Appends (O.contents out.old) (O.contents out.new) (version_text version)) }
 {
-    let version = Version::Two.number();
-    writeln!(out, "version {version}")
+    let number = version.number();
+    writeln!(out, "version {number}")
 }

@@ -14,7 +14,7 @@ use crate::memory::run_in_memory;
 use crate::served::serve_on_disk;
 use fs_command::{Failure, Job, Status, Text, WordsFault, parse_words};
 use fs_images::MkfsFault;
-use fs_layout::place_of;
+use fs_layout::{Version, place_of};
 use fs_shell::Watched;
 use fuse_serving::Standard;
 use sector_disk::{Disk, DiskFile, FileDisk, FileFault, MemDisk};
@@ -77,7 +77,12 @@ fn perform_job<R: Files<File: DiskFile> + AllocGlobal + Clock, I: Read, O: Write
             image,
             sectors,
             inodes,
-        } => make_image(rt, image, *sectors, *inodes, out),
+        } => make_image(rt, image, Version::Two, *sectors, *inodes, out),
+        Job::Format {
+            image,
+            sectors,
+            inodes,
+        } => make_image(rt, image, Version::Three, *sectors, *inodes, out),
         Job::Run { image, script } => run_image(rt, image, script.as_ref(), input, out, err),
         Job::Check { image, explain } => check_image(rt, image, *explain, out),
         Job::Upgrade { image } => upgrade_image(rt, image, out),
@@ -93,13 +98,14 @@ fn perform_job<R: Files<File: DiskFile> + AllocGlobal + Clock, I: Read, O: Write
 fn make_image<R: Files<File: DiskFile> + AllocGlobal, O: Write>(
     rt: &R,
     image: &Text,
+    version: Version,
     sectors: u32,
     inodes: u32,
     out: &mut Watched<O>,
 ) -> Result<Status, Failure>
-    ensures { ImageMkfsEnds ⟦<FileDisk<R::File> as Disk>⟧.state sectors inodes (writing O.contents out.old out.new) result }
+    ensures { ImageMkfsEnds ⟦<FileDisk<R::File> as Disk>⟧.state version sectors inodes (writing O.contents out.old out.new) result }
 {
-    let Some(place) = place_of(sectors, inodes) else {
+    let Some(place) = place_of(version, sectors, inodes) else {
         return Err(Failure::Mkfs(MkfsFault::TooSmall));
     };
     let mut disk = match FileDisk::create(rt, rt.alloc(), image.as_str(), place.sectors) {
@@ -118,7 +124,7 @@ fn open_image<R: Files<File: DiskFile> + AllocGlobal>(
         (λ disk. IsFresh (⟦<FileDisk<R::File> as Disk>⟧.state disk) (⟦<FileDisk<R::File> as Disk>⟧.state disk).seen)
         (λ failure. failure ≡ Failure.NotOpened) }
 {
-    match FileDisk::open(rt, rt.alloc(), image.as_str()) {
+    match FileDisk::open_large(rt, rt.alloc(), image.as_str()) {
         Ok(disk) => Ok(disk),
         Err(_) => Err(Failure::NotOpened),
     }

@@ -1,5 +1,6 @@
 //! Runs a script on a new file system in memory.
 ghost use Rattle.std.specs.Prelude.{◌≡◌, MatchResult, Ok, Err, OnOk, IsTrue};
+ghost use Rattle.fs_layout.specs.declared.version.Version.TheVariants.{Two};
 ghost use Rattle.fs_shell.specs.declared.fault.RunFault.TheVariants.{ReadFault, WriteFault};
 ghost use Rattle.fs_shell.specs.Watching.{FailsWhere};
 ghost use Rattle.fs_system.specs.Playing.{IsConfig};
@@ -10,6 +11,7 @@ ghost use Rattle.fs_program.specs.Streams.{reading, writing};
 
 use fs_command::Failure;
 use fs_images::mkfs;
+use fs_layout::Version;
 use fs_shell::{Count, Watched, run};
 use fs_system::Fs;
 use sector_disk::{Disk, MemDisk};
@@ -30,7 +32,7 @@ pub(crate) fn run_in_memory<R: Read, W: Write>(
 ) -> Result<Count, Failure>
     // What was written is the text of a run over the script's lines, which began with an empty file system. It may have
     // ended early, or not have begun.
-    ensures ran { RunsInMemory ⟦<MemDisk as Disk>⟧.state SECTORS INODES (reading R.remaining reader.old reader.new)
+    ensures ran { RunsInMemory ⟦<MemDisk as Disk>⟧.state Two SECTORS INODES (reading R.remaining reader.old reader.new)
         (writing W.contents writer.old writer.new) ((reader.new ≡ reader.old) × (writer.new ≡ writer.old)) result }
     ensures read_fault { FailsWhere reader.old.failed reader.new.failed (result ≡ Err (Run ReadFault)) }
     ensures write_fault { FailsWhere writer.old.failed writer.new.failed (result ≡ Err (Run WriteFault)) }
@@ -50,7 +52,7 @@ fn run_on<D: Disk + Drop, R: Read, W: Write>(
     writer: &mut Watched<W>,
 ) -> Result<Count, Failure>
     requires { (D.state disk).size ≡ SECTORS }
-    ensures ran { RunsInMemory D.state SECTORS INODES (reading R.remaining reader.old reader.new)
+    ensures ran { RunsInMemory D.state Two SECTORS INODES (reading R.remaining reader.old reader.new)
         (writing W.contents writer.old writer.new) ((reader.new ≡ reader.old) × (writer.new ≡ writer.old)) result }
     ensures read_fault { FailsWhere reader.old.failed reader.new.failed (result ≡ Err (Run ReadFault)) }
     ensures write_fault { FailsWhere writer.old.failed writer.new.failed (result ≡ Err (Run WriteFault)) }
@@ -66,11 +68,11 @@ fn run_on<D: Disk + Drop, R: Read, W: Write>(
 // Makes an empty file system on the disk, and mounts it.
 fn new_file_system<D: Disk + Drop>(alloc: Global, disk: D) -> Result<Fs<D>, Failure>
     requires { (D.state disk).size ≡ SECTORS }
-    ensures { MatchResult result (λ fs. (c : Config D) × IsConfig D.state (Ok fs) c × Begins D.state SECTORS INODES c)
+    ensures { MatchResult result (λ fs. (c : Config D) × IsConfig D.state (Ok fs) c × Begins D.state Two SECTORS INODES c)
         (Fails (λ fault. ⊥) (Unit {0})) }
 {
     let mut disk = disk;
-    if let Err(fault) = mkfs(&mut disk, INODES) {
+    if let Err(fault) = mkfs(&mut disk, Version::Two, INODES) {
         return Err(Failure::Mkfs(fault));
     }
     match Fs::mount(alloc, disk) {

@@ -1,6 +1,6 @@
 -- One event in a transaction that is begun on a store: its changes are kept, or dropped.
-use Rattle.std.proofs.Common.{◌≡◌, ◌≤◌, true, Some, Ok, Err, refl, sym, ap, subst, ◌∙◌}
-use Rattle.sector_disk.specs.Disk.{DiskState, Image, IsImage, OnlyReads, HasFailed, HasFailedToWrite}
+use Rattle.std.proofs.Common.{◌≡◌, ◌≤◌, true, Some, Result, Ok, Err, inl, inr, refl, sym, ap, subst, ◌∙◌, arith}
+use Rattle.sector_disk.specs.Disk.{DiskState, Image, IsImage, OnlyReads, HasCause, HasFailed, HasFailedToWrite}
 use Rattle.fs_layout.specs.declared.place.Place.{Place}
 use Rattle.fs_cred.specs.declared.errno.Errno.TheVariants.{EIO}
 use Rattle.fs_cred.specs.declared.refusal.Refusal.TheVariants.{Failed}
@@ -41,6 +41,20 @@ module _ {D : Type 0} (state : D → DiskState) (store : StoreView D) (begun : T
 
   pub reads_alone : (now : D) → now ≡ last.disk → OnlyReads (state store.disk) (state now)
   reads_alone now dropped = of_stores now dropped OnlyReads same.reads
+
+-- where a call after mere reads has a cause, it has one from before them on
+pub cause_from : {T E : Type 0} {old mid new : DiskState} (result : Result T E) → OnlyReads old mid → HasCause mid new result → HasCause old new result
+cause_from (Ok x) reads cause = let a = reads.failures in let b = cause.later in record { later = omega (arith, a, b); fault = tt }
+cause_from (Err e) reads cause =
+    let a = reads.failures in
+    let b = cause.later in
+    record {
+      later = omega (arith, a, b);
+      fault = elim cause.fault [
+        | inl more ↦ inl (omega (arith, a, more))
+        | inr full ↦ inr full
+      ];
+    }
 
 -- ---- events
 

@@ -103,7 +103,7 @@ second k = record { seconds = k; nanoseconds = 0 }
 
 -- the disk of the recorded runs
 abbrev pub new : Server
-new = new_server (record { max_write = 4096; posix_acl = false; keeping = nothing_kept; sectors = 878; inodes = 63; start = second 1000000001 })
+new = new_server (record { max_write = 4096; posix_acl = false; keeping = nothing_kept; sectors = 878; inodes = 63; max_name = 120; start = second 1000000001 })
 
 abbrev pub outside : Option (List ℕ) → ℕ → Outside
 outside groups now = record { groups = groups; caps = all_caps; now = second now; memory = true }

@@ -113,7 +113,7 @@ pub unlink_open : played new (
     ∷ (((Calls 2 (Close 0)) ∷ []), Told Nothing)
     ∷ ([], Silent)
     ∷ (((Calls 1 (Lstat (codes "/"))) ∷ []), Told (ShownAs (attributes (status 1 Directory 493 1 0 0 128) (second 1000000001) (second 1000000043) (second 1000000043))))
-    ∷ ((Statfs ∷ []), Told (SpaceOf 878 877 63 61))
+    ∷ ((Statfs ∷ []), Told (SpaceOf 878 877 63 61 120))
     ∷ []
 unfolding all_plans
 unlink_open = refl
@@ -121,7 +121,7 @@ unlink_open = refl
 -- ---- the kernel judges before it asks
 
 abbrev pub default_way : Server
-default_way = new_server (record { max_write = 4096; posix_acl = true; keeping = record { names = 60; absent = 2; attributes = 30; pages = true }; sectors = 878; inodes = 63; start = second 1000000001 })
+default_way = new_server (record { max_write = 4096; posix_acl = true; keeping = record { names = 60; absent = 2; attributes = 30; pages = true }; sectors = 878; inodes = 63; max_name = 120; start = second 1000000001 })
 
 abbrev offer : ℕ → Operation
 offer bits = Init (record { major = 7; minor = 45; max_readahead = 131072; flags = record { 0 = bits } })

@@ -104,13 +104,13 @@ reply_of_body (Bytes bytes) = replies.Bytes bytes
 reply_of_body (Wrote count) = replies.Count count
 reply_of_body (Acl acl) = replies.Bytes (acl_value_bytes (entries_of acl))
 reply_of_body (Size size) = replies.Count size
-reply_of_body (Space blocks free inodes free_inodes) = replies.StatFs (record {
+reply_of_body (Space blocks free inodes free_inodes max_name) = replies.StatFs (record {
   blocks = blocks;
   free_blocks = free;
   inodes = inodes;
   free_inodes = free_inodes;
   block_size = 512;
-  max_name = 120;
+  max_name = max_name;
 })
 reply_of_body (Agreed terms) = replies.Init terms
 

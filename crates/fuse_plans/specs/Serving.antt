@@ -86,7 +86,7 @@ unfoldable pub count_space : Work ReplyBody
 count_space = do
   reply ← obtain Statfs
   free ← replied_space reply
-  kept (λ s. Space s.settings.sectors free.0 s.settings.inodes free.1)
+  kept (λ s. Space s.settings.sectors free.0 s.settings.inodes free.1 s.settings.max_name)
 
 unfoldable pub end : Work ReplyBody
 end = do

@@ -44,12 +44,13 @@ pub enum ReplyBody {
     Acl(Acl),
     /// How many bytes an attribute has.
     Size(usize),
-    /// Data sectors and inodes.
+    /// Data sectors and inodes, and the most bytes of a name.
     Space {
         sectors: u32,
         free_sectors: u32,
         inodes: u32,
         free_inodes: u32,
+        max_name: u32,
     },
     /// The first reply.
     Agreed(Terms),

@@ -113,14 +113,14 @@ fn write_acl(room: &mut ReplyRoom, unique: u64, acl: &Acl) -> Result<(), ReplyFa
     Ok(())
 }
 
-fn room_of(sectors: u32, free_sectors: u32, inodes: u32, free_inodes: u32) -> Room
+fn room_of(sectors: u32, free_sectors: u32, inodes: u32, free_inodes: u32, max_name: u32) -> Room
     ensures { result ≡ record {
       blocks = sectors;
       free_blocks = free_sectors;
       inodes = inodes;
       free_inodes = free_inodes;
       block_size = 512;
-      max_name = 120;
+      max_name = max_name;
     } }
 {
     Room {
@@ -129,7 +129,7 @@ fn room_of(sectors: u32, free_sectors: u32, inodes: u32, free_inodes: u32) -> Ro
         inodes: u64::from(inodes),
         free_inodes: u64::from(free_inodes),
         block_size: 512,
-        max_name: 120,
+        max_name,
     }
 }
 
@@ -182,7 +182,8 @@ fn write_body(room: &mut ReplyRoom, unique: u64, body: &ReplyBody) -> Result<(),
             free_sectors,
             inodes,
             free_inodes,
-        } => Reply::StatFs(room_of(*sectors, *free_sectors, *inodes, *free_inodes)),
+            max_name,
+        } => Reply::StatFs(room_of(*sectors, *free_sectors, *inodes, *free_inodes, *max_name)),
         ReplyBody::Agreed(terms) => Reply::Init(*terms),
     };
     write_one(&mut room.reply, unique, &reply)?;

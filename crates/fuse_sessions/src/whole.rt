@@ -29,6 +29,7 @@ impl<M: Machine> Session<M> {
             free_sectors,
             inodes: settings.inodes,
             free_inodes,
+            max_name: settings.max_name,
         })
     }
 

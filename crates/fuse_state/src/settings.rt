@@ -16,6 +16,8 @@ pub struct Settings {
     pub sectors: u32,
     /// All inodes.
     pub inodes: u32,
+    /// The most bytes of a name.
+    pub max_name: u32,
     /// When the server began: the times of each object that it knows no others of.
     pub start: Time,
 }

@@ -109,12 +109,20 @@ const MKFS: &str = "mkfs @d --sectors 1024 --inodes 64";
 
 const NEW: &str = "clean files 0 dirs 1 links 0 nameless 0 blocks 878 inodes 62 pending no\n";
 
+// The same of a disk of version 3.
+const NEW_LARGE: &str =
+    "clean files 0 dirs 1 links 0 nameless 0 blocks 1518 inodes 62 pending no\n";
+
 // A directory, a file with a byte, and a link.
 const SCRIPT: &str = "spawn 0 0\n1 mkdir /d 0755\n1 open /f wc 0644\n1 write 0 x\n1 symlink t /l\n";
 
 const REPLIES: &str = "pid 1\nok\nfd 0\nwrote 1\nok\n";
 
 const FILLED: &str = "clean files 1 dirs 2 links 1 nameless 0 blocks 875 inodes 59 pending no\n";
+
+// Its blocks have two slots, so that three names take two.
+const FILLED_LARGE: &str =
+    "clean files 1 dirs 2 links 1 nameless 0 blocks 1514 inodes 59 pending no\n";
 
 // The script in the file `s`.
 const UNKNOWN: &str = "spawn 0 0\n1 frobnicate\n";
@@ -127,10 +135,14 @@ Usage: inofs mkfs --sectors <N> --inodes <N> <IMAGE>
 For more information, try '--help'.
 ";
 
+const BAD_SIZE: &str =
+    "error: invalid value for '--size <SIZE>': 512K to 8G, in bytes or with K, M or G behind\n";
+
 const NO_COMMAND: &str = "error: unrecognized subcommand 'fsck'
 
 Usage: inofs
        inofs mkfs IMAGE --sectors N --inodes N
+       inofs format IMAGE --size SIZE [--inodes N]
        inofs run IMAGE [SCRIPT]
        inofs check [--explain] IMAGE
        inofs upgrade IMAGE
@@ -146,7 +158,7 @@ does, so nothing else is found; nothing is repaired: take the image from a backu
 ";
 
 // A row finds what those before it have left.
-static ROWS: [Row; 21] = [
+static ROWS: [Row; 29] = [
     // No file is made.
     (
         Change::Nothing,
@@ -221,6 +233,34 @@ static ROWS: [Row; 21] = [
         "run @d",
         SCRIPT,
         (3, "", "mount: NotAFileSystem\n"),
+    ),
+    (
+        Change::Nothing,
+        "format @e --size 1M --inodes 64",
+        "",
+        (0, "made 2048 sectors 64 inodes 1518 free\n", ""),
+    ),
+    (Change::Nothing, "check @e", "", (0, NEW_LARGE, "")),
+    (Change::Nothing, "upgrade @e", "", (0, "version 3\n", "")),
+    (Change::Nothing, "run @e", SCRIPT, (0, REPLIES, "")),
+    (Change::Nothing, "check @e", "", (0, FILLED_LARGE, "")),
+    (
+        Change::Nothing,
+        "format @e --size 1M",
+        "",
+        (3, "", "image: exists\n"),
+    ),
+    (
+        Change::Nothing,
+        "format @f --size 512K --inodes 4096",
+        "",
+        (3, "", "mkfs: TooSmall\n"),
+    ),
+    (
+        Change::Nothing,
+        "format @f --size 511K",
+        "",
+        (2, "", BAD_SIZE),
     ),
     (Change::Nothing, "", SCRIPT, (0, REPLIES, "")),
     (Change::Nothing, "--help", "", (0, HELP, "")),

@@ -36,6 +36,11 @@ fn told_job(alloc: Global, job: &Job) -> Result<String, AllocError> {
             sectors,
             inodes,
         } => format!(in alloc; "mkfs {} {sectors} {inodes}", image.as_str()),
+        Job::Format {
+            image,
+            sectors,
+            inodes,
+        } => format!(in alloc; "format {} {sectors} {inodes}", image.as_str()),
         Job::Run {
             image,
             script: Some(script),
@@ -63,6 +68,7 @@ fn told_fault(alloc: Global, fault: &WordsFault) -> Result<String, AllocError> {
     let word = match fault {
         WordsFault::Help(_) => "help",
         WordsFault::BadWords(_) => "bad",
+        WordsFault::BadSize => "size",
         WordsFault::OutOfMemory => "memory",
     };
     format!(in alloc; "{word} {}", fault.status().code())
@@ -71,7 +77,7 @@ fn told_fault(alloc: Global, fault: &WordsFault) -> Result<String, AllocError> {
 // ---- what is asked for
 
 // Lines, and what they ask for.
-static JOBS: [(&str, &str); 15] = [
+static JOBS: [(&str, &str); 21] = [
     ("inofs", "memory"),
     (
         "inofs mkfs a.img --sectors 1024 --inodes 16",
@@ -84,6 +90,22 @@ static JOBS: [(&str, &str); 15] = [
     (
         "inofs mkfs --sectors=+02048 a.img --inodes=64",
         "mkfs a.img 2048 64",
+    ),
+    // The bytes are tested before they are rounded down to sectors.
+    ("inofs format a.img --size 512K", "format a.img 1024 32"),
+    ("inofs format --size=524799 a.img", "format a.img 1024 32"),
+    ("inofs format a.img --size +1000000", "format a.img 1953 60"),
+    (
+        "inofs format a.img --inodes=+016 --size 2097152",
+        "format a.img 4096 16",
+    ),
+    (
+        "inofs format a.img --size 8G",
+        "format a.img 16777216 524288",
+    ),
+    (
+        "inofs format a.img --size 1024M --inodes 1048576",
+        "format a.img 2097152 1048576",
     ),
     ("inofs run a.img", "run a.img"),
     ("inofs run a.img s", "run a.img s"),
@@ -102,7 +124,7 @@ static JOBS: [(&str, &str); 15] = [
 ];
 
 // Lines that ask for no job.
-static BAD: [&str; 38] = [
+static BAD: [&str; 49] = [
     "inofs mkfs",
     "inofs mkfs a.img",
     "inofs mkfs a.img --sectors 1024",
@@ -118,6 +140,17 @@ static BAD: [&str; 38] = [
     "inofs mkfs a.img --sectors 1024 --sectors 1024 --inodes 16",
     "inofs mkfs a.img b.img --sectors 1024 --inodes 16",
     "inofs mkfs a.img --sectors 1024 --inodes",
+    "inofs mkfs a.img --size 1M",
+    "inofs format a.img",
+    "inofs format --size 1M",
+    "inofs format a.img b.img --size 1M",
+    "inofs format a.img --size",
+    "inofs format a.img --size 1M --size 1M",
+    "inofs format a.img --size -1M",
+    "inofs format a.img --size 1M --sectors 2048",
+    "inofs format a.img --size 1M --inodes 15",
+    "inofs format a.img --size 8G --inodes 1048577",
+    "inofs format a.img --size x --inodes x",
     "inofs run",
     "inofs run a.img s t",
     "inofs run a.img --sectors 1024",
@@ -143,13 +176,32 @@ static BAD: [&str; 38] = [
     "inofs run --version",
 ];
 
+// Lines with a size that is none, or out of range.
+static SIZES: [&str; 14] = [
+    "inofs format a.img --size=",
+    "inofs format a.img --size K",
+    "inofs format a.img --size 0",
+    "inofs format a.img --size 511K",
+    "inofs format a.img --size 524287",
+    "inofs format a.img --size 8200M",
+    "inofs format a.img --size 8589934593",
+    "inofs format a.img --size 1m",
+    "inofs format a.img --size 1MB",
+    "inofs format a.img --size 1.5M",
+    "inofs format a.img --size 0x100000",
+    "inofs format a.img --size M1",
+    "inofs format a.img --size 99999999999999999999",
+    "inofs format a.img --size 18014398509481984K",
+];
+
 // Lines that ask for help or the version.
-static SHOWN: [&str; 9] = [
+static SHOWN: [&str; 10] = [
     "inofs --help",
     "inofs -h",
     "inofs --version",
     "inofs -V",
     "inofs mkfs --help",
+    "inofs format --help",
     "inofs run a.img -h",
     "inofs check --help",
     "inofs upgrade --help",
@@ -179,16 +231,18 @@ pub(crate) const HELP: &str = "A file system in an image, with a journal and acc
 
 Usage: inofs
        inofs mkfs IMAGE --sectors N --inodes N
+       inofs format IMAGE --size SIZE [--inodes N]
        inofs run IMAGE [SCRIPT]
        inofs check [--explain] IMAGE
        inofs upgrade IMAGE
        inofs fuse IMAGE [--denials FILE] [--own-rules]
 
 Commands:
-  mkfs     Make an image with an empty file system
+  mkfs     Make an image of the second layout with an empty file system
+  format   Make an image of the third layout with an empty file system
   run      Run a script on an image
   check    Check an image
-  upgrade  Upgrade an image to the newest version of the layout
+  upgrade  Upgrade an image of the first layout to the second
   fuse     Serve an image to the kernel's FUSE, on the standard input and output
 
 Options:
@@ -213,7 +267,20 @@ Options:
   -h, --help            Print help
 ";
 
-const MKFS_HELP: &str = "Make an image with an empty file system
+const FORMAT_HELP: &str = "Make an image of the third layout with an empty file system
+
+Usage: inofs format [OPTIONS] --size <SIZE> <IMAGE>
+
+Arguments:
+  <IMAGE>  The image, which must not exist
+
+Options:
+      --size <SIZE>  Bytes, or with K, M or G: 512K to 8G
+      --inodes <N>   Inodes, 16 to 1048576; without it one for 32 sectors
+  -h, --help         Print help
+";
+
+const MKFS_HELP: &str = "Make an image of the second layout with an empty file system
 
 Usage: inofs mkfs --sectors <N> --inodes <N> <IMAGE>
 
@@ -227,15 +294,20 @@ Options:
 ";
 
 // Lines that ask for no job, and what is printed.
-static TEXTS: [(&str, &str); 6] = [
+static TEXTS: [(&str, &str); 8] = [
     ("inofs --help", HELP),
     ("inofs mkfs --help", MKFS_HELP),
+    ("inofs format --help", FORMAT_HELP),
     ("inofs fuse --help", FUSE_HELP),
-    ("inofs --version", "inofs 0.1.0, layout 2\n"),
+    ("inofs --version", "inofs 0.1.0, layout 3\n"),
     (
         "inofs mkfs a.img --sectors 1023 --inodes 16",
         "error: invalid value '1023' for '--sectors <N>': 1023 is not in 1024..=65536\n\n\
          For more information, try '--help'.\n",
+    ),
+    (
+        "inofs format a.img --size 511K",
+        "error: invalid value for '--size <SIZE>': 512K to 8G, in bytes or with K, M or G behind\n",
     ),
     (
         "inofs run",
@@ -284,6 +356,7 @@ fn expect_texts(alloc: Global, report: &mut String) -> Result<(), AllocError> {
 fn expect_all(alloc: Global, report: &mut String) -> Result<(), AllocError> {
     expect_jobs(alloc, report)?;
     expect_each(alloc, report, &BAD, "bad 2")?;
+    expect_each(alloc, report, &SIZES, "size 2")?;
     expect_each(alloc, report, &SHOWN, "help 0")?;
     expect_texts(alloc, report)
 }

@@ -1,12 +1,12 @@
 -- A batch by its parts: sectors, and beside each its content.
 use Rattle.std.proofs.Common.{◌≡◌, ℕ, zero, suc, ◌+◌, ◌≤◌, ◌<◌, ◌↔◌, ◌||◌, Bool, true, false, not, cond, List, [], ◌∷◌, ◌++◌, length, take, get_or, set, eqb, arith, length-append, refl, sym, ◌∙◌, ap, subst, inl, inr}
 use Rattle.std.proofs.lemmas.Bool.{cases_Bool, cond_both, cond-true, cond-false, eqb-true, true≢false}
-use Rattle.std.proofs.lemmas.List.{length-set, nil_from_length}
+use Rattle.std.proofs.lemmas.List.{nil_from_length}
+use Rattle.std.proofs.lemmas.List.Sums.{prefix_len-le-length}
 use Rattle.std.specs.List.{zip, list_any, position_or_len}
 use Rattle.indexmap.specs.IndexSet.{insert_key}
 use Rattle.fs_layout.specs.Bytes.{SectorMap}
-use Rattle.fs_layout.specs.declared.commit.TheConstants.{MAX_LOG_SECTORS}
-use Rattle.redo_journal.specs.Batch.{Entry, targets, contents, has_entry, put_entry, with_batch, HasPlaces, IsBatch}
+use Rattle.redo_journal.specs.Batch.{Entry, targets, contents, has_entry, put_entry, with_batch, with_content, HasPlaces, IsBatch}
 use Rattle.redo_journal.proofs.Puts.{batch_put}
 
 -- ---- the entries
@@ -58,14 +58,14 @@ cons_if : (q : Bool) (m : ℕ) (left right : List ℕ) → cond q (m ∷ left) (
 cons_if true m left right = refl
 cons_if false m left right = refl
 
-pub put_at_place : (ns : List ℕ) (bytes : List (List ℕ)) (n : ℕ) (content : List ℕ) → length ns ≤ length bytes → (list_any (eqb n) ns ≡ false → length ns < length bytes)
-    → zip (insert_key eqb ns n) (set bytes (position_or_len (eqb n) ns) content) ≡ put_entry (zip ns bytes) n content
-put_at_place [] [] n content le room = absurd (omega (arith, room refl))
-put_at_place [] (b ∷ bytes) n content le room = refl
-put_at_place (m ∷ ns) [] n content le room = absurd (omega arith)
-put_at_place (m ∷ ns) (b ∷ bytes) n content le room =
+pub put_at_place : (ns : List ℕ) (bytes : List (List ℕ)) (n : ℕ) (content : List ℕ) → length ns ≤ length bytes
+    → zip (insert_key eqb ns n) (with_content bytes (position_or_len (eqb n) ns) content) ≡ put_entry (zip ns bytes) n content
+put_at_place [] [] n content le = refl
+put_at_place [] (b ∷ bytes) n content le = refl
+put_at_place (m ∷ ns) [] n content le = absurd (omega arith)
+put_at_place (m ∷ ns) (b ∷ bytes) n content le =
     let rest = position_or_len (eqb n) ns in
-    let by = λ (q : Bool). zip (cond (q || list_any (eqb n) ns) (m ∷ ns) (m ∷ ns ++ n ∷ [])) (set (b ∷ bytes) (cond (not q) (1 + rest) 0) content) in
+    let by = λ (q : Bool). zip (cond (q || list_any (eqb n) ns) (m ∷ ns) (m ∷ ns ++ n ∷ [])) (with_content (b ∷ bytes) (cond (not q) (1 + rest) 0) content) in
     let put = put_entry (zip ns bytes) n content in
     elim (cases_Bool (eqb n m)) [
       | inl here ↦
@@ -73,27 +73,49 @@ put_at_place (m ∷ ns) (b ∷ bytes) n content le room =
           ∙ ap (λ (k : ℕ). (k, content) ∷ zip ns bytes) (sym (eqb-true n m here))
           ∙ sym (cond-true (eqb n m) ((n, content) ∷ zip ns bytes) ((m, b) ∷ put) here)
       | inr other ↦
-          let fits : list_any (eqb n) ns ≡ false → length ns < length bytes = λ none. omega (arith, room (ap (λ (q : Bool). q || list_any (eqb n) ns) other ∙ none)) in
           let next : 1 + rest ≡ suc rest = omega arith in
           ap by other
-          ∙ (λ j. zip (cons_if (list_any (eqb n) ns) m ns (ns ++ n ∷ []) j) (set (b ∷ bytes) (next j) content))
-          ∙ ap (λ (l : List Entry). (m, b) ∷ l) (put_at_place ns bytes n content (omega arith) fits)
+          ∙ (λ j. zip (cons_if (list_any (eqb n) ns) m ns (ns ++ n ∷ []) j) (with_content (b ∷ bytes) (next j) content))
+          ∙ ap (λ (l : List Entry). (m, b) ∷ l) (put_at_place ns bytes n content (omega arith))
           ∙ sym (cond-false (eqb n m) ((n, content) ∷ zip ns bytes) ((m, b) ∷ put) other)
     ]
 
+-- among the contents, and behind them
+pub with_content_at : (bytes : List (List ℕ)) (at : ℕ) (content : List ℕ) → at < length bytes → set bytes at content ≡ with_content bytes at content
+with_content_at [] at content lt = absurd (omega (arith, lt))
+with_content_at (b ∷ bytes) zero content lt = refl
+with_content_at (b ∷ bytes) (suc at) content lt = ap (λ (l : List (List ℕ)). b ∷ l) (with_content_at bytes at content (omega (arith, lt)))
+
+pub with_content_end : (bytes : List (List ℕ)) (at : ℕ) (content : List ℕ) → at ≡ length bytes → bytes ++ content ∷ [] ≡ with_content bytes at content
+with_content_end [] at content is = refl
+with_content_end (b ∷ bytes) zero content is = absurd (omega (arith, is))
+with_content_end (b ∷ bytes) (suc at) content is = ap (λ (l : List (List ℕ)). b ∷ l) (with_content_end bytes at content (omega (arith, is)))
+
+-- each sector has a content then
+fits_after : (ns : List ℕ) (bytes : List (List ℕ)) (n : ℕ) (content : List ℕ) → length ns ≤ length bytes → length (insert_key eqb ns n) ≤ length (with_content bytes (position_or_len (eqb n) ns) content)
+fits_after [] [] n content le = omega arith
+fits_after [] (b ∷ bytes) n content le = omega arith
+fits_after (m ∷ ns) [] n content le = absurd (omega arith)
+fits_after (m ∷ ns) (b ∷ bytes) n content le =
+    let rest = position_or_len (eqb n) ns in
+    let Fits = λ (q : Bool). length (cond (q || list_any (eqb n) ns) (m ∷ ns) (m ∷ ns ++ n ∷ [])) ≤ length (with_content (b ∷ bytes) (cond (not q) (1 + rest) 0) content) in
+    elim (cases_Bool (eqb n m)) [
+      | inl here ↦ subst Fits (sym here) (omega (arith, le))
+      | inr other ↦
+          let next : suc rest ≡ 1 + rest = omega arith in
+          let more = fits_after ns bytes n content (omega arith) in
+          subst Fits (sym other)
+          (subst (λ (k : ℕ). length (cond (list_any (eqb n) ns) (m ∷ ns) (m ∷ ns ++ n ∷ [])) ≤ length (with_content (b ∷ bytes) k content)) next
+          (subst (λ (l : List ℕ). length l ≤ suc (length (with_content bytes rest content))) (sym (cons_if (list_any (eqb n) ns) m ns (ns ++ n ∷ []))) (omega (arith, more))))
+    ]
+
 -- ---- the parts after a put
-pub fits_places : (ns : List ℕ) (bytes : List (List ℕ)) (spare : ℕ) → HasPlaces ns bytes spare → length ns ≤ length bytes
-fits_places ns bytes spare is = omega (arith, is.few, is.all)
-
-module _ (ns : List ℕ) (bytes : List (List ℕ)) (spare n : ℕ) (entries : List Entry)
-    (is : HasPlaces ns bytes spare) (same : zip ns bytes ≡ entries) (room : has_entry entries n ≡ false → length entries < MAX_LOG_SECTORS) where
-  fits : length ns ≤ length bytes
-  fits = fits_places ns bytes spare is
-
-  few_before : list_any (eqb n) ns ≡ false → length ns < MAX_LOG_SECTORS
+module _ (most : ℕ) (ns : List ℕ) (bytes : List (List ℕ)) (spare capacity n : ℕ) (entries : List Entry)
+    (is : HasPlaces most ns bytes spare capacity) (same : zip ns bytes ≡ entries) (room : has_entry entries n ≡ false → length entries < most) where
+  few_before : list_any (eqb n) ns ≡ false → length ns < most
   few_before none =
-      let has : has_entry entries n ≡ false = ap (λ (es : List Entry). has_entry es n) (sym same) ∙ sym (has_is ns bytes n fits) ∙ none in
-      omega (arith, room has, ap length same, length_entries ns bytes fits)
+      let has : has_entry entries n ≡ false = ap (λ (es : List Entry). has_entry es n) (sym same) ∙ sym (has_is ns bytes n is.all) ∙ none in
+      omega (arith, room has, ap length same, length_entries ns bytes is.all)
 
   -- a new sector finds room
   pub room_by_parts : list_any (eqb n) ns ≡ false → 0 < spare
@@ -101,25 +123,32 @@ module _ (ns : List ℕ) (bytes : List (List ℕ)) (spare n : ℕ) (entries : Li
 
   -- the new parts
   module _ (new : List ℕ) (keys : new ≡ insert_key eqb ns n) where
-    few_after : length new ≤ MAX_LOG_SECTORS
+    few_after : length new ≤ most
     few_after =
-        subst (λ (l : List ℕ). length l ≤ MAX_LOG_SECTORS) (sym keys)
-        (cond_both (list_any (eqb n) ns) ns (ns ++ n ∷ []) (λ l. length l ≤ MAX_LOG_SECTORS) (λ _. is.few) (λ none. omega (arith, few_before none, length-append ns (n ∷ []))))
+        subst (λ (l : List ℕ). length l ≤ most) (sym keys)
+        (cond_both (list_any (eqb n) ns) ns (ns ++ n ∷ []) (λ l. length l ≤ most) (λ _. is.few) (λ none. omega (arith, few_before none, length-append ns (n ∷ []))))
 
-    pub within_contents : (at : ℕ) → at < length new → at < length bytes
-    within_contents at lt = omega (arith, lt, few_after, is.all)
+    module _ (at : ℕ) (place : at ≡ position_or_len (eqb n) ns) where
+      pub within_contents : at ≤ length bytes
+      within_contents = omega (arith, place, prefix_len-le-length (λ m. not (eqb n m)) ns, is.all)
 
-    module _ (content : List ℕ) (at : ℕ) (place : at ≡ position_or_len (eqb n) ns) where
-      pub put_by_parts : zip new (set bytes at content) ≡ put_entry entries n content
-      put_by_parts =
-          (λ j. zip (keys j) (set bytes (place j) content))
-          ∙ put_at_place ns bytes n content fits (λ none. omega (arith, few_before none, is.all))
-          ∙ ap (λ (es : List Entry). put_entry es n content) same
+      pub room_for_content : at < length new → at < capacity
+      room_for_content lt = omega (arith, lt, few_after, is.reserved)
 
-      pub places_put : (left : ℕ) → 128 ≤ n → length ns + spare ≤ length new + left → HasPlaces new (set bytes at content) left
-      places_put left high keeps = record {
-        batch = subst IsBatch (sym put_by_parts) (batch_put entries n content (subst IsBatch same is.batch) high room);
-        few = few_after;
-        all = length-set bytes at content ∙ is.all;
-        room = omega (arith, keeps, is.room);
-      }
+      module _ (content : List ℕ) where
+        pub put_by_parts : zip new (with_content bytes at content) ≡ put_entry entries n content
+        put_by_parts =
+            (λ j. zip (keys j) (with_content bytes (place j) content))
+            ∙ put_at_place ns bytes n content is.all
+            ∙ ap (λ (es : List Entry). put_entry es n content) same
+
+        pub places_put : (left held : ℕ) → 128 ≤ n → length ns + spare ≤ length new + left → capacity ≤ held → HasPlaces most new (with_content bytes at content) left held
+        places_put left held high keeps reserved = record {
+          batch = subst IsBatch (sym put_by_parts) (batch_put entries n content (subst IsBatch same is.batch) high (λ none. omega (arith, room none, is.limit)));
+          few = few_after;
+          all = subst (λ (l : List ℕ). length l ≤ length (with_content bytes at content)) (sym keys)
+              (subst (λ (k : ℕ). length (insert_key eqb ns n) ≤ length (with_content bytes k content)) (sym place) (fits_after ns bytes n content is.all));
+          limit = is.limit;
+          room = omega (arith, keeps, is.room);
+          reserved = omega (arith, reserved, is.reserved);
+        }

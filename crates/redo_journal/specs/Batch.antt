@@ -1,10 +1,11 @@
 -- A batch: sectors, and the contents that they are to have.
+--     Entry, BatchView        a sector with its content; a batch's value
 --     targets, contents, target_at, content_at        the sectors of the entries, and their contents
 --     IsBatch, IsOnDisk        what each batch is; and a batch whose sectors a disk has
---     HasPlaces        sectors and contents of which a batch is made
+--     HasPlaces, with_content        sectors and contents of which a batch is made; contents with one more, or another one
 --     has_entry, put_entry, with_batch        a batch as a map
 --     added        how many sectors another batch adds
-use Rattle.std.specs.Prelude.{ℕ, ◌≡◌, ◌<◌, ◌≤◌, ◌+◌, Bool, true, false, List, [], ◌∷◌, length, map, All, slice_index_or, if◌then◌else◌, nat_eq, not, count_by}
+use Rattle.std.specs.Prelude.{ℕ, zero, suc, ◌<◌, ◌≤◌, ◌+◌, Bool, true, false, List, [], ◌∷◌, length, map, All, slice_index_or, if◌then◌else◌, nat_eq, not, count_by}
 use Rattle.std.specs.List.{zip}
 use Rattle.fs_layout.specs.declared.commit.TheConstants.{MAX_LOG_SECTORS}
 use Rattle.fs_layout.specs.declared.header.TheConstants.{LEAST_LOG_END}
@@ -14,6 +15,11 @@ use Rattle.fs_layout.specs.Header.{log_end}
 
 abbrev pub Entry : Type 0
 Entry = ℕ × List ℕ
+
+-- a batch: its entries, and how many it has room for
+pub record BatchView : Type 0 where
+  pub entries : List Entry
+  pub most : ℕ
 
 abbrev pub targets : List Entry → List ℕ
 targets entries = map (λ e. e.0) entries
@@ -37,12 +43,20 @@ pub record IsBatch (entries : List Entry) : Type 0 where
 abbrev pub IsOnDisk : ℕ → ℕ → List Entry → Type 0
 IsOnDisk header size entries = All (λ t. (log_end header ≤ t) × (t < size)) (targets entries)
 
--- sectors, each beside its content, of which there are as many as a commit has sectors; and so many more sectors fit
-pub record HasPlaces (sectors : List ℕ) (contents : List (List ℕ)) (spare : ℕ) : Type 0 where
+-- sectors, each beside its content, of a batch with room for so many: so many more sectors fit, and so many contents
+pub record HasPlaces (most : ℕ) (sectors : List ℕ) (contents : List (List ℕ)) (spare capacity : ℕ) : Type 0 where
   pub batch : IsBatch (zip sectors contents)
-  pub few : length sectors ≤ MAX_LOG_SECTORS
-  pub all : length contents ≡ MAX_LOG_SECTORS
-  pub room : MAX_LOG_SECTORS ≤ length sectors + spare
+  pub few : length sectors ≤ most
+  pub all : length sectors ≤ length contents
+  pub limit : most ≤ MAX_LOG_SECTORS
+  pub room : most ≤ length sectors + spare
+  pub reserved : most ≤ capacity
+
+-- contents, with this one at a place among them, or behind all
+abbrev pub with_content : List (List ℕ) → ℕ → List ℕ → List (List ℕ)
+with_content [] at content = content ∷ []
+with_content (first ∷ contents) zero content = content ∷ contents
+with_content (first ∷ contents) (suc at) content = first ∷ with_content contents at content
 
 -- one of the entries is for this sector
 abbrev pub has_entry : List Entry → ℕ → Bool

@@ -23,12 +23,12 @@ pub(crate) fn log_batch<D: Disk>(
     requires ready { IsReady (D.state disk.old) }
     requires header { HasHeader header (D.state disk.old) }
     requires next { HasNext area (D.state disk.old) }
-    requires few { length batch.now ≤ max_targets header }
-    requires on_disk { IsOnDisk header (D.state disk.old).size batch.now }
-    ensures logged { OnOk result (IsLogged batch.now (D.state disk.new)) }
+    requires few { length batch.now.entries ≤ max_targets header }
+    requires on_disk { IsOnDisk header (D.state disk.old).size batch.now.entries }
+    ensures logged { OnOk result (IsLogged batch.now.entries (D.state disk.new)) }
     ensures next { OnOk result (HasNext area (D.state disk.new)) }
     ensures any_moment { LeavesSameMap (D.state disk.old) (D.state disk.new) }
-    ensures empty { length batch.now ≡ 0 → IsOk result × (disk.new ≡ disk.old) }
+    ensures empty { length batch.now.entries ≡ 0 → IsOk result × (disk.new ≡ disk.old) }
     ensures size { (D.state disk.new).size ≡ (D.state disk.old).size }
     ensures cause { HasCause (D.state disk.old) (D.state disk.new) result }
     ensures told { HasWriteCause (D.state disk.old) (D.state disk.new) result }
@@ -48,14 +48,14 @@ pub(crate) fn seal_batch<D: Disk>(
     area: u32,
     batch: &Batch,
 ) -> Result<u32, DiskFault>
-    requires logged { IsLogged batch.now (D.state disk.old) }
+    requires logged { IsLogged batch.now.entries (D.state disk.old) }
     requires header { HasHeader header (D.state disk.old) }
     requires next { HasNext area (D.state disk.old) }
-    ensures sealed { OnOk result (IsSealed batch.now (D.state disk.new)) }
+    ensures sealed { OnOk result (IsSealed batch.now.entries (D.state disk.new)) }
     ensures next { IfOk result (λ next. HasNext next (D.state disk.new)) }
-    ensures lasting { OnOk result (EachReadsAs (with_batch batch.now (data_of (D.state disk.old))) (D.state disk.new)) }
-    ensures any_moment { LeavesAllOrNone batch.now (D.state disk.old) (D.state disk.new) }
-    ensures empty { length batch.now ≡ 0 → IsOk result × (disk.new ≡ disk.old) }
+    ensures lasting { OnOk result (EachReadsAs (with_batch batch.now.entries (data_of (D.state disk.old))) (D.state disk.new)) }
+    ensures any_moment { LeavesAllOrNone batch.now.entries (D.state disk.old) (D.state disk.new) }
+    ensures empty { length batch.now.entries ≡ 0 → IsOk result × (disk.new ≡ disk.old) }
     ensures size { (D.state disk.new).size ≡ (D.state disk.old).size }
     ensures cause { HasCause (D.state disk.old) (D.state disk.new) result }
     ensures told { HasWriteCause (D.state disk.old) (D.state disk.new) result }
@@ -74,12 +74,12 @@ pub(crate) fn install_batch<D: Disk>(
     header: u32,
     batch: &Batch,
 ) -> Result<(), DiskFault>
-    requires sealed { IsSealed batch.now (D.state disk.old) }
+    requires sealed { IsSealed batch.now.entries (D.state disk.old) }
     requires header { HasHeader header (D.state disk.old) }
     ensures ready { OnOk result (IsReady (D.state disk.new)) }
     ensures next { OnOk result (next_at (D.state disk.new).seen ≡ next_at (D.state disk.old).seen) }
     ensures any_moment { LeavesSameMap (D.state disk.old) (D.state disk.new) }
-    ensures empty { length batch.now ≡ 0 → IsOk result × (disk.new ≡ disk.old) }
+    ensures empty { length batch.now.entries ≡ 0 → IsOk result × (disk.new ≡ disk.old) }
     ensures size { (D.state disk.new).size ≡ (D.state disk.old).size }
     ensures cause { HasCause (D.state disk.old) (D.state disk.new) result }
     ensures told { HasWriteCause (D.state disk.old) (D.state disk.new) result }
@@ -96,9 +96,9 @@ pub(crate) fn install_batch<D: Disk>(
 
 // Writes the batch's contents to its sectors and syncs. The commit stays.
 fn put_in_place<D: Disk>(disk: &mut D, batch: &Batch) -> Result<(), DiskFault>
-    requires rest { IsAtRest (targets batch.now) (D.state disk.old) }
-    requires log { HoldsLog (log_at (D.state disk.old).seen) batch.now (D.state disk.old).seen }
-    ensures installed { OnOk result (IsInstalled (targets batch.now) (D.state disk.new)) }
+    requires rest { IsAtRest (targets batch.now.entries) (D.state disk.old) }
+    requires log { HoldsLog (log_at (D.state disk.old).seen) batch.now.entries (D.state disk.old).seen }
+    ensures installed { OnOk result (IsInstalled (targets batch.now.entries) (D.state disk.new)) }
     ensures any_moment { LeavesSameMap (D.state disk.old) (D.state disk.new) }
     ensures size { (D.state disk.new).size ≡ (D.state disk.old).size }
     ensures cause { HasCause (D.state disk.old) (D.state disk.new) result }
@@ -169,13 +169,13 @@ fn clear_commit<D: Disk>(disk: &mut D) -> Result<(), DiskFault>
     ensures cause { HasCause (D.state disk.old) (D.state disk.new) result }
     ensures told { HasWriteCause (D.state disk.old) (D.state disk.new) result }
 {
-    write_synced(disk, COMMIT_SECTOR, &Commit::idle().to_sector())
+    write_synced(disk, COMMIT_SECTOR, &Commit::sector_with(0, &[]))
 }
 
 // The content of a commit sector that names the batch's sectors.
 fn commit_sector(area: u32, batch: &Batch) -> [u8; 512]
     requires { area ≤ 1 }
-    ensures { result ≡ commit_bytes_in area (targets batch.now) }
+    ensures { result ≡ commit_bytes_in area (targets batch.now.entries) }
 {
-    Commit::new(batch.sectors()).to_sector_in(area)
+    Commit::sector_with(area, batch.sectors())
 }

@@ -106,17 +106,17 @@ impl<D: Disk> Journal<D> {
 
     /// Writes the batch into the log and syncs: into the area that the last commit isn't in.
     pub fn log(self, batch: &Batch) -> Result<Logged<D>, Broken<D>>
-        requires on_disk { IsOnDisk (header_at (D.state self).seen) (D.state self).size batch.now }
-        requires few { length batch.now ≤ max_targets (header_at (D.state self).seen) }
+        requires on_disk { IsOnDisk (header_at (D.state self).seen) (D.state self).size batch.now.entries }
+        requires few { length batch.now.entries ≤ max_targets (header_at (D.state self).seen) }
 
-        ensures logged { IfOk result (λ logged. IsLogged batch.now (D.state logged)) }
+        ensures logged { IfOk result (λ logged. IsLogged batch.now.entries (D.state logged)) }
         ensures same { IfOk result (λ logged. SameMap (data_of (D.state logged)) (data_of (D.state self))) }
 
         // A stop at any moment of the call leaves what reads as before it.
         ensures any_moment { LeavesSameMap (D.state self) (D.state (disk_of result)) }
 
         // With an empty batch the disk isn't called.
-        ensures empty { length batch.now ≡ 0 → result ≡ Ok self }
+        ensures empty { length batch.now.entries ≡ 0 → result ≡ Ok self }
 
         ensures size { (D.state (disk_of result)).size ≡ (D.state self).size }
         ensures cause { HasCause (D.state self) (D.state (disk_of result)) result }
@@ -220,19 +220,19 @@ impl<D: CrashDisk> Journal<D> {
 impl<D: Disk> Logged<D> {
     /// Writes the commit sector and syncs. The batch is the one that was logged.
     pub fn seal(self, batch: &Batch) -> Result<Sealed<D>, Broken<D>>
-        requires { IsLogged batch.now (D.state self) }
+        requires { IsLogged batch.now.entries (D.state self) }
 
-        ensures sealed { IfOk result (λ sealed. IsSealed batch.now (D.state sealed)) }
-        ensures changed { IfOk result (λ sealed. SameMap (data_of (D.state sealed)) (with_batch batch.now (data_of (D.state self)))) }
+        ensures sealed { IfOk result (λ sealed. IsSealed batch.now.entries (D.state sealed)) }
+        ensures changed { IfOk result (λ sealed. SameMap (data_of (D.state sealed)) (with_batch batch.now.entries (data_of (D.state self)))) }
 
         // A stop at any moment of the call leaves what reads as before it, or with the whole batch.
-        ensures any_moment { LeavesAllOrNone batch.now (D.state self) (D.state (disk_of result)) }
+        ensures any_moment { LeavesAllOrNone batch.now.entries (D.state self) (D.state (disk_of result)) }
 
         // From `Ok` on it leaves what reads with the whole batch.
-        ensures lasting { IfOk result (λ sealed. EachReadsAs (with_batch batch.now (data_of (D.state self))) (D.state sealed)) }
+        ensures lasting { IfOk result (λ sealed. EachReadsAs (with_batch batch.now.entries (data_of (D.state self))) (D.state sealed)) }
 
         // With an empty batch the disk isn't called.
-        ensures empty { length batch.now ≡ 0 → result ≡ Ok self }
+        ensures empty { length batch.now.entries ≡ 0 → result ≡ Ok self }
 
         ensures size { (D.state (disk_of result)).size ≡ (D.state self).size }
         ensures cause { HasCause (D.state self) (D.state (disk_of result)) result }
@@ -254,7 +254,7 @@ impl<D: Disk> Sealed<D> {
     /// Writes the batch's sectors. The batch is the one that was sealed. Where the log has one area it then syncs, takes the
     /// commit away, and syncs.
     pub fn install(self, batch: &Batch) -> Result<Journal<D>, Broken<D>>
-        requires { IsSealed batch.now (D.state self) }
+        requires { IsSealed batch.now.entries (D.state self) }
 
         ensures same { IfOk result (λ journal. SameMap (data_of (D.state journal)) (data_of (D.state self))) }
 
@@ -262,7 +262,7 @@ impl<D: Disk> Sealed<D> {
         ensures any_moment { LeavesSameMap (D.state self) (D.state (disk_of result)) }
 
         // With an empty batch the disk isn't called.
-        ensures empty { length batch.now ≡ 0 → result ≡ Ok self }
+        ensures empty { length batch.now.entries ≡ 0 → result ≡ Ok self }
 
         ensures size { (D.state (disk_of result)).size ≡ (D.state self).size }
         ensures cause { HasCause (D.state self) (D.state (disk_of result)) result }

@@ -20,9 +20,9 @@ pub(crate) fn write_header<D: Disk>(
     batch: &Batch,
 ) -> Result<(), DiskFault>
     requires most { header ≤ MAX_HEADER }
-    requires few { length batch.now ≤ max_targets header }
+    requires few { length batch.now.entries ≤ max_targets header }
     requires room { log_end header ≤ (D.state disk.old).size }
-    ensures written { OnOk result (HoldsHeader (area_start header area) batch.now (D.state disk.new).seen) }
+    ensures written { OnOk result (HoldsHeader (area_start header area) batch.now.entries (D.state disk.new).seen) }
     ensures others { (n : ℕ) → (area_start header area ≤ n → n < area_start header area + header → ⊥)
         → sector (D.state disk.new).seen n ≡ sector (D.state disk.old).seen n }
     ensures adds { AddsOnly (InLog header area) (D.state disk.old) (D.state disk.new) }
@@ -31,9 +31,9 @@ pub(crate) fn write_header<D: Disk>(
     ensures told { HasWriteCause (D.state disk.old) (D.state disk.new) result }
 {
     let from = area_start(header, area);
-    let commit = Commit::new(batch.sectors());
-    for at in 0..commit.header_sectors() {
-        disk.write(from + at as u32, &commit.header_sector(at))?;
+    let sectors = batch.sectors();
+    for at in 0..Commit::header_sectors_for(sectors.len()) {
+        disk.write(from + at as u32, &Commit::header_sector(sectors, at))?;
     }
     Ok(())
 }
@@ -46,9 +46,9 @@ pub(crate) fn write_log<D: Disk>(
     batch: &Batch,
 ) -> Result<(), DiskFault>
     requires most { header ≤ MAX_HEADER }
-    requires few { length batch.now ≤ max_targets header }
+    requires few { length batch.now.entries ≤ max_targets header }
     requires room { log_end header ≤ (D.state disk.old).size }
-    ensures written { OnOk result (HoldsLog (area_start header area + header) batch.now (D.state disk.new).seen) }
+    ensures written { OnOk result (HoldsLog (area_start header area + header) batch.now.entries (D.state disk.new).seen) }
     ensures others { (n : ℕ) → (area_start header area + header ≤ n → n < area_start header area + 126 + 129 * header → ⊥)
         → sector (D.state disk.new).seen n ≡ sector (D.state disk.old).seen n }
     ensures adds { AddsOnly (InLog header area) (D.state disk.old) (D.state disk.new) }
@@ -66,10 +66,10 @@ pub(crate) fn write_log<D: Disk>(
 
 /// Writes the batch's contents to its sectors.
 pub(crate) fn write_targets<D: Disk>(disk: &mut D, batch: &Batch) -> Result<(), DiskFault>
-    requires { AreTargets (header_at (D.state disk.old).seen) (D.state disk.old).size (targets batch.now) }
-    ensures written { OnOk result (HoldsTargets batch.now (D.state disk.new).seen) }
-    ensures adds { AddsOnly (InTargets (targets batch.now)) (D.state disk.old) (D.state disk.new) }
-    ensures any_moment { LeavesOnly (D.state disk.old) (D.state disk.new) (IsImageOr (InTargets (targets batch.now)) (D.state disk.old)) }
+    requires { AreTargets (header_at (D.state disk.old).seen) (D.state disk.old).size (targets batch.now.entries) }
+    ensures written { OnOk result (HoldsTargets batch.now.entries (D.state disk.new).seen) }
+    ensures adds { AddsOnly (InTargets (targets batch.now.entries)) (D.state disk.old) (D.state disk.new) }
+    ensures any_moment { LeavesOnly (D.state disk.old) (D.state disk.new) (IsImageOr (InTargets (targets batch.now.entries)) (D.state disk.old)) }
     ensures cause { HasCause (D.state disk.old) (D.state disk.new) result }
     ensures told { HasWriteCause (D.state disk.old) (D.state disk.new) result }
 {

@@ -2,8 +2,8 @@
 --     StoreView, TxnView        their values
 --     present, txn_state        the map of a store; the state of a transaction
 --     disk_after        the disk in what `keep` and `flush` give
---     IsWaiting, IsTxn        what each store and each transaction is
-use Rattle.std.specs.Prelude.{◌-◌, ◌≤◌, List, length, Result, Ok, Err}
+--     IsWaiting, IsTxn, IsReserved        what each store and each transaction is
+use Rattle.std.specs.Prelude.{ℕ, ◌≡◌, ◌-◌, ◌≤◌, List, length, Result, Ok, Err}
 use Rattle.fs_layout.specs.Bytes.{SectorMap}
 use Rattle.redo_journal.specs.Batch.{Entry, IsOnDisk, has_entry, with_batch}
 use Rattle.fs_layout.specs.Header.{max_delta, max_targets}
@@ -58,3 +58,8 @@ pub record IsWaiting (disk : DiskState) (waiting : List Entry) : Type 0 where
 pub record IsTxn (disk : DiskState) (delta : List Entry) : Type 0 where
   pub few : length delta ≤ max_delta (header_at disk.seen)
   pub on_disk : IsOnDisk (header_at disk.seen) disk.size delta
+
+-- memory is reserved for as many sectors as wait at most, and for as many as a call may put
+pub record IsReserved (disk : DiskState) (waiting delta : ℕ) : Type 0 where
+  pub waits : waiting ≡ max_targets (header_at disk.seen)
+  pub put : delta ≡ max_delta (header_at disk.seen)

@@ -41,9 +41,10 @@ impl<D: Disk> CachedJournal<D> {
     pub(crate) fn new(alloc: Global, journal: Journal<D>) -> CachedJournal<D>
         ensures { result ≡ journal }
     {
+        let header = journal.header();
         CachedJournal {
             journal,
-            clean: CleanSectors::new(alloc),
+            clean: CleanSectors::new(alloc, header),
         }
     }
 
@@ -118,11 +119,11 @@ impl<D: Disk> CachedJournal<D> {
 
     /// Logs, seals and installs a batch. What the cache has of its sectors is dropped before they are written.
     pub(crate) fn commit(self, batch: &Batch) -> Result<CachedJournal<D>, Broken<D>>
-        requires on_disk { IsOnDisk (header_at (D.state self).seen) (D.state self).size batch.now }
-        requires few { length batch.now ≤ max_targets (header_at (D.state self).seen) }
-        ensures changed { IfOk result (λ after. SameMap (data_of (D.state after)) (with_batch batch.now (data_of (D.state self)))) }
-        ensures images { LeavesOldOr (with_batch batch.now (data_of (D.state self))) (D.state self) (D.state (disk_of result)) }
-        ensures empty { length batch.now ≡ 0 → result ≡ Ok self }
+        requires on_disk { IsOnDisk (header_at (D.state self).seen) (D.state self).size batch.now.entries }
+        requires few { length batch.now.entries ≤ max_targets (header_at (D.state self).seen) }
+        ensures changed { IfOk result (λ after. SameMap (data_of (D.state after)) (with_batch batch.now.entries (data_of (D.state self)))) }
+        ensures images { LeavesOldOr (with_batch batch.now.entries (data_of (D.state self))) (D.state self) (D.state (disk_of result)) }
+        ensures empty { length batch.now.entries ≡ 0 → result ≡ Ok self }
         ensures cause { HasCause (D.state self) (D.state (disk_of result)) result }
         ensures told { HasWriteCause (D.state self) (D.state (disk_of result)) result }
     {

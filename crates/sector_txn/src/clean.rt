@@ -1,14 +1,18 @@
 //! Sectors as the device reads them, kept in memory.
 
-ghost use Rattle.std.specs.Prelude.{◌≡◌, ◌≢◌, ◌⊎◌, [], ℕ, List, Contains, IsTrue, IfOk, IfSome};
+ghost use Rattle.std.specs.Prelude.{◌≡◌, ◌≢◌, ◌≤◌, ◌<◌, ◌⊎◌, [], ℕ, List, Contains, IsTrue, IfOk, IfSome};
+ghost use Rattle.fs_layout.specs.declared.header.TheConstants.{MAX_HEADER};
 
 use lru::LruCache;
 use std::alloc::{AllocError, Global};
 use std::marker::Model;
 use std::num::NonZeroUsize;
 
-// How many sectors are kept: those that were read last.
+// How many sectors are kept on a disk without a header: those that were read last,
 const SECTORS: usize = 128;
+
+// and how many more for each sector of the header: a large disk has large directories and bitmaps.
+const SECTORS_A_HEADER: usize = 1024;
 
 /// A cache of sectors. It has none where it found no memory.
 #[derive(Drop)]
@@ -26,12 +30,14 @@ impl Model for CleanSectors {
 }
 
 impl CleanSectors {
-    /// A cache without sectors.
-    pub(crate) fn new(alloc: Global) -> CleanSectors
+    /// A cache without sectors, for a disk with so many header sectors.
+    pub(crate) fn new(alloc: Global, header: u32) -> CleanSectors
+        requires { header ≤ MAX_HEADER }
         ensures { result ≡ [] }
     {
+        let most = SECTORS + SECTORS_A_HEADER * (header as usize);
         CleanSectors {
-            cache: empty_cache(alloc).ok(),
+            cache: empty_cache(alloc, most).ok(),
         }
     }
 
@@ -93,9 +99,10 @@ impl CleanSectors {
 }
 
 // A cache without sectors, which may come to have so many.
-fn empty_cache(alloc: Global) -> Result<Box<LruCache<u32, [u8; 512]>>, AllocError>
+fn empty_cache(alloc: Global, most: usize) -> Result<Box<LruCache<u32, [u8; 512]>>, AllocError>
+    requires { 0 < most }
     ensures { IfOk result (λ cache. cache.value.entries ≡ []) }
 {
-    let cache = LruCache::new(alloc, NonZeroUsize::new(SECTORS).unwrap())?;
+    let cache = LruCache::new(alloc, NonZeroUsize::new(most).unwrap())?;
     Ok(Box::new(alloc, cache)?)
 }

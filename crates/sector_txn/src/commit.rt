@@ -16,16 +16,16 @@ use sector_disk::Disk;
 
 /// Logs, seals and installs a batch.
 pub(crate) fn commit<D: Disk>(journal: Journal<D>, batch: &Batch) -> Result<Journal<D>, Broken<D>>
-    requires on_disk { IsOnDisk (header_at (D.state journal).seen) (D.state journal).size batch.now }
-    requires few { length batch.now ≤ max_targets (header_at (D.state journal).seen) }
+    requires on_disk { IsOnDisk (header_at (D.state journal).seen) (D.state journal).size batch.now.entries }
+    requires few { length batch.now.entries ≤ max_targets (header_at (D.state journal).seen) }
 
-    ensures changed { IfOk result (λ after. SameMap (data_of (D.state after)) (with_batch batch.now (data_of (D.state journal)))) }
+    ensures changed { IfOk result (λ after. SameMap (data_of (D.state after)) (with_batch batch.now.entries (data_of (D.state journal)))) }
 
     // A stop at any moment of the call leaves what means as before it, or reads with the whole batch.
-    ensures images { LeavesOldOr (with_batch batch.now (data_of (D.state journal))) (D.state journal) (D.state (disk_of result)) }
+    ensures images { LeavesOldOr (with_batch batch.now.entries (data_of (D.state journal))) (D.state journal) (D.state (disk_of result)) }
 
     // With an empty batch the disk isn't called.
-    ensures empty { length batch.now ≡ 0 → result ≡ Ok journal }
+    ensures empty { length batch.now.entries ≡ 0 → result ≡ Ok journal }
 
     ensures cause { HasCause (D.state journal) (D.state (disk_of result)) result }
 
@@ -43,9 +43,9 @@ pub(crate) fn commit<D: Disk>(journal: Journal<D>, batch: &Batch) -> Result<Jour
 
 // Whether the changes fit beside what waits. Nothing is looked up where they would if all their sectors were new.
 fn fits(most: usize, waiting: &Batch, delta: &Batch) -> bool
-    requires { length waiting.now ≤ most }
-    ensures fits { IsTrue result ↔ (length waiting.now + added waiting.now delta.now ≤ most) }
-    ensures empty { length delta.now ≡ 0 → IsTrue result }
+    requires { length waiting.now.entries ≤ most }
+    ensures fits { IsTrue result ↔ (length waiting.now.entries + added waiting.now.entries delta.now.entries ≤ most) }
+    ensures empty { length delta.now.entries ≡ 0 → IsTrue result }
 {
     waiting.len() + delta.len() <= most || waiting.len() + waiting.added_by(delta) <= most
 }
@@ -56,23 +56,25 @@ pub(crate) fn commit_if_full<D: Disk>(
     waiting: &mut Batch,
     delta: &Batch,
 ) -> Result<CachedJournal<D>, Broken<D>>
-    requires waits { IsWaiting (D.state journal) waiting.old }
-    requires few { length delta.now ≤ max_delta (header_at (D.state journal).seen) }
-    ensures on_disk { (header size : ℕ) → IsOnDisk header size waiting.old → IsOnDisk header size waiting.new }
+    requires waits { IsWaiting (D.state journal) waiting.old.entries }
+    requires few { length delta.now.entries ≤ max_delta (header_at (D.state journal).seen) }
+    ensures on_disk { (header size : ℕ) → IsOnDisk header size waiting.old.entries → IsOnDisk header size waiting.new.entries }
     ensures room { IfOk result (λ after.
-        length waiting.new + added waiting.new delta.now ≤ max_targets (header_at (D.state journal).seen)) }
+        length waiting.new.entries + added waiting.new.entries delta.now.entries ≤ max_targets (header_at (D.state journal).seen)) }
+
+    ensures most { waiting.new.most ≡ waiting.old.most }
 
     // The header stays.
     ensures header { IfOk result (λ after. header_at (D.state after).seen ≡ header_at (D.state journal).seen) }
 
     // What was to be read stays so.
-    ensures same { let before = with_batch waiting.old (data_of (D.state journal)) in
-        IfOk result (λ after. SameMap (with_batch waiting.new (data_of (D.state after))) before) }
+    ensures same { let before = with_batch waiting.old.entries (data_of (D.state journal)) in
+        IfOk result (λ after. SameMap (with_batch waiting.new.entries (data_of (D.state after))) before) }
 
-    ensures images { LeavesOldOr (with_batch waiting.old (data_of (D.state journal))) (D.state journal) (D.state (disk_of result)) }
+    ensures images { LeavesOldOr (with_batch waiting.old.entries (data_of (D.state journal))) (D.state journal) (D.state (disk_of result)) }
 
     // Without changes the disk isn't called.
-    ensures empty { length delta.now ≡ 0 → result ≡ Ok journal }
+    ensures empty { length delta.now.entries ≡ 0 → result ≡ Ok journal }
 
     ensures cause { HasCause (D.state journal) (D.state (disk_of result)) result }
     ensures told { HasWriteCause (D.state journal) (D.state (disk_of result)) result }

@@ -1,8 +1,9 @@
 //! A store of sectors, and one call's transaction on it.
 #![tactic(auto, unfolding(crate::specs::Stores::present, crate::specs::Stores::map_before, crate::specs::Stores::map_now))]
 
-ghost use Rattle.std.specs.Prelude.{◌≡◌, ℕ, [], false, Some, IsOk, IfOk, MatchResult};
-ghost use Rattle.fs_layout.specs.Header.{header_of, max_delta};
+ghost use Rattle.std.specs.Prelude.{◌≡◌, ◌≤◌, ℕ, [], false, Some, IsOk, IfOk, MatchResult};
+ghost use Rattle.fs_layout.specs.Header.{header_of, max_delta, max_targets};
+ghost use Rattle.fs_layout.specs.declared.header.TheConstants.{MAX_HEADER};
 ghost use Rattle.redo_journal.specs.Meaning.{SameMap, EachReadsAs, data_of, disk_of};
 ghost use Rattle.redo_journal.specs.States.{header_at, IsIdle};
 ghost use Rattle.sector_disk.specs.Disk.{IsSame, ForgetsPast, Elapses, HasCause, HasWriteCause};
@@ -13,7 +14,7 @@ use crate::Sectors;
 use crate::cached::CachedJournal;
 use crate::commit::commit_if_full;
 use crate::hints::Hints;
-use fs_layout::HEADER_TARGETS;
+use fs_layout::{HEADER_TARGETS, max_targets};
 use redo_journal::{Batch, Broken, Journal};
 use sector_disk::{CrashDisk, Disk, DiskFault};
 use std::alloc::{AllocError, Global};
@@ -34,18 +35,19 @@ pub struct Store<D: Disk> {
     // No sectors: its memory serves one transaction after another.
     delta: Box<Batch>,
     // What calls left for later ones.
-    hints: Box<Hints>,
+    hints: Hints,
 }
 
 impl<D: Disk> Model for Store<D> {
     ghost use Rattle.std.specs.Prelude.{◌≡◌, []};
-    ghost use Rattle.sector_txn.specs.Stores.{StoreView, IsWaiting};
+    ghost use Rattle.sector_txn.specs.Stores.{StoreView, IsReserved, IsWaiting};
 
     ghost Value = { StoreView D };
 
-    ghost view = { λ store. record { disk = store.journal; waiting = store.waiting.value } };
+    ghost view = { λ store. record { disk = store.journal; waiting = store.waiting.value.entries } };
 
-    ghost invariant = { λ store. (store.delta.value ≡ []) × IsWaiting (D.state store.journal) store.waiting.value };
+    ghost invariant = { λ store. (store.delta.value.entries ≡ []) × IsWaiting (D.state store.journal) store.waiting.value.entries
+        × IsReserved (D.state store.journal) store.waiting.value.most store.delta.value.most };
 }
 
 /// One call's changes to a store, at most 64 sectors where the disk has no header. Either [`Txn::keep`] or [`Txn::drop_delta`] has to be called.
@@ -54,28 +56,30 @@ pub struct Txn<D: Disk> {
     journal: CachedJournal<D>,
     waiting: Box<Batch>,
     delta: Box<Batch>,
-    hints: Box<Hints>,
+    hints: Hints,
 }
 
 impl<D: Disk> Model for Txn<D> {
-    ghost use Rattle.sector_txn.specs.Stores.{TxnView, IsTxn, IsWaiting};
+    ghost use Rattle.sector_txn.specs.Stores.{TxnView, IsReserved, IsTxn, IsWaiting};
 
     ghost Value = { TxnView D };
 
-    ghost view = { λ txn. record { disk = txn.journal; waiting = txn.waiting.value; delta = txn.delta.value } };
+    ghost view = { λ txn. record { disk = txn.journal; waiting = txn.waiting.value.entries; delta = txn.delta.value.entries } };
 
-    ghost invariant = { λ txn. IsTxn (D.state txn.journal) txn.delta.value × IsWaiting (D.state txn.journal) txn.waiting.value };
+    ghost invariant = { λ txn. IsTxn (D.state txn.journal) txn.delta.value.entries × IsWaiting (D.state txn.journal) txn.waiting.value.entries
+        × IsReserved (D.state txn.journal) txn.waiting.value.most txn.delta.value.most };
 }
 
 impl<D: Disk> Store<D> {
-    /// The store of a journal. It reserves the memory of all its transactions, and of what waits; the cache takes what it finds.
+    /// The store of a journal. It reserves the memory of all its transactions, and of what waits, by the disk's header; the cache takes
+    /// what it finds.
     pub fn new(alloc: Global, journal: Journal<D>) -> Result<Store<D>, (AllocError, Journal<D>)>
         ensures disk { MatchResult result (λ store. store.disk ≡ journal) (λ e. e.1 ≡ journal) }
         ensures map { IfOk result (λ store. SameMap (present D.state store) (data_of (D.state journal))) }
         ensures lasting { IfOk result (λ store. EachReadsAs (present D.state store) (D.state store.disk)) }
     {
         journal.tell_ready();
-        match reserved(alloc) {
+        match reserved(alloc, journal.header()) {
             Ok((waiting, delta, hints)) => Ok(Store {
                 journal: CachedJournal::new(alloc, journal),
                 waiting,
@@ -311,7 +315,7 @@ impl<D: Disk> Sectors for Txn<D> {
     }
 
     fn room(&self) -> usize {
-        DELTA + HEADER_TARGETS * (self.journal.header() as usize) - self.delta.len()
+        most_delta(self.journal.header()) - self.delta.len()
     }
 
     fn leave_hint(&mut self, key: u32, hint: u64) {
@@ -323,12 +327,22 @@ impl<D: Disk> Sectors for Txn<D> {
     }
 }
 
-// The memory of the sectors that wait, of a transaction's, and of hints.
-fn reserved(alloc: Global) -> Result<(Box<Batch>, Box<Batch>, Box<Hints>), AllocError>
-    ensures { IfOk result (λ parts. (parts.0.value ≡ []) × (parts.1.value ≡ [])) }
+// How many sectors one call may change, on a disk whose header has so many sectors.
+fn most_delta(header: u32) -> usize
+    requires { header ≤ MAX_HEADER }
+    ensures { result ≡ max_delta header }
 {
-    let waiting = Box::new(alloc, Batch::new(alloc)?)?;
-    let delta = Box::new(alloc, Batch::new(alloc)?)?;
-    let hints = Box::new(alloc, Hints::new())?;
+    DELTA + HEADER_TARGETS * (header as usize)
+}
+
+// The memory of the sectors that wait, of a transaction's, and of hints, on a disk whose header has so many sectors.
+fn reserved(alloc: Global, header: u32) -> Result<(Box<Batch>, Box<Batch>, Hints), AllocError>
+    requires { header ≤ MAX_HEADER }
+    ensures empty { IfOk result (λ parts. (parts.0.value.entries ≡ []) × (parts.1.value.entries ≡ [])) }
+    ensures most { IfOk result (λ parts. (parts.0.value.most ≡ max_targets header) × (parts.1.value.most ≡ max_delta header)) }
+{
+    let waiting = Box::new(alloc, Batch::new(alloc, max_targets(header))?)?;
+    let delta = Box::new(alloc, Batch::new(alloc, most_delta(header))?)?;
+    let hints = Hints::new(alloc, header)?;
     Ok((waiting, delta, hints))
 }

@@ -57,10 +57,7 @@ fn at(seconds: u64) -> Time {
 }
 
 fn number(found: Option<u32>) -> u64 {
-    match found {
-        Some(number) => u64::from(number),
-        None => 0,
-    }
+    u64::from(found.unwrap_or(0))
 }
 
 fn started(alloc: Global) -> Result<Server, AllocError> {
@@ -70,6 +67,7 @@ fn started(alloc: Global) -> Result<Server, AllocError> {
         keeping: Keeping::nothing(),
         sectors: 878,
         inodes: 64,
+        max_name: 120,
         start: at(3),
     };
     Server::new(alloc, settings)

@@ -8,7 +8,6 @@ use Rattle.fs_layout.specs.Header.{log_end}
 use Rattle.fs_layout.specs.Images.{Holds, inode_at}
 use Rattle.fs_layout.specs.Ownership.{IsConsistent}
 use Rattle.fs_layout.specs.Place.{IsPlace}
-use Rattle.fs_layout.proofs.Places.{after_map}
 use Rattle.sector_txn.specs.Sectors.{TxnState, IsUnchanged}
 use Rattle.sector_txn.proofs.TransactionRuns.{lacking_at_most}
 use Rattle.bit_alloc.specs.Inodes.{IsSound, KeepsBytes}
@@ -29,9 +28,9 @@ pub same_attributes : (p : Place) (n : ℕ) (old new : TxnState) → IsUnchanged
 same_attributes p n old new same v is =
     subst (λ (w : Inode). DiffersInAttributes w v) (is ∙ ap (λ (image : SectorMap). inode_at p image n) (map_unchanged same)) refl
 
--- a log without a header ends before the bitmaps of each layout
-pub log_without_header : {p : Place} {header : ℕ} → IsPlace p → header ≡ 0 → log_end header ≤ p.inode_bitmap
-log_without_header place none = let after = after_map place in omega (arith, ap log_end none, after)
+-- the log of a layout ends before its bitmaps
+pub log_of_place : {p : Place} {header : ℕ} → IsPlace p → header ≡ p.header → log_end header ≤ p.inode_bitmap
+log_of_place place same = omega (arith, ap log_end same, place.log)
 
 -- all bitmaps can be put, and so many sectors more
 pub has_spare : (p : Place) (k : ℕ) (txn : TxnState) → (p.table - p.inode_bitmap) + k ≤ txn.room → HasSpare p k txn

@@ -260,7 +260,7 @@ const LIMIT_OF_TWO: [Row; 11] = [
 
 #[test]
 fn calls(rt: HostRuntime) -> Result<(), Fail> {
-    let rows: [(Version, &[Row]); 8] = [
+    let rows: [(Version, &[Row]); 11] = [
         (Version::One, &DIRECT),
         (Version::One, &BEHIND_HOLES),
         (Version::One, &LONG),
@@ -269,6 +269,9 @@ fn calls(rt: HostRuntime) -> Result<(), Fail> {
         (Version::Two, &BEHIND_HOLES),
         (Version::Two, &LONG),
         (Version::Two, &LIMIT_OF_TWO),
+        (Version::Three, &DIRECT),
+        (Version::Three, &BEHIND_HOLES),
+        (Version::Three, &LONG),
     ];
     for (version, calls) in rows.iter() {
         let seen = agreed_of(rt.alloc(), *version, calls)?;

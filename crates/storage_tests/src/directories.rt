@@ -10,20 +10,36 @@ ghost use Rattle.fs_layout.specs.Directories.{IsName, HasNames};
 ghost use Rattle.bit_alloc.specs.Inodes.{IsSound};
 ghost use Rattle.bit_alloc.specs.Room.{HasSpare};
 
-use crate::maps::{end, map_of_version, parsed};
+use crate::maps::{end, map_of, parsed};
 use blank_map::{Counted, is_blank, put_blank};
 use dir_core::{DirFault, insert, is_empty, list, lookup, remove, rename, replace};
-use fs_layout::{Inode, Kind, MAX_NAME, Place, Version, is_name};
+use fs_layout::{Inode, Kind, MAX_NAME, Place, Super, Version, is_name};
 use inode_table::{load, new_inode};
 use posix_acl::Acl;
 use sector_txn::Sectors;
 use std::alloc::Global;
 use std::test::Fail;
 
-// Sectors and inodes of the disk: its block bitmap has one sector.
-const SECTORS: u32 = 1024;
+// The disks: their block bitmaps have one sector.
+const DISK_OF_TWO: Super = Super {
+    version: Version::Two,
+    sectors: 1024,
+    inodes: 16,
+    header: 0,
+};
 
-const INODES: u32 = 16;
+const DISK_OF_THREE: Super = Super {
+    version: Version::Three,
+    header: 1,
+    ..DISK_OF_TWO
+};
+
+// One of version 3 on which a call may change more than 300 sectors.
+const LONG_DISK: Super = Super {
+    sectors: 2048,
+    header: 3,
+    ..DISK_OF_THREE
+};
 
 #[derive(Clone, Copy)]
 enum Call {
@@ -70,7 +86,7 @@ fn fill<S: Sectors>(
     requires below { n < place.inodes }
     requires there { inode.old ≡ inode_at place (S.state s.old).sectors n }
     requires directory { (names : List (List ℕ × ℕ)) × HasNames place.version (S.state s.old).sectors inode.old names }
-    requires few { count ≤ 560 }
+    requires few { count ≤ 600 }
     ensures sound { OnOk result (IsSound place (S.state s.new)) }
     ensures there { OnOk result (inode.new ≡ inode_at place (S.state s.new).sectors n) }
     ensures directory { OnOk result ((names : List (List ℕ × ℕ)) × HasNames place.version (S.state s.new).sectors inode.new names) }
@@ -171,7 +187,7 @@ fn seen_on_blank<S: Sectors>(
         return Err(Fail::new("not made"));
     };
     let mut inode = load(s, place, n)?;
-    if !is_empty(&inode) || count > 560 {
+    if !is_empty(&inode) || count > 600 {
         return Err(Fail::new("not empty"));
     }
     fill(s, place, n, &mut inode, count)?;
@@ -186,8 +202,8 @@ fn seen_on_blank<S: Sectors>(
 }
 
 // The same on a new disk.
-fn seen_on_disk(alloc: Global, version: Version, access: &Acl, row: &Row) -> Result<Seen, Fail> {
-    let (place, mut s) = map_of_version(alloc, version, SECTORS, INODES)?;
+fn seen_on_disk(alloc: Global, disk: Super, access: &Acl, row: &Row) -> Result<Seen, Fail> {
+    let (place, mut s) = map_of(alloc, disk)?;
     let seen = seen_on_blank(alloc, &mut s, place, access, row);
     end(s);
     seen
@@ -197,9 +213,9 @@ fn seen_on_disk(alloc: Global, version: Version, access: &Acl, row: &Row) -> Res
 type Row = (u32, Call, u32, Seen);
 
 // How many rows are as they say, up to the first that isn't.
-fn agreed(alloc: Global, version: Version, access: &Acl, rows: &[Row]) -> Result<usize, Fail> {
+fn agreed(alloc: Global, disk: Super, access: &Acl, rows: &[Row]) -> Result<usize, Fail> {
     for (i, row) in rows.iter().enumerate() {
-        if seen_on_disk(alloc, version, access, row)? != row.3 {
+        if seen_on_disk(alloc, disk, access, row)? != row.3 {
             return Ok(i);
         }
     }
@@ -207,9 +223,9 @@ fn agreed(alloc: Global, version: Version, access: &Acl, rows: &[Row]) -> Result
 }
 
 // The same of directories with an ACL of their mode.
-fn agreed_of(alloc: Global, version: Version, rows: &[Row]) -> Result<usize, Fail> {
+fn agreed_of(alloc: Global, disk: Super, rows: &[Row]) -> Result<usize, Fail> {
     let access = parsed(alloc, b"user::rwx,group::r-x,other::---")?;
-    agreed(alloc, version, &access, rows)
+    agreed(alloc, disk, &access, rows)
 }
 
 // Of the names no sector is read twice, and none behind that of the name; from 49 names on there is a sector of pointers, which
@@ -235,7 +251,7 @@ const READS: [Row; 15] = [
 #[test]
 fn reads(rt: HostRuntime) -> Result<(), Fail> {
     let rows: &[Row] = &READS;
-    let seen = agreed_of(rt.alloc(), Version::NEWEST, rows)?;
+    let seen = agreed_of(rt.alloc(), DISK_OF_TWO, rows)?;
     assert!(rt; seen == rows.len(), "{seen}");
     Ok(())
 }
@@ -267,7 +283,7 @@ const CHANGES: [Row; 19] = [
 #[test]
 fn changes(rt: HostRuntime) -> Result<(), Fail> {
     let rows: &[Row] = &CHANGES;
-    let seen = agreed_of(rt.alloc(), Version::NEWEST, rows)?;
+    let seen = agreed_of(rt.alloc(), DISK_OF_TWO, rows)?;
     assert!(rt; seen == rows.len(), "{seen}");
     Ok(())
 }
@@ -289,10 +305,30 @@ const LONG: [Row; 13] = [
     (26, Call::Rename, 25, (Ok(26), 30, 1)),
 ];
 
+// From 281 names on there is a second sector of pointers, which a third one leads to; from 537 on there are two such. For each of
+// them the one above is read too.
+const MANY: [Row; 11] = [
+    (280, Call::Lookup, 279, (Ok(281), 141, 0)),
+    (280, Call::Lookup, 280, (Ok(0), 141, 0)),
+    (281, Call::Lookup, 280, (Ok(282), 144, 0)),
+    (600, Call::List, 0, (Ok(600), 305, 0)),
+    (280, Call::Insert, 280, (Ok(281), 146, 9)),
+    (281, Call::Insert, 281, (Ok(282), 149, 2)),
+    (282, Call::Insert, 282, (Ok(283), 149, 4)),
+    (536, Call::Insert, 536, (Ok(537), 275, 7)),
+    (281, Call::Remove, 280, (Ok(280), 283, 4)),
+    (282, Call::Remove, 0, (Ok(281), 9, 3)),
+    (600, Call::Replace, 599, (Ok(600), 308, 1)),
+];
+
 #[test]
 fn long_names(rt: HostRuntime) -> Result<(), Fail> {
-    let rows: &[Row] = &LONG;
-    let seen = agreed_of(rt.alloc(), Version::Three, rows)?;
-    assert!(rt; seen == rows.len(), "{seen}");
+    for (disk, rows) in [
+        (DISK_OF_THREE, LONG.as_slice()),
+        (LONG_DISK, MANY.as_slice()),
+    ] {
+        let seen = agreed_of(rt.alloc(), disk, rows)?;
+        assert!(rt; seen == rows.len(), "{seen}");
+    }
     Ok(())
 }

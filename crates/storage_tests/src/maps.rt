@@ -1,27 +1,74 @@
 //! A map on a new disk in memory, and the ACLs of its inodes.
 
-ghost use Rattle.std.specs.Prelude.{◌≤◌, IfOk};
+ghost use Rattle.std.specs.Prelude.{◌≡◌, ◌≤◌, IfOk, IfSome};
 ghost use Rattle.fs_layout.specs.Header.{log_end};
 ghost use Rattle.fs_layout.specs.Place.{IsPlace};
+ghost use Rattle.redo_journal.specs.States.{header_at};
 
-use blank_map::{Counted, idle_store};
-use fs_layout::{Place, Super, Version};
+use blank_map::Counted;
+use fs_layout::{Commit, Place, Super, Version};
 use posix_acl::{Acl, AclFault};
-use sector_disk::MemDisk;
-use sector_txn::{Sectors, Txn};
+use redo_journal::Journal;
+use sector_disk::{Disk, MemDisk};
+use sector_txn::{Sectors, Store, Txn};
 use std::alloc::Global;
 use std::test::Fail;
 
-// The fewest header sectors that a disk of this version has.
-fn least_header(version: Version) -> u32 {
-    match version {
-        Version::One | Version::Two => 0,
-        Version::Three => 1,
+// A store on a disk with this superblock, where it has so many sectors, and so many of them header sectors.
+fn opened<D: Disk + Drop>(alloc: Global, disk: D, superblock: Super) -> Option<Store<D>>
+    requires { 1024 ≤ superblock.sectors }
+    ensures size { IfSome result (λ store. (D.state store.disk).size ≡ superblock.sectors) }
+    ensures header { IfSome result (λ store. header_at (D.state store.disk).seen ≡ superblock.header) }
+{
+    if disk.size() != superblock.sectors {
+        return None;
+    }
+    let Ok(journal) = Journal::open(disk) else {
+        return None;
+    };
+    if journal.header() != superblock.header {
+        return None;
+    }
+    match Store::new(alloc, journal) {
+        Ok(store) => Some(store),
+        Err(_) => None,
     }
 }
 
-// A transaction on a new disk of so many sectors, laid out in this version for so many inodes.
-#[tactic(auto, using(crate::proofs::Lives::log_without_header))]
+// A disk in memory, zeros but for this superblock and an idle commit sector.
+fn disk_of(alloc: Global, superblock: Super) -> Option<MemDisk> {
+    let mut disk = MemDisk::new(alloc, superblock.sectors).ok()?;
+    if disk.size() < 2 {
+        return None;
+    }
+    let mut content = [0; 512];
+    superblock.write_to(&mut content, 0);
+    disk.write(0, &content).ok()?;
+    disk.write(1, &Commit::idle().to_sector()).ok()?;
+    disk.sync().ok()?;
+    Some(disk)
+}
+
+// A transaction on a new disk with this superblock.
+#[tactic(auto, using(crate::proofs::Lives::log_of_place))]
+pub(super) fn map_of(
+    alloc: Global,
+    superblock: Super,
+) -> Result<(Place, Counted<Txn<MemDisk>>), Fail>
+    ensures place { IfOk result (λ map. IsPlace map.0) }
+    ensures disk { IfOk result (λ map. map.0.sectors ≤ (⟦<Txn<MemDisk> as Sectors>⟧.state map.1.inner).disk.size) }
+    ensures header { IfOk result (λ map. log_end (⟦<Txn<MemDisk> as Sectors>⟧.state map.1.inner).header ≤ map.0.inode_bitmap) }
+{
+    let place = superblock.place().ok_or("no place")?;
+    if place.sectors != superblock.sectors || place.header != superblock.header {
+        return Err(Fail::new("another place"));
+    }
+    let disk = disk_of(alloc, superblock).ok_or("no disk")?;
+    let store = opened(alloc, disk, superblock).ok_or("no store")?;
+    Ok((place, Counted::new(store.begin())))
+}
+
+// The same in this version, of so many sectors and inodes, with as few header sectors as it has.
 pub(super) fn map_of_version(
     alloc: Global,
     version: Version,
@@ -32,21 +79,20 @@ pub(super) fn map_of_version(
     ensures disk { IfOk result (λ map. map.0.sectors ≤ (⟦<Txn<MemDisk> as Sectors>⟧.state map.1.inner).disk.size) }
     ensures header { IfOk result (λ map. log_end (⟦<Txn<MemDisk> as Sectors>⟧.state map.1.inner).header ≤ map.0.inode_bitmap) }
 {
+    let header = match version {
+        Version::One | Version::Two => 0,
+        Version::Three => 1,
+    };
     let superblock = Super {
         version,
         sectors,
         inodes,
-        header: least_header(version),
+        header,
     };
-    let place = superblock.place().ok_or("no place")?;
-    if place.sectors != sectors {
-        return Err(Fail::new("another size"));
-    }
-    let store = idle_store(alloc, sectors).ok_or("no store")?;
-    Ok((place, Counted::new(store.begin())))
+    map_of(alloc, superblock)
 }
 
-// The same in the newest version.
+// The same in version 2.
 pub(super) fn new_map(
     alloc: Global,
     sectors: u32,
@@ -56,7 +102,7 @@ pub(super) fn new_map(
     ensures disk { IfOk result (λ map. map.0.sectors ≤ (⟦<Txn<MemDisk> as Sectors>⟧.state map.1.inner).disk.size) }
     ensures header { IfOk result (λ map. log_end (⟦<Txn<MemDisk> as Sectors>⟧.state map.1.inner).header ≤ map.0.inode_bitmap) }
 {
-    map_of_version(alloc, Version::NEWEST, sectors, inodes)
+    map_of_version(alloc, Version::Two, sectors, inodes)
 }
 
 // Nothing of it is kept.

@@ -3,6 +3,7 @@
 
 use fs_cred::{Cred, Errno, Refusal};
 use fs_images::mkfs;
+use fs_layout::Version;
 use fs_model::{Bytes, Call, Flags, Path, Reply};
 use fs_system::Fs;
 use sector_disk::{Disk, FuseDisk, MemDisk};
@@ -12,7 +13,7 @@ use std::test::Fail;
 
 // A new file system of 1,024 sectors with 64 inodes, on any disk of that size.
 fn new_fs<D: Disk + Drop>(alloc: Global, mut disk: D) -> Result<Fs<D>, Fail> {
-    mkfs(&mut disk, 64)?;
+    mkfs(&mut disk, Version::Two, 64)?;
     match Fs::mount(alloc, disk) {
         Ok(fs) => Ok(fs),
         Err(_) => Err(Fail::new("not mounted")),

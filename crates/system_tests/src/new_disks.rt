@@ -5,6 +5,7 @@ ghost use Rattle.sector_disk.specs.Disk.{IsStable};
 ghost use Rattle.fs_images.specs.Making.{IsHalfMade, IsNewDisk};
 
 use fs_images::{MkfsFault, mkfs};
+use fs_layout::Version;
 use fs_system::{Fs, MountFault};
 use sector_disk::{CrashDisk, Disk, FailOnce, FuseDisk, MemDisk};
 use std::alloc::{AllocError, Global};
@@ -26,13 +27,18 @@ fn used_disk(alloc: Global, size: u32) -> Result<MemDisk, AllocError>
 }
 
 // Makes a file system on any disk, and stops the disk: the clauses say what is there then.
-fn make_and_stop<D: CrashDisk>(disk: &mut D, inodes: u32, choice: &[u8]) -> Result<(), MkfsFault>
-    ensures made { OnOk result (IsNewDisk inodes (D.state disk.new).seen) }
-    ensures half_made { IsHalfMade (D.state disk.old) inodes (D.state disk.new).seen }
+fn make_and_stop<D: CrashDisk>(
+    disk: &mut D,
+    version: Version,
+    inodes: u32,
+    choice: &[u8],
+) -> Result<(), MkfsFault>
+    ensures made { OnOk result (IsNewDisk version inodes (D.state disk.new).seen) }
+    ensures half_made { IsHalfMade (D.state disk.old) version inodes (D.state disk.new).seen }
     ensures stable { IsStable (D.state disk.new) }
     ensures size { (D.state disk.new).size ≡ (D.state disk.old).size }
 {
-    let made = mkfs(disk, inodes);
+    let made = mkfs(disk, version, inodes);
     disk.crash(choice);
     made
 }
@@ -48,30 +54,50 @@ fn content_of<D: Disk>(disk: &mut D, n: u32) -> Result<[u8; 512], Fail>
 
 // ---- refusals
 
-fn outcome_of(alloc: Global, sectors: u32, inodes: u32) -> Result<Result<(), MkfsFault>, Fail> {
+fn outcome_of(
+    alloc: Global,
+    version: Version,
+    sectors: u32,
+    inodes: u32,
+) -> Result<Result<(), MkfsFault>, Fail> {
     let mut disk = MemDisk::new(alloc, sectors)?;
-    Ok(mkfs(&mut disk, inodes))
+    Ok(mkfs(&mut disk, version, inodes))
 }
 
-// Sectors and inodes, and what is answered.
-static SIZES: [(u32, u32, Result<(), MkfsFault>); 10] = [
-    (1023, 64, Err(MkfsFault::BadSize)),
-    (65537, 64, Err(MkfsFault::BadSize)),
-    (1023, 15, Err(MkfsFault::BadSize)),
-    (1024, 15, Err(MkfsFault::BadInodes)),
-    (1024, 4097, Err(MkfsFault::BadInodes)),
-    (1024, 4096, Err(MkfsFault::TooSmall)),
+// The version, sectors and inodes, and what is answered.
+static SIZES: [(Version, u32, u32, Result<(), MkfsFault>); 24] = [
+    (Version::Two, 1023, 64, Err(MkfsFault::BadSize)),
+    (Version::Two, 65537, 64, Err(MkfsFault::BadSize)),
+    (Version::Two, 1023, 15, Err(MkfsFault::BadSize)),
+    (Version::Two, 1024, 15, Err(MkfsFault::BadInodes)),
+    (Version::Two, 1024, 4097, Err(MkfsFault::BadInodes)),
+    (Version::Two, 1024, 4096, Err(MkfsFault::TooSmall)),
     // The data would begin at 961.
-    (1024, 3321, Err(MkfsFault::TooSmall)),
-    (1024, 3320, Ok(())),
-    (1024, 16, Ok(())),
-    (65536, 4096, Ok(())),
+    (Version::Two, 1024, 3321, Err(MkfsFault::TooSmall)),
+    (Version::Two, 1024, 3320, Ok(())),
+    (Version::Two, 1024, 16, Ok(())),
+    (Version::Two, 65536, 4096, Ok(())),
+    (Version::One, 65537, 64, Err(MkfsFault::BadSize)),
+    (Version::One, 1024, 4097, Err(MkfsFault::BadInodes)),
+    (Version::One, 1024, 3320, Ok(())),
+    (Version::Three, 1023, 64, Err(MkfsFault::BadSize)),
+    (Version::Three, 16777217, 64, Err(MkfsFault::BadSize)),
+    (Version::Three, 1023, 15, Err(MkfsFault::BadSize)),
+    (Version::Three, 1024, 15, Err(MkfsFault::BadInodes)),
+    (Version::Three, 1024, 1048577, Err(MkfsFault::BadInodes)),
+    (Version::Three, 1024, 1048576, Err(MkfsFault::TooSmall)),
+    // The data would begin at 961 too.
+    (Version::Three, 1024, 1785, Err(MkfsFault::TooSmall)),
+    (Version::Three, 1024, 1784, Ok(())),
+    (Version::Three, 1024, 16, Ok(())),
+    (Version::Three, 65537, 4097, Ok(())),
+    (Version::Three, 2048, 64, Ok(())),
 ];
 
 #[test]
 fn sizes_and_inodes_out_of_range_are_refused(rt: HostRuntime) -> Result<(), Fail> {
-    for &(sectors, inodes, wanted) in &SIZES {
-        let outcome = outcome_of(rt.alloc(), sectors, inodes)?;
+    for &(version, sectors, inodes, wanted) in &SIZES {
+        let outcome = outcome_of(rt.alloc(), version, sectors, inodes)?;
         assert!(rt; outcome == wanted, "{sectors} {inodes}: {outcome:?}");
     }
     Ok(())
@@ -91,9 +117,10 @@ fn has_bytes<D: Disk>(disk: &mut D, n: u32, at: usize, bytes: &[u8]) -> Result<b
 // The first sector and offset of these where a new file system of 64 inodes has other bytes.
 fn first_other<D: Disk>(
     disk: &mut D,
+    version: Version,
     all: &[(u32, usize, &[u8])],
 ) -> Result<Option<(u32, usize)>, Fail> {
-    mkfs(disk, 64)?;
+    mkfs(disk, version, 64)?;
     for (n, at, bytes) in all {
         if !has_bytes(disk, *n, *at, bytes)? {
             return Ok(Some((*n, *at)));
@@ -102,7 +129,7 @@ fn first_other<D: Disk>(
     Ok(None)
 }
 
-// Sectors and offsets of a new disk that was used before, and the bytes from there on.
+// Sectors and offsets of a new disk that was used before, and the bytes from there on. It is one of version 2 and 1,024 sectors.
 static BYTES: [(u32, usize, &[u8]); 11] = [
     // Magic, version 2, 1,024 sectors, 64 inodes.
     (0, 0, b"INOS\x02\0\0\0\0\x04\0\0\x40\0\0\0\0"),
@@ -127,47 +154,95 @@ static BYTES: [(u32, usize, &[u8]); 11] = [
     (146, 0, b"\xaa\xaa"),
 ];
 
-fn first_other_of_a_new_disk(alloc: Global) -> Result<Option<(u32, usize)>, Fail> {
-    let mut disk = used_disk(alloc, 1024)?;
-    let other = first_other(&mut disk, &BYTES);
+// The same of one of version 3 and 2,048 sectors.
+static BYTES_OF_THREE: [(u32, usize, &[u8]); 15] = [
+    // The superblock has the number of header sectors too.
+    (
+        0,
+        0,
+        b"INOS\x03\0\0\0\0\x08\0\0\x40\0\0\0\x01\0\0\0\0\0\0\0",
+    ),
+    (0, 508, b"\0\0\0\0"),
+    (1, 0, b"INOJ\0\0\0\0\0"),
+    // The log areas are what they were.
+    (2, 0, b"\xaa\xaa"),
+    (257, 0, b"\xaa\xaa"),
+    (511, 510, b"\xaa\xaa"),
+    (512, 0, b"\x03\0\0\0\0\0\0\0\xff"),
+    (512, 511, b"\xff"),
+    // Sectors 0 to 529, and those from 2,048 on.
+    (513, 64, b"\xff\xff\x03\0"),
+    (513, 254, b"\0\0\xff"),
+    (513, 511, b"\xff"),
+    (
+        514,
+        124,
+        b"\0\0\0\0\x02\0\xed\x01\0\0\0\0\0\0\0\0\x01\0\0\0",
+    ),
+    (514, 144, b"\0\0\0\0\0\0\0\0\x01\0\0\0\0\0\0\0"),
+    (529, 508, b"\0\0\0\0"),
+    (530, 0, b"\xaa\xaa"),
+];
+
+fn first_other_of_a_new_disk(
+    alloc: Global,
+    version: Version,
+    sectors: u32,
+    all: &[(u32, usize, &[u8])],
+) -> Result<Option<(u32, usize)>, Fail> {
+    let mut disk = used_disk(alloc, sectors)?;
+    let other = first_other(&mut disk, version, all);
     mem::drop(disk);
     other
 }
 
 #[test]
 fn a_new_disk_has_these_bytes(rt: HostRuntime) -> Result<(), Fail> {
-    let other = first_other_of_a_new_disk(rt.alloc())?;
-    assert!(rt; other.is_none(), "{other:?}");
+    let alloc = rt.alloc();
+    let other = [
+        first_other_of_a_new_disk(alloc, Version::Two, 1024, &BYTES)?,
+        first_other_of_a_new_disk(alloc, Version::Three, 2048, &BYTES_OF_THREE)?,
+    ];
+    assert!(rt; other == [None; 2], "{other:?}");
     Ok(())
 }
 
 // ---- stops and faults
 
-// The superblock of 1,024 sectors and 64 inodes.
-fn new_superblock() -> [u8; 512] {
+// The superblock of 1,024 sectors and 64 inodes in version 2 or 3.
+fn new_superblock(version: Version) -> [u8; 512] {
     let mut content = NONE;
     content[..16].copy_from_slice(b"INOS\x02\0\0\0\0\x04\0\0\x40\0\0\0");
+    if version == Version::Three {
+        content[4] = 3;
+        content[16] = 1;
+    }
     content
 }
 
 // Whether a file system is made with so many writes and syncs left, and what is in sector 0 after a stop.
 fn made_and_stopped<D: CrashDisk + Drop>(
     mut disk: D,
+    version: Version,
     passes: u64,
     choice: &[u8],
 ) -> Result<(bool, [u8; 512]), Fail>
     requires { 0 < (D.state disk).size }
 {
     disk.arm(passes);
-    let made = make_and_stop(&mut disk, 64, choice);
+    let made = make_and_stop(&mut disk, version, 64, choice);
     let content = content_of(&mut disk, 0)?;
     Ok((made.is_ok(), content))
 }
 
 // The same after a stop that leaves the old contents, and after one that leaves the new ones.
-fn made_both_ways(alloc: Global, passes: u64) -> Result<[(bool, [u8; 512]); 2], Fail> {
-    let zeros = made_and_stopped(used_disk(alloc, 1024)?, passes, &[])?;
-    let ones = made_and_stopped(used_disk(alloc, 1024)?, passes, &[1; 32])?;
+fn made_both_ways(
+    alloc: Global,
+    version: Version,
+    passes: u64,
+) -> Result<[(bool, [u8; 512]); 2], Fail> {
+    let zeros = made_and_stopped(used_disk(alloc, 1024)?, version, passes, &[])?;
+    let ones = made_and_stopped(used_disk(alloc, 1024)?, version, passes, &[1; 32])?;
     Ok([zeros, ones])
 }
 
@@ -182,11 +257,11 @@ enum Front {
     New,
 }
 
-fn content_at(front: Front) -> [u8; 512] {
+fn content_at(version: Version, front: Front) -> [u8; 512] {
     match front {
         Front::Used => USED,
         Front::Zeros => NONE,
-        Front::New => new_superblock(),
+        Front::New => new_superblock(version),
     }
 }
 
@@ -208,13 +283,15 @@ static STOPS: [(u64, bool, Front, Front); 9] = [
 fn a_stop_leaves_what_was_there_or_no_superblock_or_the_new_disk(
     rt: HostRuntime,
 ) -> Result<(), Fail> {
-    for &(passes, made, zeros_chosen, ones_chosen) in &STOPS {
-        let seen = made_both_ways(rt.alloc(), passes)?;
-        let wanted = [
-            (made, content_at(zeros_chosen)),
-            (made, content_at(ones_chosen)),
-        ];
-        assert!(rt; seen == wanted, "{passes}");
+    for version in [Version::Two, Version::Three] {
+        for &(passes, made, zeros_chosen, ones_chosen) in &STOPS {
+            let seen = made_both_ways(rt.alloc(), version, passes)?;
+            let wanted = [
+                (made, content_at(version, zeros_chosen)),
+                (made, content_at(version, ones_chosen)),
+            ];
+            assert!(rt; seen == wanted, "{passes}");
+        }
     }
     Ok(())
 }
@@ -233,7 +310,7 @@ pub(crate) fn mount_fault<D: Disk + Drop>(alloc: Global, disk: D) -> Option<Moun
 }
 
 fn made_and_mounted<D: Disk + Drop>(alloc: Global, mut disk: D) -> Outcome {
-    let made = mkfs(&mut disk, 64);
+    let made = mkfs(&mut disk, Version::Two, 64);
     let failures = disk.failures();
     if made.is_err() {
         mem::drop(disk);

@@ -2,6 +2,7 @@
 
 use crate::report::push_other_text;
 use fs_images::mkfs;
+use fs_layout::Version;
 use fs_shell::{Count, RunFault, Watched, run};
 use fs_system::Fs;
 use sector_disk::MemDisk;
@@ -15,7 +16,7 @@ use std::test::Fail;
 // An empty file system in memory.
 fn mounted(alloc: Global) -> Result<Fs<MemDisk>, Fail> {
     let mut disk = MemDisk::new(alloc, 1024)?;
-    mkfs(&mut disk, 64)?;
+    mkfs(&mut disk, Version::Two, 64)?;
     match Fs::mount(alloc, disk) {
         Ok(fs) => Ok(fs),
         Err((fault, _)) => Err(fault)?,

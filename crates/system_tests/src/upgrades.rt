@@ -3,42 +3,37 @@
 ghost use Rattle.std.specs.Prelude.{◌≡◌, ◌<◌, IfOk};
 
 use fs_images::{UpgradeFault, mkfs, upgrade};
-use sector_disk::{CrashDisk, Disk, MemDisk, write_synced};
+use fs_layout::Version;
+use sector_disk::{CrashDisk, Disk, MemDisk};
 use std::alloc::Global;
 use std::test::Fail;
 
 // Where the superblock has its version.
 const VERSION: usize = 4;
 
-// The superblock of 1,024 sectors and 64 inodes in a version.
-fn superblock(version: u8) -> [u8; 512] {
-    let mut content = [0; 512];
-    content[..16].copy_from_slice(b"INOS\0\0\0\0\0\x04\0\0\x40\0\0\0");
-    content[VERSION] = version;
-    content
-}
-
-// A new file system whose superblock says this version, all of it stable.
-fn disk_of_version(alloc: Global, version: u8) -> Result<MemDisk, Fail>
+// A new file system of this version, all of it stable.
+fn disk_of_version(alloc: Global, version: Version) -> Result<MemDisk, Fail>
     ensures { IfOk result (λ disk. (⟦<MemDisk as Disk>⟧.state disk).size ≡ 1024) }
 {
     let mut disk = MemDisk::new(alloc, 1024)?;
-    mkfs(&mut disk, 64)?;
-    write_synced(&mut disk, 0, &superblock(version))?;
+    mkfs(&mut disk, version, 64)?;
     Ok(disk)
 }
 
-// What an upgrade comes to with so many writes and syncs left, and the version after a stop.
+// The version that an upgrade tells, or why it tells none; and the one that is there after a stop.
+type Upgraded = (Result<u32, UpgradeFault>, u8);
+
+// What an upgrade comes to with so many writes and syncs left.
 fn upgraded_and_stopped<D: CrashDisk + Drop>(
     alloc: Global,
     mut disk: D,
     passes: u64,
     choice: &[u8],
-) -> Result<(Result<(), UpgradeFault>, u8), Fail>
+) -> Result<Upgraded, Fail>
     requires { 0 < (D.state disk).size }
 {
     disk.arm(passes);
-    let upgraded = upgrade(alloc, &mut disk);
+    let upgraded = upgrade(alloc, &mut disk).map(Version::number);
     disk.crash(choice);
     let mut content = [0; 512];
     disk.read(0, &mut content)?;
@@ -46,11 +41,7 @@ fn upgraded_and_stopped<D: CrashDisk + Drop>(
 }
 
 // The same after a stop that leaves the old contents, and after one that leaves the new ones.
-fn upgraded_both_ways(
-    alloc: Global,
-    version: u8,
-    passes: u64,
-) -> Result<[(Result<(), UpgradeFault>, u8); 2], Fail> {
+fn upgraded_both_ways(alloc: Global, version: Version, passes: u64) -> Result<[Upgraded; 2], Fail> {
     let disk = disk_of_version(alloc, version)?;
     let zeros = upgraded_and_stopped(alloc, disk, passes, &[])?;
     let disk = disk_of_version(alloc, version)?;
@@ -64,17 +55,19 @@ fn a_stop_leaves_the_old_version_or_the_new_one(rt: HostRuntime) -> Result<(), F
     // The version before, what passes of a sync, the write of sector 0 and a sync, what the upgrade comes to, and the version
     // after a stop that leaves the old contents, and the new ones.
     for (version, passes, wanted, zeros_chosen, ones_chosen) in [
-        (1, 0, failed, 1, 1),
-        (1, 1, failed, 1, 2),
-        (1, 2, failed, 1, 2),
-        (1, 3, Ok(()), 2, 2),
+        (Version::One, 0, failed, 1, 1),
+        (Version::One, 1, failed, 1, 2),
+        (Version::One, 2, failed, 1, 2),
+        (Version::One, 3, Ok(2), 2, 2),
         // A sync alone.
-        (2, 0, failed, 2, 2),
-        (2, 1, Ok(()), 2, 2),
+        (Version::Two, 0, failed, 2, 2),
+        (Version::Two, 1, Ok(2), 2, 2),
+        (Version::Three, 0, failed, 3, 3),
+        (Version::Three, 1, Ok(3), 3, 3),
     ] {
         let seen = upgraded_both_ways(rt.alloc(), version, passes)?;
         let wanted = [(wanted, zeros_chosen), (wanted, ones_chosen)];
-        assert!(rt; seen == wanted, "{version} {passes}: {seen:?}");
+        assert!(rt; seen == wanted, "{passes}: {seen:?}");
     }
     Ok(())
 }

@@ -5,6 +5,7 @@ use crate::disks::{INODES, SECTORS};
 use anyhow::bail;
 use fs_fuse::serve_requests;
 use fs_images::mkfs;
+use fs_layout::Version;
 use fs_system::Fs;
 use fuse_protocol::Time;
 use fuse_serving::{Kernel, Nobody, ReplyRoom, ServeFault};
@@ -65,6 +66,7 @@ fn settings_of(fs: &mut Fs<MemDisk>, start: u64, max_write: u32) -> Option<Setti
         keeping: Keeping::nothing(),
         sectors,
         inodes: free_inodes.saturating_add(1),
+        max_name: 120,
         start: Time {
             seconds: start,
             nanoseconds: 0,
@@ -84,7 +86,7 @@ fn new_file_system(alloc: Global) -> anyhow::Result<Fs<MemDisk>> {
 
 fn new_disk(alloc: Global) -> anyhow::Result<MemDisk> {
     let mut disk = MemDisk::new(alloc, SECTORS)?;
-    mkfs(&mut disk, INODES)?;
+    mkfs(&mut disk, Version::Two, INODES)?;
     Ok(disk)
 }
 

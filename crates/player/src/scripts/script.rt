@@ -12,7 +12,7 @@
 //!   second, and so on, each for at least one number; the last of fewer stays. Where LAST is `up`, the run ends once the last
 //!   replies are seen.
 //! - A line `disk fails at N` makes call N of the disk fail, counted from 0 before the file system is made. On a `disk
-//!   without a file system` none is made.
+//!   without a file system` none is made. A `disk of version 3` has one of that version.
 //! - `unmount` is answered `unmounted`, or `unmount: ERROR`. `mount` unmounts, where that wasn't done, and mounts again, and is
 //!   answered `mounted`, or by why not. `mount N` lets N calls of the disk pass from then on. A line while nothing is mounted
 //!   is answered `down`.
@@ -23,6 +23,7 @@
 
 use crate::scripts::row::{Fill, push_row};
 use anyhow::bail;
+use fs_layout::Version;
 use std::alloc::Global;
 use std::mem;
 
@@ -53,9 +54,9 @@ const ONCE: Numbers<'static> = Numbers {
 /// The disk of a script.
 #[derive(Clone, Copy)]
 pub enum NewDisk {
-    /// It has an empty file system.
-    Made,
-    /// The same, and this call of it fails.
+    /// It has an empty file system of this version.
+    Made(Version),
+    /// It has one of version 2, and this call of it fails.
     FailsAt(u64),
     /// It has no file system.
     Unmade,
@@ -64,7 +65,7 @@ pub enum NewDisk {
 // The same with the number as it stands in the file.
 #[derive(Clone, Copy)]
 enum DiskLine<'a> {
-    Made,
+    Made(Version),
     FailsAt(&'a str),
     Unmade,
 }
@@ -123,7 +124,7 @@ impl<'a> Script<'a> {
             title,
             outer: ONCE,
             inner: ONCE,
-            disk: DiskLine::Made,
+            disk: DiskLine::Made(Version::Two),
             rows: Vec::new(alloc),
         };
         match script.add_all(head, below) {
@@ -152,6 +153,8 @@ impl<'a> Script<'a> {
             self.inner = Numbers::read(words)?;
         } else if let Some(call) = line.strip_prefix("disk fails at ") {
             self.disk = DiskLine::FailsAt(call);
+        } else if line == "disk of version 3" {
+            self.disk = DiskLine::Made(Version::Three);
         } else if line == "disk without a file system" {
             self.disk = DiskLine::Unmade;
         } else {
@@ -183,7 +186,7 @@ impl<'a> Script<'a> {
 
 fn new_disk(alloc: Global, fill: &Fill<'_>, disk: DiskLine<'_>) -> anyhow::Result<NewDisk> {
     Ok(match disk {
-        DiskLine::Made => NewDisk::Made,
+        DiskLine::Made(version) => NewDisk::Made(version),
         DiskLine::FailsAt(call) => NewDisk::FailsAt(
             filled(alloc, fill, call)?
                 .as_str()

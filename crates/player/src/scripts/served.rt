@@ -1,9 +1,10 @@
 //! Runs scripts on disks of which calls may fail, which may be changed, checked, and mounted again.
 
-use crate::disks::{INODES, SECTORS};
+use crate::disks::{INODES, sectors_of};
 use anyhow::{anyhow, bail};
 use fs_check::{CheckFault, Summary, check};
 use fs_images::mkfs;
+use fs_layout::Version;
 use fs_shell::{Watched, run};
 use fs_system::{Fs, MountFault};
 use sector_disk::{Disk, FailOnce, FuseDisk, MemDisk};
@@ -31,10 +32,10 @@ enum Request<'a> {
     Check,
 }
 
-/// What is answered to the lines on an empty file system, of whose disk this call fails.
-pub fn replies(alloc: Global, call: u64, lines: &str) -> anyhow::Result<String> {
+/// What is answered to the lines on an empty file system of this version, of whose disk this call fails.
+pub fn replies(alloc: Global, version: Version, call: u64, lines: &str) -> anyhow::Result<String> {
     let mut seen = String::new(alloc);
-    let mut served = mounted(alloc, &mut seen, new_disk(alloc, call)?)?;
+    let mut served = mounted(alloc, &mut seen, new_disk(alloc, version, call)?)?;
     seen.clear();
     let mut script = String::new(alloc);
     for line in lines.split_terminator('\n') {
@@ -47,9 +48,9 @@ pub fn replies(alloc: Global, call: u64, lines: &str) -> anyhow::Result<String> 
 }
 
 // A disk with an empty file system, of which this call fails.
-fn new_disk(alloc: Global, call: u64) -> anyhow::Result<FailingDisk> {
-    let mut disk = FailOnce::new(MemDisk::new(alloc, SECTORS)?, call);
-    mkfs(&mut disk, INODES)?;
+fn new_disk(alloc: Global, version: Version, call: u64) -> anyhow::Result<FailingDisk> {
+    let mut disk = FailOnce::new(MemDisk::new(alloc, sectors_of(version))?, call);
+    mkfs(&mut disk, version, INODES)?;
     Ok(FuseDisk::new(disk, u64::MAX))
 }
 

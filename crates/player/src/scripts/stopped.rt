@@ -1,8 +1,9 @@
 //! Plays scripts with stops of the disk.
 
-use crate::disks::{INODES, SECTORS};
+use crate::disks::{INODES, SECTORS, sectors_of};
 use anyhow::bail;
 use fs_images::mkfs;
+use fs_layout::Version;
 use fs_lines::{Line, parse_line, reply_text};
 use fs_model::{Bytes, Event, EventReply, Reply, RestartFault};
 use fs_system::play;
@@ -16,10 +17,10 @@ pub fn has_stops(lines: &str) -> bool {
         || line.starts_with("restart "))
 }
 
-/// What is answered to the lines on an empty file system.
-pub fn replies(alloc: Global, lines: &str) -> anyhow::Result<String> {
-    let mut disk = MemDisk::new(alloc, SECTORS)?;
-    mkfs(&mut disk, INODES)?;
+/// What is answered to the lines on an empty file system of this version.
+pub fn replies(alloc: Global, version: Version, lines: &str) -> anyhow::Result<String> {
+    let mut disk = MemDisk::new(alloc, sectors_of(version))?;
+    mkfs(&mut disk, version, INODES)?;
     replies_on(alloc, disk, lines)
 }
 

@@ -2,6 +2,7 @@
 
 use crate::scripts::script::{NewDisk, Rows, Script};
 use crate::scripts::{served, stopped};
+use fs_layout::Version;
 use std::alloc::Global;
 use std::mem;
 
@@ -90,8 +91,10 @@ fn other_than(
 fn replies(alloc: Global, disk: NewDisk, lines: &str) -> anyhow::Result<String> {
     match disk {
         NewDisk::Unmade => stopped::replies_without_mkfs(alloc, lines),
-        NewDisk::Made if stopped::has_stops(lines) => stopped::replies(alloc, lines),
-        NewDisk::Made => served::replies(alloc, u64::MAX, lines),
-        NewDisk::FailsAt(call) => served::replies(alloc, call, lines),
+        NewDisk::Made(version) if stopped::has_stops(lines) => {
+            stopped::replies(alloc, version, lines)
+        }
+        NewDisk::Made(version) => served::replies(alloc, version, u64::MAX, lines),
+        NewDisk::FailsAt(call) => served::replies(alloc, Version::Two, call, lines),
     }
 }

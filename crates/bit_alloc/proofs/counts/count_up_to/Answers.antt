@@ -1,80 +1,65 @@
-use Rattle.std.proofs.Common.{◌≡◌, ◌+◌, ◌*◌, ◌≤◌, ℕ, ap, sym, ◌∙◌, arith}
-use Rattle.std.specs.Prelude.{List}
+use Rattle.std.proofs.Common.{◌≡◌, ◌+◌, ◌*◌, ◌≤◌, ◌<◌, ◌∙◌, ℕ, ap, sym, arith}
 use Rattle.fs_layout.specs.Bytes.{SectorMap}
+use Rattle.fs_layout.specs.declared.place.Place.{Place}
+use Rattle.bit_alloc.specs.declared.bitmap.Bitmap.{Bitmap}
+use Rattle.sector_txn.specs.Sectors.{TxnState}
 use Rattle.bit_alloc.specs.Bits.{clear_below}
-use Rattle.bit_alloc.specs.Bitmaps.{first_sector, bit_count}
-use Rattle.bit_alloc.proofs.Transactions.{unchanged_nothing, unchanged_joined}
-use Rattle.bit_alloc.proofs.Maps.{none_counted, sector_counted, counted_at_most, fewer_counted, few_bits, numbers_counted}
+use Rattle.bit_alloc.specs.Bitmaps.{first_sector, bit_count, free_numbers, HasBitmaps}
+use Rattle.bit_alloc.proofs.Transactions.{map_unchanged, bitmaps_unchanged}
+use Rattle.bit_alloc.proofs.Maps.{none_counted, numbers_counted, few_free}
 use Rattle.bit_alloc.proofs.counts.count_up_to.Goals as goal
 
-pub loop-k-init : goal.loop-k-init
-loop-k-init g c =
-    let none = none_counted (g.S.Sectors.state c.args.s.now).sectors (first_sector c.args.place c.args.map) in
-    record { same = unchanged_nothing; some = omega arith; all = λ less. sym none }
+-- what the whole bitmap has clear are its free numbers
+all_counted : (p : Place) (map : Bitmap) (txn : TxnState) (sectors : ℕ) → HasBitmaps p txn → 4096 * sectors ≡ bit_count p map
+    → clear_below txn.sectors (first_sector p map) (4096 * sectors) ≡ free_numbers p map txn.sectors
+all_counted p map txn sectors has all = ap (clear_below txn.sectors (first_sector p map)) all ∙ numbers_counted p map txn.sectors has.place has.rest
 
-pub loop-k-preserved : goal.loop-k-preserved
-loop-k-preserved g c =
-    let image : SectorMap = (g.S.Sectors.state c.args.s.now).sectors in
-    let start : ℕ = first_sector c.args.place c.args.map in
-    let sector : List ℕ = c.get.new.to in
-    let so_far = c.loop-k.invariant in
-    let here : sector ≡ image (start + c.loop-k.k) =
-    c.in_ok-get.ensures.content ∙ so_far.same.sectors (c.first.result + c.loop-k.k) ∙ ap (λ (n : ℕ). image (n + c.loop-k.k)) c.first.ensures in
-    let next : 4096 * c.loop-k.k + 4096 ≡ 4096 * (c.loop-k.k + 1) = omega arith in
-    let more : clear_below image start (4096 * (c.loop-k.k + 1)) ≡ clear_below image start (4096 * c.loop-k.k) + clear_below (λ _. sector) 0 4096 =
-    ap (clear_below image start) (sym next) ∙ sector_counted image start c.loop-k.k 4096 sector here (omega arith) in
-    let before : c.loop-k.free ≡ clear_below image start (4096 * c.loop-k.k) = so_far.all (omega arith) in
-    record {
-      same = unchanged_joined so_far.same c.in_ok-get.ensures.same;
-      some = omega (arith, before, more, c.count_clear_up_to-free.ensures.some);
-      all = λ less. let rest = c.count_clear_up_to-free.ensures.all (omega (arith, less)) in omega (arith, before, more, rest);
-    }
-
-pub overflow_add-free : goal.overflow_add-free
-overflow_add-free g c =
-    let image : SectorMap = (g.S.Sectors.state c.args.s.now).sectors in
-    let sector : List ℕ = c.get.new.to in
-    omega (
-      arith,
-      c.loop-k.invariant.some,
-      counted_at_most image (first_sector c.args.place c.args.map) (4096 * c.loop-k.k),
-      c.count_clear_up_to-free.ensures.some,
-      counted_at_most (λ _. sector) 0 4096,
-      c.loop-k-test.true,
-      c.sectors-k-end.ensures,
-      few_bits c.args.place c.args.map c.requires.place,
-    )
-
--- the count so far is at most all
 pub returns-then-free-enough-clause-some : goal.returns-then-free-enough-clause-some
 returns-then-free-enough-clause-some g c =
-    let image : SectorMap = (g.S.Sectors.state c.args.s.now).sectors in
-    let start : ℕ = first_sector c.args.place c.args.map in
-    let within : 4096 * c.loop-k.k ≤ bit_count c.args.place c.args.map = omega (arith, c.loop-k-test.true, c.sectors-k-end.ensures) in
-    omega (
-      arith,
-      c.loop-k.invariant.some,
-      fewer_counted image start (4096 * c.loop-k.k) (bit_count c.args.place c.args.map) within,
-      numbers_counted c.args.place c.args.map image c.requires.place c.requires.rest,
-    )
+    let total = all_counted c.args.place c.args.map (g.S.Sectors.state c.args.s.now) c.sectors-sectors.result c.requires c.sectors-sectors.ensures in
+    omega (arith, total, c.in_ok-free.ensures.some)
 
--- at the end it is all
+pub count_between-requires-2-clause-bitmaps : goal.count_between-requires-2-clause-bitmaps
+count_between-requires-2-clause-bitmaps g c =
+    bitmaps_unchanged c.args.place (g.S.Sectors.state c.args.s.now) (g.S.Sectors.state c.count_between.new.s) c.requires c.count_between.ensures.same
+
+-- the sectors behind the first and those before it are all
+module _ (image other : SectorMap) (start first sectors free rest : ℕ) (same : image ≡ other) where
+  no_more : clear_below image start (4096 * first) + free ≤ clear_below image start (4096 * sectors)
+      → clear_below other start (4096 * 0) + rest ≤ clear_below other start (4096 * first) → free + rest ≤ clear_below image start (4096 * sectors)
+  no_more behind before =
+      let moved : clear_below other start (4096 * first) ≡ clear_below image start (4096 * first) = ap (λ m. clear_below m start (4096 * first)) (sym same) in
+      omega (arith, behind, before, moved)
+
+  all_of_them : clear_below image start (4096 * first) + free ≡ clear_below image start (4096 * sectors)
+      → clear_below other start (4096 * 0) + rest ≡ clear_below other start (4096 * first) → free + rest ≡ clear_below image start (4096 * sectors)
+  all_of_them behind before =
+      let moved : clear_below other start (4096 * first) ≡ clear_below image start (4096 * first) = ap (λ m. clear_below m start (4096 * first)) (sym same) in
+      let none = none_counted other start in
+      omega (arith, behind, before, moved, none)
+
+pub overflow_add-result : goal.overflow_add-result
+overflow_add-result g c =
+    let old = g.S.Sectors.state c.args.s.now in
+    let mid = g.S.Sectors.state c.count_between.new.s in
+    let total = all_counted c.args.place c.args.map old c.sectors-sectors.result c.requires c.sectors-sectors.ensures in
+    let few = no_more old.sectors mid.sectors (first_sector c.args.place c.args.map) _ c.sectors-sectors.result _ _ (map_unchanged c.count_between.ensures.same)
+    c.in_ok-free.ensures.some c.in_ok-count_between.ensures.some in
+    omega (arith, total, few, few_free c.args.place c.args.map old.sectors c.requires.place c.requires.rest)
+
 pub returns-clause-some : goal.returns-clause-some
 returns-clause-some g c =
-    let image : SectorMap = (g.S.Sectors.state c.args.s.now).sectors in
-    let start : ℕ = first_sector c.args.place c.args.map in
-    let within : 4096 * c.loop-k.k ≤ bit_count c.args.place c.args.map = omega (arith, c.loop-k.auto.k-end, c.sectors-k-end.ensures) in
-    omega (
-      arith,
-      c.loop-k.invariant.some,
-      fewer_counted image start (4096 * c.loop-k.k) (bit_count c.args.place c.args.map) within,
-      numbers_counted c.args.place c.args.map image c.requires.place c.requires.rest,
-    )
+    let old = g.S.Sectors.state c.args.s.now in
+    let mid = g.S.Sectors.state c.count_between.new.s in
+    let total = all_counted c.args.place c.args.map old c.sectors-sectors.result c.requires c.sectors-sectors.ensures in
+    let few = no_more old.sectors mid.sectors (first_sector c.args.place c.args.map) _ c.sectors-sectors.result _ _ (map_unchanged c.count_between.ensures.same)
+    c.in_ok-free.ensures.some c.in_ok-count_between.ensures.some in
+    omega (arith, total, few)
 
 pub returns-clause-all : goal.returns-clause-all
 returns-clause-all g c = λ less.
-    let image : SectorMap = (g.S.Sectors.state c.args.s.now).sectors in
-    let start : ℕ = first_sector c.args.place c.args.map in
-    let all : 4096 * c.loop-k.k ≡ bit_count c.args.place c.args.map = omega (arith, c.loop-k.auto.k-end, c.loop-k-test.false, c.sectors-k-end.ensures) in
-    let end : clear_below image start (4096 * c.loop-k.k) ≡ clear_below image start (bit_count c.args.place c.args.map) = ap (clear_below image start) all in
-    omega (arith, c.loop-k.invariant.all less, end, numbers_counted c.args.place c.args.map image c.requires.place c.requires.rest)
+    let old = g.S.Sectors.state c.args.s.now in
+    let mid = g.S.Sectors.state c.count_between.new.s in
+    let total = all_counted c.args.place c.args.map old c.sectors-sectors.result c.requires c.sectors-sectors.ensures in
+    all_of_them old.sectors mid.sectors (first_sector c.args.place c.args.map) _ c.sectors-sectors.result _ _ (map_unchanged c.count_between.ensures.same)
+    (c.in_ok-free.ensures.all (omega (arith, less))) (c.in_ok-count_between.ensures.all (omega (arith, less))) ∙ total

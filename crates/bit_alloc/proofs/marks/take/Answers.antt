@@ -46,12 +46,12 @@ set_in_all image start a m full i low =
 pub loop-turn-preserved : goal.loop-turn-preserved
 loop-turn-preserved g c =
     let image : SectorMap = (g.S.Sectors.state c.args.s.now).sectors in
-    let k : ℕ = (c.args.near / 4096 + c.loop-turn.turn) % c.sectors-sectors.result in
+    let k : ℕ = (c.first_sought-first.result + c.loop-turn.turn) % c.sectors-sectors.result in
     let here : c.get.new.to ≡ image (first_sector c.args.place c.args.map + k) =
     c.in_ok-get.ensures.content ∙ c.loop-turn.invariant.same.sectors (c.first.result + k) ∙ ap (λ (n : ℕ). image (n + k)) c.first.ensures in
     record {
-      same = unchanged_joined c.loop-turn.invariant.same c.in_ok-get.ensures.same;
-      full = full_past image (first_sector c.args.place c.args.map) (c.args.near / 4096) c.sectors-sectors.result c.loop-turn.turn c.get.new.to here c.in_default.ensures c.loop-turn.invariant.full;
+      same = unchanged_joined (unchanged_joined c.loop-turn.invariant.same c.in_ok-get.ensures.same) c.pass_by.ensures;
+      full = full_past image (first_sector c.args.place c.args.map) (c.first_sought-first.result) c.sectors-sectors.result c.loop-turn.turn c.get.new.to here c.in_default.ensures c.loop-turn.invariant.full;
     }
 
 pub put_bit-requires-clause-bitmaps : goal.put_bit-requires-clause-bitmaps
@@ -63,10 +63,10 @@ pub put_bit-requires-clause-number : goal.put_bit-requires-clause-number
 put_bit-requires-clause-number g c =
     let image : SectorMap = (g.S.Sectors.state c.args.s.now).sectors in
     let sectors : ℕ = c.sectors-sectors.result in
-    let k : ℕ = (c.args.near / 4096 + c.loop-turn.turn) % sectors in
+    let k : ℕ = (c.first_sought-first.result + c.loop-turn.turn) % sectors in
     let here : c.get.new.to ≡ image (first_sector c.args.place c.args.map + k) =
     c.in_ok-get.ensures.content ∙ c.loop-turn.invariant.same.sectors (c.first.result + k) ∙ ap (λ (n : ℕ). image (n + k)) c.first.ensures in
-    let below : k < sectors = mod_below (c.args.near / 4096 + c.loop-turn.turn) sectors (omega (arith, c.loop-turn-test.true)) in
+    let below : k < sectors = mod_below (c.first_sought-first.result + c.loop-turn.turn) sectors (omega (arith, c.loop-turn-test.true)) in
     let free = found_free c.args.place c.args.map image k c.in-Some.i sectors c.get.new.to c.requires.bitmaps.rest here c.sectors-sectors.ensures below
     c.in-Some.ensures.within c.in-Some.ensures.clear in
     (free.0, free.1)
@@ -77,12 +77,12 @@ returns-in-Some-clause-taken g c =
     let mid = g.S.Sectors.state c.get.new.self in
     let new = g.S.Sectors.state c.put_bit.new.s in
     let sectors : ℕ = c.sectors-sectors.result in
-    let k : ℕ = (c.args.near / 4096 + c.loop-turn.turn) % sectors in
+    let k : ℕ = (c.first_sought-first.result + c.loop-turn.turn) % sectors in
     let n : ℕ = 4096 * k + c.in-Some.i in
     let here : c.get.new.to ≡ mid.sectors (first_sector c.args.place c.args.map + k) =
     c.in_ok-get.ensures.content ∙ sym (c.in_ok-get.ensures.same.sectors (c.first.result + k)) ∙ ap (λ (m : ℕ). mid.sectors (m + k)) c.first.ensures in
     let same = map_unchanged (unchanged_joined c.loop-turn.invariant.same c.in_ok-get.ensures.same) in
-    let below : k < sectors = mod_below (c.args.near / 4096 + c.loop-turn.turn) sectors (omega (arith, c.loop-turn-test.true)) in
+    let below : k < sectors = mod_below (c.first_sought-first.result + c.loop-turn.turn) sectors (omega (arith, c.loop-turn-test.true)) in
     let free = found_free c.args.place c.args.map mid.sectors k c.in-Some.i sectors c.get.new.to (subst (HasRestSet c.args.place) same c.requires.bitmaps.rest) here
     c.sectors-sectors.ensures below c.in-Some.ensures.within c.in-Some.ensures.clear in
     let taken : TakesNumber c.args.place c.args.map n mid.sectors new.sectors = record {
@@ -99,7 +99,7 @@ returns-clause-full g c = λ full.
     let image : SectorMap = (g.S.Sectors.state c.args.s.now).sectors in
     let sectors : ℕ = c.sectors-sectors.result in
     let end : sectors ≡ c.loop-turn.turn = omega (arith, c.loop-turn.auto.turn-end, c.loop-turn-test.false) in
-    let set = set_in_all image (first_sector c.args.place c.args.map) (c.args.near / 4096) sectors (λ j low. c.loop-turn.invariant.full j (omega (arith, low, end))) in
+    let set = set_in_all image (first_sector c.args.place c.args.map) (c.first_sought-first.result) sectors (λ j low. c.loop-turn.invariant.full j (omega (arith, low, end))) in
     sym (numbers_counted c.args.place c.args.map image c.requires.bitmaps.place c.requires.bitmaps.rest)
     ∙ all_set image (first_sector c.args.place c.args.map) (bit_count c.args.place c.args.map) (λ i low. set i (omega (arith, low, c.sectors-sectors.ensures)))
 

@@ -1,5 +1,9 @@
+use Rattle.block_map.proofs.Runs.{unchanged_joined}
 use Rattle.dir_core.proofs.Scans.{inode_within}
 use Rattle.dir_core.proofs.listing.list.Goals as goal
 
 pub read_slots-requires-clause-within : goal.read_slots-requires-clause-within
 read_slots-requires-clause-within g c = inode_within c.requires.sound c.requires.there
+
+pub returns-clause-same : goal.returns-clause-same
+returns-clause-same g c = unchanged_joined c.in_ok-slots.ensures.same c.leave_hints.ensures

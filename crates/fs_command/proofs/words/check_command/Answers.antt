@@ -3,7 +3,7 @@ use Rattle.std.proofs.lemmas.Result.{IfOk-weaker}
 use Rattle.clap.specs.Simple.{app_of_fields}
 use Rattle.clap.specs.Words.{app_of, new_app, rule_of, with_rule}
 use Rattle.clap.specs.declared.builder.arg.Arg.{Arg}
-use Rattle.fs_command.specs.Words.{flag, image}
+use Rattle.fs_command.specs.Words.{image}
 use Rattle.fs_command.proofs.words.check_command.Goals as goal
 
 pub returns : goal.returns

@@ -1,8 +1,8 @@
 use Rattle.std.proofs.Common.{◌≡◌, ◌∙◌, ap, sym, refl, subst, [], map, string_bytes, true}
 use Rattle.clap.specs.Words.{App, HasKind, fault_of, is_simple, is_simple_and_free, subcommand_rows_of, subcommand_of}
 use Rattle.clap.proofs.OnLiterals.{clap_on_literals}
-use Rattle.fs_command.specs.Words.{command_line, HasValues, SaysJob}
-use Rattle.fs_command.proofs.Refusals.{refused}
+use Rattle.fs_command.specs.Words.{command_line, HasValues}
+use Rattle.fs_command.proofs.Refusals.{if_taken, read, refused}
 use Rattle.fs_command.proofs.Values.{has_values}
 use Rattle.fs_command.proofs.words.parse_words.Goals as goal
 
@@ -36,12 +36,15 @@ pub returns-clause-said : goal.returns-clause-said
 returns-clause-said c =
     let is = c.in_ok-program.ensures in
     let words = map string_bytes c.args.words.now in
+    let none : fault_of command_line words ≡ [] = ap (λ a. fault_of a words) (sym is)
+    ∙ c.in_ok-matches.ensures.kinds (ap is_simple_and_free is ∙ inofs_is_free) in
     let named : subcommand_rows_of c.in_ok-matches.matches ≡ subcommand_of command_line words =
     (c.in_ok-matches.ensures.matches (ap is_simple is ∙ inofs_is_simple)).1 ∙ ap (λ a. subcommand_of a words) is in
-    subst (λ n. SaysJob n c.in_ok-named_job.field-0) named c.in_ok-named_job.ensures
+    read words (subcommand_rows_of c.in_ok-matches.matches) c.named_job.result none named c.named_job.ensures
 
 pub returns-clause-taken : goal.returns-clause-taken
 returns-clause-taken c =
     let is = c.in_ok-program.ensures in
     let words = map string_bytes c.args.words.now in
-    ap (λ a. fault_of a words) (sym is) ∙ c.in_ok-matches.ensures.kinds (ap is_simple_and_free is ∙ inofs_is_free)
+    if_taken c.named_job.result
+    (ap (λ a. fault_of a words) (sym is) ∙ c.in_ok-matches.ensures.kinds (ap is_simple_and_free is ∙ inofs_is_free))

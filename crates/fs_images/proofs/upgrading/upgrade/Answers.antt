@@ -1,6 +1,17 @@
-use Rattle.std.proofs.Common.{◌∙◌, arith}
+use Rattle.std.proofs.Common.{◌∙◌, ℕ, arith, sym, subst}
+use Rattle.sector_disk.specs.Disk.{sector}
+use Rattle.fs_model.specs.Stands.{Stands}
+use Rattle.fs_images.specs.Standing.{StandsForSome}
 use Rattle.fs_images.proofs.Raising.{check_then, then_upgraded, then_narrowed}
 use Rattle.fs_images.proofs.upgrading.upgrade.Goals as goal
+
+pub raise_version-requires : goal.raise_version-requires
+raise_version-requires g c =
+    let old = g.D.Disk.state c.args.disk.now in
+    let clean = c.in_ok-check.ensures.clean in
+    let size = (g.met.D.Disk.seen_is_image c.args.disk.now).size in
+    subst StandsForSome (sym c.check.ensures.passed.reads.narrowed.seen)
+    (clean.0, clean.1, clean.2, subst (λ (k : ℕ). Stands k (sector old.seen) clean.0 clean.1 clean.2) (sym size) clean.3)
 
 pub returns-in_err-raise_version-clause-any_moment : goal.returns-in_err-raise_version-clause-any_moment
 returns-in_err-raise_version-clause-any_moment g c =
@@ -25,7 +36,7 @@ returns-clause-unwritten g c =
 pub returns-clause-upgraded : goal.returns-clause-upgraded
 returns-clause-upgraded g c =
     then_upgraded (g.D.Disk.state c.args.disk.now) (g.D.Disk.state c.check.new.disk) c.check.ensures.passed.reads
-    (g.D.Disk.state c.raise_version.new.disk) c.in_ok-raise_version.ensures.upgraded
+    _ (g.D.Disk.state c.raise_version.new.disk) c.in_ok-raise_version.ensures.upgraded
 
 pub returns-clause-size : goal.returns-clause-size
 returns-clause-size g c = c.raise_version.ensures.size ∙ c.check.ensures.passed.reads.narrowed.size

@@ -1,6 +1,6 @@
 use Rattle.std.proofs.Common.{refl, subst, Ok}
 use Rattle.fs_layout.specs.declared.place.Place.{Place}
-use Rattle.fs_layout.specs.Version.{newest}
+use Rattle.fs_layout.specs.Place.{new_header}
 use Rattle.fs_layout.proofs.Places.{place_is_laid_out, place_is_place}
 use Rattle.fs_program.specs.Jobs.{Tells, cannot_make, is_made}
 use Rattle.fs_program.specs.Streams.{writing}
@@ -11,11 +11,13 @@ use Rattle.fs_program.proofs.disks.make_on_disk.Goals as goal
 
 pub returns-in-Err : goal.returns-in-Err
 returns-in-Err g c =
-    let none = refuses_nothing (g.D.Disk.state c.args.disk.now).size c.args.place.inodes c.args.place c.requires in
+    let none = refuses_nothing c.args.place.version (g.D.Disk.state c.args.disk.now).size c.args.place.inodes c.args.place c.requires in
     cannot_make c.in-Err.fault (c.in-Err.ensures.fault none) (refl, refl)
 
 pub print_made-requires : goal.print_made-requires
-print_made-requires g c = place_is_place newest 0 (g.D.Disk.state c.args.disk.now).size c.args.place.inodes c.requires
+print_made-requires g c =
+    let size = (g.D.Disk.state c.args.disk.now).size in
+    place_is_place c.args.place.version (new_header c.args.place.version size c.args.place.inodes) size c.args.place.inodes c.requires
 
 pub returns : goal.returns
 returns g c =

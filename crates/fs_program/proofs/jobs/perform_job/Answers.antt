@@ -3,6 +3,9 @@ use Rattle.fs_program.proofs.jobs.perform_job.Goals as goal
 pub returns-in-Mkfs : goal.returns-in-Mkfs
 returns-in-Mkfs g c = rw c.in-Mkfs.is c.make_image.ensures
 
+pub returns-in-Format : goal.returns-in-Format
+returns-in-Format g c = rw c.in-Format.is c.make_image-in-Format.ensures
+
 pub returns-in-Run : goal.returns-in-Run
 returns-in-Run g c = rw c.in-Run.is (rw c.as_ref.ensures.value at c.run_image.ensures)
 

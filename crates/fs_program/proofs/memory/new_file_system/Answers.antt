@@ -1,4 +1,5 @@
 use Rattle.std.proofs.Common.{◌≡◌, ◌∙◌, ap, ℕ, None}
+use Rattle.fs_layout.specs.declared.version.Version.TheVariants.{Two}
 use Rattle.fs_model.specs.NewDisk.{empty_tree}
 use Rattle.fs_model.specs.Stands.{room_of}
 use Rattle.fs_images.specs.Making.{mkfs_refusal}
@@ -10,13 +11,13 @@ pub returns-in-Ok : goal.returns-in-Ok
 returns-in-Ok g c =
     let m = c.in-Ok.ensures.mounted in
     let whole = (g.met.D.Disk.seen_is_image c.mkfs.new.disk).size in
-    begins g.D.Disk.state c.mkfs.new.disk c.in-Ok.fs 1024 64 m.0 m.1 (whole ∙ c.mkfs.ensures.size ∙ c.requires) c.in_default.ensures.made c.in_default.ensures.stable m.2
+    begins g.D.Disk.state c.mkfs.new.disk c.in-Ok.fs Two 1024 64 m.0 m.1 (whole ∙ c.mkfs.ensures.size ∙ c.requires) c.in_default.ensures.made c.in_default.ensures.stable m.2
 
 -- with these numbers mkfs refuses nothing
 pub returns-in-Err : goal.returns-in-Err
 unfolding mkfs_refusal
 returns-in-Err g c =
-    let none : mkfs_refusal (g.D.Disk.state c.args.disk).size 64 ≡ None = ap (λ (n : ℕ). mkfs_refusal n 64) c.requires in
+    let none : mkfs_refusal Two (g.D.Disk.state c.args.disk).size 64 ≡ None = ap (λ (n : ℕ). mkfs_refusal Two n 64) c.requires in
     ((c.in-Err.ensures.fault none).0, tt)
 
 -- what mkfs has made stands for a tree

@@ -1,9 +1,9 @@
-use Rattle.std.proofs.Common.{sym, ap, subst, ◌∙◌}
-use Rattle.sector_disk.specs.Disk.{LeavesOnly}
+use Rattle.std.proofs.Common.{◌≤◌, sym, ap, subst, ◌∙◌}
+use Rattle.sector_disk.specs.Disk.{HasFailed, LeavesOnly}
 use Rattle.sector_txn.specs.Stores.{present, txn_state}
 use Rattle.fs_model.specs.Stands.{room_of}
 use Rattle.fs_system.specs.Sweeping.{StandsPruned}
-use Rattle.fs_system.proofs.Kept.{only_read, leaves_from, reads_alone}
+use Rattle.fs_system.proofs.Kept.{cause_from, of_stores, only_read, leaves_from, reads_alone}
 use Rattle.fs_system.proofs.Sweeps.{stored_same, begins_sound, begins_spare, commit_images, commit_frees, dropped_images}
 use Rattle.fs_system.proofs.sweeping.free_nameless.Goals as goal
 
@@ -57,3 +57,25 @@ returns-in-Err-clause-any_moment g c = λ t h.
     dropped_images (g.D.Disk.state c.args.store.disk) (g.D.Disk.state c.into_disk-in-Err.result) (g.met.D.Disk.only_now c.args.store.disk)
     (reads_alone g.D.Disk.state c.args.store c.begin-txn.result c.begin-txn.ensures.disk c.begin-txn.ensures.before c.leave.new.s c.in-Err.ensures.store
     c.into_disk-in-Err.result (c.into_disk-in-Err.ensures ∙ c.drop_delta.ensures.disk)) c.args.place (present g.D.Disk.state c.args.store) t h
+
+pub returns-in-Err-keep-clause-cause : goal.returns-in-Err-keep-clause-cause
+returns-in-Err-keep-clause-cause g c =
+    let state = g.D.Disk.state in
+    let reads = only_read state c.args.store c.begin-txn.result c.begin-txn.ensures.disk c.begin-txn.ensures.before c.leave.new.s c.in-Ok.ensures.store in
+    let cause = cause_from _ reads c.in-Err-keep.ensures.cause in
+    record {
+      later = subst (λ k. (state c.args.store.disk).failures ≤ (state k).failures) (sym c.into_disk.ensures) cause.later;
+      fault = subst (λ k. HasFailed (state c.args.store.disk) (state k)) (sym c.into_disk.ensures) cause.fault;
+    }
+
+pub returns-in-Err-clause-cause : goal.returns-in-Err-clause-cause
+returns-in-Err-clause-cause g c =
+    let state = g.D.Disk.state in
+    let now = c.into_disk-in-Err.result in
+    let dropped = c.into_disk-in-Err.ensures ∙ c.drop_delta.ensures.disk in
+    let reads = reads_alone state c.args.store c.begin-txn.result c.begin-txn.ensures.disk c.begin-txn.ensures.before c.leave.new.s c.in-Err.ensures.store now dropped in
+    record {
+      later = reads.failures;
+      fault = of_stores state c.args.store c.begin-txn.result c.begin-txn.ensures.disk c.begin-txn.ensures.before c.leave.new.s c.in-Err.ensures.store now dropped
+          HasFailed c.in-Err.ensures.fault.1;
+    }

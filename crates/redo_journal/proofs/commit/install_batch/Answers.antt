@@ -8,7 +8,7 @@ use Rattle.redo_journal.proofs.Meaning.{alone_next, batch_replayed, filled, head
 use Rattle.redo_journal.proofs.commit.install_batch.Goals as goal
 
 pub put_in_place-requires-clause-rest : goal.put_in_place-requires-clause-rest
-put_in_place-requires-clause-rest g c = c.requires.sealed.at_rest (filled c.args.batch.now (λ none. true≢false (sym (c.if-is_empty.ensures.1 none))))
+put_in_place-requires-clause-rest g c = c.requires.sealed.at_rest (filled c.args.batch.now.entries (λ none. true≢false (sym (c.if-is_empty.ensures.1 none))))
 
 pub returns-then-is_empty-clause-any_moment : goal.returns-then-is_empty-clause-any_moment
 returns-then-is_empty-clause-any_moment g c =
@@ -37,19 +37,19 @@ returns-then-header-eq0-clause-next g c =
 -- with two
 pub returns-clause-any_moment : goal.returns-clause-any_moment
 returns-clause-any_moment g c =
-    let rest = c.requires.sealed.at_rest (filled c.args.batch.now (λ none. true≢false (sym (c.if-is_empty.ensures.1 none)))) in
-    weaker (targets_keep (targets c.args.batch.now) (g.D.Disk.state c.args.disk.now) rest) c.write_targets.ensures.any_moment
+    let rest = c.requires.sealed.at_rest (filled c.args.batch.now.entries (λ none. true≢false (sym (c.if-is_empty.ensures.1 none)))) in
+    weaker (targets_keep (targets c.args.batch.now.entries) (g.D.Disk.state c.args.disk.now) rest) c.write_targets.ensures.any_moment
 
 pub returns-clause-next : goal.returns-clause-next
 returns-clause-next g c =
-    let rest = c.requires.sealed.at_rest (filled c.args.batch.now (λ none. true≢false (sym (c.if-is_empty.ensures.1 none)))) in
-    on_ok_weaker c.write_targets.result (λ _. placed_next (targets c.args.batch.now) (g.D.Disk.state c.args.disk.now) (g.D.Disk.state c.write_targets.new.disk) rest c.write_targets.ensures.adds (g.met.D.Disk.seen_is_image c.write_targets.new.disk)) c.write_targets.ensures.written
+    let rest = c.requires.sealed.at_rest (filled c.args.batch.now.entries (λ none. true≢false (sym (c.if-is_empty.ensures.1 none)))) in
+    on_ok_weaker c.write_targets.result (λ _. placed_next (targets c.args.batch.now.entries) (g.D.Disk.state c.args.disk.now) (g.D.Disk.state c.write_targets.new.disk) rest c.write_targets.ensures.adds (g.met.D.Disk.seen_is_image c.write_targets.new.disk)) c.write_targets.ensures.written
 
 pub returns-clause-ready : goal.returns-clause-ready
 returns-clause-ready g c =
-    let rest = c.requires.sealed.at_rest (filled c.args.batch.now (λ none. true≢false (sym (c.if-is_empty.ensures.1 none)))) in
+    let rest = c.requires.sealed.at_rest (filled c.args.batch.now.entries (λ none. true≢false (sym (c.if-is_empty.ensures.1 none)))) in
     let old = g.D.Disk.state c.args.disk.now in
     let new = g.D.Disk.state c.write_targets.new.disk in
     on_ok_weaker c.write_targets.result
-    (λ written. placed_from (targets c.args.batch.now) old new rest (omega (arith, c.if-header-eq0.false, c.requires.header.is)) c.write_targets.ensures.adds (g.met.D.Disk.seen_is_image c.write_targets.new.disk)
-    (batch_replayed (log_at old.seen) c.args.batch.now old.seen new.seen c.requires.sealed.log written)) c.write_targets.ensures.written
+    (λ written. placed_from (targets c.args.batch.now.entries) old new rest (omega (arith, c.if-header-eq0.false, c.requires.header.is)) c.write_targets.ensures.adds (g.met.D.Disk.seen_is_image c.write_targets.new.disk)
+    (batch_replayed (log_at old.seen) c.args.batch.now.entries old.seen new.seen c.requires.sealed.log written)) c.write_targets.ensures.written

@@ -39,7 +39,7 @@ returns-clause-logged g c =
     let state = g.D.Disk.state in
     let adds = adds_narrowed (adds_joined c.write_header.ensures.adds c.write_log.ensures.adds) c.sync.ensures.changes in
     on_ok_weaker c.sync.result
-    (logged_from c.args.batch.now c.args.header c.args.area (state c.args.disk.now) (state c.write_header.new.disk) (state c.write_log.new.disk) (state c.sync.new.self) c.requires.ready c.requires.header c.requires.next c.requires.few
+    (logged_from c.args.batch.now.entries c.args.header c.args.area (state c.args.disk.now) (state c.write_header.new.disk) (state c.write_log.new.disk) (state c.sync.new.self) c.requires.ready c.requires.header c.requires.next c.requires.few
     c.sectors.ensures.batch c.requires.on_disk adds.size (g.met.D.Disk.seen_is_image c.sync.new.self).size c.in_ok-write_header.ensures.written c.write_header.ensures.others c.write_log.ensures.others c.in_ok-write_log.ensures.written
     c.sync.ensures.changes.seen)
     c.sync.ensures.stable
@@ -49,13 +49,13 @@ returns-clause-next g c =
     let state = g.D.Disk.state in
     let old = state c.args.disk.now in
     let logged = state c.write_log.new.disk in
-    let others = logged_others c.args.header c.args.area (length c.args.batch.now) old.seen (state c.write_header.new.disk).seen logged.seen c.requires.few c.write_header.ensures.others c.write_log.ensures.others in
+    let others = logged_others c.args.header c.args.area (length c.args.batch.now.entries) old.seen (state c.write_header.new.disk).seen logged.seen c.requires.few c.write_header.ensures.others c.write_log.ensures.others in
     let seen = c.sync.ensures.changes.seen in
     let same : (n : ℕ) → n < 2 → sector (state c.sync.new.self).seen n ≡ sector old.seen n = λ n low. ap (λ (l : Image). sector l n) seen ∙ others_low c.args.header c.args.area old.seen logged.seen others n low in
     on_ok_weaker c.sync.result (λ _. c.requires.next ∙ sym (next_same old.seen (state c.sync.new.self).seen (same 0 (omega arith)) (same 1 (omega arith)))) c.sync.ensures.stable
 
 pub returns-then-is_empty-clause-logged : goal.returns-then-is_empty-clause-logged
 returns-then-is_empty-clause-logged g c =
-    let none : length c.args.batch.now ≡ 0 =
-    omega (arith, eqb-true (length c.sectors.result.now) 0 (sym c.is_empty.ensures ∙ c.if-is_empty.true), ap length c.sectors.ensures.sectors, length-targets c.args.batch.now) in
-    nothing_logged c.args.batch.now (g.D.Disk.state c.args.disk.now) c.requires.ready none (nothing_valid c.args.batch.now _ _ none)
+    let none : length c.args.batch.now.entries ≡ 0 =
+    omega (arith, eqb-true (length c.sectors.result.now) 0 (sym c.is_empty.ensures ∙ c.if-is_empty.true), ap length c.sectors.ensures.sectors, length-targets c.args.batch.now.entries) in
+    nothing_logged c.args.batch.now.entries (g.D.Disk.state c.args.disk.now) c.requires.ready none (nothing_valid c.args.batch.now.entries _ _ none)

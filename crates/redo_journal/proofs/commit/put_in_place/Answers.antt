@@ -7,11 +7,11 @@ use Rattle.redo_journal.specs.States.{log_at, HoldsTargets}
 use Rattle.redo_journal.proofs.commit.put_in_place.Goals as goal
 
 pub returns-in_err-write_targets-clause-any_moment : goal.returns-in_err-write_targets-clause-any_moment
-returns-in_err-write_targets-clause-any_moment g c = weaker (targets_keep (targets c.args.batch.now) (g.D.Disk.state c.args.disk.now) c.requires.rest) c.write_targets.ensures.any_moment
+returns-in_err-write_targets-clause-any_moment g c = weaker (targets_keep (targets c.args.batch.now.entries) (g.D.Disk.state c.args.disk.now) c.requires.rest) c.write_targets.ensures.any_moment
 
 pub returns-clause-any_moment : goal.returns-clause-any_moment
 returns-clause-any_moment g c =
-    let keep = targets_keep (targets c.args.batch.now) (g.D.Disk.state c.args.disk.now) c.requires.rest in
+    let keep = targets_keep (targets c.args.batch.now.entries) (g.D.Disk.state c.args.disk.now) c.requires.rest in
     let adds = adds_narrowed c.write_targets.ensures.adds c.sync.ensures.changes in
     goes_on (weaker keep c.write_targets.ensures.any_moment) c.sync.ensures.time (λ image is. keep image (image_or adds image is))
 
@@ -19,7 +19,7 @@ pub returns-clause-installed : goal.returns-clause-installed
 returns-clause-installed g c =
     let before = g.D.Disk.state c.args.disk.now in
     let after = g.D.Disk.state c.sync.new.self in
-    let entries = c.args.batch.now in
+    let entries = c.args.batch.now.entries in
     let changes = c.sync.ensures.changes in
     let adds = adds_narrowed c.write_targets.ensures.adds changes in
     let image = image_or adds after.seen (g.met.D.Disk.seen_is_image c.sync.new.self) in

@@ -11,13 +11,13 @@ pub loop-at-preserved : goal.loop-at-preserved
 loop-at-preserved g c =
     let so_far = c.loop-at.invariant in
     let header = c.args.header in
-    let entries = c.args.batch.now in
+    let entries = c.args.batch.now.entries in
     let at = c.loop-at.at in
     let last = g.D.Disk.state c.loop-at.disk in
     let after = g.D.Disk.state c.write.new.self in
     let few = so_far.few in
-    let of_entries : c.new-commit.result ≡ targets entries = c.new-commit.ensures ∙ c.sectors.ensures.sectors in
-    let begins : 126 + 128 * at < length entries = omega (arith, c.loop-at-test.true, c.header_sectors-at-end.ensures, ap length of_entries, length-targets entries) in
+    let of_entries : c.sectors-sectors.result.now ≡ targets entries = c.sectors-sectors.ensures.sectors in
+    let begins : 126 + 128 * at < length entries = omega (arith, c.loop-at-test.true, c.header_sectors_for-at-end.ensures, ap length of_entries, length-targets entries) in
     let low : at < header = omega (arith, begins, few) in
     let whole : length last.seen ≡ last.size = (g.met.D.Disk.seen_is_image c.loop-at.disk).size in
     let from = area_start header c.args.area in
@@ -42,3 +42,14 @@ loop-at-preserved g c =
       failures = omega (arith, so_far.failures, c.write.ensures.cause.later);
       failed_writes = c.in_ok-write.ensures.told.quiet ∙ so_far.failed_writes;
     }
+
+pub returns-in_err-write-clause-any_moment : goal.returns-in_err-write-clause-any_moment
+returns-in_err-write-clause-any_moment g c =
+    let so_far = c.loop-at.invariant in
+    let at = c.loop-at.at in
+    let begins : 126 + 128 * at < length c.args.batch.now.entries =
+    omega (arith, c.loop-at-test.true, c.header_sectors_for-at-end.ensures, ap length c.sectors-sectors.ensures.sectors, length-targets c.args.batch.now.entries) in
+    let low : at < c.args.header = omega (arith, begins, so_far.few) in
+    let starts = c.area_start-from.ensures in
+    let adds = adds_write so_far.adds c.write.ensures.changes (λ k content is same. (omega (arith, is, starts), omega (arith, is, low, starts))) in
+    goes_on so_far.since c.write.ensures.time (image_or adds)

@@ -10,9 +10,9 @@ use Rattle.redo_journal.proofs.steps.write_header.Given as goal
 abbrev pub invariant-loop-at : goal.invariant-loop-at
 invariant-loop-at g l = record {
   most : l.header ≤ MAX_HEADER;
-  few : length l.batch ≤ max_targets l.header;
+  few : length l.batch.entries ≤ max_targets l.header;
   room : log_end l.header ≤ (g.D.Disk.state l.initial.disk).size;
-  written : (k : ℕ) → k < 128 * l.at → 126 + k < length l.batch → u32_of (sector (g.D.Disk.state l.disk).seen (area_start l.header l.area + k / 128)) (4 * (k % 128)) ≡ target_at l.batch (126 + k);
+  written : (k : ℕ) → k < 128 * l.at → 126 + k < length l.batch.entries → u32_of (sector (g.D.Disk.state l.disk).seen (area_start l.header l.area + k / 128)) (4 * (k % 128)) ≡ target_at l.batch.entries (126 + k);
   others : (n : ℕ) → (area_start l.header l.area ≤ n → n < area_start l.header l.area + l.header → ⊥) → sector (g.D.Disk.state l.disk).seen n ≡ sector (g.D.Disk.state l.initial.disk).seen n;
   adds : AddsOnly (InLog l.header l.area) (g.D.Disk.state l.initial.disk) (g.D.Disk.state l.disk);
   since : LeavesOnly (g.D.Disk.state l.initial.disk) (g.D.Disk.state l.disk) (IsImageOr (InLog l.header l.area) (g.D.Disk.state l.initial.disk));

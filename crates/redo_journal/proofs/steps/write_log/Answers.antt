@@ -40,7 +40,7 @@ loop-content-preserved g c =
 
 pub returns-clause-written : goal.returns-clause-written
 returns-clause-written g c = λ k lt.
-    let entries = c.args.batch.now in
+    let entries = c.args.batch.now.entries in
     let of_contents = c.contents-content-items.ensures.contents in
     c.loop-content.invariant.written k (omega (arith, lt, c.loop-content-test.false, ap length of_contents, length-contents entries))
     ∙ ap (λ (l : List (List ℕ)). get_or l k []) of_contents ∙ content_is entries k lt

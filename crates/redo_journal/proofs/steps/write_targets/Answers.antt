@@ -9,15 +9,15 @@ use Rattle.redo_journal.proofs.steps.write_targets.Goals as goal
 pub write-requires : goal.write-requires
 write-requires g c =
     let so_far = c.loop-n.invariant in
-    let next = entry_is c.args.batch.now _ _ (length c.loop-n.yielded) c.in-Some.n.now c.in-Some.content.now c.sectors.ensures.sectors c.contents.ensures.contents
+    let next = entry_is c.args.batch.now.entries _ _ (length c.loop-n.yielded) c.in-Some.n.now c.in-Some.content.now c.sectors.ensures.sectors c.contents.ensures.contents
     (zip_turn _ _ c.loop-n.yielded c.into_iter-n-iterator.result c.loop-n.n-iterator c.next.new.self c.next.result (search rules) (search rules) c.loop-n.yielded_by (c.in-Some.n, c.in-Some.content) c.in-Some.is c.next.ensures.steps) in
-    omega (arith, so_far.adds.size, next.1, (target_range _ _ c.args.batch.now so_far.valid (length c.loop-n.yielded) next.0).1)
+    omega (arith, so_far.adds.size, next.1, (target_range _ _ c.args.batch.now.entries so_far.valid (length c.loop-n.yielded) next.0).1)
 
 pub returns-in_err-write-clause-adds : goal.returns-in_err-write-clause-adds
 returns-in_err-write-clause-adds g c =
-    let next = entry_is c.args.batch.now _ _ (length c.loop-n.yielded) c.in-Some.n.now c.in-Some.content.now c.sectors.ensures.sectors c.contents.ensures.contents
+    let next = entry_is c.args.batch.now.entries _ _ (length c.loop-n.yielded) c.in-Some.n.now c.in-Some.content.now c.sectors.ensures.sectors c.contents.ensures.contents
     (zip_turn _ _ c.loop-n.yielded c.into_iter-n-iterator.result c.loop-n.n-iterator c.next.new.self c.next.result (search rules) (search rules) c.loop-n.yielded_by (c.in-Some.n, c.in-Some.content) c.in-Some.is c.next.ensures.steps) in
-    adds_write c.loop-n.invariant.adds c.write.ensures.changes (λ k content is same. in_targets c.args.batch.now (length c.loop-n.yielded) k content next.0 (is ∙ next.1))
+    adds_write c.loop-n.invariant.adds c.write.ensures.changes (λ k content is same. in_targets c.args.batch.now.entries (length c.loop-n.yielded) k content next.0 (is ∙ next.1))
 
 pub returns-in_err-write-clause-any_moment : goal.returns-in_err-write-clause-any_moment
 returns-in_err-write-clause-any_moment g c = goes_on c.loop-n.invariant.since c.write.ensures.time (image_or (returns-in_err-write-clause-adds g c))
@@ -25,7 +25,7 @@ returns-in_err-write-clause-any_moment g c = goes_on c.loop-n.invariant.since c.
 pub loop-n-preserved : goal.loop-n-preserved
 loop-n-preserved g c =
     let so_far = c.loop-n.invariant in
-    let entries = c.args.batch.now in
+    let entries = c.args.batch.now.entries in
     let i = length c.loop-n.yielded in
     let next = entry_is entries _ _ i c.in-Some.n.now c.in-Some.content.now c.sectors.ensures.sectors c.contents.ensures.contents
     (zip_turn _ _ c.loop-n.yielded c.into_iter-n-iterator.result c.loop-n.n-iterator c.next.new.self c.next.result (search rules) (search rules) c.loop-n.yielded_by (c.in-Some.n, c.in-Some.content) c.in-Some.is c.next.ensures.steps) in

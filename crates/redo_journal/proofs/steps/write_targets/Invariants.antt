@@ -7,10 +7,10 @@ use Rattle.redo_journal.proofs.steps.write_targets.Given as goal
 
 abbrev pub invariant-loop-n : goal.invariant-loop-n
 invariant-loop-n g l = record {
-  valid : AreTargets (header_at (g.D.Disk.state l.initial.disk).seen) (g.D.Disk.state l.initial.disk).size (targets l.batch);
-  written : (k : ℕ) → k < length l.yielded → sector (g.D.Disk.state l.disk).seen (target_at l.batch k) ≡ content_at l.batch k;
-  adds : AddsOnly (InTargets (targets l.batch)) (g.D.Disk.state l.initial.disk) (g.D.Disk.state l.disk);
-  since : LeavesOnly (g.D.Disk.state l.initial.disk) (g.D.Disk.state l.disk) (IsImageOr (InTargets (targets l.batch)) (g.D.Disk.state l.initial.disk));
+  valid : AreTargets (header_at (g.D.Disk.state l.initial.disk).seen) (g.D.Disk.state l.initial.disk).size (targets l.batch.entries);
+  written : (k : ℕ) → k < length l.yielded → sector (g.D.Disk.state l.disk).seen (target_at l.batch.entries k) ≡ content_at l.batch.entries k;
+  adds : AddsOnly (InTargets (targets l.batch.entries)) (g.D.Disk.state l.initial.disk) (g.D.Disk.state l.disk);
+  since : LeavesOnly (g.D.Disk.state l.initial.disk) (g.D.Disk.state l.disk) (IsImageOr (InTargets (targets l.batch.entries)) (g.D.Disk.state l.initial.disk));
   failures : (g.D.Disk.state l.initial.disk).failures ≤ (g.D.Disk.state l.disk).failures;
   failed_writes : (g.D.Disk.state l.disk).failed_writes ≡ (g.D.Disk.state l.initial.disk).failed_writes;
 }

@@ -18,4 +18,4 @@ unfolding count_space
 returns-clause-did g c =
     then-ok _ (by-machine c.in_ok-reply.ensures refl)
     (needs-some _ _ (sym c.in-Some.ensures)
-    (reads-last _ _ (ap (λ (k : Settings). Space k.sectors c.in-Some.free_sectors k.inodes c.in-Some.free_inodes) c.settings-settings.ensures)))
+    (reads-last _ _ (ap (λ (k : Settings). Space k.sectors c.in-Some.free_sectors k.inodes c.in-Some.free_inodes k.max_name) c.settings-settings.ensures)))

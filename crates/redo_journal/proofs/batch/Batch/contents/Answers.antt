@@ -1,6 +1,6 @@
-use Rattle.std.proofs.Common.{◌∙◌, List, take, ap, sym}
-use Rattle.redo_journal.specs.Batch.{Entry, contents}
-use Rattle.redo_journal.proofs.Places.{contents_entries, fits_places}
+use Rattle.std.proofs.Common.{◌∙◌, take, ap, sym}
+use Rattle.redo_journal.specs.Batch.{BatchView, contents}
+use Rattle.redo_journal.proofs.Places.{contents_entries}
 use Rattle.redo_journal.proofs.batch.Batch.contents.Goals as goal
 
 pub returns-clause-contents : goal.returns-clause-contents
@@ -8,4 +8,4 @@ returns-clause-contents c =
     let ns = c.self.inside.sectors.keys in
     let bytes = c.self.inside.contents.items in
     (λ j. take (c.len.ensures.len j) (c.deref.ensures.value j))
-    ∙ sym (contents_entries ns bytes (fits_places ns bytes _ c.self.invariant.0)) ∙ ap (λ (es : List Entry). contents es) c.self.view_is
+    ∙ sym (contents_entries ns bytes c.self.invariant.0.all) ∙ ap (λ (v : BatchView). contents v.entries) c.self.view_is

@@ -11,6 +11,6 @@ pub returns-clause-header : goal.returns-clause-header
 unfolding map_now map_before
 returns-clause-header g c =
     let disk = g.D.Disk.state c.self.inside.journal in
-    let waiting = c.self.inside.waiting.value in
+    let waiting = c.self.inside.waiting.value.entries in
     subst (λ delta. header_at disk.seen ≡ header_of (with_batch delta (with_batch waiting (data_of disk)) 0)) (sym c.self.invariant.0)
     (ap header_of (sym (super_on_disk waiting _ _ (data_of disk) c.self.invariant.1.on_disk ∙ data_super disk)))

@@ -9,5 +9,5 @@ unfolding present
 returns-in-Ok-clause-lasting g c =
     let state = g.D.Disk.state in
     let disk = state c.args.journal in
-    subst (λ of. EachReadsAs (with_batch c.in-Ok.waiting.value (data_of (state of))) (state of)) (sym c.new.ensures)
-    (subst (λ entries. EachReadsAs (with_batch entries (data_of disk)) disk) (sym c.in-Ok.ensures.0) c.tell_ready.ensures)
+    subst (λ of. EachReadsAs (with_batch c.in-Ok.waiting.value.entries (data_of (state of))) (state of)) (sym c.new.ensures)
+    (subst (λ entries. EachReadsAs (with_batch entries (data_of disk)) disk) (sym c.in-Ok.ensures.empty.0) c.tell_ready.ensures)

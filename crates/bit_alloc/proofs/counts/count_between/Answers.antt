@@ -1,0 +1,68 @@
+use Rattle.std.proofs.Common.{◌≡◌, ◌+◌, ◌*◌, ◌≤◌, ℕ, ap, sym, ◌∙◌, arith}
+use Rattle.std.specs.Prelude.{List}
+use Rattle.fs_layout.specs.Bytes.{SectorMap}
+use Rattle.bit_alloc.specs.Bits.{clear_below}
+use Rattle.bit_alloc.specs.Bitmaps.{first_sector}
+use Rattle.bit_alloc.proofs.Transactions.{unchanged_nothing, unchanged_joined}
+use Rattle.bit_alloc.proofs.Maps.{sector_counted, counted_at_most, fewer_counted, few_bits}
+use Rattle.bit_alloc.proofs.counts.count_between.Goals as goal
+
+pub loop-k-init : goal.loop-k-init
+loop-k-init g c = record { same = unchanged_nothing; some = omega arith; all = λ less. omega arith }
+
+pub loop-k-preserved : goal.loop-k-preserved
+loop-k-preserved g c =
+    let image : SectorMap = (g.S.Sectors.state c.args.s.now).sectors in
+    let start : ℕ = first_sector c.args.place c.args.map in
+    let sector : List ℕ = c.get.new.to in
+    let so_far = c.loop-k.invariant in
+    let here : sector ≡ image (start + c.loop-k.k) =
+    c.in_ok-get.ensures.content ∙ so_far.same.sectors (c.first.result + c.loop-k.k) ∙ ap (λ (n : ℕ). image (n + c.loop-k.k)) c.first.ensures in
+    let next : 4096 * c.loop-k.k + 4096 ≡ 4096 * (c.loop-k.k + 1) = omega arith in
+    let more : clear_below image start (4096 * (c.loop-k.k + 1)) ≡ clear_below image start (4096 * c.loop-k.k) + clear_below (λ _. sector) 0 4096 =
+    ap (clear_below image start) (sym next) ∙ sector_counted image start c.loop-k.k 4096 sector here (omega arith) in
+    let before = so_far.all (omega arith) in
+    record {
+      same = unchanged_joined (unchanged_joined so_far.same c.in_ok-get.ensures.same) c.pass_by_full.ensures;
+      some = omega (arith, before, more, c.count_clear_up_to-free.ensures.some);
+      all = λ less. let rest = c.count_clear_up_to-free.ensures.all (omega (arith, less)) in omega (arith, before, more, rest);
+    }
+
+pub overflow_add-free : goal.overflow_add-free
+overflow_add-free g c =
+    let image : SectorMap = (g.S.Sectors.state c.args.s.now).sectors in
+    let sector : List ℕ = c.get.new.to in
+    omega (
+      arith,
+      c.loop-k.invariant.some,
+      counted_at_most image (first_sector c.args.place c.args.map) (4096 * c.loop-k.k),
+      c.count_clear_up_to-free.ensures.some,
+      counted_at_most (λ _. sector) 0 4096,
+      c.loop-k-test.true,
+      c.requires.range.1,
+      few_bits c.args.place c.args.map c.requires.bitmaps.place,
+    )
+
+-- the count so far is at most all
+pub returns-then-free-enough-clause-some : goal.returns-then-free-enough-clause-some
+returns-then-free-enough-clause-some g c =
+    let image : SectorMap = (g.S.Sectors.state c.args.s.now).sectors in
+    let start : ℕ = first_sector c.args.place c.args.map in
+    let within : 4096 * c.loop-k.k ≤ 4096 * c.args.to = omega (arith, c.loop-k-test.true) in
+    omega (arith, c.loop-k.invariant.some, fewer_counted image start (4096 * c.loop-k.k) (4096 * c.args.to) within)
+
+-- at the end it is all
+pub returns-clause-some : goal.returns-clause-some
+returns-clause-some g c =
+    let image : SectorMap = (g.S.Sectors.state c.args.s.now).sectors in
+    let start : ℕ = first_sector c.args.place c.args.map in
+    let within : 4096 * c.loop-k.k ≤ 4096 * c.args.to = omega (arith, c.loop-k.auto.k-end, c.requires.range.0) in
+    omega (arith, c.loop-k.invariant.some, fewer_counted image start (4096 * c.loop-k.k) (4096 * c.args.to) within)
+
+pub returns-clause-all : goal.returns-clause-all
+returns-clause-all g c = λ less.
+    let image : SectorMap = (g.S.Sectors.state c.args.s.now).sectors in
+    let start : ℕ = first_sector c.args.place c.args.map in
+    let all : 4096 * c.loop-k.k ≡ 4096 * c.args.to = omega (arith, c.loop-k.auto.k-end, c.loop-k-test.false, c.requires.range.0) in
+    let end : clear_below image start (4096 * c.loop-k.k) ≡ clear_below image start (4096 * c.args.to) = ap (clear_below image start) all in
+    omega (arith, c.loop-k.invariant.all less, end)
