@@ -54,7 +54,8 @@ pub fn insert_new<S: Sectors>(
     requires spare { HasSpare place 4 (S.state s.old) }
     ensures change { OnOk result (ChangesContent place n (taken_for inode.old) 4 (S.state s.old) (S.state s.new) inode.old inode.new) }
     ensures names { OnOk result ((names : List (List ℕ × ℕ)) → HasNames place.version (S.state s.old).sectors inode.old names
-        → (length names < max_names place.version) × HasNames place.version (S.state s.new).sectors inode.new (with_entry name_cmp names name.now to)) }
+        → (length names < max_names place.version) × HasNames place.version (S.state s.new).sectors inode.new
+        (with_entry name_cmp names name.now to)) }
     ensures why { IfErr result (λ e. (names : List (List ℕ × ℕ)) → HasNames place.version (S.state s.old).sectors inode.old names
         → WhyNotAdded place (S.state s.old).sectors inode.old names name.now e) }
     ensures store { SameStore (S.state s.old) (S.state s.new) }
@@ -139,12 +140,14 @@ fn put_last<S: Sectors>(
     requires sound { IsSound place (S.state s.old) }
     requires below { n < place.inodes }
     requires inode { inode.now ≡ inode_at place (S.state s.old).sectors n }
-    requires directory { (slots : List NamedInode) × HasSlots place.version (S.state s.old).sectors inode.now slots × (slot < length slots) }
+    requires directory { (slots : List NamedInode) × HasSlots place.version (S.state s.old).sectors inode.now slots
+        × (slot < length slots) }
     requires room { length bytes.old ≡ slot_size place.version }
     requires spare { HasSpare place 1 (S.state s.old) }
     ensures change { OnOk result (ChangesContent place n 0 1 (S.state s.old) (S.state s.new) inode.now inode.now) }
     ensures moved { OnOk result ((slots : List NamedInode) (d : NamedInode) → HasSlots place.version (S.state s.old).sectors inode.now slots
-        → Holds (S.state s.new).sectors inode.now (slots_bytes place.version (set slots slot (slice_index_or slots (length slots - 1) d)))) }
+        → Holds (S.state s.new).sectors inode.now
+        (slots_bytes place.version (set slots slot (slice_index_or slots (length slots - 1) d)))) }
     ensures whole { OnOk result (HasNoHole (S.state s.new).sectors inode.now) }
     ensures store { SameStore (S.state s.old) (S.state s.new) }
     ensures cause { HasCause (S.state s.old).disk (S.state s.new).disk result }
@@ -168,11 +171,13 @@ fn move_last<S: Sectors>(
     requires sound { IsSound place (S.state s.old) }
     requires below { n < place.inodes }
     requires inode { inode.now ≡ inode_at place (S.state s.old).sectors n }
-    requires directory { (slots : List NamedInode) × HasSlots place.version (S.state s.old).sectors inode.now slots × (slot < length slots) }
+    requires directory { (slots : List NamedInode) × HasSlots place.version (S.state s.old).sectors inode.now slots
+        × (slot < length slots) }
     requires spare { HasSpare place 1 (S.state s.old) }
     ensures change { OnOk result (ChangesContent place n 0 1 (S.state s.old) (S.state s.new) inode.now inode.now) }
     ensures moved { OnOk result ((slots : List NamedInode) (d : NamedInode) → HasSlots place.version (S.state s.old).sectors inode.now slots
-        → Holds (S.state s.new).sectors inode.now (slots_bytes place.version (set slots slot (slice_index_or slots (length slots - 1) d)))) }
+        → Holds (S.state s.new).sectors inode.now
+        (slots_bytes place.version (set slots slot (slice_index_or slots (length slots - 1) d)))) }
     ensures whole { OnOk result (HasNoHole (S.state s.new).sectors inode.now) }
     ensures store { SameStore (S.state s.old) (S.state s.new) }
     ensures cause { HasCause (S.state s.old).disk (S.state s.new).disk result }
@@ -206,7 +211,8 @@ pub fn remove<S: Sectors>(
     requires spare { HasSpare place 5 (S.state s.old) }
     ensures change { OnOk result (ChangesContent place n 0 5 (S.state s.old) (S.state s.new) inode.old inode.new) }
     ensures names { OnOk result ((names : List (List ℕ × ℕ)) → HasNames place.version (S.state s.old).sectors inode.old names
-        → (get name_cmp names name.now ≢ None) × HasNames place.version (S.state s.new).sectors inode.new (without name_cmp names name.now)) }
+        → (get name_cmp names name.now ≢ None) × HasNames place.version (S.state s.new).sectors inode.new
+        (without name_cmp names name.now)) }
     ensures why { IfErr result (λ e. (names : List (List ℕ × ℕ)) → HasNames place.version (S.state s.old).sectors inode.old names
         → WhyNotChanged names name.now e) }
     ensures store { SameStore (S.state s.old) (S.state s.new) }
@@ -232,7 +238,8 @@ fn set_slot<S: Sectors>(
     requires sound { IsSound place (S.state s.old) }
     requires below { n < place.inodes }
     requires inode { inode.now ≡ inode_at place (S.state s.old).sectors n }
-    requires directory { (slots : List NamedInode) × HasSlots place.version (S.state s.old).sectors inode.now slots × (slot < length slots) }
+    requires directory { (slots : List NamedInode) × HasSlots place.version (S.state s.old).sectors inode.now slots
+        × (slot < length slots) }
     requires name { IsName name.now }
     requires short { length name.now ≤ max_name place.version }
     requires spare { HasSpare place 1 (S.state s.old) }
@@ -268,7 +275,8 @@ pub fn replace<S: Sectors>(
     requires spare { HasSpare place 1 (S.state s.old) }
     ensures change { OnOk result (ChangesContent place n 0 1 (S.state s.old) (S.state s.new) inode.now inode.now) }
     ensures names { OnOk result ((names : List (List ℕ × ℕ)) → HasNames place.version (S.state s.old).sectors inode.now names
-        → (get name_cmp names name.now ≢ None) × HasNames place.version (S.state s.new).sectors inode.now (with_entry name_cmp names name.now to)) }
+        → (get name_cmp names name.now ≢ None) × HasNames place.version (S.state s.new).sectors inode.now
+        (with_entry name_cmp names name.now to)) }
     ensures why { IfErr result (λ e. (names : List (List ℕ × ℕ)) → HasNames place.version (S.state s.old).sectors inode.now names
         → WhyNotChanged names name.now e) }
     ensures store { SameStore (S.state s.old) (S.state s.new) }
@@ -303,7 +311,8 @@ pub fn rename<S: Sectors>(
         → get name_cmp names name.now ≢ None) }
     ensures names { OnOk result ((names : List (List ℕ × ℕ)) (to : ℕ) → HasNames place.version (S.state s.old).sectors inode.now names
         → get name_cmp names name.now ≡ Some to
-        → HasNames place.version (S.state s.new).sectors inode.now (with_entry name_cmp (without name_cmp names name.now) new_name.now to)) }
+        → HasNames place.version (S.state s.new).sectors inode.now
+        (with_entry name_cmp (without name_cmp names name.now) new_name.now to)) }
     ensures why { IfErr result (λ e. (names : List (List ℕ × ℕ)) → HasNames place.version (S.state s.old).sectors inode.now names
         → WhyNotChanged names name.now e) }
     ensures store { SameStore (S.state s.old) (S.state s.new) }

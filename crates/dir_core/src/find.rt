@@ -87,7 +87,8 @@ fn find_at_hint<S: Sectors>(
 ) -> Result<Option<FoundSlot>, DiskFault>
     requires len { (0 < length name.now) × (length name.now ≤ max_name version) }
     requires within { IsWithin (S.state s.old).header (S.state s.old).disk.size (S.state s.old).sectors inode.now }
-    ensures found { IfOk result (λ found. IfSome found (λ slot. (slots : List NamedInode) → HasSlots version (S.state s.old).sectors inode.now slots
+    ensures found { IfOk result (λ found. IfSome found (λ slot. (slots : List NamedInode)
+        → HasSlots version (S.state s.old).sectors inode.now slots
         → IsFoundIn slots name.now (Some slot))) }
     ensures same { IsUnchanged (S.state s.old) (S.state s.new) }
     ensures cause { HasCause (S.state s.old).disk (S.state s.new).disk result }

@@ -30,7 +30,8 @@ fn read_block_of<S: Sectors>(
 ) -> Result<(), DiskFault>
     requires within { IsWithin (S.state s.old).header (S.state s.old).disk.size (S.state s.old).sectors blocks.old.inode }
     requires pointers { IsAtHand (S.state s.old).sectors blocks.old }
-    requires at_hand { slot % block_slots version ≢ 0 → IsBlock (S.state s.old).sectors blocks.old.inode (slot / block_slots version) block.old }
+    requires at_hand { slot % block_slots version ≢ 0 → IsBlock (S.state s.old).sectors blocks.old.inode
+        (slot / block_slots version) block.old }
     ensures inode { blocks.new.inode ≡ blocks.old.inode }
     ensures pointers { OnOk result (IsAtHand (S.state s.old).sectors blocks.new) }
     ensures block { OnOk result (IsBlock (S.state s.old).sectors blocks.old.inode (slot / block_slots version) block.new) }

@@ -36,7 +36,8 @@ pub fn lookup<S: Sectors>(
 
 /// Whether a directory has no names.
 pub fn is_empty(inode: &Inode) -> bool
-    ensures { (version : Version) (image : SectorMap) (names : List (List ℕ × ℕ)) → HasNames version image inode.now names → (IsTrue result ↔ (names ≡ [])) }
+    ensures { (version : Version) (image : SectorMap) (names : List (List ℕ × ℕ)) → HasNames version image inode.now names
+        → (IsTrue result ↔ (names ≡ [])) }
 {
     inode.size == 0
 }

@@ -19,7 +19,8 @@ const SUPERBLOCK: u32 = 0;
 /// halfway has none, and isn't taken for a file system. The log stays as it is.
 pub fn mkfs<D: Disk>(disk: &mut D, version: Version, inodes: u32) -> Result<(), MkfsFault>
     // The first refusal in order; the disk isn't touched.
-    ensures refused { (f : MkfsFault) → mkfs_refusal version (D.state disk.old).size inodes ≡ Some f → (result ≡ Err f) × (disk.new ≡ disk.old) }
+    ensures refused { (f : MkfsFault) → mkfs_refusal version (D.state disk.old).size inodes ≡ Some f
+        → (result ≡ Err f) × (disk.new ≡ disk.old) }
     ensures fault { mkfs_refusal version (D.state disk.old).size inodes ≡ None
         → IfErr result (IsDeviceFault (D.state disk.old) (D.state disk.new)) }
     ensures made { OnOk result (IsNewDisk version inodes (D.state disk.new).seen) }

@@ -132,7 +132,8 @@ fn read_path_command(name: &str, operands: Operands<'_>) -> Result<Event, LineFa
 // Those whose first word is a descriptor, and those below.
 fn read_descriptor_command(name: &str, operands: Operands<'_>) -> Result<Event, LineFault>
     ensures said { (pid : List ℕ) → operands.entry.pid ≡ number_of 64 pid
-        → GivesSaid Asks result (command_says (row_named (descriptor_commands ++ (name_commands ++ process_commands)) name.now) pid operands.entry.words.now) }
+        → GivesSaid Asks result (command_says (row_named (descriptor_commands ++
+        (name_commands ++ process_commands)) name.now) pid operands.entry.words.now) }
     ensures offered { IfOk result (λ e. IsTrue (is_of_machine e)) }
 {
     match name {

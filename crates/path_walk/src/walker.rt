@@ -249,7 +249,8 @@ impl Walker {
         requires steps { self.old.step + 1 < 2 ^ 64 }
         requires inodes { HasSoundInodes place (S.state s.old).sectors }
         ensures each { (t : Tree) → HoldsTree place (S.state s.old).sectors t → IsThere t self.old.here
-            → (form : Form) → IsStep (S.state s.old).disk (S.state s.new).disk (room_of place) t cred.now form follow self.old self.new result }
+            → (form : Form) → IsStep (S.state s.old).disk (S.state s.new).disk
+            (room_of place) t cred.now form follow self.old self.new result }
         ensures at { OnOk result (IsAt place (S.state s.old).sectors self.new) }
         ensures way { OnOk result (IsWay self.old self.new) }
         ensures cause { IfErr result (IsCaused (S.state s.old).disk (S.state s.new).disk) }

@@ -223,7 +223,8 @@ impl<D: Disk> Logged<D> {
         requires { IsLogged batch.now.entries (D.state self) }
 
         ensures sealed { IfOk result (λ sealed. IsSealed batch.now.entries (D.state sealed)) }
-        ensures changed { IfOk result (λ sealed. SameMap (data_of (D.state sealed)) (with_batch batch.now.entries (data_of (D.state self)))) }
+        ensures changed { IfOk result (λ sealed. SameMap (data_of (D.state sealed))
+            (with_batch batch.now.entries (data_of (D.state self)))) }
 
         // A stop at any moment of the call leaves what reads as before it, or with the whole batch.
         ensures any_moment { LeavesAllOrNone batch.now.entries (D.state self) (D.state (disk_of result)) }

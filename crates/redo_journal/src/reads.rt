@@ -71,7 +71,8 @@ fn read_targets<D: Disk>(
     ensures count { IfOk result (λ targets. length targets ≡ length counted) }
     ensures first { IfOk result (λ targets. (i : ℕ) → i < MAX_TARGETS → get_or targets i 0 ≡ get_or counted i 0) }
     ensures more { IfOk result (λ targets. (k : ℕ) → MAX_TARGETS + k < length counted
-        → u32_of (sector (D.state disk.old).seen (from + k / HEADER_TARGETS)) (4 * (k % HEADER_TARGETS)) ≡ get_or targets (MAX_TARGETS + k) 0) }
+        → u32_of (sector (D.state disk.old).seen (from + k / HEADER_TARGETS)) (4 * (k % HEADER_TARGETS))
+        ≡ get_or targets (MAX_TARGETS + k) 0) }
     ensures reads { OnlyReads (D.state disk.old) (D.state disk.new) }
     ensures cause { HasCause (D.state disk.old) (D.state disk.new) result }
 {

@@ -69,7 +69,8 @@ pub(crate) fn write_targets<D: Disk>(disk: &mut D, batch: &Batch) -> Result<(), 
     requires { AreTargets (header_at (D.state disk.old).seen) (D.state disk.old).size (targets batch.now.entries) }
     ensures written { OnOk result (HoldsTargets batch.now.entries (D.state disk.new).seen) }
     ensures adds { AddsOnly (InTargets (targets batch.now.entries)) (D.state disk.old) (D.state disk.new) }
-    ensures any_moment { LeavesOnly (D.state disk.old) (D.state disk.new) (IsImageOr (InTargets (targets batch.now.entries)) (D.state disk.old)) }
+    ensures any_moment { LeavesOnly (D.state disk.old) (D.state disk.new) (IsImageOr (InTargets (targets batch.now.entries))
+        (D.state disk.old)) }
     ensures cause { HasCause (D.state disk.old) (D.state disk.new) result }
     ensures told { HasWriteCause (D.state disk.old) (D.state disk.new) result }
 {
@@ -88,7 +89,8 @@ pub(crate) fn copy_log<D: Disk>(
 ) -> Result<(), DiskFault>
     requires most { header ≤ MAX_HEADER }
     requires valid { AreTargets header (D.state disk.old).size sectors.now }
-    ensures written { OnOk result (HasReplayed (area_start header area + header) sectors.now (sector (D.state disk.old).seen) (D.state disk.new).seen) }
+    ensures written { OnOk result (HasReplayed (area_start header area + header) sectors.now (sector (D.state disk.old).seen)
+        (D.state disk.new).seen) }
     ensures adds { AddsOnly (InTargets sectors.now) (D.state disk.old) (D.state disk.new) }
     ensures any_moment { LeavesOnly (D.state disk.old) (D.state disk.new) (IsImageOr (InTargets sectors.now) (D.state disk.old)) }
     ensures cause { HasCause (D.state disk.old) (D.state disk.new) result }

@@ -50,10 +50,11 @@ impl From<AllocError> for FileFault {
 
 /// A disk whose sectors are those of a file, for a file system that is to last.
 ///
-/// All sectors are in memory, where reads find them, and those that are zeros take four bytes each. What is written waits for the next sync, and goes to the file in rising
-/// order then, neighbours in one call; a write to which too much waits passes that on first. Bytes past the last whole
-/// sector, or past sector 65,536, aren't touched. A write or a sync of the file that fails is a failure of the disk, at that
-/// sync or that write. What the file lacks then waits for the next one.
+/// All sectors are in memory, where reads find them, and those that are zeros take four bytes each. What is written waits for
+/// the next sync, and goes to the file in rising order then, neighbours in one call; a write to which too much waits passes
+/// that on first. Bytes past the last whole sector, or past the most sectors that the disk was opened for, aren't touched. A
+/// write or a sync of the file that fails is a failure of the disk, at that sync or that write. What the file lacks then waits
+/// for the next one.
 ///
 /// As long as this lives, it holds the file's lock, so that no other disk is in the file. Nor may anybody who doesn't ask for
 /// the lock write to the file, cut it or remove it: no clause holds otherwise. Where this is dropped, what still waits is lost, as at a stop.

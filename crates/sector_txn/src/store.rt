@@ -66,7 +66,8 @@ impl<D: Disk> Model for Txn<D> {
 
     ghost view = { λ txn. record { disk = txn.journal; waiting = txn.waiting.value.entries; delta = txn.delta.value.entries } };
 
-    ghost invariant = { λ txn. IsTxn (D.state txn.journal) txn.delta.value.entries × IsWaiting (D.state txn.journal) txn.waiting.value.entries
+    ghost invariant = { λ txn. IsTxn (D.state txn.journal) txn.delta.value.entries
+        × IsWaiting (D.state txn.journal) txn.waiting.value.entries
         × IsReserved (D.state txn.journal) txn.waiting.value.most txn.delta.value.most };
 }
 
