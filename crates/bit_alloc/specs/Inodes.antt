@@ -42,6 +42,9 @@ pub record KeepsFields (v w : Inode) : Type 0 where
   pub gid : w.gid ≡ v.gid
   pub names : w.names ≡ v.names
   pub parent : w.parent ≡ v.parent
+  pub mtime : w.mtime ≡ v.mtime
+  pub ctime : w.ctime ≡ v.ctime
+  pub atime : w.atime ≡ v.atime
 
 -- w holds in new what v holds in old
 pub record KeepsBytes (old new : SectorMap) (v w : Inode) : Type 0 where

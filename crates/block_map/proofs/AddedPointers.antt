@@ -115,7 +115,7 @@ module _ {p : Place} {s : ℕ} {old new : TxnState} {bits : SectorMap} {x : List
       → indirect < 2 ^ 32 → double < 2 ^ 32 → Alters p old new v (record v { indirect = indirect; double_indirect = double })
   names_sector indirect double blocks few less = record {
     blocks = blocks;
-    fields = record { kind = refl; mode = refl; uid = refl; gid = refl; names = refl; parent = refl };
+    fields = record { kind = refl; mode = refl; uid = refl; gid = refl; names = refl; parent = refl; mtime = refl; ctime = refl; atime = refl };
     acls = acls_where_kept refl refl keeps;
     bitmaps = bitmaps_now;
     fits = with_blocks_fits may.fits may.used

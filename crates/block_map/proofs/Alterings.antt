@@ -13,7 +13,7 @@ use Rattle.block_map.proofs.Runs.{same_map}
 
 -- the same attributes
 pub fields_same : {v : Inode} → KeepsFields v v
-fields_same = record { kind = refl; mode = refl; uid = refl; gid = refl; names = refl; parent = refl }
+fields_same = record { kind = refl; mode = refl; uid = refl; gid = refl; names = refl; parent = refl; mtime = refl; ctime = refl; atime = refl }
 
 -- the sectors of the ACLs are the same
 pub acls_kept : {old new : SectorMap} {v w : Inode} → w.acl ≡ v.acl → w.default_acl ≡ v.default_acl → (v.acl ≢ 0 → new v.acl ≡ old v.acl)
@@ -34,6 +34,9 @@ fields_joined a b = record {
   gid = b.gid ∙ a.gid;
   names = b.names ∙ a.names;
   parent = b.parent ∙ a.parent;
+  mtime = b.mtime ∙ a.mtime;
+  ctime = b.ctime ∙ a.ctime;
+  atime = b.atime ∙ a.atime;
 }
 
 acl_on : (mid new : SectorMap) (s t : ℕ) → t ≡ s → (t ≢ 0 → new t ≡ mid t) → s ≢ 0 → new s ≡ mid s

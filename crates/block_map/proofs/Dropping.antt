@@ -307,7 +307,7 @@ module _ {p : Place} {v : Inode} {first a b u0 u1 from0 from1 : ℕ} {d x0 x1 : 
             others s (λ some e. ban (subst (λ (t : ℕ). Owns old.sectors v t) (sym e) (own0 some))) (λ some e. ban (subst (λ (t : ℕ). Owns old.sectors v t) (sym e) (own1 some)))
             ∙ g.others s map;
       });
-      fields = record { kind = refl; mode = refl; uid = refl; gid = refl; names = refl; parent = refl };
+      fields = record { kind = refl; mode = refl; uid = refl; gid = refl; names = refl; parent = refl; mtime = refl; ctime = refl; atime = refl };
       acls = acls_kept refl refl
           (λ some. owned_same v.acl (owns_acl old.sectors v some)
           (λ e. acl_apart apart 0 ((first - DIRECT_BLOCKS) / SECTOR_POINTERS) (λ z. some (e ∙ is0 ∙ z)) (e ∙ is0)) (λ e. acl_apart apart 1 0 (λ z. some (e ∙ is1 ∙ z)) (e ∙ is1)))

@@ -362,7 +362,7 @@ empties {p} {v} {old} {new} may allowed g =
     let same : (s : ℕ) → Owns old.sectors v s → new.sectors s ≡ old.sectors s = λ s o. g.others s (no_map place may.apart s o) in
     record {
       blocks = emptied_blocks place may.apart g;
-      fields = record { kind = refl; mode = refl; uid = refl; gid = refl; names = refl; parent = refl };
+      fields = record { kind = refl; mode = refl; uid = refl; gid = refl; names = refl; parent = refl; mtime = refl; ctime = refl; atime = refl };
       acls = acls_where_kept refl refl same;
       bitmaps = g.tables;
       fits = emptied_fits v may.fits allowed;

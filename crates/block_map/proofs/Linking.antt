@@ -54,6 +54,9 @@ link_of owner group size = record {
   direct = replicate DIRECT_BLOCKS 0;
   indirect = 0;
   double_indirect = 0;
+  mtime = 0;
+  ctime = 0;
+  atime = 0;
 }
 
 link_has_no_sector : (owner group size : ℕ) → HasNoSector (link_of owner group size)
@@ -161,7 +164,7 @@ module _ {p : Place} {n : ℕ} {t0 t1 : TxnState} (sound : IsSound p t0) (taken 
               free = omega (arith, one, same, f);
             };
             used = saved.1.inode_bits n (inode_has_bit sound.consistent.place n taken.free.1) ∙ taken.set;
-            fields = subst (IsNewLink owner group) (sym saved.1.is) (record { kind = refl; mode = refl; uid = refl; gid = refl; names = refl; parent = refl });
+            fields = subst (IsNewLink owner group) (sym saved.1.is) (record { kind = refl; mode = refl; uid = refl; gid = refl; names = refl; parent = refl; mtime = refl; ctime = refl; atime = refl });
             acls = subst HasNoAcls (sym saved.1.is) (record { acl = refl; default = refl });
             holds = subst (λ (u : Inode). Holds t3.sectors u target) (sym saved.1.is) (Holds-kept saved.1.keeps holds_target);
             whole = subst (HasNoHole t3.sectors) (sym saved.1.is) (HasNoHole-kept saved.1.keeps has_sector);

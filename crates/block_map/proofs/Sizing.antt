@@ -18,7 +18,7 @@ use Rattle.fs_layout.proofs.SplicedBytes.{get_or-zeros}
 use Rattle.fs_layout.proofs.Blocks.{fields_change}
 use Rattle.fs_layout.proofs.Consistent.{owned_is_apart}
 use Rattle.fs_layout.proofs.Free.{inode_fits_there}
-use Rattle.fs_layout.proofs.UsedInodes.{used_fits, blocks_fit}
+use Rattle.fs_layout.proofs.UsedInodes.{used_fits, blocks_fit, times_fit}
 use Rattle.fs_layout.proofs.Sizes.{extends}
 use Rattle.sector_txn.specs.Sectors.{TxnState, IsUnchanged}
 use Rattle.bit_alloc.specs.Inodes.{IsSound}
@@ -47,7 +47,7 @@ pub sized_fits : (v : Inode) (m : ℕ) → FitsInode v → AllowsSize v.kind m �
 unfolding inode_fits
 sized_fits v m fits allowed few =
     used_fits (is_used v.kind m allowed) (sized_numbers v.kind v.mode v.size m fits.valid.numbers allowed few) fits.mode fits.uid fits.gid fits.names
-    (omega (arith, few)) fits.parent fits.acl fits.default_acl (blocks_fit fits)
+    (omega (arith, few)) fits.parent fits.acl fits.default_acl (blocks_fit fits) (times_fit fits)
 
 -- an inode of the table may be changed
 pub may_change : {p : Place} {n : ℕ} {txn : TxnState} {v : Inode} (m : ℕ) → IsSound p txn → n < p.inodes → v ≡ inode_at p txn.sectors n → AllowsSize v.kind m → MayChange p txn v
@@ -79,7 +79,7 @@ sized {p} {old} {mid} {v} m may same allowed few =
     record {
       blocks = subst (λ (image : SectorMap). ChangesBlocks p v (record v { size = m }) old.sectors image) e
           (fields_change may.bitmaps.place may.bitmaps.tables may.apart refl refl refl);
-      fields = record { kind = refl; mode = refl; uid = refl; gid = refl; names = refl; parent = refl };
+      fields = record { kind = refl; mode = refl; uid = refl; gid = refl; names = refl; parent = refl; mtime = refl; ctime = refl; atime = refl };
       acls = acls_kept refl refl (λ some. same.sectors v.acl) (λ some. same.sectors v.default_acl);
       bitmaps = bitmaps_unchanged p old mid may.bitmaps same;
       fits = sized_fits v m may.fits allowed few;

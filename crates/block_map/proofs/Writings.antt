@@ -141,7 +141,7 @@ module _ {p : Place} {old new : TxnState} {bits : SectorMap} {v : Inode} {k s : 
       record {
         alters = record {
           blocks = direct_block_gained place may.apart a k lt len none;
-          fields = record { kind = refl; mode = refl; uid = refl; gid = refl; names = refl; parent = refl };
+          fields = record { kind = refl; mode = refl; uid = refl; gid = refl; names = refl; parent = refl; mtime = refl; ctime = refl; atime = refl };
           acls = acls_where_kept refl refl (allocates_keeps place may.apart a);
           bitmaps = bitmaps_now;
           fits = with_direct_fits v k s may.fits may.used (let l = a.free.1 in let most = numbers_most place in omega (arith, l, most));

@@ -5,7 +5,7 @@ use Rattle.std.specs.Prelude.{◌≡◌, ℕ}
 use Rattle.fs_layout.specs.declared.inode.Inode.{Inode}
 use Rattle.fs_layout.specs.declared.inode.Kind.TheVariants as kinds
 
--- a link with one name, this owner and this group
+-- a link with one name, this owner and this group, whose times are not known
 pub record IsNewLink (owner group : ℕ) (v : Inode) : Type 0 where
   pub kind : v.kind ≡ kinds.Link
   pub mode : v.mode ≡ 0o777
@@ -13,6 +13,9 @@ pub record IsNewLink (owner group : ℕ) (v : Inode) : Type 0 where
   pub gid : v.gid ≡ group
   pub names : v.names ≡ 1
   pub parent : v.parent ≡ 0
+  pub mtime : v.mtime ≡ 0
+  pub ctime : v.ctime ≡ 0
+  pub atime : v.atime ≡ 0
 
 -- neither ACL has a sector
 pub record HasNoAcls (v : Inode) : Type 0 where

@@ -9,7 +9,7 @@
 --     closed_refused, open_refused        that is passed on
 --     asked_performs, unread_performs, interrupted_performs        it is refused after that
 --     told        it answers, and changes nothing
---     changed_tree, changed_one        it has changed the tree, or its process alone
+--     changed_tree, broken_later, changed_one        it has changed the tree, or its process alone
 use Rattle.std.specs.Prelude.{◌≡◌, ◌≢◌, ℕ, ◌<◌, ◌==◌, Bool, true, false, cond, not, is_some, List, Option, None, Some, unwrap_or, ◌⊎◌, ◌||◌, IsTrue, Result, Ok, Err, IsOk, IsErr, IsErrAnd}
 use Rattle.std.proofs.Common.{refl, sym, ap, subst, ◌∙◌, inl, inr}
 use Rattle.std.specs.List.{list_any}
@@ -34,6 +34,7 @@ use Rattle.sector_txn.proofs.TransactionRuns.{store_same, store_joined}
 use Rattle.fs_model.specs.declared.call.Call.{Call}
 use Rattle.fs_model.specs.declared.event.Event.TheVariants.{Call as Calls}
 use Rattle.fs_model.specs.declared.reply.Reply.{Reply}
+use Rattle.fs_model.specs.declared.touch.Touch.{Touch}
 use Rattle.fs_model.specs.TreeChanges.{Same}
 use Rattle.fs_model.specs.Demands.{Demand, refuse, first_of}
 use Rattle.fs_model.specs.Processes.{Descriptor, Process, Desks, descriptor, the_descriptor, no_descriptor, with_offset, is_open}
@@ -61,7 +62,8 @@ use Rattle.path_walk.proofs.HeldNodes.{is_there, number_below, held_kind}
 use Rattle.path_walk.proofs.Kept.{same_map as map_kept, interrupts_later}
 use Rattle.call_parts.proofs.Calling.{or_else-none, state_kept, state_tree, state_process, same_process, early_is, late_is, after_is, interrupted_refused, told_performs}
 use Rattle.call_parts.proofs.ByPath.{refused_performs}
-use Rattle.call_parts.proofs.Changed.{IsChange}
+use Rattle.call_parts.specs.Times.{MovesTimes}
+use Rattle.call_parts.proofs.Changed.{IsChange, times_moved, none_moved}
 use Rattle.call_parts.proofs.Shown.{the_node_is, is_used}
 
 -- it has no path, and so no find
@@ -254,12 +256,12 @@ fit_open {fd = fd} {d = d} purpose o fit = record { opened = o; fine = bad_open 
 module _ {pid : ℕ} {call : Call} {fd : ℕ} {purpose : OpenFor} {demands : Scene → List Demand} {effect : Scene → Effect}
     (is : ActsOn call fd purpose demands effect) {p : Place} where
   -- its refusal is passed on
-  pub closed_refused : {txn : TxnState} {desks : Desks} (r : Result Reply Refusal) (e : Refusal) → IsErr r → IsErrAnd r (λ y. y ≡ e)
-      → ((s : State) → s.desks ≡ desks → IsNotOpen s pid fd purpose e) → Performs p pid call txn txn desks desks r
+  pub closed_refused : {time : ℕ} {txn : TxnState} {desks : Desks} (r : Result Reply Refusal) (e : Refusal) → IsErr r → IsErrAnd r (λ y. y ≡ e)
+      → ((s : State) → s.desks ≡ desks → IsNotOpen s pid fd purpose e) → Performs p time pid call txn txn desks desks r
   closed_refused r e err and refuses = refused_performs r e err and store_same (λ s at. why.early ((refuses s at.same_desks).each call demands effect is))
 
-  pub open_refused : {old new : TxnState} {desks : Desks} (r : Result Reply Refusal) (e : Refusal) → IsErr r → IsErrAnd r (λ y. y ≡ e) → SameStore old new
-      → ((s : State) → IsStateOf p old.sectors desks s → RefusesOpen old.disk new.disk s pid fd purpose e) → Performs p pid call old new desks desks r
+  pub open_refused : {time : ℕ} {old new : TxnState} {desks : Desks} (r : Result Reply Refusal) (e : Refusal) → IsErr r → IsErrAnd r (λ y. y ≡ e) → SameStore old new
+      → ((s : State) → IsStateOf p old.sectors desks s → RefusesOpen old.disk new.disk s pid fd purpose e) → Performs p time pid call old new desks desks r
   open_refused r e err and store refuses = refused_performs r e err and store (λ s at. (refuses s at).each call demands effect is)
 
   module _ {old mid : TxnState} (same : IsUnchanged old mid) {desks : Desks} {d : Descriptor} (w : IsOpenFor desks pid fd purpose d) where
@@ -275,43 +277,49 @@ module _ {pid : ℕ} {call : Call} {fd : ℕ} {purpose : OpenFor} {demands : Sce
 
     module _ (new : TxnState) (r : Result Reply Refusal) (e : Refusal) (err : IsErr r) (and : IsErrAnd r (λ y. y ≡ e)) (store : SameStore mid new) where
       -- what it asks of what is open refuses, or a read fails
-      pub unread_performs : ((s : State) → IsStateOf p mid.sectors desks s → (first_of (demands (open_scene s w.opened.process)) ≡ Some e) ⊎ FailsToRead mid.disk new.disk e)
-          → Performs p pid call old new desks desks r
+      pub unread_performs : {time : ℕ} → ((s : State) → IsStateOf p mid.sectors desks s → (first_of (demands (open_scene s w.opened.process)) ≡ Some e) ⊎ FailsToRead mid.disk new.disk e)
+          → Performs p time pid call old new desks desks r
       unread_performs asked = refused_performs r e err and (store_joined same.store store)
           (λ s at. elim (asked s (state_kept same at)) [
             | inl refuses ↦ why.late (firm s at) (late s at ∙ refuses)
             | inr read ↦ why.read_fails (firm s at) (failed_later old.disk mid.disk new.disk same.store.reads.failures read.1) read.0
           ])
 
-      pub asked_performs : ((s : State) → IsStateOf p mid.sectors desks s → first_of (demands (open_scene s w.opened.process)) ≡ Some e) → Performs p pid call old new desks desks r
+      pub asked_performs : {time : ℕ} → ((s : State) → IsStateOf p mid.sectors desks s → first_of (demands (open_scene s w.opened.process)) ≡ Some e) → Performs p time pid call old new desks desks r
       asked_performs asked = unread_performs (λ s at. inl (asked s at))
 
       -- or memory is lacking
-      pub interrupted_performs : IsTrue (asks_in_call call) → Interrupts mid.disk new.disk e → Performs p pid call old new desks desks r
+      pub interrupted_performs : {time : ℕ} → IsTrue (asks_in_call call) → Interrupts mid.disk new.disk e → Performs p time pid call old new desks desks r
       interrupted_performs asks way = refused_performs r e err and (store_joined same.store store)
           (λ s at. interrupted_refused old.disk new.disk s pid call (firm s at) asks e (interrupts_later new.disk same way))
 
-    pub told : (new : TxnState) → IsUnchanged mid new → (reply : Reply)
+    pub told : {time : ℕ} (new : TxnState) → IsUnchanged mid new → (reply : Reply)
         → ((s : State) → IsStateOf p mid.sectors desks s → (first_of (demands (open_scene s w.opened.process)) ≡ None) × (effect (open_scene s w.opened.process) ≡ answers (open_scene s w.opened.process) reply))
-        → Performs p pid call old new desks desks (Ok reply)
+        → Performs p time pid call old new desks desks (Ok reply)
     told new later reply says = told_performs (Ok reply) (unchanged_joined same later)
         (λ s at.
         let t = says s (state_kept same at) in (
           firm s at,
           late s at ∙ t.0,
           open_after s pid w.opened.process is (here s at) ∙ ap (after_effect s pid) t.1
-              ∙ ap (λ (x : Desks). record { change = Same; desks = x; reply = reply }) (same_process_stays s.desks pid w.opened.process at.is_state.pids (here s at)),
+              ∙ ap (λ (x : Desks). record { change = Same; desks = x; reply = reply; now = s.now }) (same_process_stays s.desks pid w.opened.process at.is_state.pids (here s at)),
         ))
 
-    -- it has changed the tree and its process
-    pub changed_tree : (new : TxnState) (now : Desks) → SameStore mid new → new.sectors 0 ≡ mid.sectors 0 → (f : Process → Process) (reply : Reply)
-        → now ≡ with_changed desks pid f
+    -- or a fault, after it has changed the tree
+    pub broken_later : {time : ℕ} {last : TxnState} (new : TxnState) (r : Result Reply Refusal) (e : Refusal) → IsErr r × IsErrAnd r (λ y. y ≡ e) → SameStore mid last → SameStore last new
+        → FailsToRead last.disk new.disk e → Performs p time pid call old new desks desks r
+    broken_later {last} new r e err first store fault = unread_performs new r e err.0 err.1 (store_joined first store)
+        (λ s at. inr (fault.0, failed_later mid.disk last.disk new.disk first.reads.failures fault.1))
+
+    -- it has changed the tree, then its times have moved, and then its process has changed
+    pub changed_tree : {time : ℕ} (last : TxnState) {new : TxnState} {touches : List (ℕ × Touch)} (now : Desks) → SameStore mid last → last.sectors 0 ≡ mid.sectors 0
+        → MovesTimes p time touches last new → (f : Process → Process) (reply : Reply) → now ≡ with_changed desks pid f
         → ((s : State) → IsStateOf p mid.sectors desks s
-        → IsChange p new.sectors now s (f w.opened.process) (demands (open_scene s w.opened.process)) (λ k. effect (open_scene s w.opened.process)) reply)
-        → Performs p pid call old new desks now (Ok reply)
-    changed_tree new now store super f reply is_now says = record {
-      store = store_joined same.store store;
-      super = super ∙ same.sectors 0;
+        → IsChange p last.sectors now s (f w.opened.process) (demands (open_scene s w.opened.process)) (λ k. effect (open_scene s w.opened.process)) reply touches)
+        → Performs p time pid call old new desks now (Ok reply)
+    changed_tree last now store super moved f reply is_now says = record {
+      store = store_joined same.store (store_joined store moved.store);
+      super = moved.super ∙ super ∙ same.sectors 0;
       table = tt;
       each = λ s at.
           let t = says s (state_kept same at) in
@@ -323,18 +331,18 @@ module _ {pid : ℕ} {call : Call} {fd : ℕ} {purpose : OpenFor} {demands : Sce
             number = 0;
             change = t.change;
             effect = open_after s pid w.opened.process is (here s at) ∙ ap (after_effect s pid) t.is
-                ∙ ap (λ (x : Desks). record { change = t.change; desks = x; reply = reply }) of_state;
+                ∙ ap (λ (x : Desks). record { change = t.change; desks = x; reply = reply; now = s.now }) of_state;
             new_number = t.new_number;
-            holds = t.holds;
+            holds = times_moved at t moved;
           };
     }
 
     -- its process alone
-    pub changed_one : (new : TxnState) (now : Desks) → IsUnchanged mid new → (f : Process → Process) (reply : Reply) → now ≡ with_changed desks pid f
+    pub changed_one : {time : ℕ} (new : TxnState) (now : Desks) → IsUnchanged mid new → (f : Process → Process) (reply : Reply) → now ≡ with_changed desks pid f
         → ((n : ℕ) → has_open n (f w.opened.process) ≡ has_open n w.opened.process)
         → ((s : State) → IsStateOf p mid.sectors desks s → (first_of (demands (open_scene s w.opened.process)) ≡ None) × (effect (open_scene s w.opened.process) ≡ with_process (f w.opened.process) reply))
-        → Performs p pid call old new desks now (Ok reply)
-    changed_one new now later f reply is_now keeps says = changed_tree new now later.store (later.sectors 0) f reply is_now
+        → Performs p time pid call old new desks now (Ok reply)
+    changed_one new now later f reply is_now keeps says = changed_tree new now later.store (later.sectors 0) (none_moved new) f reply is_now
         (λ s at.
         let t = says s at in
         record {
@@ -343,6 +351,7 @@ module _ {pid : ℕ} {call : Call} {fd : ℕ} {purpose : OpenFor} {demands : Sce
           change = Same;
           is = t.1;
           new_number = tt;
+          times = refl;
           holds = subst (λ (x : Tree). HoldsAll p new.sectors (placed x))
               (sym (open_stays s.room s.tree s.desks now at.is_state.tree (at.is_state.desks at.up) (still_now w.opened s at now f is_now keeps)))
               (subst (λ m. HoldsAll p m (placed s.tree)) (sym (map_kept later)) at.holds);

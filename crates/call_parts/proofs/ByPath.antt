@@ -22,16 +22,16 @@ use Rattle.call_parts.proofs.Calling.{absent_refused}
 
 -- ---- a refusal, passed on
 
-pub refused_performs : {p : Place} {pid : ℕ} {call : Call} {old new : TxnState} {desks : Desks} (r : Result Reply Refusal) (e : Refusal) → IsErr r → IsErrAnd r (λ y. y ≡ e)
-    → SameStore old new → ((s : State) → IsStateOf p old.sectors desks s → IsRefused old.disk new.disk s pid call e) → Performs p pid call old new desks desks r
-refused_performs {p} {pid} {call} {old} {new} {desks} r e err and store each =
-    subst (λ (x : Result Reply Refusal). Performs p pid call old new desks desks x) (sym (is_err r e err and))
+pub refused_performs : {p : Place} {time pid : ℕ} {call : Call} {old new : TxnState} {desks : Desks} (r : Result Reply Refusal) (e : Refusal) → IsErr r → IsErrAnd r (λ y. y ≡ e)
+    → SameStore old new → ((s : State) → IsStateOf p old.sectors desks s → IsRefused old.disk new.disk s pid call e) → Performs p time pid call old new desks desks r
+refused_performs {p} {time} {pid} {call} {old} {new} {desks} r e err and store each =
+    subst (λ (x : Result Reply Refusal). Performs p time pid call old new desks desks x) (sym (is_err r e err and))
     (record { store = store; super = tt; table = refl; each = each })
 
 -- there is no such process
-pub absent_performs : {p : Place} {pid : ℕ} {call : Call} {txn : TxnState} {desks : Desks} (r : Result Reply Refusal) (errno : Errno) → IsErr r
-    → IsErrAnd r (λ y. y ≡ Failed errno) → (errno ≡ ESRCH) × (get nat_cmp desks pid ≡ None) → Performs p pid call txn txn desks desks r
-absent_performs {p} {pid} {call} {txn} {desks} r errno err and is = refused_performs r (Failed errno) err and store_same
+pub absent_performs : {p : Place} {time pid : ℕ} {call : Call} {txn : TxnState} {desks : Desks} (r : Result Reply Refusal) (errno : Errno) → IsErr r
+    → IsErrAnd r (λ y. y ≡ Failed errno) → (errno ≡ ESRCH) × (get nat_cmp desks pid ≡ None) → Performs p time pid call txn txn desks desks r
+absent_performs {p} {time} {pid} {call} {txn} {desks} r errno err and is = refused_performs r (Failed errno) err and store_same
     (λ s at. subst (λ (e : Errno). IsRefused txn.disk txn.disk s pid call (Failed e)) (sym is.0)
     (absent_refused txn.disk txn.disk s pid call (ap (λ (d : Desks). get nat_cmp d pid) at.same_desks ∙ is.1)))
 

@@ -4,11 +4,13 @@
 --     absent_both, unwalked_both, walks_refused        its process, the checks or the walks of its paths refuse
 --     both_found        what its walks have found
 --     both_refused        what it asks of that refuses
+--     both_broken, both_broken_later        the disk fails
 --     both_performs        it is done
 use Rattle.std.specs.Prelude.{◌≡◌, ℕ, List, None, Some, Result, Ok, Err, IsErr, IsErrAnd}
 use Rattle.std.proofs.Common.{refl, sym, ap, subst, ◌∙◌, inl, inr}
 use Rattle.std.specs.Ordering.{nat_cmp}
 use Rattle.sector_disk.specs.Disk.{DiskState}
+use Rattle.sector_disk.proofs.Moments.{failed_later}
 use Rattle.fs_cred.specs.declared.errno.Errno.{Errno}
 use Rattle.fs_cred.specs.declared.errno.Errno.TheVariants.{ESRCH}
 use Rattle.fs_cred.specs.declared.refusal.Refusal.{Refusal}
@@ -21,6 +23,7 @@ use Rattle.sector_txn.proofs.TransactionRuns.{store_joined}
 use Rattle.fs_model.specs.declared.call.Call.{Call}
 use Rattle.fs_model.specs.declared.event.Event.TheVariants.{Call as Calls}
 use Rattle.fs_model.specs.declared.reply.Reply.{Reply}
+use Rattle.fs_model.specs.declared.touch.Touch.{Touch}
 use Rattle.fs_model.specs.declared.walk.Form.TheVariants.{Parent}
 use Rattle.fs_model.specs.declared.walk.Found.{Found}
 use Rattle.fs_model.specs.Demands.{Demand, or_else, first_of}
@@ -40,7 +43,8 @@ use Rattle.path_walk.specs.Walked.{walk_of}
 use Rattle.call_parts.proofs.ByPath.{refusing, refused_performs}
 use Rattle.call_parts.proofs.Calling.{absent_refused, early_is, late_is, after_is, state_kept, same_process, first_of-append, met_ok, refused_err, answered_later, answered_refused, interrupted_refused}
 use Rattle.path_walk.proofs.Kept.{is_err, interrupts_later}
-use Rattle.call_parts.proofs.Changed.{IsChange}
+use Rattle.call_parts.specs.Times.{MovesTimes}
+use Rattle.call_parts.proofs.Changed.{IsChange, times_moved}
 use Rattle.call_parts.specs.Reaching.{checked, WalksBoth, RefusesBoth, HasWalkedBoth}
 use Rattle.call_parts.specs.TwoPaths.{both_checks, walk_refusal, walks_of, scene_with, HasFoundBoth}
 
@@ -220,8 +224,8 @@ both_found old new s pid q there old_path new_path f g fit is =
 module _ {pid : ℕ} {call : Call} {old_path new_path : List ℕ} {demands : Scene → List Demand} {effect : Scene → Effect}
     (is : WalksBoth call old_path new_path demands effect) {p : Place} where
   -- its refusal is passed on
-  pub walks_refused : {old new : TxnState} {desks : Desks} (r : Result Reply Refusal) (e : Refusal) → IsErr r → IsErrAnd r (λ y. y ≡ e) → IsUnchanged old new
-      → ((s : State) → IsStateOf p old.sectors desks s → RefusesBoth old.disk new.disk s pid old_path new_path e) → Performs p pid call old new desks desks r
+  pub walks_refused : {time : ℕ} {old new : TxnState} {desks : Desks} (r : Result Reply Refusal) (e : Refusal) → IsErr r → IsErrAnd r (λ y. y ≡ e) → IsUnchanged old new
+      → ((s : State) → IsStateOf p old.sectors desks s → RefusesBoth old.disk new.disk s pid old_path new_path e) → Performs p time pid call old new desks desks r
   walks_refused r e err and same refuses = refused_performs r e err and same.store (λ s at. (refuses s at).each call demands effect is)
 
   module _ {old mid : TxnState} (same : IsUnchanged old mid) {desks : Desks} {q : Process} {f g : Found} (w : HasWalkedBoth p mid desks pid old_path new_path q f g) where
@@ -233,10 +237,10 @@ module _ {pid : ℕ} {call : Call} {old_path new_path : List ℕ} {demands : Sce
       here = same_process at pid q w.there
 
     -- what it asks of what was found refuses
-    pub both_refused : (new : TxnState) (r : Result Reply Refusal) (e : Refusal) → IsErr r → IsErrAnd r (λ y. y ≡ e) → SameStore mid new
+    pub both_refused : {time : ℕ} (new : TxnState) (r : Result Reply Refusal) (e : Refusal) → IsErr r → IsErrAnd r (λ y. y ≡ e) → SameStore mid new
         → {A : Type 0} (x : A) → ((s : State) → HasFoundBoth s pid q old_path new_path f g → IsStateOf p mid.sectors desks s
         → IsAnswered mid.disk new.disk (refused_or (first_of (demands (scene_with s q f g))) (Ok x)) (Err e))
-        → Performs p pid call old new desks desks r
+        → Performs p time pid call old new desks desks r
     both_refused new r e err and store {A} x refused = refused_performs r e err and (store_joined same.store store)
         (λ s at.
         answered_refused old.disk new.disk s pid call (both_found_firm s pid q is (here s at) (has s at)) is.asks e
@@ -244,19 +248,25 @@ module _ {pid : ℕ} {call : Call} {old_path new_path : List ℕ} {demands : Sce
         (answered_later new.disk same (refused s (has s at) (state_kept same at))))
 
     -- or a fault, in what it does after that
-    pub both_broken : {last : TxnState} (new : TxnState) (r : Result Reply Refusal) (e : Refusal) → IsErr r × IsErrAnd r (λ y. y ≡ e) → IsUnchanged mid last → SameStore last new
-        → FailsToRead last.disk new.disk e → Performs p pid call old new desks desks r
+    pub both_broken : {time : ℕ} {last : TxnState} (new : TxnState) (r : Result Reply Refusal) (e : Refusal) → IsErr r × IsErrAnd r (λ y. y ≡ e) → IsUnchanged mid last → SameStore last new
+        → FailsToRead last.disk new.disk e → Performs p time pid call old new desks desks r
     both_broken {last} new r e err later store fault =
         both_refused new r e err.0 err.1 (store_joined later.store store) {A = ℕ} 0 (λ s has at. inr (interrupts_later new.disk later (inr fault)))
 
-    -- it has changed the tree
-    pub both_performs : (new : TxnState) → SameStore mid new → new.sectors 0 ≡ mid.sectors 0 → (reply : Reply)
+    -- the same, after it has changed the tree
+    pub both_broken_later : {time : ℕ} {last : TxnState} (new : TxnState) (r : Result Reply Refusal) (e : Refusal) → IsErr r × IsErrAnd r (λ y. y ≡ e) → SameStore mid last → SameStore last new
+        → FailsToRead last.disk new.disk e → Performs p time pid call old new desks desks r
+    both_broken_later {last} new r e err first store fault = both_refused new r e err.0 err.1 (store_joined first store) {A = ℕ} 0
+        (λ s has at. inr (inr (fault.0, failed_later mid.disk last.disk new.disk first.reads.failures fault.1)))
+
+    -- it has changed the tree, and then its times have moved
+    pub both_performs : {time : ℕ} (last : TxnState) {new : TxnState} {touches : List (ℕ × Touch)} → SameStore mid last → last.sectors 0 ≡ mid.sectors 0 → MovesTimes p time touches last new → (reply : Reply)
         → ((s : State) → HasFoundBoth s pid q old_path new_path f g → IsStateOf p mid.sectors desks s
-        → IsChange p new.sectors desks s q (demands (scene_with s q f g)) (λ n. effect (scene_with s q f g)) reply)
-        → Performs p pid call old new desks desks (Ok reply)
-    both_performs new store super reply changes = record {
-      store = store_joined same.store store;
-      super = super ∙ same.sectors 0;
+        → IsChange p last.sectors desks s q (demands (scene_with s q f g)) (λ n. effect (scene_with s q f g)) reply touches)
+        → Performs p time pid call old new desks desks (Ok reply)
+    both_performs last store super moved reply changes = record {
+      store = store_joined same.store (store_joined store moved.store);
+      super = moved.super ∙ super ∙ same.sectors 0;
       table = tt;
       each = λ s at.
           let found = has s at in
@@ -268,9 +278,9 @@ module _ {pid : ℕ} {call : Call} {old_path new_path : List ℕ} {demands : Sce
             change = c.change;
             effect = both_found_after s pid q is (here s at) found c.number
                 ∙ ap (after_effect s pid) c.is
-                ∙ ap (λ (d : Desks). record { change = c.change; desks = d; reply = reply })
+                ∙ ap (λ (d : Desks). record { change = c.change; desks = d; reply = reply; now = s.now })
                 (same_process_stays s.desks pid q at.is_state.pids (here s at) ∙ at.same_desks);
             new_number = c.new_number;
-            holds = c.holds;
+            holds = times_moved at c moved;
           };
     }

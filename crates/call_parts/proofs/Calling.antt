@@ -230,7 +230,7 @@ module _ (s : State) (pid : ℕ) (q : Process) (call : Call) (form : Form) (path
         → effect (scene_at s q f) 0 ≡ answers (scene_at s q f) reply → after s (Calls pid call) (chosen 0 0) ≡ unchanged s reply
     found_told reply at is =
         found_after 0 ∙ ap (after_effect s pid) is
-        ∙ ap (λ (d : Desks). record { change = Same; desks = d; reply = reply }) (same_process_stays s.desks pid q at.is_state.pids there)
+        ∙ ap (λ (d : Desks). record { change = Same; desks = d; reply = reply; now = s.now }) (same_process_stays s.desks pid q at.is_state.pids there)
 
 -- what the walk of a path has found
 pub resolved : (old new : DiskState) {s : State} {pid : ℕ} {q : Process} {form : Form} {path : List ℕ} (f : Found) → get nat_cmp s.desks pid ≡ Some q
@@ -241,29 +241,29 @@ resolved old new {s} {pid} {q} {form} {path} f there checked e =
 
 -- ---- a call that changes nothing
 
-told_done : {p : Place} {map : SectorMap} {desks : Desks} {s : State} (new : SectorMap) (old' new' : DiskState) (pid : ℕ) (call : Call) (reply : Reply) → new ≡ map
-    → IsStateOf p map desks s → IsTold old' new' s pid call (Ok reply) → IsDone p new desks s pid call reply
-told_done {p} {map} {desks} {s} new old' new' pid call reply same at told = record {
+told_done : {p : Place} {time : ℕ} {map : SectorMap} {desks : Desks} {s : State} (new : SectorMap) (old' new' : DiskState) (pid : ℕ) (call : Call) (reply : Reply) → new ≡ map
+    → IsStateOf p map desks s → IsTold old' new' s pid call (Ok reply) → IsDone p time new desks s pid call reply
+told_done {p} {time} {map} {desks} {s} new old' new' pid call reply same at told = record {
   early = told.0;
   late = told.1;
   number = 0;
   change = Same;
-  effect = told.2 ∙ ap (λ (d : Desks). record { change = Same; desks = d; reply = reply }) at.same_desks;
+  effect = told.2 ∙ ap (λ (d : Desks). record { change = Same; desks = d; reply = reply; now = s.now }) at.same_desks;
   new_number = tt;
   holds = subst (λ (d : Desks). HoldsAll p new (placed (swept (changed s.tree Same) d))) at.same_desks
       (subst (λ (t : Tree). HoldsAll p new (placed t)) (sym (nothing_to_drop s.room s.tree s.desks at.is_state.tree (at.is_state.desks at.up)))
       (subst (λ (m : SectorMap). HoldsAll p m (placed s.tree)) (sym same) at.holds));
 }
 
-pub told_performs : {p : Place} {pid : ℕ} {call : Call} {old new : TxnState} {desks : Desks} (result : Result Reply Refusal) → IsUnchanged old new
-    → ((s : State) → IsStateOf p old.sectors desks s → IsTold old.disk new.disk s pid call result) → Performs p pid call old new desks desks result
-told_performs {p} {pid} {call} {old} {new} {desks} (Ok reply) same each = record {
+pub told_performs : {p : Place} {time pid : ℕ} {call : Call} {old new : TxnState} {desks : Desks} (result : Result Reply Refusal) → IsUnchanged old new
+    → ((s : State) → IsStateOf p old.sectors desks s → IsTold old.disk new.disk s pid call result) → Performs p time pid call old new desks desks result
+told_performs {p} {time} {pid} {call} {old} {new} {desks} (Ok reply) same each = record {
   store = same.store;
   super = same.sectors 0;
   table = tt;
   each = λ s at. told_done new.sectors old.disk new.disk pid call reply (same_map same) at (each s at);
 }
-told_performs {p} {pid} {call} {old} {new} {desks} (Err r) same each = record {
+told_performs {p} {time} {pid} {call} {old} {new} {desks} (Err r) same each = record {
   store = same.store;
   super = tt;
   table = refl;

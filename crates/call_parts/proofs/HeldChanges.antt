@@ -3,6 +3,7 @@
 --     acl_held, moded_held, set_acl_held        another access ACL, and of a directory other S_ISGID and S_ISVTX
 --     owner_held, owned_held, default_held, bytes_held, names_held        another owner and group, default ACL; other bytes, names
 --     counted_held, moved_held        another count of names; another parent
+--     same_times, times_kept, times_held        the same times, and others
 --     new_file_held, new_directory_held, new_link_held        what was made
 use Rattle.std.specs.Prelude.{◌≡◌, ℕ, ◌+◌, ◌*◌, ◌/◌, ◌<◌, Bool, true, false, cond, List, [], Option, None, Some, unwrap_or, if◌then◌else◌, IsTrue, IsFalse}
 use Rattle.std.proofs.Common.{refl, sym, ap, arith, ◌∙◌, subst}
@@ -19,11 +20,17 @@ use Rattle.fs_layout.specs.Images.{Holds, HasNoHole}
 use Rattle.fs_layout.proofs.KeptParts.{HoldsAcl-kept}
 use Rattle.fs_layout.proofs.OneAcl.{mode_small}
 use Rattle.fs_model.specs.AttributeCalls.{with_mode, moded, owned}
-use Rattle.fs_model.specs.Nodes.{Body, File, Dir, Link, Directory, is_directory, is_link, acl_in, with_acl, with_default, with_names, with_bytes, type_of, shown_mode}
+use Rattle.fs_model.specs.declared.reply.Stamps.{Stamps}
+use Rattle.fs_model.specs.declared.touch.Touch.{Touch}
+use Rattle.fs_model.specs.declared.touch.Touch.TheVariants.{Untouched, Changed, Modified, Born}
+use Rattle.fs_model.specs.StoredStamps.{stamps_in}
+use Rattle.fs_model.specs.TreeChanges.{touch_at}
+use Rattle.fs_model.specs.Nodes.{no_stamps, Body, File, Dir, Link, Directory, is_directory, is_link, acl_in, with_acl, with_default, with_names, with_bytes, type_of, shown_mode}
 use Rattle.fs_model.specs.StoredNodes.{Placed, HoldsBody, HoldsNode, names_field, parent_field}
 use Rattle.bit_alloc.specs.Inodes.{KeepsFields, KeepsBytes, KeepsAccess, KeepsDefault, KeepsAcls}
 use Rattle.inode_table.specs.Acls.{HasAcl, HasDefaultAcl, with_acl_bits}
 use Rattle.block_map.specs.Links.{IsNewLink, HasNoAcls}
+use Rattle.call_parts.specs.Times.{with_times}
 use Rattle.dir_core.proofs.Empty.{no_names}
 use Rattle.path_walk.proofs.HeldNodes.{parent_says}
 
@@ -72,6 +79,49 @@ module _ {old new : SectorMap} {v w : Inode} where
     no_default = acls.default.default ∙ h.no_default;
   }
 
+abbrev three_times : ℕ → ℕ → ℕ → Stamps
+three_times atime mtime ctime = record { atime = atime; mtime = mtime; ctime = ctime }
+
+-- the times of an inode are these three
+pub same_times : (v : Inode) {atime mtime ctime : ℕ} → v.atime ≡ atime → v.mtime ≡ mtime → v.ctime ≡ ctime
+    → stamps_in v ≡ record { atime = atime; mtime = mtime; ctime = ctime }
+unfolding stamps_in
+same_times v {atime} {mtime} {ctime} a m c =
+    ap (λ k. three_times k v.mtime v.ctime) a ∙ ap (λ k. three_times atime k v.ctime) m ∙ ap (λ k. three_times atime mtime k) c
+
+pub times_kept : {v w : Inode} → KeepsFields v w → stamps_in w ≡ stamps_in v
+unfolding stamps_in
+times_kept {v} {w} fields = same_times w fields.atime fields.mtime fields.ctime
+
+-- a free inode has none
+new_times : {v w : Inode} → KeepsFields v w → v.atime ≡ 0 → v.mtime ≡ 0 → v.ctime ≡ 0 → stamps_in w ≡ no_stamps
+new_times {v} {w} fields a m c = same_times w (fields.atime ∙ a) (fields.mtime ∙ m) (fields.ctime ∙ c)
+
+-- other attributes leave them
+owner_leaves_times : (v : Inode) (uid gid : ℕ) → stamps_in (record v { uid = uid; gid = gid }) ≡ stamps_in v
+unfolding stamps_in
+owner_leaves_times v uid gid = refl
+
+names_leave_times : (v : Inode) (names : ℕ) → stamps_in (record v { names = names }) ≡ stamps_in v
+unfolding stamps_in
+names_leave_times v names = refl
+
+parent_leaves_times : (v : Inode) (parent : ℕ) → stamps_in (record v { parent = parent }) ≡ stamps_in v
+unfolding stamps_in
+parent_leaves_times v parent = refl
+
+acl_leaves_times : (v : Inode) (m : ℕ) (a : AccessList) → stamps_in (with_acl_bits (record v { mode = m }) a) ≡ stamps_in v
+unfolding stamps_in
+acl_leaves_times v m a = refl
+
+-- those that have moved
+touched_times : (time : ℕ) (touch : Touch) (v : Inode) → stamps_in (with_times v (touch_at time touch (stamps_in v))) ≡ touch_at time touch (stamps_in v)
+unfolding stamps_in
+touched_times time Untouched v = refl
+touched_times time Changed v = refl
+touched_times time Modified v = refl
+touched_times time Born v = refl
+
 -- a body's type says what names field and parent field mean
 same_fields : (b c : Body) → type_of c ≡ type_of b → (k : ℕ) → (names_field c k ≡ names_field b k) × (parent_field c k ≡ parent_field b k)
 same_fields (File a s) (File b t) e k = (refl, refl)
@@ -93,19 +143,20 @@ record Becomes (version : Version) (new : SectorMap) (w : Inode) (b next : Body)
 -- ---- an inode that held a node
 
 module _ {version : Version} (old new : SectorMap) (v w : Inode) (x : Placed) (h : HoldsNode version old v x) where
-  with_body : (u : Inode) (next : Body) → KeepsFields u w → u.uid ≡ v.uid → u.gid ≡ v.gid → u.names ≡ v.names → u.parent ≡ v.parent → u.mode ≡ shown_mode next
-      → type_of next ≡ type_of x.node.body → HoldsBody version new w next → HoldsNode version new w (record x { node = record x.node { body = next } })
-  with_body u next fields owner group names parent mode type body = record {
+  with_body : (u : Inode) (next : Body) → KeepsFields u w → u.uid ≡ v.uid → u.gid ≡ v.gid → u.names ≡ v.names → u.parent ≡ v.parent → stamps_in u ≡ stamps_in v
+      → u.mode ≡ shown_mode next → type_of next ≡ type_of x.node.body → HoldsBody version new w next → HoldsNode version new w (record x { node = record x.node { body = next } })
+  with_body u next fields owner group names parent times mode type body = record {
     owner = fields.uid ∙ owner ∙ h.owner;
     group = fields.gid ∙ group ∙ h.group;
     mode = fields.mode ∙ mode;
     names = fields.names ∙ names ∙ h.names ∙ sym (same_fields x.node.body next type x.names).0;
     parent = fields.parent ∙ parent ∙ h.parent ∙ sym (same_fields x.node.body next type x.parent).1;
+    stamps = times_kept fields ∙ times ∙ h.stamps;
     body = body;
   }
 
   with_fields : (next : Body) → KeepsFields v w → Becomes version new w x.node.body next → HoldsNode version new w (record x { node = record x.node { body = next } })
-  with_fields next fields is = with_body v next fields refl refl refl refl (h.mode ∙ sym is.mode) is.type is.body
+  with_fields next fields is = with_body v next fields refl refl refl refl refl (h.mode ∙ sym is.mode) is.type is.body
 
   -- another owner and group, as after save
   pub owner_held : (owner group : ℕ) → w ≡ record v { uid = owner; gid = group } → KeepsBytes old new v w → KeepsAcls old new v w
@@ -116,6 +167,7 @@ module _ {version : Version} (old new : SectorMap) (v w : Inode) (x : Placed) (h
     mode = ap (λ (i : Inode). i.mode) is ∙ h.mode;
     names = ap (λ (i : Inode). i.names) is ∙ h.names;
     parent = ap (λ (i : Inode). i.parent) is ∙ h.parent;
+    stamps = ap stamps_in is ∙ owner_leaves_times v owner group ∙ h.stamps;
     body = body_again version x.node.body (ap (λ (i : Inode). i.kind) is) bytes acls h.body;
   }
 
@@ -198,6 +250,7 @@ module _ {version : Version} (old new : SectorMap) (v w : Inode) (x : Placed) (h
         mode = ap (λ (i : Inode). i.mode) is ∙ h.mode;
         names = ap (λ (i : Inode). i.names) is ∙ sym fields.0;
         parent = ap (λ (i : Inode). i.parent) is ∙ h.parent ∙ sym fields.1;
+        stamps = ap stamps_in is ∙ names_leave_times v names ∙ h.stamps;
         body = body_again version x.node.body (ap (λ (i : Inode). i.kind) is) bytes acls h.body;
       }
     where
@@ -215,6 +268,20 @@ module _ {version : Version} (old new : SectorMap) (v w : Inode) (x : Placed) (h
     mode = ap (λ (i : Inode). i.mode) is ∙ h.mode;
     names = ap (λ (i : Inode). i.names) is ∙ h.names;
     parent = ap (λ (i : Inode). i.parent) is ∙ sym (parent_says x.node.body up dir);
+    stamps = ap stamps_in is ∙ parent_leaves_times v up ∙ h.stamps;
+    body = body_again version x.node.body (ap (λ (i : Inode). i.kind) is) bytes acls h.body;
+  }
+
+  -- other times, as after save
+  pub times_held : (time : ℕ) (touch : Touch) → w ≡ with_times v (touch_at time touch (stamps_in v)) → KeepsBytes old new v w → KeepsAcls old new v w
+      → HoldsNode version new w (record x { node = record x.node { stamps = touch_at time touch x.node.stamps } })
+  times_held time touch is bytes acls = record {
+    owner = ap (λ (i : Inode). i.uid) is ∙ h.owner;
+    group = ap (λ (i : Inode). i.gid) is ∙ h.group;
+    mode = ap (λ (i : Inode). i.mode) is ∙ h.mode;
+    names = ap (λ (i : Inode). i.names) is ∙ h.names;
+    parent = ap (λ (i : Inode). i.parent) is ∙ h.parent;
+    stamps = ap stamps_in is ∙ touched_times time touch v ∙ ap (touch_at time touch) h.stamps;
     body = body_again version x.node.body (ap (λ (i : Inode). i.kind) is) bytes acls h.body;
   }
 
@@ -286,7 +353,7 @@ module _ {version : Version} (old new : SectorMap) (v w : Inode) (x : Placed) (h
       → KeepsFields (with_acl_bits (record v { mode = m }) a) w → KeepsBytes old new v w → KeepsDefault old new v w → HasAcl new w a
       → HoldsNode version new w (record x { node = record x.node { body = next } })
   acl_held m a next gives bits fields bytes default has =
-      with_body old new v w x h (with_acl_bits (record v { mode = m }) a) next fields refl refl refl refl (acl_mode a x.node.body next (m / 512) gives bits)
+      with_body old new v w x h (with_acl_bits (record v { mode = m }) a) next fields refl refl refl refl (acl_leaves_times v m a) (acl_mode a x.node.body next (m / 512) gives bits)
       (acl_type a x.node.body next gives) (acl_body version old new v w a x.node.body next gives h.body fields.kind bytes default has)
 
   -- after chmod: the bits in the ACL that the node had, and S_ISGID and S_ISVTX
@@ -316,17 +383,18 @@ module _ {version : Version} (old new : SectorMap) (v w : Inode) (x : Placed) (h
 
 -- ---- what was made
 
-module _ (image : SectorMap) (v w : Inode) (owner group : ℕ) (uid : v.uid ≡ owner) (gid : v.gid ≡ group) (names : v.names ≡ 1) (a : AccessList)
-    (fields : KeepsFields (with_acl_bits v a) w) (empty : Holds image w []) (access : HasAcl image w a) where
+module _ (image : SectorMap) (v w : Inode) (owner group : ℕ) (uid : v.uid ≡ owner) (gid : v.gid ≡ group) (names : v.names ≡ 1)
+    (times : (v.atime ≡ 0) × (v.mtime ≡ 0) × (v.ctime ≡ 0)) (a : AccessList) (fields : KeepsFields (with_acl_bits v a) w) (empty : Holds image w []) (access : HasAcl image w a) where
   -- a file, as after new_inode
   pub new_file_held : {version : Version} (up : ℕ) → v.kind ≡ kinds.File → v.mode ≡ 0 → v.parent ≡ 0 → HasDefaultAcl image w None
-      → HoldsNode version image w (record { node = record { owner = owner; group = group; body = File a [] }; names = 1; parent = up })
+      → HoldsNode version image w (record { node = record { owner = owner; group = group; body = File a []; stamps = no_stamps }; names = 1; parent = up })
   new_file_held up kind mode parent default = record {
     owner = fields.uid ∙ uid;
     group = fields.gid ∙ gid;
     mode = let is = fields.mode in omega (arith, is, mode);
     names = fields.names ∙ names;
     parent = fields.parent ∙ parent;
+    stamps = new_times fields times.0 times.1 times.2;
     body = record { kind = fields.kind ∙ kind; holds = empty; acl = access.valid; has_acl = access.stored; no_default = default.stored };
   }
 
@@ -338,6 +406,7 @@ module _ (image : SectorMap) (v w : Inode) (owner group : ℕ) (uid : v.uid ≡ 
           owner = owner;
           group = group;
           body = Dir a (record { names = []; default = default; set_group_id = set_group_id; sticky = sticky });
+          stamps = no_stamps;
         };
         names = 1;
         parent = up;
@@ -348,6 +417,7 @@ module _ (image : SectorMap) (v w : Inode) (owner group : ℕ) (uid : v.uid ≡ 
     mode = fields.mode ∙ put_together (mode_bits a) (v.mode / 512) sticky set_group_id mode;
     names = fields.names ∙ names;
     parent = fields.parent ∙ parent;
+    stamps = new_times fields times.0 times.1 times.2;
     body = record {
       names = no_names (fields.kind ∙ kind) empty;
       acl = access.valid;
@@ -359,12 +429,13 @@ module _ (image : SectorMap) (v w : Inode) (owner group : ℕ) (uid : v.uid ≡ 
 
 -- a link, as after new_link
 pub new_link_held : {version : Version} (image : SectorMap) (w : Inode) (owner group up : ℕ) (target : List ℕ) → IsNewLink owner group w → HasNoAcls w → Holds image w target → HasNoHole image w
-    → HoldsNode version image w (record { node = record { owner = owner; group = group; body = Link target }; names = 1; parent = up })
+    → HoldsNode version image w (record { node = record { owner = owner; group = group; body = Link target; stamps = no_stamps }; names = 1; parent = up })
 new_link_held image w owner group up target is acls holds whole = record {
   owner = is.uid;
   group = is.gid;
   mode = is.mode;
   names = is.names;
   parent = is.parent;
+  stamps = same_times w is.atime is.mtime is.ctime;
   body = record { kind = is.kind; holds = holds; whole = whole; no_acl = acls.acl; no_default = acls.default };
 }

@@ -20,3 +20,4 @@ pub mod Reachings
 pub mod Performed
 pub mod NewNames
 pub mod Refuses
+pub mod TouchedTrees

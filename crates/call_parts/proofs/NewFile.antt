@@ -31,6 +31,7 @@ use Rattle.dir_core.specs.declared.fault.DirFault.{DirFault}
 use Rattle.dir_core.specs.declared.fault.DirFault.TheVariants as naming
 use Rattle.dir_core.specs.Faults.{WhyNotAdded}
 use Rattle.dir_core.proofs.Taking.{taken_for_few}
+use Rattle.fs_model.specs.declared.reply.Stamps.{Stamps}
 use Rattle.fs_model.specs.Nodes.{Node, Body, File, Dir, Link, is_directory, default_in, shown_mode}
 use Rattle.fs_model.specs.Stands.{placed}
 use Rattle.fs_model.specs.StoredNodes.{Placed, HoldsNode}
@@ -111,7 +112,7 @@ module _ {p : Place} {n taken more : ℕ} {old new : TxnState} (free : IsFreeNum
     free = free;
     change = touches.inode;
     taken = used;
-    holds = new_file_held new.sectors (new_file uid gid) (inode_at p new.sectors n) uid gid refl refl refl a fields empty access dir refl refl refl default;
+    holds = new_file_held new.sectors (new_file uid gid) (inode_at p new.sectors n) uid gid refl refl refl (refl, refl, refl) a fields empty access dir refl refl refl default;
   }
 
 -- ---- its name
@@ -138,14 +139,15 @@ group_bit n false true lt = let e : (n + 0 + 1024) / S_ISGID % 2 ≡ 1 = omega (
 group_bit n false false lt = let e : (n + 0 + 0) / S_ISGID % 2 ≡ 0 = omega (arith, lt) in ap (λ (k : ℕ). k == 1) e
 
 -- S_ISGID of its mode is that of the directory
-pub set_group_says : (owner group : ℕ) (b : Body) (m : ℕ) → IsTrue (is_directory b) → m ≡ shown_mode b
-    → (m / S_ISGID % 2 == 1) ≡ (the_directory (record { owner = owner; group = group; body = b })).set_group_id
-set_group_says owner group (File a bytes) m is e = absurd (cc)
-set_group_says owner group (Dir a d) m is e = ap (λ (k : ℕ). k / S_ISGID % 2 == 1) e ∙ group_bit (mode_bits a) d.sticky d.set_group_id (mode_small a)
-set_group_says owner group (Link target) m is e = absurd (cc)
+pub set_group_says : (owner group : ℕ) (b : Body) (stamps : Stamps) (m : ℕ) → IsTrue (is_directory b) → m ≡ shown_mode b
+    → (m / S_ISGID % 2 == 1) ≡ (the_directory (record { owner = owner; group = group; body = b; stamps = stamps })).set_group_id
+set_group_says owner group (File a bytes) stamps m is e = absurd (cc)
+set_group_says owner group (Dir a d) stamps m is e = ap (λ (k : ℕ). k / S_ISGID % 2 == 1) e ∙ group_bit (mode_bits a) d.sticky d.set_group_id (mode_small a)
+set_group_says owner group (Link target) stamps m is e = absurd (cc)
 
 -- and so is its default ACL
-pub default_is : (owner group : ℕ) (b : Body) → IsTrue (is_directory b) → default_in b ≡ (the_directory (record { owner = owner; group = group; body = b })).default
-default_is owner group (File a bytes) is = absurd (cc)
-default_is owner group (Dir a d) is = refl
-default_is owner group (Link target) is = absurd (cc)
+pub default_is : (owner group : ℕ) (b : Body) (stamps : Stamps) → IsTrue (is_directory b)
+    → default_in b ≡ (the_directory (record { owner = owner; group = group; body = b; stamps = stamps })).default
+default_is owner group (File a bytes) stamps is = absurd (cc)
+default_is owner group (Dir a d) stamps is = refl
+default_is owner group (Link target) stamps is = absurd (cc)

@@ -5,7 +5,7 @@
 --     space_at, space_refused, space_met        and of a call that makes something
 --     caller_fits, new_in, ParentFits, parent_fits        the caller and the directory, in a state
 --     node_made        something was made
---     name_refused, name_found, made_refused, made_done        a call that makes something
+--     name_refused, name_found, made_refused, made_may_touch, made_done        a call that makes something
 use Rattle.std.specs.Prelude.{◌≡◌, ◌⊎◌, ℕ, ◌+◌, ◌-◌, ◌^◌, ◌<◌, ◌≤◌, ◌==◌, nat_lt, nat_le, List, [], ◌∷◌, ◌++◌, length, None, IsTrue, Result, Ok, Err, IsErr, IsErrAnd}
 use Rattle.std.proofs.Common.{refl, sym, ap, subst, arith, ◌∙◌, inl, inr}
 use Rattle.sector_disk.specs.Disk.{DiskState, HasFailed}
@@ -23,6 +23,7 @@ use Rattle.bit_alloc.specs.declared.bitmap.Bitmap.TheVariants.{Inodes}
 use Rattle.bit_alloc.specs.declared.bitmap.TakeFault.{TakeFault}
 use Rattle.bit_alloc.specs.declared.bitmap.TakeFault.TheVariants as taking
 use Rattle.bit_alloc.specs.Bitmaps.{free_numbers}
+use Rattle.bit_alloc.specs.Room.{TakesSpare}
 use Rattle.fs_model.specs.declared.call.Call.{Call}
 use Rattle.fs_model.specs.declared.reply.Reply.{Reply}
 use Rattle.fs_model.specs.declared.reply.Reply.TheVariants.{Done}
@@ -30,6 +31,7 @@ use Rattle.fs_model.specs.declared.walk.Form.{Form}
 use Rattle.fs_model.specs.declared.walk.Form.TheVariants.{Parent}
 use Rattle.fs_model.specs.declared.walk.Found.{Found}
 use Rattle.fs_model.specs.Births.{the_node}
+use Rattle.fs_model.specs.declared.touch.Touch.TheVariants.{Modified, Born}
 use Rattle.fs_model.specs.TreeChanges.{Make}
 use Rattle.fs_model.specs.Demands.{Demand, refuse, first_of}
 use Rattle.fs_model.specs.Limits.{least_free}
@@ -52,10 +54,10 @@ use Rattle.call_parts.specs.Performing.{IsStateOf, Performs}
 use Rattle.call_parts.specs.Reaching.{Checked, checked, WalksPath, HasWalked}
 use Rattle.call_parts.proofs.Calling.{state_tree, met_ok, refused_err}
 use Rattle.call_parts.proofs.HeldChanges.{names_held}
-use Rattle.path_walk.proofs.HeldNodes.{names_say}
+use Rattle.path_walk.proofs.HeldNodes.{is_there, names_say, number_below}
 use Rattle.path_walk.proofs.Kept.{is_err}
 use Rattle.call_parts.specs.Makings.{CanMake, make_asked}
-use Rattle.call_parts.proofs.Changed.{IsChange}
+use Rattle.call_parts.proofs.Changed.{IsChange, may_touch}
 use Rattle.call_parts.proofs.Makeable.{found_new, has_few}
 use Rattle.call_parts.proofs.NewFile.{dir_below, dir_still_held, nothing_stands}
 use Rattle.call_parts.proofs.Checked.{refused_as}
@@ -63,7 +65,8 @@ use Rattle.call_parts.proofs.Ownership.{others_asked, all_met}
 use Rattle.call_parts.proofs.Reachings.{asked_refused, changed}
 use Rattle.call_parts.proofs.Refuses.{Refuses, refuses_some}
 use Rattle.call_parts.proofs.Shown.{the_node_is}
-use Rattle.call_parts.specs.NewNodes.{MayBeNamed, IsMade, IsNewIn, IsPlaced, MakesNode, TakesInode}
+use Rattle.call_parts.specs.NewNodes.{MayBeNamed, IsMade, IsNewIn, MakesNode, TakesInode}
+use Rattle.call_parts.specs.Times.{MayMoveTimes, MovesTimes}
 
 module _ {p : Place} {map : SectorMap} {t : Tree} {dir : ℕ} {name : List ℕ} (can : CanMake p map t dir name) where
   pub room_then : (mid : SectorMap) (n : ℕ) (x : Placed) → TakesInode p n x map mid → free_sectors p map ≤ free_sectors p mid + 2 → MayBeNamed p mid dir name
@@ -100,13 +103,13 @@ asked_as p map t dir {cred} {who} {step} {steps} same count =
 
 module _ (p : Place) (old new : TxnState) (who : Credential) (t : Tree) (f : Found) (node : Node) where
   -- it isn't made
-  pub not_made : (r : Result (Unit {0}) Refusal) (e : Refusal) → IsErr r × IsErrAnd r (λ y. y ≡ e)
+  pub not_made : (r : Result ℕ Refusal) (e : Refusal) → IsErr r × IsErrAnd r (λ y. y ≡ e)
       → IsAnswered old.disk new.disk (refused_or {A = Unit {0}} (first_of (make_asked p old.sectors who t f.dir (f.step - 1))) (Ok tt)) (Err e)
       → IsMade p old new who t f node r
-  not_made r e err h = subst (λ (x : Result (Unit {0}) Refusal). IsMade p old new who t f node x) (sym (is_err r e err.0 err.1)) h
+  not_made r e err h = subst (λ (x : Result ℕ Refusal). IsMade p old new who t f node x) (sym (is_err r e err.0 err.1)) h
 
   -- what is asked refuses
-  pub not_allowed : {cred : Credential} {step : ℕ} → cred ≡ who → step ≡ f.step - 1 → (r : Result (Unit {0}) Refusal) (e : Refusal) → IsErr r × IsErrAnd r (λ y. y ≡ e)
+  pub not_allowed : {cred : Credential} {step : ℕ} → cred ≡ who → step ≡ f.step - 1 → (r : Result ℕ Refusal) (e : Refusal) → IsErr r × IsErrAnd r (λ y. y ≡ e)
       → {B : Type 0} (x : B) → IsAnswered old.disk new.disk (refused_or {A = B} (first_of (make_asked p old.sectors cred t f.dir step)) (Ok x)) (Err e)
       → IsMade p old new who t f node r
   not_allowed {cred} {step} same count r e err {B} x h = not_made r e err
@@ -204,13 +207,14 @@ module _ {p : Place} {map : SectorMap} {desks : Desks} {s : State} (at : IsState
 
       -- the node was made
       pub node_made : (asked : List Demand) → first_of asked ≡ None → first_of (make_asked p map q.cred s.tree f.dir (f.step - 1)) ≡ None
-          → IsChange p new desks s q asked (λ k. changes (scene_at s q f) (Make f.dir f.name k node)) Done
+          → IsChange p new desks s q asked (λ k. changes (scene_at s q f) (Make f.dir f.name k node)) Done ((f.dir, Modified) ∷ (n, Born) ∷ [])
       node_made asked met allows = record {
         met = met;
         number = n;
         change = Make f.dir f.name n node;
         is = refl;
         new_number = fresh;
+        times = refl;
         holds =
             let few = subst (λ (u : Node). length (names_in u.body) < max_names p.version) (the_node_is s.tree f.dir directory new_name.stands) (has_few p map s.tree f.dir q.cred (f.step - 1) allows) in
             make_held s at.is_state at.up desks (λ k is. subst (λ (d : Desks). IsTrue (is_open d k)) at.same_desks is) p map at.holds at.same_room
@@ -229,8 +233,8 @@ module _ {pid : ℕ} {call : Call} {checks : Checked} {path : List ℕ} (asked :
     (is : WalksPath call checks Parent path (λ x. asked x.first ++ space_at x) effect) {p : Place} {old mid : TxnState} {desks : Desks} {q : Process} {f : Found}
     (same : IsUnchanged old mid) (w : HasWalked p mid desks pid checks Parent path q f) where
   -- the name isn't new
-  pub name_refused : (r : Result Reply Refusal) (e : Refusal) → IsErr r × IsErrAnd r (λ y. y ≡ e) → {d : Demand} → Refuses d (first_of (asked f)) → checked d ≡ Err e
-      → Performs p pid call old mid desks desks r
+  pub name_refused : {time : ℕ} (r : Result Reply Refusal) (e : Refusal) → IsErr r × IsErrAnd r (λ y. y ≡ e) → {d : Demand} → Refuses d (first_of (asked f)) → checked d ≡ Err e
+      → Performs p time pid call old mid desks desks r
   name_refused r e err {d} refuses is_refused = asked_refused is same w mid r e err.0 err.1 store_same {A = Unit {0}} tt
       (λ s has at.
       inl (ap checked
@@ -244,23 +248,41 @@ module _ {pid : ℕ} {call : Call} {checks : Checked} {path : List ℕ} (asked :
 
   module _ (none : f.ino ≡ None) (new : TxnState) where
     -- it isn't made
-    pub made_refused : (r : Result Reply Refusal) (e : Refusal) → IsErr r × IsErrAnd r (λ y. y ≡ e) → SameStore mid new → first_of (asked f) ≡ None
+    pub made_refused : {time : ℕ} (r : Result Reply Refusal) (e : Refusal) → IsErr r × IsErrAnd r (λ y. y ≡ e) → SameStore mid new → first_of (asked f) ≡ None
         → ((t : Tree) → HoldsTree p mid.sectors t → IsNewIn p t f.dir f.name
         → IsAnswered mid.disk new.disk (refused_or {A = Unit {0}} (first_of (make_asked p mid.sectors q.cred t f.dir (f.step - 1))) (Ok tt)) (Err e))
-        → Performs p pid call old new desks desks r
+        → Performs p time pid call old new desks desks r
     made_refused r e err store met each = asked_refused is same w new r e err.0 err.1 store {A = Unit {0}} tt
         (λ s has at. space_refused at q f (asked f) met e mid.disk new.disk (each s.tree (state_tree at) (new_in at q f has w.bytes none)))
 
-    -- it is
-    pub made_done : SameStore mid new → (node : Tree → Node)
-        → ((t : Tree) → HoldsTree p mid.sectors t → IsNewIn p t f.dir f.name → IsMade p mid new q.cred t f (node t) (Ok tt))
-        → ((s : State) → HasFound s pid q Parent path f → IsStateOf p mid.sectors desks s → first_of (make_asked p mid.sectors q.cred s.tree f.dir (f.step - 1)) ≡ None
-        → IsPlaced p f.dir f.name (node s.tree) mid.sectors new.sectors → IsChange p new.sectors desks s q (asked f ++ space_at (scene_at s q f)) (effect (scene_at s q f)) Done)
-        → Performs p pid call old new desks desks (Ok Done)
-    made_done store node each says =
+  -- it is, at this number
+  module _ (none : f.ino ≡ None) (last : TxnState) (n : ℕ) (node : Tree → Node)
+      (each : (t : Tree) → HoldsTree p mid.sectors t → IsNewIn p t f.dir f.name → IsMade p mid last q.cred t f (node t) (Ok n))
+      (says : (s : State) → HasFound s pid q Parent path f → IsStateOf p mid.sectors desks s → first_of (make_asked p mid.sectors q.cred s.tree f.dir (f.step - 1)) ≡ None
+      → MakesNode p f.dir f.name n (node s.tree) mid.sectors last.sectors
+      → IsChange p last.sectors desks s q (asked f ++ space_at (scene_at s q f)) (effect (scene_at s q f)) Done ((f.dir, Modified) ∷ (n, Born) ∷ [])) where
+    made_at : (s : State) → IsStateOf p mid.sectors desks s → HasFound s pid q Parent path f
+        → (first_of (make_asked p mid.sectors q.cred s.tree f.dir (f.step - 1)) ≡ None) × MakesNode p f.dir f.name n (node s.tree) mid.sectors last.sectors
+    made_at s at has = each s.tree (state_tree at) (new_in at q f has w.bytes none)
+
+    made_change : (s : State) → HasFound s pid q Parent path f → IsStateOf p mid.sectors desks s
+        → IsChange p last.sectors desks s q (asked f ++ space_at (scene_at s q f)) (effect (scene_at s q f)) Done ((f.dir, Modified) ∷ (n, Born) ∷ [])
+    made_change s has at = let m = made_at s at has in says s has at m.0 m.1
+
+    -- its times and the directory's may move
+    pub made_may_touch : SameStore mid last → (k : ℕ) → k ≤ 45 → TakesSpare p k mid last → MayMoveTimes p ((f.dir, Modified) ∷ (n, Born) ∷ []) last
+    made_may_touch store k few taken =
         let ready = w.ready in
-        let done = (each ready.state.tree (state_tree ready.is_state) (new_in ready.is_state q f (w.found ready.state ready.is_state) w.bytes none)).1 in
-        changed is same w new store (done.1.names.super ∙ done.1.takes.super) Done
-        (λ s has at.
-        let m = each s.tree (state_tree at) (new_in at q f has w.bytes none) in
-        says s has at m.0 m.1)
+        let at = ready.is_state in
+        let has = w.found ready.state at in
+        let d = new_in at q f has w.bytes none in
+        may_touch ready store (made_change ready.state has at)
+        (number_below (state_tree at) f.dir (is_there ready.state.tree f.dir d.directory.node d.directory.is_there), ((made_at ready.state at has).1.takes.free.1, tt))
+        k taken (omega (arith, few))
+
+    -- and it is done
+    pub made_done : {time : ℕ} {new : TxnState} → SameStore mid last → MovesTimes p time ((f.dir, Modified) ∷ (n, Born) ∷ []) last new → Performs p time pid call old new desks desks (Ok Done)
+    made_done store moved =
+        let ready = w.ready in
+        let done = (made_at ready.state ready.is_state (w.found ready.state ready.is_state)).1 in
+        changed is same w last store (done.names.super ∙ done.takes.super) moved Done made_change

@@ -11,6 +11,7 @@ use Rattle.fs_layout.specs.declared.version.Version.{Version}
 use Rattle.fs_layout.specs.Bytes.{SectorMap}
 use Rattle.fs_layout.specs.Images.{inode_at}
 use Rattle.fs_layout.specs.Inode.{FitsInode}
+use Rattle.fs_model.specs.declared.touch.Touch.TheVariants.{Changed}
 use Rattle.fs_model.specs.declared.walk.Form.{Form}
 use Rattle.fs_model.specs.declared.walk.Found.{Found}
 use Rattle.fs_model.specs.AttributeCalls.{chown_demands, chown_effect, owned}
@@ -140,13 +141,13 @@ module _ {p : Place} {map : SectorMap} {desks : Desks} {s : State} {pid : ℕ} {
     pub owner_changed : {B : Type 0} (cred : Credential) (y : B) (new : SectorMap) → cred ≡ q.cred
         → refused_or (first_of (owner_asked cred v.uid v.gid uid gid f.step)) (Ok y) ≡ Ok y
         → GivesOwner p n uid gid map new
-        → IsChange p new desks s q (chown_demands owner group (scene_at s q f)) (chown_effect owner group (scene_at s q f)) Done
+        → IsChange p new desks s q (chown_demands owner group (scene_at s q f)) (chown_effect owner group (scene_at s q f)) Done ((n, Changed) ∷ [])
     owner_changed {B} cred y new same given gives =
         let x = found_node at has i in
         let is = (at.is_state.tree).each n x.node x.at in
         let held = subst (λ (w : Inode). HoldsNode p.version map w (record { node = x.node; names = names_of s.tree n; parent = parent s.tree n })) i.inode x.holds in
-        rewrites_found at new n x.node (record x.node { owner = uid; group = gid }) x.at
-        (record { same = refl; names = refl; owner = gives.uid_fits; group = gives.gid_fits; body = is.body }) gives.one
+        rewrites_found at new Changed n x.node (record x.node { owner = uid; group = gid }) x.at
+        (record { same = refl; names = refl; owner = gives.uid_fits; group = gives.gid_fits; body = is.body; stamps = is.stamps }) gives.one
         (owner_held map new (inode_at p map n) (inode_at p new n) _ held uid gid gives.saved gives.bytes gives.acls)
         q f (chown_demands owner group (scene_at s q f)) (owned owner group)
         (ap first_of owner_is

@@ -10,6 +10,6 @@ use Rattle.fs_model.specs.declared.reply.Reply.{Reply}
 use Rattle.fs_model.specs.Processes.{Desks}
 use Rattle.call_parts.specs.Performing.{Performs}
 
-pub performed : (p : Place) (pid : ℕ) (call this : Call) (old new : TxnState) (before now : Desks) (result : Result Reply Refusal) → call ≡ this
-    → Performs p pid this old new before now result → Performs p pid call old new before now result
-performed p pid call this old new before now result is h = subst (λ (q : Call). Performs p pid q old new before now result) (sym is) h
+pub performed : (p : Place) (time pid : ℕ) (call this : Call) (old new : TxnState) (before now : Desks) (result : Result Reply Refusal) → call ≡ this
+    → Performs p time pid this old new before now result → Performs p time pid call old new before now result
+performed p time pid call this old new before now result is h = subst (λ (q : Call). Performs p time pid q old new before now result) (sym is) h

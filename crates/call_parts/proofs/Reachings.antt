@@ -3,7 +3,7 @@
 --     walk_reaches, unreached        nothing is there
 --     walk_refused, reach_refused        that is passed on
 --     reach_owns, unowned, owned_refused        it isn't the caller's
---     asked_refused        what it asks of what was found refuses
+--     asked_refused, asked_broken, broken_later        what it asks of what was found refuses, or the disk fails
 --     told, changed, process_changed        it answers, or has changed the tree, or its process alone
 --     ready_kept, walk_kept, inode_later, walked_below, reached_below, reached_there, reached_used, reached_access, reached_body        what is known then
 use Rattle.std.specs.Prelude.{◌≡◌, ◌≢◌, ℕ, ◌<◌, ◌==◌, List, [], ◌∷◌, ◌++◌, None, Some, IsTrue, Result, Ok, Err, IsErr, IsErrAnd}
@@ -11,6 +11,7 @@ use Rattle.std.specs.List.{list_any}
 use Rattle.std.specs.Ordering.{nat_cmp}
 use Rattle.std.proofs.Common.{sym, ap, subst, ◌∙◌, inr}
 use Rattle.sector_disk.specs.Disk.{DiskState}
+use Rattle.sector_disk.proofs.Moments.{failed_later}
 use Rattle.fs_cred.specs.declared.errno.Errno.{Errno}
 use Rattle.fs_cred.specs.declared.errno.Errno.TheVariants.{ESRCH}
 use Rattle.fs_cred.specs.declared.refusal.Refusal.{Refusal}
@@ -30,6 +31,7 @@ use Rattle.fs_model.specs.declared.reply.Reply.{Reply}
 use Rattle.fs_model.specs.declared.walk.Form.{Form}
 use Rattle.fs_model.specs.declared.walk.Form.TheVariants.{Follow}
 use Rattle.fs_model.specs.declared.walk.Found.{Found}
+use Rattle.fs_model.specs.declared.touch.Touch.{Touch}
 use Rattle.fs_model.specs.TreeChanges.{Same}
 use Rattle.fs_model.specs.Demands.{Demand, or_else, first_of}
 use Rattle.fs_model.specs.Parts.{path_checks}
@@ -54,7 +56,8 @@ use Rattle.call_parts.specs.Reaching.{Checked, checked, WalksPath, RefusesWalk, 
 use Rattle.call_parts.proofs.ByDescriptor.{still_open}
 use Rattle.call_parts.proofs.ByPath.{refused_performs}
 use Rattle.call_parts.proofs.Calling.{absent_refused, early_is, first_of-append, or_else-none, refused_err, met_ok, resolve_refused, found_firm, found_late, found_after, found_told, found_there, answered_refused, answered_later, first_asked, state_kept, state_tree, same_process, told_performs}
-use Rattle.call_parts.proofs.Changed.{IsChange}
+use Rattle.call_parts.specs.Times.{MovesTimes}
+use Rattle.call_parts.proofs.Changed.{IsChange, times_moved}
 use Rattle.call_parts.proofs.Followed.{IsAccessed, followed_access, access_held, body_found_held}
 use Rattle.call_parts.proofs.Ownership.{own_refused}
 use Rattle.call_parts.proofs.Shown.{is_used}
@@ -111,8 +114,8 @@ walk_reaches refuses = record { each = λ call rest effect w. refuses.each call 
 module _ {pid : ℕ} {call : Call} {checks : Checked} {form : Form} {path : List ℕ} {demands : Scene → List Demand} {effect : Scene → ℕ → Effect}
     (is : WalksPath call checks form path demands effect) {p : Place} where
   -- its refusal is passed on
-  pub walk_refused : {old new : TxnState} {desks : Desks} (r : Result Reply Refusal) (e : Refusal) → IsErr r → IsErrAnd r (λ y. y ≡ e) → IsUnchanged old new
-      → ((s : State) → IsStateOf p old.sectors desks s → RefusesWalk old.disk new.disk s pid checks form path e) → Performs p pid call old new desks desks r
+  pub walk_refused : {time : ℕ} {old new : TxnState} {desks : Desks} (r : Result Reply Refusal) (e : Refusal) → IsErr r → IsErrAnd r (λ y. y ≡ e) → IsUnchanged old new
+      → ((s : State) → IsStateOf p old.sectors desks s → RefusesWalk old.disk new.disk s pid checks form path e) → Performs p time pid call old new desks desks r
   walk_refused r e err and same refuses = refused_performs r e err and same.store (λ s at. (refuses s at).each call demands effect is)
 
   module _ {old mid : TxnState} (same : IsUnchanged old mid) {desks : Desks} {q : Process} {f : Found} (w : HasWalked p mid desks pid checks form path q f) where
@@ -138,24 +141,30 @@ module _ {pid : ℕ} {call : Call} {checks : Checked} {form : Form} {path : List
           answered_refused old.disk new s pid call firm is.asks e (first_of (demands (scene_at s q f))) x late (answered_later new same h)
 
     -- what it asks of what was found refuses
-    pub asked_refused : (new : TxnState) (r : Result Reply Refusal) (e : Refusal) → IsErr r → IsErrAnd r (λ y. y ≡ e) → SameStore mid new → {A : Type 0} (x : A)
+    pub asked_refused : {time : ℕ} (new : TxnState) (r : Result Reply Refusal) (e : Refusal) → IsErr r → IsErrAnd r (λ y. y ≡ e) → SameStore mid new → {A : Type 0} (x : A)
         → ((s : State) → HasFound s pid q form path f → IsStateOf p mid.sectors desks s
         → IsAnswered mid.disk new.disk (refused_or (first_of (demands (scene_at s q f))) (Ok x)) (Err e))
-        → Performs p pid call old new desks desks r
+        → Performs p time pid call old new desks desks r
     asked_refused new r e err and store x asked = refused_performs r e err and (store_joined same.store store)
         (λ s at. refused_since s at new.disk e x (asked s (has s at) (state_kept same at)))
 
     -- or a fault, in what it does after that
-    pub asked_broken : {last : TxnState} (new : TxnState) (r : Result Reply Refusal) (e : Refusal) → IsErr r × IsErrAnd r (λ y. y ≡ e) → IsUnchanged mid last → SameStore last new
-        → FailsToRead last.disk new.disk e → Performs p pid call old new desks desks r
+    pub asked_broken : {time : ℕ} {last : TxnState} (new : TxnState) (r : Result Reply Refusal) (e : Refusal) → IsErr r × IsErrAnd r (λ y. y ≡ e) → IsUnchanged mid last → SameStore last new
+        → FailsToRead last.disk new.disk e → Performs p time pid call old new desks desks r
     asked_broken {last} new r e err later store fault =
         asked_refused new r e err.0 err.1 (store_joined later.store store) {A = ℕ} 0 (λ s has at. inr (interrupts_later new.disk later (inr fault)))
 
+    -- the same, after it has changed the tree
+    pub broken_later : {time : ℕ} {last : TxnState} (new : TxnState) (r : Result Reply Refusal) (e : Refusal) → IsErr r × IsErrAnd r (λ y. y ≡ e) → SameStore mid last → SameStore last new
+        → FailsToRead last.disk new.disk e → Performs p time pid call old new desks desks r
+    broken_later {last} new r e err first store fault = asked_refused new r e err.0 err.1 (store_joined first store) {A = ℕ} 0
+        (λ s has at. inr (inr (fault.0, failed_later mid.disk last.disk new.disk first.reads.failures fault.1)))
+
     -- it answers
-    pub told : (new : TxnState) → IsUnchanged mid new → (reply : Reply)
+    pub told : {time : ℕ} (new : TxnState) → IsUnchanged mid new → (reply : Reply)
         → ((s : State) → HasFound s pid q form path f → IsStateOf p mid.sectors desks s
         → (first_of (demands (scene_at s q f)) ≡ None) × (effect (scene_at s q f) 0 ≡ answers (scene_at s q f) reply))
-        → Performs p pid call old new desks desks (Ok reply)
+        → Performs p time pid call old new desks desks (Ok reply)
     told new later reply says = told_performs (Ok reply) (unchanged_joined same later)
         (λ s at.
         let t = says s (has s at) (state_kept same at) in (
@@ -164,14 +173,14 @@ module _ {pid : ℕ} {call : Call} {checks : Checked} {form : Form} {path : List
           found_told s pid q call form path is.arguments demands effect is.row met (here s at) f (has s at) reply at t.1,
         ))
 
-    -- it has changed the tree
-    pub changed : (new : TxnState) → SameStore mid new → new.sectors 0 ≡ mid.sectors 0 → (reply : Reply)
+    -- it has changed the tree, and then its times have moved
+    pub changed : {time : ℕ} (last : TxnState) {new : TxnState} {touches : List (ℕ × Touch)} → SameStore mid last → last.sectors 0 ≡ mid.sectors 0 → MovesTimes p time touches last new → (reply : Reply)
         → ((s : State) → HasFound s pid q form path f → IsStateOf p mid.sectors desks s
-        → IsChange p new.sectors desks s q (demands (scene_at s q f)) (effect (scene_at s q f)) reply)
-        → Performs p pid call old new desks desks (Ok reply)
-    changed new store super reply changes = record {
-      store = store_joined same.store store;
-      super = super ∙ same.sectors 0;
+        → IsChange p last.sectors desks s q (demands (scene_at s q f)) (effect (scene_at s q f)) reply touches)
+        → Performs p time pid call old new desks desks (Ok reply)
+    changed last store super moved reply changes = record {
+      store = store_joined same.store (store_joined store moved.store);
+      super = moved.super ∙ super ∙ same.sectors 0;
       table = tt;
       each = λ s at.
           let c = changes s (has s at) (state_kept same at) in
@@ -182,19 +191,19 @@ module _ {pid : ℕ} {call : Call} {checks : Checked} {form : Form} {path : List
             change = c.change;
             effect = found_after s pid q call form path is.arguments demands effect is.row met (here s at) f (has s at) c.number
                 ∙ ap (after_effect s pid) c.is
-                ∙ ap (λ (d : Desks). record { change = c.change; desks = d; reply = reply })
+                ∙ ap (λ (d : Desks). record { change = c.change; desks = d; reply = reply; now = s.now })
                 (same_process_stays s.desks pid q at.is_state.pids (here s at) ∙ at.same_desks);
             new_number = c.new_number;
-            holds = c.holds;
+            holds = times_moved at c moved;
           };
     }
 
     -- its process alone has changed, and what it has open stays
-    pub process_changed : (new : TxnState) (now : Desks) → IsUnchanged mid new → (r : Process) (reply : Reply) → now ≡ with_entry nat_cmp desks pid r
+    pub process_changed : {time : ℕ} (new : TxnState) (now : Desks) → IsUnchanged mid new → (r : Process) (reply : Reply) → now ≡ with_entry nat_cmp desks pid r
         → r.descriptors ≡ q.descriptors
         → ((s : State) → HasFound s pid q form path f → IsStateOf p mid.sectors desks s
         → (first_of (demands (scene_at s q f)) ≡ None) × (effect (scene_at s q f) 0 ≡ with_process r reply))
-        → Performs p pid call old new desks now (Ok reply)
+        → Performs p time pid call old new desks now (Ok reply)
     process_changed new now later r reply is_now descriptors says =
         let whole = unchanged_joined same later in
         record {
@@ -214,7 +223,7 @@ module _ {pid : ℕ} {call : Call} {checks : Checked} {form : Form} {path : List
                 change = Same;
                 effect = found_after s pid q call form path is.arguments demands effect is.row met (here s at) f (has s at) 0
                     ∙ ap (after_effect s pid) t.1
-                    ∙ ap (λ (d : Desks). record { change = Same; desks = d; reply = reply }) of_state;
+                    ∙ ap (λ (d : Desks). record { change = Same; desks = d; reply = reply; now = s.now }) of_state;
                 new_number = tt;
                 holds = subst (λ (x : Tree). HoldsAll p new.sectors (placed x))
                     (sym (open_stays s.room s.tree s.desks now at.is_state.tree (at.is_state.desks at.up) still))
@@ -226,8 +235,8 @@ module _ {pid : ℕ} {call : Call} {checks : Checked} {form : Form} {path : List
 
 module _ {pid : ℕ} {call : Call} {checks : Checked} {form : Form} {path : List ℕ} {rest : Scene → List Demand} {effect : Scene → ℕ → Effect}
     (is : WalksPath call checks form path (λ x. must_be_there x.first ∷ rest x) effect) {p : Place} where
-  pub reach_refused : {old new : TxnState} {desks : Desks} (r : Result Reply Refusal) (e : Refusal) → IsErr r → IsErrAnd r (λ y. y ≡ e) → IsUnchanged old new
-      → ((s : State) → IsStateOf p old.sectors desks s → RefusesReach old.disk new.disk s pid checks form path e) → Performs p pid call old new desks desks r
+  pub reach_refused : {time : ℕ} {old new : TxnState} {desks : Desks} (r : Result Reply Refusal) (e : Refusal) → IsErr r → IsErrAnd r (λ y. y ≡ e) → IsUnchanged old new
+      → ((s : State) → IsStateOf p old.sectors desks s → RefusesReach old.disk new.disk s pid checks form path e) → Performs p time pid call old new desks desks r
   reach_refused r e err and same refuses = refused_performs r e err and same.store (λ s at. (refuses s at).each call rest effect is)
 
 module _ {p : Place} {desks : Desks} {pid : ℕ} {checks : Checked} {form : Form} {path : List ℕ} {q : Process} {f : Found} where
@@ -271,8 +280,8 @@ module _ {p : Place} {desks : Desks} {pid : ℕ} {checks : Checked} {form : Form
 
 module _ {pid : ℕ} {call : Call} {checks : Checked} {form : Form} {path : List ℕ} {rest : Scene → List Demand} {effect : Scene → ℕ → Effect}
     (is : WalksPath call checks form path (λ x. must_be_there x.first ∷ own_at_end x ∷ rest x) effect) {p : Place} where
-  pub owned_refused : {old new : TxnState} {desks : Desks} (r : Result Reply Refusal) (e : Refusal) → IsErr r → IsErrAnd r (λ y. y ≡ e) → IsUnchanged old new
-      → ((s : State) → IsStateOf p old.sectors desks s → RefusesOwned old.disk new.disk s pid checks form path e) → Performs p pid call old new desks desks r
+  pub owned_refused : {time : ℕ} {old new : TxnState} {desks : Desks} (r : Result Reply Refusal) (e : Refusal) → IsErr r → IsErrAnd r (λ y. y ≡ e) → IsUnchanged old new
+      → ((s : State) → IsStateOf p old.sectors desks s → RefusesOwned old.disk new.disk s pid checks form path e) → Performs p time pid call old new desks desks r
   owned_refused r e err and same refuses = refused_performs r e err and same.store (λ s at. (refuses s at).each call rest effect is)
 
 pub reach_owns : {old new : DiskState} {s : State} {pid : ℕ} {checks : Checked} {form : Form} {path : List ℕ} {e : Refusal}

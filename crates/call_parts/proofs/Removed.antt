@@ -1,9 +1,10 @@
 -- A name that goes from its directory, and what has a name less.
 --     touches_after, names_changed        a change of one inode, since before a read
+--     taken_after, taken_joined        how many sectors were put
 --     name_removed, not_removed        what dir_core promises of a name that goes
 --     attributes_fit, counted_fits        other attributes fit an inode
 use Rattle.std.specs.Prelude.{◌≡◌, ◌≢◌, ℕ, ◌+◌, ◌<◌, ◌≤◌, List, None, ◌^◌}
-use Rattle.std.proofs.Common.{refl, sym, subst, ◌∙◌}
+use Rattle.std.proofs.Common.{refl, sym, arith, subst, ◌∙◌}
 use Rattle.sector_disk.specs.Disk.{DiskState, HasFailed}
 use Rattle.sector_disk.proofs.Moments.{failed_later}
 use Rattle.fs_layout.specs.declared.inode.Inode.{Inode}
@@ -15,9 +16,11 @@ use Rattle.fs_layout.specs.Directories.{HasNames}
 use Rattle.fs_layout.specs.Images.{bit, free_sectors, inode_at}
 use Rattle.fs_layout.specs.Inode.{FitsInode, inode_fits}
 use Rattle.fs_layout.specs.Maps.{name_cmp, get, without}
-use Rattle.fs_layout.proofs.UsedInodes.{used_fits, blocks_fit}
+use Rattle.fs_layout.proofs.UsedInodes.{used_fits, blocks_fit, times_fit}
 use Rattle.sector_txn.specs.Sectors.{TxnState, IsUnchanged}
 use Rattle.bit_alloc.specs.Inodes.{Touches, KeepsFields, KeepsAcls}
+use Rattle.sector_txn.proofs.TransactionRuns.{lacking_less}
+use Rattle.bit_alloc.specs.Room.{bitmaps, TakesSpare}
 use Rattle.bit_alloc.proofs.Transactions.{puts_after}
 use Rattle.block_map.specs.Contents.{ChangesContent}
 use Rattle.dir_core.specs.declared.fault.DirFault.{DirFault}
@@ -57,6 +60,18 @@ names_changed {p} {dir} {taken} {more} {f} {old} {mid} {new} {v} {w} same is c s
       (says names (kept (λ (m : SectorMap). HasNames p.version m v names) same (subst (λ (u : Inode). HasNames p.version old.sectors u names) (sym is) has)));
 }
 
+-- what was put, since before a read
+pub taken_after : (p : Place) (more : ℕ) {old mid : TxnState} (new : TxnState) → IsUnchanged old mid → TakesSpare p more mid new → TakesSpare p more old new
+taken_after p more {old} {mid} new same taken =
+    let room = same.room in
+    let lacks = lacking_less old mid (λ k has. same.delta k ∙ has) (bitmaps p) in
+    omega (arith, taken, room, lacks)
+
+-- by one call after another
+pub taken_joined : (p : Place) (first then more : ℕ) (old mid new : TxnState) → first + then ≤ more → TakesSpare p first old mid → TakesSpare p then mid new
+    → TakesSpare p more old new
+taken_joined p first then more old mid new fits one two = omega (arith, fits, one, two)
+
 -- ---- the name goes from its directory
 
 pub name_removed : {p : Place} {dir : ℕ} {name : List ℕ} {old mid new : TxnState} {v w : Inode} → IsUnchanged old mid → v ≡ inode_at p old.sectors dir
@@ -95,7 +110,7 @@ pub attributes_fit : (v : Inode) (uid gid names parent : ℕ) → FitsInode v �
     → FitsInode (record v { uid = uid; gid = gid; names = names; parent = parent })
 unfolding inode_fits
 attributes_fit v uid gid names parent fits used owner group count up =
-    used_fits used fits.valid.numbers fits.mode owner group count fits.size up fits.acl fits.default_acl (blocks_fit fits)
+    used_fits used fits.valid.numbers fits.mode owner group count fits.size up fits.acl fits.default_acl (blocks_fit fits) (times_fit fits)
 
 pub counted_fits : (v : Inode) (names : ℕ) → FitsInode v → v.kind ≢ kinds.Free → names < 2 ^ 32 → FitsInode (record v { names = names })
 counted_fits v names fits used few = attributes_fit v v.uid v.gid names v.parent fits used fits.uid fits.gid few fits.parent

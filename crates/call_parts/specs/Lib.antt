@@ -11,3 +11,4 @@ pub mod Makings
 pub mod NewNodes
 pub mod TwoPaths
 pub mod Reaching
+pub mod Times

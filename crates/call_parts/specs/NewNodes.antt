@@ -4,7 +4,7 @@
 --     MayBeNamed        a directory in which something may be named so
 --     NamesInode        a directory has been given a name for an inode
 --     TakesInode        an inode was free, and holds something now
---     MakesNode, IsPlaced        both: something was made
+--     MakesNode        both: something was made
 --     file_made, directory_made, link_made        what is made
 --     link_name_asked        asked of the name of a link that is made
 --     IsMade        it was made, or why not
@@ -27,7 +27,7 @@ use Rattle.bit_alloc.specs.declared.bitmap.Bitmap.TheVariants.{Inodes}
 use Rattle.bit_alloc.specs.Bitmaps.{IsFreeNumber}
 use Rattle.fs_model.specs.declared.walk.Found.{Found}
 use Rattle.fs_model.specs.Demands.{Demand, refuse, first_of}
-use Rattle.fs_model.specs.Nodes.{Node, File, Dir, Link, names_in}
+use Rattle.fs_model.specs.Nodes.{no_stamps, Node, File, Dir, Link, names_in}
 use Rattle.fs_model.specs.Scenes.{must_be_new}
 use Rattle.fs_model.specs.StoredNodes.{Placed, HoldsNode}
 use Rattle.fs_model.specs.Trees.{Tree, IsDirectoryAt}
@@ -74,15 +74,11 @@ pub record MakesNode (p : Place) (dir : ℕ) (name : List ℕ) (n : ℕ) (node :
   pub takes : TakesInode p n (record { node = node; names = 1; parent = dir }) old mid
   pub names : NamesInode p dir name n mid new
 
--- of some number
-abbrev pub IsPlaced : Place → ℕ → List ℕ → Node → SectorMap → SectorMap → Type 0
-IsPlaced p dir name node old new = (n : ℕ) × MakesNode p dir name n node old new
-
 -- ---- what is made
 
 -- an empty file
 abbrev pub file_made : ℕ → ℕ → AccessList → Node
-file_made uid gid access = record { owner = uid; group = gid; body = File access [] }
+file_made uid gid access = record { owner = uid; group = gid; body = File access []; stamps = no_stamps }
 
 -- a directory with these bits of its mode above the permission bits
 abbrev pub directory_made : ℕ → ℕ → ℕ → AccessList → Option AccessList → Node
@@ -90,6 +86,7 @@ directory_made uid gid bits access default = record {
   owner = uid;
   group = gid;
   body = Dir access (record { names = []; default = default; set_group_id = bits / S_ISGID % 2 == 1; sticky = bits / S_ISVTX % 2 == 1 });
+  stamps = no_stamps;
 }
 
 -- a link of this caller in this directory, whose group it gets where that has S_ISGID
@@ -98,6 +95,7 @@ link_made directory cred target = record {
   owner = cred.uid;
   group = if directory.mode / S_ISGID % 2 == 1 then directory.gid else cred.gid;
   body = Link target;
+  stamps = no_stamps;
 }
 
 -- nothing is there, and no slash is behind the name
@@ -106,10 +104,10 @@ link_name_asked f = must_be_new f ∷ refuse ENOENT f.slash ∷ []
 
 -- ---- the whole
 
--- All that is asked of the directory of the last lookup is met, and it has this node; or one of that is not, or memory or the
--- disk fails.
-abbrev pub IsMade : Place → TxnState → TxnState → Credential → Tree → Found → Node → Result (Unit {0}) Refusal → Type 0
+-- All that is asked of the directory of the last lookup is met, and it has this node, at this number; or one of that is not, or
+-- memory or the disk fails.
+abbrev pub IsMade : Place → TxnState → TxnState → Credential → Tree → Found → Node → Result ℕ Refusal → Type 0
 IsMade p old new cred t f node result =
     MatchResult result
-    (λ done. (first_of (make_asked p old.sectors cred t f.dir (f.step - 1)) ≡ None) × IsPlaced p f.dir f.name node old.sectors new.sectors)
+    (λ n. (first_of (make_asked p old.sectors cred t f.dir (f.step - 1)) ≡ None) × MakesNode p f.dir f.name n node old.sectors new.sectors)
     (λ e. IsAnswered old.disk new.disk (refused_or {A = Unit {0}} (first_of (make_asked p old.sectors cred t f.dir (f.step - 1))) (Ok tt)) (Err e))

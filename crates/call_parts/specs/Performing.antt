@@ -20,7 +20,7 @@ use Rattle.fs_model.specs.declared.call.Call.TheVariants.{Mkdir, Rmdir, Link, Sy
 use Rattle.fs_model.specs.declared.reply.Reply.{Reply}
 use Rattle.fs_model.specs.declared.event.Event.TheVariants.{Call as Calls}
 use Rattle.fs_model.specs.Processes.{Desks}
-use Rattle.fs_model.specs.TreeChanges.{Change, changed, swept}
+use Rattle.fs_model.specs.TreeChanges.{Change, changed, touches, touched, swept}
 use Rattle.fs_model.specs.States.{State, IsState}
 use Rattle.fs_model.specs.Stands.{HoldsAll, placed, room_of}
 use Rattle.fs_model.specs.Steps.{Choice, HasNewNumber, after, asks_in_call, firm_refusal, other_refusal}
@@ -49,15 +49,16 @@ pub record IsReady (p : Place) (txn : TxnState) (desks : Desks) : Type 0 where
 abbrev pub chosen : ℕ → ℕ → Choice
 chosen number free = record { number = number; pid = 0; free = free }
 
--- Nothing refuses the call. It gives this reply and leaves these processes, and the map holds the tree after it.
-pub record IsDone (p : Place) (map : SectorMap) (desks : Desks) (s : State) (pid : ℕ) (call : Call) (reply : Reply) : Type 0 where
+-- Nothing refuses the call. It gives this reply and leaves these processes, and the map holds the tree after it, in which times
+-- have moved to this one.
+pub record IsDone (p : Place) (time : ℕ) (map : SectorMap) (desks : Desks) (s : State) (pid : ℕ) (call : Call) (reply : Reply) : Type 0 where
   pub early : firm_refusal s (Calls pid call) ≡ None
   pub late : other_refusal s (Calls pid call) ≡ None
   pub number : ℕ
   pub change : Change
-  pub effect : after s (Calls pid call) (chosen number 0) ≡ record { change = change; desks = desks; reply = reply }
+  pub effect : after s (Calls pid call) (chosen number 0) ≡ record { change = change; desks = desks; reply = reply; now = s.now }
   pub new_number : HasNewNumber s change
-  pub holds : HoldsAll p map (placed (swept (changed s.tree change) desks))
+  pub holds : HoldsAll p map (placed (touched time (touches s.room s.tree change) (swept (changed s.tree change) desks)))
 
 -- The call is refused: by what is asked first, by what is asked then, for want of memory, or for a read that failed.
 pub data IsRefused (old new : DiskState) (s : State) (pid : ℕ) (call : Call) (r : Refusal) : Type 0 where
@@ -66,13 +67,13 @@ pub data IsRefused (old new : DiskState) (s : State) (pid : ℕ) (call : Call) (
   lacks_memory : firm_refusal s (Calls pid call) ≡ None → IsTrue (asks_in_call call) → r ≡ Failed ENOMEM → IsRefused old new s pid call r
   read_fails : firm_refusal s (Calls pid call) ≡ None → HasFailed old new → r ≡ Failed EIO → IsRefused old new s pid call r
 
--- A call of process pid. At `Err` the table is as it was, and of the map nothing is said: its changes are dropped.
-pub record Performs (p : Place) (pid : ℕ) (call : Call) (old new : TxnState) (before now : Desks) (result : Result Reply Refusal) : Type 0 where
+-- A call of process pid, at this time. At `Err` the table is as it was, and of the map nothing is said: its changes are dropped.
+pub record Performs (p : Place) (time pid : ℕ) (call : Call) (old new : TxnState) (before now : Desks) (result : Result Reply Refusal) : Type 0 where
   pub store : SameStore old new
   pub super : OnOk result (new.sectors 0 ≡ old.sectors 0)
   pub table : OnErr result (now ≡ before)
   pub each : (s : State) → IsStateOf p old.sectors before s
-      → MatchResult result (λ reply. IsDone p new.sectors now s pid call reply) (λ r. IsRefused old.disk new.disk s pid call r)
+      → MatchResult result (λ reply. IsDone p time new.sectors now s pid call reply) (λ r. IsRefused old.disk new.disk s pid call r)
 
 -- A caller's call may be performed.
 abbrev pub IsReadyFor : Caller → TxnState → Type 0
@@ -80,7 +81,7 @@ IsReadyFor c txn = IsReady c.place txn c.procs.now
 
 -- A caller's call, which leaves all processes as they are, whatever it answers.
 abbrev pub PerformsFor : Caller → Call → TxnState → TxnState → Result Reply Refusal → Type 0
-PerformsFor c call old new result = Performs c.place c.pid call old new c.procs.now c.procs.now result
+PerformsFor c call old new result = Performs c.place c.time c.pid call old new c.procs.now c.procs.now result
 
 -- whether the call is on directories and what they name
 abbrev pub is_on_names : Call → Bool

@@ -6,11 +6,12 @@ use fs_model::Reply;
 use open_files::Procs;
 use std::alloc::Global;
 
-/// Who calls, and where: a process among all of them, and the image that it calls on.
+/// Who calls, where and when: a process among all of them, the image that it calls on, and the present, as times count it.
 #[derive(Clone, Copy)]
 pub struct Caller<'a> {
     pub alloc: Global,
     pub place: Place,
+    pub time: u64,
     pub procs: &'a Procs,
     pub pid: usize,
 }

@@ -2,8 +2,8 @@
 //! disk.
 //!
 //! A call is one step of the abstract machine, made in a transaction by the process of a number. Its parts stand here, each
-//! with its own promise: the walk of its paths and the inode that is found, one check for each demand, space, and what is
-//! made, named, counted or freed.
+//! with its own promise: the walk of its paths and the inode that is found, one check for each demand, space, what is
+//! made, named, counted or freed, and times that move.
 #![tactic(auto)]
 
 mod caller;
@@ -14,6 +14,7 @@ mod making;
 mod naming;
 mod reaching;
 mod space;
+mod touching;
 
 pub use caller::{CallResult, Caller};
 pub use checks::{
@@ -29,3 +30,4 @@ pub use reaching::{
     walk_path,
 };
 pub use space::ask_for_sectors;
+pub use touching::touch;

@@ -15,6 +15,7 @@ use Rattle.sector_txn.specs.Sectors.{TxnState}
 use Rattle.fs_model.specs.declared.call.Call.TheVariants.{Ftruncate}
 use Rattle.fs_model.specs.declared.reply.Reply.TheVariants.{Done}
 use Rattle.fs_model.specs.Births.{the_node}
+use Rattle.fs_model.specs.declared.touch.Touch.TheVariants.{Modified}
 use Rattle.fs_model.specs.TreeChanges.{Rewrite}
 use Rattle.fs_model.specs.Demands.{refuse, first_of}
 use Rattle.fs_model.specs.DescriptorCalls.{ftruncate_row, ftruncate_demands, ftruncate_effect, resized_node}
@@ -66,6 +67,7 @@ module _ {p : Place} (old : TxnState) {desks : Desks} {pid fd : ℕ} {d : Descri
   pub cuts : (new : TxnState) → d.write ≡ true → size ≤ max_file_size p.version → desks ≡ with_changed desks pid (λ p. p)
       → ChangesBytes p d.number old new (λ held. resized held size)
       → IsChange p new.sectors desks s o.process (ftruncate_demands size (open_scene s o.process)) (λ k. ftruncate_effect fd size (open_scene s o.process)) Done
+      ((d.number, Modified) ∷ [])
   cuts new open_to_write fits same c =
       let x = open_fits o s at in
       let body = (at.is_state.tree.each d.number x.node x.is_there).body in
@@ -74,14 +76,15 @@ module _ {p : Place} (old : TxnState) {desks : Desks} {pid fd : ℕ} {d : Descri
       record {
         met = size_met fits;
         number = 0;
-        change = Rewrite d.number (resized_node size x.node);
+        change = Rewrite Modified d.number (resized_node size x.node);
         is = ap (λ (y : Descriptor). change_of y.number (the_node s.tree y.number)) (the_opened o)
             ∙ ap (change_of d.number) (sym (ap (λ (y : Descriptor). the_node s.tree y.number) (the_opened o)) ∙ open_node o s at);
         new_number = tt;
+        times = refl;
         holds = bytes_rewritten at desks (λ n was. subst (λ (k : Desks). IsTrue (is_open k n)) at.same_desks was) d.number x.node x.is_there
             (file_kind o s at open_to_write) (λ held. resized held size) c
             (omega (arith, len, limit, fits)) (IsBytes-resized (bytes_in x.node.body) size (bytes_are_bytes s.room s.tree x.node.body body));
       }
     where
       change_of : ℕ → Node → Effect
-      change_of n node = record { change = Rewrite n (resized_node size node); process = o.process; reply = Done }
+      change_of n node = record { change = Rewrite Modified n (resized_node size node); process = o.process; reply = Done }

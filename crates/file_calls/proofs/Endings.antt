@@ -317,7 +317,7 @@ exit_late : (s : State) (pid : ℕ) → other_refusal s (Exit pid) ≡ None
 unfolding other_refusal
 exit_late s pid = refl
 
-pub exit_after : (s : State) (pid free : ℕ) → after s (Exit pid) (chosen 0 free) ≡ record { change = Same; desks = without nat_cmp s.desks pid; reply = Done }
+pub exit_after : (s : State) (pid free : ℕ) → after s (Exit pid) (chosen 0 free) ≡ record { change = Same; desks = without nat_cmp s.desks pid; reply = Done; now = s.now }
 unfolding after
 exit_after s pid free = refl
 
@@ -360,7 +360,7 @@ module _ {p : Place} {pid : ℕ} {old new : TxnState} {desks : Desks} where
       early = exit_firm s pid q (same_process at pid q there);
       late = exit_late s pid;
       effect = exit_after s pid 0
-          ∙ ap (λ (x : Desks). record { change = Same; desks = x; reply = Done }) (ap (λ (x : Desks). without nat_cmp x pid) at.same_desks ∙ sym is);
+          ∙ ap (λ (x : Desks). record { change = Same; desks = x; reply = Done; now = s.now }) (ap (λ (x : Desks). without nat_cmp x pid) at.same_desks ∙ sym is);
       holds = subst (λ (x : Desks). HoldsAll p new.sectors (placed (swept s.tree x))) (sym is) (left s at);
     };
   }

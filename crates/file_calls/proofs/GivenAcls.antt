@@ -16,6 +16,7 @@ use Rattle.sector_txn.specs.Sectors.{TxnState, IsUnchanged}
 use Rattle.fs_model.specs.declared.call.AclType.{AclType}
 use Rattle.fs_model.specs.declared.call.AclType.TheVariants.{Access, Default}
 use Rattle.fs_model.specs.declared.reply.Reply.TheVariants.{Done}
+use Rattle.fs_model.specs.declared.touch.Touch.TheVariants.{Changed}
 use Rattle.fs_model.specs.declared.walk.Form.TheVariants.{Follow}
 use Rattle.fs_model.specs.declared.walk.Found.{Found}
 use Rattle.fs_model.specs.AttributeCalls.{is_default, set_acl_arguments, set_acl_demands, set_acl_effect, with_set_acl}
@@ -133,7 +134,7 @@ module _ {p : Place} {map : SectorMap} {desks : Desks} {s : State} {pid : ℕ} {
     -- it is given
     pub acl_changed : (new : SectorMap) → first_of space ≡ None → first_of (set_acl_arguments which acl) ≡ None
         → (which ≡ Access → (a : AccessList) → acl ≡ Some a → SavesAcl p n v.mode a map new) → (which ≡ Default → SavesDefaultAcl p n acl map new)
-        → IsChange p new desks s q (set_acl_demands which acl (scene_at s q f)) (set_acl_effect which acl (scene_at s q f)) Done
+        → IsChange p new desks s q (set_acl_demands which acl (scene_at s q f)) (set_acl_effect which acl (scene_at s q f)) Done ((n, Changed) ∷ [])
     acl_changed new enough given access default =
         let a = followed_access n at has i.some in
         let kind = sym (held_kind (state_tree at) n a.node a.at) ∙ ap (λ (w : Inode). is_directory_kind w.kind) (sym i.inode) in
@@ -141,7 +142,7 @@ module _ {p : Place} {map : SectorMap} {desks : Desks} {s : State} {pid : ℕ} {
         (held_node (state_tree at) n a.node a.at) (plain a.node.owner a.node.group a.node.body a.access a.is)
         (λ is. kind ∙ gets_default (is_default which) (is_directory_kind v.kind) holder is) given
         (λ w o e. subst (λ (u : Inode). SavesAcl p n u.mode o map new) i.inode (access w o e)) default in
-        rewrites_found at new n a.node (record a.node { body = with_set_acl which acl a.node.body }) a.at
+        rewrites_found at new Changed n a.node (record a.node { body = with_set_acl which acl a.node.body }) a.at
         (acl_may_replace s.room s.tree n a.node ((at.is_state.tree).each n a.node a.at) which acl g.valid) g.one g.held
         q f (set_acl_demands which acl (scene_at s q f)) (λ (u : Node). record u { body = with_set_acl which acl u.body })
         (ap first_of demands_are

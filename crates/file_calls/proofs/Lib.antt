@@ -16,3 +16,4 @@ pub mod Writing
 pub mod Cutting
 pub mod ShownAcls
 pub mod GivenAcls
+pub mod OpenedTimes

@@ -1,5 +1,5 @@
 -- Another mode of what was found.
-use Rattle.std.specs.Prelude.{◌≡◌, ◌≢◌, ℕ, ◌+◌, ◌/◌, ◌%◌, ◌==◌, ◌<◌, ◌≤◌, nat_le, nat_eq, zero, suc, Bool, true, false, not, ◌&&◌, ◌||◌, cond, if◌then◌else◌, List, length, Option, None, Some, is_some}
+use Rattle.std.specs.Prelude.{◌≡◌, ◌≢◌, ℕ, ◌+◌, ◌/◌, ◌%◌, ◌==◌, ◌<◌, ◌≤◌, nat_le, nat_eq, zero, suc, Bool, true, false, not, ◌&&◌, ◌||◌, cond, if◌then◌else◌, List, [], ◌∷◌, length, Option, None, Some, is_some}
 use Rattle.std.proofs.Common.{refl, sym, ap, subst, arith, ◌∙◌}
 use Rattle.posix_acl.specs.declared.entry.Perms.{Perms}
 use Rattle.posix_acl.specs.AccessList.{AccessList, with_mode_bits, is_extended}
@@ -21,6 +21,7 @@ use Rattle.fs_layout.specs.Bytes.{SectorMap}
 use Rattle.fs_layout.specs.Images.{inode_at}
 use Rattle.fs_layout.specs.Inode.{FitsInode, inode_fits, numbers_fit}
 use Rattle.fs_model.specs.declared.reply.Reply.TheVariants.{Done}
+use Rattle.fs_model.specs.declared.touch.Touch.TheVariants.{Changed}
 use Rattle.fs_model.specs.declared.walk.Form.TheVariants.{Follow}
 use Rattle.fs_model.specs.declared.walk.Found.{Found}
 use Rattle.fs_model.specs.AttributeCalls.{chmod_demands, chmod_effect, with_mode, moded}
@@ -160,7 +161,7 @@ module _ {p : Place} {map : SectorMap} {desks : Desks} {s : State} {pid : ℕ} {
   pub mode_changed : (cred : Credential) (mode : ℕ) (new : SectorMap) → cred ≡ q.cred
       → own_asked q.cred v.uid f.step ≡ None
       → ((a : AccessList) → HasAcl map v a → SavesAcl p n (special_mode cred v.kind v.gid mode) (with_mode_bits a mode) map new)
-      → IsChange p new desks s q (chmod_demands (scene_at s q f)) (chmod_effect mode (scene_at s q f)) Done
+      → IsChange p new desks s q (chmod_demands (scene_at s q f)) (chmod_effect mode (scene_at s q f)) Done ((n, Changed) ∷ [])
   mode_changed cred mode new same met gives =
       let a = followed_access n at has i.some in
       let u = inode_at p map n in
@@ -171,7 +172,7 @@ module _ {p : Place} {map : SectorMap} {desks : Desks} {s : State} {pid : ℕ} {
       ∙ ap (λ (k : ℕ). special_mode cred u.kind k mode / 512) held.group
       ∙ ap (λ (c : Credential). special_mode c u.kind a.node.group mode / 512) same
       ∙ special_is a.node.body u.kind q.cred a.node.group mode (body_kind p.version map u a.node.body held.body) in
-      rewrites_found at new n a.node (moded q.cred mode a.node) a.at
+      rewrites_found at new Changed n a.node (moded q.cred mode a.node) a.at
       (mode_may_replace s.room s.tree n a.node ((at.is_state.tree).each n a.node a.at) q.cred mode) saves.one
       (moded_held map new u (inode_at p new n) _ held q.cred mode (special_mode cred v.kind v.gid mode) a.access.acl
       (acl_told a.node.owner a.node.group a.node.body a.access a.is) bits saves.fields saves.bytes saves.default saves.access)

@@ -21,7 +21,9 @@ use Rattle.sector_txn.specs.Sectors.{TxnState}
 use Rattle.fs_model.specs.declared.call.Flags.{Flags}
 use Rattle.fs_model.specs.declared.walk.Found.{Found}
 use Rattle.fs_model.specs.Births.{the_node, born_file}
-use Rattle.fs_model.specs.TreeChanges.{Change, Same, Rewrite, Make, changed, swept}
+use Rattle.fs_model.specs.declared.touch.Touch.{Touch}
+use Rattle.fs_model.specs.declared.touch.Touch.TheVariants.{Modified}
+use Rattle.fs_model.specs.TreeChanges.{Change, Same, Rewrite, Make, changed, touches_of, swept}
 use Rattle.fs_model.specs.Demands.{Demand, refuse, first_of, perms, decided, permission_of, permission_on}
 use Rattle.fs_model.specs.Nodes.{Node, Body, File, Dir, Link, is_directory, is_link, bytes_in, with_bytes}
 use Rattle.fs_model.specs.OpenCall.{open_demands, open_new_demands, open_change}
@@ -47,6 +49,7 @@ use Rattle.call_parts.specs.ByteChanges.{ChangesBytes}
 use Rattle.file_calls.specs.Openings.{open_kind_asked, found_asked, FindsIn, IsRefusedOpen, Reaches}
 use Rattle.call_parts.proofs.Followed.{IsAccessed, accessed_is, accessible}
 use Rattle.call_parts.proofs.Ownership.{some_asked, others_asked, all_met}
+use Rattle.file_calls.proofs.OpenedTimes.{Prepares}
 use Rattle.file_calls.proofs.Rewritten.{bytes_rewritten}
 use Rattle.call_parts.proofs.Shown.{the_node_is}
 use Rattle.call_parts.proofs.Checked.{link_says, refused_as}
@@ -191,28 +194,30 @@ module _ {p : Place} {map : SectorMap} {flags : Flags} {q : Process} {f : Found}
         (held_node (state_tree i.is_state) n x.node x.at).body
 
     abbrev cut_at : ℕ → Change
-    cut_at k = Rewrite k (record (the_node s.tree k) { body = with_bytes [] (the_node s.tree k).body })
+    cut_at k = Rewrite Modified k (record (the_node s.tree k) { body = with_bytes [] (the_node s.tree k).body })
 
     change_is : (mode : ℕ) → open_change flags mode (scene_at s q f) n ≡ (if flags.trunc && flags.write then cut_at n else Same)
     change_is mode =
         ap (λ (o : Option ℕ). if not (is_some o) then Make f.dir f.name n (born_file q.cred q.umask mode (the_node s.tree f.dir))
         else (if flags.trunc && flags.write then cut_at (unwrap_or o 0) else Same)) some
 
-    reaches_by : (mode : ℕ) (new : SectorMap) (change : Change) → open_change flags mode (scene_at s q f) n ≡ change → HasNewNumber s change
+    prepared_by : (mode : ℕ) (new : SectorMap) (touching : List (ℕ × Touch)) (change : Change) → open_change flags mode (scene_at s q f) n ≡ change → HasNewNumber s change
+        → touches_of s.tree change ≡ touching
         → ((now : Desks) → ((k : ℕ) → IsTrue (is_open s.desks k) → IsTrue (is_open now k)) → HoldsAll p new (placed (swept (changed s.tree change) now)))
-        → Reaches p new flags mode q f s n
-    reaches_by mode new change change_to fresh holds = record {
+        → Prepares p new flags mode q f s n touching
+    prepared_by mode new touching change change_to fresh times holds = record {
       met = old_met;
       number = ap (λ (o : Option ℕ). unwrap_or o n) some;
       new_number = subst (HasNewNumber s) (sym change_to) fresh;
+      times = ap (touches_of s.tree) change_to ∙ times;
       holds = λ now still. subst (λ (x : Change). HoldsAll p new (placed (swept (changed s.tree x) now))) (sym change_to) (holds now still);
     }
 
     -- as it is
-    pub old_reached : (mode : ℕ) (new : SectorMap) → flags.trunc && flags.write ≡ false → new ≡ map → Reaches p new flags mode q f s n
+    pub old_reached : (mode : ℕ) (new : SectorMap) → flags.trunc && flags.write ≡ false → new ≡ map → Prepares p new flags mode q f s n []
     old_reached mode new keeps same_map =
         let at = i.is_state in
-        reaches_by mode new Same (change_is mode ∙ ap (λ (b : Bool). if b then cut_at n else Same) keeps) tt
+        prepared_by mode new [] Same (change_is mode ∙ ap (λ (b : Bool). if b then cut_at n else Same) keeps) tt refl
         (λ now still. subst (λ (m : SectorMap). HoldsAll p m (placed (swept (changed s.tree Same) now))) (sym same_map)
         (same_held s at.is_state at.up now still p map at.holds at.same_room))
 
@@ -220,7 +225,7 @@ module _ {p : Place} {map : SectorMap} {flags : Flags} {q : Process} {f : Found}
   pub old_emptied : (cred : Credential) (v : Inode) (same : cred ≡ q.cred)
       → refused_or {A = Inode} (first_of (found_asked flags cred s.tree n f.step)) (Ok (inode_at p map n)) ≡ Ok v
       → (mode : ℕ) (old new : TxnState) → old.sectors ≡ map → flags.trunc && flags.write ≡ true → ChangesBytes p n old new (λ held. resized held 0)
-      → Reaches p new.sectors flags mode q f s n
+      → Prepares p new.sectors flags mode q f s n ((n, Modified) ∷ [])
   old_emptied cred v same is mode old new old_is cuts c =
       let at = subst (λ (m : SectorMap). IsStateOf p m i.desks s) (sym old_is) i.is_state in
       let x = stands s.tree n old_there in
@@ -230,19 +235,19 @@ module _ {p : Place} {map : SectorMap} {flags : Flags} {q : Process} {f : Found}
       let kind = ap (λ (m : SectorMap). (inode_at p m n).kind) old_is ∙ ap (λ (w : Inode). w.kind) (sym (old_inode cred v same is)) ∙ old_file cred v same is cuts in
       let emptied = no_bytes (resized (bytes_in x.node.body) 0) len in
       let change_to = change_is cred v same is mode
-      ∙ ap (λ (b : Bool). if b then Rewrite n (record (the_node s.tree n) { body = with_bytes [] (the_node s.tree n).body }) else Same) cuts
-      ∙ ap (λ (u : Node). Rewrite n (record u { body = with_bytes [] u.body })) here
-      ∙ ap (λ (l : List ℕ). Rewrite n (record x.node { body = with_bytes l x.node.body })) (sym emptied) in
-      reaches_by cred v same is mode new.sectors _ change_to tt
+      ∙ ap (λ (b : Bool). if b then Rewrite Modified n (record (the_node s.tree n) { body = with_bytes [] (the_node s.tree n).body }) else Same) cuts
+      ∙ ap (λ (u : Node). Rewrite Modified n (record u { body = with_bytes [] u.body })) here
+      ∙ ap (λ (l : List ℕ). Rewrite Modified n (record x.node { body = with_bytes l x.node.body })) (sym emptied) in
+      prepared_by cred v same is mode new.sectors ((n, Modified) ∷ []) _ change_to tt refl
       (λ now still. bytes_rewritten at now still n x.node x.at kind (λ held. resized held 0) c (omega (arith, len))
       (IsBytes-resized (bytes_in x.node.body) 0 (bytes_are_bytes s.room s.tree x.node.body body)))
 
 -- what is answered as an error, and as a number
-abbrev pub Answered : (p : Place) (map : SectorMap) → DiskState → DiskState → Flags → ℕ → Process → Found → State → Result ℕ Refusal → Type 0
-Answered p map old new flags mode q f s r = MatchResult r (λ m. Reaches p map flags mode q f s m) (λ e. IsRefusedOpen old new flags q f s e)
+abbrev pub Answered : (p : Place) (time : ℕ) (map : SectorMap) → DiskState → DiskState → Flags → ℕ → Process → Found → State → Result ℕ Refusal → Type 0
+Answered p time map old new flags mode q f s r = MatchResult r (λ m. Reaches p time map flags mode q f s m) (λ e. IsRefusedOpen old new flags q f s e)
 
-pub refusing : {p : Place} {map : SectorMap} {flags : Flags} {q : Process} {f : Found} {s : State} → FindsIn p map flags q f s → (new : SectorMap) (mode : ℕ)
+pub refusing : {p : Place} {map : SectorMap} {flags : Flags} {q : Process} {f : Found} {s : State} → FindsIn p map flags q f s → (time : ℕ) (new : SectorMap) (mode : ℕ)
     (first last : DiskState) (r : Result ℕ Refusal) (e : Refusal) → IsErr r → IsErrAnd r (λ y. y ≡ e) → IsRefusedOpen first last flags q f s e
-    → Answered p new first last flags mode q f s r
-refusing {p} {map} {flags} {q} {f} {s} i new mode first last r e err and is =
-    subst (Answered p new first last flags mode q f s) (sym (is_err r e err and)) is
+    → Answered p time new first last flags mode q f s r
+refusing {p} {map} {flags} {q} {f} {s} i time new mode first last r e err and is =
+    subst (Answered p time new first last flags mode q f s) (sym (is_err r e err and)) is

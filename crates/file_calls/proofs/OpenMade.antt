@@ -3,7 +3,7 @@
 --     none_is_there, make_refused, make_met        nothing may be made; what the directory is asked refuses, or is met
 --     asked_of_it, few_names, can_make        a file may be made
 --     finds_kept, asked_later        reads leave what was found, and what was asked
---     made_reaches        it was made
+--     made_prepares        it was made
 use Rattle.std.specs.Prelude.{◌≡◌, ℕ, ◌-◌, ◌/◌, ◌%◌, ◌<◌, ◌≤◌, ◌==◌, nat_lt, nat_le, if◌then◌else◌, Bool, not, ◌&&◌, ◌||◌, List, [], ◌∷◌, length, Option, None, unwrap_or, is_some, Ok, Err}
 use Rattle.std.proofs.Common.{sym, ap, subst, arith, ◌∙◌, inl}
 use Rattle.fs_cred.specs.declared.errno.Errno.TheVariants.{ENOENT, ENOSPC}
@@ -23,10 +23,11 @@ use Rattle.inode_table.specs.Acls.{HasDefaultAcl}
 use Rattle.fs_model.specs.declared.call.Flags.{Flags}
 use Rattle.fs_model.specs.declared.walk.Found.{Found}
 use Rattle.fs_model.specs.Births.{the_node, the_directory, born_acl, born_file}
-use Rattle.fs_model.specs.TreeChanges.{Change, Make, Rewrite, Same, changed, swept}
+use Rattle.fs_model.specs.declared.touch.Touch.TheVariants.{Modified, Born}
+use Rattle.fs_model.specs.TreeChanges.{Change, Make, Rewrite, Same, changed, touches_of, swept}
 use Rattle.fs_model.specs.Demands.{Demand, refuse, first_of, permission_on, write_and_search}
 use Rattle.fs_model.specs.Limits.{least_free}
-use Rattle.fs_model.specs.Nodes.{Node, File, default_in, names_in, with_bytes, with_names}
+use Rattle.fs_model.specs.Nodes.{no_stamps, Node, File, default_in, names_in, with_bytes, with_names}
 use Rattle.fs_model.specs.OpenCall.{open_demands, open_found_demands, open_new_demands, open_change}
 use Rattle.fs_model.specs.Processes.{Process}
 use Rattle.fs_model.specs.Stands.{HoldsAll, placed}
@@ -46,7 +47,8 @@ use Rattle.path_walk.proofs.HeldNodes.{held_node, names_say, default_says}
 use Rattle.path_walk.proofs.Kept.{kept}
 use Rattle.call_parts.specs.Makings.{CanMake, make_asked}
 use Rattle.call_parts.specs.NewNodes.{MakesNode, file_made}
-use Rattle.file_calls.specs.Openings.{FindsIn, IsRefusedOpen, Reaches}
+use Rattle.file_calls.specs.Openings.{FindsIn, IsRefusedOpen}
+use Rattle.file_calls.proofs.OpenedTimes.{Prepares}
 use Rattle.call_parts.proofs.Makeable.{found_new, has_few, may_make}
 use Rattle.call_parts.proofs.NewFile.{nothing_stands, dir_still_held, set_group_says, default_is}
 use Rattle.call_parts.proofs.Checked.{refused_as}
@@ -155,7 +157,7 @@ module _ {p : Place} {map : SectorMap} {flags : Flags} {q : Process} {f : Found}
     change_is : open_change flags mode (scene_at s q f) n ≡ Make f.dir f.name n file
     change_is =
         ap (λ (o : Option ℕ). if not (is_some o) then Make f.dir f.name n (born_file q.cred q.umask mode (the_node s.tree f.dir))
-        else (if flags.trunc && flags.write then Rewrite (unwrap_or o 0) (record (the_node s.tree (unwrap_or o 0)) { body = with_bytes [] (the_node s.tree (unwrap_or o 0)).body }) else Same)) none
+        else (if flags.trunc && flags.write then Rewrite Modified (unwrap_or o 0) (record (the_node s.tree (unwrap_or o 0)) { body = with_bytes [] (the_node s.tree (unwrap_or o 0)).body }) else Same)) none
         ∙ ap (λ (u : Node). Make f.dir f.name n (born_file q.cred q.umask mode u)) (the_node_is s.tree f.dir node new_name.stands)
 
     fresh : HasNewNumber s (Make f.dir f.name n file)
@@ -175,20 +177,20 @@ module _ {p : Place} {map : SectorMap} {flags : Flags} {q : Process} {f : Found}
       group_given : gid ≡ file.group
       group_given =
           group_is
-          ∙ ap (λ (b : Bool). if b then v.gid else q.cred.gid) (set_group_says node.owner node.group node.body v.mode new_name.directory dir_holds.mode)
+          ∙ ap (λ (b : Bool). if b then v.gid else q.cred.gid) (set_group_says node.owner node.group node.body node.stamps v.mode new_name.directory dir_holds.mode)
           ∙ ap (λ (k : ℕ). if (the_directory node).set_group_id then k else q.cred.gid) dir_holds.group
 
       acl_given : a ≡ born_acl (the_directory node).default mode q.umask
       acl_given =
           acl_is (default_in node.body) (default_says p.version map v node.body new_name.directory dir_holds.body)
-          ∙ ap (λ (d : Option AccessList). born_acl d mode q.umask) (default_is node.owner node.group node.body new_name.directory)
+          ∙ ap (λ (d : Option AccessList). born_acl d mode q.umask) (default_is node.owner node.group node.body node.stamps new_name.directory)
 
       born : HoldsNode p.version made.mid (inode_at p made.mid n) (record { node = file; names = 1; parent = f.dir })
       born =
           subst (λ (k : ℕ). HoldsNode p.version made.mid (inode_at p made.mid n)
-          (record { node = record { owner = q.cred.uid; group = k; body = File (born_acl (the_directory node).default mode q.umask) [] }; names = 1; parent = f.dir })) group_given
+          (record { node = record { owner = q.cred.uid; group = k; body = File (born_acl (the_directory node).default mode q.umask) []; stamps = no_stamps }; names = 1; parent = f.dir })) group_given
           (subst (λ (l : AccessList). HoldsNode p.version made.mid (inode_at p made.mid n)
-          (record { node = record { owner = q.cred.uid; group = gid; body = File l [] }; names = 1; parent = f.dir })) acl_given made.takes.holds)
+          (record { node = record { owner = q.cred.uid; group = gid; body = File l []; stamps = no_stamps }; names = 1; parent = f.dir })) acl_given made.takes.holds)
 
       here : HoldsNode p.version new (inode_at p new f.dir) (record {
         node = record node { body = with_names (with_entry name_cmp (names_in node.body) f.name n) node.body };
@@ -202,13 +204,15 @@ module _ {p : Place} {map : SectorMap} {flags : Flags} {q : Process} {f : Found}
           (with_entry name_cmp (names_in node.body) f.name n) new_name.directory made.names.kept made.names.acls
           (made.names.named (names_in node.body) (names_say p.version made.mid before node.body new_name.directory held.body))
 
-      pub made_reaches : first_of (open_demands flags (scene_at s q f)) ≡ None → length (names_in node.body) < max_names p.version → Reaches p new flags mode q f s n
-      made_reaches met has_room =
+      pub made_prepares : first_of (open_demands flags (scene_at s q f)) ≡ None → length (names_in node.body) < max_names p.version
+          → Prepares p new flags mode q f s n ((f.dir, Modified) ∷ (n, Born) ∷ [])
+      made_prepares met has_room =
           let at = i.is_state in
           record {
             met = met;
             number = ap (λ (o : Option ℕ). unwrap_or o n) none;
             new_number = subst (HasNewNumber s) (sym change_is) fresh;
+            times = ap (touches_of s.tree) change_is;
             holds = λ now still.
                 subst (λ (x : Change). HoldsAll p new (placed (swept (changed s.tree x) now))) (sym change_is)
                 (make_held s at.is_state at.up now still p map at.holds at.same_room made.mid new f.dir node f.name n file (record {

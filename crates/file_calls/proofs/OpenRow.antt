@@ -170,15 +170,15 @@ path_checked path f mode asked =
 
 module _ {p : Place} (pid : ℕ) (path : List ℕ) (f : Flags) (mode : ℕ) (old : TxnState) {desks : Desks} (q : Process) (there : get nat_cmp desks pid ≡ Some q) where
   -- the call or its path is refused
-  pub asked_refuses : (r : Result Reply Refusal) (e : Refusal) → IsErr r → IsErrAnd r (λ y. y ≡ e) → first_of (open_asked f mode path) ≡ Some e
-      → Performs p pid (Open path f mode) old old desks desks r
+  pub asked_refuses : {time : ℕ} (r : Result Reply Refusal) (e : Refusal) → IsErr r → IsErrAnd r (λ y. y ≡ e) → first_of (open_asked f mode path) ≡ Some e
+      → Performs p time pid (Open path f mode) old old desks desks r
   asked_refuses r e err and asked = refused_performs r e err and store_same
       (λ s at. why.early (open_firm s pid q path f mode (same_process at pid q there) ∙ ap (λ (d : Demand). or_else d (full q)) asked))
 
   module _ (asked : first_of (open_asked f mode path) ≡ None) where
     -- all descriptors are used
-    pub slot_refuses : (r : Result Reply Refusal) (errno : Errno) → IsErr r → IsErrAnd r (λ y. y ≡ Failed errno) → Err errno ≡ slot_in desks pid
-        → Performs p pid (Open path f mode) old old desks desks r
+    pub slot_refuses : {time : ℕ} (r : Result Reply Refusal) (errno : Errno) → IsErr r → IsErrAnd r (λ y. y ≡ Failed errno) → Err errno ≡ slot_in desks pid
+        → Performs p time pid (Open path f mode) old old desks desks r
     slot_refuses r errno err and slot = refused_performs r (Failed errno) err and store_same
         (λ s at. why.early (open_firm s pid q path f mode (same_process at pid q there) ∙ ap (λ (d : Demand). or_else d (full q)) asked
         ∙ full_if q errno (sym (slot ∙ slot_of desks pid q there))))
@@ -191,9 +191,9 @@ module _ {p : Place} (pid : ℕ) (path : List ℕ) (f : Flags) (mode : ℕ) (old
 
       module _ (mid : TxnState) (same : IsUnchanged old mid) where
         -- its walk is refused
-        pub walk_refuses : (r : Result Reply Refusal) (e : Refusal) → IsErr r → IsErrAnd r (λ y. y ≡ e)
+        pub walk_refuses : {time : ℕ} (r : Result Reply Refusal) (e : Refusal) → IsErr r → IsErrAnd r (λ y. y ≡ e)
             → ((s : State) → IsStateOf p old.sectors desks s → IsAnswered old.disk mid.disk (walk_of s.room s.tree q.cred 1 (open_form f) q.cwd path) (Err e))
-            → Performs p pid (Open path f mode) old mid desks desks r
+            → Performs p time pid (Open path f mode) old mid desks desks r
         walk_refuses r e err and walks = refused_performs r e err and same.store (λ s at. elim (walks s at) [
           | inl is ↦ why.late (firm s at) (late s at (first_refusal s.tree q.cred 1 (open_form f) (trail_in s.room s.tree q.cwd (open_form f, path))) refl is)
           | inr way ↦ interrupted_refused old.disk mid.disk s pid (Open path f mode) (firm s at) refl e way
@@ -222,20 +222,20 @@ module _ {p : Place} (pid : ℕ) (path : List ℕ) (f : Flags) (mode : ℕ) (old
               ∙ ap (λ (g : Found). first_of (open_demands f (scene_at s q g))) (sym has.is)
 
           -- what it asks of what was found is refused
-          pub demands_refuse : (bytes : IsBytes path) (new : TxnState) (r : Result Reply Refusal) (e : Refusal) → IsErr r → IsErrAnd r (λ y. y ≡ e) → SameStore mid new
+          pub demands_refuse : {time : ℕ} (bytes : IsBytes path) (new : TxnState) (r : Result Reply Refusal) (e : Refusal) → IsErr r → IsErrAnd r (λ y. y ≡ e) → SameStore mid new
               → ((s : State) → FindsIn p mid.sectors f q found s → IsRefusedOpen mid.disk new.disk f q found s e)
-              → Performs p pid (Open path f mode) old new desks desks r
+              → Performs p time pid (Open path f mode) old new desks desks r
           demands_refuse bytes new r e err and store refused = refused_performs r e err and (store_joined same.store store)
               (λ s at. answered_refused old.disk new.disk s pid (Open path f mode) (firm s at) refl e {A = ℕ} (first_of (open_demands f (scene_at s q found))) 0
               (late_is_asked s at) (answered_later new.disk same (refused s (found_in bytes s at))))
 
           -- or it is done
-          pub opens : (bytes : IsBytes path) (table : IsTable desks) (new : TxnState) (now : Desks) → SameStore mid new → new.sectors 0 ≡ mid.sectors 0 → (n : ℕ) (d : Descriptor)
+          pub opens : {time : ℕ} (bytes : IsBytes path) (table : IsTable desks) (new : TxnState) (now : Desks) → SameStore mid new → new.sectors 0 ≡ mid.sectors 0 → (n : ℕ) (d : Descriptor)
               → IsUnused desks pid fd
               → d ≡ record { number = n; offset = 0; read = f.read; write = f.write; append = f.append }
               → now ≡ with_changed desks pid (λ x. with_descriptor x fd d)
-              → ((s : State) → FindsIn p mid.sectors f q found s → Reaches p new.sectors f mode q found s n)
-              → Performs p pid (Open path f mode) old new desks now (Ok (Fd fd))
+              → ((s : State) → FindsIn p mid.sectors f q found s → Reaches p time new.sectors f mode q found s n)
+              → Performs p time pid (Open path f mode) old new desks now (Ok (Fd fd))
           opens bytes table new now store super n d unused d_is now_is reaches = record {
             store = store_joined same.store store;
             super = super ∙ same.sectors 0;
@@ -254,10 +254,10 @@ module _ {p : Place} (pid : ℕ) (path : List ℕ) (f : Flags) (mode : ℕ) (old
                   number = n;
                   change = open_change f mode (scene_at s q found) n;
                   effect = open_after s pid q path f mode here found (open_found s at).is n
-                      ∙ ap (λ (k : ℕ). record { change = open_change f mode (scene_at s q found) n; desks = with_entry nat_cmp s.desks pid (open_process q f k); reply = Fd (least_unused 0 q.descriptors) }) x.number
-                      ∙ ap (λ (k : ℕ). record { change = open_change f mode (scene_at s q found) n; desks = with_entry nat_cmp s.desks pid (with_descriptor q k (record { number = n; offset = 0; read = f.read; write = f.write; append = f.append })); reply = Fd k }) (sym least)
-                      ∙ ap (λ (y : Descriptor). record { change = open_change f mode (scene_at s q found) n; desks = with_entry nat_cmp s.desks pid (with_descriptor q fd y); reply = Fd fd }) (sym d_is)
-                      ∙ ap (λ (y : Desks). record { change = open_change f mode (scene_at s q found) n; desks = y; reply = Fd fd }) entered;
+                      ∙ ap (λ (k : ℕ). record { change = open_change f mode (scene_at s q found) n; desks = with_entry nat_cmp s.desks pid (open_process q f k); reply = Fd (least_unused 0 q.descriptors); now = s.now }) x.number
+                      ∙ ap (λ (k : ℕ). record { change = open_change f mode (scene_at s q found) n; desks = with_entry nat_cmp s.desks pid (with_descriptor q k (record { number = n; offset = 0; read = f.read; write = f.write; append = f.append })); reply = Fd k; now = s.now }) (sym least)
+                      ∙ ap (λ (y : Descriptor). record { change = open_change f mode (scene_at s q found) n; desks = with_entry nat_cmp s.desks pid (with_descriptor q fd y); reply = Fd fd; now = s.now }) (sym d_is)
+                      ∙ ap (λ (y : Desks). record { change = open_change f mode (scene_at s q found) n; desks = y; reply = Fd fd; now = s.now }) entered;
                   new_number = x.new_number;
                   holds = x.holds now (λ k was. subst (λ (y : Desks). IsTrue (is_open y k)) entered
                       (opened_too s.desks pid q fd d k at.is_state.pids here (table.each pid q there).descriptors.rising none was));

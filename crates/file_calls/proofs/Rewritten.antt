@@ -16,6 +16,7 @@ use Rattle.bit_alloc.specs.Inodes.{KeepsFields, KeepsAcls}
 use Rattle.block_map.specs.Contents.{ChangesContent}
 use Rattle.block_map.specs.declared.fault.MapFault.{MapFault}
 use Rattle.block_map.specs.declared.fault.MapFault.TheVariants as map
+use Rattle.fs_model.specs.declared.touch.Touch.TheVariants.{Modified}
 use Rattle.fs_model.specs.TreeChanges.{Rewrite, changed, swept}
 use Rattle.fs_model.specs.Nodes.{Node, bytes_in, with_bytes}
 use Rattle.fs_model.specs.Processes.{Desks, is_open}
@@ -35,13 +36,13 @@ pub bytes_rewritten : {p : Place} {old new : TxnState} {desks : Desks} {s : Stat
     → ((n : ℕ) → IsTrue (is_open s.desks n) → IsTrue (is_open now n)) → (n : ℕ) (node : Node) → node_at s.tree n ≡ Some node
     → (inode_at p old.sectors n).kind ≡ kinds.File → (f : List ℕ → List ℕ) → ChangesBytes p n old new f
     → length (f (bytes_in node.body)) ≤ s.room.file_limit → IsBytes (f (bytes_in node.body))
-    → HoldsAll p new.sectors (placed (swept (changed s.tree (Rewrite n (record node { body = with_bytes (f (bytes_in node.body)) node.body }))) now))
+    → HoldsAll p new.sectors (placed (swept (changed s.tree (Rewrite Modified n (record node { body = with_bytes (f (bytes_in node.body)) node.body }))) now))
 bytes_rewritten {p} {old} {new} {desks} {s} at now still n node there file f c few are =
     let v = inode_at p old.sectors n in
     let w = inode_at p new.sectors n in
     let held = held_node (state_tree at) n node there in
     let bytes = f (bytes_in node.body) in
-    rewrite_held s at.is_state at.up now still p old.sectors at.holds at.same_room new.sectors n node (record node { body = with_bytes bytes node.body }) there
+    rewrite_held s at.is_state at.up now still p old.sectors at.holds at.same_room new.sectors Modified n node (record node { body = with_bytes bytes node.body }) there
     (bytes_may_replace s.room s.tree n node (at.is_state.tree.each n node there) bytes few are) c.inode c.used
     (bytes_held old.sectors new.sectors v w (record { node = node; names = names_of s.tree n; parent = parent s.tree n }) held bytes file c.fields c.acls
     (c.held (bytes_in node.body) (bytes_say p.version old.sectors v node.body file held.body)))

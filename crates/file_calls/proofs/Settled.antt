@@ -75,7 +75,7 @@ umask_absent desks pid mask errno e = go (get nat_cmp desks pid) refl e
     go (Some q) at e = absurd (cc)
 
 module _ (s : State) (pid mask : ℕ) (q : Process) (there : get nat_cmp s.desks pid ≡ Some q) where
-  umask_after : after s (Calls pid (Umask mask)) (chosen 0 0) ≡ record { change = Same; desks = with_entry nat_cmp s.desks pid (with_umask mask q); reply = Mask q.umask }
+  umask_after : after s (Calls pid (Umask mask)) (chosen 0 0) ≡ record { change = Same; desks = with_entry nat_cmp s.desks pid (with_umask mask q); reply = Mask q.umask; now = s.now }
   umask_after = after_is s pid q (Umask mask) there (chosen 0 0) ∙ ap (λ (x : Row). after_call s pid x 0 (Some q)) (umask_is mask)
 
   umask_done : (now : Desks) (old : ℕ) → with_entry nat_cmp s.desks pid (with_umask mask q) ≡ now → q.umask ≡ old → IsSettled s pid (Umask mask) now (Mask old)
@@ -83,8 +83,8 @@ module _ (s : State) (pid mask : ℕ) (q : Process) (there : get nat_cmp s.desks
     early = early_is s pid q (Umask mask) there ∙ ap (early_refusal q) (umask_is mask);
     late = late_is s pid q (Umask mask) there ∙ ap (late_refusal s q) (umask_is mask);
     effect = umask_after
-        ∙ ap (λ (d : Desks). record { change = Same; desks = d; reply = Mask q.umask }) is
-        ∙ ap (λ (m : ℕ). record { change = Same; desks = now; reply = Mask m }) same;
+        ∙ ap (λ (d : Desks). record { change = Same; desks = d; reply = Mask q.umask; now = s.now }) is
+        ∙ ap (λ (m : ℕ). record { change = Same; desks = now; reply = Mask m; now = s.now }) same;
   }
 
 pub umask_settles : (desks now : Desks) (pid mask old : ℕ) → Ok old ≡ answer_of desks pid umask_answer → now ≡ with_changed desks pid (with_umask mask)
@@ -112,11 +112,11 @@ close_by fd = record { row = close_is fd }
 
 -- ---- in a transaction
 
-settled_performs : {p : Place} {pid : ℕ} {call : Call} {old new : TxnState} {before now : Desks} (result : Result Reply Refusal) → IsUnchanged old new
+settled_performs : {p : Place} {time pid : ℕ} {call : Call} {old new : TxnState} {before now : Desks} (result : Result Reply Refusal) → IsUnchanged old new
     → Settles pid call before now result
     → ((s : State) → IsStateOf p old.sectors before s → (reply : Reply) → IsSettled s pid call now reply → swept s.tree now ≡ s.tree)
-    → Performs p pid call old new before now result
-settled_performs {p} {pid} {call} {old} {new} {before} {now} (Ok reply) same settles stays = record {
+    → Performs p time pid call old new before now result
+settled_performs {p} {time} {pid} {call} {old} {new} {before} {now} (Ok reply) same settles stays = record {
   store = same.store;
   super = same.sectors 0;
   table = tt;
@@ -133,7 +133,7 @@ settled_performs {p} {pid} {call} {old} {new} {before} {now} (Ok reply) same set
             (subst (λ m. HoldsAll p m (placed s.tree)) (sym (same_map same)) at.holds);
       };
 }
-settled_performs {p} {pid} {call} {old} {new} {before} {now} (Err r) same settles stays = record {
+settled_performs {p} {time} {pid} {call} {old} {new} {before} {now} (Err r) same settles stays = record {
   store = same.store;
   super = tt;
   table = settles.table;
@@ -153,7 +153,7 @@ umask_stays s pid mask now reply at is = go (get nat_cmp s.desks pid) refl
         open_stays s.room s.tree s.desks now at.is_state.tree (at.is_state.desks at.up)
         (λ n was. ap (λ (x : Desks). is_open x n) (sym entered) ∙ still_open s.desks pid q (with_umask mask q) at.is_state.pids there n refl ∙ was)
 
-pub umask_performs : {p : Place} {pid mask : ℕ} {old new : TxnState} {before now : Desks} (result : Result Reply Refusal) → IsUnchanged old new
-    → Settles pid (Umask mask) before now result → Performs p pid (Umask mask) old new before now result
-umask_performs {p} {pid} {mask} {old} {new} {before} {now} result same settles =
+pub umask_performs : {p : Place} {time pid mask : ℕ} {old new : TxnState} {before now : Desks} (result : Result Reply Refusal) → IsUnchanged old new
+    → Settles pid (Umask mask) before now result → Performs p time pid (Umask mask) old new before now result
+umask_performs {p} {time} {pid} {mask} {old} {new} {before} {now} result same settles =
     settled_performs result same settles (λ s at reply is. umask_stays s pid mask now reply at is)

@@ -16,6 +16,7 @@ use Rattle.fs_layout.specs.Images.{inode_at}
 use Rattle.fs_layout.specs.Version.{max_file_size}
 use Rattle.sector_txn.specs.Sectors.{TxnState}
 use Rattle.fs_model.specs.declared.reply.Reply.TheVariants.{Done}
+use Rattle.fs_model.specs.declared.touch.Touch.TheVariants.{Modified}
 use Rattle.fs_model.specs.declared.walk.Form.TheVariants.{Follow}
 use Rattle.fs_model.specs.declared.walk.Found.{Found}
 use Rattle.fs_model.specs.AttributeCalls.{truncate_demands, truncate_effect}
@@ -127,14 +128,14 @@ module _ {p : Place} {old : TxnState} {desks : Desks} {s : State} {pid : ℕ} {q
   pub size_changed : (new : TxnState) → must_be_there f ≡ None → refuse EISDIR (is_directory_kind v.kind) ≡ None
       → permission_at_end (scene_at s q f) f 1 (perms false true false) ≡ None → refuse EFBIG (nat_lt (max_file_size p.version) size) ≡ None
       → size ≤ max_file_size p.version → v.kind ≡ kinds.File → ChangesBytes p n old new (λ held. resized held size)
-      → IsChange p new.sectors desks s q (truncate_demands size (scene_at s q f)) (truncate_effect size (scene_at s q f)) Done
+      → IsChange p new.sectors desks s q (truncate_demands size (scene_at s q f)) (truncate_effect size (scene_at s q f)) Done ((n, Modified) ∷ [])
   size_changed new there file granted fits few kind c =
       let a = followed_access n at has some in
       let is_file = sym (ap (λ (w : Inode). w.kind) inode) ∙ kind in
       let held = held_node (state_tree at) n a.node a.at in
       let is = (at.is_state.tree).each n a.node a.at in
       let limit = ap (λ (r : Room). r.file_limit) at.same_room in
-      rewrites_found at new.sectors n a.node (resized_node size a.node) a.at
+      rewrites_found at new.sectors Modified n a.node (resized_node size a.node) a.at
       (bytes_may_replace s.room s.tree n a.node is (resized (bytes_in a.node.body) size)
       (let len = length-resized (bytes_in a.node.body) size in omega (arith, len, few, limit))
       (IsBytes-resized (bytes_in a.node.body) size (bytes_are_bytes s.room s.tree a.node.body is.body)))

@@ -21,6 +21,7 @@ use Rattle.fs_layout.proofs.Sectors.{IsBytes-take}
 use Rattle.sector_txn.specs.Sectors.{TxnState}
 use Rattle.fs_model.specs.declared.call.Call.TheVariants.{Write}
 use Rattle.fs_model.specs.declared.reply.Reply.TheVariants.{Wrote}
+use Rattle.fs_model.specs.declared.touch.Touch.TheVariants.{Modified}
 use Rattle.fs_model.specs.TreeChanges.{Rewrite}
 use Rattle.fs_model.specs.Demands.{refuse, first_of}
 use Rattle.fs_model.specs.DescriptorCalls.{write_row, write_demands, write_effect, write_offset, written}
@@ -158,7 +159,7 @@ module _ {p : Place} {map : SectorMap} {desks : Desks} {pid fd : ℕ} {d : Descr
         effect_at n node place limit =
             let count = min (length bytes) (min move_limit (limit - place)) in
             record {
-              change = Rewrite n (written node place (take count bytes));
+              change = Rewrite Modified n (written node place (take count bytes));
               process = with_offset o.process fd (place + count);
               reply = Wrote count;
             }
@@ -181,7 +182,7 @@ module _ {p : Place} {old new : TxnState} {desks : Desks} {pid fd : ℕ} {d : De
     (now : Desks) (still : (n : ℕ) → IsTrue (is_open s.desks n) → IsTrue (is_open now n))
     (c : ChangesBytes p d.number old new (λ held. overwritten held offset (take count bytes))) where
   pub writes : IsChange p new.sectors now s (with_offset o.process fd (offset + count)) (write_demands fd bytes (open_scene s o.process))
-      (λ k. write_effect fd bytes (open_scene s o.process)) (Wrote count)
+      (λ k. write_effect fd bytes (open_scene s o.process)) (Wrote count) ((d.number, Modified) ∷ [])
   writes =
       let x = open_fits o s at in
       let body = (at.is_state.tree.each d.number x.node x.is_there).body in
@@ -190,10 +191,11 @@ module _ {p : Place} {old new : TxnState} {desks : Desks} {pid fd : ℕ} {d : De
       record {
         met = all_met o s at wrote v is offset offset_is bytes some near enough;
         number = 0;
-        change = Rewrite d.number (written x.node offset (take count bytes));
+        change = Rewrite Modified d.number (written x.node offset (take count bytes));
         is = effect_is o s at wrote v is offset offset_is bytes some near
-            ∙ ap (λ (k : ℕ). record { change = Rewrite d.number (written x.node offset (take k bytes)); process = with_offset o.process fd (offset + k); reply = Wrote k }) (sym counted);
+            ∙ ap (λ (k : ℕ). record { change = Rewrite Modified d.number (written x.node offset (take k bytes)); process = with_offset o.process fd (offset + k); reply = Wrote k }) (sym counted);
         new_number = tt;
+        times = refl;
         holds = bytes_rewritten at now still d.number x.node x.is_there (file_kind o s at wrote) (λ held. overwritten held offset (take count bytes)) c
             (length-overwritten (bytes_in x.node.body) offset (take count bytes) s.room.file_limit (bytes_are_few s.room s.tree x.node.body body) (omega (arith, len, counted, limit, near)))
             (IsBytes-overwritten (bytes_in x.node.body) offset (take count bytes) (bytes_are_bytes s.room s.tree x.node.body body) (IsBytes-take count bytes fresh));

@@ -29,7 +29,7 @@ use Rattle.call_parts.specs.Dropping.{LeavesInode}
 pub record IsExited (p : Place) (map : SectorMap) (desks : Desks) (s : State) (pid : ℕ) : Type 0 where
   pub early : firm_refusal s (Exit pid) ≡ None
   pub late : other_refusal s (Exit pid) ≡ None
-  pub effect : after s (Exit pid) (chosen 0 0) ≡ record { change = Same; desks = desks; reply = Done }
+  pub effect : after s (Exit pid) (chosen 0 0) ≡ record { change = Same; desks = desks; reply = Done; now = s.now }
   pub holds : HoldsAll p map (placed (swept s.tree desks))
 
 -- It is refused: there is no such process, or a read failed.

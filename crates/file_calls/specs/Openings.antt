@@ -4,7 +4,7 @@
 --     found_asked        asked of what stands at a number
 --     FindsIn        a state in which a process has found this
 --     IsRefusedOpen        what it asks of that refuses it
---     Reaches        nothing refuses it then, and the map holds the tree after it
+--     Reaches        nothing refuses it then, and the map holds the tree after it, in which times have moved
 use Rattle.std.specs.Prelude.{◌≡◌, ℕ, false, not, ◌&&◌, ◌||◌, List, [], ◌∷◌, ◌++◌, None, unwrap_or, IsTrue, Ok, Err}
 use Rattle.sector_disk.specs.Disk.{DiskState}
 use Rattle.fs_cred.specs.declared.refusal.Refusal.{Refusal}
@@ -16,7 +16,7 @@ use Rattle.fs_layout.specs.Bytes.{SectorMap, IsBytes}
 use Rattle.fs_model.specs.declared.call.Flags.{Flags}
 use Rattle.fs_model.specs.declared.walk.Found.{Found}
 use Rattle.fs_model.specs.Births.{the_node}
-use Rattle.fs_model.specs.TreeChanges.{changed, swept}
+use Rattle.fs_model.specs.TreeChanges.{changed, touches, touched, swept}
 use Rattle.fs_model.specs.Demands.{Demand, refuse, first_of, perms, permission_on}
 use Rattle.fs_model.specs.Nodes.{is_directory, is_link}
 use Rattle.fs_model.specs.OpenCall.{open_arguments, open_form, open_demands, open_change}
@@ -65,10 +65,11 @@ pub record FindsIn (p : Place) (map : SectorMap) (flags : Flags) (q : Process) (
 abbrev pub IsRefusedOpen : DiskState → DiskState → Flags → Process → Found → State → Refusal → Type 0
 IsRefusedOpen old new flags q f s e = IsAnswered old new (refused_or {A = ℕ} (first_of (open_demands flags (scene_at s q f))) (Ok 0)) (Err e)
 
--- n is what is opened
-pub record Reaches (p : Place) (map : SectorMap) (flags : Flags) (mode : ℕ) (q : Process) (f : Found) (s : State) (n : ℕ) : Type 0 where
+-- n is what is opened, at this time
+pub record Reaches (p : Place) (time : ℕ) (map : SectorMap) (flags : Flags) (mode : ℕ) (q : Process) (f : Found) (s : State) (n : ℕ) : Type 0 where
   pub met : first_of (open_demands flags (scene_at s q f)) ≡ None
   pub number : unwrap_or f.ino n ≡ n
   pub new_number : HasNewNumber s (open_change flags mode (scene_at s q f) n)
   pub holds : (now : Desks) → ((k : ℕ) → IsTrue (is_open s.desks k) → IsTrue (is_open now k))
-      → HoldsAll p map (placed (swept (changed s.tree (open_change flags mode (scene_at s q f) n)) now))
+      → HoldsAll p map (placed (touched time (touches s.room s.tree (open_change flags mode (scene_at s q f) n))
+      (swept (changed s.tree (open_change flags mode (scene_at s q f) n)) now)))

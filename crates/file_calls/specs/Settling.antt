@@ -16,7 +16,7 @@ use Rattle.call_parts.specs.Performing.{chosen}
 pub record IsSettled (s : State) (pid : ℕ) (call : Call) (now : Desks) (reply : Reply) : Type 0 where
   pub early : firm_refusal s (Calls pid call) ≡ None
   pub late : other_refusal s (Calls pid call) ≡ None
-  pub effect : after s (Calls pid call) (chosen 0 0) ≡ record { change = Same; desks = now; reply = reply }
+  pub effect : after s (Calls pid call) (chosen 0 0) ≡ record { change = Same; desks = now; reply = reply; now = s.now }
 
 -- A call of process pid, in every state that has this table. At `Err` the table is as it was.
 pub record Settles (pid : ℕ) (call : Call) (before now : Desks) (result : Result Reply Refusal) : Type 0 where

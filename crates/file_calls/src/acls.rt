@@ -10,15 +10,16 @@ ghost use Rattle.fs_model.specs.AttributeCalls.{acl_shown, needs_sector, set_acl
 ghost use Rattle.fs_model.specs.Demands.{first_of};
 ghost use Rattle.fs_model.specs.Nodes.{Body, default_in};
 ghost use Rattle.path_walk.specs.Words.{inode_at, free_sectors, SameStore, IsUnchanged, HasBitmaps, IsSound, HasSpare, HasAcl, acl_takes, IsInodeOf, refused_or, Interrupts, IsAnswered};
+ghost use Rattle.bit_alloc.specs.Room.{TakesSpare};
 ghost use Rattle.call_parts.specs.Performing.{IsReadyFor, PerformsFor};
 ghost use Rattle.call_parts.specs.Asked.{holder_asked, acl_space_asked};
 ghost use Rattle.call_parts.specs.Given.{SavesAcl, SavesDefaultAcl, HasBody};
 ghost use Rattle.call_parts.specs.UsedInode.{IsUsedInode};
 
-use call_parts::{CallResult, Caller, ask_for_sectors, default_of, reach, reach_owned};
+use call_parts::{CallResult, Caller, ask_for_sectors, default_of, reach, reach_owned, touch};
 use fs_cred::{Errno, Refusal};
 use fs_layout::{Inode, Kind, Place};
-use fs_model::{AclType, Form, Path, Reply};
+use fs_model::{AclType, Form, Path, Reply, Touch};
 use inode_table::{LoadAclFault, load_acl, save_acl, save_default_acl};
 use posix_acl::Acl;
 use sector_txn::Sectors;
@@ -57,6 +58,7 @@ pub(crate) fn give_acl<S: Sectors>(
     requires spare { HasSpare place 2 (S.state s.old) }
     requires room { acl_takes inode.now.acl (kept_acl acl.now) ≤ free_sectors place (S.state s.old).sectors }
     ensures given { OnOk result (SavesAcl place n inode.now.mode acl.now (S.state s.old).sectors (S.state s.new).sectors) }
+    ensures taken { OnOk result (TakesSpare place 2 (S.state s.old) (S.state s.new)) }
     ensures store { SameStore (S.state s.old) (S.state s.new) }
     ensures interrupts { IfErr result (Interrupts (S.state s.old).disk (S.state s.new).disk) }
 {
@@ -75,7 +77,8 @@ fn shown_default<S: Sectors>(
     requires sound { IsSound caller.now.place (S.state s.old) }
     requires there { IsInodeOf caller.now.place (S.state s.old).sectors inode.now }
     requires has { (b : Body) × HasBody caller.now.place.version (S.state s.old).sectors inode.now b }
-    ensures found { IfOk result (λ acl. (b : Body) → HasBody caller.now.place.version (S.state s.old).sectors inode.now b → acl ≡ default_in b) }
+    ensures found { IfOk result (λ acl. (b : Body) → HasBody caller.now.place.version (S.state s.old).sectors inode.now b
+        → acl ≡ default_in b) }
     ensures same { IsUnchanged (S.state s.old) (S.state s.new) }
     ensures interrupts { IfErr result (Interrupts (S.state s.old).disk (S.state s.new).disk) }
 {
@@ -96,7 +99,8 @@ fn shown_acl<S: Sectors>(
     requires sound { IsSound caller.now.place (S.state s.old) }
     requires there { IsInodeOf caller.now.place (S.state s.old).sectors inode.now }
     requires has { (b : Body) × HasBody caller.now.place.version (S.state s.old).sectors inode.now b }
-    ensures found { IfOk result (λ acl. (b : Body) → HasBody caller.now.place.version (S.state s.old).sectors inode.now b → acl ≡ acl_shown which b) }
+    ensures found { IfOk result (λ acl. (b : Body) → HasBody caller.now.place.version (S.state s.old).sectors inode.now b
+        → acl ≡ acl_shown which b) }
     ensures same { IsUnchanged (S.state s.old) (S.state s.new) }
     ensures interrupts { IfErr result (Interrupts (S.state s.old).disk (S.state s.new).disk) }
 {
@@ -184,6 +188,7 @@ fn give_default_acl<S: Sectors>(
     requires spare { HasSpare place 2 (S.state s.old) }
     requires room { acl_takes inode.now.default_acl (option_copied acl) ≤ free_sectors place (S.state s.old).sectors }
     ensures given { OnOk result (SavesDefaultAcl place n (option_copied acl.entry) (S.state s.old).sectors (S.state s.new).sectors) }
+    ensures taken { OnOk result (TakesSpare place 2 (S.state s.old) (S.state s.new)) }
     ensures store { SameStore (S.state s.old) (S.state s.new) }
     ensures interrupts { IfErr result (Interrupts (S.state s.old).disk (S.state s.new).disk) }
 {
@@ -210,6 +215,7 @@ fn replace_acl<S: Sectors>(
         → SavesAcl place n inode.now.mode a (S.state s.old).sectors (S.state s.new).sectors) }
     ensures default { OnOk result (which ≡ AclType.Default
         → SavesDefaultAcl place n (option_copied acl.entry) (S.state s.old).sectors (S.state s.new).sectors) }
+    ensures taken { OnOk result (TakesSpare place 2 (S.state s.old) (S.state s.new)) }
     ensures store { SameStore (S.state s.old) (S.state s.new) }
     ensures interrupts { IfErr result (Interrupts (S.state s.old).disk (S.state s.new).disk) }
 {
@@ -238,6 +244,8 @@ pub fn set_acl<S: Sectors>(
     let inode = reached.inode;
     check_holder(which, inode.kind)?;
     ask_for_space(s, caller.place, which, acl)?;
-    replace_acl(s, caller.place, reached.number, &inode, which, acl)?;
+    let n = reached.number;
+    replace_acl(s, caller.place, n, &inode, which, acl)?;
+    touch(s, caller.place, caller.time, &[(n, Touch::Changed)])?;
     Ok(Reply::Done)
 }

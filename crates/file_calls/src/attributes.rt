@@ -5,18 +5,19 @@ ghost use Rattle.fs_model.specs.Demands.{first_of};
 ghost use Rattle.posix_acl.specs.AccessList.{AccessList, with_mode_bits};
 ghost use Rattle.fs_model.specs.declared.call.Call.TheVariants.{Chmod, Chown};
 ghost use Rattle.path_walk.specs.Words.{inode_at, SameStore, IsSound, HasSpare, HasAcl, refused_or, Interrupts};
+ghost use Rattle.bit_alloc.specs.Room.{TakesSpare};
 ghost use Rattle.call_parts.specs.Performing.{IsReadyFor, PerformsFor};
 ghost use Rattle.call_parts.specs.Asked.{owner_asked};
 ghost use Rattle.call_parts.specs.Given.{GivesOwner, SavesAcl, special_mode};
 ghost use Rattle.call_parts.specs.UsedInode.{IsUsedInode};
 
 use crate::acls::{acl_of, give_acl};
-use call_parts::{CallResult, Caller, allowed_by, check_mode, reach, reach_owned};
+use call_parts::{CallResult, Caller, allowed_by, check_mode, reach, reach_owned, touch};
 use fs_cred::{
     Cred, Errno, Need, Refusal, keeps_set_group_id, may_chgrp, may_chown, owns_or_may_chown,
 };
 use fs_layout::{Inode, Kind, Place, S_ISGID, S_ISVTX};
-use fs_model::{Form, Path, Reply};
+use fs_model::{Form, Path, Reply, Touch};
 use inode_table::save;
 use sector_txn::Sectors;
 
@@ -42,6 +43,7 @@ fn give_owner<S: Sectors>(
     requires loaded { IsUsedInode place (S.state s.old) n inode.now }
     requires spare { HasSpare place 1 (S.state s.old) }
     ensures given { OnOk result (GivesOwner place n uid gid (S.state s.old).sectors (S.state s.new).sectors) }
+    ensures taken { OnOk result (TakesSpare place 1 (S.state s.old) (S.state s.new)) }
     ensures store { SameStore (S.state s.old) (S.state s.new) }
     ensures interrupts { IfErr result (Interrupts (S.state s.old).disk (S.state s.new).disk) }
 {
@@ -83,6 +85,7 @@ fn give_mode<S: Sectors>(
     ensures given { OnOk result ((a : AccessList) → HasAcl (S.state s.old).sectors inode.now a
         → SavesAcl caller.now.place n (special_mode cred.now inode.now.kind inode.now.gid mode) (with_mode_bits a mode)
         (S.state s.old).sectors (S.state s.new).sectors) }
+    ensures taken { OnOk result (TakesSpare caller.now.place 2 (S.state s.old) (S.state s.new)) }
     ensures store { SameStore (S.state s.old) (S.state s.new) }
     ensures interrupts { IfErr result (Interrupts (S.state s.old).disk (S.state s.new).disk) }
 {
@@ -109,6 +112,7 @@ pub fn chmod<S: Sectors>(s: &mut S, caller: &Caller, path: &Path, mode: u16) -> 
     let cred = reached.process.cred();
     let n = reached.number;
     give_mode(s, caller, cred, n, &reached.inode, mode)?;
+    touch(s, caller.place, caller.time, &[(n, Touch::Changed)])?;
     Ok(Reply::Done)
 }
 
@@ -132,6 +136,8 @@ pub fn chown<S: Sectors>(
     let uid = owner.unwrap_or(inode.uid);
     let gid = group.unwrap_or(inode.gid);
     check_owner(cred, &inode, uid, gid, reached.found.step)?;
-    give_owner(s, caller.place, reached.number, &inode, uid, gid)?;
+    let number = reached.number;
+    give_owner(s, caller.place, number, &inode, uid, gid)?;
+    touch(s, caller.place, caller.time, &[(number, Touch::Changed)])?;
     Ok(Reply::Done)
 }

@@ -56,7 +56,8 @@ fn list_names<S: Sectors>(
     requires sound { IsSound caller.now.place (S.state s.old) }
     requires there { IsInodeOf caller.now.place (S.state s.old).sectors inode.now }
     requires directory { (names : List (List ℕ × ℕ)) × HasNames caller.now.place.version (S.state s.old).sectors inode.now names }
-    ensures found { IfOk result (λ found. (names : List (List ℕ × ℕ)) → HasNames caller.now.place.version (S.state s.old).sectors inode.now names
+    ensures found { IfOk result (λ found. (names : List (List ℕ × ℕ))
+        → HasNames caller.now.place.version (S.state s.old).sectors inode.now names
         → found ≡ (codes ".", n) ∷ (codes "..", inode.now.parent) ∷ names) }
     ensures fault { IfErr result (λ e. Interrupts (S.state s.old).disk (S.state s.new).disk e) }
     ensures same { IsUnchanged (S.state s.old) (S.state s.new) }

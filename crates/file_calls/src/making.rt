@@ -7,14 +7,15 @@ ghost use Rattle.fs_model.specs.Demands.{refuse};
 ghost use Rattle.fs_model.specs.States.{State};
 ghost use Rattle.fs_model.specs.Trees.{Tree};
 ghost use Rattle.path_walk.specs.Words.{inode_at, SameStore, IsUnchanged, IsSound, HasSpare, HasDefaultAcl, IsInodeOf, refused_or, FailsToRead, Interrupts};
+ghost use Rattle.bit_alloc.specs.Room.{TakesSpare};
 ghost use Rattle.call_parts.specs.Makings.{CanMake};
 ghost use Rattle.call_parts.specs.NewNodes.{MakesNode, file_made};
 ghost use Rattle.file_calls.specs.Openings.{FindsIn, IsRefusedOpen, Reaches};
 
-use call_parts::{Caller, check_make, default_of, inherited, name_inode, new_group};
+use call_parts::{Caller, check_make, default_of, inherited, name_inode, new_group, touch};
 use fs_cred::{Errno, Refusal};
 use fs_layout::{Inode, Kind, Place};
-use fs_model::{Flags, Found};
+use fs_model::{Flags, Found, Touch};
 use inode_table::new_inode;
 use open_files::Process;
 use posix_acl::Acl;
@@ -59,6 +60,7 @@ fn make_file<S: Sectors>(
     ensures store { SameStore (S.state s.old) (S.state s.new) }
     ensures made { IfOk result (λ n. MakesNode place dir name.now n (file_made uid gid acl.now)
         (S.state s.old).sectors (S.state s.new).sectors) }
+    ensures taken { OnOk result (TakesSpare place 7 (S.state s.old) (S.state s.new)) }
     ensures err { IfErr result (FailsToRead (S.state s.old).disk (S.state s.new).disk) }
 {
     let file = Inode {
@@ -101,7 +103,7 @@ pub(crate) fn open_new<S: Sectors>(
     ensures store { SameStore (S.state s.old) (S.state s.new) }
     ensures superblock { OnOk result ((S.state s.new).sectors 0 ≡ (S.state s.old).sectors 0) }
     ensures each { (st : State) → FindsIn caller.now.place (S.state s.old).sectors flags process.now found.now st
-        → MatchResult result (λ m. Reaches caller.now.place (S.state s.new).sectors flags mode process.now found.now st m)
+        → MatchResult result (λ m. Reaches caller.now.place caller.now.time (S.state s.new).sectors flags mode process.now found.now st m)
         (λ e. IsRefusedOpen (S.state s.old).disk (S.state s.new).disk flags process.now found.now st e) }
 {
     check_new(flags, found)?;
@@ -113,5 +115,11 @@ pub(crate) fn open_new<S: Sectors>(
     let name = found.name.bytes();
     let uid = cred.uid();
     let n = make_file(s, caller.place, found.dir, directory, name, uid, gid, &acl)?;
+    touch(
+        s,
+        caller.place,
+        caller.time,
+        &[(found.dir, Touch::Modified), (n, Touch::Born)],
+    )?;
     Ok(n)
 }

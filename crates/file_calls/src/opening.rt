@@ -15,10 +15,10 @@ ghost use Rattle.file_calls.specs.Openings.{open_asked, open_kind_asked, found_a
 
 use crate::making::open_new;
 use crate::sizes::give_size;
-use call_parts::{CallResult, Caller, permitted};
+use call_parts::{CallResult, Caller, permitted, touch};
 use fs_cred::{Cred, Errno, Refusal};
 use fs_layout::{Inode, Kind, Place};
-use fs_model::{Flags, Form, Found, Path, Reply};
+use fs_model::{Flags, Form, Found, Path, Reply, Touch};
 use open_files::{Descriptor, Process, Procs};
 use path_walk::{check_path, ends_with_slash, load_inode, walk};
 use posix_acl::Perms;
@@ -149,7 +149,7 @@ fn open_old<S: Sectors>(
     ensures store { SameStore (S.state s.old) (S.state s.new) }
     ensures superblock { OnOk result ((S.state s.new).sectors 0 ≡ (S.state s.old).sectors 0) }
     ensures each { (mode : ℕ) (st : State) → FindsIn caller.now.place (S.state s.old).sectors flags process.now found.now st
-        → MatchResult result (λ m. Reaches caller.now.place (S.state s.new).sectors flags mode process.now found.now st m)
+        → MatchResult result (λ m. Reaches caller.now.place caller.now.time (S.state s.new).sectors flags mode process.now found.now st m)
         (λ e. IsRefusedOpen (S.state s.old).disk (S.state s.new).disk flags process.now found.now st e) }
 {
     let inode = check_found(s, caller, process.cred(), n, found.step, flags)?;
@@ -158,6 +158,7 @@ fn open_old<S: Sectors>(
         return Ok(n);
     }
     give_size(s, caller.place, n, inode, 0)?;
+    touch(s, caller.place, caller.time, &[(n, Touch::Modified)])?;
     Ok(n)
 }
 
@@ -176,7 +177,7 @@ fn open_inode<S: Sectors>(
     ensures store { SameStore (S.state s.old) (S.state s.new) }
     ensures superblock { OnOk result ((S.state s.new).sectors 0 ≡ (S.state s.old).sectors 0) }
     ensures each { (st : State) → FindsIn caller.now.place (S.state s.old).sectors flags process.now found.now st
-        → MatchResult result (λ m. Reaches caller.now.place (S.state s.new).sectors flags mode process.now found.now st m)
+        → MatchResult result (λ m. Reaches caller.now.place caller.now.time (S.state s.new).sectors flags mode process.now found.now st m)
         (λ e. IsRefusedOpen (S.state s.old).disk (S.state s.new).disk flags process.now found.now st e) }
 {
     match found.ino {
@@ -195,6 +196,7 @@ pub fn open<S: Sectors>(
     alloc: Global,
     s: &mut S,
     place: Place,
+    now: u64,
     procs: &mut Procs,
     pid: usize,
     path: &Path,
@@ -202,11 +204,12 @@ pub fn open<S: Sectors>(
     mode: u16,
 ) -> CallResult
     requires ready { IsReady place (S.state s.old) procs.old }
-    ensures { Performs place pid (Open path.now flags mode) (S.state s.old) (S.state s.new) procs.old procs.new result }
+    ensures { Performs place now pid (Open path.now flags mode) (S.state s.old) (S.state s.new) procs.old procs.new result }
 {
     let caller = Caller {
         alloc,
         place,
+        time: now,
         procs,
         pid,
     };

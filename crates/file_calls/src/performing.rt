@@ -20,32 +20,36 @@ use open_files::Procs;
 use sector_txn::Sectors;
 use std::alloc::Global;
 
-/// Performs a call on a file, a descriptor or a process. `None`: it is a call on names, and nothing is done.
+/// Performs a call on a file, a descriptor or a process, at this time. `None`: it is a call on names, and nothing is done.
 pub fn perform<S: Sectors>(
     alloc: Global,
     s: &mut S,
     place: Place,
+    now: u64,
     procs: &mut Procs,
     pid: usize,
     call: &Call,
 ) -> Option<CallResult>
     requires ready { IsReady place (S.state s.old) procs.old }
     ensures { MatchOption result (IsTrue (is_on_names call.now) × (s.new ≡ s.old) × (procs.new ≡ procs.old))
-        (λ r. Performs place pid call.now (S.state s.old) (S.state s.new) procs.old procs.new r) }
+        (λ r. Performs place now pid call.now (S.state s.old) (S.state s.new) procs.old procs.new r) }
 {
     let caller = Caller {
         alloc,
         place,
+        time: now,
         procs,
         pid,
     };
     match call {
         Call::Open(path, flags, mode) => Some(open(
-            alloc, s, place, procs, pid, path, *flags, *mode,
+            alloc, s, place, now, procs, pid, path, *flags, *mode,
         )),
-        Call::Read { fd, len } => Some(read(alloc, s, place, procs, pid, *fd, *len)),
-        Call::Write(fd, bytes) => Some(write(s, place, procs, pid, *fd, bytes)),
-        Call::Lseek(fd, whence, by) => Some(lseek(alloc, s, place, procs, pid, *fd, *whence, *by)),
+        Call::Read { fd, len } => Some(read(alloc, s, place, now, procs, pid, *fd, *len)),
+        Call::Write(fd, bytes) => Some(write(s, place, now, procs, pid, *fd, bytes)),
+        Call::Lseek(fd, whence, by) => Some(lseek(
+            alloc, s, place, now, procs, pid, *fd, *whence, *by,
+        )),
         Call::Close(fd) => Some(close(s, place, procs, pid, *fd)),
         Call::Fstat(fd) => Some(fstat(s, &caller, *fd)),
         Call::Ftruncate(fd, size) => Some(ftruncate(s, &caller, *fd, *size)),

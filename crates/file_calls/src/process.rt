@@ -1,5 +1,6 @@
 //! What a process changes of itself: POSIX.1-2017, umask() and close().
 
+ghost use Rattle.std.specs.Prelude.{ℕ};
 ghost use Rattle.fs_model.specs.declared.call.Call.TheVariants.{Umask, Close};
 ghost use Rattle.call_parts.specs.Performing.{IsReady, Performs};
 ghost use Rattle.file_calls.specs.Settling.{Settles};
@@ -18,7 +19,7 @@ pub fn umask(procs: &mut Procs, pid: usize, mask: u16) -> CallResult
     Ok(Reply::Mask(old))
 }
 
-/// Closes a descriptor. What it was for is freed, where nothing names it and nobody else has it open.
+/// Closes a descriptor. What it was for is freed, where nothing names it and nobody else has it open. It moves no time.
 ///
 /// EBADF: it isn't open.
 pub fn close<S: Sectors>(
@@ -29,7 +30,7 @@ pub fn close<S: Sectors>(
     fd: usize,
 ) -> CallResult
     requires ready { IsReady place (S.state s.old) procs.old }
-    ensures { Performs place pid (Close fd) (S.state s.old) (S.state s.new) procs.old procs.new result }
+    ensures { (time : ℕ) → Performs place time pid (Close fd) (S.state s.old) (S.state s.new) procs.old procs.new result }
 {
     let descriptor = find_open(procs, pid, fd, OpenFor::Anything)?;
     let n = descriptor.number;

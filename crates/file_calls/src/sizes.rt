@@ -7,16 +7,17 @@ ghost use Rattle.fs_layout.specs.Bytes.{resized};
 ghost use Rattle.fs_model.specs.Demands.{refuse};
 ghost use Rattle.fs_model.specs.declared.call.Call.TheVariants.{Truncate, Ftruncate};
 ghost use Rattle.path_walk.specs.Words.{inode_at, SameStore, IsSound, HasSpare, refused_or, FailsToRead};
+ghost use Rattle.bit_alloc.specs.Room.{TakesSpare};
 ghost use Rattle.call_parts.specs.Performing.{IsReadyFor, PerformsFor};
 ghost use Rattle.call_parts.specs.ByteChanges.{ChangesBytes};
 
 use block_map::set_size;
 use call_parts::{
-    CallResult, Caller, OpenFor, check_no_directory, permitted, reach, reach_open, refuse_if,
+    CallResult, Caller, OpenFor, check_no_directory, permitted, reach, reach_open, refuse_if, touch,
 };
 use fs_cred::{Errno, Refusal};
 use fs_layout::{Inode, Kind, Place};
-use fs_model::{Form, Path, Reply};
+use fs_model::{Form, Path, Reply, Touch};
 use posix_acl::Perms;
 use sector_txn::Sectors;
 
@@ -48,6 +49,7 @@ pub(crate) fn give_size<S: Sectors>(
     requires fits { size ≤ max_file_size place.version }
     requires spare { HasSpare place 4 (S.state s.old) }
     ensures change { OnOk result (ChangesBytes place n (S.state s.old) (S.state s.new) (λ held. resized held size)) }
+    ensures taken { OnOk result (TakesSpare place 4 (S.state s.old) (S.state s.new)) }
     ensures store { SameStore (S.state s.old) (S.state s.new) }
     ensures fault { IfErr result (FailsToRead (S.state s.old).disk (S.state s.new).disk) }
 {
@@ -72,7 +74,9 @@ pub fn truncate<S: Sectors>(s: &mut S, caller: &Caller, path: &Path, size: u64) 
     let step = reached.found.step;
     permitted(s, caller, cred, &inode, WRITE, 1, step)?;
     check_size(caller.place, size)?;
-    give_size(s, caller.place, reached.number, inode, size)?;
+    let n = reached.number;
+    give_size(s, caller.place, n, inode, size)?;
+    touch(s, caller.place, caller.time, &[(n, Touch::Modified)])?;
     Ok(Reply::Done)
 }
 
@@ -85,6 +89,8 @@ pub fn ftruncate<S: Sectors>(s: &mut S, caller: &Caller, fd: usize, size: u64) -
 {
     let (descriptor, inode) = reach_open(s, caller, fd, OpenFor::Writing)?;
     check_size(caller.place, size)?;
-    give_size(s, caller.place, descriptor.number, inode, size)?;
+    let n = descriptor.number;
+    give_size(s, caller.place, n, inode, size)?;
+    touch(s, caller.place, caller.time, &[(n, Touch::Modified)])?;
     Ok(Reply::Done)
 }

@@ -57,18 +57,20 @@ pub fn read<S: Sectors>(
     alloc: Global,
     s: &mut S,
     place: Place,
+    now: u64,
     procs: &mut Procs,
     pid: usize,
     fd: usize,
     len: usize,
 ) -> CallResult
     requires ready { IsReady place (S.state s.old) procs.old }
-    ensures performs { Performs place pid (Read fd len) (S.state s.old) (S.state s.new) procs.old procs.new result }
+    ensures performs { Performs place now pid (Read fd len) (S.state s.old) (S.state s.new) procs.old procs.new result }
     ensures same { IsUnchanged (S.state s.old) (S.state s.new) }
 {
     let caller = Caller {
         alloc,
         place,
+        time: now,
         procs,
         pid,
     };
@@ -113,6 +115,7 @@ pub fn lseek<S: Sectors>(
     alloc: Global,
     s: &mut S,
     place: Place,
+    now: u64,
     procs: &mut Procs,
     pid: usize,
     fd: usize,
@@ -120,12 +123,13 @@ pub fn lseek<S: Sectors>(
     by: i64,
 ) -> CallResult
     requires ready { IsReady place (S.state s.old) procs.old }
-    ensures performs { Performs place pid (Lseek fd whence by) (S.state s.old) (S.state s.new) procs.old procs.new result }
+    ensures performs { Performs place now pid (Lseek fd whence by) (S.state s.old) (S.state s.new) procs.old procs.new result }
     ensures same { IsUnchanged (S.state s.old) (S.state s.new) }
 {
     let caller = Caller {
         alloc,
         place,
+        time: now,
         procs,
         pid,
     };

@@ -7,15 +7,16 @@ ghost use Rattle.fs_layout.specs.Bytes.{overwritten};
 ghost use Rattle.fs_model.specs.Limits.{least_free, move_limit};
 ghost use Rattle.fs_model.specs.declared.call.Call.TheVariants.{Write};
 ghost use Rattle.path_walk.specs.Words.{inode_at, free_sectors, SameStore, IsSound, HasSpare, FailsToRead};
+ghost use Rattle.bit_alloc.specs.Room.{TakesSpare};
 ghost use Rattle.call_parts.specs.Performing.{IsReady, Performs};
 ghost use Rattle.call_parts.specs.ByteChanges.{ChangesBytes};
 
 use crate::transfer::MAX_MOVE;
 use block_map::write_at;
-use call_parts::{CallResult, OpenFor, ask_for_sectors, find_open};
+use call_parts::{CallResult, OpenFor, ask_for_sectors, find_open, touch};
 use fs_cred::{Errno, Refusal};
 use fs_layout::{Inode, Place};
-use fs_model::{Bytes, Reply};
+use fs_model::{Bytes, Reply, Touch};
 use open_files::{Descriptor, Procs};
 use path_walk::load_inode;
 use sector_txn::Sectors;
@@ -48,6 +49,7 @@ fn write_bytes<S: Sectors>(
     requires spare { HasSpare place 47 (S.state s.old) }
     ensures store { SameStore (S.state s.old) (S.state s.new) }
     ensures change { OnOk result (ChangesBytes place n (S.state s.old) (S.state s.new) (λ held. overwritten held offset bytes.now)) }
+    ensures taken { OnOk result (TakesSpare place 13 (S.state s.old) (S.state s.new)) }
     ensures err { IfErr result (FailsToRead (S.state s.old).disk (S.state s.new).disk) }
 {
     let mut inode = inode;
@@ -69,20 +71,21 @@ fn write_offset(descriptor: Descriptor, inode: &Inode) -> u64
 }
 
 /// Writes bytes from the offset of a descriptor on, with O_APPEND from the end of its file on: at most 4,096 of them, and as
-/// many as fit. Zeros fill what lies between the end and these. The offset moves behind them.
+/// many as fit. Zeros fill what lies between the end and these. The offset moves behind them, and the file is modified.
 ///
 /// EBADF: it isn't open for writing. EFBIG: nothing fits. ENOSPC: fewer than 16 data sectors are free. To write nothing is
 /// never refused.
 pub fn write<S: Sectors>(
     s: &mut S,
     place: Place,
+    now: u64,
     procs: &mut Procs,
     pid: usize,
     fd: usize,
     bytes: &Bytes,
 ) -> CallResult
     requires ready { IsReady place (S.state s.old) procs.old }
-    ensures { Performs place pid (Write fd bytes.now) (S.state s.old) (S.state s.new) procs.old procs.new result }
+    ensures { Performs place now pid (Write fd bytes.now) (S.state s.old) (S.state s.new) procs.old procs.new result }
 {
     let descriptor = find_open(procs, pid, fd, OpenFor::Writing)?;
     let bytes = bytes.bytes();
@@ -99,6 +102,7 @@ pub fn write<S: Sectors>(
     ask_for_sectors(s, place)?;
     let count = write_count(place, bytes.len(), offset);
     write_bytes(s, place, n, inode, offset, &bytes[..count])?;
+    touch(s, place, now, &[(n, Touch::Modified)])?;
     procs.seek(pid, fd, offset + count as u64);
     Ok(Reply::Wrote(count))
 }

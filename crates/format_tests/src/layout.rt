@@ -12,7 +12,7 @@ enum Part {
     NextSuper,
     Commit,
     Inode,
-    // An inode of any version.
+    // An inode of any version; the file has times in it.
     AnyInode,
     Slot,
     // The first and the second slot of a sector in the version with the longest names.
@@ -61,6 +61,17 @@ const FILE: Inode = Inode {
     direct: [146, 0, 0, 0, 0, 0, 0, 0, 0, 0, 0, 147],
     indirect: 300,
     double_indirect: 301,
+    mtime: 0,
+    ctime: 0,
+    atime: 0,
+};
+
+// Modified 1,700,000,000.5 seconds after 1970 began, changed a nanosecond later, and read at the last time that there is.
+const TIMED_FILE: Inode = Inode {
+    mtime: 1700000000500000000,
+    ctime: 1700000000500000001,
+    atime: 0xffffffffffffffff,
+    ..FILE
 };
 
 const TARGETS: [u32; 2] = [128, 1000];
@@ -93,6 +104,14 @@ const FILE_BYTES: &[u8] = &[
     0, 0, 0, 0, 0, 0, 0, 0x92, 0, 0, 0, 0, 0, 0, 0, 0, 0, 0, 0, 0, 0, 0, 0, 0, 0, 0, 0, 0, 0, 0, 0,
     0, 0, 0, 0, 0, 0, 0, 0, 0, 0, 0, 0, 0, 0, 0, 0, 0, 0, 0, 0, 0x93, 0, 0, 0, 0x2c, 1, 0, 0, 0x2d,
     1,
+];
+
+const TIMED_BYTES: &[u8] = &[
+    1, 0, 0xa4, 1, 0xe8, 3, 0, 0, 4, 3, 2, 1, 2, 0, 0, 0, 1, 2, 0, 0, 0, 0, 0, 0, 0, 0, 0, 0, 0xc8,
+    0, 0, 0, 0, 0, 0, 0, 0x92, 0, 0, 0, 0, 0, 0, 0, 0, 0, 0, 0, 0, 0, 0, 0, 0, 0, 0, 0, 0, 0, 0, 0,
+    0, 0, 0, 0, 0, 0, 0, 0, 0, 0, 0, 0, 0, 0, 0, 0, 0, 0, 0, 0, 0x93, 0, 0, 0, 0x2c, 1, 0, 0, 0x2d,
+    1, 0, 0, 0, 0, 0, 0, 0, 0x65, 0xf7, 0x53, 0xfe, 0x9c, 0x97, 0x17, 1, 0x65, 0xf7, 0x53, 0xfe,
+    0x9c, 0x97, 0x17, 0xff, 0xff, 0xff, 0xff, 0xff, 0xff, 0xff, 0xff,
 ];
 
 const LARGEST_FILE: &[u8] = &[
@@ -160,6 +179,13 @@ fn written_file() -> [u8; 512] {
     sector
 }
 
+#[tactic(auto, unfolding(fs_layout::specs::Inode::inode_fits))]
+fn written_timed_file() -> [u8; 512] {
+    let mut sector = [0xff; 512];
+    TIMED_FILE.write_to(&mut sector, 128);
+    sector
+}
+
 fn written_slot(name: &[u8]) -> [u8; 512] {
     let mut sector = [0xff; 512];
     if is_name(name) && name.len() <= Version::Two.max_name() {
@@ -210,7 +236,7 @@ fn is_read_again(part: Part) -> bool {
             Err(_) => false,
         },
         Part::Inode => Inode::read_from(&sector_of(part, FILE_BYTES), 128) == Ok(FILE),
-        Part::AnyInode => Inode::read_any(&sector_of(part, FILE_BYTES), 128) == Ok(FILE),
+        Part::AnyInode => Inode::read_any(&sector_of(part, TIMED_BYTES), 128) == Ok(TIMED_FILE),
         Part::Slot | Part::LongSlot | Part::NextLongSlot => {
             is_slot(part, &sector_of(part, SLOT_BYTES), b"hello".as_slice())
         }
@@ -242,7 +268,7 @@ fn structures_are_as_the_format_says(rt: HostRuntime) {
             COMMIT_BYTES,
         ),
         (Part::Inode, written_file(), FILE_BYTES),
-        (Part::AnyInode, written_file(), FILE_BYTES),
+        (Part::AnyInode, written_timed_file(), TIMED_BYTES),
         (Part::Slot, written_slot(b"hello".as_slice()), SLOT_BYTES),
         (
             Part::LongSlot,
@@ -263,7 +289,7 @@ fn structures_are_as_the_format_says(rt: HostRuntime) {
 
 // What is read of a part's bytes where some of them are changed: the first that is, the one past the last, and their
 // new value.
-static READS: [(Part, &[u8], usize, usize, u8, Option<LayoutFault>); 94] = [
+static READS: [(Part, &[u8], usize, usize, u8, Option<LayoutFault>); 104] = [
     (Part::Super, SUPER_BYTES, 0, 0, 0, None),
     (Part::Super, SUPER_BYTES, 0, 1, 0x48, Some(BadMagic)),
     (Part::Super, SUPER_BYTES, 3, 4, 0, Some(BadMagic)),
@@ -310,7 +336,15 @@ static READS: [(Part, &[u8], usize, usize, u8, Option<LayoutFault>); 94] = [
     (Part::Inode, LARGEST_FILE, 88, 89, 1, None),
     (Part::Inode, LARGEST_FILE, 91, 92, 1, None),
     (Part::Inode, LARGEST_FILE, 92, 93, 1, Some(NotZero)),
+    (Part::Inode, LARGEST_FILE, 96, 97, 1, Some(NotZero)),
+    (Part::Inode, LARGEST_FILE, 119, 120, 1, Some(NotZero)),
     (Part::Inode, LARGEST_FILE, 127, 128, 1, Some(NotZero)),
+    (Part::Inode, TIMED_BYTES, 0, 0, 0, Some(NotZero)),
+    (Part::AnyInode, FILE_BYTES, 0, 0, 0, None),
+    (Part::AnyInode, TIMED_BYTES, 95, 96, 1, Some(NotZero)),
+    (Part::AnyInode, TIMED_BYTES, 96, 120, 0x80, None),
+    (Part::AnyInode, TIMED_BYTES, 120, 121, 1, Some(NotZero)),
+    (Part::AnyInode, TIMED_BYTES, 127, 128, 1, Some(NotZero)),
     (Part::Inode, LARGEST_FILE, 0, 128, 5, Some(BadKind)),
     (Part::Inode, DIRECTORY, 0, 0, 0, None),
     (Part::Inode, DIRECTORY, 3, 4, 0x0f, Some(BadNumber)),
@@ -319,6 +353,7 @@ static READS: [(Part, &[u8], usize, usize, u8, Option<LayoutFault>); 94] = [
     (Part::Inode, FULL_DIRECTORY, 0, 0, 0, None),
     (Part::Inode, FULL_DIRECTORY, 16, 17, 0x80, Some(BadNumber)),
     (Part::Inode, LARGEST_DIRECTORY, 0, 0, 0, Some(BadNumber)),
+    (Part::Inode, LARGEST_DIRECTORY, 96, 97, 1, Some(BadNumber)),
     (Part::AnyInode, FULL_DIRECTORY, 16, 17, 0x80, None),
     (
         Part::AnyInode,
@@ -349,6 +384,7 @@ static READS: [(Part, &[u8], usize, usize, u8, Option<LayoutFault>); 94] = [
     (Part::Inode, &[], 2, 3, 1, Some(NotZero)),
     (Part::Inode, &[], 16, 17, 1, Some(NotZero)),
     (Part::Inode, &[], 127, 128, 1, Some(NotZero)),
+    (Part::AnyInode, &[], 96, 97, 1, Some(NotZero)),
     (Part::Slot, SLOT_BYTES, 0, 0, 0, None),
     (Part::Slot, SLOT_BYTES, 4, 5, 0, Some(BadNumber)),
     (Part::Slot, SLOT_BYTES, 4, 5, 121, Some(BadNumber)),

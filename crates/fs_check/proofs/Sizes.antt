@@ -9,7 +9,7 @@ use Rattle.fs_layout.specs.declared.fault.LayoutFault.TheVariants.{BadNumber, No
 use Rattle.fs_layout.specs.declared.place.Place.{Place}
 use Rattle.fs_layout.specs.Bytes.{SectorMap, zeros, u16_of, u64_of, are_zero}
 use Rattle.fs_layout.specs.Images.{stored, inode_at}
-use Rattle.fs_layout.specs.Inode.{inode_of, inode_if, inode_fits, kind_of, fields_of, fields_end}
+use Rattle.fs_layout.specs.Inode.{inode_of, inode_if, inode_fits, kind_of, fields_of, gaps_are_zero}
 use Rattle.fs_layout.proofs.Codecs.{held, same_ok}
 use Rattle.fs_layout.proofs.Fields.{are_zero-zeros}
 use Rattle.fs_layout.proofs.SplicedBytes.{get_or-zeros}
@@ -31,17 +31,17 @@ record IsRead (s : List ℕ) (v : Inode) : Type 0 where
   fits : inode_fits v ≡ true
   free : v.kind ≡ kinds.Free → v.size ≡ 0
 
-read_if : (o : Option Kind) (s : List ℕ) (v : Inode) → inode_if inode_fits o s ≡ Ok v → IsRead s v
+read_if : (o : Option Kind) (s : List ℕ) (v : Inode) → inode_if inode_fits gaps_are_zero o s ≡ Ok v → IsRead s v
 read_if None s v e = absurd cc
 read_if (Some kind) s v e =
-    let a = held (inode_fits (fields_of kind s)) (cond (are_zero (drop (fields_end kind) s)) (Ok (fields_of kind s)) (Err NotZero)) BadNumber v e in
-    let b = held (are_zero (drop (fields_end kind) s)) (Ok (fields_of kind s)) NotZero v a.1 in
+    let a = held (inode_fits (fields_of kind s)) (cond (gaps_are_zero kind s) (Ok (fields_of kind s)) (Err NotZero)) BadNumber v e in
+    let b = held (gaps_are_zero kind s) (Ok (fields_of kind s)) NotZero v a.1 in
     let same : fields_of kind s ≡ v = same_ok (fields_of kind s) v (Ok (fields_of kind s)) refl b.1 in
     record {
       fits = sym (ap inode_fits same) ∙ a.0;
       free = λ free.
           let is : kind ≡ kinds.Free = ap (λ (u : Inode). u.kind) same ∙ free in
-          let all : are_zero s ≡ true = subst (λ (q : Kind). are_zero (drop (fields_end q) s) ≡ true) is b.0 in
+          let all : are_zero s ≡ true = subst (λ (q : Kind). gaps_are_zero q s ≡ true) is b.0 in
           sym (ap (λ (u : Inode). u.size) same) ∙ ap (λ (q : List ℕ). u64_of q 16) (are_zero-zeros s all) ∙ zero_number (length s) 16;
     }
 

@@ -1,6 +1,6 @@
 -- What directories name, counted.
 use Rattle.std.specs.Prelude.{◌≡◌, ◌≢◌, ℕ, zero, suc, ◌+◌, ◌*◌, ◌/◌, ◌<◌, ◌≤◌, ◌^◌, ◌==◌, MatchOption, Bool, true, false, cond, List, [], length, get_or, take}
-use Rattle.std.specs.Prelude.{drop, set, count_by, sum_by, Option, Some, None, Ok, Err, IsTrue, ◌↔◌}
+use Rattle.std.specs.Prelude.{set, count_by, sum_by, Option, Some, None, Ok, Err, IsTrue, ◌↔◌}
 use Rattle.std.specs.List.{range_with_len}
 use Rattle.std.specs.Option.{is_some}
 use Rattle.std.proofs.Common.{refl, sym, ap, arith, ◌∙◌, subst, inl, inr, get_or-set_other, get_or-set_same, length-set}
@@ -16,9 +16,9 @@ use Rattle.fs_layout.specs.declared.inode.Kind.TheVariants as kinds
 use Rattle.fs_layout.specs.declared.place.Place.{Place}
 use Rattle.fs_layout.specs.declared.version.Version.{Version}
 use Rattle.fs_layout.specs.declared.version.Version.TheVariants.{One, Two, Three}
-use Rattle.fs_layout.specs.Bytes.{SectorMap, are_zero, u16_of}
+use Rattle.fs_layout.specs.Bytes.{SectorMap, u16_of}
 use Rattle.fs_layout.specs.Version.{max_inodes}
-use Rattle.fs_layout.specs.Inode.{inode_of, inode_if, inode_fits, fields_of, fields_end, kind_of}
+use Rattle.fs_layout.specs.Inode.{inode_of, inode_if, inode_fits, fields_of, gaps_are_zero, kind_of}
 use Rattle.fs_layout.specs.Images.{stored, inode_at}
 use Rattle.fs_layout.specs.Directories.{NamedInode, HaveDistinctNames, slot_count, slot_at}
 use Rattle.fs_layout.proofs.ImageSlots.{slots_of, naming-slots_of}
@@ -93,9 +93,9 @@ held kind s v true true fits e = let same : fields_of kind s ≡ v = same_ok (fi
 held kind s v true false fits e = absurd cc
 held kind s v false z fits e = absurd cc
 
-fits_if : (o : Option Kind) (s : List ℕ) (v : Inode) → inode_if inode_fits o s ≡ Ok v → IsTrue (inode_fits v)
+fits_if : (o : Option Kind) (s : List ℕ) (v : Inode) → inode_if inode_fits gaps_are_zero o s ≡ Ok v → IsTrue (inode_fits v)
 fits_if None s v e = absurd cc
-fits_if (Some kind) s v e = held kind s v (inode_fits (fields_of kind s)) (are_zero (drop (fields_end kind) s)) refl e
+fits_if (Some kind) s v e = held kind s v (inode_fits (fields_of kind s)) (gaps_are_zero kind s) refl e
 
 read_fits : (s : List ℕ) (v : Inode) → inode_of s ≡ Ok v → IsTrue (inode_fits v)
 unfolding inode_of

@@ -6,7 +6,9 @@ ghost use Rattle.fs_layout.specs.declared.inode.Kind.TheVariants.{Free, Director
 ghost use Rattle.fs_layout.specs.Bytes.{window};
 ghost use Rattle.fs_layout.specs.Inode.{inode_of};
 ghost use Rattle.fs_layout.specs.Version.{max_directory_size, slot_size};
+ghost use Rattle.fs_model.specs.Nodes.{no_stamps};
 ghost use Rattle.fs_model.specs.Rules.{IsAllowed, ObeysEach, Inodes};
+ghost use Rattle.fs_model.specs.StoredStamps.{stamps_in};
 ghost use Rattle.fs_check.specs.Checks.{meaning, BeginsWith, AreInodes, Passed, IsNone, IsLeast};
 ghost use Rattle.fs_check.specs.TableSectors.{IsTableSector};
 
@@ -25,6 +27,14 @@ fn is_directory_size(version: Version, size: u64) -> bool
     size <= version.max_directory_size() && size % version.slot_size() as u64 == 0
 }
 
+// None of the inode's times is known.
+#[tactic(auto, unfolding(fs_model::specs::StoredStamps::stamps_in))]
+fn has_no_times(inode: &Inode) -> bool
+    ensures { IsTrue result ↔ (stamps_in inode.now ≡ no_stamps) }
+{
+    inode.mtime == 0 && inode.ctime == 0 && inode.atime == 0
+}
+
 // The inode is one of a disk of this version.
 fn is_allowed(inode: &Inode, version: Version) -> bool
     ensures { IsTrue result ↔ IsAllowed version inode.now }
@@ -34,6 +44,9 @@ fn is_allowed(inode: &Inode, version: Version) -> bool
         return false;
     }
     if inode.kind == Kind::Directory && !is_directory_size(version, inode.size) {
+        return false;
+    }
+    if !version.keeps_times() && !has_no_times(inode) {
         return false;
     }
     inode.double_indirect == 0 || 512 * INDIRECT_END < most

@@ -80,6 +80,9 @@ fn root_sector() -> [u8; 512]
         direct: [0; 12],
         indirect: 0,
         double_indirect: 0,
+        mtime: 0,
+        ctime: 0,
+        atime: 0,
     };
     let mut content = [0; 512];
     root.write_to(&mut content, 128);

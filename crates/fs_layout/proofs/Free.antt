@@ -86,6 +86,9 @@ free_fits = record {
   direct = λ i. let e : get_or (zeros DIRECT_BLOCKS) i 0 ≡ 0 = get_or-zeros DIRECT_BLOCKS i in omega (arith, e);
   indirect = omega arith;
   double_indirect = omega arith;
+  mtime = omega arith;
+  ctime = omega arith;
+  atime = omega arith;
 }
 
 -- A used inode without sectors becomes free, or a free one used: what is owned does not change.

@@ -140,7 +140,11 @@ IsBytes-slot_bytes version v f =
 
 pub IsBytes-inode_bytes : (v : Inode) → IsBytes (inode_bytes v)
 IsBytes-inode_bytes v =
-    let last = IsBytes-append (le32 v.double_indirect) (zeros 36) (IsBytes-le32 v.double_indirect) (IsBytes-zeros 36) in
+    let access = IsBytes-append (le64 v.atime) (zeros 8) (IsBytes-le64 v.atime) (IsBytes-zeros 8) in
+    let change = IsBytes-append (le64 v.ctime) _ (IsBytes-le64 v.ctime) access in
+    let modification = IsBytes-append (le64 v.mtime) _ (IsBytes-le64 v.mtime) change in
+    let times = IsBytes-append (zeros 4) _ (IsBytes-zeros 4) modification in
+    let last = IsBytes-append (le32 v.double_indirect) _ (IsBytes-le32 v.double_indirect) times in
     let front = IsBytes-append (le32 v.indirect) _ (IsBytes-le32 v.indirect) last in
     let e9 = IsBytes-append (le32s v.direct) _ (IsBytes-le32s v.direct) front in
     let e8 = IsBytes-append (le32 v.default_acl) _ (IsBytes-le32 v.default_acl) e9 in

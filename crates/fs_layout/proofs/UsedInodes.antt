@@ -1,4 +1,4 @@
--- What an inode in use fits: its numbers, and those of its blocks.
+-- What an inode in use fits: its numbers, those of its blocks, and its times.
 use Rattle.std.proofs.Common.{◌≡◌, ◌≢◌, ℕ, ◌^◌, ◌<◌, List, length, get_or, set, refl, ap, ◌∙◌, arith, inl, inr, IsTrue}
 use Rattle.std.proofs.lemmas.Bool.{cases_eq, cases_lt}
 use Rattle.std.proofs.lemmas.Bool.Decides.{nat_tests}
@@ -21,10 +21,19 @@ pub record FitsBlocks (direct : List ℕ) (indirect double_indirect : ℕ) : Typ
 pub blocks_fit : {v : Inode} → FitsInode v → FitsBlocks v.direct v.indirect v.double_indirect
 blocks_fit fits = record { direct_len = fits.direct_len; direct_small = fits.direct; indirect_small = fits.indirect; double_small = fits.double_indirect }
 
+-- and its times
+pub record FitsTimes (mtime ctime atime : ℕ) : Type 0 where
+  pub mtime_small : mtime < 2 ^ 64
+  pub ctime_small : ctime < 2 ^ 64
+  pub atime_small : atime < 2 ^ 64
+
+pub times_fit : {v : Inode} → FitsInode v → FitsTimes v.mtime v.ctime v.atime
+times_fit fits = record { mtime_small = fits.mtime; ctime_small = fits.ctime; atime_small = fits.atime }
+
 -- An inode in use fits its fields where mode and size are in the range of its kind, and each number is small.
 pub used_fits : {v : Inode} → v.kind ≢ Free → IsTrue (inode_fits v) → v.mode < 2 ^ 16 → v.uid < 2 ^ 32 → v.gid < 2 ^ 32 → v.names < 2 ^ 32 → v.size < 2 ^ 64
-    → v.parent < 2 ^ 32 → v.acl < 2 ^ 32 → v.default_acl < 2 ^ 32 → FitsBlocks v.direct v.indirect v.double_indirect → FitsInode v
-used_fits used numbers mode uid gid names size parent acl default_acl blocks = record {
+    → v.parent < 2 ^ 32 → v.acl < 2 ^ 32 → v.default_acl < 2 ^ 32 → FitsBlocks v.direct v.indirect v.double_indirect → FitsTimes v.mtime v.ctime v.atime → FitsInode v
+used_fits used numbers mode uid gid names size parent acl default_acl blocks times = record {
   valid = record { numbers = numbers; free = λ e. absurd (used e) };
   mode = mode;
   uid = uid;
@@ -38,6 +47,9 @@ used_fits used numbers mode uid gid names size parent acl default_acl blocks = r
   direct = blocks.direct_small;
   indirect = blocks.indirect_small;
   double_indirect = blocks.double_small;
+  mtime = times.mtime_small;
+  ctime = times.ctime_small;
+  atime = times.atime_small;
 }
 
 -- ---- a free inode is put to use
@@ -53,14 +65,21 @@ pub made_fits : {kind : Kind} {mode uid gid names size parent : ℕ} → kind �
 unfolding inode_fits
 made_fits {kind} {mode} {size = size} used numbers uid gid names parent =
     let small = numbers_small kind mode size used numbers in
-    used_fits used numbers small.0 uid gid names small.1 parent free_fits.acl free_fits.default_acl (blocks_fit free_fits)
+    used_fits used numbers small.0 uid gid names small.1 parent free_fits.acl free_fits.default_acl (blocks_fit free_fits) (times_fit free_fits)
+
+-- ---- an inode gets other times
+pub with_times_fits : {v : Inode} {mtime ctime atime : ℕ} → FitsInode v → v.kind ≢ Free → FitsTimes mtime ctime atime
+    → FitsInode (record v { mtime = mtime; ctime = ctime; atime = atime })
+unfolding inode_fits
+with_times_fits fits used times =
+    used_fits used fits.valid.numbers fits.mode fits.uid fits.gid fits.names fits.size fits.parent fits.acl fits.default_acl (blocks_fit fits) times
 
 -- ---- an inode gets other blocks
 pub with_blocks_fits : {v : Inode} {direct : List ℕ} {indirect double_indirect : ℕ} → FitsInode v → v.kind ≢ Free → FitsBlocks direct indirect double_indirect
     → FitsInode (record v { direct = direct; indirect = indirect; double_indirect = double_indirect })
 unfolding inode_fits
 with_blocks_fits fits used blocks =
-    used_fits used fits.valid.numbers fits.mode fits.uid fits.gid fits.names fits.size fits.parent fits.acl fits.default_acl blocks
+    used_fits used fits.valid.numbers fits.mode fits.uid fits.gid fits.names fits.size fits.parent fits.acl fits.default_acl blocks (times_fit fits)
 
 -- another direct block
 pub with_direct_fits : (v : Inode) (k s : ℕ) → FitsInode v → v.kind ≢ Free → s < 2 ^ 32 → FitsInode (with_direct v k s)

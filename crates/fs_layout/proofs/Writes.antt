@@ -10,7 +10,7 @@ use native.Mathlib.Numerals.{unary_clauses}
 use Rattle.std.proofs.Common.{add-one}
 use borrow.Rule.Slice.PartMut.{put_mid}
 use Rattle.fs_layout.specs.Bytes.{splice, le16, le32, le64, le32s, zeros, u32_of, u32s_of}
-use Rattle.fs_layout.specs.Inode.{inode_bytes}
+use Rattle.fs_layout.specs.Inode.{inode_bytes, times_bytes}
 
 pub put_is_splice : (s new x : List ℕ) (at n : ℕ) → length x ≡ n → new ≡ x ++ drop n (take (length s - at) (drop at s))
     → at ≤ length s → put_mid at (length s - at) s new ≡ splice s at x
@@ -124,8 +124,8 @@ unfolding zeros
 length-zeros n = length-replicate n 0
 
 pub length-inode_bytes : (v : Inode) → length v.direct ≡ DIRECT_BLOCKS → length (inode_bytes v) ≡ INODE_SIZE
-unfolding le16 le32 le64
-length-inode_bytes v d = omega (arith, length-le32s v.direct, length-append (le32s v.direct) (le32 v.indirect ++ (le32 v.double_indirect ++ zeros 36)), length-zeros 36)
+unfolding le16 le32 le64 zeros
+length-inode_bytes v d = omega (arith, length-le32s v.direct, length-append (le32s v.direct) (le32 v.indirect ++ (le32 v.double_indirect ++ times_bytes v)))
 
 pub put_step : (s t u a x : List ℕ) (at next : ℕ) → at + length a ≤ length s → next ≡ at + length a → t ≡ splice s at a
     → u ≡ splice t next x → u ≡ splice s at (a ++ x)

@@ -1,5 +1,5 @@
 -- An inode, 128 bytes in the inode table: its bytes, and what bytes are read as.
-use Rattle.std.specs.Prelude.{ℕ, zero, suc, ◌<◌, ◌^◌, ◌≡◌, ◌%◌, ◌++◌, List, length, get_or, drop, Result, Ok, Err, Option, Some, None, Bool, true, nat_eq, nat_le, if◌then◌else◌, ◌&&◌, IsTrue}
+use Rattle.std.specs.Prelude.{ℕ, zero, suc, ◌<◌, ◌^◌, ◌≡◌, ◌%◌, ◌++◌, List, length, get_or, Result, Ok, Err, Option, Some, None, Bool, true, nat_eq, nat_le, if◌then◌else◌, ◌&&◌, IsTrue}
 use Rattle.fs_layout.specs.declared.inode.Kind.{Kind}
 use Rattle.fs_layout.specs.declared.inode.Kind.TheVariants.{Free, File, Directory, Link}
 use Rattle.fs_layout.specs.declared.inode.Inode.{Inode}
@@ -8,7 +8,7 @@ use Rattle.fs_layout.specs.declared.fault.LayoutFault.TheVariants.{BadKind, BadN
 use Rattle.fs_layout.specs.declared.inode.TheConstants.{DIRECT_BLOCKS, MAX_FILE_SIZE, MAX_DIRECTORY_SIZE, MAX_LINK_SIZE, OLDER_DIRECTORY_SIZE}
 use Rattle.fs_layout.specs.declared.inode.TheConstants.Inode.{FREE}
 use Rattle.fs_layout.specs.declared.slot.TheConstants.{SLOT_SIZE}
-use Rattle.fs_layout.specs.Bytes.{le16, le32, le64, le32s, zeros, u16_of, u32_of, u64_of, u32s_of, are_zero}
+use Rattle.fs_layout.specs.Bytes.{le16, le32, le64, le32s, zeros, u16_of, u32_of, u64_of, u32s_of, are_zero, window}
 
 abbrev pub kind_number : Kind → ℕ
 kind_number Free = 0
@@ -23,11 +23,15 @@ kind_of (suc (suc zero)) = Some Directory
 kind_of (suc (suc (suc zero))) = Some Link
 kind_of (suc (suc (suc (suc n)))) = None
 
--- the fields one after the other, and zeros
+-- the times, with zeros before and after them
+abbrev pub times_bytes : Inode → List ℕ
+times_bytes v = zeros 4 ++ (le64 v.mtime ++ (le64 v.ctime ++ (le64 v.atime ++ zeros 8)))
+
+-- the fields one after the other
 abbrev pub inode_bytes : Inode → List ℕ
 inode_bytes v =
     le16 (kind_number v.kind) ++ (le16 v.mode ++ (le32 v.uid ++ (le32 v.gid ++ (le32 v.names ++ (le64 v.size
-    ++ (le32 v.parent ++ (le32 v.acl ++ (le32 v.default_acl ++ (le32s v.direct ++ (le32 v.indirect ++ (le32 v.double_indirect ++ zeros 36)))))))))))
+    ++ (le32 v.parent ++ (le32 v.acl ++ (le32 v.default_acl ++ (le32s v.direct ++ (le32 v.indirect ++ (le32 v.double_indirect ++ times_bytes v)))))))))))
 
 -- mode and size are in the range of the kind, in the version that allows most
 abbrev pub numbers_fit : Kind → ℕ → ℕ → Bool
@@ -63,6 +67,9 @@ pub record FitsInode (v : Inode) : Type 0 where
   pub direct : (i : ℕ) → get_or v.direct i 0 < 2 ^ 32
   pub indirect : v.indirect < 2 ^ 32
   pub double_indirect : v.double_indirect < 2 ^ 32
+  pub mtime : v.mtime < 2 ^ 64
+  pub ctime : v.ctime < 2 ^ 64
+  pub atime : v.atime < 2 ^ 64
 
 abbrev pub fields_of : Kind → List ℕ → Inode
 fields_of kind s = record {
@@ -78,14 +85,21 @@ fields_of kind s = record {
   direct = u32s_of s 36 DIRECT_BLOCKS;
   indirect = u32_of s 84;
   double_indirect = u32_of s 88;
+  mtime = u64_of s 96;
+  ctime = u64_of s 104;
+  atime = u64_of s 112;
 }
 
--- from here on the bytes are zero: of a free inode all of them, of another one those past its fields
-abbrev pub fields_end : Kind → ℕ
-fields_end Free = 0
-fields_end File = 92
-fields_end Directory = 92
-fields_end Link = 92
+-- the bytes of no field are zero: of a free inode all of them, of another one those before and after its times
+abbrev pub gaps_are_zero : Kind → List ℕ → Bool
+gaps_are_zero Free s = are_zero s
+gaps_are_zero File s = are_zero (window s 92 4) && are_zero (window s 120 8)
+gaps_are_zero Directory s = are_zero (window s 92 4) && are_zero (window s 120 8)
+gaps_are_zero Link s = are_zero (window s 92 4) && are_zero (window s 120 8)
+
+-- and in versions 1 and 2 those of the times too
+abbrev pub older_gaps_are_zero : Kind → List ℕ → Bool
+older_gaps_are_zero kind s = gaps_are_zero kind s && are_zero (window s 92 36)
 
 -- a directory has no more bytes than versions 1 and 2 allow
 abbrev pub is_small_directory : Kind → ℕ → Bool
@@ -98,23 +112,26 @@ is_small_directory Link size = true
 unfoldable pub older_inode_fits : Inode → Bool
 older_inode_fits v = inode_fits v && is_small_directory v.kind v.size
 
--- that, and each number fits its field
+-- that, each number fits its field, and no time is known
 pub record FitsOlderInode (v : Inode) : Type 0 where
   pub fields : FitsInode v
   pub older : IsTrue (older_inode_fits v)
+  pub mtime : v.mtime ≡ 0
+  pub ctime : v.ctime ≡ 0
+  pub atime : v.atime ≡ 0
 
--- the inode of this kind that bytes are, if it fits, or the first fault
-abbrev pub inode_if : (Inode → Bool) → Option Kind → List ℕ → Result Inode LayoutFault
-inode_if fits None s = Err BadKind
-inode_if fits (Some kind) s =
+-- the inode of this kind that bytes are, if it fits and they are zero where they have to be, or the first fault
+abbrev pub inode_if : (Inode → Bool) → (Kind → List ℕ → Bool) → Option Kind → List ℕ → Result Inode LayoutFault
+inode_if fits zero_in None s = Err BadKind
+inode_if fits zero_in (Some kind) s =
     if fits (fields_of kind s) then
-    (if are_zero (drop (fields_end kind) s) then Ok (fields_of kind s) else Err NotZero)
+    (if zero_in kind s then Ok (fields_of kind s) else Err NotZero)
     else Err BadNumber
 
 -- the inode that 128 bytes are, or the first fault
 unfoldable pub inode_of : List ℕ → Result Inode LayoutFault
-inode_of s = inode_if inode_fits (kind_of (u16_of s 0)) s
+inode_of s = inode_if inode_fits gaps_are_zero (kind_of (u16_of s 0)) s
 
 -- the inode that they are in versions 1 and 2, or the first fault
 unfoldable pub older_inode_of : List ℕ → Result Inode LayoutFault
-older_inode_of s = inode_if older_inode_fits (kind_of (u16_of s 0)) s
+older_inode_of s = inode_if older_inode_fits older_gaps_are_zero (kind_of (u16_of s 0)) s

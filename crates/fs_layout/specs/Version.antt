@@ -5,7 +5,8 @@
 --     max_name, max_names, max_inode_names        the most bytes of a name, names of a directory, and names of a file or link
 --     slot_size, block_slots        the bytes of a slot of a directory, and how many a block has
 --     max_directory_size        the most bytes of a directory
-use Rattle.std.specs.Prelude.{ℕ, zero, suc, ◌+◌, ◌*◌, Option, Some, None}
+--     keeps_times        whether inodes have times
+use Rattle.std.specs.Prelude.{ℕ, zero, suc, ◌+◌, ◌*◌, Option, Some, None, Bool, true, false}
 use Rattle.fs_layout.specs.declared.version.Version.{Version}
 use Rattle.fs_layout.specs.declared.version.Version.TheVariants.{One, Two, Three}
 use Rattle.fs_layout.specs.declared.inode.TheConstants.{INDIRECT_END, DOUBLE_INDIRECT_END}
@@ -63,3 +64,8 @@ block_slots Three = 2
 
 abbrev pub max_directory_size : Version → ℕ
 max_directory_size version = slot_size version * max_names version
+
+abbrev pub keeps_times : Version → Bool
+keeps_times One = false
+keeps_times Two = false
+keeps_times Three = true

@@ -3,7 +3,7 @@
 ghost use Rattle.std.specs.Prelude.{◌≡◌, ◌≤◌, ◌+◌, ℕ, length, IfOk, Ok};
 ghost use Rattle.fs_layout.specs.Bytes.{SectorMap, splice, window};
 ghost use Rattle.fs_layout.specs.Images.{pointer, number_on, HasPointersAbove, number_in};
-ghost use Rattle.fs_layout.specs.Inode.{inode_bytes, inode_of, older_inode_of, inode_fits, kind_number, kind_of, fields_end, IsInode, FitsInode, FitsOlderInode};
+ghost use Rattle.fs_layout.specs.Inode.{inode_bytes, inode_of, older_inode_of, inode_fits, kind_number, kind_of, gaps_are_zero, IsInode, FitsInode, FitsOlderInode};
 
 use crate::bytes::{
     are_zero, get_u32s, put_u16, put_u32, put_u32s, put_u64, put_zeros, u16_at, u32_at, u64_at,
@@ -75,12 +75,16 @@ impl Kind {
         }
     }
 
-    fn fields_end(self) -> usize
-        ensures { result ≡ fields_end self }
+    // The bytes of no field are zero.
+    fn gaps_are_zero(self, from: &[u8]) -> bool
+        requires { length from.now ≡ INODE_SIZE }
+        ensures { result ≡ gaps_are_zero self from.now }
     {
         match self {
-            Kind::Free => 0,
-            Kind::File | Kind::Directory | Kind::Link => 92,
+            Kind::Free => are_zero(from),
+            Kind::File | Kind::Directory | Kind::Link => {
+                are_zero(&from[92..96]) && are_zero(&from[120..128])
+            }
         }
     }
 
@@ -97,8 +101,8 @@ impl Kind {
     }
 }
 
-/// An inode's fields. Its bytes say no more than that kind, mode and size go together: names, parent and sector
-/// numbers may be any.
+/// An inode's fields. Its bytes say no more than that kind, mode and size go together: names, parent, times and sector
+/// numbers may be any. A time counts the nanoseconds since 1970-01-01; 0 says that it isn't known.
 #[derive(Clone, Copy, PartialEq, Eq)]
 pub struct Inode {
     pub kind: Kind,
@@ -126,6 +130,12 @@ pub struct Inode {
     pub indirect: u32,
     /// The sector that lists [`SECTOR_POINTERS`] such sectors, for the blocks from [`INDIRECT_END`] on, or 0.
     pub double_indirect: u32,
+    /// When the bytes of a file, or the names of a directory, last changed.
+    pub mtime: u64,
+    /// When anything of the inode last changed.
+    pub ctime: u64,
+    /// When it was last read, as far as that is kept.
+    pub atime: u64,
 }
 
 impl Inode {
@@ -143,6 +153,9 @@ impl Inode {
         direct: [0; DIRECT_BLOCKS as usize],
         indirect: 0,
         double_indirect: 0,
+        mtime: 0,
+        ctime: 0,
+        atime: 0,
     };
 
     #[tactic(auto, unfolding(crate::specs::Inode::inode_fits))]
@@ -175,7 +188,11 @@ impl Inode {
         put_u32s(to, 36, &self.direct);
         put_u32(to, 84, self.indirect);
         put_u32(to, 88, self.double_indirect);
-        put_zeros(to, 92, 36);
+        put_zeros(to, 92, 4);
+        put_u64(to, 96, self.mtime);
+        put_u64(to, 104, self.ctime);
+        put_u64(to, 112, self.atime);
+        put_zeros(to, 120, 8);
     }
 
     #[tactic(auto, unfolding(crate::specs::Inode::inode_of))]
@@ -201,17 +218,20 @@ impl Inode {
             direct,
             indirect: u32_at(from, 84),
             double_indirect: u32_at(from, 88),
+            mtime: u64_at(from, 96),
+            ctime: u64_at(from, 104),
+            atime: u64_at(from, 112),
         };
         if !inode.fits() {
             return Err(LayoutFault::BadNumber);
         }
-        if !are_zero(&from[kind.fields_end()..]) {
+        if !kind.gaps_are_zero(from) {
             return Err(LayoutFault::NotZero);
         }
         Ok(inode)
     }
 
-    // As `get` in versions 1 and 2. The size's range comes before the zeros.
+    // As `get` in versions 1 and 2, where no inode has times. The size's range comes before the zeros.
     fn get_older(from: &[u8]) -> Result<Inode, LayoutFault>
         requires { length from.now ≡ INODE_SIZE }
         ensures { result ≡ older_inode_of from.now }
@@ -220,7 +240,11 @@ impl Inode {
         if is_directory && u64_at(from, 16) > OLDER_DIRECTORY_SIZE {
             return Err(LayoutFault::BadNumber);
         }
-        Inode::get(from)
+        let inode = Inode::get(from)?;
+        if !are_zero(&from[92..128]) {
+            return Err(LayoutFault::NotZero);
+        }
+        Ok(inode)
     }
 
     /// Where the blocks end that the inode can have, by which sectors of pointers it has.
@@ -291,7 +315,8 @@ impl Inode {
         Inode::get_older(&from[at..at + INODE_SIZE])
     }
 
-    /// Reads the [`INODE_SIZE`] bytes from `at` on, whatever the disk's version: whether it allows the size is not asked.
+    /// Reads the [`INODE_SIZE`] bytes from `at` on, whatever the disk's version: whether it allows the size, and times, is
+    /// not asked.
     pub fn read_any(from: &[u8; 512], at: usize) -> Result<Inode, LayoutFault>
         requires { at + INODE_SIZE ≤ 512 }
         // What is read is spelled so.

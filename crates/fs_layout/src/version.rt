@@ -1,7 +1,7 @@
 //! The versions of the layout.
 
 ghost use Rattle.std.specs.Prelude.{◌≡◌};
-ghost use Rattle.fs_layout.specs.Version.{version_number, version_of, max_sectors, max_inodes, max_file_size, max_name, max_names, max_inode_names, slot_size, block_slots, max_directory_size};
+ghost use Rattle.fs_layout.specs.Version.{version_number, version_of, max_sectors, max_inodes, max_file_size, max_name, max_names, max_inode_names, slot_size, block_slots, max_directory_size, keeps_times};
 
 use crate::inode::{DOUBLE_INDIRECT_END, INDIRECT_END};
 
@@ -13,7 +13,7 @@ pub enum Version {
     One,
     /// Those, and those of one double indirect sector.
     Two,
-    /// As many; longer names, and more of them, on larger disks. Those in use are made in it; no older one is upgraded to it.
+    /// As many; longer names, and more of them, on larger disks, and times of each inode. No older one is upgraded to it.
     Three,
 }
 
@@ -128,6 +128,16 @@ impl Version {
         match self {
             Version::One | Version::Two => 71680,
             Version::Three => 8388608,
+        }
+    }
+
+    /// Whether inodes have times.
+    pub fn keeps_times(self) -> bool
+        ensures { result ≡ keeps_times self }
+    {
+        match self {
+            Version::One | Version::Two => false,
+            Version::Three => true,
         }
     }
 }

@@ -22,9 +22,10 @@ use Rattle.fs_cred.specs.declared.refusal.Refusal.{Refusal}
 use Rattle.fs_cred.specs.declared.refusal.Refusal.TheVariants.{Denied, Failed}
 use Rattle.fs_model.specs.declared.reply.FileType.{FileType}
 use Rattle.fs_model.specs.declared.reply.FileType.TheVariants.{File, Directory, Link}
+use Rattle.fs_model.specs.declared.reply.Stamps.{Stamps}
 use Rattle.fs_model.specs.declared.reply.Status.{Status}
 use Rattle.fs_model.specs.declared.reply.Reply.{Reply}
-use Rattle.fs_model.specs.declared.reply.Reply.TheVariants.{Done, Pid, Fd, Data, Wrote, At, Target, Mask, Shown, Granted, Acl, Names, Space, Refused}
+use Rattle.fs_model.specs.declared.reply.Reply.TheVariants.{Done, Pid, Fd, Data, Wrote, At, Target, Mask, Shown, Granted, Acl, Names, Space, Stamped, Refused}
 use Rattle.fs_lines.specs.declared.line.LineFault.{LineFault}
 use Rattle.fs_lines.specs.declared.line.LineFault.TheVariants.{TooLong, BadByte, BadEscape, UnknownCommand, WordCount, BadNumber, BadAcl, OutOfMemory}
 use Rattle.fs_lines.specs.Lines.{empty_word, is_plain}
@@ -124,6 +125,9 @@ named_text named = codes " " ++ decimal named.1 ++ codes ":" ++ word_text named.
 abbrev pub names_text : List (List ℕ × ℕ) → List ℕ
 names_text names = flat_map named_text names
 
+abbrev pub stamps_text : Stamps → List ℕ
+stamps_text s = codes "stamps " ++ decimal s.atime ++ codes " " ++ decimal s.mtime ++ codes " " ++ decimal s.ctime
+
 -- ---- replies
 
 -- The text of what the file system answers.
@@ -141,6 +145,7 @@ reply_text (Granted rule) = codes "granted " ++ rule_text rule
 reply_text (Acl acl) = codes "acl " ++ acl_text acl
 reply_text (Names names) = codes "list" ++ names_text names
 reply_text (Space blocks inodes) = codes "free " ++ decimal blocks ++ codes " blocks " ++ decimal inodes ++ codes " inodes"
+reply_text (Stamped stamps) = stamps_text stamps
 reply_text (Refused refusal) = refusal_text refusal
 
 abbrev pub fault_number : LineFault → ℕ

@@ -6,12 +6,12 @@ ghost use Rattle.posix_acl.specs.Text.{perms_text, written_text};
 ghost use Rattle.posix_acl.specs.declared.text.TextForm.TheVariants.{Short};
 ghost use Rattle.fs_cred.specs.Capabilities.{named_caps};
 ghost use Rattle.fs_lines.specs.declared.text.TheConstants.{RUN, MOST_OF_BYTE, USUAL_TEXT};
-ghost use Rattle.fs_lines.specs.Texts.{stands_for_itself, octal_digit, byte_text, bytes_text, word_text, mode_text, caps_text, rule_text, need_text, errno_text, denial_text, refusal_text, kind_text, counts_text, status_text, acl_text, names_text, reply_text, fault_text};
+ghost use Rattle.fs_lines.specs.Texts.{stands_for_itself, octal_digit, byte_text, bytes_text, word_text, mode_text, caps_text, rule_text, need_text, errno_text, denial_text, refusal_text, kind_text, counts_text, status_text, acl_text, names_text, stamps_text, reply_text, fault_text};
 
 use crate::line::LineFault;
 use bitflags::Flags;
 use fs_cred::{Caps, Denial, Errno, Need, Refusal, Rule};
-use fs_model::{FileType, Listing, Reply, Status};
+use fs_model::{FileType, Listing, Reply, Stamps, Status};
 use posix_acl::{Acl, Perms, TextForm};
 use std::alloc::{AllocError, Global};
 use std::str;
@@ -85,6 +85,7 @@ fn push_reply(text: &mut String, reply: &Reply) -> Result<(), AllocError>
         Reply::Acl(acl) => push_acl(text, acl),
         Reply::Names(names) => push_names(text, names),
         Reply::Space { sectors, inodes } => write!(text, "free {sectors} blocks {inodes} inodes"),
+        Reply::Stamped(stamps) => push_stamps(text, *stamps),
         Reply::Refused(refusal) => push_refusal(text, refusal),
     }
 }
@@ -237,6 +238,17 @@ fn push_counts(text: &mut String, status: &Status) -> Result<(), AllocError>
         ..
     } = *status;
     write!(text, " links {links} uid {owner} gid {group} size {size}")
+}
+
+fn push_stamps(text: &mut String, stamps: Stamps) -> Result<(), AllocError>
+    ensures { OnOk result (string_bytes text.new ≡ string_bytes text.old ++ stamps_text stamps) }
+{
+    let Stamps {
+        atime,
+        mtime,
+        ctime,
+    } = stamps;
+    write!(text, "stamps {atime} {mtime} {ctime}")
 }
 
 fn kind_word(kind: FileType) -> &'static str

@@ -1,4 +1,5 @@
 -- Where the rules hold there is a tree that the image holds.
+use Rattle.fs_model.proofs.StoredStamps.{stamps_fit}
 use Rattle.std.specs.Prelude.{◌≡◌, ◌≢◌, ℕ, zero, suc, ◌/◌, ◌%◌, ◌<◌, ◌≤◌, ◌^◌, ◌==◌, ◌||◌, nat_lt, nat_le, nat_eq, not, Bool, true, false, cond, List, length, get_or, Option, Some, None, is_some, IsTrue, ◌⊎◌}
 use Rattle.std.proofs.Common.{refl, sym, ap, arith, ◌∙◌, subst, inl, inr}
 use Rattle.std.specs.Option.{option_map}
@@ -10,14 +11,14 @@ use Rattle.fs_layout.specs.declared.inode.Kind.TheVariants as kinds
 use Rattle.fs_layout.specs.declared.place.Place.{Place}
 use Rattle.fs_layout.specs.Bytes.{SectorMap, IsSector, IsBytes, u16_of}
 use Rattle.fs_layout.specs.Inode.{inode_fits, FitsInode}
-use Rattle.fs_layout.specs.Version.{max_name}
+use Rattle.fs_layout.specs.Version.{max_name, keeps_times}
 use Rattle.fs_layout.specs.Place.{IsPlace}
 use Rattle.fs_layout.specs.Images.{inode_map_bits, bit, HasWholeTables, stored, inode_at, pointer, Owns, byte_in, byte_at, Holds}
 use Rattle.fs_layout.specs.Ownership.{IsConsistent}
 use Rattle.fs_model.specs.Limits.{root}
 use Rattle.fs_layout.specs.Maps.{name_cmp, get, IsMap}
 use Rattle.fs_model.specs.Nodes.{Node, Body, File, Dir, Link, Directory}
-use Rattle.fs_model.specs.Trees.{Tree, node_at, names_of, parent, IsEntry, IsDirectory, IsTarget, IsBody, NamesFit, IsUnderRoot, is_root, is_in, IsNode, IsTree}
+use Rattle.fs_model.specs.Trees.{Tree, node_at, names_of, parent, IsEntry, IsDirectory, IsTarget, IsBody, NamesFit, IsUnderRoot, is_root, is_in, IsNode, IsTree, AreStamps}
 use Rattle.fs_layout.specs.Directories.{names_of_slots, slot_at, slot_count, NamedInode, IsName}
 use Rattle.fs_model.specs.StoredNodes.{Placed, HoldsBody, HoldsDirectory, HoldsLink, names_field, parent_field}
 use Rattle.fs_model.specs.Stands.{HoldsPlaced, HoldsAll, placed, room_of}
@@ -244,6 +245,7 @@ module _ (p : Place) (m : SectorMap) (place : IsPlace p) (sectors : (s : ℕ) �
     owner = h.owner;
     group = h.group;
     mode = h.mode;
+    stamps = h.stamps;
     names = names_said n lt node.body h.body;
     parent = parent_said n lt node.body h.body;
     body = h.body;
@@ -268,6 +270,7 @@ module _ (p : Place) (m : SectorMap) (place : IsPlace p) (sectors : (s : ℕ) �
         owner = subst (λ x. x < 2 ^ 32) held.owner uid;
         group = subst (λ x. x < 2 ^ 32) held.group gid;
         body = body_is n lt node.body held.body;
+        stamps = subst (AreStamps (keeps_times p.version)) held.stamps (stamps_fit (keeps_times p.version) (inode_at p m n) (fits n lt) (good n lt).allowed.stamps);
         names = names_fit n lt node.body held.body;
         under_root = λ d.
             let kind = (directory_stored p m tree stores n (record { node = node; is_there = e; directory = d })).1 in

@@ -1,4 +1,6 @@
 -- Two steps of a process after which the same inodes are in use come from the same free choices.
+use Rattle.fs_model.proofs.Restamps.{there-touched}
+use Rattle.fs_model.specs.declared.touch.Touch.{Touch}
 use Rattle.std.specs.Prelude.{◌≡◌, ◌≢◌, ℕ, ◌≤◌, ◌⊎◌, Bool, true, false, List, Option, None, Some, is_some}
 use Rattle.std.proofs.Common.{refl, sym, ap, arith, ◌∙◌, subst, inl, inr}
 use Rattle.std.proofs.lemmas.Bool.{cases_eq}
@@ -9,12 +11,12 @@ use Rattle.fs_layout.proofs.MapLaws.{with_entry-IsMap}
 use Rattle.fs_layout.proofs.NameMaps.{leading-with_name, once_same}
 use Rattle.fs_model.specs.declared.call.Call.{Call}
 use Rattle.fs_model.specs.declared.event.Event.{Event}
-use Rattle.fs_model.specs.declared.event.Event.TheVariants.{Spawn, Exit, Call as Calls, Enter, Fsync, Sync, Statfs, Arm, Restart}
+use Rattle.fs_model.specs.declared.event.Event.TheVariants.{Spawn, Exit, Call as Calls, Enter, Stamp, Clock, Fsync, Sync, Statfs, Arm, Restart}
 use Rattle.fs_model.specs.declared.reply.Reply.{Reply}
 use Rattle.fs_model.specs.Nodes.{Node, names_in}
 use Rattle.fs_model.specs.Trees.{Tree, Room, node_at, with_node, names_of}
 use Rattle.fs_model.specs.Processes.{Process, Desks}
-use Rattle.fs_model.specs.TreeChanges.{Make, changed, swept}
+use Rattle.fs_model.specs.TreeChanges.{Make, changed, swept, touches, touched}
 use Rattle.fs_model.specs.States.{State, IsState, MayBeFree}
 use Rattle.fs_model.specs.Alike.{AreAlike, node_seen}
 use Rattle.fs_model.specs.Ranges.{IsCall, IsEvent}
@@ -88,6 +90,14 @@ record Made (old new : Tree) (n : ℕ) : Type 0 where
   there : is_some (node_at new n) ≡ true
   others : (m : ℕ) → m ≢ n → is_some (node_at new m) ≡ true → is_some (node_at old m) ≡ true
 
+-- whatever times move
+made_touched : (now : ℕ) (es : List (ℕ × Touch)) (old new : Tree) (n : ℕ) → Made old new n → Made old (touched now es new) n
+made_touched now es old new n made = record {
+  unused = made.unused;
+  there = there-touched now es new n ∙ made.there;
+  others = λ m ne there. made.others m ne (sym (there-touched now es new m) ∙ there);
+}
+
 some_kept : (keeps : ℕ × Node → Bool) (m : ℕ) (o : Option Node) → is_some (kept keeps m o) ≡ true → is_some o ≡ true
 some_kept keeps m None h = h
 some_kept keeps m (Some node) h = refl
@@ -149,7 +159,7 @@ module _ (s : State) (is : IsState s) (pid : ℕ) (p : Process) (here : get nat_
             let stays = made_stays s desks c.first.dir c.first.name choice.number node is makes.0 made.2
             (subst (λ ch. MayBeLeft s.room (changed s.tree ch) desks) change left) in
             subst (λ a. Made s.tree (tree_after s a) choice.number) (sym a)
-            (subst (λ ch. Made s.tree (swept (changed s.tree ch) desks) choice.number) (sym change) stays)
+            (made_touched s.now (touches s.room s.tree (effect_with choice.number).change) s.tree (swept (changed s.tree (effect_with choice.number).change) desks) choice.number (subst (λ ch. Made s.tree (swept (changed s.tree ch) desks) choice.number) (sym change) stays))
             )
       ]
 
@@ -206,6 +216,8 @@ no_pid pid s (Fsync by fd) of k = tt
 no_pid pid s (Exit by) of k = tt
 no_pid pid s (Spawn cred) of k = absurd of
 no_pid pid s (Enter by directory second) of k = absurd of
+no_pid pid s (Stamp n atime mtime ctime) of k = absurd of
+no_pid pid s (Clock time) of k = absurd of
 no_pid pid s Sync of k = absurd of
 no_pid pid s Statfs of k = absurd of
 no_pid pid s (Arm a) of k = absurd of
@@ -262,6 +274,8 @@ module _ (pid : ℕ) (p : Process) (s t s' t' : State) (c d : Choice) (reply rep
   acts_alike (Exit by) fits of free act now x act' now' y = by_second (Exit by) fits of free x y refl
   acts_alike (Spawn cred) fits of free act now x act' now' y = absurd of
   acts_alike (Enter by directory second) fits of free act now x act' now' y = absurd of
+  acts_alike (Stamp n atime mtime ctime) fits of free act now x act' now' y = absurd of
+  acts_alike (Clock time) fits of free act now x act' now' y = absurd of
   acts_alike Sync fits of free act now x act' now' y = absurd of
   acts_alike Statfs fits of free act now x act' now' y = absurd of
   acts_alike (Arm k) fits of free act now x act' now' y = absurd of

@@ -19,7 +19,7 @@ use Rattle.fs_layout.proofs.FirstEntries.{ties}
 use Rattle.fs_model.proofs.SeenTrees.{swept-seen}
 use Rattle.std.specs.Prelude.{true, not, is_some}
 use Rattle.std.specs.Ordering.{eq_by_cmp}
-use Rattle.fs_model.specs.declared.event.Event.TheVariants.{Spawn, Exit, Call as Calls, Enter, Fsync, Sync, Statfs, Arm, Restart}
+use Rattle.fs_model.specs.declared.event.Event.TheVariants.{Spawn, Exit, Call as Calls, Enter, Stamp, Clock, Fsync, Sync, Statfs, Arm, Restart}
 use Rattle.fs_model.specs.declared.reply.Reply.TheVariants.{Done}
 use Rattle.fs_layout.specs.Maps.{without, IsMap}
 use Rattle.fs_model.specs.Steps.{after_call, unchanged, firm_refusal, other_refusal, demand_of}
@@ -182,6 +182,8 @@ confined (Fsync by fd) = confines_fsync by fd
 confined (Exit by) = confines_exit by
 confined (Spawn cred) = λ _ _ _ _ _ _ _ _ _ _ _ _ _ _ of. absurd of
 confined (Enter by directory second) = λ _ _ _ _ _ _ _ _ _ _ _ _ _ _ of. absurd of
+confined (Stamp n atime mtime ctime) = λ _ _ _ _ _ _ _ _ _ _ _ _ _ _ of. absurd of
+confined (Clock time) = λ _ _ _ _ _ _ _ _ _ _ _ _ _ _ of. absurd of
 confined Sync = λ _ _ _ _ _ _ _ _ _ _ _ _ _ _ of. absurd of
 confined Statfs = λ _ _ _ _ _ _ _ _ _ _ _ _ _ _ of. absurd of
 confined (Arm k) = λ _ _ _ _ _ _ _ _ _ _ _ _ _ _ of. absurd of

@@ -11,7 +11,7 @@ use Rattle.fs_model.specs.Nodes.{Node, is_directory, names_in, target_in, type_o
 use Rattle.fs_model.specs.Trees.{parent, names_of}
 use Rattle.fs_model.specs.Processes.{Process, the_descriptor}
 use Rattle.fs_model.specs.Births.{the_node}
-use Rattle.fs_model.specs.TreeChanges.{Same, changed}
+use Rattle.fs_model.specs.TreeChanges.{Same, changed, touches}
 use Rattle.fs_model.specs.States.{State}
 use Rattle.fs_model.specs.Alike.{sees_into, seen_by, tree_seen}
 use Rattle.fs_model.specs.Rows.{row_of}
@@ -49,6 +49,7 @@ look_confined u pid p row number free is =
     record {
       process = by_veil (λ c. (row.effect c number).process) is.process u p row;
       reply = by_veil (λ c. (row.effect c number).reply) is.reply u p row;
+      moved = ap (touches u.room (tree_seen p u.tree)) a ∙ ap (touches u.room u.tree) (sym b);
       tree =
           ap (λ ch. tree_seen q (changed (tree_seen p u.tree) ch)) a
           ∙ tree_seen-less p q u.tree (sees_no_more p q (is.less (scene_of u p row)) u.tree)

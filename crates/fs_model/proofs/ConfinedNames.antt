@@ -1,15 +1,17 @@
 -- Calls that make, take and move names are confined.
-use Rattle.std.specs.Prelude.{◌≡◌, ℕ, Bool, true, false, cond, List, Option, None, Some, unwrap_or}
+use Rattle.fs_model.specs.declared.touch.Touch.TheVariants.{Modified}
+use Rattle.fs_model.specs.declared.reply.Stamps.{Stamps}
+use Rattle.std.specs.Prelude.{◌≡◌, ℕ, Bool, true, false, cond, if◌then◌else◌, List, [], ◌∷◌, ◌++◌, Option, None, Some, unwrap_or}
 use Rattle.std.proofs.Common.{refl, sym, ap, ◌∙◌, subst}
 use Rattle.std.specs.Option.{option_map}
 use Rattle.fs_model.specs.declared.call.Call.{Call}
 use Rattle.fs_model.specs.declared.call.Call.TheVariants.{Mkdir, Rmdir, Link as LinkCall, Symlink, Unlink, Rename}
 use Rattle.fs_layout.specs.Maps.{name_cmp, with_entry, without}
 use Rattle.fs_model.specs.Nodes.{Node, Body, File, Dir, Link, names_in, with_names}
-use Rattle.fs_model.specs.Trees.{Tree, node_at, with_node, lookup, lookup_in}
+use Rattle.fs_model.specs.Trees.{Tree, Room, node_at, with_node, lookup, lookup_in}
 use Rattle.fs_model.specs.Processes.{Process}
 use Rattle.fs_model.specs.Births.{the_node, the_directory, born_directory, born_link}
-use Rattle.fs_model.specs.TreeChanges.{Change, Same, Make, AddName, TakeName, MoveName, changed, named, unnamed, with_names_at}
+use Rattle.fs_model.specs.TreeChanges.{Change, Same, Rewrite, Make, AddName, TakeName, MoveName, changed, touches, changed_at, named, unnamed, with_names_at}
 use Rattle.fs_model.specs.States.{State}
 use Rattle.fs_model.specs.Alike.{sees_into, node_seen, tree_seen, seen_by}
 use Rattle.fs_model.specs.Rows.{row_of}
@@ -29,24 +31,24 @@ module _ (p : Process) where
     abbrev renamed : Node → Node
     renamed node = record node { body = with_names (g (names_in node.body)) node.body }
 
-    renamed_seen : (owner group : ℕ) (body : Body)
-        → node_seen p dir (renamed (record { owner = owner; group = group; body = body })) ≡ renamed (node_seen p dir (record { owner = owner; group = group; body = body }))
-    renamed_seen owner group (File a bytes) = go (sees_into p dir (record { owner = owner; group = group; body = File a bytes }))
+    renamed_seen : (owner group : ℕ) (stamps : Stamps) (body : Body)
+        → node_seen p dir (renamed (record { owner = owner; group = group; stamps = stamps; body = body })) ≡ renamed (node_seen p dir (record { owner = owner; group = group; stamps = stamps; body = body }))
+    renamed_seen owner group stamps (File a bytes) = go (sees_into p dir (record { owner = owner; group = group; stamps = stamps; body = File a bytes }))
       where
-        go : (b : Bool) → cond b (record { owner = owner; group = group; body = File a bytes }) (veiled (record { owner = owner; group = group; body = File a bytes }))
-            ≡ renamed (cond b (record { owner = owner; group = group; body = File a bytes }) (veiled (record { owner = owner; group = group; body = File a bytes })))
+        go : (b : Bool) → cond b (record { owner = owner; group = group; stamps = stamps; body = File a bytes }) (veiled (record { owner = owner; group = group; stamps = stamps; body = File a bytes }))
+            ≡ renamed (cond b (record { owner = owner; group = group; stamps = stamps; body = File a bytes }) (veiled (record { owner = owner; group = group; stamps = stamps; body = File a bytes })))
         go true = refl
         go false = refl
-    renamed_seen owner group (Dir a d) = go (sees_into p dir (record { owner = owner; group = group; body = Dir a d }))
+    renamed_seen owner group stamps (Dir a d) = go (sees_into p dir (record { owner = owner; group = group; stamps = stamps; body = Dir a d }))
       where
-        go : (b : Bool) → cond b (renamed (record { owner = owner; group = group; body = Dir a d })) (veiled (renamed (record { owner = owner; group = group; body = Dir a d })))
-            ≡ renamed (cond b (record { owner = owner; group = group; body = Dir a d }) (veiled (record { owner = owner; group = group; body = Dir a d })))
+        go : (b : Bool) → cond b (renamed (record { owner = owner; group = group; stamps = stamps; body = Dir a d })) (veiled (renamed (record { owner = owner; group = group; stamps = stamps; body = Dir a d })))
+            ≡ renamed (cond b (record { owner = owner; group = group; stamps = stamps; body = Dir a d }) (veiled (record { owner = owner; group = group; stamps = stamps; body = Dir a d })))
         go true = refl
         go false = refl
-    renamed_seen owner group (Link target) = go (sees_into p dir (record { owner = owner; group = group; body = Link target }))
+    renamed_seen owner group stamps (Link target) = go (sees_into p dir (record { owner = owner; group = group; stamps = stamps; body = Link target }))
       where
-        go : (b : Bool) → cond b (record { owner = owner; group = group; body = Link target }) (veiled (record { owner = owner; group = group; body = Link target }))
-            ≡ renamed (cond b (record { owner = owner; group = group; body = Link target }) (veiled (record { owner = owner; group = group; body = Link target })))
+        go : (b : Bool) → cond b (record { owner = owner; group = group; stamps = stamps; body = Link target }) (veiled (record { owner = owner; group = group; stamps = stamps; body = Link target }))
+            ≡ renamed (cond b (record { owner = owner; group = group; stamps = stamps; body = Link target }) (veiled (record { owner = owner; group = group; stamps = stamps; body = Link target })))
         go true = refl
         go false = refl
 
@@ -55,7 +57,7 @@ module _ (p : Process) where
       where
         go : (o : Option Node) → with_names_at (tree_seen p t) dir g (option_map (node_seen p dir) o) ≡ tree_seen p (with_names_at t dir g o)
         go None = refl
-        go (Some x) = ap (with_node (tree_seen p t) dir) (sym (renamed_seen x.owner x.group x.body)) ∙ sym (with_node-seen p t dir (renamed x))
+        go (Some x) = ap (with_node (tree_seen p t) dir) (sym (renamed_seen x.owner x.group x.stamps x.body)) ∙ sym (with_node-seen p t dir (renamed x))
 
   lookup_seen : (t : Tree) (dir : ℕ) (name : List ℕ) → lookup (tree_seen p t) dir name ≡ lookup t dir name
   lookup_seen t dir name = ap (λ o. lookup_in o name) (node_at-seen p t dir) ∙ go (node_at t dir)
@@ -67,6 +69,17 @@ module _ (p : Process) where
       go : (o : Option Node) → lookup_in (option_map (node_seen p dir) o) name ≡ lookup_in o name
       go None = refl
       go (Some x) = at (sees_into p dir x) x
+
+  -- whose times move depends on no byte
+  touches_seen : (room : Room) (t : Tree) (change : Change) → touches room (tree_seen p t) change ≡ touches room t change
+  touches_seen room t Same = refl
+  touches_seen room t (Rewrite touch n node) = refl
+  touches_seen room t (Make dir name n node) = refl
+  touches_seen room t (AddName dir name n) = refl
+  touches_seen room t (TakeName dir name) = ap (λ o. if room.keeps_times then (dir, Modified) ∷ changed_at o else []) (lookup_seen t dir name)
+  touches_seen room t (MoveName dir name to_dir to_name) =
+      ap (λ o. if room.keeps_times then (dir, Modified) ∷ (to_dir, Modified) ∷ (changed_at o ++ changed_at (lookup (tree_seen p t) to_dir to_name)) else []) (lookup_seen t dir name)
+      ∙ ap (λ o. if room.keeps_times then (dir, Modified) ∷ (to_dir, Modified) ∷ (changed_at (lookup t dir name) ++ changed_at o) else []) (lookup_seen t to_dir to_name)
 
   -- ---- changes in what is seen
 
@@ -121,6 +134,9 @@ naming_confined u pid p row number free is =
     record {
       process = is.process (scene_of (seen_by (Some p) u) p row) ∙ sym q;
       reply = by_veil (λ c. (row.effect c number).reply) is.reply u p row;
+      moved =
+          ap (touches u.room (tree_seen p u.tree)) (by_veil (λ c. (row.effect c number).change) is.change u p row)
+          ∙ touches_seen p u.room u.tree (row.effect c number).change;
       tree = subst (λ q. tree_seen q (changed (tree_seen p u.tree) (row.effect (scene_of (seen_by (Some p) u) p row) number).change) ≡ tree_seen q (changed u.tree (row.effect c number).change))
           (sym q)
           (ap (λ ch. tree_seen p (changed (tree_seen p u.tree) ch)) (by_veil (λ c. (row.effect c number).change) is.change u p row) ∙ is.kept p c u.tree);

@@ -13,10 +13,11 @@ use Rattle.fs_layout.proofs.MapLaws.{with_entry-IsMap}
 use Rattle.fs_model.specs.declared.call.Flags.{Flags}
 use Rattle.fs_model.specs.declared.call.Call.TheVariants.{Open}
 use Rattle.fs_model.specs.Nodes.{Node, accessed, names_in, with_names, with_bytes}
-use Rattle.fs_model.specs.Trees.{Tree, node_at, with_node}
+use Rattle.fs_model.specs.Trees.{Tree, node_at, with_node, Room}
 use Rattle.fs_model.specs.Processes.{Process, least_unused}
 use Rattle.fs_model.specs.Births.{the_node, no_node, born_file}
-use Rattle.fs_model.specs.TreeChanges.{Change, Same, Rewrite, Make, changed, with_names_at}
+use Rattle.fs_model.specs.declared.touch.Touch.TheVariants.{Modified}
+use Rattle.fs_model.specs.TreeChanges.{Change, Same, Rewrite, Make, changed, touches, with_names_at}
 use Rattle.fs_model.specs.Alike.{may_read, sees_into, node_seen, tree_seen, seen_by}
 use Rattle.fs_model.specs.Demands.{Demand, perms, permission_of, accessed_at, decided}
 use Rattle.fs_model.specs.Rows.{row_of}
@@ -52,7 +53,14 @@ emptied node = record node { body = with_bytes [] node.body }
 -- what open changes: a new node is made, or what is there is emptied, or nothing
 abbrev open_to : Bool → Bool → ℕ → List ℕ → ℕ → Node → ℕ → Node → Change
 open_to found empties dir name new node n there =
-    cond (not found) (Make dir name new node) (cond empties (Rewrite n (emptied there)) Same)
+    cond (not found) (Make dir name new node) (cond empties (Rewrite Modified n (emptied there)) Same)
+
+-- whose times that moves
+open_touches : (room : Room) (t u : Tree) (found empties : Bool) (dir : ℕ) (name : List ℕ) (new : ℕ) (x y : Node) (n : ℕ) (v w : Node)
+    → touches room t (open_to found empties dir name new x n v) ≡ touches room u (open_to found empties dir name new y n w)
+open_touches room t u true true dir name new x y n v w = refl
+open_touches room t u true false dir name new x y n v w = refl
+open_touches room t u false empties dir name new x y n v w = refl
 
 module _ (p : Process) (flags : Flags) (n : ℕ) where
   abbrev opener : Process
@@ -90,8 +98,8 @@ module _ (p : Process) (flags : Flags) (n : ℕ) where
         let same : the_node t n ≡ node = ap (the_node t) (sym e) ∙ ap (λ o. unwrap_or o no_node) at in
         found_here m node (ap (λ x. may_read p (accessed x)) (sym same) ∙ reads r)))
 
-    pub found_tree : (b : Bool) → tree_seen opener (changed (tree_seen p t) (cond b (Rewrite n (emptied (node_seen p n (the_node t n)))) Same))
-        ≡ tree_seen opener (changed t (cond b (Rewrite n (emptied (the_node t n))) Same))
+    pub found_tree : (b : Bool) → tree_seen opener (changed (tree_seen p t) (cond b (Rewrite Modified n (emptied (node_seen p n (the_node t n)))) Same))
+        ≡ tree_seen opener (changed t (cond b (Rewrite Modified n (emptied (the_node t n))) Same))
     found_tree true =
         rewritten_seen p opener t n (emptied (node_seen p n (the_node t n))) (emptied (the_node t n)) found_less
         (byted_seen (λ _. []) (λ _. refl) p opener n (the_node t n) (opener_sees n (the_node t n) (λ _ r. found_here n (the_node t n) (reads r))))
@@ -178,6 +186,9 @@ open_confined path flags mode u pid p new free is runs here confined fits asked 
     record {
       process = ap (λ g. open_process p flags (unwrap_or g.ino new)) first;
       reply = refl;
+      moved =
+          ap (λ g. touches u.room seen (open_to (is_found g) empties g.dir g.name new (born_file p.cred p.umask mode (the_node seen g.dir)) (number g) (the_node seen (number g)))) first
+          ∙ open_touches u.room seen u.tree (is_found f) empties f.dir f.name new _ _ (number f) _ _;
       tree =
           ap (λ g. tree_seen q (changed seen (open_to (is_found g) empties g.dir g.name new (born_file p.cred p.umask mode (the_node seen g.dir)) (number g) (the_node seen (number g))))) first
           ∙ ap (λ x. tree_seen q (changed seen (open_to (is_found f) empties f.dir f.name new x (number f) (the_node seen (number f))))) made

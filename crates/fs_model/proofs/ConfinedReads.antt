@@ -150,6 +150,7 @@ read_confined fd len u pid p new free is runs here confined fits asked met fresh
     record {
       process = ap (λ x. with_offset p fd (offset + length (take (min len move_limit) (drop offset (bytes_in x.body))))) same;
       reply = ap (λ x. Data (take (min len move_limit) (drop offset (bytes_in x.body)))) same;
+      moved = refl;
       tree =
           let to = offset + length (take (min len move_limit) (drop offset (bytes_in node.body))) in
           tree_seen-less p (with_offset p fd to) u.tree (sees_no_more p (with_offset p fd to) (λ m x. offset_less p fd to m x) u.tree);

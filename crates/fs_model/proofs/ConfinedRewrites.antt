@@ -1,4 +1,7 @@
 -- Calls that rewrite one node are confined.
+use Rattle.fs_model.specs.declared.touch.Touch.TheVariants.{Changed, Modified}
+use Rattle.std.specs.Prelude.{if◌then◌else◌}
+use Rattle.fs_model.specs.declared.reply.Stamps.{Stamps}
 use Rattle.std.specs.Prelude.{◌≡◌, ℕ, ◌+◌, ◌==◌, min, Bool, true, false, ◌||◌, ◌&&◌, cond, List, [], ◌∷◌, length, take, replicate, Option, None, Some, IsFalse}
 use Rattle.std.proofs.Common.{refl, sym, ap, ◌∙◌, arith}
 use Rattle.std.proofs.lemmas.List.{length-replicate}
@@ -32,7 +35,7 @@ use Rattle.fs_model.specs.Confinement.{IsConfined}
 use Rattle.fs_model.specs.Rows.{row_of}
 use Rattle.fs_layout.specs.Bytes.{resized, overwritten}
 use Rattle.fs_model.specs.DescriptorCalls.{resized_node, written, write_offset}
-use Rattle.fs_model.specs.Scenes.{Row, number}
+use Rattle.fs_model.specs.Scenes.{Row, number, node_found}
 use Rattle.fs_model.specs.Steps.{scene_of}
 use Rattle.fs_model.proofs.StepsBodies.{length-resized, length-overwritten_all}
 use Rattle.fs_model.proofs.Veils.{veiled}
@@ -54,17 +57,17 @@ module _ (g : List ℕ → List ℕ) (even : (bytes : List ℕ) → length (g (r
   abbrev pub byted : Node → Node
   byted node = record node { body = with_bytes (g (bytes_in node.body)) node.body }
 
-  sees-byted : (p : Process) (n owner group : ℕ) (body : Body)
-      → sees_into p n (byted (record { owner = owner; group = group; body = body })) ≡ sees_into p n (record { owner = owner; group = group; body = body })
-  sees-byted p n owner group (File a bytes) = refl
-  sees-byted p n owner group (Dir a d) = refl
-  sees-byted p n owner group (Link target) = refl
+  sees-byted : (p : Process) (n owner group : ℕ) (stamps : Stamps) (body : Body)
+      → sees_into p n (byted (record { owner = owner; group = group; stamps = stamps; body = body })) ≡ sees_into p n (record { owner = owner; group = group; stamps = stamps; body = body })
+  sees-byted p n owner group stamps (File a bytes) = refl
+  sees-byted p n owner group stamps (Dir a d) = refl
+  sees-byted p n owner group stamps (Link target) = refl
 
-  veiled-byted : (owner group : ℕ) (body : Body)
-      → veiled (byted (veiled (record { owner = owner; group = group; body = body }))) ≡ veiled (byted (record { owner = owner; group = group; body = body }))
-  veiled-byted owner group (File a bytes) = ap (λ k. record { owner = owner; group = group; body = File a (replicate k 0) }) (even bytes)
-  veiled-byted owner group (Dir a d) = refl
-  veiled-byted owner group (Link target) = refl
+  veiled-byted : (owner group : ℕ) (stamps : Stamps) (body : Body)
+      → veiled (byted (veiled (record { owner = owner; group = group; stamps = stamps; body = body }))) ≡ veiled (byted (record { owner = owner; group = group; stamps = stamps; body = body }))
+  veiled-byted owner group stamps (File a bytes) = ap (λ k. record { owner = owner; group = group; stamps = stamps; body = File a (replicate k 0) }) (even bytes)
+  veiled-byted owner group stamps (Dir a d) = refl
+  veiled-byted owner group stamps (Link target) = refl
 
   pub byted_seen : (p q : Process) (n : ℕ) (x : Node) → (sees_into q n x ≡ true → sees_into p n x ≡ true)
       → node_seen q n (byted (node_seen p n x)) ≡ node_seen q n (byted x)
@@ -78,10 +81,10 @@ module _ (g : List ℕ → List ℕ) (even : (bytes : List ℕ) → length (g (r
       go true e = refl
       go false e =
           let no : sees_into q n x ≡ false = blind (sees_into q n x) refl e in
-          let a : sees_into q n (byted (veiled x)) ≡ false = sees-byted q n x.owner x.group (blotted x.body) ∙ sees-veiled q n x ∙ no in
-          let b : sees_into q n (byted x) ≡ false = sees-byted q n x.owner x.group x.body ∙ no in
+          let a : sees_into q n (byted (veiled x)) ≡ false = sees-byted q n x.owner x.group x.stamps (blotted x.body) ∙ sees-veiled q n x ∙ no in
+          let b : sees_into q n (byted x) ≡ false = sees-byted q n x.owner x.group x.stamps x.body ∙ no in
           ap (λ b. cond b (byted (veiled x)) (veiled (byted (veiled x)))) a
-          ∙ veiled-byted x.owner x.group x.body
+          ∙ veiled-byted x.owner x.group x.stamps x.body
           ∙ ap (λ b. cond b (byted x) (veiled (byted x))) (sym b)
 
 even_resized : (size : ℕ) (bytes : List ℕ) → length (resized (replicate (length bytes) 0) size) ≡ length (resized bytes size)
@@ -95,6 +98,7 @@ ftruncate_confined fd size u pid p new free is runs here confined fits asked met
     record {
       process = refl;
       reply = refl;
+      moved = refl;
       tree =
           ap (λ y. tree_seen p (with_node (tree_seen p u.tree) n (resized_node size y))) (the_node-seen p u.tree n)
           ∙ rewritten_seen p p u.tree n (resized_node size (node_seen p n x)) (resized_node size x) (sees_no_more p p (λ n node e. e) u.tree)
@@ -110,6 +114,7 @@ truncate_confined path size u pid p new free is runs here confined fits asked me
     record {
       process = refl;
       reply = refl;
+      moved = ap (λ k. if u.room.keeps_times then (k, Modified) ∷ [] else []) (by_veil (λ c. number c.first) (λ c. refl) u p row);
       tree =
           ap (λ m. tree_seen p (with_node (tree_seen p u.tree) m (resized_node size (the_node (tree_seen p u.tree) m)))) (by_veil (λ c. number c.first) (λ c. refl) u p row)
           ∙ ap (λ y. tree_seen p (with_node (tree_seen p u.tree) n (resized_node size y))) (the_node-seen p u.tree n)
@@ -133,6 +138,7 @@ unfolding row_of
 write_confined fd [] u pid p new free is runs here confined fits asked met fresh = record {
   process = refl;
   reply = refl;
+  moved = refl;
   tree = tree_seen-less p p u.tree (sees_no_more p p (λ n node e. e) u.tree);
 }
 write_confined fd (b ∷ bs) u pid p new free is runs here confined fits asked met fresh =
@@ -148,6 +154,7 @@ write_confined fd (b ∷ bs) u pid p new free is runs here confined fits asked m
     record {
       process = ap (λ k. with_offset p fd (k + min (length bytes) (min move_limit (limit - k)))) same;
       reply = ap (λ k. Wrote (min (length bytes) (min move_limit (limit - k)))) same;
+      moved = refl;
       tree =
           ap (λ k. tree_seen q (with_node (tree_seen p u.tree) n (written (the_node (tree_seen p u.tree) n) k (take (min (length bytes) (min move_limit (limit - k))) bytes)))) same
           ∙ ap (λ y. tree_seen q (with_node (tree_seen p u.tree) n (written y offset text))) (the_node-seen p u.tree n)
@@ -208,18 +215,18 @@ unfolding row_of
 chmod_confined path mode u pid p new free is runs here confined fits asked met fresh =
     let row = chmod_row path mode in
     let asks = demands_met u p row met in
-    record { process = refl; reply = refl; tree = owned_tree u p row (moded p.cred mode) (may_own_sees p _ _ 1 (scene_of u p row).first.step confined asks.1.0) }
+    record { process = refl; reply = refl; moved = ap (λ k. if u.room.keeps_times then (k, Changed) ∷ [] else []) (by_veil (λ c. number c.first) (λ c. refl) u p row); tree = owned_tree u p row (moded p.cred mode) (may_own_sees p _ (node_found (scene_of u p row) (scene_of u p row).first) 1 (scene_of u p row).first.step confined asks.1.0) }
 
 pub chown_confined : (path : List ℕ) (owner group : Option ℕ) → Confines (Chown path owner group)
 unfolding row_of
 chown_confined path owner group u pid p new free is runs here confined fits asked met fresh =
     let row = chown_row path owner group in
     let asks = demands_met u p row met in
-    record { process = refl; reply = refl; tree = owned_tree u p row (owned owner group) (may_chown_sees p _ _ 1 (scene_of u p row).first.step confined asks.1.0) }
+    record { process = refl; reply = refl; moved = ap (λ k. if u.room.keeps_times then (k, Changed) ∷ [] else []) (by_veil (λ c. number c.first) (λ c. refl) u p row); tree = owned_tree u p row (owned owner group) (may_chown_sees p _ (node_found (scene_of u p row) (scene_of u p row).first) 1 (scene_of u p row).first.step confined asks.1.0) }
 
 pub set_acl_confined : (path : List ℕ) (which : AclType) (acl : Option AccessList) → Confines (SetAcl path which acl)
 unfolding row_of
 set_acl_confined path which acl u pid p new free is runs here confined fits asked met fresh =
     let row = set_acl_row path which acl in
     let asks = demands_met u p row met in
-    record { process = refl; reply = refl; tree = owned_tree u p row (λ node. record node { body = with_set_acl which acl node.body }) (may_own_sees p _ _ 1 (scene_of u p row).first.step confined asks.1.0) }
+    record { process = refl; reply = refl; moved = ap (λ k. if u.room.keeps_times then (k, Changed) ∷ [] else []) (by_veil (λ c. number c.first) (λ c. refl) u p row); tree = owned_tree u p row (λ node. record node { body = with_set_acl which acl node.body }) (may_own_sees p _ (node_found (scene_of u p row) (scene_of u p row).first) 1 (scene_of u p row).first.step confined asks.1.0) }

@@ -8,7 +8,7 @@ use Rattle.fs_cred.specs.declared.refusal.Refusal.TheVariants.{Failed}
 use Rattle.fs_layout.specs.Maps.{get}
 use Rattle.fs_model.specs.declared.call.Call.{Call}
 use Rattle.fs_model.specs.declared.event.Event.{Event}
-use Rattle.fs_model.specs.declared.event.Event.TheVariants.{Spawn, Exit, Call as Calls, Enter, Fsync, Sync, Statfs, Arm, Restart}
+use Rattle.fs_model.specs.declared.event.Event.TheVariants.{Spawn, Exit, Call as Calls, Enter, Stamp, Clock, Fsync, Sync, Statfs, Arm, Restart}
 use Rattle.fs_model.specs.declared.reply.Reply.{Reply}
 use Rattle.fs_model.specs.declared.reply.Reply.TheVariants.{Refused}
 use Rattle.fs_model.specs.Processes.{Process}
@@ -48,6 +48,8 @@ module _ (pid : ℕ) (p q : Process) (s : State) (here : get nat_cmp s.desks pid
   acted_cred is (Exit by) choice of there = absurd (let none = gone_by s.desks by pid is.pids of in let both : None ≡ Some q = sym none ∙ there in cc)
   acted_cred is (Spawn cred) choice of there = absurd of
   acted_cred is (Enter by directory second) choice of there = absurd of
+  acted_cred is (Stamp n atime mtime ctime) choice of there = absurd of
+  acted_cred is (Clock time) choice of there = absurd of
   acted_cred is Sync choice of there = absurd of
   acted_cred is Statfs choice of there = absurd of
   acted_cred is (Arm k) choice of there = absurd of
@@ -76,6 +78,8 @@ gone_firm pid s (Fsync by fd) of none = ap (demand_of _) (subst (λ q. get nat_c
 gone_firm pid s (Exit by) of none = ap (demand_of _) (subst (λ q. get nat_cmp s.desks q ≡ None) (sym of) none)
 gone_firm pid s (Spawn cred) of none = absurd of
 gone_firm pid s (Enter by directory second) of none = absurd of
+gone_firm pid s (Stamp n atime mtime ctime) of none = absurd of
+gone_firm pid s (Clock time) of none = absurd of
 gone_firm pid s Sync of none = absurd of
 gone_firm pid s Statfs of none = absurd of
 gone_firm pid s (Arm k) of none = absurd of
@@ -107,6 +111,8 @@ machine_of pid (Fsync by fd) of = refl
 machine_of pid (Exit by) of = refl
 machine_of pid (Spawn cred) of = absurd of
 machine_of pid (Enter by directory second) of = absurd of
+machine_of pid (Stamp n atime mtime ctime) of = absurd of
+machine_of pid (Clock time) of = absurd of
 machine_of pid Sync of = absurd of
 machine_of pid Statfs of = absurd of
 machine_of pid (Arm k) of = absurd of

@@ -1,17 +1,18 @@
 -- What a call does in a state and in what the process sees of it.
+use Rattle.fs_model.proofs.Restamps.{seen-touched}
 use Rattle.std.specs.Prelude.{◌≡◌, ℕ, cond, Option, None, Some, IsFalse}
 use Rattle.std.proofs.Common.{refl, sym, ap, ◌∙◌}
 use Rattle.std.specs.Ordering.{nat_cmp}
 use Rattle.fs_model.specs.declared.call.Call.{Call}
 use Rattle.fs_layout.specs.Maps.{get, with_entry}
 use Rattle.fs_model.specs.Processes.{Process, Desks}
-use Rattle.fs_model.specs.TreeChanges.{changed, swept}
+use Rattle.fs_model.specs.TreeChanges.{changed, touches, touched, swept}
 use Rattle.fs_model.specs.States.{State, IsState}
 use Rattle.fs_model.specs.Alike.{tree_seen, seen_by, AreAlike}
 use Rattle.fs_model.specs.Ranges.{IsCall}
 use Rattle.fs_model.specs.Rows.{row_of}
 use Rattle.fs_model.specs.Scenes.{Row, Effect}
-use Rattle.fs_model.specs.Steps.{after_effect, state_after, early_refusal, late_refusal, scene_of, HasNewNumber}
+use Rattle.fs_model.specs.Steps.{after_effect, tree_after, state_after, early_refusal, late_refusal, scene_of, HasNewNumber}
 use Rattle.fs_model.specs.Confinement.{IsConfined}
 use Rattle.fs_layout.proofs.FirstEntries.{ties}
 use Rattle.fs_layout.proofs.MapLaws.{get-with_entry}
@@ -26,21 +27,26 @@ module _ (pid : ℕ) (p : Process) (row : Row) (number free : ℕ) where
   abbrev pub left_by : State → State
   left_by u = state_after u (after_effect u pid (effect_in u)) free
 
-  -- the process, the reply and the new tree, as the process sees it, come from what it sees
+  -- the process, the reply, the new tree, as the process sees it, and whose times move come from what it sees
   pub record IsConfinedAt (u : State) : Type 0 where
     pub process : (effect_in (seen_by (Some p) u)).process ≡ (effect_in u).process
     pub reply : (effect_in (seen_by (Some p) u)).reply ≡ (effect_in u).reply
     pub tree : tree_seen (effect_in u).process (changed (tree_seen p u.tree) (effect_in (seen_by (Some p) u)).change)
         ≡ tree_seen (effect_in u).process (changed u.tree (effect_in u).change)
+    pub moved : touches u.room (tree_seen p u.tree) (effect_in (seen_by (Some p) u)).change ≡ touches u.room u.tree (effect_in u).change
 
   left_seen : (u : State) → IsConfinedAt u → seen_by (Some (effect_in u).process) (left_by (seen_by (Some p) u)) ≡ seen_by (Some (effect_in u).process) (left_by u)
   left_seen u is =
       let q = (effect_in u).process in
       let desks = with_entry nat_cmp u.desks pid q in
       let e = effect_in (seen_by (Some p) u) in
-      ap (λ r. record u { tree = tree_seen q (swept (changed (tree_seen p u.tree) e.change) (with_entry nat_cmp u.desks pid r)); desks = with_entry nat_cmp u.desks pid r; free = free }) is.process
+      ap (λ r. record u { tree = tree_seen q (tree_after (seen_by (Some p) u) (record { change = e.change; desks = with_entry nat_cmp u.desks pid r; reply = e.reply; now = u.now })); desks = with_entry nat_cmp u.desks pid r; free = free }) is.process
       ∙ ap (λ t. record u { tree = t; desks = desks; free = free })
+      (seen-touched q u.now (touches u.room (tree_seen p u.tree) e.change) (swept (changed (tree_seen p u.tree) e.change) desks)
+      ∙ ap (touched u.now (touches u.room (tree_seen p u.tree) e.change))
       (sym (swept-seen q (changed (tree_seen p u.tree) e.change) desks) ∙ ap (λ t. swept t desks) is.tree ∙ swept-seen q (changed u.tree (effect_in u).change) desks)
+      ∙ ap (λ es. touched u.now es (tree_seen q (swept (changed u.tree (effect_in u).change) desks))) is.moved
+      ∙ sym (seen-touched q u.now (touches u.room u.tree (effect_in u).change) (swept (changed u.tree (effect_in u).change) desks)))
 
   pub same_left : (s t : State) → seen_by (Some p) s ≡ seen_by (Some p) t → IsConfinedAt s → IsConfinedAt t
       → seen_by (Some (effect_in s).process) (left_by s) ≡ seen_by (Some (effect_in t).process) (left_by t)

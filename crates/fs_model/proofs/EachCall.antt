@@ -28,6 +28,7 @@ use Rattle.fs_model.specs.RenameCall.{rename_demands, rename_effect}
 use Rattle.fs_model.specs.Rows.{row_of}
 use Rattle.fs_model.specs.Steps.{HasNewNumber}
 use Rattle.fs_model.specs.declared.reply.Reply.TheVariants.{Wrote, Fd}
+use Rattle.fs_model.specs.declared.touch.Touch.TheVariants.{Modified}
 use Rattle.fs_model.specs.TreeChanges.{Rewrite, Same, Make}
 use Rattle.fs_model.specs.Stops.{is_io_error}
 use Rattle.fs_model.specs.Births.{born_file, born_directory, born_link}
@@ -62,7 +63,7 @@ module _ (c : Scene) where
   open_as flags mode o n = record {
     change =
         cond (not (is_some o)) (Make c.first.dir c.first.name n (born_file c.process.cred c.process.umask mode (dir_node c c.first)))
-        (cond (flags.trunc && flags.write) (Rewrite (number c.first) (record (node_found c c.first) { body = with_bytes [] (body_found c c.first) })) Same);
+        (cond (flags.trunc && flags.write) (Rewrite Modified (number c.first) (record (node_found c c.first) { body = with_bytes [] (body_found c c.first) })) Same);
     process = open_process c.process flags (unwrap_or o n);
     reply = Fd (least_unused 0 c.process.descriptors);
   }
@@ -103,7 +104,7 @@ write_spares : (fd : ℕ) (bytes : List ℕ) (s : Scene) → is_io_error (write_
 write_spares fd bytes s = go (is_empty bytes)
   where
     go : (b : Bool) → is_io_error (if b then answers s (Wrote 0) else record {
-      change = Rewrite (the_descriptor s.process fd).number (written (node_open s fd) (write_offset s fd) (take (write_count s fd bytes) bytes));
+      change = Rewrite Modified (the_descriptor s.process fd).number (written (node_open s fd) (write_offset s fd) (take (write_count s fd bytes) bytes));
       process = with_offset s.process fd (write_offset s fd + write_count s fd bytes);
       reply = Wrote (write_count s fd bytes);
     }).reply ≡ false

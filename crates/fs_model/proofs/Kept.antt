@@ -38,6 +38,7 @@ pub node_kept : (version : Version) (old new : SectorMap) (v : Inode) (x : Place
 node_kept version old new v x keeps h = record {
   owner = h.owner;
   group = h.group;
+  stamps = h.stamps;
   mode = h.mode;
   names = h.names;
   parent = h.parent;

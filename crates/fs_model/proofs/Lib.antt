@@ -81,7 +81,11 @@ pub mod StepsSwept
 pub mod StepsTaking
 pub mod StepsTrails
 pub mod StepsUp
-pub mod StoredTrees
+pub mod Restamps
+pub mod PlacedStamps
+pub mod RowsOfTimes
+mod StoredStamps
+mod StoredTrees
 pub mod Summaries
 pub mod Swept
 pub mod Taken

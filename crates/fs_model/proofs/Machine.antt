@@ -38,6 +38,7 @@ fresh = record {
   tree = empty_tree;
   desks = [];
   free = 878;
+  now = 0;
   halted = false;
 }
 

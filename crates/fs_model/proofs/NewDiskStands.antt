@@ -1,4 +1,6 @@
 -- A new disk stands for the tree of an empty root.
+use Rattle.fs_model.specs.Nodes.{no_stamps, Node, Dir}
+use Rattle.fs_model.proofs.StoredStamps.{no_stamps_fit, root_stamps}
 use Rattle.std.specs.Prelude.{◌≡◌, ◌≢◌, ℕ, ◌^◌, ◌-◌, ◌<◌, ◌≤◌, nat_eq, nat_le, ◌||◌, Bool, true, false, cond, [], None, Some, is_some, Ok}
 use Rattle.std.proofs.Common.{refl, sym, ap, arith, ◌∙◌, subst, inl, inr}
 use Rattle.std.proofs.lemmas.Bool.{cases_eq, ne_eqb}
@@ -11,7 +13,7 @@ use Rattle.fs_layout.specs.Bytes.{SectorMap}
 use Rattle.fs_layout.specs.Inode.{FitsInode, free_inode, inode_of}
 use Rattle.fs_layout.specs.declared.version.Version.{Version}
 use Rattle.fs_layout.specs.declared.version.Version.TheVariants.{One, Two, Three}
-use Rattle.fs_layout.specs.Place.{IsPlace, place_in, laid_out, new_header, super_for}
+use Rattle.fs_layout.specs.Place.{IsPlace, place_in, new_header, super_for}
 use Rattle.fs_layout.specs.Superblock.{numbers_end}
 use Rattle.std.specs.Option.{option_map}
 use Rattle.fs_layout.specs.Images.{IsData, bit, inode_at, stored, free_sectors}
@@ -24,7 +26,6 @@ use Rattle.fs_layout.proofs.Places.{numbers_most, place_is_laid_out, place_is_pl
 use Rattle.fs_layout.proofs.RecoveryLaw.{idle_commit, recovered-idle}
 use Rattle.fs_layout.proofs.Saves.{inode_there, valid_there}
 use Rattle.fs_model.specs.Limits.{root}
-use Rattle.fs_model.specs.Nodes.{Node, Dir}
 use Rattle.fs_model.specs.Trees.{Room, node_at, names_of, parent, IsNode, IsTree, is_root}
 use Rattle.fs_layout.specs.Directories.{names_of_slots, FitsSlot}
 use Rattle.fs_model.specs.StoredNodes.{Placed, HoldsNode}
@@ -60,7 +61,7 @@ none_placed : (n : ℕ) → n ≢ root → placed empty_tree n ≡ None
 none_placed n ne = ap (option_map (put n)) (elsewhere n ne)
 
 abbrev root_node : Node
-root_node = record { owner = 0; group = 0; body = Dir (minimal 0o755) (record { names = []; default = None; set_group_id = false; sticky = false }) }
+root_node = record { owner = 0; group = 0; body = Dir (minimal 0o755) (record { names = []; default = None; set_group_id = false; sticky = false }); stamps = no_stamps }
 
 root_is_node : (room : Room) → 16 ≤ room.inodes → IsNode room empty_tree root root_node
 root_is_node room many = record {
@@ -68,6 +69,7 @@ root_is_node room many = record {
   below = omega (arith, many);
   owner = omega arith;
   group = omega arith;
+  stamps = no_stamps_fit room.keeps_times;
   body = (minimal_valid 0o755, tt, record { names = refl; few = omega arith; each = λ name n e. absurd cc });
   names = refl;
   under_root = λ d. is_root;
@@ -121,7 +123,7 @@ module _ (p : Place) (image : SectorMap) (h : IsNewImage p image) where
 
   root_held : HoldsNode p.version image root_inode (record { node = root_node; names = 0; parent = root })
   unfolding names_of_slots
-  root_held = node_held p.version image root_inode _ refl refl refl refl refl (record {
+  root_held = node_held p.version image root_inode _ refl refl refl refl refl root_stamps (record {
     names = record {
       kind = refl;
       slots = [];

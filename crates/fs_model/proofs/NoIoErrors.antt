@@ -8,7 +8,7 @@ use Rattle.fs_cred.specs.declared.refusal.Refusal.TheVariants.{Failed}
 use Rattle.fs_cred.specs.Credentials.{Credential}
 use Rattle.fs_model.specs.declared.walk.Form.{Form}
 use Rattle.fs_model.specs.declared.event.Event.{Event}
-use Rattle.fs_model.specs.declared.event.Event.TheVariants.{Spawn, Exit, Call as Calls, Enter, Fsync, Sync, Statfs, Arm, Restart}
+use Rattle.fs_model.specs.declared.event.Event.TheVariants.{Spawn, Exit, Call as Calls, Enter, Stamp, Clock, Fsync, Sync, Statfs, Arm, Restart}
 use Rattle.fs_layout.specs.Maps.{get}
 use Rattle.fs_model.specs.Trees.{Tree, Room}
 use Rattle.fs_model.specs.Processes.{Process}
@@ -49,6 +49,8 @@ firm_spares s (Calls pid call) =
     process_spares (λ p. early_refusal p (row_of call)) (get nat_cmp s.desks pid) (λ p. early_spares p (row_of call) (each_call call).spares)
 firm_spares s (Fsync pid fd) = process_spares (λ p. is_bad fd p) (get nat_cmp s.desks pid) (λ p. refused EBADF _ refl)
 firm_spares s (Exit pid) = process_spares (λ p. None) (get nat_cmp s.desks pid) (λ p. refl)
+firm_spares s (Stamp n atime mtime ctime) = refl
+firm_spares s (Clock time) = refl
 firm_spares s (Enter pid directory second) = process_spares (λ p. None) (get nat_cmp s.desks pid) (λ p. refl)
 firm_spares s (Spawn cred) = refused EAGAIN _ refl
 firm_spares s Sync = refl
@@ -60,6 +62,8 @@ pub other_spares : (s : State) (e : Event) → Spares (other_refusal s e)
 unfolding other_refusal
 other_spares s (Calls pid call) =
     process_spares (λ p. late_refusal s p (row_of call)) (get nat_cmp s.desks pid) (λ p. late_spares s p (row_of call) (each_call call).spares)
+other_spares s (Clock time) = refl
+other_spares s (Stamp n atime mtime ctime) = refused ENOENT _ refl
 other_spares s (Enter pid directory second) =
     first_spares (enter_demands s.tree directory second)
     (refused ENOENT _ refl, (refused ENOENT _ refl, (refused ENOTDIR _ refl, (refused ENOTDIR _ refl, tt))))

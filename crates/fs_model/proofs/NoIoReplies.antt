@@ -8,7 +8,7 @@ use Rattle.fs_cred.specs.declared.refusal.Refusal.TheVariants.{Denied, Failed}
 use Rattle.fs_layout.specs.Maps.{get}
 use Rattle.fs_model.specs.declared.call.Call.{Call}
 use Rattle.fs_model.specs.declared.event.Event.{Event}
-use Rattle.fs_model.specs.declared.event.Event.TheVariants.{Spawn, Exit, Call as Calls, Enter, Fsync, Sync, Statfs, Arm, Restart}
+use Rattle.fs_model.specs.declared.event.Event.TheVariants.{Spawn, Exit, Call as Calls, Enter, Stamp, Clock, Fsync, Sync, Statfs, Arm, Restart}
 use Rattle.fs_model.specs.declared.reply.Reply.TheVariants.{Refused}
 use Rattle.fs_model.specs.Demands.{Demand}
 use Rattle.fs_model.specs.Processes.{Process}
@@ -35,6 +35,8 @@ event_answers s (Fsync pid fd) choice = refl
 event_answers s (Exit pid) choice = refl
 event_answers s (Spawn cred) choice = refl
 event_answers s (Enter pid directory second) choice = entering_answers s pid directory second (get nat_cmp s.desks pid)
+event_answers s (Stamp n atime mtime ctime) choice = refl
+event_answers s (Clock time) choice = refl
 event_answers s Sync choice = refl
 event_answers s Statfs choice = refl
 event_answers s (Arm k) choice = refl

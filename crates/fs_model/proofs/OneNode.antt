@@ -53,12 +53,13 @@ body_same version image v (Dir a d) (Link t) m h k = let c : kinds.Directory ≡
 body_same version image v (Link s) (File b t) m h k = let c : kinds.Link ≡ kinds.File = sym h.kind ∙ k.kind in absurd cc
 body_same version image v (Link s) (Dir b e) m h k = let c : kinds.Link ≡ kinds.Directory = sym h.kind ∙ k.names.kind in absurd cc
 
-node_parts : (x y : Node) → x.owner ≡ y.owner → x.group ≡ y.group → x.body ≡ y.body → x ≡ y
-node_parts x y e f g = let whole : record x { owner = x.owner } ≡ record y { owner = y.owner } = rw (e, f, g) refl in whole
+node_parts : (x y : Node) → x.owner ≡ y.owner → x.group ≡ y.group → x.body ≡ y.body → x.stamps ≡ y.stamps → x ≡ y
+node_parts x y e f g h = let whole : record x { owner = x.owner } ≡ record y { owner = y.owner } = rw (e, f, g, h) refl in whole
 
 pub node_same : (version : Version) (image : SectorMap) (v : Inode) (x y : Placed) → HoldsNode version image v x → HoldsNode version image v y → x.node ≡ y.node
 node_same version image v x y h k =
     node_parts x.node y.node (sym h.owner ∙ k.owner) (sym h.group ∙ k.group) (body_same version image v x.node.body y.node.body (sym h.mode ∙ k.mode) h.body k.body)
+    (sym h.stamps ∙ k.stamps)
 
 -- a free inode holds no node
 pub body_not_free : (version : Version) (image : SectorMap) (v : Inode) (b : Body) → HoldsBody version image v b → v.kind ≡ kinds.Free → ⊥

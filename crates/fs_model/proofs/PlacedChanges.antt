@@ -14,6 +14,7 @@ use Rattle.fs_layout.proofs.NameMaps.{leading}
 use Rattle.fs_model.specs.Nodes.{Node, names_in}
 use Rattle.fs_model.specs.Trees.{Tree, node_at, with_node, names_of, parent}
 use Rattle.fs_model.specs.Processes.{Desks, is_open}
+use Rattle.fs_model.specs.declared.touch.Touch.{Touch}
 use Rattle.fs_model.specs.TreeChanges.{Same, Rewrite, Make, AddName, TakeName, changed, swept, lives_nameless, with_names_at}
 use Rattle.fs_model.specs.States.{State, IsState}
 use Rattle.fs_model.specs.StoredNodes.{Placed, HoldsNode}
@@ -48,19 +49,19 @@ module _ (s : State) (is : IsState s) (up : IsFalse s.halted) (desks : Desks) (s
   pub same_held : HoldsAll p old (placed (swept (changed s.tree Same) desks))
   same_held = subst (λ u. HoldsAll p old (placed u)) (sym (open_stays s.room s.tree s.desks desks is.tree (is.desks up) still)) held
 
-  module _ (new : SectorMap) (n : ℕ) (was now : Node) (at : node_at s.tree n ≡ Some was) (may : MayReplace s.room s.tree was now) (changes : ChangesInode p n old new)
+  module _ (new : SectorMap) (touch : Touch) (n : ℕ) (was now : Node) (at : node_at s.tree n ≡ Some was) (may : MayReplace s.room s.tree was now) (changes : ChangesInode p n old new)
       (used : bit new p.inode_bitmap n ≡ bit old p.inode_bitmap n)
       (here : HoldsNode p.version new (inode_at p new n) (record { node = now; names = names_of s.tree n; parent = parent s.tree n })) where
     names_stay : (x : ℕ) → names_of (with_node s.tree n now) x ≡ names_of s.tree x
     names_stay x = names_of-rewritten s.tree n was now is.tree.numbers at may.names x
 
-    rewrite_stays : swept (changed s.tree (Rewrite n now)) desks ≡ with_node s.tree n now
+    rewrite_stays : swept (changed s.tree (Rewrite touch n now)) desks ≡ with_node s.tree n now
     rewrite_stays =
         nothing_goes s is up desks still (with_node s.tree n now) (replaced_is_tree s.room s.tree n was now is.tree at may) (replaced_keeps_types s.tree n was now at may.same)
         (λ x there none. (sym (there-rewritten s.tree n was now is.tree.numbers at may.names x) ∙ there, sym (names_stay x) ∙ none))
 
     -- the node at n was rewritten
-    pub rewrite_held : HoldsAll p new (placed (swept (changed s.tree (Rewrite n now)) desks))
+    pub rewrite_held : HoldsAll p new (placed (swept (changed s.tree (Rewrite touch n now)) desks))
     rewrite_held =
         let there : placed (with_node s.tree n now) n ≡ Some (record { node = now; names = names_of s.tree n; parent = parent s.tree n }) =
         placed_from (with_node s.tree n now) n (Some now) _ _ (at_it s.tree n now) (names_stay n) (parent-rewritten s.tree n was now is.tree.numbers at may.names n) in

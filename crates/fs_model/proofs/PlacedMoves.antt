@@ -55,6 +55,7 @@ pub named_anywhere : (version : Version) (image : SectorMap) (v : Inode) (x : Pl
 named_anywhere version image v x up other h = record {
   owner = h.owner;
   group = h.group;
+  stamps = h.stamps;
   mode = h.mode;
   names = h.names;
   parent = h.parent ∙ go x.node.body other;

@@ -8,7 +8,7 @@ use Rattle.std.specs.FinMap.Entries.{by_order}
 use Rattle.fs_model.specs.Limits.{root}
 use Rattle.fs_layout.specs.Maps.{get, IsMap}
 use Rattle.fs_model.specs.Nodes.{Node, Body, names_in, is_directory}
-use Rattle.fs_model.specs.Trees.{Tree, Room, node_at, with_node, names_for, names_of, parent, IsBody, NamesFit, IsUnderRoot, is_root, is_in, IsNode, IsTree, IsDirectoryAt}
+use Rattle.fs_model.specs.Trees.{Tree, Room, node_at, with_node, names_for, names_of, parent, IsBody, NamesFit, AreStamps, IsUnderRoot, is_root, is_in, IsNode, IsTree, IsDirectoryAt}
 use Rattle.fs_layout.proofs.FirstEntries.{above, left, right, lower, tied}
 use Rattle.fs_layout.proofs.MapLaws.{get-with_entry, with_entry-IsMap, sum-with_entry, summand}
 use Rattle.fs_layout.proofs.NameMaps.{leading}
@@ -66,6 +66,7 @@ pub record MayStandFor (room : Room) (t : Tree) (k : ℕ) (old new : Node) : Typ
   pub owner : new.owner < 2 ^ 32
   pub group : new.group < 2 ^ 32
   pub body : IsBody room t new.body
+  pub stamps : AreStamps room.keeps_times new.stamps
   pub fits : NamesFit room k new.body (names_of t k)
 
 pub rewritten_is_tree : (room : Room) (t : Tree) (k : ℕ) (old new : Node) → IsTree room t → node_at t k ≡ Some old → MayStandFor room t k old new → IsTree room (with_node t k new)
@@ -109,6 +110,7 @@ rewritten_is_tree room t k old new h was w = record {
           below = was_node.below;
           owner = w.owner;
           group = w.group;
+          stamps = w.stamps;
           body = body_moves room t (with_node t k new) new.body (λ q h. there q ∙ h) w.body;
           names = fits_moves room k new.body _ _ (names_of-rewritten t k old new h.numbers was w.names k) w.fits;
           under_root = λ d. under t (with_node t k new) parents (was_node.under_root (sym w.kind ∙ d));
@@ -120,6 +122,7 @@ rewritten_is_tree room t k old new h was w = record {
           below = was_node.below;
           owner = was_node.owner;
           group = was_node.group;
+          stamps = was_node.stamps;
           body = body_moves room t (with_node t k new) node.body (λ q h. there q ∙ h) was_node.body;
           names = fits_moves room n node.body _ _ (names_of-rewritten t k old new h.numbers was w.names n) was_node.names;
           under_root = λ d. under t (with_node t k new) parents (was_node.under_root d);

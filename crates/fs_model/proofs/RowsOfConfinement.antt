@@ -7,7 +7,7 @@ use Rattle.fs_cred.specs.declared.caps.Caps.{Caps}
 use Rattle.fs_cred.specs.Capabilities.{cap_chown, cap_dac_override, cap_dac_read_search, cap_fowner, cap_fsetid, no_caps}
 use Rattle.fs_cred.specs.Credentials.{credential, usual_credential}
 use Rattle.fs_cred.specs.Verdicts.{verdict}
-use Rattle.fs_model.specs.Nodes.{Node, Body, File, Dir, Link, bytes_in}
+use Rattle.fs_model.specs.Nodes.{Node, Body, File, Dir, Link, bytes_in, no_stamps}
 use Rattle.fs_model.specs.Trees.{node_at}
 use Rattle.fs_model.specs.Processes.{Process, Descriptor, no_descriptor, new_process, with_descriptor}
 use Rattle.fs_model.specs.States.{State}
@@ -16,7 +16,7 @@ use Rattle.fs_model.proofs.Machine.{fresh}
 
 -- all objects here belong to user 1000 and group 100
 abbrev object : Body → Node
-object body = record { owner = 1000; group = 100; body = body }
+object body = record { owner = 1000; group = 100; body = body; stamps = no_stamps }
 
 abbrev file : ℕ → List ℕ → Node
 file mode bytes = object (File (minimal mode) bytes)

@@ -1,4 +1,5 @@
 -- Objects as an image holds them, their bytes written out.
+use Rattle.fs_model.specs.StoredStamps.{stamps_in}
 use Rattle.std.specs.Prelude.{◌≡◌, ◌≢◌, ℕ, zero, suc, ◌-◌, ◌/◌, ◌%◌, ◌<◌, ◌≤◌, ◌^◌, nat_eq, true, cond, List, [], ◌∷◌, ◌++◌, ◌*◌, length, get_or, codes, None, Some, All}
 use Rattle.std.proofs.Common.{refl, sym, ap, arith, ◌∙◌, inl, inr}
 use Rattle.std.proofs.lemmas.Bool.{cases_lt}
@@ -17,7 +18,7 @@ use Rattle.fs_layout.specs.AclSector.{entries_bytes, acl_content}
 use Rattle.fs_layout.specs.Images.{pointer, byte_in, byte_at, Holds, HasNoHole}
 use Rattle.fs_layout.proofs.Pointers.{pointer_direct, pointer_without, trims_small}
 use Rattle.fs_layout.proofs.SplicedBytes.{get_or-zeros}
-use Rattle.fs_model.specs.Nodes.{File, Dir, Link, Directory}
+use Rattle.fs_model.specs.Nodes.{File, Dir, Link, Directory, no_stamps}
 use Rattle.fs_layout.specs.Directories.{HaveDistinctNames, slots_bytes, names_of_slots, NamedInode, FitsSlot}
 use Rattle.fs_model.specs.StoredNodes.{HoldsNode}
 use Rattle.fs_model.proofs.NodesHeld.{node_held}
@@ -144,9 +145,9 @@ directory_inode = with_block 149 (record free_inode { kind = kinds.Directory; mo
 link_inode : Inode
 link_inode = with_block 150 (record free_inode { kind = kinds.Link; mode = 0o777; names = 2; size = 1 })
 
-a_file_with_an_acl : HoldsNode One image file_inode (record { node = record { owner = 1000; group = 100; body = File acl (codes "hello") }; names = 1; parent = 1 })
-unfolding file_inode with_block acl image acl_sector file_block acl_content entries_bytes le16 le32 zeros
-a_file_with_an_acl = node_held One image file_inode _ refl refl refl refl refl (record {
+a_file_with_an_acl : HoldsNode One image file_inode (record { node = record { owner = 1000; group = 100; body = File acl (codes "hello"); stamps = no_stamps }; names = 1; parent = 1 })
+unfolding stamps_in file_inode with_block acl image acl_sector file_block acl_content entries_bytes le16 le32 zeros
+a_file_with_an_acl = node_held One image file_inode _ refl refl refl refl refl refl (record {
   kind = refl;
   holds = one_block_holds image file_inode 147 (codes "hello")
       (one_block image file_inode 147 (codes "hello") refl refl refl (λ e. omega (arith, e)) refl refl (omega arith) (omega arith));
@@ -210,9 +211,9 @@ directory_has_a_block = one_block image directory_inode 149 (slots_bytes One slo
 abbrev two_names : Directory
 two_names = record { names = (codes "a", 2) ∷ (codes "b", 3) ∷ []; default = None; set_group_id = true; sticky = true }
 
-a_directory_with_two_names : HoldsNode One image directory_inode (record { node = record { owner = 0; group = 0; body = Dir (minimal 0o755) two_names }; names = 1; parent = 1 })
-unfolding directory_inode with_block names_of_slots zeros
-a_directory_with_two_names = node_held One image directory_inode _ refl refl refl refl refl (record {
+a_directory_with_two_names : HoldsNode One image directory_inode (record { node = record { owner = 0; group = 0; body = Dir (minimal 0o755) two_names; stamps = no_stamps }; names = 1; parent = 1 })
+unfolding stamps_in directory_inode with_block names_of_slots zeros
+a_directory_with_two_names = node_held One image directory_inode _ refl refl refl refl refl refl (record {
   names = record {
     kind = refl;
     slots = slots;
@@ -235,12 +236,18 @@ link_has_a_block : HasOneBlock image link_inode 150 (codes "a")
 unfolding link_inode with_block image target_block zeros
 link_has_a_block = one_block image link_inode 150 (codes "a") refl refl refl (λ e. omega (arith, e)) refl refl (omega arith) (omega arith)
 
-a_link_with_two_names : HoldsNode One image link_inode (record { node = record { owner = 0; group = 0; body = Link (codes "a") }; names = 2; parent = 1 })
-unfolding link_inode with_block zeros
-a_link_with_two_names = node_held One image link_inode _ refl refl refl refl refl (record {
+a_link_with_two_names : HoldsNode One image link_inode (record { node = record { owner = 0; group = 0; body = Link (codes "a"); stamps = no_stamps }; names = 2; parent = 1 })
+unfolding stamps_in link_inode with_block zeros
+a_link_with_two_names = node_held One image link_inode _ refl refl refl refl refl refl (record {
   kind = refl;
   holds = one_block_holds image link_inode 150 (codes "a") link_has_a_block;
   whole = one_block_is_whole image link_inode 150 (codes "a") link_has_a_block;
   no_acl = refl;
   no_default = refl;
 })
+
+-- ---- times
+
+times_of_an_inode : stamps_in (record free_inode { mtime = 2; ctime = 3; atime = 1 }) ≡ record { atime = 1; mtime = 2; ctime = 3 }
+unfolding stamps_in
+times_of_an_inode = refl

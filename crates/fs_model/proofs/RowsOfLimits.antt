@@ -9,7 +9,7 @@ use Rattle.fs_model.specs.declared.call.AclType.TheVariants.{Access as AccessAcl
 use Rattle.fs_model.specs.declared.call.Call.TheVariants.{Open, Write, Stat, Truncate, SetAcl, Mkdir, Link, Symlink, Rename}
 use Rattle.fs_model.specs.declared.reply.Reply.TheVariants.{Done, Pid, Fd, Wrote, Space}
 use Rattle.fs_model.specs.declared.event.Event.TheVariants.{Call as Calls, Statfs}
-use Rattle.fs_model.specs.Nodes.{Node, Dir, File}
+use Rattle.fs_model.specs.Nodes.{Node, Dir, File, no_stamps}
 use Rattle.fs_layout.specs.declared.version.Version.TheVariants.{Three}
 use Rattle.fs_model.specs.States.{State}
 use Rattle.fs_model.specs.Stands.{room_with}
@@ -33,10 +33,11 @@ directory mode names = record {
   owner = 0;
   group = 0;
   body = Dir (minimal mode) (record { names = names; default = None; set_group_id = false; sticky = false });
+  stamps = no_stamps;
 }
 
 abbrev empty_file : Node
-empty_file = record { owner = 0; group = 0; body = File (minimal 0o644) [] }
+empty_file = record { owner = 0; group = 0; body = File (minimal 0o644) []; stamps = no_stamps }
 
 -- the directory /n with 499 names of a file and 59 of another
 abbrev crowded : State

@@ -1,5 +1,7 @@
 -- An image that holds a tree obeys the rules.
-use Rattle.std.specs.Prelude.{◌≡◌, ◌≢◌, ℕ, ◌+◌, ◌*◌, ◌%◌, ◌<◌, ◌≤◌, ◌==◌, ◌||◌, nat_lt, nat_le, nat_eq, not, Bool, true, false, cond, List, length, get_or, Option, Some, None, is_some, IsTrue, Ok}
+use Rattle.fs_model.specs.StoredStamps.{stamps_in}
+use Rattle.fs_model.proofs.StoredStamps.{free_stamps}
+use Rattle.std.specs.Prelude.{◌≡◌, ◌≢◌, ℕ, ◌+◌, ◌*◌, ◌%◌, ◌<◌, ◌≤◌, ◌==◌, ◌||◌, nat_lt, nat_le, nat_eq, not, Bool, true, false, cond, List, length, get_or, Option, Some, None, is_some, IsTrue, Ok, IsFalse}
 use Rattle.std.proofs.Common.{refl, sym, ap, arith, ◌∙◌, subst, inl, inr}
 use Rattle.std.specs.Option.{option_map}
 use Rattle.std.proofs.lemmas.Bool.{cases_eq, cases_lt}
@@ -19,10 +21,10 @@ use Rattle.fs_layout.proofs.AclSectorLaw.{acl_sector_codec}
 use Rattle.fs_layout.proofs.Free.{free_has_no_sector, holds_nothing, inode_fits_there}
 use Rattle.fs_layout.proofs.Parts.{owns_block}
 use Rattle.fs_layout.proofs.Pointers.{trimmed_double}
-use Rattle.fs_layout.specs.Version.{max_file_size, max_inode_names, max_directory_size, slot_size}
+use Rattle.fs_layout.specs.Version.{max_file_size, max_inode_names, max_directory_size, slot_size, keeps_times}
 use Rattle.fs_model.specs.Limits.{root}
 use Rattle.fs_layout.specs.Maps.{name_cmp, get}
-use Rattle.fs_model.specs.Nodes.{Node, Body, File, Dir, Link, Directory, shown_mode}
+use Rattle.fs_model.specs.Nodes.{Node, Body, File, Dir, Link, Directory, shown_mode, no_stamps}
 use Rattle.fs_model.specs.Trees.{Tree, Room, node_at, names_of, parent, IsBody, NamesFit, IsUnderRoot, is_root, is_in, IsDirectoryAt, IsTree, IsTarget, IsDirectory}
 use Rattle.fs_model.specs.StoredNodes.{Placed, HoldsBody, HoldsNode, names_field, parent_field}
 use Rattle.fs_model.specs.Stands.{HoldsPlaced, HoldsAll, placed, room_of}
@@ -145,8 +147,8 @@ its_parent version m v (Link target) parent h e k = absurd (let c : kinds.Link �
 -- what a version allows
 body_allowed : (version : Version) (room : Room) → room.file_limit ≡ max_file_size version
     → (t : Tree) (m : SectorMap) (v : Inode) (b : Body) → HoldsBody version m v b → IsBody room t b → IsTrue (inode_fits v)
-    → IsAllowed version v
-body_allowed version room same t m v (File a bytes) h is fits =
+    → (IsFalse (keeps_times version) → stamps_in v ≡ no_stamps) → IsAllowed version v
+body_allowed version room same t m v (File a bytes) h is fits none =
     let size = h.holds.size in
     let few = is.1 in
     record {
@@ -154,8 +156,9 @@ body_allowed version room same t m v (File a bytes) h is fits =
       double_indirect = λ low. trimmed_double m v h.holds.trim (omega (arith, size, few, same, low));
       directory = λ e. absurd (let c : kinds.File ≡ kinds.Directory = sym h.kind ∙ e in cc);
       slots = λ e. absurd (let c : kinds.File ≡ kinds.Directory = sym h.kind ∙ e in cc);
+      stamps = none;
     }
-body_allowed version room same t m v (Dir a d) h is fits =
+body_allowed version room same t m v (Dir a d) h is fits none =
     let n = h.names in
     let size : v.size ≡ slot_size version * length n.slots = n.holds.size ∙ length-slots version n.slots n.each in
     let few : v.size ≤ max_directory_size version = subst (λ q. q ≤ max_directory_size version) (sym size) (slots_most version (length n.slots) n.few) in
@@ -164,14 +167,16 @@ body_allowed version room same t m v (Dir a d) h is fits =
       double_indirect = λ low. trimmed_double m v n.holds.trim (let most = directory_low version low in omega (arith, few, most));
       directory = λ e. few;
       slots = λ e. slots_even version (length n.slots) v.size size;
+      stamps = none;
     }
-body_allowed version room same t m v (Link target) h is fits =
+body_allowed version room same t m v (Link target) h is fits none =
     let few = (link_fits v h.kind fits).2 in
     record {
       size = λ e. absurd (let c : kinds.Link ≡ kinds.File = sym h.kind ∙ e in cc);
       double_indirect = λ low. trimmed_double m v h.holds.trim (omega (arith, few));
       directory = λ e. absurd (let c : kinds.Link ≡ kinds.Directory = sym h.kind ∙ e in cc);
       slots = λ e. absurd (let c : kinds.Link ≡ kinds.Directory = sym h.kind ∙ e in cc);
+      stamps = none;
     }
 
 free_allowed : (version : Version) → IsAllowed version free_inode
@@ -180,6 +185,7 @@ free_allowed version = record {
   double_indirect = λ low. refl;
   directory = λ e. absurd (let c : kinds.Free ≡ kinds.Directory = e in cc);
   slots = λ e. absurd (let c : kinds.Free ≡ kinds.Directory = e in cc);
+  stamps = λ less. free_stamps;
 }
 
 -- ---- the whole tree
@@ -197,7 +203,7 @@ module _ (p : Place) (m : SectorMap) (t : Tree) (held : HoldsAll p m (placed t))
 
   stored_if : (n : ℕ) (o : Option Node) → HoldsPlaced p m n (option_map (put n) o) → StoresAt p.version m (inode_at p m n) o
   stored_if n None h = h
-  stored_if n (Some node) h = record { owner = h.owner; group = h.group; mode = h.mode; body = h.body }
+  stored_if n (Some node) h = record { owner = h.owner; group = h.group; mode = h.mode; stamps = h.stamps; body = h.body }
 
   pub stores : Stores p m t
   stores = record {
@@ -224,7 +230,8 @@ module _ (p : Place) (m : SectorMap) (t : Tree) (held : HoldsAll p m (placed t))
     is = held.consistent.valid n lt;
     allowed = by_node (λ q. IsAllowed p.version (inode_at p m q)) n lt
         (λ free. subst (IsAllowed p.version) (sym free) (free_allowed p.version))
-        (λ node at h. body_allowed p.version (room_of p) refl t m (inode_at p m n) node.body h.body (is.each n node at).body (inode_fits_there held.consistent n lt).valid.numbers);
+        (λ node at h. body_allowed p.version (room_of p) refl t m (inode_at p m n) node.body h.body (is.each n node at).body (inode_fits_there held.consistent n lt).valid.numbers
+        (λ less. h.stamps ∙ (is.each n node at).stamps.none less));
     none = λ e. by_node (λ q. (inode_at p m q).kind ≡ kinds.Free) n lt (λ free. ap (λ (v : Inode). v.kind) free)
         (λ node at h. absurd (let positive = (is.each n node at).positive in omega (arith, positive, e)));
     top = λ e. subst (λ q. (inode_at p m q).kind ≡ kinds.Directory) (sym e) (directory_stored p m t stores root is.root_is_there).1;

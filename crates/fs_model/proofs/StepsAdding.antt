@@ -157,6 +157,7 @@ module _ (room : Room) (t w : Tree) (dir : ℕ) (directory : Node) (name : List 
     below = was.below;
     owner = was.owner;
     group = was.group;
+    stamps = was.stamps;
     body = body_moves room t u node.body there was.body;
   }
 
@@ -170,6 +171,7 @@ module _ (room : Room) (t w : Tree) (dir : ℕ) (directory : Node) (name : List 
         below = was.below;
         owner = was.owner;
         group = was.group;
+        stamps = was.stamps;
         body = body_renamed room t u directory.body new adds.takes.is_dir are_new was.body;
       })
       (same_fit room dir (names_of u dir) (with_names new directory.body) directory.body type (subst (NamesFit room dir directory.body) (sym (count_other dir dir_apart)) was.names))
@@ -183,6 +185,7 @@ module _ (room : Room) (t w : Tree) (dir : ℕ) (directory : Node) (name : List 
         below = adds.shape.below;
         owner = adds.shape.owner;
         group = adds.shape.group;
+        stamps = adds.shape.stamps;
         body = body_moves room t u target.body there adds.shape.body;
       })
       (let all = count n in let one = once_same n n refl in let same : names_of t n + 1 ≡ names_of u n = omega (arith, all, one) in subst (NamesFit room n target.body) same adds.fits)
@@ -245,7 +248,7 @@ gives_name room t dir directory name n target is gives =
       types = types_stay t;
       takes = gives.takes;
       apart = apart;
-      shape = record { positive = node.positive; below = node.below; owner = node.owner; group = node.group; body = node.body };
+      shape = record { positive = node.positive; below = node.below; owner = node.owner; group = node.group; body = node.body; stamps = node.stamps };
       fits = one_name_more room n target.body (names_of t n) gives.no_directory gives.few;
       unnamed = λ d. absurd (let other = gives.no_directory in cc);
     }

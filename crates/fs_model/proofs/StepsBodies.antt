@@ -144,6 +144,7 @@ module _ (room : Room) (t : Tree) (n : ℕ) (node : Node) (is : IsNode room t n 
     names = names_with_bytes bytes node.body;
     owner = is.owner;
     group = is.group;
+    stamps = is.stamps;
     body = body_with_bytes room t bytes node.body few are is.body;
   }
 
@@ -153,6 +154,7 @@ module _ (room : Room) (t : Tree) (n : ℕ) (node : Node) (is : IsNode room t n 
     names = names_with_mode cred node.group mode node.body;
     owner = is.owner;
     group = is.group;
+    stamps = is.stamps;
     body = body_with_mode room t cred node.group mode node.body is.body;
   }
 
@@ -163,6 +165,7 @@ module _ (room : Room) (t : Tree) (n : ℕ) (node : Node) (is : IsNode room t n 
     names = (acl_keeps which acl node.body).1;
     owner = is.owner;
     group = is.group;
+    stamps = is.stamps;
     body = body_with_acl room t which acl node.body valid is.body;
   }
 
@@ -172,5 +175,6 @@ module _ (room : Room) (t : Tree) (n : ℕ) (node : Node) (is : IsNode room t n 
     names = refl;
     owner = id_is owner node.owner o is.owner;
     group = id_is group node.group g is.group;
+    stamps = is.stamps;
     body = is.body;
   }

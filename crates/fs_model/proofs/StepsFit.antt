@@ -8,6 +8,7 @@ use Rattle.fs_model.specs.Nodes.{Node}
 use Rattle.fs_model.specs.Trees.{Tree, Room, node_at, with_node, IsTree}
 use Rattle.fs_model.specs.Processes.{Process}
 use Rattle.fs_model.specs.Births.{the_node, no_node}
+use Rattle.fs_model.specs.declared.touch.Touch.{Touch}
 use Rattle.fs_model.specs.TreeChanges.{Same, Rewrite, changed}
 use Rattle.fs_model.specs.States.{State, IsProcess, IsState}
 use Rattle.fs_model.specs.Scenes.{Scene, Effect, Row}
@@ -78,9 +79,9 @@ pub no_change_fits : (s : State) (p : Process) (reply : Reply) → IsState s →
 no_change_fits s p reply is fits = record { tree = is.tree; types = types_stay s.tree; process = fits }
 
 -- one node is rewritten
-pub rewrite_fits : (s : State) (n : ℕ) (old new : Node) (p : Process) (reply : Reply) → IsState s → node_at s.tree n ≡ Some old
-    → MayReplace s.room s.tree old new → IsProcess s.tree p → EffectFits s (record { change = Rewrite n new; process = p; reply = reply })
-rewrite_fits s n old new p reply is was may fits =
+pub rewrite_fits : (s : State) (touch : Touch) (n : ℕ) (old new : Node) (p : Process) (reply : Reply) → IsState s → node_at s.tree n ≡ Some old
+    → MayReplace s.room s.tree old new → IsProcess s.tree p → EffectFits s (record { change = Rewrite touch n new; process = p; reply = reply })
+rewrite_fits s touch n old new p reply is was may fits =
     let types : KeepsTypes s.tree (with_node s.tree n new) = replaced_keeps_types s.tree n old new was may.same in
     record {
       tree = replaced_is_tree s.room s.tree n old new is.tree was may;

@@ -1,5 +1,10 @@
 -- A step leads from states to states.
-use Rattle.std.specs.Prelude.{◌≡◌, ℕ, ◌+◌, ◌≤◌, nat_le, Bool, true, false, not, cond, length, Option, None, Some, is_some, IsFalse}
+use Rattle.fs_model.proofs.Restamps.{touched_is_tree, touched_is_state, free-touched, none_touched}
+use Rattle.fs_model.specs.Nodes.{stamped, Node}
+use Rattle.fs_model.specs.Births.{the_node}
+use Rattle.fs_model.proofs.StepsKinds.{process_moves, MayReplace, replaced_is_tree, replaced_keeps_types}
+use Rattle.fs_model.proofs.StoredStamps.{stamped_fit}
+use Rattle.std.specs.Prelude.{◌≡◌, ℕ, ◌+◌, ◌≤◌, ◌<◌, ◌^◌, nat_le, Bool, true, false, not, cond, length, Option, None, Some, is_some, IsFalse}
 use Rattle.std.proofs.Common.{refl, sym, arith, subst, inl, inr}
 use Rattle.std.proofs.lemmas.Bool.{not-false}
 use Rattle.std.proofs.lemmas.Bool.Decides.{nat_tests}
@@ -7,27 +12,27 @@ use Rattle.std.specs.Ordering.{nat_cmp}
 use Rattle.fs_cred.specs.declared.errno.Errno.TheVariants.{ENOENT, ENOTDIR, EAGAIN}
 use Rattle.fs_model.specs.declared.call.Call.{Call}
 use Rattle.fs_model.specs.declared.event.Event.{Event}
-use Rattle.fs_model.specs.declared.event.Event.TheVariants.{Spawn, Exit, Call as Calls, Enter, Fsync, Sync, Statfs, Arm, Restart}
+use Rattle.fs_model.specs.declared.event.Event.TheVariants.{Spawn, Exit, Call as Calls, Enter, Stamp, Clock, Fsync, Sync, Statfs, Arm, Restart}
 use Rattle.fs_model.specs.declared.reply.Reply.{Reply}
 use Rattle.fs_model.specs.Limits.{processes_limit}
 use Rattle.fs_layout.specs.Maps.{get, with_entry, without, IsMap}
 use Rattle.fs_model.specs.Processes.{Process, Desks, new_process, standing_at}
-use Rattle.fs_model.specs.Nodes.{Node}
-use Rattle.fs_model.specs.Trees.{Tree, node_at, IsDirectoryAt}
-use Rattle.fs_model.specs.TreeChanges.{changed}
+use Rattle.fs_model.specs.Trees.{Tree, node_at, with_node, IsDirectoryAt, IsTree}
+use Rattle.fs_model.specs.TreeChanges.{changed, swept, touches, touched}
 use Rattle.fs_model.specs.Walks.{is_nondirectory, is_nondirectory_node}
 use Rattle.fs_model.specs.declared.reply.Reply.TheVariants.{Done}
-use Rattle.fs_model.specs.States.{State, IsProcess, IsState}
+use Rattle.fs_model.specs.States.{State, MayBeFree, IsProcess, IsState}
 use Rattle.fs_model.specs.Demands.{refuse, first_of}
 use Rattle.fs_model.specs.Scenes.{Row, with_process}
 use Rattle.fs_model.specs.Rows.{row_of}
-use Rattle.fs_model.specs.Steps.{Choice, After, after, after_call, after_enter, enter_demands, demand_of, early_refusal, late_refusal, firm_refusal, other_refusal, scene_of, Acts, HasNewNumber, HaltedDesks, Answers, is_halted, refuses_early, refuses_late, acts, lacks_memory, read_fails, write_fails, Step}
-use Rattle.fs_model.specs.Ranges.{IsEvent, IsCall}
+use Rattle.fs_model.specs.Steps.{Choice, After, kept_stamps, with_stamps, after_stamp, after, after_call, after_enter, enter_demands, demand_of, early_refusal, late_refusal, firm_refusal, other_refusal, scene_of, Acts, HasNewNumber, tree_after, state_after, HaltedDesks, Answers, is_halted, refuses_early, refuses_late, acts, lacks_memory, read_fails, write_fails, Step}
+use Rattle.fs_model.specs.Ranges.{IsEvent, IsCall, IsSomeCount}
 use Rattle.fs_layout.proofs.MapLaws.{with_entry-IsMap, length-with_entry}
 use Rattle.fs_model.proofs.StepsDemands.{unrefused, all_met}
-use Rattle.fs_model.proofs.StepsFit.{length-replaced, no_change_fits, effect_leaves}
+use Rattle.fs_model.proofs.StepsFit.{node_is_there, length-replaced, no_change_fits, effect_leaves}
 use Rattle.fs_model.proofs.StepsOfCalls.{process_leaves}
 use Rattle.fs_model.proofs.StepsProcesses.{without-IsMap, in_without, length-without, in_with_entry, standing_at_fits, new_process_fits}
+use Rattle.fs_model.proofs.Swept.{swept_is_tree}
 use Rattle.fs_model.proofs.StepsSwept.{MayBeLeft, left_is_state, tree_may_be_left}
 
 -- ---- the desks after an event
@@ -73,6 +78,8 @@ desks_after s (Spawn cred) choice are firm = (
 desks_after s (Exit pid) choice are firm =
     (without-IsMap s.desks pid are.0, (let less = length-without s.desks pid in let few = are.1 in omega (arith, less, few)))
 desks_after s (Enter pid directory second) choice are firm = desks_after_enter s pid directory second (get nat_cmp s.desks pid) refl are
+desks_after s (Stamp n atime mtime ctime) choice are firm = are
+desks_after s (Clock time) choice are firm = are
 desks_after s (Fsync pid fd) choice are firm = are
 desks_after s Sync choice are firm = are
 desks_after s Statfs choice are firm = are
@@ -114,6 +121,25 @@ module _ (s : State) (is : IsState s) (runs : IsFalse s.halted) where
       (standing_at_fits s.tree p ((is.desks runs).processes pid p here) directory second
       (directory_met s.tree directory are.0 are.1.1.0) (directory_met s.tree second are.1.0 are.1.1.1.0)))
 
+  stamp_leaves : (n : ℕ) (atime mtime ctime : Option ℕ) → IsSomeCount atime → IsSomeCount mtime → IsSomeCount ctime
+      → refuse ENOENT (not (is_some (node_at s.tree n))) ≡ None → Leaves (after_stamp s n (stamped atime mtime ctime))
+  stamp_leaves n atime mtime ctime a m c met =
+      let node = the_node s.tree n in
+      let there : node_at s.tree n ≡ Some node = node_is_there s.tree n (not-false _ (unrefused ENOENT (not (is_some (node_at s.tree n))) met)) in
+      let was = is.tree.each n node there in
+      let x = kept_stamps s.room node.stamps (stamped atime mtime ctime node.stamps) in
+      let may : MayReplace s.room s.tree node (with_stamps x node) = record {
+        same = refl;
+        names = refl;
+        owner = was.owner;
+        group = was.group;
+        body = was.body;
+        stamps = stamped_fit s.room.keeps_times atime mtime ctime node.stamps a m c was.stamps;
+      } in
+      let u = with_node s.tree n (with_stamps x node) in
+      tree_may_be_left s.room u s.desks (replaced_is_tree s.room s.tree n node (with_stamps x node) is.tree there may) is.pids is.few
+      (λ pid p at. process_moves s.tree u (replaced_keeps_types s.tree n node (with_stamps x node) there refl) p ((is.desks runs).processes pid p at))
+
   event_leaves : (e : Event) (choice : Choice) → IsEvent e → firm_refusal s e ≡ None → other_refusal s e ≡ None
       → HasNewNumber s (after s e choice).change → Leaves (after s e choice)
   unfolding after firm_refusal other_refusal
@@ -131,6 +157,9 @@ module _ (s : State) (is : IsState s) (runs : IsFalse s.halted) where
       (λ q p at. (is.desks runs).processes q p (in_without s.desks pid q p is.pids at))
   event_leaves (Enter pid directory second) choice in_range firm other fresh =
       enter_leaves pid directory second (get nat_cmp s.desks pid) refl other
+  event_leaves (Stamp n atime mtime ctime) choice in_range firm other fresh =
+      stamp_leaves n atime mtime ctime in_range.1 in_range.2 in_range.3 other
+  event_leaves (Clock time) choice in_range firm other fresh = same_left
   event_leaves (Fsync pid fd) choice in_range firm other fresh = same_left
   event_leaves Sync choice in_range firm other fresh = same_left
   event_leaves Statfs choice in_range firm other fresh = same_left
@@ -147,6 +176,7 @@ halted_is_state s desks is are = record {
   pids = are.0;
   few = are.1;
   free = is.free;
+  now = is.now;
   desks = λ runs. absurd cc;
 }
 
@@ -157,22 +187,76 @@ halted_desks s e choice desks is firm which = elim which [
   | inr then ↦ subst AreDesks (sym then) (desks_after s e choice (is.pids, is.few) firm)
 ]
 
+-- the time is one that was told
+now_after : (s : State) (e : Event) (choice : Choice) → IsState s → IsEvent e → (after s e choice).now < 2 ^ 64
+unfolding after
+now_after s (Calls pid call) choice is fits = go (get nat_cmp s.desks pid)
+  where
+    go : (o : Option Process) → (after_call s pid (row_of call) choice.number o).now < 2 ^ 64
+    go None = is.now
+    go (Some p) = is.now
+now_after s (Enter pid directory second) choice is fits = go (get nat_cmp s.desks pid)
+  where
+    go : (o : Option Process) → (after_enter s pid directory second o).now < 2 ^ 64
+    go None = is.now
+    go (Some p) = is.now
+now_after s (Clock time) choice is fits = fits
+now_after s (Stamp n atime mtime ctime) choice is fits = is.now
+now_after s (Spawn cred) choice is fits = is.now
+now_after s (Exit pid) choice is fits = is.now
+now_after s (Fsync pid fd) choice is fits = is.now
+now_after s Sync choice is fits = is.now
+now_after s Statfs choice is fits = is.now
+now_after s (Arm k) choice is fits = is.now
+now_after s (Restart bytes arm) choice is fits = is.now
+
+-- the change, the sweep, and the times that move
+pub acted_is_tree : (s : State) (a : After) → IsState s → MayBeLeft s.room (changed s.tree a.change) a.desks → IsTree s.room (tree_after s a)
+acted_is_tree s a is left = go s.room.keeps_times refl
+  where
+    go : (b : Bool) → s.room.keeps_times ≡ b → IsTree s.room (tree_after s a)
+    go true keeps =
+        touched_is_tree s.room (swept (changed s.tree a.change) a.desks) s.now (touches s.room s.tree a.change) keeps is.now
+        (swept_is_tree s.room (changed s.tree a.change) a.desks left.tree)
+    go false none =
+        subst (λ es. IsTree s.room (touched s.now es (swept (changed s.tree a.change) a.desks)))
+        (sym (none_touched s.room s.tree a.change none)) (swept_is_tree s.room (changed s.tree a.change) a.desks left.tree)
+
+pub acted_is_state : (s : State) (a : After) (free : ℕ) → IsState s → MayBeLeft s.room (changed s.tree a.change) a.desks → a.now < 2 ^ 64
+    → MayBeFree s.room (tree_after s a) free → IsState (state_after s a free)
+acted_is_state s a free is left small may = go s.room.keeps_times refl
+  where
+    u : Tree
+    u = swept (changed s.tree a.change) a.desks
+
+    left_is : IsState (record s { tree = u; desks = a.desks; free = free; now = a.now })
+    left_is =
+        left_is_state (record s { now = a.now }) (changed s.tree a.change) a.desks free is.room small left
+        (free-touched s.now (touches s.room s.tree a.change) s.room (swept (changed s.tree a.change) a.desks) free may)
+
+    go : (b : Bool) → s.room.keeps_times ≡ b → IsState (state_after s a free)
+    go true keeps =
+        touched_is_state (record s { tree = swept (changed s.tree a.change) a.desks; desks = a.desks; free = free; now = a.now })
+        s.now (touches s.room s.tree a.change) keeps is.now left_is
+    go false none =
+        subst (λ es. IsState (record s { tree = touched s.now es (swept (changed s.tree a.change) a.desks); desks = a.desks; free = free; now = a.now }))
+        (sym (none_touched s.room s.tree a.change none)) left_is
+
 -- what a step leaves where each effect leaves what may be left
-answered_is_state : (old new : State) (e : Event) (reply : Reply) → IsState old → Answers old e reply new
+answered_is_state : (old new : State) (e : Event) (reply : Reply) → IsState old → IsEvent e → Answers old e reply new
     → ((choice : Choice) → Acts old e choice → MayBeLeft old.room (changed old.tree (after old e choice).change) (after old e choice).desks)
     → IsState new
-answered_is_state old new e reply is (is_halted h answered same) leaves = subst IsState (sym same) is
-answered_is_state old new e reply is (refuses_early runs r firm answered same) leaves = subst IsState (sym same) is
-answered_is_state old new e reply is (refuses_late runs r firm other answered same) leaves = subst IsState (sym same) is
-answered_is_state old new e reply is (acts choice does answered now) leaves =
-    subst IsState (sym now)
-    (left_is_state old (changed old.tree (after old e choice).change) (after old e choice).desks choice.free is.room (leaves choice does) does.allowed.free)
-answered_is_state old new e reply is (lacks_memory runs firm asks answered same) leaves = subst IsState (sym same) is
-answered_is_state old new e reply is (read_fails runs firm answered same) leaves = subst IsState (sym same) is
-answered_is_state old new e reply is (write_fails choice does answered desks which now) leaves =
+answered_is_state old new e reply is fits (is_halted h answered same) leaves = subst IsState (sym same) is
+answered_is_state old new e reply is fits (refuses_early runs r firm answered same) leaves = subst IsState (sym same) is
+answered_is_state old new e reply is fits (refuses_late runs r firm other answered same) leaves = subst IsState (sym same) is
+answered_is_state old new e reply is fits (acts choice does answered now) leaves =
+    subst IsState (sym now) (acted_is_state old (after old e choice) choice.free is (leaves choice does) (now_after old e choice is fits) does.allowed.free)
+answered_is_state old new e reply is fits (lacks_memory runs firm asks answered same) leaves = subst IsState (sym same) is
+answered_is_state old new e reply is fits (read_fails runs firm answered same) leaves = subst IsState (sym same) is
+answered_is_state old new e reply is fits (write_fails choice does answered desks which now) leaves =
     subst IsState (sym now) (halted_is_state old desks is (halted_desks old e choice desks is does.early which))
 
 pub steps_keep : (old new : State) (e : Event) (reply : Reply) → IsState old → IsEvent e → Step old e reply new → IsState new
 steps_keep old new e reply is in_range step =
-    answered_is_state old new e reply is step.1
+    answered_is_state old new e reply is in_range step.1
     (λ choice does. event_leaves old is does.running e choice in_range does.early does.late does.allowed.number)

@@ -3,7 +3,7 @@ use Rattle.std.specs.Prelude.{◌≡◌, ℕ, ◌^◌, ◌<◌, Bool, true, fals
 use Rattle.std.proofs.Common.{refl, sym, ap, ◌∙◌}
 use Rattle.std.specs.Ordering.{nat_cmp, is_eq}
 use Rattle.fs_model.specs.Nodes.{Node, Body, File, Dir, Link, is_directory, is_link, names_in, type_of}
-use Rattle.fs_model.specs.Trees.{Tree, Room, node_at, with_node, names_of, NamesFit, IsBody, IsTree, IsDirectoryAt}
+use Rattle.fs_model.specs.Trees.{Tree, Room, node_at, with_node, names_of, NamesFit, IsBody, IsTree, IsDirectoryAt, AreStamps}
 use Rattle.fs_model.specs.Processes.{Process, Descriptor}
 use Rattle.fs_model.specs.States.{IsDescriptor, IsProcess}
 use Rattle.fs_layout.proofs.FirstEntries.{tied}
@@ -100,6 +100,7 @@ pub record MayReplace (room : Room) (t : Tree) (old new : Node) : Type 0 where
   pub owner : new.owner < 2 ^ 32
   pub group : new.group < 2 ^ 32
   pub body : IsBody room t new.body
+  pub stamps : AreStamps room.keeps_times new.stamps
 
 pub replaced_is_tree : (room : Room) (t : Tree) (n : ℕ) (old new : Node) → IsTree room t → node_at t n ≡ Some old → MayReplace room t old new
     → IsTree room (with_node t n new)
@@ -110,6 +111,7 @@ replaced_is_tree room t n old new is was may =
       owner = may.owner;
       group = may.group;
       body = may.body;
+      stamps = may.stamps;
       fits = same_fit room n (names_of t n) new.body old.body may.same (is.each n old was).names;
     })
 

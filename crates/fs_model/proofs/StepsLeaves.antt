@@ -14,6 +14,7 @@ use Rattle.fs_model.specs.Nodes.{with_bytes}
 use Rattle.fs_model.specs.Trees.{IsTree}
 use Rattle.fs_model.specs.Processes.{Process}
 use Rattle.fs_model.specs.Births.{born_file}
+use Rattle.fs_model.specs.declared.touch.Touch.TheVariants.{Modified}
 use Rattle.fs_model.specs.TreeChanges.{Same, Rewrite, Make, MoveName, changed}
 use Rattle.fs_model.specs.States.{State, IsState}
 use Rattle.fs_model.specs.declared.walk.Form.{Form}
@@ -120,7 +121,7 @@ module _ (c : Scene) (is : IsScene c) (pid : ℕ) (here : get nat_cmp c.state.de
           let file = born_file c.process.cred c.process.umask mode (dir_node c c.first) in
           let makes : open_change flags mode c new ≡ Make c.first.dir c.first.name new file =
           ap (λ b. cond (not b) (Make c.first.dir c.first.name new file)
-          (cond (flags.trunc && flags.write) (Rewrite (number c.first) (record (node_found c c.first) { body = with_bytes [] (body_found c c.first) })) Same)) e in
+          (cond (flags.trunc && flags.write) (Rewrite Modified (number c.first) (record (node_found c c.first) { body = with_bytes [] (body_found c c.first) })) Same)) e in
           let number : HasNewNumber c.state (Make c.first.dir c.first.name new file) = subst (HasNewNumber c.state) makes fresh in
           fits_leave (open_effect flags mode c new)
           (open_new_fits c is (walked.new none) asks.1.1.1.1.0 new number.0 number.1 number.2 flags mode path none asked)

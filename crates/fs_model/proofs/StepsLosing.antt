@@ -1,4 +1,5 @@
 -- Nodes that lose a name: what is left may be swept, where a directory that loses its name is empty and nobody uses it.
+use Rattle.fs_model.proofs.StoredStamps.{stamps_move}
 use Rattle.std.specs.Prelude.{◌≡◌, ◌≢◌, ℕ, ◌+◌, ◌^◌, ◌<◌, ◌≤◌, ◌==◌, Bool, true, false, not, ◌||◌, [], length, Some, IsTrue}
 use Rattle.std.proofs.Common.{refl, sym, ap, arith, ◌∙◌, subst, inl, inr}
 use Rattle.std.proofs.lemmas.Bool.{cases_eq, cases_lt, or_right}
@@ -24,6 +25,7 @@ pub record Stood (room : Room) (t u : Tree) (n : ℕ) (node : Node) : Type 0 whe
   pub same : type_of node.body ≡ type_of old.body
   pub owner : node.owner ≡ old.owner
   pub group : node.group ≡ old.group
+  pub stamps : node.stamps ≡ old.stamps
   pub body : IsBody room u node.body
 
 -- u is t after its nodes lost so many names
@@ -98,7 +100,7 @@ module _ (room : Room) (t u : Tree) (desks : Desks) (lost : ℕ → ℕ) (is : I
       let owner : node.owner < 2 ^ 32 = (let e = s.owner in let small = old.owner in omega (arith, e, small)) in
       let group : node.group < 2 ^ 32 = (let e = s.group in let small = old.group in omega (arith, e, small)) in
       node_from_shape room u n node
-      (record { positive = old.positive; below = old.below; owner = owner; group = group; body = s.body })
+      (record { positive = old.positive; below = old.below; owner = owner; group = group; body = s.body; stamps = stamps_move room.keeps_times s.old.stamps node.stamps s.stamps old.stamps })
       (fits s (same_fit room n (names_of t n) node.body s.old.body s.same old.names))
       (λ d. h.under n (was_directory n node s d) (lost_none n node (was_directory n node s d) d stay))
     where

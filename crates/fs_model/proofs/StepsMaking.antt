@@ -1,4 +1,5 @@
 -- A new node in a directory.
+use Rattle.fs_model.proofs.StoredStamps.{no_stamps_fit}
 use Rattle.std.specs.Prelude.{◌≡◌, ◌≢◌, ℕ, ◌+◌, ◌^◌, ◌<◌, ◌≤◌, ◌==◌, ◌/◌, Bool, true, false, cond, List, [], Option, None, Some, is_some, unwrap_or}
 use Rattle.std.proofs.Common.{refl, sym, ap, arith, ◌∙◌, subst, inl, inr}
 use Rattle.std.proofs.lemmas.Bool.{cases_eq, cases_lt}
@@ -11,7 +12,7 @@ use Rattle.fs_cred.specs.Credentials.{Credential, IsCredential}
 use Rattle.fs_model.specs.Limits.{root}
 use Rattle.fs_layout.specs.Maps.{get}
 use Rattle.fs_model.specs.Nodes.{Node, Body, File, Dir, Link, names_in, directory_in}
-use Rattle.fs_model.specs.Trees.{Tree, Room, node_at, with_node, names_for, names_of, parent, NamesFit, IsBody, IsTarget, IsDirectoryAt, IsTree}
+use Rattle.fs_model.specs.Trees.{Tree, Room, node_at, with_node, names_for, names_of, parent, NamesFit, IsBody, IsTarget, IsDirectoryAt, IsTree, AreStamps}
 use Rattle.fs_model.specs.Births.{the_directory, no_directory, masked_acl, born_acl, born, born_file, born_directory, born_link}
 use Rattle.fs_model.proofs.Finds.{IsThere}
 use Rattle.fs_layout.proofs.MapLaws.{with_entry-IsMap, sum-with_entry, summand}
@@ -43,6 +44,7 @@ pub record IsNewborn (room : Room) (t : Tree) (node : Node) : Type 0 where
   pub owner : node.owner < 2 ^ 32
   pub group : node.group < 2 ^ 32
   pub body : IsBody room t node.body
+  pub stamps : AreStamps room.keeps_times node.stamps
   pub no_names : names_in node.body ≡ []
 
 module _ (room : Room) (t : Tree) (cred : Credential) (valid : IsCredential cred) (directory : Node) (small : directory.group < 2 ^ 32) where
@@ -51,6 +53,7 @@ module _ (room : Room) (t : Tree) (cred : Credential) (valid : IsCredential cred
     owner = valid.uid;
     group = go (the_directory directory).set_group_id;
     body = is;
+    stamps = no_stamps_fit room.keeps_times;
     no_names = none;
   }
     where
@@ -145,7 +148,7 @@ module _ (room : Room) (some : 1 ≤ room.names_limit) (t : Tree) (dir : ℕ) (d
         types = types_same;
         takes = takes;
         apart = apart_from;
-        shape = record { positive = positive; below = below; owner = newborn.owner; group = newborn.group; body = newborn.body };
+        shape = record { positive = positive; below = below; owner = newborn.owner; group = newborn.group; body = newborn.body; stamps = newborn.stamps };
         fits =
             let one : 1 ≡ names_of t n + 1 = omega (arith, nameless) in
             subst (NamesFit room n new.body) one (first_fits room some n new.body (λ e. apart_from root is.root_is_there (sym e)));

@@ -73,13 +73,14 @@ module _ (room : Room) (t : Tree) (desks : Desks) (dir : ℕ) (directory : Node)
     same = type_with_names less directory.body;
     owner = refl;
     group = refl;
+    stamps = refl;
     body =
         body_renamed room t t directory.body less moves.is_dir (are_names_without room t (names_in directory.body) name n were moves.leads)
         (is.each dir directory moves.stands).body;
   }
 
   stood_itself : (q : ℕ) (node : Node) → node_at t q ≡ Some node → Stood room t t q node
-  stood_itself q node at = record { old = node; was = at; same = refl; owner = refl; group = refl; body = (is.each q node at).body }
+  stood_itself q node at = record { old = node; was = at; same = refl; owner = refl; group = refl; stamps = refl; body = (is.each q node at).body }
 
   v_stood : (q : ℕ) (node : Node) → node_at v q ≡ Some node → Stood room t t q node
   v_stood q node at = elim (cases_eq q dir) [
@@ -207,6 +208,7 @@ module _ (room : Room) (t : Tree) (desks : Desks) (dir : ℕ) (directory : Node)
           same = type_with_names new between.node.body ∙ between.stood.same;
           owner = between.stood.owner;
           group = between.stood.group;
+          stamps = between.stood.stamps;
           body = body_renamed room t moved between.node.body new between.directory are_new between.stood.body;
         })
     | inr ne ↦
@@ -217,6 +219,7 @@ module _ (room : Room) (t : Tree) (desks : Desks) (dir : ℕ) (directory : Node)
           same = s.same;
           owner = s.owner;
           group = s.group;
+          stamps = s.stamps;
           body = body_moves room t moved node.body there s.body;
         }
   ]

@@ -5,7 +5,7 @@ use Rattle.std.proofs.lemmas.Bool.{cases_eq}
 use Rattle.std.specs.Ordering.{nat_cmp}
 use Rattle.fs_layout.specs.Maps.{get, name_cmp, IsMap}
 use Rattle.fs_model.specs.Nodes.{Node, Body, File, Dir, Link, is_directory, names_in, with_names, type_of}
-use Rattle.fs_model.specs.Trees.{Tree, Room, node_at, with_node, names_for, names_of, NamesFit, IsEntry, IsBody, IsUnderRoot, IsNode}
+use Rattle.fs_model.specs.Trees.{Tree, Room, node_at, with_node, names_for, names_of, NamesFit, IsEntry, IsBody, IsUnderRoot, IsNode, AreStamps}
 use Rattle.fs_layout.proofs.FirstEntries.{ties, apart}
 use Rattle.fs_model.proofs.Finds.{IsThere}
 use Rattle.fs_layout.proofs.MapLaws.{get-with_entry, sum-with_entry, summand}
@@ -87,6 +87,7 @@ pub record IsShape (room : Room) (u : Tree) (n : ℕ) (node : Node) : Type 0 whe
   pub owner : node.owner < 2 ^ 32
   pub group : node.group < 2 ^ 32
   pub body : IsBody room u node.body
+  pub stamps : AreStamps room.keeps_times node.stamps
 
 pub node_from_shape : (room : Room) (u : Tree) (n : ℕ) (node : Node) → IsShape room u n node → NamesFit room n node.body (names_of u n)
     → (IsTrue (is_directory node.body) → IsUnderRoot u n) → IsNode room u n node
@@ -96,6 +97,7 @@ node_from_shape room u n node shape names under = record {
   owner = shape.owner;
   group = shape.group;
   body = shape.body;
+  stamps = shape.stamps;
   names = names;
   under_root = under;
 }

@@ -14,6 +14,7 @@ use Rattle.fs_model.specs.Limits.{move_limit}
 use Rattle.fs_model.specs.Nodes.{bytes_in}
 use Rattle.fs_model.specs.Trees.{node_at, IsNode}
 use Rattle.fs_model.specs.Processes.{descriptor, the_descriptor, with_offset}
+use Rattle.fs_model.specs.declared.touch.Touch.TheVariants.{Modified}
 use Rattle.fs_model.specs.TreeChanges.{Rewrite}
 use Rattle.fs_model.specs.Parts.{is_empty}
 use Rattle.fs_model.specs.Demands.{refuse, only_if}
@@ -73,7 +74,7 @@ module _ (c : Scene) (is : IsScene c) where
         let n = (the_descriptor c.process fd).number in
         let node = node_open c fd in
         let bytes = bytes_in node.body in
-        rewrite_fits c.state n node (resized_node size node) c.process Done is.state open_at
+        rewrite_fits c.state Modified n node (resized_node size node) c.process Done is.state open_at
         (bytes_may_replace c.state.room c.state.tree n node open_is (resized bytes size)
         (let len = length-resized bytes size in omega (arith, len, low))
         (IsBytes-resized bytes size (bytes_are_bytes c.state.room c.state.tree node.body open_is.body)))
@@ -82,7 +83,7 @@ module _ (c : Scene) (is : IsScene c) where
     -- at an offset below the limit
     write_fits_here : (bytes : List ℕ) → IsBytes bytes → write_offset c fd < c.state.room.file_limit
         → EffectFits c.state (record {
-          change = Rewrite (the_descriptor c.process fd).number (written (node_open c fd) (write_offset c fd) (take (write_count c fd bytes) bytes));
+          change = Rewrite Modified (the_descriptor c.process fd).number (written (node_open c fd) (write_offset c fd) (take (write_count c fd bytes) bytes));
           process = with_offset c.process fd (write_offset c fd + write_count c fd bytes);
           reply = Wrote (write_count c fd bytes);
         })
@@ -97,7 +98,7 @@ module _ (c : Scene) (is : IsScene c) where
         let most : limit < 2 ^ 63 = is.state.room.file_limit in
         let far : offset + count ≤ limit = omega (arith, below) in
         let len : offset + length new ≤ limit = omega (arith, far, length-take count bytes) in
-        rewrite_fits c.state n node (written node offset new) (with_offset c.process fd (offset + count)) (Wrote count) is.state open_at
+        rewrite_fits c.state Modified n node (written node offset new) (with_offset c.process fd (offset + count)) (Wrote count) is.state open_at
         (bytes_may_replace c.state.room c.state.tree n node open_is (overwritten old offset new)
         (length-overwritten old offset new limit open_few len)
         (IsBytes-overwritten old offset new (bytes_are_bytes c.state.room c.state.tree node.body open_is.body) (IsBytes-take count bytes are)))
@@ -131,7 +132,7 @@ module _ (c : Scene) (is : IsScene c) where
     where
       go : (b : Bool) → AreMet (only_if (not b) (refuse EFBIG (nat_le c.state.room.file_limit (write_offset c fd)) ∷ no_blocks c ∷ []))
           → EffectFits c.state (cond b (answers c (Wrote 0)) (record {
-            change = Rewrite (the_descriptor c.process fd).number (written (node_open c fd) (write_offset c fd) (take (write_count c fd bytes) bytes));
+            change = Rewrite Modified (the_descriptor c.process fd).number (written (node_open c fd) (write_offset c fd) (take (write_count c fd bytes) bytes));
             process = with_offset c.process fd (write_offset c fd + write_count c fd bytes);
             reply = Wrote (write_count c fd bytes);
           }))

@@ -16,6 +16,7 @@ use Rattle.fs_model.specs.Nodes.{Node, is_directory, names_in, with_bytes}
 use Rattle.fs_model.specs.Trees.{Tree, Room, node_at, with_node, names_of, IsTarget, IsTree}
 use Rattle.fs_model.specs.Births.{the_node, born_file, born_directory, born_link}
 use Rattle.fs_model.specs.Processes.{least_unused}
+use Rattle.fs_model.specs.declared.touch.Touch.TheVariants.{Modified}
 use Rattle.fs_model.specs.TreeChanges.{Same, Rewrite, Make, AddName, with_names_at, named, changed}
 use Rattle.fs_model.specs.States.{IsProcess}
 use Rattle.fs_model.specs.Parts.{is_empty}
@@ -154,7 +155,7 @@ module _ (c : Scene) (is : IsScene c) (name : IsNameAt c.state.room c.state.tree
       fits_as c.state (record { change = Make c.first.dir c.first.name n file; process = open_process c.process flags n; reply = Fd 0 })
       (open_effect flags mode c n)
       (ap (λ o. cond (not (is_some o)) (Make c.first.dir c.first.name n file)
-      (cond (flags.trunc && flags.write) (Rewrite (number c.first) (record (node_found c c.first) { body = with_bytes [] (body_found c c.first) })) Same)) absent)
+      (cond (flags.trunc && flags.write) (Rewrite Modified (number c.first) (record (node_found c c.first) { body = with_bytes [] (body_found c c.first) })) Same)) absent)
       (ap (λ o. open_process c.process flags (unwrap_or o n)) absent)
       (record { tree = made_is_tree file newborn; types = types; process = process })
 

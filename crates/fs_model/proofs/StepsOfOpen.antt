@@ -9,6 +9,7 @@ use Rattle.fs_model.specs.declared.reply.Reply.TheVariants.{Fd}
 use Rattle.fs_model.specs.Limits.{descriptors_limit}
 use Rattle.fs_model.specs.Nodes.{Node, is_directory, is_link, with_bytes}
 use Rattle.fs_model.specs.Processes.{least_unused}
+use Rattle.fs_model.specs.declared.touch.Touch.TheVariants.{Modified}
 use Rattle.fs_model.specs.TreeChanges.{Same, Rewrite, Make}
 use Rattle.fs_model.specs.States.{State, IsProcess}
 use Rattle.fs_model.specs.Births.{born_file}
@@ -61,21 +62,21 @@ module _ (c : Scene) (is : IsScene c) (flags : Flags) (found : is_found c.first 
       let process : open_process c.process flags (unwrap_or c.first.ino new) ≡ open_process c.process flags n =
       ap (open_process c.process flags) (unwrapped c.first.ino new 0 found) in
       let emptied : Node = record node { body = with_bytes [] node.body } in
-      let change : open_change flags mode c new ≡ cond (flags.trunc && flags.write) (Rewrite n emptied) Same =
-      ap (λ b. cond (not b) (Make c.first.dir c.first.name new (born_file c.process.cred c.process.umask mode (dir_node c c.first))) (cond (flags.trunc && flags.write) (Rewrite n emptied) Same)) found in
+      let change : open_change flags mode c new ≡ cond (flags.trunc && flags.write) (Rewrite Modified n emptied) Same =
+      ap (λ b. cond (not b) (Make c.first.dir c.first.name new (born_file c.process.cred c.process.umask mode (dir_node c c.first))) (cond (flags.trunc && flags.write) (Rewrite Modified n emptied) Same)) found in
       go (flags.trunc && flags.write) fits process change
     where
       go : (b : Bool) → IsProcess c.state.tree (open_process c.process flags (number c.first))
           → open_process c.process flags (unwrap_or c.first.ino new) ≡ open_process c.process flags (number c.first)
-          → open_change flags mode c new ≡ cond b (Rewrite (number c.first) (record (node_found c c.first) { body = with_bytes [] (body_found c c.first) })) Same
+          → open_change flags mode c new ≡ cond b (Rewrite Modified (number c.first) (record (node_found c c.first) { body = with_bytes [] (body_found c c.first) })) Same
           → EffectFits c.state (open_effect flags mode c new)
       go true fits process change =
           fits_as c.state (record {
-            change = Rewrite (number c.first) (record (node_found c c.first) { body = with_bytes [] (body_found c c.first) });
+            change = Rewrite Modified (number c.first) (record (node_found c c.first) { body = with_bytes [] (body_found c c.first) });
             process = open_process c.process flags (number c.first);
             reply = Fd 0;
           }) (open_effect flags mode c new) change process
-          (rewrite_fits c.state (number c.first) (node_found c c.first) (record (node_found c c.first) { body = with_bytes [] (body_found c c.first) })
+          (rewrite_fits c.state Modified (number c.first) (node_found c c.first) (record (node_found c c.first) { body = with_bytes [] (body_found c c.first) })
           (open_process c.process flags (number c.first)) (Fd 0) is.state (first_at c is found)
           (bytes_may_replace c.state.room c.state.tree (number c.first) (node_found c c.first) (first_is c is found) [] (omega arith) (λ i. omega arith))
           fits)

@@ -1,4 +1,5 @@
 -- What calls on what a path leads to, and on a process itself, leave fits.
+use Rattle.fs_model.specs.declared.touch.Touch.TheVariants.{Changed, Modified}
 use Rattle.std.specs.Prelude.{◌≡◌, ℕ, ◌%◌, ◌≤◌, nat_lt, true, false, not, Option, None, Some, is_some, unwrap_or}
 use Rattle.std.proofs.Common.{refl, arith}
 use Rattle.std.proofs.lemmas.Bool.{not-false}
@@ -42,7 +43,7 @@ module _ (c : Scene) (is : IsScene c) where
       let bytes = bytes_in node.body in
       let e : nat_lt c.state.room.file_limit size ≡ false = unrefused EFBIG _ met.1.1.1.0 in
       let low : size ≤ c.state.room.file_limit = grind (arith, nat_tests) in
-      rewrite_fits c.state (number c.first) node (resized_node size node) c.process Done is.state (first_at found)
+      rewrite_fits c.state Modified (number c.first) node (resized_node size node) c.process Done is.state (first_at found)
       (bytes_may_replace c.state.room c.state.tree (number c.first) node (first_is found) (resized bytes size)
       (let len = length-resized bytes size in omega (arith, len, low))
       (IsBytes-resized bytes size (bytes_are_bytes c.state.room c.state.tree node.body (first_is found).body)))
@@ -52,7 +53,7 @@ module _ (c : Scene) (is : IsScene c) where
   chmod_fits mode new met =
       let found = is_found_if c.first met.0 in
       let node = node_found c c.first in
-      rewrite_fits c.state (number c.first) node (moded c.process.cred mode node) c.process Done is.state (first_at found)
+      rewrite_fits c.state Changed (number c.first) node (moded c.process.cred mode node) c.process Done is.state (first_at found)
       (mode_may_replace c.state.room c.state.tree (number c.first) node (first_is found) c.process.cred mode) is.process
 
   pub chown_fits : (owner group : Option ℕ) (new : ℕ) → IsSomeId owner → IsSomeId group → AreMet (chown_demands owner group c)
@@ -60,7 +61,7 @@ module _ (c : Scene) (is : IsScene c) where
   chown_fits owner group new o g met =
       let found = is_found_if c.first met.0 in
       let node = node_found c c.first in
-      rewrite_fits c.state (number c.first) node (owned owner group node) c.process Done is.state (first_at found)
+      rewrite_fits c.state Changed (number c.first) node (owned owner group node) c.process Done is.state (first_at found)
       (owner_may_replace c.state.room c.state.tree (number c.first) node (first_is found) owner group o g) is.process
 
   pub set_acl_fits : (which : AclType) (acl : Option AccessList) (new : ℕ) → IsSomeAcl acl → AreMet (set_acl_demands which acl c)
@@ -68,7 +69,7 @@ module _ (c : Scene) (is : IsScene c) where
   set_acl_fits which acl new valid met =
       let found = is_found_if c.first met.0 in
       let node = node_found c c.first in
-      rewrite_fits c.state (number c.first) node (record node { body = with_set_acl which acl node.body }) c.process Done is.state (first_at found)
+      rewrite_fits c.state Changed (number c.first) node (record node { body = with_set_acl which acl node.body }) c.process Done is.state (first_at found)
       (acl_may_replace c.state.room c.state.tree (number c.first) node (first_is found) which acl valid) is.process
 
   pub chdir_fits : (new : ℕ) → AreMet (chdir_demands c) → EffectFits c.state (chdir_effect c new)

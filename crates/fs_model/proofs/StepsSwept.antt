@@ -1,5 +1,5 @@
 -- What a sweep leaves to those who use a tree: the processes that fit the tree fit it, swept, and the state is a state.
-use Rattle.std.specs.Prelude.{◌≡◌, ◌≢◌, ℕ, ◌≤◌, ◌==◌, Bool, true, false, not, ◌||◌, cond, List, [], ◌∷◌, length, Option, Some, IsTrue, IsFalse}
+use Rattle.std.specs.Prelude.{◌≡◌, ◌≢◌, ℕ, ◌≤◌, ◌<◌, ◌^◌, ◌==◌, Bool, true, false, not, ◌||◌, cond, List, [], ◌∷◌, length, Option, Some, IsTrue, IsFalse}
 use Rattle.std.proofs.Common.{refl, sym, ap, arith, ◌∙◌, inl, inr}
 use Rattle.std.proofs.lemmas.Bool.{cases_eq, or_left, or_right}
 use Rattle.std.proofs.lemmas.Bool.Decides.{nat_tests}
@@ -135,14 +135,15 @@ module _ (room : Room) (u : Tree) (desks : Desks) (h : MayBeLeft room u desks) w
   }
 
 -- the state that is left
-pub left_is_state : (s : State) (u : Tree) (desks : Desks) (free : ℕ) → IsRoom s.room → MayBeLeft s.room u desks
+pub left_is_state : (s : State) (u : Tree) (desks : Desks) (free : ℕ) → IsRoom s.room → s.now < 2 ^ 64 → MayBeLeft s.room u desks
     → MayBeFree s.room (swept u desks) free → IsState (record s { tree = swept u desks; desks = desks; free = free })
-left_is_state s u desks free room h may = record {
+left_is_state s u desks free room small h may = record {
   room = room;
   tree = swept_is_tree s.room u desks h.tree;
   pids = h.pids;
   few = h.few;
   free = may;
+  now = small;
   desks = λ runs. swept_fits s.room u desks h;
 }
 

@@ -84,6 +84,7 @@ module _ (room : Room) (t : Tree) (desks : Desks) (dir : ℕ) (directory : Node)
           same = type_with_names new directory.body;
           owner = refl;
           group = refl;
+          stamps = refl;
           body =
               body_renamed room t u directory.body new takes.is_dir
               (names_move room t u new there (are_names_without room t (names_in directory.body) name m were takes.leads))
@@ -97,6 +98,7 @@ module _ (room : Room) (t : Tree) (desks : Desks) (dir : ℕ) (directory : Node)
           same = refl;
           owner = refl;
           group = refl;
+          stamps = refl;
           body = body_moves room t u node.body there (is.each n node was).body;
         }
   ]

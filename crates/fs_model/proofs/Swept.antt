@@ -199,6 +199,7 @@ module _ (room : Room) (t : Tree) (desks : Desks) (h : MayBeSwept room t desks) 
           below = old.below;
           owner = old.owner;
           group = old.group;
+          stamps = old.stamps;
           body = body-swept n node was.0 node.body refl old.body;
           names = subst (NamesFit room n node.body) (sym (names_of-filter (stays t desks) t h.numbers h.gone n)) old.names;
           under_root = λ d. under t (swept t desks) (parent-filter (stays t desks) t h.numbers h.gone) (old.under_root d);

@@ -15,7 +15,7 @@ use Rattle.fs_layout.specs.Ownership.{IsOwned, IsConsistent, Agrees}
 use Rattle.fs_layout.specs.Place.{IsPlace, are_in_range, allows_header, place_in, laid_out_in}
 use Rattle.fs_layout.specs.Recovered.{recovered}
 use Rattle.fs_layout.specs.Superblock.{super_bytes, super_of, FitsSuper, with_version}
-use Rattle.fs_layout.specs.Version.{max_sectors, max_inodes, max_file_size, max_name, max_names, max_inode_names, slot_size}
+use Rattle.fs_layout.specs.Version.{max_sectors, max_inodes, max_file_size, max_name, max_names, max_inode_names, slot_size, keeps_times}
 use Rattle.fs_layout.proofs.Codecs.{same_spelling}
 use Rattle.fs_layout.proofs.SuperLaw.{super_codec}
 use Rattle.fs_layout.proofs.Agree.{same_agrees, agree_free_sectors}
@@ -25,11 +25,11 @@ use Rattle.fs_layout.proofs.RecoveryLaw.{header_of-super_bytes, log_start, log_t
 use Rattle.fs_model.specs.Nodes.{Node, Body, File, Dir, Link, Directory}
 use Rattle.fs_model.specs.Stands.{HoldsPlaced, HoldsAll, placed, room_of, room_in, Stands}
 use Rattle.fs_model.specs.StoredNodes.{Placed, HoldsBody}
-use Rattle.fs_model.specs.Trees.{Tree, Room, names_of, IsDirectory, IsBody, NamesFit, IsNode, IsTree}
+use Rattle.fs_model.specs.Trees.{Tree, Room, names_of, IsDirectory, AreStamps, IsBody, NamesFit, IsNode, IsTree}
 use Rattle.fs_model.specs.Laws.{IsInVersion}
 use Rattle.fs_model.proofs.Frame.{agreed}
 use Rattle.fs_model.proofs.NodesHeld.{node_held}
-use Rattle.fs_model.proofs.VersionLimits.{HasSameNames, HasSameRange, same_names, same_range, same_slots}
+use Rattle.fs_model.proofs.VersionLimits.{HasSameNames, HasSameRange, same_names, same_range, same_slots, same_times}
 
 -- ---- the place
 
@@ -157,7 +157,7 @@ module _ (version : Version) (p : Place) (image : SectorMap) where
   unfolding inode_at stored
   placed_in_version n None same h = h
   placed_in_version n (Some x) same h =
-      node_held version image (inode_at p image n) x h.owner h.group h.mode h.names h.parent (body_in_version (inode_at p image n) x.node.body same h.body)
+      node_held version image (inode_at p image n) x h.owner h.group h.mode h.names h.parent h.stamps (body_in_version (inode_at p image n) x.node.body same h.body)
 
   all_held_in : (what : ℕ → Option Placed) → HasSameNames p.version version → HasSameRange p.version version → HoldsAll p image what
       → HoldsAll (in_version version p) image what
@@ -175,6 +175,7 @@ record HasRoomFor (old new : Room) : Type 0 where
   name : old.name_limit ≤ new.name_limit
   entries : old.entries_limit ≤ new.entries_limit
   names : old.names_limit ≤ new.names_limit
+  times : old.keeps_times ≡ new.keeps_times
 
 module _ (old new : Room) (larger : HasRoomFor old new) (t : Tree) where
   directory_fits : (d : Directory) → IsDirectory old t d → IsDirectory new t d
@@ -207,6 +208,7 @@ module _ (old new : Room) (larger : HasRoomFor old new) (t : Tree) where
     below = subst (λ (k : ℕ). n < k) (sym larger.inodes) is.below;
     owner = is.owner;
     group = is.group;
+    stamps = subst (λ keeps. AreStamps keeps node.stamps) larger.times is.stamps;
     body = body_fits node.body is.body;
     names = names_fit n node.body (names_of t n) is.names;
     under_root = is.under_root;
@@ -215,14 +217,15 @@ module _ (old new : Room) (larger : HasRoomFor old new) (t : Tree) where
   tree_fits : IsTree old t → IsTree new t
   tree_fits is = record { numbers = is.numbers; root_is_there = is.root_is_there; each = λ n node at. node_fits n node (is.each n node at) }
 
--- the room of a disk in a version with the same limits of names, and files as large
+-- the room of a disk in a version with the same limits of names, and files as large, which keeps times if the other does
 has_room : (version : Version) (p : Place) {room : Room} → room ≡ room_of p → max_file_size p.version ≤ max_file_size version
-    → HasSameNames p.version version → HasRoomFor room (room_in version room)
-has_room version p {room = room} is larger same =
+    → HasSameNames p.version version → keeps_times p.version ≡ keeps_times version → HasRoomFor room (room_in version room)
+has_room version p {room = room} is larger same keeps =
     let files : room.file_limit ≡ max_file_size p.version = ap (λ (r : Room). r.file_limit) is in
     let name : room.name_limit ≡ max_name p.version = ap (λ (r : Room). r.name_limit) is in
     let entries : room.entries_limit ≡ max_names p.version = ap (λ (r : Room). r.entries_limit) is in
     let names : room.names_limit ≡ max_inode_names p.version = ap (λ (r : Room). r.names_limit) is in
+    let times : room.keeps_times ≡ keeps_times p.version = ap (λ (r : Room). r.keeps_times) is in
     let a = same.name in
     let b = same.names in
     let c = same.inode_names in
@@ -232,6 +235,7 @@ has_room version p {room = room} is larger same =
       name = omega (arith, name, a);
       entries = omega (arith, entries, b);
       names = omega (arith, names, c);
+      times = times ∙ keeps;
     }
 
 -- ---- the image
@@ -324,6 +328,6 @@ module _ (version : Version) (sectors : ℕ) (old new : SectorMap) (super : Supe
         commit_is = valid_alike sectors old new headers commit header x.commit_is;
         room_is = ap (room_in version) x.room_is;
         holds = all_held_in version x.place (recovered sectors new) (placed t) names (same_range x.place.version version own_slot_size) held;
-        tree_is = tree_fits room (room_in version room) (has_room version x.place x.room_is larger names) t x.tree_is;
+        tree_is = tree_fits room (room_in version room) (has_room version x.place x.room_is larger names (same_times x.place.version version own_slot_size)) t x.tree_is;
         free_is = x.free_is ∙ sym (agree_free_sectors x.holds.consistent alike);
       }

@@ -1,5 +1,5 @@
 -- What refuses an event depends on no byte of a file.
-use Rattle.std.specs.Prelude.{◌≡◌, ℕ, ◌++◌, Option, None, Some, is_some}
+use Rattle.std.specs.Prelude.{◌≡◌, ℕ, ◌++◌, Option, None, Some, is_some, not}
 use Rattle.std.proofs.Common.{refl, sym, ap, ◌∙◌}
 use Rattle.std.specs.Option.{option_map}
 use Rattle.fs_model.specs.declared.call.Call.{Call}
@@ -8,11 +8,12 @@ use Rattle.fs_model.specs.Trees.{Tree, node_at}
 use Rattle.fs_model.specs.Rows.{row_of}
 use Rattle.std.specs.Ordering.{nat_cmp}
 use Rattle.fs_model.specs.declared.event.Event.{Event}
-use Rattle.fs_model.specs.declared.event.Event.TheVariants.{Spawn, Exit, Call as Calls, Enter, Fsync, Sync, Statfs, Arm, Restart}
+use Rattle.fs_model.specs.declared.event.Event.TheVariants.{Spawn, Exit, Call as Calls, Enter, Stamp, Clock, Fsync, Sync, Statfs, Arm, Restart}
 use Rattle.fs_layout.specs.Maps.{get}
 use Rattle.fs_model.specs.Processes.{Process}
 use Rattle.fs_model.specs.States.{State}
-use Rattle.fs_model.specs.Demands.{first_of}
+use Rattle.fs_model.specs.Demands.{refuse, first_of}
+use Rattle.fs_cred.specs.declared.errno.Errno.TheVariants.{ENOENT}
 use Rattle.fs_model.specs.Walks.{is_nondirectory}
 use Rattle.fs_model.specs.Alike.{AreAlike}
 use Rattle.fs_model.specs.Steps.{late_refusal, demand_of, enter_demands, firm_refusal, other_refusal, walk_refusals, scene_of}
@@ -51,6 +52,8 @@ firm_refusal-veil s (Exit pid) = refl
 firm_refusal-veil s (Calls pid call) = refl
 firm_refusal-veil s (Fsync pid fd) = refl
 firm_refusal-veil s (Enter pid directory second) = refl
+firm_refusal-veil s (Stamp n atime mtime ctime) = refl
+firm_refusal-veil s (Clock time) = refl
 firm_refusal-veil s Sync = refl
 firm_refusal-veil s Statfs = refl
 firm_refusal-veil s (Arm k) = refl
@@ -63,6 +66,8 @@ other_refusal-veil s (Calls pid call) = go (get nat_cmp s.desks pid)
     go : (o : Option Process) → demand_of (λ p. late_refusal (veiled_state s) p (row_of call)) o ≡ demand_of (λ p. late_refusal s p (row_of call)) o
     go None = refl
     go (Some p) = late-veil s p call
+other_refusal-veil s (Clock time) = refl
+other_refusal-veil s (Stamp n atime mtime ctime) = ap (λ b. refuse ENOENT (not b)) (is_there-veil s.tree n)
 other_refusal-veil s (Enter pid directory second) = enter-veil s.tree directory second
 other_refusal-veil s (Spawn cred) = refl
 other_refusal-veil s (Exit pid) = refl

@@ -1,5 +1,5 @@
 -- The limits of each version, and how they go together.
-use Rattle.std.specs.Prelude.{Some, List, ◌∷◌, ◌++◌, ◌-◌, length}
+use Rattle.std.specs.Prelude.{List, ◌∷◌, ◌++◌, ◌-◌, length}
 use Rattle.std.proofs.Common.{◌≡◌, ℕ, ◌*◌, ◌/◌, ◌%◌, ◌≤◌, refl, ap, arith}
 use Rattle.std.specs.List.{flat_map}
 use Rattle.fs_layout.specs.declared.inode.TheConstants.{INDIRECT_END}
@@ -7,7 +7,7 @@ use Rattle.fs_layout.specs.declared.version.Version.{Version}
 use Rattle.fs_layout.specs.declared.version.Version.TheVariants.{One, Two, Three}
 use Rattle.fs_layout.specs.Place.{allows_header}
 use Rattle.fs_layout.specs.Superblock.{numbers_end}
-use Rattle.fs_layout.specs.Version.{max_sectors, max_inodes, max_file_size, max_name, max_names, max_inode_names, slot_size, max_directory_size}
+use Rattle.fs_layout.specs.Version.{max_sectors, max_inodes, max_file_size, max_name, max_names, max_inode_names, slot_size, max_directory_size, keeps_times}
 use Rattle.fs_layout.specs.Bytes.{le32, zeros}
 use Rattle.fs_layout.specs.Directories.{NamedInode, slots_bytes}
 
@@ -29,6 +29,18 @@ same_names Two Three e = absurd (omega (arith, e))
 same_names Three One e = absurd (omega (arith, e))
 same_names Three Two e = absurd (omega (arith, e))
 same_names Three Three e = record { name = refl; names = refl; inode_names = refl }
+
+-- either both keep times, or neither does
+pub same_times : (old new : Version) → slot_size old ≡ slot_size new → keeps_times old ≡ keeps_times new
+same_times One One e = refl
+same_times One Two e = refl
+same_times One Three e = absurd (omega (arith, e))
+same_times Two One e = refl
+same_times Two Two e = refl
+same_times Two Three e = absurd (omega (arith, e))
+same_times Three One e = absurd (omega (arith, e))
+same_times Three Two e = absurd (omega (arith, e))
+same_times Three Three e = refl
 
 -- so slots are spelled alike
 pub same_slots : (old new : Version) (slots : List NamedInode) → HasSameNames old new → slots_bytes old slots ≡ slots_bytes new slots

@@ -17,6 +17,7 @@ use Rattle.fs_model.specs.declared.reply.Reply.{Reply}
 use Rattle.fs_model.specs.declared.reply.Reply.TheVariants.{Done, Shown, Granted, Acl, Mask}
 use Rattle.fs_model.specs.Nodes.{Node, Body, File, Dir, Link, is_directory, acl_in, default_in, with_acl, with_default, accessed}
 use Rattle.fs_model.specs.Processes.{standing_at}
+use Rattle.fs_model.specs.declared.touch.Touch.TheVariants.{Changed, Modified}
 use Rattle.fs_model.specs.Demands.{Demand, refuse, only_if, perms, allowed_by, search_on}
 use Rattle.fs_model.specs.declared.walk.Form.TheVariants.{Follow, NoFollow}
 use Rattle.fs_model.specs.Scenes.{Scene, Effect, Row, number, node_found, body_found, permission_at_end, own_at_end, must_be_there, no_blocks, check_of_mode, nothing_asked, answers, with_process, rewrites, none_early, by_path}
@@ -63,7 +64,7 @@ truncate_demands size s =
     ∷ []
 
 abbrev pub truncate_effect : ℕ → Scene → ℕ → Effect
-truncate_effect size s new = rewrites s (number s.first) (resized_node size)
+truncate_effect size s new = rewrites s Modified (number s.first) (resized_node size)
 
 abbrev pub truncate_row : List ℕ → ℕ → Row
 truncate_row path size = by_path [] Follow path (truncate_demands size) (truncate_effect size)
@@ -86,7 +87,7 @@ abbrev pub moded : Credential → ℕ → Node → Node
 moded cred mode node = record node { body = with_mode cred node.group mode node.body }
 
 abbrev pub chmod_effect : ℕ → Scene → ℕ → Effect
-chmod_effect mode s new = rewrites s (number s.first) (moded s.process.cred mode)
+chmod_effect mode s new = rewrites s Changed (number s.first) (moded s.process.cred mode)
 
 abbrev pub chmod_row : List ℕ → ℕ → Row
 chmod_row path mode = by_path (check_of_mode mode ∷ []) Follow path chmod_demands (chmod_effect mode)
@@ -106,7 +107,7 @@ abbrev pub owned : Option ℕ → Option ℕ → Node → Node
 owned owner group node = record node { owner = unwrap_or owner node.owner; group = unwrap_or group node.group }
 
 abbrev pub chown_effect : Option ℕ → Option ℕ → Scene → ℕ → Effect
-chown_effect owner group s new = rewrites s (number s.first) (owned owner group)
+chown_effect owner group s new = rewrites s Changed (number s.first) (owned owner group)
 
 abbrev pub chown_row : List ℕ → Option ℕ → Option ℕ → Row
 chown_row path owner group = by_path [] Follow path (chown_demands owner group) (chown_effect owner group)
@@ -148,7 +149,7 @@ with_set_acl Access None b = b
 with_set_acl Access (Some acl) b = with_acl acl b
 
 abbrev pub set_acl_effect : AclType → Option AccessList → Scene → ℕ → Effect
-set_acl_effect which acl s new = rewrites s (number s.first) (λ node. record node { body = with_set_acl which acl node.body })
+set_acl_effect which acl s new = rewrites s Changed (number s.first) (λ node. record node { body = with_set_acl which acl node.body })
 
 abbrev pub set_acl_row : List ℕ → AclType → Option AccessList → Row
 set_acl_row path which acl =

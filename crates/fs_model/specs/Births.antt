@@ -7,7 +7,7 @@ use Rattle.posix_acl.specs.declared.entry.Perms.{Perms}
 use Rattle.posix_acl.specs.Entries.{perms_of}
 use Rattle.posix_acl.specs.AccessList.{AccessList, inherited}
 use Rattle.fs_cred.specs.Credentials.{Credential}
-use Rattle.fs_model.specs.Nodes.{Node, Body, File, Dir, Link, Directory, directory_in}
+use Rattle.fs_model.specs.Nodes.{no_stamps, Node, Body, File, Dir, Link, Directory, directory_in}
 use Rattle.fs_model.specs.Trees.{Tree, node_at}
 use Rattle.fs_layout.specs.declared.inode.TheConstants.{S_ISVTX}
 
@@ -15,7 +15,7 @@ abbrev pub no_directory : Directory
 no_directory = record { names = []; default = None; set_group_id = false; sticky = false }
 
 abbrev pub no_node : Node
-no_node = record { owner = 0; group = 0; body = Link [] }
+no_node = record { owner = 0; group = 0; body = Link []; stamps = no_stamps }
 
 abbrev pub the_node : Tree → ℕ → Node
 the_node t n = unwrap_or (node_at t n) no_node
@@ -49,6 +49,7 @@ born cred directory body = record {
   owner = cred.uid;
   group = if (the_directory directory).set_group_id then directory.group else cred.gid;
   body = body;
+  stamps = no_stamps;
 }
 
 abbrev pub born_file : Credential → ℕ → ℕ → Node → Node

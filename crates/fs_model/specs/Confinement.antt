@@ -1,4 +1,5 @@
--- Confinement: the bytes that a process can't see into have no part in what it is answered, now or later. Our own words.
+-- Confinement: the bytes that a process can't see into have no part in what it is answered, now or later, nor in whose times
+-- move. Our own words.
 --     IsConfined        a credential that can't make files its own
 --     StepBy        one step with these free choices, and no failure of memory or disk
 --     RunBy        one such step after another

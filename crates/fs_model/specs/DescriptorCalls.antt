@@ -16,6 +16,7 @@ use Rattle.fs_model.specs.Nodes.{Node, is_directory, names_in, bytes_in, with_by
 use Rattle.fs_model.specs.Trees.{Tree, parent, names_of}
 use Rattle.fs_model.specs.Processes.{the_descriptor, with_offset}
 use Rattle.fs_model.specs.Births.{the_node}
+use Rattle.fs_model.specs.declared.touch.Touch.TheVariants.{Modified}
 use Rattle.fs_model.specs.TreeChanges.{Rewrite}
 use Rattle.fs_model.specs.Demands.{Demand, refuse, only_if}
 use Rattle.fs_model.specs.Parts.{is_empty}
@@ -61,7 +62,7 @@ write_effect fd bytes s =
     let count = write_count s fd bytes in
     if is_empty bytes then answers s (Wrote 0)
     else record {
-      change = Rewrite (the_descriptor s.process fd).number (written (node_open s fd) offset (take count bytes));
+      change = Rewrite Modified (the_descriptor s.process fd).number (written (node_open s fd) offset (take count bytes));
       process = with_offset s.process fd (offset + count);
       reply = Wrote count;
     }
@@ -135,7 +136,7 @@ abbrev pub ftruncate_demands : ℕ → Scene → List Demand
 ftruncate_demands size s = refuse EFBIG (nat_lt s.state.room.file_limit size) ∷ []
 
 abbrev pub ftruncate_effect : ℕ → ℕ → Scene → Effect
-ftruncate_effect fd size s = rewrites s (the_descriptor s.process fd).number (resized_node size)
+ftruncate_effect fd size s = rewrites s Modified (the_descriptor s.process fd).number (resized_node size)
 
 abbrev pub ftruncate_row : ℕ → ℕ → Row
 ftruncate_row fd size = by_descriptor (is_bad_to_write fd) (ftruncate_demands size) (ftruncate_effect fd size)

@@ -180,7 +180,7 @@ StandingRestsOnReading =
     → ReadsAlike sectors stands.place old new → Stands sectors new room t free
 
 -- The superblock of the new image says another version, whose files may be as large, and whose slots take as many bytes; else the
--- two are alike. Versions with such slots have names as long, and as many of them, and the same disks.
+-- two are alike. Versions with such slots have names as long, and as many of them, the same disks, and both keep times or neither does.
 pub record IsInVersion (version : Version) (sectors : ℕ) (old new : SectorMap) (super : Super) : Type 0 where
   pub was : old 0 ≡ super_bytes super
   pub fits : FitsSuper super

@@ -14,7 +14,7 @@ use Rattle.fs_layout.specs.Inode.{inode_bytes, free_inode}
 use Rattle.fs_layout.specs.Place.{the_place, super_for}
 use Rattle.fs_layout.specs.Images.{HasWholeTables, inode_map_bits, map_bits, bit, stored}
 use Rattle.fs_model.specs.Limits.{root}
-use Rattle.fs_model.specs.Nodes.{Dir}
+use Rattle.fs_model.specs.Nodes.{no_stamps, Dir}
 use Rattle.fs_model.specs.Trees.{Tree}
 
 abbrev pub empty_tree : Tree
@@ -24,6 +24,7 @@ empty_tree = (
     owner = 0;
     group = 0;
     body = Dir (minimal 0o755) (record { names = []; default = None; set_group_id = false; sticky = false });
+    stamps = no_stamps;
   },
 ) ∷ []
 

@@ -1,15 +1,17 @@
 -- Files, directories and symbolic links, each by itself: POSIX.1-2017, Base Definitions (File, Directory, Symbolic Link),
 -- and acl(5).
 --     Directory, Body, Node        an object
+--     no_stamps, stamped        times that aren't known; times of which some are set
 --     is_directory, is_link, acl_in, names_in, bytes_in, ..        what a body has
 --     with_acl, with_names, with_bytes, ..        a body with something else in it
 --     accessed        what an access decision reads of it
 --     type_of, shown_mode, shown_size        what stat(2) shows of it
 --     sectors_of        the sectors that it takes, without holes
-use Rattle.std.specs.Prelude.{ℕ, ◌+◌, ◌-◌, ◌*◌, ◌/◌, Bool, true, false, List, [], length, if◌then◌else◌, Option, None, Some, is_some}
+use Rattle.std.specs.Prelude.{ℕ, ◌+◌, ◌-◌, ◌*◌, ◌/◌, Bool, true, false, List, [], length, if◌then◌else◌, Option, None, Some, is_some, unwrap_or}
 use Rattle.posix_acl.specs.AccessList.{AccessList, is_extended, mode_bits}
 use Rattle.fs_cred.specs.declared.node.Node.{Node as AccessNode}
 use Rattle.fs_cred.specs.declared.node.NodeKind.TheVariants.{File as FileKind, Directory as DirectoryKind}
+use Rattle.fs_model.specs.declared.reply.Stamps.{Stamps}
 use Rattle.fs_model.specs.declared.reply.FileType.{FileType}
 use Rattle.fs_model.specs.declared.reply.FileType.TheVariants.{File as FileT, Directory as DirectoryT, Link as LinkT}
 use Rattle.fs_layout.specs.declared.inode.TheConstants.{SECTOR_POINTERS, S_ISGID, S_ISVTX}
@@ -33,6 +35,15 @@ pub record Node : Type 0 where
   pub owner : ℕ
   pub group : ℕ
   pub body : Body
+  pub stamps : Stamps
+
+abbrev pub no_stamps : Stamps
+no_stamps = record { atime = 0; mtime = 0; ctime = 0 }
+
+-- those that are given are set, the others stay
+abbrev pub stamped : Option ℕ → Option ℕ → Option ℕ → Stamps → Stamps
+stamped atime mtime ctime x =
+    record { atime = unwrap_or atime x.atime; mtime = unwrap_or mtime x.mtime; ctime = unwrap_or ctime x.ctime }
 
 abbrev pub directory_in : Body → Option Directory
 directory_in (Dir _ d) = Some d

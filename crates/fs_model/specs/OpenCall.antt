@@ -9,6 +9,7 @@ use Rattle.fs_model.specs.Limits.{descriptors_limit}
 use Rattle.fs_model.specs.Nodes.{is_directory, is_link, with_bytes}
 use Rattle.fs_model.specs.Processes.{Process, with_descriptor, least_unused}
 use Rattle.fs_model.specs.Births.{born_file}
+use Rattle.fs_model.specs.declared.touch.Touch.TheVariants.{Modified}
 use Rattle.fs_model.specs.TreeChanges.{Change, Same, Rewrite, Make}
 use Rattle.fs_model.specs.Demands.{Demand, refuse, perms}
 use Rattle.fs_model.specs.Parts.{ends_with_slash}
@@ -54,7 +55,7 @@ open_change f mode s new =
     if not (is_found s.first)
     then Make s.first.dir s.first.name new (born_file s.process.cred s.process.umask mode (dir_node s s.first))
     else (if f.trunc && f.write
-    then Rewrite (number s.first) (record (node_found s s.first) { body = with_bytes [] (body_found s s.first) })
+    then Rewrite Modified (number s.first) (record (node_found s s.first) { body = with_bytes [] (body_found s s.first) })
     else Same)
 
 -- the least unused descriptor, at offset 0

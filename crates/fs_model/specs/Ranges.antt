@@ -7,7 +7,7 @@ use Rattle.posix_acl.specs.AccessList.{IsSomeAcl}
 use Rattle.fs_model.specs.declared.call.Call.{Call}
 use Rattle.fs_model.specs.declared.call.Call.TheVariants.{Open, Read, Write, Lseek, Close, Fstat, Stat, Lstat, Access, Truncate, Ftruncate, Chmod, Chown, GetAcl, SetAcl, Readdir, Mkdir, Rmdir, Link, Symlink, Readlink, Unlink, Rename, Chdir, Umask}
 use Rattle.fs_model.specs.declared.event.Event.{Event}
-use Rattle.fs_model.specs.declared.event.Event.TheVariants.{Spawn, Exit, Call as Calls, Enter, Fsync, Sync, Statfs, Arm, Restart}
+use Rattle.fs_model.specs.declared.event.Event.TheVariants.{Spawn, Exit, Call as Calls, Enter, Stamp, Clock, Fsync, Sync, Statfs, Arm, Restart}
 
 abbrev pub IsSomeId : Option ℕ → Type 0
 IsSomeId None = Unit {0}
@@ -54,6 +54,8 @@ IsEvent (Spawn cred) = IsCredential cred
 IsEvent (Exit pid) = pid < 2 ^ 64
 IsEvent (Calls pid call) = (pid < 2 ^ 64) × IsCall call
 IsEvent (Enter pid directory second) = (pid < 2 ^ 64) × (directory < 2 ^ 32) × (second < 2 ^ 32)
+IsEvent (Stamp n atime mtime ctime) = (n < 2 ^ 32) × IsSomeCount atime × IsSomeCount mtime × IsSomeCount ctime
+IsEvent (Clock now) = now < 2 ^ 64
 IsEvent (Fsync pid fd) = (pid < 2 ^ 64) × (fd < 2 ^ 64)
 IsEvent Sync = Unit {0}
 IsEvent Statfs = Unit {0}

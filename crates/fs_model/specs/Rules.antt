@@ -6,7 +6,7 @@
 --     Obeys        an image obeys a rule at a number
 --     ObeysAll, ObeysBefore        all rules at each number; those with a lower number than k
 --     IsFinding        the first rule that fails, at its least number
-use Rattle.std.specs.Prelude.{◌≡◌, ◌≢◌, ℕ, ◌*◌, ◌%◌, ◌<◌, ◌≤◌, ◌==◌, nat_eq, nat_lt, nat_le, Bool, true, false, not, ◌||◌, List, if◌then◌else◌, Some, Ok, IsTrue, count_by, sum_by, ◌⊎◌, ◌↔◌}
+use Rattle.std.specs.Prelude.{◌≡◌, ◌≢◌, ℕ, ◌*◌, ◌%◌, ◌<◌, ◌≤◌, ◌==◌, nat_eq, nat_lt, nat_le, Bool, true, false, not, ◌||◌, List, if◌then◌else◌, Some, Ok, IsTrue, IsFalse, count_by, sum_by, ◌⊎◌, ◌↔◌}
 use Rattle.std.specs.List.{range_with_len}
 use Rattle.posix_acl.specs.AccessList.{AccessList, IsAcl, is_extended, list_numbers, mode_bits}
 use Rattle.fs_layout.specs.declared.superblock.Super.{Super}
@@ -23,11 +23,13 @@ use Rattle.fs_layout.specs.Inode.{inode_of}
 use Rattle.fs_layout.specs.AclSector.{acl_sector_of}
 use Rattle.fs_layout.specs.Directories.{slot_count, stored_slot, slot_at, slot_of}
 use Rattle.fs_layout.specs.Place.{place_in}
-use Rattle.fs_layout.specs.Version.{max_file_size, max_inode_names, max_directory_size, slot_size}
+use Rattle.fs_layout.specs.Version.{max_file_size, max_inode_names, max_directory_size, slot_size, keeps_times}
 use Rattle.fs_layout.specs.Images.{bit, inode_map_bits, map_bits, IsData, stored, inode_at, Owns, byte_at, IsTrimmed, HasNoHole}
 use Rattle.fs_layout.specs.Ownership.{IsOwned}
 use Rattle.fs_layout.specs.Recovered.{recovered}
 use Rattle.fs_model.specs.Limits.{root}
+use Rattle.fs_model.specs.Nodes.{no_stamps}
+use Rattle.fs_model.specs.StoredStamps.{stamps_in}
 
 -- ---- the superblock and the commit sector
 
@@ -66,12 +68,13 @@ abbrev pub IsBit : Place → SectorMap → ℕ → Type 0
 IsBit p m n = bit m p.inode_bitmap n ≡ (nat_lt n 2 || nat_le p.inodes n || not (nat_eq (u16_of (stored p m n) 0) 0))
 
 -- A file and a directory have at most the bytes that the version allows, a directory those of whole slots, and no inode has a
--- double indirect sector where no file reaches past the blocks of the indirect one.
+-- double indirect sector where no file reaches past the blocks of the indirect one, nor any times where none are kept.
 pub record IsAllowed (version : Version) (v : Inode) : Type 0 where
   pub size : v.kind ≡ kinds.File → v.size ≤ max_file_size version
   pub double_indirect : max_file_size version ≤ 512 * INDIRECT_END → v.double_indirect ≡ 0
   pub directory : v.kind ≡ kinds.Directory → v.size ≤ max_directory_size version
   pub slots : v.kind ≡ kinds.Directory → v.size % slot_size version ≡ 0
+  pub stamps : IsFalse (keeps_times version) → stamps_in v ≡ no_stamps
 
 -- Rule 4. The bytes are an inode: a free one, all zero, or one with a valid kind, mode and size, as the version allows it, and
 -- zeros where nothing is kept; 0 is free, and 1 a directory.

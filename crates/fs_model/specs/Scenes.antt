@@ -17,6 +17,7 @@ use Rattle.fs_model.specs.Nodes.{Node, Body, is_directory, names_in}
 use Rattle.fs_model.specs.Trees.{free_inodes}
 use Rattle.fs_model.specs.Processes.{Process, descriptor, the_descriptor}
 use Rattle.fs_model.specs.Births.{the_node, the_directory}
+use Rattle.fs_model.specs.declared.touch.Touch.{Touch}
 use Rattle.fs_model.specs.TreeChanges.{Change, Same, Rewrite}
 use Rattle.fs_model.specs.States.{State}
 use Rattle.fs_model.specs.Demands.{Demand, refuse, permission_on, allowed_by, write_and_search}
@@ -178,9 +179,9 @@ changes s change = record { change = change; process = s.process; reply = Done }
 abbrev pub with_process : Process → Reply → Effect
 with_process p reply = record { change = Same; process = p; reply = reply }
 
--- node n is made another by f
-abbrev pub rewrites : Scene → ℕ → (Node → Node) → Effect
-rewrites s n f = changes s (Rewrite n (f (the_node s.state.tree n)))
+-- node n is made another by f, and these times of it move
+abbrev pub rewrites : Scene → Touch → ℕ → (Node → Node) → Effect
+rewrites s touch n f = changes s (Rewrite touch n (f (the_node s.state.tree n)))
 
 -- ---- rows
 

@@ -11,7 +11,7 @@ use Rattle.fs_layout.specs.declared.version.Version.{Version}
 use Rattle.fs_layout.specs.Bytes.{SectorMap}
 use Rattle.fs_layout.specs.Superblock.{super_bytes, FitsSuper}
 use Rattle.fs_layout.specs.Inode.{free_inode}
-use Rattle.fs_layout.specs.Version.{max_file_size, max_name, max_names, max_inode_names, slot_size}
+use Rattle.fs_layout.specs.Version.{max_file_size, max_name, max_names, max_inode_names, slot_size, keeps_times}
 use Rattle.fs_layout.specs.Place.{place_in}
 use Rattle.fs_layout.specs.Images.{inode_map_bits, bit, inode_at, free_sectors}
 use Rattle.fs_layout.specs.Ownership.{IsConsistent}
@@ -45,6 +45,7 @@ room_with version inodes sectors = record {
   entries_limit = max_names version;
   names_limit = max_inode_names version;
   slot_size = slot_size version;
+  keeps_times = keeps_times version;
 }
 
 -- those of this disk

@@ -1,5 +1,5 @@
 -- The state of the abstract machine.
---     State        a tree, those who use it, and how many data sectors are free
+--     State        a tree, those who use it, how many data sectors are free, and the time
 --     IsRoom        the room of a disk within our own limits
 --     MayBeFree        our own bounds on the count of free sectors
 --     IsState        what is true of every state
@@ -20,6 +20,8 @@ pub record State : Type 0 where
   pub tree : Tree
   pub desks : Desks
   pub free : ℕ
+  -- the time as it was told last
+  pub now : ℕ
   pub halted : Bool
 
 -- inodes and data sectors of the largest disk; the end of a file is an offset that lseek() can give; a name is at most as long as
@@ -65,4 +67,5 @@ pub record IsState (s : State) : Type 0 where
   pub pids : IsMap nat_cmp s.desks
   pub few : length s.desks ≤ processes_limit
   pub free : MayBeFree s.room s.tree s.free
+  pub now : s.now < 2 ^ 64
   pub desks : IsFalse s.halted → FitsTree s.tree s.desks

@@ -1,10 +1,11 @@
 -- The abstract machine, one event after another. What may stand in for an answer is our own rule.
 --     scene_of        what a call finds
 --     enter_demands        what entering a directory asks
+--     kept_stamps        the times that a node is to have
 --     firm_refusal, other_refusal        the first refusal of an event, in order
 --     Choice, After, after, state_after        what an event answers and leaves where nothing refuses
 --     Step, Run        one step, and several
-use Rattle.std.specs.Prelude.{◌≡◌, ℕ, ◌+◌, ◌<◌, ◌≤◌, nat_le, Bool, true, false, not, List, [], ◌∷◌, ◌++◌, length, Option, None, Some, is_some, IsTrue, IsFalse, ◌⊎◌}
+use Rattle.std.specs.Prelude.{◌≡◌, ℕ, ◌+◌, ◌<◌, ◌≤◌, nat_le, Bool, true, false, not, List, [], ◌∷◌, ◌++◌, length, Option, None, Some, is_some, IsTrue, IsFalse, ◌⊎◌, if◌then◌else◌}
 use Rattle.std.specs.List.{flat_map}
 use Rattle.std.specs.Ordering.{nat_cmp}
 use Rattle.fs_cred.specs.declared.errno.Errno.TheVariants.{ENOENT, ENOTDIR, ESRCH, EIO, EAGAIN, ENOMEM}
@@ -13,14 +14,18 @@ use Rattle.fs_cred.specs.declared.refusal.Refusal.TheVariants.{Failed}
 use Rattle.fs_model.specs.declared.call.Call.{Call}
 use Rattle.fs_model.specs.declared.call.Call.TheVariants.{Write, Lseek, Close, Fstat, Ftruncate, Umask}
 use Rattle.fs_model.specs.declared.reply.Reply.{Reply}
-use Rattle.fs_model.specs.declared.reply.Reply.TheVariants.{Done, Pid, Space, Refused}
+use Rattle.fs_model.specs.declared.reply.Reply.TheVariants.{Done, Pid, Space, Stamped, Refused}
 use Rattle.fs_model.specs.declared.event.Event.{Event}
-use Rattle.fs_model.specs.declared.event.Event.TheVariants.{Spawn, Exit, Call as Calls, Enter, Fsync, Statfs, Arm, Restart}
+use Rattle.fs_model.specs.declared.event.Event.TheVariants.{Spawn, Exit, Call as Calls, Enter, Stamp, Clock, Fsync, Statfs, Arm, Restart}
 use Rattle.fs_model.specs.Limits.{processes_limit}
 use Rattle.fs_layout.specs.Maps.{get, with_entry, without}
+use Rattle.fs_model.specs.declared.reply.Stamps.{Stamps}
+use Rattle.fs_model.specs.declared.touch.Touch.TheVariants.{Untouched}
+use Rattle.fs_model.specs.Nodes.{Node, stamped}
+use Rattle.fs_model.specs.Births.{the_node}
 use Rattle.fs_model.specs.Trees.{Tree, Room, node_at, free_inodes}
 use Rattle.fs_model.specs.Processes.{Process, Desks, new_process, cwd_of, standing_at}
-use Rattle.fs_model.specs.TreeChanges.{Change, Same, Make, changed, swept}
+use Rattle.fs_model.specs.TreeChanges.{Change, Same, Rewrite, Make, changed, touches, touched, swept}
 use Rattle.fs_model.specs.States.{State, MayBeFree}
 use Rattle.fs_model.specs.Demands.{Demand, refuse, first_of}
 use Rattle.fs_model.specs.Parts.{parts_of, start_of, path_checks}
@@ -105,6 +110,7 @@ enter_demands t directory second =
 unfoldable pub other_refusal : State → Event → Demand
 other_refusal s (Calls pid call) = of_process s pid (λ p. late_refusal s p (row_of call))
 other_refusal s (Enter pid directory second) = first_of (enter_demands s.tree directory second)
+other_refusal s (Stamp n atime mtime ctime) = refuse ENOENT (not (is_some (node_at s.tree n)))
 other_refusal s _ = None
 
 -- ---- what an event leaves
@@ -120,13 +126,14 @@ pub record After : Type 0 where
   pub change : Change
   pub desks : Desks
   pub reply : Reply
+  pub now : ℕ
 
 abbrev pub unchanged : State → Reply → After
-unchanged s reply = record { change = Same; desks = s.desks; reply = reply }
+unchanged s reply = record { change = Same; desks = s.desks; reply = reply; now = s.now }
 
 abbrev pub after_effect : State → ℕ → Effect → After
 after_effect s pid effect =
-    record { change = effect.change; desks = with_entry nat_cmp s.desks pid effect.process; reply = effect.reply }
+    record { change = effect.change; desks = with_entry nat_cmp s.desks pid effect.process; reply = effect.reply; now = s.now }
 
 abbrev pub after_call : State → ℕ → Row → ℕ → Option Process → After
 after_call s pid row number None = unchanged s Done
@@ -135,22 +142,38 @@ after_call s pid row number (Some p) = after_effect s pid (row.effect (scene_of 
 abbrev pub after_enter : State → ℕ → ℕ → ℕ → Option Process → After
 after_enter s pid directory second None = unchanged s Done
 after_enter s pid directory second (Some p) =
-    record { change = Same; desks = with_entry nat_cmp s.desks pid (standing_at directory second p); reply = Done }
+    record { change = Same; desks = with_entry nat_cmp s.desks pid (standing_at directory second p); reply = Done; now = s.now }
+
+-- a disk that keeps no times leaves a node its own
+abbrev pub kept_stamps : Room → Stamps → Stamps → Stamps
+kept_stamps room old new = if room.keeps_times then new else old
+
+abbrev pub with_stamps : Stamps → Node → Node
+with_stamps x node = record node { stamps = x }
+
+abbrev pub after_stamp : State → ℕ → (Stamps → Stamps) → After
+after_stamp s n f =
+    let node = the_node s.tree n in
+    let x = kept_stamps s.room node.stamps (f node.stamps) in
+    record { change = Rewrite Untouched n (with_stamps x node); desks = s.desks; reply = Stamped x; now = s.now }
 
 unfoldable pub after : State → Event → Choice → After
 after s (Calls pid call) choice = after_call s pid (row_of call) choice.number (get nat_cmp s.desks pid)
-after s (Exit pid) choice = record { change = Same; desks = without nat_cmp s.desks pid; reply = Done }
+after s (Exit pid) choice = record { change = Same; desks = without nat_cmp s.desks pid; reply = Done; now = s.now }
 after s (Spawn cred) choice =
-    record { change = Same; desks = with_entry nat_cmp s.desks choice.pid (new_process cred); reply = Pid choice.pid }
+    record { change = Same; desks = with_entry nat_cmp s.desks choice.pid (new_process cred); reply = Pid choice.pid; now = s.now }
 after s (Enter pid directory second) choice = after_enter s pid directory second (get nat_cmp s.desks pid)
+after s (Stamp n atime mtime ctime) choice = after_stamp s n (stamped atime mtime ctime)
+after s (Clock now) choice = record { change = Same; desks = s.desks; reply = Done; now = now }
 after s Statfs choice = unchanged s (Space s.free (free_inodes s.room s.tree))
 after s _ choice = unchanged s Done
 
+-- the change, what is dropped then, and the times that it moves
 abbrev pub tree_after : State → After → Tree
-tree_after s a = swept (changed s.tree a.change) a.desks
+tree_after s a = touched s.now (touches s.room s.tree a.change) (swept (changed s.tree a.change) a.desks)
 
 abbrev pub state_after : State → After → ℕ → State
-state_after s a free = record s { tree = tree_after s a; desks = a.desks; free = free }
+state_after s a free = record s { tree = tree_after s a; desks = a.desks; free = free; now = a.now }
 
 -- a new node gets a number that the tree lacks
 abbrev pub HasNewNumber : State → Change → Type 0

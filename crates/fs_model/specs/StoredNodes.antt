@@ -10,6 +10,7 @@ use Rattle.fs_layout.specs.Bytes.{SectorMap}
 use Rattle.fs_layout.specs.Images.{Holds, HasNoHole}
 use Rattle.fs_layout.specs.Directories.{HasNames}
 use Rattle.fs_layout.specs.AclSector.{HoldsAcl, kept_acl}
+use Rattle.fs_model.specs.StoredStamps.{stamps_in}
 use Rattle.fs_model.specs.Nodes.{Node, Body, File, Dir, Link, Directory, shown_mode}
 
 pub record Placed : Type 0 where
@@ -60,4 +61,5 @@ pub record HoldsNode (version : Version) (image : SectorMap) (v : Inode) (x : Pl
   pub mode : v.mode ≡ shown_mode x.node.body
   pub names : v.names ≡ names_field x.node.body x.names
   pub parent : v.parent ≡ parent_field x.node.body x.parent
+  pub stamps : stamps_in v ≡ x.node.stamps
   pub body : HoldsBody version image v x.node.body

@@ -3,16 +3,17 @@
 --     Tree, node_at, with_node        a finite map from inode numbers to nodes
 --     names_of, parent, lookup, is_within        how many names lead to a node; where it is named; what a name leads to
 --     Room        what a disk has room for
---     IsTree        what is true of every tree
+--     AreStamps, IsTree        what is true of a node's times, and of every tree
 --     sectors_needed, free_inodes        what a tree takes of a disk, and what it leaves
-use Rattle.std.specs.Prelude.{◌≡◌, ◌≢◌, ℕ, zero, suc, ◌-◌, ◌^◌, ◌<◌, ◌≤◌, ◌==◌, nat_lt, Bool, not, ◌&&◌, ◌||◌, List, [], ◌∷◌, length, if◌then◌else◌, Option, None, Some, IsTrue, is_some, count_by, sum_by, All}
+use Rattle.std.specs.Prelude.{◌≡◌, ◌≢◌, ℕ, zero, suc, ◌-◌, ◌^◌, ◌<◌, ◌≤◌, ◌==◌, nat_lt, Bool, not, ◌&&◌, ◌||◌, List, [], ◌∷◌, length, if◌then◌else◌, Option, None, Some, IsTrue, IsFalse, is_some, count_by, sum_by, All}
 use Rattle.std.specs.Ordering.{nat_cmp}
 use Rattle.posix_acl.specs.AccessList.{IsAcl, IsSomeAcl}
 use Rattle.fs_layout.specs.Bytes.{IsBytes}
 use Rattle.fs_layout.specs.Directories.{IsName}
 use Rattle.fs_model.specs.Limits.{root, target_limit}
 use Rattle.fs_layout.specs.Maps.{name_cmp, get, with_entry, IsMap}
-use Rattle.fs_model.specs.Nodes.{Node, Body, File, Dir, Link, Directory, is_directory, names_in, sectors_of}
+use Rattle.fs_model.specs.declared.reply.Stamps.{Stamps}
+use Rattle.fs_model.specs.Nodes.{no_stamps, Node, Body, File, Dir, Link, Directory, is_directory, names_in, sectors_of}
 
 abbrev pub Tree : Type 0
 Tree = List (ℕ × Node)
@@ -50,7 +51,7 @@ is_within (suc far) t m d = d == m || (not (d == root) && is_within far t m (par
 
 -- what a disk has room for: inode numbers below `inodes`, `sectors` of data, files of at most `file_limit` bytes, names of at
 -- most `name_limit`, at most `entries_limit` of them in one directory and `names_limit` of one file or link; each takes
--- `slot_size` bytes of its directory
+-- `slot_size` bytes of its directory; and, if it keeps them, times
 pub record Room : Type 0 where
   pub inodes : ℕ
   pub sectors : ℕ
@@ -59,6 +60,7 @@ pub record Room : Type 0 where
   pub entries_limit : ℕ
   pub names_limit : ℕ
   pub slot_size : ℕ
+  pub keeps_times : Bool
 
 -- something stands at the number, and it isn't the root
 abbrev pub MayHaveName : Tree → ℕ → Type 0
@@ -100,12 +102,20 @@ pub data IsUnderRoot (t : Tree) : ℕ → Type 0 where
   is_root : IsUnderRoot t root
   is_in : (d : ℕ) → IsUnderRoot t (parent t d) → IsUnderRoot t d
 
+-- three numbers of 64 bits; zeros where the disk keeps no times
+pub record AreStamps (keeps : Bool) (x : Stamps) : Type 0 where
+  pub atime : x.atime < 2 ^ 64
+  pub mtime : x.mtime < 2 ^ 64
+  pub ctime : x.ctime < 2 ^ 64
+  pub none : IsFalse keeps → x ≡ no_stamps
+
 pub record IsNode (room : Room) (t : Tree) (n : ℕ) (node : Node) : Type 0 where
   pub positive : 1 ≤ n
   pub below : n < room.inodes
   pub owner : node.owner < 2 ^ 32
   pub group : node.group < 2 ^ 32
   pub body : IsBody room t node.body
+  pub stamps : AreStamps room.keeps_times node.stamps
   pub names : NamesFit room n node.body (names_of t n)
   pub under_root : IsTrue (is_directory node.body) → IsUnderRoot t n
 

@@ -21,6 +21,16 @@ pub enum Event {
         directory: u32,
         second: u32,
     },
+    /// The times of a node are set to those that are given, and answered as they are then. It is trusted: nothing is asked of
+    /// anyone's permissions.
+    Stamp {
+        inode: u32,
+        atime: Option<u64>,
+        mtime: Option<u64>,
+        ctime: Option<u64>,
+    },
+    /// The time is this, in nanoseconds since 1970, until another is told. It is trusted.
+    Clock(u64),
     /// fsync, by the process with this number, of one of its descriptors.
     Fsync {
         pid: usize,

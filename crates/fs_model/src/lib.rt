@@ -9,6 +9,7 @@ mod event;
 mod laws;
 mod listing;
 mod reply;
+mod touch;
 mod walk;
 
 pub use bytes::{ByteString, Bytes, ContentRole, Name, NameRole, Path, PathRole};
@@ -24,5 +25,6 @@ pub use laws::{
     steps_keep_states, unreadable_bytes_do_not_show,
 };
 pub use listing::{Listing, Named};
-pub use reply::{FileType, Reply, Status};
+pub use reply::{FileType, Reply, Stamps, Status};
+pub use touch::Touch;
 pub use walk::{Form, Found, Last};

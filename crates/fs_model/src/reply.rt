@@ -75,6 +75,14 @@ pub struct Status {
     pub size: u64,
 }
 
+/// The times of a node, in nanoseconds since 1970; 0 where one isn't known.
+#[derive(Clone, Copy)]
+pub struct Stamps {
+    pub atime: u64,
+    pub mtime: u64,
+    pub ctime: u64,
+}
+
 /// The answer to a call, or to an event that is asked of the file system.
 #[derive(Drop)]
 pub enum Reply {
@@ -102,6 +110,8 @@ pub enum Reply {
     Names(Listing),
     /// How many data sectors and inodes are free.
     Space { sectors: u32, inodes: u32 },
+    /// The times of a node.
+    Stamped(Stamps),
     Refused(Refusal),
 }
 

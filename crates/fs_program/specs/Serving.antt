@@ -6,7 +6,7 @@
 use Rattle.std.specs.Prelude.{◌≡◌, ◌-◌, Bool, not, List, ℕ, Option, IsSome, Result, Ok, Err}
 use Rattle.sector_disk.specs.Disk.{DiskState, IsFresh}
 use Rattle.fs_layout.specs.declared.place.Place.{Place}
-use Rattle.fs_layout.specs.Version.{max_name}
+use Rattle.fs_layout.specs.Version.{max_name, keeps_times}
 use Rattle.fs_model.specs.States.{State}
 use Rattle.fs_model.specs.declared.event.Event.TheVariants.{Sync}
 use Rattle.fs_model.specs.declared.reply.Reply.{Reply}
@@ -27,7 +27,7 @@ use Rattle.fs_command.specs.declared.status.Status.{Status}
 use Rattle.fs_command.specs.declared.status.Status.TheVariants.{Done, Failed}
 
 -- Writes have up to 1 MiB. With its own rules the kernel judges no ACLs. All data sectors and all inodes are shown, and how long a
--- name may be.
+-- name may be. The disk keeps times where its version does.
 abbrev pub settings_of : Place → Bool → Time → Settings
 settings_of place own_rules start = record {
   max_write = 1048576;
@@ -36,6 +36,7 @@ settings_of place own_rules start = record {
   sectors = place.sectors - place.first_data;
   inodes = place.inodes;
   max_name = max_name place.version;
+  keeps_times = keeps_times place.version;
   start = start;
 }
 

@@ -48,6 +48,7 @@ fn settings_of(place: Place, own_rules: bool, start: Time) -> Settings
         sectors: place.sectors.saturating_sub(place.first_data),
         inodes: place.inodes,
         max_name: place.version.max_name() as u32,
+        keeps_times: place.version.keeps_times(),
         start,
     }
 }

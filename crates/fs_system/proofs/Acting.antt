@@ -10,7 +10,7 @@ use Rattle.fs_layout.specs.Maps.{get, with_entry}
 use Rattle.fs_model.specs.declared.reply.Reply.{Reply}
 use Rattle.fs_model.specs.declared.reply.Reply.TheVariants.{Done, Pid, Space, Refused}
 use Rattle.fs_model.specs.declared.event.Event.{Event}
-use Rattle.fs_model.specs.declared.event.Event.TheVariants.{Call as Calls, Spawn, Exit, Enter, Fsync, Sync, Statfs, Arm, Restart}
+use Rattle.fs_model.specs.declared.event.Event.TheVariants.{Call as Calls, Spawn, Exit, Enter, Stamp, Clock, Fsync, Sync, Statfs, Arm, Restart}
 use Rattle.fs_model.specs.Trees.{Tree, free_inodes}
 use Rattle.fs_model.specs.Processes.{Process, Desks, new_process, descriptor, is_open}
 use Rattle.fs_model.specs.TreeChanges.{Same, swept}
@@ -41,9 +41,9 @@ module _ (s : State) (is : IsState s) (up : IsFalse s.halted) where
   abbrev pub choice_of : ℕ → Choice
   choice_of pid = record { number = 0; pid = pid; free = s.free }
 
-  module _ (e : Event) (pid : ℕ) (reply : Reply) (desks : Desks) (still : StaysOpen s.desks desks) (machine : IsTrue (is_of_machine e))
+  module _ (e : Event) (pid : ℕ) (reply : Reply) (desks : Desks) (time : ℕ) (still : StaysOpen s.desks desks) (machine : IsTrue (is_of_machine e))
       (firm : firm_refusal s e ≡ None) (other : other_refusal s e ≡ None)
-      (does : after s e (record { number = 0; pid = pid; free = s.free }) ≡ record { change = Same; desks = desks; reply = reply }) (new : HasNewPid s e pid) where
+      (does : after s e (record { number = 0; pid = pid; free = s.free }) ≡ record { change = Same; desks = desks; reply = reply; now = time }) (new : HasNewPid s e pid) where
     same_tree : tree_after s (after s e (choice_of pid)) ≡ s.tree
     same_tree = ap (tree_after s) does ∙ none_dropped desks still
 
@@ -59,13 +59,13 @@ module _ (s : State) (is : IsState s) (up : IsFalse s.halted) where
       };
     }
 
-    pub acts_alone : Step s e reply (record s { desks = desks })
+    pub acts_alone : Step s e reply (record s { desks = desks; now = time })
     acts_alone = (
       machine,
       step.acts (choice_of pid) acting
           (sym (ap (λ (a : After). a.reply) does))
-          (sym (ap (λ (t : Tree). record s { tree = t; desks = (after s e (choice_of pid)).desks; free = s.free }) same_tree
-          ∙ ap (λ (a : After). record s { desks = a.desks }) does)),
+          (sym (ap (λ (t : Tree). record s { tree = t; desks = (after s e (choice_of pid)).desks; free = s.free; now = (after s e (choice_of pid)).now }) same_tree
+          ∙ ap (λ (a : After). record s { desks = a.desks; now = a.now }) does)),
     )
 
     -- a write or a sync fails
@@ -84,7 +84,7 @@ module _ (s : State) (up : IsFalse s.halted) (cred : Credential) where
   spawn_other = refl
 
   spawn_after : (pid : ℕ) → after s (Spawn cred) (record { number = 0; pid = pid; free = s.free })
-      ≡ record { change = Same; desks = with_entry nat_cmp s.desks pid (new_process cred); reply = Pid pid }
+      ≡ record { change = Same; desks = with_entry nat_cmp s.desks pid (new_process cred); reply = Pid pid; now = s.now }
   unfolding after
   spawn_after pid = refl
 
@@ -97,7 +97,7 @@ module _ (s : State) (up : IsFalse s.halted) (cred : Credential) where
   pub spawns : (is : IsState s) (pid : ℕ) → get nat_cmp s.desks pid ≡ None → length s.desks < 64
       → Step s (Spawn cred) (Pid pid) (record s { desks = with_entry nat_cmp s.desks pid (new_process cred) })
   spawns is pid new few =
-      acts_alone s is up (Spawn cred) pid (Pid pid) (with_entry nat_cmp s.desks pid (new_process cred)) (spawn_stays is pid new) refl
+      acts_alone s is up (Spawn cred) pid (Pid pid) (with_entry nat_cmp s.desks pid (new_process cred)) s.now (spawn_stays is pid new) refl
       (spawn_firm few) spawn_other (spawn_after pid) new
 
   full : 64 ≤ length s.desks → firm_refusal s (Spawn cred) ≡ Some (Failed EAGAIN)
@@ -120,6 +120,8 @@ flush_case P one all (Calls pid call) asks = absurd cc
 flush_case P one all (Spawn cred) asks = absurd cc
 flush_case P one all (Exit pid) asks = absurd cc
 flush_case P one all (Enter pid directory second) asks = absurd cc
+flush_case P one all (Stamp n atime mtime ctime) asks = absurd cc
+flush_case P one all (Clock time) asks = absurd cc
 flush_case P one all Statfs asks = absurd cc
 flush_case P one all (Arm k) asks = absurd cc
 flush_case P one all (Restart bytes arm) asks = absurd cc
@@ -132,20 +134,20 @@ module _ (s : State) where
   unfolding other_refusal
   flush_other = flush_case (λ e. other_refusal s e ≡ None) (λ pid fd. refl) refl
 
-  flush_after : (e : Event) → IsTrue (asks_stable e) → after s e (record { number = 0; pid = 0; free = s.free }) ≡ record { change = Same; desks = s.desks; reply = Done }
+  flush_after : (e : Event) → IsTrue (asks_stable e) → after s e (record { number = 0; pid = 0; free = s.free }) ≡ record { change = Same; desks = s.desks; reply = Done; now = s.now }
   unfolding after
   flush_after =
-      flush_case (λ e. after s e (record { number = 0; pid = 0; free = s.free }) ≡ record { change = Same; desks = s.desks; reply = Done }) (λ pid fd. refl) refl
+      flush_case (λ e. after s e (record { number = 0; pid = 0; free = s.free }) ≡ record { change = Same; desks = s.desks; reply = Done; now = s.now }) (λ pid fd. refl) refl
 
   flush_pid : (e : Event) → IsTrue (asks_stable e) → HasNewPid s e 0
   flush_pid = flush_case (λ e. HasNewPid s e 0) (λ pid fd. tt) tt
 
   module _ (is : IsState s) (up : IsFalse s.halted) (e : Event) (asks : IsTrue (asks_stable e)) (firm : firm_refusal s e ≡ None) where
     pub flushes : Step s e Done s
-    flushes = acts_alone s is up e 0 Done s.desks (λ n still. still) (flush_machine e asks) firm (flush_other e asks) (flush_after e asks) (flush_pid e asks)
+    flushes = acts_alone s is up e 0 Done s.desks s.now (λ n still. still) (flush_machine e asks) firm (flush_other e asks) (flush_after e asks) (flush_pid e asks)
 
     pub flush_halts : Step s e (Refused (Failed EIO)) (record s { halted = true })
-    flush_halts = halts_alone s is up e 0 Done s.desks (λ n still. still) (flush_machine e asks) firm (flush_other e asks) (flush_after e asks) (flush_pid e asks)
+    flush_halts = halts_alone s is up e 0 Done s.desks s.now (λ n still. still) (flush_machine e asks) firm (flush_other e asks) (flush_after e asks) (flush_pid e asks)
 
   pub sync_firm : firm_refusal s Sync ≡ None
   unfolding firm_refusal
@@ -171,6 +173,24 @@ module _ (s : State) where
     pub fsync_absent : IsFalse s.halted → Step s (Fsync pid fd) (Refused (Failed ESRCH)) s
     fsync_absent up = (refl, step.refuses_early up (Failed ESRCH) fsync_gone refl refl)
 
+-- ---- the time that is told
+
+module _ (s : State) (up : IsFalse s.halted) (time : ℕ) where
+  time_firm : firm_refusal s (Clock time) ≡ None
+  unfolding firm_refusal
+  time_firm = refl
+
+  time_other : other_refusal s (Clock time) ≡ None
+  unfolding other_refusal
+  time_other = refl
+
+  time_after : after s (Clock time) (record { number = 0; pid = 0; free = s.free }) ≡ record { change = Same; desks = s.desks; reply = Done; now = time }
+  unfolding after
+  time_after = refl
+
+  pub tells_time : IsState s → Step s (Clock time) Done (record s { now = time })
+  tells_time is = acts_alone s is up (Clock time) 0 Done s.desks time (λ n still. still) refl time_firm time_other time_after tt
+
 -- ---- statfs
 
 module _ (s : State) (up : IsFalse s.halted) where
@@ -183,13 +203,13 @@ module _ (s : State) (up : IsFalse s.halted) where
   space_other = refl
 
   space_after : after s Statfs (record { number = 0; pid = 0; free = s.free })
-      ≡ record { change = Same; desks = s.desks; reply = Space s.free (free_inodes s.room s.tree) }
+      ≡ record { change = Same; desks = s.desks; reply = Space s.free (free_inodes s.room s.tree); now = s.now }
   unfolding after
   space_after = refl
 
   pub tells_space : IsState s → Step s Statfs (Space s.free (free_inodes s.room s.tree)) s
   tells_space is =
-      acts_alone s is up Statfs 0 (Space s.free (free_inodes s.room s.tree)) s.desks (λ n still. still) refl space_firm space_other space_after tt
+      acts_alone s is up Statfs 0 (Space s.free (free_inodes s.room s.tree)) s.desks s.now (λ n still. still) refl space_firm space_other space_after tt
 
   pub space_unread : Step s Statfs (Refused (Failed EIO)) s
   space_unread = (refl, step.read_fails up space_firm refl refl)

@@ -1,4 +1,5 @@
 -- What an event that was performed in a transaction is to the machine: one step.
+--     tree_then        the tree after it
 --     IsPerformed        nothing refuses the event, and the map holds the tree after it
 --     call_performed, exit_performed        a call, and the end of a process
 --     done_state        the state after it
@@ -23,7 +24,7 @@ use Rattle.fs_model.specs.declared.event.Event.{Event}
 use Rattle.fs_model.specs.declared.event.Event.TheVariants.{Call as Calls, Exit}
 use Rattle.fs_model.specs.Trees.{Tree, Room, IsTree}
 use Rattle.fs_model.specs.Processes.{Process, Desks}
-use Rattle.fs_model.specs.TreeChanges.{Change, Same, changed, swept}
+use Rattle.fs_model.specs.TreeChanges.{Change, Same, changed, touches, touched, swept}
 use Rattle.fs_model.specs.States.{State, MayBeFree}
 use Rattle.fs_model.specs.Stands.{HoldsAll, placed}
 use Rattle.fs_model.specs.Ranges.{IsCall}
@@ -34,8 +35,8 @@ use Rattle.fs_model.specs.Stops.{Halts, asks_stable, makes_stable, is_ok, is_io_
 use Rattle.fs_model.proofs.NoIoReplies.{event_answers, firm_spares_reply, other_spares_reply}
 use Rattle.fs_model.proofs.StepsOfCalls.{process_leaves}
 use Rattle.fs_model.proofs.StepsProcesses.{without-IsMap, in_without, length-without}
-use Rattle.fs_model.proofs.StepsSwept.{MayBeLeft, left_is_state, tree_may_be_left}
-use Rattle.fs_model.proofs.Swept.{swept_is_tree}
+use Rattle.fs_model.proofs.StepsKeep.{acted_is_tree, acted_is_state}
+use Rattle.fs_model.proofs.StepsSwept.{MayBeLeft, tree_may_be_left}
 use Rattle.fs_model.proofs.Taken.{count_may_be_free}
 use Rattle.call_parts.specs.Performing.{IsStateOf, IsDone, IsRefused, chosen}
 use Rattle.call_parts.specs.Performing as why
@@ -71,8 +72,12 @@ has_process s pid call firm = go (get nat_cmp s.desks pid) refl firm
 
 -- ---- where nothing refused it
 
--- Nothing refuses the event, which makes nothing stable. It gives this reply and leaves these processes, and the map holds the
--- tree after it.
+-- the tree after a change, in which times have moved to the present
+abbrev pub tree_then : State → Change → Desks → Tree
+tree_then s change desks = touched s.now (touches s.room s.tree change) (swept (changed s.tree change) desks)
+
+-- Nothing refuses the event, which makes nothing stable. It gives this reply and leaves these processes and the time, and the map
+-- holds the tree after it.
 pub record IsPerformed (p : Place) (map : SectorMap) (now : Desks) (s : State) (e : Event) (reply : Reply) : Type 0 where
   pub machine : IsTrue (is_of_machine e)
   pub unstable : IsFalse (asks_stable e)
@@ -80,15 +85,15 @@ pub record IsPerformed (p : Place) (map : SectorMap) (now : Desks) (s : State) (
   pub late : other_refusal s e ≡ None
   pub number : ℕ
   pub change : Change
-  pub effect : (free : ℕ) → after s e (chosen number free) ≡ record { change = change; desks = now; reply = reply }
+  pub effect : (free : ℕ) → after s e (chosen number free) ≡ record { change = change; desks = now; reply = reply; now = s.now }
   pub new_number : HasNewNumber s change
   pub new_pid : HasNewPid s e 0
   pub left : MayBeLeft s.room (changed s.tree change) now
-  pub holds : HoldsAll p map (placed (swept (changed s.tree change) now))
+  pub holds : HoldsAll p map (placed (tree_then s change now))
 
-pub call_performed : {p : Place} {map old_map : SectorMap} {now before : Desks} {s : State} {pid : ℕ} {call : Call} {reply : Reply}
-    → IsStateOf p old_map before s → IsCall call → IsDone p map now s pid call reply → IsPerformed p map now s (Calls pid call) reply
-call_performed {p} {map} {old_map} {now} {before} {s} {pid} {call} {reply} at is_call d = record {
+pub call_performed : {p : Place} {time : ℕ} {map old_map : SectorMap} {now before : Desks} {s : State} {pid : ℕ} {call : Call} {reply : Reply}
+    → IsStateOf p old_map before s → s.now ≡ time → IsCall call → IsDone p time map now s pid call reply → IsPerformed p map now s (Calls pid call) reply
+call_performed {p} {time} {map} {old_map} {now} {before} {s} {pid} {call} {reply} at told is_call d = record {
   machine = refl;
   unstable = refl;
   early = d.early;
@@ -101,7 +106,7 @@ call_performed {p} {map} {old_map} {now} {before} {s} {pid} {call} {reply} at is
   left = subst (λ (a : After). MayBeLeft s.room (changed s.tree a.change) a.desks) by_row
       (process_leaves s pid q call d.number at.is_state at.up there is_call (sym (early_is s pid q call there) ∙ d.early)
       (sym (late_is s pid q call there) ∙ d.late) (subst (λ (a : After). HasNewNumber s a.change) (sym by_row) d.new_number));
-  holds = d.holds;
+  holds = subst (λ k. HoldsAll p map (placed (touched k (touches s.room s.tree d.change) (swept (changed s.tree d.change) now)))) (sym told) d.holds;
 }
   where
     q : Process
@@ -110,7 +115,7 @@ call_performed {p} {map} {old_map} {now} {before} {s} {pid} {call} {reply} at is
     there : get nat_cmp s.desks pid ≡ Some q
     there = (has_process s pid call d.early).1
 
-    by_row : after_call s pid (row_of call) d.number (Some q) ≡ record { change = d.change; desks = now; reply = reply }
+    by_row : after_call s pid (row_of call) d.number (Some q) ≡ record { change = d.change; desks = now; reply = reply; now = s.now }
     by_row = sym (after_is s pid q call there (chosen d.number 0)) ∙ d.effect
 
 pub exit_performed : {p : Place} {map old_map : SectorMap} {now before : Desks} {s : State} {pid : ℕ}
@@ -122,7 +127,7 @@ exit_performed {p} {map} {old_map} {now} {before} {s} {pid} at d = record {
   late = d.late;
   number = 0;
   change = Same;
-  effect = λ free. exit_after s pid free ∙ ap (λ (x : Desks). record { change = Same; desks = x; reply = Done }) is_now;
+  effect = λ free. exit_after s pid free ∙ ap (λ (x : Desks). record { change = Same; desks = x; reply = Done; now = s.now }) is_now;
   new_number = tt;
   new_pid = tt;
   left = subst (λ (x : Desks). MayBeLeft s.room s.tree x) is_now
@@ -138,7 +143,7 @@ exit_performed {p} {map} {old_map} {now} {before} {s} {pid} at d = record {
 module _ {p : Place} {map old_map : SectorMap} {now before : Desks} {s : State} {e : Event} {reply : Reply}
     (at : IsStateOf p old_map before s) (d : IsPerformed p map now s e reply) where
   abbrev pub done_state : State
-  done_state = record s { tree = swept (changed s.tree d.change) now; desks = now; free = free_sectors p map }
+  done_state = record s { tree = tree_then s d.change now; desks = now; free = free_sectors p map }
 
   pub done_no_fault : is_io_error reply ≡ false
   done_no_fault = ap (λ (a : After). is_io_error a.reply) (sym (d.effect 0)) ∙ event_answers s e (chosen d.number 0)
@@ -146,17 +151,20 @@ module _ {p : Place} {map old_map : SectorMap} {now before : Desks} {s : State} 
   pub done_unstable : (r : Reply) → makes_stable e r ≡ false
   done_unstable r = ap (λ b. b && is_ok r) d.unstable
 
-  tree_is : IsTree s.room (swept (changed s.tree d.change) now)
-  tree_is = swept_is_tree s.room (changed s.tree d.change) now d.left.tree
+  abbrev done_after : After
+  done_after = record { change = d.change; desks = now; reply = reply; now = s.now }
 
-  may_be_free : MayBeFree s.room (swept (changed s.tree d.change) now) (free_sectors p map)
+  tree_is : IsTree s.room (tree_then s d.change now)
+  tree_is = acted_is_tree s done_after at.is_state d.left
+
+  may_be_free : MayBeFree s.room (tree_then s d.change now) (free_sectors p map)
   may_be_free =
-      count_may_be_free p map s.room (swept (changed s.tree d.change) now) (ap (λ (r : Room). r.sectors) at.same_room)
+      count_may_be_free p map s.room (tree_then s d.change now) (ap (λ (r : Room). r.sectors) at.same_room)
       (ap (λ (r : Room). r.slot_size) at.same_room) tree_is d.holds
 
   pub done_state_of : IsStateOf p map now done_state
   done_state_of = record {
-    is_state = left_is_state s (changed s.tree d.change) now (free_sectors p map) at.is_state.room d.left may_be_free;
+    is_state = acted_is_state s done_after (free_sectors p map) at.is_state d.left at.is_state.now may_be_free;
     up = at.up;
     same_desks = refl;
     same_room = at.same_room;
@@ -164,7 +172,7 @@ module _ {p : Place} {map old_map : SectorMap} {now before : Desks} {s : State} 
     free_is = refl;
   }
 
-  pub done_tree : tree_after s (after s e (chosen d.number (free_sectors p map))) ≡ swept (changed s.tree d.change) now
+  pub done_tree : tree_after s (after s e (chosen d.number (free_sectors p map))) ≡ tree_then s d.change now
   done_tree = ap (tree_after s) (d.effect (free_sectors p map))
 
   done_acts : Acts s e (chosen d.number (free_sectors p map))
@@ -183,7 +191,7 @@ module _ {p : Place} {map old_map : SectorMap} {now before : Desks} {s : State} 
   done_steps = (
     d.machine,
     step.acts (chosen d.number (free_sectors p map)) done_acts (sym (ap (λ (a : After). a.reply) (d.effect (free_sectors p map))))
-        (sym (ap (λ (a : After). record s { tree = tree_after s a; desks = a.desks; free = free_sectors p map }) (d.effect (free_sectors p map)))),
+        (sym (ap (λ (a : After). record s { tree = tree_after s a; desks = a.desks; free = free_sectors p map; now = a.now }) (d.effect (free_sectors p map)))),
   )
 
   -- the commit fails, and what would have been may be found
@@ -197,8 +205,8 @@ module _ {p : Place} {map old_map : SectorMap} {now before : Desks} {s : State} 
   pub halts : Halts s e (record s { desks = now; halted = true }) (chosen d.number (free_sectors p map))
   halts = record { halted = refl; acts = done_acts }
 
-  pub done_holds : HoldsCounted p map (swept (changed s.tree d.change) now) (free_sectors p map)
-  done_holds = record { holds = d.holds; tree_is = subst (λ (r : Room). IsTree r (swept (changed s.tree d.change) now)) at.same_room tree_is; free_is = refl }
+  pub done_holds : HoldsCounted p map (tree_then s d.change now) (free_sectors p map)
+  done_holds = record { holds = d.holds; tree_is = subst (λ (r : Room). IsTree r (tree_then s d.change now)) at.same_room tree_is; free_is = refl }
 
 -- ---- where something did
 

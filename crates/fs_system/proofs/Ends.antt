@@ -138,6 +138,21 @@ running_with size p map desks desks' s is r = record {
   };
 }
 
+-- the same at another time
+pub running_at : (size : ℕ) (p : Place) (map : SectorMap) (desks : Desks) (time : ℕ) (s : State) → IsState (record s { now = time })
+    → IsRunning size p map desks s → IsRunning size p map desks (record s { now = time })
+running_at size p map desks time s is r = record {
+  disk_is = r.disk_is;
+  state_of = record {
+    is_state = is;
+    up = r.state_of.up;
+    same_desks = r.state_of.same_desks;
+    same_room = r.state_of.same_room;
+    holds = r.state_of.holds;
+    free_is = r.state_of.free_is;
+  };
+}
+
 -- ---- what a flush leaves may be mounted
 
 pub flush_mountable : (old new : DiskState) (p : Place) (map : SectorMap) (desks : Desks) (s : State) → IsRunning old.size p map desks s

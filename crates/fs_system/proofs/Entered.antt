@@ -49,7 +49,7 @@ module _ (s : State) (up : IsFalse s.halted) (pid directory second : ℕ) where
   enter_other = refl
 
   enter_after : (p : Process) → get nat_cmp s.desks pid ≡ Some p → (choice : Choice)
-      → after s entering choice ≡ record { change = Same; desks = with_entry nat_cmp s.desks pid (standing_at directory second p); reply = Done }
+      → after s entering choice ≡ record { change = Same; desks = with_entry nat_cmp s.desks pid (standing_at directory second p); reply = Done; now = s.now }
   unfolding after
   enter_after p there choice = rw there refl
 
@@ -61,8 +61,8 @@ module _ (s : State) (up : IsFalse s.halted) (pid directory second : ℕ) where
 
   pub enters : IsState s → (now : Desks) → IsEntered s pid directory second now → Step s entering Done (record s { desks = now })
   enters is now i =
-      acts_alone s is up entering 0 Done now (enter_stays is now i) refl (enter_firm i.process i.is_there) (enter_other ∙ i.asked)
-      (enter_after i.process i.is_there (choice_of s is up 0) ∙ ap (λ (d : Desks). record { change = Same; desks = d; reply = Done }) (sym i.entered)) tt
+      acts_alone s is up entering 0 Done now s.now (enter_stays is now i) refl (enter_firm i.process i.is_there) (enter_other ∙ i.asked)
+      (enter_after i.process i.is_there (choice_of s is up 0) ∙ ap (λ (d : Desks). record { change = Same; desks = d; reply = Done; now = s.now }) (sym i.entered)) tt
 
   pub enter_refuses : (old new : DiskState) (e : Errno) → IsNotEntered old new s pid directory second e → Step s entering (Refused (Failed e)) s
   enter_refuses old new e (absent none is) =
@@ -83,20 +83,20 @@ module _ (old new : DiskState) (only_now : (image : Image) → old.left_since ol
     (size : ℕ) (p : Place) (map : SectorMap) (desks now : Desks) (s : State) (pid directory second : ℕ) where
   pub enter_does : (result : Result (Unit {0}) Errno) → IsEvent (Enter pid directory second) → IsRunning size p map desks s → OnErr result (now ≡ desks)
       → MatchResult result (λ done. IsEntered s pid directory second now) (λ e. IsNotEntered old new s pid directory second e)
-      → (t : State) × IsRunning size p map now t × Does old new s (Enter pid directory second) (finished result) t
+      → (t : State) × (IsRunning size p map now t × (t.now ≡ s.now)) × Does old new s (Enter pid directory second) (finished result) t
   enter_does (Ok done) in_range r same i =
       let up = r.state_of.up in
       let goes = enters s up pid directory second r.state_of.is_state now i in
       let t : State = record s { desks = now } in
       let t_is : IsState t = steps_keep s t (Enter pid directory second) Done r.state_of.is_state in_range goes in (
         t,
-        running_with size p map desks now s t_is r,
+        (running_with size p map desks now s t_is r, refl),
         does_reading old new only_now reads s t (Enter pid directory second) Done up up goes refl (λ io. absurd cc),
       )
   enter_does (Err e) in_range r same why =
       let up = r.state_of.up in (
         s,
-        running_same size size p map map desks now s refl (λ n part. refl) same r,
+        (running_same size size p map map desks now s refl (λ n part. refl) same r, refl),
         does_reading old new only_now reads s s (Enter pid directory second) (Refused (Failed e)) up up (enter_refuses s up pid directory second old new e why)
             refl (why_refused s up pid directory second old new e why),
       )

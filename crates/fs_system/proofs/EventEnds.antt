@@ -18,7 +18,6 @@ use Rattle.fs_layout.proofs.Places.{place_is_laid_out}
 use Rattle.fs_model.specs.declared.event.Event.{Event}
 use Rattle.fs_model.specs.declared.reply.Reply.{Reply}
 use Rattle.fs_model.specs.declared.reply.Reply.TheVariants.{Refused}
-use Rattle.fs_model.specs.TreeChanges.{changed, swept}
 use Rattle.fs_model.specs.Processes.{Desks}
 use Rattle.fs_model.specs.Stands.{placed}
 use Rattle.fs_model.specs.States.{State}
@@ -26,7 +25,7 @@ use Rattle.call_parts.specs.Performing.{IsReady, IsStateOf}
 use Rattle.fs_system.specs.Doing.{Does, IsFound}
 use Rattle.fs_system.specs.Layouts.{IsDiskOf}
 use Rattle.fs_system.specs.Seen.{IsRunning}
-use Rattle.fs_system.proofs.Endings.{IsPerformed, done_state, done_state_of, done_tree, done_steps, done_halts, done_no_fault, done_unstable, halts, done_holds}
+use Rattle.fs_system.proofs.Endings.{IsPerformed, tree_then, done_state, done_state_of, done_tree, done_steps, done_halts, done_no_fault, done_unstable, halts, done_holds}
 use Rattle.fs_system.proofs.Ends.{running_same, tree_held}
 use Rattle.fs_system.proofs.Joining.{disk_same, leaves_found}
 use Rattle.fs_system.proofs.Soundness.{outside_set}
@@ -69,9 +68,9 @@ module _ (old : DiskState) (only_now : (image : Image) → old.left_since old.mo
     now_disk : IsDiskOf old.size p now_map
     now_disk = disk_kept old.size p before now_map super (disk_same old.size p map before same r.disk_is)
 
-    images : LeavesOnly old new (IsFound old s (swept (changed s.tree d.change) now))
+    images : LeavesOnly old new (IsFound old s (tree_then s d.change now))
     images =
-        leaves_found p map now_map s (swept (changed s.tree d.change) now) _ old new r.state_of.same_room r.state_of.up
+        leaves_found p map now_map s (tree_then s d.change now) _ old new r.state_of.same_room r.state_of.up
         r.disk_is (tree_held p map desks s r.state_of) now_disk (done_holds at d) (after_reads only_now reads (maps_same same (λ n part. refl) run))
 
     pub event_runs : (size : ℕ) (map' : SectorMap) → size ≡ old.size → SameMap map' now_map → IsRunning size p map' now (done_state at d)
@@ -81,7 +80,7 @@ module _ (old : DiskState) (only_now : (image : Image) → old.left_since old.mo
     pub does_event : new.failed_writes ≡ mid.failed_writes → Does old new s e reply (done_state at d)
     does_event quiet = record {
       serves = done_steps at d;
-      added = swept (changed s.tree d.change) now;
+      added = tree_then s d.change now;
       is_added = inl refl;
       images = images;
       synced = λ stable. absurd (let c = sym (done_unstable at d reply) ∙ stable in cc);
@@ -96,7 +95,7 @@ module _ (old : DiskState) (only_now : (image : Image) → old.left_since old.mo
     pub does_halt : HasFailed mid new → HasFailedToWrite mid new → Does old new s e (Refused (Failed EIO)) (record s { desks = now; halted = true })
     does_halt failed unwritten = record {
       serves = done_halts at d;
-      added = swept (changed s.tree d.change) now;
+      added = tree_then s d.change now;
       is_added = inr (_, halts at d, sym (done_tree at d));
       images = images;
       synced = λ stable. absurd (let c = sym (done_unstable at d (Refused (Failed EIO))) ∙ stable in cc);

@@ -1,5 +1,5 @@
 -- A file system whose disk lets go of its past.
-use Rattle.std.proofs.Common.{◌≡◌, Some, Ok, Result, refl, sym, subst}
+use Rattle.std.proofs.Common.{◌≡◌, ℕ, Some, Ok, Result, refl, sym, subst}
 use Rattle.sector_disk.specs.Disk.{DiskState, IsSame, ForgetsPast}
 use Rattle.sector_disk.proofs.Moments.{narrowed}
 use Rattle.fs_layout.specs.declared.place.Place.{Place}
@@ -13,26 +13,26 @@ use Rattle.fs_system.proofs.Ends.{running_same}
 
 -- a store goes on in its state
 pub store_stays : {D : Type 0} (state : D → DiskState) (before after : StoreView D) → SameMap (present state after) (present state before)
-    → IsSame (state before.disk) (state after.disk) → (p : Place) (desks : Desks) (s : State)
-    → IsOn state p desks (Some (Ok before)) s → IsOn state p desks (Some (Ok after)) s
-store_stays state before after map same p desks s r =
-    running_same (state before.disk).size (state after.disk).size p (present state before) (present state after) desks desks s same.narrowed.size map refl r
+    → IsSame (state before.disk) (state after.disk) → (p : Place) (time : ℕ) (desks : Desks) (s : State)
+    → IsOn state p time desks (Some (Ok before)) s → IsOn state p time desks (Some (Ok after)) s
+store_stays state before after map same p time desks s on =
+    (running_same (state before.disk).size (state after.disk).size p (present state before) (present state after) desks desks s same.narrowed.size map refl on.0, on.1)
 
 -- so does the file system
-module _ {D : Type 0} (state : D → DiskState) (old : Base D) (place : Place) (procs : Desks) (before now : Result (StoreView D) D) (is : old ≡ Some before)
+module _ {D : Type 0} (state : D → DiskState) (old : Base D) (place : Place) (procs : Desks) (time : ℕ) (before now : Result (StoreView D) D) (is : old ≡ Some before)
     (same : IsSame (state (disk_after before)) (state (disk_after now)))
-    (stays : (p : Place) (desks : Desks) (s : State) → IsOn state p desks (Some before) s → IsOn state p desks (Some now) s) where
-  here : (s : State) → IsOn state place procs old s → IsOn state place procs (Some now) s
-  here s on = stays place procs s (subst (λ (b : Base D). IsOn state place procs b s) is on)
+    (stays : (p : Place) (time : ℕ) (desks : Desks) (s : State) → IsOn state p time desks (Some before) s → IsOn state p time desks (Some now) s) where
+  here : (s : State) → IsOn state place time procs old s → IsOn state place time procs (Some now) s
+  here s on = stays place time procs s (subst (λ (b : Base D). IsOn state place time procs b s) is on)
 
   same_disk : IsSame (disk_in state old) (state (disk_after now))
   same_disk = subst (λ (b : Base D). IsSame (disk_in state b) (state (disk_after now))) (sym is) same
 
-  pub forgot_system : IsSystem state (record { base = old; place = place; desks = procs }) → IsSystem state (record { base = Some now; place = place; desks = procs })
+  pub forgot_system : IsSystem state (record { base = old; place = place; desks = procs; time = time }) → IsSystem state (record { base = Some now; place = place; desks = procs; time = time })
   forgot_system was = record { in_some = (was.in_some.0, here was.in_some.0 was.in_some.1); mountable = λ image left. was.mountable image (narrowed same_disk.narrowed left) }
 
-  module _ (fs : System D) (view_is : record { base = old; place = place; desks = procs } ≡ fs) where
-    pub forgot_state : (s : State) → IsIn state fs s → IsIn state (record { base = Some now; place = place; desks = procs }) s
+  module _ (fs : System D) (view_is : record { base = old; place = place; desks = procs; time = time } ≡ fs) where
+    pub forgot_state : (s : State) → IsIn state fs s → IsIn state (record { base = Some now; place = place; desks = procs; time = time }) s
     forgot_state s on = here s (subst (λ (x : System D). IsIn state x s) (sym view_is) on)
 
     pub forgot_same : IsSame (disk_in state fs.base) (state (disk_after now))

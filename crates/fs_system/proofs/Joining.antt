@@ -1,5 +1,5 @@
 -- What a journal's image reads as, and the tree that it stands for.
-use Rattle.std.proofs.Common.{◌≡◌, ℕ, ◌+◌, ◌/◌, ◌<◌, ◌≤◌, length, refl, sym, subst, ◌∙◌, arith, inl, inr}
+use Rattle.std.proofs.Common.{◌≡◌, ℕ, length, refl, sym, subst, ◌∙◌, arith, inl, inr}
 use Rattle.std.specs.Prelude.{IsFalse}
 use Rattle.sector_disk.specs.Disk.{DiskState, Image, sector, LeavesOnly}
 use Rattle.sector_disk.proofs.Moments.{weaker}

@@ -97,12 +97,15 @@ module _ {D : Type 0} (state : D → DiskState) (p : Place) (store : StoreView D
       pub kept_does : (after : StoreView D) → SameMap (present state after) (map_now state last)
           → LeavesOneOf (map_before state last) (map_now state last) (state last.disk) (state after.disk)
           → (state last.disk).failures ≤ (state after.disk).failures → (state after.disk).failed_writes ≡ (state last.disk).failed_writes
-          → (t : State) × IsOn state p now (Some (Ok after)) t × Does (state store.disk) (state after.disk) s e reply t
+          → (t : State) × IsOn state p s.now now (Some (Ok after)) t × Does (state store.disk) (state after.disk) s e reply t
       kept_does after alike images later quiet = (
         done_state (state_begun s r) d,
-        event_runs (state store.disk) only_now p (present state store) desks s r e (map_now state begun) (map_now state last) map super
-            (state last.disk) (state after.disk) reads (run (state after.disk) images) later now reply (state_begun s r) d
-            (state after.disk).size (present state after) (images.size ∙ reads.narrowed.size) alike,
+        (
+          event_runs (state store.disk) only_now p (present state store) desks s r e (map_now state begun) (map_now state last) map super
+              (state last.disk) (state after.disk) reads (run (state after.disk) images) later now reply (state_begun s r) d
+              (state after.disk).size (present state after) (images.size ∙ reads.narrowed.size) alike,
+          refl,
+        ),
         does_event (state store.disk) only_now p (present state store) desks s r e (map_now state begun) (map_now state last) map super
             (state last.disk) (state after.disk) reads (run (state after.disk) images) later now reply (state_begun s r) d quiet,
       )
@@ -111,7 +114,7 @@ module _ {D : Type 0} (state : D → DiskState) (p : Place) (store : StoreView D
       pub broken_does : (broken : D) → LeavesOneOf (map_before state last) (map_now state last) (state last.disk) (state broken)
           → (state last.disk).failures ≤ (state broken).failures → HasFailed (state last.disk) (state broken)
           → HasFailedToWrite (state last.disk) (state broken) → (told : Reply) → told ≡ Refused (Failed EIO)
-          → (t : State) × IsOn state p now (Some (Err broken)) t × Does (state store.disk) (state broken) s e told t
+          → (t : State) × IsOn state p s.now now (Some (Err broken)) t × Does (state store.disk) (state broken) s e told t
       broken_does broken images later failed unwritten told is = (
         record s { desks = now; halted = true },
         refl,

@@ -15,4 +15,6 @@ pub mod Played
 pub mod Remembered
 pub mod Runs
 pub mod Soundness
+pub mod Stamped
+pub mod StampedNodes
 pub mod Sweeps

@@ -97,7 +97,7 @@ module _ (old : DiskState) (size : length old.seen ≡ old.size) (room : Room) (
   module _ (new : DiskState) (map : SectorMap) (place : Place) (found : stands.place ≡ place) (stored : IsStored new.size place map (pruned t))
       (images : EachStandsFor (room_of place) new (pruned t)) (later : old.failures ≤ new.failures) (quiet : new.failed_writes ≡ old.failed_writes) where
     abbrev pub state_found : State
-    state_found = record { room = room; tree = pruned t; desks = []; free = free_sectors place map; halted = false }
+    state_found = record { room = room; tree = pruned t; desks = []; free = free_sectors place map; now = 0; halted = false }
 
     room_is : room ≡ room_of place
     room_is = stands.room_is ∙ ap room_of found
@@ -109,26 +109,29 @@ module _ (old : DiskState) (size : length old.seen ≡ old.size) (room : Room) (
 
     found_state : IsState state_found
     found_state =
-        left_is_state (record { room = room; tree = t; desks = []; free = free; halted = false }) t [] (free_sectors place map) (is_room old.seen room t free stands)
+        left_is_state (record { room = room; tree = t; desks = []; free = free; now = 0; halted = false }) t [] (free_sectors place map) (is_room old.seen room t free stands) (omega arith)
         (tree_may_be_left room t [] stands.tree_is refl (omega arith) (λ pid p e. absurd cc)) may_be_free
 
     mounted_here : IsMounted new room t state_found
     mounted_here = record { is_mounted = refl; free = may_be_free; images = subst (λ (q : Room). EachStandsFor q new (pruned t)) (sym room_is) images }
 
-    pub ends_mounted : (desks : Desks) → desks ≡ [] → (s : State) × IsRunning new.size place map desks s × Mounts old new s
+    pub ends_mounted : (desks : Desks) → desks ≡ [] → (s : State) × (IsRunning new.size place map desks s × (s.now ≡ 0)) × Mounts old new s
     ends_mounted desks none = (
       state_found,
-      record {
-        disk_is = stored.disk_is;
-        state_of = record {
-          is_state = found_state;
-          up = refl;
-          same_desks = sym none;
-          same_room = room_is;
-          holds = stored.holds.holds;
-          free_is = refl;
-        };
-      },
+      (
+        record {
+          disk_is = stored.disk_is;
+          state_of = record {
+            is_state = found_state;
+            up = refl;
+            same_desks = sym none;
+            same_room = room_is;
+            holds = stored.holds.holds;
+            free_is = refl;
+          };
+        },
+        refl,
+      ),
       record {
         some = (room, t, free, stands);
         each = λ room' t' free' stands'.
@@ -168,12 +171,12 @@ module _ {D : Type 0} (state : D → DiskState) (disk read : D) (store : StoreVi
       (stable : (t : Tree) → HasTree place (present state store) (state store.disk) t → EachStandsFor (room_of place) (state then.disk) (pruned t))
       (later : (state disk).failures ≤ (state then.disk).failures) (quiet : (state then.disk).failed_writes ≡ (state disk).failed_writes)
       (desks : Desks) (none : desks ≡ []) where
-    pub mounts_found : (s : State) × IsRunning (state then.disk).size place (present state then) desks s × Mounts (state disk) (state then.disk) s
+    pub mounts_found : (s : State) × (IsRunning (state then.disk).size place (present state then) desks s × (s.now ≡ 0)) × Mounts (state disk) (state then.disk) s
     mounts_found =
         ends_mounted (state disk) seen.size was.0 was.1 was.2 was.3 (state then.disk) (present state then) place at (swept was.1 opened_tree)
         (stable was.1 opened_tree) later quiet desks none
 
-    pub mounted_system : IsSystem state (record { base = Some (Ok then); place = place; desks = desks })
+    pub mounted_system : IsSystem state (record { base = Some (Ok then); place = place; desks = desks; time = 0 })
     mounted_system =
         let is = mounts_found in
         let each = stable was.1 opened_tree in

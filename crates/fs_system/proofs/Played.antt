@@ -84,7 +84,7 @@ module _ {D : Type 0} (state : D → DiskState) where
   pub the_disk : (fs : System D) (s : State) → IsIn state fs s → (disk : D) × HasDisk fs.base disk
   the_disk fs s here = go fs.base here
     where
-      go : (b : Base D) → IsOn state fs.place fs.desks b s → (disk : D) × HasDisk b disk
+      go : (b : Base D) → IsOn state fs.place fs.time fs.desks b s → (disk : D) × HasDisk b disk
       go None on = absurd on
       go (Some k) on = (disk_after k, refl)
 
@@ -99,14 +99,14 @@ module _ {D : Type 0} (state : D → DiskState) where
   device_is (Err alone) (Off d) disk is has = sym is ∙ has
 
   -- as a file system gives its disk away
-  module _ (base : Base D) (place : Place) (procs : Desks) where
-    pub disk_given : (fs : System D) → record { base = base; place = place; desks = procs } ≡ fs → (held : Result (StoreView D) D) → base ≡ Some held
+  module _ (base : Base D) (place : Place) (procs : Desks) (time : ℕ) where
+    pub disk_given : (fs : System D) → record { base = base; place = place; desks = procs; time = time } ≡ fs → (held : Result (StoreView D) D) → base ≡ Some held
         → (disk : D) → disk ≡ disk_after held → HasDisk fs.base disk
     disk_given fs view_is held is disk given =
         subst (λ (x : System D). HasDisk x.base disk) view_is (subst (λ (b : Base D). HasDisk b disk) (sym is) (sym given))
 
     pub disk_mounts : (held : Result (StoreView D) D) → base ≡ Some held → (disk : D) → disk ≡ disk_after held
-        → IsSystem state (record { base = base; place = place; desks = procs }) → EachStandsForSome (state disk)
+        → IsSystem state (record { base = base; place = place; desks = procs; time = time }) → EachStandsForSome (state disk)
     disk_mounts held is disk given was =
         subst (λ (d : D). EachStandsForSome (state d)) (sym given) (subst (λ (b : Base D). EachStandsForSome (disk_in state b)) is was.mountable)
 

@@ -9,6 +9,7 @@ pub mod Laws
 pub mod Sound
 pub mod Layouts
 pub mod Sweeping
+pub mod Stamping
 pub mod Played
 pub mod Confinement
 pub mod Counting

@@ -2,7 +2,7 @@
 --     System, disk_in        what a contract sees of one, and its disk
 --     IsRunning, IsOn        a store goes on in a state; so does a file system, or it is halted
 --     IsIn, IsInSomeState        the file system is in this state, or in some
-use Rattle.std.specs.Prelude.{ℕ, [], Option, None, Some, Result, Ok, Err, IsTrue}
+use Rattle.std.specs.Prelude.{◌≡◌, ℕ, [], Option, None, Some, Result, Ok, Err, IsTrue}
 use Rattle.sector_disk.specs.Disk.{DiskState}
 use Rattle.fs_layout.specs.declared.place.Place.{Place}
 use Rattle.fs_layout.specs.Bytes.{SectorMap}
@@ -16,11 +16,12 @@ use Rattle.fs_system.specs.Layouts.{IsDiskOf}
 abbrev pub Base : Type 0 → Type 0
 Base D = Option (Result (StoreView D) D)
 
--- that, where the parts of its disk lie, and its processes
+-- that, where the parts of its disk lie, its processes, and the time as it was told last
 pub record System (D : Type 0) : Type 0 where
   pub base : Base D
   pub place : Place
   pub desks : Desks
+  pub time : ℕ
 
 -- no sectors
 abbrev no_disk : DiskState
@@ -44,15 +45,15 @@ pub record IsRunning (size : ℕ) (p : Place) (map : SectorMap) (desks : Desks) 
   pub disk_is : IsDiskOf size p map
   pub state_of : IsStateOf p map desks s
 
--- It goes on in this state, or is halted. Of a halted one nothing more is known.
-abbrev pub IsOn : {D : Type 0} → (D → DiskState) → Place → Desks → Base D → State → Type 0
-IsOn state p desks None s = ⊥
-IsOn state p desks (Some (Ok store)) s = IsRunning (state store.disk).size p (present state store) desks s
-IsOn state p desks (Some (Err broken)) s = IsTrue s.halted
+-- It goes on in this state, at this time, or is halted. Of a halted one nothing more is known.
+abbrev pub IsOn : {D : Type 0} → (D → DiskState) → Place → ℕ → Desks → Base D → State → Type 0
+IsOn state p time desks None s = ⊥
+IsOn state p time desks (Some (Ok store)) s = IsRunning (state store.disk).size p (present state store) desks s × (s.now ≡ time)
+IsOn state p time desks (Some (Err broken)) s = IsTrue s.halted
 
 -- the file system is in this state
 abbrev pub IsIn : {D : Type 0} → (D → DiskState) → System D → State → Type 0
-IsIn state fs s = IsOn state fs.place fs.desks fs.base s
+IsIn state fs s = IsOn state fs.place fs.time fs.desks fs.base s
 
 -- it is in some state
 abbrev pub IsInSomeState : {D : Type 0} → (D → DiskState) → System D → Type 0

@@ -7,11 +7,11 @@ ghost use Rattle.fs_model.specs.declared.event.EventReply.TheVariants.{Reply as 
 ghost use Rattle.fs_system.specs.Doing.{Happens};
 ghost use Rattle.fs_system.specs.Playing.{Plays};
 ghost use Rattle.fs_system.specs.Mounting.{LeavesHalted};
-ghost use Rattle.fs_system.specs.Replies.{spawned, finished, counted};
+ghost use Rattle.fs_system.specs.Replies.{spawned, finished, counted, stamped_reply};
 
 use crate::fs::Fs;
 use fs_cred::{Cred, Errno, Refusal};
-use fs_model::{Call, Event, Reply};
+use fs_model::{Call, Event, Reply, Stamps};
 use sector_disk::Disk;
 
 // The reply to spawn.
@@ -24,7 +24,7 @@ fn spawned(outcome: Result<usize, Errno>) -> Reply
     }
 }
 
-// The reply to exit, enter, fsync and sync.
+// The reply to exit, enter, clock, fsync and sync.
 fn finished(outcome: Result<(), Errno>) -> Reply
     ensures { result ≡ finished outcome }
 {
@@ -40,6 +40,16 @@ fn counted(outcome: Result<(u32, u32), Errno>) -> Reply
 {
     match outcome {
         Ok((sectors, inodes)) => Reply::Space { sectors, inodes },
+        Err(errno) => Reply::Refused(Refusal::Failed(errno)),
+    }
+}
+
+// The reply to stamp.
+fn stamped(outcome: Result<Stamps, Errno>) -> Reply
+    ensures { result ≡ stamped_reply outcome }
+{
+    match outcome {
+        Ok(stamps) => Reply::Stamped(stamps),
         Err(errno) => Reply::Refused(Refusal::Failed(errno)),
     }
 }
@@ -62,6 +72,13 @@ impl<D: Disk + Drop> Fs<D> {
                 directory,
                 second,
             } => finished(self.enter(*pid, *directory, *second)),
+            Event::Stamp {
+                inode,
+                atime,
+                mtime,
+                ctime,
+            } => stamped(self.stamp(*inode, *atime, *mtime, *ctime)),
+            Event::Clock(now) => finished(self.tell_time(*now)),
             Event::Fsync { pid, fd } => finished(self.fsync(*pid, *fd)),
             Event::Sync => finished(self.sync()),
             Event::Statfs => counted(self.statfs()),

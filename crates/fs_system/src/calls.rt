@@ -9,20 +9,21 @@ use open_files::Procs;
 use sector_txn::Sectors;
 use std::alloc::Global;
 
-/// Performs a call of a process, if it is there. At `Err` its changes are to be dropped.
+/// Performs a call of a process at this time, if it is there. At `Err` its changes are to be dropped.
 pub(crate) fn perform<S: Sectors>(
     alloc: Global,
     s: &mut S,
     place: Place,
+    now: u64,
     procs: &mut Procs,
     pid: usize,
     call: &Call,
 ) -> Result<Reply, Refusal>
     requires ready { IsReady place (S.state s.old) procs.old }
-    ensures { Performs place pid call.now (S.state s.old) (S.state s.new) procs.old procs.new result }
+    ensures { Performs place now pid call.now (S.state s.old) (S.state s.new) procs.old procs.new result }
 {
-    match file_calls::perform(alloc, s, place, procs, pid, call) {
+    match file_calls::perform(alloc, s, place, now, procs, pid, call) {
         Some(result) => result,
-        None => name_calls::perform(alloc, s, place, procs, pid, call).unwrap(),
+        None => name_calls::perform(alloc, s, place, now, procs, pid, call).unwrap(),
     }
 }

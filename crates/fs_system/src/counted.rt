@@ -166,7 +166,8 @@ impl<D: Disk> CountedTxn<D> {
     pub(crate) fn keep(self) -> Result<CountedStore<D>, Broken<D>>
         ensures map { IfOk result (λ store. SameMap (present D.state store) (txn_state D.state self).sectors) }
         ensures images { LeavesOneOf (map_before D.state self) (map_now D.state self) (D.state self.disk) (D.state (disk_after result)) }
-        ensures empty { (txn_state D.state self).room ≡ max_delta (txn_state D.state self).header → IsOk result × (disk_after result ≡ self.disk) }
+        ensures empty { (txn_state D.state self).room ≡ max_delta (txn_state D.state self).header
+            → IsOk result × (disk_after result ≡ self.disk) }
         ensures cause { HasCause (D.state self.disk) (D.state (disk_after result)) result }
         ensures told { HasWriteCause (D.state self.disk) (D.state (disk_after result)) result }
     {

@@ -1,6 +1,6 @@
 //! A file system on a disk.
 
-ghost use Rattle.std.specs.Prelude.{◌≡◌, ◌≤◌, None, Some, Ok, IfOk, IfErr, IsTrue};
+ghost use Rattle.std.specs.Prelude.{◌≡◌, ◌≤◌, ℕ, None, Some, Ok, IfOk, IfErr, IsTrue};
 ghost use Rattle.sector_disk.specs.Disk.{IsSame, ForgetsPast, Elapses, HasCause, HasFailed, LeavesOnly};
 ghost use Rattle.redo_journal.specs.Meaning.{SameMap, EachReadsAs, MeansAsBefore, data_of};
 ghost use Rattle.redo_journal.specs.States.{IsIdle};
@@ -8,24 +8,24 @@ ghost use Rattle.sector_txn.specs.Stores.{StoreView, present, disk_after};
 ghost use Rattle.fs_model.specs.Processes.{Desks};
 ghost use Rattle.fs_model.specs.States.{State};
 ghost use Rattle.fs_model.specs.declared.event.Event.{Event};
-ghost use Rattle.fs_model.specs.declared.event.Event.TheVariants.{Spawn, Exit, Call as Calls, Enter, Fsync, Sync, Statfs};
+ghost use Rattle.fs_model.specs.declared.event.Event.TheVariants.{Spawn, Exit, Call as Calls, Enter, Stamp, Clock, Fsync, Sync, Statfs};
 ghost use Rattle.fs_system.specs.Playing.{HasDisk};
 ghost use Rattle.fs_system.specs.Mounts.{Mounts, FailsToMount, IsNotMounted};
 ghost use Rattle.fs_system.specs.Mounting.{StandsAsBefore, disk_mounted, disk_of_store, is_halted, LeavesHalted};
 ghost use Rattle.fs_system.specs.Seen.{disk_in, IsOn, IsIn, IsInSomeState};
 ghost use Rattle.fs_images.specs.Standing.{StandsForSome, EachStandsForSome, HasPartsAt};
 ghost use Rattle.fs_system.specs.Doing.{Happens, HappensLast, FlushesFor};
-ghost use Rattle.fs_system.specs.Replies.{spawned, finished, unmounted, counted};
+ghost use Rattle.fs_system.specs.Replies.{spawned, finished, unmounted, counted, stamped_reply};
 ghost use Rattle.fs_model.specs.declared.event.RestartFault.TheVariants.{DiskFault as Device};
 
 use crate::counted::CountedStore;
 use crate::faults::MountFault;
-use crate::stored::{count_space, enter_kept, exit_kept, failed, perform_kept};
+use crate::stored::{count_space, enter_kept, exit_kept, failed, perform_kept, stamp_kept};
 use crate::sweeping::sweep;
 use fs_check::check;
 use fs_cred::{Cred, Errno};
 use fs_layout::{Place, Super};
-use fs_model::{Call, Reply, RestartFault};
+use fs_model::{Call, Reply, RestartFault, Stamps};
 use open_files::Procs;
 use redo_journal::{Broken, Journal, OpenFault};
 use sector_disk::{CrashDisk, Disk, DiskFault};
@@ -35,14 +35,16 @@ use std::marker::Model;
 
 /// A file system on a disk, with its processes.
 ///
-/// A contract sees its disk, where the parts of that lie, and the processes. After a commit that fails it is halted: each
-/// call answers EIO, and the disk isn't called any more.
+/// A contract sees its disk, where the parts of that lie, the processes, and the time as it was told last, which is 0 at
+/// first. After a commit that fails it is halted: each call answers EIO, and the disk isn't called any more.
 #[derive(Drop)]
 pub struct Fs<D: Disk> {
     // A store, or what a commit that failed has left. It is away only while an event happens to the store.
     base: Option<Result<CountedStore<D>, Broken<D>>>,
     place: Place,
     procs: Procs,
+    // In nanoseconds since 1970; 0 until it is told.
+    time: u64,
     alloc: Global,
 }
 
@@ -52,10 +54,10 @@ impl<D: Disk> Model for Fs<D> {
 
     ghost Value = { System D };
 
-    ghost view = { λ fs. record { base = fs.base; place = fs.place; desks = fs.procs } };
+    ghost view = { λ fs. record { base = fs.base; place = fs.place; desks = fs.procs; time = fs.time } };
 
     // It is in some state, and a stop leaves what may be mounted.
-    ghost invariant = { λ fs. IsSystem D.state (record { base = fs.base; place = fs.place; desks = fs.procs }) };
+    ghost invariant = { λ fs. IsSystem D.state (record { base = fs.base; place = fs.place; desks = fs.procs; time = fs.time }) };
 }
 
 // Reads where the parts of the disk lie.
@@ -124,8 +126,8 @@ fn put_base<D: Disk + Drop>(
 
 // Lets this many writes and syncs of the disk pass, and fails all later ones.
 fn arm_disk<D: CrashDisk>(base: &mut Result<CountedStore<D>, Broken<D>>, passes: u64)
-    ensures stays { (p : Place) (desks : Desks) (s : State)
-        → IsOn D.state p desks (Some base.old) s → IsOn D.state p desks (Some base.new) s }
+    ensures stays { (p : Place) (time : ℕ) (desks : Desks) (s : State)
+        → IsOn D.state p time desks (Some base.old) s → IsOn D.state p time desks (Some base.new) s }
     ensures same { IsSame (D.state (disk_after base.old)) (D.state (disk_after base.new)) }
     ensures failures { (D.state (disk_after base.new)).failures ≡ (D.state (disk_after base.old)).failures }
     ensures armed { D.armed (disk_after base.new) ≡ Some passes }
@@ -138,8 +140,8 @@ fn arm_disk<D: CrashDisk>(base: &mut Result<CountedStore<D>, Broken<D>>, passes:
 
 // The disk of a store, or of what a commit that failed has left, lets go of its past.
 fn forget_past<D: Disk>(base: &mut Result<CountedStore<D>, Broken<D>>)
-    ensures stays { (p : Place) (desks : Desks) (s : State)
-        → IsOn D.state p desks (Some base.old) s → IsOn D.state p desks (Some base.new) s }
+    ensures stays { (p : Place) (time : ℕ) (desks : Desks) (s : State)
+        → IsOn D.state p time desks (Some base.old) s → IsOn D.state p time desks (Some base.new) s }
     ensures past { ForgetsPast (D.state (disk_after base.old)) (D.state (disk_after base.new)) }
 {
     match base {
@@ -166,6 +168,7 @@ impl<D: Disk + Drop> Fs<D> {
                     base: Some(Ok(CountedStore::uncounted(store))),
                     place,
                     procs: Procs::new(alloc),
+                    time: 0,
                     alloc,
                 }),
                 Err(disk) => Err((RestartFault::DiskFault, disk)),
@@ -292,6 +295,51 @@ impl<D: Disk + Drop> Fs<D> {
         done
     }
 
+    /// Tells the time, in nanoseconds since 1970. What calls change from then on gets this time, until another is told.
+    ///
+    /// Who calls this is trusted: it may be earlier than the one before.
+    ///
+    /// # Errors
+    ///
+    /// EIO where the file system is halted.
+    pub fn tell_time(&mut self, now: u64) -> Result<(), Errno>
+        ensures does { Happens D.state self.old self.new (Clock now) (finished result) }
+        ensures halted { LeavesHalted self.old self.new }
+    {
+        if self.is_halted() {
+            return Err(Errno::EIO);
+        }
+        self.time = now;
+        Ok(())
+    }
+
+    /// Sets the times of an inode, by its number, to those that are given, and answers all three as they are then. A disk of
+    /// a version that keeps no times leaves them 0.
+    ///
+    /// Who calls this is trusted, as with `spawn`: no permission is asked. Where no time is given nothing is written.
+    ///
+    /// # Errors
+    ///
+    /// EIO where the device failed or the file system is halted, and ENOENT where the inode isn't there.
+    pub fn stamp(
+        &mut self,
+        inode: u32,
+        atime: Option<u64>,
+        mtime: Option<u64>,
+        ctime: Option<u64>,
+    ) -> Result<Stamps, Errno>
+        ensures does { Happens D.state self.old self.new (Stamp inode atime mtime ctime) (stamped_reply result) }
+        ensures halted { LeavesHalted self.old self.new }
+    {
+        if self.is_halted() {
+            return Err(Errno::EIO);
+        }
+        let store = take_store(&mut self.base);
+        let (stamps, base) = stamp_kept(store, self.place, &self.procs, inode, atime, mtime, ctime);
+        put_base(&mut self.base, base);
+        stamps
+    }
+
     /// What a process asks for.
     ///
     /// After a read that fails nothing has changed, and the call may be made again.
@@ -303,7 +351,15 @@ impl<D: Disk + Drop> Fs<D> {
             return failed(Errno::EIO);
         }
         let store = take_store(&mut self.base);
-        let (reply, base) = perform_kept(self.alloc, store, self.place, &mut self.procs, pid, call);
+        let (reply, base) = perform_kept(
+            self.alloc,
+            store,
+            self.place,
+            self.time,
+            &mut self.procs,
+            pid,
+            call,
+        );
         put_base(&mut self.base, base);
         reply
     }
@@ -383,6 +439,7 @@ impl<D: Disk + Drop> Fs<D> {
     pub fn forget(&mut self)
         ensures state { (s : State) → IsIn D.state self.old s → IsIn D.state self.new s }
         ensures place { self.new.place ≡ self.old.place }
+        ensures time { self.new.time ≡ self.old.time }
         ensures desks { self.new.desks ≡ self.old.desks }
         ensures past { ForgetsPast (disk_in D.state self.old.base) (disk_in D.state self.new.base) }
     {

@@ -8,6 +8,7 @@ mod faults;
 mod fs;
 mod laws;
 mod playing;
+mod stamping;
 mod stored;
 mod sweeping;
 

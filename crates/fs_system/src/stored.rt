@@ -7,20 +7,21 @@ ghost use Rattle.sector_txn.specs.Stores.{present, disk_after};
 ghost use Rattle.bit_alloc.specs.declared.bitmap.Bitmap.TheVariants.{Blocks, Inodes};
 ghost use Rattle.bit_alloc.specs.Bitmaps.{HasBitmaps, free_numbers};
 ghost use Rattle.fs_model.specs.States.{State};
-ghost use Rattle.fs_model.specs.declared.event.Event.TheVariants.{Call as Calls, Enter, Exit, Statfs};
+ghost use Rattle.fs_model.specs.declared.event.Event.TheVariants.{Call as Calls, Enter, Exit, Stamp, Statfs};
 ghost use Rattle.fs_system.specs.Seen.{IsRunning, IsOn};
 ghost use Rattle.fs_system.specs.Doing.{Does};
-ghost use Rattle.fs_system.specs.Replies.{finished, counted};
+ghost use Rattle.fs_system.specs.Replies.{finished, counted, stamped_reply};
 ghost use Rattle.fs_model.specs.declared.reply.Reply.TheVariants.{Refused};
 ghost use Rattle.fs_cred.specs.declared.refusal.Refusal.TheVariants.{Failed};
 
 use crate::calls::perform;
 use crate::counted::{CountedStore, FreeSpace};
+use crate::stamping::{stamp, times_are_in_range};
 use bit_alloc::{Bitmap, count_free};
 use file_calls::exit;
 use fs_cred::{Errno, Refusal};
 use fs_layout::Place;
-use fs_model::{Call, Reply, call_is_in_range};
+use fs_model::{Call, Reply, Stamps, call_is_in_range};
 use name_calls::enter;
 use open_files::Procs;
 use redo_journal::Broken;
@@ -35,23 +36,24 @@ pub(crate) fn failed(errno: Errno) -> Reply
     Reply::Refused(Refusal::Failed(errno))
 }
 
-/// Performs a call. Its changes are kept whole, or where it is refused, not at all. At `Err` a commit has failed.
+/// Performs a call at this time. Its changes are kept whole, or where it is refused, not at all. At `Err` a commit has failed.
 pub(crate) fn perform_kept<D: Disk>(
     alloc: Global,
     store: CountedStore<D>,
     place: Place,
+    now: u64,
     procs: &mut Procs,
     pid: usize,
     call: &Call,
 ) -> (Reply, Result<CountedStore<D>, Broken<D>>)
     requires running { (s : State) × IsRunning (D.state store.disk).size place (present D.state store) procs.old s }
-    ensures does { (s : State) → IsRunning (D.state store.disk).size place (present D.state store) procs.old s
-        → (t : State) × IsOn D.state place procs.new (Some result.1) t
+    ensures does { (s : State) → IsRunning (D.state store.disk).size place (present D.state store) procs.old s → s.now ≡ now
+        → (t : State) × IsOn D.state place s.now procs.new (Some result.1) t
         × Does (D.state store.disk) (D.state (disk_after result.1)) s (Calls pid call.now) result.0 t }
 {
     call_is_in_range(call);
     let mut txn = store.begin();
-    match perform(alloc, &mut txn, place, procs, pid, call) {
+    match perform(alloc, &mut txn, place, now, procs, pid, call) {
         Ok(reply) => match txn.keep() {
             Ok(store) => (reply, Ok(store)),
             Err(broken) => (failed(Errno::EIO), Err(broken)),
@@ -70,7 +72,7 @@ pub(crate) fn exit_kept<D: Disk>(
 ) -> (Result<(), Errno>, Result<CountedStore<D>, Broken<D>>)
     requires running { (s : State) × IsRunning (D.state store.disk).size place (present D.state store) procs.old s }
     ensures does { (s : State) → IsRunning (D.state store.disk).size place (present D.state store) procs.old s
-        → (t : State) × IsOn D.state place procs.new (Some result.1) t
+        → (t : State) × IsOn D.state place s.now procs.new (Some result.1) t
         × Does (D.state store.disk) (D.state (disk_after result.1)) s (Exit pid) (finished result.0) t }
 {
     let mut txn = store.begin();
@@ -95,12 +97,39 @@ pub(crate) fn enter_kept<D: Disk>(
 ) -> (Result<(), Errno>, CountedStore<D>)
     requires running { (s : State) × IsRunning (D.state store.disk).size place (present D.state store) procs.old s }
     ensures does { (s : State) → IsRunning (D.state store.disk).size place (present D.state store) procs.old s
-        → (t : State) × IsRunning (D.state result.1.disk).size place (present D.state result.1) procs.new t
+        → (t : State) × IsOn D.state place s.now procs.new (Some (Ok result.1)) t
         × Does (D.state store.disk) (D.state result.1.disk) s (Enter pid directory second) (finished result.0) t }
 {
     let mut txn = store.begin();
     let done = enter(&mut txn, place, procs, pid, directory, second);
     (done, txn.drop_delta())
+}
+
+/// Sets the times of an inode that are given, and answers all three. At `Err` a commit has failed.
+pub(crate) fn stamp_kept<D: Disk>(
+    store: CountedStore<D>,
+    place: Place,
+    procs: &Procs,
+    inode: u32,
+    atime: Option<u64>,
+    mtime: Option<u64>,
+    ctime: Option<u64>,
+) -> (Result<Stamps, Errno>, Result<CountedStore<D>, Broken<D>>)
+    requires running { (s : State) × IsRunning (D.state store.disk).size place (present D.state store) procs.now s }
+    ensures does { (s : State) → IsRunning (D.state store.disk).size place (present D.state store) procs.now s
+        → (t : State) × IsOn D.state place s.now procs.now (Some result.1) t
+        × Does (D.state store.disk) (D.state (disk_after result.1)) s (Stamp inode atime mtime ctime) (stamped_reply result.0) t }
+{
+    let _processes = procs;
+    times_are_in_range(atime, mtime, ctime);
+    let mut txn = store.begin();
+    match stamp(&mut txn, place, inode, atime, mtime, ctime) {
+        Ok(stamps) => match txn.keep() {
+            Ok(store) => (Ok(stamps), Ok(store)),
+            Err(broken) => (Err(Errno::EIO), Err(broken)),
+        },
+        Err(errno) => (Err(errno), Ok(txn.drop_delta())),
+    }
 }
 
 // How many data sectors and inodes are free.

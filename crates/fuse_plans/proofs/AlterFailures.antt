@@ -9,10 +9,11 @@ use Rattle.fs_model.specs.Limits.{root}
 use Rattle.fs_model.specs.declared.call.AclType.{AclType}
 use Rattle.fs_model.specs.declared.call.Call.{Call}
 use Rattle.fs_model.specs.declared.event.Event.{Event}
-use Rattle.fs_model.specs.declared.event.Event.TheVariants.{Spawn, Exit, Call as Calls, Enter, Fsync, Sync, Statfs, Arm, Restart}
+use Rattle.fs_model.specs.declared.event.Event.TheVariants.{Spawn, Exit, Call as Calls, Enter, Stamp, Clock, Fsync, Sync, Statfs, Arm, Restart}
 use Rattle.fs_model.specs.declared.reply.Reply.{Reply}
 use Rattle.fuse_protocol.specs.declared.operation.Operation.{Operation}
 use Rattle.fuse_protocol.specs.declared.operation.Operation.TheVariants.{Unlink, RmDir, Rename, SetXAttr, RemoveXAttr}
+use Rattle.fuse_protocol.specs.declared.reply.Time.{Time}
 use Rattle.fuse_state.specs.declared.place.Place.{Place}
 use Rattle.fuse_state.specs.Servers.{Server}
 use Rattle.fuse_plans.specs.declared.reply.ReplyBody.{ReplyBody}
@@ -27,11 +28,11 @@ use Rattle.fuse_plans.specs.Callers.{between, done_between, standing_refusal, by
 use Rattle.fuse_plans.specs.NamePlans.{removal, remove, move_name}
 use Rattle.fuse_plans.specs.AclPlans.{set_acl, set_xattr, remove_xattr}
 use Rattle.fuse_plans.specs.Nobody.{needs_nobody_in}
-use Rattle.fuse_plans.specs.Serving.{Task, Replying, Silently, plan_of, asked_for, response_of, answered, answered_as, request_plan}
-use Rattle.fuse_plans.specs.Alterations.{Alteration, alterations_by, alterations_in, changes_at_once, AreTold, MayBeAsked, AsksOnly}
+use Rattle.fuse_plans.specs.Serving.{Task, Replying, Silently, plan_of, told_first, asked_for, response_of, answered, answered_as, request_plan}
+use Rattle.fuse_plans.specs.Alterations.{Alteration, alterations_by, alterations_in, says_change, changes_at_once, AreTold, MayBeAsked, AsksOnly}
 use Rattle.fuse_plans.specs.Laws.{FailuresChangeNothing}
 use Rattle.fuse_plans.proofs.AllEnds.{AllEnd, all-followed_by, all-run}
-use Rattle.fuse_plans.proofs.AlterPieces.{pieces, Asks}
+use Rattle.fuse_plans.proofs.AlterPieces.{pieces, Asks, asks-tell_time}
 use Rattle.fuse_plans.proofs.AlterRequests.{asks-needs_nobody_in}
 use Rattle.fuse_plans.proofs.AlterNames.{asks-none_there}
 
@@ -62,6 +63,8 @@ quiet-event (Calls pid call) reply may changed = changed.says (changes_none (alt
 quiet-event (Spawn cred) reply may changed = changed.says refl
 quiet-event (Exit pid) reply may changed = changed.says refl
 quiet-event (Enter pid directory second) reply may changed = changed.says refl
+quiet-event (Stamp n atime mtime ctime) reply may changed = changed.says (changes_none (alterations_in (Stamp n atime mtime ctime)) may)
+quiet-event (Clock now) reply may changed = changed.says refl
 quiet-event (Fsync pid fd) reply may changed = changed.says refl
 quiet-event Sync reply may changed = changed.says refl
 quiet-event Statfs reply may changed = changed.says refl
@@ -252,6 +255,16 @@ clean-plan r value (SetXAttr name bytes) is = clean-set_xattr r name value
 clean-plan r value (RemoveXAttr name) is = clean-remove_xattr r name
 clean-plan r value _ is = absurd (let no : false ≡ true = is in cc)
 
+-- telling the time changes nothing
+clean-told_first : (says : Bool) (now : Time) (work : Task) → CleanIfAny work → CleanIfAny (told_first says now work)
+clean-told_first false now work clean = clean
+clean-told_first true now (Silently f) clean = tt
+clean-told_first true now (Replying w) clean = quiet->>= (asks-tell_time now) (λ told. clean)
+
+clean-asked : (r : Asked) (value : Option (Option AccessList)) (operation : Operation) → changes_at_once operation ≡ true
+    → CleanIfAny (asked_for r value (Some operation))
+clean-asked r value operation is = clean-told_first (says_change operation) r.now (plan_of r value operation) (clean-plan r value operation is)
+
 -- ---- runs
 
 abbrev HasFailed : Response × Server → Type 0
@@ -298,4 +311,4 @@ failures_change_nothing r s t operation e es replies asked reply after is at_onc
         spares-quiet HasFailed (needs_nobody_in r.node r.operation s) (λ nobody. answered_as nobody r s) (asks-needs_nobody_in None r.node r.operation s)
         (λ nobody.
         subst (λ o. SparesFailures HasFailed (answered r.memory (asked_for (asked_of r nobody) r.value o) s)) (sym is)
-        (spares-answered r.memory (plan_of (asked_of r nobody) r.value operation) s (clean-plan (asked_of r nobody) r.value operation at_once_so)))
+        (spares-answered r.memory (asked_for (asked_of r nobody) r.value (Some operation)) s (clean-asked (asked_of r nobody) r.value operation at_once_so)))

@@ -5,6 +5,7 @@
 --     asks-needed_then        a value that is there
 --     asks-between, asks-on, asks-look, ..        calls in directories, on objects, and by the server's own process
 --     asks-caller, asks-caller_with_room        a process of who asks
+--     asks-tell_time, asks-told_stamps        times that are told
 --     Gives, asks-then        what a piece gives, and what is asked then
 use Rattle.std.specs.Prelude.{◌≡◌, ℕ, zero, suc, ◌==◌, Bool, true, false, List, [], ◌∷◌, ◌++◌, codes, Option, None, Some, Result, Ok, Err, if◌then◌else◌}
 use Rattle.std.proofs.Common.{refl}
@@ -18,6 +19,7 @@ use Rattle.fs_model.specs.declared.event.Event.TheVariants.{Call as Calls}
 use Rattle.fs_model.specs.declared.reply.FileType.{FileType}
 use Rattle.fs_model.specs.declared.reply.Reply.{Reply}
 use Rattle.fuse_protocol.specs.declared.operation.Operation.{Operation}
+use Rattle.fuse_protocol.specs.declared.reply.Time.{Time}
 use Rattle.fuse_state.specs.declared.place.Place.{Place}
 use Rattle.fuse_state.specs.Servers.{Server}
 use Rattle.fuse_plans.specs.declared.stop.Stop.{Stop}
@@ -25,6 +27,7 @@ use Rattle.fuse_plans.specs.Plans.{Plan, Finish, Ask, followed_by}
 use Rattle.fuse_plans.specs.Works.{Work, give, stop, kept, keep, goes_on, ◌>>=◌, attempt, needed, ask, give_unless, refusal_in, unless_refused, obtain, or_closed}
 use Rattle.fuse_plans.specs.Callers.{settle_new, settle, retire_next, retire, settle_first, begin_process, or_spawned, caller, unused_of, or_unused, caller_with_room, the_looker, between, done_between, look_inside, or_inside, standing_refusal, or_next, by_places, by_place, on, by_looker, look_at, look, is_known_directory, the_number, directory_number, standing_directory}
 use Rattle.fuse_plans.specs.FilePlans.{when, done}
+use Rattle.fuse_plans.specs.Times.{tell_time_if, tell_time, told_stamps_if, told_stamps}
 use Rattle.fuse_plans.proofs.AllEnds.{AllEnd, all-followed_by}
 use Rattle.fuse_plans.specs.Alterations.{Alteration, where_so, alterations_by, IsToldIn, AreTold, MayBeAsked, AsksOnly}
 
@@ -145,7 +148,7 @@ module _ {o : Option Operation} where
   asks-retire_next rest None later = asks-give tt
   asks-retire_next rest (Some pid) later = asks->>= (asks-ask _ tt) (λ reply. asks->>= (asks-keep _) (λ kept. later))
 
-  asks-retire : (k : ℕ) → Asks o (retire k)
+  pub asks-retire : (k : ℕ) → Asks o (retire k)
   unfolding retire
   asks-retire zero = asks-give tt
   asks-retire (suc k) = let later = asks-retire k in asks->>= (asks-kept _) (λ pid. asks-retire_next (retire k) pid later)
@@ -251,8 +254,26 @@ module _ {o : Option Operation} where
   asks-standing_directory node =
       asks->>= (asks-directory_number node) (λ n. asks->>= (asks-kept _) (λ placed. asks-if placed _ _ (asks-give n) (asks-stop _)))
 
+  -- ---- times
+
+  asks-tell_time_if : (keeps : Bool) (now : Time) → Asks o (tell_time_if keeps now)
+  asks-tell_time_if false now = asks-give tt
+  asks-tell_time_if true now = asks->>= (asks-ask _ tt) (λ reply. asks-give tt)
+
+  pub asks-tell_time : (now : Time) → Asks o (tell_time now)
+  unfolding tell_time
+  asks-tell_time now = asks->>= (asks-kept _) (λ keeps. asks-tell_time_if keeps now)
+
+  asks-told_stamps_if : (keeps : Bool) (n : ℕ) → Asks o (told_stamps_if keeps n)
+  asks-told_stamps_if false n = asks-give None
+  asks-told_stamps_if true n = asks->>= (asks-ask _ tt) (λ reply. asks->>= (asks-needed _ _) (λ stamps. asks-give _))
+
+  pub asks-told_stamps : (n : ℕ) → Asks o (told_stamps n)
+  unfolding told_stamps
+  asks-told_stamps n = asks->>= (asks-kept _) (λ keeps. asks-told_stamps_if keeps n)
+
 -- each piece, for a search
-pub ruleset pieces = (asks->>=, asks-give, asks-stop, asks-kept, asks-keep, asks-attempt, asks-if, asks-when, asks-done, asks-needed, asks-ask, asks-obtain, asks-or_closed, asks-caller, asks-caller_with_room, asks-the_looker, asks-between, asks-done_between, asks-look_inside, asks-by_places, asks-on, asks-by_looker, asks-look, asks-the_number, asks-directory_number, asks-standing_directory)
+pub ruleset pieces = (asks->>=, asks-give, asks-stop, asks-kept, asks-keep, asks-attempt, asks-if, asks-when, asks-done, asks-needed, asks-ask, asks-obtain, asks-or_closed, asks-caller, asks-caller_with_room, asks-the_looker, asks-between, asks-done_between, asks-look_inside, asks-by_places, asks-on, asks-by_looker, asks-look, asks-the_number, asks-directory_number, asks-standing_directory, asks-told_stamps)
 
 -- ---- what is known of a value
 

@@ -1,5 +1,5 @@
 -- No plan of a request changes more than the request says.
-use Rattle.std.specs.Prelude.{◌≡◌, ℕ, Bool, true, false, List, [], ◌∷◌, All, Option, None, Some, is_some, IsTrue}
+use Rattle.std.specs.Prelude.{◌≡◌, ℕ, Bool, true, false, ◌||◌, List, [], ◌∷◌, All, Option, None, Some, is_some, IsTrue}
 use Rattle.std.proofs.Common.{refl, sym, subst}
 use Rattle.std.proofs.lemmas.List.Elements.{All-nil, All-cons}
 use Rattle.posix_acl.specs.AccessList.{AccessList}
@@ -24,15 +24,15 @@ use Rattle.fuse_plans.specs.Requests.{asked_of}
 use Rattle.fuse_plans.specs.Callers.{look}
 use Rattle.fuse_plans.specs.Conduct.{IsOfHandle}
 use Rattle.fuse_plans.specs.NamePlans.{removal}
-use Rattle.fuse_plans.specs.AttributePlans.{get_attributes, no_owners, new_owners, set_size, set_owners, set_mode, may_set_times, set_times, change_attributes, set_attributes, read_link, access_as, ask_access}
+use Rattle.fuse_plans.specs.AttributePlans.{get_attributes, no_owners, new_owners, set_size, set_owners, set_mode, may_set_times, set_stamps_if, set_stamps, set_times, change_attributes, set_attributes, read_link, access_as, ask_access}
 use Rattle.fuse_plans.specs.DirectoryPlans.{take_directory_if, take_directory, open_directory, tell_names, list_open, list_all, list_now, listed, read_directory, close_directory, sync_all}
 use Rattle.fuse_plans.specs.AclPlans.{acl_named, an_object, sized, get_xattr, attribute_names, list_xattrs, set_acl, set_xattr, remove_xattr}
 use Rattle.fuse_plans.specs.Nobody.{is_judged, needs_nobody, needs_nobody_in, unless_masked}
 use Rattle.fuse_plans.specs.Masks.{is_masked}
-use Rattle.fuse_plans.specs.Serving.{Task, Replying, Silently, or_looker, begin, count_space, end, plan_of, asked_for, response_of, answered, answered_as, request_plan}
-use Rattle.fuse_plans.specs.Alterations.{sets_list, IsToldIn, MayBeAsked, AsksOnly}
+use Rattle.fuse_plans.specs.Serving.{Task, Replying, Silently, or_looker, begin, count_space, end, plan_of, told_first, asked_for, response_of, answered, answered_as, request_plan}
+use Rattle.fuse_plans.specs.Alterations.{says_change, sets_times, sets_list, IsToldIn, MayBeAsked, AsksOnly}
 use Rattle.fuse_plans.specs.Laws.{RequestsChangeWhatTheySay, RunsChangeWhatRequestsSay}
-use Rattle.fuse_plans.proofs.AlterPieces.{pieces, Gives, gives-give, gives-stop, gives-if, gives->>=, asks-then, told-two, asks-followed_by, Asks, asks-give, asks-stop, asks-keep, asks->>=, asks-when, asks-needed, asks-needed_then, asks-on}
+use Rattle.fuse_plans.proofs.AlterPieces.{pieces, Gives, gives-give, gives-stop, gives-if, gives->>=, asks-then, told-where_so, told-two, asks-followed_by, Asks, asks-give, asks-stop, asks-kept, asks-keep, asks->>=, asks-if, asks-when, asks-when_so, asks-needed, asks-ask, asks-needed_then, asks-on, asks-tell_time}
 use Rattle.fuse_plans.proofs.AlterMasks.{asks-acl_of, asks-is_masked}
 use Rattle.fuse_plans.proofs.AlterNames.{asks-find_name, asks-make_link, asks-make_directory, asks-make_file, asks-remove, asks-move_name, asks-add_link}
 use Rattle.fuse_plans.proofs.AlterFiles.{asks-call_open, asks-open_file, asks-create_file, asks-read_file, asks-write_file, asks-close_file, asks-sync_file}
@@ -84,8 +84,23 @@ module _ (r : Asked) (c : AttrChanges) where
   asks-may_set_times pid n link true = asks-give tt
   asks-may_set_times pid n link false = search pieces depth 12
 
+  asks-set_stamps_if : (keeps : Bool) (now : Time) (n : ℕ) (status : Status) → IsTrue (is_some c.atime || is_some c.mtime)
+      → Asks Setting (set_stamps_if keeps now n status c)
+  asks-set_stamps_if false now n status told = asks-keep _
+  asks-set_stamps_if true now n status told =
+      asks->>= (asks-if _ _ _ (asks-give tt) (asks-stop _)) (λ same.
+      asks->>= (asks-ask _ (told-where_so Setting _ sets_times (λ is. told))) (λ reply.
+      asks->>= (asks-needed _ _) (λ stamps. asks-give tt)))
+
+  asks-set_stamps : (now : Time) (n : ℕ) (status : Status) → IsTrue (is_some c.atime || is_some c.mtime) → Asks Setting (set_stamps now n status c)
+  unfolding set_stamps
+  asks-set_stamps now n status told = asks->>= (asks-kept _) (λ keeps. asks-set_stamps_if keeps now n status told)
+
   asks-set_times : (pid n : ℕ) (link : Bool) (status : Status) → Asks Setting (set_times r pid n link status c)
-  asks-set_times pid n link status = search (pieces, asks-may_set_times) depth 16
+  asks-set_times pid n link status =
+      asks-when_so (is_some c.atime || is_some c.mtime) _ (λ told.
+      asks->>= (asks-needed _ r.cred) (λ cred.
+      asks->>= (asks-may_set_times pid n link _) (λ may. asks-set_stamps r.now n status told)))
 
   -- those that are given, or none
   gives-new_owners : (n : ℕ) (link : Bool) → Gives (AreGiven c) (new_owners c n link)
@@ -98,7 +113,7 @@ module _ (r : Asked) (c : AttrChanges) where
   asks-new_owners n false = asks-give _
   asks-new_owners n true = search pieces depth 12
 
-  asks-change_attributes : (now : Time) (pid n : ℕ) (link : Bool) → Asks Setting (change_attributes now pid n link c)
+  pub asks-change_attributes : (now : Time) (pid n : ℕ) (link : Bool) → Asks Setting (change_attributes now pid n link c)
   asks-change_attributes now pid n link =
       asks-then (asks-new_owners n link) (gives-new_owners n link) (λ owners given.
       asks->>= (asks-set_size now pid n c.handle c.size refl refl) (λ sized.
@@ -231,9 +246,14 @@ asks-plan r value (BatchForget batch) = tt
 asks-plan r value SyncFs = asks-sync_all
 asks-plan r value Unknown = asks-stop _
 
+asks-told_first : (o : Option Operation) (says : Bool) (now : Time) (work : Task) → AsksIfAny o work → AsksIfAny o (told_first says now work)
+asks-told_first o false now work asks = asks
+asks-told_first o true now (Silently f) asks = tt
+asks-told_first o true now (Replying w) asks = asks->>= (asks-tell_time now) (λ told. asks)
+
 asks-asked_for : (r : Asked) (value : Option (Option AccessList)) (operation : Option Operation) → AsksIfAny operation (asked_for r value operation)
 asks-asked_for r value None = asks-stop _
-asks-asked_for r value (Some operation) = asks-plan r value operation
+asks-asked_for r value (Some operation) = asks-told_first _ (says_change operation) r.now (plan_of r value operation) (asks-plan r value operation)
 
 asks-answered : (o : Option Operation) (memory : Bool) (work : Task) (s : Server) → AsksIfAny o work → AsksOnly (MayBeAsked o) (answered memory work s)
 asks-answered o true (Silently f) s asks = tt

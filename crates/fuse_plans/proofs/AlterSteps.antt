@@ -11,10 +11,13 @@ use Rattle.fs_model.specs.declared.call.Call.{Call}
 use Rattle.fs_model.specs.declared.call.Call.TheVariants.{Open, Read, Write, Lseek, Close, Fstat, Stat, Lstat, Access, Truncate, Ftruncate, Chmod, Chown, GetAcl, SetAcl, Readdir, Mkdir, Rmdir, Link as LinkCall, Symlink, Readlink, Unlink, Rename, Chdir, Umask}
 use Rattle.fs_model.specs.declared.call.Flags.{Flags}
 use Rattle.fs_model.specs.declared.event.Event.{Event}
-use Rattle.fs_model.specs.declared.event.Event.TheVariants.{Spawn, Exit, Call as Calls, Enter, Fsync, Sync, Statfs, Arm, Restart}
+use Rattle.fs_model.specs.declared.event.Event.TheVariants.{Spawn, Exit, Call as Calls, Enter, Stamp, Clock, Fsync, Sync, Statfs, Arm, Restart}
 use Rattle.fs_model.specs.declared.reply.Reply.{Reply}
 use Rattle.fs_model.specs.AttributeCalls.{with_mode, owned, with_set_acl}
-use Rattle.fs_model.specs.Nodes.{Node, Body, File, Dir, Link, with_bytes}
+use Rattle.fs_model.specs.declared.reply.Stamps.{Stamps}
+use Rattle.fs_model.specs.declared.touch.Touch.TheVariants.{Modified}
+use Rattle.fs_model.specs.Births.{the_node}
+use Rattle.fs_model.specs.Nodes.{Node, Body, File, Dir, Link, with_bytes, stamped}
 use Rattle.fs_model.specs.OpenCall.{open_change, open_demands, open_found_demands, open_new_demands}
 use Rattle.fs_model.specs.Processes.{Process}
 use Rattle.fs_model.specs.RenameCall.{is_same}
@@ -22,10 +25,10 @@ use Rattle.fs_model.specs.Rows.{row_of}
 use Rattle.fs_layout.proofs.FirstEntries.{left}
 use Rattle.fs_model.specs.Scenes.{Scene, is_found, number as number_found, node_found, body_found}
 use Rattle.fs_model.specs.States.{State}
-use Rattle.fs_model.specs.Steps.{Choice, scene_of, late_refusal, demand_of, other_refusal, after_call, after_enter, after, Answers, is_halted, refuses_early, refuses_late, acts, lacks_memory, read_fails, write_fails}
-use Rattle.fs_model.specs.TreeChanges.{Same, Rewrite, Make, MoveName, changed, swept}
+use Rattle.fs_model.specs.Steps.{Choice, with_stamps, scene_of, late_refusal, demand_of, other_refusal, after_call, after_enter, after, Answers, is_halted, refuses_early, refuses_late, acts, lacks_memory, read_fails, write_fails}
+use Rattle.fs_model.specs.TreeChanges.{Same, Rewrite, Make, MoveName, changed, swept, touches, touched}
 use Rattle.fs_model.proofs.StepsDemands.{AreMet, demands_met, unrefused}
-use Rattle.fuse_plans.specs.Alterations.{Alteration, resizes, adds_name, sets_owner, sets_group, where_so, alterations_by, alterations_in}
+use Rattle.fuse_plans.specs.Alterations.{Alteration, resizes, adds_name, sets_owner, sets_group, sets_times, where_so, alterations_by, alterations_in}
 use Rattle.fuse_plans.specs.AlteredTrees.{is_of_bytes, is_of_mode, is_of_default, is_added, Says, KeepsUnsaid, IsSaid, LeavesUnsaid, stays, alters, StepsChangeWhatIsSaid}
 
 -- what is said may change
@@ -35,47 +38,66 @@ said_so false is isnt = absurd (let no : false ≡ true = is in cc)
 
 all_kept : (list : List Alteration) (node : Node) → KeepsUnsaid list node node
 all_kept list node =
-    record { bytes = λ u. refl; mode = λ u. refl; access = λ u. refl; default = λ u. refl; owner = λ u. refl; group = λ u. refl; kind = refl; names = refl; target = refl }
+    record { bytes = λ u. refl; mode = λ u. refl; access = λ u. refl; default = λ u. refl; owner = λ u. refl; group = λ u. refl; times = λ u. refl; kind = refl; names = refl; target = refl }
 
-module _ (list : List Alteration) (owner group : ℕ) where
+module _ (list : List Alteration) (owner group : ℕ) (stamps : Stamps) where
   abbrev node_of : Body → Node
-  node_of body = record { owner = owner; group = group; body = body }
+  node_of body = record { owner = owner; group = group; stamps = stamps; body = body }
 
   keeps_bytes : (bytes : List ℕ) (body : Body) → list_any is_of_bytes list ≡ true → KeepsUnsaid list (node_of body) (node_of (with_bytes bytes body))
   keeps_bytes bytes (File a old) said =
-      record { bytes = said_so _ said; mode = λ u. refl; access = λ u. refl; default = λ u. refl; owner = λ u. refl; group = λ u. refl; kind = refl; names = refl; target = refl }
+      record { bytes = said_so _ said; mode = λ u. refl; access = λ u. refl; default = λ u. refl; owner = λ u. refl; group = λ u. refl; times = λ u. refl; kind = refl; names = refl; target = refl }
   keeps_bytes bytes (Dir a d) said = all_kept list _
   keeps_bytes bytes (Link target) said = all_kept list _
 
   keeps_mode : (cred : Credential) (mode : ℕ) (body : Body) → list_any is_of_mode list ≡ true → KeepsUnsaid list (node_of body) (node_of (with_mode cred group mode body))
   keeps_mode cred mode (File a old) said =
-      record { bytes = λ u. refl; mode = said_so _ said; access = said_so _ said; default = λ u. refl; owner = λ u. refl; group = λ u. refl; kind = refl; names = refl; target = refl }
+      record { bytes = λ u. refl; mode = said_so _ said; access = said_so _ said; default = λ u. refl; owner = λ u. refl; group = λ u. refl; times = λ u. refl; kind = refl; names = refl; target = refl }
   keeps_mode cred mode (Dir a d) said =
-      record { bytes = λ u. refl; mode = said_so _ said; access = said_so _ said; default = λ u. refl; owner = λ u. refl; group = λ u. refl; kind = refl; names = refl; target = refl }
+      record { bytes = λ u. refl; mode = said_so _ said; access = said_so _ said; default = λ u. refl; owner = λ u. refl; group = λ u. refl; times = λ u. refl; kind = refl; names = refl; target = refl }
   keeps_mode cred mode (Link target) said = all_kept list _
 
   keeps_access : (acl : Option AccessList) (body : Body) → list_any is_of_mode list ≡ true → KeepsUnsaid list (node_of body) (node_of (with_set_acl AccessAcl acl body))
   keeps_access None body said = all_kept list _
   keeps_access (Some acl) (File a old) said =
-      record { bytes = λ u. refl; mode = said_so _ said; access = said_so _ said; default = λ u. refl; owner = λ u. refl; group = λ u. refl; kind = refl; names = refl; target = refl }
+      record { bytes = λ u. refl; mode = said_so _ said; access = said_so _ said; default = λ u. refl; owner = λ u. refl; group = λ u. refl; times = λ u. refl; kind = refl; names = refl; target = refl }
   keeps_access (Some acl) (Dir a d) said =
-      record { bytes = λ u. refl; mode = said_so _ said; access = said_so _ said; default = λ u. refl; owner = λ u. refl; group = λ u. refl; kind = refl; names = refl; target = refl }
+      record { bytes = λ u. refl; mode = said_so _ said; access = said_so _ said; default = λ u. refl; owner = λ u. refl; group = λ u. refl; times = λ u. refl; kind = refl; names = refl; target = refl }
   keeps_access (Some acl) (Link target) said = all_kept list _
 
   keeps_default : (acl : Option AccessList) (body : Body) → list_any is_of_default list ≡ true → KeepsUnsaid list (node_of body) (node_of (with_set_acl Default acl body))
   keeps_default acl (File a old) said = all_kept list _
   keeps_default acl (Dir a d) said =
-      record { bytes = λ u. refl; mode = λ u. refl; access = λ u. refl; default = said_so _ said; owner = λ u. refl; group = λ u. refl; kind = refl; names = refl; target = refl }
+      record { bytes = λ u. refl; mode = λ u. refl; access = λ u. refl; default = said_so _ said; owner = λ u. refl; group = λ u. refl; times = λ u. refl; kind = refl; names = refl; target = refl }
   keeps_default acl (Link target) said = all_kept list _
 
 keeps_owners : (owner group : Option ℕ) (node : Node) → KeepsUnsaid (where_so (is_some owner) sets_owner ++ where_so (is_some group) sets_group) node (owned owner group node)
 keeps_owners None None node = all_kept _ node
 keeps_owners (Some o) None node =
-    record { bytes = λ u. refl; mode = λ u. refl; access = λ u. refl; default = λ u. refl; owner = said_so true refl; group = λ u. refl; kind = refl; names = refl; target = refl }
+    record { bytes = λ u. refl; mode = λ u. refl; access = λ u. refl; default = λ u. refl; owner = said_so true refl; group = λ u. refl; times = λ u. refl; kind = refl; names = refl; target = refl }
 keeps_owners None (Some g) node =
-    record { bytes = λ u. refl; mode = λ u. refl; access = λ u. refl; default = λ u. refl; owner = λ u. refl; group = said_so true refl; kind = refl; names = refl; target = refl }
+    record { bytes = λ u. refl; mode = λ u. refl; access = λ u. refl; default = λ u. refl; owner = λ u. refl; group = said_so true refl; times = λ u. refl; kind = refl; names = refl; target = refl }
 keeps_owners (Some o) (Some g) node =
-    record { bytes = λ u. refl; mode = λ u. refl; access = λ u. refl; default = λ u. refl; owner = said_so true refl; group = said_so true refl; kind = refl; names = refl; target = refl }
+    record { bytes = λ u. refl; mode = λ u. refl; access = λ u. refl; default = λ u. refl; owner = said_so true refl; group = said_so true refl; times = λ u. refl; kind = refl; names = refl; target = refl }
+
+keeps_unless : (said keeps : Bool) (x : Stamps) (node : Node) → (said ≡ false → x ≡ node.stamps)
+    → KeepsUnsaid (where_so said sets_times) node (with_stamps (if keeps then x else node.stamps) node)
+keeps_unless said false x node same = all_kept _ node
+keeps_unless true true x node same =
+    record { bytes = λ u. refl; mode = λ u. refl; access = λ u. refl; default = λ u. refl; owner = λ u. refl; group = λ u. refl; times = said_so true refl; kind = refl; names = refl; target = refl }
+keeps_unless false true x node same =
+    record { bytes = λ u. refl; mode = λ u. refl; access = λ u. refl; default = λ u. refl; owner = λ u. refl; group = λ u. refl; times = λ u. same refl; kind = refl; names = refl; target = refl }
+
+-- where no time is set all stay
+keeps_times : (n : ℕ) (keeps : Bool) (atime mtime ctime : Option ℕ) (node : Node)
+    → KeepsUnsaid (alterations_in (Stamp n atime mtime ctime)) node (with_stamps (if keeps then stamped atime mtime ctime node.stamps else node.stamps) node)
+keeps_times n keeps atime mtime ctime node = keeps_unless _ keeps (stamped atime mtime ctime node.stamps) node (none atime mtime ctime)
+  where
+    none : (atime mtime ctime : Option ℕ) → (is_some atime || (is_some mtime || is_some ctime)) ≡ false → stamped atime mtime ctime node.stamps ≡ node.stamps
+    none None None None unsaid = refl
+    none (Some a) mtime ctime unsaid = said_so true refl unsaid
+    none None (Some m) ctime unsaid = said_so true refl unsaid
+    none None None (Some c) unsaid = said_so true refl unsaid
 
 -- ---- open
 
@@ -102,9 +124,9 @@ opens f mode path s number met = choose (is_found s.first) (f.trunc && f.write) 
         → AreMet (if found then open_found_demands f s else open_new_demands f s)
         → IsSaid (of_open f path) s.state.tree
         (if not found then Make directory name n node
-        else (if cuts then Rewrite (number_found s.first) (record (node_found s s.first) { body = with_bytes [] (body_found s s.first) }) else Same))
+        else (if cuts then Rewrite Modified (number_found s.first) (record (node_found s s.first) { body = with_bytes [] (body_found s s.first) }) else Same))
     choose false cuts is directory name n node asked = says_added f.create f.trunc path (made_by_flag f.create s.first.slash (unrefused _ _ asked.0))
-    choose true true is directory name n node asked = keeps_bytes _ _ _ [] _ (says_bytes f.create f.trunc path (left f.trunc f.write is))
+    choose true true is directory name n node asked = keeps_bytes _ _ _ _ [] _ (says_bytes f.create f.trunc path (left f.trunc f.write is))
     choose true false is directory name n node asked = tt
 
 -- ---- each call
@@ -115,20 +137,20 @@ unfolding row_of
 says s p pid (Open path flags mode) number none = opens flags mode path (scene_of s p (row_of (Open path flags mode))) number (demands_met s p (row_of (Open path flags mode)) none)
 says s p pid (Read fd len) number none = tt
 says s p pid (Write fd []) number none = tt
-says s p pid (Write fd (b ∷ bytes)) number none = keeps_bytes _ _ _ _ _ refl
+says s p pid (Write fd (b ∷ bytes)) number none = keeps_bytes _ _ _ _ _ _ refl
 says s p pid (Lseek fd whence by) number none = tt
 says s p pid (Close fd) number none = tt
 says s p pid (Fstat fd) number none = tt
 says s p pid (Stat path) number none = tt
 says s p pid (Lstat path) number none = tt
 says s p pid (Access path want) number none = tt
-says s p pid (Truncate path size) number none = keeps_bytes _ _ _ _ _ refl
-says s p pid (Ftruncate fd size) number none = keeps_bytes _ _ _ _ _ refl
-says s p pid (Chmod path mode) number none = keeps_mode _ _ _ p.cred mode _ refl
+says s p pid (Truncate path size) number none = keeps_bytes _ _ _ _ _ _ refl
+says s p pid (Ftruncate fd size) number none = keeps_bytes _ _ _ _ _ _ refl
+says s p pid (Chmod path mode) number none = keeps_mode _ _ _ _ p.cred mode _ refl
 says s p pid (Chown path owner group) number none = keeps_owners owner group _
 says s p pid (GetAcl path which) number none = tt
-says s p pid (SetAcl path AccessAcl acl) number none = keeps_access _ _ _ acl _ refl
-says s p pid (SetAcl path Default acl) number none = keeps_default _ _ _ acl _ refl
+says s p pid (SetAcl path AccessAcl acl) number none = keeps_access _ _ _ _ acl _ refl
+says s p pid (SetAcl path Default acl) number none = keeps_default _ _ _ _ acl _ refl
 says s p pid (Readdir fd) number none = tt
 says s p pid (Mkdir path mode) number none = refl
 says s p pid (Rmdir path) number none = refl
@@ -162,6 +184,8 @@ says_event s (Spawn cred) choice none = tt
 says_event s (Exit pid) choice none = tt
 says_event s (Calls pid call) choice none = says_call s pid call choice.number (get nat_cmp s.desks pid) none
 says_event s (Enter pid directory second) choice none = says_enter s pid directory second (get nat_cmp s.desks pid)
+says_event s (Stamp n atime mtime ctime) choice none = keeps_times n s.room.keeps_times atime mtime ctime (the_node s.tree n)
+says_event s (Clock now) choice none = tt
 says_event s (Fsync pid fd) choice none = tt
 says_event s Sync choice none = tt
 says_event s Statfs choice none = tt
@@ -175,7 +199,7 @@ answered_so old new e reply (refuses_late halted r early is said same) = stays (
 answered_so old new e reply (acts choice does said is) =
     let change = (after old e choice).change in
     alters change (says_event old e choice does.late)
-    (subst (λ s. s.tree ≡ swept (changed old.tree change) s.desks) (sym is) refl)
+    (subst (λ s. s.tree ≡ touched old.now (touches old.room old.tree change) (swept (changed old.tree change) s.desks)) (sym is) refl)
 answered_so old new e reply (lacks_memory halted early asks said same) = stays (ap (λ s. s.tree) same)
 answered_so old new e reply (read_fails halted early said same) = stays (ap (λ s. s.tree) same)
 answered_so old new e reply (write_fails choice does said desks halted same) = stays (ap (λ s. s.tree) same)

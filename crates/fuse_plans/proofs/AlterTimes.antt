@@ -1,7 +1,7 @@
 -- Requests that say no change keep the times of all objects.
 use Rattle.std.specs.Prelude.{◌≡◌, ℕ, ◌-◌, zero, suc, Bool, true, false, List, [], ◌∷◌, Option, None, Some, unwrap_or, Result, Ok, Err, if◌then◌else◌}
 use Rattle.std.specs.Ordering.{nat_cmp}
-use Rattle.std.proofs.Common.{refl, sym, ap, ◌∙◌}
+use Rattle.std.proofs.Common.{refl, sym, ap, subst, ◌∙◌}
 use Rattle.posix_acl.specs.AccessList.{AccessList}
 use Rattle.posix_acl.specs.declared.entry.Perms.{Perms}
 use Rattle.fs_cred.specs.Credentials.{Credential}
@@ -37,10 +37,11 @@ use Rattle.fuse_plans.specs.NamePlans.{or_absent, found_or_absent, find_name}
 use Rattle.fuse_plans.specs.FilePlans.{when, touched_if, show_open, confirm_shown, confirm_open, open_file, the_open, seek, read_piece, read_pieces, read_file, close_file, sync_file}
 use Rattle.fuse_plans.specs.AttributePlans.{get_attributes, read_link, access_as, ask_access}
 use Rattle.fuse_plans.specs.DirectoryPlans.{take_directory_if, take_directory, open_directory, tell_names, list_open, list_all, list_now, listed, read_directory, close_directory, sync_all}
+use Rattle.fuse_plans.specs.Times.{told_stamps_if, told_stamps}
 use Rattle.fuse_plans.specs.AclPlans.{an_object, get_xattr, attribute_names, list_xattrs}
 use Rattle.fuse_plans.specs.Masks.{acl_of}
 use Rattle.fuse_plans.specs.Nobody.{needs_nobody_in}
-use Rattle.fuse_plans.specs.Serving.{Task, Replying, Silently, or_looker, begin, count_space, end, plan_of, asked_for, response_of, answered, answered_as, request_plan}
+use Rattle.fuse_plans.specs.Serving.{Task, Replying, Silently, or_looker, begin, count_space, end, plan_of, told_first, asked_for, response_of, answered, answered_as, request_plan}
 use Rattle.fuse_plans.specs.Alterations.{Alteration, resizes, resizes_open, says_change, says_change_in, IsToldIn}
 use Rattle.fuse_plans.specs.Laws.{OthersChangeNothing, OthersKeepTimes}
 use Rattle.fuse_plans.proofs.AllEnds.{AllEnd, all-weaker, all-followed_by, all-run}
@@ -220,7 +221,15 @@ keeps-standing_directory : (node : ℕ) → Timeless (standing_directory node)
 unfolding standing_directory
 keeps-standing_directory node = search (basics, keeps-directory_number) depth 12
 
-ruleset pieces = (basics, keeps-caller, keeps-caller_with_room, keeps-the_looker, keeps-between, keeps-look_inside, keeps-on, keeps-look, keeps-the_number, keeps-directory_number, keeps-standing_directory)
+keeps-told_stamps_if : (keeps : Bool) (n : ℕ) → Timeless (told_stamps_if keeps n)
+keeps-told_stamps_if false n = keeps-give None
+keeps-told_stamps_if true n = search basics depth 12
+
+keeps-told_stamps : (n : ℕ) → Timeless (told_stamps n)
+unfolding told_stamps
+keeps-told_stamps n = search (basics, keeps-told_stamps_if) depth 12
+
+ruleset pieces = (basics, keeps-caller, keeps-caller_with_room, keeps-the_looker, keeps-between, keeps-look_inside, keeps-on, keeps-look, keeps-the_number, keeps-directory_number, keeps-standing_directory, keeps-told_stamps)
 
 -- ---- requests
 
@@ -432,7 +441,8 @@ keeps-plan r value _ none = absurd (said-so none)
 
 keeps-asked_for : (r : Asked) (value : Option (Option AccessList)) (operation : Option Operation) → says_change_in operation ≡ false → KeepsIfAny (asked_for r value operation)
 keeps-asked_for r value None none = keeps-stop _
-keeps-asked_for r value (Some operation) none = keeps-plan r value operation none
+keeps-asked_for r value (Some operation) none =
+    subst (λ says. KeepsIfAny (told_first says r.now (plan_of r value operation))) (sym none) (keeps-plan r value operation none)
 
 keeps-answered : (memory : Bool) (work : Task) (s : Server) → KeepsIfAny work → AllEnd (λ x. SameTimes s x.1) (answered memory work s)
 keeps-answered true (Silently f) s keeps = keeps s

@@ -10,7 +10,7 @@ use Rattle.fs_model.specs.declared.call.Call.TheVariants.{Lstat, Close}
 use Rattle.fs_model.specs.declared.event.Event.TheVariants.{Call as Calls, Enter}
 use Rattle.fs_model.specs.declared.reply.FileType.{FileType}
 use Rattle.fs_model.specs.declared.reply.Reply.{Reply}
-use Rattle.fs_model.specs.declared.reply.Reply.TheVariants.{Done, Pid, Fd, Data, Wrote, At, Target, Mask, Shown, Granted, Acl, Names, Space, Refused}
+use Rattle.fs_model.specs.declared.reply.Reply.TheVariants.{Done, Pid, Fd, Data, Wrote, At, Target, Mask, Shown, Granted, Acl, Names, Space, Stamped, Refused}
 use Rattle.fuse_plans.specs.Plans.{followed_by, KeepsTo}
 use Rattle.fuse_plans.specs.declared.stop.Stop.{Stop}
 use Rattle.fuse_plans.specs.declared.stop.Stop.TheVariants.{Lacks}
@@ -88,6 +88,7 @@ there_after away there false (Granted k) is fine = record { free = refl; directo
 there_after away there false (Acl k) is fine = record { free = refl; directory = refl; second = refl }
 there_after away there false (Names k) is fine = record { free = refl; directory = refl; second = refl }
 there_after away there false (Space j k) is fine = record { free = refl; directory = refl; second = refl }
+there_after away there false (Stamped k) is fine = record { free = refl; directory = refl; second = refl }
 
 still-home : (away : Option Away) (there : Away) (at_root : Bool) (r : _) → away ≡ None → away_after away there at_root (Refused r) ≡ None
 still-home away there true r home = refl
@@ -187,6 +188,7 @@ module _ {rights : Rights} {P : Server → Type 0} where
       entered known s fits (Acl k) = goes known s _ refl fits
       entered known s fits (Names k) = goes known s _ refl fits
       entered known s fits (Space j k) = goes known s _ refl fits
+      entered known s fits (Stamped k) = goes known s _ refl fits
 
   pub does-done_between : (pid directory second : ℕ) (call : Call) → CanCall rights P pid call → ActsWithin rights.subject directory second call
       → Does rights P (done_between pid directory second call)

@@ -13,7 +13,7 @@ use Rattle.fs_layout.proofs.FirstEntries.{left}
 use Rattle.fs_layout.proofs.MapLaws.{get-with_entry}
 use Rattle.fs_model.specs.declared.event.Event.TheVariants.{Spawn}
 use Rattle.fs_model.specs.declared.reply.Reply.{Reply}
-use Rattle.fs_model.specs.declared.reply.Reply.TheVariants.{Done, Pid, Fd, Data, Wrote, At, Target, Mask, Shown, Granted, Acl, Names, Space, Refused}
+use Rattle.fs_model.specs.declared.reply.Reply.TheVariants.{Done, Pid, Fd, Data, Wrote, At, Target, Mask, Shown, Granted, Acl, Names, Space, Stamped, Refused}
 use Rattle.fuse_plans.specs.Plans.{KeepsTo}
 use Rattle.fuse_plans.specs.declared.stop.Stop.{Stop}
 use Rattle.fuse_plans.specs.declared.stop.Stop.TheVariants.{Refuses, Lacks}
@@ -205,6 +205,7 @@ module _ {rights : Rights} (T : List ℕ → Type 0) where
   settles cred is known s fits (Acl k) = fits-any fits
   settles cred is known s fits (Names k) = fits-any fits
   settles cred is known s fits (Space j k) = fits-any fits
+  settles cred is known s fits (Stamped k) = fits-any fits
 
   -- ---- processes end
 
@@ -274,6 +275,7 @@ module _ {rights : Rights} (T : List ℕ → Type 0) where
   settles_first cred is known s fits (Acl k) = settles cred is known s fits (Acl k)
   settles_first cred is known s fits (Names k) = settles cred is known s fits (Names k)
   settles_first cred is known s fits (Space j k) = settles cred is known s fits (Space j k)
+  settles_first cred is known s fits (Stamped k) = settles cred is known s fits (Stamped k)
 
   begins_process : (cred : Credential) → rights.cred ≡ Some cred → (known : Known) (s : Server) → Fits rights (Looks rights T) known s
       → KeepsTo (conduct rights) (ChosenLeft rights T) known (begin_process cred s)

@@ -1,14 +1,18 @@
 -- How pieces of plans behave, and those that are made of them.
-use Rattle.std.specs.Prelude.{◌≡◌, ℕ, Option, None, Some, Result, Ok, Err}
-use Rattle.std.proofs.Common.{sym, ap, ◌∙◌}
+use Rattle.std.specs.Prelude.{◌≡◌, ℕ, Bool, true, false, Option, None, Some, Result, Ok, Err}
+use Rattle.std.proofs.Common.{sym, ap, subst, ◌∙◌}
+use Rattle.fs_model.specs.declared.event.Event.TheVariants.{Stamp, Clock}
 use Rattle.fs_model.specs.declared.reply.Reply.{Reply}
-use Rattle.fs_model.specs.declared.reply.Reply.TheVariants.{Done, Pid, Fd, Data, Wrote, At, Target, Mask, Shown, Granted, Acl, Names, Space, Refused}
+use Rattle.fs_model.specs.declared.reply.Reply.TheVariants.{Done, Pid, Fd, Data, Wrote, At, Target, Mask, Shown, Granted, Acl, Names, Space, Stamped, Refused}
 use Rattle.fuse_plans.specs.Plans.{Plan, Finish, Ask, followed_by, Restraint, KeepsTo}
 use Rattle.fuse_plans.specs.declared.stop.Stop.{Stop}
+use Rattle.fuse_protocol.specs.declared.reply.Time.{Time}
+use Rattle.fuse_state.specs.Stamps.{stamp_of}
 use Rattle.fuse_state.specs.Servers.{Server, number_of, places_in, places_of, WithinShares}
 use Rattle.fuse_state.proofs.Holders.{holding_of, same_within}
-use Rattle.fuse_plans.specs.Works.{Work, give, stop, kept, keep, goes_on, ◌>>=◌, attempt, of_result, needed, unless_refused}
-use Rattle.fuse_plans.specs.Conduct.{Known, Rights, conduct, Fits}
+use Rattle.fuse_plans.specs.Works.{Work, give, stop, kept, keep, goes_on, ◌>>=◌, attempt, of_result, needed, ask, unless_refused}
+use Rattle.fuse_plans.specs.Conduct.{Known, Rights, MayStamp, asks, conduct, Fits, IsHome}
+use Rattle.fuse_plans.specs.Times.{tell_time_if, tell_time, told_stamps_if, told_stamps}
 
 -- ---- plans
 
@@ -230,6 +234,35 @@ module _ {rights : Rights} {P : Server → Type 0} where
   does-unless_refused (Acl t) = does-give _
   does-unless_refused (Names t) = does-give _
   does-unless_refused (Space j k) = does-give _
+  does-unless_refused (Stamped t) = does-give _
+
+  -- ---- times
+
+  pub does-stamp : (n : ℕ) (atime mtime ctime : Option ℕ) → MayStamp rights.subject n atime mtime ctime
+      → Does rights P (ask (Stamp n atime mtime ctime))
+  unfolding ask
+  does-stamp n atime mtime ctime may = record { goes = λ known s fits. ((subst IsHome (sym fits.home) tt, may), λ reply. fits) }
+
+  -- those of each object may be asked for
+  pub does-told_stamps : (n : ℕ) → Does rights P (told_stamps n)
+  unfolding told_stamps
+  does-told_stamps n = does->>= (does-kept _) tells
+    where
+      tells : (keeps : Bool) → Does rights P (told_stamps_if keeps n)
+      tells false = does-give None
+      tells true = does->>= (does-stamp n None None None asks) (λ reply. does->>= (does-needed _ _) (λ stamps. does-give _))
+
+  does-clock : (now : ℕ) → Does rights P (ask (Clock now))
+  unfolding ask
+  does-clock now = record { goes = λ known s fits. (subst IsHome (sym fits.home) tt, λ reply. fits) }
+
+  pub does-tell_time : (now : Time) → Does rights P (tell_time now)
+  unfolding tell_time
+  does-tell_time now = does->>= (does-kept _) tells
+    where
+      tells : (keeps : Bool) → Does rights P (tell_time_if keeps now)
+      tells false = does-give tt
+      tells true = does->>= (does-clock (stamp_of now)) (λ reply. does-give tt)
 
 -- ---- what is known of a value
 

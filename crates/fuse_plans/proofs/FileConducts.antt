@@ -1,11 +1,12 @@
 -- How requests for files behave.
-use Rattle.std.specs.Prelude.{◌≡◌, ℕ, ◌+◌, ◌-◌, ◌==◌, suc, zero, Bool, true, false, List, [], ◌∷◌, map, None, Some, Result, Ok, Err, IsTrue}
+use Rattle.std.specs.Prelude.{◌≡◌, ℕ, ◌+◌, ◌-◌, ◌==◌, suc, zero, Bool, true, false, List, [], ◌∷◌, map, Option, None, Some, Result, Ok, Err, IsTrue}
 use Rattle.std.proofs.Common.{refl, sym, subst}
 use Rattle.std.specs.Cmp.{nat_eq_equiv}
 use Rattle.fs_model.specs.declared.call.Call.{Call}
 use Rattle.fs_model.specs.declared.call.Call.TheVariants.{Read as ReadCall, Write as WriteCall}
 use Rattle.fs_model.specs.declared.reply.FileType.{FileType}
 use Rattle.fs_model.specs.declared.reply.Reply.{Reply}
+use Rattle.fs_model.specs.declared.reply.Stamps.{Stamps}
 use Rattle.fs_model.specs.declared.reply.Status.{Status}
 use Rattle.fs_model.specs.Limits.{move_limit}
 use Rattle.fuse_plans.specs.declared.mode.Mode.{Mode}
@@ -21,7 +22,7 @@ use Rattle.fuse_plans.specs.Acts.{given_name, IsObject, IsStandingDirectory, IsO
 use Rattle.fuse_plans.specs.Conduct.{Rights, stays, by_handle, is_on, IsByHandle}
 use Rattle.fuse_plans.specs.FilePlans.{touched_if, ask_first, open_object, open_file, or_opened, open_or_make, show_open, confirm_shown, confirm_open, look_open, tell_created, create_file, the_open, call_open, seek, seek_open, read_piece, read_pieces, read_file, or_done, write_piece, write_pieces, pieces_in, write_file, close_file}
 use Rattle.fuse_plans.specs.Flags.{is_trunc}
-use Rattle.fuse_plans.proofs.Conducts.{Still, still-as, SameOwn, SameAll, Does, Lasts, does-give, does-stop, does-kept, does-keep_within, does->>=, does-attempt, does-needed, does-lasts, lasts->>=, keep-lasts, then-lasts, then-does}
+use Rattle.fuse_plans.proofs.Conducts.{Still, still-as, SameOwn, SameAll, Does, Lasts, does-give, does-stop, does-kept, does-keep_within, does-told_stamps, does->>=, does-attempt, does-needed, does-lasts, lasts->>=, keep-lasts, then-lasts, then-does}
 use Rattle.fuse_plans.proofs.Calls.{CanCall, AsksOf, is-object, does-obtain, does-or_closed, does-between, does-on, does-replied_status, gives-number, gives-standing_directory}
 use Rattle.fuse_plans.proofs.Chosen.{OfOpener, does-opener}
 use Rattle.fuse_plans.proofs.Openers.{opener-can, about-opener, may_open-as, does-keep_opener, does-keep_handle, does-keep_opened, does-with_handle, lasts-with_handle}
@@ -91,16 +92,18 @@ module _ {rights : Rights} (r : Asked) (is : rights.cred ≡ r.cred) (node : rig
   does-look_open : (pid fd : ℕ) → Does rights (OfOpener rights pid) (look_open pid fd)
   unfolding show_open look_open
   does-look_open pid fd =
-      does->>= (does-attempt (does->>= (does-obtain pid _ (opener-can pid _ refl) (without_path refl refl refl)) does-replied_status)) (λ seen.
+      does->>= (does-attempt
+      (does->>= (does->>= (does-obtain pid _ (opener-can pid _ refl) (without_path refl refl refl)) does-replied_status) (λ status.
+      does->>= (does-told_stamps _) (λ stamps. does-give _)))) (λ seen.
       does-or_closed pid fd seen (opener-can pid _ refl))
 
-  lasts-tell_created : (now : Time) (name_valid : ℕ) (p : Place) (is_new is_cut : Bool) (pid handle : ℕ) (status : Status) → owner_of handle ≡ pid
-      → Lasts rights (OfOpener rights pid) (tell_created now name_valid p is_new is_cut handle status)
+  lasts-tell_created : (now : Time) (name_valid : ℕ) (p : Place) (is_new is_cut : Bool) (pid handle : ℕ) (seen : Status × Option Stamps) → owner_of handle ≡ pid
+      → Lasts rights (OfOpener rights pid) (tell_created now name_valid p is_new is_cut handle seen)
   unfolding tell_created
-  lasts-tell_created now name_valid p is_new is_cut pid handle status owner =
-      let same = told-same now p status.inode status.kind is_new is_cut in
-      keep-lasts _ same (λ s of. may_open-as s (told now p status.inode status.kind is_new is_cut s) (same s).0 of.may)
-      (does-lasts (does->>= (does-keep_opened pid handle status.inode owner) (λ done. does-kept _)))
+  lasts-tell_created now name_valid p is_new is_cut pid handle seen owner =
+      let same = told-same now p seen.0.inode seen.0.kind is_new is_cut in
+      keep-lasts _ same (λ s of. may_open-as s (told now p seen.0.inode seen.0.kind is_new is_cut s) (same s).0 of.may)
+      (does-lasts (does->>= (does-keep_opened pid handle seen.0.inode owner) (λ done. does-kept _)))
 
   pub lasts-create_file : AsksOf rights r.node → (name : List ℕ) (flags mode umask : ℕ) → given_name rights.subject.operation ≡ Some name
       → Lasts rights (Still rights) (create_file r name flags mode umask)
@@ -113,7 +116,7 @@ module _ {rights : Rights} (r : Asked) (is : rights.cred ≡ r.cred) (node : rig
       lasts->>= (does-obtain pid _ (opener-can pid _ refl) (without_path refl refl refl)) (λ old.
       lasts->>= (does-open_or_make pid d name mode flags file_mode in_it) (λ opened.
       lasts-with_handle pid opened.0 (λ handle owner.
-      lasts->>= (does-look_open pid _) (λ status. lasts-tell_created _ _ _ opened.1 _ pid handle status owner)))))))))
+      lasts->>= (does-look_open pid _) (λ seen. lasts-tell_created _ _ _ opened.1 _ pid handle seen owner)))))))))
 
 -- ---- by a handle
 

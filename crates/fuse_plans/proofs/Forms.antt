@@ -1,6 +1,6 @@
 -- How small pieces behave: values in replies, choices, and changes of what the server keeps.
 use Rattle.std.specs.Prelude.{ℕ, Bool, true, false, IsTrue, if◌then◌else◌}
-use Rattle.std.proofs.Common.{sym, ap, subst}
+use Rattle.std.proofs.Common.{refl, sym, ap, subst}
 use Rattle.fs_model.specs.declared.call.Call.{Call}
 use Rattle.fs_model.specs.declared.reply.Reply.{Reply}
 use Rattle.fuse_state.specs.Servers.{Server}
@@ -39,6 +39,11 @@ module _ {rights : Rights} {P : Server → Type 0} where
   pub does-when : (b : Bool) (w : Work (Unit {0})) → Does rights P w → Does rights P (when b w)
   does-when true w first = first
   does-when false w first = does-give tt
+
+  -- it may be known that it is so
+  pub does-when_so : (b : Bool) (w : Work (Unit {0})) → (IsTrue b → Does rights P w) → Does rights P (when b w)
+  does-when_so true w first = first refl
+  does-when_so false w first = does-give tt
 
   pub lasts-when : (b : Bool) (w : Work (Unit {0})) → Lasts rights P w → Lasts rights P (when b w)
   lasts-when true w first = first

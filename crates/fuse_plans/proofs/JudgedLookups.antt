@@ -31,9 +31,10 @@ use Rattle.fuse_plans.specs.declared.stop.Stop.TheVariants.{Refuses, Lacks}
 use Rattle.fuse_plans.specs.declared.stop.OtherErrno.TheVariants.{ENFILE, ERANGE, ENOSYS, ENODATA, EPROTO, EOPNOTSUPP, ESTALE}
 use Rattle.fuse_plans.specs.Stops.{failed, is_for}
 use Rattle.fuse_plans.specs.Plans.{Plan, Finish, Ask, followed_by, IsRunOf, IsAsked, at_once, later, Restraint, KeepsTo, after_all}
-use Rattle.fuse_plans.specs.Works.{Work, give, stop, kept, keep, goes_on, ◌>>=◌, attempt, needed, ask, give_unless, refusal_in, unless_refused, obtain, unexpected, status_of_reply, acl_of_reply}
+use Rattle.fuse_plans.specs.Works.{Work, give, stop, kept, keep, goes_on, ◌>>=◌, attempt, needed, ask, give_unless, refusal_in, unless_refused, obtain, unexpected, status_of_reply, stamps_of_reply, acl_of_reply}
 use Rattle.fuse_plans.specs.Callers.{caller, the_looker, between, or_inside, standing_refusal, or_next, by_places, on, by_looker, look_inside, is_known_directory, the_number, directory_number, standing_directory}
 use Rattle.fuse_plans.specs.NamePlans.{or_absent, searched_directory, keeps_absent, found_or_absent, find_inside, find_name, place}
+use Rattle.fuse_plans.specs.Times.{told_stamps_if, told_stamps}
 use Rattle.fuse_plans.specs.Masks.{told_acl, acl_of, may_hide, hides, seen_by_looker, asks_list, is_masked}
 use Rattle.fuse_plans.specs.Nobody.{unless_masked, is_judged, needs_nobody_in}
 use Rattle.fuse_plans.specs.Requests.{Request, asked_of}
@@ -377,6 +378,21 @@ module _ (looker : Option ℕ) where
       blames->>= (goes-if _ _ _ _ _ _ (blames-stop _ refl) (goes-give _ _ _ tt (λ m any. tt)))
       (λ plain. goes-attempt _ _ _ (blames-standing_directory node) blames-or_absent)
 
+  blames-ask : (e : Event) → Blames (ask e)
+  unfolding ask
+  blames-ask e = record { goes = λ m s any own. (tt, λ reply. (tt, own)) }
+
+  -- no stop is for access
+  blames-told_stamps_if : (keeps : Bool) (n : ℕ) → Blames (told_stamps_if keeps n)
+  blames-told_stamps_if false n = goes-give _ _ _ None (λ m any. tt)
+  blames-told_stamps_if true n =
+      blames->>= (blames-ask _) (λ reply.
+      blames->>= (blames-needed unexpected (stamps_of_reply reply) refl) (λ stamps. goes-give _ _ _ (Some stamps) (λ m any. tt)))
+
+  blames-told_stamps : (n : ℕ) → Blames (told_stamps n)
+  unfolding told_stamps
+  blames-told_stamps n = goes-kept _ _ _ _ (λ keeps. blames-told_stamps_if keeps n)
+
   blames-tell : (p : Place) (status : Status) (f : Server → ReplyBody) → Blames (keep (found p status.inode status.kind) >>= (λ _. kept f))
   unfolding keep kept ◌>>=◌
   blames-tell p status f = record { goes = λ m s any own. (tt, (found-same p status.inode status.kind s).1 ∙ own) }
@@ -384,7 +400,8 @@ module _ (looker : Option ℕ) where
   -- what stopped stops, or is told as absent
   blames-found_or_absent : (nobody : Bool) (d : ℕ) (name : List ℕ) (seen : Result Status Stop)
       → Goes (is_by looker) denies looker (λ m. Blamed m seen) Blamed (found_or_absent nobody d name seen)
-  blames-found_or_absent nobody d name (Ok status) = goes-from _ _ _ (blames-tell (place d name) status _)
+  blames-found_or_absent nobody d name (Ok status) =
+      goes-from _ _ _ (blames->>= (blames-told_stamps status.inode) (λ stamps. blames-tell (place d name) status _))
   blames-found_or_absent nobody d name (Err e) =
       goes-kept _ _ _ _ (λ settings. goes-if _ _ _ (keeps_absent nobody settings e) _ _ (goes-give _ _ _ _ (λ m blamed. tt)) (goes-stop _ _ _ e (λ m blamed. blamed)))
 

@@ -4,6 +4,7 @@
 --     names_are_kept_where_judged, only_missing_names_are_absent
 use Rattle.std.specs.Prelude.{◌≡◌, ℕ, ◌<◌, Bool, true, false, ◌&&◌, List, [], ◌∷◌, ◌++◌, Option, None, Some, unwrap_or, Result, Ok, Err, if◌then◌else◌, bit_and}
 use Rattle.std.proofs.Common.{refl, sym, ap, subst, arith}
+use Rattle.std.proofs.lemmas.List.{append_assoc}
 use Rattle.posix_acl.specs.AccessList.{AccessList}
 use Rattle.fs_cred.specs.declared.errno.Errno.TheVariants.{EPERM, ENOENT, EINVAL, ENOMEM}
 use Rattle.fs_cred.specs.declared.refusal.Refusal.{Refusal}
@@ -30,22 +31,25 @@ use Rattle.fuse_plans.specs.declared.stop.Stop.TheVariants.{Refuses, Lacks}
 use Rattle.fuse_plans.specs.declared.stop.OtherErrno.TheVariants.{ENFILE, ERANGE, ENOSYS, ENODATA, EPROTO, EOPNOTSUPP, ESTALE}
 use Rattle.fuse_plans.specs.Stops.{failed, is_for}
 use Rattle.fuse_plans.specs.Plans.{Plan, Finish, Ask, followed_by, IsRunOf, IsAsked, at_once, later}
-use Rattle.fuse_plans.specs.Works.{Work, give, stop, kept, goes_on, ◌>>=◌, attempt, needed, ask, give_unless, refusal_in, unless_refused, unexpected, status_of_reply, replied_status}
+use Rattle.fuse_plans.specs.Works.{Work, give, stop, kept, goes_on, ◌>>=◌, ◌>>◌, attempt, needed, ask, give_unless, refusal_in, unless_refused, unexpected, status_of_reply, replied_status}
 use Rattle.fuse_plans.specs.Callers.{caller, caller_with_room, the_looker, between, look_inside, the_number, is_known_directory, directory_number, standing_directory, has_place}
 use Rattle.fuse_plans.specs.Flags.{mode_in, making}
 use Rattle.fuse_plans.specs.Masks.{list_hides}
-use Rattle.fuse_plans.specs.NamePlans.{plain_name, directory_for, or_absent, searched_directory, keeps_absent, found_or_absent, find_inside, find_name, keeps_names, unless_hidden, new_valid_if, new_valid, made, make_by, set_umask, make_masked, is_of_file, make_file}
+use Rattle.fuse_plans.specs.Times.{tell_time}
+use Rattle.fuse_plans.specs.Alterations.{says_change}
+use Rattle.fuse_plans.specs.AttributePlans.{tell_attributes}
+use Rattle.fuse_plans.specs.NamePlans.{plain_name, directory_for, or_absent, searched_directory, keeps_absent, found_or_absent, find_inside, find_name, keeps_names, unless_hidden, new_valid_if, new_valid, made, make_by, make_link, set_umask, make_masked, make_directory, is_of_file, make_file}
 use Rattle.fuse_plans.specs.FilePlans.{tell_created, create_by, create_file}
 use Rattle.fuse_plans.specs.DirectoryPlans.{take_directory, take_directory_if, read_directory, close_directory, sync_all}
 use Rattle.fuse_plans.specs.AclPlans.{sized, set_acl}
 use Rattle.fuse_plans.specs.Requests.{Request, asked_of}
 use Rattle.fuse_plans.specs.Nobody.{is_judged, needs_nobody_in}
-use Rattle.fuse_plans.specs.Serving.{Task, Replying, Silently, begin, count_space, end, plan_of, asked_for, answered, answered_as, request_plan}
+use Rattle.fuse_plans.specs.Serving.{Task, Replying, Silently, begin, count_space, end, plan_of, told_first, asked_for, answered, answered_as, request_plan}
 use Rattle.fuse_plans.specs.Laws.{names_an_object, IsDoneBy}
 use Rattle.fuse_plans.specs.KeepingLaws.{name_valid_in, MayKeepName, is_looked_up, is_new, NamesAreKeptWhereJudged, IsMissing, OnlyMissingNamesAreAbsent}
-use Rattle.fuse_plans.proofs.PlanLaws.{run-parts}
+use Rattle.fuse_plans.proofs.PlanLaws.{run-followed_by, run-parts}
 use Rattle.fuse_plans.proofs.AllEnds.{AllEnd, all-weaker, all-followed_by, all-run}
-use Rattle.fuse_plans.proofs.OpenedObjects.{EndsWell, finished, ok_is, stops_not_well, was_told, before}
+use Rattle.fuse_plans.proofs.OpenedObjects.{EndsWell, finished, ok_is, stops_not_well, run-told, was_told, before}
 
 -- ---- what is told
 
@@ -116,7 +120,7 @@ TellsFor valid w = TellsSo (IsFor valid) w
 
 for-made : (now : Time) (valid d : ℕ) (name : List ℕ) → TellsFor valid (made now valid d name)
 unfolding made
-for-made now valid d name = so-after _ (λ pid. so-after _ (λ status. so-after _ (λ done. so-kept _ (λ s. (refl, refl)))))
+for-made now valid d name = so-after _ (λ pid. so-after _ (λ status. so-after _ (λ stamps. so-after _ (λ done. so-kept _ (λ s. (refl, refl))))))
 
 for-make_by : (now : Time) (valid pid d : ℕ) (call : Call) (name : List ℕ) → TellsFor valid (make_by now valid pid d call name)
 for-make_by now valid pid d call name = so-after _ (λ done. for-made now valid d name)
@@ -125,7 +129,7 @@ for-create_by : (r : Asked) (valid d : ℕ) (name : List ℕ) (mode : Mode) (fla
     → TellsFor valid (create_by r.now valid pid d name mode flags file_mode)
 unfolding tell_created
 for-create_by r valid d name mode flags file_mode umask pid =
-    so-after _ (λ opened. so-after _ (λ handle. so-after _ (λ status. so-after _ (λ told. so-after _ (λ added. so-kept _ (λ s. (refl, refl)))))))
+    so-after _ (λ opened. so-after _ (λ handle. so-after _ (λ seen. so-after _ (λ told. so-after _ (λ added. so-kept _ (λ s. (refl, refl)))))))
 
 abbrev create_in : Asked → List ℕ → Mode → ℕ → ℕ → ℕ → ℕ → ℕ → Work ReplyBody
 create_in r name mode flags file_mode umask d valid =
@@ -145,10 +149,19 @@ for-file_in r name mode umask d valid =
 
 -- ---- requests that tell no name
 
--- work, that tells none
+-- work, that tells so
+abbrev IfTellsSo : (ReplyBody → Type 0) → Task → Type 0
+IfTellsSo P (Silently f) = Unit {0}
+IfTellsSo P (Replying w) = TellsSo P w
+
+-- also where the machine is told the time first
+so-told_first : (P : ReplyBody → Type 0) (says : Bool) (now : Time) (task : Task) → IfTellsSo P task → IfTellsSo P (told_first says now task)
+so-told_first P false now task so = so
+so-told_first P true now (Replying w) so = so-after _ (λ told. so)
+so-told_first P true now (Silently f) so = so
+
 abbrev IfTellsNone : Task → Type 0
-IfTellsNone (Silently f) = Unit {0}
-IfTellsNone (Replying w) = TellsFor 0 w
+IfTellsNone task = IfTellsSo (IsFor 0) task
 
 for-sized : (size has : ℕ) (body : ReplyBody) → IsFor 0 body → TellsFor 0 (sized size has body)
 for-sized size has body is = so-if _ _ _ (so-give _ (refl, refl)) (so-if _ _ _ (so-stop _) (so-give body is))
@@ -191,12 +204,15 @@ for-set_acl : (r : Asked) (which : _) (acl : Option AccessList) → TellsFor 0 (
 for-set_acl r which acl =
     so-after _ (λ n. so-after _ (λ kind. so-after _ (λ may. so-after _ (λ pid. so-after _ (λ list. so-after _ (λ set. so-after _ (λ changed. so-give _ (refl, refl))))))))
 
+for-tell_attributes : (status : Status) → TellsFor 0 (tell_attributes status)
+for-tell_attributes status = so-after _ (λ stamps. so-kept _ (λ s. (refl, refl)))
+
 plain-plan : (r : Asked) (value : Option (Option AccessList)) (operation : Operation) → names_an_object operation ≡ false → IfTellsNone (plan_of r value operation)
 plain-plan r value (Lookup name) is = absurd (cc)
 plain-plan r value (Forget count) is = tt
-plain-plan r value GetAttr is = so-after _ (λ n. so-after _ (λ status. so-kept _ (λ s. (refl, refl))))
+plain-plan r value GetAttr is = so-after _ (λ n. so-after _ (λ status. for-tell_attributes status))
 plain-plan r value (SetAttr changes) is =
-    so-after _ (λ n. so-after _ (λ pid. so-after _ (λ kind. so-after _ (λ changed. so-after _ (λ status. so-after _ (λ timed. so-kept _ (λ s. (refl, refl))))))))
+    so-after _ (λ n. so-after _ (λ pid. so-after _ (λ kind. so-after _ (λ changed. so-after _ (λ status. so-after _ (λ timed. for-tell_attributes status))))))
 plain-plan r value ReadLink is = so-after _ (λ n. so-after _ (λ reply. so-after _ (λ target. so-give _ (refl, refl))))
 plain-plan r value (SymLink name target) is = absurd (cc)
 plain-plan r value (MkNod name mode umask) is = absurd (cc)
@@ -206,7 +222,8 @@ plain-plan r value (RmDir name) is = so-after _ (λ who. so-after _ (λ done. so
 plain-plan r value (Rename name new_directory new_name flags) is =
     so-after _ (λ may. so-after _ (λ d. so-after _ (λ new. so-after _ (λ pid. so-after _ (λ free. so-after _ (λ done. so-after _ (λ moved. so-give _ (refl, refl))))))))
 plain-plan r value (Link node name) is =
-    so-after _ (λ d. so-after _ (λ n. so-after _ (λ pid. so-after _ (λ linked. so-after _ (λ kind. so-after _ (λ noted. so-after _ (λ status. so-after _ (λ counted. so-kept _ (λ s. (refl, refl))))))))))
+    so-after _ (λ d. so-after _ (λ n. so-after _ (λ pid. so-after _ (λ linked. so-after _ (λ kind. so-after _ (λ noted. so-after _ (λ status. so-after _ (λ stamps.
+    so-after _ (λ counted. so-kept _ (λ s. (refl, refl)))))))))))
 plain-plan r value (Open flags) is =
     so-after _ (λ n. so-after _ (λ mode. so-after _ (λ pid. so-after _ (λ asked. so-after _ (λ handle. so-kept _ (λ s. (refl, refl)))))))
 plain-plan r value (Read extent) is = so-after _ (λ sought. so-after _ (λ bytes. so-give _ (refl, refl)))
@@ -375,38 +392,40 @@ seen_followed d valid s t es replies lt runs = choose (keeps_names s.settings) r
         let said = said_followed s.settings.keeping.names valid t (list_hides d s) es replies lt ran in
         record { judges = first_true _ _ is; afterwards = said.0; runs = said.1 }
 
-abbrev Kept : Request → Server → List Event → List Reply → Type 0
-Kept r s es replies = (s.settings.posix_acl ≡ true) × MayKeepName r s es replies
+-- with the first replies the list was seen
+data SeesList (r : Request) (s : Server) : List Event → List Reply → Type 0 where
+  sees : (d : ℕ) (t : Server) (first after : List Event) (replied rest : List Reply) → s.settings.posix_acl ≡ true → number_of s r.node ≡ Some d
+      → IsRunOf (list_hides d s) first replied (Ok false, t) → SeesList r s (first ++ after) (replied ++ rest)
 
 new_kept : (r : Request) (d : ℕ) (rest : ℕ → Work ReplyBody) (s t : Server) (es : List Event) (replies : List Reply) (body : ReplyBody)
     → ((valid : ℕ) → TellsFor valid (rest valid)) → number_of s r.node ≡ Some d → 0 < name_valid_in body
-    → EndsWell ((new_valid d >>= rest) s) es replies body t → Kept r s es replies
+    → EndsWell ((new_valid d >>= rest) s) es replies body t → SeesList r s es replies
 unfolding ◌>>=◌
 new_kept r d rest s t es replies body tells of_node lt runs =
     let parts = run-parts (new_valid d s) (goes_on rest) es replies (Ok body, t) runs in
-    subst (λ l. Kept r s l replies) (sym parts.all_events)
-    (subst (λ l. Kept r s (parts.first_events ++ parts.later_events) l) (sym parts.all_replies)
+    subst (λ l. SeesList r s l replies) (sym parts.all_events)
+    (subst (λ l. SeesList r s (parts.first_events ++ parts.later_events) l) (sym parts.all_replies)
     (ended parts.middle parts.first_events parts.later_events parts.first_replies parts.later_replies parts.first parts.later))
   where
     ended : (m : Result ℕ Stop × Server) (first after : List Event) (replied others : List Reply) → IsRunOf (new_valid d s) first replied m
-        → EndsWell (goes_on rest m) after others body t → Kept r s (first ++ after) (replied ++ others)
+        → EndsWell (goes_on rest m) after others body t → SeesList r s (first ++ after) (replied ++ others)
     ended (Ok valid, u) first after replied others ran goes =
         let is = so-run (rest valid) u t after others body (tells valid) goes in
         let seen = seen_followed d valid s u first replied (subst (λ n. 0 < n) is.0 lt) ran in
-        (seen.judges, is_new d seen.afterwards first after replied others of_node seen.runs)
+        sees d seen.afterwards first after replied others seen.judges of_node seen.runs
     ended (Err e, u) first after replied others ran goes = absurd (stops_not_well e body u t after others goes)
 
 -- in the directory of the node
 in_directory : (r : Request) (name : List ℕ) (rest : ℕ → ℕ → Work ReplyBody) (s t : Server) (es : List Event) (replies : List Reply) (body : ReplyBody)
     → ((d valid : ℕ) → TellsFor valid (rest d valid)) → 0 < name_valid_in body
-    → EndsWell ((directory_for r.node name >>= (λ d. new_valid d >>= rest d)) s) es replies body t → Kept r s es replies
+    → EndsWell ((directory_for r.node name >>= (λ d. new_valid d >>= rest d)) s) es replies body t → SeesList r s es replies
 unfolding ◌>>=◌
 in_directory r name rest s t es replies body tells lt runs =
     let given = once-given (IsOfNode r.node s) (directory_for r.node name s) (λ d. new_valid d >>= rest d) s t es replies body (once-directory_for r.node name s) runs in
     new_kept r given.value (rest given.value) s t es replies body (tells given.value) given.holds lt given.runs
 
 create_kept : (r : Request) (nobody : Bool) (name : List ℕ) (flags mode umask : ℕ) (s t : Server) (es : List Event) (replies : List Reply) (body : ReplyBody)
-    → 0 < name_valid_in body → EndsWell (create_file (asked_of r nobody) name flags mode umask s) es replies body t → Kept r s es replies
+    → 0 < name_valid_in body → EndsWell (create_file (asked_of r nobody) name flags mode umask s) es replies body t → SeesList r s es replies
 unfolding ◌>>=◌
 create_kept r nobody name flags file_mode umask s t es replies body lt runs =
     let plain = once-given (Anyhow {X = Unit {0}}) (plain_name name s) _ s t es replies body (once-plain_name name s) runs in
@@ -416,21 +435,42 @@ create_kept r nobody name flags file_mode umask s t es replies body lt runs =
     (for-create_in (asked_of r nobody) name mode.value flags file_mode umask given.value) given.holds lt given.runs
 
 file_kept : (r : Request) (nobody : Bool) (name : List ℕ) (mode umask : ℕ) (s t : Server) (es : List Event) (replies : List Reply) (body : ReplyBody)
-    → 0 < name_valid_in body → EndsWell (make_file (asked_of r nobody) name mode umask s) es replies body t → Kept r s es replies
+    → 0 < name_valid_in body → EndsWell (make_file (asked_of r nobody) name mode umask s) es replies body t → SeesList r s es replies
 unfolding give stop ◌>>=◌
 file_kept r nobody name mode umask s t es replies body lt runs = choose (is_of_file mode) runs
   where
     choose : (b : Bool)
         → EndsWell (((if b then give {X = Unit {0}} tt else stop (failed EPERM)) >>= (λ _. directory_for r.node name >>= (λ d. new_valid d >>= file_in (asked_of r nobody) name mode umask d))) s) es replies body t
-        → Kept r s es replies
+        → SeesList r s es replies
     choose true ran =
         in_directory r name (file_in (asked_of r nobody) name mode umask) s t es replies body (for-file_in (asked_of r nobody) name mode umask) lt ran
     choose false ran = absurd (stops_not_well (failed EPERM) body s t es replies ran)
 
+abbrev Kept : Request → Server → List Event → List Reply → Type 0
+Kept r s es replies = (s.settings.posix_acl ≡ true) × MayKeepName r s es replies
+
+-- where the machine was told the time before
+seen_kept : (r : Request) (s : Server) (es fs : List Event) (replies others : List Reply) → IsRunOf (tell_time r.now s) es replies (Ok tt, s)
+    → SeesList r s fs others → Kept r s (es ++ fs) (replies ++ others)
+unfolding ◌>>=◌
+seen_kept r s es fs replies others told (sees d t first after replied rest judges of_node ran) = (
+  judges,
+  subst (λ l. MayKeepName r s l (replies ++ (replied ++ rest))) (append_assoc es first after)
+      (subst (λ l. MayKeepName r s ((es ++ first) ++ after) l) (append_assoc replies replied rest)
+      (is_new d t (es ++ first) after (replies ++ replied) rest of_node
+      (run-followed_by (tell_time r.now s) (goes_on (λ _. list_hides d)) es first replies replied (Ok tt, s) (Ok false, t) told ran))),
+)
+
+told_kept : (r : Request) (w : Work ReplyBody) (s t : Server) (es : List Event) (replies : List Reply) (body : ReplyBody)
+    → ((fs : List Event) (others : List Reply) → EndsWell (w s) fs others body t → SeesList r s fs others)
+    → EndsWell ((tell_time r.now >> w) s) es replies body t → Kept r s es replies
+told_kept r w s t es replies body sees_list runs =
+    run-told (Kept r s) r.now w s t es replies body runs (λ first replied after rest told ran. seen_kept r s first after replied rest told (sees_list after rest ran))
+
 -- ---- a name that is looked up
 
 unjudged : (d : ℕ) (name : List ℕ) (seen : Result Status Stop) → TellsFor 0 (found_or_absent false d name seen)
-unjudged d name (Ok status) = so-after _ (λ noted. so-kept _ (λ s. (refl, refl)))
+unjudged d name (Ok status) = so-after _ (λ stamps. so-after _ (λ noted. so-kept _ (λ s. (refl, refl))))
 unjudged d name (Err e) = so-after _ (λ settings. so-stop e)
 
 for-unjudged : (r : Asked) (name : List ℕ) → r.needs_nobody ≡ false → TellsFor 0 (find_name r name)
@@ -439,7 +479,7 @@ for-unjudged r name is =
     (so-after _ (λ d. so-after _ (λ pid. so-after _ (unjudged d name))))
 
 there-found : (d : ℕ) (name : List ℕ) (status : Status) → TellsSo IsThere (found_or_absent true d name (Ok status))
-there-found d name status = so-after _ (λ noted. so-kept _ (λ s. refl))
+there-found d name status = so-after _ (λ stamps. so-after _ (λ noted. so-kept _ (λ s. refl)))
 
 record SeenAbsent (p : Plan (Result Status Stop × Server)) (es : List Event) (replies : List Reply) : Type 0 where
   stopped : Stop
@@ -601,10 +641,11 @@ worked false (Replying w) s t es replies body runs =
     let ends = finished (Fails (failed ENOMEM), s) (Says body, t) es replies runs in
     absurd (let no : Says body ≡ Fails (failed ENOMEM) = ap (λ q. q.0) ends.2 in cc)
 
--- of an answer that tells no name
-told_none : (w : Task) (s t : Server) (es : List Event) (replies : List Reply) (body : ReplyBody) → IfTellsNone w → Worked w s t es replies body → IsFor 0 body
-told_none (Silently f) s t es replies body none done = absurd (let no : Silently f ≡ Replying done.work = done.is in cc)
-told_none (Replying w) s t es replies body none done = so-run done.work s t es replies body (subst IfTellsNone done.is none) done.runs
+-- of an answer that tells so
+told_so : (P : ReplyBody → Type 0) (task : Task) (s t : Server) (es : List Event) (replies : List Reply) (body : ReplyBody) → IfTellsSo P task
+    → Worked task s t es replies body → P body
+told_so P (Silently f) s t es replies body so done = absurd (let no : Silently f ≡ Replying done.work = done.is in cc)
+told_so P (Replying w) s t es replies body so done = so-run done.work s t es replies body (subst (λ o. IfTellsSo P o) done.is so) done.runs
 
 -- the work that is there
 abbrev work_in : Work ReplyBody → Task → Work ReplyBody
@@ -632,37 +673,46 @@ module _ (r : Request) (s t : Server) (body : ReplyBody) (lt : 0 < name_valid_in
       absurd (positive _ lt (so-run (find_name (asked_of r false) name) s t after rest body (for-unjudged (asked_of r false) name refl) ran).0)
 
   name_kept : (operation : Operation) → r.operation ≡ Some operation → names_an_object operation ≡ true → (nobody : Bool) (first after : List Event) (replied rest : List Reply)
-      → IsRunOf (needs_nobody_in r.node (Some operation) s) first replied nobody → Worked (plan_of (asked_of r nobody) r.value operation) s t after rest body
+      → IsRunOf (needs_nobody_in r.node (Some operation) s) first replied nobody → Worked (told_first (says_change operation) r.now (plan_of (asked_of r nobody) r.value operation)) s t after rest body
       → Kept r s (first ++ after) (replied ++ rest)
   name_kept (Lookup name) asks is nobody first after replied rest found done =
       looked_up_kept name asks s.settings.posix_acl nobody refl first after replied rest found (work_is _ _ s t after rest body done.is done.runs)
   name_kept (SymLink name target) asks is nobody first after replied rest found done =
       nothing_before r s _ nobody first after replied rest found
-      (in_directory r name (λ d valid. caller r.cred >>= (λ pid. make_by r.now valid pid d (Symlink target name) name)) s t after rest body
-      (λ d valid. so-after _ (λ pid. for-make_by r.now valid pid d (Symlink target name) name)) lt (work_is _ _ s t after rest body done.is done.runs))
+      (told_kept r (make_link (asked_of r nobody) name target) s t after rest body
+      (λ fs others ran.
+      in_directory r name (λ d valid. caller r.cred >>= (λ pid. make_by r.now valid pid d (Symlink target name) name)) s t fs others body
+      (λ d valid. so-after _ (λ pid. for-make_by r.now valid pid d (Symlink target name) name)) lt ran)
+      (work_is _ _ s t after rest body done.is done.runs))
   name_kept (MkNod name mode umask) asks is nobody first after replied rest found done =
       nothing_before r s _ nobody first after replied rest found
-      (file_kept r nobody name mode umask s t after rest body lt (work_is _ _ s t after rest body done.is done.runs))
+      (told_kept r (make_file (asked_of r nobody) name mode umask) s t after rest body
+      (λ fs others ran. file_kept r nobody name mode umask s t fs others body lt ran) (work_is _ _ s t after rest body done.is done.runs))
   name_kept (MkDir name mode umask) asks is nobody first after replied rest found done =
       nothing_before r s _ nobody first after replied rest found
-      (in_directory r name (λ d valid. caller r.cred >>= (λ pid. make_masked r.now valid umask pid d (Mkdir name (bit_and mode 0o7777)) name)) s t after rest body
-      (λ d valid. so-after _ (λ pid. so-after _ (λ masked. for-make_by r.now valid pid d (Mkdir name (bit_and mode 0o7777)) name))) lt
+      (told_kept r (make_directory (asked_of r nobody) name mode umask) s t after rest body
+      (λ fs others ran.
+      in_directory r name (λ d valid. caller r.cred >>= (λ pid. make_masked r.now valid umask pid d (Mkdir name (bit_and mode 0o7777)) name)) s t fs others body
+      (λ d valid. so-after _ (λ pid. so-after _ (λ masked. for-make_by r.now valid pid d (Mkdir name (bit_and mode 0o7777)) name))) lt ran)
       (work_is _ _ s t after rest body done.is done.runs))
   name_kept (Create name flags mode umask) asks is nobody first after replied rest found done =
       nothing_before r s _ nobody first after replied rest found
-      (create_kept r nobody name flags.0 mode umask s t after rest body lt (work_is _ _ s t after rest body done.is done.runs))
+      (told_kept r (create_file (asked_of r nobody) name flags.0 mode umask) s t after rest body
+      (λ fs others ran. create_kept r nobody name flags.0 mode umask s t fs others body lt ran) (work_is _ _ s t after rest body done.is done.runs))
   name_kept _ asks is nobody first after replied rest found done = absurd (cc)
 
   operation_kept : (operation : Option Operation) → r.operation ≡ operation → (nobody : Bool) (first after : List Event) (replied rest : List Reply)
       → IsRunOf (needs_nobody_in r.node operation s) first replied nobody → Worked (asked_for (asked_of r nobody) r.value operation) s t after rest body
       → Kept r s (first ++ after) (replied ++ rest)
   operation_kept None asks nobody first after replied rest found done =
-      absurd (positive _ lt (told_none (Replying (stop (failed EINVAL))) s t after rest body (so-stop _) done).0)
+      absurd (positive _ lt (told_so (IsFor 0) (Replying (stop (failed EINVAL))) s t after rest body (so-stop _) done).0)
   operation_kept (Some operation) asks nobody first after replied rest found done = choose (names_an_object operation) refl
     where
       choose : (b : Bool) → names_an_object operation ≡ b → Kept r s (first ++ after) (replied ++ rest)
       choose true is = name_kept operation asks is nobody first after replied rest found done
-      choose false is = absurd (positive _ lt (told_none _ s t after rest body (plain-plan (asked_of r nobody) r.value operation is) done).0)
+      choose false is =
+          absurd (positive _ lt (told_so (IsFor 0) _ s t after rest body
+          (so-told_first (IsFor 0) (says_change operation) r.now _ (plain-plan (asked_of r nobody) r.value operation is)) done).0)
 
 pub names_are_kept_where_judged : NamesAreKeptWhereJudged
 unfolding request_plan
@@ -676,21 +726,19 @@ names_are_kept_where_judged r s t body es replies lt runs =
 -- ---- nothing has the name
 
 there-named : (r : Asked) (value : Option (Option AccessList)) (operation : Operation) → names_an_object operation ≡ true
-    → ((name : List ℕ) → operation ≡ Lookup name → ⊥) → (w : Work ReplyBody) → plan_of r value operation ≡ Replying w → TellsSo IsThere w
-there-named r value (Lookup name) is other w same = absurd (other name refl)
-there-named r value (SymLink name target) is other w same =
-    subst (λ o. TellsSo IsThere (work_in w o)) same (so-after _ (λ d. so-after _ (λ valid. so-after _ (λ pid. so-weaker (λ body is_for. is_for.1) (for-make_by r.now valid pid d (Symlink target name) name)))))
-there-named r value (MkNod name mode umask) is other w same =
-    subst (λ o. TellsSo IsThere (work_in w o)) same
-    (so-after _ (λ file. so-after _ (λ d. so-after _ (λ valid. so-weaker (λ body is_for. is_for.1) (for-file_in r name mode umask d valid)))))
-there-named r value (MkDir name mode umask) is other w same =
-    subst (λ o. TellsSo IsThere (work_in w o)) same
-    (so-after _ (λ d. so-after _ (λ valid. so-after _ (λ pid. so-after _ (λ masked. so-weaker (λ body is_for. is_for.1) (for-make_by r.now valid pid d (Mkdir name (bit_and mode 0o7777)) name))))))
-there-named r value (Create name flags mode umask) is other w same =
-    subst (λ o. TellsSo IsThere (work_in w o)) same
-    (so-after _ (λ plain. so-after _ (λ way. so-after _ (λ d. so-after _ (λ valid.
-    so-weaker (λ body is_for. is_for.1) (for-create_in r name way flags.0 mode umask d valid))))))
-there-named r value _ is other w same = absurd (cc)
+    → ((name : List ℕ) → operation ≡ Lookup name → ⊥) → IfTellsSo IsThere (plan_of r value operation)
+there-named r value (Lookup name) is other = absurd (other name refl)
+there-named r value (SymLink name target) is other =
+    so-after _ (λ d. so-after _ (λ valid. so-after _ (λ pid. so-weaker (λ body is_for. is_for.1) (for-make_by r.now valid pid d (Symlink target name) name))))
+there-named r value (MkNod name mode umask) is other =
+    so-after _ (λ file. so-after _ (λ d. so-after _ (λ valid. so-weaker (λ body is_for. is_for.1) (for-file_in r name mode umask d valid))))
+there-named r value (MkDir name mode umask) is other =
+    so-after _ (λ d. so-after _ (λ valid. so-after _ (λ pid. so-after _ (λ masked.
+    so-weaker (λ body is_for. is_for.1) (for-make_by r.now valid pid d (Mkdir name (bit_and mode 0o7777)) name)))))
+there-named r value (Create name flags mode umask) is other =
+    so-after _ (λ plain. so-after _ (λ way. so-after _ (λ d. so-after _ (λ valid.
+    so-weaker (λ body is_for. is_for.1) (for-create_in r name way flags.0 mode umask d valid)))))
+there-named r value _ is other = absurd (cc)
 
 missing_later : (looker : Option ℕ) (p : Plan Bool) (first after : List Event) (replied rest : List Reply) (nobody : Bool) → IsRunOf p first replied nobody
     → IsMissing looker after rest → IsMissing looker (first ++ after) (replied ++ rest)
@@ -716,19 +764,22 @@ module _ (r : Request) (s t : Server) (valid : ℕ) where
       absurd (never (so-run (find_name (asked_of r false) name) s t after rest (Absent valid) (for-unjudged (asked_of r false) name refl) ran).1)
 
   named_missing : (operation : Operation) → names_an_object operation ≡ true → (nobody : Bool) (after : List Event) (rest : List Reply)
-      → Worked (plan_of (asked_of r nobody) r.value operation) s t after rest (Absent valid) → IsMissing s.looker after rest
+      → Worked (told_first (says_change operation) r.now (plan_of (asked_of r nobody) r.value operation)) s t after rest (Absent valid) → IsMissing s.looker after rest
   named_missing (Lookup name) is nobody after rest done = look_up_missing name nobody after rest (work_is _ _ s t after rest (Absent valid) done.is done.runs)
   named_missing operation is nobody after rest done =
-      absurd (never (so-run done.work s t after rest (Absent valid) (there-named (asked_of r nobody) r.value operation is (λ name same. cc) done.work done.is) done.runs))
+      absurd (never (told_so IsThere (told_first (says_change operation) r.now (plan_of (asked_of r nobody) r.value operation)) s t after rest (Absent valid)
+      (so-told_first IsThere (says_change operation) r.now (plan_of (asked_of r nobody) r.value operation) (there-named (asked_of r nobody) r.value operation is (λ name same. cc))) done))
 
   operation_missing : (operation : Option Operation) (nobody : Bool) (after : List Event) (rest : List Reply)
       → Worked (asked_for (asked_of r nobody) r.value operation) s t after rest (Absent valid) → IsMissing s.looker after rest
-  operation_missing None nobody after rest done = absurd (never (told_none (Replying (stop (failed EINVAL))) s t after rest (Absent valid) (so-stop _) done).1)
+  operation_missing None nobody after rest done = absurd (never (told_so (IsFor 0) (Replying (stop (failed EINVAL))) s t after rest (Absent valid) (so-stop _) done).1)
   operation_missing (Some operation) nobody after rest done = choose (names_an_object operation) refl
     where
       choose : (b : Bool) → names_an_object operation ≡ b → IsMissing s.looker after rest
       choose true is = named_missing operation is nobody after rest done
-      choose false is = absurd (never (told_none _ s t after rest (Absent valid) (plain-plan (asked_of r nobody) r.value operation is) done).1)
+      choose false is =
+          absurd (never (told_so (IsFor 0) _ s t after rest (Absent valid)
+          (so-told_first (IsFor 0) (says_change operation) r.now _ (plain-plan (asked_of r nobody) r.value operation is)) done).1)
 
 pub only_missing_names_are_absent : OnlyMissingNamesAreAbsent
 unfolding request_plan

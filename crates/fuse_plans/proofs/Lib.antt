@@ -28,6 +28,8 @@ pub mod RowsOfBytes
 pub mod RowsOfNames
 pub mod RowsOfPlaces
 pub mod RowsOfStale
+pub mod RowsOfTimes
 pub mod ShareRuns
 pub mod Staying
+pub mod TimesByRight
 pub mod ToldNodes

@@ -7,6 +7,7 @@ use Rattle.fs_model.specs.declared.call.Call.{Call}
 use Rattle.fs_model.specs.declared.call.Call.TheVariants.{Lstat, Link as LinkCall}
 use Rattle.fs_model.specs.declared.reply.FileType.{FileType}
 use Rattle.fs_model.specs.declared.reply.Reply.{Reply}
+use Rattle.fs_model.specs.declared.reply.Stamps.{Stamps}
 use Rattle.fs_model.specs.declared.reply.Status.{Status}
 use Rattle.fuse_plans.specs.Plans.{KeepsTo}
 use Rattle.fuse_plans.specs.declared.stop.Stop.{Stop}
@@ -26,7 +27,7 @@ use Rattle.fuse_plans.specs.Conduct.{Known, Rights, conduct, Fits, stays}
 use Rattle.fuse_plans.specs.Works.{give, stop, kept, keep, ◌>>=◌, ◌>>◌}
 use Rattle.fuse_plans.specs.Callers.{caller, the_looker, by_places}
 use Rattle.fuse_plans.specs.NamePlans.{place, plain_name, directory_for, tell_entry, found_or_absent, or_absent, new_valid, searched_directory, find_inside, find_name, made, directory_and_caller, make_link, make_directory, open_and_close, make_file, remove, none_there, may_move, rename, move_name, link_by_place, add_link}
-use Rattle.fuse_plans.proofs.Conducts.{Any, Still, SameOwn, LeftTo, Does, Lasts, DoesTo, Gives, does-give, does-stop, does-kept, does-keep, does->>=, does-attempt, does-lasts, lasts->>=, ends->>=, keep-lasts, then-lasts, then-does_to, does-does_to, attempt-does_to, gives-give}
+use Rattle.fuse_plans.proofs.Conducts.{Any, Still, SameOwn, LeftTo, Does, Lasts, DoesTo, Gives, does-give, does-stop, does-kept, does-keep, does-told_stamps, does->>=, does-attempt, does-lasts, lasts->>=, ends->>=, keep-lasts, then-lasts, then-does_to, does-does_to, attempt-does_to, gives-give}
 use Rattle.fuse_plans.proofs.Calls.{AsksOf, CanCall, ActsAt, does-obtain, does-between, does-done_between, does-by_places, known-places, does-look_inside, lasts-with_looker, looks, does-look, is-object, gives-number, gives-standing_directory}
 use Rattle.fuse_plans.proofs.MaskConducts.{does-new_valid_of}
 use Rattle.fuse_plans.proofs.Chosen.{OfCaller, about-caller, gives-with, does-caller, does-caller_with_room}
@@ -71,15 +72,16 @@ module _ {rights : Rights} {P : Server → Type 0} where
   pub does-plain_name : (name : List ℕ) → Does rights P (plain_name name)
   does-plain_name name = does-if _ _ _ (does-stop _) (does-give tt)
 
-  does-tell_entry : (name_valid : ℕ) (status : Status) → Does rights P (tell_entry name_valid status)
-  does-tell_entry name_valid status = does-kept _
+  does-tell_entry : (name_valid : ℕ) (status : Status) (stamps : Option Stamps) → Does rights P (tell_entry name_valid status stamps)
+  does-tell_entry name_valid status stamps = does-kept _
 
   -- what was found, made or opened is told, and no more is asked
   tells-entry : (f : Server → Server) → SameOwn f → (body : Server → ReplyBody) → Lasts rights P (keep f >> kept body)
   tells-entry f same body = ends->>= (ends-keep f same) (λ done. does-kept _)
 
   lasts-found_or_absent : (nobody : Bool) (d : ℕ) (name : List ℕ) (seen : Result Status Stop) → Lasts rights P (found_or_absent nobody d name seen)
-  lasts-found_or_absent nobody d name (Ok status) = tells-entry _ (found-same (place d name) status.inode status.kind) _
+  lasts-found_or_absent nobody d name (Ok status) =
+      lasts->>= (does-told_stamps _) (λ stamps. tells-entry _ (found-same (place d name) status.inode status.kind) _)
   lasts-found_or_absent nobody d name (Err e) = does-lasts (does->>= (does-kept _) (λ settings. does-if _ _ _ (does-give _) (does-stop _)))
 
   pub lasts-find_inside : (nobody : Bool) (pid d : ℕ) (name : List ℕ) → CanCall rights P pid (Lstat name) → IsOfRequest rights.subject (named_in d name)
@@ -91,7 +93,7 @@ module _ {rights : Rights} {P : Server → Type 0} where
   lasts-made now name_valid d name is =
       lasts-with_looker (λ pid looker.
       lasts->>= (does-look_inside pid d name (looks pid looker (Lstat name) refl) is) (λ status.
-      tells-entry _ (λ s. (refl, refl)) _))
+      lasts->>= (does-told_stamps _) (λ stamps. tells-entry _ (λ s. (refl, refl)) _)))
 
   does-open_and_close : (pid d : ℕ) (call : Call) → ((any : Call) → IsTrue (stays any) → CanCall rights P pid any) → IsTrue (stays call) → ActsWithin rights.subject d d call
       → Does rights P (open_and_close pid d call)
@@ -252,4 +254,6 @@ module _ {rights : Rights} (r : Asked) (is : rights.cred ≡ r.cred) (node : rig
       lasts->>= (does-link_by_place pid n d name object in_it) (λ done.
       lasts->>= (does-kept _) (λ kind.
       keep-lasts {Q = Leads rights n} (linked r.now (named_in d name) n kind) (linked-same r.now (named_in d name) n kind) (linked-leads r.now pid d n name kind object in_it)
-      (does-lasts (does->>= (does-look n (record { object = object; places = λ s leads. leads })) (λ status. does->>= (does-keep (once_more status.inode) (λ s. (refl, refl)) (λ s leads. leads)) (λ counted. does-tell_entry 0 status)))))))))
+      (does-lasts (does->>= (does-look n (record { object = object; places = λ s leads. leads })) (λ status.
+      does->>= (does-told_stamps _) (λ stamps.
+      does->>= (does-keep (once_more status.inode) (λ s. (refl, refl)) (λ s leads. leads)) (λ counted. does-tell_entry 0 status stamps))))))))))

@@ -17,7 +17,8 @@ use Rattle.fuse_plans.specs.Masks.{is_masked}
 use Rattle.fuse_plans.specs.Nobody.{needs_caller, unless_masked, is_judged, needs_nobody, needs_nobody_in}
 use Rattle.fuse_plans.specs.Acts.{node_of_object}
 use Rattle.fuse_plans.specs.Requests.{Request, asked_of}
-use Rattle.fuse_plans.specs.Serving.{plan_of, asked_for, answered}
+use Rattle.fuse_plans.specs.Serving.{plan_of, told_first, asked_for, answered}
+use Rattle.fuse_plans.specs.Alterations.{says_change}
 use Rattle.fuse_plans.specs.Conduct.{Known, Rights, conduct}
 use Rattle.fuse_plans.specs.Laws.{known_in, WhoAsksCountsOnlyWhereNeeded}
 use Rattle.fuse_plans.proofs.Conducts.{Any, Still, Left, Lasts, does-lasts, then-lasts, keeps-followed_by}
@@ -161,7 +162,8 @@ alike-search : (r : Request) (s : Server) (cred : Option Credential) (operation 
     → IsRunOf (needs_nobody_in r.node operation s) es replies true
     → asked_for (asked_of (record r { cred = cred }) true) r.value operation ≡ asked_for (asked_of r true) r.value operation
 alike-search r s cred None es replies runs = refl
-alike-search r s cred (Some operation) es replies runs = choose operation (is_lookup operation) refl runs
+alike-search r s cred (Some operation) es replies runs =
+    ap (told_first (says_change operation) r.now) (choose operation (is_lookup operation) refl runs)
   where
     found : (b : Bool) (es : List Event) (replies : List Reply) → IsRunOf (Finish b) es replies true → b ≡ true
     found b [] [] is = sym is

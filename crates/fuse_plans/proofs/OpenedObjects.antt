@@ -1,5 +1,6 @@
 -- What an OPEN has opened is the object of its node.
 --     run->>=        what is asked where one piece follows another
+--     run-told        what is asked once the machine was told the time
 --     opened_is_the_object
 use Rattle.std.specs.Prelude.{◌≡◌, ℕ, ◌==◌, nat_le, nat_lt, Bool, true, false, ◌&&◌, cond, List, [], ◌∷◌, ◌++◌, All, Option, None, Some, unwrap_or, Result, Ok, Err, if◌then◌else◌}
 use Rattle.std.proofs.Common.{refl, sym, ap, subst, ◌∙◌, arith}
@@ -15,7 +16,7 @@ use Rattle.fs_model.specs.declared.call.Call.TheVariants.{Fstat, Ftruncate}
 use Rattle.fs_model.specs.declared.event.Event.{Event}
 use Rattle.fs_model.specs.declared.event.Event.TheVariants.{Call as Calls}
 use Rattle.fs_model.specs.declared.reply.Reply.{Reply}
-use Rattle.fs_model.specs.declared.reply.Reply.TheVariants.{Done, Pid, Fd, Data, Wrote, At, Target, Mask, Shown, Granted, Acl, Names, Space, Refused}
+use Rattle.fs_model.specs.declared.reply.Reply.TheVariants.{Done, Pid, Fd, Data, Wrote, At, Target, Mask, Shown, Granted, Acl, Names, Space, Stamped, Refused}
 use Rattle.fs_model.specs.declared.reply.Status.{Status}
 use Rattle.fs_model.specs.Limits.{descriptors_limit, processes_limit}
 use Rattle.fuse_protocol.specs.declared.reply.Time.{Time}
@@ -33,14 +34,15 @@ use Rattle.fuse_plans.specs.declared.reply.ReplyBody.TheVariants.{Opened}
 use Rattle.fuse_plans.specs.declared.reply.Response.{Response}
 use Rattle.fuse_plans.specs.declared.reply.Response.TheVariants.{Says, Fails}
 use Rattle.fuse_plans.specs.Plans.{Plan, Finish, Ask, followed_by, IsRunOf, IsAsked, at_once, later}
-use Rattle.fuse_plans.specs.Works.{Work, give, stop, kept, keep, goes_on, ◌>>=◌, attempt, needed, ask, unless_refused, obtain, or_closed, handle_within, replied_handle}
+use Rattle.fuse_plans.specs.Works.{Work, give, stop, kept, keep, goes_on, ◌>>=◌, ◌>>◌, attempt, needed, ask, unless_refused, obtain, or_closed, handle_within, replied_handle}
 use Rattle.fuse_plans.specs.Callers.{the_number, caller_with_room}
 use Rattle.fuse_plans.specs.FilePlans.{when, done, touched_if, show_open, confirm_shown, confirm_open, cuts_open, ask_first, open_object, file_flags, opened_body, open_granted, open_file}
 use Rattle.fuse_plans.specs.Flags.{mode_in, is_trunc}
+use Rattle.fuse_plans.specs.Times.{tell_time_if, tell_time}
 use Rattle.fuse_plans.specs.Laws.{OpenedIsTheObject}
 use Rattle.fuse_plans.specs.Requests.{asked_of}
 use Rattle.fuse_plans.specs.Nobody.{needs_nobody_in}
-use Rattle.fuse_plans.specs.Serving.{Replying, answered, asked_for, response_of, request_plan}
+use Rattle.fuse_plans.specs.Serving.{Replying, told_first, answered, asked_for, response_of, request_plan}
 use Rattle.fuse_plans.proofs.PlanLaws.{run-parts}
 
 -- ---- what is asked
@@ -101,6 +103,24 @@ run->>= {X} {Y} G grows w f s t es replies y runs goes =
     ended (Ok x, u) first after replied rest ran go = goes x u first replied after rest ran go
     ended (Err e, u) first after replied rest ran go = absurd (stops_not_well e y u t after rest go)
 
+-- It is told the time, or not; and the rest goes on from what the server kept.
+pub run-told : {X : Type 0} (G : List Event → List Reply → Type 0) (now : Time) (w : Work X) (s t : Server) (es : List Event) (replies : List Reply) (x : X)
+    → EndsWell ((tell_time now >> w) s) es replies x t
+    → ((first : List Event) (replied : List Reply) (after : List Event) (rest : List Reply) → IsRunOf (tell_time now s) first replied (Ok tt, s)
+    → EndsWell (w s) after rest x t → G (first ++ after) (replied ++ rest))
+    → G es replies
+unfolding tell_time kept give ask ◌>>=◌
+run-told {X} G now w s t es replies x runs goes = choose s.settings.keeps_times es replies runs goes
+  where
+    choose : (keeps : Bool) (fs : List Event) (others : List Reply) → EndsWell ((tell_time_if keeps now >> w) s) fs others x t
+        → ((first : List Event) (replied : List Reply) (after : List Event) (rest : List Reply) → IsRunOf (tell_time_if keeps now s) first replied (Ok tt, s)
+        → EndsWell (w s) after rest x t → G (first ++ after) (replied ++ rest))
+        → G fs others
+    choose false fs others ran rest = rest [] [] fs others refl ran
+    choose true [] others ran rest = elim ran [ ]
+    choose true (e ∷ fs) [] ran rest = elim ran [ ]
+    choose true (e ∷ fs) (reply ∷ others) ran rest = rest (e ∷ []) (reply ∷ []) fs others (ran.0, refl) ran.1
+
 needed_is : {X : Type 0} (e : Stop) (o : Option X) (x : X) (s t : Server) (es : List Event) (replies : List Reply) → EndsWell (needed e o s) es replies x t
     → o ≡ Some x
 unfolding give stop
@@ -142,6 +162,7 @@ cuts_end pid fd x s t (Granted k) es replies runs = let ends = finished (Ok tt, 
 cuts_end pid fd x s t (Acl k) es replies runs = let ends = finished (Ok tt, s) (Ok x, t) es replies runs in (ends.0, ap (λ r. r.1) ends.2)
 cuts_end pid fd x s t (Names k) es replies runs = let ends = finished (Ok tt, s) (Ok x, t) es replies runs in (ends.0, ap (λ r. r.1) ends.2)
 cuts_end pid fd x s t (Space j k) es replies runs = let ends = finished (Ok tt, s) (Ok x, t) es replies runs in (ends.0, ap (λ r. r.1) ends.2)
+cuts_end pid fd x s t (Stamped k) es replies runs = let ends = finished (Ok tt, s) (Ok x, t) es replies runs in (ends.0, ap (λ r. r.1) ends.2)
 cuts_end pid fd x s t (Shown k) es replies runs = let ends = finished (Ok tt, s) (Ok x, t) es replies runs in (ends.0, ap (λ r. r.1) ends.2)
 cuts_end pid fd x s t (Refused k) es replies runs = absurd (closed_not_well pid fd _ x s t es replies runs)
 
@@ -195,6 +216,7 @@ confirms pid fd n cuts x s t (e ∷ es) ((Granted k) ∷ replies) runs = absurd 
 confirms pid fd n cuts x s t (e ∷ es) ((Acl k) ∷ replies) runs = absurd (closed_not_well pid fd _ x s t es replies runs.1)
 confirms pid fd n cuts x s t (e ∷ es) ((Names k) ∷ replies) runs = absurd (closed_not_well pid fd _ x s t es replies runs.1)
 confirms pid fd n cuts x s t (e ∷ es) ((Space j k) ∷ replies) runs = absurd (closed_not_well pid fd _ x s t es replies runs.1)
+confirms pid fd n cuts x s t (e ∷ es) ((Stamped k) ∷ replies) runs = absurd (closed_not_well pid fd _ x s t es replies runs.1)
 confirms pid fd n cuts x s t (e ∷ es) ((Refused k) ∷ replies) runs = absurd (closed_not_well pid fd _ x s t es replies runs.1)
 
 -- ---- handles
@@ -375,17 +397,42 @@ was_told (Ask e next) body t [] replies runs = elim runs [ ]
 was_told (Ask e next) body t (g ∷ es) [] runs = elim runs [ ]
 was_told (Ask e next) body t (g ∷ es) (reply ∷ replies) runs = (runs.0, was_told (next reply) body t es replies runs.1)
 
-answered_held : (r : Asked) (flags : ℕ) (memory : Bool) (s t : Server) (es : List Event) (replies : List Reply) (handle : ℕ) (keeping : OpenedFlags)
-    → IsRunOf {X = Response × Server} (answered memory (Replying (open_file r flags)) s) es replies (Says (Opened handle keeping), t) → OfNode r s t es replies handle
-answered_held r flags true s t es replies handle keeping runs = file_held r flags s t es replies handle keeping (was_told (open_file r flags s) (Opened handle keeping) t es replies runs)
-answered_held r flags false s t es replies handle keeping runs =
-    let ends = finished (Fails (failed ENOMEM), s) (Says (Opened handle keeping), t) es replies runs in
-    absurd (let no : Says (Opened handle keeping) ≡ Fails (failed ENOMEM) = ap (λ q. q.0) ends.2 in cc)
+node_grows : (r : Asked) (s t : Server) (handle : ℕ) → Grows (λ es replies. OfNode r s t es replies handle)
+node_grows r s t handle X p es fs replies rest x runs of = record {
+  number = of.number;
+  of_node = of.of_node;
+  held = held_grows of.number handle t X p es fs replies rest x runs of.held;
+}
+
+-- where it is to lose its bytes the machine is told the time first
+told_held : (r : Asked) (flags : ℕ) (s t : Server) (es : List Event) (replies : List Reply) (handle : ℕ) (keeping : OpenedFlags)
+    → EndsWell ((tell_time r.now >> open_file r flags) s) es replies (Opened handle keeping) t → OfNode r s t es replies handle
+told_held r flags s t es replies handle keeping runs =
+    run-told (λ fs others. OfNode r s t fs others handle) r.now (open_file r flags) s t es replies (Opened handle keeping) runs (λ first replied after rest told ran.
+    node_grows r s t handle _ (tell_time r.now s) first after replied rest _ told (file_held r flags s t after rest handle keeping ran))
+
+answered_held : (r : Asked) (flags : ℕ) (memory cuts : Bool) (s t : Server) (es : List Event) (replies : List Reply) (handle : ℕ) (keeping : OpenedFlags)
+    → IsRunOf {X = Response × Server} (answered memory (told_first cuts r.now (Replying (open_file r flags))) s) es replies (Says (Opened handle keeping), t)
+    → OfNode r s t es replies handle
+answered_held r flags true true s t es replies handle keeping runs =
+    told_held r flags s t es replies handle keeping (was_told ((tell_time r.now >> open_file r flags) s) (Opened handle keeping) t es replies runs)
+answered_held r flags true false s t es replies handle keeping runs = file_held r flags s t es replies handle keeping (was_told (open_file r flags s) (Opened handle keeping) t es replies runs)
+answered_held r flags false cuts s t es replies handle keeping runs = nothing_asked cuts runs
+  where
+    lacks_memory : IsRunOf {X = Response × Server} (Finish (Fails (failed ENOMEM), s)) es replies (Says (Opened handle keeping), t) → ⊥
+    lacks_memory ran =
+        let ends = finished (Fails (failed ENOMEM), s) (Says (Opened handle keeping), t) es replies ran in
+        let no : Says (Opened handle keeping) ≡ Fails (failed ENOMEM) = ap (λ q. q.0) ends.2 in cc
+
+    nothing_asked : (b : Bool) → IsRunOf {X = Response × Server} (answered false (told_first b r.now (Replying (open_file r flags))) s) es replies (Says (Opened handle keeping), t)
+        → OfNode r s t es replies handle
+    nothing_asked true ran = absurd (lacks_memory ran)
+    nothing_asked false ran = absurd (lacks_memory ran)
 
 pub opened_is_the_object : OpenedIsTheObject
 unfolding request_plan
 opened_is_the_object r s t flags es replies handle keeping is runs =
-    let found = answered_held (asked_of r false) flags.0 r.memory s t es replies handle keeping
+    let found = answered_held (asked_of r false) flags.0 r.memory (is_trunc flags.0) s t es replies handle keeping
     (subst (λ o. IsRunOf {X = Response × Server} (followed_by (needs_nobody_in r.node o s) (λ nobody. answered r.memory (asked_for (asked_of r nobody) r.value o) s)) es replies (Says (Opened handle keeping), t)) is runs) in
     record {
       number = found.number;

@@ -1,5 +1,5 @@
 -- How requests for attributes, ACLs, directories and the whole behave.
-use Rattle.std.specs.Prelude.{◌≡◌, ℕ, Bool, true, false, List, [], Option, None, Some, if◌then◌else◌}
+use Rattle.std.specs.Prelude.{◌≡◌, ℕ, Bool, true, false, List, [], Option, None, Some, is_some, ◌||◌, IsTrue, if◌then◌else◌}
 use Rattle.std.proofs.Common.{refl, sym, subst}
 use Rattle.posix_acl.specs.AccessList.{AccessList}
 use Rattle.posix_acl.specs.declared.entry.Perms.{Perms}
@@ -11,6 +11,7 @@ use Rattle.fuse_plans.specs.declared.request.Asked.{Asked}
 use Rattle.fuse_protocol.specs.declared.operation.Extent.{Extent}
 use Rattle.fuse_protocol.specs.declared.reply.Time.{Time}
 use Rattle.fuse_protocol.specs.declared.operation.AttrChanges.{AttrChanges}
+use Rattle.fuse_protocol.specs.declared.operation.Operation.TheVariants.{SetAttr}
 use Rattle.fuse_plans.specs.declared.reply.ReplyBody.{ReplyBody}
 use Rattle.fuse_state.specs.declared.directory.OpenDirectory.{OpenDirectory}
 use Rattle.fuse_state.specs.Servers.{Server, owner_of, descriptor_of, directory_of, may_open_directory, with_listing, with_listing_of}
@@ -20,16 +21,16 @@ use Rattle.fuse_plans.specs.declared.stop.OtherErrno.TheVariants.{EOPNOTSUPP}
 use Rattle.fuse_plans.specs.Works.{give, stop, kept, keep, ◌>>=◌, ask}
 use Rattle.fuse_plans.specs.Acts.{IsObject, without_path}
 use Rattle.fuse_plans.specs.Plans.{KeepsTo}
-use Rattle.fuse_plans.specs.Conduct.{Known, Rights, conduct, Fits, IsHome, IsOfHandle}
+use Rattle.fuse_plans.specs.Conduct.{Known, Rights, sets, conduct, Fits, IsHome, IsOfHandle}
 use Rattle.fuse_plans.specs.FilePlans.{sync_file}
-use Rattle.fuse_plans.specs.AttributePlans.{tell_attributes, get_attributes, new_owners, resize_object, set_size, set_mode, may_set_times, set_times, change_attributes, set_attributes, read_link, access_as, ask_access}
+use Rattle.fuse_plans.specs.AttributePlans.{tell_attributes, get_attributes, new_owners, resize_object, set_size, set_mode, may_set_times, set_stamps_if, set_stamps, set_times, change_attributes, set_attributes, read_link, access_as, ask_access}
 use Rattle.fuse_plans.specs.DirectoryPlans.{open_directory, take_directory, take_directory_if, tell_names, list_open, list_all, list_now, listed, read_directory, close_directory, sync_all}
 use Rattle.fuse_plans.specs.AclPlans.{an_object, sized, get_xattr, attribute_names, list_xattrs, acl_set, set_acl, set_xattr, remove_xattr}
 use Rattle.fuse_plans.specs.Serving.{count_space, end}
-use Rattle.fuse_plans.proofs.Conducts.{Any, Still, still-as, Left, does-keep_within, Does, Lasts, Gives, does-give, does-stop, does-kept, does->>=, does-attempt, does-needed, does-unless_refused, does-lasts, lasts->>=, ends->>=, then-lasts, then-does, then-does_to, does-does_to, gives-give, gives-stop}
+use Rattle.fuse_plans.proofs.Conducts.{Any, Still, still-as, Left, does-keep_within, Does, Lasts, Gives, does-give, does-stop, does-kept, does-stamp, does-told_stamps, does->>=, does-attempt, does-needed, does-unless_refused, does-lasts, lasts->>=, ends->>=, then-lasts, then-does, then-does_to, does-does_to, gives-give, gives-stop}
 use Rattle.fuse_plans.proofs.Calls.{About, AsksOf, about-still, is-object, does-obtain, does-or_closed, does-on, does-by_looker, does-with_looker, looks, does-look, gives-number, gives-directory_number}
 use Rattle.fuse_plans.proofs.Chosen.{OfCaller, about-caller, does-caller}
-use Rattle.fuse_plans.proofs.Forms.{caller-can, does-if, does-when, lasts-when, does-done, does-keep_still, does-keep_caller, does-replied_fd, does-replied_target, does-replied_names, does-replied_space}
+use Rattle.fuse_plans.proofs.Forms.{caller-can, does-if, does-when, does-when_so, lasts-when, does-done, does-keep_still, does-keep_caller, does-replied_fd, does-replied_target, does-replied_names, does-replied_space}
 use Rattle.fuse_plans.proofs.MaskConducts.{does-acl_of}
 use Rattle.fuse_plans.proofs.FileConducts.{does-the_open, does-call_open, itself}
 
@@ -37,7 +38,7 @@ use Rattle.fuse_plans.proofs.FileConducts.{does-the_open, does-call_open, itself
 
 module _ {rights : Rights} {P : Server → Type 0} where
   does-tell_attributes : (status : Status) → Does rights P (tell_attributes status)
-  does-tell_attributes status = does-kept _
+  does-tell_attributes status = does->>= (does-told_stamps _) (λ stamps. does-kept _)
 
   does-new_owners : (c : AttrChanges) (n : ℕ) (link : Bool) → About rights P n → Does rights P (new_owners c n link)
   does-new_owners c n false about = does-give _
@@ -84,12 +85,25 @@ module _ {rights : Rights} (r : Asked) (is : rights.cred ≡ r.cred) (asks : Ask
   does-may_set_times pid n link false c object =
       does-if _ _ _ (does-stop _) (does-done (does-on pid n _ (λ path. caller-can pid _ refl) (λ path. refl) (about-caller pid n object)))
 
-  does-set_times : (pid n : ℕ) (link : Bool) (status : Status) (c : AttrChanges) → IsObject rights.subject n
+  -- the machine has the times, or the server
+  does-set_stamps : (now : Time) (pid n : ℕ) (status : Status) (c : AttrChanges) → rights.subject.operation ≡ Some (SetAttr c)
+      → IsTrue (is_some c.atime || is_some c.mtime) → IsObject rights.subject n → Does rights (OfCaller rights pid) (set_stamps now n status c)
+  unfolding set_stamps
+  does-set_stamps now pid n status c asked some object = does->>= (does-kept _) set
+    where
+      set : (keeps : Bool) → Does rights (OfCaller rights pid) (set_stamps_if keeps now n status c)
+      set false = does-keep_caller _ (λ s. (refl, refl, refl, refl, refl))
+      set true =
+          does->>= (does-if _ _ _ (does-give tt) (does-stop _)) (λ same.
+          does->>= (does-stamp n _ _ _ (sets c _ _ _ asked some object)) (λ reply.
+          does->>= (does-needed _ _) (λ stamps. does-give tt)))
+
+  does-set_times : (pid n : ℕ) (link : Bool) (status : Status) (c : AttrChanges) → rights.subject.operation ≡ Some (SetAttr c) → IsObject rights.subject n
       → Does rights (OfCaller rights pid) (set_times r pid n link status c)
-  does-set_times pid n link status c object =
-      does-when _ _
-      (does->>= (does-needed _ _) (λ cred.
-      does->>= (does-may_set_times pid n link _ c object) (λ may. does-keep_caller _ (λ s. (refl, refl, refl, refl, refl)))))
+  does-set_times pid n link status c asked object =
+      does-when_so _ _ (λ some.
+      does->>= (does-needed _ _) (λ cred.
+      does->>= (does-may_set_times pid n link _ c object) (λ may. does-set_stamps _ pid n status c asked some object)))
 
   does-change_attributes : (now : Time) (pid n : ℕ) (link : Bool) (c : AttrChanges) → HandleIs rights c.handle → IsObject rights.subject n
       → Does rights (OfCaller rights pid) (change_attributes now pid n link c)
@@ -102,14 +116,15 @@ module _ {rights : Rights} (r : Asked) (is : rights.cred ≡ r.cred) (asks : Ask
       does-keep_caller _ (λ s. (refl, refl, refl, refl, refl))))) (λ done.
       does-set_mode _ pid n c.mode object)))
 
-  pub lasts-set_attributes : (c : AttrChanges) → HandleIs rights c.handle → Lasts rights (Still rights) (set_attributes r c)
-  lasts-set_attributes c given =
+  pub lasts-set_attributes : (c : AttrChanges) → rights.subject.operation ≡ Some (SetAttr c) → HandleIs rights c.handle
+      → Lasts rights (Still rights) (set_attributes r c)
+  lasts-set_attributes c asked given =
       then-lasts (gives-number _ (is-object rights _ asks)) (λ n object.
       then-does (does-caller _ is) (λ pid more.
       does->>= (does-kept _) (λ kind.
       does->>= (does-change_attributes _ pid n _ c given object) (λ changed.
       does->>= (does-look n (about-caller pid n object)) (λ status.
-      does->>= (does-set_times pid n _ status c object) (λ times. does-tell_attributes status))))))
+      does->>= (does-set_times pid n _ status c asked object) (λ times. does-tell_attributes status))))))
 
   -- ---- ACLs
 

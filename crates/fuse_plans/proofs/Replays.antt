@@ -16,7 +16,7 @@ use Rattle.fs_model.specs.declared.event.Event.{Event}
 use Rattle.fs_model.specs.declared.event.Event.TheVariants.{Spawn}
 use Rattle.fs_model.specs.declared.reply.FileType.{FileType}
 use Rattle.fs_model.specs.declared.reply.Reply.{Reply}
-use Rattle.fs_model.specs.declared.reply.Reply.TheVariants.{Granted, At, Refused}
+use Rattle.fs_model.specs.declared.reply.Reply.TheVariants.{Granted, At, Stamped, Refused}
 use Rattle.fs_model.specs.declared.reply.Status.{Status}
 use Rattle.fuse_protocol.specs.declared.flags.OpenedFlags.{OpenedFlags}
 use Rattle.fuse_protocol.specs.declared.entry.DirectoryEntry.{DirectoryEntry}
@@ -52,6 +52,8 @@ use Rattle.fuse_plans.specs.NamePlans.{new_valid, made, link_by_place}
 use Rattle.fuse_plans.specs.FilePlans.{open_or_make, show_open, confirm_shown, confirm_open, look_open, tell_created, the_open, seek, read_piece, read_pieces, write_piece, write_pieces}
 use Rattle.fuse_plans.specs.DirectoryPlans.{take_directory, entry_kind, tell_names, list_open, read_directory, close_directory, sync_all}
 use Rattle.fuse_plans.specs.Masks.{is_masked}
+use Rattle.fuse_plans.specs.Times.{tell_time, told_stamps}
+use Rattle.fuse_plans.specs.AttributePlans.{set_stamps}
 use Rattle.fuse_plans.specs.Serving.{begin, count_space, end, request_plan}
 
 -- what is asked, and the result, if the plan is done with just these replies
@@ -93,7 +95,7 @@ played s (step ∷ steps) =
 
 -- all that a plan computes with
 unfoldable pub all_plans : Unit {0}
-unfolding give stop kept keep ◌>>=◌ attempt ask retire begin_process caller caller_with_room the_looker between look_inside by_places on look the_number directory_number standing_directory new_valid made is_masked link_by_place open_or_make show_open confirm_shown confirm_open look_open tell_created the_open seek read_piece read_pieces write_piece write_pieces tell_names list_open read_directory close_directory sync_all begin count_space end request_plan take_directory
+unfolding give stop kept keep ◌>>=◌ attempt ask retire begin_process caller caller_with_room the_looker between look_inside by_places on look the_number directory_number standing_directory new_valid made is_masked link_by_place open_or_make show_open confirm_shown confirm_open look_open tell_created the_open seek read_piece read_pieces write_piece write_pieces tell_names list_open read_directory close_directory sync_all begin count_space end request_plan take_directory tell_time told_stamps set_stamps
 all_plans = tt
 
 -- ---- words
@@ -101,9 +103,16 @@ all_plans = tt
 abbrev pub second : ℕ → Time
 second k = record { seconds = k; nanoseconds = 0 }
 
+abbrev pub new_where : Bool → Server
+new_where keeps_times = new_server (record { max_write = 4096; posix_acl = false; keeping = nothing_kept; sectors = 878; inodes = 63; max_name = 120; keeps_times = keeps_times; start = second 1000000001 })
+
 -- the disk of the recorded runs
 abbrev pub new : Server
-new = new_server (record { max_write = 4096; posix_acl = false; keeping = nothing_kept; sectors = 878; inodes = 63; max_name = 120; start = second 1000000001 })
+new = new_where false
+
+-- one that keeps times
+abbrev pub timekeeping : Server
+timekeeping = new_where true
 
 abbrev pub outside : Option (List ℕ) → ℕ → Outside
 outside groups now = record { groups = groups; caps = all_caps; now = second now; memory = true }
@@ -140,6 +149,9 @@ AtOffset k = At k
 abbrev pub status : ℕ → FileType → ℕ → ℕ → ℕ → ℕ → ℕ → Status
 status inode kind mode links owner group size =
     record { inode = inode; kind = kind; mode = mode; links = links; owner = owner; group = group; size = size }
+
+abbrev pub stamped : ℕ → ℕ → ℕ → Reply
+stamped atime mtime ctime = Stamped (record { atime = atime; mtime = mtime; ctime = ctime })
 
 abbrev pub attributes : Status → Time → Time → Time → Attributes
 attributes shown atime mtime ctime = record { status = shown; times = record { atime = atime; mtime = mtime; ctime = ctime }; valid = 0 }

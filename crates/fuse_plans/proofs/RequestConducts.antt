@@ -6,7 +6,7 @@ use Rattle.std.proofs.Common.{refl, sym, ap, subst, ◌∙◌}
 use Rattle.posix_acl.specs.AccessList.{AccessList}
 use Rattle.fs_cred.specs.Credentials.{Credential, usual_credential}
 use Rattle.fs_model.specs.declared.reply.Reply.{Reply}
-use Rattle.fs_model.specs.declared.reply.Reply.TheVariants.{Done, Pid, Fd, Data, Wrote, At, Target, Mask, Shown, Granted, Acl, Names, Space as SpaceIs, Refused}
+use Rattle.fs_model.specs.declared.reply.Reply.TheVariants.{Done, Pid, Fd, Data, Wrote, At, Target, Mask, Shown, Granted, Acl, Names, Space as SpaceIs, Stamped, Refused}
 use Rattle.fuse_plans.specs.Plans.{Finish, followed_by, KeepsTo}
 use Rattle.fuse_plans.specs.declared.stop.Stop.{Stop}
 use Rattle.fuse_plans.specs.declared.stop.Stop.TheVariants.{Lacks}
@@ -15,20 +15,22 @@ use Rattle.fuse_plans.specs.declared.request.Asked.{Asked}
 use Rattle.fuse_protocol.specs.declared.operation.Offer.{Offer}
 use Rattle.fuse_protocol.specs.declared.operation.Operation.{Operation}
 use Rattle.fuse_protocol.specs.declared.operation.Operation.TheVariants.{Lookup, Forget, GetAttr, SetAttr, ReadLink, SymLink, MkNod, MkDir, Unlink, RmDir, Rename, Link, Open, Read, Write, StatFs, Release, FSync, SetXAttr, GetXAttr, ListXAttr, RemoveXAttr, Init, OpenDir, ReadDir, ReleaseDir, FSyncDir, Access, Create, Interrupt, Destroy, BatchForget, SyncFs, Unknown}
+use Rattle.fuse_protocol.specs.declared.reply.Time.{Time}
 use Rattle.fuse_plans.specs.declared.reply.ReplyBody.{ReplyBody}
 use Rattle.fuse_state.specs.Servers.{Server, with_the_looker, with_acls_offered, WithinShares, forgotten, all_forgotten}
 use Rattle.fuse_state.proofs.Forgotten.{forgotten_keeps, all_forgotten_keep}
 use Rattle.fuse_state.proofs.Holders.{holding_of, same_within}
 use Rattle.fuse_plans.specs.Works.{Work, give, stop, kept, keep, goes_on, ◌>>=◌, ◌>>◌, ask, unless_refused, replied_pid}
 use Rattle.fuse_plans.specs.Requests.{Request, asked_of}
+use Rattle.fuse_plans.specs.Alterations.{says_change}
 use Rattle.fuse_plans.specs.Nobody.{needs_nobody_in}
 use Rattle.fuse_plans.specs.Acts.{name_of_operation, given_name, node_asked, node_of_object}
 use Rattle.fuse_plans.specs.Conduct.{Known, Rights, conduct, after_begin, after_spawn}
 use Rattle.fuse_plans.specs.NamePlans.{removal}
-use Rattle.fuse_plans.specs.Serving.{Task, Replying, Silently, agreed, later_version, or_looker, offers_acls, begin, plan_of, asked_for, response_of, answered, answered_as, request_plan}
+use Rattle.fuse_plans.specs.Serving.{Task, Replying, Silently, agreed, later_version, or_looker, offers_acls, begin, plan_of, told_first, asked_for, response_of, answered, answered_as, request_plan}
 use Rattle.fuse_plans.specs.Laws.{RunsBehave, server_rights, Begun, BeginningBehaves, handle_of_operation, handle_in, is_beginning, is_init, rights_of, known_in, Ends, RequestsBehave}
 use Rattle.fuse_plans.proofs.PlanLaws.{keeps-follows}
-use Rattle.fuse_plans.proofs.Conducts.{Any, Still, SameOwn, Left, Lasts, does-stop, does-lasts, keeps-followed_by}
+use Rattle.fuse_plans.proofs.Conducts.{Any, Still, SameOwn, Left, Lasts, does-stop, does-lasts, lasts->>=, does-tell_time, keeps-followed_by}
 use Rattle.fuse_plans.proofs.Calls.{AsksOf}
 use Rattle.fuse_plans.proofs.NobodyConducts.{AtHome, keeps-needs_nobody_in}
 use Rattle.fuse_plans.proofs.NameConducts.{lasts-find_name, lasts-make_link, lasts-make_directory, lasts-make_file, lasts-remove, lasts-move_name, lasts-add_link}
@@ -67,7 +69,7 @@ module _ (rights : Rights) (r : Asked) (is : rights.cred ≡ r.cred) (node : rig
   does-plan value (Lookup name) asks other given = lasts-find_name r is node name (gives_name _ asks name refl)
   does-plan value (Forget count) asks other given = forgotten-same r.node count
   does-plan value GetAttr asks other given = lasts-get_attributes r is (of_node _ asks (λ k. refl))
-  does-plan value (SetAttr changes) asks other given = lasts-set_attributes r is (of_node _ asks (λ k. refl)) changes (handle_is rights changes.handle given)
+  does-plan value (SetAttr changes) asks other given = lasts-set_attributes r is (of_node _ asks (λ k. refl)) changes asks (handle_is rights changes.handle given)
   does-plan value ReadLink asks other given = lasts-read_link r is (of_node _ asks (λ k. refl))
   does-plan value (SymLink name target) asks other given = lasts-make_link r is node (of_node _ asks (λ k. refl)) name target (gives_name _ asks name refl)
   does-plan value (MkNod name mode umask) asks other given = lasts-make_file r is node (of_node _ asks (λ k. refl)) name mode umask (gives_name _ asks name refl)
@@ -99,10 +101,15 @@ module _ (rights : Rights) (r : Asked) (is : rights.cred ≡ r.cred) (node : rig
   does-plan value SyncFs asks other given = does-lasts does-sync_all
   does-plan value Unknown asks other given = does-lasts (does-stop _)
 
+  lasts-told_first : (tells : Bool) (now : Time) (task : Task) → LastsIfAny rights task → LastsIfAny rights (told_first tells now task)
+  lasts-told_first false now task lasts = lasts
+  lasts-told_first true now (Replying w) lasts = lasts->>= (does-tell_time now) (λ told. lasts)
+  lasts-told_first true now (Silently f) same = same
+
   does-asked_for : (value : Option (Option AccessList)) (operation : Option Operation) → rights.subject.operation ≡ operation → IsFalse (is_init operation)
       → rights.handle ≡ handle_in operation → LastsIfAny rights (asked_for r value operation)
   does-asked_for value None asks other given = does-lasts (does-stop _)
-  does-asked_for value (Some operation) asks other given = does-plan value operation asks other given
+  does-asked_for value (Some operation) asks other given = lasts-told_first (says_change operation) r.now (plan_of r value operation) (does-plan value operation asks other given)
 
 answers_end : (rights : Rights) (s : Server) → rights.looker ≡ s.looker → rights.subject.start ≡ s → (known : Known) (r : Result ReplyBody Stop × Server) → Left rights Any known r → Ends s known (response_of r.0, r.1)
 answers_end rights s same start known r left = record {
@@ -169,6 +176,7 @@ spawned_then r s offer known home (Granted k) = (home, refl)
 spawned_then r s offer known home (Acl k) = (home, refl)
 spawned_then r s offer known home (Names k) = (home, refl)
 spawned_then r s offer known home (SpaceIs j k) = (home, refl)
+spawned_then r s offer known home (Stamped k) = (home, refl)
 spawned_then r s offer known home (Refused k) = (home, refl)
 
 home_begun : (known : Known) (cred : Credential) (pid : ℕ) (taken : Bool) → (after_begin known cred pid taken).away ≡ known.away
@@ -189,6 +197,7 @@ home_still known cred (Granted k) = refl
 home_still known cred (Acl k) = refl
 home_still known cred (Names k) = refl
 home_still known cred (SpaceIs j k) = refl
+home_still known cred (Stamped k) = refl
 home_still known cred (Refused k) = refl
 
 welcomes : (r : Request) (s : Server) (offer : Offer) (looker : Option ℕ) → KeepsTo (conduct (server_rights r s)) (Alone s) (known_in s) (welcome offer looker s)

@@ -3,7 +3,8 @@ use Rattle.std.specs.Prelude.{◌≡◌, true, false, [], codes, bytes_eq, None,
 use Rattle.std.proofs.Common.{refl, ap}
 use Rattle.fs_model.specs.declared.call.AclType.TheVariants.{Access as AccessAcl, Default}
 use Rattle.fs_model.specs.declared.call.Call.TheVariants.{Open as OpenCall, Write as WriteCall, Lstat, Truncate, Ftruncate, Chmod, SetAcl, Rmdir, Link as LinkCall, Unlink as UnlinkCall, Rename as RenameCall}
-use Rattle.fs_model.specs.declared.event.Event.TheVariants.{Call as Calls, Restart}
+use Rattle.fs_model.specs.declared.event.Event.TheVariants.{Call as Calls, Stamp, Clock, Restart}
+use Rattle.fuse_protocol.specs.declared.operation.NewTime.TheVariants.{Now}
 use Rattle.fuse_protocol.specs.declared.operation.Operation.{Operation}
 use Rattle.fuse_protocol.specs.declared.operation.Operation.TheVariants.{Lookup, SetAttr, Unlink, Rename, Open, Write, SetXAttr}
 use Rattle.fuse_plans.specs.declared.mode.Mode.TheVariants.{Writes}
@@ -37,6 +38,13 @@ open_cuts_to_nothing told = absurd (let no : 5 ≡ 0 = told.0.1 in cc)
 pub lookup_looks : MayBeAsked (Some (Lookup (codes "f"))) (Calls 1 (Lstat (codes "f")))
 lookup_looks = tt
 
+-- and is shown times, and sets none
+pub lookup_shows_times : MayBeAsked (Some (Lookup (codes "f"))) (Stamp 3 None None None)
+lookup_shows_times = tt
+
+pub lookup_sets_no_times : MayBeAsked (Some (Lookup (codes "f"))) (Stamp 3 None None (Some 7)) → ⊥
+lookup_sets_no_times told = told.0
+
 pub lookup_sets_no_mode : MayBeAsked (Some (Lookup (codes "f"))) (Calls 1 (Chmod (codes "f") 0o777)) → ⊥
 lookup_sets_no_mode told = told.0
 
@@ -56,6 +64,20 @@ set_size = (refl, tt)
 
 pub set_no_mode : MayBeAsked (Some resizing) (Calls 2 (Chmod (codes "f") 0o777)) → ⊥
 set_no_mode told = absurd (let no : false ≡ true = told.0 in cc)
+
+pub set_no_times : MayBeAsked (Some resizing) (Stamp 3 (Some 5) None None) → ⊥
+set_no_times told = absurd (let no : false ≡ true = told.0 in cc)
+
+-- a SETATTR of the present atime sets that, and ctime with it
+abbrev restamping : Operation
+restamping = SetAttr (record { mode = None; uid = None; gid = None; size = None; atime = Some Now; mtime = None; handle = None })
+
+pub set_times : MayBeAsked (Some restamping) (Stamp 3 (Some 5) None (Some 5))
+set_times = (refl, tt)
+
+-- the present time is told, whatever is asked
+pub time_is_told : MayBeAsked (Some resizing) (Clock 5)
+time_is_told = tt
 
 -- the one list alone
 pub set_default_list : MayBeAsked (Some (SetXAttr default_name [])) (Calls 2 (SetAcl (codes "d") Default None))

@@ -121,7 +121,7 @@ unlink_open = refl
 -- ---- the kernel judges before it asks
 
 abbrev pub default_way : Server
-default_way = new_server (record { max_write = 4096; posix_acl = true; keeping = record { names = 60; absent = 2; attributes = 30; pages = true }; sectors = 878; inodes = 63; max_name = 120; start = second 1000000001 })
+default_way = new_server (record { max_write = 4096; posix_acl = true; keeping = record { names = 60; absent = 2; attributes = 30; pages = true }; sectors = 878; inodes = 63; max_name = 120; keeps_times = false; start = second 1000000001 })
 
 abbrev offer : ℕ → Operation
 offer bits = Init (record { major = 7; minor = 45; max_readahead = 131072; flags = record { 0 = bits } })

@@ -16,7 +16,7 @@ use Rattle.fs_layout.proofs.FirstEntries.{ties}
 use Rattle.fs_model.specs.declared.event.Event.{Event}
 use Rattle.fs_model.specs.declared.event.Event.TheVariants.{Spawn}
 use Rattle.fs_model.specs.declared.reply.Reply.{Reply}
-use Rattle.fs_model.specs.declared.reply.Reply.TheVariants.{Done, Pid, Fd, Data, Wrote, At, Target, Mask, Shown, Granted, Acl, Names, Space, Refused}
+use Rattle.fs_model.specs.declared.reply.Reply.TheVariants.{Done, Pid, Fd, Data, Wrote, At, Target, Mask, Shown, Granted, Acl, Names, Space, Stamped, Refused}
 use Rattle.fuse_protocol.specs.declared.operation.Offer.{Offer}
 use Rattle.fuse_protocol.specs.declared.operation.Operation.{Operation}
 use Rattle.fuse_protocol.specs.declared.operation.Operation.TheVariants.{Init}
@@ -201,6 +201,7 @@ settled_not_full cred (Granted k) s t es replies runs = refuses_otherwise (Faile
 settled_not_full cred (Acl k) s t es replies runs = refuses_otherwise (Failed EIO) s t es replies runs
 settled_not_full cred (Names k) s t es replies runs = refuses_otherwise (Failed EIO) s t es replies runs
 settled_not_full cred (Space j k) s t es replies runs = refuses_otherwise (Failed EIO) s t es replies runs
+settled_not_full cred (Stamped k) s t es replies runs = refuses_otherwise (Failed EIO) s t es replies runs
 
 -- where the machine has room, or doesn't refuse for want of it
 settle_not_full : (cred : Credential) (reply : Reply) (s t : Server) (es : List Event) (replies : List Reply) → (IsTrue (is_refused_for EAGAIN reply) → ⊥)
@@ -265,6 +266,7 @@ known_still known cred (Granted k) is = refl
 known_still known cred (Acl k) is = refl
 known_still known cred (Names k) is = refl
 known_still known cred (Space j k) is = refl
+known_still known cred (Stamped k) is = refl
 
 process_not_full : (cred : Credential) (s t : Server) (es : List Event) (replies : List Reply) → WithinShares s → RefusesOnlyFull (known_in s) es replies
     → EndsFull (begin_process cred s) es replies t → ⊥

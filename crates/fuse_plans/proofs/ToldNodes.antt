@@ -11,6 +11,7 @@ use Rattle.fs_model.specs.declared.call.Call.TheVariants.{Open as OpenCall, Mkdi
 use Rattle.fs_model.specs.declared.event.Event.{Event}
 use Rattle.fs_model.specs.declared.reply.FileType.{FileType}
 use Rattle.fs_model.specs.declared.reply.Reply.{Reply}
+use Rattle.fs_model.specs.declared.reply.Stamps.{Stamps}
 use Rattle.fs_model.specs.declared.reply.Status.{Status}
 use Rattle.fuse_protocol.specs.declared.operation.Operation.{Operation}
 use Rattle.fuse_protocol.specs.declared.operation.Operation.TheVariants.{Lookup, SymLink, MkNod, MkDir, Create}
@@ -31,14 +32,16 @@ use Rattle.fuse_plans.specs.declared.stop.Stop.TheVariants.{Refuses, Lacks}
 use Rattle.fuse_plans.specs.declared.stop.OtherErrno.TheVariants.{ENFILE, ERANGE, ENOSYS, ENODATA, EPROTO, EOPNOTSUPP, ESTALE}
 use Rattle.fuse_plans.specs.Plans.{Finish}
 use Rattle.fuse_plans.specs.Flags.{mode_in, is_trunc, making}
-use Rattle.fuse_plans.specs.Works.{Work, give, stop, kept, keep, goes_on, ◌>>=◌, attempt, needed, ask, give_unless, refusal_in, unless_refused, obtain, or_closed}
+use Rattle.fuse_plans.specs.Works.{Work, give, stop, kept, keep, goes_on, ◌>>=◌, ◌>>◌, attempt, needed, ask, give_unless, refusal_in, unless_refused, obtain, or_closed}
 use Rattle.fuse_plans.specs.Callers.{settle_new, settled, settle, retire_next, retire, settle_first, begin_process, or_spawned, caller, unused_of, or_unused, caller_with_room, the_looker, between, done_between, look_inside, the_number, is_known_directory, directory_number, standing_directory}
-use Rattle.fuse_plans.specs.NamePlans.{plain_name, directory_for, or_absent, searched_directory, keeps_absent, or_keep_absent, found_or_absent, find_inside, new_valid, find_name, made, close, done_closed, make_by, make_masked, is_of_file, make_file}
-use Rattle.fuse_plans.specs.FilePlans.{or_opened, open_or_make, show_open, look_open, tell_created, create_file}
+use Rattle.fuse_plans.specs.NamePlans.{place, plain_name, directory_for, tell_entry, or_absent, searched_directory, keeps_absent, or_keep_absent, looked_up_body, found_or_absent, find_inside, new_valid, find_name, made, close, done_closed, make_by, make_masked, is_of_file, make_file}
+use Rattle.fuse_plans.specs.FilePlans.{or_opened, open_or_make, show_open, show_timed, look_open, tell_created, create_file}
+use Rattle.fuse_plans.specs.Times.{tell_time_if, tell_time, told_stamps_if, told_stamps}
+use Rattle.fuse_plans.specs.Alterations.{says_change}
 use Rattle.fuse_plans.specs.Laws.{told_entry, names_an_object, LeadsToShown, ToldNodesLeadToObjects}
 use Rattle.fuse_plans.specs.Requests.{asked_of}
 use Rattle.fuse_plans.specs.Nobody.{needs_nobody_in}
-use Rattle.fuse_plans.specs.Serving.{Task, Replying, Silently, response_of, plan_of, asked_for, answered, answered_as, request_plan}
+use Rattle.fuse_plans.specs.Serving.{Task, Replying, Silently, response_of, plan_of, told_first, asked_for, answered, answered_as, request_plan}
 use Rattle.fuse_plans.proofs.PlanLaws.{run-parts}
 use Rattle.fuse_plans.proofs.AllEnds.{AllEnd, all-weaker, all-followed_by, all-run}
 use Rattle.fuse_plans.proofs.Staying.{Stays, stays-new_valid}
@@ -219,13 +222,36 @@ leaves-done_closed : (pid d : ℕ) (call : Call) → Leaves (done_closed pid d c
 leaves-done_closed pid d call =
     leaves-if _ _ _ (leaves->>= (leaves-between pid d d call) (λ reply. leaves->>= (leaves-needed _ _) (leaves-close pid))) (leaves-done_between pid d d call)
 
+-- ---- times
+
+leaves-tell_time_if : (keeps : Bool) (now : Time) → Leaves (tell_time_if keeps now)
+leaves-tell_time_if false now = leaves-give tt
+leaves-tell_time_if true now = leaves->>= (leaves-ask _) (λ reply. leaves-give tt)
+
+leaves-tell_time : (now : Time) → Leaves (tell_time now)
+unfolding tell_time
+leaves-tell_time now = leaves->>= (leaves-kept _) (λ keeps. leaves-tell_time_if keeps now)
+
+leaves-told_stamps_if : (keeps : Bool) (n : ℕ) → Leaves (told_stamps_if keeps n)
+leaves-told_stamps_if false n = leaves-give None
+leaves-told_stamps_if true n = leaves->>= (leaves-ask _) (λ reply. leaves->>= (leaves-needed _ _) (λ stamps. leaves-give (Some stamps)))
+
+leaves-told_stamps : (n : ℕ) → Leaves (told_stamps n)
+unfolding told_stamps
+leaves-told_stamps n = leaves->>= (leaves-kept _) (λ keeps. leaves-told_stamps_if keeps n)
+
+-- ---- what is open
+
 leaves-show_open : (pid fd : ℕ) → Leaves (show_open pid fd)
 unfolding show_open
 leaves-show_open pid fd = leaves->>= (leaves-obtain _) (λ reply. leaves-needed _ _)
 
+leaves-show_timed : (pid fd : ℕ) → Leaves (show_timed pid fd)
+leaves-show_timed pid fd = leaves->>= (leaves-show_open pid fd) (λ status. leaves->>= (leaves-told_stamps status.inode) (λ stamps. leaves-give (status, stamps)))
+
 leaves-look_open : (pid fd : ℕ) → Leaves (look_open pid fd)
 unfolding look_open
-leaves-look_open pid fd = leaves->>= (leaves-attempt (leaves-show_open pid fd)) (leaves-or_closed pid fd)
+leaves-look_open pid fd = leaves->>= (leaves-attempt (leaves-show_timed pid fd)) (leaves-or_closed pid fd)
 
 leaves-or_opened : (pid d : ℕ) (name : List ℕ) (mode : Mode) (flags : ℕ) (first : Result Reply Stop) → Leaves (or_opened pid d name mode flags first)
 leaves-or_opened pid d name mode flags (Ok reply) = leaves-give _
@@ -335,11 +361,15 @@ tells-unless_absent : (nobody : Bool) (e : Stop) → Tells (kept (λ s. s.settin
 tells-unless_absent nobody e =
     tells-after (leaves-kept (λ s. s.settings)) (λ settings. tells-if (keeps_absent nobody settings e) _ _ (tells-none (Absent settings.keeping.absent) refl) (tells-stop e))
 
-tells-found_or_absent : (nobody : Bool) (d : ℕ) (name : List ℕ) (seen : Result Status Stop) → Tells (found_or_absent nobody d name seen)
+tells-found : (nobody : Bool) (p : Place) (status : Status) (stamps : Option Stamps)
+    → Tells (keep (found p status.inode status.kind) >> kept (looked_up_body nobody status stamps))
 unfolding kept keep ◌>>=◌
-tells-found_or_absent nobody d name (Ok status) = record {
+tells-found nobody p status stamps = record {
   at = λ s node shown is lt. entry-is s _ _ node _ shown is lt (λ low. found-leads s _ status.inode status.kind low);
 }
+
+tells-found_or_absent : (nobody : Bool) (d : ℕ) (name : List ℕ) (seen : Result Status Stop) → Tells (found_or_absent nobody d name seen)
+tells-found_or_absent nobody d name (Ok status) = tells-after (leaves-told_stamps status.inode) (tells-found nobody (place d name) status)
 tells-found_or_absent nobody d name (Err e) = tells-unless_absent nobody e
 
 tells-find_inside : (nobody : Bool) (pid d : ℕ) (name : List ℕ) → Tells (find_inside nobody pid d name)
@@ -350,13 +380,19 @@ tells-find_name r name =
     tells-after (leaves-searched_directory r.node name) (λ d.
     tells-after (leaves-if r.needs_nobody _ _ leaves-the_looker (leaves-caller r.cred)) (λ pid. tells-find_inside r.needs_nobody pid d name))
 
+tells-born : (now : Time) (name_valid : ℕ) (p : Place) (status : Status) (stamps : Option Stamps)
+    → Tells (keep (born now p status.inode status.kind) >> tell_entry name_valid status stamps)
+unfolding kept keep ◌>>=◌
+tells-born now name_valid p status stamps = record {
+  at = λ s node shown is lt. entry-is s _ _ node _ shown is lt (λ low. born-leads s now _ status.inode status.kind low);
+}
+
 tells-made : (now : Time) (name_valid d : ℕ) (name : List ℕ) → Tells (made now name_valid d name)
-unfolding made kept keep ◌>>=◌
+unfolding made
 tells-made now name_valid d name =
     tells-after leaves-the_looker (λ pid.
-    tells-after (leaves-look_inside pid d name) (λ status. record {
-      at = λ s node shown is lt. entry-is s _ _ node _ shown is lt (λ low. born-leads s now _ status.inode status.kind low);
-    }))
+    tells-after (leaves-look_inside pid d name) (λ status.
+    tells-after (leaves-told_stamps status.inode) (tells-born now name_valid (place d name) status)))
 
 tells-make_by : (now : Time) (name_valid pid d : ℕ) (call : Call) (name : List ℕ) → Tells (make_by now name_valid pid d call name)
 tells-make_by now name_valid pid d call name = tells-after (leaves-done_closed pid d call) (λ done. tells-made now name_valid d name)
@@ -385,9 +421,9 @@ tells-create_file r name flags file_mode umask =
     tells-after (leaves-obtain _) (λ masked.
     tells-after (leaves-open_or_make pid d name mode flags file_mode) (λ opened.
     tells-after (leaves-needed _ _) (λ handle.
-    tells-after (leaves-look_open pid (descriptor_of handle)) (λ status. record {
+    tells-after (leaves-look_open pid (descriptor_of handle)) (λ seen. record {
       at = λ s node shown is lt.
-          entry-is s _ _ node _ shown is lt (λ low. told-leads s r.now _ status.inode status.kind opened.1 (is_trunc flags) handle low);
+          entry-is s _ _ node _ shown is lt (λ low. told-leads s r.now _ seen.0.inode seen.0.kind opened.1 (is_trunc flags) handle low);
     })))))))))
 
 -- ---- each request
@@ -411,6 +447,12 @@ tells-plan r value (MkDir name mode umask) is =
 tells-plan r value (Create name flags mode umask) is = tells-create_file r name flags.0 mode umask
 tells-plan r value _ is = absurd (cc)
 
+-- where the machine is told the time first
+tells-told_first : (says : Bool) (now : Time) (task : Task) → IfTells task → IfTells (told_first says now task)
+tells-told_first false now task tells = tells
+tells-told_first true now (Replying w) tells = tells-after (leaves-tell_time now) (λ told. tells)
+tells-told_first true now (Silently f) tells = tells
+
 abbrev AnswerOf : Server → Response × Server → Type 0
 AnswerOf s (Says body, t) = ToldOf s (Ok body, t)
 AnswerOf s _ = Unit {0}
@@ -431,5 +473,5 @@ told_nodes_lead_to_objects r s t operation body es replies node shown asks names
     let parts = run-parts (needs_nobody_in r.node r.operation s) (λ nobody. answered_as nobody r s) es replies (Says body, t) runs in
     all-run (AnswerOf s) (answered_as parts.middle r s) parts.later_events parts.later_replies (Says body, t)
     (subst (λ o. AllEnd (AnswerOf s) (answered r.memory (asked_for (asked_of r parts.middle) r.value o) s)) (sym asks)
-    (tells-answer s r.memory _ (tells-plan (asked_of r parts.middle) r.value operation names)))
+    (tells-answer s r.memory _ (tells-told_first (says_change operation) r.now _ (tells-plan (asked_of r parts.middle) r.value operation names))))
     parts.later node shown entry lt

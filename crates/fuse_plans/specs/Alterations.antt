@@ -5,12 +5,12 @@
 --     changes_at_once        and either changes all of it or fails
 --     alterations_in, MayBeAsked        what an event may change; what may be asked for a request
 --     AsksOnly        whatever is replied, a plan asks only such events
-use Rattle.std.specs.Prelude.{◌≡◌, ℕ, Bool, true, false, List, [], ◌∷◌, ◌++◌, Option, None, Some, is_some, IsTrue}
+use Rattle.std.specs.Prelude.{◌≡◌, ℕ, Bool, true, false, List, [], ◌∷◌, ◌++◌, Option, None, Some, is_some, ◌||◌, IsTrue}
 use Rattle.fs_model.specs.declared.call.AclType.{AclType}
 use Rattle.fs_model.specs.declared.call.Call.{Call}
 use Rattle.fs_model.specs.declared.call.Call.TheVariants.{Open as OpenCall, Write as WriteCall, Truncate, Ftruncate, Chmod, Chown, SetAcl, Mkdir, Rmdir, Link as LinkCall, Symlink, Unlink as UnlinkCall, Rename as RenameCall}
 use Rattle.fs_model.specs.declared.event.Event.{Event}
-use Rattle.fs_model.specs.declared.event.Event.TheVariants.{Call as Calls, Arm, Restart}
+use Rattle.fs_model.specs.declared.event.Event.TheVariants.{Call as Calls, Stamp, Arm, Restart}
 use Rattle.fs_model.specs.declared.reply.Reply.{Reply}
 use Rattle.fuse_protocol.specs.declared.operation.Operation.{Operation}
 use Rattle.fuse_protocol.specs.declared.operation.Operation.TheVariants.{SetAttr, SymLink, MkNod, MkDir, Unlink, RmDir, Rename, Link, Open, Write, SetXAttr, RemoveXAttr, Create}
@@ -33,6 +33,7 @@ pub data Alteration : Type 0 where
   sets_mode : Alteration
   sets_owner : Alteration
   sets_group : Alteration
+  sets_times : Alteration
   -- the list that decides on access says the mode too
   sets_list : AclType → Alteration
   -- by a new object, or by one more name of another
@@ -44,6 +45,10 @@ pub data Alteration : Type 0 where
 abbrev pub where_so : Bool → Alteration → List Alteration
 where_so true a = a ∷ []
 where_so false a = []
+
+-- some of the times
+abbrev pub sets_some : Option ℕ → Option ℕ → Option ℕ → Bool
+sets_some atime mtime ctime = is_some atime || (is_some mtime || is_some ctime)
 
 -- What a call of a process may change. All others only show what is there, or change what is the process's own.
 abbrev pub alterations_by : ℕ → Call → List Alteration
@@ -71,6 +76,7 @@ IsToldBy (SetAttr changes) (resizes_open pid fd size) = (changes.size ≡ Some s
 IsToldBy (SetAttr changes) sets_mode = IsTrue (is_some changes.mode)
 IsToldBy (SetAttr changes) sets_owner = IsTrue (is_some changes.uid)
 IsToldBy (SetAttr changes) sets_group = IsTrue (is_some changes.gid)
+IsToldBy (SetAttr changes) sets_times = IsTrue (is_some changes.atime || is_some changes.mtime)
 IsToldBy (SetXAttr name value) (sets_list which) = acl_named name ≡ Some which
 IsToldBy (RemoveXAttr name) (sets_list which) = acl_named name ≡ Some which
 IsToldBy (Open flags) (resizes size) = IsTrue (is_trunc flags.0) × (size ≡ 0)
@@ -97,7 +103,7 @@ abbrev pub AreTold : Option Operation → List Alteration → Type 0
 AreTold operation [] = Unit {0}
 AreTold operation (alteration ∷ others) = IsToldIn operation alteration × AreTold operation others
 
--- requests that say a change; a SETATTR may be of times alone, which the server keeps
+-- requests that say a change
 abbrev pub says_change : Operation → Bool
 says_change (SetAttr changes) = true
 says_change (SymLink name target) = true
@@ -132,11 +138,13 @@ changes_at_once operation = false
 -- all that an event may change
 abbrev pub alterations_in : Event → List Alteration
 alterations_in (Calls pid call) = alterations_by pid call
+alterations_in (Stamp n atime mtime ctime) = where_so (sets_some atime mtime ctime) sets_times
 alterations_in event = []
 
--- No call changes more than the request says; and but for calls only a disk that stops may change what the kernel was told.
+-- No event changes more than the request says; nor does a disk stop, which may change what the kernel was told.
 abbrev pub MayBeAsked : Option Operation → Event → Type 0
 MayBeAsked operation (Calls pid call) = AreTold operation (alterations_by pid call)
+MayBeAsked operation (Stamp n atime mtime ctime) = AreTold operation (where_so (sets_some atime mtime ctime) sets_times)
 MayBeAsked operation (Arm after) = ⊥
 MayBeAsked operation (Restart choice arm) = ⊥
 MayBeAsked operation event = Unit {0}

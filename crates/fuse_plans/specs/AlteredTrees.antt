@@ -13,9 +13,9 @@ use Rattle.fs_model.specs.Births.{the_node}
 use Rattle.fs_model.specs.Nodes.{Node, acl_in, bytes_in, default_in, names_in, shown_mode, target_in, type_of}
 use Rattle.fs_model.specs.States.{State}
 use Rattle.fs_model.specs.Steps.{Step}
-use Rattle.fs_model.specs.TreeChanges.{Change, Same, Rewrite, Make, AddName, TakeName, MoveName, changed, swept}
+use Rattle.fs_model.specs.TreeChanges.{Change, Same, Rewrite, Make, AddName, TakeName, MoveName, changed, swept, touches, touched}
 use Rattle.fs_model.specs.Trees.{Tree}
-use Rattle.fuse_plans.specs.Alterations.{Alteration, resizes, resizes_open, writes_open, sets_mode, sets_owner, sets_group, sets_list, adds_name, takes_name, moves_name, alterations_in}
+use Rattle.fuse_plans.specs.Alterations.{Alteration, resizes, resizes_open, writes_open, sets_mode, sets_owner, sets_group, sets_times, sets_list, adds_name, takes_name, moves_name, alterations_in}
 
 -- ---- of what an alteration is
 
@@ -43,6 +43,10 @@ abbrev pub is_of_group : Alteration → Bool
 is_of_group sets_group = true
 is_of_group alteration = false
 
+abbrev pub is_of_times : Alteration → Bool
+is_of_times sets_times = true
+is_of_times alteration = false
+
 abbrev pub is_added : Alteration → Bool
 is_added (adds_name path) = true
 is_added alteration = false
@@ -69,22 +73,25 @@ pub record KeepsUnsaid (alterations : List Alteration) (old new : Node) : Type 0
   pub default : IsFalse (list_any is_of_default alterations) → default_in new.body ≡ default_in old.body
   pub owner : IsFalse (list_any is_of_owner alterations) → new.owner ≡ old.owner
   pub group : IsFalse (list_any is_of_group alterations) → new.group ≡ old.group
+  pub times : IsFalse (list_any is_of_times alterations) → new.stamps ≡ old.stamps
   pub kind : type_of new.body ≡ type_of old.body
   pub names : names_in new.body ≡ names_in old.body
   pub target : target_in new.body ≡ target_in old.body
 
 abbrev pub IsSaid : List Alteration → Tree → Change → Type 0
 IsSaid alterations t Same = Unit {0}
-IsSaid alterations t (Rewrite n node) = KeepsUnsaid alterations (the_node t n) node
+IsSaid alterations t (Rewrite touch n node) = KeepsUnsaid alterations (the_node t n) node
 IsSaid alterations t (Make directory name n node) = Says is_added alterations
 IsSaid alterations t (AddName directory name n) = Says is_added alterations
 IsSaid alterations t (TakeName directory name) = Says is_taken alterations
 IsSaid alterations t (MoveName directory name to_directory to_name) = Says is_moved alterations
 
--- The tree stays; or such a change is made of it, and then what has no name and isn't open any more is gone.
+-- The tree stays; or such a change is made of it, and then what has no name and isn't open any more is gone, and the times have
+-- moved that the change moves.
 pub data LeavesUnsaid (alterations : List Alteration) (old new : State) : Type 0 where
   stays : new.tree ≡ old.tree → LeavesUnsaid alterations old new
-  alters : (change : Change) → IsSaid alterations old.tree change → new.tree ≡ swept (changed old.tree change) new.desks
+  alters : (change : Change) → IsSaid alterations old.tree change
+      → new.tree ≡ touched old.now (touches old.room old.tree change) (swept (changed old.tree change) new.desks)
       → LeavesUnsaid alterations old new
 
 -- Each step of the machine, whatever it replies.

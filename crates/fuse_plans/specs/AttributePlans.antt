@@ -8,6 +8,7 @@ use Rattle.fs_cred.specs.Credentials.{Credential}
 use Rattle.fs_cred.specs.declared.errno.Errno.TheVariants.{EPERM, EACCES}
 use Rattle.fs_cred.specs.Ownership.{counts_as_owner}
 use Rattle.fs_model.specs.declared.call.Call.TheVariants.{Access, Truncate, Ftruncate, Chmod, Chown, Readlink}
+use Rattle.fs_model.specs.declared.event.Event.TheVariants.{Stamp}
 use Rattle.fs_model.specs.declared.reply.FileType.{FileType}
 use Rattle.fs_model.specs.declared.reply.FileType.TheVariants.{Link}
 use Rattle.fs_model.specs.declared.reply.Reply.{Reply}
@@ -23,13 +24,17 @@ use Rattle.fuse_protocol.specs.declared.operation.AttrChanges.{AttrChanges}
 use Rattle.fuse_plans.specs.declared.reply.ReplyBody.{ReplyBody}
 use Rattle.fuse_plans.specs.declared.reply.ReplyBody.TheVariants.{Nothing, Shown, Bytes}
 use Rattle.fuse_state.specs.Servers.{Server, kind_of, times_of, with_times, touched, changed, descriptor_of}
-use Rattle.fuse_plans.specs.Works.{Work, give, stop, kept, keep, ◌>>=◌, ◌>>◌, needed, replied_target}
+use Rattle.fuse_state.specs.Stamps.{stamp_of}
+use Rattle.fuse_plans.specs.Works.{Work, give, stop, kept, keep, ◌>>=◌, ◌>>◌, ask, needed, replied_stamps, replied_target}
 use Rattle.fuse_plans.specs.Callers.{caller, on, by_looker, look, the_number}
 use Rattle.fuse_plans.specs.NamePlans.{attributes}
-use Rattle.fuse_plans.specs.FilePlans.{when, done, call_open}
+use Rattle.fuse_plans.specs.FilePlans.{when, done, only_inode, call_open}
+use Rattle.fuse_plans.specs.Times.{disk_keeps_times, told_stamps}
 
 abbrev pub tell_attributes : Status → Work ReplyBody
-tell_attributes status = kept (λ s. Shown (attributes s status))
+tell_attributes status = do
+  stamps ← told_stamps status.inode
+  kept (λ s. Shown (attributes s status stamps))
 
 abbrev pub get_attributes : Asked → Work ReplyBody
 get_attributes r = do
@@ -104,11 +109,30 @@ timed now n c s =
     let old = times_of s n in
     with_times n (record { atime = time_after now old.atime c.atime; mtime = time_after now old.mtime c.mtime; ctime = now }) s
 
+-- what the machine is to have
+abbrev pub stamp_set : Time → Option NewTime → Option ℕ
+stamp_set now None = None
+stamp_set now (Some new) = Some (stamp_of (time_after now now (Some new)))
+
+-- what was shown is the object whose times are set
+abbrev pub set_stamps_if : Bool → Time → ℕ → Status → AttrChanges → Work (Unit {0})
+set_stamps_if false now n status c = keep (timed now n c)
+set_stamps_if true now n status c = do
+  only_inode n status
+  reply ← ask (Stamp n (stamp_set now c.atime) (stamp_set now c.mtime) (Some (stamp_of now)))
+  replied_stamps reply
+  give tt
+
+unfoldable pub set_stamps : Time → ℕ → Status → AttrChanges → Work (Unit {0})
+set_stamps now n status c = do
+  keeps ← disk_keeps_times
+  set_stamps_if keeps now n status c
+
 abbrev pub set_times : Asked → ℕ → ℕ → Bool → Status → AttrChanges → Work (Unit {0})
 set_times r pid n link status c = when (is_some c.atime || is_some c.mtime) (do
   cred ← needed (failed EACCES) r.cred
   may_set_times pid n link (counts_as_owner cred status.owner) c
-  keep (timed r.now n c))
+  set_stamps r.now n status c)
 
 -- Size, then owner and group, then mode; what was done before a refusal stays.
 abbrev pub change_attributes : Time → ℕ → ℕ → Bool → AttrChanges → Work (Unit {0})

@@ -3,7 +3,7 @@
 --     Rights        for whom it is done, and on what
 --     MayCall, MayAsk, conduct        what may be asked
 --     IsDone        how it ends
-use Rattle.std.specs.Prelude.{◌≡◌, ℕ, ◌==◌, Bool, true, false, not, ◌&&◌, List, Option, None, Some, is_some, IsTrue}
+use Rattle.std.specs.Prelude.{◌≡◌, ℕ, ◌==◌, Bool, true, false, not, ◌&&◌, ◌||◌, List, Option, None, Some, is_some, IsTrue}
 use Rattle.std.specs.Ordering.{nat_cmp}
 use Rattle.fs_cred.specs.Credentials.{Credential}
 use Rattle.fs_layout.specs.Maps.{get, with_entry, without}
@@ -11,11 +11,13 @@ use Rattle.fs_model.specs.Limits.{root}
 use Rattle.fs_model.specs.declared.call.Call.{Call}
 use Rattle.fs_model.specs.declared.call.Call.TheVariants.{Open, Read, Write, Lseek, Close, Fstat, Lstat, Ftruncate, GetAcl, Readdir, Readlink, Chdir}
 use Rattle.fs_model.specs.declared.event.Event.{Event}
-use Rattle.fs_model.specs.declared.event.Event.TheVariants.{Spawn, Exit, Call as Calls, Enter, Fsync, Sync, Statfs}
+use Rattle.fs_model.specs.declared.event.Event.TheVariants.{Spawn, Exit, Call as Calls, Enter, Stamp, Clock, Fsync, Sync, Statfs}
 use Rattle.fs_model.specs.declared.reply.Reply.{Reply}
 use Rattle.fs_model.specs.declared.reply.Reply.TheVariants.{Pid, Refused}
 use Rattle.fuse_plans.specs.Plans.{Restraint}
-use Rattle.fuse_plans.specs.Acts.{Subject, Away, gone_to, Concerns}
+use Rattle.fuse_protocol.specs.declared.operation.AttrChanges.{AttrChanges}
+use Rattle.fuse_protocol.specs.declared.operation.Operation.TheVariants.{SetAttr}
+use Rattle.fuse_plans.specs.Acts.{Subject, Away, gone_to, IsObject, Concerns}
 use Rattle.fuse_state.specs.Servers.{Server, is_process_of, owner_of, descriptor_of, WithinShares}
 
 -- The process that has entered a directory and wasn't told to come back yet, if there is one; and the processes of callers.
@@ -104,12 +106,21 @@ abbrev pub IsOfHandle : Option ℕ → ℕ → ℕ → Type 0
 IsOfHandle None pid fd = ⊥
 IsOfHandle (Some handle) pid fd = (pid ≡ owner_of handle) × (fd ≡ descriptor_of handle)
 
--- Nothing is asked of the disk, and processes begin for who asks alone. Each call concerns what the request is about.
+-- Times are asked for, or set where the request sets times: those of its object.
+pub data MayStamp (r : Subject) (n : ℕ) : (atime mtime ctime : Option ℕ) → Type 0 where
+  asks : MayStamp r n None None None
+  sets : (changes : AttrChanges) (atime mtime ctime : Option ℕ) → r.operation ≡ Some (SetAttr changes)
+      → IsTrue (is_some changes.atime || is_some changes.mtime) → IsObject r n → MayStamp r n atime mtime ctime
+
+-- Nothing is asked of the disk, and processes begin for who asks alone. Each call concerns what the request is about. The time
+-- may always be told.
 abbrev pub MayAsk : Rights → Known → Event → Type 0
 MayAsk rights known (Spawn cred) = IsHome known.away × (rights.cred ≡ Some cred)
 MayAsk rights known (Exit pid) = IsHome known.away
 MayAsk rights known (Calls pid call) = IsNobodyElse known.away pid × MayCall rights known pid call × Concerns rights.subject known.away call
 MayAsk rights known (Enter pid directory second) = MayEnter known.away pid directory second
+MayAsk rights known (Stamp n atime mtime ctime) = IsHome known.away × MayStamp rights.subject n atime mtime ctime
+MayAsk rights known (Clock now) = IsHome known.away
 MayAsk rights known (Fsync pid fd) = IsHome known.away × IsOfHandle rights.handle pid fd
 MayAsk rights known Sync = IsHome known.away
 MayAsk rights known Statfs = IsHome known.away

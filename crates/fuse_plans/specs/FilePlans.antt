@@ -1,7 +1,7 @@
 -- Plans of requests for files: to open and create them, and what is done by a handle.
 --     open_file, create_file, read_file, write_file, close_file, sync_file
 --     pieces_in        bytes, by as many as are moved at once
-use Rattle.std.specs.Prelude.{ℕ, ◌+◌, ◌-◌, ◌/◌, ◌^◌, ◌==◌, nat_lt, min, suc, zero, Bool, true, false, ◌&&◌, not, List, [], ◌∷◌, ◌++◌, map, sum_by, take, drop, length, Result, Ok, Err, if◌then◌else◌, bit_and, pos}
+use Rattle.std.specs.Prelude.{ℕ, ◌+◌, ◌-◌, ◌/◌, ◌^◌, ◌==◌, nat_lt, min, suc, zero, Bool, true, false, ◌&&◌, not, List, [], ◌∷◌, ◌++◌, map, sum_by, take, drop, length, Option, Result, Ok, Err, if◌then◌else◌, bit_and, pos}
 use Rattle.posix_acl.specs.Entries.{perms_of}
 use Rattle.fs_cred.specs.declared.errno.Errno.TheVariants.{EEXIST, EINVAL, EBADF}
 use Rattle.fs_model.specs.declared.call.Call.{Call}
@@ -9,6 +9,7 @@ use Rattle.fs_model.specs.declared.call.Call.TheVariants.{Open as OpenCall, Clos
 use Rattle.fs_model.specs.declared.call.Whence.TheVariants.{Set}
 use Rattle.fs_model.specs.declared.event.Event.TheVariants.{Call as Calls, Fsync}
 use Rattle.fs_model.specs.declared.reply.Reply.{Reply}
+use Rattle.fs_model.specs.declared.reply.Stamps.{Stamps}
 use Rattle.fs_model.specs.declared.reply.Status.{Status}
 use Rattle.fuse_protocol.specs.declared.flags.OpenedFlags.{OpenedFlags}
 use Rattle.fuse_protocol.specs.declared.reply.Time.{Time}
@@ -31,6 +32,7 @@ use Rattle.fuse_plans.specs.declared.mode.Mode.{Mode}
 use Rattle.fuse_plans.specs.declared.mode.Mode.TheVariants.{Reads}
 use Rattle.fuse_plans.specs.Flags.{mode_in, is_exec, is_excl, is_trunc, opening, creating}
 use Rattle.fuse_plans.specs.NamePlans.{place, plain_name, attributes, new_valid, set_umask}
+use Rattle.fuse_plans.specs.Times.{told_stamps}
 
 -- where it is so
 abbrev pub when : Bool → Work (Unit {0}) → Work (Unit {0})
@@ -128,30 +130,37 @@ open_or_make pid d name mode flags file_mode = do
   first ← attempt (inside pid d (OpenCall name (creating mode) (bit_and file_mode 0o777)))
   or_opened pid d name mode flags first
 
--- what stat(2) shows of what is open; where it shows nothing that is closed
-unfoldable pub look_open : ℕ → ℕ → Work Status
+-- what stat(2) shows of what is open, and its times
+abbrev pub show_timed : ℕ → ℕ → Work (Status × Option Stamps)
+show_timed pid fd = do
+  status ← show_open pid fd
+  stamps ← told_stamps status.inode
+  give (status, stamps)
+
+-- the same; where nothing is shown that is closed
+unfoldable pub look_open : ℕ → ℕ → Work (Status × Option Stamps)
 look_open pid fd = do
-  seen ← attempt (show_open pid fd)
+  seen ← attempt (show_timed pid fd)
   or_closed pid fd seen
 
-abbrev pub created_body : ℕ → ℕ → Status → Server → ReplyBody
-created_body name_valid handle status s =
-    Created (node_of s status.inode) name_valid (attributes s status) handle (file_flags s.settings)
+abbrev pub created_body : ℕ → ℕ → Status → Option Stamps → Server → ReplyBody
+created_body name_valid handle status stamps s =
+    Created (node_of s status.inode) name_valid (attributes s status stamps) handle (file_flags s.settings)
 
 -- it is new, or it was found, with its bytes or without them
-unfoldable pub tell_created : Time → ℕ → Place → Bool → Bool → ℕ → Status → Work ReplyBody
-tell_created now name_valid p is_new is_cut handle status = do
-  keep (told now p status.inode status.kind is_new is_cut)
-  keep (with_handle handle status.inode)
-  kept (created_body name_valid handle status)
+unfoldable pub tell_created : Time → ℕ → Place → Bool → Bool → ℕ → Status × Option Stamps → Work ReplyBody
+tell_created now name_valid p is_new is_cut handle seen = do
+  keep (told now p seen.0.inode seen.0.kind is_new is_cut)
+  keep (with_handle handle seen.0.inode)
+  kept (created_body name_valid handle seen.0 seen.1)
 
 -- a process makes the file, or opens it
 abbrev pub create_by : Time → ℕ → ℕ → ℕ → List ℕ → Mode → ℕ → ℕ → Work ReplyBody
 create_by now name_valid pid d name mode flags file_mode = do
   opened ← open_or_make pid d name mode flags file_mode
   handle ← replied_handle pid opened.0
-  status ← look_open pid (descriptor_of handle)
-  tell_created now name_valid (place d name) opened.1 (is_trunc flags) handle status
+  seen ← look_open pid (descriptor_of handle)
+  tell_created now name_valid (place d name) opened.1 (is_trunc flags) handle seen
 
 abbrev pub create_file : Asked → List ℕ → ℕ → ℕ → ℕ → Work ReplyBody
 create_file r name flags file_mode umask = do

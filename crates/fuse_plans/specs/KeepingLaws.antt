@@ -16,9 +16,11 @@ use Rattle.fuse_plans.specs.declared.reply.Response.TheVariants.{Says}
 use Rattle.fuse_plans.specs.declared.stop.Stop.TheVariants.{Refuses}
 use Rattle.fuse_plans.specs.Stops.{is_for}
 use Rattle.fuse_plans.specs.Plans.{IsRunOf, IsAsked}
+use Rattle.fuse_plans.specs.Works.{◌>>◌}
 use Rattle.fuse_plans.specs.Requests.{Request}
 use Rattle.fuse_plans.specs.Masks.{list_hides}
 use Rattle.fuse_plans.specs.Nobody.{is_judged}
+use Rattle.fuse_plans.specs.Times.{tell_time}
 use Rattle.fuse_plans.specs.Serving.{request_plan}
 use Rattle.fuse_plans.specs.Laws.{IsDoneBy}
 
@@ -29,14 +31,15 @@ name_valid_in (Created node name_valid shown handle flags) = name_valid
 name_valid_in (Absent valid) = valid
 name_valid_in _ = 0
 
--- Why it may: with the first replies it was found that the kernel follows the access list of the directory.
+-- Why it may: with the first replies it was found that the kernel follows the access list of the directory. Before what is made the
+-- machine may be told the time.
 pub data MayKeepName (r : Request) (s : Server) : List Event → List Reply → Type 0 where
   -- who looks a name up doesn't count
   is_looked_up : (name : List ℕ) (first after : List Event) (replied rest : List Reply) → r.operation ≡ Some (Lookup name)
       → IsRunOf (is_judged r.node true s) first replied true → MayKeepName r s (first ++ after) (replied ++ rest)
   -- what has the name is new, and the server's own process has seen the directory before
   is_new : (d : ℕ) (t : Server) (first after : List Event) (replied rest : List Reply) → number_of s r.node ≡ Some d
-      → IsRunOf (list_hides d s) first replied (Ok false, t) → MayKeepName r s (first ++ after) (replied ++ rest)
+      → IsRunOf ((tell_time r.now >> list_hides d) s) first replied (Ok false, t) → MayKeepName r s (first ++ after) (replied ++ rest)
 
 -- Whatever was replied: what is told of a name may be kept only where the kernel judges before it asks, and by a list that it follows.
 abbrev pub NamesAreKeptWhereJudged : Type 0

@@ -2,6 +2,7 @@ pub mod Plans
 pub mod Stops
 pub mod Requests
 pub mod Works
+pub mod Times
 pub mod Paths
 pub mod Callers
 pub mod Flags
@@ -21,3 +22,4 @@ pub mod AlteredTrees
 pub mod Laws
 pub mod ShareLaws
 pub mod KeepingLaws
+pub mod TimeLaws

@@ -1,11 +1,12 @@
 -- Plans of requests for names: each is asked of a directory, and performed by a process of who asks, but for look-ups that need nobody.
 --     find_name, make_link, make_file, make_directory, remove, move_name, add_link
-use Rattle.std.specs.Prelude.{ℕ, ◌==◌, nat_lt, Bool, true, false, not, ◌&&◌, ◌||◌, List, codes, bytes_eq, Some, Result, Ok, Err, if◌then◌else◌, bit_and}
+use Rattle.std.specs.Prelude.{ℕ, ◌==◌, nat_lt, Bool, true, false, not, ◌&&◌, ◌||◌, List, codes, bytes_eq, Option, Some, Result, Ok, Err, if◌then◌else◌, bit_and}
 use Rattle.fs_cred.specs.declared.errno.Errno.TheVariants.{EPERM, ENOENT, EEXIST, EINVAL}
 use Rattle.fs_model.specs.declared.call.Call.{Call}
 use Rattle.fs_model.specs.declared.call.Call.TheVariants.{Open as OpenCall, Close, Lstat, Mkdir, Rmdir, Link as LinkCall, Symlink, Rename as RenameCall, Umask, Unlink}
 use Rattle.fs_model.specs.declared.event.Event.TheVariants.{Call as Calls}
 use Rattle.fs_model.specs.declared.reply.Reply.{Reply}
+use Rattle.fs_model.specs.declared.reply.Stamps.{Stamps}
 use Rattle.fs_model.specs.declared.reply.Status.{Status}
 use Rattle.fuse_plans.specs.declared.stop.Stop.{Stop}
 use Rattle.fuse_plans.specs.declared.stop.Stop.TheVariants.{Lacks}
@@ -16,13 +17,14 @@ use Rattle.fuse_protocol.specs.declared.reply.Time.{Time}
 use Rattle.fuse_plans.specs.declared.reply.ReplyBody.{ReplyBody}
 use Rattle.fuse_plans.specs.declared.reply.ReplyBody.TheVariants.{Nothing, Found, Absent}
 use Rattle.fuse_plans.specs.declared.reply.Attributes.{Attributes}
-use Rattle.fuse_state.specs.Servers.{Server, node_of, kind_of, places_of, times_of, once_more, born}
+use Rattle.fuse_state.specs.Servers.{Server, node_of, kind_of, places_of, once_more, born}
 use Rattle.fuse_state.specs.Changes.{found, removed, moved, linked}
 use Rattle.fuse_state.specs.declared.place.Place.{Place}
 use Rattle.fuse_state.specs.declared.settings.Settings.{Settings}
 use Rattle.fuse_plans.specs.Works.{Work, give, stop, kept, keep, ◌>>=◌, ◌>>◌, attempt, obtain, replied_fd}
 use Rattle.fuse_plans.specs.Callers.{caller, caller_with_room, the_looker, inside, done_between, by_places, look_inside, look, the_number, standing_directory}
 use Rattle.fuse_plans.specs.Flags.{making}
+use Rattle.fuse_plans.specs.Times.{told_stamps, times_in}
 use Rattle.fuse_plans.specs.Masks.{list_hides}
 
 -- the directory and a name in it
@@ -39,15 +41,16 @@ directory_for node name = do
   plain_name name
   standing_directory node
 
-abbrev pub attributes : Server → Status → Attributes
-attributes s status = record { status = status; times = times_of s status.inode; valid = s.settings.keeping.attributes }
+-- the times are the machine's, where it has any
+abbrev pub attributes : Server → Status → Option Stamps → Attributes
+attributes s status stamps = record { status = status; times = times_in s status.inode stamps; valid = s.settings.keeping.attributes }
 
 -- the name may be kept for so many seconds
-abbrev pub found_body : ℕ → Status → Server → ReplyBody
-found_body name_valid status s = Found (node_of s status.inode) name_valid (attributes s status)
+abbrev pub found_body : ℕ → Status → Option Stamps → Server → ReplyBody
+found_body name_valid status stamps s = Found (node_of s status.inode) name_valid (attributes s status stamps)
 
-abbrev pub tell_entry : ℕ → Status → Work ReplyBody
-tell_entry name_valid status = kept (found_body name_valid status)
+abbrev pub tell_entry : ℕ → Status → Option Stamps → Work ReplyBody
+tell_entry name_valid status stamps = kept (found_body name_valid status stamps)
 
 -- ---- look-ups
 
@@ -68,8 +71,8 @@ searched_directory node name = do
 abbrev pub judged_valid : Bool → Settings → ℕ
 judged_valid nobody settings = if nobody then settings.keeping.names else 0
 
-abbrev pub looked_up_body : Bool → Status → Server → ReplyBody
-looked_up_body nobody status s = found_body (judged_valid nobody s.settings) status s
+abbrev pub looked_up_body : Bool → Status → Option Stamps → Server → ReplyBody
+looked_up_body nobody status stamps s = found_body (judged_valid nobody s.settings) status stamps s
 
 -- nothing has the name, and the kernel has judged and keeps that
 abbrev pub keeps_absent : Bool → Settings → Stop → Bool
@@ -80,8 +83,9 @@ or_keep_absent nobody settings e = if keeps_absent nobody settings e then give (
 
 abbrev pub found_or_absent : Bool → ℕ → List ℕ → Result Status Stop → Work ReplyBody
 found_or_absent nobody d name (Ok status) = do
+  stamps ← told_stamps status.inode
   keep (found (place d name) status.inode status.kind)
-  kept (looked_up_body nobody status)
+  kept (looked_up_body nobody status stamps)
 found_or_absent nobody d name (Err e) = do
   settings ← kept (λ s. s.settings)
   or_keep_absent nobody settings e
@@ -130,8 +134,9 @@ unfoldable pub made : Time → ℕ → ℕ → List ℕ → Work ReplyBody
 made now name_valid d name = do
   pid ← the_looker
   status ← look_inside pid d name
+  stamps ← told_stamps status.inode
   keep (born now (place d name) status.inode status.kind)
-  tell_entry name_valid status
+  tell_entry name_valid status stamps
 
 abbrev pub close : ℕ → ℕ → Work (Unit {0})
 close pid fd = do
@@ -274,8 +279,9 @@ tell_linked now p n = do
   kind ← kept (λ s. kind_of s n)
   keep (linked now p n kind)
   status ← look n
+  stamps ← told_stamps status.inode
   keep (once_more status.inode)
-  tell_entry 0 status
+  tell_entry 0 status stamps
 
 -- who asks gives an object one more name
 abbrev pub link_as : Asked → ℕ → ℕ → List ℕ → Work ReplyBody

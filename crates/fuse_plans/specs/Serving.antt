@@ -18,6 +18,7 @@ use Rattle.fuse_plans.specs.Requests.{Request, asked_of}
 use Rattle.fuse_protocol.specs.declared.operation.Offer.{Offer}
 use Rattle.fuse_protocol.specs.declared.operation.Operation.{Operation}
 use Rattle.fuse_protocol.specs.declared.operation.Operation.TheVariants.{Lookup, Forget, GetAttr, SetAttr, ReadLink, SymLink, MkNod, MkDir, Unlink, RmDir, Rename, Link, Open, Read, Write, StatFs, Release, FSync, SetXAttr, GetXAttr, ListXAttr, RemoveXAttr, Init, OpenDir, ReadDir, ReleaseDir, FSyncDir, Access, Create, Interrupt, Destroy, BatchForget, SyncFs, Unknown}
+use Rattle.fuse_protocol.specs.declared.reply.Time.{Time}
 use Rattle.fuse_plans.specs.declared.reply.ReplyBody.{ReplyBody}
 use Rattle.fuse_plans.specs.declared.reply.ReplyBody.TheVariants.{Space, Agreed}
 use Rattle.fuse_plans.specs.declared.reply.Response.{Response}
@@ -25,7 +26,9 @@ use Rattle.fuse_plans.specs.declared.reply.Response.TheVariants.{Silence, Says, 
 use Rattle.fuse_state.specs.Servers.{Server, forgotten, all_forgotten, with_the_looker, with_acls_offered, with_end}
 use Rattle.fuse_state.specs.declared.settings.Settings.{Settings}
 use Rattle.fuse_plans.specs.Works.{Work, give, stop, kept, keep, ◌>>=◌, ◌>>◌, obtain, replied_pid, replied_space}
+use Rattle.fuse_plans.specs.Alterations.{says_change}
 use Rattle.fuse_plans.specs.Nobody.{needs_nobody_in}
+use Rattle.fuse_plans.specs.Times.{tell_time}
 use Rattle.fuse_plans.specs.NamePlans.{find_name, make_link, make_file, make_directory, remove, removal, move_name, add_link}
 use Rattle.fuse_plans.specs.FilePlans.{open_file, create_file, read_file, write_file, close_file, sync_file}
 use Rattle.fuse_plans.specs.AttributePlans.{get_attributes, set_attributes, read_link, ask_access}
@@ -137,10 +140,16 @@ plan_of r value (BatchForget batch) = Silently (all_forgotten batch)
 plan_of r value SyncFs = Replying sync_all
 plan_of r value Unknown = Replying (stop (Lacks ENOSYS))
 
+-- the machine is told the time before what says a change
+abbrev pub told_first : Bool → Time → Task → Task
+told_first false now task = task
+told_first true now (Replying w) = Replying (tell_time now >> w)
+told_first true now (Silently f) = Silently f
+
 -- of a request whose body may not be of its form
 abbrev pub asked_for : Asked → Option (Option AccessList) → Option Operation → Task
 asked_for r value None = Replying (stop (failed EINVAL))
-asked_for r value (Some operation) = plan_of r value operation
+asked_for r value (Some operation) = told_first (says_change operation) r.now (plan_of r value operation)
 
 -- ---- requests
 

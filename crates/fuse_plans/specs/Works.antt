@@ -13,7 +13,8 @@ use Rattle.fs_model.specs.declared.call.Call.TheVariants.{Close}
 use Rattle.fs_model.specs.declared.event.Event.{Event}
 use Rattle.fs_model.specs.declared.event.Event.TheVariants.{Call as Calls}
 use Rattle.fs_model.specs.declared.reply.Reply.{Reply}
-use Rattle.fs_model.specs.declared.reply.Reply.TheVariants.{Pid, Fd, Data, Wrote, Target, Shown, Acl, Names, Space, Refused}
+use Rattle.fs_model.specs.declared.reply.Reply.TheVariants.{Pid, Fd, Data, Wrote, Target, Shown, Acl, Names, Space, Stamped, Refused}
+use Rattle.fs_model.specs.declared.reply.Stamps.{Stamps}
 use Rattle.fs_model.specs.declared.reply.Status.{Status}
 use Rattle.fs_model.specs.Limits.{descriptors_limit, processes_limit}
 use Rattle.fuse_plans.specs.Plans.{Plan, Finish, Ask, followed_by}
@@ -111,6 +112,14 @@ status_of_reply _ = None
 
 abbrev pub replied_status : Reply → Work Status
 replied_status reply = needed unexpected (status_of_reply reply)
+
+-- it is asked of no process, and a refusal is a fault of the machine
+abbrev pub stamps_of_reply : Reply → Option Stamps
+stamps_of_reply (Stamped stamps) = Some stamps
+stamps_of_reply _ = None
+
+abbrev pub replied_stamps : Reply → Work Stamps
+replied_stamps reply = needed unexpected (stamps_of_reply reply)
 
 abbrev pub fd_of_reply : Reply → Option ℕ
 fd_of_reply (Fd fd) = Some fd

@@ -1,5 +1,6 @@
 //! The laws of the plans: each is the contract of a function that does nothing.
 ghost use Rattle.fuse_plans.specs.KeepingLaws.{NamesAreKeptWhereJudged, OnlyMissingNamesAreAbsent};
+ghost use Rattle.fuse_plans.specs.TimeLaws.{TimesAreSetByRight};
 ghost use Rattle.fuse_plans.specs.ShareLaws.{RequestsKeepShares, ProcessesAreFound, DirectoriesAreFound};
 ghost use Rattle.fuse_plans.specs.AlteredTrees.{StepsChangeWhatIsSaid};
 ghost use Rattle.fuse_plans.specs.Laws.{BeginningBehaves, FailuresChangeNothing, JudgedLookupsAreGranted, OpenedIsTheObject, OthersChangeNothing, OthersKeepTimes, RequestsBehave, RequestsChangeWhatTheySay, RunsChangeWhatRequestsSay, RunsBehave, ToldNodesLeadToObjects, WhoAsksCountsOnlyWhereNeeded};
@@ -33,10 +34,11 @@ pub fn what_is_asked_may_be()
 ///
 /// Whatever the machine replies, no request asks for a call that changes more than the request says: which, `IsToldBy` lists. The
 /// size changes by SETATTR, and by OPEN and CREATE where they are to take the bytes; bytes change by WRITE, of the open file that its
-/// handle gives; mode, owner and group by SETATTR, where it gives them; a list by SETXATTR and REMOVEXATTR that name it; and a name
-/// is added, taken or moved by a request that gives that name. All other requests change nothing, nor the times of any object, which
-/// the server keeps; and the disk is never stopped. [`requests_behave`] says on what: on an object that the request is about, or in
-/// the directory of the name; and [`steps_change_what_is_said`] that the machine changes no more by such a call.
+/// handle gives; mode, owner, group and times by SETATTR, where it gives them; a list by SETXATTR and REMOVEXATTR that name it; and a
+/// name is added, taken or moved by a request that gives that name. All other requests change nothing, nor the times of any object
+/// that the server keeps, for a disk that keeps none; and the disk is never stopped. [`requests_behave`] says on what: on an object
+/// that the request is about, or in the directory of the name; and [`steps_change_what_is_said`] that the machine changes no more by
+/// such a call.
 ///
 /// So what else the machine shows stays as the kernel was told it, as long as its mount is the image's only writer. LOOKUP, GETATTR,
 /// SETATTR and what makes or links an object are answered with the attributes that it has then; of the rest the kernel knows by its
@@ -61,10 +63,20 @@ pub fn failures_change_nothing()
 ///
 /// Of a call of which it says nothing, and of an event that is no call, the tree stays, but for an object that has no name and that
 /// nobody has open any more. What is rewritten of an object is what is said: its bytes, its mode with the list that decides on access,
-/// the other list, its owner, its group; all else of it stays, and so do its names. And a name is added, taken or moved only where that
-/// is said.
+/// the other list, its owner, its group, its times; all else of it stays, and so do its names. And a name is added, taken or moved only
+/// where that is said. Where the disk keeps times, a change of the rest moves them too, to the time that the machine was told.
 pub fn steps_change_what_is_said()
     ensures { StepsChangeWhatIsSaid }
+{}
+
+/// Whatever the machine replies, times of an object are set only by right, where the disk keeps them.
+///
+/// The machine sets times without asking who it is for. So the object was shown before, by the number of its inode, and who asks
+/// counts as its owner; or no other time is set than the present, and a process of who asks has asked access(2) whether it may
+/// write, and wasn't refused. [`requests_behave`] says that this was asked of the object that the request is about. The ctime is
+/// always set to the present.
+pub fn times_are_set_by_right()
+    ensures { TimesAreSetByRight }
 {}
 
 /// What an OPEN has opened is the object of its node.

@@ -1,10 +1,10 @@
 //! Answers to requests, by their plans.
-ghost use Rattle.std.specs.Prelude.{◌≡◌, false, Option, IfOk, OnErr};
+ghost use Rattle.std.specs.Prelude.{◌≡◌, false, Option, Some, IfOk, OnErr};
 ghost use Rattle.posix_acl.specs.AccessList.{AccessList};
 ghost use Rattle.fuse_state.specs.Servers.{Server};
 ghost use Rattle.fuse_plans.specs.declared.request.Asked.{Asked as AskedBy};
 ghost use Rattle.fuse_plans.specs.Plans.{Finish, CarriesOut};
-ghost use Rattle.fuse_plans.specs.Serving.{answered, plan_of};
+ghost use Rattle.fuse_plans.specs.Serving.{answered, asked_for};
 ghost use Rattle.fuse_serving.specs.Pieces.{Answers, AnswersWithMemory};
 
 use crate::caller::Caller;
@@ -18,7 +18,7 @@ use std::alloc::{AllocError, Global};
 // The answer where memory is lacking.
 fn refused(operation: &Operation<'_>) -> Response
     ensures { (asked : AskedBy) (value : Option (Option AccessList)) (s : Server)
-        → answered false (plan_of asked value operation.now) s ≡ Finish (result, s) }
+        → answered false (asked_for asked value (Some operation.now)) s ≡ Finish (result, s) }
 {
     match operation {
         Operation::Forget(_) | Operation::Interrupt | Operation::BatchForget(_) =>

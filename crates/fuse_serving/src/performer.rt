@@ -1,8 +1,8 @@
 //! What performs the plans of requests.
-ghost use Rattle.std.specs.Prelude.{◌≡◌, true, IfOk, OnErr};
+ghost use Rattle.std.specs.Prelude.{◌≡◌, true, Some, IfOk, OnErr};
 ghost use Rattle.fuse_plans.specs.Nobody.{needs_nobody};
 ghost use Rattle.fuse_plans.specs.Plans.{CarriesOut};
-ghost use Rattle.fuse_plans.specs.Serving.{answered, plan_of};
+ghost use Rattle.fuse_plans.specs.Serving.{answered, asked_for};
 
 use fuse_plans::{Asked, Response};
 use fuse_protocol::Operation;
@@ -45,7 +45,7 @@ pub trait Performer {
         operation: &Operation<'_>,
     ) -> Result<Response, AllocError>
         ensures performed { IfOk result (λ response.
-            CarriesOut Serves (answered true (plan_of asked value operation.now) (server self.old))
+            CarriesOut Serves (answered true (asked_for asked value (Some operation.now)) (server self.old))
             (machine self.old) (machine self.new) (response, server self.new)) }
         ensures machine { OnErr result (machine self.new ≡ machine self.old) }
         ensures kept { OnErr result (server self.new ≡ server self.old) };

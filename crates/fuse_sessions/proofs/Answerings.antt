@@ -1,11 +1,12 @@
 -- What was done for a request's plan is its answer.
 --     answers        the work of the plan was done
+--     told, told-answers, told-if        the work, once the time was told
 --     refuses, is-silent        there is no work, or nothing to say
 --     with-name, with-two        the work with names that are copies
 --     answering        by which it is found that what was done is the answer
 --     begins-as        from a session that is the same
-use Rattle.std.specs.Prelude.{◌≡◌, ℕ, true, List, Result, Err}
-use Rattle.std.proofs.Common.{sym, subst}
+use Rattle.std.specs.Prelude.{◌≡◌, ℕ, Bool, true, false, List, Result, Ok, Err}
+use Rattle.std.proofs.Common.{refl, sym, subst, ◌∙◌}
 use Rattle.fs_model.specs.declared.event.Event.{Event}
 use Rattle.fs_model.specs.declared.reply.Reply.{Reply}
 use Rattle.fuse_state.specs.Servers.{Server}
@@ -15,11 +16,19 @@ use Rattle.fuse_plans.specs.declared.reply.Response.TheVariants.{Silence, Fails}
 use Rattle.fuse_sessions.specs.declared.session.Session.{Session}
 use Rattle.fuse_plans.specs.declared.stop.Stop.{Stop}
 use Rattle.fuse_plans.specs.Plans.{Finish, CarriesOut, finishes}
-use Rattle.fuse_plans.specs.Works.{Work, stop}
-use Rattle.fuse_plans.specs.Serving.{Task, Replying, Silently, answered, response_of}
+use Rattle.fuse_protocol.specs.declared.reply.Time.{Time}
+use Rattle.fuse_plans.specs.FilePlans.{when}
+use Rattle.fuse_plans.specs.Times.{tell_time}
+use Rattle.fuse_plans.specs.Works.{Work, give, stop, ◌>>=◌, ◌>>◌}
+use Rattle.fuse_plans.specs.Serving.{Task, Replying, Silently, told_first, answered, response_of}
 use Rattle.fuse_sessions.specs.Performing.{Did, Answered}
 use Rattle.fuse_steps.proofs.Steps.{carries-followed_by}
-use Rattle.fuse_sessions.proofs.Doings.{stops}
+use Rattle.fuse_sessions.proofs.Doings.{stops, then-ok}
+
+told-when : (b : Bool) (now : Time) (w : Work ReplyBody) → told_first b now (Replying w) ≡ Replying (when b (tell_time now) >> w)
+unfolding give ◌>>=◌
+told-when true now w = refl
+told-when false now w = refl
 
 module _ {M : Type 0} {Serves : M → Event → Reply → M → Type 0} where
   did-answers : {w : Work ReplyBody} {old new : Session M} {r : Result ReplyBody Stop} → Did Serves w old new r
@@ -40,6 +49,22 @@ module _ {M : Type 0} {Serves : M → Event → Reply → M → Type 0} where
       → plan ≡ Replying w → Did Serves w old new done → response ≡ response_of done → Answered Serves plan old new response
   answers {plan} {w} {old} {new} {done} {response} is did says =
       same-plan is (subst (λ (r : Response). Answered Serves (Replying w) old new r) (sym says) (did-answers did))
+
+  pub told : {v : Work (Unit {0})} {w : Work ReplyBody} {old mid new : Session M} {done : Result ReplyBody Stop}
+      → Did Serves v old mid (Ok tt) → Did Serves w mid new done → Did Serves (v >> w) old new done
+  told {v} {w} first rest = then-ok (λ _. w) first rest
+
+  pub told-answers : {plan : Task} {v : Work (Unit {0})} {w : Work ReplyBody} {old mid new : Session M} {done : Result ReplyBody Stop}
+      {response : Response}
+      → plan ≡ Replying (v >> w) → Did Serves v old mid (Ok tt) → Did Serves w mid new done → response ≡ response_of done
+      → Answered Serves plan old new response
+  told-answers is first rest says = answers is (told first rest) says
+
+  pub told-if : {plan : Task} (b : Bool) (now : Time) {w : Work ReplyBody} {old mid new : Session M} {done : Result ReplyBody Stop}
+      {response : Response}
+      → plan ≡ told_first b now (Replying w) → Did Serves (when b (tell_time now)) old mid (Ok tt) → Did Serves w mid new done
+      → response ≡ response_of done → Answered Serves plan old new response
+  told-if b now {w} is first rest says = answers (is ∙ told-when b now w) (told first rest) says
 
   pub refuses : {plan : Task} {s : Session M} (e : Stop) → plan ≡ Replying (stop e) → Answered Serves plan s s (Fails e)
   refuses {plan} {s} e is = same-plan is (did-answers {r = Err e} (stops e s))
@@ -64,7 +89,7 @@ module _ {M : Type 0} {Serves : M → Event → Reply → M → Type 0} where
   with-two {X} f {given} {copied} {second} {copied_second} {old} {new} {r} is and did =
       with-name (λ n. f given n) and (with-name (λ n. f n copied_second) is did)
 
-  pub ruleset answering = (answers, with-name, with-two)
+  pub ruleset answering = (told-answers, answers, with-name, with-two)
 
   -- what room there is doesn't count
   pub begins-as : {plan : Task} (other old : Session M) {new : Session M} {response : Response}

@@ -1,6 +1,6 @@
 //! Requests for attributes: what stat(2) shows, and what changes it.
 ghost use Rattle.std.specs.Prelude.{◌≡◌, ◌+◌, ◌≤◌, ◌&&◌, ◌||◌, not, is_some};
-ghost use Rattle.fuse_plans.specs.AttributePlans.{get_attributes, is_known_link, differs, owners_stay, new_owners, resize_object, set_size, set_owners, set_mode, is_now, may_set_times, time_after, timed, set_times, change_attributes, tell_times, set_attributes, tell_target, read_link, access_as, ask_access};
+ghost use Rattle.fuse_plans.specs.AttributePlans.{tell_attributes, get_attributes, is_known_link, differs, owners_stay, new_owners, resize_object, set_size, set_owners, set_mode, is_now, may_set_times, set_times, change_attributes, tell_times, set_attributes, tell_target, read_link, access_as, ask_access};
 ghost use Rattle.fuse_plans.specs.FilePlans.{when};
 ghost use Rattle.fuse_sessions.specs.Performing.{Did};
 ghost use Rattle.fuse_plans.specs.Works.{of_result};
@@ -11,7 +11,7 @@ use fs_cred::{Cred, may_own};
 use fs_model::{Bytes, Call, FileType, Reply, Status};
 use fuse_plans::{Asked, ReplyBody, Stop};
 use fuse_protocol::{AttrChanges, NewTime, Time};
-use fuse_state::{Server, Times, descriptor_of};
+use fuse_state::descriptor_of;
 use fuse_steps::Machine;
 use fuse_steps::name::attributes;
 use fuse_steps::replies::target_of_reply;
@@ -52,39 +52,6 @@ fn is_now(time: Option<NewTime>) -> bool
     !matches!(time, Some(NewTime::At { .. }))
 }
 
-fn time_after(now: Time, old: Time, new: Option<NewTime>) -> Time
-    ensures { result ≡ time_after now old new }
-{
-    match new {
-        None => old,
-        Some(NewTime::Now) => now,
-        Some(
-            NewTime::At {
-                seconds,
-                nanoseconds,
-            },
-        ) => Time {
-            seconds,
-            nanoseconds,
-        },
-    }
-}
-
-// An object gets the new times.
-fn note_times(server: &mut Server, now: Time, inode: u32, changes: &AttrChanges)
-    requires { 1 ≤ server.old.room }
-    ensures kept { server.new.server ≡ timed now inode changes.now server.old.server }
-    ensures room { server.old.room ≤ server.new.room + 1 }
-{
-    let old = server.times_of(inode);
-    let times = Times {
-        atime: time_after(now, old.atime, changes.atime),
-        mtime: time_after(now, old.mtime, changes.mtime),
-        ctime: now,
-    };
-    server.set_times(inode, times);
-}
-
 // Whether who asks counts as the owner.
 fn counts_as_owner(cred: &Cred, owner: u32) -> bool
     ensures { result ≡ counts_as_owner cred.now owner }
@@ -121,13 +88,21 @@ fn needs_owner(link: bool, changes: &AttrChanges) -> bool
 }
 
 impl<M: Machine> Session<M> {
+    // What is told of an object that was shown.
+    fn tell_attributes(&mut self, status: Status) -> Result<ReplyBody, Stop>
+        ensures { Did M.Serves (tell_attributes status) self.old self.new result }
+    {
+        let stamps = self.told_stamps(status.inode)?;
+        Ok(ReplyBody::Shown(attributes(&self.server, status, stamps)))
+    }
+
     /// What is told of an object.
     pub(crate) fn get_attributes(&mut self, asked: &Asked) -> Result<ReplyBody, Stop>
         ensures { Did M.Serves (get_attributes asked.entry.now) self.old self.new result }
     {
         let inode = self.the_number(asked.node)?;
         let status = self.look(inode)?;
-        Ok(ReplyBody::Shown(attributes(&self.server, status)))
+        self.tell_attributes(status)
     }
 
     // The owner and the group that are to be set. Of a link nothing changes but its times.
@@ -286,8 +261,7 @@ impl<M: Machine> Session<M> {
         };
         let is_owner = counts_as_owner(cred, status.owner);
         self.may_set_times(pid, inode, link, is_owner, changes)?;
-        note_times(&mut self.server, asked.now, inode, changes);
-        Ok(())
+        self.set_stamps(asked.now, inode, status, changes)
     }
 
     /// Changes attributes.
@@ -322,7 +296,7 @@ impl<M: Machine> Session<M> {
     {
         let status = self.look(inode)?;
         self.set_times(asked, pid, inode, link, status, changes)?;
-        Ok(ReplyBody::Shown(attributes(&self.server, status)))
+        self.tell_attributes(status)
     }
 
     /// The target of a link.

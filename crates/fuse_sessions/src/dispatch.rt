@@ -6,7 +6,7 @@ ghost use Rattle.fuse_plans.specs.FilePlans.{write_file};
 ghost use Rattle.fuse_sessions.specs.Families.{family_of};
 ghost use Rattle.fuse_sessions.specs.Performing.{Answered};
 ghost use Rattle.fuse_plans.specs.Plans.{CarriesOut};
-ghost use Rattle.fuse_plans.specs.Serving.{Replying, answered, plan_of, response_of};
+ghost use Rattle.fuse_plans.specs.Serving.{Replying, answered, told_first, asked_for, response_of};
 ghost use Rattle.fuse_sessions.specs.declared.family.Family.TheVariants as families;
 ghost use Rattle.fuse_plans.specs.declared.request.Asked.{Asked as AskedBy};
 
@@ -19,6 +19,7 @@ use fs_model::Path;
 use fuse_plans::{Asked, ReplyBody, Response, Stop};
 use fuse_protocol::{Operation, Piece};
 use fuse_steps::Machine;
+use fuse_steps::flags::is_trunc;
 use posix_acl::Acl;
 use std::alloc::AllocError;
 
@@ -116,7 +117,7 @@ impl<M: Machine> Session<M> {
         operation: &Operation<'_>,
     ) -> Result<Response, AllocError>
         ensures performed { IfOk result (λ response.
-            CarriesOut M.Serves (answered true (plan_of asked value operation.now) self.old.server.server)
+            CarriesOut M.Serves (answered true (asked_for asked value (Some operation.now)) self.old.server.server)
             self.old.machine self.new.machine (response, self.new.server.server)) }
         ensures machine { OnErr result (self.new.machine ≡ self.old.machine) }
         ensures kept { OnErr result (self.new.server.server ≡ self.old.server.server) }
@@ -134,7 +135,8 @@ impl<M: Machine> Session<M> {
         operation: &Operation<'_>,
     ) -> Result<Response, AllocError>
         requires { 8 ≤ self.old.server.room }
-        ensures answered { IfOk result (Answered M.Serves (plan_of asked.entry.now value.old operation.now) self.old self.new) }
+        ensures answered { IfOk result
+            (Answered M.Serves (asked_for asked.entry.now value.old (Some operation.now)) self.old self.new) }
         ensures stays { OnErr result (self.new ≡ self.old) }
     {
         match family_of(operation) {
@@ -152,7 +154,8 @@ impl<M: Machine> Session<M> {
     // Requests without a reply.
     fn perform_silently(&mut self, asked: &Asked, operation: &Operation<'_>) -> Response
         requires { family_of operation.now ≡ families.Silent }
-        ensures { (value : Option (Option AccessList)) → Answered M.Serves (plan_of asked.entry.now value operation.now) self.old self.new result }
+        ensures { (value : Option (Option AccessList)) →
+            Answered M.Serves (asked_for asked.entry.now value (Some operation.now)) self.old self.new result }
     {
         match operation {
             Operation::Forget(count) => {
@@ -178,21 +181,24 @@ impl<M: Machine> Session<M> {
         requires room { 8 ≤ self.old.server.room }
         requires family { family_of operation.now ≡ families.Making }
         ensures answered { (value : Option (Option AccessList)) →
-            IfOk result (Answered M.Serves (plan_of asked.entry.now value operation.now) self.old self.new) }
+            IfOk result (Answered M.Serves (asked_for asked.entry.now value (Some operation.now)) self.old self.new) }
         ensures stays { OnErr result (self.new ≡ self.old) }
     {
         match operation {
             Operation::SymLink { name, target } => {
                 let (copy, name, target) = self.copy_with_two(asked, name.bytes(), target.bytes())?;
+                self.tell_time(asked.now);
                 Ok(response_of(self.make_link(asked, copy, name, target)))
             }
             Operation::MkNod { name, mode, umask } => {
                 let (copy, name) = self.copy_with(asked, name.bytes())?;
+                self.tell_time(asked.now);
                 let made = self.make_file(asked, copy, name, *mode, *umask);
                 Ok(response_of(made))
             }
             Operation::MkDir { name, mode, umask } => {
                 let (copy, name) = self.copy_with(asked, name.bytes())?;
+                self.tell_time(asked.now);
                 let made = self.make_directory(asked, copy, name, *mode, *umask);
                 Ok(response_of(made))
             }
@@ -203,6 +209,7 @@ impl<M: Machine> Session<M> {
                 umask,
             } => {
                 let (copy, name) = self.copy_with(asked, name.bytes())?;
+                self.tell_time(asked.now);
                 let made = self.create_file(asked, copy, name, *flags, *mode, *umask);
                 Ok(response_of(made))
             }
@@ -220,7 +227,7 @@ impl<M: Machine> Session<M> {
         requires room { 8 ≤ self.old.server.room }
         requires family { family_of operation.now ≡ families.Naming }
         ensures answered { (value : Option (Option AccessList)) →
-            IfOk result (Answered M.Serves (plan_of asked.entry.now value operation.now) self.old self.new) }
+            IfOk result (Answered M.Serves (asked_for asked.entry.now value (Some operation.now)) self.old self.new) }
         ensures stays { OnErr result (self.new ≡ self.old) }
     {
         match operation {
@@ -239,11 +246,13 @@ impl<M: Machine> Session<M> {
                     name.bytes(),
                     new_name.bytes(),
                 )?;
+                self.tell_time(asked.now);
                 let moved = self.move_name(asked, copy, name, *new_directory, new_name, *flags);
                 Ok(response_of(moved))
             }
             Operation::Link { node, new_name } => {
                 let (copy, name) = self.copy_with(asked, new_name.bytes())?;
+                self.tell_time(asked.now);
                 Ok(response_of(self.add_link(asked, copy, *node, name)))
             }
             _ => unreachable!(),
@@ -260,16 +269,18 @@ impl<M: Machine> Session<M> {
         requires room { 8 ≤ self.old.server.room }
         requires family { family_of operation.now ≡ families.Removing }
         ensures answered { (value : Option (Option AccessList)) →
-            IfOk result (Answered M.Serves (plan_of asked.entry.now value operation.now) self.old self.new) }
+            IfOk result (Answered M.Serves (asked_for asked.entry.now value (Some operation.now)) self.old self.new) }
         ensures stays { OnErr result (self.new ≡ self.old) }
     {
         match operation {
             Operation::Unlink(name) => {
                 let (copy, name) = self.copy_with(asked, name.bytes())?;
+                self.tell_time(asked.now);
                 Ok(response_of(self.remove(asked, copy, name, false)))
             }
             Operation::RmDir(name) => {
                 let (copy, name) = self.copy_with(asked, name.bytes())?;
+                self.tell_time(asked.now);
                 Ok(response_of(self.remove(asked, copy, name, true)))
             }
             _ => unreachable!(),
@@ -277,7 +288,7 @@ impl<M: Machine> Session<M> {
     }
 
     // Requests for an object.
-    #[tactic(auto, using(crate::proofs::Answerings::answers))]
+    #[tactic(auto, using(crate::proofs::Answerings::answering))]
     fn perform_on_object(
         &mut self,
         asked: &Asked,
@@ -286,18 +297,20 @@ impl<M: Machine> Session<M> {
         requires room { 8 ≤ self.old.server.room }
         requires family { family_of operation.now ≡ families.OnObject }
         ensures answered { (value : Option (Option AccessList)) →
-            IfOk result (Answered M.Serves (plan_of asked.entry.now value operation.now) self.old self.new) }
+            IfOk result (Answered M.Serves (asked_for asked.entry.now value (Some operation.now)) self.old self.new) }
         ensures stays { OnErr result (self.new ≡ self.old) }
     {
         match operation {
             Operation::GetAttr => Ok(response_of(self.get_attributes(asked))),
             Operation::SetAttr(changes) => {
                 let copy = self.copy_for(asked)?;
+                self.tell_time(asked.now);
                 Ok(response_of(self.set_attributes(asked, copy, changes)))
             }
             Operation::ReadLink => Ok(response_of(self.read_link(asked))),
             Operation::Open(flags) => {
                 let copy = self.copy_for(asked)?;
+                self.tell_time_if(is_trunc(*flags), asked.now);
                 Ok(response_of(self.open_file(asked, copy, *flags)))
             }
             Operation::OpenDir => {
@@ -322,12 +335,14 @@ impl<M: Machine> Session<M> {
     ) -> Result<Response, AllocError>
         requires room { 8 ≤ self.old.server.room }
         requires family { family_of operation.now ≡ families.OnAcl }
-        ensures answered { IfOk result (Answered M.Serves (plan_of asked.entry.now value.old operation.now) self.old self.new) }
+        ensures answered { IfOk result
+            (Answered M.Serves (asked_for asked.entry.now value.old (Some operation.now)) self.old self.new) }
         ensures stays { OnErr result (self.new ≡ self.old) }
     {
         match operation {
             Operation::SetXAttr { name, .. } => {
                 let (copy, spare) = self.copy_with_acl(asked)?;
+                self.tell_time(asked.now);
                 let set = self.set_xattr(asked, copy, name.bytes(), value.take(), spare);
                 Ok(response_of(set))
             }
@@ -340,6 +355,7 @@ impl<M: Machine> Session<M> {
             }
             Operation::RemoveXAttr(name) => {
                 let (copy, spare) = self.copy_with_acl(asked)?;
+                self.tell_time(asked.now);
                 let removed = self.remove_xattr(asked, copy, name.bytes(), spare);
                 Ok(response_of(removed))
             }
@@ -356,11 +372,13 @@ impl<M: Machine> Session<M> {
         bytes: &Piece<'_>,
     ) -> Result<Response, AllocError>
         requires { 8 ≤ self.old.server.room }
-        ensures answered { IfOk result (Answered M.Serves (Replying (write_file asked.entry.now handle offset bytes.now)) self.old self.new) }
+        ensures answered { let plan = Replying (write_file asked.entry.now handle offset bytes.now) in
+            IfOk result (Answered M.Serves (told_first true asked.entry.now.now plan) self.old self.new) }
         ensures stays { OnErr result (self.new ≡ self.old) }
     {
         let bytes = bytes.bytes();
         let room = room_for_pieces(self.alloc, bytes)?;
+        self.tell_time(asked.now);
         let wrote = self.write_file(asked.now, handle, offset, bytes, room);
         Ok(response_of(wrote))
     }
@@ -375,7 +393,7 @@ impl<M: Machine> Session<M> {
         requires room { 8 ≤ self.old.server.room }
         requires family { family_of operation.now ≡ families.ByHandle }
         ensures answered { (value : Option (Option AccessList)) →
-            IfOk result (Answered M.Serves (plan_of asked.entry.now value operation.now) self.old self.new) }
+            IfOk result (Answered M.Serves (asked_for asked.entry.now value (Some operation.now)) self.old self.new) }
         ensures stays { OnErr result (self.new ≡ self.old) }
     {
         match operation {
@@ -404,7 +422,7 @@ impl<M: Machine> Session<M> {
     fn perform_on_whole(&mut self, operation: &Operation<'_>) -> Result<Response, AllocError>
         requires family { family_of operation.now ≡ families.OnWhole }
         ensures answered { (asked : AskedBy) (value : Option (Option AccessList)) →
-            IfOk result (Answered M.Serves (plan_of asked value operation.now) self.old self.new) }
+            IfOk result (Answered M.Serves (asked_for asked value (Some operation.now)) self.old self.new) }
         ensures stays { OnErr result (self.new ≡ self.old) }
     {
         match operation {

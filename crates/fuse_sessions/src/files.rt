@@ -1,6 +1,6 @@
 //! Requests that open files.
 ghost use Rattle.std.specs.Prelude.{◌≡◌, ◌+◌, ◌≤◌, ◌&&◌, not, Err};
-ghost use Rattle.fuse_plans.specs.FilePlans.{reads_alone, ask_first, touched_if, cuts_open, confirm_shown, confirm_open, open_object, open_granted, open_file, or_opened, open_or_make, show_open, look_open, file_flags, opened_body, created_body, tell_created, create_by, create_file};
+ghost use Rattle.fuse_plans.specs.FilePlans.{reads_alone, ask_first, touched_if, cuts_open, confirm_shown, confirm_open, open_object, open_granted, open_file, or_opened, open_or_make, show_open, show_timed, look_open, file_flags, opened_body, created_body, tell_created, create_by, create_file};
 ghost use Rattle.fs_cred.specs.declared.errno.Errno.TheVariants.{EEXIST};
 ghost use Rattle.fuse_plans.specs.Flags.{is_trunc, is_excl};
 ghost use Rattle.fuse_plans.specs.Stops.{is_for};
@@ -12,14 +12,14 @@ use crate::object::shown;
 use crate::session::Session;
 use bitflags::Flags as _;
 use fs_cred::{Cred, Errno};
-use fs_model::{Call, Path, Reply, Status};
+use fs_model::{Call, Path, Reply, Stamps, Status};
 use fuse_plans::{Asked, Mode, ReplyBody, Stop};
 use fuse_protocol::{OpenFlags, OpenedFlags, Time};
 use fuse_state::{Place, Server, Settings, descriptor_of};
 use fuse_steps::Machine;
 use fuse_steps::asker::{done, inside, obtain_once, or_closed};
 use fuse_steps::flags::{creating, is_excl, is_exec, is_trunc, opening};
-use fuse_steps::name::{attributes, place, plain_name};
+use fuse_steps::name::{attributes, only_inode, place, plain_name};
 use fuse_steps::replies::{fd_of_reply, handle_within};
 use posix_acl::Perms;
 
@@ -73,13 +73,19 @@ fn opened_body(server: &Server, handle: u64) -> ReplyBody
 }
 
 // What is told of a file that was opened by its making.
-fn created_body(server: &Server, name_valid: u64, handle: u64, status: Status) -> ReplyBody
-    ensures { result ≡ created_body name_valid handle status server.now.server }
+fn created_body(
+    server: &Server,
+    name_valid: u64,
+    handle: u64,
+    status: Status,
+    stamps: Option<Stamps>,
+) -> ReplyBody
+    ensures { result ≡ created_body name_valid handle status stamps server.now.server }
 {
     ReplyBody::Created {
         node: server.node_of(status.inode),
         name_valid,
-        shown: attributes(server, status),
+        shown: attributes(server, status, stamps),
         handle,
         flags: file_flags(server.settings()),
     }
@@ -155,9 +161,7 @@ fn confirm_shown<M: Machine>(
     ensures { DidByMachine M.Serves (confirm_shown pid fd inode is_cut) machine.old machine.new result }
 {
     let status = show_open(machine, pid, fd)?;
-    if status.inode != inode {
-        return Err(Stop::ESTALE);
-    }
+    only_inode(inode, status)?;
     if !is_cut {
         return Ok(());
     }
@@ -176,14 +180,6 @@ fn confirm_open<M: Machine>(
 {
     let confirmed = confirm_shown(machine, pid, fd, inode, is_cut);
     or_closed(machine, pid, fd, confirmed)
-}
-
-// What stat(2) shows of what was opened; where it shows nothing that is closed.
-fn look_open<M: Machine>(machine: &mut M, pid: usize, fd: usize) -> Result<Status, Stop>
-    ensures { DidByMachine M.Serves (look_open pid fd) machine.old machine.new result }
-{
-    let seen = show_open(machine, pid, fd);
-    or_closed(machine, pid, fd, seen)
 }
 
 impl<M: Machine> Session<M> {
@@ -266,6 +262,25 @@ impl<M: Machine> Session<M> {
         Ok(opened_body(&self.server, handle))
     }
 
+    // What stat(2) shows of what is open, and its times.
+    fn show_timed(&mut self, pid: usize, fd: usize) -> Result<(Status, Option<Stamps>), Stop>
+        ensures did { Did M.Serves (show_timed pid fd) self.old self.new result }
+        ensures kept { self.new.server ≡ self.old.server }
+    {
+        let status = show_open(&mut self.machine, pid, fd)?;
+        let stamps = self.told_stamps(status.inode)?;
+        Ok((status, stamps))
+    }
+
+    // The same; where nothing is shown that is closed.
+    fn look_open(&mut self, pid: usize, fd: usize) -> Result<(Status, Option<Stamps>), Stop>
+        ensures did { Did M.Serves (look_open pid fd) self.old self.new result }
+        ensures kept { self.new.server ≡ self.old.server }
+    {
+        let seen = self.show_timed(pid, fd);
+        or_closed(&mut self.machine, pid, fd, seen)
+    }
+
     // What was opened by a name is told, and whether it is new.
     fn tell_created(
         &mut self,
@@ -275,15 +290,16 @@ impl<M: Machine> Session<M> {
         is_new: bool,
         is_cut: bool,
         handle: u64,
-        status: Status,
+        seen: (Status, Option<Stamps>),
     ) -> Result<ReplyBody, Stop>
         requires { 5 ≤ self.old.server.room }
-        ensures { Did M.Serves (tell_created now name_valid place is_new is_cut handle status) self.old self.new result }
+        ensures { Did M.Serves (tell_created now name_valid place is_new is_cut handle seen) self.old self.new result }
     {
+        let (status, stamps) = seen;
         self.server
             .note_opened(now, place, status.inode, status.kind, is_new, is_cut);
         self.server.add_handle(handle, status.inode);
-        Ok(created_body(&self.server, name_valid, handle, status))
+        Ok(created_body(&self.server, name_valid, handle, status, stamps))
     }
 
     /// Opens a file by a name, and makes it where there is none.
@@ -329,17 +345,24 @@ impl<M: Machine> Session<M> {
         requires { 5 ≤ self.old.server.room }
         ensures { Did M.Serves (create_by now name_valid pid directory name mode flags.0 file_mode) self.old self.new result }
     {
-        let machine = &mut self.machine;
-        let (opened, name) = open_or_make(machine, pid, directory, name, mode, flags, file_mode);
+        let (opened, name) = open_or_make(
+            &mut self.machine,
+            pid,
+            directory,
+            name,
+            mode,
+            flags,
+            file_mode,
+        );
         let (reply, is_new) = opened?;
         let fd = fd_of_reply(&reply);
         reply.discard();
         let Some(handle) = handle_within(pid, fd) else {
             return Err(Stop::EIO);
         };
-        let status = look_open(machine, pid, descriptor_of(handle))?;
+        let seen = self.look_open(pid, descriptor_of(handle))?;
         let place = place(directory, name);
         let is_cut = is_trunc(flags);
-        self.tell_created(now, name_valid, place, is_new, is_cut, handle, status)
+        self.tell_created(now, name_valid, place, is_new, is_cut, handle, seen)
     }
 }

@@ -15,6 +15,7 @@ mod nobody;
 mod number;
 mod object;
 mod session;
+mod times;
 mod whole;
 mod xattrs;
 

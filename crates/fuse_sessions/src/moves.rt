@@ -182,8 +182,9 @@ impl<M: Machine> Session<M> {
         let kind = self.server.kind_of(inode);
         self.server.note_linked(now, place, inode, kind);
         let status = self.look(inode)?;
+        let stamps = self.told_stamps(status.inode)?;
         self.server.note_told(status.inode);
-        Ok(found_body(&self.server, 0, status))
+        Ok(found_body(&self.server, 0, status, stamps))
     }
 
     /// An object gets one more name.

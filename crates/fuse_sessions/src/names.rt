@@ -128,7 +128,7 @@ impl<M: Machine> Session<M> {
     {
         let (seen, name) = look_inside(&mut self.machine, pid, directory, name);
         match seen {
-            Ok(status) => Ok(self.tell_found(needs_nobody, directory, name, status)),
+            Ok(status) => self.tell_found(needs_nobody, directory, name, status),
             Err(stop) => or_keep_absent(self.server.settings(), needs_nobody, stop),
         }
     }
@@ -140,13 +140,14 @@ impl<M: Machine> Session<M> {
         directory: u32,
         name: Path,
         status: Status,
-    ) -> ReplyBody
+    ) -> Result<ReplyBody, Stop>
         requires { 2 ≤ self.old.server.room }
-        ensures { Did M.Serves (found_or_absent needs_nobody directory name (Ok status)) self.old self.new (Ok result) }
+        ensures { Did M.Serves (found_or_absent needs_nobody directory name (Ok status)) self.old self.new result }
     {
+        let stamps = self.told_stamps(status.inode)?;
         self.server
             .note_found(place(directory, name), status.inode, status.kind);
-        looked_up_body(&self.server, needs_nobody, status)
+        Ok(looked_up_body(&self.server, needs_nobody, status, stamps))
     }
 
     /// For how many seconds the kernel may keep a new name in a directory.
@@ -201,9 +202,10 @@ impl<M: Machine> Session<M> {
         let pid = self.the_looker()?;
         let (shown, name) = look_inside(&mut self.machine, pid, directory, name);
         let status = shown?;
+        let stamps = self.told_stamps(status.inode)?;
         self.server
             .add_object(now, place(directory, name), status.inode, status.kind);
-        Ok(found_body(&self.server, name_valid, status))
+        Ok(found_body(&self.server, name_valid, status, stamps))
     }
 
     // A call makes what has the name in it.

@@ -6,7 +6,7 @@ use Rattle.fuse_state.specs.Keepings.{usually_kept}
 use Rattle.fuse_state.specs.Servers.{Server, new_server, handle_of, with_process, with_handle, opened, may_take_process, may_open_directory}
 
 abbrev settings : Settings
-settings = record { sectors = 1024; inodes = 64; max_name = 120; max_write = 4096; posix_acl = true; keeping = usually_kept; start = record { seconds = 0; nanoseconds = 0 } }
+settings = record { sectors = 1024; inodes = 64; max_name = 120; keeps_times = false; max_write = 4096; posix_acl = true; keeping = usually_kept; start = record { seconds = 0; nanoseconds = 0 } }
 
 -- So many processes of a user begin, from a number on, each under another group, and each opens a file.
 abbrev crowd : ℕ → ℕ → ℕ → Server → Server

@@ -1,5 +1,6 @@
 pub mod Keepings
 pub mod Shares
+pub mod Stamps
 pub mod Servers
 pub mod Names
 pub mod Changes

@@ -5,7 +5,7 @@
 --     forgotten, all_forgotten        it forgets nodes
 --     named, with_name, without_name, born        names, all that were found and still stand
 --     place_cmp, places_of, place_of        the order of places, and where an object is known
---     times_of, touched, changed        times of objects
+--     times_of, touched, changed        times of objects, where the disk keeps none
 --     processes_of, held_by, ..        processes, and the descriptors that they hold
 --     owner_of, descriptor_of, handle_of        a handle is a process and one of its descriptors
 --     process_holders, directory_holders        whose processes hold descriptors, and who has opened directories
@@ -39,6 +39,7 @@ pub record Server : Type 0 where
   pub lookups : List (ℕ × ℕ)
   -- the names that were found and still stand, and which inodes they lead to: those of objects that it hasn't forgotten
   pub names : List (Place × ℕ)
+  -- of objects, where the disk keeps none
   pub times : List (ℕ × Times)
   -- the processes of callers, and the server's own
   pub processes : List (ℕ × Credential)
@@ -154,8 +155,13 @@ times_of s n =
     let start = s.settings.start in
     unwrap_or (get nat_cmp s.times n) (record { atime = start; mtime = start; ctime = start })
 
+-- a disk that keeps times has them for the server
+abbrev pub times_with : Bool → ℕ → Times → List (ℕ × Times) → List (ℕ × Times)
+times_with true n times old = old
+times_with false n times old = with_entry nat_cmp old n times
+
 abbrev pub with_times : ℕ → Times → Server → Server
-with_times n times s = record s { times = with_entry nat_cmp s.times n times }
+with_times n times s = record s { times = times_with s.settings.keeps_times n times s.times }
 
 -- its contents have changed
 abbrev pub touched : Time → ℕ → Server → Server

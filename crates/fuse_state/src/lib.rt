@@ -30,4 +30,4 @@ pub use place::Place;
 pub use server::{REQUEST_ROOM, Server};
 pub use settings::Settings;
 pub use shares::Shares;
-pub use times::Times;
+pub use times::{Times, stamp_of, times_shown};

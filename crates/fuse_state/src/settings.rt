@@ -18,6 +18,8 @@ pub struct Settings {
     pub inodes: u32,
     /// The most bytes of a name.
     pub max_name: u32,
-    /// When the server began: the times of each object that it knows no others of.
+    /// Whether the disk keeps times. Where it doesn't, the server does.
+    pub keeps_times: bool,
+    /// When the server began: the time of each object of which no other is known.
     pub start: Time,
 }

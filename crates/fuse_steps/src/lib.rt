@@ -11,5 +11,6 @@ pub mod name;
 pub mod path;
 pub mod paths;
 pub mod replies;
+pub mod times;
 
 pub use machine::Machine;

@@ -1,10 +1,12 @@
 //! Names in requests, and what is told of what has one.
 ghost use Rattle.std.specs.Prelude.{◌≡◌};
+ghost use Rattle.fuse_plans.specs.FilePlans.{only_inode};
 ghost use Rattle.fuse_plans.specs.NamePlans.{place, plain_name, attributes, found_body, judged_valid, looked_up_body, keeps_absent, or_keep_absent, keeps_names, unless_hidden, or_absent, only_file, only_no_replace, none_there};
 ghost use Rattle.fuse_plans.specs.Works.{of_result};
 
+use crate::times::times_in;
 use fs_cred::Errno;
-use fs_model::{Name, Path, Reply, Status};
+use fs_model::{Name, Path, Reply, Stamps, Status};
 use fuse_plans::{Attributes, OtherErrno, ReplyBody, Stop};
 use fuse_state::{Place, Server, Settings};
 
@@ -30,25 +32,41 @@ pub fn plain_name(name: &Path) -> Result<(), Stop>
     }
 }
 
-/// What is told of an object: what stat(2) shows, and the times that are kept of it.
-pub fn attributes(server: &Server, status: Status) -> Attributes
-    ensures { result ≡ attributes server.now.server status }
+/// What was shown is this object: a name may lead to another by now. ESTALE then.
+pub fn only_inode(inode: u32, status: Status) -> Result<(), Stop>
+    ensures { only_inode inode status ≡ of_result result }
+{
+    if status.inode == inode {
+        Ok(())
+    } else {
+        Err(Stop::ESTALE)
+    }
+}
+
+/// What is told of an object: what stat(2) shows, and its times: the machine's, where it has any.
+pub fn attributes(server: &Server, status: Status, stamps: Option<Stamps>) -> Attributes
+    ensures { result ≡ attributes server.now.server status stamps }
 {
     Attributes {
         status,
-        times: server.times_of(status.inode),
+        times: times_in(server, status.inode, stamps),
         valid: server.settings().keeping.attributes,
     }
 }
 
 /// What is told of an object that was found: its node too, and for how many seconds the kernel may keep the name.
-pub fn found_body(server: &Server, name_valid: u64, status: Status) -> ReplyBody
-    ensures { result ≡ found_body name_valid status server.now.server }
+pub fn found_body(
+    server: &Server,
+    name_valid: u64,
+    status: Status,
+    stamps: Option<Stamps>,
+) -> ReplyBody
+    ensures { result ≡ found_body name_valid status stamps server.now.server }
 {
     ReplyBody::Found {
         node: server.node_of(status.inode),
         name_valid,
-        shown: attributes(server, status),
+        shown: attributes(server, status, stamps),
     }
 }
 
@@ -64,14 +82,16 @@ fn judged_valid(needs_nobody: bool, settings: Settings) -> u64
 }
 
 /// What is told of an object that was looked up.
-pub fn looked_up_body(server: &Server, needs_nobody: bool, status: Status) -> ReplyBody
-    ensures { result ≡ looked_up_body needs_nobody status server.now.server }
+pub fn looked_up_body(
+    server: &Server,
+    needs_nobody: bool,
+    status: Status,
+    stamps: Option<Stamps>,
+) -> ReplyBody
+    ensures { result ≡ looked_up_body needs_nobody status stamps server.now.server }
 {
-    found_body(
-        server,
-        judged_valid(needs_nobody, server.settings()),
-        status,
-    )
+    let name_valid = judged_valid(needs_nobody, server.settings());
+    found_body(server, name_valid, status, stamps)
 }
 
 // Whether nothing has the name, and the kernel, which has judged, may keep that.

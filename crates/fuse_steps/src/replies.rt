@@ -1,8 +1,8 @@
 //! What replies of the machine hold.
 ghost use Rattle.std.specs.Prelude.{◌≡◌};
-ghost use Rattle.fuse_plans.specs.Works.{pid_of_reply, status_of_reply, fd_of_reply, count_of_reply, space_of_reply, data_of_reply, target_of_reply, acl_of_reply, names_of_reply, handle_within, within, count_within};
+ghost use Rattle.fuse_plans.specs.Works.{pid_of_reply, status_of_reply, stamps_of_reply, fd_of_reply, count_of_reply, space_of_reply, data_of_reply, target_of_reply, acl_of_reply, names_of_reply, handle_within, within, count_within};
 
-use fs_model::{Bytes, Listing, Path, Reply, Status};
+use fs_model::{Bytes, Listing, Path, Reply, Stamps, Status};
 use fuse_state::handle_of;
 use posix_acl::Acl;
 
@@ -27,6 +27,16 @@ pub fn status_of_reply(reply: &Reply) -> Option<Status>
 {
     match reply {
         Reply::Shown(status) => Some(*status),
+        _ => None,
+    }
+}
+
+/// The times of an object.
+pub fn stamps_of_reply(reply: &Reply) -> Option<Stamps>
+    ensures { result ≡ stamps_of_reply reply.now }
+{
+    match reply {
+        Reply::Stamped(stamps) => Some(*stamps),
         _ => None,
     }
 }

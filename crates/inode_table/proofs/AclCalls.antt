@@ -119,7 +119,7 @@ module _ (p : Place) (n : ℕ) (inode : Inode) (a : AccessList) (y : ℕ) (t0 t1
   pub access_is_saved : SameStore t0 t2 → PutsOnly (IsForAcl p y) (bitmaps p) 1 t0 t1 → (y ≡ 0 → TakesSpare p 0 t0 t1)
       → PutsOnly (λ t. t ≡ p.table + n / 4) [] 1 t1 t2 → IsAccessSaved p n inode a t0 t2
   access_is_saved store acl_put none inode_put = record {
-    saved = saved_with (λ v. v.acl) access_saved refl (record { kind = refl; mode = refl; uid = refl; gid = refl; names = refl; parent = refl }) store acl_put none inode_put;
+    saved = saved_with (λ v. v.acl) access_saved refl (record { kind = refl; mode = refl; uid = refl; gid = refl; names = refl; parent = refl; mtime = refl; ctime = refl; atime = refl }) store acl_put none inode_put;
     access = access_has;
     default = access_keeps_default;
   }
@@ -175,7 +175,7 @@ module _ (p : Place) (n : ℕ) (inode : Inode) (a : Option AccessList) (y : ℕ)
   pub default_is_saved : SameStore t0 t2 → PutsOnly (IsForAcl p y) (bitmaps p) 1 t0 t1 → (y ≡ 0 → TakesSpare p 0 t0 t1)
       → PutsOnly (λ t. t ≡ p.table + n / 4) [] 1 t1 t2 → IsDefaultSaved p n inode a t0 t2
   default_is_saved store acl_put none inode_put = record {
-    saved = saved_with (λ v. v.default_acl) default_saved refl (record { kind = refl; mode = refl; uid = refl; gid = refl; names = refl; parent = refl }) store acl_put none inode_put;
+    saved = saved_with (λ v. v.default_acl) default_saved refl (record { kind = refl; mode = refl; uid = refl; gid = refl; names = refl; parent = refl; mtime = refl; ctime = refl; atime = refl }) store acl_put none inode_put;
     default = default_has;
     access = default_keeps_access;
   }

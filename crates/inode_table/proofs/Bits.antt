@@ -6,7 +6,7 @@ use Rattle.fs_layout.specs.declared.inode.Kind.{Kind}
 use Rattle.fs_layout.specs.declared.inode.Kind.TheVariants.{Free, File, Directory, Link}
 use Rattle.fs_layout.specs.declared.inode.Inode.{Inode}
 use Rattle.fs_layout.specs.Inode.{FitsInode, inode_fits, numbers_fit}
-use Rattle.fs_layout.proofs.UsedInodes.{used_fits, blocks_fit}
+use Rattle.fs_layout.proofs.UsedInodes.{used_fits, blocks_fit, times_fit}
 
 -- a mode with other low bits
 abbrev pub with_low_bits : ℕ → ℕ → ℕ
@@ -25,7 +25,7 @@ pub with_acls_fits : (v : Inode) (mode access default : ℕ) → FitsInode v →
     → access < 2 ^ 32 → default < 2 ^ 32 → FitsInode (record v { mode = mode; acl = access; default_acl = default })
 unfolding inode_fits
 with_acls_fits v mode access default fits used numbers small a d =
-    used_fits used numbers small fits.uid fits.gid fits.names fits.size fits.parent a d (blocks_fit fits)
+    used_fits used numbers small fits.uid fits.gid fits.names fits.size fits.parent a d (blocks_fit fits) (times_fit fits)
 
 -- so with the permission bits of an ACL
 pub with_bits_fits : (v : Inode) (bits access default : ℕ) → FitsInode v → v.kind ≢ Free → v.kind ≢ Link → bits < 512

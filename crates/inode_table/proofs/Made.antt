@@ -181,7 +181,7 @@ module _ (p : Place) (n : ℕ) (inode : Inode) (a : AccessList) (y : ℕ) (t0 t1
 
     made_fields : KeepsFields (with_acl_bits inode a) (inode_at p t4.sectors n)
     made_fields =
-        subst (KeepsFields (with_acl_bits inode a)) (sym saved.1.is) (record { kind = refl; mode = refl; uid = refl; gid = refl; names = refl; parent = refl })
+        subst (KeepsFields (with_acl_bits inode a)) (sym saved.1.is) (record { kind = refl; mode = refl; uid = refl; gid = refl; names = refl; parent = refl; mtime = refl; ctime = refl; atime = refl })
 
     made_empty : Holds t4.sectors (inode_at p t4.sectors n) []
     made_empty =

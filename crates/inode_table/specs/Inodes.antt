@@ -13,9 +13,10 @@ use Rattle.fs_layout.specs.Images.{bit, inode_at}
 abbrev pub IsInodeOf : Place → SectorMap → Inode → Type 0
 IsInodeOf p image v = (n : ℕ) × (n < p.inodes) × (v ≡ inode_at p image n)
 
--- w is v but for mode, owner, group, count of names and parent
+-- w is v but for mode, owner, group, count of names, parent and times
 abbrev pub DiffersInAttributes : Inode → Inode → Type 0
-DiffersInAttributes v w = w ≡ (record v { mode = w.mode; uid = w.uid; gid = w.gid; names = w.names; parent = w.parent })
+DiffersInAttributes v w =
+    w ≡ (record v { mode = w.mode; uid = w.uid; gid = w.gid; names = w.names; parent = w.parent; mtime = w.mtime; ctime = w.ctime; atime = w.atime })
 
 -- an inode whose bit is clear is free
 abbrev pub ClearAreFree : Place → SectorMap → Type 0

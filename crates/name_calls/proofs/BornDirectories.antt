@@ -23,6 +23,7 @@ use Rattle.bit_alloc.specs.Inodes.{KeepsFields, Touches}
 use Rattle.inode_table.specs.Acls.{HasAcl, HasDefaultAcl, with_acl_bits, acls_take}
 use Rattle.fs_model.specs.declared.call.Call.TheVariants.{Mkdir}
 use Rattle.fs_model.specs.declared.reply.Reply.TheVariants.{Done}
+use Rattle.fs_model.specs.declared.touch.Touch.TheVariants.{Modified, Born}
 use Rattle.fs_model.specs.declared.walk.Form.TheVariants.{Parent}
 use Rattle.fs_model.specs.declared.walk.Found.{Found}
 use Rattle.fs_model.specs.Births.{the_node, born_directory}
@@ -78,7 +79,7 @@ module _ {p : Place} {n taken more : ℕ} {old new : TxnState} (free : IsFreeNum
     free = free;
     change = touches.inode;
     taken = used;
-    holds = new_directory_held new.sectors (new_directory dir uid gid bits) (inode_at p new.sectors n) uid gid refl refl refl a fields empty access dir default
+    holds = new_directory_held new.sectors (new_directory dir uid gid bits) (inode_at p new.sectors n) uid gid refl refl refl (refl, refl, refl) a fields empty access dir default
         (bits / S_ISVTX % 2 == 1) (bits / S_ISGID % 2 == 1) refl (both_bits bits few) refl has;
   }
 
@@ -105,12 +106,12 @@ is_new_name f is =
 
 module _ {p : Place} {map : SectorMap} {desks : Desks} {s : State} (at : IsStateOf p map desks s) (q : Process) (f : Found) {pid : ℕ} {path : List ℕ}
     (has : HasFound s pid q Parent path f) (bytes : IsBytes path) (is : refused_or {A = Unit {0}} (must_be_new f) (Ok tt) ≡ Ok tt) where
-  pub directory_changes : (mode : ℕ) (new : SectorMap) → first_of (make_asked p map q.cred s.tree f.dir (f.step - 1)) ≡ None
-      → ((n : ℕ) × MakesNode p f.dir f.name n (born_directory q.cred q.umask mode (the_node s.tree f.dir)) map new)
-      → IsChange p new desks s q (mkdir_demands (scene_at s q f)) (mkdir_effect mode (scene_at s q f)) Done
-  directory_changes mode new allows made =
+  pub directory_changes : (mode : ℕ) (new : SectorMap) (n : ℕ) → first_of (make_asked p map q.cred s.tree f.dir (f.step - 1)) ≡ None
+      → MakesNode p f.dir f.name n (born_directory q.cred q.umask mode (the_node s.tree f.dir)) map new
+      → IsChange p new desks s q (mkdir_demands (scene_at s q f)) (mkdir_effect mode (scene_at s q f)) Done ((f.dir, Modified) ∷ (n, Born) ∷ [])
+  directory_changes mode new n allows made =
       let x = is_new_name f is in
       let fits = parent_fits at q f has bytes x.1 in
       node_made at q f has bytes x.1 (born_directory q.cred q.umask mode (the_node s.tree f.dir))
       (directory_is_born s.room s.tree q.cred (caller_fits at has).cred (the_node s.tree f.dir) fits.group q.umask mode fits.body)
-      new made.1 (mkdir_demands (scene_at s q f)) (space_met at q f (must_be_new f ∷ []) x.0 allows) allows
+      new made (mkdir_demands (scene_at s q f)) (space_met at q f (must_be_new f ∷ []) x.0 allows) allows

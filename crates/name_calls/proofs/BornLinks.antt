@@ -22,6 +22,7 @@ use Rattle.block_map.specs.Contents.{AllowsSize}
 use Rattle.block_map.specs.Links.{IsNewLink, HasNoAcls}
 use Rattle.fs_model.specs.declared.call.Call.TheVariants.{Symlink}
 use Rattle.fs_model.specs.declared.reply.Reply.TheVariants.{Done}
+use Rattle.fs_model.specs.declared.touch.Touch.TheVariants.{Modified, Born}
 use Rattle.fs_model.specs.declared.walk.Form.TheVariants.{Parent}
 use Rattle.fs_model.specs.declared.walk.Found.{Found}
 use Rattle.fs_model.specs.Births.{the_node, born_link}
@@ -103,12 +104,12 @@ is_link_name f is =
 
 module _ {p : Place} {map : SectorMap} {desks : Desks} {s : State} (at : IsStateOf p map desks s) (q : Process) (f : Found) {pid : ℕ} {path : List ℕ}
     (has : HasFound s pid q Parent path f) (bytes : IsBytes path) (is : refused_or {A = Unit {0}} (first_of (link_name_asked f)) (Ok tt) ≡ Ok tt) where
-  pub link_changes : (target : List ℕ) → IsTarget target → (new : SectorMap) → first_of (make_asked p map q.cred s.tree f.dir (f.step - 1)) ≡ None
-      → ((n : ℕ) × MakesNode p f.dir f.name n (born_link q.cred target (the_node s.tree f.dir)) map new)
-      → IsChange p new desks s q (symlink_demands (scene_at s q f)) (symlink_effect target (scene_at s q f)) Done
-  link_changes target valid new allows made =
+  pub link_changes : (target : List ℕ) → IsTarget target → (new : SectorMap) (n : ℕ) → first_of (make_asked p map q.cred s.tree f.dir (f.step - 1)) ≡ None
+      → MakesNode p f.dir f.name n (born_link q.cred target (the_node s.tree f.dir)) map new
+      → IsChange p new desks s q (symlink_demands (scene_at s q f)) (symlink_effect target (scene_at s q f)) Done ((f.dir, Modified) ∷ (n, Born) ∷ [])
+  link_changes target valid new n allows made =
       let x = is_link_name f is in
       let fits = parent_fits at q f has bytes x.1 in
       node_made at q f has bytes x.1 (born_link q.cred target (the_node s.tree f.dir))
       (link_is_born s.room s.tree q.cred (caller_fits at has).cred (the_node s.tree f.dir) fits.group target valid)
-      new made.1 (symlink_demands (scene_at s q f)) (space_met at q f (link_name_asked f) x.0 allows) allows
+      new made (symlink_demands (scene_at s q f)) (space_met at q f (link_name_asked f) x.0 allows) allows

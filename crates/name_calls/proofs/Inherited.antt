@@ -17,7 +17,7 @@ use Rattle.inode_table.specs.Acls.{HasDefaultAcl}
 use Rattle.fs_model.specs.declared.walk.Found.{Found}
 use Rattle.fs_model.specs.Demands.{first_of}
 use Rattle.fs_model.specs.Births.{the_node, the_directory, born_acl, born_directory, born_link}
-use Rattle.fs_model.specs.Nodes.{Node, Dir, Link, default_in}
+use Rattle.fs_model.specs.Nodes.{no_stamps, Node, Dir, Link, default_in}
 use Rattle.fs_model.specs.StoredNodes.{HoldsNode}
 use Rattle.fs_model.specs.Trees.{Tree, names_of, parent}
 use Rattle.path_walk.specs.HeldTrees.{HoldsTree}
@@ -27,7 +27,7 @@ use Rattle.call_parts.specs.Makings.{CanMake, make_asked}
 use Rattle.call_parts.proofs.Makeable.{may_make}
 use Rattle.call_parts.proofs.NewFile.{set_group_says, default_is}
 use Rattle.call_parts.proofs.Shown.{the_node_is}
-use Rattle.call_parts.specs.NewNodes.{IsNewIn, IsPlaced, directory_made, link_made}
+use Rattle.call_parts.specs.NewNodes.{IsNewIn, MakesNode, directory_made, link_made}
 
 sticky_says : (s g : Bool) → ((cond s S_ISVTX 0 + cond g S_ISGID 0) / S_ISVTX % 2 == 1) ≡ s
 sticky_says true true = refl
@@ -59,7 +59,7 @@ module _ {p : Place} {map : SectorMap} {t : Tree} (h : HoldsTree p map t) {dir :
 
   pub set_group_is : (v.mode / S_ISGID % 2 == 1) ≡ (the_directory (the_node t dir)).set_group_id
   set_group_is =
-      set_group_says node.owner node.group node.body v.mode i.directory.directory held.mode
+      set_group_says node.owner node.group node.body node.stamps v.mode i.directory.directory held.mode
       ∙ sym (ap (λ (u : Node). (the_directory u).set_group_id) it_is)
 
   abbrev group_of : Credential → ℕ
@@ -75,13 +75,14 @@ module _ {p : Place} {map : SectorMap} {t : Tree} (h : HoldsTree p map t) {dir :
   default_held = default_says p.version map v node.body i.directory.directory held.body
 
   default_given : default_in node.body ≡ (the_directory (the_node t dir)).default
-  default_given = default_is node.owner node.group node.body i.directory.directory ∙ sym (ap (λ (u : Node). (the_directory u).default) it_is)
+  default_given = default_is node.owner node.group node.body node.stamps i.directory.directory ∙ sym (ap (λ (u : Node). (the_directory u).default) it_is)
 
   abbrev directory_of : ℕ → ℕ → Bool → Bool → AccessList → Option AccessList → Node
   directory_of uid gid sticky set_group_id access default = record {
     owner = uid;
     group = gid;
     body = Dir access (record { names = []; default = default; set_group_id = set_group_id; sticky = sticky });
+    stamps = no_stamps;
   }
 
   pub directory_is : (cred : Credential) (umask mode uid gid bits : ℕ) (access : AccessList) (default : Option AccessList) → uid ≡ cred.uid
@@ -104,7 +105,7 @@ module _ {p : Place} {map : SectorMap} {t : Tree} (h : HoldsTree p map t) {dir :
       ∙ ap (λ (o : Option AccessList). directory_of cred.uid (group_of cred) s (the_directory (the_node t dir)).set_group_id (born_acl d mode umask) o) given
 
   abbrev link_of : ℕ → ℕ → List ℕ → Node
-  link_of uid gid target = record { owner = uid; group = gid; body = Link target }
+  link_of uid gid target = record { owner = uid; group = gid; body = Link target; stamps = no_stamps }
 
   pub link_is : (cred : Credential) (target : List ℕ) → link_made v cred target ≡ born_link cred target (the_node t dir)
   link_is cred target = ap (λ (k : ℕ). link_of cred.uid k target) (group_is cred)
@@ -120,11 +121,11 @@ module _ (p : Place) {old mid : TxnState} {t : Tree} (h : HoldsTree p old.sector
         (kept (λ (m : SectorMap). CanMake p m t f.dir f.name) same (may_make cred (f.step - 1) met h i.directory f.name i.is_name i.short i.is_new)),
   )
 
-  pub link_placed : (v : Inode) → v ≡ inode_at p old.sectors f.dir → (cred who : Credential) (target bytes : List ℕ) → who ≡ cred → bytes ≡ target → (new : SectorMap)
-      → IsPlaced p f.dir name (link_made v who bytes) mid.sectors new → IsPlaced p f.dir f.name (born_link cred target (the_node t f.dir)) old.sectors new
-  link_placed v is cred who target bytes caller told new placed =
-      kept_back (λ (m : SectorMap). IsPlaced p f.dir f.name (born_link cred target (the_node t f.dir)) m new) same
-      (subst (λ (x : Node). IsPlaced p f.dir f.name x mid.sectors new) (link_is h i v is cred target)
-      (subst (λ (k : Credential). IsPlaced p f.dir f.name (link_made v k target) mid.sectors new) caller
-      (subst (λ (b : List ℕ). IsPlaced p f.dir f.name (link_made v who b) mid.sectors new) told
-      (subst (λ (n : List ℕ). IsPlaced p f.dir n (link_made v who bytes) mid.sectors new) named placed))))
+  pub link_placed : (v : Inode) → v ≡ inode_at p old.sectors f.dir → (cred who : Credential) (target bytes : List ℕ) → who ≡ cred → bytes ≡ target → (new : SectorMap) (n : ℕ)
+      → MakesNode p f.dir name n (link_made v who bytes) mid.sectors new → MakesNode p f.dir f.name n (born_link cred target (the_node t f.dir)) old.sectors new
+  link_placed v is cred who target bytes caller told new n made =
+      kept_back (λ (m : SectorMap). MakesNode p f.dir f.name n (born_link cred target (the_node t f.dir)) m new) same
+      (subst (λ (x : Node). MakesNode p f.dir f.name n x mid.sectors new) (link_is h i v is cred target)
+      (subst (λ (k : Credential). MakesNode p f.dir f.name n (link_made v k target) mid.sectors new) caller
+      (subst (λ (b : List ℕ). MakesNode p f.dir f.name n (link_made v who b) mid.sectors new) told
+      (subst (λ (l : List ℕ). MakesNode p f.dir l n (link_made v who bytes) mid.sectors new) named made))))

@@ -23,7 +23,8 @@ use Rattle.fs_model.specs.declared.call.Call.TheVariants.{Link}
 use Rattle.fs_model.specs.declared.reply.Reply.TheVariants.{Done}
 use Rattle.fs_model.specs.declared.walk.Found.{Found}
 use Rattle.fs_model.specs.Births.{the_node}
-use Rattle.fs_model.specs.TreeChanges.{AddName, changed, swept}
+use Rattle.fs_model.specs.declared.touch.Touch.TheVariants.{Changed, Modified}
+use Rattle.fs_model.specs.TreeChanges.{AddName, changed, touches_of, swept}
 use Rattle.fs_model.specs.Demands.{Demand, refuse, first_of, permission_on, write_and_search}
 use Rattle.fs_model.specs.Limits.{least_free}
 use Rattle.fs_model.specs.NameCalls.{link_demands, link_effect}
@@ -181,7 +182,7 @@ module _ {p : Place} (old : TxnState) {desks : Desks} {s : State} (at : IsStateO
   pub target_below : n < p.inodes
   target_below = node_below s p at.is_state at.same_room n may.target may.there
 
-  dir_below : dir < p.inodes
+  pub dir_below : dir < p.inodes
   dir_below = node_below s p at.is_state at.same_room dir directory may.directory.is_there
 
   apart : dir ≢ n
@@ -270,12 +271,13 @@ module _ {p : Place} (old : TxnState) {desks : Desks} {s : State} (at : IsStateO
 
 pub link_changes : {p : Place} {new : SectorMap} {desks : Desks} (s : State) (q : Process) (f g : Found) (n : ℕ) → number f ≡ n
     → first_of (link_demands (scene_with s q f g)) ≡ None → HoldsAll p new (placed (swept (changed s.tree (AddName g.dir g.name n)) desks))
-    → IsChange p new desks s q (link_demands (scene_with s q f g)) (λ k. link_effect (scene_with s q f g)) Done
+    → IsChange p new desks s q (link_demands (scene_with s q f g)) (λ k. link_effect (scene_with s q f g)) Done ((g.dir, Modified) ∷ (n, Changed) ∷ [])
 link_changes {p} {new} {desks} s q f g n is met holds = record {
   met = met;
   number = 0;
   change = AddName g.dir g.name (number f);
   is = refl;
   new_number = tt;
+  times = ap (λ (k : ℕ). touches_of s.tree (AddName g.dir g.name k)) is;
   holds = subst (λ (k : ℕ). HoldsAll p new (placed (swept (changed s.tree (AddName g.dir g.name k)) desks))) (sym is) holds;
 }

@@ -1,7 +1,7 @@
 -- A name that goes to another place, and what that leaves.
---     taken_after, taken_joined        how many sectors were put
 --     parented_fits        another parent fits an inode
 --     there_is, nothing_there, is_nothing, is_something        what is replaced
+--     few_renamed, touched_below        whose times move
 --     dir_below, moved_below, moved_used, named_first, named_here, leads_first, may_lead        what stands before each part
 --     entry_super, moved_same        the names have changed, and what was moved stands as before
 --     follow_super, moved_none        its parent, too; the whole where nothing was replaced
@@ -20,12 +20,10 @@ use Rattle.fs_layout.specs.Inode.{FitsInode}
 use Rattle.fs_layout.specs.Maps.{name_cmp, get, with_entry, without}
 use Rattle.fs_layout.proofs.NameMaps.{once_same, lost_of}
 use Rattle.fs_layout.proofs.Saves.{inode_kept}
-use Rattle.sector_txn.specs.Sectors.{TxnState, IsUnchanged}
-use Rattle.sector_txn.proofs.TransactionRuns.{lacking_less}
+use Rattle.sector_txn.specs.Sectors.{TxnState}
 use Rattle.bit_alloc.specs.declared.bitmap.Bitmap.TheVariants.{Inodes}
 use Rattle.bit_alloc.specs.Bitmaps.{IsNumber}
-use Rattle.bit_alloc.specs.Room.{bitmaps, TakesSpare}
-use Rattle.fs_model.specs.TreeChanges.{MoveName, changed, swept, lives_nameless}
+use Rattle.fs_model.specs.TreeChanges.{MoveName, changed, changed_at, swept, lives_nameless}
 use Rattle.fs_model.specs.Limits.{root}
 use Rattle.fs_model.specs.Nodes.{Node, is_directory, names_in}
 use Rattle.fs_model.specs.Processes.{Desks, is_open}
@@ -44,28 +42,15 @@ use Rattle.fs_model.proofs.StepsUp.{is_outside}
 use Rattle.call_parts.specs.Performing.{IsStateOf}
 use Rattle.call_parts.proofs.Calling.{state_tree}
 use Rattle.call_parts.proofs.HeldChanges.{names_held, moved_held}
-use Rattle.path_walk.proofs.HeldNodes.{Stands, stands, held_node, held_names, held_kind, names_say}
+use Rattle.path_walk.proofs.HeldNodes.{Stands, stands, held_node, held_names, held_kind, names_say, number_below}
 use Rattle.name_calls.specs.Dropping.{LosesName}
 use Rattle.call_parts.proofs.Removed.{attributes_fit}
 use Rattle.call_parts.specs.Given.{ChangesNames}
-use Rattle.name_calls.specs.Moving.{MayMove, MayLead, MovesEntry, within, across, ParentFollows, goes, stays}
+use Rattle.call_parts.specs.Times.{AreBelow}
+use Rattle.name_calls.specs.Moving.{MayMove, MayLead, MovesEntry, within, across, ParentFollows, goes, stays, renamed_touches}
 use Rattle.call_parts.specs.NewNodes.{HasName}
 use Rattle.name_calls.specs.Renaming.{inode_there}
 use Rattle.name_calls.proofs.Takings.{field_named, left_counts, left_held, left_drops}
-
--- ---- what is put
-
--- what was put, since before a read
-pub taken_after : (p : Place) (more : ℕ) {old mid : TxnState} (new : TxnState) → IsUnchanged old mid → TakesSpare p more mid new → TakesSpare p more old new
-taken_after p more {old} {mid} new same taken =
-    let room = same.room in
-    let lacks = lacking_less old mid (λ k has. same.delta k ∙ has) (bitmaps p) in
-    omega (arith, taken, room, lacks)
-
--- by one call after another
-pub taken_joined : (p : Place) (first then more : ℕ) (old mid new : TxnState) → first + then ≤ more → TakesSpare p first old mid → TakesSpare p then mid new
-    → TakesSpare p more old new
-taken_joined p first then more old mid new fits one two = omega (arith, fits, one, two)
 
 -- ---- another parent
 
@@ -104,6 +89,11 @@ is_nothing (Some m) b is set = absurd (let both : true ≡ false = is ∙ ap not
 pub is_something : (o : Option ℕ) (b : Bool) → is_some o ≡ not b → b ≡ false → o ≢ None
 is_something None b is clear none = let both : false ≡ true = is ∙ ap not clear in cc
 is_something (Some m) b is clear none = cc
+
+-- four at most
+pub few_renamed : (dir to_dir n : ℕ) (o : Option ℕ) → length (renamed_touches dir to_dir n o) + 11 ≤ 47
+few_renamed dir to_dir n None = omega arith
+few_renamed dir to_dir n (Some m) = omega arith
 
 -- ---- a name that may move
 
@@ -167,6 +157,16 @@ module _ {p : Place} (old : TxnState) {desks : Desks} {s : State} (at : IsStateO
 
   pub moved_below : n < p.inodes
   moved_below = node_below s p at.is_state at.same_room n target.node target.at
+
+  -- and so are those of all whose times move
+  pub touched_below : AreBelow p.inodes (renamed_touches dir to_dir n o)
+  touched_below = (dir_below, (to_below, (moved_below, go o refl)))
+    where
+      go : (x : Option ℕ) → o ≡ x → AreBelow p.inodes (changed_at x)
+      go None e = tt
+      go (Some m) e =
+          let entry = (are_names s.room s.tree to_directory.body (at.is_state.tree.each to_dir to_directory may.to_directory.is_there).body).each to_name m (may.to_leads ∙ e) in
+          (number_below (state_tree at) m entry.leads.1, tt)
 
   dir_held : HoldsNode p.version old.sectors (inode_at p old.sectors dir) is_dir
   dir_held = held_node (state_tree at) dir directory may.directory.is_there

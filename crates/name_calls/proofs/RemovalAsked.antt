@@ -25,6 +25,7 @@ use Rattle.fs_model.specs.declared.walk.Found.{Found}
 use Rattle.fs_model.specs.Births.{the_node, the_directory}
 use Rattle.fs_model.specs.Demands.{Demand, refuse, or_else, first_of, allowed_by, permission_on, write_and_search}
 use Rattle.fs_model.specs.Kinds.{kind_of_type}
+use Rattle.fs_model.specs.declared.reply.Stamps.{Stamps}
 use Rattle.fs_model.specs.Nodes.{Node, Body, File, Dir, Link, is_directory, type_of, shown_mode}
 use Rattle.fs_model.specs.Parts.{is_empty}
 use Rattle.fs_model.specs.Rules.{is_directory_kind}
@@ -58,11 +59,11 @@ sticky_bit n false true lt = let e : (n + 0 + 1024) / S_ISVTX % 2 ≡ 0 = omega 
 sticky_bit n false false lt = let e : (n + 0 + 0) / S_ISVTX % 2 ≡ 0 = omega (arith, lt) in ap (λ (k : ℕ). k == 1) e
 
 -- S_ISVTX of its mode is that of the directory
-sticky_says : (owner group : ℕ) (b : Body) (m : ℕ) → IsTrue (is_directory b) → m ≡ shown_mode b
-    → (m / S_ISVTX % 2 == 1) ≡ (the_directory (record { owner = owner; group = group; body = b })).sticky
-sticky_says owner group (File a bytes) m is e = absurd (cc)
-sticky_says owner group (Dir a d) m is e = ap (λ (k : ℕ). k / S_ISVTX % 2 == 1) e ∙ sticky_bit (mode_bits a) d.sticky d.set_group_id (mode_small a)
-sticky_says owner group (Link target) m is e = absurd (cc)
+sticky_says : (owner group : ℕ) (b : Body) (stamps : Stamps) (m : ℕ) → IsTrue (is_directory b) → m ≡ shown_mode b
+    → (m / S_ISVTX % 2 == 1) ≡ (the_directory (record { owner = owner; group = group; body = b; stamps = stamps })).sticky
+sticky_says owner group (File a bytes) stamps m is e = absurd (cc)
+sticky_says owner group (Dir a d) stamps m is e = ap (λ (k : ℕ). k / S_ISVTX % 2 == 1) e ∙ sticky_bit (mode_bits a) d.sticky d.set_group_id (mode_small a)
+sticky_says owner group (Link target) stamps m is e = absurd (cc)
 
 -- what S_ISVTX of a directory asks
 pub yields : {p : Place} {map : SectorMap} {t : Tree} (h : HoldsTree p map t) (cred : Credential) {f : Found} (directory : IsDirectoryAt t f.dir)
@@ -80,7 +81,7 @@ yields {p} {map} {t} h cred {f} directory {n} {v} node {d} d_is walk =
     ∙ ap (λ (k : ℕ). allowed_by walk step Remove (sticky_allows cred (the_directory dir).sticky dir.owner k)) (sym node.holds.owner)
     ∙ ap (λ (k : ℕ). allowed_by walk step Remove (sticky_allows cred (the_directory dir).sticky k v.uid)) (sym held.owner)
     ∙ ap (λ (b : Bool). allowed_by walk step Remove (sticky_allows cred b w.uid v.uid))
-    (sym (sticky_says dir.owner dir.group dir.body w.mode directory.directory held.mode))
+    (sym (sticky_says dir.owner dir.group dir.body dir.stamps w.mode directory.directory held.mode))
     ∙ ap (λ (u : Inode). sticky_asked cred u v walk step) (sym d_is)
 
 -- ---- what is asked

@@ -18,7 +18,9 @@ use Rattle.fs_model.specs.declared.walk.Form.TheVariants.{Parent}
 use Rattle.fs_model.specs.declared.walk.Found.{Found}
 use Rattle.fs_model.specs.declared.reply.Reply.TheVariants.{Done}
 use Rattle.fs_model.specs.Births.{the_node}
-use Rattle.fs_model.specs.TreeChanges.{TakeName, changed, swept}
+use Rattle.fs_model.specs.declared.touch.Touch.{Touch}
+use Rattle.fs_model.specs.declared.touch.Touch.TheVariants.{Changed, Modified}
+use Rattle.fs_model.specs.TreeChanges.{TakeName, changed, changed_at, swept}
 use Rattle.fs_model.specs.Demands.{Demand, refuse, first_of}
 use Rattle.fs_model.specs.NameCalls.{takes_name}
 use Rattle.fs_model.specs.Nodes.{Node, is_directory, names_in}
@@ -28,6 +30,7 @@ use Rattle.fs_model.specs.Rows.{row_of}
 use Rattle.fs_model.specs.Scenes.{is_found, is_special, ends_top, ends_dot, ends_dot_dot, number, must_be_there, by_path}
 use Rattle.fs_model.specs.Stands.{HoldsAll, placed}
 use Rattle.fs_model.specs.States.{State}
+use Rattle.fs_model.specs.Trees.{lookup_in}
 use Rattle.fs_model.specs.Steps.{found_by, asks_in_call}
 use Rattle.fs_model.specs.StoredNodes.{HoldsBody}
 use Rattle.fs_model.proofs.StepsDemands.{first_met, then_met, unrefused, and_false}
@@ -212,13 +215,19 @@ module _ {p : Place} {map : SectorMap} {desks : Desks} {q : Process} {f : Found}
 
 -- ---- the name is gone
 
-pub name_gone : {p : Place} {new : SectorMap} {desks : Desks} (s : State) (q : Process) (f : Found) (asked : List Demand) → first_of asked ≡ None
-    → HoldsAll p new (placed (swept (changed s.tree (TakeName f.dir f.name)) desks)) → IsChange p new desks s q asked (takes_name (scene_at s q f)) Done
-name_gone {p} {new} {desks} s q f asked met holds = record {
+-- whose times move
+abbrev taken_touches : ℕ → Option ℕ → List (ℕ × Touch)
+taken_touches dir o = (dir, Modified) ∷ changed_at o
+
+pub name_gone : {p : Place} {new : SectorMap} {desks : Desks} (s : State) (q : Process) (f : Found) (n : ℕ) (asked : List Demand) → first_of asked ≡ None → MayGo s f.dir f.name n
+    → HoldsAll p new (placed (swept (changed s.tree (TakeName f.dir f.name)) desks))
+    → IsChange p new desks s q asked (takes_name (scene_at s q f)) Done ((f.dir, Modified) ∷ (n, Changed) ∷ [])
+name_gone {p} {new} {desks} s q f n asked met may holds = record {
   met = met;
   number = 0;
   change = TakeName f.dir f.name;
   is = refl;
   new_number = tt;
+  times = ap (taken_touches f.dir) (ap (λ (o : Option Node). lookup_in o f.name) may.directory.is_there ∙ may.leads);
   holds = holds;
 }

@@ -5,7 +5,7 @@
 --     names_refuse, move_refuses, same_met, move_met        the whole
 --     IsRenamable, rename_told        where all that is asked is met
 --     may_move, rename_changes, rename_stays        the name may go, it has gone, and nothing changed
-use Rattle.std.specs.Prelude.{◌≡◌, ◌≢◌, ℕ, ◌<◌, ◌≤◌, ◌==◌, nat_lt, Bool, true, false, not, ◌&&◌, List, length, Option, None, Some, is_some, unwrap_or, if◌then◌else◌, IsTrue, Ok}
+use Rattle.std.specs.Prelude.{◌≡◌, ◌≢◌, ℕ, ◌<◌, ◌≤◌, ◌==◌, nat_lt, Bool, true, false, not, ◌&&◌, List, [], ◌∷◌, ◌++◌, length, Option, None, Some, is_some, unwrap_or, if◌then◌else◌, IsTrue, Ok}
 use Rattle.std.proofs.Common.{refl, sym, ap, subst, arith, ◌∙◌}
 use Rattle.std.proofs.lemmas.Bool.Decides.{nat_tests}
 use Rattle.fs_cred.specs.declared.errno.Errno.TheVariants.{ENOSPC}
@@ -17,7 +17,9 @@ use Rattle.fs_layout.specs.Images.{inode_at, free_sectors}
 use Rattle.fs_model.specs.declared.call.Call.TheVariants.{Rename}
 use Rattle.fs_model.specs.declared.reply.Reply.TheVariants.{Done}
 use Rattle.fs_model.specs.declared.walk.Found.{Found}
-use Rattle.fs_model.specs.TreeChanges.{Same, MoveName, changed, swept}
+use Rattle.fs_model.specs.declared.touch.Touch.{Touch}
+use Rattle.fs_model.specs.declared.touch.Touch.TheVariants.{Modified}
+use Rattle.fs_model.specs.TreeChanges.{Same, MoveName, changed, changed_at, swept}
 use Rattle.fs_model.specs.Demands.{Demand, first_of, only_if}
 use Rattle.fs_model.specs.Limits.{least_free}
 use Rattle.fs_model.specs.Nodes.{Node, names_in}
@@ -27,7 +29,7 @@ use Rattle.fs_model.specs.Rows.{row_of}
 use Rattle.fs_model.specs.Scenes.{Scene, is_found, number, changes}
 use Rattle.fs_model.specs.Stands.{HoldsAll, placed}
 use Rattle.fs_model.specs.States.{State}
-use Rattle.fs_model.specs.Trees.{Room, Tree, is_within, IsDirectoryAt}
+use Rattle.fs_model.specs.Trees.{Room, Tree, lookup, lookup_in, is_within, IsDirectoryAt}
 use Rattle.fs_model.proofs.PlacedChanges.{same_held}
 use Rattle.fs_model.proofs.StepsDemands.{first_met, unrefused}
 use Rattle.fs_model.proofs.StepsDemands as demands
@@ -42,7 +44,7 @@ use Rattle.call_parts.proofs.Changed.{IsChange}
 use Rattle.call_parts.proofs.Ownership.{all_met}
 use Rattle.call_parts.proofs.Refuses.{Refuses, refuses_some, refuses_others}
 use Rattle.call_parts.proofs.Shown.{number_of, the_node_is}
-use Rattle.name_calls.specs.Moving.{MayMove}
+use Rattle.name_calls.specs.Moving.{MayMove, renamed_touches}
 use Rattle.name_calls.specs.Removing.{IsNamedThere}
 use Rattle.name_calls.specs.Renaming.{names_asked, inode_there}
 use Rattle.name_calls.specs.Replacing.{IsToRename, same_number, move_asked}
@@ -200,27 +202,35 @@ module _ {p : Place} {map : SectorMap} {desks : Desks} {q : Process} {f g : Foun
 
 -- ---- the step
 
+-- whose times move, where the names lead to these
+abbrev both_touches : ℕ → ℕ → Option ℕ → Option ℕ → List (ℕ × Touch)
+both_touches dir to_dir o replaced = (dir, Modified) ∷ (to_dir, Modified) ∷ (changed_at o ++ changed_at replaced)
+
 module _ {p : Place} {new : SectorMap} {desks : Desks} (s : State) (q : Process) (f g : Found) (met : first_of (rename_demands (scene_with s q f g)) ≡ None) where
-  pub rename_changes : is_same (scene_with s q f g) ≡ false
+  pub rename_changes : {map : SectorMap} (n : ℕ) → MayMove p map s f.dir f.name n g.dir g.name g.ino → is_same (scene_with s q f g) ≡ false
       → HoldsAll p new (placed (swept (changed s.tree (MoveName f.dir f.name g.dir g.name)) desks))
-      → IsChange p new desks s q (rename_demands (scene_with s q f g)) (λ k. rename_effect (scene_with s q f g)) Done
-  rename_changes apart holds = record {
+      → IsChange p new desks s q (rename_demands (scene_with s q f g)) (λ k. rename_effect (scene_with s q f g)) Done (renamed_touches f.dir g.dir n g.ino)
+  rename_changes n may apart holds = record {
     met = met;
     number = 0;
     change = MoveName f.dir f.name g.dir g.name;
     is = ap (λ (b : Bool). changes (scene_with s q f g) (if b then Same else MoveName f.dir f.name g.dir g.name)) apart;
     new_number = tt;
+    times =
+        ap (λ (o : Option ℕ). both_touches f.dir g.dir o (lookup s.tree g.dir g.name)) (ap (λ (o : Option Node). lookup_in o f.name) may.directory.is_there ∙ may.leads)
+        ∙ ap (both_touches f.dir g.dir (Some n)) (ap (λ (o : Option Node). lookup_in o g.name) may.to_directory.is_there ∙ may.to_leads);
     holds = holds;
   }
 
   -- both names are of one object
   pub rename_stays : is_same (scene_with s q f g) ≡ true → IsStateOf p new desks s
-      → IsChange p new desks s q (rename_demands (scene_with s q f g)) (λ k. rename_effect (scene_with s q f g)) Done
+      → IsChange p new desks s q (rename_demands (scene_with s q f g)) (λ k. rename_effect (scene_with s q f g)) Done []
   rename_stays same at = record {
     met = met;
     number = 0;
     change = Same;
     is = ap (λ (b : Bool). changes (scene_with s q f g) (if b then Same else MoveName f.dir f.name g.dir g.name)) same;
     new_number = tt;
+    times = refl;
     holds = same_held s at.is_state at.up desks (λ k is. subst (λ (d : Desks). IsTrue (is_open d k)) at.same_desks is) p new at.holds at.same_room;
   }

@@ -3,7 +3,8 @@
 --     MayLead        a name that may lead to another inode
 --     MovesEntry        the names of one directory, or of two, are changed
 --     GetsParent, ParentFollows        what was moved gets its parent
-use Rattle.std.specs.Prelude.{◌≡◌, ◌≢◌, ◌⊎◌, ℕ, ◌<◌, ◌≤◌, false, List, [], length, Option, None, Some, IsFalse}
+--     renamed_touches        whose times a name that moves takes along
+use Rattle.std.specs.Prelude.{◌≡◌, ◌≢◌, ◌⊎◌, ℕ, ◌<◌, ◌≤◌, false, List, [], ◌∷◌, length, Option, None, Some, IsFalse}
 use Rattle.fs_layout.specs.declared.inode.Kind.TheVariants as kinds
 use Rattle.fs_layout.specs.declared.place.Place.{Place}
 use Rattle.fs_layout.specs.Bytes.{SectorMap, IsBytes}
@@ -13,10 +14,13 @@ use Rattle.fs_layout.specs.Images.{bit, free_sectors, inode_at}
 use Rattle.fs_layout.specs.Maps.{name_cmp, get, with_entry, without}
 use Rattle.fs_layout.specs.Version.{max_name, max_names}
 use Rattle.bit_alloc.specs.Inodes.{KeepsBytes, KeepsAcls}
+use Rattle.fs_model.specs.declared.touch.Touch.{Touch}
+use Rattle.fs_model.specs.declared.touch.Touch.TheVariants.{Changed, Modified}
 use Rattle.fs_model.specs.Limits.{least_free}
 use Rattle.fs_model.specs.Nodes.{names_in}
 use Rattle.fs_model.specs.Processes.{is_in_use}
 use Rattle.fs_model.specs.States.{State}
+use Rattle.fs_model.specs.TreeChanges.{changed_at}
 use Rattle.fs_model.specs.Trees.{is_within, IsDirectoryAt}
 use Rattle.call_parts.specs.Given.{ChangesNames}
 use Rattle.call_parts.specs.NewNodes.{HasName, MayBeNamed}
@@ -63,3 +67,7 @@ pub record GetsParent (p : Place) (n parent : ℕ) (old new : SectorMap) : Type 
 pub data ParentFollows (p : Place) (n dir to_dir : ℕ) (old new : SectorMap) : Type 0 where
   goes : dir ≢ to_dir → (inode_at p old n).kind ≡ kinds.Directory → GetsParent p n to_dir old new → ParentFollows p n dir to_dir old new
   stays : ((inode_at p old n).kind ≢ kinds.Directory) ⊎ (dir ≡ to_dir) → new ≡ old → ParentFollows p n dir to_dir old new
+
+-- both directories, what has the name, and what was replaced, if anything was
+abbrev pub renamed_touches : ℕ → ℕ → ℕ → Option ℕ → List (ℕ × Touch)
+renamed_touches dir to_dir n replaced = (dir, Modified) ∷ (to_dir, Modified) ∷ (n, Changed) ∷ changed_at replaced

@@ -2,21 +2,21 @@
 
 ghost use Rattle.std.specs.Prelude.{◌≡◌, ◌+◌, ◌/◌, ◌%◌, ◌<◌, ◌==◌, ℕ, cond, not, Some, Ok, option_copied, Err, OnOk, IfOk, IfErr, IsSome};
 ghost use Rattle.std.specs.Ordering.{nat_cmp};
-ghost use Rattle.call_parts.specs.DiskWords.{get, inode_at, SameStore, IsUnchanged, IsSound, HasSpare};
+ghost use Rattle.call_parts.specs.DiskWords.{get, inode_at, SameStore, IsUnchanged, IsSound, HasSpare, TakesSpare};
 ghost use Rattle.call_parts.specs.ModelWords.{Done, Desks, with_changed, standing_at, born_directory, the_node, refuse, first_of, number, must_be_new, Tree, refused_or, FailsToRead, IsAnswered, HoldsTree, IsThere};
 ghost use Rattle.fs_model.specs.declared.call.Call.TheVariants.{Mkdir, Chdir};
 ghost use Rattle.call_parts.specs.Performing.{IsReady, Performs, IsReadyFor, PerformsFor};
 ghost use Rattle.call_parts.specs.Makings.{CanMake};
 ghost use Rattle.name_calls.specs.Entering.{enter_asked};
-ghost use Rattle.call_parts.specs.NewNodes.{IsMade, IsNewIn, IsPlaced, directory_made};
+ghost use Rattle.call_parts.specs.NewNodes.{IsMade, IsNewIn, MakesNode, directory_made};
 
 use call_parts::{
     CallResult, Caller, Walked, check_is_directory, check_make, check_mode, default_of, inherited,
-    inode_found, is_new, name_inode, new_group, walk_path,
+    inode_found, is_new, name_inode, new_group, touch, walk_path,
 };
 use fs_cred::{Cred, Errno, Refusal};
 use fs_layout::{Inode, Kind, Place, S_ISGID, S_ISVTX};
-use fs_model::{Form, Found, Path, Reply};
+use fs_model::{Form, Found, Path, Reply, Touch};
 use inode_table::new_inode;
 use open_files::Procs;
 use path_walk::search;
@@ -49,16 +49,17 @@ fn place_directory<S: Sectors>(
     bits: u16,
     access: &Acl,
     default: Option<&Acl>,
-) -> Result<(), Refusal>
+) -> Result<u32, Refusal>
     requires sound { IsSound place (S.state s.old) }
     requires directory { directory ≡ inode_at place (S.state s.old).sectors dir }
     requires may { (t : Tree) × CanMake place (S.state s.old).sectors t dir name.now }
     requires bits { bits < 2048 }
     requires spare { HasSpare place 47 (S.state s.old) }
     ensures store { SameStore (S.state s.old) (S.state s.new) }
-    ensures made { OnOk result (IsPlaced place dir name.now
+    ensures made { IfOk result (λ n. MakesNode place dir name.now n
         (directory_made uid gid bits access.now (option_copied default.entry))
         (S.state s.old).sectors (S.state s.new).sectors) }
+    ensures taken { OnOk result (TakesSpare place 7 (S.state s.old) (S.state s.new)) }
     ensures err { IfErr result (FailsToRead (S.state s.old).disk (S.state s.new).disk) }
 {
     let made = Inode {
@@ -74,16 +75,16 @@ fn place_directory<S: Sectors>(
         return Err(Refusal::Failed(Errno::EIO));
     };
     name_inode(s, place, dir, directory, name, n)?;
-    Ok(())
+    Ok(n)
 }
 
-// Asks what is asked of the directory of the last lookup, and makes a directory of the last name in it.
+// Asks what is asked of the directory of the last lookup, and makes a directory of the last name in it, whose number it answers.
 fn make_directory<S: Sectors>(
     s: &mut S,
     caller: &Caller,
     walked: &Walked,
     mode: u16,
-) -> Result<(), Refusal>
+) -> Result<u32, Refusal>
     requires sound { IsSound caller.now.place (S.state s.old) }
     requires spare { HasSpare caller.now.place 47 (S.state s.old) }
     requires name { (t : Tree) × HoldsTree caller.now.place (S.state s.old).sectors t
@@ -94,6 +95,7 @@ fn make_directory<S: Sectors>(
         → IsMade caller.now.place (S.state s.old) (S.state s.new) walked.now.process.now.cred t walked.now.found
         (born_directory walked.now.process.now.cred walked.now.process.now.umask mode
         (the_node t walked.now.found.dir)) result }
+    ensures taken { OnOk result (TakesSpare caller.now.place 7 (S.state s.old) (S.state s.new)) }
 {
     let place = caller.place;
     let process = walked.process;
@@ -108,10 +110,10 @@ fn make_directory<S: Sectors>(
     let gid = new_group(&directory, cred);
     let name = found.name.bytes();
     let uid = cred.uid();
-    place_directory(
+    let n = place_directory(
         s, place, found.dir, directory, name, uid, gid, bits, &access, default,
     )?;
-    Ok(())
+    Ok(n)
 }
 
 // Asks whether nothing was found where something is to be made.
@@ -135,7 +137,14 @@ pub fn mkdir<S: Sectors>(s: &mut S, caller: &Caller, path: &Path, mode: u16) -> 
     let checks = check_mode(mode);
     let walked = walk_path(s, caller, checks, path, Form::Parent)?;
     check_new(&walked.found)?;
-    make_directory(s, caller, &walked, mode)?;
+    let n = make_directory(s, caller, &walked, mode)?;
+    let dir = walked.found.dir;
+    touch(
+        s,
+        caller.place,
+        caller.time,
+        &[(dir, Touch::Modified), (n, Touch::Born)],
+    )?;
     Ok(Reply::Done)
 }
 
@@ -169,7 +178,7 @@ fn directory_at<S: Sectors>(s: &mut S, caller: &Caller, path: &Path) -> Result<u
     ensures there { IfOk result (λ n. IsSome (get nat_cmp caller.now.procs.now caller.now.pid)) }
     ensures entered { IfOk result (λ n. (now : Desks)
         → now ≡ with_changed caller.now.procs.now caller.now.pid (standing_at n n)
-        → Performs caller.now.place caller.now.pid (Chdir path.now) (S.state s.old) (S.state s.new)
+        → Performs caller.now.place caller.now.time caller.now.pid (Chdir path.now) (S.state s.old) (S.state s.new)
         caller.now.procs.now now (Ok Done)) }
     ensures same { IsUnchanged (S.state s.old) (S.state s.new) }
 {
@@ -185,17 +194,19 @@ pub fn chdir<S: Sectors>(
     alloc: Global,
     s: &mut S,
     place: Place,
+    now: u64,
     procs: &mut Procs,
     pid: usize,
     path: &Path,
 ) -> CallResult
     requires ready { IsReady place (S.state s.old) procs.old }
-    ensures performs { Performs place pid (Chdir path.now) (S.state s.old) (S.state s.new) procs.old procs.new result }
+    ensures performs { Performs place now pid (Chdir path.now) (S.state s.old) (S.state s.new) procs.old procs.new result }
     ensures same { IsUnchanged (S.state s.old) (S.state s.new) }
 {
     let caller = Caller {
         alloc,
         place,
+        time: now,
         procs,
         pid,
     };

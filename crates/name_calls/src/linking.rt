@@ -1,7 +1,7 @@
 //! More names for what is there: POSIX.1-2017, link().
 
 ghost use Rattle.std.specs.Prelude.{◌≡◌, ◌-◌, ◌<◌, nat_le, ℕ, [], ◌∷◌, not, ◌&&◌, Some, Ok, OnOk, IfErr};
-ghost use Rattle.call_parts.specs.DiskWords.{inode_at, max_inode_names, SameStore, IsUnchanged, IsSound, HasSpare};
+ghost use Rattle.call_parts.specs.DiskWords.{inode_at, max_inode_names, SameStore, IsUnchanged, IsSound, HasSpare, TakesSpare};
 ghost use Rattle.call_parts.specs.ModelWords.{AddName, changed, swept, refuse, first_of, link_demands, Desks, is_directory_kind, number, is_special, HoldsAll, placed, State, Tree, IsDirectoryAt, refused_or, FailsToRead, IsAnswered, HoldsTree, IsThere};
 ghost use Rattle.fs_model.specs.declared.call.Call.TheVariants.{Link};
 ghost use Rattle.call_parts.specs.Performing.{IsStateOf, IsReadyFor, PerformsFor};
@@ -11,11 +11,11 @@ ghost use Rattle.call_parts.specs.TwoPaths.{scene_with, FindsBoth};
 use crate::links::check_link_name;
 use call_parts::{
     CallResult, Caller, WalkedBoth, ask_directory, ask_for_name, check_slash, inode_found,
-    name_inode, set_names, walk_both,
+    name_inode, set_names, touch, walk_both,
 };
 use fs_cred::{Errno, Refusal};
 use fs_layout::{Inode, Kind, Place};
-use fs_model::{Found, Last, Path, Reply};
+use fs_model::{Found, Last, Path, Reply, Touch};
 use open_files::Process;
 use sector_txn::Sectors;
 
@@ -147,6 +147,7 @@ fn add_name<S: Sectors>(
     ensures added { OnOk result ((desks : Desks) (st : State) → IsStateOf place (S.state s.old).sectors desks st
         → MayLink place (S.state s.old).sectors st.tree dir name.now n
         → HoldsAll place (S.state s.new).sectors (placed (swept (changed st.tree (AddName dir name.now n)) desks))) }
+    ensures room { OnOk result (TakesSpare place 5 (S.state s.old) (S.state s.new)) }
     ensures fault { IfErr result (FailsToRead (S.state s.old).disk (S.state s.new).disk) }
 {
     set_names(s, place, n, inode, inode.names + 1)?;
@@ -167,6 +168,13 @@ pub fn link<S: Sectors>(s: &mut S, caller: &Caller, old: &Path, new: &Path) -> C
     let (n, inode, directory) = check_link(s, caller, &walked)?;
     let second = &walked.second;
     let name = second.name.bytes();
-    add_name(s, caller.place, second.dir, directory, name, n, &inode)?;
+    let dir = second.dir;
+    add_name(s, caller.place, dir, directory, name, n, &inode)?;
+    touch(
+        s,
+        caller.place,
+        caller.time,
+        &[(dir, Touch::Modified), (n, Touch::Changed)],
+    )?;
     Ok(Reply::Done)
 }

@@ -1,20 +1,20 @@
 //! Symbolic links: POSIX.1-2017, symlink() and readlink().
 
-ghost use Rattle.std.specs.Prelude.{◌≡◌, ℕ, not, Ok, OnOk, IfErr};
-ghost use Rattle.call_parts.specs.DiskWords.{IsBytes, inode_at, SameStore, IsUnchanged, IsSound, HasSpare};
+ghost use Rattle.std.specs.Prelude.{◌≡◌, ℕ, not, Ok, OnOk, IfOk, IfErr};
+ghost use Rattle.call_parts.specs.DiskWords.{IsBytes, inode_at, SameStore, IsUnchanged, IsSound, HasSpare, TakesSpare};
 ghost use Rattle.call_parts.specs.ModelWords.{born_link, the_node, refuse, first_of, symlink_arguments, is_link_kind, Tree, IsTarget, refused_or, FailsToRead, HoldsTree};
 ghost use Rattle.fs_model.specs.declared.call.Call.TheVariants.{Symlink, Readlink};
 ghost use Rattle.call_parts.specs.Performing.{IsReadyFor, PerformsFor};
 ghost use Rattle.call_parts.specs.Makings.{CanMake};
-ghost use Rattle.call_parts.specs.NewNodes.{IsMade, IsNewIn, IsPlaced, link_made, link_name_asked};
+ghost use Rattle.call_parts.specs.NewNodes.{IsMade, IsNewIn, MakesNode, link_made, link_name_asked};
 
 use block_map::new_link;
 use call_parts::{
-    CallResult, Caller, Walked, check_make, is_new, name_inode, new_group, reach, walk_path,
+    CallResult, Caller, Walked, check_make, is_new, name_inode, new_group, reach, touch, walk_path,
 };
 use fs_cred::{Cred, Errno, Refusal};
 use fs_layout::{Inode, Kind, MAX_LINK_SIZE, Place};
-use fs_model::{Form, Found, Path, Reply};
+use fs_model::{Form, Found, Path, Reply, Touch};
 use path_walk::read_target;
 use sector_txn::Sectors;
 
@@ -58,15 +58,16 @@ fn place_link<S: Sectors>(
     name: &[u8],
     cred: &Cred,
     target: &[u8],
-) -> Result<(), Refusal>
+) -> Result<u32, Refusal>
     requires sound { IsSound place (S.state s.old) }
     requires directory { directory ≡ inode_at place (S.state s.old).sectors dir }
     requires may { (t : Tree) × CanMake place (S.state s.old).sectors t dir name.now }
     requires target { IsTarget target.now }
     requires spare { HasSpare place 47 (S.state s.old) }
     ensures store { SameStore (S.state s.old) (S.state s.new) }
-    ensures made { OnOk result (IsPlaced place dir name.now (link_made directory cred.now target.now)
+    ensures made { IfOk result (λ n. MakesNode place dir name.now n (link_made directory cred.now target.now)
         (S.state s.old).sectors (S.state s.new).sectors) }
+    ensures taken { OnOk result (TakesSpare place 7 (S.state s.old) (S.state s.new)) }
     ensures err { IfErr result (FailsToRead (S.state s.old).disk (S.state s.new).disk) }
 {
     let uid = cred.uid();
@@ -75,16 +76,16 @@ fn place_link<S: Sectors>(
         return Err(Refusal::Failed(Errno::EIO));
     };
     name_inode(s, place, dir, directory, name, n)?;
-    Ok(())
+    Ok(n)
 }
 
-// Asks what is asked of the directory of the last lookup, and makes a link of the last name in it.
+// Asks what is asked of the directory of the last lookup, and makes a link of the last name in it, whose number it answers.
 fn make_link<S: Sectors>(
     s: &mut S,
     caller: &Caller,
     walked: &Walked,
     target: &Path,
-) -> Result<(), Refusal>
+) -> Result<u32, Refusal>
     requires sound { IsSound caller.now.place (S.state s.old) }
     requires spare { HasSpare caller.now.place 47 (S.state s.old) }
     requires name { (t : Tree) × HoldsTree caller.now.place (S.state s.old).sectors t
@@ -95,6 +96,7 @@ fn make_link<S: Sectors>(
         → IsNewIn caller.now.place t walked.now.found.dir walked.now.found.name
         → IsMade caller.now.place (S.state s.old) (S.state s.new) walked.now.process.now.cred t walked.now.found
         (born_link walked.now.process.now.cred target.now (the_node t walked.now.found.dir)) result }
+    ensures taken { OnOk result (TakesSpare caller.now.place 7 (S.state s.old) (S.state s.new)) }
 {
     let found = &walked.found;
     let cred = walked.process.cred();
@@ -102,8 +104,8 @@ fn make_link<S: Sectors>(
     let directory = check_make(s, caller, cred, found.dir, step)?;
     let name = found.name.bytes();
     let bytes = target.bytes();
-    place_link(s, caller.place, found.dir, directory, name, cred, bytes)?;
-    Ok(())
+    let n = place_link(s, caller.place, found.dir, directory, name, cred, bytes)?;
+    Ok(n)
 }
 
 /// Makes a symbolic link. ENOENT: the target is empty, or the path ends in a slash. EINVAL: the target has a zero byte.
@@ -115,7 +117,14 @@ pub fn symlink<S: Sectors>(s: &mut S, caller: &Caller, target: &Path, path: &Pat
     let checks = check_target(target);
     let walked = walk_path(s, caller, checks, path, Form::Parent)?;
     check_link_name(&walked.found)?;
-    make_link(s, caller, &walked, target)?;
+    let n = make_link(s, caller, &walked, target)?;
+    let dir = walked.found.dir;
+    touch(
+        s,
+        caller.place,
+        caller.time,
+        &[(dir, Touch::Modified), (n, Touch::Born)],
+    )?;
     Ok(Reply::Done)
 }
 

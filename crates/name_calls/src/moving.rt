@@ -7,15 +7,16 @@ ghost use Rattle.call_parts.specs.Performing.{IsStateOf};
 ghost use Rattle.call_parts.specs.Given.{ChangesNames};
 ghost use Rattle.call_parts.specs.NewNodes.{HasName, MayBeNamed};
 ghost use Rattle.call_parts.specs.UsedInode.{IsUsedInode};
-ghost use Rattle.name_calls.specs.Moving.{MayMove, MayLead, MovesEntry, ParentFollows};
+ghost use Rattle.call_parts.specs.Times.{MayMoveTimes, MovesTimes};
+ghost use Rattle.name_calls.specs.Moving.{MayMove, MayLead, MovesEntry, ParentFollows, renamed_touches};
 ghost use Rattle.name_calls.specs.Renaming.{inode_there};
 
 use crate::dropping::lose_name;
-use call_parts::{Caller, WalkedBoth, name_inode, remove_name};
+use call_parts::{Caller, WalkedBoth, name_inode, remove_name, touch};
 use dir_core::{rename, replace};
 use fs_cred::{Errno, Refusal};
 use fs_layout::{Inode, Kind, Place};
-use fs_model::Found;
+use fs_model::{Found, Touch};
 use inode_table::save;
 use path_walk::load_inode;
 use sector_txn::Sectors;
@@ -208,6 +209,7 @@ pub(crate) fn move_name<S: Sectors>(
         → HoldsAll caller.now.place (S.state s.new).sectors
         (placed (swept (changed st.tree (MoveName walked.now.first.dir walked.now.first.name
         walked.now.second.dir walked.now.second.name)) caller.now.procs.now))) }
+    ensures room { OnOk result (TakesSpare caller.now.place 11 (S.state s.old) (S.state s.new)) }
     ensures fault { IfErr result (FailsToRead (S.state s.old).disk (S.state s.new).disk) }
 {
     let first = &walked.first;
@@ -218,4 +220,45 @@ pub(crate) fn move_name<S: Sectors>(
         lose_name(s, caller.place, caller.procs, *m, inode)?;
     }
     Ok(())
+}
+
+/// Moves the times of both directories, of inode n, which has the second name, and of what it replaced. EIO: the disk has failed.
+pub(crate) fn touch_moved<S: Sectors>(
+    s: &mut S,
+    caller: &Caller,
+    walked: &WalkedBoth,
+    n: u32,
+) -> Result<(), Refusal>
+    requires { MayMoveTimes caller.now.place
+        (renamed_touches walked.now.first.dir walked.now.second.dir n walked.now.second.ino) (S.state s.old) }
+    ensures store { SameStore (S.state s.old) (S.state s.new) }
+    ensures moved { OnOk result (MovesTimes caller.now.place caller.now.time
+        (renamed_touches walked.now.first.dir walked.now.second.dir n walked.now.second.ino) (S.state s.old) (S.state s.new)) }
+    ensures fault { IfErr result (FailsToRead (S.state s.old).disk (S.state s.new).disk) }
+{
+    let dir = walked.first.dir;
+    let to_dir = walked.second.dir;
+    match walked.second.ino {
+        Some(m) => touch(
+            s,
+            caller.place,
+            caller.time,
+            &[
+                (dir, Touch::Modified),
+                (to_dir, Touch::Modified),
+                (n, Touch::Changed),
+                (m, Touch::Changed),
+            ],
+        ),
+        None => touch(
+            s,
+            caller.place,
+            caller.time,
+            &[
+                (dir, Touch::Modified),
+                (to_dir, Touch::Modified),
+                (n, Touch::Changed),
+            ],
+        ),
+    }
 }

@@ -15,22 +15,24 @@ use open_files::Procs;
 use sector_txn::Sectors;
 use std::alloc::Global;
 
-/// Performs a call on names. `None`: it is none, and nothing is done.
+/// Performs a call on names, at this time. `None`: it is none, and nothing is done.
 pub fn perform<S: Sectors>(
     alloc: Global,
     s: &mut S,
     place: Place,
+    now: u64,
     procs: &mut Procs,
     pid: usize,
     call: &Call,
 ) -> Option<CallResult>
     requires ready { IsReady place (S.state s.old) procs.old }
     ensures { MatchOption result (IsFalse (is_on_names call.now))
-        (λ r. Performs place pid call.now (S.state s.old) (S.state s.new) procs.old procs.new r) }
+        (λ r. Performs place now pid call.now (S.state s.old) (S.state s.new) procs.old procs.new r) }
 {
     let caller = Caller {
         alloc,
         place,
+        time: now,
         procs,
         pid,
     };
@@ -42,7 +44,7 @@ pub fn perform<S: Sectors>(
         Call::Readlink(path) => Some(readlink(s, &caller, path)),
         Call::Unlink(path) => Some(unlink(s, &caller, path)),
         Call::Rename { old, new } => Some(rename(s, &caller, old, new)),
-        Call::Chdir(path) => Some(chdir(alloc, s, place, procs, pid, path)),
+        Call::Chdir(path) => Some(chdir(alloc, s, place, now, procs, pid, path)),
         _ => None,
     }
 }

@@ -1,7 +1,7 @@
 //! Removing names: POSIX.1-2017, unlink() and rmdir().
 
 ghost use Rattle.std.specs.Prelude.{◌≡◌, ◌<◌, Ok, OnOk, IfErr};
-ghost use Rattle.call_parts.specs.DiskWords.{SectorMap, inode_at, SameStore, IsUnchanged, IsSound, HasSpare};
+ghost use Rattle.call_parts.specs.DiskWords.{SectorMap, inode_at, SameStore, IsUnchanged, IsSound, HasSpare, TakesSpare};
 ghost use Rattle.call_parts.specs.ModelWords.{TakeName, changed, swept, first_of, Body, is_in_use, number, HoldsAll, placed, State, HoldsBody, Tree, refused_or, FailsToRead, IsAnswered, HoldsTree};
 ghost use Rattle.fs_layout.specs.declared.version.Version.{Version};
 ghost use Rattle.fs_model.specs.declared.call.Call.TheVariants.{Unlink, Rmdir};
@@ -13,12 +13,12 @@ ghost use Rattle.name_calls.specs.Removing.{FindsName, IsNamedThere, removal_ask
 use crate::dropping::lose_name;
 use call_parts::{
     CallResult, Caller, Walked, ask_directory, check_no_directory, check_slash, check_sticky,
-    inode_found, remove_name, walk_path,
+    inode_found, remove_name, touch, walk_path,
 };
 use dir_core::is_empty;
 use fs_cred::{Errno, Refusal};
 use fs_layout::{Inode, Kind, Place};
-use fs_model::{Form, Found, Last, Path, Reply};
+use fs_model::{Form, Found, Last, Path, Reply, Touch};
 use open_files::Procs;
 use sector_txn::Sectors;
 
@@ -154,6 +154,7 @@ fn take_name<S: Sectors>(
     ensures superblock { OnOk result ((S.state s.new).sectors 0 ≡ (S.state s.old).sectors 0) }
     ensures taken { OnOk result ((st : State) → IsStateOf place (S.state s.old).sectors procs.now st → MayGo st dir name.now n
         → HoldsAll place (S.state s.new).sectors (placed (swept (changed st.tree (TakeName dir name.now)) procs.now))) }
+    ensures room { OnOk result (TakesSpare place 6 (S.state s.old) (S.state s.new)) }
     ensures fault { IfErr result (FailsToRead (S.state s.old).disk (S.state s.new).disk) }
 {
     remove_name(s, place, dir, name)?;
@@ -170,7 +171,14 @@ fn remove_target<S: Sectors>(s: &mut S, caller: &Caller, path: &Path, what: Targ
     let (n, inode) = check_target(s, caller, &walked, what)?;
     let found = &walked.found;
     let name = found.name.bytes();
-    take_name(s, caller.place, caller.procs, found.dir, name, n, inode)?;
+    let dir = found.dir;
+    take_name(s, caller.place, caller.procs, dir, name, n, inode)?;
+    touch(
+        s,
+        caller.place,
+        caller.time,
+        &[(dir, Touch::Modified), (n, Touch::Changed)],
+    )?;
     Ok(Reply::Done)
 }
 

@@ -9,7 +9,7 @@ ghost use Rattle.name_calls.specs.Renaming.{ends_asked, names_asked, inode_there
 ghost use Rattle.name_calls.specs.Replacing.{same_number};
 ghost use Rattle.call_parts.specs.TwoPaths.{scene_with, FindsBoth};
 
-use crate::moving::move_name;
+use crate::moving::{move_name, touch_moved};
 use crate::replacing::check_move;
 use call_parts::{CallResult, Caller, WalkedBoth, inode_found, walk_both};
 use fs_cred::{Errno, Refusal};
@@ -214,5 +214,6 @@ pub fn rename<S: Sectors>(s: &mut S, caller: &Caller, old: &Path, new: &Path) ->
         return Ok(Reply::Done);
     }
     move_name(s, caller, &walked, n, &inode, &replaced)?;
+    touch_moved(s, caller, &walked, n)?;
     Ok(Reply::Done)
 }

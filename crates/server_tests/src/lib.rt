@@ -7,3 +7,5 @@ mod serving;
 mod state;
 #[cfg(test)]
 mod streams;
+#[cfg(test)]
+mod times;

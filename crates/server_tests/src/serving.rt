@@ -21,7 +21,7 @@ impl Performer for Lacking {
 
     ghost Serves = { λ _ _ _ _. ⊥ };
 
-    ghost server = { λ _. new_server (record { max_write = 4096; posix_acl = false; keeping = nothing_kept; sectors = 1; inodes = 1; max_name = 120; start = record { seconds = 0; nanoseconds = 0 } }) };
+    ghost server = { λ _. new_server (record { max_write = 4096; posix_acl = false; keeping = nothing_kept; sectors = 1; inodes = 1; max_name = 120; keeps_times = false; start = record { seconds = 0; nanoseconds = 0 } }) };
 
     fn is_ended(&self) -> bool {
         false

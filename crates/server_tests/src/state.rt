@@ -68,6 +68,7 @@ fn started(alloc: Global) -> Result<Server, AllocError> {
         sectors: 878,
         inodes: 64,
         max_name: 120,
+        keeps_times: false,
         start: at(3),
     };
     Server::new(alloc, settings)

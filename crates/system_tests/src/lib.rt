@@ -1,5 +1,6 @@
-//! Tests of what stands above the disk: the model's values and laws, the table of processes, new and damaged disks and the methods
-//! of file systems, the texts of the shell and its runs. What file systems answer to lines is tried by the program `player`.
+//! Tests of what stands above the disk: the model's values and laws, the table of processes, new and damaged disks, the methods of
+//! file systems and the times that they keep, the texts of the shell and its runs. What file systems answer to lines is tried by
+//! the program `player`.
 #![tactic(auto)]
 
 #[cfg(test)]
@@ -20,5 +21,7 @@ mod report;
 mod script_runs;
 #[cfg(test)]
 mod texts;
+#[cfg(test)]
+mod times;
 #[cfg(test)]
 mod upgrades;

@@ -19,12 +19,15 @@ impl Server {
         })
     }
 
-    /// An object has these times.
+    /// An object has these times, where the disk keeps none.
     pub fn set_times(&mut self, inode: u32, times: Times)
         requires { 1 ≤ self.old.room }
         ensures kept { self.new.server ≡ with_times inode times self.old.server }
         ensures room { self.old.room ≤ self.new.room + 1 }
     {
+        if self.settings.keeps_times {
+            return;
+        }
         self.times.put(u64::from(inode), times);
         self.room -= 1;
     }

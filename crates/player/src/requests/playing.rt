@@ -67,6 +67,7 @@ fn settings_of(fs: &mut Fs<MemDisk>, start: u64, max_write: u32) -> Option<Setti
         sectors,
         inodes: free_inodes.saturating_add(1),
         max_name: 120,
+        keeps_times: false,
         start: Time {
             seconds: start,
             nanoseconds: 0,

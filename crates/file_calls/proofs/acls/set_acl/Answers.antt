@@ -12,7 +12,9 @@ use Rattle.path_walk.proofs.Kept.{kept, kept_back, sound_kept, interrupts_later}
 use Rattle.call_parts.specs.Asked.{holder_asked, acl_space_asked}
 use Rattle.call_parts.specs.Given.{SavesAcl, SavesDefaultAcl}
 use Rattle.call_parts.proofs.Calling.{met_ok}
-use Rattle.call_parts.proofs.Reachings.{owned_refused, asked_refused, changed, reached_below, reached_access}
+use Rattle.call_parts.proofs.Changed.{may_touch}
+use Rattle.call_parts.proofs.Reachings.{owned_refused, asked_refused, broken_later, changed, reached_below, reached_access}
+use Rattle.call_parts.proofs.Removed.{taken_after}
 use Rattle.file_calls.proofs.GivenAcls.{given_super, holder_refused, space_refused, acl_changed}
 use Rattle.file_calls.proofs.Moded.{accessed_kind}
 use Rattle.file_calls.proofs.Rows.{set_acl_by_path}
@@ -83,6 +85,35 @@ returns-in_err-replace_acl g c =
     asked_refused by x.same x.owned.reached.walked new c.from_residual-in_err-replace_acl.result c.in_err-replace_acl.field-0.0 r.0 r.1
     (store_joined same.store failed.store) {A = ℕ} 0 (λ s has at. inr (interrupts_later new.disk same failed.interrupts))
 
+pub touch-requires : goal.touch-requires
+touch-requires g c =
+    let acl = option_copied c.args.acl in
+    let x = c.in_ok-reached.ensures in
+    let o = x.owned in
+    let w = o.reached.walked in
+    let at = w.ready.is_state in
+    let n = c.in_ok-reached.reached.number in
+    let v = c.in_ok-reached.reached.inode in
+    let given = (met_ok (first_of (set_acl_arguments c.args.which acl)) tt tt (sym c.check_acl-checks.ensures ∙ w.fine)).0 in
+    let holder = (met_ok (holder_asked c.args.which v.kind) tt tt (sym c.in_ok-check_holder.ensures)).0 in
+    let same = c.in_ok-ask_for_space.ensures.same in
+    let mid = g.S.Sectors.state c.reach_owned.new.s in
+    let enough = (met_ok (first_of (acl_space_asked c.args.which acl (free_sectors c.args.caller.now.place mid.sectors))) tt tt c.in_ok-ask_for_space.ensures.each).0 in
+    let new = g.S.Sectors.state c.replace_acl.new.s in
+    let done = c.in_ok-replace_acl.ensures in
+    may_touch w.ready (store_joined same.store done.store)
+    (acl_changed at (w.found w.ready.state at) o.reached.inode o.met c.args.which acl holder new.sectors enough given
+    (λ is a e. kept_back (λ (m : SectorMap). SavesAcl c.args.caller.now.place n v.mode a m new.sectors) same (done.access is a e))
+    (λ is. kept_back (λ (m : SectorMap). SavesDefaultAcl c.args.caller.now.place n acl m new.sectors) same (done.default is)))
+    (reached_below o.reached, tt) 2 (taken_after c.args.caller.now.place 2 new same done.taken) (omega arith)
+
+pub returns-in_err-touch : goal.returns-in_err-touch
+returns-in_err-touch g c =
+    let by = set_acl_by_path c.args.path.now c.args.which (option_copied c.args.acl) c.check_acl-checks.result c.check_acl-checks.ensures in
+    let x = c.in_ok-reached.ensures in
+    broken_later by x.same x.owned.reached.walked (g.S.Sectors.state c.touch.new.s) _ _ c.from_residual-in_err-touch.ensures
+    (store_joined c.in_ok-ask_for_space.ensures.same.store c.in_ok-replace_acl.ensures.store) c.in_err-touch.ensures.store c.in_err-touch.ensures.fault
+
 pub returns : goal.returns
 returns g c =
     let by = set_acl_by_path c.args.path.now c.args.which (option_copied c.args.acl) c.check_acl-checks.result c.check_acl-checks.ensures in
@@ -99,7 +130,7 @@ returns g c =
     let new = g.S.Sectors.state c.replace_acl.new.s in
     let done = c.in_ok-replace_acl.ensures in
     changed by x.same o.reached.walked new (store_joined same.store done.store)
-    (given_super c.args.caller.now.place n c.args.which acl given done.access done.default ∙ same.sectors 0) Done
+    (given_super c.args.caller.now.place n c.args.which acl given done.access done.default ∙ same.sectors 0) c.in_ok-touch.ensures.moved Done
     (λ s has at. acl_changed at has o.reached.inode o.met c.args.which acl holder new.sectors enough given
     (λ is a e. kept_back (λ (m : SectorMap). SavesAcl c.args.caller.now.place n v.mode a m new.sectors) same (done.access is a e))
     (λ is. kept_back (λ (m : SectorMap). SavesDefaultAcl c.args.caller.now.place n acl m new.sectors) same (done.default is)))

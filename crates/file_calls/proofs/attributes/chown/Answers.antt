@@ -2,7 +2,8 @@ use Rattle.std.proofs.Common.{arith, ℕ, sym, inr}
 use Rattle.fs_model.specs.declared.reply.Reply.TheVariants.{Done}
 use Rattle.sector_txn.proofs.TransactionRuns.{store_same}
 use Rattle.call_parts.proofs.Ownership.{owner_refused, owner_changed}
-use Rattle.call_parts.proofs.Reachings.{reach_refused, asked_refused, changed, reached_below, reached_used}
+use Rattle.call_parts.proofs.Changed.{may_touch}
+use Rattle.call_parts.proofs.Reachings.{reach_refused, asked_refused, broken_later, changed, reached_below, reached_used}
 use Rattle.file_calls.proofs.Rows.{chown_by_path}
 use Rattle.file_calls.proofs.attributes.chown.Goals as goal
 
@@ -39,11 +40,28 @@ returns-in_err-give_owner g c =
     c.from_residual-in_err-give_owner.result c.in_err-give_owner.field-0.0 r.0 r.1 c.in_err-give_owner.ensures.store {A = ℕ} 0
     (λ s has at. inr c.in_err-give_owner.ensures.interrupts)
 
+pub touch-requires : goal.touch-requires
+touch-requires g c =
+    let x = c.in_ok-reached.ensures in
+    let w = x.reached.walked in
+    let at = w.ready.is_state in
+    let done = c.in_ok-give_owner.ensures in
+    may_touch w.ready done.store
+    (owner_changed at (w.found w.ready.state at) x.reached.inode c.args.owner c.args.group c.unwrap_or-uid.result c.unwrap_or-gid.result c.unwrap_or-uid.ensures c.unwrap_or-gid.ensures
+    c.cred-cred.result.now tt _ c.cred-cred.ensures (sym c.in_ok-check_owner.ensures) done.given)
+    (reached_below x.reached, tt) 1 done.taken (omega arith)
+
+pub returns-in_err-touch : goal.returns-in_err-touch
+returns-in_err-touch g c =
+    let x = c.in_ok-reached.ensures in
+    broken_later (chown_by_path c.args.path.now c.args.owner c.args.group) x.same x.reached.walked (g.S.Sectors.state c.touch.new.s) _ _ c.from_residual-in_err-touch.ensures
+    c.in_ok-give_owner.ensures.store c.in_err-touch.ensures.store c.in_err-touch.ensures.fault
+
 pub returns : goal.returns
 returns g c =
     let x = c.in_ok-reached.ensures in
     let gives = c.in_ok-give_owner.ensures.given in
     changed (chown_by_path c.args.path.now c.args.owner c.args.group) x.same x.reached.walked (g.S.Sectors.state c.give_owner.new.s)
-    c.in_ok-give_owner.ensures.store gives.one.super Done
+    c.in_ok-give_owner.ensures.store gives.one.super c.in_ok-touch.ensures.moved Done
     (λ s has at. owner_changed at has x.reached.inode c.args.owner c.args.group c.unwrap_or-uid.result c.unwrap_or-gid.result c.unwrap_or-uid.ensures c.unwrap_or-gid.ensures
     c.cred-cred.result.now tt _ c.cred-cred.ensures (sym c.in_ok-check_owner.ensures) gives)

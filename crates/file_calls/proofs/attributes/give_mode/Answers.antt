@@ -11,6 +11,7 @@ use Rattle.sector_txn.proofs.TransactionRuns.{store_joined}
 use Rattle.path_walk.proofs.Kept.{kept, kept_back, sound_kept, interrupts_later, failed_with}
 use Rattle.path_walk.specs.Answers.{Interrupts}
 use Rattle.call_parts.specs.Given.{SavesAcl, special_mode}
+use Rattle.call_parts.proofs.Removed.{taken_after}
 use Rattle.file_calls.proofs.Moded.{mode_fits, mode_takes_none}
 use Rattle.file_calls.proofs.attributes.give_mode.Goals as goal
 
@@ -51,6 +52,10 @@ returns-clause-given g c = λ a h.
     (subst (λ k. SavesAcl c.args.caller.now.place c.args.n k (with_mode_bits a c.args.mode) then.sectors new.sectors) c.special_bits.ensures
     (subst (λ (x : AccessList). SavesAcl c.args.caller.now.place c.args.n c.special_bits.result x then.sectors new.sectors)
     (c.with_mode_bits-acl.ensures ∙ ap (λ (x : AccessList). with_mode_bits x c.args.mode) (c.in_ok-had.ensures.found a h)) c.in_ok-give_acl.ensures.given))
+
+pub returns-clause-taken : goal.returns-clause-taken
+returns-clause-taken g c =
+    taken_after c.args.caller.now.place 2 (g.S.Sectors.state c.give_acl.new.s) c.in_ok-had.ensures.same c.in_ok-give_acl.ensures.taken
 
 pub returns-clause-store : goal.returns-clause-store
 returns-clause-store g c = store_joined c.in_ok-had.ensures.same.store c.in_ok-give_acl.ensures.store

@@ -6,6 +6,7 @@ use Rattle.path_walk.proofs.Kept.{failed_behind}
 use Rattle.call_parts.specs.NewNodes.{file_made}
 use Rattle.call_parts.proofs.NewFile.{dir_kept, file_fits, file_taken, takes_few}
 use Rattle.call_parts.proofs.NewNames.{room_then, was_taken}
+use Rattle.call_parts.proofs.Removed.{taken_joined}
 use Rattle.file_calls.proofs.making.make_file.Goals as goal
 
 pub new_inode-requires-clause-fits : goal.new_inode-requires-clause-fits
@@ -57,3 +58,8 @@ returns-clause-made g c =
       takes = file_taken e.free e.touches e.used c.args.dir c.args.uid c.args.gid c.args.acl.now e.fields e.empty e.access e.default;
       names = c.in_ok-name_inode.ensures.named;
     }
+
+pub returns-clause-taken : goal.returns-clause-taken
+returns-clause-taken g c =
+    taken_joined c.args.place 3 4 7 (g.S.Sectors.state c.args.s.now) (g.S.Sectors.state c.new_inode.new.s) (g.S.Sectors.state c.name_inode.new.s) (omega arith)
+    c.in-Ok.ensures.touches.puts.room c.in_ok-name_inode.ensures.taken

@@ -1,4 +1,4 @@
-use Rattle.std.proofs.Common.{◌≡◌, ◌/◌, ◌%◌, ◌==◌, sym, ap, subst, inr, ◌∙◌}
+use Rattle.std.proofs.Common.{◌≡◌, ◌/◌, ◌%◌, ◌==◌, sym, ap, arith, subst, inr, ◌∙◌}
 use Rattle.std.specs.Prelude.{if◌then◌else◌}
 use Rattle.fs_cred.specs.Credentials.{Credential}
 use Rattle.fs_layout.specs.declared.inode.TheConstants.{S_ISGID}
@@ -14,15 +14,18 @@ use Rattle.path_walk.proofs.HeldNodes.{number_below, is_there}
 use Rattle.path_walk.proofs.Kept.{kept, kept_back, sound_kept, interrupts_later}
 use Rattle.call_parts.specs.Makings.{CanMake}
 use Rattle.call_parts.specs.NewNodes.{MakesNode, file_made}
+use Rattle.sector_disk.proofs.Moments.{failed_later}
+use Rattle.call_parts.proofs.Removed.{taken_after}
+use Rattle.file_calls.proofs.OpenedTimes.{reached, prepared_may_touch}
 use Rattle.file_calls.proofs.OpenFound.{refusing}
-use Rattle.file_calls.proofs.OpenMade.{directory_there, dir_default, none_is_there, make_refused, make_met, asked_of_it, few_names, can_make, finds_kept, asked_later, made_reaches}
+use Rattle.file_calls.proofs.OpenMade.{directory_there, dir_default, none_is_there, make_refused, make_met, asked_of_it, few_names, can_make, finds_kept, asked_later, made_prepares}
 use Rattle.file_calls.proofs.making.open_new.Goals as goal
 
 pub returns-in_err-check_new-clause-each : goal.returns-in_err-check_new-clause-each
 returns-in_err-check_new-clause-each g c = λ st i.
     let r = c.from_residual.ensures in
     let old = g.S.Sectors.state c.args.s.now in
-    refusing i old.sectors c.args.mode old.disk old.disk c.from_residual.result c.in_err-check_new.field-0.0 r.0 r.1
+    refusing i c.args.caller.now.time old.sectors c.args.mode old.disk old.disk c.from_residual.result c.in_err-check_new.field-0.0 r.0 r.1
     (none_is_there i c.requires.none old.disk old.disk c.in_err-check_new.field-0.0 (sym c.in_err-check_new.ensures))
 
 pub check_make-requires-clause-there : goal.check_make-requires-clause-there
@@ -36,7 +39,7 @@ returns-in_err-directory-clause-each g c = λ st i.
     let old = g.S.Sectors.state c.args.s.now in
     let new = g.S.Sectors.state c.check_make.new.s in
     let e = c.in_err-directory.field-0.0 in
-    refusing i new.sectors c.args.mode old.disk new.disk c.from_residual-in_err-directory.result e r.0 r.1
+    refusing i c.args.caller.now.time new.sectors c.args.mode old.disk new.disk c.from_residual-in_err-directory.result e r.0 r.1
     (make_refused i c.requires.none (sym c.in_ok-check_new.ensures) (inode_at c.args.caller.now.place old.sectors c.args.found.now.dir) c.cred-cred.result.now c.saturating_sub-step.result
     c.cred-cred.ensures c.saturating_sub-step.ensures old.disk new.disk e
     (c.in_err-directory.ensures.each st.tree (state_tree i.is_state) (directory_there i c.requires.none)))
@@ -66,7 +69,7 @@ pub returns-in_err-acl-clause-each : goal.returns-in_err-acl-clause-each
 returns-in_err-acl-clause-each g c = λ st i.
     let r = c.from_residual-in_err-acl.ensures in
     let new = g.S.Sectors.state c.new_acl.new.s in
-    refusing i new.sectors c.args.mode (g.S.Sectors.state c.args.s.now).disk new.disk c.from_residual-in_err-acl.result c.in_err-acl.field-0.0 r.0 r.1
+    refusing i c.args.caller.now.time new.sectors c.args.mode (g.S.Sectors.state c.args.s.now).disk new.disk c.from_residual-in_err-acl.result c.in_err-acl.field-0.0 r.0 r.1
     (inr (interrupts_later new.disk c.in_ok-directory.ensures.same c.in_err-acl.ensures.err))
 
 pub make_file-requires : goal.make_file-requires
@@ -102,17 +105,66 @@ returns-in_err-n-clause-each g c = λ st i.
     let r = c.from_residual-in_err-n.ensures in
     let old = g.S.Sectors.state c.args.s.now in
     let new = g.S.Sectors.state c.make_file.new.s in
-    refusing i new.sectors c.args.mode old.disk new.disk c.from_residual-in_err-n.result c.in_err-n.field-0.0 r.0 r.1
+    refusing i c.args.caller.now.time new.sectors c.args.mode old.disk new.disk c.from_residual-in_err-n.result c.in_err-n.field-0.0 r.0 r.1
     (inr (interrupts_later new.disk (unchanged_joined c.in_ok-directory.ensures.same c.in_ok-acl.ensures.same) (inr c.in_err-n.ensures.err)))
+
+pub touch-requires : goal.touch-requires
+touch-requires g c =
+    let x = c.requires.found in
+    let p = c.args.caller.now.place in
+    let f = c.args.found.now in
+    let mid = g.S.Sectors.state c.new_acl.new.s in
+    let new = g.S.Sectors.state c.make_file.new.s in
+    let joined = unchanged_joined c.in_ok-directory.ensures.same c.in_ok-acl.ensures.same in
+    let v = c.in_ok-directory.directory in
+    let a = c.in_ok-acl.acl in
+    let gid = c.new_group-gid.result in
+    let n = c.in_ok-n.n in
+    let later = finds_kept joined x.1 in
+    let may = sym c.in_ok-check_new.ensures in
+    let cred = c.cred-cred.result.now in
+    let step = c.saturating_sub-step.result in
+    let is = asked_later p x.0.tree f.dir step cred v joined (c.in_ok-directory.ensures.each x.0.tree (state_tree x.1.is_state) (directory_there x.1 c.requires.none)) in
+    let y = inode_at p mid.sectors f.dir in
+    let made =
+    subst (λ u. MakesNode p f.dir f.name n (file_made u gid a) mid.sectors new.sectors) (c.uid-uid.ensures ∙ ap (λ (k : Credential). k.uid) c.cred-cred.ensures)
+    (subst (λ name. MakesNode p f.dir name n (file_made c.uid-uid.result gid a) mid.sectors new.sectors) c.bytes-name.ensures.all c.in_ok-n.ensures.made) in
+    let old = g.S.Sectors.state c.args.s.now in
+    let done = c.in_ok-n.ensures in
+    let h = state_tree x.1.is_state in
+    let d = directory_there x.1 c.requires.none in
+    prepared_may_touch old new c.requires.sound c.requires.spare (store_joined joined.store done.store)
+    (made_prepares later c.requires.none c.args.mode gid a new.sectors n made v
+    (asked_of_it later c.requires.none may y cred step c.cred-cred.ensures c.saturating_sub-step.ensures v is)
+    (c.new_group-gid.ensures ∙ ap (λ (k : Credential). if v.mode / S_ISGID % 2 == 1 then v.gid else k.gid) c.cred-cred.ensures)
+    (λ d has. c.in_ok-acl.ensures.born d (kept_back (λ (m : SectorMap). HasDefaultAcl m v d) c.in_ok-acl.ensures.same has) ∙ ap (born_acl d c.args.mode) c.umask.ensures)
+    (make_met later c.requires.none may y cred step c.cred-cred.ensures c.saturating_sub-step.ensures v is)
+    (few_names later c.requires.none may y cred step c.cred-cred.ensures c.saturating_sub-step.ensures v is))
+    (number_below h f.dir (is_there x.0.tree f.dir d.node d.is_there), (made.takes.free.1, tt)) 7 (taken_after p 7 new joined done.taken) (omega arith)
+
+pub returns-in_err-touch-clause-store : goal.returns-in_err-touch-clause-store
+returns-in_err-touch-clause-store g c =
+    store_joined (store_joined (unchanged_joined c.in_ok-directory.ensures.same c.in_ok-acl.ensures.same).store c.in_ok-n.ensures.store) c.in_err-touch.ensures.store
+
+pub returns-in_err-touch-clause-each : goal.returns-in_err-touch-clause-each
+returns-in_err-touch-clause-each g c = λ st i.
+    let r = c.from_residual-in_err-touch.ensures in
+    let old = g.S.Sectors.state c.args.s.now in
+    let mid = g.S.Sectors.state c.make_file.new.s in
+    let new = g.S.Sectors.state c.touch.new.s in
+    let first = store_joined (unchanged_joined c.in_ok-directory.ensures.same c.in_ok-acl.ensures.same).store c.in_ok-n.ensures.store in
+    let fault = c.in_err-touch.ensures.fault in
+    refusing i c.args.caller.now.time new.sectors c.args.mode old.disk new.disk c.from_residual-in_err-touch.result c.in_err-touch.field-0.0 r.0 r.1
+    (inr (inr (fault.0, failed_later old.disk mid.disk new.disk first.reads.failures fault.1)))
 
 pub returns-clause-store : goal.returns-clause-store
 returns-clause-store g c =
-    store_joined (unchanged_joined c.in_ok-directory.ensures.same c.in_ok-acl.ensures.same).store c.in_ok-n.ensures.store
+    store_joined (store_joined (unchanged_joined c.in_ok-directory.ensures.same c.in_ok-acl.ensures.same).store c.in_ok-n.ensures.store) c.in_ok-touch.ensures.store
 
 pub returns-clause-superblock : goal.returns-clause-superblock
 returns-clause-superblock g c =
     let made = c.in_ok-n.ensures.made in
-    made.names.super ∙ made.takes.super ∙ (unchanged_joined c.in_ok-directory.ensures.same c.in_ok-acl.ensures.same).sectors 0
+    c.in_ok-touch.ensures.moved.super ∙ made.names.super ∙ made.takes.super ∙ (unchanged_joined c.in_ok-directory.ensures.same c.in_ok-acl.ensures.same).sectors 0
 
 pub returns-clause-each : goal.returns-clause-each
 returns-clause-each g c = λ st i.
@@ -134,9 +186,11 @@ returns-clause-each g c = λ st i.
     let made =
     subst (λ u. MakesNode p f.dir f.name n (file_made u gid a) mid.sectors new.sectors) (c.uid-uid.ensures ∙ ap (λ (k : Credential). k.uid) c.cred-cred.ensures)
     (subst (λ name. MakesNode p f.dir name n (file_made c.uid-uid.result gid a) mid.sectors new.sectors) c.bytes-name.ensures.all c.in_ok-n.ensures.made) in
-    made_reaches later c.requires.none c.args.mode gid a new.sectors n made v
+    reached i
+    (made_prepares later c.requires.none c.args.mode gid a new.sectors n made v
     (asked_of_it later c.requires.none may y cred step c.cred-cred.ensures c.saturating_sub-step.ensures v is)
     (c.new_group-gid.ensures ∙ ap (λ (k : Credential). if v.mode / S_ISGID % 2 == 1 then v.gid else k.gid) c.cred-cred.ensures)
     (λ d has. c.in_ok-acl.ensures.born d (kept_back (λ (m : SectorMap). HasDefaultAcl m v d) c.in_ok-acl.ensures.same has) ∙ ap (born_acl d c.args.mode) c.umask.ensures)
     (make_met later c.requires.none may y cred step c.cred-cred.ensures c.saturating_sub-step.ensures v is)
-    (few_names later c.requires.none may y cred step c.cred-cred.ensures c.saturating_sub-step.ensures v is)
+    (few_names later c.requires.none may y cred step c.cred-cred.ensures c.saturating_sub-step.ensures v is))
+    c.in_ok-touch.ensures.moved

@@ -57,57 +57,57 @@ pub set_acl-requires : goal.set_acl-requires
 set_acl-requires g c = record { ready = c.requires.ready }
 
 pub returns-in-Open : goal.returns-in-Open
-returns-in-Open g c = performed _ _ _ _ _ _ _ _ _ c.in-Open.is c.open.ensures
+returns-in-Open g c = performed _ _ _ _ _ _ _ _ _ _ c.in-Open.is c.open.ensures
 
 pub returns-in-Read : goal.returns-in-Read
-returns-in-Read g c = performed _ _ _ _ _ _ _ _ _ c.in-Read.is c.read.ensures.performs
+returns-in-Read g c = performed _ _ _ _ _ _ _ _ _ _ c.in-Read.is c.read.ensures.performs
 
 pub returns-in-Write : goal.returns-in-Write
-returns-in-Write g c = performed _ _ _ _ _ _ _ _ _ c.in-Write.is c.write.ensures
+returns-in-Write g c = performed _ _ _ _ _ _ _ _ _ _ c.in-Write.is c.write.ensures
 
 pub returns-in-Close : goal.returns-in-Close
-returns-in-Close g c = performed _ _ _ _ _ _ _ _ _ c.in-Close.is c.close.ensures
+returns-in-Close g c = performed _ _ _ _ _ _ _ _ _ _ c.in-Close.is (c.close.ensures c.args.now)
 
 pub returns-in-Fstat : goal.returns-in-Fstat
-returns-in-Fstat g c = performed _ _ _ _ _ _ _ _ _ c.in-Fstat.is c.fstat.ensures.performs
+returns-in-Fstat g c = performed _ _ _ _ _ _ _ _ _ _ c.in-Fstat.is c.fstat.ensures.performs
 
 pub returns-in-Ftruncate : goal.returns-in-Ftruncate
-returns-in-Ftruncate g c = performed _ _ _ _ _ _ _ _ _ c.in-Ftruncate.is c.ftruncate.ensures
+returns-in-Ftruncate g c = performed _ _ _ _ _ _ _ _ _ _ c.in-Ftruncate.is c.ftruncate.ensures
 
 pub returns-in-Readdir : goal.returns-in-Readdir
-returns-in-Readdir g c = performed _ _ _ _ _ _ _ _ _ c.in-Readdir.is c.readdir.ensures.performs
+returns-in-Readdir g c = performed _ _ _ _ _ _ _ _ _ _ c.in-Readdir.is c.readdir.ensures.performs
 
 pub returns-in-Stat : goal.returns-in-Stat
-returns-in-Stat g c = performed _ _ _ _ _ _ _ _ _ c.in-Stat.is c.stat.ensures.performs
+returns-in-Stat g c = performed _ _ _ _ _ _ _ _ _ _ c.in-Stat.is c.stat.ensures.performs
 
 pub returns-in-Lstat : goal.returns-in-Lstat
-returns-in-Lstat g c = performed _ _ _ _ _ _ _ _ _ c.in-Lstat.is c.lstat.ensures.performs
+returns-in-Lstat g c = performed _ _ _ _ _ _ _ _ _ _ c.in-Lstat.is c.lstat.ensures.performs
 
 pub returns-in-Access : goal.returns-in-Access
-returns-in-Access g c = performed _ _ _ _ _ _ _ _ _ c.in-Access.is c.access.ensures.performs
+returns-in-Access g c = performed _ _ _ _ _ _ _ _ _ _ c.in-Access.is c.access.ensures.performs
 
 pub returns-in-Truncate : goal.returns-in-Truncate
-returns-in-Truncate g c = performed _ _ _ _ _ _ _ _ _ c.in-Truncate.is c.truncate.ensures
+returns-in-Truncate g c = performed _ _ _ _ _ _ _ _ _ _ c.in-Truncate.is c.truncate.ensures
 
 pub returns-in-Chmod : goal.returns-in-Chmod
-returns-in-Chmod g c = performed _ _ _ _ _ _ _ _ _ c.in-Chmod.is c.chmod.ensures
+returns-in-Chmod g c = performed _ _ _ _ _ _ _ _ _ _ c.in-Chmod.is c.chmod.ensures
 
 pub returns-in-Chown : goal.returns-in-Chown
-returns-in-Chown g c = performed _ _ _ _ _ _ _ _ _ c.in-Chown.is c.chown.ensures
+returns-in-Chown g c = performed _ _ _ _ _ _ _ _ _ _ c.in-Chown.is c.chown.ensures
 
 pub returns-in-GetAcl : goal.returns-in-GetAcl
-returns-in-GetAcl g c = performed _ _ _ _ _ _ _ _ _ c.in-GetAcl.is c.get_acl.ensures.performs
+returns-in-GetAcl g c = performed _ _ _ _ _ _ _ _ _ _ c.in-GetAcl.is c.get_acl.ensures.performs
 
 pub returns-in-Lseek : goal.returns-in-Lseek
 returns-in-Lseek g c =
     let fits : SFits w64 c.in-Lseek.by = search rules in
-    performed _ _ _ _ _ _ _ _ _ (c.in-Lseek.is ∙ ap (λ (by : ℤ). Lseek c.in-Lseek.fd c.in-Lseek.whence by) (sym (to_z-of_z w64 c.in-Lseek.by fits))) c.lseek.ensures.performs
+    performed _ _ _ _ _ _ _ _ _ _ (c.in-Lseek.is ∙ ap (λ (by : ℤ). Lseek c.in-Lseek.fd c.in-Lseek.whence by) (sym (to_z-of_z w64 c.in-Lseek.by fits))) c.lseek.ensures.performs
 
 pub returns-in-SetAcl : goal.returns-in-SetAcl
 returns-in-SetAcl g c =
-    performed _ _ _ _ _ _ _ _ _ (c.in-SetAcl.is ∙ ap (λ (acl : Option AccessList). SetAcl c.in-SetAcl.path c.in-SetAcl.which acl) (sym c.as_ref.ensures.value)) c.set_acl.ensures
+    performed _ _ _ _ _ _ _ _ _ _ (c.in-SetAcl.is ∙ ap (λ (acl : Option AccessList). SetAcl c.in-SetAcl.path c.in-SetAcl.which acl) (sym c.as_ref.ensures.value)) c.set_acl.ensures
 
 pub returns-in-Umask : goal.returns-in-Umask
 returns-in-Umask g c =
-    performed c.args.place c.args.pid c.args.call.now _ _ _ c.args.procs.now c.umask.new.procs c.umask.result c.in-Umask.is
+    performed c.args.place c.args.now c.args.pid c.args.call.now _ _ _ c.args.procs.now c.umask.new.procs c.umask.result c.in-Umask.is
     (umask_performs c.umask.result unchanged_nothing c.umask.ensures)

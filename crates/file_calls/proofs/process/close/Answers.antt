@@ -6,12 +6,13 @@ use Rattle.open_files.specs.Tables.{without_descriptor}
 use Rattle.bit_alloc.proofs.Transactions.{unchanged_nothing}
 use Rattle.call_parts.specs.Dropping.{LeavesInode}
 use Rattle.call_parts.proofs.ByDescriptor.{open_as, opened_ok, closed_refused, unread_performs, changed_tree}
+use Rattle.call_parts.proofs.Changed.{none_moved}
 use Rattle.call_parts.proofs.Leavings.{left_super, closed_number, closed_holds}
 use Rattle.file_calls.proofs.Settled.{close_by}
 use Rattle.file_calls.proofs.process.close.Goals as goal
 
 pub returns-in_err-descriptor : goal.returns-in_err-descriptor
-returns-in_err-descriptor g c =
+returns-in_err-descriptor g c = λ time.
     let r = c.from_residual.ensures in
     closed_refused (close_by c.args.fd) c.from_residual.result c.in_err-descriptor.field-0.0 r.0 r.1 c.in_err-descriptor.ensures.refused
 
@@ -27,7 +28,7 @@ pub leave-requires-clause-spare : goal.leave-requires-clause-spare
 leave-requires-clause-spare g c = let room = c.requires.ready.spare in omega (arith, room)
 
 pub returns-in_err-leave : goal.returns-in_err-leave
-returns-in_err-leave g c =
+returns-in_err-leave g c = λ time.
     let r = c.from_residual-in_err-leave.ensures in
     let failed = c.in_err-leave.ensures in
     unread_performs (close_by c.args.fd) unchanged_nothing c.in_ok-descriptor.ensures.is_open
@@ -38,19 +39,20 @@ pub close-requires : goal.close-requires
 close-requires g c = record { «open» = opened_ok c.in_ok-descriptor.ensures.is_open.opened }
 
 pub returns : goal.returns
-returns g c =
+returns g c = λ time.
     let w = open_as c.descriptor.view_is c.in_ok-descriptor.ensures.is_open in
     let old = g.S.Sectors.state c.args.s.now in
     let new = g.S.Sectors.state c.leave.new.s in
     let left = c.in_ok-leave.ensures in
     let is = c.close.ensures.closed in
-    changed_tree (close_by c.args.fd) unchanged_nothing w new c.close.new.self left.store (left_super left.leaves) (λ q. without_descriptor q c.args.fd) Done is
+    changed_tree (close_by c.args.fd) unchanged_nothing w new c.close.new.self left.store (left_super left.leaves) (none_moved new) (λ q. without_descriptor q c.args.fd) Done is
     (λ s at. record {
       met = refl;
       number = 0;
       change = Same;
       is = refl;
       new_number = tt;
+      times = refl;
       holds = closed_holds c.close.new.self w.opened is s at
           (subst (λ b. LeavesInode c.args.place c.descriptor.inside.number b old new) (c.is_open_besides-stays_open.ensures ∙ ap (λ (x : Desks). is_open x c.descriptor.inside.number) (sym is)) left.leaves);
     })

@@ -7,7 +7,8 @@ use Rattle.fs_model.specs.Demands.{refuse}
 use Rattle.fs_model.specs.declared.reply.Reply.TheVariants.{Done}
 use Rattle.sector_txn.proofs.TransactionRuns.{store_same}
 use Rattle.call_parts.proofs.Calling.{met_ok}
-use Rattle.call_parts.proofs.ByDescriptor.{reached_as, open_refused, open_below, asked_performs, unread_performs, changed_tree}
+use Rattle.call_parts.proofs.ByDescriptor.{reached_as, open_refused, open_below, asked_performs, unread_performs, broken_later, changed_tree}
+use Rattle.call_parts.proofs.Changed.{may_touch}
 use Rattle.file_calls.proofs.Cutting.{ftruncate_by, process_stays, size_asked, cuts}
 use Rattle.file_calls.proofs.Sized.{few_enough}
 use Rattle.file_calls.proofs.Writing.{open_to_write, file_kind}
@@ -51,6 +52,25 @@ returns-in_err-give_size g c =
     unread_performs (ftruncate_by c.args.fd c.args.size) x.same x.opened.is_open (g.S.Sectors.state c.give_size.new.s)
     c.from_residual-in_err-give_size.result c.in_err-give_size.field-0.0 r.0 r.1 failed.store (λ s at. inr failed.fault)
 
+pub touch-requires : goal.touch-requires
+touch-requires g c =
+    let x = reached_as c.descriptor.view_is c.in_ok-descriptor.ensures.opened in
+    let o = x.is_open.opened in
+    let fits = few_enough (max_file_size c.args.caller.now.place.version) c.args.size (met_ok {A = Unit {0}} (refuse EFBIG (nat_lt (max_file_size c.args.caller.now.place.version) c.args.size)) tt tt (sym c.in_ok-check_size.ensures)).0 in
+    let mid = g.S.Sectors.state c.reach_open.new.s in
+    let new = g.S.Sectors.state c.give_size.new.s in
+    let done = c.in_ok-give_size.ensures in
+    let s = x.ready.state in
+    let at = x.ready.is_state in
+    may_touch x.ready done.store (cuts mid o c.args.size s at new (open_to_write x.is_open) fits (process_stays o x.table) done.change)
+    (open_below o s at, tt) 4 done.taken (omega arith)
+
+pub returns-in_err-touch : goal.returns-in_err-touch
+returns-in_err-touch g c =
+    let x = c.in_ok-descriptor.ensures in
+    broken_later (ftruncate_by c.args.fd c.args.size) x.same x.opened.is_open (g.S.Sectors.state c.touch.new.s) _ _ c.from_residual-in_err-touch.ensures
+    c.in_ok-give_size.ensures.store c.in_err-touch.ensures.store c.in_err-touch.ensures.fault
+
 pub returns : goal.returns
 returns g c =
     let x = reached_as c.descriptor.view_is c.in_ok-descriptor.ensures.opened in
@@ -59,5 +79,5 @@ returns g c =
     let new = g.S.Sectors.state c.give_size.new.s in
     let done = c.in_ok-give_size.ensures in
     let stays = process_stays x.is_open.opened x.table in
-    changed_tree (ftruncate_by c.args.fd c.args.size) c.in_ok-descriptor.ensures.same x.is_open new c.args.caller.now.procs.now done.store done.change.super (λ p. p) Done stays
+    changed_tree (ftruncate_by c.args.fd c.args.size) c.in_ok-descriptor.ensures.same x.is_open new c.args.caller.now.procs.now done.store done.change.super c.in_ok-touch.ensures.moved (λ p. p) Done stays
     (λ s at. cuts mid x.is_open.opened c.args.size s at new (open_to_write x.is_open) fits stays done.change)

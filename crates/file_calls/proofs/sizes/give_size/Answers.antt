@@ -15,6 +15,12 @@ pub returns-in-Ok-clause-change : goal.returns-in-Ok-clause-change
 returns-in-Ok-clause-change g c =
     content_changes (λ held. resized held c.args.size) c.requires.inode c.in-Ok.ensures.change c.in-Ok.ensures.held
 
+pub returns-in-Ok-clause-taken : goal.returns-in-Ok-clause-taken
+returns-in-Ok-clause-taken g c =
+    let few = put_to_few c.args.size in
+    let room = c.in-Ok.ensures.change.touches.puts.room in
+    omega (arith, few, room)
+
 pub returns-in-Err-clause-fault : goal.returns-in-Err-clause-fault
 returns-in-Err-clause-fault g c =
     let e = c.in-Err.ensures in

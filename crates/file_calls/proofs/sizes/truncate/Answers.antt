@@ -11,7 +11,9 @@ use Rattle.bit_alloc.proofs.Transactions.{unchanged_nothing, spare_unchanged}
 use Rattle.sector_txn.proofs.TransactionRuns.{store_same, store_joined}
 use Rattle.call_parts.proofs.Calling.{met_ok, state_kept}
 use Rattle.call_parts.proofs.Followed.{followed_access, access_held, permission_refused, permission_granted}
-use Rattle.call_parts.proofs.Reachings.{reach_refused, asked_refused, changed, reached_below, reached_access}
+use Rattle.call_parts.proofs.Changed.{may_touch}
+use Rattle.call_parts.proofs.Reachings.{reach_refused, asked_refused, broken_later, changed, reached_below, reached_access}
+use Rattle.call_parts.proofs.Removed.{taken_after}
 use Rattle.path_walk.proofs.Kept.{kept, sound_kept, interrupts_later}
 use Rattle.file_calls.proofs.Rows.{truncate_by_path}
 use Rattle.file_calls.proofs.Sized.{few_enough, file_kind, directory_refused, write_refused, size_refused, size_changed}
@@ -93,6 +95,34 @@ returns-in_err-give_size g c =
     asked_refused (truncate_by_path c.args.path.now c.args.size) x.same x.reached.walked new c.from_residual-in_err-give_size.result c.in_err-give_size.field-0.0 r.0 r.1
     (store_joined same.store c.in_err-give_size.ensures.store) {A = ℕ} 0 (λ s has at. inr (interrupts_later new.disk same (inr c.in_err-give_size.ensures.fault)))
 
+pub touch-requires : goal.touch-requires
+touch-requires g c =
+    let mid = g.S.Sectors.state c.reach.new.s in
+    let x = c.in_ok-reached.ensures in
+    let i = x.reached.inode in
+    let v = c.in_ok-reached.reached.inode in
+    let n = c.in_ok-reached.reached.number in
+    let file = (met_ok (refuse EISDIR (is_directory_kind v.kind)) tt tt (sym c.in_ok-check_no_directory.ensures)).0 in
+    let fits = (met_ok (refuse EFBIG (nat_lt (max_file_size c.args.caller.now.place.version) c.args.size)) tt tt (sym c.in_ok-check_size.ensures)).0 in
+    let same = c.in_ok-permitted.ensures.same in
+    let w = x.reached.walked in
+    let at = w.ready.is_state in
+    let has = w.found w.ready.state at in
+    let done = c.in_ok-give_size.ensures in
+    let a = followed_access n at has i.some in
+    let granted = permission_granted {mid = mid} {new = mid} at has i unchanged_nothing c.cred-cred.result.now c.cred-cred.ensures (perms false true false) c.in_ok-permitted.field-0
+    (c.in_ok-permitted.ensures.each a.access (access_held {mid = mid} {new = mid} at has i unchanged_nothing)) in
+    may_touch w.ready (store_joined same.store done.store)
+    (size_changed (state_kept same at) has i.some i.number (kept (λ m. v ≡ inode_at c.args.caller.now.place m n) same i.inode) c.args.size _ i.met file granted.0 fits
+    (few_enough (max_file_size c.args.caller.now.place.version) c.args.size fits) (file_kind _ v.kind (access_held {mid = mid} {new = mid} at has i unchanged_nothing).kind file) done.change)
+    (reached_below x.reached, tt) 4 (taken_after c.args.caller.now.place 4 (g.S.Sectors.state c.give_size.new.s) same done.taken) (omega arith)
+
+pub returns-in_err-touch : goal.returns-in_err-touch
+returns-in_err-touch g c =
+    let x = c.in_ok-reached.ensures in
+    broken_later (truncate_by_path c.args.path.now c.args.size) x.same x.reached.walked (g.S.Sectors.state c.touch.new.s) _ _ c.from_residual-in_err-touch.ensures
+    (store_joined c.in_ok-permitted.ensures.same.store c.in_ok-give_size.ensures.store) c.in_err-touch.ensures.store c.in_err-touch.ensures.fault
+
 pub returns : goal.returns
 returns g c =
     let mid = g.S.Sectors.state c.reach.new.s in
@@ -105,7 +135,7 @@ returns g c =
     let same = c.in_ok-permitted.ensures.same in
     let change = c.in_ok-give_size.ensures.change in
     changed (truncate_by_path c.args.path.now c.args.size) x.same x.reached.walked (g.S.Sectors.state c.give_size.new.s)
-    (store_joined same.store c.in_ok-give_size.ensures.store) (change.super ∙ same.sectors 0) Done
+    (store_joined same.store c.in_ok-give_size.ensures.store) (change.super ∙ same.sectors 0) c.in_ok-touch.ensures.moved Done
     (λ s has at.
     let a = followed_access n at has i.some in
     let granted = permission_granted {mid = mid} {new = mid} at has i unchanged_nothing c.cred-cred.result.now c.cred-cred.ensures (perms false true false) c.in_ok-permitted.field-0

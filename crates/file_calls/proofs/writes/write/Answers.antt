@@ -15,7 +15,9 @@ use Rattle.fs_model.specs.declared.reply.Reply.TheVariants.{Wrote}
 use Rattle.fs_model.specs.Processes.{Descriptor, with_offset}
 use Rattle.block_map.proofs.Runs.{unchanged_joined}
 use Rattle.path_walk.proofs.Kept.{sound_kept, kept}
-use Rattle.call_parts.proofs.ByDescriptor.{open_as, opened_ok, open_below, closed_refused, unread_performs, asked_performs, told, changed_tree, still_now, offset_stays_open}
+use Rattle.call_parts.proofs.ByDescriptor.{open_as, opened_ok, open_below, closed_refused, unread_performs, asked_performs, broken_later, told, changed_tree, still_now, offset_stays_open}
+use Rattle.call_parts.proofs.Changed.{may_touch}
+use Rattle.call_parts.proofs.Reachings.{ready_kept}
 use Rattle.file_calls.proofs.Writing.{open_to_write, is_enough, write_by, asks_nothing, empty_if, some_if, file_kind, too_far, too_full, writes}
 use Rattle.file_calls.proofs.writes.write.Goals as goal
 
@@ -109,6 +111,40 @@ returns-in_err-write_bytes g c =
     unread_performs (write_by c.args.fd c.args.bytes.now) same c.in_ok-descriptor.ensures.is_open (g.S.Sectors.state c.write_bytes.new.s)
     c.from_residual-in_err-write_bytes.result c.in_err-write_bytes.field-0.0 r.0 r.1 failed.store (λ s at. inr failed.err)
 
+pub touch-requires : goal.touch-requires
+touch-requires g c =
+    let near = subst (λ (x : ℕ). c.write_offset-offset.result < x) c.max_file_size-limit.ensures.value c.if-offset-limit.false in
+    let w = open_as c.descriptor.view_is c.in_ok-descriptor.ensures.is_open in
+    let bytes = c.args.bytes.now in
+    let all = c.bytes-bytes.ensures.all in
+    let some = some_if bytes c.bytes-bytes.result.now all c.if-is_empty.ensures in
+    let v = c.in_ok-inode.inode in
+    let offset = c.write_offset-offset.result in
+    let from = subst (λ (x : Descriptor). offset ≡ (if x.append then v.size else x.offset)) (sym c.descriptor.view_is) c.write_offset-offset.ensures in
+    let mid = g.S.Sectors.state c.load_inode.new.s in
+    let asked = g.S.Sectors.state c.ask_for_sectors.new.s in
+    let new = g.S.Sectors.state c.write_bytes.new.s in
+    let same = unchanged_joined c.in_ok-inode.ensures.same c.in_ok-ask_for_sectors.ensures.same in
+    let is = kept (λ (m : SectorMap). v ≡ inode_at c.args.place m c.descriptor.inside.number) same c.in_ok-inode.ensures.found in
+    let count = c.write_count-count.result in
+    let done = c.in_ok-write_bytes.ensures in
+    let change = subst (λ (l : List ℕ). ChangesBytes c.args.place c.descriptor.inside.number asked new (λ held. overwritten held offset (take count l))) all done.change in
+    let enough = kept (λ (m : SectorMap). least_free ≤ free_sectors c.args.place m) c.in_ok-ask_for_sectors.ensures.same
+    (is_enough (free_sectors c.args.place mid.sectors) least_free c.in_ok-ask_for_sectors.ensures.each) in
+    let counted = c.write_count-count.ensures ∙ ap (λ (l : List ℕ). min (length l) (min move_limit ((max_file_size c.args.place.version) - offset))) all in
+    let ready = ready_kept same c.requires.ready in
+    let s = ready.state in
+    let at = ready.is_state in
+    may_touch ready done.store
+    (writes w.opened s at (open_to_write w) v is offset from bytes some near enough c.bytes-bytes.ensures.valid count counted s.desks (λ n was. was) change)
+    (open_below w.opened s at, tt) 13 done.taken (omega arith)
+
+pub returns-in_err-touch : goal.returns-in_err-touch
+returns-in_err-touch g c =
+    let same = unchanged_joined c.in_ok-inode.ensures.same c.in_ok-ask_for_sectors.ensures.same in
+    broken_later (write_by c.args.fd c.args.bytes.now) same c.in_ok-descriptor.ensures.is_open (g.S.Sectors.state c.touch.new.s) _ _ c.from_residual-in_err-touch.ensures
+    c.in_ok-write_bytes.ensures.store c.in_err-touch.ensures.store c.in_err-touch.ensures.fault
+
 pub seek-requires : goal.seek-requires
 seek-requires g c = record { «open» = opened_ok c.in_ok-descriptor.ensures.is_open.opened }
 
@@ -134,7 +170,7 @@ returns g c =
     let enough = kept (λ (m : SectorMap). least_free ≤ free_sectors c.args.place m) c.in_ok-ask_for_sectors.ensures.same
     (is_enough (free_sectors c.args.place mid.sectors) least_free c.in_ok-ask_for_sectors.ensures.each) in
     let counted = c.write_count-count.ensures ∙ ap (λ (l : List ℕ). min (length l) (min move_limit ((max_file_size c.args.place.version) - offset))) all in
-    changed_tree (write_by c.args.fd bytes) same w new c.seek.new.self c.in_ok-write_bytes.ensures.store change.super (λ p. with_offset p c.args.fd to) (Wrote count) c.seek.ensures.moved
+    changed_tree (write_by c.args.fd bytes) same w new c.seek.new.self c.in_ok-write_bytes.ensures.store change.super c.in_ok-touch.ensures.moved (λ p. with_offset p c.args.fd to) (Wrote count) c.seek.ensures.moved
     (λ s at. writes w.opened s at (open_to_write w) v is offset from bytes some near enough c.bytes-bytes.ensures.valid count counted
     c.seek.new.self (still_now w.opened s at c.seek.new.self (λ p. with_offset p c.args.fd to) c.seek.ensures.moved
     (offset_stays_open w.opened c.in_ok-descriptor.ensures.table to)) change)

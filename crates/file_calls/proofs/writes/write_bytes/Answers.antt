@@ -19,6 +19,12 @@ pub returns-in-Ok-clause-change : goal.returns-in-Ok-clause-change
 returns-in-Ok-clause-change g c =
     content_changes (λ held. overwritten held c.args.offset c.args.bytes.now) c.requires.inode c.in-Ok.ensures.change c.in-Ok.ensures.held
 
+pub returns-in-Ok-clause-taken : goal.returns-in-Ok-clause-taken
+returns-in-Ok-clause-taken g c =
+    let few = put_few c.args.offset (length c.args.bytes.now) c.requires.few in
+    let room = c.in-Ok.ensures.change.touches.puts.room in
+    omega (arith, few, room)
+
 pub returns-in-Err-clause-err : goal.returns-in-Err-clause-err
 returns-in-Err-clause-err g c =
     let e = c.in-Err.ensures in

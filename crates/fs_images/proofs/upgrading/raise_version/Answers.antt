@@ -1,5 +1,4 @@
 use Rattle.std.proofs.Common.{arith, subst, ap, sym, ◌∙◌}
-use Rattle.fs_layout.specs.declared.superblock.Super.{Super}
 use Rattle.fs_layout.specs.declared.version.Version.{Version}
 use Rattle.fs_layout.specs.Superblock.{super_bytes, with_version}
 use Rattle.fs_images.specs.Upgrading.{raised, IsUpgraded}

@@ -58,8 +58,11 @@ returns-in-Err-Failed g c = record {
       c.drop_delta.result.disk c.drop_delta.ensures.disk (λ (o n : DiskState). IsNotExited o n s pid why)
       (subst (λ (q : Refusal). IsNotExited (state c.begin-txn.result.disk) (state c.exit.new.s.disk) s pid q) c.in-Err-Failed.field-0-is (said.each s at)) in (
         s,
-        runs_on g.D.Disk.state c.args.place c.args.store c.args.procs.now c.begin-txn.result c.begin-txn.ensures.disk c.begin-txn.ensures.map c.begin-txn.ensures.before
-            c.exit.new.s said.store c.drop_delta.result c.drop_delta.ensures.disk c.drop_delta.ensures.map s r c.exit.new.procs said.table,
+        (
+          runs_on g.D.Disk.state c.args.place c.args.store c.args.procs.now c.begin-txn.result c.begin-txn.ensures.disk c.begin-txn.ensures.map c.begin-txn.ensures.before
+              c.exit.new.s said.store c.drop_delta.result c.drop_delta.ensures.disk c.drop_delta.ensures.map s r c.exit.new.procs said.table,
+          refl,
+        ),
         does_reading old new (g.met.D.Disk.only_now c.args.store.disk)
             (reads_alone g.D.Disk.state c.args.store c.begin-txn.result c.begin-txn.ensures.disk c.begin-txn.ensures.before c.exit.new.s said.store
             c.drop_delta.result.disk c.drop_delta.ensures.disk)

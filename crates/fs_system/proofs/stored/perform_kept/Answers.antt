@@ -16,29 +16,29 @@ perform-requires g c = record {
 
 pub returns-in-Ok-keep : goal.returns-in-Ok-keep
 returns-in-Ok-keep g c = record {
-  does = λ s r.
+  does = λ s r told.
       let at = state_begun g.D.Disk.state c.args.place c.args.store c.args.procs.now c.begin-txn.result c.begin-txn.ensures.disk c.begin-txn.ensures.map c.begin-txn.ensures.before s r in
       let kept = c.in-Ok-keep.ensures in
       kept_does g.D.Disk.state c.args.place c.args.store c.args.procs.now c.begin-txn.result c.begin-txn.ensures.disk c.begin-txn.ensures.map c.begin-txn.ensures.before
       c.perform.new.s c.in-Ok.ensures.store s r (g.met.D.Disk.only_now c.args.store.disk) c.in-Ok.ensures.super c.perform.new.procs
-      (Calls c.args.pid c.args.call.now) c.in-Ok.reply (call_performed at c.call_is_in_range.ensures (c.in-Ok.ensures.each s at))
+      (Calls c.args.pid c.args.call.now) c.in-Ok.reply (call_performed at told c.call_is_in_range.ensures (c.in-Ok.ensures.each s at))
       c.in-Ok-keep.store kept.map kept.images kept.cause.later kept.told.quiet;
 }
 
 pub returns-in-Err-keep : goal.returns-in-Err-keep
 returns-in-Err-keep g c = record {
-  does = λ s r.
+  does = λ s r told.
       let at = state_begun g.D.Disk.state c.args.place c.args.store c.args.procs.now c.begin-txn.result c.begin-txn.ensures.disk c.begin-txn.ensures.map c.begin-txn.ensures.before s r in
       let broke = c.in-Err-keep.ensures in
       broken_does g.D.Disk.state c.args.place c.args.store c.args.procs.now c.begin-txn.result c.begin-txn.ensures.disk c.begin-txn.ensures.map c.begin-txn.ensures.before
       c.perform.new.s c.in-Ok.ensures.store s r (g.met.D.Disk.only_now c.args.store.disk) c.in-Ok.ensures.super c.perform.new.procs
-      (Calls c.args.pid c.args.call.now) c.in-Ok.reply (call_performed at c.call_is_in_range.ensures (c.in-Ok.ensures.each s at))
+      (Calls c.args.pid c.args.call.now) c.in-Ok.reply (call_performed at told c.call_is_in_range.ensures (c.in-Ok.ensures.each s at))
       c.in-Err-keep.broken broke.images broke.cause.later broke.cause.fault broke.told.fault c.failed.result c.failed.ensures;
 }
 
 pub returns-in-Err : goal.returns-in-Err
 returns-in-Err g c = record {
-  does = λ s r.
+  does = λ s r told.
       let old = g.D.Disk.state c.args.store.disk in
       let new = g.D.Disk.state c.drop_delta.result.disk in
       let call = c.args.call.now in
@@ -48,9 +48,12 @@ returns-in-Err g c = record {
       c.in-Err.ensures.store c.drop_delta.result.disk c.drop_delta.ensures.disk (λ (o n : DiskState). IsRefused o n s c.args.pid call why)
       (c.in-Err.ensures.each s (state_begun g.D.Disk.state c.args.place c.args.store c.args.procs.now c.begin-txn.result c.begin-txn.ensures.disk c.begin-txn.ensures.map c.begin-txn.ensures.before s r)) in (
         s,
-        runs_on g.D.Disk.state c.args.place c.args.store c.args.procs.now c.begin-txn.result c.begin-txn.ensures.disk c.begin-txn.ensures.map c.begin-txn.ensures.before
-            c.perform.new.s c.in-Err.ensures.store c.drop_delta.result c.drop_delta.ensures.disk c.drop_delta.ensures.map s r c.perform.new.procs
-            c.in-Err.ensures.table,
+        (
+          runs_on g.D.Disk.state c.args.place c.args.store c.args.procs.now c.begin-txn.result c.begin-txn.ensures.disk c.begin-txn.ensures.map c.begin-txn.ensures.before
+              c.perform.new.s c.in-Err.ensures.store c.drop_delta.result c.drop_delta.ensures.disk c.drop_delta.ensures.map s r c.perform.new.procs
+              c.in-Err.ensures.table,
+          refl,
+        ),
         does_reading old new (g.met.D.Disk.only_now c.args.store.disk)
             (reads_alone g.D.Disk.state c.args.store c.begin-txn.result c.begin-txn.ensures.disk c.begin-txn.ensures.before c.perform.new.s
             c.in-Err.ensures.store c.drop_delta.result.disk c.drop_delta.ensures.disk)

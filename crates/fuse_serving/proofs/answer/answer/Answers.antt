@@ -1,8 +1,8 @@
-use Rattle.std.proofs.Common.{true, false, None, ap}
+use Rattle.std.proofs.Common.{true, false, None, Some, ap}
 use Rattle.fuse_state.specs.Servers.{Server}
 use Rattle.fuse_plans.specs.declared.request.Asked.{Asked}
 use Rattle.fuse_plans.specs.Requests.{credential_for}
-use Rattle.fuse_plans.specs.Serving.{answered, plan_of}
+use Rattle.fuse_plans.specs.Serving.{answered, asked_for}
 use Rattle.fuse_serving.specs.Pieces.{known}
 use Rattle.fuse_serving.proofs.Carried.{nothing_asked}
 use Rattle.fuse_serving.proofs.answer.answer.Goals as goal
@@ -22,6 +22,6 @@ returns-in-Err g c =
       memory = false;
       acl = None;
       has_value = λ is. absurd (cc);
-      performs = nothing_asked p.Serves (answered false (plan_of asked None spoken.operation) before) (p.machine c.args.performer.now) (p.machine c.ask.new.performer)
+      performs = nothing_asked p.Serves (answered false (asked_for asked None (Some spoken.operation)) before) (p.machine c.args.performer.now) (p.machine c.ask.new.performer)
           (c.refused.result, before) (c.refused.result, p.server c.ask.new.performer) (c.refused.ensures asked None before) c.in-Err.ensures.machine (ap (λ (s : Server). (c.refused.result, s)) c.in-Err.ensures.kept);
     }

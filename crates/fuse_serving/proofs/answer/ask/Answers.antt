@@ -1,7 +1,7 @@
-use Rattle.std.proofs.Common.{Option, true, subst}
+use Rattle.std.proofs.Common.{Option, Some, true, subst}
 use Rattle.fs_cred.specs.Credentials.{Credential}
 use Rattle.fuse_plans.specs.Plans.{CarriesOut}
-use Rattle.fuse_plans.specs.Serving.{answered, plan_of}
+use Rattle.fuse_plans.specs.Serving.{answered, asked_for}
 use Rattle.fuse_serving.proofs.answer.ask.Goals as goal
 
 pub returns-clause-answered : goal.returns-clause-answered
@@ -14,6 +14,6 @@ returns-clause-answered g c =
       acl = c.in_ok-value.value;
       has_value = c.in_ok-value.ensures;
       performs = subst
-          (λ (cred : Option Credential). CarriesOut p.Serves (answered true (plan_of (record { node = spoken.node; needs_nobody = c.args.needs_nobody; cred = cred; now = c.args.now }) c.in_ok-value.value spoken.operation) (p.server old)) (p.machine old) (p.machine new) (c.in_ok-response.response, p.server new))
+          (λ (cred : Option Credential). CarriesOut p.Serves (answered true (asked_for (record { node = spoken.node; needs_nobody = c.args.needs_nobody; cred = cred; now = c.args.now }) c.in_ok-value.value (Some spoken.operation)) (p.server old)) (p.machine old) (p.machine new) (c.in_ok-response.response, p.server new))
           c.in_ok-cred.ensures c.in_ok-response.ensures.performed;
     }

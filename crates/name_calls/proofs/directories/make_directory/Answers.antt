@@ -15,6 +15,7 @@ use Rattle.path_walk.proofs.Kept.{kept, kept_back, sound_kept, interrupts_later}
 use Rattle.call_parts.specs.NewNodes.{MakesNode, directory_made}
 use Rattle.name_calls.proofs.Inherited.{bits_below, default_held, directory_is, may_then}
 use Rattle.call_parts.proofs.NewNames.{allowed, not_allowed, not_made}
+use Rattle.call_parts.proofs.Removed.{taken_after}
 use Rattle.name_calls.proofs.directories.make_directory.Goals as goal
 
 pub check_make-requires-clause-there : goal.check_make-requires-clause-there
@@ -71,20 +72,20 @@ place_directory-requires g c =
       spare = spare_unchanged c.args.caller.now.place 47 (g.S.Sectors.state c.args.s.now) (g.S.Sectors.state c.default_of.new.s) c.requires.spare joined;
     }
 
-pub returns-in_err-place_directory-clause-store : goal.returns-in_err-place_directory-clause-store
-returns-in_err-place_directory-clause-store g c =
-    store_joined (unchanged_joined c.in_ok-directory.ensures.same c.in_ok-inherits.ensures.same).store c.in_err-place_directory.ensures.store
+pub returns-in_err-n-clause-store : goal.returns-in_err-n-clause-store
+returns-in_err-n-clause-store g c =
+    store_joined (unchanged_joined c.in_ok-directory.ensures.same c.in_ok-inherits.ensures.same).store c.in_err-n.ensures.store
 
-pub returns-in_err-place_directory-clause-each : goal.returns-in_err-place_directory-clause-each
-returns-in_err-place_directory-clause-each g c = λ t h i.
+pub returns-in_err-n-clause-each : goal.returns-in_err-n-clause-each
+returns-in_err-n-clause-each g c = λ t h i.
     let new = g.S.Sectors.state c.place_directory.new.s in
     let joined = unchanged_joined c.in_ok-directory.ensures.same c.in_ok-inherits.ensures.same in
-    not_made c.args.caller.now.place (g.S.Sectors.state c.args.s.now) new c.args.walked.now.process.now.cred t c.args.walked.now.found _ _ _ c.from_residual-in_err-place_directory.ensures
-    (inr (interrupts_later new.disk joined (inr c.in_err-place_directory.ensures.err)))
+    not_made c.args.caller.now.place (g.S.Sectors.state c.args.s.now) new c.args.walked.now.process.now.cred t c.args.walked.now.found _ _ _ c.from_residual-in_err-n.ensures
+    (inr (interrupts_later new.disk joined (inr c.in_err-n.ensures.err)))
 
 pub returns-clause-store : goal.returns-clause-store
 returns-clause-store g c =
-    store_joined (unchanged_joined c.in_ok-directory.ensures.same c.in_ok-inherits.ensures.same).store c.in_ok-place_directory.ensures.store
+    store_joined (unchanged_joined c.in_ok-directory.ensures.same c.in_ok-inherits.ensures.same).store c.in_ok-n.ensures.store
 
 pub returns-clause-each : goal.returns-clause-each
 returns-clause-each g c = λ t h i.
@@ -108,8 +109,12 @@ returns-clause-each g c = λ t h i.
     (c.new_group-gid.ensures ∙ ap (λ (k : Credential). if v.mode / S_ISGID % 2 == 1 then v.gid else k.gid) c.cred-cred.ensures) c.special_bits-bits.ensures
     given (c.in_ok-access.ensures.born ∙ ap (born_acl d mode) c.umask.ensures) in (
       met.0,
-      kept_back (λ (m : SectorMap). (n : ℕ) × MakesNode p f.dir f.name n (born_directory q.cred q.umask mode (the_node t f.dir)) m new.sectors) joined
-          (subst (λ (x : Node). (n : ℕ) × MakesNode p f.dir f.name n x (g.S.Sectors.state c.default_of.new.s).sectors new.sectors) node
-          (subst (λ (name : List ℕ). (n : ℕ) × MakesNode p f.dir name n (directory_made c.uid-uid.result gid bits a d) (g.S.Sectors.state c.default_of.new.s).sectors new.sectors)
-          c.bytes-name.ensures.all c.in_ok-place_directory.ensures.made)),
+      kept_back (λ (m : SectorMap). MakesNode p f.dir f.name c.in_ok-n.n (born_directory q.cred q.umask mode (the_node t f.dir)) m new.sectors) joined
+          (subst (λ (x : Node). MakesNode p f.dir f.name c.in_ok-n.n x (g.S.Sectors.state c.default_of.new.s).sectors new.sectors) node
+          (subst (λ (name : List ℕ). MakesNode p f.dir name c.in_ok-n.n (directory_made c.uid-uid.result gid bits a d) (g.S.Sectors.state c.default_of.new.s).sectors new.sectors)
+          c.bytes-name.ensures.all c.in_ok-n.ensures.made)),
     )
+
+pub returns-clause-taken : goal.returns-clause-taken
+returns-clause-taken g c =
+    taken_after c.args.caller.now.place 7 (g.S.Sectors.state c.place_directory.new.s) (unchanged_joined c.in_ok-directory.ensures.same c.in_ok-inherits.ensures.same) c.in_ok-n.ensures.taken

@@ -1,12 +1,12 @@
 use Rattle.std.specs.Prelude.{List, [], ◌∷◌}
-use Rattle.std.proofs.Common.{sym}
+use Rattle.std.proofs.Common.{sym, arith}
 use Rattle.fs_model.specs.declared.walk.Found.{Found}
 use Rattle.fs_model.specs.Births.{the_node, born_directory}
 use Rattle.fs_model.specs.Demands.{Demand}
 use Rattle.fs_model.specs.Scenes.{must_be_new}
 use Rattle.fs_model.specs.Trees.{Tree}
-use Rattle.call_parts.proofs.NewNames.{name_found, name_refused, made_refused, made_done}
-use Rattle.call_parts.proofs.Reachings.{walk_refused}
+use Rattle.call_parts.proofs.NewNames.{name_found, name_refused, made_refused, made_may_touch, made_done}
+use Rattle.call_parts.proofs.Reachings.{walk_refused, broken_later}
 use Rattle.call_parts.proofs.Refuses.{refuses_first}
 use Rattle.name_calls.proofs.BornDirectories.{mkdir_by_path, is_new_name, directory_changes}
 use Rattle.name_calls.proofs.directories.mkdir.Goals as goal
@@ -33,19 +33,37 @@ make_directory-requires g c =
     let name = name_found asked (mkdir_by_path c.args.path.now c.args.mode c.check_mode-checks.result c.check_mode-checks.ensures) x.same x.walked in
     record { sound = x.walked.ready.sound; spare = x.walked.ready.spare; name = name (is_new_name c.in_ok-walked.walked.found (sym c.in_ok-check_new.ensures)).1 }
 
-pub returns-in_err-make_directory : goal.returns-in_err-make_directory
-returns-in_err-make_directory g c =
+pub returns-in_err-n : goal.returns-in_err-n
+returns-in_err-n g c =
     let x = c.in_ok-walked.ensures in
     let is = is_new_name c.in_ok-walked.walked.found (sym c.in_ok-check_new.ensures) in
     made_refused asked (mkdir_by_path c.args.path.now c.args.mode c.check_mode-checks.result c.check_mode-checks.ensures) x.same x.walked is.1 (g.S.Sectors.state c.make_directory.new.s)
-    _ _ c.from_residual-in_err-make_directory.ensures c.in_err-make_directory.ensures.store is.0 c.in_err-make_directory.ensures.each
+    _ _ c.from_residual-in_err-n.ensures c.in_err-n.ensures.store is.0 c.in_err-n.ensures.each
+
+pub touch-requires : goal.touch-requires
+touch-requires g c =
+    let x = c.in_ok-walked.ensures in
+    let f = c.in_ok-walked.walked.found in
+    let q = c.in_ok-walked.walked.process.now in
+    let last = g.S.Sectors.state c.make_directory.new.s in
+    made_may_touch asked (mkdir_by_path c.args.path.now c.args.mode c.check_mode-checks.result c.check_mode-checks.ensures) x.same x.walked (is_new_name f (sym c.in_ok-check_new.ensures)).1
+    last c.in_ok-n.n (λ (t : Tree). born_directory q.cred q.umask c.args.mode (the_node t f.dir)) c.in_ok-n.ensures.each
+    (λ s has at. directory_changes at q f has x.walked.bytes (sym c.in_ok-check_new.ensures) c.args.mode last.sectors c.in_ok-n.n)
+    c.in_ok-n.ensures.store 7 (omega arith) c.in_ok-n.ensures.taken
+
+pub returns-in_err-touch : goal.returns-in_err-touch
+returns-in_err-touch g c =
+    let x = c.in_ok-walked.ensures in
+    broken_later (mkdir_by_path c.args.path.now c.args.mode c.check_mode-checks.result c.check_mode-checks.ensures) x.same x.walked (g.S.Sectors.state c.touch.new.s) _ _ c.from_residual-in_err-touch.ensures
+    c.in_ok-n.ensures.store c.in_err-touch.ensures.store c.in_err-touch.ensures.fault
 
 pub returns : goal.returns
 returns g c =
     let x = c.in_ok-walked.ensures in
     let f = c.in_ok-walked.walked.found in
     let q = c.in_ok-walked.walked.process.now in
+    let last = g.S.Sectors.state c.make_directory.new.s in
     made_done asked (mkdir_by_path c.args.path.now c.args.mode c.check_mode-checks.result c.check_mode-checks.ensures) x.same x.walked (is_new_name f (sym c.in_ok-check_new.ensures)).1
-    (g.S.Sectors.state c.make_directory.new.s) c.in_ok-make_directory.ensures.store (λ (t : Tree). born_directory q.cred q.umask c.args.mode (the_node t f.dir))
-    c.in_ok-make_directory.ensures.each
-    (λ s has at. directory_changes at q f has x.walked.bytes (sym c.in_ok-check_new.ensures) c.args.mode (g.S.Sectors.state c.make_directory.new.s).sectors)
+    last c.in_ok-n.n (λ (t : Tree). born_directory q.cred q.umask c.args.mode (the_node t f.dir)) c.in_ok-n.ensures.each
+    (λ s has at. directory_changes at q f has x.walked.bytes (sym c.in_ok-check_new.ensures) c.args.mode last.sectors c.in_ok-n.n)
+    c.in_ok-n.ensures.store c.in_ok-touch.ensures.moved

@@ -7,6 +7,7 @@ use Rattle.call_parts.proofs.NewFile.{dir_kept}
 use Rattle.call_parts.specs.NewNodes.{directory_made}
 use Rattle.name_calls.proofs.BornDirectories.{directory_fits, acls_few, directory_taken}
 use Rattle.call_parts.proofs.NewNames.{room_then, was_taken}
+use Rattle.call_parts.proofs.Removed.{taken_joined}
 use Rattle.name_calls.proofs.directories.place_directory.Goals as goal
 
 pub new_inode-requires-clause-fits : goal.new_inode-requires-clause-fits
@@ -55,13 +56,15 @@ returns-clause-store g c = store_joined c.in-Ok.ensures.store c.in_ok-name_inode
 
 pub returns-clause-made : goal.returns-clause-made
 returns-clause-made g c =
-    let mid = g.S.Sectors.state c.new_inode.new.s in
     let e = c.in-Ok.ensures in
-    let default = option_copied c.args.default in (
-      c.in-Ok.n,
-      record {
-        mid = mid.sectors;
-        takes = directory_taken e.free e.touches e.used c.args.dir c.args.uid c.args.gid c.args.bits c.requires.bits c.args.access.now default e.fields e.empty e.access e.default;
-        names = c.in_ok-name_inode.ensures.named;
-      },
-    )
+    let default = option_copied c.args.default in
+    record {
+      mid = (g.S.Sectors.state c.new_inode.new.s).sectors;
+      takes = directory_taken e.free e.touches e.used c.args.dir c.args.uid c.args.gid c.args.bits c.requires.bits c.args.access.now default e.fields e.empty e.access e.default;
+      names = c.in_ok-name_inode.ensures.named;
+    }
+
+pub returns-clause-taken : goal.returns-clause-taken
+returns-clause-taken g c =
+    taken_joined c.args.place 3 4 7 (g.S.Sectors.state c.args.s.now) (g.S.Sectors.state c.new_inode.new.s) (g.S.Sectors.state c.name_inode.new.s) (omega arith)
+    c.in-Ok.ensures.touches.puts.room c.in_ok-name_inode.ensures.taken

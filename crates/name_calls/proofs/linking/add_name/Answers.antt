@@ -1,8 +1,9 @@
-use Rattle.std.proofs.Common.{◌≢◌, ◌+◌, sym, ap, subst, ◌∙◌}
+use Rattle.std.proofs.Common.{◌≢◌, ◌+◌, sym, ap, arith, subst, ◌∙◌}
 use Rattle.sector_txn.proofs.TransactionRuns.{store_joined}
 use Rattle.fs_layout.specs.declared.inode.Inode.{Inode}
 use Rattle.fs_layout.specs.declared.inode.Kind.TheVariants as kinds
 use Rattle.call_parts.proofs.Refuses.{fails_later}
+use Rattle.call_parts.proofs.Removed.{taken_joined}
 use Rattle.name_calls.proofs.Linkings.{target_below, target_used, dir_same, dir_room, link_holds}
 use Rattle.name_calls.proofs.linking.add_name.Goals as goal
 
@@ -44,3 +45,8 @@ pub returns-clause-added : goal.returns-clause-added
 returns-clause-added g c = λ desks st at may.
     link_holds (g.S.Sectors.state c.args.s.now) at may (ap (λ (v : Inode). v.names + 1) c.requires.inode) c.in_ok-set_names.ensures.counts
     (g.S.Sectors.state c.name_inode.new.s).sectors c.in_ok-name_inode.ensures.named
+
+pub returns-clause-room : goal.returns-clause-room
+returns-clause-room g c =
+    taken_joined c.args.place 1 4 5 (g.S.Sectors.state c.args.s.now) (g.S.Sectors.state c.set_names.new.s) (g.S.Sectors.state c.name_inode.new.s) (omega arith)
+    c.in_ok-set_names.ensures.counts.touches.puts.room c.in_ok-name_inode.ensures.taken

@@ -1,4 +1,4 @@
-use Rattle.std.proofs.Common.{◌≡◌, ℕ, List, sym, subst, ◌∙◌}
+use Rattle.std.proofs.Common.{◌≡◌, ℕ, List, sym, arith, subst, ◌∙◌}
 use Rattle.fs_layout.specs.Bytes.{SectorMap}
 use Rattle.fs_layout.specs.Images.{inode_at}
 use Rattle.fs_model.specs.declared.reply.Reply.TheVariants.{Done}
@@ -7,11 +7,13 @@ use Rattle.fs_model.specs.Stands.{HoldsAll, placed}
 use Rattle.bit_alloc.proofs.Transactions.{spare_unchanged}
 use Rattle.sector_txn.proofs.TransactionRuns.{store_joined}
 use Rattle.path_walk.proofs.Kept.{kept, sound_kept}
-use Rattle.call_parts.proofs.ByTwoPaths.{walks_refused, both_refused, both_broken, both_performs}
+use Rattle.call_parts.proofs.ByTwoPaths.{walks_refused, both_refused, both_broken, both_broken_later, both_performs}
 use Rattle.call_parts.proofs.Calling.{state_kept}
+use Rattle.call_parts.proofs.Changed.{may_touch}
 use Rattle.call_parts.proofs.FoundBoth.{finds_each}
+use Rattle.call_parts.proofs.Removed.{taken_after}
 use Rattle.name_calls.specs.Linking.{MayLink}
-use Rattle.name_calls.proofs.Linkings.{link_by_two, link_told, link_may, few_names, link_changes}
+use Rattle.name_calls.proofs.Linkings.{link_by_two, link_told, link_may, few_names, dir_below, target_below, link_changes}
 use Rattle.name_calls.proofs.linking.link.Goals as goal
 
 pub check_link-requires : goal.check_link-requires
@@ -64,6 +66,35 @@ returns-in_err-n g c =
     both_refused (link_by_two c.args.old.now c.args.new.now) x.same x.walked (g.S.Sectors.state c.check_link.new.s) _ _ r.0 r.1 c.in_err-n.ensures.same.store _
     (λ s has at. c.in_err-n.ensures.each c.args.caller.now.procs.now s (finds_each x.walked s at))
 
+pub touch-requires : goal.touch-requires
+touch-requires g c =
+    let p = c.args.caller.now.place in
+    let w = c.in_ok-walked.ensures.walked in
+    let f = c.in_ok-walked.walked.first in
+    let h = c.in_ok-walked.walked.second in
+    let mid = g.S.Sectors.state c.walk_both.new.s in
+    let new = g.S.Sectors.state c.add_name.new.s in
+    let same = c.in_ok-n.ensures.same in
+    let added = c.in_ok-add_name.ensures in
+    let s = w.ready.state in
+    let at = w.ready.is_state in
+    let finds = finds_each w s at in
+    let told = link_told s (c.in_ok-n.ensures.each c.args.caller.now.procs.now s finds) in
+    let linked = link_may finds told in
+    let may = kept (λ (m : SectorMap). MayLink p m s.tree h.dir c.bytes-name.result.now c.in_ok-n.n) same
+    (subst (λ (name : List ℕ). MayLink p mid.sectors s.tree h.dir name c.in_ok-n.n) (sym c.bytes-name.ensures.all) linked) in
+    may_touch {now = c.args.caller.now.procs.now} w.ready (store_joined same.store added.store)
+    (link_changes s c.in_ok-walked.walked.process.now f h c.in_ok-n.n told.inode.number told.met
+    (subst (λ (name : List ℕ). HoldsAll p new.sectors (placed (swept (changed s.tree (AddName h.dir name c.in_ok-n.n)) c.args.caller.now.procs.now))) c.bytes-name.ensures.all
+    (added.added c.args.caller.now.procs.now s (state_kept same at) may)))
+    (dir_below mid at linked, (target_below mid at linked, tt)) 5 (taken_after p 5 new same added.room) (omega arith)
+
+pub returns-in_err-touch : goal.returns-in_err-touch
+returns-in_err-touch g c =
+    let x = c.in_ok-walked.ensures in
+    both_broken_later (link_by_two c.args.old.now c.args.new.now) x.same x.walked (g.S.Sectors.state c.touch.new.s) _ _ c.from_residual-in_err-touch.ensures
+    (store_joined c.in_ok-n.ensures.same.store c.in_ok-add_name.ensures.store) c.in_err-touch.ensures.store c.in_err-touch.ensures.fault
+
 pub returns : goal.returns
 returns g c =
     let p = c.args.caller.now.place in
@@ -74,7 +105,7 @@ returns g c =
     let new = g.S.Sectors.state c.add_name.new.s in
     let same = c.in_ok-n.ensures.same in
     let added = c.in_ok-add_name.ensures in
-    both_performs (link_by_two c.args.old.now c.args.new.now) x.same x.walked new (store_joined same.store added.store) (added.superblock ∙ same.sectors 0) Done
+    both_performs (link_by_two c.args.old.now c.args.new.now) x.same x.walked new (store_joined same.store added.store) (added.superblock ∙ same.sectors 0) c.in_ok-touch.ensures.moved Done
     (λ s has at.
     let finds = finds_each x.walked s at in
     let told = link_told s (c.in_ok-n.ensures.each c.args.caller.now.procs.now s finds) in

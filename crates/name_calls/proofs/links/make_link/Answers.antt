@@ -7,6 +7,7 @@ use Rattle.fs_model.specs.Trees.{IsTarget}
 use Rattle.path_walk.proofs.Kept.{kept, sound_kept, interrupts_later}
 use Rattle.name_calls.proofs.Inherited.{may_then, link_placed}
 use Rattle.call_parts.proofs.NewNames.{allowed, not_allowed, not_made}
+use Rattle.call_parts.proofs.Removed.{taken_after}
 use Rattle.name_calls.proofs.links.make_link.Goals as goal
 
 pub check_make-requires-clause-there : goal.check_make-requires-clause-there
@@ -26,14 +27,14 @@ place_link-requires g c =
       spare = spare_unchanged c.args.caller.now.place 47 (g.S.Sectors.state c.args.s.now) (g.S.Sectors.state c.check_make.new.s) c.requires.spare same;
     }
 
-pub returns-in_err-place_link-clause-store : goal.returns-in_err-place_link-clause-store
-returns-in_err-place_link-clause-store g c = store_joined c.in_ok-directory.ensures.same.store c.in_err-place_link.ensures.store
+pub returns-in_err-n-clause-store : goal.returns-in_err-n-clause-store
+returns-in_err-n-clause-store g c = store_joined c.in_ok-directory.ensures.same.store c.in_err-n.ensures.store
 
-pub returns-in_err-place_link-clause-each : goal.returns-in_err-place_link-clause-each
-returns-in_err-place_link-clause-each g c = λ t h i.
+pub returns-in_err-n-clause-each : goal.returns-in_err-n-clause-each
+returns-in_err-n-clause-each g c = λ t h i.
     let new = g.S.Sectors.state c.place_link.new.s in
-    not_made c.args.caller.now.place (g.S.Sectors.state c.args.s.now) new c.args.walked.now.process.now.cred t c.args.walked.now.found _ _ _ c.from_residual-in_err-place_link.ensures
-    (inr (interrupts_later new.disk c.in_ok-directory.ensures.same (inr c.in_err-place_link.ensures.err)))
+    not_made c.args.caller.now.place (g.S.Sectors.state c.args.s.now) new c.args.walked.now.process.now.cred t c.args.walked.now.found _ _ _ c.from_residual-in_err-n.ensures
+    (inr (interrupts_later new.disk c.in_ok-directory.ensures.same (inr c.in_err-n.ensures.err)))
 
 pub returns-in_err-directory-clause-each : goal.returns-in_err-directory-clause-each
 returns-in_err-directory-clause-each g c = λ t h i.
@@ -41,7 +42,7 @@ returns-in_err-directory-clause-each g c = λ t h i.
     _ _ c.from_residual.ensures _ (c.in_err-directory.ensures.each t h i.directory)
 
 pub returns-clause-store : goal.returns-clause-store
-returns-clause-store g c = store_joined c.in_ok-directory.ensures.same.store c.in_ok-place_link.ensures.store
+returns-clause-store g c = store_joined c.in_ok-directory.ensures.same.store c.in_ok-n.ensures.store
 
 pub returns-clause-each : goal.returns-clause-each
 returns-clause-each g c = λ t h i.
@@ -50,5 +51,9 @@ returns-clause-each g c = λ t h i.
       met.0,
       link_placed c.args.caller.now.place h f i c.in_ok-directory.ensures.same c.bytes-name.result.now c.bytes-name.ensures.all c.in_ok-directory.directory met.1
           c.args.walked.now.process.now.cred c.cred-cred.result.now c.args.target.now c.bytes-bytes.result.now c.cred-cred.ensures c.bytes-bytes.ensures.all
-          (g.S.Sectors.state c.place_link.new.s).sectors c.in_ok-place_link.ensures.made,
+          (g.S.Sectors.state c.place_link.new.s).sectors c.in_ok-n.n c.in_ok-n.ensures.made,
     )
+
+pub returns-clause-taken : goal.returns-clause-taken
+returns-clause-taken g c =
+    taken_after c.args.caller.now.place 7 (g.S.Sectors.state c.place_link.new.s) c.in_ok-directory.ensures.same c.in_ok-n.ensures.taken

@@ -5,6 +5,7 @@ use Rattle.call_parts.proofs.NewFile.{dir_kept}
 use Rattle.call_parts.specs.NewNodes.{link_made}
 use Rattle.name_calls.proofs.BornLinks.{link_taken, none_free, target_size}
 use Rattle.call_parts.proofs.NewNames.{room_then, was_taken}
+use Rattle.call_parts.proofs.Removed.{taken_joined}
 use Rattle.name_calls.proofs.links.place_link.Goals as goal
 
 pub returns-in_err-name_inode-clause-store : goal.returns-in_err-name_inode-clause-store
@@ -43,13 +44,15 @@ returns-in_err-name_inode-clause-err g c =
 
 pub returns-clause-made : goal.returns-clause-made
 returns-clause-made g c =
-    let mid = g.S.Sectors.state c.new_link.new.s in
-    let e = c.in-Ok.ensures in (
-      c.in-Ok.n,
-      record {
-        mid = mid.sectors;
-        takes = link_taken e.free e.touches e.used c.args.dir c.uid-uid.result c.new_group-gid.result c.args.directory c.args.cred.now c.args.target.now c.uid-uid.ensures c.new_group-gid.ensures
-            e.fields e.acls e.holds e.whole;
-        names = c.in_ok-name_inode.ensures.named;
-      },
-    )
+    let e = c.in-Ok.ensures in
+    record {
+      mid = (g.S.Sectors.state c.new_link.new.s).sectors;
+      takes = link_taken e.free e.touches e.used c.args.dir c.uid-uid.result c.new_group-gid.result c.args.directory c.args.cred.now c.args.target.now c.uid-uid.ensures c.new_group-gid.ensures
+          e.fields e.acls e.holds e.whole;
+      names = c.in_ok-name_inode.ensures.named;
+    }
+
+pub returns-clause-taken : goal.returns-clause-taken
+returns-clause-taken g c =
+    taken_joined c.args.place 2 4 7 (g.S.Sectors.state c.args.s.now) (g.S.Sectors.state c.new_link.new.s) (g.S.Sectors.state c.name_inode.new.s) (omega arith)
+    c.in-Ok.ensures.touches.puts.room c.in_ok-name_inode.ensures.taken

@@ -7,7 +7,7 @@ use Rattle.path_walk.proofs.Kept.{kept, kept_back, sound_kept}
 use Rattle.sector_txn.proofs.TransactionRuns.{store_joined}
 use Rattle.call_parts.specs.Given.{ChangesNames}
 use Rattle.call_parts.specs.NewNodes.{MayBeNamed}
-use Rattle.name_calls.proofs.Movings.{taken_after}
+use Rattle.call_parts.proofs.Removed.{taken_after}
 use Rattle.name_calls.proofs.moving.add_entry.Goals as goal
 
 pub name_inode-requires-clause-sound : goal.name_inode-requires-clause-sound

@@ -1,10 +1,10 @@
-use Rattle.std.proofs.Common.{◌≢◌, ◌≤◌, refl, subst, sym, ◌∙◌}
+use Rattle.std.proofs.Common.{◌≢◌, ◌≤◌, refl, subst, sym, arith, ◌∙◌}
 use Rattle.fs_layout.specs.declared.inode.Inode.{Inode}
 use Rattle.fs_layout.specs.declared.inode.Kind.TheVariants as kinds
 use Rattle.sector_txn.proofs.TransactionRuns.{store_joined}
 use Rattle.call_parts.proofs.Refuses.{fails_later}
 use Rattle.fs_model.specs.Processes.{is_open}
-use Rattle.name_calls.proofs.Droppings.{lost_super}
+use Rattle.name_calls.proofs.Droppings.{lost_super, lost_room}
 use Rattle.name_calls.proofs.Movings.{follow_super, there_is, nothing_there, moved_below, moved_used, entry_super, moved_same, moved_none, replaced_number, replaced_same, replaced_used, replaced_named, replaced_holds}
 use Rattle.name_calls.proofs.moving.move_name.Goals as goal
 
@@ -82,6 +82,13 @@ returns-in_ok-lose_name-clause-moved g c = λ st at may.
     replaced_holds old at may c.in_ok-move_entry.ensures.moves c.in_ok-follow.ensures.follows there.0 (is_open c.args.caller.now.procs.now c.in-Some.m) refl
     c.in_ok-lose_name.ensures.loses
 
+pub returns-in_ok-lose_name-clause-room : goal.returns-in_ok-lose_name-clause-room
+returns-in_ok-lose_name-clause-room g c =
+    let entry = c.in_ok-move_entry.ensures.taken in
+    let follows = c.in_ok-follow.ensures.taken in
+    let lost = lost_room c.in_ok-lose_name.ensures.loses in
+    omega (arith, entry, follows, lost)
+
 pub returns-in_default-clause-store : goal.returns-in_default-clause-store
 returns-in_default-clause-store g c = store_joined c.in_ok-move_entry.ensures.store c.in_ok-follow.ensures.store
 
@@ -95,3 +102,9 @@ returns-in_default-clause-moved g c = λ st at may.
     let old = g.S.Sectors.state c.args.s.now in
     let none = nothing_there c.args.caller.now.place old.sectors c.args.walked.now.second.ino c.args.replaced.now c.requires.replaced c.in_default.not-Some in
     moved_none old at may c.in_ok-move_entry.ensures.moves c.in_ok-follow.ensures.follows none
+
+pub returns-in_default-clause-room : goal.returns-in_default-clause-room
+returns-in_default-clause-room g c =
+    let entry = c.in_ok-move_entry.ensures.taken in
+    let follows = c.in_ok-follow.ensures.taken in
+    omega (arith, entry, follows)

@@ -1,4 +1,4 @@
-use Rattle.std.proofs.Common.{◌≡◌, ℕ, List, sym, subst, ◌∙◌}
+use Rattle.std.proofs.Common.{◌≡◌, ℕ, List, sym, arith, subst, ◌∙◌}
 use Rattle.fs_layout.specs.Bytes.{SectorMap}
 use Rattle.fs_layout.specs.Images.{inode_at}
 use Rattle.fs_model.specs.declared.reply.Reply.TheVariants.{Done}
@@ -9,8 +9,11 @@ use Rattle.sector_txn.proofs.TransactionRuns.{store_joined}
 use Rattle.path_walk.proofs.Kept.{kept, sound_kept}
 use Rattle.call_parts.specs.Paths.{scene_at}
 use Rattle.call_parts.proofs.Calling.{state_kept}
-use Rattle.call_parts.proofs.Reachings.{walk_refused, asked_refused, asked_broken, changed as has_changed}
+use Rattle.call_parts.proofs.Changed.{may_touch}
+use Rattle.call_parts.proofs.Removed.{taken_after}
+use Rattle.call_parts.proofs.Reachings.{walk_refused, asked_refused, asked_broken, broken_later, changed as has_changed}
 use Rattle.name_calls.specs.Removing.{MayGo, removal_demands}
+use Rattle.name_calls.proofs.Takings.{dir_below, is_number}
 use Rattle.name_calls.proofs.RemovalRows.{removes_by_path, finds_name, target_found, target_met, target_may, name_gone}
 use Rattle.name_calls.proofs.removal.remove_target.Goals as goal
 
@@ -58,6 +61,33 @@ returns-in_err-take_name g c =
     asked_broken (removes_by_path c.args.what c.args.path.now) x.same x.walked (g.S.Sectors.state c.take_name.new.s) _ _ c.from_residual-in_err-take_name.ensures
     c.in_ok-n.ensures.same c.in_err-take_name.ensures.store c.in_err-take_name.ensures.fault
 
+pub touch-requires : goal.touch-requires
+touch-requires g c =
+    let p = c.args.caller.now.place in
+    let w = c.in_ok-walked.ensures.walked in
+    let f = c.in_ok-walked.walked.found in
+    let q = c.in_ok-walked.walked.process.now in
+    let mid = g.S.Sectors.state c.walk_path.new.s in
+    let new = g.S.Sectors.state c.take_name.new.s in
+    let same = c.in_ok-n.ensures.same in
+    let taken = c.in_ok-take_name.ensures in
+    let s = w.ready.state in
+    let at = w.ready.is_state in
+    let finds = finds_name w.bytes at (w.found s at) in
+    let asked = c.in_ok-n.ensures.each s finds in
+    let may = target_may finds c.args.what asked in
+    may_touch {now = c.args.caller.now.procs.now} w.ready (store_joined same.store taken.store)
+    (name_gone s q f c.in_ok-n.n (removal_demands c.args.what (scene_at s q f)) (target_met finds c.args.what asked) may
+    (subst (λ (name : List ℕ). HoldsAll p new.sectors (placed (swept (changed s.tree (TakeName f.dir name)) c.args.caller.now.procs.now))) c.bytes-name.ensures.all
+    (taken.taken s (state_kept same at) (subst (λ (name : List ℕ). MayGo s f.dir name c.in_ok-n.n) (sym c.bytes-name.ensures.all) may))))
+    (dir_below mid at may, ((is_number mid at may).1, tt)) 6 (taken_after p 6 new same taken.room) (omega arith)
+
+pub returns-in_err-touch : goal.returns-in_err-touch
+returns-in_err-touch g c =
+    let x = c.in_ok-walked.ensures in
+    broken_later (removes_by_path c.args.what c.args.path.now) x.same x.walked (g.S.Sectors.state c.touch.new.s) _ _ c.from_residual-in_err-touch.ensures
+    (store_joined c.in_ok-n.ensures.same.store c.in_ok-take_name.ensures.store) c.in_err-touch.ensures.store c.in_err-touch.ensures.fault
+
 pub returns : goal.returns
 returns g c =
     let x = c.in_ok-walked.ensures in
@@ -66,11 +96,12 @@ returns g c =
     let new = g.S.Sectors.state c.take_name.new.s in
     let same = c.in_ok-n.ensures.same in
     let taken = c.in_ok-take_name.ensures in
-    has_changed (removes_by_path c.args.what c.args.path.now) x.same x.walked new (store_joined same.store taken.store) (taken.superblock ∙ same.sectors 0) Done
+    has_changed (removes_by_path c.args.what c.args.path.now) x.same x.walked new (store_joined same.store taken.store) (taken.superblock ∙ same.sectors 0)
+    c.in_ok-touch.ensures.moved Done
     (λ s has at.
     let finds = finds_name x.walked.bytes at has in
     let asked = c.in_ok-n.ensures.each s finds in
-    name_gone s q f (removal_demands c.args.what (scene_at s q f)) (target_met finds c.args.what asked)
+    let may = target_may finds c.args.what asked in
+    name_gone s q f c.in_ok-n.n (removal_demands c.args.what (scene_at s q f)) (target_met finds c.args.what asked) may
     (subst (λ (name : List ℕ). HoldsAll c.args.caller.now.place new.sectors (placed (swept (changed s.tree (TakeName f.dir name)) c.args.caller.now.procs.now))) c.bytes-name.ensures.all
-    (taken.taken s (state_kept same at)
-    (subst (λ (name : List ℕ). MayGo s f.dir name c.in_ok-n.n) (sym c.bytes-name.ensures.all) (target_may finds c.args.what asked)))))
+    (taken.taken s (state_kept same at) (subst (λ (name : List ℕ). MayGo s f.dir name c.in_ok-n.n) (sym c.bytes-name.ensures.all) may))))

@@ -1,4 +1,4 @@
-use Rattle.std.proofs.Common.{◌≢◌, ◌≤◌, refl, sym, subst, ◌∙◌}
+use Rattle.std.proofs.Common.{◌≢◌, ◌≤◌, refl, sym, arith, subst, ◌∙◌}
 use Rattle.fs_layout.specs.declared.inode.Inode.{Inode}
 use Rattle.fs_layout.specs.declared.inode.Kind.TheVariants as kinds
 use Rattle.fs_layout.specs.Images.{inode_at}
@@ -6,7 +6,8 @@ use Rattle.fs_model.specs.Processes.{is_open}
 use Rattle.fs_model.proofs.OneNode.{body_not_free}
 use Rattle.sector_txn.proofs.TransactionRuns.{store_joined}
 use Rattle.call_parts.proofs.Refuses.{fails_later}
-use Rattle.name_calls.proofs.Droppings.{lost_super}
+use Rattle.call_parts.proofs.Removed.{taken_joined}
+use Rattle.name_calls.proofs.Droppings.{lost_super, lost_room}
 use Rattle.name_calls.proofs.Takings.{dir_below, is_number, named_there, target_same, target_held, target_named, taken_holds}
 use Rattle.name_calls.proofs.removal.take_name.Goals as goal
 
@@ -56,3 +57,8 @@ returns-clause-superblock g c = lost_super c.in_ok-lose_name.ensures.loses ∙ c
 pub returns-clause-taken : goal.returns-clause-taken
 returns-clause-taken g c = λ st at may.
     taken_holds (g.S.Sectors.state c.args.s.now) at may c.in_ok-remove_name.ensures.removes (is_open c.args.procs.now c.args.n) refl c.in_ok-lose_name.ensures.loses
+
+pub returns-clause-room : goal.returns-clause-room
+returns-clause-room g c =
+    taken_joined c.args.place 5 1 6 (g.S.Sectors.state c.args.s.now) (g.S.Sectors.state c.remove_name.new.s) (g.S.Sectors.state c.lose_name.new.s) (omega arith)
+    c.in_ok-remove_name.ensures.removes.touches.puts.room (lost_room c.in_ok-lose_name.ensures.loses)

@@ -5,8 +5,11 @@ use Rattle.fs_model.specs.declared.reply.Reply.TheVariants.{Done}
 use Rattle.bit_alloc.proofs.Transactions.{spare_unchanged}
 use Rattle.sector_txn.proofs.TransactionRuns.{store_joined}
 use Rattle.path_walk.proofs.Kept.{kept, sound_kept}
-use Rattle.call_parts.proofs.ByTwoPaths.{walks_refused, both_refused, both_broken, both_performs}
+use Rattle.call_parts.proofs.ByTwoPaths.{walks_refused, both_refused, both_broken, both_broken_later, both_performs}
 use Rattle.call_parts.proofs.Calling.{state_kept}
+use Rattle.call_parts.proofs.Changed.{may_touch, none_moved}
+use Rattle.call_parts.proofs.Removed.{taken_after}
+use Rattle.name_calls.proofs.Movings.{touched_below, few_renamed}
 use Rattle.call_parts.proofs.FoundBoth.{finds_each}
 use Rattle.name_calls.specs.Moving.{MayMove}
 use Rattle.name_calls.specs.Renaming.{inode_there}
@@ -38,7 +41,8 @@ returns-then-is_same g c =
     let x = c.in_ok-walked.ensures in
     let q = c.in_ok-walked.walked.process.now in
     let same = c.in_ok-n.ensures.same in
-    both_performs (rename_by_two c.args.old.now c.args.new.now) x.same x.walked (g.S.Sectors.state c.check_rename.new.s) same.store (same.sectors 0) Done
+    both_performs (rename_by_two c.args.old.now c.args.new.now) x.same x.walked (g.S.Sectors.state c.check_rename.new.s) same.store (same.sectors 0)
+    (none_moved (g.S.Sectors.state c.check_rename.new.s)) Done
     (λ s has at.
     let told = rename_told (finds_each x.walked s at) (c.in_ok-n.ensures.each s (finds_each x.walked s at)) in
     rename_stays s q c.in_ok-walked.walked.first c.in_ok-walked.walked.second told.met (same_is q told.found ∙ sym c.is_same.ensures ∙ c.if-is_same.true) (state_kept same at))
@@ -72,6 +76,34 @@ returns-in_err-move_name g c =
     both_broken (rename_by_two c.args.old.now c.args.new.now) x.same x.walked (g.S.Sectors.state c.move_name.new.s) _ _ c.from_residual-in_err-move_name.ensures
     c.in_ok-n.ensures.same c.in_err-move_name.ensures.store c.in_err-move_name.ensures.fault
 
+pub touch_moved-requires : goal.touch_moved-requires
+touch_moved-requires g c =
+    let p = c.args.caller.now.place in
+    let w = c.in_ok-walked.ensures.walked in
+    let a = c.in_ok-walked.walked.first in
+    let b = c.in_ok-walked.walked.second in
+    let q = c.in_ok-walked.walked.process.now in
+    let mid = g.S.Sectors.state c.walk_both.new.s in
+    let new = g.S.Sectors.state c.move_name.new.s in
+    let same = c.in_ok-n.ensures.same in
+    let moved = c.in_ok-move_name.ensures in
+    let apart : same_number c.in_ok-n.n c.in_ok-n.replaced ≡ false = sym c.is_same.ensures ∙ c.if-is_same.false in
+    let s = w.ready.state in
+    let at = w.ready.is_state in
+    let finds = finds_each w s at in
+    let told = rename_told finds (c.in_ok-n.ensures.each s finds) in
+    let may = may_move finds told apart in
+    may_touch {now = c.args.caller.now.procs.now} w.ready (store_joined same.store moved.store)
+    (rename_changes s q a b told.met c.in_ok-n.n may (same_is q told.found ∙ apart)
+    (moved.moved s (state_kept same at) (kept (λ (m : SectorMap). MayMove p m s a.dir a.name c.in_ok-n.n b.dir b.name b.ino) same may)))
+    (touched_below mid at may) 11 (taken_after p 11 new same moved.room) (few_renamed a.dir b.dir c.in_ok-n.n b.ino)
+
+pub returns-in_err-touch_moved : goal.returns-in_err-touch_moved
+returns-in_err-touch_moved g c =
+    let x = c.in_ok-walked.ensures in
+    both_broken_later (rename_by_two c.args.old.now c.args.new.now) x.same x.walked (g.S.Sectors.state c.touch_moved.new.s) _ _ c.from_residual-in_err-touch_moved.ensures
+    (store_joined c.in_ok-n.ensures.same.store c.in_ok-move_name.ensures.store) c.in_err-touch_moved.ensures.store c.in_err-touch_moved.ensures.fault
+
 pub returns : goal.returns
 returns g c =
     let p = c.args.caller.now.place in
@@ -83,9 +115,10 @@ returns g c =
     let moved = c.in_ok-move_name.ensures in
     let apart : same_number c.in_ok-n.n c.in_ok-n.replaced ≡ false = sym c.is_same.ensures ∙ c.if-is_same.false in
     both_performs (rename_by_two c.args.old.now c.args.new.now) x.same x.walked (g.S.Sectors.state c.move_name.new.s)
-    (store_joined same.store moved.store) (moved.superblock ∙ same.sectors 0) Done
+    (store_joined same.store moved.store) (moved.superblock ∙ same.sectors 0) c.in_ok-touch_moved.ensures.moved Done
     (λ s has at.
     let finds = finds_each x.walked s at in
     let told = rename_told finds (c.in_ok-n.ensures.each s finds) in
-    rename_changes s q a b told.met (same_is q told.found ∙ apart)
-    (moved.moved s (state_kept same at) (kept (λ (m : SectorMap). MayMove p m s a.dir a.name c.in_ok-n.n b.dir b.name b.ino) same (may_move finds told apart))))
+    let may = may_move finds told apart in
+    rename_changes s q a b told.met c.in_ok-n.n may (same_is q told.found ∙ apart)
+    (moved.moved s (state_kept same at) (kept (λ (m : SectorMap). MayMove p m s a.dir a.name c.in_ok-n.n b.dir b.name b.ino) same may)))

@@ -25,7 +25,18 @@ returns c =
     let b11 = next_write old _ _ _ (le32 s.double_indirect) 88 b10 (omega (arith, pointers)) c.put_u32-8.ensures in
     let all : length ((le32s s.direct ++ le32 s.indirect) ++ le32 s.double_indirect) ≡ 56 =
     omega (arith, pointers, length-append (le32s s.direct ++ le32 s.indirect) (le32 s.double_indirect)) in
-    let b12 = next_write old _ _ _ (zeros 36) 92 b11 (omega (arith, all)) c.put_zeros.ensures in
-    all_written old _ _ b12
-    (omega (arith, c.requires, all, length-append ((le32s s.direct ++ le32 s.indirect) ++ le32 s.double_indirect) (zeros 36), length-zeros 36))
+    let numbers = (le32s s.direct ++ le32 s.indirect) ++ le32 s.double_indirect in
+    let b12 = next_write old _ _ _ (zeros 4) 92 b11 (omega (arith, all)) c.put_zeros.ensures in
+    let spaced : length (numbers ++ zeros 4) ≡ 60 = omega (arith, all, length-append numbers (zeros 4), length-zeros 4) in
+    let b13 = next_write old _ _ _ (le64 s.mtime) 96 b12 (omega (arith, spaced)) c.put_u64-2.ensures in
+    let modified : length ((numbers ++ zeros 4) ++ le64 s.mtime) ≡ 68 = omega (arith, spaced, length-append (numbers ++ zeros 4) (le64 s.mtime)) in
+    let b14 = next_write old _ _ _ (le64 s.ctime) 104 b13 (omega (arith, modified)) c.put_u64-3.ensures in
+    let changed : length (((numbers ++ zeros 4) ++ le64 s.mtime) ++ le64 s.ctime) ≡ 76 =
+    omega (arith, modified, length-append ((numbers ++ zeros 4) ++ le64 s.mtime) (le64 s.ctime)) in
+    let b15 = next_write old _ _ _ (le64 s.atime) 112 b14 (omega (arith, changed)) c.put_u64-4.ensures in
+    let times = ((numbers ++ zeros 4) ++ le64 s.mtime) ++ le64 s.ctime in
+    let read : length (times ++ le64 s.atime) ≡ 84 = omega (arith, changed, length-append times (le64 s.atime)) in
+    let b16 = next_write old _ _ _ (zeros 8) 120 b15 (omega (arith, read)) c.put_zeros-2.ensures in
+    all_written old _ _ b16
+    (omega (arith, c.requires, read, length-append (times ++ le64 s.atime) (zeros 8), length-zeros 8))
     ∙ simp append_assoc

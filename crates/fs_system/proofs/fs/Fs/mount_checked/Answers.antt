@@ -39,7 +39,7 @@ returns-in-Ok-sweep-clause-mounted g c =
     let first = c.read_place.ensures.cause.later in
     let then = c.in-Ok-open_store.ensures.later in
     let last = c.in-Ok-sweep.ensures.cause.later in
-    subst (λ (x : StoreView g.row.D.Denot). (s : State) × IsIn g.D.Disk.state (record { base = Some (Ok x); place = c.in-Ok.place; desks = c.new.result }) s
+    subst (λ (x : StoreView g.row.D.Denot). (s : State) × IsIn g.D.Disk.state (record { base = Some (Ok x); place = c.in-Ok.place; desks = c.new.result; time = 0 }) s
     × Mounts (g.D.Disk.state c.args.disk) (g.D.Disk.state x.disk) s) (sym c.uncounted.ensures)
     (mounts_found g.D.Disk.state c.args.disk c.read_place.new.disk c.in-Ok-open_store.store (g.met.D.Disk.seen_is_image c.args.disk) c.requires
     c.read_place.ensures.same c.in-Ok-open_store.ensures.size c.in-Ok-open_store.ensures.map c.in-Ok-open_store.ensures.lasting c.in-Ok.place c.in-Ok.ensures.found
@@ -51,7 +51,7 @@ invariant_of-result g c =
     let first = c.read_place.ensures.cause.later in
     let then = c.in-Ok-open_store.ensures.later in
     let last = c.in-Ok-sweep.ensures.cause.later in
-    subst (λ (x : StoreView g.row.D.Denot). IsSystem g.D.Disk.state (record { base = Some (Ok x); place = c.in-Ok.place; desks = c.new.result }))
+    subst (λ (x : StoreView g.row.D.Denot). IsSystem g.D.Disk.state (record { base = Some (Ok x); place = c.in-Ok.place; desks = c.new.result; time = 0 }))
     (sym c.uncounted.ensures)
     (mounted_system g.D.Disk.state c.args.disk c.read_place.new.disk c.in-Ok-open_store.store (g.met.D.Disk.seen_is_image c.args.disk) c.requires
     c.read_place.ensures.same c.in-Ok-open_store.ensures.size c.in-Ok-open_store.ensures.map c.in-Ok-open_store.ensures.lasting c.in-Ok.place c.in-Ok.ensures.found

@@ -10,15 +10,15 @@ returns-in_default g c =
     then-was _ (on-machine c.open_or_make-opened.ensures.did) c.in_ok-reply.was
     (needs-none _ _ _ (sym (rw c.fd_of_reply-fd.ensures at c.in_default.ensures)))
 
-pub returns-in_err-status : goal.returns-in_err-status
-returns-in_err-status g c =
+pub returns-in_err-seen : goal.returns-in_err-seen
+returns-in_err-seen g c =
     then-was _ (on-machine c.open_or_make-opened.ensures.did) c.in_ok-reply.was
     (needs-some _ _ (sym (rw c.fd_of_reply-fd.ensures at c.in-Some.ensures))
-    (then-fails _ c.from_residual-in_err-status.ensures (on-machine (rw c.descriptor_of.ensures at c.in_err-status.ensures))))
+    (then-fails _ c.from_residual-in_err-seen.ensures (rw c.descriptor_of.ensures at c.in_err-seen.ensures.did)))
 
 pub returns : goal.returns
 returns g c =
     then-was _ (on-machine c.open_or_make-opened.ensures.did) c.in_ok-reply.was
     (needs-some _ _ (sym (rw c.fd_of_reply-fd.ensures at c.in-Some.ensures))
-    (then-ok _ (on-machine (rw c.descriptor_of.ensures at c.in_ok-status.ensures))
+    (then-ok _ (rw c.descriptor_of.ensures at c.in_ok-seen.ensures.did)
     (rw (c.place-place.ensures, c.is_trunc-is_cut.ensures, c.open_or_make-opened.ensures.name) at c.tell_created.ensures)))

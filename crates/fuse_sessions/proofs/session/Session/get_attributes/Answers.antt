@@ -1,6 +1,4 @@
-use Rattle.std.proofs.Common.{ap}
-use Rattle.fuse_plans.specs.declared.reply.ReplyBody.TheVariants.{Shown as ShownAs}
-use Rattle.fuse_sessions.proofs.Doings.{reads-last, then-fails, then-ok}
+use Rattle.fuse_sessions.proofs.Doings.{then-fails, then-ok}
 use Rattle.fuse_sessions.proofs.session.Session.get_attributes.Goals as goal
 
 pub returns-in_err-inode : goal.returns-in_err-inode
@@ -10,4 +8,4 @@ pub returns-in_err-status : goal.returns-in_err-status
 returns-in_err-status g c = then-ok _ c.in_ok-inode.ensures (then-fails _ c.from_residual-in_err-status.ensures c.in_err-status.ensures.did)
 
 pub returns : goal.returns
-returns g c = then-ok _ c.in_ok-inode.ensures (then-ok _ c.in_ok-status.ensures.did (reads-last _ _ (ap ShownAs c.attributes.ensures)))
+returns g c = then-ok _ c.in_ok-inode.ensures (then-ok _ c.in_ok-status.ensures.did c.tell_attributes.ensures)

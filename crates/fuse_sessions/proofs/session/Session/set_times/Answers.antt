@@ -1,5 +1,5 @@
-use Rattle.std.proofs.Common.{refl, sym, ◌∙◌}
-use Rattle.fuse_sessions.proofs.Doings.{then-ok, then-fails, when-true, when-false, needs-some, needs-none, keeps-last}
+use Rattle.std.proofs.Common.{sym, ◌∙◌}
+use Rattle.fuse_sessions.proofs.Doings.{then-ok, then-fails, when-true, when-false, needs-some, needs-none}
 use Rattle.fuse_sessions.proofs.session.Session.set_times.Goals as goal
 
 pub returns-then-not-sets_times : goal.returns-then-not-sets_times
@@ -16,4 +16,4 @@ returns-in_err-may_set_times g c =
 pub returns : goal.returns
 returns g c =
     when-true _ (sym c.sets_times.ensures ∙ c.if-not-sets_times.false) (needs-some _ _ c.in-Some.is
-    (then-ok _ (rw c.counts_as_owner-is_owner.ensures at c.in_ok-may_set_times.ensures.did) (keeps-last _ refl c.note_times.ensures.kept)))
+    (then-ok _ (rw c.counts_as_owner-is_owner.ensures at c.in_ok-may_set_times.ensures.did) c.set_stamps.ensures))

@@ -1,6 +1,4 @@
-use Rattle.std.proofs.Common.{ap}
-use Rattle.fuse_plans.specs.declared.reply.ReplyBody.TheVariants.{Shown as ShownAs}
-use Rattle.fuse_sessions.proofs.Doings.{reads-last, then-fails, then-ok}
+use Rattle.fuse_sessions.proofs.Doings.{then-fails, then-ok}
 use Rattle.fuse_sessions.proofs.session.Session.tell_times.Goals as goal
 
 pub returns-in_err-status : goal.returns-in_err-status
@@ -11,4 +9,4 @@ returns-in_err-set_times g c =
     then-ok _ c.in_ok-status.ensures.did (then-fails _ c.from_residual-in_err-set_times.ensures c.in_err-set_times.ensures)
 
 pub returns : goal.returns
-returns g c = then-ok _ c.in_ok-status.ensures.did (then-ok _ c.in_ok-set_times.ensures (reads-last _ _ (ap ShownAs c.attributes.ensures)))
+returns g c = then-ok _ c.in_ok-status.ensures.did (then-ok _ c.in_ok-set_times.ensures c.tell_attributes.ensures)

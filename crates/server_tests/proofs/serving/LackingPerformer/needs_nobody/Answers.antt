@@ -12,7 +12,7 @@ use Rattle.server_tests.proofs.serving.LackingPerformer.needs_nobody.Goals as go
 
 -- what it keeps
 abbrev lacking : Server
-lacking = new_server (record { max_write = 4096; posix_acl = false; keeping = nothing_kept; sectors = 1; inodes = 1; max_name = 120; start = record { seconds = 0; nanoseconds = 0 } })
+lacking = new_server (record { max_write = 4096; posix_acl = false; keeping = nothing_kept; sectors = 1; inodes = 1; max_name = 120; keeps_times = false; start = record { seconds = 0; nanoseconds = 0 } })
 
 -- nothing is asked
 abbrev Serves : Unit {0} → Event → Reply → Unit {0} → Type 0

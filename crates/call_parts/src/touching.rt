@@ -1,0 +1,111 @@
+//! Times that a call moves, once it has changed the tree. A version that keeps none is left as it is.
+
+ghost use Rattle.std.specs.Prelude.{◌≡◌, ◌<◌, OnOk, IfErr};
+ghost use Rattle.call_parts.specs.DiskWords.{SameStore, TakesSpare, IsSound, HasSpare};
+ghost use Rattle.call_parts.specs.ModelWords.{HoldsAll, placed, Tree, FailsToRead};
+ghost use Rattle.call_parts.specs.Times.{with_times, SavesTimes, MayMoveTimes, MovesTimes};
+ghost use Rattle.call_parts.specs.UsedInode.{IsUsedInode};
+ghost use Rattle.fs_model.specs.StoredStamps.{stamps_in};
+ghost use Rattle.fs_model.specs.TreeChanges.{touch_at, touch_one, restamped};
+
+use fs_cred::{Errno, Refusal};
+use fs_layout::{Inode, Kind, Place};
+use fs_model::Touch;
+use inode_table::save;
+use path_walk::load_inode;
+use sector_txn::Sectors;
+
+// The inode with the times that it has then.
+fn with_touch(inode: &Inode, touch: Touch, now: u64) -> Inode
+    ensures { result ≡ with_times inode.now (touch_at now touch (stamps_in inode.now)) }
+{
+    match touch {
+        Touch::Untouched => *inode,
+        Touch::Changed => Inode {
+            ctime: now,
+            ..*inode
+        },
+        Touch::Modified => Inode {
+            mtime: now,
+            ctime: now,
+            ..*inode
+        },
+        Touch::Born => Inode {
+            atime: now,
+            mtime: now,
+            ctime: now,
+            ..*inode
+        },
+    }
+}
+
+// Moves these times of inode n, which is used. EIO: the disk has failed.
+fn save_times<S: Sectors>(
+    s: &mut S,
+    place: Place,
+    n: u32,
+    inode: &Inode,
+    touch: Touch,
+    now: u64,
+) -> Result<(), Refusal>
+    requires loaded { IsUsedInode place (S.state s.old) n inode.now }
+    requires spare { HasSpare place 1 (S.state s.old) }
+    ensures store { SameStore (S.state s.old) (S.state s.new) }
+    ensures saves { OnOk result (SavesTimes place now n touch (S.state s.old) (S.state s.new)) }
+    ensures fault { IfErr result (FailsToRead (S.state s.old).disk (S.state s.new).disk) }
+{
+    let touched = with_touch(inode, touch, now);
+    match save(s, place, n, &touched) {
+        Ok(()) => Ok(()),
+        Err(_) => Err(Refusal::Failed(Errno::EIO)),
+    }
+}
+
+// Moves these times of inode n, if it is used. EIO: the disk has failed.
+fn touch_inode<S: Sectors>(
+    s: &mut S,
+    place: Place,
+    n: u32,
+    touch: Touch,
+    now: u64,
+) -> Result<(), Refusal>
+    requires sound { IsSound place (S.state s.old) }
+    requires below { n < place.inodes }
+    requires spare { HasSpare place 1 (S.state s.old) }
+    ensures store { SameStore (S.state s.old) (S.state s.new) }
+    ensures superblock { OnOk result ((S.state s.new).sectors 0 ≡ (S.state s.old).sectors 0) }
+    ensures sound { OnOk result (IsSound place (S.state s.new)) }
+    ensures taken { OnOk result (TakesSpare place 1 (S.state s.old) (S.state s.new)) }
+    ensures held { OnOk result ((t : Tree) → HoldsAll place (S.state s.old).sectors (placed t)
+        → HoldsAll place (S.state s.new).sectors (placed (restamped (touch_one now (n, touch)) t))) }
+    ensures fault { IfErr result (FailsToRead (S.state s.old).disk (S.state s.new).disk) }
+{
+    let inode = load_inode(s, place, n)?;
+    if inode.kind == Kind::Free {
+        return Ok(());
+    }
+    save_times(s, place, n, &inode, touch, now)?;
+    Ok(())
+}
+
+/// Moves times of these inodes to the present, one after another, of those that are used: nothing is left of what went with its
+/// last name. EIO: the disk has failed.
+pub fn touch<S: Sectors>(
+    s: &mut S,
+    place: Place,
+    now: u64,
+    touches: &[(u32, Touch)],
+) -> Result<(), Refusal>
+    requires { MayMoveTimes place touches.now (S.state s.old) }
+    ensures store { SameStore (S.state s.old) (S.state s.new) }
+    ensures moved { OnOk result (MovesTimes place now touches.now (S.state s.old) (S.state s.new)) }
+    ensures fault { IfErr result (FailsToRead (S.state s.old).disk (S.state s.new).disk) }
+{
+    if !place.version.keeps_times() {
+        return Ok(());
+    }
+    for (n, touch) in touches {
+        touch_inode(s, place, *n, *touch, now)?;
+    }
+    Ok(())
+}

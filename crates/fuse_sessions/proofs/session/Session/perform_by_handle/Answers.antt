@@ -1,0 +1,11 @@
+use Rattle.std.specs.Prelude.{Some, IfOk}
+use Rattle.std.proofs.Common.{sym, ap, subst}
+use Rattle.fuse_protocol.specs.declared.operation.Operation.{Operation}
+use Rattle.fuse_plans.specs.Serving.{Task, asked_for}
+use Rattle.fuse_sessions.specs.Performing.{Answered}
+use Rattle.fuse_sessions.proofs.session.Session.perform_by_handle.Goals as goal
+
+pub returns-in-Write-clause-answered : goal.returns-in-Write-clause-answered
+returns-in-Write-clause-answered g c value =
+    subst (λ (plan : Task). IfOk c.perform_write.result (Answered g.M.Machine.Serves plan c.args.self.now c.perform_write.new.self))
+    (sym (ap (λ (o : Operation). asked_for c.args.asked.now value (Some o)) c.in-Write.is)) c.perform_write.ensures.answered

@@ -1,0 +1,112 @@
+//! Times: the present one, and those of objects, which the machine has where its disk keeps them.
+ghost use Rattle.std.specs.Prelude.{◌≡◌, ◌+◌, ◌≤◌, Ok};
+ghost use Rattle.fuse_plans.specs.AttributePlans.{time_after, timed, stamp_set, set_stamps};
+ghost use Rattle.fuse_plans.specs.FilePlans.{when};
+ghost use Rattle.fuse_plans.specs.Times.{tell_time, told_stamps};
+ghost use Rattle.fuse_sessions.specs.Performing.{Did};
+
+use crate::session::Session;
+use fs_model::{Stamps, Status};
+use fuse_plans::Stop;
+use fuse_protocol::{AttrChanges, NewTime, Time};
+use fuse_state::{Server, Times, stamp_of};
+use fuse_steps::Machine;
+use fuse_steps::name::only_inode;
+use fuse_steps::times::{ask_stamp, replied_stamps, tell_time, told_stamps};
+
+fn time_after(now: Time, old: Time, new: Option<NewTime>) -> Time
+    ensures { result ≡ time_after now old new }
+{
+    match new {
+        None => old,
+        Some(NewTime::Now) => now,
+        Some(
+            NewTime::At {
+                seconds,
+                nanoseconds,
+            },
+        ) => Time {
+            seconds,
+            nanoseconds,
+        },
+    }
+}
+
+// An object gets the new times.
+fn note_times(server: &mut Server, now: Time, inode: u32, changes: &AttrChanges)
+    requires { 1 ≤ server.old.room }
+    ensures kept { server.new.server ≡ timed now inode changes.now server.old.server }
+    ensures room { server.old.room ≤ server.new.room + 1 }
+{
+    let old = server.times_of(inode);
+    let times = Times {
+        atime: time_after(now, old.atime, changes.atime),
+        mtime: time_after(now, old.mtime, changes.mtime),
+        ctime: now,
+    };
+    server.set_times(inode, times);
+}
+
+// What the machine is to have.
+fn stamp_set(now: Time, new: Option<NewTime>) -> Option<u64>
+    ensures { result ≡ stamp_set now new }
+{
+    match new {
+        None => None,
+        Some(_) => Some(stamp_of(time_after(now, now, new))),
+    }
+}
+
+impl<M: Machine> Session<M> {
+    /// The machine is told the present time, where the disk keeps times.
+    pub(crate) fn tell_time(&mut self, now: Time)
+        ensures did { Did M.Serves (tell_time now) self.old self.new (Ok tt) }
+        ensures kept { self.new.server ≡ self.old.server }
+    {
+        let keeps_times = self.server.settings().keeps_times;
+        tell_time(&mut self.machine, keeps_times, now);
+    }
+
+    /// The same, if it is to be told.
+    pub(crate) fn tell_time_if(&mut self, condition: bool, now: Time)
+        ensures did { Did M.Serves (when condition (tell_time now)) self.old self.new (Ok tt) }
+        ensures kept { self.new.server ≡ self.old.server }
+    {
+        if condition {
+            self.tell_time(now);
+        }
+    }
+
+    /// The times that the machine has for an object, where the disk keeps times.
+    pub(crate) fn told_stamps(&mut self, inode: u32) -> Result<Option<Stamps>, Stop>
+        ensures did { Did M.Serves (told_stamps inode) self.old self.new result }
+        ensures kept { self.new.server ≡ self.old.server }
+    {
+        let keeps_times = self.server.settings().keeps_times;
+        told_stamps(&mut self.machine, keeps_times, inode)
+    }
+
+    /// Sets times of an object. Where the disk keeps times it has to be what was shown.
+    pub(crate) fn set_stamps(
+        &mut self,
+        now: Time,
+        inode: u32,
+        status: Status,
+        changes: &AttrChanges,
+    ) -> Result<(), Stop>
+        requires { 1 ≤ self.old.server.room }
+        ensures { Did M.Serves (set_stamps now inode status changes.now) self.old self.new result }
+    {
+        let keeps_times = self.server.settings().keeps_times;
+        if !keeps_times {
+            note_times(&mut self.server, now, inode, changes);
+            return Ok(());
+        }
+        only_inode(inode, status)?;
+        let atime = stamp_set(now, changes.atime);
+        let mtime = stamp_set(now, changes.mtime);
+        let reply = ask_stamp(&mut self.machine, inode, atime, mtime, Some(stamp_of(now)));
+        let _stamps = replied_stamps(reply)?;
+        Ok(())
+    }
+}

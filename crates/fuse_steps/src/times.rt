@@ -1,0 +1,85 @@
+//! Times: the machine is told the present one, and has those of objects, where its disk keeps them.
+ghost use Rattle.std.specs.Prelude.{◌≡◌, Ok};
+ghost use Rattle.fs_model.specs.declared.event.Event.TheVariants.{Stamp};
+ghost use Rattle.fuse_plans.specs.Times.{tell_time_if, told_stamps_if, times_in};
+ghost use Rattle.fuse_plans.specs.Works.{ask, of_result, replied_stamps};
+ghost use Rattle.fuse_steps.specs.Performing.{DidByMachine};
+
+use crate::asker::ask;
+use crate::machine::Machine;
+use crate::replies::stamps_of_reply;
+use fs_model::{Event, Reply, Stamps};
+use fuse_plans::Stop;
+use fuse_protocol::Time;
+use fuse_state::{Server, Times, stamp_of, times_shown};
+
+/// The present time is told, if the disk keeps times. The reply doesn't count.
+pub fn tell_time<M: Machine>(machine: &mut M, keeps_times: bool, now: Time)
+    ensures { DidByMachine M.Serves (tell_time_if keeps_times now) machine.old machine.new (Ok tt) }
+{
+    if !keeps_times {
+        return;
+    }
+    let event = Event::Clock(stamp_of(now));
+    ask(machine, &event).discard();
+    event.discard();
+}
+
+/// The reply to times of an object: those that are given are set.
+pub fn ask_stamp<M: Machine>(
+    machine: &mut M,
+    inode: u32,
+    atime: Option<u64>,
+    mtime: Option<u64>,
+    ctime: Option<u64>,
+) -> Reply
+    ensures { DidByMachine M.Serves (ask (Stamp inode atime mtime ctime)) machine.old machine.new (Ok result) }
+{
+    let event = Event::Stamp {
+        inode,
+        atime,
+        mtime,
+        ctime,
+    };
+    let reply = ask(machine, &event);
+    event.discard();
+    reply
+}
+
+/// The times in a reply. It is asked of no process: a refusal is a fault of the machine.
+pub fn replied_stamps(reply: Reply) -> Result<Stamps, Stop>
+    ensures { replied_stamps reply ≡ of_result result }
+{
+    let stamps = stamps_of_reply(&reply);
+    reply.discard();
+    match stamps {
+        Some(stamps) => Ok(stamps),
+        None => Err(Stop::EIO),
+    }
+}
+
+/// The times that the machine has for an object, if the disk keeps times.
+pub fn told_stamps<M: Machine>(
+    machine: &mut M,
+    keeps_times: bool,
+    inode: u32,
+) -> Result<Option<Stamps>, Stop>
+    ensures { DidByMachine M.Serves (told_stamps_if keeps_times inode) machine.old machine.new result }
+{
+    if !keeps_times {
+        return Ok(None);
+    }
+    let reply = ask_stamp(machine, inode, None, None, None);
+    let stamps = replied_stamps(reply)?;
+    Ok(Some(stamps))
+}
+
+/// The times that are shown of an object: the machine's, where it has any.
+pub fn times_in(server: &Server, inode: u32, stamps: Option<Stamps>) -> Times
+    ensures { result ≡ times_in server.now.server inode stamps }
+{
+    match stamps {
+        Some(stamps) => times_shown(server.settings().start, stamps),
+        None => server.times_of(inode),
+    }
+}

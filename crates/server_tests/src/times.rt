@@ -1,0 +1,304 @@
+//! Times at a machine that is played: what a server whose disk keeps them tells it, asks it and shows.
+ghost use Rattle.std.specs.Prelude.{⊤};
+
+use bitflags::Flags;
+use fs_cred::{Cred, CredFault, Errno, Refusal};
+use fs_model::{Call, Event, FileType, Reply, Stamps, Status};
+use fuse_plans::{Asked, ReplyBody, Response};
+use fuse_protocol::{AttrChanges, InitFlags, NewTime, Offer, OpenFlags, Operation, Time};
+use fuse_sessions::Session;
+use fuse_state::{Keeping, Settings, Times};
+use fuse_steps::Machine;
+use std::alloc::{AllocError, Global};
+use std::mem;
+use std::test::Fail;
+
+// The access time, that of the contents, and that of anything.
+type Three<T> = [T; 3];
+
+// What was heard of times: the present one that was told, how often those of the object were asked for, and what they were set to.
+type Heard = (Option<u64>, u32, Option<Three<Option<u64>>>);
+
+// A machine whose one object is a directory. It shows this inode, and has these times for it, unless it refuses.
+#[derive(Drop)]
+struct Played {
+    inode: u32,
+    stamps: Option<Stamps>,
+    processes: usize,
+    heard: Heard,
+}
+
+impl Played {
+    fn status(&self) -> Status {
+        Status {
+            inode: self.inode,
+            kind: FileType::Directory,
+            mode: 0o755,
+            links: 1,
+            owner: 0,
+            group: 0,
+            size: 0,
+        }
+    }
+
+    fn stamp(&mut self, new: Three<Option<u64>>) -> Reply {
+        let (now, asked, set) = self.heard;
+        self.heard = match new {
+            [None, None, None] => (now, asked.saturating_add(1), set),
+            _ => (now, asked, Some(new)),
+        };
+        match self.stamps {
+            Some(stamps) => Reply::Stamped(stamps),
+            None => Reply::Refused(Refusal::Failed(Errno::ENOENT)),
+        }
+    }
+}
+
+impl Machine for Played {
+    ghost Serves = { λ _ _ _ _. ⊤ };
+
+    fn serve(&mut self, event: &Event) -> Reply {
+        match event {
+            Event::Clock(now) => {
+                self.heard.0 = Some(*now);
+                Reply::Done
+            }
+            Event::Stamp {
+                atime,
+                mtime,
+                ctime,
+                ..
+            } => self.stamp([*atime, *mtime, *ctime]),
+            _ => Reply::Done,
+        }
+    }
+
+    fn call(&mut self, _pid: usize, call: &Call) -> Reply {
+        match call {
+            Call::Open(..) => Reply::Fd(0),
+            Call::Lstat(_) | Call::Fstat(_) => Reply::Shown(self.status()),
+            _ => Reply::Done,
+        }
+    }
+
+    fn spawn(&mut self, _cred: &Cred) -> Reply {
+        self.processes = self.processes.saturating_add(1);
+        Reply::Pid(self.processes)
+    }
+}
+
+// What is asked of the root.
+#[derive(Clone, Copy)]
+enum Ask {
+    Times,
+    // The access time and that of the contents are set.
+    Set(Option<NewTime>, Option<NewTime>),
+    Mode,
+    Open(u32),
+}
+
+// Nothing is to change.
+const SAME: AttrChanges = AttrChanges {
+    mode: None,
+    uid: None,
+    gid: None,
+    size: None,
+    atime: None,
+    mtime: None,
+    handle: None,
+};
+
+fn operation_of(ask: Ask) -> Operation<'static> {
+    match ask {
+        Ask::Times => Operation::GetAttr,
+        Ask::Set(atime, mtime) => Operation::SetAttr(AttrChanges {
+            atime,
+            mtime,
+            ..SAME
+        }),
+        Ask::Mode => Operation::SetAttr(AttrChanges {
+            mode: Some(0o700),
+            ..SAME
+        }),
+        Ask::Open(flags) => Operation::Open(OpenFlags::from_bits_retain(flags)),
+    }
+}
+
+// A number of seconds, and of nanoseconds.
+type Shown = (u64, u32);
+
+// The number of the error, or 0, and the times that are shown, if any are.
+type Answer = (u8, Option<Three<Shown>>);
+
+fn shown(time: Time) -> Shown {
+    (time.seconds, time.nanoseconds)
+}
+
+fn answer_of(response: Response) -> Answer {
+    match response {
+        Response::Says(ReplyBody::Shown(attributes)) => {
+            let Times {
+                atime,
+                mtime,
+                ctime,
+            } = attributes.times;
+            (0, Some([shown(atime), shown(mtime), shown(ctime)]))
+        }
+        Response::Fails(stop) => (stop.number(), None),
+        other => {
+            mem::drop(other);
+            (0, None)
+        }
+    }
+}
+
+// The request of user 0 at a time.
+fn performed(
+    session: &mut Session<Played>,
+    alloc: Global,
+    operation: &Operation<'_>,
+) -> Result<Response, CredFault> {
+    let asked = Asked {
+        node: 1,
+        needs_nobody: false,
+        cred: Some(Cred::new(alloc, 0, 0, &[])?),
+        now: Time {
+            seconds: 9,
+            nanoseconds: 5,
+        },
+    };
+    Ok(session.perform(asked, None, operation)?)
+}
+
+fn settings(keeps_times: bool) -> Settings {
+    Settings {
+        max_write: 4096,
+        posix_acl: false,
+        keeping: Keeping::nothing(),
+        sectors: 878,
+        inodes: 64,
+        max_name: 248,
+        keeps_times,
+        start: Time {
+            seconds: 3,
+            nanoseconds: 4,
+        },
+    }
+}
+
+const OFFER: Offer = Offer {
+    major: 7,
+    minor: 45,
+    max_readahead: 0,
+    flags: InitFlags::POSIX_ACL,
+};
+
+// Whether the disk keeps times, the inode that the machine shows, and the times that it has.
+type Disk = (bool, u32, Option<Stamps>);
+
+// The answer to a request of a server that has just begun, and what the machine heard.
+fn answered(alloc: Global, disk: Disk, ask: Ask) -> Result<(Answer, Heard), CredFault> {
+    let (keeps_times, inode, stamps) = disk;
+    let machine = Played {
+        inode,
+        stamps,
+        processes: 0,
+        heard: (None, 0, None),
+    };
+    let Ok(mut session) = Session::new(alloc, machine, settings(keeps_times)) else {
+        return Err(CredFault::from(AllocError));
+    };
+    mem::drop(performed(&mut session, alloc, &Operation::Init(OFFER))?);
+    let response = performed(&mut session, alloc, &operation_of(ask))?;
+    let machine = session.into_machine();
+    Ok((answer_of(response), machine.heard))
+}
+
+// The second time isn't known.
+const STAMPS: Stamps = Stamps {
+    atime: 1_500_000_000,
+    mtime: 0,
+    ctime: 7_000_000_002,
+};
+
+const KEEPS: Disk = (true, 1, Some(STAMPS));
+
+const KEEPS_NONE: Disk = (false, 1, None);
+
+const REFUSES: Disk = (true, 1, None);
+
+// The name that leads to the root shows another inode.
+const OTHER: Disk = (true, 8, Some(STAMPS));
+
+// What is shown of `STAMPS`, of a server that has just begun, and once it has changed something.
+const TIMES: Three<Shown> = [(1, 500_000_000), (3, 4), (7, 2)];
+
+const START: Three<Shown> = [(3, 4), (3, 4), (3, 4)];
+
+const CHANGED: Three<Shown> = [(3, 4), (3, 4), (9, 5)];
+
+const NOW: u64 = 9_000_000_005;
+
+const SILENT: Heard = (None, 0, None);
+
+// Before 1970 as the kernel counts, and the last second that fits.
+const BEFORE: NewTime = NewTime::At {
+    seconds: u64::MAX,
+    nanoseconds: 999_999_999,
+};
+
+const LATER: NewTime = NewTime::At {
+    seconds: 18_446_744_074,
+    nanoseconds: 0,
+};
+
+const ROWS: [(Disk, Ask, Answer, Heard); 13] = [
+    // A disk that keeps no times is asked for none.
+    (KEEPS_NONE, Ask::Times, (0, Some(START)), SILENT),
+    (KEEPS_NONE, Ask::Mode, (0, Some(CHANGED)), SILENT),
+    (
+        KEEPS_NONE,
+        Ask::Set(None, Some(BEFORE)),
+        (0, Some([(3, 4), (u64::MAX, 999_999_999), (9, 5)])),
+        SILENT,
+    ),
+    (KEEPS_NONE, Ask::Open(0o1000), (0, None), SILENT),
+    // One that keeps them is asked, and what isn't known is shown as the server's start.
+    (KEEPS, Ask::Times, (0, Some(TIMES)), (None, 1, None)),
+    (KEEPS, Ask::Mode, (0, Some(TIMES)), (Some(NOW), 1, None)),
+    // What is set is the nearest that can be counted, and the third time is the present one.
+    (
+        KEEPS,
+        Ask::Set(None, Some(BEFORE)),
+        (0, Some(TIMES)),
+        (Some(NOW), 1, Some([None, Some(1), Some(NOW)])),
+    ),
+    (
+        KEEPS,
+        Ask::Set(Some(NewTime::Now), Some(LATER)),
+        (0, Some(TIMES)),
+        (Some(NOW), 1, Some([Some(NOW), Some(u64::MAX), Some(NOW)])),
+    ),
+    // The time is told before a file loses its bytes, and not where it is only opened.
+    (KEEPS, Ask::Open(0o1000), (0, None), (Some(NOW), 0, None)),
+    (KEEPS, Ask::Open(0), (0, None), SILENT),
+    // A refusal is a fault of the machine: EIO.
+    (REFUSES, Ask::Times, (5, None), (None, 1, None)),
+    // Of another object no times are set: ESTALE.
+    (
+        OTHER,
+        Ask::Set(None, Some(BEFORE)),
+        (116, None),
+        (Some(NOW), 0, None),
+    ),
+    (OTHER, Ask::Times, (0, Some(TIMES)), (None, 1, None)),
+];
+
+#[test]
+fn times_that_the_disk_keeps(rt: HostRuntime) -> Result<(), Fail> {
+    for (disk, ask, answer, heard) in &ROWS {
+        let seen = answered(rt.alloc(), *disk, *ask)?;
+        assert!(rt; seen == (*answer, *heard), "{seen:?}");
+    }
+    Ok(())
+}

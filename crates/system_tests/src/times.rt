@@ -1,0 +1,169 @@
+//! Times: which of them each call moves, that they last in version 3, and that older versions have none.
+
+use fs_images::mkfs;
+use fs_layout::Version;
+use fs_lines::{Line, parse_line};
+use fs_system::Fs;
+use sector_disk::MemDisk;
+use std::alloc::Global;
+use std::mem;
+use std::test::Fail;
+
+// The times of access, of modification and of the last change.
+type Times = [u64; 3];
+
+// Nothing stands there.
+const ABSENT: Times = [u64::MAX; 3];
+
+fn remounted(alloc: Global, disk: MemDisk) -> Result<Fs<MemDisk>, Fail> {
+    match Fs::mount(alloc, disk) {
+        Ok(fs) => Ok(fs),
+        Err((fault, _)) => Err(fault)?,
+    }
+}
+
+// An empty file system.
+fn mounted(alloc: Global, version: Version) -> Result<Fs<MemDisk>, Fail> {
+    let mut disk = MemDisk::new(alloc, 1024)?;
+    mkfs(&mut disk, version, 64)?;
+    remounted(alloc, disk)
+}
+
+// What is told of the times of an inode, once those that are given are set.
+fn stamped(fs: &mut Fs<MemDisk>, inode: u32, atime: Option<u64>, ctime: Option<u64>) -> Times {
+    match fs.stamp(inode, atime, None, ctime) {
+        Ok(stamps) => [stamps.atime, stamps.mtime, stamps.ctime],
+        Err(_) => ABSENT,
+    }
+}
+
+// Those of the root, of the directory `/d` and of the file that is made in it.
+fn seen(fs: &mut Fs<MemDisk>) -> [Times; 3] {
+    [1, 2, 3].map(|inode| stamped(fs, inode, None, None))
+}
+
+// What a line asks for happens at this time.
+fn perform(alloc: Global, fs: &mut Fs<MemDisk>, time: u64, line: &str) {
+    let _told = fs.tell_time(time);
+    if let Ok(Line::Event(event)) = parse_line(alloc, line.as_bytes()) {
+        fs.answer(&event).discard();
+        event.discard();
+    }
+}
+
+// By POSIX.1-2017, function by function; a time that goes back is taken as it comes. At last the file is open without a name.
+static ROWS: [(u64, &str, [Times; 3]); 18] = [
+    (5, "spawn 0 0", [[0, 0, 0], ABSENT, ABSENT]),
+    (10, "1 mkdir /d 0755", [[0, 10, 10], [10, 10, 10], ABSENT]),
+    (
+        20,
+        "1 open /d/f rwc 0644",
+        [[0, 10, 10], [10, 20, 20], [20, 20, 20]],
+    ),
+    (
+        30,
+        "1 write 0 abc",
+        [[0, 10, 10], [10, 20, 20], [20, 30, 30]],
+    ),
+    (
+        40,
+        "1 write 0 \"\"",
+        [[0, 10, 10], [10, 20, 20], [20, 30, 30]],
+    ),
+    (45, "1 read 0 3", [[0, 10, 10], [10, 20, 20], [20, 30, 30]]),
+    (
+        50,
+        "1 chmod /d/f 0600",
+        [[0, 10, 10], [10, 20, 20], [20, 30, 50]],
+    ),
+    (
+        60,
+        "1 link /d/f /g",
+        [[0, 60, 60], [10, 20, 20], [20, 30, 60]],
+    ),
+    (
+        70,
+        "1 truncate /g 3",
+        [[0, 60, 60], [10, 20, 20], [20, 70, 70]],
+    ),
+    (
+        80,
+        "1 rename /g /d/f",
+        [[0, 60, 60], [10, 20, 20], [20, 70, 70]],
+    ),
+    (
+        90,
+        "1 rename /g /h",
+        [[0, 90, 90], [10, 20, 20], [20, 70, 90]],
+    ),
+    (
+        85,
+        "1 unlink /d/f",
+        [[0, 90, 90], [10, 85, 85], [20, 70, 85]],
+    ),
+    (
+        100,
+        "1 open /h wt",
+        [[0, 90, 90], [10, 85, 85], [20, 100, 100]],
+    ),
+    (
+        110,
+        "1 chown /h 7 -",
+        [[0, 90, 90], [10, 85, 85], [20, 100, 110]],
+    ),
+    (
+        120,
+        "1 mkdir /d/e 0755",
+        [[0, 90, 90], [10, 120, 120], [20, 100, 110]],
+    ),
+    (
+        130,
+        "1 rename /d/e /e",
+        [[0, 130, 130], [10, 130, 130], [20, 100, 110]],
+    ),
+    (
+        140,
+        "1 symlink x /d/s",
+        [[0, 130, 130], [10, 140, 140], [20, 100, 110]],
+    ),
+    (
+        150,
+        "1 rename /d/s /h",
+        [[0, 150, 150], [10, 150, 150], [20, 100, 150]],
+    ),
+];
+
+// What a new mount shows: of the file without a name nothing.
+static LASTING: [Times; 3] = [[0, 150, 150], [1, 150, 3], ABSENT];
+
+#[test]
+fn each_call_moves_its_times_and_they_last(rt: HostRuntime) -> Result<(), Fail> {
+    let mut fs = mounted(rt.alloc(), Version::Three)?;
+    for &(time, line, wanted) in &ROWS {
+        perform(rt.alloc(), &mut fs, time, line);
+        let found = seen(&mut fs);
+        assert!(rt; found == wanted, "{line}: {found:?}");
+    }
+    let set = stamped(&mut fs, 2, Some(1), Some(3));
+    assert!(rt; set == LASTING[1], "{set:?}");
+    let (disk, _) = fs.unmount();
+    let mut fs = remounted(rt.alloc(), disk)?;
+    let found = seen(&mut fs);
+    mem::drop(fs);
+    assert!(rt; found == LASTING, "{found:?}");
+    Ok(())
+}
+
+#[test]
+fn older_versions_have_no_times(rt: HostRuntime) -> Result<(), Fail> {
+    let mut fs = mounted(rt.alloc(), Version::Two)?;
+    for &(time, line, _) in &ROWS {
+        perform(rt.alloc(), &mut fs, time, line);
+    }
+    let set = stamped(&mut fs, 2, Some(1), Some(3));
+    let found = seen(&mut fs);
+    mem::drop(fs);
+    assert!(rt; set == [0; 3], "{set:?}");
+    assert!(rt; found == [[0; 3]; 3], "{found:?}");
+    Ok(())
+}
