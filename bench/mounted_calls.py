@@ -1,9 +1,15 @@
-"""Random calls of four users, each on the mount and in a directory: single ones, and those of users who look at what others change."""
+"""Random calls of four users, each on the mount and in a directory: single ones, and those of users who look at what others change.
+
+In every third tree the times of all objects are compared after each call. In the others nobody looks at them, so that the kernel keeps
+just what the users have looked at.
+"""
+import ctypes
 import mmap
 import os
 import random
 import stat
 
+from mounted_stamps import Watch
 from mounts import ACLS, USERS, Worker, acl_bytes, acl_text, attempt, other_nodes, tree_of
 
 FOLDERS, NAMES = ['a', 'b'], ['c', 'd', 'e']  # names that mostly directories have, and that mostly others have
@@ -18,6 +24,9 @@ OPENS = [os.O_RDONLY, os.O_WRONLY, os.O_RDWR, os.O_RDONLY | os.O_TRUNC, os.O_WRO
          os.O_RDONLY | os.O_NOFOLLOW, os.O_WRONLY | os.O_APPEND]
 MASKS = [0o022, 0, 0o077, 0o027]
 PLACES = [0, 0, 5, 511, 600, 4095, 9000, 80_000]
+NOW, STAYS = (0, (1 << 30) - 1), (0, (1 << 30) - 2)  # UTIME_NOW and UTIME_OMIT of utimensat(2)
+TIMES = [(NOW, NOW), (NOW, NOW), ((1, 5), (2, 6)), ((1, 5), (2, 6)), (NOW, STAYS), (STAYS, NOW), ((3, 7), STAYS), (STAYS, (4, 8)), (NOW, (9, 9))]
+LIBC = ctypes.CDLL(None, use_errno=True)
 FILES = {}  # of a worker: the descriptors of each side by their numbers, the last opened at the end
 
 
@@ -49,6 +58,12 @@ def change_mode(file, mode):
 
 def set_list(path, name, text):
     return os.setxattr(path, ACLS[name], acl_bytes(text)) if text else os.removexattr(path, ACLS[name])
+
+
+def set_times(path, access, modification, follow):
+    stamps = (ctypes.c_long * 4)(*access, *modification)
+    if LIBC.utimensat(-100, os.fsencode(path), stamps, 0 if follow else 0x100):  # AT_FDCWD and AT_SYMLINK_NOFOLLOW
+        raise OSError(ctypes.get_errno(), path)
 
 
 def in_file(path, flags, call, *words):
@@ -108,7 +123,7 @@ CALLS = {
     'umask': lambda root, mask: os.umask(mask) * 0,
     'setacl': lambda root, path, name, text: set_list(path, name, text),
     'getacl': lambda root, path, name: acl_text(os.getxattr(path, ACLS[name])),
-    'utime': lambda root, path, now: os.utime(path, None if now else (1, 2)),
+    'utime': lambda root, path, *words: set_times(path, *words),
 }
 BY_NUMBER = {'close', 'read', 'write', 'fstat', 'ftruncate', 'fchmod', 'fsync', 'mapped', 'umask'}
 
@@ -195,7 +210,7 @@ class Choice:
             'symlink': lambda: (dice.choice([self.path(name), '../' + self.path(name), 'x' * 300]),),
             'chown': lambda: (dice.choice([-1, 1000, 1001]), dice.choice([-1, 100, 101, 200])),
             'access': lambda: (dice.randrange(8),), 'getacl': lambda: (dice.choice(['access', 'default']),),
-            'setacl': self.list_words, 'utime': lambda: (dice.random() < 0.5,),
+            'setacl': self.list_words, 'utime': lambda: (*dice.choice(TIMES), dice.random() < 0.7),
         }.get(name, tuple)())
 
     def single(self):
@@ -252,15 +267,44 @@ def failed(seen):
     return type(seen) is str and seen.startswith('E')
 
 
-def known(mounted, name, ours, theirs):
-    """The number in docs/MOUNT.md of a difference, where it is one that is known."""
+def known(mounted, local, name, words, ours, theirs):
+    """The number in docs/MOUNT.md of a difference, where it is one that is known; the directory is that of the tree."""
     if ours == 'ESTALE' and name in BY_NUMBER:
         return 1
     if name == 'fchmod' and ours == 'EACCES':
         return 4
     if 'own_rules' in mounted.options and (failed(ours) and failed(theirs) or name == 'link' and theirs == 'EPERM'):
         return 3
+    # The present time, of a link itself: Linux asks whether that may be written, and all may.
+    if name == 'utime' and words[1:] == [NOW, NOW, False] and (ours, theirs) == ('EPERM', None) and (local / words[0]).is_symlink():
+        return 9
     return None
+
+
+def known_times(name, words, call, differing):
+    """The number in docs/MOUNT.md, where all times that differ after a call do so as is known."""
+    def all_are(fields, by_mount):
+        return all(seen.field in fields and (seen.ours == call, seen.theirs == call) == (by_mount, not by_mount) for seen in differing)
+    # Owner and group that are to stay: Linux's own file systems move the time, which POSIX leaves open, and ask no server.
+    if name == 'chown' and words[1:] == [-1, -1] and all_are(['change'], False):
+        return 9
+    # A list that is given, or taken, where it is, or isn't: ext4 leaves the time, others move it, as the mount does.
+    if name == 'setacl' and all_are(['change'], True):
+        return 9
+    # A size that the file has: POSIX moves both times, as the mount and ext4 do; others leave them.
+    if name == 'truncate' and all_are(['modification', 'change'], True):
+        return 9
+    return None
+
+
+def compare_times(watch, told, call, line, number, name, words, ours):
+    """Of all objects, once the call has answered so on the mount, a difference being known by this number."""
+    given = name == 'utime' and not failed(ours) and words[1] != STAYS
+    differing = watch.end(words[0], words[3]) if given else watch.end()
+    texts = [{f'{seen.path}, {seen.field}': getattr(seen, side) for seen in differing} for side in ('ours', 'theirs')]
+    told.compare('times', line, number or differing and known_times(name, words, call, differing), *texts)
+    if differing:
+        watch.mend(f'after {call}', sorted({seen.path for seen in differing}))
 
 
 def random_calls(mounted, told, seed, count):
@@ -272,7 +316,7 @@ def random_calls(mounted, told, seed, count):
         mounted.fresh()
         mounted.begin()
         for tree in range(6):
-            done = one_tree(mounted, told, choice, str(tree), done, min(done + 500, count))
+            done = one_tree(mounted, told, choice, tree, done, min(done + 500, count))
         mounted.end()
         if not mounted.check().startswith('clean '):
             told.fault(f'the image after random calls of seed {seed}: {mounted.check()}')
@@ -280,24 +324,30 @@ def random_calls(mounted, told, seed, count):
 
 def one_tree(mounted, told, choice, tree, done, last):
     """Makes the calls from one number to another: the number of the next one."""
-    sides = [side / tree for side in mounted.sides()]
+    sides = [side / str(tree) for side in mounted.sides()]
     for side in sides:
         side.mkdir()
         side.chmod(0o777)
     choice.there = []
+    watch = Watch(sides) if tree % 3 == 1 else None
     workers = {user: Worker(user, perform) for user in WHO}
     try:
         for user, name, *words in choice.calls():
             if done == last:
                 break
+            line = f'{done}: {user} {name} {words}'
+            if watch:
+                watch.begin(f'call {done}')
             ours, theirs = (workers[user].ask(side, name, *words) for side in sides)
-            number = known(mounted, name, ours, theirs)
-            told.compare('random calls', f'{done}: {user} {name} {words}', number, ours, theirs)
+            number = known(mounted, sides[1], name, words, ours, theirs)
+            told.compare('random calls', line, number, ours, theirs)
+            if number and failed(ours) != failed(theirs) and name in ('fchmod', 'link'):
+                return done + 1
+            if watch:
+                compare_times(watch, told, f'call {done}', line, number, name, words, ours)
             done += 1
             if ours == theirs and not failed(ours) and name not in BY_NUMBER:
                 choice.learn(name, words)
-            if number and failed(ours) != failed(theirs) and name in ('fchmod', 'link'):
-                return done
     finally:
         for worker in workers.values():
             worker.end()

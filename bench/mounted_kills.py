@@ -1,11 +1,20 @@
-"""Kills of the server at random moments of some work: what the image then holds."""
+"""Kills of the server at random moments of some work: what the image then holds.
+
+Where an image has times, those of a recovered tree have to be the ones that the mount told when it had that tree, to the nanosecond.
+Behind the last change nobody has looked: the directory beside the mount says which times that sets. These have to be one moment of the
+change, and all others as before it.
+"""
+import collections
 import os
 import random
 import signal
 import time
 
+from mounted_stamps import Spans, stamps_of, statuses, times_of
 from mounts import Worker, attempt, tree_of
 
+Killed = collections.namedtuple('Killed', 'answers synced noted span')
+Made = collections.namedtuple('Made', 'states answers moved')
 NAMES = [f'{folder}{name}' for folder in ('', 'd/', 'e/') for name in 'abcdef']
 
 
@@ -25,10 +34,22 @@ def write(path, size, place, sync):
         os.close(file)
 
 
+def fill(path, number, size, sync):
+    """Writes all of a file in one call."""
+    file = os.open(path, os.O_WRONLY | os.O_CREAT)
+    try:
+        written = os.pwrite(file, bytes([number]) * size, 0)
+        if sync:
+            os.fsync(file)
+        return written
+    finally:
+        os.close(file)
+
+
 CALLS = {
     'create': lambda path, mode: os.close(os.open(path, os.O_WRONLY | os.O_CREAT | os.O_EXCL, mode)),
     'write': write, 'mkdir': os.mkdir, 'unlink': os.unlink, 'rename': os.rename, 'link': os.link, 'truncate': os.truncate,
-    'chmod': os.chmod, 'rmdir': os.rmdir,
+    'chmod': os.chmod, 'rmdir': os.rmdir, 'touch': os.utime, 'fill': fill,
 }
 
 
@@ -42,77 +63,216 @@ def work_of(dice):
             ('create', path, 0o644), ('create', other, 0o600), ('write', path, dice.randrange(1, 4097), 4096 * dice.randrange(8), False),
             ('write', path, dice.randrange(1, 4097), 4096 * dice.randrange(40), dice.random() < 0.3), ('rename', path, other),
             ('unlink', path), ('link', path, other), ('truncate', path, dice.randrange(20_000)),
-            ('chmod', path, dice.choice([0o644, 0o600, 0o755]))])
+            ('chmod', path, dice.choice([0o644, 0o600, 0o755])), ('touch', path)])
+
+
+def perform_watched(root, change):
+    """Makes a change in the directory: its answer, and the times that it sets."""
+    spans = Spans()
+    spans.begin('it')
+    answer = perform(root, *change)
+    spans.end()
+    told = {path: spans.all_told(seen) for path, seen in statuses(root).items()}
+    return answer, {(path, field) for path, fields in told.items() for field, call in fields.items() if call == 'it'}
 
 
 def states_of(root, work, first):
-    """The trees that the changes leave one after the other, from behind so many on, and what each change answers."""
-    states, answers = {}, []
+    """The trees that the changes leave one after the other, from behind so many on, what each answers, and which times the last sets."""
+    states, answers, moved = {}, [], set()
     for number in range(len(work) + 1):
         if number >= first:
             states[number] = tree_of(root)
-        if number < len(work):
+        if number == len(work) - 1:
+            answer, moved = perform_watched(root, work[number])
+            answers.append(answer)
+        elif number < len(work):
             answers.append(perform(root, *work[number]))
-    return states, answers
+    return Made(states, answers, moved)
 
 
-def killed(mounted, worker, work, last, seconds):
-    """Sends the changes, and so long after the last one that is to be sent kills the server: the answers until then, and how many
-    changes the last sync covers."""
-    answers, synced, server = [], 0, mounted.server()
-    for number, change in enumerate(work[:last + 1]):
+def sync_root(mounted):
+    """Gives times to the root, since those of a new one aren't known, and has them kept."""
+    os.utime(mounted.mount)
+    folder = os.open(mounted.mount, os.O_RDONLY)
+    os.fsync(folder)
+    os.close(folder)
+
+
+def end_at(server, seconds):
+    time.sleep(seconds)
+    os.kill(server, signal.SIGKILL)
+
+
+def killed(mounted, worker, work, seconds):
+    """Sends the changes, and so long after the last one kills the server: the answers until then, how many changes the last sync covers,
+    the times before each change if they are kept, and from when to when the last one may have been made."""
+    answers, synced, noted, server, began = [], 0, [], mounted.server(), 0
+    for number, change in enumerate(work):
+        noted.append(times_of(mounted.mount) if mounted.keeps_times() else None)
+        began = time.time_ns()
         worker.send(mounted.mount, *change)
-        if number == last:
-            time.sleep(seconds)
-            os.kill(server, signal.SIGKILL)
+        if number == len(work) - 1:
+            end_at(server, seconds)
         answer = worker.answer()
         if answer in ('ENOTCONN', 'ECONNABORTED', 'EIO'):
             break
         answers.append(answer)
         if change[0] == 'write' and change[-1] and answer is None:
             synced = number + 1
-    return answers, synced
+    return Killed(answers, synced, noted, (began, time.time_ns()))
 
 
 def kills(mounted, told, seed, count):
-    """Kills so many servers, each over work of its own."""
+    """Kills so many servers, each over work of its own, and as many over writes of a whole file."""
     lost, done = [], []
     for number in range(count):
         dice = random.Random(f'{seed} {number}')
         changes = work_of(dice)
-        work = [next(changes) for _ in range(250)]
+        work = [next(changes) for _ in range(250)][:dice.randrange(250) + 1]
         mounted.fresh()
         mounted.begin()
+        if mounted.keeps_times():
+            sync_root(mounted)
         worker = Worker('root', perform)
         # A change takes less than a millisecond, and one that commits some.
-        answers, synced = killed(mounted, worker, work, dice.randrange(len(work)), dice.random() * dice.choice([0.0005, 0.005]))
+        seen = killed(mounted, worker, work, dice.random() * dice.choice([0.0005, 0.005]))
         worker.end()
-        # One change more may have been done than was answered.
-        states, wanted = states_of(mounted.local, work[:len(answers) + 1], synced)
-        at = judge(mounted, told, f'kill {number} of seed {seed} behind {len(answers)} changes', states, wanted, answers)
+        at = judge(mounted, told, f'kill {number} of seed {seed} behind {len(seen.answers)} changes', work, seen)
         told.compared += 1
         if at is not None:
-            lost.append(max(len(answers) - at, 0))
-            done.append(len(answers))
+            lost.append(max(len(seen.answers) - at, 0))
+            done.append(len(seen.answers))
     if done:
         print(f'{count} kills, behind {min(done)} to {max(done)} changes, of which up to {max(lost)} were lost that nobody had synced')
+    writes_killed(mounted, told, seed, count)
 
 
-def judge(mounted, told, text, states, wanted, answers):
-    """Finds out whether the image is clean, and holds a tree that the work left behind the last sync: after how many changes."""
-    if answers != wanted[:len(answers)]:
-        told.fault(f'{text}: other answers than in the directory')
+def recovered(mounted, told, text):
+    """Mounts the image anew, if that is as it may be."""
     if not mounted.gone():
         told.fault(f'{text}: the mount stays')
-        return None
+        return False
     if not mounted.check().startswith('clean '):
         told.fault(f'{text}: {mounted.check()}')
-        return None
+        return False
     mounted.begin()
-    found = tree_of(mounted.mount)
-    mounted.end()
-    right = [number for number, state in states.items() if state == found]
-    if not right:
-        told.fault(f'{text}: the tree is none of those behind the last sync, {min(states)} changes, and those that followed')
+    return True
+
+
+def judge(mounted, told, text, work, seen):
+    """Finds out whether the image is clean, and holds a tree that the work left behind the last sync: after how many changes."""
+    made = states_of(mounted.local, work, seen.synced)
+    if seen.answers != made.answers[:len(seen.answers)]:
+        told.fault(f'{text}: other answers than in the directory')
+    if not recovered(mounted, told, text):
         return None
-    return right[-1]
+    found, stamps = tree_of(mounted.mount), times_of(mounted.mount)
+    mounted.end()
+    right = [number for number, state in made.states.items() if state == found]
+    if not right:
+        told.fault(f'{text}: the tree is none of those behind the last sync, {min(made.states)} changes, and those that followed')
+        return None
+    if not mounted.keeps_times():
+        return right[-1]
+    timed = [number for number in right if has_times_behind(stamps, number, work, made, seen)]
+    if not timed:
+        told.fault(f'{text}: the tree is that behind {right[-1]} changes, and the times are others: '
+                   f'{other_times(stamps, seen.noted, right[-1])}')
+        return right[-1]
+    return timed[-1]
+
+
+def place_before(path, change, answer):
+    """Where that stood before a change which has a path now."""
+    name, *paths = change[:3]
+    if name in ('rename', 'link') and answer is None and (path == paths[1] or path.startswith(f'{paths[1]}/')):
+        return paths[0] + path[len(paths[1]):]
+    return path
+
+
+def has_times_behind(stamps, number, work, made, seen):
+    """Whether a tree's times are those behind so many changes."""
+    if number < len(seen.noted):
+        return stamps == seen.noted[number]
+    # The last one, answered or not: what it sets has one time, at which it was made, and all else has the times that it had.
+    before = {path: seen.noted[-1].get(place_before(path, work[-1], made.answers[-1]), {}) for path in stamps}
+    stayed = [before[path].get(field) == stamp for path, fields in stamps.items() for field, stamp in fields.items()
+              if (path, field) not in made.moved]
+    moment = {stamps[path][field] for path, field in made.moved}
+    return all(stayed) and len(moment) <= 1 and all(seen.span[0] <= stamp <= seen.span[1] for stamp in moment)
+
+
+def other_times(stamps, noted, number):
+    """Some of the times that differ from those behind so many changes, or from those behind the change before."""
+    before = noted[min(number, len(noted) - 1)]
+    return [(path, field, stamp, before.get(path, {}).get(field)) for path, fields in sorted(stamps.items())
+            for field, stamp in fields.items() if before.get(path, {}).get(field) != stamp][:4]
+
+
+# ---- writes of a whole file, which a commit divides
+
+FILE_SIZE = 1 << 20  # more than a commit takes
+MOST_WRITES = 12
+
+
+def writes_until_killed(mounted, worker, dice):
+    """Writes a file over and over, each time with a byte of its own, and kills the server within the last write: the spans of the
+    writes, the times behind each that was answered, and which one the last sync covers."""
+    spans, noted, synced, server = Spans(), {}, 0, mounted.server()
+    path, last = mounted.mount / 'f', dice.randrange(1, MOST_WRITES)
+    for number in range(last + 1):
+        sync = number == 0 or dice.random() < 0.2
+        spans.begin(number)
+        worker.send(mounted.mount, 'fill', 'f', number, FILE_SIZE if number else 0, sync)
+        if number == last:
+            end_at(server, dice.random() * dice.choice([0.003, 0.03]))
+        answer = worker.answer()
+        spans.end()
+        if type(answer) is str:
+            break
+        if number < last:
+            noted[number] = stamps_of(os.stat(path))
+        synced = number if sync else synced
+    return spans, noted, synced
+
+
+def file_is_of(data, number):
+    """Whether a file has bytes of this write, and behind them only those of the one before."""
+    behind = data.lstrip(bytes([number]))
+    return len(behind) < len(data) and behind == bytes([number - 1]) * len(behind) and (number == 1 or len(data) == FILE_SIZE)
+
+
+def judge_writes(mounted, told, text, spans, noted, synced):
+    """Compares the file's times with those of the write from which its first byte is: whether only a part of that is there."""
+    data, stamps = (mounted.mount / 'f').read_bytes(), stamps_of(os.stat(mounted.mount / 'f'))
+    number = data[0] if data else 0
+    if number < synced or data and not file_is_of(data, number):
+        told.fault(f'{text}: the bytes are those of no write since the one that was synced, {synced}')
+        return False
+    divided = data != bytes([number]) * FILE_SIZE
+    wanted = {'access': noted[0]['access'], 'modification': number, 'change': number}
+    seen = {**{field: spans.told(stamp) for field, stamp in stamps.items()}, 'access': stamps['access']}
+    told.compare('kills', f'{text}: which write set the times, by the bytes', None, seen, wanted)
+    if number in noted and not (divided and number):
+        told.compare('kills', f'{text}: the times that were told behind write {number}', None, stamps, noted[number])
+    return divided and number > 0
+
+
+def writes_killed(mounted, told, seed, count):
+    """Kills so many servers, of which those count whose images have times."""
+    divided, done = 0, 0
+    for number in range(count):
+        mounted.fresh()
+        if not mounted.keeps_times():
+            continue
+        mounted.begin()
+        dice, worker = random.Random(f'{seed} writes {number}'), Worker('root', perform)
+        seen = writes_until_killed(mounted, worker, dice)
+        worker.end()
+        text = f'kill {number} of seed {seed} within writes'
+        if recovered(mounted, told, text):
+            divided += judge_writes(mounted, told, text, *seen)
+            done += 1
+            mounted.end()
+    if done:
+        print(f'{done} kills within writes of {FILE_SIZE:,} bytes, of which {divided} left a part of one')
