@@ -15,6 +15,7 @@ import traceback
 TOP = pathlib.Path(__file__).resolve().parent.parent
 PROGRAM = TOP / 'crates/inofs/out/inofs'
 SECONDS = 120  # how long a step may take
+UNMOUNTS = 5  # how often an unmount is tried that finds the mount in use
 # Name: user id, group ids, the first of which is that of the files. Two share a group, and one has a second one.
 USERS = {'root': (0, [0]), 'ann': (1000, [100]), 'bob': (1001, [101, 200]), 'cy': (1002, [100, 200]), 'dan': (1003, [103])}
 ACLS = {'access': 'system.posix_acl_access', 'default': 'system.posix_acl_default'}
@@ -194,7 +195,7 @@ class Mounted:
         (words / 'inofs').symlink_to(pathlib.Path(program).resolve())
         self.environment = {**os.environ, 'PATH': f'{words}:{os.environ["PATH"]}'}
         self.mount.mkdir()
-        self.versions, self.version = itertools.cycle(layouts), None
+        self.layouts, self.versions, self.version = layouts, itertools.cycle(layouts), None
 
     def fresh(self):
         """A new image in place of the last one, and an empty directory."""
@@ -208,6 +209,10 @@ class Mounted:
         """That of the image."""
         return LAYOUTS[self.version]
 
+    def keeps_times(self):
+        """Whether the image has the times of what is on it."""
+        return self.version >= 3
+
     def run(self, *words, **options):
         return subprocess.run(words, env=self.environment, **options)
 
@@ -215,7 +220,13 @@ class Mounted:
         self.run(TOP / 'mount/mount.inofs', self.image, self.mount, '-o', ','.join(self.options), check=True)
 
     def end(self):
-        self.run(TOP / 'mount/umount.inofs', self.mount, check=True)
+        """Unmounts it. Where the machine has much to do, what the option commit asks for may have it in use for longer than umount waits."""
+        for _ in range(UNMOUNTS):
+            ended = self.run(TOP / 'mount/umount.inofs', self.mount)
+            if ended.returncode == 0 or not is_mounted(self.mount):
+                break
+            time.sleep(1)
+        ended.check_returncode()
 
     def check(self):
         """The line of a check."""
