@@ -1,0 +1,3 @@
+mod Counts
+mod OfReads
+mod OfTrees
