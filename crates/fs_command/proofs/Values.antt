@@ -41,10 +41,13 @@ run_sound = ((refl, inl (refl, refl, refl)), ((refl, inl (refl, refl, refl)), ((
 check_sound : Each (Sound (leaf 3).rules) (leaf 3).rules
 check_sound = ((refl, inl (refl, refl, refl)), ((refl, inr (inl (refl, refl, refl, refl, refl, refl))), ((refl, inr (inr (refl, refl))), tt)))
 
-upgrade_sound : Each (Sound (leaf 4).rules) (leaf 4).rules
+info_sound : Each (Sound (leaf 4).rules) (leaf 4).rules
+info_sound = ((refl, inl (refl, refl, refl)), ((refl, inr (inl (refl, refl, refl, refl, refl, refl))), ((refl, inr (inr (refl, refl))), tt)))
+
+upgrade_sound : Each (Sound (leaf 5).rules) (leaf 5).rules
 upgrade_sound = ((refl, inl (refl, refl, refl)), ((refl, inr (inr (refl, refl))), tt))
 
-fuse_sound : Each (Sound (leaf 5).rules) (leaf 5).rules
+fuse_sound : Each (Sound (leaf 6).rules) (leaf 6).rules
 fuse_sound = ((refl, inl (refl, refl, refl)), ((refl, inl (refl, refl, refl)), ((refl, inr (inl (refl, refl, refl, refl, refl, refl))), ((refl, inr (inr (refl, refl))), tt))))
 
 mkfs_has : HasAll (leaf 0)
@@ -74,19 +77,25 @@ check_has words fault =
     let explain = (leaf_flags (leaf 3) words check_sound fault).1.0 (refl, refl, refl, refl, refl, refl) in
     inr (inr (inr (inl (refl, (image.0, image.1), explain))))
 
-upgrade_has : HasAll (leaf 4)
-upgrade_has words fault =
-    let image = (leaf_values (leaf 4) words upgrade_sound refl fault).0 refl in
-    inr (inr (inr (inr (inl (refl, (image.0, image.1))))))
+info_has : HasAll (leaf 4)
+info_has words fault =
+    let image = (leaf_values (leaf 4) words info_sound refl fault).0 refl in
+    let json = (leaf_flags (leaf 4) words info_sound fault).1.0 (refl, refl, refl, refl, refl, refl) in
+    inr (inr (inr (inr (inl (refl, (image.0, image.1), json)))))
 
-fuse_has : HasAll (leaf 5)
+upgrade_has : HasAll (leaf 5)
+upgrade_has words fault =
+    let image = (leaf_values (leaf 5) words upgrade_sound refl fault).0 refl in
+    inr (inr (inr (inr (inr (inl (refl, (image.0, image.1)))))))
+
+fuse_has : HasAll (leaf 6)
 fuse_has words fault =
-    let image = (leaf_values (leaf 5) words fuse_sound refl fault).0 refl in
-    let own_rules = (leaf_flags (leaf 5) words fuse_sound fault).1.1.0 (refl, refl, refl, refl, refl, refl) in
-    inr (inr (inr (inr (inr (refl, (image.0, image.1), own_rules)))))
+    let image = (leaf_values (leaf 6) words fuse_sound refl fault).0 refl in
+    let own_rules = (leaf_flags (leaf 6) words fuse_sound fault).1.1.0 (refl, refl, refl, refl, refl, refl) in
+    inr (inr (inr (inr (inr (inr (refl, (image.0, image.1), own_rules))))))
 
 each_has : Each HasAll (built command_line).subs
-each_has = (mkfs_has, (format_has, (run_has, (check_has, (upgrade_has, (fuse_has, tt))))))
+each_has = (mkfs_has, (format_has, (run_has, (check_has, (info_has, (upgrade_has, (fuse_has, tt)))))))
 
 entered_has : (stop : Option (Text × List Text)) → entered_fault (built command_line) stop ≡ [] → HasValues (entered (built command_line) stop)
 entered_has None fault = tt

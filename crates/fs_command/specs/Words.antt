@@ -15,7 +15,7 @@ use Rattle.clap.specs.declared.error.kind.ErrorKind.{ErrorKind}
 use Rattle.clap.specs.declared.error.kind.ErrorKind.TheVariants as kind
 use Rattle.fs_command.specs.Sizes.{IsNoSize, IsSize, usual_inodes}
 use Rattle.fs_command.specs.declared.words.Job.{Job}
-use Rattle.fs_command.specs.declared.words.Job.TheVariants.{Memory, Mkfs, Format, Run, Check, Upgrade, Fuse}
+use Rattle.fs_command.specs.declared.words.Job.TheVariants.{Memory, Mkfs, Format, Run, Check, Info, Upgrade, Fuse}
 use Rattle.fs_command.specs.declared.words.WordsFault.{WordsFault}
 use Rattle.fs_command.specs.declared.words.WordsFault.TheVariants.{Help, BadWords, BadSize, OutOfMemory}
 use Rattle.fs_command.specs.declared.status.Status.{Status}
@@ -57,6 +57,9 @@ run = with_rule (with_rule (new_app (codes "run")) image) (new_rule (codes "SCRI
 abbrev pub check : App
 check = with_rule (with_rule (new_app (codes "check")) image) (flag (codes "explain"))
 
+abbrev pub info : App
+info = with_rule (with_rule (new_app (codes "info")) image) (flag (codes "json"))
+
 abbrev pub upgrade : App
 upgrade = with_rule (new_app (codes "upgrade")) image
 
@@ -70,8 +73,8 @@ alone = record (new_app (codes "inofs")) {
 }
 
 abbrev pub command_line : App
-command_line = with_subcommand (with_subcommand (with_subcommand (with_subcommand (with_subcommand (with_subcommand alone
-    mkfs.top) format.top) run.top) check.top) upgrade.top) fuse.top
+command_line = with_subcommand (with_subcommand (with_subcommand (with_subcommand (with_subcommand (with_subcommand (with_subcommand alone
+    mkfs.top) format.top) run.top) check.top) info.top) upgrade.top) fuse.top
 
 -- ---- what it reads
 
@@ -112,6 +115,10 @@ abbrev pub SaysCheck : List Row → Job → Type 0
 SaysCheck rows (Check image explain) = (first_of (codes "IMAGE") rows ≡ Some image) × (is_given (codes "explain") rows ≡ explain)
 SaysCheck rows job = ⊥
 
+abbrev pub SaysInfo : List Row → Job → Type 0
+SaysInfo rows (Info image json) = (first_of (codes "IMAGE") rows ≡ Some image) × (is_given (codes "json") rows ≡ json)
+SaysInfo rows job = ⊥
+
 abbrev pub SaysUpgrade : List Row → Job → Type 0
 SaysUpgrade rows (Upgrade image) = first_of (codes "IMAGE") rows ≡ Some image
 SaysUpgrade rows job = ⊥
@@ -129,6 +136,7 @@ SaysJob named (Format image sectors inodes) =
     (rows : List Row) × (named ≡ Some (codes "format", rows)) × SaysFormat rows (Format image sectors inodes)
 SaysJob named (Run image script) = (rows : List Row) × (named ≡ Some (codes "run", rows)) × SaysRun rows (Run image script)
 SaysJob named (Check image explain) = (rows : List Row) × (named ≡ Some (codes "check", rows)) × SaysCheck rows (Check image explain)
+SaysJob named (Info image json) = (rows : List Row) × (named ≡ Some (codes "info", rows)) × SaysInfo rows (Info image json)
 SaysJob named (Upgrade image) = (rows : List Row) × (named ≡ Some (codes "upgrade", rows)) × SaysUpgrade rows (Upgrade image)
 SaysJob named (Fuse image denials own_rules) =
     (rows : List Row) × (named ≡ Some (codes "fuse", rows)) × SaysFuse rows (Fuse image denials own_rules)
@@ -194,7 +202,7 @@ IsNumberIfGiven least most id rows = (text : Text) → one_of id rows ≡ Some t
 abbrev pub IsFlag : Text → List Row → Type 0
 IsFlag id rows = (one_of id rows ≡ Some (bool_text (is_given id rows))) ⊎ ((one_of id rows ≡ None) × (is_given id rows ≡ false))
 
--- the command is one of the six, and has the values that have to be given
+-- the command is one of the seven, and has the values that have to be given
 abbrev pub IsWhole : Text × List Row → Type 0
 IsWhole named = ((named.0 ≡ codes "mkfs") × IsGiven (codes "IMAGE") named.1
     × IsNumberGiven 1024 65536 (codes "sectors") named.1 × IsNumberGiven 16 4096 (codes "inodes") named.1)
@@ -202,8 +210,9 @@ IsWhole named = ((named.0 ≡ codes "mkfs") × IsGiven (codes "IMAGE") named.1
     × IsGiven (codes "size") named.1 × IsNumberIfGiven 16 1048576 (codes "inodes") named.1)
     ⊎ (((named.0 ≡ codes "run") × IsGiven (codes "IMAGE") named.1)
     ⊎ (((named.0 ≡ codes "check") × IsGiven (codes "IMAGE") named.1 × IsFlag (codes "explain") named.1)
+    ⊎ (((named.0 ≡ codes "info") × IsGiven (codes "IMAGE") named.1 × IsFlag (codes "json") named.1)
     ⊎ (((named.0 ≡ codes "upgrade") × IsGiven (codes "IMAGE") named.1)
-    ⊎ ((named.0 ≡ codes "fuse") × IsGiven (codes "IMAGE") named.1 × IsFlag (codes "own-rules") named.1)))))
+    ⊎ ((named.0 ≡ codes "fuse") × IsGiven (codes "IMAGE") named.1 × IsFlag (codes "own-rules") named.1))))))
 
 abbrev pub HasValues : Option (Text × List Row) → Type 0
 HasValues None = Unit {0}

@@ -2,6 +2,7 @@
 
 use fs_check::CheckFault;
 use fs_images::{MkfsFault, UpgradeFault};
+use fs_info::InfoFault;
 use fs_shell::RunFault;
 use fs_system::MountFault;
 use fuse_serving::ServeFault;
@@ -34,6 +35,9 @@ pub enum Failure {
     /// The image was not checked to the end.
     #[error("check: {0}")]
     Check(CheckFault),
+    /// The image says nothing of itself.
+    #[error("info: {0}")]
+    Info(InfoFault),
     /// The file system was not upgraded.
     #[error("upgrade: {0}")]
     Upgrade(UpgradeFault),

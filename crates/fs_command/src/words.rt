@@ -1,10 +1,10 @@
 //! What the words of the command line ask for.
 ghost use Rattle.std.specs.Prelude.{◌≡◌, MatchResult, IfOk, [], codes, map, string_bytes, false};
 ghost use Rattle.clap.specs.Words.{app_of, found_of, rows_of, rule_of, fault_of, subcommand_rows_of};
-ghost use Rattle.fs_command.specs.Words.{command_line, alone, mkfs, format, run, check, upgrade, fuse};
+ghost use Rattle.fs_command.specs.Words.{command_line, alone, mkfs, format, run, check, info, upgrade, fuse};
 ghost use Rattle.fs_command.specs.Words.{image, needed, number_option, text_option, flag, words_status};
 ghost use Rattle.fs_command.specs.Words.{HasValues, IsGiven, IsNumberGiven, IsNumberIfGiven, IsFlag, AsksFor, SaysJob, Refuses};
-ghost use Rattle.fs_command.specs.Words.{SaysMkfs, SaysFormat, SaysRun, SaysCheck, SaysUpgrade, SaysFuse, HasBadSize, HasBadValue};
+ghost use Rattle.fs_command.specs.Words.{SaysMkfs, SaysFormat, SaysRun, SaysCheck, SaysInfo, SaysUpgrade, SaysFuse, HasBadSize, HasBadValue};
 
 use crate::size::{sectors_of_size, usual_inodes};
 use crate::status::Status;
@@ -23,6 +23,7 @@ const USAGE: &str = "inofs
        inofs format IMAGE --size SIZE [--inodes N]
        inofs run IMAGE [SCRIPT]
        inofs check [--explain] IMAGE
+       inofs info [--json] IMAGE
        inofs upgrade IMAGE
        inofs fuse IMAGE [--denials FILE] [--own-rules]";
 
@@ -99,6 +100,13 @@ pub enum Job {
         image: Text,
         /// A sentence says what the rule of a finding asks.
         explain: bool,
+    },
+    /// To say what an image says of itself.
+    Info {
+        /// The image's path.
+        image: Text,
+        /// In one line of JSON, for programs.
+        json: bool,
     },
     /// To upgrade an image.
     Upgrade {
@@ -198,6 +206,9 @@ fn named_job(alloc: Global, matches: &ArgMatches<'_>) -> Result<Job, WordsFault>
     if let Some(matches) = matches.subcommand_matches("check") {
         return Ok(check_job(alloc, matches)?);
     }
+    if let Some(matches) = matches.subcommand_matches("info") {
+        return Ok(info_job(alloc, matches)?);
+    }
     if let Some(matches) = matches.subcommand_matches("upgrade") {
         return Ok(upgrade_job(alloc, matches)?);
     }
@@ -266,6 +277,17 @@ fn check_job(alloc: Global, matches: &ArgMatches<'_>) -> Result<Job, AllocError>
     Ok(Job::Check { image, explain })
 }
 
+// The job of `info`.
+fn info_job(alloc: Global, matches: &ArgMatches<'_>) -> Result<Job, AllocError>
+    requires image { IsGiven (codes "IMAGE") (rows_of (found_of matches.now)) }
+    requires json { IsFlag (codes "json") (rows_of (found_of matches.now)) }
+    ensures { IfOk result (SaysInfo (rows_of (found_of matches.now))) }
+{
+    let image = Text::new(alloc, matches.get_str("IMAGE").unwrap())?;
+    let json = matches.get_flag("json");
+    Ok(Job::Info { image, json })
+}
+
 // The job of `upgrade`.
 fn upgrade_job(alloc: Global, matches: &ArgMatches<'_>) -> Result<Job, AllocError>
     requires image { IsGiven (codes "IMAGE") (rows_of (found_of matches.now)) }
@@ -303,6 +325,7 @@ fn program<'a>(alloc: Global) -> Result<Command<'a>, AllocError>
         .subcommand(format_command(alloc)?)?
         .subcommand(run_command(alloc)?)?
         .subcommand(check_command(alloc)?)?
+        .subcommand(info_command(alloc)?)?
         .subcommand(upgrade_command(alloc)?)?
         .subcommand(fuse_command(alloc)?)
 }
@@ -373,6 +396,17 @@ fn check_command<'a>(alloc: Global) -> Result<Command<'a>, AllocError>
         .about("Check an image")
         .arg(image(alloc).help("The image"))?
         .arg(explain)
+}
+
+// The words of `info`.
+fn info_command<'a>(alloc: Global) -> Result<Command<'a>, AllocError>
+    ensures { IfOk result (λ command. app_of command ≡ info) }
+{
+    let json = flag(alloc, "json").help("Say it in one line of JSON");
+    Command::new(alloc, "info")
+        .about("Say the version, the size, what is free and the limits of an image")
+        .arg(image(alloc).help("The image"))?
+        .arg(json)
 }
 
 // The words of `upgrade`.

@@ -3,8 +3,9 @@
 --     IsUndone        a job isn't done, and nothing is printed
 --     Tells        a line is printed, and the status is this one; or it can't be printed
 --     MkfsEnds, CheckEnds, UpgradeEnds        a disk is made a file system, a disk is checked, and a disk is upgraded
+--     InfoEnds        a disk says of itself what it does
 --     RunsOn, RunEnds        a script is run on a disk that is mounted for it
---     MemoryEnds, ImageMkfsEnds, ImageRunEnds, ImageCheckEnds, ImageUpgradeEnds        the jobs but that of serving
+--     MemoryEnds, ImageMkfsEnds, ImageRunEnds, ImageCheckEnds, ImageInfoEnds, ImageUpgradeEnds        the jobs but that of serving
 --     JobEnds, ProgramEnds        a job, and what the program does for its words
 use Rattle.std.specs.Prelude.{◌≡◌, ◌⊎◌, ℕ, Bool, List, Option, None, IsSome, IsTrue, Result, Ok, Err, OnOk}
 use Rattle.std.specs.Io.KnownBytes.{Appends}
@@ -20,6 +21,9 @@ use Rattle.fs_check.specs.Checks.{IsClean, IsFirst, IsReason, IsNone}
 use Rattle.fs_check.specs.declared.faults.CheckFault.{CheckFault}
 use Rattle.fs_check.specs.declared.faults.Finding.{Finding}
 use Rattle.fs_check.specs.declared.faults.Summary.{Summary}
+use Rattle.fs_info.specs.Infos.{IsInfo, IsReason as IsInfoReason}
+use Rattle.fs_info.specs.declared.faults.InfoFault.{InfoFault}
+use Rattle.fs_info.specs.declared.info.Info.{Info}
 use Rattle.fs_system.specs.Doing.{Does}
 use Rattle.fs_images.specs.Making.{IsDeviceFault, IsNewDisk}
 use Rattle.fs_system.specs.Mounts.{IsNotMounted}
@@ -39,6 +43,7 @@ use Rattle.fs_program.specs.Serving.{ImageFuseEnds}
 use Rattle.fs_program.specs.Programs.{RunsInMemory}
 use Rattle.fs_command.specs.Statuses.{code_of, status_of}
 use Rattle.fs_program.specs.Streams.{Reading, Writing}
+use Rattle.fs_program.specs.InfoTexts.{info_text}
 use Rattle.fs_program.specs.Texts.{made_text, clean_text, found_text, version_text}
 use Rattle.fs_command.specs.Words.{AsksFor, Refuses, words_status}
 use Rattle.fs_command.specs.declared.failure.Failure.{Failure}
@@ -47,7 +52,7 @@ use Rattle.fs_program.specs.declared.memory.TheConstants.{SECTORS, INODES}
 use Rattle.fs_command.specs.declared.status.Status.{Status}
 use Rattle.fs_command.specs.declared.status.Status.TheVariants.{Done, Faulty, Failed}
 use Rattle.fs_command.specs.declared.words.Job.{Job}
-use Rattle.fs_command.specs.declared.words.Job.TheVariants.{Memory, Mkfs, Format, Run, Check, Upgrade, Fuse}
+use Rattle.fs_command.specs.declared.words.Job.TheVariants.{Memory, Mkfs, Format, Run, Check, Info as InfoJob, Upgrade, Fuse}
 use Rattle.fs_command.specs.declared.words.WordsFault.{WordsFault}
 
 -- ---- statuses
@@ -98,6 +103,13 @@ pub data CheckEnds (old now : DiskState) (explain : Bool) (w : Writing) (result 
   -- the device failed, or memory ran out
   is_unchecked : (fault : CheckFault) → IsReason IsNone old now fault → IsUndone w (failures.Check fault) result
       → CheckEnds old now explain w result
+
+-- A disk is to say of itself what it does, a line each or as JSON.
+pub data InfoEnds (old now : DiskState) (json : Bool) (w : Writing) (result : Result Status Failure) : Type 0 where
+  says : (info : Info) → IsInfo old info → Tells w (info_text json info) Done result → InfoEnds old now json w result
+  -- it is no file system, its commit is damaged, or the device failed
+  says_nothing : (fault : InfoFault) → IsInfoReason old now fault → IsUndone w (failures.Info fault) result
+      → InfoEnds old now json w result
 
 -- A disk is to be upgraded.
 pub data UpgradeEnds (old now : DiskState) (w : Writing) (result : Result Status Failure) : Type 0 where
@@ -160,6 +172,11 @@ pub data ImageCheckEnds {D : Type 0} (state : D → DiskState) (explain : Bool) 
   checks : (old now : D) → IsFresh (state old) (state old).seen → OnlyReads (state old) (state now)
       → CheckEnds (state old) (state now) explain w result → ImageCheckEnds state explain w result
 
+pub data ImageInfoEnds {D : Type 0} (state : D → DiskState) (json : Bool) (w : Writing) (result : Result Status Failure) : Type 0 where
+  cannot_say : IsUndone w failures.NotOpened result → ImageInfoEnds state json w result
+  describes : (old now : D) → IsFresh (state old) (state old).seen → OnlyReads (state old) (state now)
+      → InfoEnds (state old) (state now) json w result → ImageInfoEnds state json w result
+
 pub data ImageUpgradeEnds {D : Type 0} (state : D → DiskState) (w : Writing) (result : Result Status Failure) : Type 0 where
   has_no_image : IsUndone w failures.NotOpened result → ImageUpgradeEnds state w result
   upgrades : (old now : D) → IsFresh (state old) (state old).seen → LeavesOnly (state old) (state now) (IsHalfUpgraded (state old))
@@ -172,6 +189,7 @@ JobEnds memory file r w (Mkfs image sectors inodes) result = ImageMkfsEnds file 
 JobEnds memory file r w (Format image sectors inodes) result = ImageMkfsEnds file Three sectors inodes w result
 JobEnds memory file r w (Run image script) result = ImageRunEnds file script r w result
 JobEnds memory file r w (Check image explain) result = ImageCheckEnds file explain w result
+JobEnds memory file r w (InfoJob image json) result = ImageInfoEnds file json w result
 JobEnds memory file r w (Upgrade image) result = ImageUpgradeEnds file w result
 JobEnds memory file r w (Fuse image denials own_rules) result = ImageFuseEnds file denials own_rules result
 

@@ -5,3 +5,4 @@ pub mod Explanations
 pub mod Programs
 pub mod Streams
 pub mod Texts
+pub mod InfoTexts

@@ -188,7 +188,7 @@ fn print_room<O: Write>(summary: &Summary, out: &mut O) -> io::Result<()>
     write!(out, " nameless {nameless} blocks {blocks} inodes {inodes}")
 }
 
-fn yes_or_no(yes: bool) -> &'static str
+pub(crate) fn yes_or_no(yes: bool) -> &'static str
     ensures { result.now ≡ yes_text yes }
 {
     if yes { "yes" } else { "no" }

@@ -3,12 +3,13 @@
 ghost use Rattle.std.specs.Prelude.{◌≡◌, ◌⊎◌, ◌≤◌, map, string_bytes, MatchResult, Err, IfErr, IsSome};
 ghost use Rattle.std.specs.Option.{option_copied};
 ghost use Rattle.sector_disk.specs.Disk.{IsFresh};
-ghost use Rattle.fs_program.specs.Jobs.{ImageMkfsEnds, ImageRunEnds, ImageCheckEnds, ImageUpgradeEnds, JobEnds, ProgramEnds};
+ghost use Rattle.fs_program.specs.Jobs.{ImageMkfsEnds, ImageRunEnds, ImageCheckEnds, ImageInfoEnds, ImageUpgradeEnds, JobEnds, ProgramEnds};
 ghost use Rattle.fs_program.specs.Serving.{ImageFuseEnds};
 ghost use Rattle.fs_program.specs.Streams.{reading, writing};
 ghost use Rattle.fs_command.specs.Words.{words_status};
 
 use crate::denials::DenialList;
+use crate::describing::describe_disk;
 use crate::disks::{check_disk, finish, make_on_disk, run_on_disk, upgrade_disk, written};
 use crate::memory::run_in_memory;
 use crate::served::serve_on_disk;
@@ -85,6 +86,7 @@ fn perform_job<R: Files<File: DiskFile> + AllocGlobal + Clock, I: Read, O: Write
         } => make_image(rt, image, Version::Three, *sectors, *inodes, out),
         Job::Run { image, script } => run_image(rt, image, script.as_ref(), input, out, err),
         Job::Check { image, explain } => check_image(rt, image, *explain, out),
+        Job::Info { image, json } => describe_image(rt, image, *json, out),
         Job::Upgrade { image } => upgrade_image(rt, image, out),
         Job::Fuse {
             image,
@@ -161,6 +163,18 @@ fn check_image<R: Files<File: DiskFile> + AllocGlobal, O: Write>(
 {
     let mut disk = open_image(rt, image)?;
     check_disk(rt.alloc(), &mut disk, explain, out)
+}
+
+fn describe_image<R: Files<File: DiskFile> + AllocGlobal, O: Write>(
+    rt: &R,
+    image: &Text,
+    json: bool,
+    out: &mut Watched<O>,
+) -> Result<Status, Failure>
+    ensures { ImageInfoEnds ⟦<FileDisk<R::File> as Disk>⟧.state json (writing O.contents out.old out.new) result }
+{
+    let mut disk = open_image(rt, image)?;
+    describe_disk(&mut disk, json, out)
 }
 
 fn upgrade_image<R: Files<File: DiskFile> + AllocGlobal, O: Write>(

@@ -4,6 +4,7 @@
 #![tactic(auto)]
 
 mod denials;
+mod describing;
 mod disks;
 mod explaining;
 mod jobs;

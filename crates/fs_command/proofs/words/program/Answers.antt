@@ -2,7 +2,7 @@ use Rattle.std.proofs.Common.{◌≡◌, ◌∙◌, ap, ap₂}
 use Rattle.std.proofs.lemmas.Result.{IfOk-weaker}
 use Rattle.clap.specs.Words.{App, app_of, with_subcommand}
 use Rattle.clap.proofs.SimpleLemmas.{plain_fields}
-use Rattle.fs_command.specs.Words.{alone, mkfs, format, run, check, upgrade, fuse}
+use Rattle.fs_command.specs.Words.{alone, mkfs, format, run, check, info, upgrade, fuse}
 use Rattle.fs_command.proofs.words.program.Goals as goal
 
 pub returns : goal.returns
@@ -12,6 +12,7 @@ returns c =
     let format_is : app_of c.in_ok-format_command.field-0 ≡ format = c.in_ok-format_command.ensures in
     let run_is : app_of c.in_ok-run_command.field-0 ≡ run = c.in_ok-run_command.ensures in
     let check_is : app_of c.in_ok-check_command.field-0 ≡ check = c.in_ok-check_command.ensures in
+    let info_is : app_of c.in_ok-info_command.field-0 ≡ info = c.in_ok-info_command.ensures in
     let upgrade_is : app_of c.in_ok-upgrade_command.field-0 ≡ upgrade = c.in_ok-upgrade_command.ensures in
     let fuse_is : app_of c.in_ok-fuse_command.field-0 ≡ fuse = c.in_ok-fuse_command.ensures in
     let one_is : app_of c.in_ok-subcommand.field-0
@@ -31,8 +32,12 @@ returns c =
     c.in_ok-subcommand-4.ensures.shape (plain_fields _ (ap (λ (a : App). a.top.is_plain) check_is)).globals
     ∙ ap₂ with_subcommand three_is (ap (λ (a : App). a.top) check_is) in
     let five_is : app_of c.in_ok-subcommand-5.field-0
-    ≡ with_subcommand (with_subcommand (with_subcommand (with_subcommand (with_subcommand alone mkfs.top) format.top) run.top) check.top) upgrade.top =
-    c.in_ok-subcommand-5.ensures.shape (plain_fields _ (ap (λ (a : App). a.top.is_plain) upgrade_is)).globals
-    ∙ ap₂ with_subcommand four_is (ap (λ (a : App). a.top) upgrade_is) in
-    IfOk-weaker c.subcommand-6.result _ _ (λ command adds. adds.shape (plain_fields _ (ap (λ (a : App). a.top.is_plain) fuse_is)).globals
-    ∙ ap₂ with_subcommand five_is (ap (λ (a : App). a.top) fuse_is)) c.subcommand-6.ensures
+    ≡ with_subcommand (with_subcommand (with_subcommand (with_subcommand (with_subcommand alone mkfs.top) format.top) run.top) check.top) info.top =
+    c.in_ok-subcommand-5.ensures.shape (plain_fields _ (ap (λ (a : App). a.top.is_plain) info_is)).globals
+    ∙ ap₂ with_subcommand four_is (ap (λ (a : App). a.top) info_is) in
+    let six_is : app_of c.in_ok-subcommand-6.field-0
+    ≡ with_subcommand (with_subcommand (with_subcommand (with_subcommand (with_subcommand (with_subcommand alone mkfs.top) format.top) run.top) check.top) info.top) upgrade.top =
+    c.in_ok-subcommand-6.ensures.shape (plain_fields _ (ap (λ (a : App). a.top.is_plain) upgrade_is)).globals
+    ∙ ap₂ with_subcommand five_is (ap (λ (a : App). a.top) upgrade_is) in
+    IfOk-weaker c.subcommand-7.result _ _ (λ command adds. adds.shape (plain_fields _ (ap (λ (a : App). a.top.is_plain) fuse_is)).globals
+    ∙ ap₂ with_subcommand six_is (ap (λ (a : App). a.top) fuse_is)) c.subcommand-7.ensures

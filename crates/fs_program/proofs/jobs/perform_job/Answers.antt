@@ -12,6 +12,9 @@ returns-in-Run g c = rw c.in-Run.is (rw c.as_ref.ensures.value at c.run_image.en
 pub returns-in-Check : goal.returns-in-Check
 returns-in-Check g c = rw c.in-Check.is c.check_image.ensures
 
+pub returns-in-Info : goal.returns-in-Info
+returns-in-Info g c = rw c.in-Info.is c.describe_image.ensures
+
 pub returns-in-Upgrade : goal.returns-in-Upgrade
 returns-in-Upgrade g c = rw c.in-Upgrade.is c.upgrade_image.ensures
 

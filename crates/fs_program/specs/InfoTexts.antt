@@ -1,0 +1,79 @@
+-- How it is printed what a disk says of itself.
+--     Value        a number, or whether something is so
+--     size_fields, free_fields, limit_fields, state_fields        what it says, each by its name, in this order
+--     lines_text        a line each
+--     json_text        a JSON object, on one line
+--     info_text        one or the other
+use Rattle.std.specs.Prelude.{ℕ, ◌*◌, Bool, List, [], ◌∷◌, ◌++◌, codes, if◌then◌else◌}
+use Rattle.std.specs.Fmt.{decimal}
+use Rattle.fs_layout.specs.Version.{version_number, max_name, max_names, max_inode_names, max_file_size, keeps_times}
+use Rattle.fs_info.specs.declared.info.Info.{Info}
+use Rattle.fs_program.specs.Texts.{yes_text}
+
+pub data Value : Type 0 where
+  Number : ℕ → Value
+  Truth : Bool → Value
+
+-- the version and the size
+abbrev pub size_fields : Info → List (List ℕ × Value)
+size_fields i =
+    (codes "version", Number (version_number i.place.version))
+    ∷ (codes "sectors", Number i.place.sectors)
+    ∷ (codes "bytes", Number (512 * i.place.sectors))
+    ∷ (codes "inodes", Number i.place.inodes)
+    ∷ []
+
+-- what is free
+abbrev pub free_fields : Info → List (List ℕ × Value)
+free_fields i = (codes "free_sectors", Number i.free_sectors) ∷ (codes "free_inodes", Number i.free_inodes) ∷ []
+
+-- the limits of the version
+abbrev pub limit_fields : Info → List (List ℕ × Value)
+limit_fields i =
+    (codes "max_name", Number (max_name i.place.version))
+    ∷ (codes "max_directory_names", Number (max_names i.place.version))
+    ∷ (codes "max_links", Number (max_inode_names i.place.version))
+    ∷ (codes "max_file_size", Number (max_file_size i.place.version))
+    ∷ []
+
+-- whether times are kept, and a commit waits
+abbrev pub state_fields : Info → List (List ℕ × Value)
+state_fields i = (codes "keeps_times", Truth (keeps_times i.place.version)) ∷ (codes "pending", Truth i.pending) ∷ []
+
+-- ---- for people
+
+abbrev pub plain_text : Value → List ℕ
+plain_text (Number n) = decimal n
+plain_text (Truth b) = yes_text b
+
+abbrev pub lines_of : List (List ℕ × Value) → List ℕ
+lines_of [] = []
+lines_of (f ∷ fs) = f.0 ++ (codes " " ++ (plain_text f.1 ++ (codes "\n" ++ lines_of fs)))
+
+abbrev pub lines_text : Info → List ℕ
+lines_text i = lines_of (size_fields i) ++ lines_of (free_fields i) ++ lines_of (limit_fields i) ++ lines_of (state_fields i)
+
+-- ---- for programs
+
+abbrev pub truth_text : Bool → List ℕ
+truth_text b = if b then codes "true" else codes "false"
+
+abbrev pub value_text : Value → List ℕ
+value_text (Number n) = decimal n
+value_text (Truth b) = truth_text b
+
+-- each behind a brace or a comma
+abbrev pub members_of : List ℕ → List (List ℕ × Value) → List ℕ
+members_of before [] = []
+members_of before (f ∷ fs) = before ++ (codes "\"" ++ (f.0 ++ (codes "\":" ++ (value_text f.1 ++ members_of (codes ",") fs))))
+
+abbrev pub json_text : Info → List ℕ
+json_text i =
+    members_of (codes "{") (size_fields i)
+    ++ members_of (codes ",") (free_fields i)
+    ++ members_of (codes ",") (limit_fields i)
+    ++ members_of (codes ",") (state_fields i)
+    ++ codes "}\n"
+
+abbrev pub info_text : Bool → Info → List ℕ
+info_text json i = if json then json_text i else lines_text i
