@@ -4,6 +4,7 @@ use crate::report::push_other_text;
 use fs_check::{CheckFault, Finding};
 use fs_command::Failure;
 use fs_images::{MkfsFault, UpgradeFault};
+use fs_info::InfoFault;
 use fs_shell::RunFault;
 use fs_system::MountFault;
 use std::alloc::{AllocError, Global};
@@ -13,7 +14,7 @@ use std::test::Fail;
 const FINDING: Finding = Finding { rule: 6, at: 147 };
 
 // What is printed where a job isn't done.
-static FAILURES: [(Failure, &str); 23] = [
+static FAILURES: [(Failure, &str); 26] = [
     (Failure::Exists, "image: exists"),
     (Failure::NotCreated, "image: cannot create"),
     (Failure::NotOpened, "image: cannot open"),
@@ -40,6 +41,15 @@ static FAILURES: [(Failure, &str); 23] = [
         Failure::Check(CheckFault::OutOfMemory),
         "check: OutOfMemory",
     ),
+    (
+        Failure::Info(InfoFault::NotAFileSystem),
+        "info: NotAFileSystem",
+    ),
+    (
+        Failure::Info(InfoFault::Damaged(FINDING)),
+        "info: Damaged 6 147",
+    ),
+    (Failure::Info(InfoFault::DiskFault), "info: DiskFault"),
     (
         Failure::Upgrade(UpgradeFault::NotAFileSystem),
         "upgrade: NotAFileSystem",

@@ -109,6 +109,38 @@ const MKFS: &str = "mkfs @d --sectors 1024 --inodes 64";
 
 const NEW: &str = "clean files 0 dirs 1 links 0 nameless 0 blocks 878 inodes 62 pending no\n";
 
+const NEW_INFO: &str = "version 2
+sectors 1024
+bytes 524288
+inodes 64
+free_sectors 878
+free_inodes 62
+max_name 120
+max_directory_names 560
+max_links 500
+max_file_size 8460288
+keeps_times no
+pending no
+";
+
+const FILLED_JSON: &str =
+    "{\"version\":2,\"sectors\":1024,\"bytes\":524288,\"inodes\":64,\"free_sectors\":875,\"free_inodes\":59,\
+\"max_name\":120,\"max_directory_names\":560,\"max_links\":500,\"max_file_size\":8460288,\"keeps_times\":false,\"pending\":false}\n";
+
+const FILLED_LARGE_INFO: &str = "version 3
+sectors 2048
+bytes 1048576
+inodes 64
+free_sectors 1514
+free_inodes 59
+max_name 248
+max_directory_names 32768
+max_links 65000
+max_file_size 8460288
+keeps_times yes
+pending no
+";
+
 // The same of a disk of version 3.
 const NEW_LARGE: &str =
     "clean files 0 dirs 1 links 0 nameless 0 blocks 1518 inodes 62 pending no\n";
@@ -145,6 +177,7 @@ Usage: inofs
        inofs format IMAGE --size SIZE [--inodes N]
        inofs run IMAGE [SCRIPT]
        inofs check [--explain] IMAGE
+       inofs info [--json] IMAGE
        inofs upgrade IMAGE
        inofs fuse IMAGE [--denials FILE] [--own-rules]
 
@@ -158,7 +191,7 @@ does, so nothing else is found; nothing is repaired: take the image from a backu
 ";
 
 // A row finds what those before it have left.
-static ROWS: [Row; 29] = [
+static ROWS: [Row; 35] = [
     // No file is made.
     (
         Change::Nothing,
@@ -180,6 +213,7 @@ static ROWS: [Row; 29] = [
     ),
     (Change::Nothing, MKFS, "", (3, "", "image: exists\n")),
     (Change::Nothing, "check @d", "", (0, NEW, "")),
+    (Change::Nothing, "info @d", "", (0, NEW_INFO, "")),
     (Change::Nothing, "upgrade @d", "", (0, "version 2\n", "")),
     (Change::Nothing, "run @d", SCRIPT, (0, REPLIES, "")),
     (
@@ -195,6 +229,19 @@ static ROWS: [Row; 29] = [
         (3, "", "script: cannot open\n"),
     ),
     (Change::Nothing, "check @d", "", (0, FILLED, "")),
+    (Change::Nothing, "info @d --json", "", (0, FILLED_JSON, "")),
+    (
+        Change::Byte(512, 0),
+        "info @d",
+        "",
+        (3, "", "info: Damaged 2 1\n"),
+    ),
+    (
+        Change::Byte(512, 0x49),
+        "info --json @d",
+        "",
+        (0, FILLED_JSON, ""),
+    ),
     (Change::Byte(0, 0), "check @d", "", (1, "finding 1 0\n", "")),
     (
         Change::Nothing,
@@ -207,6 +254,12 @@ static ROWS: [Row; 29] = [
         "run @d",
         SCRIPT,
         (3, "", "mount: NotAFileSystem\n"),
+    ),
+    (
+        Change::Nothing,
+        "info @d",
+        "",
+        (3, "", "info: NotAFileSystem\n"),
     ),
     (
         Change::Nothing,
@@ -244,6 +297,7 @@ static ROWS: [Row; 29] = [
     (Change::Nothing, "upgrade @e", "", (0, "version 3\n", "")),
     (Change::Nothing, "run @e", SCRIPT, (0, REPLIES, "")),
     (Change::Nothing, "check @e", "", (0, FILLED_LARGE, "")),
+    (Change::Nothing, "info @e", "", (0, FILLED_LARGE_INFO, "")),
     (
         Change::Nothing,
         "format @e --size 1M",

@@ -50,6 +50,7 @@ fn told_job(alloc: Global, job: &Job) -> Result<String, AllocError> {
             script: None,
         } => format!(in alloc; "run {}", image.as_str()),
         Job::Check { image, explain } => { format!(in alloc; "check {} {explain}", image.as_str()) }
+        Job::Info { image, json } => format!(in alloc; "info {} {json}", image.as_str()),
         Job::Upgrade { image } => format!(in alloc; "upgrade {}", image.as_str()),
         Job::Fuse {
             image,
@@ -77,7 +78,7 @@ fn told_fault(alloc: Global, fault: &WordsFault) -> Result<String, AllocError> {
 // ---- what is asked for
 
 // Lines, and what they ask for.
-static JOBS: [(&str, &str); 21] = [
+static JOBS: [(&str, &str); 24] = [
     ("inofs", "memory"),
     (
         "inofs mkfs a.img --sectors 1024 --inodes 16",
@@ -113,6 +114,9 @@ static JOBS: [(&str, &str); 21] = [
     ("inofs check a.img", "check a.img false"),
     ("inofs check a.img --explain", "check a.img true"),
     ("/usr/bin/inofs check check", "check check false"),
+    ("inofs info a.img", "info a.img false"),
+    ("inofs info a.img --json", "info a.img true"),
+    ("inofs info --json -- --json", "info --json true"),
     ("inofs upgrade a.img", "upgrade a.img"),
     ("inofs fuse a.img", "fuse a.img false"),
     ("inofs fuse a.img --own-rules", "fuse a.img true"),
@@ -124,7 +128,7 @@ static JOBS: [(&str, &str); 21] = [
 ];
 
 // Lines that ask for no job.
-static BAD: [&str; 49] = [
+static BAD: [&str; 54] = [
     "inofs mkfs",
     "inofs mkfs a.img",
     "inofs mkfs a.img --sectors 1024",
@@ -158,6 +162,11 @@ static BAD: [&str; 49] = [
     "inofs check a.img b.img",
     "inofs check --explain",
     "inofs check a.img --explain=true",
+    "inofs info",
+    "inofs info a.img b.img",
+    "inofs info --json",
+    "inofs info a.img --json=true",
+    "inofs info a.img --explain",
     "inofs upgrade",
     "inofs upgrade a.img b.img",
     "inofs fuse",
@@ -195,7 +204,7 @@ static SIZES: [&str; 14] = [
 ];
 
 // Lines that ask for help or the version.
-static SHOWN: [&str; 10] = [
+static SHOWN: [&str; 11] = [
     "inofs --help",
     "inofs -h",
     "inofs --version",
@@ -204,6 +213,7 @@ static SHOWN: [&str; 10] = [
     "inofs format --help",
     "inofs run a.img -h",
     "inofs check --help",
+    "inofs info --help",
     "inofs upgrade --help",
     "inofs fuse --help",
 ];
@@ -234,6 +244,7 @@ Usage: inofs
        inofs format IMAGE --size SIZE [--inodes N]
        inofs run IMAGE [SCRIPT]
        inofs check [--explain] IMAGE
+       inofs info [--json] IMAGE
        inofs upgrade IMAGE
        inofs fuse IMAGE [--denials FILE] [--own-rules]
 
@@ -242,6 +253,7 @@ Commands:
   format   Make an image of the third layout with an empty file system
   run      Run a script on an image
   check    Check an image
+  info     Say the version, the size, what is free and the limits of an image
   upgrade  Upgrade an image of the first layout to the second
   fuse     Serve an image to the kernel's FUSE, on the standard input and output
 
