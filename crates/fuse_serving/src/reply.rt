@@ -6,12 +6,13 @@ ghost use Rattle.fuse_protocol.specs.Replies.{IsReply, reply_bytes};
 ghost use Rattle.fuse_protocol.specs.declared.reply.Reply.TheVariants.{Bytes as BytesReply, Count as CountReply, Error as ErrorReply};
 ghost use Rattle.fuse_plans.specs.Protocol.{type_bits, attr_of, reply_of_body, response_bytes};
 ghost use Rattle.fuse_plans.specs.Stops.{stop_number};
+ghost use Rattle.fuse_plans.specs.declared.reply.ReplyBody.TheVariants.{Found, Shown, Created};
 ghost use Rattle.fuse_serving.specs.Rounds.{has_reply};
 
 use crate::room::ReplyRoom;
 use fs_model::FileType;
 use fuse_plans::{Attributes, ReplyBody, Response, Stop};
-use fuse_protocol::{Attr, Piece, Reply, Room, push_acl_value, push_reply};
+use fuse_protocol::{Attr, OpenedFlags, Piece, Reply, Room, push_acl_value, push_reply};
 use posix_acl::Acl;
 use std::alloc::AllocError;
 
@@ -133,6 +134,48 @@ fn room_of(sectors: u32, free_sectors: u32, inodes: u32, free_inodes: u32, max_n
     }
 }
 
+// What is told of an object.
+fn attributes_reply(shown: &Attributes) -> Reply<'static>
+    ensures { result ≡ reply_of_body (Shown shown.now) }
+{
+    Reply::Attr {
+        valid: shown.valid,
+        attr: attr_of(shown),
+    }
+}
+
+// The same of what has a name.
+fn found_reply(node: u64, name_valid: u64, shown: &Attributes) -> Reply<'static>
+    ensures { result ≡ reply_of_body (Found node name_valid shown.now) }
+{
+    Reply::Entry {
+        node,
+        name_valid,
+        valid: shown.valid,
+        attr: attr_of(shown),
+    }
+}
+
+// The same of a file that was made or found, and opened.
+fn created_reply(
+    node: u64,
+    name_valid: u64,
+    shown: &Attributes,
+    handle: u64,
+    flags: OpenedFlags,
+) -> Reply<'static>
+    ensures { result ≡ reply_of_body (Created node name_valid shown.now handle flags) }
+{
+    Reply::Created {
+        node,
+        name_valid,
+        valid: shown.valid,
+        attr: attr_of(shown),
+        handle,
+        flags,
+    }
+}
+
 // The reply to a request that didn't fail.
 fn write_body(room: &mut ReplyRoom, unique: u64, body: &ReplyBody) -> Result<(), ReplyFault>
     ensures { OnOk result (room.new.reply.items ≡ reply_bytes unique (reply_of_body body.now)) }
@@ -148,17 +191,9 @@ fn write_body(room: &mut ReplyRoom, unique: u64, body: &ReplyBody) -> Result<(),
             node,
             name_valid,
             shown,
-        } => Reply::Entry {
-            node: *node,
-            name_valid: *name_valid,
-            valid: shown.valid,
-            attr: attr_of(shown),
-        },
+        } => found_reply(*node, *name_valid, shown),
         ReplyBody::Absent(valid) => Reply::Absent { valid: *valid },
-        ReplyBody::Shown(shown) => Reply::Attr {
-            valid: shown.valid,
-            attr: attr_of(shown),
-        },
+        ReplyBody::Shown(shown) => attributes_reply(shown),
         ReplyBody::Opened(handle, flags) => Reply::Open {
             handle: *handle,
             flags: *flags,
@@ -169,14 +204,7 @@ fn write_body(room: &mut ReplyRoom, unique: u64, body: &ReplyBody) -> Result<(),
             shown,
             handle,
             flags,
-        } => Reply::Created {
-            node: *node,
-            name_valid: *name_valid,
-            valid: shown.valid,
-            attr: attr_of(shown),
-            handle: *handle,
-            flags: *flags,
-        },
+        } => created_reply(*node, *name_valid, shown, *handle, *flags),
         ReplyBody::Space {
             sectors,
             free_sectors,
