@@ -1,6 +1,6 @@
 -- A bit of a bitmap, and what it has to be.
 use Rattle.std.specs.Prelude.{◌≡◌, ℕ, ◌+◌, ◌*◌, ◌/◌, ◌%◌, ◌-◌, ◌^◌, ◌<◌, ◌≤◌, nat_eq, nat_lt, nat_le, not, ◌||◌, Bool, true, false, List, drop, get_or, IsTrue, ◌⊎◌, ◌↔◌}
-use Rattle.std.proofs.Common.{refl, sym, ap, arith, ◌∙◌}
+use Rattle.std.proofs.Common.{refl, sym, ap, arith, ◌∙◌, inl, inr}
 use Rattle.std.specs.Int.{bit_at}
 use Rattle.std.proofs.Math.Bool.{beq}
 use Rattle.std.proofs.lemmas.Bool.{le-ltb, lt-leb}
@@ -13,6 +13,8 @@ use Rattle.fs_layout.specs.Images.{inode_map_bits, bit, stored}
 use Rattle.fs_layout.specs.Ownership.{IsOwned}
 use Rattle.fs_layout.proofs.Places.{place_is_place, after_map, before_data}
 use Rattle.fs_model.specs.Rules.{IsPlaceOf, IsBit, IsBlockBit}
+use Rattle.fs_check.specs.BitTables.{bit_in}
+use Rattle.fs_check.specs.Checks.{IsOwnerMap}
 use Rattle.fs_check.specs.TableSectors.{IsTableSector}
 use Rattle.fs_check.proofs.Openings.{place_size}
 
@@ -76,6 +78,27 @@ pub in_sector : (m : SectorMap) (start k n : ℕ) (map : List ℕ) → 4096 * k 
 in_sector m start k n map low lt there =
     let same : k ≡ n / 4096 = omega (arith, low, lt) in
     there ∙ ap (λ (j : ℕ). m (start + j)) same
+
+-- whether a data sector is owned
+pub used_there : (p : Place) (m : SectorMap) (owned : List Bool) (s : ℕ) → IsOwnerMap p m owned → p.first_data ≤ s → s < p.sectors
+    → IsTrue (get_or owned s false) ↔ ((s < p.first_data) ⊎ ((p.sectors ≤ s) ⊎ IsOwned p m s))
+used_there p m owned s owners from below =
+    let is = owners.each s below in (
+      λ set. inr (inr (is.0 set)),
+      λ used. elim used [
+        | inl low ↦ absurd (omega (arith, low, from))
+        | inr other ↦ elim other [ inl past ↦ absurd (omega (arith, past, below)) | inr by ↦ is.1 by ]
+      ],
+    )
+
+-- its bit is right, where that of the owner map is the same
+pub bits_right : (p : Place) (m : SectorMap) (owned : List Bool) (map : List ℕ) (k s : ℕ) → IsOwnerMap p m owned → map ≡ m (p.block_bitmap + k)
+    → p.first_data ≤ s → s < p.sectors → 4096 * k ≤ s → s < 4096 * (k + 1) → get_or owned s false ≡ bit_in map (s % 4096) → IsBlockBit p m s
+bits_right p m owned map k s owners there from below low lt same =
+    let place : s % 4096 % 8 ≡ s % 8 = omega arith in
+    let is = same ∙ ap (λ (i : ℕ). nat_eq (bit_at (get_or map (s % 4096 / 8) 0) i) 1) place
+    ∙ bit_there m p.block_bitmap s map (in_sector m p.block_bitmap k s map low lt there) in
+    (is_block_bit p m s (get_or owned s false) (get_or owned s false) is (used_there p m owned s owners from below)).0 refl
 
 -- where the bitmaps stand, and that their bits have numbers
 pub record HasMaps (size : ℕ) (p : Place) : Type 0 where

@@ -14,10 +14,11 @@ use Rattle.fs_layout.specs.Place.{IsPlace}
 use Rattle.fs_layout.specs.Images.{IsData, bit, inode_at, free_sectors}
 use Rattle.fs_layout.specs.Commit.{IsCommit, named_area}
 use Rattle.fs_layout.proofs.Bits.{has_bit}
+use Rattle.fs_layout.proofs.Counting.{count_split, count_none}
 use Rattle.fs_layout.proofs.Places.{place_is_place}
 use Rattle.fs_layout.proofs.Targets.{targets_in-commit}
 use Rattle.sector_disk.specs.Disk.{DiskState, IsImage, IsWholeSector, OnlyReads, sector}
-use Rattle.fs_model.specs.Rules.{IsPlaceOf, BlockBits, is_directory_kind, ObeysBefore, ObeysAll, HasWholeSectors}
+use Rattle.fs_model.specs.Rules.{IsPlaceOf, InData, BlockBits, is_directory_kind, ObeysBefore, ObeysAll, HasWholeSectors}
 use Rattle.fs_model.specs.Summaries.{is_file_kind, is_link_kind, is_used, some_target}
 use Rattle.fs_model.specs.Trees.{Tree}
 use Rattle.fs_model.specs.Stands.{room_of}
@@ -27,6 +28,8 @@ use Rattle.fs_model.proofs.Findings.{each_obeyed}
 use Rattle.fs_model.proofs.Summaries.{files_counted, nameless_counted, directories_counted, links_counted, nodes_counted}
 use Rattle.fs_check.specs.declared.faults.Summary.{Summary}
 use Rattle.fs_check.specs.Checks.{meaning, BeginsWith, AreInodes, IsOwnerMap, IsCounted, IsClean}
+use Rattle.fs_check.proofs.BitTables.{either}
+use Rattle.fs_check.proofs.Tests.{inode_here, free_behind}
 use Rattle.fs_check.proofs.Carrying.{back_of, meaning_same, before_back}
 
 -- ---- counts over lists and over ranges
@@ -73,12 +76,23 @@ module _ (d : DiskState) (p : Place) (area : ℕ) (targets : List ℕ) (inodes :
   abbrev pub t : Tree
   t = the_tree d.size (sector d.seen) whole all
 
-  inode_list : inodes ≡ map (inode_at p (meaning d)) (range_with_len 0 p.inodes)
-  inode_list = list_is inodes free_inode (inode_at p (meaning d)) 0 p.inodes table.len
-      (λ k lt. table.each k lt ∙ ap (inode_at p (meaning d)) (let e : k ≡ 0 + k = omega arith in e))
+  inode_list : inodes ≡ map (inode_at p (meaning d)) (range_with_len 0 (length inodes))
+  inode_list = list_is inodes free_inode (inode_at p (meaning d)) 0 (length inodes) refl
+      (λ k lt. inode_here p (meaning d) inodes k free_inode table lt ∙ ap (inode_at p (meaning d)) (let e : k ≡ 0 + k = omega arith in e))
 
-  by_list : (f : Inode → Bool) → count_by f inodes ≡ count_by (λ n. f (inode_at p (meaning d) n)) (range_with_len 0 p.inodes)
-  by_list f = ap (count_by f) inode_list ∙ counted f (inode_at p (meaning d)) 0 p.inodes
+  -- a free one isn't counted, so those behind the list aren't
+  by_list : (f : Inode → Bool) → f free_inode ≡ false → count_by f inodes ≡ count_by (λ n. f (inode_at p (meaning d) n)) (range_with_len 0 p.inodes)
+  by_list f free =
+      let g : ℕ → Bool = λ n. f (inode_at p (meaning d) n) in
+      let len = table.len in
+      let listed : count_by f inodes ≡ count_by g (range_with_len 0 (length inodes)) =
+      ap (count_by f) inode_list ∙ counted f (inode_at p (meaning d)) 0 (length inodes) in
+      let all : length inodes + (p.inodes - length inodes) ≡ p.inodes = omega (arith, len) in
+      let split = count_split g 0 (length inodes) (p.inodes - length inodes) in
+      let none = count_none g (0 + length inodes) (p.inodes - length inodes) (λ k from to.
+      ap f (free_behind p (meaning d) inodes k table (omega (arith, from)) (omega (arith, to, len))) ∙ free) in
+      let whole = ap (λ (n : ℕ). count_by g (range_with_len 0 n)) all in
+      omega (arith, listed, split, none, whole)
 
   -- a data sector's bit says whether it is owned
   bit_is : (k : ℕ) → IsData p k → get_or owned k false ≡ bit (meaning d) p.block_bitmap k
@@ -117,23 +131,23 @@ module _ (d : DiskState) (p : Place) (area : ℕ) (targets : List ℕ) (inodes :
         free_sectors p (meaning d),
         stands d.size (sector d.seen) whole all,
         record {
-          files = counts.files ∙ by_list (λ v. is_file_kind v.kind && not (v.names == 0)) ∙ sym (files_counted p (meaning d) t held is);
-          dirs = counts.dirs ∙ by_list (λ v. is_directory_kind v.kind) ∙ sym (directories_counted p (meaning d) t held is);
-          link_count = counts.link_count ∙ by_list (λ v. is_link_kind v.kind) ∙ sym (links_counted p (meaning d) t held is);
-          nameless = counts.nameless ∙ by_list (λ v. is_file_kind v.kind && v.names == 0) ∙ sym (nameless_counted p (meaning d) t held is);
+          files = counts.files ∙ by_list (λ v. is_file_kind v.kind && not (v.names == 0)) refl ∙ sym (files_counted p (meaning d) t held is);
+          dirs = counts.dirs ∙ by_list (λ v. is_directory_kind v.kind) refl ∙ sym (directories_counted p (meaning d) t held is);
+          link_count = counts.link_count ∙ by_list (λ v. is_link_kind v.kind) refl ∙ sym (links_counted p (meaning d) t held is);
+          nameless = counts.nameless ∙ by_list (λ v. is_file_kind v.kind && v.names == 0) refl ∙ sym (nameless_counted p (meaning d) t held is);
           blocks = counts.blocks ∙ free_is;
-          inodes = counts.free ∙ ap (λ k. p.inodes - 1 - k) (by_list (λ v. is_used v.kind) ∙ sym (nodes_counted p (meaning d) t held is));
+          inodes = counts.free ∙ ap (λ k. p.inodes - 1 - k) (by_list (λ v. is_used v.kind) refl ∙ sym (nodes_counted p (meaning d) t held is));
           pending = counts.pending ∙ ap some_target (sym (targets_in-commit d.size (sector d.seen) targets small opened.commit));
         },
       )
 
 -- facts that were found one after the other
-pub clean_after : (s0 s1 s2 s3 : DiskState) (p : Place) (area : ℕ) (targets : List ℕ) (items inodes : List Inode) (bits owned : List Bool) (s : Summary)
+pub clean_after : (s0 s1 s2 s3 : DiskState) (p : Place) (area : ℕ) (targets : List ℕ) (items inodes : List Inode) (owned : List Bool) (s : Summary)
     → s0.size < 2 ^ 32 → HasWholeSectors s0.size (sector s0.seen) → IsPlaceOf s0.size (sector s0.seen) p
     → OnlyReads s0 s1 → area ≡ named_area (sector s1.seen) → IsCommit s1.size (sector s1.seen) targets
     → OnlyReads s0 s2 → AreInodes p (meaning s2) items → inodes ≡ items
-    → OnlyReads s0 s3 → IsOwnerMap p (meaning s3) bits → owned ≡ bits → ObeysBefore p (meaning s3) 15 → IsCounted p targets inodes owned s → IsClean s0 s
-clean_after s0 s1 s2 s3 p area targets items inodes bits owned s small whole at r1 named commit r2 table same r3 owners also before counts =
+    → OnlyReads s0 s3 → IsOwnerMap p (meaning s3) owned → ObeysBefore p (meaning s3) 15 → IsCounted p targets inodes owned s → IsClean s0 s
+clean_after s0 s1 s2 s3 p area targets items inodes owned s small whole at r1 named commit r2 table same r3 owners before counts =
     let opened : BeginsWith s0 p area targets = record {
       place = at;
       log = back_of (λ n i. area ≡ named_area (sector i)) r1 named;
@@ -141,14 +155,24 @@ clean_after s0 s1 s2 s3 p area targets items inodes bits owned s small whole at 
     } in
     clean s0 p area targets inodes owned s small whole opened
     (subst (AreInodes p (meaning s0)) (sym same) (subst (λ m. AreInodes p m items) (meaning_same r2) table))
-    (subst (IsOwnerMap p (meaning s0)) (sym also) (subst (λ m. IsOwnerMap p m bits) (meaning_same r3) owners))
+    (subst (λ m. IsOwnerMap p m owned) (meaning_same r3) owners)
     (before_back r3 before) counts
 
 -- the data begins within the owner map
-pub first_within : (size : ℕ) (image : SectorMap) (p : Place) (m : SectorMap) (bits owned : List Bool) → IsPlaceOf size image p → IsOwnerMap p m bits
-    → owned ≡ bits → p.first_data ≤ length owned
-first_within size image p m bits owned at owners same =
+pub first_within : (size : ℕ) (image : SectorMap) (p : Place) (m : SectorMap) (owned : List Bool) → IsPlaceOf size image p → IsOwnerMap p m owned
+    → p.first_data ≤ length owned
+first_within size image p m owned at owners =
     let room = (place_is_place _ _ size at.super.inodes at.has_place).data_sectors in
     let len = owners.len in
-    let long = ap length same in
-    omega (arith, room, len, long)
+    omega (arith, room, len)
+
+-- and no sector before it is owned
+pub none_before : (size : ℕ) (image : SectorMap) (p : Place) (m : SectorMap) (owned : List Bool) → IsPlaceOf size image p → IsOwnerMap p m owned
+    → ObeysBefore p m 15 → (s : ℕ) → s < p.first_data → get_or owned s false ≡ false
+none_before size image p m owned at owners before s low = elim (either (get_or owned s false)) [
+  | inl set ↦
+      let room = (place_is_place _ _ size at.super.inodes at.has_place).data_sectors in
+      let by = (owners.each s (omega (arith, room, low))).0 set in
+      absurd (let from = (before InData (omega arith) by.by by.below s by.is).0 in omega (arith, from, low))
+  | inr clear ↦ clear
+]

@@ -1,7 +1,7 @@
 -- A way up over the inodes: it reaches the root, or it comes back to itself, and then nothing on it does.
 use Rattle.std.specs.Prelude.{◌≡◌, ◌≢◌, ℕ, ◌+◌, ◌<◌, ◌≤◌, ◌==◌, nat_eq, Bool, not, cond, List, length, get_or, set, count_by, IsTrue, ◌⊎◌, ◌↔◌}
 use Rattle.std.proofs.Common.{refl, sym, ap, arith, ◌∙◌, subst, inl, inr, get_or-set_other, get_or-set_same, length-set}
-use Rattle.std.proofs.lemmas.Bool.{cases_eq, ne_eqb}
+use Rattle.std.proofs.lemmas.Bool.{cases_eq, cases_lt, ne_eqb}
 use Rattle.std.proofs.lemmas.Bool.Decides.{nat_tests}
 use Rattle.std.proofs.lemmas.List.Sums.{sum_by-set}
 use Rattle.fs_layout.specs.declared.inode.Kind.TheVariants as kinds
@@ -15,6 +15,7 @@ use Rattle.fs_model.specs.Rules.{Inodes, Parents, Ways, GoesUp, at_root, above, 
 use Rattle.fs_check.specs.Checks.{AreInodes}
 use Rattle.fs_check.specs.Ways.{Climbs, at_top, up, AllClimb}
 use Rattle.fs_check.proofs.Namings.{directory_or}
+use Rattle.fs_check.proofs.Tests.{free_behind}
 
 -- the parent of an inode of the list
 abbrev pub parent_in : List Inode → ℕ → ℕ
@@ -157,12 +158,24 @@ module _ (p : Place) (m : SectorMap) (inodes : List Inode) (table : AreInodes p 
           ]
         ]
 
+    -- from inode 0, which is its own parent, no way goes up
+    never_up : (d : ℕ) → d ≡ 0 → d < p.inodes → GoesUp p m d → ⊥
+    never_up d zero_it lt at_root = cc
+    never_up d zero_it lt (above n g) =
+        let free = (before Inodes (omega arith) n lt).none zero_it in
+        let parent = (before Parents (omega arith) n lt).none (λ is. let c : kinds.Free ≡ kinds.Directory = sym free ∙ is in cc) in
+        never_up (inode_at p m n).parent parent (omega (arith, parent, lt)) g
+
     pub climbs_up : (d : ℕ) → d < p.inodes → GoesUp p m d → Climbs inodes d
     climbs_up d lt at_root = at_top
-    climbs_up d lt (above n g) =
-        let len = table.len in
-        let same = ap (λ (v : Inode). v.parent) (table.each n lt) in
-        up n (omega (arith, lt, len)) (subst (Climbs inodes) (sym same) (climbs_up (inode_at p m n).parent (parent_below n lt) g))
+    climbs_up d lt (above n g) = elim (cases_lt n (length inodes)) [
+      | inl here ↦
+          let same = ap (λ (v : Inode). v.parent) (table.each n lt) in
+          up n here (subst (Climbs inodes) (sym same) (climbs_up (inode_at p m n).parent (parent_below n lt) g))
+      | inr past ↦
+          let none = ap (λ (v : Inode). v.parent) (free_behind p m inodes n table past lt) in
+          absurd (never_up (inode_at p m n).parent none (omega (arith, none, lt)) g)
+    ]
 
     -- those before d that are directories climb
     abbrev pub AreUpTo : ℕ → Type 0
@@ -174,6 +187,15 @@ module _ (p : Place) (m : SectorMap) (inodes : List Inode) (table : AreInodes p 
           let free = (before Inodes (omega arith) k below).none e in
           let c : kinds.Free ≡ kinds.Directory = sym free ∙ is in cc)
       | inr ne ↦ reaches_root k (so_far k (omega (arith, ne)) lt (ap (λ (v : Inode). v.kind) (table.each k below) ∙ is))
+    ]
+
+    -- so do all others, where those before d have been tried and none of the list is left
+    pub all_there : (d : ℕ) → AreUpTo d → length inodes ≤ d → (k : ℕ) → Obeys p m Ways k
+    all_there d so_far past k below is = elim (cases_lt k d) [
+      | inl lt ↦ way_there d k so_far lt below is
+      | inr ge ↦ absurd (
+          let free = free_behind p m inodes k table (omega (arith, ge, past)) below in
+          let c : kinds.Free ≡ kinds.Directory = sym (ap (λ (v : Inode). v.kind) free) ∙ is in cc)
     ]
 
     pub no_way : (d : ℕ) → AreUpTo d → d < p.inodes → (get_or inodes d free_inode).kind ≡ kinds.Directory → (Climbs inodes d → ⊥) → IsLeastFailure p m Ways d

@@ -1,7 +1,7 @@
 -- The slots of one directory.
-use Rattle.std.specs.Prelude.{◌≡◌, ◌≢◌, ℕ, ◌+◌, ◌*◌, ◌/◌, ◌%◌, ◌<◌, List, Result, Ok, Bool, true, false, IsTrue, ◌↔◌, All}
+use Rattle.std.specs.Prelude.{◌≡◌, ◌≢◌, ℕ, ◌+◌, ◌*◌, ◌/◌, ◌%◌, ◌<◌, List, length, Result, Ok, Bool, true, false, IsTrue, ◌↔◌, All}
 use Rattle.std.proofs.Common.{refl, sym, ap, arith, ◌∙◌, subst, inl, inr}
-use Rattle.std.proofs.lemmas.Bool.{cases_eq}
+use Rattle.std.proofs.lemmas.Bool.{cases_eq, cases_lt}
 use Rattle.fs_layout.specs.declared.fault.LayoutFault.{LayoutFault}
 use Rattle.fs_layout.specs.declared.inode.Inode.{Inode}
 use Rattle.fs_layout.specs.declared.place.Place.{Place}
@@ -15,7 +15,7 @@ use Rattle.sector_disk.specs.Disk.{DiskState, OnlyReads}
 use Rattle.fs_model.specs.Rules.{IsPlaceOf}
 use Rattle.fs_check.specs.Checks.{meaning, AreInodes}
 use Rattle.fs_layout.specs.declared.inode.Kind.TheVariants.{Free}
-use Rattle.fs_check.proofs.Tests.{refuses}
+use Rattle.fs_check.proofs.Tests.{free_behind, refuses}
 use Rattle.fs_check.specs.Naming.{block_of_slot, AreValid, AreSlots, IsUsable, HasGoodSlots}
 use Rattle.fs_check.proofs.Carrying.{meaning_same}
 use Rattle.fs_check.proofs.Openings.{many_sectors, place_size}
@@ -103,10 +103,12 @@ module _ (p : Place) (m : SectorMap) (v : Inode) (inodes : List Inode) (slots : 
       let len = are.len in
       let below : k < slot_count p.version v = omega (arith, lt, len) in
       let x = good k below in
-      let size = table.len in
       let low = x.below in
       subst (IsUsable inodes) (sym (are.each k d below)) (record {
-        below = omega (arith, size, low);
+        below = elim (cases_lt (slot_at p.version m v k).inode (length inodes)) [
+          | inl in_list ↦ in_list
+          | inr past ↦ absurd (x.used (ap (λ (w : Inode). w.kind) (free_behind p m inodes (slot_at p.version m v k).inode table past low)))
+        ];
         used = subst (λ (w : Inode). w.kind ≢ Free) (sym (table.each (slot_at p.version m v k).inode low)) x.used;
         not_root = x.not_root;
       })

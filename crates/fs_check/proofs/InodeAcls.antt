@@ -1,5 +1,5 @@
 -- The ACL that a sector has, and the ACLs of an inode.
-use Rattle.std.specs.Prelude.{◌≡◌, ◌≢◌, ℕ, zero, suc, ◌%◌, ◌<◌, nat_eq, Bool, true, false, List, get_or, Option, Some, IsTrue, ◌↔◌}
+use Rattle.std.specs.Prelude.{◌≡◌, ◌≢◌, ℕ, zero, suc, ◌%◌, ◌<◌, nat_eq, Bool, true, false, List, length, get_or, Option, Some, IsTrue, ◌↔◌}
 use Rattle.std.proofs.Common.{sym, ap, arith, ◌∙◌, subst}
 use Rattle.std.proofs.lemmas.Bool.{eqb-true, eq-eqb}
 use Rattle.posix_acl.specs.AccessList.{AccessList, list_numbers, is_extended, mode_bits}
@@ -17,7 +17,7 @@ use Rattle.fs_check.specs.Checks.{meaning, BeginsWith, AreInodes}
 use Rattle.fs_check.specs.StoredAcls.{IsAclIn, IsInPlace}
 use Rattle.fs_check.proofs.Carrying.{meaning_same}
 use Rattle.fs_check.proofs.Openings.{room, place_size}
-use Rattle.fs_check.proofs.Tests.{inode_here}
+use Rattle.fs_check.proofs.Tests.{within, inode_here}
 
 -- ---- the ACL that a sector has
 
@@ -78,7 +78,7 @@ good_by_default old mid v reads a b r is good placed access later =
 
 module _ {area : ℕ} {targets : List ℕ} (old mid : DiskState) (p : Place) (inodes : List Inode) (n : ℕ) (d : Inode)
     (reads : OnlyReads old mid) (opened : BeginsWith old p area targets)
-    (table : AreInodes p (meaning old) inodes) (before : ObeysBefore p (meaning old) 9) (lt : n < p.inodes) where
+    (table : AreInodes p (meaning old) inodes) (before : ObeysBefore p (meaning old) 9) (lt : n < length inodes) where
   on_disk : (s : ℕ) → (s ≢ 0 → s < p.sectors) → s < mid.size
   on_disk zero below = let some = room old p opened in let kept = reads.narrowed.size in omega (arith, some, kept)
   on_disk (suc s) below =
@@ -91,10 +91,10 @@ module _ {area : ℕ} {targets : List ℕ} (old mid : DiskState) (p : Place) (in
   acl_on_disk =
       let v = inode_at p (meaning old) n in
       subst (λ (u : Inode). u.acl < mid.size) (sym (inode_here p (meaning old) inodes n d table lt))
-      (on_disk v.acl (λ some. (before InData (omega arith) n lt v.acl (owns_acl (meaning old) v some)).1))
+      (on_disk v.acl (λ some. (before InData (omega arith) n (within p (meaning old) inodes n table lt) v.acl (owns_acl (meaning old) v some)).1))
 
   pub default_acl_on_disk : (get_or inodes n d).default_acl < mid.size
   default_acl_on_disk =
       let v = inode_at p (meaning old) n in
       subst (λ (u : Inode). u.default_acl < mid.size) (sym (inode_here p (meaning old) inodes n d table lt))
-      (on_disk v.default_acl (λ some. (before InData (omega arith) n lt v.default_acl (owns_default_acl (meaning old) v some)).1))
+      (on_disk v.default_acl (λ some. (before InData (omega arith) n (within p (meaning old) inodes n table lt) v.default_acl (owns_default_acl (meaning old) v some)).1))

@@ -1,3 +1,4 @@
+pub mod BitTables
 pub mod BitTests
 pub mod Carrying
 pub mod Clean
@@ -7,6 +8,7 @@ pub mod Failures
 pub mod DirectorySlots
 pub mod DistinctNames
 pub mod FitNumbers
+pub mod FreeInodes
 pub mod MarkedParts
 pub mod Marks
 pub mod Namings

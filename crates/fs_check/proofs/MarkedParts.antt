@@ -1,18 +1,20 @@
 -- Parts of an inode that are none, by which sectors of pointers it has.
-use Rattle.std.specs.Prelude.{◌≡◌, ℕ, ◌+◌, ◌-◌, ◌*◌, ◌≤◌, List, Bool}
-use Rattle.std.proofs.Common.{arith, ◌∙◌, subst}
+use Rattle.std.specs.Prelude.{◌≡◌, ℕ, ◌+◌, ◌-◌, ◌*◌, ◌≤◌, List, length, Bool}
+use Rattle.std.proofs.Common.{ap, arith, ◌∙◌, subst}
 use Rattle.fs_layout.specs.declared.inode.Inode.{Inode}
 use Rattle.fs_layout.specs.declared.inode.TheConstants.{DIRECT_BLOCKS, SECTOR_POINTERS}
 use Rattle.fs_layout.specs.declared.place.Place.{Place}
 use Rattle.fs_layout.specs.Bytes.{SectorMap}
-use Rattle.fs_layout.specs.Images.{number_on, inode_at}
+use Rattle.fs_layout.specs.Images.{number_on, inode_at, part}
 use Rattle.sector_disk.specs.Disk.{DiskState, OnlyReads}
-use Rattle.fs_check.specs.Checks.{meaning}
-use Rattle.fs_check.specs.Owning.{first_part, owned_part, IsMarked}
+use Rattle.fs_check.specs.Checks.{meaning, AreInodes}
+use Rattle.fs_check.specs.Owning.{first_part, part_at, owned_part, IsMarked}
 use Rattle.fs_check.proofs.Carrying.{meaning_same}
 use Rattle.fs_check.proofs.DataNumbers.{none_found, none_past}
-use Rattle.fs_check.proofs.Marks.{mark_skip, mark_next}
+use Rattle.fs_check.proofs.FreeInodes.{free_part}
+use Rattle.fs_check.proofs.Marks.{mark_skip, mark_next, mark_rest}
 use Rattle.fs_check.proofs.OwnedParts.{owned_number, owned_block}
+use Rattle.fs_check.proofs.Tests.{free_behind}
 
 module _ (p : Place) (m : SectorMap) (n : ℕ) (v : Inode) (is : v ≡ inode_at p m n) (owned twice : List Bool) where
   -- blocks of a sector of pointers that isn't there
@@ -53,6 +55,15 @@ module _ (p : Place) (m : SectorMap) (n : ℕ) (v : Inode) (is : v ≡ inode_at 
       mark_next (owned_part p m) n (first_part 0 + (DIRECT_BLOCKS + SECTOR_POINTERS * e))
       (λ k ge. owned_block p m n v is k (omega (arith, ge)) ∙ none_past m v e (k - first_part 0) none (omega (arith, ge)))
       p.sectors owned twice x
+
+-- all inodes, where those of the list are marked: one behind it owns nothing
+pub all_marked : (p : Place) (m : SectorMap) (inodes : List Inode) (n : ℕ) (owned twice : List Bool) → AreInodes p m inodes → length inodes ≤ n → n ≤ p.inodes
+    → IsMarked (owned_part p m) n 0 p.sectors owned twice → IsMarked (owned_part p m) p.inodes 0 p.sectors owned twice
+all_marked p m inodes n owned twice table past most x =
+    subst (λ k. IsMarked (owned_part p m) k 0 p.sectors owned twice) (let e : n + (p.inodes - n) ≡ p.inodes = omega (arith, most) in e)
+    (mark_rest (owned_part p m) n (p.inodes - n) p.sectors owned twice
+    (λ j k from to.
+    ap (λ v. part m v (part_at k)) (free_behind p m inodes j table (omega (arith, from, past)) (omega (arith, to, most))) ∙ free_part m (part_at k)) x)
 
 -- the blocks of one more sector of pointers, of the image as it was
 pub next_marked : (p : Place) (old mid : DiskState) (v : Inode) (n j : ℕ) (owned twice owned' twice' : List Bool) → OnlyReads old mid

@@ -202,6 +202,16 @@ module _ (f : ℕ → ℕ → ℕ) (n i : ℕ) (none : (k : ℕ) → i ≤ k →
     );
   }
 
+-- ---- inodes that own nothing
+
+pub mark_rest : (f : ℕ → ℕ → ℕ) (n more size : ℕ) (owned twice : List Bool) → ((j k : ℕ) → n ≤ j → j < n + more → f j k ≡ 0)
+    → IsMarked f n 0 size owned twice → IsMarked f (n + more) 0 size owned twice
+mark_rest f n zero size owned twice none x = subst (λ j. IsMarked f j 0 size owned twice) (let e : n ≡ n + 0 = omega arith in e) x
+mark_rest f n (suc more) size owned twice none x =
+    subst (λ j. IsMarked f j 0 size owned twice) (let e : n + more + 1 ≡ n + suc more = omega arith in e)
+    (mark_next f (n + more) 0 (λ k ge. none (n + more) k (omega arith) (omega arith)) size owned twice
+    (mark_rest f n more size owned twice (λ j k from to. none j k from (omega (arith, to))) x))
+
 -- ---- all parts
 
 module _ (p : Place) (m : SectorMap) where

@@ -9,6 +9,7 @@ use Rattle.fs_layout.specs.declared.inode.Kind.TheVariants as kinds
 use Rattle.fs_layout.specs.declared.inode.Inode.{Inode}
 use Rattle.fs_layout.specs.declared.place.Place.{Place}
 use Rattle.fs_layout.specs.Bytes.{SectorMap}
+use Rattle.fs_layout.specs.Inode.{free_inode}
 use Rattle.fs_layout.specs.Images.{inode_at}
 use Rattle.fs_model.specs.Limits.{root}
 use Rattle.fs_model.specs.Rules.{is_directory_kind, namings_in, namings, HasNameCount, HasParent, Inodes, Names, ObeysBefore}
@@ -72,6 +73,16 @@ directory_or kinds.Free = inr (λ e. cc)
 directory_or kinds.File = inr (λ e. cc)
 directory_or kinds.Directory = inl refl
 directory_or kinds.Link = inr (λ e. cc)
+
+-- a free inode has the parent field that it has to have
+pub free_parent : (p : Place) (m : SectorMap) (n : ℕ) → (n ≡ root → (inode_at p m n).kind ≡ kinds.Directory) → inode_at p m n ≡ free_inode → HasParent p m n
+free_parent p m n top free =
+    let kind = ap (λ (v : Inode). v.kind) free in
+    record {
+      named = λ is other. absurd (let c : kinds.Free ≡ kinds.Directory = sym kind ∙ is in cc);
+      top = λ e. absurd (let c : kinds.Free ≡ kinds.Directory = sym kind ∙ top e in cc);
+      none = λ other. ap (λ (v : Inode). v.parent) free;
+    }
 
 -- the parent field of inode n is the one that it has to have
 abbrev pub IsPlaced : List ℕ → ℕ → Inode → Type 0

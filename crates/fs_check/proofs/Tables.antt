@@ -1,9 +1,9 @@
 -- Inodes read from the table.
-use Rattle.std.specs.Prelude.{◌≡◌, ℕ, ◌+◌, ◌-◌, ◌*◌, ◌/◌, ◌%◌, ◌^◌, ◌<◌, ◌≤◌, List, length, get_or, ◌++◌, []}
+use Rattle.std.specs.Prelude.{◌≡◌, ℕ, zero, suc, ◌+◌, ◌-◌, ◌*◌, ◌/◌, ◌%◌, ◌^◌, ◌<◌, ◌≤◌, List, length, get_or, ◌++◌, []}
 use Rattle.std.specs.Prelude.{◌∷◌, Option, Some, None, Ok, IfSome, IfNone, MatchOption}
-use Rattle.std.proofs.Common.{sym, ap, arith, ◌∙◌, subst, inl, inr}
+use Rattle.std.proofs.Common.{refl, sym, ap, arith, ◌∙◌, subst, inl, inr}
 use Rattle.std.proofs.lemmas.Bool.{cases_lt}
-use Rattle.std.proofs.lemmas.List.{get_or_append_left, get_or-append_right}
+use Rattle.std.proofs.lemmas.List.{get_or_past, get_or_append_left, get_or-append_right}
 use Rattle.fs_layout.specs.declared.inode.TheConstants.{INODE_SIZE}
 use Rattle.fs_layout.specs.declared.inode.Inode.{Inode}
 use Rattle.fs_layout.specs.declared.inode.Kind.TheVariants.{Free, Directory}
@@ -58,6 +58,18 @@ good_is p m n content (Some v) e is allowed free top none =
       sym same,
     )
 good_is p m n content None e is allowed free top none = λ good. none (inode_at p m n) (ap inode_of (there p m n content e) ∙ good.is) good.allowed good.none good.top
+
+-- the value that is read past the end, put at the end
+pub default_more : {A : Type 0} (xs ys : List A) (d : A) → ys ≡ xs ++ d ∷ [] → (i : ℕ) → get_or ys i d ≡ get_or xs i d
+default_more xs ys d is i = ap (λ l. get_or l i d) is ∙ elim (cases_lt i (length xs)) [
+  | inl low ↦ get_or_append_left xs (d ∷ []) d i low
+  | inr ge ↦
+      get_or-append_right xs (d ∷ []) (length xs) i d refl ge ∙ of_one (i - length xs) ∙ sym (get_or_past xs i d ge)
+]
+  where
+    of_one : (k : ℕ) → get_or (d ∷ []) k d ≡ d
+    of_one zero = refl
+    of_one (suc k) = refl
 
 -- one more in a vector
 pub more_there : {A : Type 0} (xs ys : List A) (x d : A) (what : ℕ → A) (n : ℕ) → ys ≡ xs ++ x ∷ [] → length xs ≡ n

@@ -1,5 +1,5 @@
 -- What directories name, counted.
-use Rattle.std.specs.Prelude.{◌≡◌, ◌≢◌, ℕ, zero, suc, ◌+◌, ◌*◌, ◌/◌, ◌<◌, ◌≤◌, ◌^◌, ◌==◌, MatchOption, Bool, true, false, cond, List, [], length, get_or, take}
+use Rattle.std.specs.Prelude.{◌≡◌, ◌≢◌, ℕ, zero, suc, ◌+◌, ◌-◌, ◌*◌, ◌/◌, ◌<◌, ◌≤◌, ◌^◌, ◌==◌, MatchOption, Bool, true, false, cond, List, [], length, get_or, take}
 use Rattle.std.specs.Prelude.{set, count_by, sum_by, Option, Some, None, Ok, Err, IsTrue, ◌↔◌}
 use Rattle.std.specs.List.{range_with_len}
 use Rattle.std.specs.Option.{is_some}
@@ -27,7 +27,8 @@ use Rattle.fs_model.specs.Rules.{IsGoodInode, NamesApart, Obeys, ObeysEach, IsLe
 use Rattle.fs_model.proofs.BuiltNodes.{directory_fits}
 use Rattle.fs_layout.proofs.Codecs.{same_ok}
 use Rattle.fs_check.proofs.Tables.{more_good}
-use Rattle.fs_check.specs.Checks.{IsNameTable, IsNamedBy}
+use Rattle.fs_check.proofs.Tests.{free_behind}
+use Rattle.fs_check.specs.Checks.{AreInodes, IsNameTable, IsNamedBy}
 use Rattle.fs_check.specs.Naming.{AreSlots, AddsSlots, IsTally, IsRepeated, IsNaming, naming}
 
 -- ---- the names in a list of slots
@@ -276,6 +277,23 @@ module _ (p : Place) (m : SectorMap) where
     tally = same_tally d c0 d0 other x.tally;
     repeated = still_repeated d first (λ lt is. absurd (other is)) x.repeated;
   }
+
+-- all of them, where the directories of the list have been: one behind it is free
+module _ (p : Place) (m : SectorMap) (inodes : List Inode) (table : AreInodes p m inodes) where
+  rest_naming : (n more : ℕ) (c0 d0 : List ℕ) (first : Option ℕ) → length inodes ≤ n → n + more ≤ p.inodes → IsNaming p m n c0 d0 first
+      → IsNaming p m (n + more) c0 d0 first
+  rest_naming n zero c0 d0 first past most x = subst (λ k. IsNaming p m k c0 d0 first) (let e : n ≡ n + 0 = omega arith in e) x
+  rest_naming n (suc more) c0 d0 first past most x =
+      let free = free_behind p m inodes (n + more) table (omega (arith, past)) (omega (arith, most)) in
+      subst (λ k. IsNaming p m k c0 d0 first) (let e : n + more + 1 ≡ n + suc more = omega arith in e)
+      (same_naming p m (n + more) c0 d0 first (λ is. let c : kinds.Free ≡ kinds.Directory = sym (ap (λ (v : Inode). v.kind) free) ∙ is in cc)
+      (rest_naming n more c0 d0 first past (omega (arith, most)) x))
+
+  pub whole_naming : (n : ℕ) (c0 d0 : List ℕ) (first : Option ℕ) → length inodes ≤ n → n ≤ p.inodes → IsNaming p m n c0 d0 first
+      → IsNaming p m p.inodes c0 d0 first
+  whole_naming n c0 d0 first past most x =
+      subst (λ k. IsNaming p m k c0 d0 first) (let e : n + (p.inodes - n) ≡ p.inodes = omega (arith, most) in e)
+      (rest_naming n (p.inodes - n) c0 d0 first past (omega (arith, most)) x)
 
 -- the first such directory, where d is the next
 module _ (p : Place) (m : SectorMap) (d : ℕ) where

@@ -36,9 +36,9 @@ pub record BeginsWith (disk : DiskState) (p : Place) (area : ℕ) (targets : Lis
   pub log : area ≡ named_area (sector disk.seen)
   pub commit : IsCommit disk.size (sector disk.seen) targets
 
--- all inodes of the image
+-- all inodes of the image, but for free ones at the end
 pub record AreInodes (p : Place) (m : SectorMap) (inodes : List Inode) : Type 0 where
-  pub len : length inodes ≡ p.inodes
+  pub len : length inodes ≤ p.inodes
   pub each : (n : ℕ) → n < p.inodes → get_or inodes n free_inode ≡ inode_at p m n
 
 -- which sectors are owned

@@ -1,3 +1,4 @@
+pub mod BitTables
 pub mod Owning
 pub mod LastBlocks
 pub mod Checks

@@ -164,7 +164,7 @@ pub(crate) fn acls<D: Disk>(disk: &mut D, opened: &Opened, inodes: &[Inode]) -> 
     ensures each { OnOk result (ObeysEach opened.now.place (meaning (D.state disk.old)) Acls) }
     ensures passed { Passed (IsLeast opened.now.place Acls) (D.state disk.old) (D.state disk.new) result }
 {
-    for n in 0..opened.place.inodes {
+    for n in 0..inodes.len() as u32 {
         if !has_good_acls(disk, opened, &inodes[n as usize])? {
             return Err(CheckFault::Found(Finding { rule: ACLS, at: n }));
         }

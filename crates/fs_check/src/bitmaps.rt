@@ -8,6 +8,7 @@ ghost use Rattle.fs_model.specs.Rules.{ObeysEach, InodeBits, BlockBits, IsBlockB
 ghost use Rattle.fs_check.specs.Checks.{meaning, BeginsWith, IsOwnerMap, Passed, IsNone, IsLeast};
 ghost use Rattle.fs_check.specs.TableSectors.{IsTableSector};
 
+use crate::bit_table::BitTable;
 use crate::faults::{CheckFault, Checked, Finding};
 use crate::inodes::read_table;
 use crate::opening::Opened;
@@ -85,16 +86,32 @@ pub(crate) fn inode_bits<D: Disk>(disk: &mut D, opened: &Opened) -> Checked<()>
 }
 
 // What bit s of the block bitmap has to be.
-fn is_used(place: Place, owned: &[bool], s: u32) -> bool
+fn is_used(place: Place, owned: &BitTable, s: u32) -> bool
     requires { length owned.now ≡ place.sectors }
     ensures { (m : SectorMap) → IsOwnerMap place m owned.now
         → IsTrue result ↔ ((s < place.first_data) ⊎ ((place.sectors ≤ s) ⊎ IsOwned place m s)) }
 {
-    s < place.first_data || place.sectors <= s || owned[s as usize]
+    s < place.first_data || place.sectors <= s || owned.has(s)
+}
+
+// The bits in sector k of the block bitmap, which is `map`, are all of data sectors, and what they have to be.
+fn are_right(place: Place, map: &[u8; 512], owned: &BitTable, k: u32) -> bool
+    requires owned { length owned.now ≡ place.sectors }
+    requires low { 4096 * (k + 1) < 2 ^ 32 }
+    ensures { IsTrue result → (m : SectorMap) → IsOwnerMap place m owned.now → map.now ≡ m (place.block_bitmap + k)
+        → (i : ℕ) → 4096 * k ≤ i → i < 4096 * (k + 1) → IsBlockBit place m i }
+{
+    if SECTOR_BITS * k < place.first_data {
+        return false;
+    }
+    if place.sectors < SECTOR_BITS * (k + 1) {
+        return false;
+    }
+    owned.has_sector(k, map)
 }
 
 // The least bit that isn't what it has to be, of those in sector k of the block bitmap, which is `map`.
-fn first_wrong(place: Place, map: &[u8; 512], owned: &[bool], k: u32) -> Option<u32>
+fn first_wrong(place: Place, map: &[u8; 512], owned: &BitTable, k: u32) -> Option<u32>
     requires owned { length owned.now ≡ place.sectors }
     requires low { 4096 * (k + 1) < 2 ^ 32 }
     ensures wrong { (m : SectorMap) → IsOwnerMap place m owned.now → map.now ≡ m (place.block_bitmap + k)
@@ -102,6 +119,9 @@ fn first_wrong(place: Place, map: &[u8; 512], owned: &[bool], k: u32) -> Option<
     ensures none { (m : SectorMap) → IsOwnerMap place m owned.now → map.now ≡ m (place.block_bitmap + k)
         → IfNone result ((i : ℕ) → 4096 * k ≤ i → i < 4096 * (k + 1) → IsBlockBit place m i) }
 {
+    if are_right(place, map, owned, k) {
+        return None;
+    }
     for s in SECTOR_BITS * k..SECTOR_BITS * (k + 1) {
         if has_bit(map, s) != is_used(place, owned, s) {
             return Some(s);
@@ -111,7 +131,7 @@ fn first_wrong(place: Place, map: &[u8; 512], owned: &[bool], k: u32) -> Option<
 }
 
 /// Each bit of the block bitmap is set exactly where it has to be.
-pub(crate) fn block_bits<D: Disk>(disk: &mut D, opened: &Opened, owned: &[bool]) -> Checked<()>
+pub(crate) fn block_bits<D: Disk>(disk: &mut D, opened: &Opened, owned: &BitTable) -> Checked<()>
     requires opened { BeginsWith (D.state disk.old) opened.now.place opened.now.area opened.now.commit }
     requires owners { IsOwnerMap opened.now.place (meaning (D.state disk.old)) owned.now }
     ensures each { OnOk result (ObeysEach opened.now.place (meaning (D.state disk.old)) BlockBits) }

@@ -1,12 +1,13 @@
 //! A check: the rules in their order, and what a clean disk has.
 
-ghost use Rattle.std.specs.Prelude.{◌≡◌, length, Ok, Err, OnOk, IfOk, MatchOption, MatchResult};
+ghost use Rattle.std.specs.Prelude.{◌≡◌, ◌≤◌, length, Ok, Err, OnOk, IfOk, MatchOption, MatchResult};
 ghost use Rattle.fs_layout.specs.Bytes.{SectorMap};
 ghost use Rattle.fs_model.specs.Rules.{ObeysBefore};
 ghost use Rattle.fs_check.specs.declared.faults.CheckFault.TheVariants.{Found};
 ghost use Rattle.fs_check.specs.Checks.{meaning, BeginsWith, AreInodes, IsOwnerMap, IsNameTable, IsFailureOf, Passed, IsFirst, IsClean};
 
 use crate::acls::acls;
+use crate::bit_table::BitTable;
 use crate::bitmaps::{block_bits, inode_bits};
 use crate::contents::laid_out;
 use crate::directories::{Names, read_names};
@@ -44,11 +45,11 @@ fn check_tables<D: Disk>(disk: &mut D, opened: &Opened) -> Checked<Vec<Inode>>
 }
 
 // What inodes own, and the block bitmap.
-fn check_owners<D: Disk>(disk: &mut D, opened: &Opened, inodes: &[Inode]) -> Checked<Vec<bool>>
+fn check_owners<D: Disk>(disk: &mut D, opened: &Opened, inodes: &[Inode]) -> Checked<BitTable>
     requires opened { BeginsWith (D.state disk.old) opened.now.place opened.now.area opened.now.commit }
     requires table { AreInodes opened.now.place (meaning (D.state disk.old)) inodes.now }
     requires before { ObeysBefore opened.now.place (meaning (D.state disk.old)) 5 }
-    ensures owners { IfOk result (λ owned. IsOwnerMap opened.now.place (meaning (D.state disk.old)) owned.items) }
+    ensures owners { IfOk result (λ owned. IsOwnerMap opened.now.place (meaning (D.state disk.old)) owned) }
     ensures before { OnOk result (ObeysBefore opened.now.place (meaning (D.state disk.old)) 8) }
     ensures passed { Passed IsFirst (D.state disk.old) (D.state disk.new) result }
 {
@@ -97,7 +98,7 @@ fn found_at(rule: u8, first: Option<u32>) -> Checked<()>
 
 // What the tables say: how often each inode is named, parents, and the ways up to the root.
 fn check_tree(alloc: Global, place: Place, inodes: &[Inode], names: &Names) -> Checked<()>
-    requires inodes { length inodes.now ≡ place.inodes }
+    requires inodes { length inodes.now ≤ place.inodes }
     requires counts { length names.now.counts.items ≡ place.inodes }
     requires directories { length names.now.directories.items ≡ place.inodes }
     ensures { (m : SectorMap) → AreInodes place m inodes.now → IsNameTable place m names.now.counts.items names.now.directories.items
@@ -109,11 +110,11 @@ fn check_tree(alloc: Global, place: Place, inodes: &[Inode], names: &Names) -> C
 }
 
 // All that inodes hold.
-fn check_inodes<D: Disk>(disk: &mut D, opened: &Opened, inodes: &[Inode]) -> Checked<Vec<bool>>
+fn check_inodes<D: Disk>(disk: &mut D, opened: &Opened, inodes: &[Inode]) -> Checked<BitTable>
     requires opened { BeginsWith (D.state disk.old) opened.now.place opened.now.area opened.now.commit }
     requires table { AreInodes opened.now.place (meaning (D.state disk.old)) inodes.now }
     requires before { ObeysBefore opened.now.place (meaning (D.state disk.old)) 5 }
-    ensures owners { IfOk result (λ owned. IsOwnerMap opened.now.place (meaning (D.state disk.old)) owned.items) }
+    ensures owners { IfOk result (λ owned. IsOwnerMap opened.now.place (meaning (D.state disk.old)) owned) }
     ensures before { OnOk result (ObeysBefore opened.now.place (meaning (D.state disk.old)) 15) }
     ensures passed { Passed IsFirst (D.state disk.old) (D.state disk.new) result }
 {

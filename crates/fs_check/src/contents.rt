@@ -13,6 +13,7 @@ use crate::faults::{CheckFault, Checked, Finding};
 use crate::opening::Opened;
 use crate::owning::{pointers_end, read_listed};
 use crate::reading::read_recovered;
+use crate::zeros::are_zero;
 use fs_layout::{DIRECT_BLOCKS, INDIRECT_END, Inode, Kind, SECTOR_POINTERS};
 use sector_disk::Disk;
 
@@ -55,12 +56,6 @@ fn fit_sectors(inode: &Inode, listed: &[u8; 512]) -> bool
         }
     }
     true
-}
-
-fn are_zero(bytes: &[u8]) -> bool
-    ensures { IsTrue result ↔ ((i : ℕ) → i < length bytes.now → get_or bytes.now i 0 ≡ 0) }
-{
-    bytes.iter().all(|b| *b == 0)
 }
 
 fn has_no_zero(bytes: &[u8]) -> bool
@@ -194,7 +189,7 @@ pub(crate) fn laid_out<D: Disk>(disk: &mut D, opened: &Opened, inodes: &[Inode])
     ensures each { OnOk result (ObeysEach opened.now.place (meaning (D.state disk.old)) LaidOut) }
     ensures passed { Passed (IsLeast opened.now.place LaidOut) (D.state disk.old) (D.state disk.new) result }
 {
-    for n in 0..opened.place.inodes {
+    for n in 0..inodes.len() as u32 {
         if !is_laid_out(disk, opened, &inodes[n as usize])? {
             return Err(CheckFault::Found(Finding {
                 rule: LAID_OUT,

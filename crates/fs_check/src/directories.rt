@@ -75,7 +75,7 @@ fn add_directory<D: Disk>(
     requires opened { BeginsWith (D.state disk.old) opened.now.place opened.now.area opened.now.commit }
     requires table { AreInodes opened.now.place (meaning (D.state disk.old)) inodes.now }
     requires before { ObeysBefore opened.now.place (meaning (D.state disk.old)) 10 }
-    requires below { d < opened.now.place.inodes }
+    requires below { d < length inodes.now }
     requires names { IsNaming opened.now.place (meaning (D.state disk.old)) d
         names.old.counts.items names.old.directories.items names.old.repeated }
     ensures test { IfOk result (λ b. IsTrue b ↔ Obeys opened.now.place (meaning (D.state disk.old)) Slots d) }
@@ -113,7 +113,7 @@ pub(crate) fn read_names<D: Disk>(disk: &mut D, opened: &Opened, inodes: &[Inode
         directories: vec![in opened.alloc; 0; opened.place.inodes as usize]?,
         repeated: None,
     };
-    for d in 0..opened.place.inodes {
+    for d in 0..inodes.len() as u32 {
         if !add_directory(disk, opened, inodes, d, &mut names)? {
             return Err(CheckFault::Found(Finding { rule: SLOTS, at: d }));
         }

@@ -1,20 +1,22 @@
 //! The inode table.
 
-ghost use Rattle.std.specs.Prelude.{◌≡◌, ◌≢◌, ◌≤◌, ◌*◌, ◌%◌, IsTrue, ◌↔◌, OnOk, IfOk, IfSome, IfNone, Ok};
+ghost use Rattle.std.specs.Prelude.{◌≡◌, ◌≢◌, ◌≤◌, ◌+◌, ◌*◌, ◌%◌, IsTrue, ◌↔◌, OnOk, IfOk, IfErr, IfSome, IfNone, Ok, ℕ, ◌<◌, length, get_or};
 ghost use Rattle.fs_layout.specs.declared.inode.Inode.{Inode as AnInode};
 ghost use Rattle.fs_layout.specs.declared.inode.Kind.TheVariants.{Free, Directory};
 ghost use Rattle.fs_layout.specs.Bytes.{window};
-ghost use Rattle.fs_layout.specs.Inode.{inode_of};
+ghost use Rattle.fs_layout.specs.Inode.{free_inode, inode_of};
 ghost use Rattle.fs_layout.specs.Version.{max_directory_size, slot_size};
 ghost use Rattle.fs_model.specs.Nodes.{no_stamps};
 ghost use Rattle.fs_model.specs.Rules.{IsAllowed, ObeysEach, Inodes};
 ghost use Rattle.fs_model.specs.StoredStamps.{stamps_in};
 ghost use Rattle.fs_check.specs.Checks.{meaning, BeginsWith, AreInodes, Passed, IsNone, IsLeast};
+ghost use Rattle.fs_check.specs.declared.faults.CheckFault.TheVariants.{OutOfMemory};
 ghost use Rattle.fs_check.specs.TableSectors.{IsTableSector};
 
 use crate::faults::{CheckFault, Checked, Finding};
 use crate::opening::Opened;
 use crate::reading::read_recovered;
+use crate::zeros::are_zero;
 use fs_layout::{INDIRECT_END, INODE_SIZE, Inode, Kind, Version};
 use sector_disk::Disk;
 
@@ -52,16 +54,29 @@ fn is_allowed(inode: &Inode, version: Version) -> bool
     inode.double_indirect == 0 || 512 * INDIRECT_END < most
 }
 
+// The bytes of an inode, which begin here, are all zero: it is free.
+fn is_blank(content: &[u8; 512], at: usize) -> bool
+    requires { at + INODE_SIZE ≤ 512 }
+    ensures { IsTrue result → inode_of (window content.now at INODE_SIZE) ≡ Ok free_inode }
+{
+    content[at] == 0 && are_zero(&content[at..at + INODE_SIZE])
+}
+
 // Inode n of its table sector, where it is a good one of a disk of this version.
 fn good_inode(content: &[u8; 512], n: u32, version: Version) -> Option<Inode>
     ensures is { IfSome result (λ v. inode_of (window content.now (INODE_SIZE * (n % 4)) INODE_SIZE) ≡ Ok v) }
+    ensures blank { IfSome result (λ v. v.kind ≡ Free → v ≡ free_inode) }
     ensures allowed { IfSome result (λ v. IsAllowed version v) }
     ensures free { IfSome result (λ v. n ≡ 0 → v.kind ≡ Free) }
     ensures top { IfSome result (λ v. n ≡ 1 → v.kind ≡ Directory) }
     ensures none { IfNone result ((v : AnInode) → inode_of (window content.now (INODE_SIZE * (n % 4)) INODE_SIZE) ≡ Ok v
         → IsAllowed version v → (n ≡ 0 → v.kind ≡ Free) → (n ≡ 1 → v.kind ≡ Directory) → ⊥) }
 {
-    let Ok(inode) = Inode::read_any(content, INODE_SIZE * (n as usize % 4)) else {
+    let at = INODE_SIZE * (n as usize % 4);
+    if n != 1 && is_blank(content, at) {
+        return Some(Inode::FREE);
+    }
+    let Ok(inode) = Inode::read_any(content, at) else {
         return None;
     };
     if !is_allowed(&inode, version) {
@@ -100,7 +115,27 @@ pub(crate) fn read_table<D: Disk>(
     Ok(())
 }
 
-/// The inodes, all of them.
+// Puts inode n behind those before it, unless it is free: no free one is kept behind the last that is in use.
+fn keep_inode(inodes: &mut Vec<Inode>, n: u32, inode: Inode) -> Checked<()>
+    requires before { length inodes.old.items ≤ n }
+    requires free { inode.kind ≡ Free → inode ≡ free_inode }
+    ensures few { OnOk result (length inodes.new.items ≤ n + 1) }
+    ensures earlier { OnOk result
+        ((k : ℕ) → k < n → get_or inodes.new.items k free_inode ≡ get_or inodes.old.items k free_inode) }
+    ensures there { OnOk result (get_or inodes.new.items n free_inode ≡ inode) }
+    ensures memory { IfErr result (λ e. e ≡ OutOfMemory) }
+{
+    if inode.kind == Kind::Free {
+        return Ok(());
+    }
+    for _k in inodes.len()..n as usize {
+        inodes.push(Inode::FREE)?;
+    }
+    inodes.push(inode)?;
+    Ok(())
+}
+
+/// The inodes, up to the last that is in use.
 pub(crate) fn read_inodes<D: Disk>(disk: &mut D, opened: &Opened) -> Checked<Vec<Inode>>
     requires opened { BeginsWith (D.state disk.old) opened.now.place opened.now.area opened.now.commit }
     ensures each { OnOk result (ObeysEach opened.now.place (meaning (D.state disk.old)) Inodes) }
@@ -112,7 +147,7 @@ pub(crate) fn read_inodes<D: Disk>(disk: &mut D, opened: &Opened) -> Checked<Vec
     for n in 0..opened.place.inodes {
         read_table(disk, opened, n, &mut table)?;
         match good_inode(&table, n, opened.place.version) {
-            Some(inode) => inodes.push(inode)?,
+            Some(inode) => keep_inode(&mut inodes, n, inode)?,
             None => {
                 return Err(CheckFault::Found(Finding {
                     rule: INODES,

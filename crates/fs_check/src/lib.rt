@@ -4,6 +4,7 @@
 #![tactic(auto)]
 
 mod acls;
+mod bit_table;
 mod bitmaps;
 mod checking;
 mod contents;
@@ -18,6 +19,7 @@ mod reading;
 mod slots;
 mod summary;
 mod ways;
+mod zeros;
 
 pub use checking::check;
 pub use faults::{CheckFault, Finding, Summary};

@@ -8,6 +8,7 @@ ghost use Rattle.fs_model.specs.Rules.{ObeysEach, IsLeastFailure, InData, OwnedO
 ghost use Rattle.fs_check.specs.Owning.{AreListed, AreInData, HasTopInData, OwnsData, level_end, first_part, owned_part, IsMarked};
 ghost use Rattle.fs_check.specs.Checks.{meaning, BeginsWith, AreInodes, IsOwnerMap, Passed, IsNone, IsLeast};
 
+use crate::bit_table::BitTable;
 use crate::faults::{CheckFault, Checked, Finding};
 use crate::opening::Opened;
 use crate::owning::{is_data, pointers_end, read_listed};
@@ -20,7 +21,7 @@ const IN_DATA: u8 = 5;
 #[derive(Drop)]
 pub(crate) struct Owners {
     /// For each sector, whether an inode owns it.
-    pub owned: Vec<bool>,
+    pub owned: BitTable,
     /// The first sector that is owned twice.
     pub twice: Option<u32>,
 }
@@ -34,7 +35,7 @@ struct Numbers {
 }
 
 // One more owner of a sector.
-fn mark(owned: &mut [bool], twice: &mut [bool], s: u32)
+fn mark(owned: &mut BitTable, twice: &mut BitTable, s: u32)
     requires some { s ≢ 0 }
     requires owned { s < length owned.old }
     requires twice { s < length twice.old }
@@ -43,14 +44,14 @@ fn mark(owned: &mut [bool], twice: &mut [bool], s: u32)
     ensures owned_len { length owned.new ≡ length owned.old }
     ensures twice_len { length twice.new ≡ length twice.old }
 {
-    if owned[s as usize] {
-        twice[s as usize] = true;
+    if owned.has(s) {
+        twice.insert(s);
     }
-    owned[s as usize] = true;
+    owned.insert(s);
 }
 
 // Marks a sector that an inode has for something; 0 is none. Not one outside the data area.
-fn mark_number(place: Place, s: u32, owned: &mut [bool], twice: &mut [bool]) -> bool
+fn mark_number(place: Place, s: u32, owned: &mut BitTable, twice: &mut BitTable) -> bool
     requires owned { length owned.old ≡ place.sectors }
     requires twice { length twice.old ≡ place.sectors }
     ensures test { IsTrue result ↔ (s ≢ 0 → IsData place s) }
@@ -76,8 +77,8 @@ fn mark_listed(
     inode: &Inode,
     content: &[u8; 512],
     numbers: Numbers,
-    owned: &mut [bool],
-    twice: &mut [bool],
+    owned: &mut BitTable,
+    twice: &mut BitTable,
 ) -> bool
     requires level { numbers.level ≤ 2 }
     requires order { numbers.first ≤ numbers.end }
@@ -109,8 +110,8 @@ fn mark_sector<D: Disk>(
     inode: &Inode,
     listed: &[u8; 512],
     j: u64,
-    owned: &mut [bool],
-    twice: &mut [bool],
+    owned: &mut BitTable,
+    twice: &mut BitTable,
 ) -> Checked<bool>
     requires opened { BeginsWith (D.state disk.old) opened.now.place opened.now.area opened.now.commit }
     requires listed { HasPointers (meaning (D.state disk.old)) inode.now 2 0 listed.now }
@@ -149,8 +150,8 @@ fn mark_blocks<D: Disk>(
     opened: &Opened,
     inode: &Inode,
     listed: &[u8; 512],
-    owned: &mut [bool],
-    twice: &mut [bool],
+    owned: &mut BitTable,
+    twice: &mut BitTable,
 ) -> Checked<bool>
     requires opened { BeginsWith (D.state disk.old) opened.now.place opened.now.area opened.now.commit }
     requires listed { HasPointers (meaning (D.state disk.old)) inode.now 2 0 listed.now }
@@ -182,7 +183,7 @@ fn mark_blocks<D: Disk>(
 }
 
 // Marks the ACLs and the double indirect sector of an inode. Not where one is outside the data area.
-fn mark_top(place: Place, inode: &Inode, owned: &mut [bool], twice: &mut [bool]) -> bool
+fn mark_top(place: Place, inode: &Inode, owned: &mut BitTable, twice: &mut BitTable) -> bool
     requires owned { length owned.old ≡ place.sectors }
     requires twice { length twice.old ≡ place.sectors }
     ensures test { IsTrue result ↔ HasTopInData place inode.now }
@@ -207,8 +208,8 @@ fn mark_inode<D: Disk>(
     disk: &mut D,
     opened: &Opened,
     inode: &Inode,
-    owned: &mut [bool],
-    twice: &mut [bool],
+    owned: &mut BitTable,
+    twice: &mut BitTable,
 ) -> Checked<bool>
     requires opened { BeginsWith (D.state disk.old) opened.now.place opened.now.area opened.now.commit }
     requires owned { length owned.old ≡ opened.now.place.sectors }
@@ -237,29 +238,13 @@ fn mark_inode<D: Disk>(
     mark_blocks(disk, opened, inode, &listed, owned, twice)
 }
 
-// The sector that stands twice, and the least.
-fn first_twice(twice: &[bool]) -> Option<u32>
-    requires { length twice.now < 2 ^ 32 }
-    ensures below { IfSome result (λ s. s < length twice.now) }
-    ensures is { IfSome result (λ s. get_or twice.now s false ≡ true) }
-    ensures least { IfSome result (λ s. (k : ℕ) → k < s → get_or twice.now k false ≡ false) }
-    ensures none { IfNone result ((k : ℕ) → k < length twice.now → get_or twice.now k false ≡ false) }
-{
-    for s in 0..twice.len() {
-        if twice[s] {
-            return Some(s as u32);
-        }
-    }
-    None
-}
-
 // Both maps of all inodes, where each sector that one owns is in the data area.
 fn mark_all<D: Disk>(
     disk: &mut D,
     opened: &Opened,
     inodes: &[Inode],
-    owned: &mut [bool],
-    twice: &mut [bool],
+    owned: &mut BitTable,
+    twice: &mut BitTable,
 ) -> Checked<()>
     requires opened { BeginsWith (D.state disk.old) opened.now.place opened.now.area opened.now.commit }
     requires table { AreInodes opened.now.place (meaning (D.state disk.old)) inodes.now }
@@ -269,7 +254,7 @@ fn mark_all<D: Disk>(
         (IsMarked (owned_part opened.now.place (meaning (D.state disk.old))) opened.now.place.inodes 0 opened.now.place.sectors owned.new twice.new) }
     ensures passed { Passed (IsLeast opened.now.place InData) (D.state disk.old) (D.state disk.new) result }
 {
-    for n in 0..opened.place.inodes {
+    for n in 0..inodes.len() as u32 {
         let inode = inodes[n as usize];
         if !mark_inode(disk, opened, &inode, owned, twice)? {
             return Err(CheckFault::Found(Finding {
@@ -291,14 +276,15 @@ pub(crate) fn read_owners<D: Disk>(
     requires opened { BeginsWith (D.state disk.old) opened.now.place opened.now.area opened.now.commit }
     requires table { AreInodes opened.now.place (meaning (D.state disk.old)) inodes.now }
     ensures each { OnOk result (ObeysEach opened.now.place (meaning (D.state disk.old)) InData) }
-    ensures owners { IfOk result (λ owners. IsOwnerMap opened.now.place (meaning (D.state disk.old)) owners.owned.items) }
+    ensures owners { IfOk result (λ owners. IsOwnerMap opened.now.place (meaning (D.state disk.old)) owners.owned) }
     ensures twice { IfOk result (λ owners. MatchOption owners.twice (ObeysEach opened.now.place (meaning (D.state disk.old)) OwnedOnce)
         (λ s. IsLeastFailure opened.now.place (meaning (D.state disk.old)) OwnedOnce s)) }
     ensures passed { Passed (IsLeast opened.now.place InData) (D.state disk.old) (D.state disk.new) result }
 {
-    let mut owned = vec![in opened.alloc; false; opened.place.sectors as usize]?;
-    let mut twice = vec![in opened.alloc; false; opened.place.sectors as usize]?;
+    let size = opened.place.sectors as usize;
+    let mut owned = BitTable::new(opened.alloc, size)?;
+    let mut twice = BitTable::new(opened.alloc, size)?;
     mark_all(disk, opened, inodes, &mut owned, &mut twice)?;
-    let twice = first_twice(&twice);
+    let twice = twice.first();
     Ok(Owners { owned, twice })
 }

@@ -1,6 +1,6 @@
 //! How often each inode is named, and its parent.
 
-ghost use Rattle.std.specs.Prelude.{◌≡◌, length, IsTrue, ◌↔◌, IfSome, IfNone};
+ghost use Rattle.std.specs.Prelude.{◌≡◌, ◌≤◌, length, IsTrue, ◌↔◌, IfSome, IfNone};
 ghost use Rattle.fs_layout.specs.Bytes.{SectorMap};
 ghost use Rattle.fs_model.specs.Rules.{HasNameCount, ObeysEach, ObeysBefore, IsLeastFailure, Names as NameCounts, Parents};
 ghost use Rattle.fs_check.specs.Checks.{AreInodes, IsNameTable};
@@ -25,14 +25,14 @@ fn has_name_count(version: Version, n: u32, inode: &Inode, count: u64) -> bool
 
 /// The first inode whose count of names isn't the number of slots that name it, or isn't one that it may have.
 pub(crate) fn miscounted(place: Place, inodes: &[Inode], names: &Names) -> Option<u32>
-    requires inodes { length inodes.now ≡ place.inodes }
+    requires inodes { length inodes.now ≤ place.inodes }
     requires counts { length names.now.counts.items ≡ place.inodes }
     ensures some { IfSome result (λ n. (m : SectorMap) → AreInodes place m inodes.now
         → IsNameTable place m names.now.counts.items names.now.directories.items → ObeysBefore place m 12 → IsLeastFailure place m NameCounts n) }
     ensures none { IfNone result ((m : SectorMap) → AreInodes place m inodes.now
         → IsNameTable place m names.now.counts.items names.now.directories.items → ObeysBefore place m 12 → ObeysEach place m NameCounts) }
 {
-    for n in 0..place.inodes {
+    for n in 0..inodes.len() as u32 {
         let count = names.counts[n as usize];
         if !has_name_count(place.version, n, &inodes[n as usize], count) {
             return Some(n);
@@ -56,14 +56,14 @@ fn has_parent(n: u32, inode: &Inode, directory: u32) -> bool
 
 /// The first inode whose parent field isn't the directory that names it.
 pub(crate) fn misplaced(place: Place, inodes: &[Inode], names: &Names) -> Option<u32>
-    requires inodes { length inodes.now ≡ place.inodes }
+    requires inodes { length inodes.now ≤ place.inodes }
     requires directories { length names.now.directories.items ≡ place.inodes }
     ensures some { IfSome result (λ n. (m : SectorMap) → AreInodes place m inodes.now
         → IsNameTable place m names.now.counts.items names.now.directories.items → ObeysBefore place m 13 → IsLeastFailure place m Parents n) }
     ensures none { IfNone result ((m : SectorMap) → AreInodes place m inodes.now
         → IsNameTable place m names.now.counts.items names.now.directories.items → ObeysBefore place m 13 → ObeysEach place m Parents) }
 {
-    for n in 0..place.inodes {
+    for n in 0..inodes.len() as u32 {
         if !has_parent(n, &inodes[n as usize], names.directories[n as usize]) {
             return Some(n);
         }

@@ -1,6 +1,6 @@
 //! The ways up to the root.
 
-ghost use Rattle.std.specs.Prelude.{◌≡◌, ◌+◌, ◌<◌, ℕ, length, get_or, true, IsTrue, ◌↔◌, IfOk, MatchOption};
+ghost use Rattle.std.specs.Prelude.{◌≡◌, ◌+◌, ◌<◌, ◌≤◌, ℕ, length, get_or, true, IsTrue, ◌↔◌, IfOk, MatchOption};
 ghost use Rattle.fs_layout.specs.Bytes.{SectorMap};
 ghost use Rattle.fs_model.specs.Rules.{ObeysEach, ObeysBefore, IsLeastFailure, Ways};
 ghost use Rattle.fs_check.specs.Checks.{AreInodes};
@@ -41,12 +41,12 @@ pub(crate) fn unreached(
     place: Place,
     inodes: &[Inode],
 ) -> Result<Option<u32>, AllocError>
-    requires inodes { length inodes.now ≡ place.inodes }
+    requires inodes { length inodes.now ≤ place.inodes }
     ensures { IfOk result (λ first. (m : SectorMap) → AreInodes place m inodes.now → ObeysBefore place m 14
         → MatchOption first (ObeysEach place m Ways) (λ d. IsLeastFailure place m Ways d)) }
 {
-    let mut marks = vec![in alloc; 0; place.inodes as usize]?;
-    for d in 1..place.inodes {
+    let mut marks = vec![in alloc; 0; inodes.len()]?;
+    for d in 1..inodes.len() as u32 {
         if inodes[d as usize].kind == Kind::Directory && !goes_up(inodes, &mut marks, d) {
             return Ok(Some(d));
         }

@@ -1,7 +1,9 @@
 use Rattle.std.proofs.Common.{arith}
 use Rattle.fs_model.specs.Rules.{HasAcls, Acls}
+use Rattle.fs_check.specs.Checks.{meaning}
+use Rattle.fs_check.proofs.FreeInodes.{free_has_acls}
 use Rattle.fs_check.proofs.InodeAcls.{acl_on_disk, default_acl_on_disk}
-use Rattle.fs_check.proofs.Tests.{next_tried, fails_here}
+use Rattle.fs_check.proofs.Tests.{few_inodes, all_tried, next_tried, fails_here}
 use Rattle.fs_check.proofs.acls.acls.Goals as goal
 
 pub has_good_acls-requires-clause-access : goal.has_good_acls-requires-clause-access
@@ -27,4 +29,12 @@ returns-then-not-branch-clause-passed g c =
     Acls (λ k. ((λ h. h), (λ h. h))) c.if-not-branch.true
 
 pub returns-clause-each : goal.returns-clause-each
-returns-clause-each g c = λ n lt. c.loop-n.invariant.good n (let past = c.loop-n-test.false in omega (arith, lt, past))
+returns-clause-each g c =
+    let s0 = g.D.Disk.state c.args.disk.now in
+    all_tried HasAcls c.args.opened.now.place s0 (g.D.Disk.state c.loop-n.disk) c.args.inodes.now c.loop-n.n c.loop-n.invariant c.requires.table
+    c.loop-n-test.false (free_has_acls (meaning s0))
+
+pub overflow_cast-n-end : goal.overflow_cast-n-end
+overflow_cast-n-end g c =
+    let few = few_inodes _ _ c.args.opened.now.place _ c.args.inodes.now c.requires.opened.place c.requires.table in
+    omega (arith, few)

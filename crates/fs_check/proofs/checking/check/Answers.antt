@@ -1,12 +1,14 @@
 use Rattle.sector_disk.specs.Disk.{OnlyReads, sector}
 use Rattle.sector_disk.proofs.Moments.{reads_joined}
 use Rattle.fs_model.specs.Rules.{HasWholeSectors}
-use Rattle.fs_check.proofs.Clean.{whole_seen, clean_after, first_within}
+use Rattle.fs_check.proofs.Clean.{whole_seen, clean_after, first_within, none_before}
 use Rattle.fs_check.proofs.checking.check.Goals as goal
 
 pub summary-requires : goal.summary-requires
-summary-requires g c = first_within _ _ c.in_ok-place.place _ c.in_ok-owned.owned.items c.deref-3.result.now c.in_ok-place.ensures.place
-    c.in_ok-owned.ensures.owners c.deref-3.ensures.value
+summary-requires g c = record {
+  within = first_within _ _ c.in_ok-place.place _ c.in_ok-owned.owned c.in_ok-place.ensures.place c.in_ok-owned.ensures.owners;
+  none = none_before _ _ c.in_ok-place.place _ c.in_ok-owned.owned c.in_ok-place.ensures.place c.in_ok-owned.ensures.owners c.in_ok-owned.ensures.before;
+}
 
 pub returns-clause-clean : goal.returns-clause-clean
 returns-clause-clean g c =
@@ -19,9 +21,8 @@ returns-clause-clean g c =
     let r3 : OnlyReads s0 s3 = reads_joined r2 c.in_ok-inodes.ensures.passed.reads in
     let whole : HasWholeSectors s0.size (sector s0.seen) = whole_seen s0 (g.met.D.Disk.seen_is_image c.args.disk.now)
     (g.met.D.Disk.whole_sectors c.args.disk.now) in
-    clean_after s0 s1 s2 s3 c.in_ok-place.place c.in_ok-area.area c.in_ok-area.commit c.in_ok-inodes.inodes.items c.deref-2.result.now c.in_ok-owned.owned.items
-    c.deref-3.result.now c.summary.result
+    clean_after s0 s1 s2 s3 c.in_ok-place.place c.in_ok-area.area c.in_ok-area.commit c.in_ok-inodes.inodes.items c.deref-2.result.now c.in_ok-owned.owned c.summary.result
     (g.met.D.Disk.size_fits c.args.disk.now) whole c.in_ok-place.ensures.place
     r1 c.in_ok-area.ensures.area c.in_ok-area.ensures.targets
     r2 c.in_ok-inodes.ensures.table c.deref-2.ensures.value
-    r3 c.in_ok-owned.ensures.owners c.deref-3.ensures.value c.in_ok-owned.ensures.before c.summary.ensures
+    r3 c.in_ok-owned.ensures.owners c.in_ok-owned.ensures.before c.summary.ensures

@@ -6,7 +6,8 @@ use Rattle.fs_model.specs.Rules.{Inodes, InData, IsLaidOut, LaidOut}
 use Rattle.fs_check.specs.Checks.{meaning}
 use Rattle.fs_check.specs.LastBlocks.{HasSize}
 use Rattle.fs_check.proofs.Carrying.{meaning_same}
-use Rattle.fs_check.proofs.Tests.{inode_here, blank, next_tried, fails_here}
+use Rattle.fs_check.proofs.FreeInodes.{free_is_laid_out}
+use Rattle.fs_check.proofs.Tests.{within, few_inodes, inode_here, blank, all_tried, next_tried, fails_here}
 use Rattle.fs_check.proofs.Sizes.{good_size}
 use Rattle.fs_check.proofs.contents.laid_out.Goals as goal
 
@@ -16,7 +17,7 @@ is_laid_out-requires-clause-in_data g c =
     let p = c.args.opened.now.place in
     let lt = c.loop-n-test.true in
     let here = inode_here p (meaning s0) c.args.inodes.now c.loop-n.n blank c.requires.table lt in
-    let now : (s : ℕ) → Owns (meaning s0) (inode_at p (meaning s0) c.loop-n.n) s → IsData p s = c.requires.before InData (omega arith) c.loop-n.n lt in
+    let now : (s : ℕ) → Owns (meaning s0) (inode_at p (meaning s0) c.loop-n.n) s → IsData p s = c.requires.before InData (omega arith) c.loop-n.n (within p (meaning s0) c.args.inodes.now c.loop-n.n c.requires.table lt) in
     subst (λ (m : SectorMap). (s : ℕ) → Owns m (get_or c.args.inodes.now c.loop-n.n blank) s → IsData p s) (sym (meaning_same c.loop-n.invariant.reads))
     (subst (λ (v : Inode). (s : ℕ) → Owns (meaning s0) v s → IsData p s) (sym here) now)
 
@@ -26,7 +27,7 @@ is_laid_out-requires-clause-size g c =
     let p = c.args.opened.now.place in
     let lt = c.loop-n-test.true in
     subst HasSize (sym (inode_here p m c.args.inodes.now c.loop-n.n blank c.requires.table lt))
-    (good_size p m c.loop-n.n (c.requires.before Inodes (omega arith) c.loop-n.n lt))
+    (good_size p m c.loop-n.n (c.requires.before Inodes (omega arith) c.loop-n.n (within p m c.args.inodes.now c.loop-n.n c.requires.table lt)))
 
 pub loop-n-preserved : goal.loop-n-preserved
 loop-n-preserved g c =
@@ -41,4 +42,12 @@ returns-then-not-branch-clause-passed g c =
     LaidOut (λ k. ((λ h. h), (λ h. h))) c.if-not-branch.true
 
 pub returns-clause-each : goal.returns-clause-each
-returns-clause-each g c = λ n lt. c.loop-n.invariant.good n (let past = c.loop-n-test.false in omega (arith, lt, past))
+returns-clause-each g c =
+    let s0 = g.D.Disk.state c.args.disk.now in
+    all_tried IsLaidOut c.args.opened.now.place s0 (g.D.Disk.state c.loop-n.disk) c.args.inodes.now c.loop-n.n c.loop-n.invariant c.requires.table
+    c.loop-n-test.false (free_is_laid_out (meaning s0))
+
+pub overflow_cast-n-end : goal.overflow_cast-n-end
+overflow_cast-n-end g c =
+    let few = few_inodes _ _ c.args.opened.now.place _ c.args.inodes.now c.requires.opened.place c.requires.table in
+    omega (arith, few)

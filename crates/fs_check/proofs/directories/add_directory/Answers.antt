@@ -12,7 +12,7 @@ use Rattle.fs_check.specs.Naming.{AreSlots, HasGoodSlots}
 use Rattle.sector_disk.proofs.Moments.{reads_nothing}
 use Rattle.fs_check.proofs.Carrying.{same_error}
 use Rattle.fs_check.proofs.Tables.{table_place}
-use Rattle.fs_check.proofs.Tests.{inode_here, blank}
+use Rattle.fs_check.proofs.Tests.{within, inode_here, blank}
 use Rattle.fs_check.proofs.Tallies.{directory_size, same_naming, next_naming, few_slots, has_room, adds_same, naming_same}
 use Rattle.fs_check.proofs.directories.add_directory.Goals as goal
 
@@ -30,7 +30,8 @@ pub read_good_slots-requires-clause-in_data : goal.read_good_slots-requires-clau
 read_good_slots-requires-clause-in_data g c =
     let m = meaning (g.D.Disk.state c.args.disk.now) in
     let here = inode_here c.args.opened.now.place m c.args.inodes.now c.args.d blank c.requires.table c.requires.below in
-    subst (λ v. (s : ℕ) → Owns m v s → IsData c.args.opened.now.place s) (sym here) (c.requires.before InData (omega arith) c.args.d c.requires.below)
+    subst (λ v. (s : ℕ) → Owns m v s → IsData c.args.opened.now.place s) (sym here) (c.requires.before InData (omega arith) c.args.d
+    (within c.args.opened.now.place m c.args.inodes.now c.args.d c.requires.table c.requires.below))
 
 pub read_good_slots-requires-clause-size : goal.read_good_slots-requires-clause-size
 read_good_slots-requires-clause-size g c =
@@ -39,7 +40,7 @@ read_good_slots-requires-clause-size g c =
     let d = c.args.d in
     let here = inode_here p m c.args.inodes.now d blank c.requires.table c.requires.below in
     let is : (get_or c.args.inodes.now d blank).kind ≡ Directory = search rules in
-    subst (λ (v : Inode). v.size ≤ MAX_DIRECTORY_SIZE) (sym here) (directory_size p m d (c.requires.before Inodes (omega arith) d c.requires.below)
+    subst (λ (v : Inode). v.size ≤ MAX_DIRECTORY_SIZE) (sym here) (directory_size p m d (c.requires.before Inodes (omega arith) d (within p m c.args.inodes.now d c.requires.table c.requires.below))
     (sym (ap (λ (v : Inode). v.kind) here) ∙ is))
 
 pub add_slots-requires-clause-room : goal.add_slots-requires-clause-room
@@ -48,10 +49,10 @@ add_slots-requires-clause-room g c =
     let m = meaning s0 in
     let p = c.args.opened.now.place in
     let d = c.args.d in
-    let below = c.requires.below in
+    let below = within p m c.args.inodes.now d c.requires.table c.requires.below in
     let at = table_place _ _ p d c.requires.opened.place below in
     let some = at.few in
-    let here = inode_here p m c.args.inodes.now d blank c.requires.table below in
+    let here = inode_here p m c.args.inodes.now d blank c.requires.table c.requires.below in
     let is : (get_or c.args.inodes.now d blank).kind ≡ Directory = search rules in
     let size = directory_size p m d (c.requires.before Inodes (omega arith) d below) (sym (ap (λ (v : Inode). v.kind) here) ∙ is) in
     let found : AreSlots p.version m (get_or c.args.inodes.now d blank) c.in-Some.slots.items =
@@ -92,7 +93,7 @@ returns-clause-names g c =
     (take_at c.add_slots.new.directories _ names.directories.len (c.add_slots.ensures.directories_len ∙ c.deref_mut-2.ensures.len))
     (next_naming p m d slots names.counts.items names.directories.items c.add_slots.new.counts c.add_slots.new.directories names.repeated
     c.first_repeated-names.result
-    c.requires.below (sym (ap (λ (v : Inode). v.kind) here) ∙ is) are adds c.requires.names
+    (within p m c.args.inodes.now d c.requires.table c.requires.below) (sym (ap (λ (v : Inode). v.kind) here) ∙ is) are adds c.requires.names
     (λ x test. c.first_repeated-names.ensures p m x (subst (λ l. HaveDistinctNames l ↔ Obeys p m NamesApart d) (sym c.deref_mut-3.ensures.value) test)))
 
 pub returns-then-ne-clause-passed : goal.returns-then-ne-clause-passed

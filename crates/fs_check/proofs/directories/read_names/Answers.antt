@@ -1,12 +1,15 @@
-use Rattle.std.proofs.Common.{◌+◌, arith, refl, subst, sym}
+use Rattle.std.proofs.Common.{◌≡◌, ◌+◌, arith, refl, subst, sym, ap, ◌∙◌, inl, inr}
+use Rattle.std.proofs.lemmas.Bool.{cases_lt}
+use Rattle.fs_layout.specs.declared.inode.Inode.{Inode}
+use Rattle.fs_layout.specs.declared.inode.Kind.TheVariants.{Free, Directory}
 use Rattle.fs_model.specs.Rules.{Obeys, Slots}
 use Rattle.sector_disk.proofs.Moments.{reads_joined}
 use Rattle.fs_check.specs.Checks.{meaning}
 use Rattle.fs_check.specs.Naming.{IsNaming}
 use Rattle.fs_check.proofs.Carrying.{meaning_same, opened_still, table_still, before_still, read_error}
 use Rattle.fs_check.proofs.Tables.{more_good}
-use Rattle.fs_check.proofs.Tests.{refuses}
-use Rattle.fs_check.proofs.Tallies.{all_repeated, all_named}
+use Rattle.fs_check.proofs.Tests.{few_inodes, free_behind, refuses}
+use Rattle.fs_check.proofs.Tallies.{all_repeated, all_named, whole_naming}
 use Rattle.fs_check.proofs.directories.read_names.Goals as goal
 
 pub add_directory-requires-clause-names : goal.add_directory-requires-clause-names
@@ -45,20 +48,40 @@ returns-then-not-branch-clause-passed g c =
     }
 
 pub returns-clause-each : goal.returns-clause-each
-returns-clause-each g c = λ n lt. c.loop-d.invariant.good n (let past = c.loop-d-test.false in omega (arith, lt, past)) lt
+returns-clause-each g c = λ n lt is.
+    let m = meaning (g.D.Disk.state c.args.disk.now) in
+    elim (cases_lt n c.loop-d.d) [
+      | inl low ↦ c.loop-d.invariant.good n low lt is
+      | inr ge ↦
+          let past = c.loop-d-test.false in
+          let free = free_behind c.args.opened.now.place m c.args.inodes.now n c.requires.table (omega (arith, ge, past)) lt in
+          absurd (let e : Free ≡ Directory = sym (ap (λ (v : Inode). v.kind) free) ∙ is in cc)
+    ]
 
 pub returns-clause-names : goal.returns-clause-names
 returns-clause-names g c =
-    let past = c.loop-d-test.false in
+    let p = c.args.opened.now.place in
+    let m = meaning (g.D.Disk.state c.args.disk.now) in
+    let len = c.requires.table.len in
     let end = c.loop-d.auto.d-end in
-    all_named c.args.opened.now.place (meaning (g.D.Disk.state c.args.disk.now)) c.loop-d.d c.loop-d.names.counts.items c.loop-d.names.directories.items
-    (omega (arith, past, end)) c.loop-d.invariant.naming.tally
+    all_named p m p.inodes c.loop-d.names.counts.items c.loop-d.names.directories.items refl
+    (whole_naming p m c.args.inodes.now c.requires.table c.loop-d.d c.loop-d.names.counts.items c.loop-d.names.directories.items c.loop-d.names.repeated
+    c.loop-d-test.false (omega (arith, end, len)) c.loop-d.invariant.naming).tally
 
 pub returns-clause-repeated : goal.returns-clause-repeated
 returns-clause-repeated g c =
-    let past = c.loop-d-test.false in
-    all_repeated c.args.opened.now.place (meaning (g.D.Disk.state c.args.disk.now)) c.loop-d.d c.loop-d.names.repeated (omega (arith, past))
-    c.loop-d.invariant.naming.repeated
+    let p = c.args.opened.now.place in
+    let m = meaning (g.D.Disk.state c.args.disk.now) in
+    let len = c.requires.table.len in
+    let end = c.loop-d.auto.d-end in
+    all_repeated p m p.inodes c.loop-d.names.repeated (omega arith)
+    (whole_naming p m c.args.inodes.now c.requires.table c.loop-d.d c.loop-d.names.counts.items c.loop-d.names.directories.items c.loop-d.names.repeated
+    c.loop-d-test.false (omega (arith, end, len)) c.loop-d.invariant.naming).repeated
+
+pub overflow_cast-d-end : goal.overflow_cast-d-end
+overflow_cast-d-end g c =
+    let few = few_inodes _ _ c.args.opened.now.place _ c.args.inodes.now c.requires.opened.place c.requires.table in
+    omega (arith, few)
 
 pub add_directory-requires-clause-opened : goal.add_directory-requires-clause-opened
 add_directory-requires-clause-opened g c = opened_still c.loop-d.invariant.reads c.requires.opened

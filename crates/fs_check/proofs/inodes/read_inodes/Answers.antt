@@ -1,4 +1,5 @@
-use Rattle.std.proofs.Common.{Some, None, refl, arith}
+use Rattle.std.proofs.Common.{◌≡◌, Some, None, get_or, refl, arith, subst, ◌∙◌}
+use Rattle.std.specs.Prelude.{IsErrAnd}
 use Rattle.fs_layout.specs.Inode.{free_inode}
 use Rattle.fs_layout.specs.Images.{inode_at}
 use Rattle.fs_model.specs.Rules.{IsGoodInode}
@@ -23,14 +24,15 @@ loop-n-preserved g c =
     let here = sector_back s0 s1 p n c.read_table.new.table so_far.reads c.in_ok-read_table.ensures.table in
     let v = c.in-Some.inode in
     let told = c.in-Some.ensures in
-    let pushed = c.in_ok-push-in-Some.ensures.items in
+    let kept = c.in_ok-keep_inode-in-Some.ensures in
     let good = good_is p (meaning s0) n c.read_table.new.table (Some v) (here c.loop-n-test.true)
     told.is told.allowed told.free told.top told.none in
     record {
       reads = reads_joined so_far.reads c.in_ok-read_table.ensures.passed.reads;
       kept = same_sector p (meaning s0) n c.read_table.new.table here;
-      len = one_longer c.loop-n.inodes.items c.push.new.self.items v n pushed so_far.len;
-      each = more_there c.loop-n.inodes.items c.push.new.self.items v free_inode (inode_at p (meaning s0)) n pushed so_far.len so_far.each good.1;
+      len = kept.few;
+      each = more_good (λ k. get_or c.keep_inode.new.inodes.items k free_inode ≡ inode_at p (meaning s0) k) n (λ k lt. kept.earlier k lt ∙ so_far.each k lt)
+          (kept.there ∙ good.1);
       good = more_good (IsGoodInode p (meaning s0)) n so_far.good good.0;
     }
 
@@ -62,11 +64,11 @@ returns-in_err-read_table-clause-passed g c =
     read_error (g.D.Disk.state c.args.disk.now) (g.D.Disk.state c.loop-n.disk) (g.D.Disk.state c.read_table.new.disk) c.loop-n.invariant.reads left.result left.ensures.1
     c.in_err-read_table.ensures.passed
 
-pub returns-in_err-push-in-Some-clause-passed : goal.returns-in_err-push-in-Some-clause-passed
-returns-in_err-push-in-Some-clause-passed g c =
-    let left = c.from_residual-in_err-push-in-Some in
+pub returns-in_err-keep_inode-in-Some-clause-passed : goal.returns-in_err-keep_inode-in-Some-clause-passed
+returns-in_err-keep_inode-in-Some-clause-passed g c =
+    let left = c.from_residual-in_err-keep_inode-in-Some in
     memory_error (g.D.Disk.state c.args.disk.now) (g.D.Disk.state c.read_table.new.disk) (reads_joined c.loop-n.invariant.reads c.in_ok-read_table.ensures.passed.reads)
-    left.result left.ensures.1
+    left.result (subst (λ e. IsErrAnd left.result (λ y. y ≡ e)) c.in_err-keep_inode-in-Some.ensures.memory left.ensures.1)
 
 pub returns-clause-each : goal.returns-clause-each
 returns-clause-each g c = λ n lt. c.loop-n.invariant.good n (let past = c.loop-n-test.false in omega (arith, lt, past))

@@ -1,4 +1,4 @@
-use Rattle.std.proofs.Common.{◌≡◌, ◌≢◌, ◌<◌, ◌%◌, ℕ, length, get_or}
+use Rattle.std.proofs.Common.{◌≡◌, ◌≢◌, ◌<◌, ◌≤◌, ◌%◌, ℕ, length, get_or}
 use Rattle.fs_layout.specs.Inode.{free_inode}
 use Rattle.fs_layout.specs.Images.{inode_at}
 use Rattle.fs_model.specs.Rules.{IsGoodInode}
@@ -11,7 +11,7 @@ abbrev pub invariant-loop-n : goal.invariant-loop-n
 invariant-loop-n g l = record {
   reads : OnlyReads (g.D.Disk.state l.initial.disk) (g.D.Disk.state l.disk);
   kept : l.n % 4 ≢ 0 → IsTableSector l.opened.place (meaning (g.D.Disk.state l.initial.disk)) l.n l.table;
-  len : length l.inodes.items ≡ l.n;
+  len : length l.inodes.items ≤ l.n;
   each : (k : ℕ) → k < l.n → get_or l.inodes.items k free_inode ≡ inode_at l.opened.place (meaning (g.D.Disk.state l.initial.disk)) k;
   good : (k : ℕ) → k < l.n → IsGoodInode l.opened.place (meaning (g.D.Disk.state l.initial.disk)) k;
 }

@@ -1,11 +1,14 @@
-use Rattle.std.proofs.Common.{get_or, arith, refl}
+use Rattle.std.proofs.Common.{get_or, arith, refl, subst, inl, inr}
+use Rattle.std.proofs.lemmas.Bool.{cases_lt}
+use Rattle.fs_layout.specs.Images.{Owns}
 use Rattle.fs_model.specs.Rules.{IsInData}
 use Rattle.sector_disk.proofs.Moments.{reads_joined}
 use Rattle.fs_check.specs.Checks.{meaning}
 use Rattle.fs_check.specs.Owning.{OwnsData}
-use Rattle.fs_check.proofs.MarkedParts.{inode_marked}
+use Rattle.fs_check.proofs.FreeInodes.{free_owns_nothing}
+use Rattle.fs_check.proofs.MarkedParts.{inode_marked, all_marked}
 use Rattle.fs_check.proofs.Tables.{more_good}
-use Rattle.fs_check.proofs.Tests.{inode_here, known_of, refuses, blank}
+use Rattle.fs_check.proofs.Tests.{within, few_inodes, inode_here, free_behind, known_of, refuses, blank}
 use Rattle.fs_check.proofs.marking.mark_all.Goals as goal
 
 pub returns-then-not-branch-clause-passed : goal.returns-then-not-branch-clause-passed
@@ -21,7 +24,7 @@ returns-then-not-branch-clause-passed g c =
           fails = λ h.
               known_of (λ m v. OwnsData p m v → ⊥) s0 s1 p c.args.inodes.now c.loop-n.n blank c.loop-n.invariant.reads c.requires.table c.loop-n-test.true
               (refuses (OwnsData p (meaning s1) (get_or c.args.inodes.now c.loop-n.n blank)) c.in_ok-mark_inode.field-0 c.if-not-branch.true c.in_ok-mark_inode.ensures.test)
-              (h c.loop-n-test.true);
+              (h (within p (meaning s0) c.args.inodes.now c.loop-n.n c.requires.table c.loop-n-test.true));
           least = λ k low below. c.loop-n.invariant.good k low;
         },
       );
@@ -46,4 +49,25 @@ loop-n-preserved g c =
     }
 
 pub returns-clause-each : goal.returns-clause-each
-returns-clause-each g c = λ n lt. c.loop-n.invariant.good n (let past = c.loop-n-test.false in omega (arith, lt, past))
+returns-clause-each g c = λ n lt.
+    let m = meaning (g.D.Disk.state c.args.disk.now) in
+    let p = c.args.opened.now.place in
+    elim (cases_lt n c.loop-n.n) [
+      | inl low ↦ c.loop-n.invariant.good n low
+      | inr ge ↦
+          let past = c.loop-n-test.false in
+          let free = free_behind p m c.args.inodes.now n c.requires.table (omega (arith, ge, past)) lt in
+          λ s owns. absurd (free_owns_nothing m s (subst (λ v. Owns m v s) free owns))
+    ]
+
+pub returns-clause-marked : goal.returns-clause-marked
+returns-clause-marked g c =
+    let len = c.requires.table.len in
+    let end = c.loop-n.auto.n-end in
+    all_marked c.args.opened.now.place (meaning (g.D.Disk.state c.args.disk.now)) c.args.inodes.now c.loop-n.n c.loop-n.owned c.loop-n.twice c.requires.table
+    c.loop-n-test.false (omega (arith, end, len)) c.loop-n.invariant.marked
+
+pub overflow_cast-n-end : goal.overflow_cast-n-end
+overflow_cast-n-end g c =
+    let few = few_inodes _ _ c.args.opened.now.place _ c.args.inodes.now c.requires.opened.place c.requires.table in
+    omega (arith, few)

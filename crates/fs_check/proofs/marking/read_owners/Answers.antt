@@ -1,5 +1,4 @@
-use Rattle.std.proofs.Common.{sym, ◌∙◌}
-use Rattle.std.proofs.lemmas.List.{take_at}
+use Rattle.std.proofs.Common.{refl}
 use Rattle.sector_disk.proofs.Moments.{reads_nothing}
 use Rattle.fs_check.specs.Checks.{meaning}
 use Rattle.fs_check.proofs.Carrying.{same_error, memory_error}
@@ -8,17 +7,14 @@ use Rattle.fs_check.proofs.marking.read_owners.Goals as goal
 
 pub returns-clause-twice : goal.returns-clause-twice
 returns-clause-twice g c =
-    let a = c.in_ok-mark_all.ensures.marked in
-    let same = c.deref.ensures.value ∙ take_at c.mark_all.new.twice _ c.in_ok-twice.twice.len (a.twice_len ∙ sym c.in_ok-twice.ensures.len) in
-    let first = c.first_twice-twice.ensures in
-    twice_found c.args.opened.now.place (meaning (g.D.Disk.state c.args.disk.now)) c.mark_all.new.owned c.mark_all.new.twice a c.deref.result.now
-    c.first_twice-twice.result same c.in_ok-mark_all.ensures.each first.below first.is first.least first.none
+    let first = c.first-twice.ensures in
+    twice_found c.args.opened.now.place (meaning (g.D.Disk.state c.args.disk.now)) c.mark_all.new.owned c.mark_all.new.twice c.in_ok-mark_all.ensures.marked
+    c.mark_all.new.twice c.first-twice.result refl c.in_ok-mark_all.ensures.each first.below first.is first.least first.none
 
 pub returns-clause-owners : goal.returns-clause-owners
 returns-clause-owners g c =
-    let a = c.in_ok-mark_all.ensures.marked in
-    owner_map c.args.opened.now.place (meaning (g.D.Disk.state c.args.disk.now)) c.mark_all.new.owned c.mark_all.new.twice a _
-    (take_at c.mark_all.new.owned _ c.in_ok-owned.owned.len (a.owned_len ∙ sym c.in_ok-owned.ensures.len))
+    owner_map c.args.opened.now.place (meaning (g.D.Disk.state c.args.disk.now)) c.mark_all.new.owned c.mark_all.new.twice c.in_ok-mark_all.ensures.marked
+    c.mark_all.new.owned refl
 
 pub returns-in_err-owned-clause-passed : goal.returns-in_err-owned-clause-passed
 returns-in_err-owned-clause-passed g c =
@@ -31,10 +27,7 @@ returns-in_err-twice-clause-passed g c =
 
 -- no number is marked yet
 pub mark_all-requires-clause-none : goal.mark_all-requires-clause-none
-mark_all-requires-clause-none g c =
-    let owned = c.deref_mut.ensures.value ∙ c.in_ok-owned.ensures.items_if_clones_equal (λ y e. cc) in
-    let twice = c.deref_mut-2.ensures.value ∙ c.in_ok-twice.ensures.items_if_clones_equal (λ y e. cc) in
-    clear_marked _ _ _ _ owned twice
+mark_all-requires-clause-none g c = clear_marked _ _ _ _ c.in_ok-owned.ensures c.in_ok-twice.ensures
 
 pub returns-in_err-mark_all-clause-passed : goal.returns-in_err-mark_all-clause-passed
 returns-in_err-mark_all-clause-passed g c =

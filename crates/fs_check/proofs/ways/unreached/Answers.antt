@@ -2,8 +2,8 @@ use Rattle.std.proofs.Common.{rules, arith, ap, ◌∙◌}
 use Rattle.std.proofs.lemmas.List.{get_or_default}
 use Rattle.fs_layout.specs.declared.inode.Inode.{Inode}
 use Rattle.fs_layout.specs.Inode.{free_inode}
-use Rattle.fs_check.proofs.Climbing.{way_there, no_way}
-use Rattle.fs_check.proofs.Tests.{blank, refuses}
+use Rattle.fs_check.proofs.Climbing.{all_there, no_way}
+use Rattle.fs_check.proofs.Tests.{within, blank, refuses}
 use Rattle.fs_check.specs.Ways.{Climbs}
 use Rattle.fs_check.proofs.ways.unreached.Goals as goal
 
@@ -12,12 +12,9 @@ returns-then-not-goes_up c = λ m table before.
     let inodes = c.args.inodes.now in
     let d = c.loop-d.d in
     let lt = c.loop-d-test.true in
-    let len = table.len in
-    no_way c.args.place m inodes table before d c.loop-d.invariant.so_far lt
-    (ap (λ (v : Inode). v.kind) (get_or_default inodes d free_inode blank (omega (arith, lt, len))) ∙ (let e = c.if-eq.ensures in search rules))
+    no_way c.args.place m inodes table before d c.loop-d.invariant.so_far (within c.args.place m inodes d table lt)
+    (ap (λ (v : Inode). v.kind) (get_or_default inodes d free_inode blank lt) ∙ (let e = c.if-eq.ensures in search rules))
     (refuses (Climbs inodes d) c.goes_up.result c.if-not-goes_up.true c.goes_up.ensures.reaches)
 
 pub returns : goal.returns
-returns c = λ m table before n lt.
-    let past = c.loop-d-test.false in
-    way_there c.args.place m c.args.inodes.now table before c.loop-d.d n c.loop-d.invariant.so_far (omega (arith, lt, past)) lt
+returns c = λ m table before. all_there c.args.place m c.args.inodes.now table before c.loop-d.d c.loop-d.invariant.so_far c.loop-d-test.false
