@@ -3,16 +3,14 @@
 ghost use Rattle.std.specs.Prelude.{◌≡◌, ◌<◌, OnOk, IfErr};
 ghost use Rattle.call_parts.specs.DiskWords.{SameStore, TakesSpare, IsSound, HasSpare};
 ghost use Rattle.call_parts.specs.ModelWords.{HoldsAll, placed, Tree, FailsToRead};
-ghost use Rattle.call_parts.specs.Times.{with_times, SavesTimes, MayMoveTimes, MovesTimes};
-ghost use Rattle.call_parts.specs.UsedInode.{IsUsedInode};
+ghost use Rattle.call_parts.specs.Times.{with_times, MayMoveTimes, MovesTimes};
 ghost use Rattle.fs_model.specs.StoredStamps.{stamps_in};
 ghost use Rattle.fs_model.specs.TreeChanges.{touch_at, touch_one, restamped};
 
 use fs_cred::{Errno, Refusal};
 use fs_layout::{Inode, Kind, Place};
 use fs_model::Touch;
-use inode_table::save;
-use path_walk::load_inode;
+use inode_table::{load_with_content, save_times};
 use sector_txn::Sectors;
 
 // The inode with the times that it has then.
@@ -39,28 +37,6 @@ fn with_touch(inode: &Inode, touch: Touch, now: u64) -> Inode
     }
 }
 
-// Moves these times of inode n, which is used. EIO: the disk has failed.
-fn save_times<S: Sectors>(
-    s: &mut S,
-    place: Place,
-    n: u32,
-    inode: &Inode,
-    touch: Touch,
-    now: u64,
-) -> Result<(), Refusal>
-    requires loaded { IsUsedInode place (S.state s.old) n inode.now }
-    requires spare { HasSpare place 1 (S.state s.old) }
-    ensures store { SameStore (S.state s.old) (S.state s.new) }
-    ensures saves { OnOk result (SavesTimes place now n touch (S.state s.old) (S.state s.new)) }
-    ensures fault { IfErr result (FailsToRead (S.state s.old).disk (S.state s.new).disk) }
-{
-    let touched = with_touch(inode, touch, now);
-    match save(s, place, n, &touched) {
-        Ok(()) => Ok(()),
-        Err(_) => Err(Refusal::Failed(Errno::EIO)),
-    }
-}
-
 // Moves these times of inode n, if it is used. EIO: the disk has failed.
 fn touch_inode<S: Sectors>(
     s: &mut S,
@@ -80,11 +56,15 @@ fn touch_inode<S: Sectors>(
         → HoldsAll place (S.state s.new).sectors (placed (restamped (touch_one now (n, touch)) t))) }
     ensures fault { IfErr result (FailsToRead (S.state s.old).disk (S.state s.new).disk) }
 {
-    let inode = load_inode(s, place, n)?;
+    let mut content = [0; 512];
+    let Ok(inode) = load_with_content(s, place, n, &mut content) else {
+        return Err(Refusal::Failed(Errno::EIO));
+    };
     if inode.kind == Kind::Free {
         return Ok(());
     }
-    save_times(s, place, n, &inode, touch, now)?;
+    let touched = with_touch(&inode, touch, now);
+    save_times(s, place, n, &touched, &mut content);
     Ok(())
 }
 

@@ -18,6 +18,7 @@ pub mod HeaderLaw
 pub mod Held
 pub mod Holes
 pub mod ImageSlots
+pub mod InPlace
 pub mod InodeLaw
 pub mod KeptParts
 pub mod Levels

@@ -6,6 +6,7 @@ pub mod Header
 pub mod Images
 pub mod Inode
 pub mod InodeChanges
+pub mod InodeTimes
 pub mod Lacking
 pub mod Laws
 pub mod Maps

@@ -3,7 +3,8 @@
 ghost use Rattle.std.specs.Prelude.{◌≡◌, ◌≤◌, ◌+◌, ℕ, length, IfOk, Ok};
 ghost use Rattle.fs_layout.specs.Bytes.{SectorMap, splice, window};
 ghost use Rattle.fs_layout.specs.Images.{pointer, number_on, HasPointersAbove, number_in};
-ghost use Rattle.fs_layout.specs.Inode.{inode_bytes, inode_of, older_inode_of, inode_fits, kind_number, kind_of, gaps_are_zero, IsInode, FitsInode, FitsOlderInode};
+ghost use Rattle.fs_layout.specs.Inode.{inode_bytes, inode_of, older_inode_of, inode_fits, kind_number, kind_of, fields_of, gaps_are_zero, IsInode, FitsInode, FitsOlderInode};
+ghost use Rattle.fs_layout.specs.InodeTimes.{DiffersInTimes};
 
 use crate::bytes::{
     are_zero, get_u32s, put_u16, put_u32, put_u32s, put_u64, put_zeros, u16_at, u32_at, u64_at,
@@ -195,17 +196,14 @@ impl Inode {
         put_zeros(to, 120, 8);
     }
 
-    #[tactic(auto, unfolding(crate::specs::Inode::inode_of))]
-    fn get(from: &[u8]) -> Result<Inode, LayoutFault>
+    // The fields that stand there, of an inode of this kind.
+    fn fields(kind: Kind, from: &[u8]) -> Inode
         requires { length from.now ≡ INODE_SIZE }
-        ensures { result ≡ inode_of from.now }
+        ensures { result ≡ fields_of kind from.now }
     {
-        let Some(kind) = Kind::of_number(u16_at(from, 0)) else {
-            return Err(LayoutFault::BadKind);
-        };
         let mut direct = [0; DIRECT_BLOCKS as usize];
         get_u32s(from, 36, &mut direct);
-        let inode = Inode {
+        Inode {
             kind,
             mode: u16_at(from, 2),
             uid: u32_at(from, 4),
@@ -221,7 +219,18 @@ impl Inode {
             mtime: u64_at(from, 96),
             ctime: u64_at(from, 104),
             atime: u64_at(from, 112),
+        }
+    }
+
+    #[tactic(auto, unfolding(crate::specs::Inode::inode_of))]
+    fn get(from: &[u8]) -> Result<Inode, LayoutFault>
+        requires { length from.now ≡ INODE_SIZE }
+        ensures { result ≡ inode_of from.now }
+    {
+        let Some(kind) = Kind::of_number(u16_at(from, 0)) else {
+            return Err(LayoutFault::BadKind);
         };
+        let inode = Inode::fields(kind, from);
         if !inode.fits() {
             return Err(LayoutFault::BadNumber);
         }
@@ -300,6 +309,29 @@ impl Inode {
         ensures { to.new ≡ splice to.old at (inode_bytes self.now) }
     {
         self.put(&mut to[at..at + INODE_SIZE]);
+    }
+
+    /// Writes this inode's times over those of one that differs in its times alone, whose [`INODE_SIZE`] bytes stand from
+    /// `at` on.
+    pub fn write_times(&self, to: &mut [u8; 512], at: usize)
+        requires { at + INODE_SIZE ≤ 512 }
+        ensures { (v : Inode) → DiffersInTimes v self.now → window to.old at INODE_SIZE ≡ inode_bytes v
+            → to.new ≡ splice to.old at (inode_bytes self.now) }
+    {
+        put_u64(to, at + 96, self.mtime);
+        put_u64(to, at + 104, self.ctime);
+        put_u64(to, at + 112, self.atime);
+    }
+
+    /// Reads the [`INODE_SIZE`] bytes from `at` on, which are an inode's, as whoever has checked the image knows. Of other
+    /// bytes nothing is said.
+    pub fn read_valid(from: &[u8; 512], at: usize) -> Inode
+        requires { at + INODE_SIZE ≤ 512 }
+        ensures { (v : Inode) → inode_of (window from.now at INODE_SIZE) ≡ Ok v → result ≡ v }
+    {
+        let bytes = &from[at..at + INODE_SIZE];
+        let kind = Kind::of_number(u16_at(bytes, 0)).unwrap_or(Kind::Free);
+        Inode::fields(kind, bytes)
     }
 
     /// Reads the [`INODE_SIZE`] bytes from `at` on, of a disk of version 1 or 2.

@@ -4,6 +4,7 @@ use Rattle.fs_layout.specs.declared.inode.Inode.{Inode}
 use Rattle.fs_layout.specs.declared.place.Place.{Place}
 use Rattle.fs_layout.specs.Bytes.{SectorMap}
 use Rattle.fs_layout.specs.Inode.{FitsInode}
+use Rattle.fs_layout.specs.InodeTimes.{DiffersInTimes}
 use Rattle.fs_layout.specs.Images.{bit, inode_at, levels}
 use Rattle.fs_layout.specs.Ownership.{IsConsistent}
 use Rattle.fs_layout.specs.InodeChanges.{Keeps, ChangesBlocks, Saves}
@@ -56,6 +57,10 @@ saved_keeps_default {mid = mid} {new} {w = w} a keeps = record {
 }
 
 -- ---- an inode with other attributes
+-- times are some of them
+pub times_are_attributes : (v w : Inode) → DiffersInTimes v w → DiffersInAttributes v w
+times_are_attributes v w differs = subst (λ (u : Inode). DiffersInAttributes v u) (sym differs) refl
+
 module _ (p : Place) (n : ℕ) (w : Inode) (old new : TxnState)
     (sound : IsSound p old) (lt : n < p.inodes) (attributes : DiffersInAttributes (inode_at p old.sectors n) w) (fits : FitsInode w)
     (saves : Saves p n w old.sectors new.sectors) where

@@ -1,16 +1,16 @@
 -- Where an inode stands on the disk, what is read there, and what is written.
-use Rattle.std.proofs.Common.{◌≡◌, ℕ, ◌+◌, ◌*◌, ◌/◌, ◌%◌, ◌<◌, ◌≤◌, List, Result, Ok, Err, ap, subst, ◌∙◌, arith}
+use Rattle.std.proofs.Common.{◌≡◌, ℕ, ◌+◌, ◌*◌, ◌/◌, ◌%◌, ◌<◌, ◌≤◌, List, length, Ok, sym, ap, subst, ◌∙◌, arith}
 use Rattle.fs_layout.specs.declared.inode.TheConstants.{INODE_SIZE}
 use Rattle.fs_layout.specs.declared.inode.Inode.{Inode}
-use Rattle.fs_layout.specs.declared.fault.LayoutFault.{LayoutFault}
 use Rattle.fs_layout.specs.declared.place.Place.{Place}
-use Rattle.fs_layout.specs.Bytes.{SectorMap, window, splice}
+use Rattle.fs_layout.specs.Bytes.{SectorMap, IsSector, window, splice}
 use Rattle.fs_layout.specs.Inode.{inode_of, inode_bytes}
 use Rattle.fs_layout.specs.Place.{IsPlace}
 use Rattle.fs_layout.specs.Images.{stored, inode_at}
 use Rattle.fs_layout.specs.Ownership.{IsConsistent}
 use Rattle.fs_layout.specs.InodeChanges.{Puts, Saves}
-use Rattle.fs_layout.proofs.Codecs.{same_ok}
+use Rattle.fs_layout.proofs.Fields.{part_len, IsBytes-part}
+use Rattle.fs_layout.proofs.InodeLaw.{inode_takes}
 use Rattle.fs_layout.proofs.Places.{after_map}
 use Rattle.fs_layout.proofs.Saves.{in_table, put_saves}
 
@@ -21,21 +21,24 @@ inode_on_disk {p} {n} is place lt disk = let i = in_table p n place lt in let d 
 pub inode_above : {p : Place} (n : ℕ) → IsPlace p → p.inode_bitmap ≤ p.table + n / 4
 inode_above n place = let a = after_map place in omega (arith, a)
 
--- a sector of the table is read, and the inode in it: it is valid
-module _ {p : Place} {image : SectorMap} {n at from : ℕ} {s : List ℕ} {r : Result Inode LayoutFault} (h : IsConsistent p image) (lt : n < p.inodes)
-    (sector : at ≡ p.table + n / 4) (begin : from ≡ INODE_SIZE * (n % 4)) (is : s ≡ image at) (read : r ≡ inode_of (window s from INODE_SIZE)) where
-  pub inode_is_read : r ≡ Ok (inode_at p image n)
-  unfolding stored
-  inode_is_read =
-      read ∙ ap (λ (k : ℕ). inode_of (window s k INODE_SIZE)) begin ∙ ap (λ (b : List ℕ). inode_of (window b (INODE_SIZE * (n % 4)) INODE_SIZE)) (is ∙ ap image sector)
-      ∙ h.valid n lt
+-- a sector of the table is read: where the inode stands in it, there are its bytes
+pub inode_stands : {p : Place} {image : SectorMap} {n at from : ℕ} {s : List ℕ} → IsConsistent p image → n < p.inodes → at ≡ p.table + n / 4 → from ≡ INODE_SIZE * (n % 4)
+    → s ≡ image at → inode_of (window s from INODE_SIZE) ≡ Ok (inode_at p image n)
+unfolding stored
+inode_stands {p} {image} {n} {at} {from} {s} h lt sector begin is =
+    ap (λ (k : ℕ). inode_of (window s k INODE_SIZE)) begin ∙ ap (λ (b : List ℕ). inode_of (window b (INODE_SIZE * (n % 4)) INODE_SIZE)) (is ∙ ap image sector)
+    ∙ h.valid n lt
 
-  -- so reading it doesn't fail
-  pub inode_has_no_fault : (e : LayoutFault) → r ≡ Err e → ⊥
-  inode_has_no_fault e bad = let good : r ≡ Ok (inode_at p image n) = inode_is_read in cc
-
-  pub inode_found : (v : Inode) → r ≡ Ok v → v ≡ inode_at p image n
-  inode_found v ok = same_ok v (inode_at p image n) r ok inode_is_read
+pub inode_spelled : {p : Place} {image : SectorMap} {n at from : ℕ} {s : List ℕ} → IsConsistent p image → n < p.inodes → at ≡ p.table + n / 4 → from ≡ INODE_SIZE * (n % 4)
+    → s ≡ image at → window s from INODE_SIZE ≡ inode_bytes (inode_at p image n)
+inode_spelled {p} {image} {n} {at} {from} {s} h lt sector begin is =
+    let i = in_table p n h.place lt in
+    let above = after_map h.place in
+    let there : IsSector (image (p.table + n / 4)) = h.sectors (p.table + n / 4) (omega (arith, above)) i.1 in
+    let whole : IsSector s = subst IsSector (sym (is ∙ ap image sector)) there in
+    let room : from + INODE_SIZE ≤ length s = omega (arith, begin, whole.len) in
+    (inode_takes (window s from INODE_SIZE) (inode_at p image n) (part_len INODE_SIZE from s room) (IsBytes-part INODE_SIZE from s whole.bytes)
+    (inode_stands h lt sector begin is)).0
 
 -- an inode is written into its sector, and the sector is put
 pub sector_saves : {p : Place} {n at from : ℕ} {v : Inode} {old mid new : SectorMap} {s t : List ℕ} → at ≡ p.table + n / 4 → from ≡ INODE_SIZE * (n % 4)

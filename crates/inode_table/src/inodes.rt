@@ -6,6 +6,7 @@ ghost use Rattle.sector_disk.specs.Disk.{HasCause};
 ghost use Rattle.fs_layout.specs.Header.{log_end};
 ghost use Rattle.fs_layout.specs.Place.{IsPlace};
 ghost use Rattle.fs_layout.specs.Inode.{FitsInode, free_inode};
+ghost use Rattle.fs_layout.specs.InodeTimes.{DiffersInTimes};
 ghost use Rattle.fs_layout.specs.Images.{HasWholeTables, Holds, bit, free_sectors, inode_at};
 ghost use Rattle.fs_layout.specs.InodeChanges.{Saves};
 ghost use Rattle.sector_txn.specs.Sectors.{SameStore, IsUnchanged, PutsOnly};
@@ -36,12 +37,30 @@ pub fn load<S: Sectors>(s: &mut S, place: Place, n: u32) -> Result<Inode, DiskFa
     ensures cause { HasCause (S.state s.old).disk (S.state s.new).disk result }
 {
     let at = place.inode_offset(n);
-    let read = s.read_with(
+    let inode = s.read_with(
         place.inode_sector(n),
-        |content| Inode::read_any(content, at),
+        |content| Inode::read_valid(content, at),
     )?;
-    let Ok(inode) = read else { unreachable!() };
     Ok(inode)
+}
+
+/// Reads inode n, and the content of its sector.
+pub fn load_with_content<S: Sectors>(
+    s: &mut S,
+    place: Place,
+    n: u32,
+    content: &mut [u8; 512],
+) -> Result<Inode, DiskFault>
+    requires sound { IsSound place (S.state s.old) }
+    requires below { n < place.inodes }
+    ensures found { IfOk result (λ v. v ≡ inode_at place (S.state s.old).sectors n) }
+    ensures fits { IfOk result FitsInode }
+    ensures content { OnOk result (content.new ≡ (S.state s.old).sectors (place.table + n / 4)) }
+    ensures same { IsUnchanged (S.state s.old) (S.state s.new) }
+    ensures cause { HasCause (S.state s.old).disk (S.state s.new).disk result }
+{
+    s.get(place.inode_sector(n), content)?;
+    Ok(Inode::read_valid(content, place.inode_offset(n)))
 }
 
 /// Writes inode n into the table, whatever it was. The image need not be consistent, as where sectors of the inode have
@@ -92,6 +111,34 @@ pub fn save<S: Sectors>(s: &mut S, place: Place, n: u32, inode: &Inode) -> Resul
 {
     write_inode(s, place, n, inode)?;
     Ok(())
+}
+
+/// Saves inode n with other times. The content is that of its sector, and becomes what that has then.
+pub fn save_times<S: Sectors>(
+    s: &mut S,
+    place: Place,
+    n: u32,
+    inode: &Inode,
+    content: &mut [u8; 512],
+)
+    requires sound { IsSound place (S.state s.old) }
+    requires below { n < place.inodes }
+    requires times { DiffersInTimes (inode_at place (S.state s.old).sectors n) inode.now }
+    requires fits { FitsInode inode.now }
+    requires spare { HasSpare place 1 (S.state s.old) }
+    requires content { content.old ≡ (S.state s.old).sectors (place.table + n / 4) }
+    ensures store { SameStore (S.state s.old) (S.state s.new) }
+    ensures sound { IsSound place (S.state s.new) }
+    ensures touches { Touches place n 0 1 (S.state s.old) (S.state s.new) }
+    ensures saved { inode_at place (S.state s.new).sectors n ≡ inode.now }
+    ensures bytes { KeepsBytes (S.state s.old).sectors (S.state s.new).sectors
+        (inode_at place (S.state s.old).sectors n) (inode_at place (S.state s.new).sectors n) }
+    ensures acls { KeepsAcls (S.state s.old).sectors (S.state s.new).sectors
+        (inode_at place (S.state s.old).sectors n) (inode_at place (S.state s.new).sectors n) }
+    ensures used { bit (S.state s.new).sectors place.inode_bitmap n ≡ bit (S.state s.old).sectors place.inode_bitmap n }
+{
+    inode.write_times(content, place.inode_offset(n));
+    s.put(place.inode_sector(n), content);
 }
 
 /// Makes an inode, a file or a directory, which holds nothing: a free one gets the fields and takes the sectors that its

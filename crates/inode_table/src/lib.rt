@@ -8,8 +8,9 @@
 //!
 //! | Call | `get`s | `put`s |
 //! |---|---|---|
-//! | [`load`] | 1 | 0 |
+//! | [`load`], [`load_with_content`] | 1 | 0 |
 //! | [`write_inode`], [`save`] | 1 | 1 |
+//! | [`save_times`] | 0 | 1 |
 //! | [`new_inode`] | 2, and `b` for each ACL that takes a sector | 2, and 2 for each of these |
 //! | [`free_inode`] | 3, and 1 for each ACL sector | 2, and 1 for each of these |
 //! | [`give_sector`] | 1 where there is a sector, else 0 | the same |
@@ -28,5 +29,5 @@ mod stored;
 
 pub use acls::{load_acl, load_default_acl, save_acl, save_default_acl};
 pub use faults::LoadAclFault;
-pub use inodes::{free_inode, load, new_inode, save, write_inode};
+pub use inodes::{free_inode, load, load_with_content, new_inode, save, save_times, write_inode};
 pub use stored::give_sector;
