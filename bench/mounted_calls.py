@@ -316,20 +316,20 @@ def random_calls(mounted, told, seed, count):
         mounted.fresh()
         mounted.begin()
         for tree in range(6):
-            done = one_tree(mounted, told, choice, tree, done, min(done + 500, count))
+            done = one_tree(mounted, told, choice, tree, done, min(done + 500, count), tree % 3 == 1)
         mounted.end()
         if not mounted.check().startswith('clean '):
             told.fault(f'the image after random calls of seed {seed}: {mounted.check()}')
 
 
-def one_tree(mounted, told, choice, tree, done, last):
-    """Makes the calls from one number to another: the number of the next one."""
+def one_tree(mounted, told, choice, tree, done, last, watched):
+    """Makes the calls from one number to another, the times being looked at or not: the number of the next one."""
     sides = [side / str(tree) for side in mounted.sides()]
     for side in sides:
         side.mkdir()
         side.chmod(0o777)
     choice.there = []
-    watch = Watch(sides) if tree % 3 == 1 else None
+    watch = Watch(sides) if watched else None
     workers = {user: Worker(user, perform) for user in WHO}
     try:
         for user, name, *words in choice.calls():

@@ -10,11 +10,13 @@ import random
 import signal
 import time
 
-from mounted_stamps import Spans, stamps_of, statuses, times_of
-from mounts import Worker, attempt, tree_of
+from mounted_stamps import Spans, stamps_of, statuses
+from mounts import Worker, attempt, other_nodes, tree_of
 
 Killed = collections.namedtuple('Killed', 'answers synced noted span')
 Made = collections.namedtuple('Made', 'states answers moved')
+Noted = collections.namedtuple('Noted', 'number stamps')
+ENDED = 'ENOTCONN', 'ECONNABORTED', 'EIO'  # what is answered where the server has ended
 NAMES = [f'{folder}{name}' for folder in ('', 'd/', 'e/') for name in 'abcdef']
 
 
@@ -66,11 +68,16 @@ def work_of(dice):
             ('chmod', path, dice.choice([0o644, 0o600, 0o755])), ('touch', path)])
 
 
-def perform_watched(root, change):
-    """Makes a change in the directory: its answer, and the times that it sets."""
+def noted_of(root):
+    """The number and the times of all paths of a tree."""
+    return {path: Noted(seen.st_ino, stamps_of(seen)) for path, seen in statuses(root).items()}
+
+
+def watched(root, make):
+    """Has a change made in a directory: its answer, and the times that it sets to the present one."""
     spans = Spans()
     spans.begin('it')
-    answer = perform(root, *change)
+    answer = make()
     spans.end()
     told = {path: spans.all_told(seen) for path, seen in statuses(root).items()}
     return answer, {(path, field) for path, fields in told.items() for field, call in fields.items() if call == 'it'}
@@ -83,7 +90,7 @@ def states_of(root, work, first):
         if number >= first:
             states[number] = tree_of(root)
         if number == len(work) - 1:
-            answer, moved = perform_watched(root, work[number])
+            answer, moved = watched(root, lambda: perform(root, *work[number]))
             answers.append(answer)
         elif number < len(work):
             answers.append(perform(root, *work[number]))
@@ -108,13 +115,13 @@ def killed(mounted, worker, work, seconds):
     the times before each change if they are kept, and from when to when the last one may have been made."""
     answers, synced, noted, server, began = [], 0, [], mounted.server(), 0
     for number, change in enumerate(work):
-        noted.append(times_of(mounted.mount) if mounted.keeps_times() else None)
+        noted.append(noted_of(mounted.mount) if mounted.keeps_times() else None)
         began = time.time_ns()
         worker.send(mounted.mount, *change)
         if number == len(work) - 1:
             end_at(server, seconds)
         answer = worker.answer()
-        if answer in ('ENOTCONN', 'ECONNABORTED', 'EIO'):
+        if answer in ENDED:
             break
         answers.append(answer)
         if change[0] == 'write' and change[-1] and answer is None:
@@ -166,47 +173,42 @@ def judge(mounted, told, text, work, seen):
         told.fault(f'{text}: other answers than in the directory')
     if not recovered(mounted, told, text):
         return None
-    found, stamps = tree_of(mounted.mount), times_of(mounted.mount)
+    at = fitting(mounted.mount, told, text, made, seen, mounted.keeps_times())
     mounted.end()
+    return at
+
+
+def fitting(root, told, text, made, seen, timed):
+    """After how many changes there was the tree that is there now, with its times, if any are kept."""
+    found, noted = tree_of(root), noted_of(root)
     right = [number for number, state in made.states.items() if state == found]
     if not right:
-        told.fault(f'{text}: the tree is none of those behind the last sync, {min(made.states)} changes, and those that followed')
+        told.fault(f'{text}: the tree is none of those behind the last sync, {min(made.states)} changes, and those that followed; beside '
+                   f'the last of them: {list(other_nodes(found, made.states[max(made.states)]))[:4]}')
         return None
-    if not mounted.keeps_times():
-        return right[-1]
-    timed = [number for number in right if has_times_behind(stamps, number, work, made, seen)]
-    if not timed:
+    fits = [number for number in right if not timed or has_times_behind(noted, number, made, seen)]
+    if not fits:
         told.fault(f'{text}: the tree is that behind {right[-1]} changes, and the times are others: '
-                   f'{other_times(stamps, seen.noted, right[-1])}')
-        return right[-1]
-    return timed[-1]
+                   f'{other_times(noted, seen.noted, right[-1])}')
+    return (fits or right)[-1]
 
 
-def place_before(path, change, answer):
-    """Where that stood before a change which has a path now."""
-    name, *paths = change[:3]
-    if name in ('rename', 'link') and answer is None and (path == paths[1] or path.startswith(f'{paths[1]}/')):
-        return paths[0] + path[len(paths[1]):]
-    return path
-
-
-def has_times_behind(stamps, number, work, made, seen):
+def has_times_behind(noted, number, made, seen):
     """Whether a tree's times are those behind so many changes."""
     if number < len(seen.noted):
-        return stamps == seen.noted[number]
+        return noted == seen.noted[number]
     # The last one, answered or not: what it sets has one time, at which it was made, and all else has the times that it had.
-    before = {path: seen.noted[-1].get(place_before(path, work[-1], made.answers[-1]), {}) for path in stamps}
-    stayed = [before[path].get(field) == stamp for path, fields in stamps.items() for field, stamp in fields.items()
+    before = dict(seen.noted[-1].values())
+    stayed = [before.get(one.number, {}).get(field) == stamp for path, one in noted.items() for field, stamp in one.stamps.items()
               if (path, field) not in made.moved]
-    moment = {stamps[path][field] for path, field in made.moved}
+    moment = {noted[path].stamps[field] for path, field in made.moved}
     return all(stayed) and len(moment) <= 1 and all(seen.span[0] <= stamp <= seen.span[1] for stamp in moment)
 
 
-def other_times(stamps, noted, number):
-    """Some of the times that differ from those behind so many changes, or from those behind the change before."""
-    before = noted[min(number, len(noted) - 1)]
-    return [(path, field, stamp, before.get(path, {}).get(field)) for path, fields in sorted(stamps.items())
-            for field, stamp in fields.items() if before.get(path, {}).get(field) != stamp][:4]
+def other_times(noted, before, number):
+    """Some of the numbers and times that differ from those behind so many changes, or from those behind the change before."""
+    before = before[min(number, len(before) - 1)]
+    return [(path, *one, before.get(path)) for path, one in sorted(noted.items()) if one != before.get(path)][:4]
 
 
 # ---- writes of a whole file, which a commit divides
