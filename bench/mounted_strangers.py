@@ -95,11 +95,24 @@ def refused(mounted, options):
     return said.returncode, said.stderr.strip().rsplit(': ', 1)[-1]
 
 
+# What mount(8) hands on at a remount besides what is asked: what it has seen of the mount.
+SEEN = 'rw,nosuid,nodev,relatime,user_id=0,group_id=0,default_permissions,allow_other,max_read=1048576,uhelper=fuse.inofs'
+
+
+def flags_of(mounted):
+    """What the kernel's list says of the mount."""
+    return {flag for line in pathlib.Path('/proc/self/mountinfo').read_text().splitlines() if line.split()[4] == str(mounted.mount)
+            for flag in line.split()[5].split(',')}
+
+
 def options(mounted, told):
-    flags = next(line.split()[5] for line in pathlib.Path('/proc/self/mountinfo').read_text().splitlines()
-                 if line.split()[4] == str(mounted.mount))
-    told.compare('options', 'suid,dev', None, {'nosuid', 'nodev'} <= set(flags.split(',')), True)
-    told.compare('options', 'remount,own_rules', None, refused(mounted, 'remount,own_rules'), (32, 'stays as it is until the next mount'))
+    told.compare('options', 'suid,dev', None, {'nosuid', 'nodev'} <= flags_of(mounted), True)
+    for option in ('commit=77', 'denials=/dev/null', 'user_id=7'):
+        told.compare('options', f'remount,{option}', None, refused(mounted, f'remount,{option}'), (32, 'stays as it is until the next mount'))
+    for words in (SEEN, ','.join(mounted.options)):
+        for flag in ('ro', 'rw'):
+            seen = refused(mounted, f'{words},remount,{flag}'), flag in flags_of(mounted)
+            told.compare('options', f'remount,{flag} beside {words.split(",")[:3]}', None, seen, ((0, ''), True))
     mode = stat.S_IMODE((mounted.folder / 'denials').stat().st_mode)
     told.compare('options', 'the mode of the file for denials', None, oct(mode), '0o600')
 
