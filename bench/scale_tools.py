@@ -120,10 +120,18 @@ def clones(turn):
 
 # ---- rsync
 
-def rsync(source, copy):
+def rsync(source, copy, options='-a'):
     """How many files it copies, and all that it does."""
-    done = command('rsync', '-a', '--itemize-changes', f'{source}/', f'{copy}/')
+    done = command('rsync', options, '--itemize-changes', f'{source}/', f'{copy}/')
     return sum(line.startswith('>f') for line in done.splitlines()), done
+
+
+def change_some(source):
+    """Changes one file of twenty: which."""
+    changed = sorted(path for path in source.glob('*/f*') if not path.is_symlink())[::20]
+    for path in changed:
+        path.write_bytes(path.read_bytes()[::-1] + b'changed')
+    return changed
 
 
 def copies(turn):
@@ -146,15 +154,41 @@ def copies(turn):
 
 
 def copy_changes(turn, source, copy):
-    """Changes one file of twenty of the source, and copies these."""
-    changed = sorted(path for path in source.glob('*/*') if not path.is_symlink())[::20]
-    for path in changed:
-        path.write_bytes(path.read_bytes()[::-1] + b'changed')
+    """Copies what has changed."""
+    changed = change_some(source)
     with turn.timed('again where one file of twenty has changed'):
         turn.same('files that rsync copies where some have changed', rsync(source, copy)[0], len(changed))
     compare_trees(turn, 'copied where some have changed', copy, source)
     turn.again()
     compare_trees(turn, 'those that have changed, after a mount', copy, source)
+    turn.end()
+
+
+def backups(turn):
+    """From a tree with lists and hard links to a directory, once more where some has changed, and back to a new image."""
+    needs('rsync')
+    turn.start()
+    made, backup = turn.root / 'made', turn.once(f'backup of {turn.place.name}', lambda path: None)
+    made.mkdir()
+    make_tree(made, turn.part(COPIED), LISTS)
+    for path in sorted(made.glob('*/f*0')):
+        os.link(path, f'{path}.too')
+    with turn.timed('rsync -aHAX from it'):
+        rsync(made, backup, '-aHAX')
+    turn.again()
+    turn.same('backup again after a mount', rsync(made, backup, '-aHAX')[1], '')
+    changed = change_some(made)
+    with turn.timed('again where one file of twenty has changed'):
+        turn.same('files of the backup that have changed', rsync(made, backup, '-aHAX')[0], len(changed))
+    compare_trees(turn, 'backup', made, backup)
+    turn.end()
+    turn.start()
+    with turn.timed('back'):
+        rsync(backup, turn.root / 'made', '-aHAX')
+    compare_trees(turn, 'back', made, backup)
+    turn.again()
+    turn.same('back again after a mount', rsync(backup, made, '-aHAX')[1], '')
+    compare_trees(turn, 'back, after a mount', made, backup)
     turn.end()
 
 
@@ -246,4 +280,4 @@ def builds(turn):
     turn.end()
 
 
-ROWS = {'git': clones, 'rsync': copies, 'tar': archives, 'make': builds}
+ROWS = {'git': clones, 'rsync': copies, 'backup': backups, 'tar': archives, 'make': builds}
