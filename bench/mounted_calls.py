@@ -56,7 +56,15 @@ def change_mode(file, mode):
     return os.fchmod(file, mode) if os.fstat(file).st_nlink else 'nameless'
 
 
+def keeps_group_bit(path):
+    """Whether it is a directory with set-group-ID and who gives it a list isn't in its group: a difference is known then (15 in docs/MOUNT.md)."""
+    seen = os.stat(path)
+    return stat.S_ISDIR(seen.st_mode) and seen.st_mode & stat.S_ISGID and os.geteuid() and seen.st_gid not in (os.getegid(), *os.getgroups())
+
+
 def set_list(path, name, text):
+    if name == 'access' and text and keeps_group_bit(path):
+        return 'set-group-ID'
     return os.setxattr(path, ACLS[name], acl_bytes(text)) if text else os.removexattr(path, ACLS[name])
 
 
