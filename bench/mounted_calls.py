@@ -57,9 +57,10 @@ def change_mode(file, mode):
 
 
 def keeps_group_bit(path):
-    """Whether it is a directory with set-group-ID and who gives it a list isn't in its group: a difference is known then (15 in docs/MOUNT.md)."""
+    """Whether it is a directory with set-group-ID, and who gives it a list isn't in its group: 15 in docs/MOUNT.md is known then."""
     seen = os.stat(path)
-    return stat.S_ISDIR(seen.st_mode) and seen.st_mode & stat.S_ISGID and os.geteuid() and seen.st_gid not in (os.getegid(), *os.getgroups())
+    outside = os.geteuid() and seen.st_gid not in (os.getegid(), *os.getgroups())
+    return stat.S_ISDIR(seen.st_mode) and seen.st_mode & stat.S_ISGID and outside
 
 
 def set_list(path, name, text):

@@ -107,8 +107,8 @@ def flags_of(mounted):
 
 def options(mounted, told):
     told.compare('options', 'suid,dev', None, {'nosuid', 'nodev'} <= flags_of(mounted), True)
-    for option in ('commit=77', 'denials=/dev/null', 'user_id=7'):
-        told.compare('options', f'remount,{option}', None, refused(mounted, f'remount,{option}'), (32, 'stays as it is until the next mount'))
+    for option in ('remount,commit=77', 'remount,denials=/dev/null', 'remount,user_id=7'):
+        told.compare('options', option, None, refused(mounted, option), (32, 'stays as it is until the next mount'))
     for words in (SEEN, ','.join(mounted.options)):
         for flag in ('ro', 'rw'):
             seen = refused(mounted, f'{words},remount,{flag}'), flag in flags_of(mounted)
