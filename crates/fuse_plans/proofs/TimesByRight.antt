@@ -408,8 +408,8 @@ module _ (r : Request) (s : Server) where
         choose true false atime mtime = leads-stop _
         choose false b atime mtime = leads-stop _
 
-    is_present : (now : Time) (new : Option NewTime) → is_now new ≡ true → IsPresent now (stamp_set now new)
-    is_present now None is = tt
+    is_present : (now : Time) (new : Option NewTime) → is_now new ≡ true → stamp_set now new ≡ Some (stamp_of now)
+    is_present now None is = absurd (let no : false ≡ true = is in cc)
     is_present now (Some Now) is = refl
     is_present now (Some (At seconds nanoseconds)) is = absurd (let no : false ≡ true = is in cc)
 

@@ -89,9 +89,10 @@ set_mode now pid n (Some mode) = do
   on pid n (λ path. Chmod path (bit_and mode 0o7777))
   keep (changed now n)
 
+-- it is set to the present
 abbrev pub is_now : Option NewTime → Bool
-is_now (Some (At seconds nanoseconds)) = false
-is_now _ = true
+is_now (Some Now) = true
+is_now new = false
 
 -- The owner may, and who counts as owner; and who may write may set both to the present time.
 abbrev pub may_set_times : ℕ → ℕ → Bool → Bool → AttrChanges → Work (Unit {0})

@@ -34,10 +34,10 @@ pub data IsOfWhoAsks (r : Request) (s : Server) (pid : ℕ) (es : List Event) (r
   has_begun : (cred : Credential) (after : List Event) → r.cred ≡ Some cred → IsAsked (Spawn cred) (Pid pid) after es replies
       → IsOfWhoAsks r s pid es replies
 
--- Who asks counts as the owner that was shown; or only the present is set, and access(2) hasn't refused them to write.
+-- Who asks counts as the owner that was shown; or both are set to the present, and access(2) hasn't refused them to write.
 pub data MaySet (r : Request) (s : Server) (status : Status) (atime mtime : Option ℕ) (es : List Event) (replies : List Reply) : Type 0 where
   owns : (cred : Credential) → r.cred ≡ Some cred → IsTrue (counts_as_owner cred status.owner) → MaySet r s status atime mtime es replies
-  may_write : (pid : ℕ) (path : List ℕ) (reply : Reply) (after : List Event) → IsPresent r.now atime → IsPresent r.now mtime
+  may_write : (pid : ℕ) (path : List ℕ) (reply : Reply) (after : List Event) → atime ≡ Some (stamp_of r.now) → mtime ≡ Some (stamp_of r.now)
       → IsOfWhoAsks r s pid es replies → IsAsked (Calls pid (Access path (perms_of 2))) reply after es replies → refusal_in reply ≡ None
       → MaySet r s status atime mtime es replies
 

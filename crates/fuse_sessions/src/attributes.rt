@@ -45,11 +45,11 @@ fn owners_stay(changes: &AttrChanges, status: Status) -> Result<(Option<u32>, Op
     }
 }
 
-// Whether the new time is the present one, or there is none.
+// Whether a time is set to the present.
 fn is_now(time: Option<NewTime>) -> bool
     ensures { result ≡ is_now time }
 {
-    !matches!(time, Some(NewTime::At { .. }))
+    matches!(time, Some(NewTime::Now))
 }
 
 // Whether who asks counts as the owner.
