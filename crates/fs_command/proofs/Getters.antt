@@ -8,7 +8,7 @@ use Rattle.clap.specs.Takes.{is_given}
 use Rattle.clap.specs.Values.{bool_text}
 use Rattle.clap.specs.declared.parser.matches.Found.{Found}
 use Rattle.clap.proofs.WalkLemmas.{first_value-rows, one_text-rows}
-use Rattle.fs_command.specs.Words.{IsFlag, IsGiven, IsNumberGiven, IsNumberFor, IsNumberIfGiven, IsNumberOr}
+use Rattle.fs_command.specs.Words.{IsFlag, IsGiven, IsNumberGiven, IsNumberFor, IsNumberIfAny, IsNumberIfGiven, IsNumberOr}
 
 is_some_of : {X : Type 0} (r : Option X) (x : X) → r ≡ Some x → IsSome r
 is_some_of r x h = rw h refl
@@ -62,6 +62,19 @@ module _ {E : Type 0} (G : List ℕ → Result ℕ E → Type 0) (only : (u : Li
           let number : IsNumberFor least most (Some t) given.0 = subst (λ (o : Option Text). IsNumberFor least most o given.0) e given.1 in
           let n_is = one_number least most (Some t) r (λ u h. reads u (one_text-rows f id ∙ e ∙ h)) fits given.0 number in
           subst (λ (m : ℕ). IsNumberFor least most (Some t) m) (sym (got ∙ ap (λ (x : Option ℕ). unwrap_or x usual) n_is)) number
+
+  pub number_if_any : (least most : ℕ) (f : Found) (id : Text) (r : Option ℕ) → (one_text f id ≡ None → r ≡ None)
+      → ((t : Text) → one_text f id ≡ Some t → ReadsOne G t r) → most < 2 ^ 32 → IsNumberIfGiven least most id (rows_of f)
+      → IsNumberIfAny least most (one_of id (rows_of f)) r
+  number_if_any least most f id r none reads fits is = go (one_of id (rows_of f)) refl
+    where
+      go : (o : Option Text) → one_of id (rows_of f) ≡ o → IsNumberIfAny least most o r
+      go None e = none (one_text-rows f id ∙ e)
+      go (Some t) e =
+          let given = is t e in
+          let number : IsNumberFor least most (Some t) given.0 = subst (λ (o : Option Text). IsNumberFor least most o given.0) e given.1 in
+          let n_is = one_number least most (Some t) r (λ u h. reads u (one_text-rows f id ∙ e ∙ h)) fits given.0 number in
+          subst (λ (x : Option ℕ). IsNumberIfAny least most (Some t) x) (sym n_is) number
 
 -- `get_flag`
 pub flag_is : (f : Found) (id : Text) (r : Bool) → (one_text f id ≡ None → r ≡ false) → (one_text f id ≡ Some (codes "true") → r ≡ true)

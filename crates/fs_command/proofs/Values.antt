@@ -35,19 +35,40 @@ mkfs_sound = ((refl, inl (refl, refl, refl)), ((refl, inl (refl, refl, refl)), (
 format_sound : Each (Sound (leaf 1).rules) (leaf 1).rules
 format_sound = ((refl, inl (refl, refl, refl)), ((refl, inl (refl, refl, refl)), ((refl, inl (refl, refl, refl)), ((refl, inr (inr (refl, refl))), tt))))
 
-run_sound : Each (Sound (leaf 2).rules) (leaf 2).rules
+pack_sound : Each (Sound (leaf 2).rules) (leaf 2).rules
+pack_sound = (
+  (refl, inl (refl, refl, refl)),
+  (
+    (refl, inl (refl, refl, refl)),
+    (
+      (refl, inl (refl, refl, refl)),
+      (
+        (refl, inl (refl, refl, refl)),
+        (
+          (refl, inl (refl, refl, refl)),
+          ((refl, inl (refl, refl, refl)), ((refl, inr (inr (refl, refl))), tt)),
+        ),
+      ),
+    ),
+  ),
+)
+
+unpack_sound : Each (Sound (leaf 3).rules) (leaf 3).rules
+unpack_sound = ((refl, inl (refl, refl, refl)), ((refl, inl (refl, refl, refl)), ((refl, inr (inr (refl, refl))), tt)))
+
+run_sound : Each (Sound (leaf 4).rules) (leaf 4).rules
 run_sound = ((refl, inl (refl, refl, refl)), ((refl, inl (refl, refl, refl)), ((refl, inr (inr (refl, refl))), tt)))
 
-check_sound : Each (Sound (leaf 3).rules) (leaf 3).rules
+check_sound : Each (Sound (leaf 5).rules) (leaf 5).rules
 check_sound = ((refl, inl (refl, refl, refl)), ((refl, inr (inl (refl, refl, refl, refl, refl, refl))), ((refl, inr (inr (refl, refl))), tt)))
 
-info_sound : Each (Sound (leaf 4).rules) (leaf 4).rules
+info_sound : Each (Sound (leaf 6).rules) (leaf 6).rules
 info_sound = ((refl, inl (refl, refl, refl)), ((refl, inr (inl (refl, refl, refl, refl, refl, refl))), ((refl, inr (inr (refl, refl))), tt)))
 
-upgrade_sound : Each (Sound (leaf 5).rules) (leaf 5).rules
+upgrade_sound : Each (Sound (leaf 7).rules) (leaf 7).rules
 upgrade_sound = ((refl, inl (refl, refl, refl)), ((refl, inr (inr (refl, refl))), tt))
 
-fuse_sound : Each (Sound (leaf 6).rules) (leaf 6).rules
+fuse_sound : Each (Sound (leaf 8).rules) (leaf 8).rules
 fuse_sound = ((refl, inl (refl, refl, refl)), ((refl, inl (refl, refl, refl)), ((refl, inr (inl (refl, refl, refl, refl, refl, refl))), ((refl, inr (inr (refl, refl))), tt))))
 
 mkfs_has : HasAll (leaf 0)
@@ -66,36 +87,63 @@ format_has words fault =
     let inodes = (leaf_texts (leaf 1) words format_sound fault).1.1.0 in
     inr (inl (refl, (image.0, image.1), (size.0, size.1), λ text is. counted 16 1048576 _ (inodes text is).0 (is ∙ ap Some (inodes text is).1) (inodes text is).2))
 
-run_has : HasAll (leaf 2)
+pack_has : HasAll (leaf 2)
+pack_has words fault =
+    let values = leaf_values (leaf 2) words pack_sound refl fault in
+    let texts = leaf_texts (leaf 2) words pack_sound fault in
+    let image = values.0 refl in
+    let from = values.1.0 refl in
+    let size = values.1.1.0 refl in
+    let inodes = texts.1.1.1.0 in
+    let user = texts.1.1.1.1.0 in
+    let group = texts.1.1.1.1.1.0 in
+    inr (inr (inl (
+      refl,
+      (image.0, image.1),
+      (from.0, from.1),
+      (size.0, size.1),
+      (λ text is. counted 16 1048576 _ (inodes text is).0 (is ∙ ap Some (inodes text is).1) (inodes text is).2),
+      (λ text is. counted 0 4294967295 _ (user text is).0 (is ∙ ap Some (user text is).1) (user text is).2),
+      (λ text is. counted 0 4294967295 _ (group text is).0 (is ∙ ap Some (group text is).1) (group text is).2),
+    )))
+
+unpack_has : HasAll (leaf 3)
+unpack_has words fault =
+    let values = leaf_values (leaf 3) words unpack_sound refl fault in
+    let image = values.0 refl in
+    let to = values.1.0 refl in
+    inr (inr (inr (inl (refl, (image.0, image.1), (to.0, to.1)))))
+
+run_has : HasAll (leaf 4)
 run_has words fault =
-    let image = (leaf_values (leaf 2) words run_sound refl fault).0 refl in
-    inr (inr (inl (refl, (image.0, image.1))))
+    let image = (leaf_values (leaf 4) words run_sound refl fault).0 refl in
+    inr (inr (inr (inr (inl (refl, (image.0, image.1))))))
 
-check_has : HasAll (leaf 3)
+check_has : HasAll (leaf 5)
 check_has words fault =
-    let image = (leaf_values (leaf 3) words check_sound refl fault).0 refl in
-    let explain = (leaf_flags (leaf 3) words check_sound fault).1.0 (refl, refl, refl, refl, refl, refl) in
-    inr (inr (inr (inl (refl, (image.0, image.1), explain))))
+    let image = (leaf_values (leaf 5) words check_sound refl fault).0 refl in
+    let explain = (leaf_flags (leaf 5) words check_sound fault).1.0 (refl, refl, refl, refl, refl, refl) in
+    inr (inr (inr (inr (inr (inl (refl, (image.0, image.1), explain))))))
 
-info_has : HasAll (leaf 4)
+info_has : HasAll (leaf 6)
 info_has words fault =
-    let image = (leaf_values (leaf 4) words info_sound refl fault).0 refl in
-    let json = (leaf_flags (leaf 4) words info_sound fault).1.0 (refl, refl, refl, refl, refl, refl) in
-    inr (inr (inr (inr (inl (refl, (image.0, image.1), json)))))
+    let image = (leaf_values (leaf 6) words info_sound refl fault).0 refl in
+    let json = (leaf_flags (leaf 6) words info_sound fault).1.0 (refl, refl, refl, refl, refl, refl) in
+    inr (inr (inr (inr (inr (inr (inl (refl, (image.0, image.1), json)))))))
 
-upgrade_has : HasAll (leaf 5)
+upgrade_has : HasAll (leaf 7)
 upgrade_has words fault =
-    let image = (leaf_values (leaf 5) words upgrade_sound refl fault).0 refl in
-    inr (inr (inr (inr (inr (inl (refl, (image.0, image.1)))))))
+    let image = (leaf_values (leaf 7) words upgrade_sound refl fault).0 refl in
+    inr (inr (inr (inr (inr (inr (inr (inl (refl, (image.0, image.1)))))))))
 
-fuse_has : HasAll (leaf 6)
+fuse_has : HasAll (leaf 8)
 fuse_has words fault =
-    let image = (leaf_values (leaf 6) words fuse_sound refl fault).0 refl in
-    let own_rules = (leaf_flags (leaf 6) words fuse_sound fault).1.1.0 (refl, refl, refl, refl, refl, refl) in
-    inr (inr (inr (inr (inr (inr (refl, (image.0, image.1), own_rules))))))
+    let image = (leaf_values (leaf 8) words fuse_sound refl fault).0 refl in
+    let own_rules = (leaf_flags (leaf 8) words fuse_sound fault).1.1.0 (refl, refl, refl, refl, refl, refl) in
+    inr (inr (inr (inr (inr (inr (inr (inr (refl, (image.0, image.1), own_rules))))))))
 
 each_has : Each HasAll (built command_line).subs
-each_has = (mkfs_has, (format_has, (run_has, (check_has, (info_has, (upgrade_has, (fuse_has, tt)))))))
+each_has = (mkfs_has, (format_has, (pack_has, (unpack_has, (run_has, (check_has, (info_has, (upgrade_has, (fuse_has, tt)))))))))
 
 entered_has : (stop : Option (Text × List Text)) → entered_fault (built command_line) stop ≡ [] → HasValues (entered (built command_line) stop)
 entered_has None fault = tt

@@ -15,7 +15,7 @@ use Rattle.clap.specs.declared.error.kind.ErrorKind.{ErrorKind}
 use Rattle.clap.specs.declared.error.kind.ErrorKind.TheVariants as kind
 use Rattle.fs_command.specs.Sizes.{IsNoSize, IsSize, usual_inodes}
 use Rattle.fs_command.specs.declared.words.Job.{Job}
-use Rattle.fs_command.specs.declared.words.Job.TheVariants.{Memory, Mkfs, Format, Run, Check, Info, Upgrade, Fuse}
+use Rattle.fs_command.specs.declared.words.Job.TheVariants.{Memory, Mkfs, Format, Pack, Unpack, Run, Check, Info, Upgrade, Fuse}
 use Rattle.fs_command.specs.declared.words.WordsFault.{WordsFault}
 use Rattle.fs_command.specs.declared.words.WordsFault.TheVariants.{Help, BadWords, BadSize, OutOfMemory}
 use Rattle.fs_command.specs.declared.status.Status.{Status}
@@ -26,6 +26,10 @@ use Rattle.fs_command.specs.declared.status.Status.TheVariants as statuses
 -- the path of the image has to be given
 abbrev pub image : Rule
 image = record (new_rule (codes "IMAGE")) { required = true }
+
+-- the path of the directory has to be given
+abbrev pub directory : Rule
+directory = record (new_rule (codes "DIR")) { required = true }
 
 -- the argument has to be given
 abbrev pub needed : Rule → Rule
@@ -51,6 +55,14 @@ abbrev pub format : App
 format = with_rule (with_rule (with_rule (new_app (codes "format")) image)
     (needed (text_option (codes "size")))) (number_option (codes "inodes") 16 1048576)
 
+abbrev pub pack : App
+pack = with_rule (with_rule (with_rule (with_rule (with_rule (with_rule (new_app (codes "pack")) image) directory)
+    (needed (text_option (codes "size")))) (number_option (codes "inodes") 16 1048576))
+    (number_option (codes "uid") 0 4294967295)) (number_option (codes "gid") 0 4294967295)
+
+abbrev pub unpack : App
+unpack = with_rule (with_rule (new_app (codes "unpack")) image) directory
+
 abbrev pub run : App
 run = with_rule (with_rule (new_app (codes "run")) image) (new_rule (codes "SCRIPT"))
 
@@ -73,8 +85,9 @@ alone = record (new_app (codes "inofs")) {
 }
 
 abbrev pub command_line : App
-command_line = with_subcommand (with_subcommand (with_subcommand (with_subcommand (with_subcommand (with_subcommand (with_subcommand alone
-    mkfs.top) format.top) run.top) check.top) info.top) upgrade.top) fuse.top
+command_line = with_subcommand (with_subcommand (with_subcommand (with_subcommand (with_subcommand (with_subcommand (with_subcommand
+    (with_subcommand (with_subcommand alone
+    mkfs.top) format.top) pack.top) unpack.top) run.top) check.top) info.top) upgrade.top) fuse.top
 
 -- ---- what it reads
 
@@ -88,6 +101,12 @@ IsNumberFor least most (Some text) n =
 abbrev pub IsNumberOr : ℕ → ℕ → ℕ → Option Text → ℕ → Type 0
 IsNumberOr usual least most None n = n ≡ usual
 IsNumberOr usual least most (Some text) n = IsNumberFor least most (Some text) n
+
+-- there is a text just where there is a number, and it says it
+abbrev pub IsNumberIfAny : ℕ → ℕ → Option Text → Option ℕ → Type 0
+IsNumberIfAny least most None n = n ≡ None
+IsNumberIfAny least most (Some text) None = ⊥
+IsNumberIfAny least most (Some text) (Some n) = IsNumberFor least most (Some text) n
 
 -- the text says a size of so many sectors
 abbrev pub IsSizeFor : Option Text → ℕ → Type 0
@@ -106,6 +125,18 @@ SaysFormat rows (Format image sectors inodes) = (first_of (codes "IMAGE") rows �
     × IsSizeFor (first_of (codes "size") rows) sectors
     × IsNumberOr (usual_inodes sectors) 16 1048576 (one_of (codes "inodes") rows) inodes
 SaysFormat rows job = ⊥
+
+abbrev pub SaysPack : List Row → Job → Type 0
+SaysPack rows (Pack image from sectors inodes user group) = (first_of (codes "IMAGE") rows ≡ Some image) × (first_of (codes "DIR") rows ≡ Some from)
+    × IsSizeFor (first_of (codes "size") rows) sectors
+    × IsNumberOr (usual_inodes sectors) 16 1048576 (one_of (codes "inodes") rows) inodes
+    × IsNumberIfAny 0 4294967295 (one_of (codes "uid") rows) user
+    × IsNumberIfAny 0 4294967295 (one_of (codes "gid") rows) group
+SaysPack rows job = ⊥
+
+abbrev pub SaysUnpack : List Row → Job → Type 0
+SaysUnpack rows (Unpack image to) = (first_of (codes "IMAGE") rows ≡ Some image) × (first_of (codes "DIR") rows ≡ Some to)
+SaysUnpack rows job = ⊥
 
 abbrev pub SaysRun : List Row → Job → Type 0
 SaysRun rows (Run image script) = (first_of (codes "IMAGE") rows ≡ Some image) × (first_of (codes "SCRIPT") rows ≡ script)
@@ -134,6 +165,9 @@ SaysJob named Memory = named ≡ None
 SaysJob named (Mkfs image sectors inodes) = (rows : List Row) × (named ≡ Some (codes "mkfs", rows)) × SaysMkfs rows (Mkfs image sectors inodes)
 SaysJob named (Format image sectors inodes) =
     (rows : List Row) × (named ≡ Some (codes "format", rows)) × SaysFormat rows (Format image sectors inodes)
+SaysJob named (Pack image from sectors inodes user group) =
+    (rows : List Row) × (named ≡ Some (codes "pack", rows)) × SaysPack rows (Pack image from sectors inodes user group)
+SaysJob named (Unpack image to) = (rows : List Row) × (named ≡ Some (codes "unpack", rows)) × SaysUnpack rows (Unpack image to)
 SaysJob named (Run image script) = (rows : List Row) × (named ≡ Some (codes "run", rows)) × SaysRun rows (Run image script)
 SaysJob named (Check image explain) = (rows : List Row) × (named ≡ Some (codes "check", rows)) × SaysCheck rows (Check image explain)
 SaysJob named (Info image json) = (rows : List Row) × (named ≡ Some (codes "info", rows)) × SaysInfo rows (Info image json)
@@ -164,9 +198,10 @@ HasBadSize rows BadSize = (text : Text) × (first_of (codes "size") rows ≡ Som
 HasBadSize rows OutOfMemory = Unit {0}
 HasBadSize rows fault = ⊥
 
--- the command is `format`, and its size is none in range; memory may run out at any command
+-- the command is `format` or `pack`, and its size is none in range; memory may run out at any command
 abbrev pub HasBadValue : Option (Text × List Row) → WordsFault → Type 0
-HasBadValue named BadSize = (rows : List Row) × (named ≡ Some (codes "format", rows)) × HasBadSize rows BadSize
+HasBadValue named BadSize =
+    (rows : List Row) × ((named ≡ Some (codes "format", rows)) ⊎ (named ≡ Some (codes "pack", rows))) × HasBadSize rows BadSize
 HasBadValue named OutOfMemory = Unit {0}
 HasBadValue named fault = ⊥
 
@@ -202,17 +237,21 @@ IsNumberIfGiven least most id rows = (text : Text) → one_of id rows ≡ Some t
 abbrev pub IsFlag : Text → List Row → Type 0
 IsFlag id rows = (one_of id rows ≡ Some (bool_text (is_given id rows))) ⊎ ((one_of id rows ≡ None) × (is_given id rows ≡ false))
 
--- the command is one of the seven, and has the values that have to be given
+-- the command is one of the nine, and has the values that have to be given
 abbrev pub IsWhole : Text × List Row → Type 0
 IsWhole named = ((named.0 ≡ codes "mkfs") × IsGiven (codes "IMAGE") named.1
     × IsNumberGiven 1024 65536 (codes "sectors") named.1 × IsNumberGiven 16 4096 (codes "inodes") named.1)
     ⊎ (((named.0 ≡ codes "format") × IsGiven (codes "IMAGE") named.1
     × IsGiven (codes "size") named.1 × IsNumberIfGiven 16 1048576 (codes "inodes") named.1)
+    ⊎ (((named.0 ≡ codes "pack") × IsGiven (codes "IMAGE") named.1 × IsGiven (codes "DIR") named.1
+    × IsGiven (codes "size") named.1 × IsNumberIfGiven 16 1048576 (codes "inodes") named.1
+    × IsNumberIfGiven 0 4294967295 (codes "uid") named.1 × IsNumberIfGiven 0 4294967295 (codes "gid") named.1)
+    ⊎ (((named.0 ≡ codes "unpack") × IsGiven (codes "IMAGE") named.1 × IsGiven (codes "DIR") named.1)
     ⊎ (((named.0 ≡ codes "run") × IsGiven (codes "IMAGE") named.1)
     ⊎ (((named.0 ≡ codes "check") × IsGiven (codes "IMAGE") named.1 × IsFlag (codes "explain") named.1)
     ⊎ (((named.0 ≡ codes "info") × IsGiven (codes "IMAGE") named.1 × IsFlag (codes "json") named.1)
     ⊎ (((named.0 ≡ codes "upgrade") × IsGiven (codes "IMAGE") named.1)
-    ⊎ ((named.0 ≡ codes "fuse") × IsGiven (codes "IMAGE") named.1 × IsFlag (codes "own-rules") named.1))))))
+    ⊎ ((named.0 ≡ codes "fuse") × IsGiven (codes "IMAGE") named.1 × IsFlag (codes "own-rules") named.1))))))))
 
 abbrev pub HasValues : Option (Text × List Row) → Type 0
 HasValues None = Unit {0}

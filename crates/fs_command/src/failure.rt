@@ -6,6 +6,7 @@ use fs_info::InfoFault;
 use fs_shell::RunFault;
 use fs_system::MountFault;
 use fuse_serving::ServeFault;
+use host_trees::CopyFault;
 use thiserror::Error;
 
 /// Why a job wasn't done.
@@ -44,6 +45,12 @@ pub enum Failure {
     /// The run ended early.
     #[error("run: {0}")]
     Run(RunFault),
+    /// The tree of a directory was not copied to the image to the end.
+    #[error("pack: {0}")]
+    Pack(CopyFault),
+    /// The tree of the image was not copied to the end.
+    #[error("unpack: {0}")]
+    Unpack(CopyFault),
     /// The serving ended early, or didn't begin.
     #[error("fuse: {0}")]
     Serve(ServeFault),

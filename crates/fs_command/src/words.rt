@@ -1,10 +1,10 @@
 //! What the words of the command line ask for.
 ghost use Rattle.std.specs.Prelude.{◌≡◌, MatchResult, IfOk, [], codes, map, string_bytes, false};
 ghost use Rattle.clap.specs.Words.{app_of, found_of, rows_of, rule_of, fault_of, subcommand_rows_of};
-ghost use Rattle.fs_command.specs.Words.{command_line, alone, mkfs, format, run, check, info, upgrade, fuse};
-ghost use Rattle.fs_command.specs.Words.{image, needed, number_option, text_option, flag, words_status};
+ghost use Rattle.fs_command.specs.Words.{command_line, alone, mkfs, format, pack, unpack, run, check, info, upgrade, fuse};
+ghost use Rattle.fs_command.specs.Words.{image, directory, needed, number_option, text_option, flag, words_status};
 ghost use Rattle.fs_command.specs.Words.{HasValues, IsGiven, IsNumberGiven, IsNumberIfGiven, IsFlag, AsksFor, SaysJob, Refuses};
-ghost use Rattle.fs_command.specs.Words.{SaysMkfs, SaysFormat, SaysRun, SaysCheck, SaysInfo, SaysUpgrade, SaysFuse, HasBadSize, HasBadValue};
+ghost use Rattle.fs_command.specs.Words.{SaysMkfs, SaysFormat, SaysPack, SaysUnpack, SaysRun, SaysCheck, SaysInfo, SaysUpgrade, SaysFuse, HasBadSize, HasBadValue};
 
 use crate::size::{sectors_of_size, usual_inodes};
 use crate::status::Status;
@@ -21,6 +21,8 @@ const VERSION: &str = "0.1.0, layout 3";
 const USAGE: &str = "inofs
        inofs mkfs IMAGE --sectors N --inodes N
        inofs format IMAGE --size SIZE [--inodes N]
+       inofs pack IMAGE DIR --size SIZE [--inodes N] [--uid N] [--gid N]
+       inofs unpack IMAGE DIR
        inofs run IMAGE [SCRIPT]
        inofs check [--explain] IMAGE
        inofs info [--json] IMAGE
@@ -86,6 +88,28 @@ pub enum Job {
         sectors: u32,
         /// How many inodes, 0 too.
         inodes: u32,
+    },
+    /// To make an image of the third layout with the tree of a directory.
+    Pack {
+        /// The image's path.
+        image: Text,
+        /// The directory's path.
+        from: Text,
+        /// How many sectors of 512 bytes it has.
+        sectors: u32,
+        /// How many inodes, 0 too.
+        inodes: u32,
+        /// Whose all of it is; without one each object has the user that it has.
+        user: Option<u32>,
+        /// The group of all of it; without one each object has the group that it has.
+        group: Option<u32>,
+    },
+    /// To copy the tree of an image to a new directory.
+    Unpack {
+        /// The image's path.
+        image: Text,
+        /// The directory's path.
+        to: Text,
     },
     /// To run a script on an image.
     Run {
@@ -200,6 +224,12 @@ fn named_job(alloc: Global, matches: &ArgMatches<'_>) -> Result<Job, WordsFault>
     if let Some(matches) = matches.subcommand_matches("format") {
         return format_job(alloc, matches);
     }
+    if let Some(matches) = matches.subcommand_matches("pack") {
+        return pack_job(alloc, matches);
+    }
+    if let Some(matches) = matches.subcommand_matches("unpack") {
+        return Ok(unpack_job(alloc, matches)?);
+    }
     if let Some(matches) = matches.subcommand_matches("run") {
         return Ok(run_job(alloc, matches)?);
     }
@@ -251,6 +281,47 @@ fn format_job(alloc: Global, matches: &ArgMatches<'_>) -> Result<Job, WordsFault
         sectors,
         inodes,
     })
+}
+
+// The job of `pack`.
+fn pack_job(alloc: Global, matches: &ArgMatches<'_>) -> Result<Job, WordsFault>
+    requires image { IsGiven (codes "IMAGE") (rows_of (found_of matches.now)) }
+    requires from { IsGiven (codes "DIR") (rows_of (found_of matches.now)) }
+    requires size { IsGiven (codes "size") (rows_of (found_of matches.now)) }
+    requires inodes { IsNumberIfGiven 16 1048576 (codes "inodes") (rows_of (found_of matches.now)) }
+    requires user { IsNumberIfGiven 0 4294967295 (codes "uid") (rows_of (found_of matches.now)) }
+    requires group { IsNumberIfGiven 0 4294967295 (codes "gid") (rows_of (found_of matches.now)) }
+    ensures { MatchResult result (SaysPack (rows_of (found_of matches.now))) (HasBadSize (rows_of (found_of matches.now))) }
+{
+    let Some(sectors) = sectors_of_size(matches.get_str("size").unwrap()) else {
+        return Err(WordsFault::BadSize);
+    };
+    let inodes = matches
+        .get_one::<u32>("inodes")
+        .unwrap_or(usual_inodes(sectors));
+    let user = matches.get_one::<u32>("uid");
+    let group = matches.get_one::<u32>("gid");
+    let image = Text::new(alloc, matches.get_str("IMAGE").unwrap())?;
+    let from = Text::new(alloc, matches.get_str("DIR").unwrap())?;
+    Ok(Job::Pack {
+        image,
+        from,
+        sectors,
+        inodes,
+        user,
+        group,
+    })
+}
+
+// The job of `unpack`.
+fn unpack_job(alloc: Global, matches: &ArgMatches<'_>) -> Result<Job, AllocError>
+    requires image { IsGiven (codes "IMAGE") (rows_of (found_of matches.now)) }
+    requires to { IsGiven (codes "DIR") (rows_of (found_of matches.now)) }
+    ensures { IfOk result (SaysUnpack (rows_of (found_of matches.now))) }
+{
+    let image = Text::new(alloc, matches.get_str("IMAGE").unwrap())?;
+    let to = Text::new(alloc, matches.get_str("DIR").unwrap())?;
+    Ok(Job::Unpack { image, to })
 }
 
 // The job of `run`.
@@ -323,6 +394,8 @@ fn program<'a>(alloc: Global) -> Result<Command<'a>, AllocError>
     program_alone(alloc)
         .subcommand(mkfs_command(alloc)?)?
         .subcommand(format_command(alloc)?)?
+        .subcommand(pack_command(alloc)?)?
+        .subcommand(unpack_command(alloc)?)?
         .subcommand(run_command(alloc)?)?
         .subcommand(check_command(alloc)?)?
         .subcommand(info_command(alloc)?)?
@@ -374,6 +447,42 @@ fn format_command<'a>(alloc: Global) -> Result<Command<'a>, AllocError>
         .arg(image(alloc).help("The image, which must not exist"))?
         .arg(size)?
         .arg(inodes)
+}
+
+// The words of `pack`.
+fn pack_command<'a>(alloc: Global) -> Result<Command<'a>, AllocError>
+    ensures { IfOk result (λ command. app_of command ≡ pack) }
+{
+    let size = text_option(alloc, "size", "SIZE")
+        .required(true)
+        .help("Bytes, or with K, M or G: 512K to 8G");
+    let inodes = number(alloc, "inodes", 16, 1048576).help(
+        "Inodes, 16 to 1048576; without it one for 32 sectors",
+    );
+    let user = number(alloc, "uid", 0, 4294967295).help(
+        "The user of all; without it each one's own",
+    );
+    let group = number(alloc, "gid", 0, 4294967295).help(
+        "The group of all; without it each one's own",
+    );
+    Command::new(alloc, "pack")
+        .about("Make an image of the third layout with the tree of a directory")
+        .arg(image(alloc).help("The image, which must not exist"))?
+        .arg(directory(alloc).help("The directory"))?
+        .arg(size)?
+        .arg(inodes)?
+        .arg(user)?
+        .arg(group)
+}
+
+// The words of `unpack`.
+fn unpack_command<'a>(alloc: Global) -> Result<Command<'a>, AllocError>
+    ensures { IfOk result (λ command. app_of command ≡ unpack) }
+{
+    Command::new(alloc, "unpack")
+        .about("Copy the tree of an image to a new directory")
+        .arg(image(alloc).help("The image"))?
+        .arg(directory(alloc).help("The directory, which must not exist"))
 }
 
 // The words of `run`.
@@ -439,6 +548,14 @@ fn image<'a>(alloc: Global) -> Arg<'a>
     ensures local { result.global ≡ false }
 {
     Arg::new(alloc, "IMAGE").required(true)
+}
+
+// The path of the directory.
+fn directory<'a>(alloc: Global) -> Arg<'a>
+    ensures rule { rule_of result ≡ directory }
+    ensures local { result.global ≡ false }
+{
+    Arg::new(alloc, "DIR").required(true)
 }
 
 // A number that may be given, within its bounds.

@@ -2,3 +2,4 @@ mod Ends
 mod Findings
 mod News
 mod Sessions
+mod Copied

@@ -39,6 +39,7 @@ use Rattle.fs_shell.specs.declared.answer.Count.{Count}
 use Rattle.fs_shell.specs.Watching.{FailsWhere}
 use Rattle.fs_shell.specs.declared.fault.RunFault.{RunFault}
 use Rattle.fs_shell.specs.declared.fault.RunFault.TheVariants.{ReadFault, WriteFault}
+use Rattle.fs_program.specs.Copying.{ImagePackEnds, ImageUnpackEnds}
 use Rattle.fs_program.specs.Serving.{ImageFuseEnds}
 use Rattle.fs_program.specs.Programs.{RunsInMemory}
 use Rattle.fs_command.specs.Statuses.{code_of, status_of}
@@ -52,7 +53,7 @@ use Rattle.fs_program.specs.declared.memory.TheConstants.{SECTORS, INODES}
 use Rattle.fs_command.specs.declared.status.Status.{Status}
 use Rattle.fs_command.specs.declared.status.Status.TheVariants.{Done, Faulty, Failed}
 use Rattle.fs_command.specs.declared.words.Job.{Job}
-use Rattle.fs_command.specs.declared.words.Job.TheVariants.{Memory, Mkfs, Format, Run, Check, Info as InfoJob, Upgrade, Fuse}
+use Rattle.fs_command.specs.declared.words.Job.TheVariants.{Memory, Mkfs, Format, Pack, Unpack, Run, Check, Info as InfoJob, Upgrade, Fuse}
 use Rattle.fs_command.specs.declared.words.WordsFault.{WordsFault}
 
 -- ---- statuses
@@ -187,6 +188,8 @@ abbrev pub JobEnds : {M F : Type 0} → (M → DiskState) → (F → DiskState) 
 JobEnds memory file r w Memory result = MemoryEnds memory r w result
 JobEnds memory file r w (Mkfs image sectors inodes) result = ImageMkfsEnds file Two sectors inodes w result
 JobEnds memory file r w (Format image sectors inodes) result = ImageMkfsEnds file Three sectors inodes w result
+JobEnds memory file r w (Pack image from sectors inodes user group) result = (w.after ≡ w.before) × ImagePackEnds file sectors inodes result
+JobEnds memory file r w (Unpack image to) result = (w.after ≡ w.before) × ImageUnpackEnds file result
 JobEnds memory file r w (Run image script) result = ImageRunEnds file script r w result
 JobEnds memory file r w (Check image explain) result = ImageCheckEnds file explain w result
 JobEnds memory file r w (InfoJob image json) result = ImageInfoEnds file json w result

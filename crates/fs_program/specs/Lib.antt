@@ -1,3 +1,4 @@
+pub mod Copying
 pub mod Jobs
 pub mod Serving
 pub mod Denials

@@ -1,13 +1,15 @@
 //! What the program does for its words.
 
-ghost use Rattle.std.specs.Prelude.{◌≡◌, ◌⊎◌, ◌≤◌, map, string_bytes, MatchResult, Err, IfErr, IsSome};
+ghost use Rattle.std.specs.Prelude.{◌≡◌, ◌⊎◌, ◌≤◌, map, string_bytes, MatchResult, Err, IfErr, IfOk, IsSome};
 ghost use Rattle.std.specs.Option.{option_copied};
 ghost use Rattle.sector_disk.specs.Disk.{IsFresh};
 ghost use Rattle.fs_program.specs.Jobs.{ImageMkfsEnds, ImageRunEnds, ImageCheckEnds, ImageInfoEnds, ImageUpgradeEnds, JobEnds, ProgramEnds};
+ghost use Rattle.fs_program.specs.Copying.{ImagePackEnds, ImageUnpackEnds};
 ghost use Rattle.fs_program.specs.Serving.{ImageFuseEnds};
 ghost use Rattle.fs_program.specs.Streams.{reading, writing};
 ghost use Rattle.fs_command.specs.Words.{words_status};
 
+use crate::copying::{pack_on_disk, unpack_on_disk};
 use crate::denials::DenialList;
 use crate::describing::describe_disk;
 use crate::disks::{check_disk, finish, make_on_disk, run_on_disk, upgrade_disk, written};
@@ -18,6 +20,7 @@ use fs_images::MkfsFault;
 use fs_layout::{Version, place_of};
 use fs_shell::Watched;
 use fuse_serving::Standard;
+use host_trees::{CopyFault, Given};
 use sector_disk::{Disk, DiskFile, FileDisk, FileFault, MemDisk};
 use std::fs::{self, OpenOptions};
 use std::io::{ErrorKind, Read, Write};
@@ -84,6 +87,21 @@ fn perform_job<R: Files<File: DiskFile> + AllocGlobal + Clock, I: Read, O: Write
             sectors,
             inodes,
         } => make_image(rt, image, Version::Three, *sectors, *inodes, out),
+        Job::Pack {
+            image,
+            from,
+            sectors,
+            inodes,
+            user,
+            group,
+        } => {
+            let given = Given {
+                user: *user,
+                group: *group,
+            };
+            pack_image(rt, image, from, *sectors, *inodes, given, err)
+        }
+        Job::Unpack { image, to } => unpack_image(rt, image, to, err),
         Job::Run { image, script } => run_image(rt, image, script.as_ref(), input, out, err),
         Job::Check { image, explain } => check_image(rt, image, *explain, out),
         Job::Info { image, json } => describe_image(rt, image, *json, out),
@@ -116,6 +134,66 @@ fn make_image<R: Files<File: DiskFile> + AllocGlobal, O: Write>(
         Err(FileFault::Failed | FileFault::OutOfMemory) => return Err(Failure::NotCreated),
     };
     make_on_disk(&mut disk, place, out)
+}
+
+// Makes an image of the third layout with the tree of a directory. Where that is none no file is made.
+fn pack_image<R: Files<File: DiskFile> + AllocGlobal, E: Write>(
+    rt: &R,
+    image: &Text,
+    from: &Text,
+    sectors: u32,
+    inodes: u32,
+    given: Given,
+    err: &mut E,
+) -> Result<Status, Failure>
+    ensures { ImagePackEnds ⟦<FileDisk<R::File> as Disk>⟧.state sectors inodes result }
+{
+    let Some(place) = place_of(Version::Three, sectors, inodes) else {
+        return Err(Failure::Mkfs(MkfsFault::TooSmall));
+    };
+    if !is_directory(rt, from.as_str()) {
+        return Err(Failure::Pack(CopyFault::NoDirectory));
+    }
+    match create_image(rt, image, place.sectors) {
+        Ok(disk) => pack_on_disk(rt, disk, place, from.as_str(), given, err),
+        Err(failure) => Err(failure),
+    }
+}
+
+fn is_directory<R: Files>(rt: &R, path: &str) -> bool {
+    match fs::metadata(rt, path) {
+        Ok(metadata) => metadata.is_dir(),
+        Err(_) => false,
+    }
+}
+
+fn create_image<R: Files<File: DiskFile> + AllocGlobal>(
+    rt: &R,
+    image: &Text,
+    sectors: u32,
+) -> Result<FileDisk<R::File>, Failure>
+    requires { sectors ≤ 16777217 }
+    ensures made { IfOk result (λ disk. (⟦<FileDisk<R::File> as Disk>⟧.state disk).size ≡ sectors) }
+    ensures failed { IfErr result (λ failure. (failure ≡ Failure.Exists) ⊎ (failure ≡ Failure.NotCreated)) }
+{
+    match FileDisk::create(rt, rt.alloc(), image.as_str(), sectors) {
+        Ok(disk) => Ok(disk),
+        Err(FileFault::Exists) => Err(Failure::Exists),
+        Err(FileFault::Failed | FileFault::OutOfMemory) => Err(Failure::NotCreated),
+    }
+}
+
+// Copies the tree of an image to a new directory.
+fn unpack_image<R: Files<File: DiskFile> + AllocGlobal, E: Write>(
+    rt: &R,
+    image: &Text,
+    to: &Text,
+    err: &mut E,
+) -> Result<Status, Failure>
+    ensures { ImageUnpackEnds ⟦<FileDisk<R::File> as Disk>⟧.state result }
+{
+    let disk = open_image(rt, image)?;
+    unpack_on_disk(rt, disk, to.as_str(), err)
 }
 
 fn open_image<R: Files<File: DiskFile> + AllocGlobal>(

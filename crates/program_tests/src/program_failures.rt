@@ -7,6 +7,7 @@ use fs_images::{MkfsFault, UpgradeFault};
 use fs_info::InfoFault;
 use fs_shell::RunFault;
 use fs_system::MountFault;
+use host_trees::CopyFault;
 use std::alloc::{AllocError, Global};
 use std::test::Fail;
 
@@ -14,7 +15,7 @@ use std::test::Fail;
 const FINDING: Finding = Finding { rule: 6, at: 147 };
 
 // What is printed where a job isn't done.
-static FAILURES: [(Failure, &str); 26] = [
+static FAILURES: [(Failure, &str); 28] = [
     (Failure::Exists, "image: exists"),
     (Failure::NotCreated, "image: cannot create"),
     (Failure::NotOpened, "image: cannot open"),
@@ -70,6 +71,11 @@ static FAILURES: [(Failure, &str); 26] = [
     (Failure::Run(RunFault::WriteFault), "run: WriteFault"),
     (Failure::Run(RunFault::OutOfMemory), "run: OutOfMemory"),
     (Failure::Run(RunFault::TooMuch), "run: TooMuch"),
+    (Failure::Pack(CopyFault::NotSynced), "pack: NotSynced"),
+    (
+        Failure::Unpack(CopyFault::OutOfMemory),
+        "unpack: OutOfMemory",
+    ),
     (Failure::Unmount, "unmount: EIO"),
 ];
 

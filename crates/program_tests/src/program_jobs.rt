@@ -5,6 +5,8 @@ use crate::report::push_other_text;
 use fs_program::perform;
 use fs_shell::Watched;
 use std::alloc::{AllocError, Global};
+use std::fs::Permissions;
+use std::os::unix::fs::{MetadataExt, PermissionsExt, symlink};
 use std::path::PathBuf;
 use std::test::Fail;
 use std::{env, fs, mem, process};
@@ -156,6 +158,13 @@ const FILLED: &str = "clean files 1 dirs 2 links 1 nameless 0 blocks 875 inodes 
 const FILLED_LARGE: &str =
     "clean files 1 dirs 2 links 1 nameless 0 blocks 1514 inodes 59 pending no\n";
 
+// The tree in the folder `t`.
+const PACKED: &str = "clean files 1 dirs 2 links 1 nameless 0 blocks 1514 inodes 59 pending no\n";
+
+const LOOKING: &str = "spawn 1 1\n1 stat /b/c\n1 readlink /l\n";
+
+const LOOKED: &str = "pid 1\nino 4 file 0640 links 1 uid 7 gid 8 size 5\ntarget b/c\n";
+
 // The script in the file `s`.
 const UNKNOWN: &str = "spawn 0 0\n1 frobnicate\n";
 
@@ -175,6 +184,8 @@ const NO_COMMAND: &str = "error: unrecognized subcommand 'fsck'
 Usage: inofs
        inofs mkfs IMAGE --sectors N --inodes N
        inofs format IMAGE --size SIZE [--inodes N]
+       inofs pack IMAGE DIR --size SIZE [--inodes N] [--uid N] [--gid N]
+       inofs unpack IMAGE DIR
        inofs run IMAGE [SCRIPT]
        inofs check [--explain] IMAGE
        inofs info [--json] IMAGE
@@ -191,7 +202,7 @@ does, so nothing else is found; nothing is repaired: take the image from a backu
 ";
 
 // A row finds what those before it have left.
-static ROWS: [Row; 35] = [
+static ROWS: [Row; 42] = [
     // No file is made.
     (
         Change::Nothing,
@@ -316,6 +327,33 @@ static ROWS: [Row; 35] = [
         "",
         (2, "", BAD_SIZE),
     ),
+    (
+        Change::Nothing,
+        "pack @p @none --size 1M",
+        "",
+        (3, "", "pack: NoDirectory\n"),
+    ),
+    (
+        Change::Nothing,
+        "pack @p @t --size 1M --inodes 64 --uid 7 --gid 8",
+        "",
+        (0, "", ""),
+    ),
+    (
+        Change::Nothing,
+        "pack @p @t --size 1M",
+        "",
+        (3, "", "image: exists\n"),
+    ),
+    (Change::Nothing, "check @p", "", (0, PACKED, "")),
+    (Change::Nothing, "run @p", LOOKING, (0, LOOKED, "")),
+    (Change::Nothing, "unpack @p @u", "", (0, "", "")),
+    (
+        Change::Nothing,
+        "unpack @p @u",
+        "",
+        (3, "", "unpack: NoDirectory\n"),
+    ),
     (Change::Nothing, "", SCRIPT, (0, REPLIES, "")),
     (Change::Nothing, "--help", "", (0, HELP, "")),
     (Change::Nothing, "fsck @d", "", (2, "", NO_COMMAND)),
@@ -331,12 +369,41 @@ fn push_row(rt: &HostRuntime, folder: &str, report: &mut String, row: &Row) -> R
     Ok(())
 }
 
+// Makes the folder `t` with a file in a folder and a link to it.
+fn make_tree(rt: &HostRuntime, folder: &str) -> Result<(), Fail> {
+    let below = format!(in rt.alloc(); "{folder}/t/b")?;
+    fs::create_dir_all(rt, below.as_str())?;
+    let file = format!(in rt.alloc(); "{folder}/t/b/c")?;
+    fs::write(rt, file.as_str(), b"hello".as_slice())?;
+    fs::set_permissions(rt, file.as_str(), Permissions::from_mode(0o640))?;
+    let link = format!(in rt.alloc(); "{folder}/t/l")?;
+    symlink(rt, "b/c", link.as_str())?;
+    Ok(())
+}
+
+// What is seen of the tree where it was unpacked, through the link: the file's bytes, its mode, and whether its times are those of
+// the first one.
+fn unpacked(rt: &HostRuntime, folder: &str) -> Result<String, Fail> {
+    let first = format!(in rt.alloc(); "{folder}/t/b/c")?;
+    let copy = format!(in rt.alloc(); "{folder}/u/l")?;
+    let text = fs::read_to_string(rt, copy.as_str())?;
+    let first = fs::metadata(rt, first.as_str())?;
+    let copy = fs::metadata(rt, copy.as_str())?;
+    let mode = copy.mode() % 512;
+    let same = copy.mtime() == first.mtime() && copy.mtime_nsec() == first.mtime_nsec();
+    let seen = format!(in rt.alloc(); "{text} {mode} {same}")?;
+    mem::drop(text);
+    Ok(seen)
+}
+
 fn push_rows(rt: &HostRuntime, folder: &str, report: &mut String) -> Result<(), Fail> {
+    make_tree(rt, folder)?;
     let script = format!(in rt.alloc(); "{folder}/s")?;
     fs::write(rt, script.as_str(), UNKNOWN.as_bytes())?;
     for row in &ROWS {
         push_row(rt, folder, report, row)?;
     }
+    push_other_text(report, "unpacked", unpacked(rt, folder)?, "hello 416 true")?;
     Ok(())
 }
 

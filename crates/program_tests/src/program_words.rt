@@ -41,6 +41,20 @@ fn told_job(alloc: Global, job: &Job) -> Result<String, AllocError> {
             sectors,
             inodes,
         } => format!(in alloc; "format {} {sectors} {inodes}", image.as_str()),
+        Job::Pack {
+            image,
+            from,
+            sectors,
+            inodes,
+            user,
+            group,
+        } => {
+            let (image, from) = (image.as_str(), from.as_str());
+            format!(in alloc; "pack {image} {from} {sectors} {inodes} {user:?} {group:?}")
+        }
+        Job::Unpack { image, to } => {
+            format!(in alloc; "unpack {} {}", image.as_str(), to.as_str())
+        }
         Job::Run {
             image,
             script: Some(script),
@@ -78,7 +92,7 @@ fn told_fault(alloc: Global, fault: &WordsFault) -> Result<String, AllocError> {
 // ---- what is asked for
 
 // Lines, and what they ask for.
-static JOBS: [(&str, &str); 24] = [
+static JOBS: [(&str, &str); 27] = [
     ("inofs", "memory"),
     (
         "inofs mkfs a.img --sectors 1024 --inodes 16",
@@ -108,6 +122,15 @@ static JOBS: [(&str, &str); 24] = [
         "inofs format a.img --size 1024M --inodes 1048576",
         "format a.img 2097152 1048576",
     ),
+    (
+        "inofs pack a.img d --size 512K",
+        "pack a.img d 1024 32 None None",
+    ),
+    (
+        "inofs pack --gid=0 a.img --uid 4294967295 --inodes 16 --size 2M d",
+        "pack a.img d 4096 16 Some(4294967295) Some(0)",
+    ),
+    ("inofs unpack a.img d", "unpack a.img d"),
     ("inofs run a.img", "run a.img"),
     ("inofs run a.img s", "run a.img s"),
     ("inofs run -- --help s", "run --help s"),
@@ -128,7 +151,7 @@ static JOBS: [(&str, &str); 24] = [
 ];
 
 // Lines that ask for no job.
-static BAD: [&str; 54] = [
+static BAD: [&str; 61] = [
     "inofs mkfs",
     "inofs mkfs a.img",
     "inofs mkfs a.img --sectors 1024",
@@ -155,6 +178,13 @@ static BAD: [&str; 54] = [
     "inofs format a.img --size 1M --inodes 15",
     "inofs format a.img --size 8G --inodes 1048577",
     "inofs format a.img --size x --inodes x",
+    "inofs pack a.img --size 1M",
+    "inofs pack a.img d",
+    "inofs pack a.img d e --size 1M",
+    "inofs pack a.img d --size 1M --uid 4294967296",
+    "inofs pack a.img d --size 1M --owner 0:0",
+    "inofs unpack a.img",
+    "inofs unpack a.img d --uid 0",
     "inofs run",
     "inofs run a.img s t",
     "inofs run a.img --sectors 1024",
@@ -186,7 +216,7 @@ static BAD: [&str; 54] = [
 ];
 
 // Lines with a size that is none, or out of range.
-static SIZES: [&str; 14] = [
+static SIZES: [&str; 15] = [
     "inofs format a.img --size=",
     "inofs format a.img --size K",
     "inofs format a.img --size 0",
@@ -201,16 +231,19 @@ static SIZES: [&str; 14] = [
     "inofs format a.img --size M1",
     "inofs format a.img --size 99999999999999999999",
     "inofs format a.img --size 18014398509481984K",
+    "inofs pack a.img d --size 511K",
 ];
 
 // Lines that ask for help or the version.
-static SHOWN: [&str; 11] = [
+static SHOWN: [&str; 13] = [
     "inofs --help",
     "inofs -h",
     "inofs --version",
     "inofs -V",
     "inofs mkfs --help",
     "inofs format --help",
+    "inofs pack --help",
+    "inofs unpack --help",
     "inofs run a.img -h",
     "inofs check --help",
     "inofs info --help",
@@ -242,6 +275,8 @@ pub(crate) const HELP: &str = "A file system in an image, with a journal and acc
 Usage: inofs
        inofs mkfs IMAGE --sectors N --inodes N
        inofs format IMAGE --size SIZE [--inodes N]
+       inofs pack IMAGE DIR --size SIZE [--inodes N] [--uid N] [--gid N]
+       inofs unpack IMAGE DIR
        inofs run IMAGE [SCRIPT]
        inofs check [--explain] IMAGE
        inofs info [--json] IMAGE
@@ -251,6 +286,8 @@ Usage: inofs
 Commands:
   mkfs     Make an image of the second layout with an empty file system
   format   Make an image of the third layout with an empty file system
+  pack     Make an image of the third layout with the tree of a directory
+  unpack   Copy the tree of an image to a new directory
   run      Run a script on an image
   check    Check an image
   info     Say the version, the size, what is free and the limits of an image

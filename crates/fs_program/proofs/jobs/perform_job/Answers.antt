@@ -1,3 +1,4 @@
+use Rattle.std.proofs.Common.{refl}
 use Rattle.fs_program.proofs.jobs.perform_job.Goals as goal
 
 pub returns-in-Mkfs : goal.returns-in-Mkfs
@@ -5,6 +6,12 @@ returns-in-Mkfs g c = rw c.in-Mkfs.is c.make_image.ensures
 
 pub returns-in-Format : goal.returns-in-Format
 returns-in-Format g c = rw c.in-Format.is c.make_image-in-Format.ensures
+
+pub returns-in-Pack : goal.returns-in-Pack
+returns-in-Pack g c = rw c.in-Pack.is (refl, c.pack_image.ensures)
+
+pub returns-in-Unpack : goal.returns-in-Unpack
+returns-in-Unpack g c = rw c.in-Unpack.is (refl, c.unpack_image.ensures)
 
 pub returns-in-Run : goal.returns-in-Run
 returns-in-Run g c = rw c.in-Run.is (rw c.as_ref.ensures.value at c.run_image.ensures)

@@ -1,0 +1,167 @@
+//! Copies trees of the host to disks and from them.
+
+ghost use Rattle.std.specs.Prelude.{◌≡◌, Some};
+ghost use Rattle.fs_layout.specs.Place.{the_place};
+ghost use Rattle.fs_system.specs.Replies.{unmounted};
+ghost use Rattle.host_trees.specs.Copies.{ArePacking, AreUnpacking};
+ghost use Rattle.fs_command.specs.declared.failure.Failure.TheVariants.{Pack, Unpack};
+ghost use Rattle.fs_program.specs.Copying.{MountedEnds, PackEnds, UnpackEnds, copied_status, copy_end, kept_end};
+
+use fs_command::{Failure, Status};
+use fs_cred::Errno;
+use fs_images::mkfs;
+use fs_layout::Place;
+use fs_model::{Event, Reply};
+use fs_system::Fs;
+use host_trees::{Copied, CopyFault, FileSystem, Given, pack, unpack};
+use sector_disk::Disk;
+use std::io::Write;
+use std::marker::Model;
+use std::rt::Files;
+
+/// A file system on a disk, as trees are copied to it and from it. Before each event the disk lets go of its past. Contracts see
+/// the file system.
+#[derive(Drop)]
+struct Copying<D: Disk> {
+    fs: Fs<D>,
+}
+
+impl<D: Disk> Model for Copying<D> {
+    ghost use Rattle.fs_system.specs.Seen.{System};
+
+    ghost Value = { System D };
+
+    ghost view = { λ copying. copying.fs };
+}
+
+impl<D: Disk> Copying<D> {
+    // The file system, to be asked.
+    fn new(fs: Fs<D>) -> Copying<D>
+        ensures { result ≡ fs }
+    {
+        Copying { fs }
+    }
+
+    // The file system.
+    fn into_fs(self) -> Fs<D>
+        ensures { result ≡ self }
+    {
+        let Copying { fs } = self;
+        fs
+    }
+}
+
+impl<D: Disk + Drop> FileSystem for Copying<D> {
+    ghost use Rattle.fs_fuse.specs.Performing.{ServesOne};
+
+    ghost Serves = { ServesOne D.state };
+
+    fn serve(&mut self, event: &Event) -> Reply {
+        self.fs.serve(event)
+    }
+}
+
+/// Makes a file system on a disk that has the size of the layout, copies a tree of the host to it, and unmounts it.
+pub(crate) fn pack_on_disk<R: Files + AllocGlobal, D: Disk + Drop, E: Write>(
+    rt: &R,
+    disk: D,
+    place: Place,
+    from: &str,
+    given: Given,
+    err: &mut E,
+) -> Result<Status, Failure>
+    requires { the_place place.version (D.state disk).size place.inodes ≡ Some place }
+    ensures { PackEnds D.state disk place result }
+{
+    let mut disk = disk;
+    if let Err(fault) = mkfs(&mut disk, place.version, place.inodes) {
+        return Err(Failure::Mkfs(fault));
+    }
+    match Fs::mount(rt.alloc(), disk) {
+        Ok(fs) => pack_mounted(rt, fs, from, given, err),
+        Err((fault, _)) => Err(Failure::Mount(fault)),
+    }
+}
+
+fn pack_mounted<R: Files + AllocGlobal, D: Disk + Drop, E: Write>(
+    rt: &R,
+    fs: Fs<D>,
+    from: &str,
+    given: Given,
+    err: &mut E,
+) -> Result<Status, Failure>
+    ensures { MountedEnds D.state ArePacking Pack fs result }
+{
+    let (packed, copying) = pack(rt, Copying::new(fs), from, given, err);
+    let (_, errno) = copying.into_fs().unmount();
+    packed_end(packed, errno)
+}
+
+fn packed_end(packed: Result<Copied, CopyFault>, errno: Option<Errno>) -> Result<Status, Failure>
+    ensures { result ≡ copy_end Pack packed (unmounted errno) }
+{
+    match packed {
+        Ok(copied) => kept_end(copied, errno),
+        Err(fault) => Err(Failure::Pack(fault)),
+    }
+}
+
+/// Mounts a disk, copies the tree of its file system to the host, and unmounts it.
+pub(crate) fn unpack_on_disk<R: Files + AllocGlobal, D: Disk + Drop, E: Write>(
+    rt: &R,
+    disk: D,
+    to: &str,
+    err: &mut E,
+) -> Result<Status, Failure>
+    ensures { UnpackEnds D.state disk result }
+{
+    match Fs::mount(rt.alloc(), disk) {
+        Ok(fs) => unpack_mounted(rt, fs, to, err),
+        Err((fault, _)) => Err(Failure::Mount(fault)),
+    }
+}
+
+fn unpack_mounted<R: Files + AllocGlobal, D: Disk + Drop, E: Write>(
+    rt: &R,
+    fs: Fs<D>,
+    to: &str,
+    err: &mut E,
+) -> Result<Status, Failure>
+    ensures { MountedEnds D.state AreUnpacking Unpack fs result }
+{
+    let (unpacked, copying) = unpack(rt, Copying::new(fs), to, err);
+    let (_, errno) = copying.into_fs().unmount();
+    unpacked_end(unpacked, errno)
+}
+
+fn unpacked_end(
+    unpacked: Result<Copied, CopyFault>,
+    errno: Option<Errno>,
+) -> Result<Status, Failure>
+    ensures { result ≡ copy_end Unpack unpacked (unmounted errno) }
+{
+    match unpacked {
+        Ok(copied) => kept_end(copied, errno),
+        Err(fault) => Err(Failure::Unpack(fault)),
+    }
+}
+
+// How a copy ends, where the unmount is answered so.
+fn kept_end(copied: Copied, errno: Option<Errno>) -> Result<Status, Failure>
+    ensures { result ≡ kept_end copied (unmounted errno) }
+{
+    match errno {
+        None => Ok(status_of(copied)),
+        Some(_) => Err(Failure::Unmount),
+    }
+}
+
+// The status of a copy: whether all of the tree was copied.
+fn status_of(copied: Copied) -> Status
+    ensures { result ≡ copied_status copied }
+{
+    match copied {
+        Copied::Whole => Status::Done,
+        Copied::InPart => Status::Faulty,
+    }
+}

@@ -1,0 +1,11 @@
+use Rattle.host_trees.proofs.Asking.{asks_then, asks_three}
+use Rattle.host_trees.proofs.objects.pack_directory.Goals as goal
+
+pub returns-in_err-perform : goal.returns-in_err-perform
+returns-in_err-perform g c = asks_then c.hand_for.ensures c.perform.ensures
+
+pub returns-in_err-inode : goal.returns-in_err-inode
+returns-in_err-inode g c = asks_three c.hand_for.ensures c.perform.ensures c.inode_at.ensures
+
+pub returns : goal.returns
+returns g c = asks_three c.hand_for.ensures c.perform.ensures c.inode_at.ensures

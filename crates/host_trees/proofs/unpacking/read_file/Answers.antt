@@ -1,0 +1,5 @@
+use Rattle.host_trees.proofs.Asking.{asks_three}
+use Rattle.host_trees.proofs.unpacking.read_file.Goals as goal
+
+pub returns : goal.returns
+returns g c = asks_three c.open.ensures c.read_contents-read.ensures c.perform-closed.ensures

@@ -1,0 +1,5 @@
+use Rattle.host_trees.proofs.Asking.{asks_nothing}
+use Rattle.host_trees.proofs.work.end_hand.Goals as goal
+
+pub returns-in-None : goal.returns-in-None
+returns-in-None g c = asks_nothing _ _

@@ -1,0 +1,98 @@
+-- What is asked of a file system while a tree is copied to it or from it.
+--     IsOfCopying        what who copies a tree may ask
+--     is_so_long, is_done        the reply says that all was done that was asked for
+--     Asked, Goes        an event with its reply, and what several lead to
+--     Asks        such events were asked, one after another, and whether anything is lacking since
+--     Tells        the same, where what is lacking may be told
+--     AreCopying, ArePacking, AreUnpacking        what is asked for a copy, and how that ends
+--     Copies        the same, from one state of the file system to another
+--     is_copied_whole        a copy came to its end, and all is there
+use Rattle.std.specs.Prelude.{◌≡◌, ◌==◌, ℕ, Bool, true, false, List, [], ◌∷◌, ◌++◌, length, IsTrue, All, Result, Ok, Err}
+use Rattle.fs_model.specs.declared.call.Call.TheVariants.{Write}
+use Rattle.fs_model.specs.declared.event.Event.{Event}
+use Rattle.fs_model.specs.declared.event.Event.TheVariants.{Spawn, Exit, Call as Calls, Stamp, Sync}
+use Rattle.fs_model.specs.declared.reply.Reply.{Reply}
+use Rattle.fs_model.specs.declared.reply.Reply.TheVariants.{Done, Wrote, Refused}
+use Rattle.host_trees.specs.declared.fault.Copied.{Copied}
+use Rattle.host_trees.specs.declared.fault.Copied.TheVariants.{Whole, InPart}
+use Rattle.host_trees.specs.declared.fault.CopyFault.{CopyFault}
+
+-- processes begin and end and make calls; times are set; and all is made stable
+abbrev pub IsOfCopying : Event → Type 0
+IsOfCopying (Spawn cred) = Unit {0}
+IsOfCopying (Exit pid) = Unit {0}
+IsOfCopying (Calls pid call) = Unit {0}
+IsOfCopying (Stamp inode atime mtime ctime) = Unit {0}
+IsOfCopying Sync = Unit {0}
+IsOfCopying event = ⊥
+
+-- a write of so many bytes
+abbrev pub is_so_long : Event → ℕ → Bool
+is_so_long (Calls pid (Write fd bytes)) size = length bytes == size
+is_so_long event size = false
+
+-- nothing was refused, and of a write all bytes were written
+abbrev pub is_done : Event → Reply → Bool
+is_done event (Refused refusal) = false
+is_done event (Wrote size) = is_so_long event size
+is_done event reply = true
+
+-- an event, and its reply
+pub record Asked : Type 0 where
+  pub event : Event
+  pub reply : Reply
+
+-- from one state to another by these events with these replies, one after another
+pub data Goes {M : Type 0} (Serves : M → Event → Reply → M → Type 0) : M → List Asked → M → Type 0 where
+  stays : (m : M) → Goes Serves m [] m
+  goes : (old mid new : M) (asked : Asked) (rest : List Asked) → Serves old asked.event asked.reply mid → Goes Serves mid rest new
+      → Goes Serves old (asked ∷ rest) new
+
+-- Events of copying were asked, one after another. Where nothing is lacking now, nothing was before, and all was done.
+pub record Asks {M : Type 0} (Serves : M → Event → Reply → M → Type 0) (old new : M) (was_whole is_whole : Bool) : Type 0 where
+  pub asked : List Asked
+  pub goes : Goes Serves old asked new
+  pub own : All (λ a. IsOfCopying a.event) asked
+  pub before : IsTrue is_whole → IsTrue was_whole
+  pub done : IsTrue is_whole → All (λ a. IsTrue (is_done a.event a.reply)) asked
+
+-- Events of copying were asked, and between two states of who is told what is lacking. Where nothing is lacking, nothing was told.
+pub record Tells {M E : Type 0} (Serves : M → Event → Reply → M → Type 0) (old new : M) (was_whole is_whole : Bool) (unaware aware : E) : Type 0 where
+  pub asks : Asks Serves old new was_whole is_whole
+  pub silent : IsTrue is_whole → aware ≡ unaware
+
+-- ---- how a copy ends
+
+abbrev pub is_whole : Copied → Bool
+is_whole Whole = true
+is_whole InPart = false
+
+-- a copy came to its end, and nothing is lacking in it
+abbrev pub is_copied_whole : Result Copied CopyFault → Bool
+is_copied_whole (Ok copied) = is_whole copied
+is_copied_whole (Err fault) = false
+
+-- These events with these replies copy a tree: all of them is done where it is copied whole.
+pub record AreCopying (asked : List Asked) (whole : Bool) : Type 0 where
+  pub own : All (λ a. IsOfCopying a.event) asked
+  pub done : IsTrue whole → All (λ a. IsTrue (is_done a.event a.reply)) asked
+
+-- a sync, after which all is stable
+abbrev pub synced : Asked
+synced = record { event = Sync; reply = Done }
+
+-- A tree was copied to a file system, and last all was made stable; or it wasn't copied to the end.
+abbrev pub ArePacking : List Asked → Result Copied CopyFault → Type 0
+ArePacking asked (Ok copied) = (before : List Asked) × (asked ≡ before ++ synced ∷ []) × AreCopying before (is_whole copied)
+ArePacking asked (Err fault) = AreCopying asked false
+
+-- A tree was copied from a file system; or it wasn't copied to the end.
+abbrev pub AreUnpacking : List Asked → Result Copied CopyFault → Type 0
+AreUnpacking asked (Ok copied) = AreCopying asked (is_whole copied)
+AreUnpacking asked (Err fault) = AreCopying asked false
+
+-- From one state to another by events that copy a tree so.
+pub record Copies {M : Type 0} (Serves : M → Event → Reply → M → Type 0) (old new : M) (Are : List Asked → Type 0) : Type 0 where
+  pub asked : List Asked
+  pub goes : Goes Serves old asked new
+  pub are : Are asked

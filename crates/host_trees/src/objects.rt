@@ -1,0 +1,255 @@
+//! Makes objects of a file system as those of the host are.
+ghost use Rattle.host_trees.specs.Copies.{Asks};
+
+use crate::asker::Asker;
+use crate::entry::{Entry, OF_DIRECTORIES};
+use crate::file_system::FileSystem;
+use crate::lack::Lack;
+use crate::replies::{fd_in, status_in};
+use crate::times::Times;
+use crate::work::{Made, Pending, Work, hand_for, path_of};
+use crate::writing::write_contents;
+use fs_layout::ROOT;
+use fs_model::{Call, Event, Flags, Path};
+use std::alloc::Global;
+use std::fs;
+use std::io::Read;
+use std::rt::Files;
+
+/// Makes a directory. Its set-group-ID bit and its times wait until its names are there.
+pub(crate) fn pack_directory<M: FileSystem>(
+    asker: &mut Asker<M>,
+    work: &mut Work,
+    object: &Pending,
+    entry: Entry,
+) -> Result<(), Lack>
+    ensures { Asks M.Serves asker.old.machine asker.new.machine asker.old.is_whole asker.new.is_whole }
+{
+    let pid = hand_for(asker, work, entry.owner)?;
+    let path = path_of(work.alloc, object.inside.as_str())?;
+    asker.perform(pid, Call::Mkdir(path, entry.first_mode()))?;
+    let inode = inode_at(asker, work.alloc, pid, object.inside.as_str())?;
+    work.keep_directory(object, inode, entry)
+}
+
+/// Makes a file, with what one of the host holds.
+pub(crate) fn pack_file<R: Files, M: FileSystem>(
+    rt: &R,
+    asker: &mut Asker<M>,
+    work: &mut Work,
+    object: &Pending,
+    entry: Entry,
+) -> Result<(), Lack>
+    ensures { Asks M.Serves asker.old.machine asker.new.machine asker.old.is_whole asker.new.is_whole }
+{
+    let mut file = fs::open(rt, object.host.as_str())?;
+    let pid = hand_for(asker, work, entry.owner)?;
+    let fd = make_file(asker, work.alloc, pid, object.inside.as_str(), entry)?;
+    fill_file(asker, work, pid, fd, &mut file, entry)
+}
+
+// Opens a new file for writing.
+fn make_file<M: FileSystem>(
+    asker: &mut Asker<M>,
+    alloc: Global,
+    pid: usize,
+    inside: &str,
+    entry: Entry,
+) -> Result<usize, Lack>
+    ensures { Asks M.Serves asker.old.machine asker.new.machine asker.old.is_whole asker.new.is_whole }
+{
+    let path = path_of(alloc, inside)?;
+    let call = Call::Open(path, new_file_flags(), entry.file_mode());
+    fd_in(asker.call(pid, call)?)
+}
+
+fn new_file_flags() -> Flags {
+    Flags {
+        read: false,
+        write: true,
+        create: true,
+        excl: true,
+        trunc: false,
+        append: false,
+        nofollow: false,
+        directory: false,
+    }
+}
+
+// Gives an open file its bytes and its times, and closes it.
+fn fill_file<F: Read, M: FileSystem>(
+    asker: &mut Asker<M>,
+    work: &mut Work,
+    pid: usize,
+    fd: usize,
+    file: &mut F,
+    entry: Entry,
+) -> Result<(), Lack>
+    ensures { Asks M.Serves asker.old.machine asker.new.machine asker.old.is_whole asker.new.is_whole }
+{
+    let written = write_contents(work.alloc, asker, pid, fd, file, &mut work.room);
+    let stamped = stamp_open(asker, pid, fd, entry.times);
+    let closed = asker.perform(pid, Call::Close(fd));
+    written.and(stamped).and(closed)
+}
+
+/// Makes a symbolic link to where one of the host leads.
+pub(crate) fn pack_link<R: Files + AllocGlobal, M: FileSystem>(
+    rt: &R,
+    asker: &mut Asker<M>,
+    work: &mut Work,
+    object: &Pending,
+    entry: Entry,
+) -> Result<(), Lack>
+    ensures { Asks M.Serves asker.old.machine asker.new.machine asker.old.is_whole asker.new.is_whole }
+{
+    let leads = fs::read_link(rt, object.host.as_str())?;
+    let pid = hand_for(asker, work, entry.owner)?;
+    let target = path_of(work.alloc, leads.as_str())?;
+    let path = path_of(work.alloc, object.inside.as_str())?;
+    asker.perform(pid, Call::Symlink { target, path })?;
+    stamp_at(asker, work.alloc, pid, object.inside.as_str(), entry.times)
+}
+
+/// Gives an object that was copied before another name.
+pub(crate) fn pack_other_name<M: FileSystem>(
+    asker: &mut Asker<M>,
+    work: &mut Work,
+    first: Path,
+    object: &Pending,
+    entry: Entry,
+) -> Result<(), Lack>
+    ensures { Asks M.Serves asker.old.machine asker.new.machine asker.old.is_whole asker.new.is_whole }
+{
+    let pid = hand_for(asker, work, entry.owner)?;
+    let new = path_of(work.alloc, object.inside.as_str())?;
+    asker.perform(pid, Call::Link { old: first, new })?;
+    stamp_at(asker, work.alloc, pid, object.inside.as_str(), entry.times)
+}
+
+// ---- times
+
+// The number of what stands at a path.
+fn inode_at<M: FileSystem>(
+    asker: &mut Asker<M>,
+    alloc: Global,
+    pid: usize,
+    inside: &str,
+) -> Result<u32, Lack>
+    ensures { Asks M.Serves asker.old.machine asker.new.machine asker.old.is_whole asker.new.is_whole }
+{
+    let path = path_of(alloc, inside)?;
+    let status = status_in(asker.call(pid, Call::Lstat(path))?)?;
+    Ok(status.inode)
+}
+
+// Gives what stands at a path its times.
+fn stamp_at<M: FileSystem>(
+    asker: &mut Asker<M>,
+    alloc: Global,
+    pid: usize,
+    inside: &str,
+    times: Option<Times>,
+) -> Result<(), Lack>
+    ensures { Asks M.Serves asker.old.machine asker.new.machine asker.old.is_whole asker.new.is_whole }
+{
+    let inode = inode_at(asker, alloc, pid, inside)?;
+    stamp(asker, inode, times)
+}
+
+// Gives an open file its times.
+fn stamp_open<M: FileSystem>(
+    asker: &mut Asker<M>,
+    pid: usize,
+    fd: usize,
+    times: Option<Times>,
+) -> Result<(), Lack>
+    ensures { Asks M.Serves asker.old.machine asker.new.machine asker.old.is_whole asker.new.is_whole }
+{
+    let status = status_in(asker.call(pid, Call::Fstat(fd))?)?;
+    stamp(asker, status.inode, times)
+}
+
+// Gives an object its times, if they are known.
+fn stamp<M: FileSystem>(asker: &mut Asker<M>, inode: u32, times: Option<Times>) -> Result<(), Lack>
+    ensures { Asks M.Serves asker.old.machine asker.new.machine asker.old.is_whole asker.new.is_whole }
+{
+    match times {
+        Some(times) => set_times(asker, inode, times),
+        None => Ok(()),
+    }
+}
+
+fn set_times<M: FileSystem>(asker: &mut Asker<M>, inode: u32, times: Times) -> Result<(), Lack>
+    ensures { Asks M.Serves asker.old.machine asker.new.machine asker.old.is_whole asker.new.is_whole }
+{
+    let event = Event::Stamp {
+        inode,
+        atime: Some(times.accessed),
+        mtime: Some(times.modified),
+        ctime: Some(times.changed),
+    };
+    asker.obtain(event)?.discard();
+    Ok(())
+}
+
+// ---- when all names are there
+
+/// Gives a directory its set-group-ID bit and its times, and the root its owner and its mode too.
+pub(crate) fn finish_directory<M: FileSystem>(
+    asker: &mut Asker<M>,
+    work: &mut Work,
+    made: &Made,
+) -> Result<(), Lack>
+    ensures { Asks M.Serves asker.old.machine asker.new.machine asker.old.is_whole asker.new.is_whole }
+{
+    give_bits(asker, work, made)?;
+    stamp(asker, made.inode, made.entry.times)?;
+    root_lack(made)
+}
+
+// What the root has and can't have there; of others that is told where they are made.
+fn root_lack(made: &Made) -> Result<(), Lack> {
+    if made.inode == ROOT {
+        made.entry.lack(OF_DIRECTORIES)
+    } else {
+        Ok(())
+    }
+}
+
+fn give_bits<M: FileSystem>(asker: &mut Asker<M>, work: &mut Work, made: &Made) -> Result<(), Lack>
+    ensures { Asks M.Serves asker.old.machine asker.new.machine asker.old.is_whole asker.new.is_whole }
+{
+    if made.inode == ROOT {
+        return give_root(asker, work, made);
+    }
+    if made.entry.waits() {
+        return give_mode(asker, work, made);
+    }
+    Ok(())
+}
+
+// Gives the root its owner and its mode.
+fn give_root<M: FileSystem>(asker: &mut Asker<M>, work: &mut Work, made: &Made) -> Result<(), Lack>
+    ensures { Asks M.Serves asker.old.machine asker.new.machine asker.old.is_whole asker.new.is_whole }
+{
+    let owner = made.entry.owner;
+    let pid = hand_for(asker, work, owner)?;
+    let path = path_of(work.alloc, made.inside.as_str())?;
+    let call = Call::Chown {
+        path,
+        owner: Some(owner.user),
+        group: Some(owner.group),
+    };
+    asker.perform(pid, call)?;
+    give_mode(asker, work, made)
+}
+
+// Gives a directory its mode.
+fn give_mode<M: FileSystem>(asker: &mut Asker<M>, work: &mut Work, made: &Made) -> Result<(), Lack>
+    ensures { Asks M.Serves asker.old.machine asker.new.machine asker.old.is_whole asker.new.is_whole }
+{
+    let pid = hand_for(asker, work, made.entry.owner)?;
+    let path = path_of(work.alloc, made.inside.as_str())?;
+    asker.perform(pid, Call::Chmod(path, made.entry.directory_mode()))
+}
