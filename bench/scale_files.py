@@ -7,8 +7,7 @@ from scale_places import command
 
 FOLDERS, FILES_IN_ONE = 500, 100
 NAMES = 10_000
-# A file of version 3 has at most 8,460,288 bytes (docs/FORMAT.md): so far reach its direct, indirect and double indirect blocks.
-# So 500 MB are 60 files of 8 MiB, and not one.
+# So far reach the direct, indirect and double indirect blocks of a file (docs/FORMAT.md): 500 MB are 60 files of 8 MiB.
 LONG_FILES, LONG = 60, 8 << 20
 STEP = 1 << 20  # bytes between two syncs
 SHOWN = 3

@@ -5,11 +5,11 @@ import sqlite3
 from scale_places import command, needs
 
 RECORDS, IN_ONE_TRANSACTION = 100_000, 1_000
-# A record has some 40 bytes with them, so that 100,000 fit into a file of version 3, which has at most 8,460,288 bytes.
+# A record has some 40 bytes with them, so that 100,000 take 4 MB.
 WORDS = [f'word {number * 7_919 % 100_003:06} of {number % 97}' for number in range(1_000)]
 MODES = ['delete', 'truncate', 'wal']
 SECONDS_OF_DBENCH, USERS = 20, 4
-JOBS, FILES_OF_A_JOB, LARGEST = 4, 8, 8 << 20  # of fio; hardly more bytes than that has a file of version 3
+JOBS, FILES_OF_A_JOB, LARGEST = 4, 8, 8 << 20  # of fio; so far reach two levels of sectors of pointers
 
 
 # ---- SQLite

@@ -5,7 +5,7 @@
 --     HoldsContent        a sector with this content, or none
 --     IsBlank        an inode without sectors
 use Rattle.std.specs.Prelude.{◌≡◌, ◌≢◌, ℕ, ◌+◌, ◌/◌, ◌≤◌, ◌<◌, List, Option, None, Some, replicate, ◌⊎◌}
-use Rattle.fs_layout.specs.declared.inode.TheConstants.{DIRECT_BLOCKS}
+use Rattle.fs_layout.specs.declared.inode.TheConstants.{DIRECT_BLOCKS, POINTER_LEVELS}
 use Rattle.fs_layout.specs.declared.inode.Inode.{Inode}
 use Rattle.fs_layout.specs.declared.inode.Kind.TheVariants as kinds
 use Rattle.fs_layout.specs.declared.place.Place.{Place}
@@ -78,5 +78,4 @@ pub record IsBlank (v : Inode) : Type 0 where
   pub acl : v.acl ≡ 0
   pub default : v.default_acl ≡ 0
   pub direct : v.direct ≡ replicate DIRECT_BLOCKS 0
-  pub indirect : v.indirect ≡ 0
-  pub double_indirect : v.double_indirect ≡ 0
+  pub indirect : v.indirect ≡ replicate POINTER_LEVELS 0

@@ -4,7 +4,7 @@
 --     may_change_then        between, the inode may be changed
 --     all_freed        the whole
 use Rattle.std.proofs.Common.{◌≡◌, ◌≢◌, ℕ, ◌+◌, ◌/◌, false, [], None, refl, sym, ap, subst, ◌∙◌, arith}
-use Rattle.fs_layout.specs.declared.inode.TheConstants.{DIRECT_BLOCKS}
+use Rattle.fs_layout.specs.declared.inode.TheConstants.{DIRECT_BLOCKS, POINTER_LEVELS}
 use Rattle.fs_layout.specs.declared.inode.Inode.{Inode}
 use Rattle.fs_layout.specs.declared.inode.Kind.TheVariants as kinds
 use Rattle.fs_layout.specs.declared.place.Place.{Place}
@@ -100,7 +100,7 @@ module _ {p : Place} {n : ℕ} {v : Inode} {t0 t1 t2 : TxnState} (sound : IsSoun
 
           none : HasNoSector (record (emptied v) { acl = 0; default_acl = 0 })
           unfolding zeros
-          none = record { acl = refl; default_acl = refl; direct = get_or-zeros DIRECT_BLOCKS; indirect = refl; double_indirect = refl }
+          none = record { acl = refl; default_acl = refl; direct = get_or-zeros DIRECT_BLOCKS; indirect = get_or-zeros POINTER_LEVELS }
 
           frees : ChangesBlocks p v free_inode t2.sectors t5.sectors
           frees =

@@ -1,18 +1,19 @@
 -- Sectors of blocks and of pointers are given back, one after the other.
-use Rattle.std.proofs.Common.{◌≡◌, ◌≢◌, ℕ, zero, suc, ◌+◌, ◌/◌, ◌%◌, [], ◌≤◌, ◌<◌, false, refl, sym, ap, subst, ◌∙◌, arith, inl, inr, ◌⊎◌, IsTrue}
+use Rattle.std.proofs.Common.{◌≡◌, ◌≢◌, ℕ, zero, suc, ◌+◌, ◌-◌, ◌*◌, ◌/◌, ◌%◌, [], ◌≤◌, ◌<◌, false, refl, sym, ap, subst, ◌∙◌, arith, inl, inr, ◌⊎◌, IsTrue}
+use Rattle.std.specs.Prelude.{min, max}
 use Rattle.std.proofs.lemmas.Bool.{cases_eq, cases_lt}
-use Rattle.fs_layout.specs.declared.inode.TheConstants.{DIRECT_BLOCKS, MAX_BLOCKS, SECTOR_POINTERS}
+use Rattle.fs_layout.specs.declared.inode.TheConstants.{DIRECT_BLOCKS, POINTER_LEVELS, SECTOR_POINTERS}
 use Rattle.fs_layout.specs.declared.inode.Inode.{Inode}
 use Rattle.fs_layout.specs.declared.place.Place.{Place}
 use Rattle.fs_layout.specs.Bytes.{SectorMap, IsSector, zeros}
 use Rattle.fs_layout.specs.Inode.{FitsInode}
 use Rattle.fs_layout.specs.Place.{IsPlace}
 use Rattle.fs_layout.proofs.Places.{after_map}
-use Rattle.fs_layout.specs.Images.{HasWholeTables, pointer_in, holder, place_in_holder, number_on, first_block, Part, AccessAcl, DefaultAcl, OnLevel, part, Owns, Holds, byte_in, byte_at, bit, map_bits, free_sectors}
+use Rattle.fs_layout.specs.Images.{HasWholeTables, pointer_in, own_count, holder, place_in_holder, number_on, first_block, Part, AccessAcl, DefaultAcl, OnLevel, part, Owns, Holds, byte_in, byte_at, bit, map_bits, free_sectors}
 use Rattle.fs_layout.specs.InodeChanges.{Keeps, IsOwnedApart, IsBlockMap, ChangesBlocks}
 use Rattle.fs_layout.proofs.Bits.{set_or_clear, not_both, has_bit, free_sectors_kept}
-use Rattle.fs_layout.proofs.Parts.{number_on_indirect, number_on_kept, owned_before, owns_part, part_kept}
-use Rattle.fs_layout.proofs.Pointers.{number_on_held_above, number_on_double, number_on_past, number_on_without, no_number_on, pointer_direct, pointer_past, pointer_without}
+use Rattle.fs_layout.proofs.Parts.{number_on_kept, owned_before, owns_part, part_kept}
+use Rattle.fs_layout.proofs.Pointers.{no_level, no_pointers, number_on_held, pointer_direct, pointer_without}
 use Rattle.fs_layout.proofs.Free.{free_fits}
 use Rattle.fs_layout.proofs.SplicedBytes.{get_or-zeros}
 use Rattle.fs_layout.proofs.UsedInodes.{blocks_fit, with_blocks_fits}
@@ -29,7 +30,7 @@ use Rattle.bit_alloc.specs.Bitmaps.{HasBitmaps, GivesNumber, sector_of}
 use Rattle.bit_alloc.specs.Room.{bitmaps}
 use Rattle.block_map.specs.Steps.{MayChange, IsStepSector, Alters}
 use Rattle.block_map.specs.Contents.{AllowsSize}
-use Rattle.block_map.specs.Drops.{GivesParts, IsInData, IsFor, IsAmong, first_on, emptied}
+use Rattle.block_map.specs.Drops.{GivesParts, IsInData, IsFor, IsAmong, IsFrom, first_on, emptied}
 
 -- ---- one sector is given back
 -- at least as many are free then
@@ -223,94 +224,122 @@ keeps_or_gives {p} {v} {w} {old} {new} place apart g = record {
   low = λ s lt ban. g.others s (low_not_owned apart s lt) ban;
 }
 
--- ---- all of it
--- the numbers on each level from the first on that serve only blocks from `first` on are all those
-pub first_serves : (level i first : ℕ) → first ≤ MAX_BLOCKS → level ≤ 2 → (first ≤ first_block level i → first_on level first ≤ i) × (first_on level first ≤ i → first ≤ first_block level i)
-first_serves zero i first few low = (λ le. le, λ le. le)
-first_serves (suc zero) i first few low = (λ le. let z = le in omega (arith, z), λ le. let z = le in omega (arith, z))
-first_serves (suc (suc zero)) i first few low = (λ le. let z = le in omega (arith, z), λ le. let z = le in omega (arith, z))
-first_serves (suc (suc (suc level))) i first few low = absurd (omega (arith, low))
+-- those of some numbers, and then of the next
+pub among_joined : {p : Place} {v : Inode} {level first k end : ℕ} {old mid new : TxnState} → IsInData p old.sectors v → GivesParts p v (IsAmong level first k) old mid
+    → GivesParts p v (IsAmong level k end) mid new → first ≤ k → k ≤ end → GivesParts p v (IsAmong level first end) old new
+among_joined {level = level} {first} {k} {end} inside a b from to = given_weaker (given_joined inside a b)
+    (λ at way. elim way [
+      | inl w ↦ (w.0, w.1, w.2, (let lt = w.3 in omega (arith, lt, to)))
+      | inr w ↦ (w.0, w.1, (let ge = w.2 in omega (arith, ge, from)), w.3)
+    ])
+    (λ at w. elim (cases_lt w.0 k) [
+      | inl lt ↦ inl (inl (w.0, w.1, w.2, lt))
+      | inr ge ↦ inl (inr (w.0, w.1, ge, w.3))
+    ])
 
--- past these a level has no number
-pub no_number_past : (image : SectorMap) (v : Inode) (i : ℕ) → 1 + SECTOR_POINTERS ≤ i → number_on image v 1 i ≡ 0
-no_number_past image v i ge =
-    number_on_held_above image v i (omega (arith, ge))
-    ∙ ap (λ (s : ℕ). pointer_in image s (place_in_holder 1 i)) (number_on_past image v (holder 1 i) (omega (arith, ge)))
+-- ---- the numbers of a level that one sector of pointers has after the other
+-- those that stand in the inode come first
+pub own_given : {p : Place} {v : Inode} {level first count : ℕ} {old new : TxnState} → GivesParts p v (IsAmong level (min first count) count) old new
+    → GivesParts p v (IsAmong level first (max first (count + SECTOR_POINTERS * ((first - count) / SECTOR_POINTERS)))) old new
+own_given {first = first} {count} g = given_weaker g
+    (λ at w. (w.0, w.1, (let ge = w.2 in let lt = w.3 in omega (arith, ge, lt)), (let lt = w.3 in omega (arith, lt))))
+    (λ at w. inl (w.0, w.1, (let ge = w.2 in omega (arith, ge)), (let ge = w.2 in let lt = w.3 in omega (arith, ge, lt))))
 
-for_from : (first : ℕ) (at : Part) → first ≤ MAX_BLOCKS → ((IsAmong 0 first MAX_BLOCKS at) ⊎ (IsAmong 1 (first_on 1 first) (1 + SECTOR_POINTERS) at)) ⊎ (IsAmong 2 (first_on 2 first) 1 at) → IsFor first at
-for_from first at few way = elim way [
-  | inl one ↦ elim one [
-    | inl w ↦ subst (IsFor first) (sym w.1) w.2
-    | inr w ↦ subst (IsFor first) (sym w.1) ((first_serves 1 w.0 first few (omega arith)).1 w.2)
-  ]
-  | inr w ↦ subst (IsFor first) (sym w.1) ((first_serves 2 w.0 first few (omega arith)).1 w.2)
-]
+-- then those of the next sector
+pub next_given : {p : Place} {v : Inode} {level first : ℕ} {old mid new : TxnState} (count j : ℕ) → IsInData p old.sectors v
+    → GivesParts p v (IsAmong level first (max first (count + SECTOR_POINTERS * j))) old mid → (first - count) / SECTOR_POINTERS ≤ j
+    → GivesParts p v (IsAmong level (max first (count + SECTOR_POINTERS * j)) (count + SECTOR_POINTERS * j + SECTOR_POINTERS)) mid new
+    → GivesParts p v (IsAmong level first (max first (count + SECTOR_POINTERS * (j + 1)))) old new
+next_given {p} {v} {level} {first} {old} {new = new} count j inside a low b =
+    let end : count + SECTOR_POINTERS * j + SECTOR_POINTERS ≡ max first (count + SECTOR_POINTERS * (j + 1)) = omega (arith, low) in
+    subst (λ (m : ℕ). GivesParts p v (IsAmong level first m) old new) end (among_joined inside a b (omega arith) (omega (arith, low)))
 
-from_for : (image : SectorMap) (v : Inode) (first : ℕ) (at : Part) → first ≤ MAX_BLOCKS → IsFor first at
-    → (((IsAmong 0 first MAX_BLOCKS at) ⊎ (IsAmong 1 (first_on 1 first) (1 + SECTOR_POINTERS) at)) ⊎ (IsAmong 2 (first_on 2 first) 1 at)) ⊎ (part image v at ≡ 0)
+-- of which there is none where the sector isn't there
+pub none_listed : (image : SectorMap) (v : Inode) (level count j : ℕ) → own_count level ≡ count → number_on image v (suc level) j ≡ 0 → (i : ℕ) → count + SECTOR_POINTERS * j ≤ i
+    → i < count + SECTOR_POINTERS * j + SECTOR_POINTERS → number_on image v level i ≡ 0
+none_listed image v level count j own none i ge lt =
+    let at : holder (own_count level) i ≡ j = omega (arith, own, ge, lt) in
+    number_on_held image v level i (omega (arith, own, ge))
+    ∙ ap (λ (s : ℕ). pointer_in image s (place_in_holder (own_count level) i)) (ap (number_on image v (suc level)) at ∙ none)
+
+-- and behind the last there is none
+pub level_given : {p : Place} {v : Inode} {level first k : ℕ} {old new : TxnState} → GivesParts p v (IsAmong level first k) old new
+    → ((i : ℕ) → k ≤ i → number_on old.sectors v level i ≡ 0) → GivesParts p v (IsFrom level first) old new
 unfolding part
-from_for image v first AccessAcl few here = absurd here
-from_for image v first DefaultAcl few here = absurd here
-from_for image v first (OnLevel zero k) few here = elim (cases_lt k MAX_BLOCKS) [
-  | inl lt ↦ inl (inl (inl (k, refl, here, lt)))
-  | inr past ↦ inr (pointer_past image v k past)
-]
-from_for image v first (OnLevel (suc zero) i) few here = elim (cases_lt i (1 + SECTOR_POINTERS)) [
-  | inl lt ↦ inl (inl (inr (i, refl, (first_serves 1 i first few (omega arith)).0 here, lt)))
-  | inr past ↦ inr (no_number_past image v i past)
-]
-from_for image v first (OnLevel (suc (suc zero)) i) few here = elim (cases_lt i 1) [
-  | inl lt ↦ inl (inr (i, refl, (first_serves 2 i first few (omega arith)).0 here, lt))
-  | inr past ↦ inr (number_on_past image v i past)
-]
-from_for image v first (OnLevel (suc (suc (suc level))) i) few here = inr (no_number_on image v level i)
-
--- level by level
-pub all_given : {p : Place} {v : Inode} {first : ℕ} {old a b new : TxnState} → IsInData p old.sectors v → first ≤ MAX_BLOCKS → GivesParts p v (IsAmong 0 first MAX_BLOCKS) old a
-    → GivesParts p v (IsAmong 1 (first_on 1 first) (1 + SECTOR_POINTERS)) a b → GivesParts p v (IsAmong 2 (first_on 2 first) 1) b new → GivesParts p v (IsFor first) old new
-all_given {v = v} {first} {old} inside few x y z =
-    given_weaker (given_joined inside (given_joined inside x y) z) (λ at way. for_from first at few way) (λ at here. from_for old.sectors v first at few here)
-
--- the sector of pointers that the inode names is none to give
-pub no_indirect : {p : Place} {v : Inode} {first : ℕ} {txn : TxnState} → HasBitmaps p txn → (DIRECT_BLOCKS < first) ⊎ (v.indirect ≡ 0)
-    → GivesParts p v (IsAmong 1 (first_on 1 first) 1) txn txn
-no_indirect {v = v} {first} {txn} h way = holes_given h (λ i from lt. elim way [
-  | inl past ↦ absurd (omega (arith, from, lt, past))
-  | inr none ↦ ap (number_on txn.sectors v 1) (omega (arith, lt)) ∙ number_on_indirect txn.sectors v ∙ none
+level_given {v = v} {level} {first} {k} {old} g past = given_weaker g (λ at w. (w.0, w.1, w.2)) (λ at w. elim (cases_lt w.0 k) [
+  | inl lt ↦ inl (w.0, w.1, w.2, lt)
+  | inr ge ↦ inr (ap (part old.sectors v) w.1 ∙ past w.0 ge)
 ])
 
--- or it is given
-pub indirect_given : {p : Place} {v : Inode} {first : ℕ} {old new : TxnState} → HasBitmaps p old → IsInData p old.sectors v → first ≤ DIRECT_BLOCKS → v.indirect ≢ 0
-    → GivesNumber p BlockMap v.indirect old.sectors new.sectors → HasBitmaps p new → PutsOnly (λ t. t ≡ sector_of p BlockMap v.indirect) (bitmaps p) 0 old new
-    → GivesParts p v (IsAmong 1 (first_on 1 first) 1) old new
-indirect_given {p} {v} {first} {old} {new} h inside low some given bits puts =
-    let serves : 0 ≡ first_on 1 first = omega (arith, low) in
-    subst (λ (m : ℕ). GivesParts p v (IsAmong 1 m 1) old new) serves
-    (number_given inside (none_among {first = 0} h) (omega arith) (number_on_indirect old.sectors v) some given bits puts)
+-- ---- all of it
+-- the numbers on each level from the first on that serve only blocks from `first` on are all those
+pub first_serves : (level i first : ℕ) → (first ≤ first_block level i → first_on level first ≤ i) × (first_on level first ≤ i → first ≤ first_block level i)
+first_serves zero i first = (λ le. le, λ le. le)
+first_serves (suc level) i first =
+    let below = first_serves level (own_count level + SECTOR_POINTERS * i) first in
+    (λ le. let f = below.0 le in omega (arith, f), λ le. below.1 (let z = le in omega (arith, z)))
 
--- and without a double indirect sector there is no other
-pub all_given_direct : {p : Place} {v : Inode} {first : ℕ} {old mid new : TxnState} → IsInData p old.sectors v → first ≤ MAX_BLOCKS → v.double_indirect ≡ 0
-    → GivesParts p v (IsAmong 0 first MAX_BLOCKS) old mid → GivesParts p v (IsAmong 1 (first_on 1 first) 1) mid new → GivesParts p v (IsFor first) old new
-all_given_direct {v = v} {first} {old} {mid} {new} inside few none x y =
-    all_given inside few x (rest_given y (1 + SECTOR_POINTERS) (omega arith) (λ j ge. number_on_without mid.sectors v j ge none))
-    (holes_given y.tables (λ i from lt. ap (number_on new.sectors v 2) (omega (arith, lt)) ∙ number_on_double new.sectors v ∙ none))
+-- one of the first levels, as many
+abbrev pub IsForBelow : ℕ → ℕ → Part → Type 0
+IsForBelow count first AccessAcl = ⊥
+IsForBelow count first DefaultAcl = ⊥
+IsForBelow count first (OnLevel level i) = (level < count) × (first ≤ first_block level i)
+
+none_below : (first : ℕ) (at : Part) → IsForBelow 0 first at → ⊥
+none_below first AccessAcl here = here
+none_below first DefaultAcl here = here
+none_below first (OnLevel level i) here = let lt = here.0 in omega (arith, lt)
+
+pub none_given_below : {p : Place} {v : Inode} {first : ℕ} {txn : TxnState} → HasBitmaps p txn → GivesParts p v (IsForBelow 0 first) txn txn
+none_given_below {first = first} h = none_given h (none_below first)
+
+below_more : (level first : ℕ) (at : Part) → (IsForBelow level first at) ⊎ (IsFrom level (first_on level first) at) → IsForBelow (level + 1) first at
+below_more level first AccessAcl way = elim way [ inl here ↦ absurd here | inr w ↦ let e = w.1 in absurd cc ]
+below_more level first DefaultAcl way = elim way [ inl here ↦ absurd here | inr w ↦ let e = w.1 in absurd cc ]
+below_more level first (OnLevel n i) way = elim way [
+  | inl here ↦ ((let lt = here.0 in omega (arith, lt)), here.1)
+  | inr w ↦ subst (IsForBelow (level + 1) first) (sym w.1) (omega arith, (first_serves level w.0 first).1 w.2)
+]
+
+more_below : (level first : ℕ) (at : Part) → IsForBelow (level + 1) first at → (IsForBelow level first at) ⊎ (IsFrom level (first_on level first) at)
+more_below level first AccessAcl here = absurd here
+more_below level first DefaultAcl here = absurd here
+more_below level first (OnLevel n i) here = elim (cases_eq n level) [
+  | inl e ↦ inr (i, ap (λ (m : ℕ). OnLevel m i) e, (first_serves level i first).0 (subst (λ (m : ℕ). first ≤ first_block m i) e here.1))
+  | inr ne ↦ inl ((let lt = here.0 in omega (arith, lt, ne)), here.1)
+]
+
+-- one level more
+pub more_given : {p : Place} {v : Inode} {level first : ℕ} {old mid new : TxnState} → IsInData p old.sectors v → GivesParts p v (IsForBelow level first) old mid
+    → GivesParts p v (IsFrom level (first_on level first)) mid new → GivesParts p v (IsForBelow (level + 1) first) old new
+more_given {level = level} {first} inside a b = given_weaker (given_joined inside a b) (below_more level first) (λ at here. inl (more_below level first at here))
+
+all_below : (first : ℕ) (at : Part) → IsForBelow (POINTER_LEVELS + 1) first at → IsFor first at
+all_below first AccessAcl here = here
+all_below first DefaultAcl here = here
+all_below first (OnLevel level i) here = here.1
+
+below_all : (image : SectorMap) (v : Inode) (first : ℕ) (at : Part) → IsFor first at → (IsForBelow (POINTER_LEVELS + 1) first at) ⊎ (part image v at ≡ 0)
+unfolding part
+below_all image v first AccessAcl here = absurd here
+below_all image v first DefaultAcl here = absurd here
+below_all image v first (OnLevel level i) here = elim (cases_lt level (POINTER_LEVELS + 1)) [
+  | inl lt ↦ inl (lt, here)
+  | inr ge ↦ inr (no_level image v level i (omega (arith, ge)))
+]
+
+-- and there are no more
+pub all_given : {p : Place} {v : Inode} {first : ℕ} {old new : TxnState} → GivesParts p v (IsForBelow (POINTER_LEVELS + 1) first) old new → GivesParts p v (IsFor first) old new
+all_given {v = v} {first} {old} g = given_weaker g (all_below first) (below_all old.sectors v first)
 
 -- the inode without it has no block, nor a sector of pointers
 pub emptied_number : (image : SectorMap) (v : Inode) (level i : ℕ) → number_on image (emptied v) level i ≡ 0
 unfolding zeros
 emptied_number image v zero k = elim (cases_lt k DIRECT_BLOCKS) [
   | inl lt ↦ pointer_direct image (emptied v) k lt ∙ get_or-zeros DIRECT_BLOCKS k
-  | inr ge ↦ pointer_without image (emptied v) k ge refl refl
+  | inr ge ↦ pointer_without image (emptied v) k ge (get_or-zeros POINTER_LEVELS)
 ]
-emptied_number image v (suc zero) i = elim (cases_eq i 0) [
-  | inl e ↦ ap (number_on image (emptied v) 1) e ∙ number_on_indirect image (emptied v)
-  | inr ne ↦ number_on_without image (emptied v) i (omega (arith, ne)) refl
-]
-emptied_number image v (suc (suc zero)) i = elim (cases_eq i 0) [
-  | inl e ↦ ap (number_on image (emptied v) 2) e ∙ number_on_double image (emptied v)
-  | inr ne ↦ number_on_past image (emptied v) i (omega (arith, ne))
-]
-emptied_number image v (suc (suc (suc level))) i = no_number_on image (emptied v) level i
+emptied_number image v (suc level) i = no_pointers image (emptied v) (get_or-zeros POINTER_LEVELS) level i
 
 -- and holds nothing
 pub emptied_holds : (image : SectorMap) (v : Inode) → Holds image (emptied v) []

@@ -2,7 +2,7 @@
 use Rattle.std.proofs.Common.{◌≡◌, ℕ, ◌+◌, ◌/◌, ◌%◌, ◌^◌, ◌<◌, ◌≤◌, List, [], ◌++◌, length, replicate, refl, sym, ap, subst, ◌∙◌, arith, IsTrue}
 use Rattle.std.proofs.lemmas.Bool.Decides.{nat_tests}
 use Rattle.std.proofs.lemmas.List.{drop_all, append-nil}
-use Rattle.fs_layout.specs.declared.inode.TheConstants.{DIRECT_BLOCKS}
+use Rattle.fs_layout.specs.declared.inode.TheConstants.{DIRECT_BLOCKS, POINTER_LEVELS}
 use Rattle.fs_layout.specs.declared.inode.Inode.{Inode}
 use Rattle.fs_layout.specs.declared.inode.Kind.TheVariants as kinds
 use Rattle.fs_layout.specs.declared.place.Place.{Place}
@@ -52,8 +52,7 @@ link_of owner group size = record {
   acl = 0;
   default_acl = 0;
   direct = replicate DIRECT_BLOCKS 0;
-  indirect = 0;
-  double_indirect = 0;
+  indirect = replicate POINTER_LEVELS 0;
   mtime = 0;
   ctime = 0;
   atime = 0;
@@ -61,7 +60,7 @@ link_of owner group size = record {
 
 link_has_no_sector : (owner group size : ℕ) → HasNoSector (link_of owner group size)
 unfolding zeros
-link_has_no_sector owner group size = record { acl = refl; default_acl = refl; direct = get_or-zeros DIRECT_BLOCKS; indirect = refl; double_indirect = refl }
+link_has_no_sector owner group size = record { acl = refl; default_acl = refl; direct = get_or-zeros DIRECT_BLOCKS; indirect = get_or-zeros POINTER_LEVELS }
 
 -- it holds zeros
 link_holds_zeros : (image : SectorMap) (owner group size : ℕ) → Holds image (link_of owner group size) (zeros size)

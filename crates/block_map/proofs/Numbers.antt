@@ -1,15 +1,15 @@
 -- The sector of pointers at hand, and the sectors of blocks by it.
-use Rattle.std.proofs.Common.{◌≡◌, ◌≢◌, ℕ, suc, ◌<◌, ◌≤◌, List, refl, sym, ap, subst, ◌∙◌, arith}
-use Rattle.fs_layout.specs.declared.inode.TheConstants.{DIRECT_BLOCKS, MAX_BLOCKS}
+use Rattle.std.proofs.Common.{◌≡◌, ◌≢◌, ℕ, suc, ◌+◌, ◌-◌, ◌*◌, ◌/◌, ◌<◌, ◌≤◌, List, refl, sym, ap, subst, ◌∙◌, arith, inl, inr, ◌⊎◌}
+use Rattle.fs_layout.specs.declared.inode.TheConstants.{DIRECT_BLOCKS, MAX_BLOCKS, POINTER_LEVELS, SECTOR_POINTERS}
 use Rattle.fs_layout.specs.declared.inode.Inode.{Inode}
 use Rattle.fs_layout.specs.Bytes.{SectorMap, zeros}
 use Rattle.fs_layout.specs.Header.{log_end}
-use Rattle.fs_layout.specs.Images.{pointer_in, holder, place_in_holder, number_on, pointer, HasPointers, Owns}
-use Rattle.fs_layout.proofs.Pointers.{number_on_held_above, number_on_past, no_number_on}
-use Rattle.fs_layout.proofs.Parts.{number_on_kept, owns_block, owns_on_level, pointers_kept}
+use Rattle.fs_layout.specs.Images.{own_count, holder, number_on, pointer, HasPointers, OnLevel, part, Owns}
+use Rattle.fs_layout.proofs.Pointers.{no_level, number_past, own_count_above}
+use Rattle.fs_layout.proofs.Parts.{level_is_one, index_is_one, number_on_kept, owns_block, owns_on_level, pointers_kept}
 use Rattle.fs_layout.proofs.Places.{after_map, before_data}
 use Rattle.fs_layout.specs.declared.place.Place.{Place}
-use Rattle.fs_layout.specs.InodeChanges.{Keeps}
+use Rattle.fs_layout.specs.InodeChanges.{Keeps, IsOwnedApart}
 use Rattle.bit_alloc.specs.Bitmaps.{HasBitmaps}
 use Rattle.block_map.specs.Drops.{IsInData}
 use Rattle.sector_txn.specs.Sectors.{TxnState, IsUnchanged}
@@ -20,13 +20,28 @@ use Rattle.block_map.proofs.Sizing.{sized_number}
 
 -- no sector of pointers has an index so high
 pub no_sector_at : (image : SectorMap) (v : Inode) → number_on image v 1 MAX_BLOCKS ≡ 0
-no_sector_at image v =
-    number_on_held_above image v MAX_BLOCKS (omega arith)
-    ∙ ap (λ (s : ℕ). pointer_in image s (place_in_holder 1 MAX_BLOCKS)) (number_on_past image v (holder 1 MAX_BLOCKS) (omega arith))
+no_sector_at image v = number_past image v 1 MAX_BLOCKS (omega arith)
 
--- there is none above the double indirect sector
-pub none_above : (image : SectorMap) (v : Inode) (i : ℕ) (content : List ℕ) → content ≡ zeros 512 → HasPointers image v 3 i content
-none_above image v i content clear = record { is = λ some. absurd (some (no_number_on image v 0 i)); none = λ none. clear }
+-- there is none above the highest level
+pub none_above : (image : SectorMap) (v : Inode) (level i : ℕ) (content : List ℕ) → POINTER_LEVELS < level → content ≡ zeros 512 → HasPointers image v level i content
+none_above image v level i content gt clear = record { is = λ some. absurd (some (no_level image v level i gt)); none = λ none. clear }
+
+-- what was read of the level above has the number
+pub next_pointers : {image : SectorMap} {content : List ℕ} (v : Inode) (level i : ℕ) → level ≢ 0 → HasPointers image v (level + 1) ((i - 1) / SECTOR_POINTERS) content
+    → HasPointers image v (suc level) (holder (own_count level) i) content
+next_pointers {image} {content} v level i ne h =
+    let next : level + 1 ≡ suc level = omega arith in
+    let one : 1 ≡ own_count level = sym (own_count_above level ne) in
+    subst (λ (c : ℕ). HasPointers image v (suc level) ((i - c) / SECTOR_POINTERS) content) one
+    (subst (λ (n : ℕ). HasPointers image v n ((i - 1) / SECTOR_POINTERS) content) next h)
+
+-- so of each number that the sector has
+pub listed_pointers : {image : SectorMap} {content : List ℕ} (v : Inode) (level i j count : ℕ) → own_count level ≡ count → count + SECTOR_POINTERS * j ≤ i
+    → i < count + SECTOR_POINTERS * j + SECTOR_POINTERS → HasPointers image v (level + 1) j content → HasPointers image v (suc level) (holder (own_count level) i) content
+listed_pointers {image} {content} v level i j count own low high h =
+    let next : level + 1 ≡ suc level = omega arith in
+    let at : j ≡ holder (own_count level) i = omega (arith, own, low, high) in
+    subst (λ (m : ℕ). HasPointers image v (suc level) m content) at (subst (λ (n : ℕ). HasPointers image v n j content) next h)
 
 -- near which number a sector is sought is no part of what is at hand
 pub at_hand_near : {image : SectorMap} {b : Blocks} (near : ℕ) → IsAtHand image b → IsAtHand image (record b { near = near })
@@ -77,6 +92,17 @@ pub listed_within : {image : SectorMap} {size n : ℕ} (header : ℕ) (v : Inode
 listed_within {image} header v level i within is some =
     let w = within (number_on image v level i) (owns_on_level image v level i (λ e. some (is ∙ e))) in
     (omega (arith, is, w.0), omega (arith, is, w.1))
+
+-- ---- sectors are told apart
+pub numbers_apart : {p : Place} {image : SectorMap} {v : Inode} → IsOwnedApart p image v → (n m i j : ℕ) → (n ≢ m) ⊎ (i ≢ j) → number_on image v n i ≢ 0
+    → number_on image v n i ≢ number_on image v m j
+unfolding part
+numbers_apart {image = image} {v} apart n m i j ne some e =
+    let same = apart.once (number_on image v n i) (record { at = OnLevel n i; is = refl; some = some }) (record { at = OnLevel m j; is = sym e; some = some }) in
+    elim ne [
+      | inl away ↦ away (level_is_one n m i j same)
+      | inr away ↦ away (index_is_one n m i j same)
+    ]
 
 -- ---- after reads
 module _ {old mid : TxnState} (same : IsUnchanged old mid) where

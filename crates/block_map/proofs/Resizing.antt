@@ -20,7 +20,7 @@ use Rattle.sector_txn.proofs.TransactionRuns.{changes_joined, changes_nothing, c
 use Rattle.bit_alloc.specs.Room.{bitmaps}
 use Rattle.bit_alloc.proofs.Transactions.{unchanged_nothing, puts_after}
 use Rattle.block_map.specs.Contents.{AllowsSize}
-use Rattle.block_map.specs.Drops.{DropsBlocks}
+use Rattle.block_map.specs.Drops.{DropsBlocks, cut_by}
 use Rattle.block_map.specs.Sizes.{HasZeroTail, ClearsTail, Resizes}
 use Rattle.block_map.specs.Steps.{MayChange, IsStepSector, Alters, WritesBlock}
 use Rattle.block_map.proofs.Alterings.{alters_joined, may_after, fields_same, acls_kept, altered_after}
@@ -29,13 +29,20 @@ use Rattle.block_map.proofs.Runs.{same_map}
 use Rattle.block_map.proofs.Writings.{free_after_put, there_kept, writes_block_there}
 use Rattle.block_map.proofs.Wrote.{free_same}
 
+-- besides the block that is cut
+at_least_none : (more : ℕ) → 0 ≤ 1 + more
+at_least_none more = omega arith
+
+at_least_one : (more : ℕ) → 1 ≤ 1 + more
+at_least_one more = omega arith
+
 -- ---- a longer one
 pub grows : {p : Place} {old : TxnState} {v : Inode} (m : ℕ) → MayChange p old v → AllowsSize v.kind m → m ≤ MAX_FILE_SIZE → v.size ≤ m
     → Resizes p m old old v (record v { size = m })
 unfolding zeros
 grows {p} {old} {v} m may allowed few le = record {
   alters = sized m may unchanged_nothing allowed few;
-  puts = changes_weaker {Q = IsStepSector p} (λ t r. r) (omega arith) (changes_nothing {R = IsStepSector p} (bitmaps p));
+  puts = changes_weaker {Q = IsStepSector p} (λ t r. r) (at_least_none (cut_by ((m + 511) / 512))) (changes_nothing {R = IsStepSector p} (bitmaps p));
   held = λ bytes h.
       let z = h.size in
       subst (λ (r : List ℕ). Holds old.sectors (record v { size = m }) (r ++ replicate (m - length bytes) 0)) (sym (take_all m bytes (omega (arith, z, le))))
@@ -203,7 +210,7 @@ resizes_last {p} {m} {old} {start} {new} {u} {v} may allowed le small same e cle
     let steps : Alters p old new v v = altered_after same t.alters in
     record {
       alters = alters_joined steps (sized m (may_after may steps) unchanged_nothing allowed (omega (arith, le, small)));
-      puts = changes_weaker {Q = IsStepSector p} (λ n r. r) (omega arith) (puts_after same t.puts);
+      puts = changes_weaker {Q = IsStepSector p} (λ n r. r) (at_least_one (cut_by ((m + 511) / 512))) (puts_after same t.puts);
       held = λ bytes h.
           let z = h.size in
           let there = t.held bytes (subst (λ (image : SectorMap). Holds image v bytes) (sym map) h) in

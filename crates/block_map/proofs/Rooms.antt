@@ -2,10 +2,12 @@
 use Rattle.std.proofs.Common.{◌≡◌, ℕ, zero, suc, ◌+◌, ◌≤◌, ◌<◌, Bool, true, false, cond, List, [], ◌∷◌, ◌++◌, refl, sym, ap, arith, inl, inr}
 use Rattle.std.proofs.lemmas.Bool.{true≢false, cases_eq}
 use Rattle.fs_layout.specs.declared.inode.Inode.{Inode}
+use Rattle.fs_layout.specs.declared.place.Place.{Place}
 use Rattle.fs_layout.specs.Bytes.{SectorMap}
 use Rattle.fs_layout.specs.Images.{number_on}
 use Rattle.sector_txn.specs.Sectors.{TxnState, PutsOnly, lacking}
 use Rattle.sector_txn.proofs.TransactionRuns.{lacking_less}
+use Rattle.bit_alloc.specs.Room.{bitmaps, HasSpare}
 use Rattle.block_map.specs.Steps.{numbers_on}
 
 -- the room that one sector needs
@@ -177,3 +179,35 @@ lacks_among txn image v level first (suc count) i from to ns =
           let rest = lacks_among txn image v level (first + 1) count i (omega (arith, from, ne)) (omega (arith, to)) ns in
           omega (arith, rest, a)
     ]
+
+-- nor do they where one more is put with them
+pub room_among : (old new : TxnState) → ((n : ℕ) → old.has_put n ≡ true → new.has_put n ≡ true) → (image : SectorMap) (v : Inode) (level first count i : ℕ) → first ≤ i → i < first + count
+    → (x : ℕ) (ns : List ℕ) → lacking new (x ∷ (numbers_on image v level first count ++ ns)) + lacking old (number_on image v level i ∷ ns)
+    ≤ lacking old (numbers_on image v level first count ++ ns) + lacking new (x ∷ (number_on image v level i ∷ ns))
+room_among old new kept image v level first count i from to x ns =
+    let f = falls_with old new kept image v level first count i from to in
+    let a = lacking-cons new x (numbers_on image v level first count ++ ns) in
+    let b = lacking-append new (numbers_on image v level first count) ns in
+    let c = lacking-append old (numbers_on image v level first count) ns in
+    let d = lacking-cons new x (number_on image v level i ∷ ns) in
+    let e = lacking-cons new (number_on image v level i) ns in
+    let g = lacking-cons old (number_on image v level i) ns in
+    omega (arith, f, a, b, c, d, e, g)
+
+-- ---- room for several steps
+pub spare_one : (p : Place) (txn : TxnState) (more : ℕ) → HasSpare p (1 + more) txn → HasSpare p 1 txn
+spare_one p txn more spare = omega (arith, spare)
+
+pub spare_none : (p : Place) (txn : TxnState) (more : ℕ) → HasSpare p more txn → HasSpare p 0 txn
+spare_none p txn more spare = omega (arith, spare)
+
+pub spare_but_one : (p : Place) (txn : TxnState) (more : ℕ) → HasSpare p (more + 1) txn → HasSpare p more txn
+spare_but_one p txn more spare = omega (arith, spare)
+
+-- after the first one
+pub spare_after_one : (p : Place) {R : ℕ → Type 0} {old new : TxnState} (more : ℕ) → HasSpare p (1 + more) old → PutsOnly R (bitmaps p) 1 old new → HasSpare p more new
+spare_after_one p more spare puts = let room = puts.room in omega (arith, spare, room)
+
+-- for the last one
+pub spare_last : (p : Place) {R : ℕ → Type 0} {old new : TxnState} (more : ℕ) → HasSpare p (more + 1) old → PutsOnly R (bitmaps p) more old new → 0 < new.room
+spare_last p more spare puts = let room = puts.room in omega (arith, spare, room)

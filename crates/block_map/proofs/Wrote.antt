@@ -1,12 +1,11 @@
 -- Bytes are written and the inode is saved.
 use Rattle.std.proofs.Common.{◌≡◌, ◌≢◌, ℕ, ◌+◌, ◌-◌, ◌/◌, ◌%◌, ◌≤◌, ◌<◌, ◌*◌, zero, suc, List, [], ◌∷◌, ◌++◌, length, refl, sym, ap, subst, ◌∙◌, arith, inl, inr}
-use Rattle.std.specs.Prelude.{max, Contains}
-use Rattle.std.proofs.lemmas.Bool.{cases_lt}
-use Rattle.fs_layout.specs.declared.inode.TheConstants.{DIRECT_BLOCKS, MAX_BLOCKS, MAX_FILE_SIZE}
+use Rattle.std.specs.Prelude.{max, min, Contains}
+use Rattle.fs_layout.specs.declared.inode.TheConstants.{MAX_BLOCKS, MAX_FILE_SIZE, OLDER_FILE_SIZE, POINTER_LEVELS, SECTOR_POINTERS}
 use Rattle.fs_layout.specs.declared.inode.Inode.{Inode}
 use Rattle.fs_layout.specs.declared.place.Place.{Place}
 use Rattle.fs_layout.specs.Bytes.{SectorMap, IsSector, zeros, overwritten}
-use Rattle.fs_layout.specs.Images.{holder, number_on, pointer, Holds, HasNoHole, inode_at, free_sectors}
+use Rattle.fs_layout.specs.Images.{own_count, number_on, place_in_holder, pointer, Holds, HasNoHole, inode_at, free_sectors}
 use Rattle.fs_layout.specs.InodeChanges.{Saves}
 use Rattle.fs_layout.proofs.Parts.{Holds-kept, HasNoHole-kept, owns_block, owns_on_level}
 use Rattle.fs_layout.proofs.Places.{after_map, before_data}
@@ -17,10 +16,11 @@ use Rattle.bit_alloc.specs.Inodes.{IsSound}
 use Rattle.bit_alloc.proofs.Transactions.{puts_after}
 use Rattle.block_map.specs.Blocks.{IsWithin}
 use Rattle.block_map.specs.Contents.{AllowsSize}
+use Rattle.block_map.specs.Drops.{cut_below, cut_by, first_above, first_on}
 use Rattle.block_map.specs.Sizes.{put_to}
-use Rattle.block_map.specs.Steps.{MayChange, IsStepSector, lacks_above, lacks_pointers, pointer_sectors, sectors_above, WritesBlocks, blocks_to, taken_by, put_by}
+use Rattle.block_map.specs.Steps.{MayChange, IsStepSector, pointer_sectors, WritesBlocks, blocks_to, taken_by, put_by}
 use Rattle.block_map.proofs.Alterings.{alters_joined}
-use Rattle.block_map.proofs.Counts.{empty_few, lack_few, lacks_few, lacks_pointers_is, no_lacks, taken_is}
+use Rattle.block_map.proofs.Counts.{lacks_few, lacks_pointers_most, pointers_any, pointers_few, pointers_in_block, taken_is}
 use Rattle.block_map.proofs.Rooms.{puts_beside}
 use Rattle.block_map.proofs.Runs.{same_map}
 use Rattle.block_map.proofs.Saving.{IsEnded, saved_after}
@@ -60,33 +60,16 @@ pub limit_at : (m size offset len limit : ℕ) → m ≡ max size (offset + len)
 limit_at m size offset len limit is within few least most small = omega (arith, is, within, few, least, most, small)
 
 -- ---- how many sectors are taken
-few_above : (image : SectorMap) (v : Inode) (last : ℕ) → lacks_above image v last ≤ 1
-few_above image v zero = omega arith
-few_above image v (suc last) = lack_few image v 2 0
-
--- those of pointers are no more than three
-pointers_few : (image : SectorMap) (v : Inode) (first end : ℕ) → end ≤ first + 9 → first ≤ end → end ≤ MAX_BLOCKS → lacks_pointers image v first end ≤ 3
-pointers_few image v first end near le few = elim (cases_lt DIRECT_BLOCKS end) [
-  | inr low ↦ let none = no_lacks image v first end low in omega (arith, none)
-  | inl far ↦ elim (cases_lt first end) [
-    | inl lt ↦
-        let last : ℕ = holder DIRECT_BLOCKS (end - 1) in
-        let from : ℕ = holder DIRECT_BLOCKS first in
-        let count = lacks_pointers_is image v first end far lt few in
-        let one = few_above image v last in
-        let some = lacks_few image v 1 from (last + 1 - from) in
-        omega (arith, count, one, some, near)
-    | inr past ↦ empty_few image v first end (omega (arith, past, le))
-  ]
-]
-
-pub taken_few : (image : SectorMap) (v : Inode) (offset len : ℕ) → len ≤ 4096 → offset + len ≤ 512 * MAX_BLOCKS → taken_by image v offset len ≤ 12
+pub taken_few : (image : SectorMap) (v : Inode) (offset len : ℕ) → len ≤ 4096 → offset + len ≤ 512 * MAX_BLOCKS → taken_by image v offset len ≤ 14
 taken_few image v offset len few limit =
     let end : ℕ = blocks_to (offset + len) in
     let some = lacks_few image v 0 (offset / 512) (end - offset / 512) in
-    let more = pointers_few image v (offset / 512) end (omega (arith, few)) (omega arith) (omega (arith, limit)) in
-    let is = taken_is image v offset len in
-    omega (arith, is, some, more, few)
+    let more = lacks_pointers_most image v (offset / 512) end in
+    let pointers = pointers_few (offset / 512) end (omega (arith, few)) (omega (arith, limit)) in
+    all_few _ _ _ _ (taken_is image v offset len) (omega (arith, some, few)) more pointers
+  where
+    all_few : (taken blocks lack most : ℕ) → taken ≡ blocks + lack → blocks ≤ 9 → lack ≤ most → most ≤ 5 → taken ≤ 14
+    all_few taken blocks lack most is one two three = omega (arith, is, one, two, three)
 
 -- the size says nothing of it, nor do reads
 pub taken_same : (old mid : TxnState) (v : Inode) (m offset len : ℕ) → IsUnchanged old mid → taken_by mid.sectors (record v { size = m }) offset len ≡ taken_by old.sectors v offset len
@@ -99,24 +82,51 @@ pub free_same : (p : Place) (old mid : TxnState) → IsUnchanged old mid → fre
 free_same p old mid same = ap (free_sectors p) (same_map old.sectors mid.sectors same.sectors)
 
 -- ---- how many sectors are put
-one_above : (last : ℕ) → sectors_above last ≤ 1
-one_above zero = omega arith
-one_above (suc last) = omega arith
+-- 16 at most
+pub put_few : (offset len : ℕ) → len ≤ 4096 → put_by offset len ≤ 16
+put_few offset len few = all_few _ _ (omega (arith, few)) (pointers_any (offset / 512) (blocks_to (offset + len)) (omega (arith, few)))
+  where
+    all_few : (blocks pointers : ℕ) → blocks ≤ 9 → pointers ≤ 6 → blocks + pointers + 1 ≤ 16
+    all_few blocks pointers one two = omega (arith, one, two)
 
--- 13 at most
-pub put_few : (offset len : ℕ) → len ≤ 4096 → put_by offset len ≤ 13
-put_few offset len few = let one = one_above (holder DIRECT_BLOCKS (blocks_to (offset + len) - 1)) in omega (arith, few, one)
+-- on each level that is cut at most one
+cut_few : (levels first : ℕ) → cut_below levels first ≤ levels
+cut_few zero first = omega arith
+cut_few (suc level) first = one_more (cut_below level first) (place_in_holder (own_count level) (first_on level first)) (cut_few level first)
+  where
+    one_more : (rest left : ℕ) → rest ≤ level → rest + min left 1 ≤ suc level
+    one_more rest left few = omega (arith, few)
 
--- 4 at most for another size
-pub put_to_few : (size : ℕ) → put_to size ≤ 4
-put_to_few size = omega arith
+-- 5 at most for another size
+pub put_to_few : (size : ℕ) → put_to size ≤ 5
+put_to_few size = with_two (cut_by (blocks_to size)) (cut_few POINTER_LEVELS (blocks_to size))
+  where
+    with_two : (cuts : ℕ) → cuts ≤ 3 → 1 + cuts + 1 ≤ 5
+    with_two cuts few = omega (arith, few)
+
+-- 4 at most where it needs no more than two levels, as a directory's
+pub put_to_fewer : (size : ℕ) → size ≤ OLDER_FILE_SIZE → put_to size ≤ 4
+put_to_fewer size small =
+    let first : first_on 1 (blocks_to size) ≤ 1 + SECTOR_POINTERS = omega (arith, small) in
+    with_two (cut_below 2 (blocks_to size)) (place_in_holder 1 (first_on 2 (blocks_to size))) (cut_few 2 (blocks_to size)) (alone (first_on 1 (blocks_to size)) first)
+  where
+    alone : (first : ℕ) → first ≤ 1 + SECTOR_POINTERS → place_in_holder 1 (first_above 1 first) ≡ 0
+    alone first few = let one : first_above 1 first ≤ 1 = omega (arith, few) in below (first_above 1 first) one
+      where
+        below : (above : ℕ) → above ≤ 1 → place_in_holder 1 above ≡ 0
+        below above one = omega (arith, one)
+
+    with_two : (cuts left : ℕ) → cuts ≤ 2 → left ≡ 0 → 1 + (cuts + min left 1) + 1 ≤ 4
+    with_two cuts left few none = omega (arith, few, none)
 
 -- 4 at most where the bytes are those of one block, as a slot of a directory
-pub put_in_block : (offset len : ℕ) → 0 < len → offset % 512 + len ≤ 512 → put_by offset len ≤ 4
-put_in_block offset len some within =
+pub put_in_block : (offset len : ℕ) → 0 < len → offset % 512 + len ≤ 512 → offset + len ≤ OLDER_FILE_SIZE → put_by offset len ≤ 4
+put_in_block offset len some within small =
     let end : blocks_to (offset + len) ≡ offset / 512 + 1 = omega (arith, some, within) in
-    let one = one_above (holder DIRECT_BLOCKS (blocks_to (offset + len) - 1)) in
-    omega (arith, end, one)
+    all_few _ _ (omega (arith, end)) (pointers_in_block (offset / 512) (blocks_to (offset + len)) (omega (arith, end)) (omega (arith, small)))
+  where
+    all_few : (blocks pointers : ℕ) → blocks ≤ 1 → pointers ≤ 2 → blocks + pointers + 1 ≤ 4
+    all_few blocks pointers one two = omega (arith, one, two)
 
 -- ---- the whole call
 module _ {p : Place} {n m offset : ℕ} {x : List ℕ} {old mid done new : TxnState} {u v w : Inode}

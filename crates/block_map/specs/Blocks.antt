@@ -1,6 +1,7 @@
 -- The blocks of an inode, and what is read of it.
 --     IsWithin        an inode's sectors can be read
 --     IsAtHand, IsLoaded        the sector of pointers at hand; it is the one that has a block's number
+--     IsTaken        what is at hand once a sector of pointers is taken
 --     IsMadeOfBlock        what was made of a block where it stands
 --     IsReadOf        what a read gives
 use Rattle.std.specs.Prelude.{◌≡◌, ◌≢◌, ℕ, ◌+◌, ◌-◌, ◌*◌, ◌<◌, ◌≤◌, List, ◌++◌, length, get_or, drop, min}
@@ -25,6 +26,13 @@ pub record IsAtHand (image : SectorMap) (b : Blocks) : Type 0 where
 pub record IsLoaded (image : SectorMap) (b : Blocks) (k : ℕ) : Type 0 where
   pub at_hand : IsAtHand image b
   pub index : DIRECT_BLOCKS ≤ k → b.index ≡ holder DIRECT_BLOCKS k
+
+-- it stays at hand, or where a sector of pointers to blocks is taken that one is, of zeros; the next is sought near it
+pub record IsTaken (level i s : ℕ) (old new : Blocks) : Type 0 where
+  pub inode : new.inode ≡ old.inode
+  pub near : new.near ≡ s
+  pub here : level ≡ 1 → (new.index ≡ i) × (new.sector ≡ s) × (new.pointers ≡ zeros 512)
+  pub others : level ≢ 1 → (new.index ≡ old.index) × (new.sector ≡ old.sector) × (new.pointers ≡ old.pointers)
 
 -- it was made of the bytes of block k
 pub record IsMadeOfBlock {T : Type 0} (image : SectorMap) (v : Inode) (k : ℕ) (IsMadeOf : List ℕ → T → Type 0) (x : T) : Type 0 where

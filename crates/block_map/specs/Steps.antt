@@ -3,20 +3,20 @@
 --     IsStepSector, HasRoomFor        the sectors that a step puts, and the room for them
 --     Alters        what a step leaves alone
 --     hole, holes, lacks_pointers        how many sectors a block lacks, blocks lack, and their pointers
---     numbers_on, pointers_to        numbers of a level, one after the other; the sector of pointers that has a block's number
---     IsAbove        the sector in which a sector of pointers is listed
---     AddsSector, AddsAbove, AddsPointers        the inode gets a sector of pointers, the one above, or all that blocks need
+--     most_from, most_for, pointer_sectors        how many sectors numbers of a level have, with those by which they are found
+--     numbers_on, sectors_to, pointers_to        numbers of a level, one after the other; the sector in which a number stands
+--     AddsSector, AddsNumbers, AddsPointers        the inode gets a sector of pointers, several of a level, or all that blocks need
 --     WritesBlock, WritesBlocks        bytes of one block are written, and of several
 --     blocks_to, taken_by, put_by        the blocks that bytes reach, and the sectors that they take and put
 use Rattle.std.specs.Prelude.{◌≡◌, ◌≢◌, ◌⊎◌, ℕ, zero, suc, ◌+◌, ◌*◌, ◌<◌, ◌≤◌, ◌-◌, ◌/◌, nat_eq, nat_lt, if◌then◌else◌, count_by, List, [], ◌∷◌, ◌++◌, length}
 use Rattle.std.specs.List.{range_with_len}
-use Rattle.fs_layout.specs.declared.inode.TheConstants.{DIRECT_BLOCKS}
+use Rattle.fs_layout.specs.declared.inode.TheConstants.{DIRECT_BLOCKS, POINTER_LEVELS}
 use Rattle.fs_layout.specs.declared.inode.Inode.{Inode}
 use Rattle.fs_layout.specs.declared.inode.Kind.TheVariants as kinds
 use Rattle.fs_layout.specs.declared.place.Place.{Place}
 use Rattle.fs_layout.specs.Bytes.{SectorMap, splice}
 use Rattle.fs_layout.specs.Inode.{FitsInode}
-use Rattle.fs_layout.specs.Images.{IsData, holder, number_on, pointer, Holds, free_sectors}
+use Rattle.fs_layout.specs.Images.{IsData, own_count, holder, number_on, pointer, Holds, free_sectors}
 use Rattle.fs_layout.specs.InodeChanges.{IsOwnedApart, ChangesBlocks}
 use Rattle.fs_layout.specs.Lacking.{lacks_from, lacks}
 use Rattle.sector_txn.specs.Sectors.{TxnState, PutsOnly, lacking}
@@ -66,39 +66,42 @@ holes image v first count = lacks_on image v 0 first count
 -- how many sectors of pointers the blocks from `first` up to `end` lack
 abbrev pub lacks_pointers : SectorMap → Inode → ℕ → ℕ → ℕ
 lacks_pointers image v first end =
-    if nat_lt DIRECT_BLOCKS end then lacks_from image v 2 1 (holder DIRECT_BLOCKS first) (holder DIRECT_BLOCKS (end - 1) + 1) else 0
+    if nat_lt DIRECT_BLOCKS end then lacks_from image v POINTER_LEVELS 1 (holder DIRECT_BLOCKS first) (holder DIRECT_BLOCKS (end - 1) + 1) else 0
 
--- how many sectors are above those with the indices up to `last`
-abbrev pub sectors_above : ℕ → ℕ
-sectors_above zero = 0
-sectors_above (suc last) = 1
+-- how many sectors a level's numbers from `first` up to `end` are, with those by which they are found, on so many levels
+abbrev pub most_from : ℕ → ℕ → ℕ → ℕ → ℕ
+most_from zero level first end = 0
+most_from (suc more) level first end =
+    end - first
+    + (if nat_lt (own_count level) end then
+    most_from more (suc level) (holder (own_count level) first) (holder (own_count level) (end - 1) + 1) else 0)
 
--- how many they lack
-abbrev pub lacks_above : SectorMap → Inode → ℕ → ℕ
-lacks_above image v zero = 0
-lacks_above image v (suc last) = lack image v 2 0
+abbrev pub most_for : ℕ → ℕ → ℕ → ℕ
+most_for level first end = most_from (POINTER_LEVELS + 1 - level) level first end
 
 -- how many sectors of pointers these blocks have, at most
 abbrev pub pointer_sectors : ℕ → ℕ → ℕ
-pointer_sectors first end = holder DIRECT_BLOCKS (end - 1) + 1 - holder DIRECT_BLOCKS first + sectors_above (holder DIRECT_BLOCKS (end - 1))
+pointer_sectors first end =
+    if nat_lt DIRECT_BLOCKS end then most_from POINTER_LEVELS 1 (holder DIRECT_BLOCKS first) (holder DIRECT_BLOCKS (end - 1) + 1) else 0
 
 -- so many numbers of a level, from `first` on
 abbrev pub numbers_on : SectorMap → Inode → ℕ → ℕ → ℕ → List ℕ
 numbers_on image v level first zero = []
 numbers_on image v level first (suc count) = number_on image v level first ∷ numbers_on image v level (first + 1) count
 
--- the sector of pointers that has the number of block k, if that doesn't stand in the inode
+-- the sector of pointers that has number i of a level, if that doesn't stand in the inode
+abbrev pub sectors_to : SectorMap → Inode → ℕ → ℕ → List ℕ
+sectors_to image v level i =
+    if nat_lt i (own_count level) then [] else number_on image v (suc level) (holder (own_count level) i) ∷ []
+
+-- so that of block k
 abbrev pub pointers_to : SectorMap → Inode → ℕ → List ℕ
-pointers_to image v k = if nat_lt k DIRECT_BLOCKS then [] else number_on image v 1 (holder DIRECT_BLOCKS k) ∷ []
+pointers_to image v k = sectors_to image v 0 k
 
 -- those that blocks from `first` up to `end` have
 abbrev pub pointers_of : SectorMap → Inode → ℕ → ℕ → List ℕ
 pointers_of image v first end =
     if nat_lt DIRECT_BLOCKS end then numbers_on image v 1 (holder DIRECT_BLOCKS first) (holder DIRECT_BLOCKS (end - 1) + 1 - holder DIRECT_BLOCKS first) else []
-
--- the sector in which the number of a sector of pointers with this index stands, if it doesn't stand in the inode
-abbrev pub IsAbove : SectorMap → Inode → ℕ → List ℕ → Type 0
-IsAbove image v index ns = (index ≡ 0) ⊎ (ns ≡ number_on image v 2 0 ∷ [])
 
 -- Number i of a level of pointers is there. If it wasn't, it is a new sector, of zeros; besides it at most `ns` were put.
 pub record AddsSector (p : Place) (ns : List ℕ) (level i : ℕ) (old new : TxnState) (v w : Inode) : Type 0 where
@@ -112,16 +115,19 @@ pub record AddsSector (p : Place) (ns : List ℕ) (level i : ℕ) (old new : Txn
   pub held : (bytes : List ℕ) → Holds old.sectors v bytes → Holds new.sectors w bytes
   pub free : free_sectors p old.sectors ≤ free_sectors p new.sectors + lack old.sectors v level i
 
--- the double indirect sector is there, if the sectors of pointers with the indices up to `last` need it
-pub record AddsAbove (p : Place) (last : ℕ) (old new : TxnState) (v w : Inode) : Type 0 where
+-- a level's numbers from `first` up to `end` are there, and those by which they are found
+pub record AddsNumbers (p : Place) (level first end : ℕ) (old new : TxnState) (v w : Inode) : Type 0 where
   pub alters : Alters p old new v w
-  pub puts : PutsOnly (IsStepSector p) (bitmaps p) (sectors_above last) old new
-  pub room : old.room + lacking new (numbers_on new.sectors w 2 0 (sectors_above last) ++ bitmaps p) ≤ new.room + lacking old (bitmaps p) + sectors_above last
+  pub puts : PutsOnly (IsStepSector p) (bitmaps p) (most_for level first end) old new
+  -- the room that is left, where they may be put again
+  pub room : old.room + lacking new (numbers_on new.sectors w level first (end - first) ++ bitmaps p)
+      ≤ new.room + lacking old (bitmaps p) + most_for level first end
   pub size : w.size ≡ v.size
-  pub there : last ≢ 0 → number_on new.sectors w 2 0 ≢ 0
-  pub others : (n j : ℕ) → n ≢ 2 → number_on new.sectors w n j ≡ number_on old.sectors v n j
+  pub has : (i : ℕ) → first ≤ i → i < end → number_on new.sectors w level i ≢ 0
+  pub below : (n i : ℕ) → n < level → number_on new.sectors w n i ≡ number_on old.sectors v n i
+  pub others : (i : ℕ) → (i < first) ⊎ (end ≤ i) → number_on new.sectors w level i ≡ number_on old.sectors v level i
   pub held : (bytes : List ℕ) → Holds old.sectors v bytes → Holds new.sectors w bytes
-  pub free : free_sectors p old.sectors ≤ free_sectors p new.sectors + lacks_above old.sectors v last
+  pub free : free_sectors p old.sectors ≤ free_sectors p new.sectors + lacks_from old.sectors v (POINTER_LEVELS + 1 - level) level first end
 
 -- the inode has the sectors of pointers that the blocks from `first` up to `end` need
 pub record AddsPointers (p : Place) (first end : ℕ) (old new : TxnState) (v w : Inode) : Type 0 where

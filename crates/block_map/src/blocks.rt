@@ -3,7 +3,7 @@
 ghost use Rattle.std.specs.Prelude.{◌≡◌, ◌≢◌, ◌≤◌, ◌<◌, ◌+◌, ◌*◌, ◌^◌, ℕ, length, get_or, false, IfOk, OnOk};
 ghost use Rattle.std.specs.Fn.{FnOnceReturnsAt};
 ghost use Rattle.sector_disk.specs.Disk.{HasCause};
-ghost use Rattle.fs_layout.specs.declared.inode.TheConstants.{DIRECT_BLOCKS, SECTOR_POINTERS};
+ghost use Rattle.fs_layout.specs.declared.inode.TheConstants.{DIRECT_BLOCKS, POINTER_LEVELS, SECTOR_POINTERS};
 ghost use Rattle.fs_layout.specs.Bytes.{SectorMap, splice, le32};
 ghost use Rattle.fs_layout.specs.Header.{log_end};
 ghost use Rattle.fs_layout.specs.Images.{HasPointers, HasPointersAbove, byte_in, byte_at, number_on, place_in_holder, pointer};
@@ -11,7 +11,7 @@ ghost use Rattle.sector_txn.specs.Sectors.{IsUnchanged, IsPut};
 ghost use Rattle.block_map.specs.Blocks.{IsWithin};
 
 use byteorder::{ByteOrder, LittleEndian};
-use fs_layout::{DIRECT_BLOCKS, Inode, MAX_BLOCKS, SECTOR_POINTERS};
+use fs_layout::{DIRECT_BLOCKS, Inode, MAX_BLOCKS, POINTER_LEVELS, SECTOR_POINTERS};
 use sector_disk::DiskFault;
 use sector_txn::Sectors;
 
@@ -68,35 +68,40 @@ pub(crate) fn read_listed<S: Sectors>(
     Ok(number)
 }
 
-/// Reads the sector of pointers to blocks with this index, counted from the one that the inode names, and answers its number: 0 where
-/// there is none, and zeros are read.
+/// Reads the sector of pointers that is number `i` of a level, zeros where there is none, with those by which it is found, and answers
+/// its number.
 ///
 /// At `Err` nothing is said of `content`.
 pub(crate) fn read_pointers<S: Sectors>(
     s: &mut S,
     inode: &Inode,
-    index: u64,
+    level: usize,
+    i: u64,
     content: &mut [u8; 512],
 ) -> Result<u32, DiskFault>
     requires within { IsWithin (S.state s.old).header (S.state s.old).disk.size (S.state s.old).sectors inode.now }
-    ensures number { IfOk result (λ n. n ≡ number_on (S.state s.old).sectors inode.now 1 index) }
-    ensures content { OnOk result (HasPointers (S.state s.old).sectors inode.now 1 index content.new) }
+    requires level { (1 ≤ level) × (level ≤ POINTER_LEVELS + 1) }
+    ensures number { IfOk result (λ n. n ≡ number_on (S.state s.old).sectors inode.now level i) }
+    ensures content { OnOk result (HasPointers (S.state s.old).sectors inode.now level i content.new) }
     ensures same { IsUnchanged (S.state s.old) (S.state s.new) }
     ensures cause { HasCause (S.state s.old).disk (S.state s.new).disk result }
 {
-    if index == 0 {
-        let number = read_listed(s, inode, 1, index, content)?;
+    // There is no level above the highest.
+    if level > POINTER_LEVELS {
+        content.fill(0);
+        return Ok(0);
+    }
+    if i == 0 {
+        let number = read_listed(s, inode, level, i, content)?;
         return Ok(number);
     }
-    // Above the double indirect sector there is none.
-    content.fill(0);
-    read_listed(s, inode, 2, (index - 1) / SECTOR_POINTERS, content)?;
-    let number = read_listed(s, inode, 1, index, content)?;
+    read_pointers(s, inode, level + 1, (i - 1) / SECTOR_POINTERS, content)?;
+    let number = read_listed(s, inode, level, i, content)?;
     Ok(number)
 }
 
 impl Blocks {
-    ghost use Rattle.block_map.specs.Blocks.{IsAtHand, IsLoaded, IsMadeOfBlock};
+    ghost use Rattle.block_map.specs.Blocks.{IsAtHand, IsLoaded, IsMadeOfBlock, IsTaken};
 
     /// The blocks of an inode.
     pub fn new(inode: &Inode) -> Blocks
@@ -131,7 +136,7 @@ impl Blocks {
         if index == self.index {
             return Ok(());
         }
-        self.sector = read_pointers(s, &self.inode, index, &mut self.pointers)?;
+        self.sector = read_pointers(s, &self.inode, 1, index, &mut self.pointers)?;
         self.index = index;
         Ok(())
     }
@@ -141,6 +146,18 @@ impl Blocks {
         ensures { (image : SectorMap) → IsLoaded image self.now k → result ≡ pointer image self.now.inode k }
     {
         self.inode.number(0, &self.pointers, k)
+    }
+
+    /// A sector of pointers was taken, which is number `i` of a level: one to blocks is at hand then, as zeros.
+    pub(crate) fn was_taken(&mut self, level: usize, i: u64, number: u32)
+        ensures { IsTaken level i number self.old self.new }
+    {
+        self.near = number;
+        if level == 1 {
+            self.index = i;
+            self.sector = number;
+            self.pointers = [0; BLOCK];
+        }
     }
 
     /// Reads block `k`; a hole reads as zeros.

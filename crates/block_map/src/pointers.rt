@@ -1,112 +1,69 @@
 //! Sectors of pointers are taken, where blocks need them.
 
-ghost use Rattle.std.specs.Prelude.{◌≡◌, ◌≢◌, ◌≤◌, ◌<◌, ◌+◌, ◌*◌, ◌%◌, ◌-◌, ◌⊎◌, ℕ, List, [], ◌∷◌, Err, OnOk};
-ghost use Rattle.fs_layout.specs.declared.inode.TheConstants.{DIRECT_BLOCKS, MAX_BLOCKS, SECTOR_POINTERS};
-ghost use Rattle.fs_layout.specs.Images.{HasPointers, first_block, holder, number_on, free_sectors};
+ghost use Rattle.std.specs.Prelude.{◌≡◌, ◌≢◌, ◌≤◌, ◌<◌, ◌+◌, ◌*◌, ◌-◌, suc, [], ◌∷◌, Err, OnOk};
+ghost use Rattle.fs_layout.specs.declared.inode.TheConstants.{DIRECT_BLOCKS, MAX_BLOCKS, POINTER_LEVELS};
+ghost use Rattle.fs_layout.specs.Images.{first_block, holder, level_end, number_on, free_sectors};
+ghost use Rattle.fs_layout.specs.Lacking.{lacks_from};
 ghost use Rattle.sector_txn.specs.Sectors.{SameStore};
 ghost use Rattle.bit_alloc.specs.Faults.{HasCauseOf};
 ghost use Rattle.bit_alloc.specs.Room.{HasSpare};
 ghost use Rattle.block_map.specs.Blocks.{IsAtHand};
-ghost use Rattle.block_map.specs.Steps.{MayChange, HasRoomFor, AddsSector, AddsAbove, AddsPointers, IsAbove, lacks_pointers, pointer_sectors, sectors_above};
+ghost use Rattle.block_map.specs.Steps.{MayChange, HasRoomFor, AddsSector, AddsNumbers, AddsPointers, lacks_pointers, pointer_sectors, most_for, sectors_to};
 
 use crate::MapFault;
-use crate::blocks::{BLOCK, Blocks, read_listed, write_pointer};
+use crate::blocks::{BLOCK, Blocks, read_pointers, write_pointer};
 use crate::steps::take_sector;
 use fs_layout::{DIRECT_BLOCKS, Place, SECTOR_POINTERS};
 use sector_txn::Sectors;
 
-// Takes the sector of pointers that the inode names, unless it is there.
-fn add_indirect<S: Sectors>(s: &mut S, place: Place, blocks: &mut Blocks) -> Result<(), MapFault>
-    requires may { MayChange place (S.state s.old) blocks.old.inode }
-    requires at_hand { IsAtHand (S.state s.old).sectors blocks.old }
-    requires inside { 512 * first_block 1 0 < blocks.old.inode.size }
-    requires room { HasSpare place 1 (S.state s.old) }
-    ensures added { OnOk result (AddsSector place [] 1 0 (S.state s.old) (S.state s.new) blocks.old.inode blocks.new.inode) }
-    ensures at_hand { OnOk result (IsAtHand (S.state s.new).sectors blocks.new) }
-    ensures full { result ≡ Err MapFault.Full
-        → (number_on (S.state s.old).sectors blocks.old.inode 1 0 ≡ 0) × (free_sectors place (S.state s.old).sectors ≡ 0) }
-    ensures small { result ≢ Err MapFault.TooBig }
-    ensures store { SameStore (S.state s.old) (S.state s.new) }
-    ensures cause { HasCauseOf MapFault.DiskFault (S.state s.old).disk (S.state s.new).disk result }
-{
-    if blocks.inode.indirect != 0 {
-        return Ok(());
-    }
-    let number = take_sector(s, place, blocks.near, &[0; BLOCK])?;
-    blocks.near = number;
-    blocks.inode.indirect = number;
-    blocks.index = 0;
-    blocks.sector = number;
-    blocks.pointers = [0; BLOCK];
-    Ok(())
-}
-
-// Takes the double indirect sector, unless it is there.
-fn add_double<S: Sectors>(s: &mut S, place: Place, blocks: &mut Blocks) -> Result<(), MapFault>
-    requires may { MayChange place (S.state s.old) blocks.old.inode }
-    requires at_hand { IsAtHand (S.state s.old).sectors blocks.old }
-    requires inside { 512 * first_block 2 0 < blocks.old.inode.size }
-    requires room { HasSpare place 1 (S.state s.old) }
-    ensures added { OnOk result (AddsSector place [] 2 0 (S.state s.old) (S.state s.new) blocks.old.inode blocks.new.inode) }
-    ensures at_hand { OnOk result (IsAtHand (S.state s.new).sectors blocks.new) }
-    ensures full { result ≡ Err MapFault.Full
-        → (number_on (S.state s.old).sectors blocks.old.inode 2 0 ≡ 0) × (free_sectors place (S.state s.old).sectors ≡ 0) }
-    ensures small { result ≢ Err MapFault.TooBig }
-    ensures store { SameStore (S.state s.old) (S.state s.new) }
-    ensures cause { HasCauseOf MapFault.DiskFault (S.state s.old).disk (S.state s.new).disk result }
-{
-    if blocks.inode.double_indirect != 0 {
-        return Ok(());
-    }
-    let number = take_sector(s, place, blocks.near, &[0; BLOCK])?;
-    blocks.near = number;
-    blocks.inode.double_indirect = number;
-    Ok(())
-}
-
-// Takes the double indirect sector, if the sectors of pointers with the indices up to `last` need it and it isn't there.
-fn add_above<S: Sectors>(
+// Takes the first sector of pointers of a level, which the inode names, unless it is there.
+fn add_named<S: Sectors>(
     s: &mut S,
     place: Place,
     blocks: &mut Blocks,
-    last: u64,
+    level: usize,
 ) -> Result<(), MapFault>
     requires may { MayChange place (S.state s.old) blocks.old.inode }
     requires at_hand { IsAtHand (S.state s.old).sectors blocks.old }
-    requires inside { 512 * first_block 1 last < blocks.old.inode.size }
-    requires room { HasSpare place (sectors_above last) (S.state s.old) }
-    ensures added { OnOk result (AddsAbove place last (S.state s.old) (S.state s.new) blocks.old.inode blocks.new.inode) }
+    requires level { (1 ≤ level) × (level ≤ POINTER_LEVELS) }
+    requires inside { 512 * first_block level 0 < blocks.old.inode.size }
+    requires room { HasSpare place 1 (S.state s.old) }
+    ensures added { OnOk result (AddsSector place [] level 0 (S.state s.old) (S.state s.new) blocks.old.inode blocks.new.inode) }
     ensures at_hand { OnOk result (IsAtHand (S.state s.new).sectors blocks.new) }
     ensures full { result ≡ Err MapFault.Full
-        → (last ≢ 0) × (number_on (S.state s.old).sectors blocks.old.inode 2 0 ≡ 0) × (free_sectors place (S.state s.old).sectors ≡ 0) }
+        → (number_on (S.state s.old).sectors blocks.old.inode level 0 ≡ 0) × (free_sectors place (S.state s.old).sectors ≡ 0) }
     ensures small { result ≢ Err MapFault.TooBig }
     ensures store { SameStore (S.state s.old) (S.state s.new) }
     ensures cause { HasCauseOf MapFault.DiskFault (S.state s.old).disk (S.state s.new).disk result }
 {
-    if last == 0 {
+    if blocks.inode.indirect[level - 1] != 0 {
         return Ok(());
     }
-    add_double(s, place, blocks)?;
+    let number = take_sector(s, place, blocks.near, &[0; BLOCK])?;
+    blocks.inode.indirect[level - 1] = number;
+    blocks.was_taken(level, 0, number);
     Ok(())
 }
 
-// Takes a sector of pointers with this index, whose number stands in the double indirect sector. `content` is what that holds.
+// Takes a sector of pointers that is number `i` of a level, which stands in the sector `above`. `content` is what that holds.
 fn list_sector<S: Sectors>(
     s: &mut S,
     place: Place,
     blocks: &mut Blocks,
-    index: u64,
+    level: usize,
+    i: u64,
     above: u32,
     content: &mut [u8; 512],
 ) -> Result<(), MapFault>
     requires may { MayChange place (S.state s.old) blocks.old.inode }
     requires at_hand { IsAtHand (S.state s.old).sectors blocks.old }
-    requires index { (1 ≤ index) × (above ≡ number_on (S.state s.old).sectors blocks.old.inode 2 (holder 1 index)) × (above ≢ 0) }
+    requires number { (1 ≤ level) × (level ≤ POINTER_LEVELS) × (1 ≤ i) }
+    requires above { (above ≡ number_on (S.state s.old).sectors blocks.old.inode (suc level) (holder 1 i)) × (above ≢ 0) }
     requires content { content.old ≡ (S.state s.old).sectors above }
-    requires none { number_on (S.state s.old).sectors blocks.old.inode 1 index ≡ 0 }
-    requires inside { 512 * first_block 1 index < blocks.old.inode.size }
+    requires none { number_on (S.state s.old).sectors blocks.old.inode level i ≡ 0 }
+    requires inside { 512 * first_block level i < blocks.old.inode.size }
     requires room { HasRoomFor place (above ∷ []) 1 (S.state s.old) }
-    ensures added { OnOk result (AddsSector place (above ∷ []) 1 index (S.state s.old) (S.state s.new) blocks.old.inode blocks.new.inode) }
+    ensures added { OnOk result (AddsSector place (above ∷ []) level i (S.state s.old) (S.state s.new) blocks.old.inode blocks.new.inode) }
     ensures at_hand { OnOk result (IsAtHand (S.state s.new).sectors blocks.new) }
     ensures full { result ≡ Err MapFault.Full → free_sectors place (S.state s.old).sectors ≡ 0 }
     ensures small { result ≢ Err MapFault.TooBig }
@@ -114,73 +71,112 @@ fn list_sector<S: Sectors>(
     ensures cause { HasCauseOf MapFault.DiskFault (S.state s.old).disk (S.state s.new).disk result }
 {
     let number = take_sector(s, place, blocks.near, &[0; BLOCK])?;
-    blocks.near = number;
-    let at = (index - 1) % SECTOR_POINTERS;
-    write_pointer(content, at as usize, number);
+    write_pointer(content, ((i - 1) % SECTOR_POINTERS) as usize, number);
     s.put(above, content);
-    blocks.index = index;
-    blocks.sector = number;
-    blocks.pointers = [0; BLOCK];
+    blocks.was_taken(level, i, number);
     Ok(())
 }
 
-// Takes a sector of pointers with this index, whose number stands in the double indirect sector, unless it is there.
+// Takes a sector of pointers that is number `i` of a level, which stands in a sector of the level above, unless it is there.
 fn add_listed<S: Sectors>(
     s: &mut S,
     place: Place,
     blocks: &mut Blocks,
-    index: u64,
+    level: usize,
+    i: u64,
 ) -> Result<(), MapFault>
     requires may { MayChange place (S.state s.old) blocks.old.inode }
     requires at_hand { IsAtHand (S.state s.old).sectors blocks.old }
-    requires index { (1 ≤ index) × (index ≤ SECTOR_POINTERS) × (number_on (S.state s.old).sectors blocks.old.inode 2 0 ≢ 0) }
-    requires inside { 512 * first_block 1 index < blocks.old.inode.size }
-    requires room { HasRoomFor place (number_on (S.state s.old).sectors blocks.old.inode 2 0 ∷ []) 1 (S.state s.old) }
-    ensures added { OnOk result (AddsSector place (number_on (S.state s.old).sectors blocks.old.inode 2 0 ∷ []) 1 index
+    requires number { (1 ≤ level) × (level ≤ POINTER_LEVELS) × (1 ≤ i) }
+    requires above { number_on (S.state s.old).sectors blocks.old.inode (suc level) (holder 1 i) ≢ 0 }
+    requires inside { 512 * first_block level i < blocks.old.inode.size }
+    requires room { HasRoomFor place (number_on (S.state s.old).sectors blocks.old.inode (suc level) (holder 1 i) ∷ []) 1 (S.state s.old) }
+    ensures added { OnOk result (AddsSector place (number_on (S.state s.old).sectors blocks.old.inode (suc level) (holder 1 i) ∷ []) level i
         (S.state s.old) (S.state s.new) blocks.old.inode blocks.new.inode) }
     ensures at_hand { OnOk result (IsAtHand (S.state s.new).sectors blocks.new) }
     ensures full { result ≡ Err MapFault.Full
-        → (number_on (S.state s.old).sectors blocks.old.inode 1 index ≡ 0) × (free_sectors place (S.state s.old).sectors ≡ 0) }
+        → (number_on (S.state s.old).sectors blocks.old.inode level i ≡ 0) × (free_sectors place (S.state s.old).sectors ≡ 0) }
     ensures small { result ≢ Err MapFault.TooBig }
     ensures store { SameStore (S.state s.old) (S.state s.new) }
     ensures cause { HasCauseOf MapFault.DiskFault (S.state s.old).disk (S.state s.new).disk result }
 {
     let mut content = [0; BLOCK];
-    let above = read_listed(s, &blocks.inode, 2, 0, &mut content)?;
-    let number = blocks.inode.number(1, &content, index);
+    let index = (i - 1) / SECTOR_POINTERS;
+    let above = read_pointers(s, &blocks.inode, level + 1, index, &mut content)?;
+    let number = blocks.inode.number(level, &content, i);
     if number != 0 {
         return Ok(());
     }
-    list_sector(s, place, blocks, index, above, &mut content)?;
+    list_sector(s, place, blocks, level, i, above, &mut content)?;
     Ok(())
 }
 
-// Takes a sector of pointers with this index, unless it is there.
+// Takes a sector of pointers that is number `i` of a level, unless it is there. The one in which the number stands, if it doesn't stand
+// in the inode, is there.
 fn add_sector<S: Sectors>(
     s: &mut S,
     place: Place,
     blocks: &mut Blocks,
-    index: u64,
+    level: usize,
+    i: u64,
 ) -> Result<(), MapFault>
     requires may { MayChange place (S.state s.old) blocks.old.inode }
     requires at_hand { IsAtHand (S.state s.old).sectors blocks.old }
-    requires index { (index ≤ SECTOR_POINTERS) × (1 ≤ index → number_on (S.state s.old).sectors blocks.old.inode 2 0 ≢ 0) }
-    requires inside { 512 * first_block 1 index < blocks.old.inode.size }
-    requires room { (ns : List ℕ) × IsAbove (S.state s.old).sectors blocks.old.inode index ns × HasRoomFor place ns 1 (S.state s.old) }
-    ensures added { OnOk result ((ns : List ℕ) → IsAbove (S.state s.old).sectors blocks.old.inode index ns
-        → AddsSector place ns 1 index (S.state s.old) (S.state s.new) blocks.old.inode blocks.new.inode) }
+    requires level { (1 ≤ level) × (level ≤ POINTER_LEVELS) }
+    requires above { 1 ≤ i → number_on (S.state s.old).sectors blocks.old.inode (suc level) (holder 1 i) ≢ 0 }
+    requires inside { 512 * first_block level i < blocks.old.inode.size }
+    requires room { HasRoomFor place (sectors_to (S.state s.old).sectors blocks.old.inode level i) 1 (S.state s.old) }
+    ensures added { OnOk result (AddsSector place (sectors_to (S.state s.old).sectors blocks.old.inode level i) level i
+        (S.state s.old) (S.state s.new) blocks.old.inode blocks.new.inode) }
     ensures at_hand { OnOk result (IsAtHand (S.state s.new).sectors blocks.new) }
     ensures full { result ≡ Err MapFault.Full
-        → (number_on (S.state s.old).sectors blocks.old.inode 1 index ≡ 0) × (free_sectors place (S.state s.old).sectors ≡ 0) }
+        → (number_on (S.state s.old).sectors blocks.old.inode level i ≡ 0) × (free_sectors place (S.state s.old).sectors ≡ 0) }
     ensures small { result ≢ Err MapFault.TooBig }
     ensures store { SameStore (S.state s.old) (S.state s.new) }
     ensures cause { HasCauseOf MapFault.DiskFault (S.state s.old).disk (S.state s.new).disk result }
 {
-    if index == 0 {
-        add_indirect(s, place, blocks)?;
+    if i == 0 {
+        add_named(s, place, blocks, level)?;
         return Ok(());
     }
-    add_listed(s, place, blocks, index)?;
+    add_listed(s, place, blocks, level, i)?;
+    Ok(())
+}
+
+// Takes sectors for a level's numbers from `first` up to `end`, and for those by which they are found, where there are none.
+fn add_numbers<S: Sectors>(
+    s: &mut S,
+    place: Place,
+    blocks: &mut Blocks,
+    level: usize,
+    first: u64,
+    end: u64,
+) -> Result<(), MapFault>
+    requires may { MayChange place (S.state s.old) blocks.old.inode }
+    requires at_hand { IsAtHand (S.state s.old).sectors blocks.old }
+    requires level { (1 ≤ level) × (level ≤ POINTER_LEVELS) }
+    requires order { (first < end) × (end ≤ level_end level) }
+    requires inside { 512 * first_block level (end - 1) < blocks.old.inode.size }
+    requires room { HasSpare place (most_for level first end) (S.state s.old) }
+    ensures added { OnOk result (AddsNumbers place level first end (S.state s.old) (S.state s.new) blocks.old.inode blocks.new.inode) }
+    ensures at_hand { OnOk result (IsAtHand (S.state s.new).sectors blocks.new) }
+    ensures full { result ≡ Err MapFault.Full → free_sectors place (S.state s.old).sectors
+        < lacks_from (S.state s.old).sectors blocks.old.inode (POINTER_LEVELS + 1 - level) level first end }
+    ensures small { result ≢ Err MapFault.TooBig }
+    ensures store { SameStore (S.state s.old) (S.state s.new) }
+    ensures cause { HasCauseOf MapFault.DiskFault (S.state s.old).disk (S.state s.new).disk result }
+{
+    // The first number stands in the inode.
+    if end <= 1 {
+        add_named(s, place, blocks, level)?;
+        return Ok(());
+    }
+    let from = first.saturating_sub(1) / SECTOR_POINTERS;
+    let last = (end - 2) / SECTOR_POINTERS;
+    add_numbers(s, place, blocks, level + 1, from, last + 1)?;
+    for i in first..end {
+        add_sector(s, place, blocks, level, i)?;
+    }
     Ok(())
 }
 
@@ -211,9 +207,7 @@ pub(crate) fn add_pointers<S: Sectors>(
         return Ok(());
     }
     let last = (end - 1 - DIRECT_BLOCKS) / SECTOR_POINTERS;
-    add_above(s, place, blocks, last)?;
-    for index in first.saturating_sub(DIRECT_BLOCKS) / SECTOR_POINTERS..last + 1 {
-        add_sector(s, place, blocks, index)?;
-    }
+    let from = first.saturating_sub(DIRECT_BLOCKS) / SECTOR_POINTERS;
+    add_numbers(s, place, blocks, 1, from, last + 1)?;
     Ok(())
 }

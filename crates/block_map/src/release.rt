@@ -1,7 +1,7 @@
 //! Giving back what an inode has for its bytes.
 
 ghost use Rattle.std.specs.Prelude.{◌≡◌, ◌≤◌, ◌<◌, ℕ, suc, [], OnOk};
-ghost use Rattle.fs_layout.specs.declared.inode.TheConstants.{MAX_BLOCKS};
+ghost use Rattle.fs_layout.specs.declared.inode.TheConstants.{MAX_BLOCKS, POINTER_LEVELS};
 ghost use Rattle.fs_layout.specs.Images.{HasPointers, Holds, holder, inode_at, own_count};
 ghost use Rattle.sector_disk.specs.Disk.{HasCause};
 ghost use Rattle.sector_txn.specs.Sectors.{SameStore};
@@ -9,41 +9,23 @@ ghost use Rattle.bit_alloc.specs.Bitmaps.{HasBitmaps};
 ghost use Rattle.bit_alloc.specs.Room.{HasSpare};
 ghost use Rattle.bit_alloc.specs.Inodes.{IsSound};
 ghost use Rattle.block_map.specs.Contents.{AllowsSize, ChangesContent};
-ghost use Rattle.block_map.specs.Drops.{GivesParts, IsAmong, IsFor, IsInData, first_on};
+ghost use Rattle.block_map.specs.Drops.{GivesParts, IsAmong, IsFor, IsFrom, IsInData, first_above};
 ghost use Rattle.block_map.specs.Steps.{MayChange};
 
-use crate::blocks::{BLOCK, Blocks, read_listed};
+use crate::blocks::{BLOCK, read_pointers};
 use bit_alloc::{Bitmap, give};
-use fs_layout::{DIRECT_BLOCKS, Inode, MAX_BLOCKS, Place, SECTOR_POINTERS};
+use fs_layout::{DIRECT_BLOCKS, Inode, POINTER_LEVELS, Place, SECTOR_POINTERS, own_count};
 use inode_table::write_inode;
 use sector_disk::DiskFault;
 use sector_txn::Sectors;
 
-// Gives back the sectors of the blocks from `first` on.
-fn give_blocks<S: Sectors>(
-    s: &mut S,
-    place: Place,
-    inode: &Inode,
-    first: u64,
-) -> Result<(), DiskFault>
-    requires bitmaps { HasBitmaps place (S.state s.old) }
-    requires inside { IsInData place (S.state s.old).sectors inode.now }
-    requires few { first ≤ MAX_BLOCKS }
-    requires room { HasSpare place 0 (S.state s.old) }
-    ensures given { OnOk result (GivesParts place inode.now (IsAmong 0 first MAX_BLOCKS) (S.state s.old) (S.state s.new)) }
-    ensures store { SameStore (S.state s.old) (S.state s.new) }
-    ensures cause { HasCause (S.state s.old).disk (S.state s.new).disk result }
+/// The first number of the level above by which only numbers of this level from `first` on are found.
+pub(crate) fn next_first(level: usize, first: u64) -> u64
+    ensures { result ≡ first_above level first }
 {
-    let mut blocks = Blocks::new(inode);
-    let end = inode.block_end();
-    for k in first..end {
-        blocks.load(s, k)?;
-        let number = blocks.number(k);
-        if number != 0 {
-            give(s, place, Bitmap::Blocks, number)?;
-        }
-    }
-    Ok(())
+    first
+        .saturating_sub(own_count(level))
+        .div_ceil(SECTOR_POINTERS)
 }
 
 // Gives back the sectors that are a level's numbers from `first` up to `end`. `content` is that of the sector of pointers in which
@@ -76,28 +58,36 @@ fn give_listed<S: Sectors>(
     Ok(())
 }
 
-// Gives back the sector of pointers that the inode names, where only blocks from `first` on are found by it.
-fn give_indirect<S: Sectors>(
+// Gives back the sectors that are a level's numbers from `first` on: those that stand in the inode, and those that one sector of
+// pointers after the other has.
+fn give_level<S: Sectors>(
     s: &mut S,
     place: Place,
     inode: &Inode,
+    level: usize,
     first: u64,
 ) -> Result<(), DiskFault>
     requires bitmaps { HasBitmaps place (S.state s.old) }
     requires inside { IsInData place (S.state s.old).sectors inode.now }
+    requires level { level ≤ POINTER_LEVELS }
     requires few { first ≤ MAX_BLOCKS }
     requires room { HasSpare place 0 (S.state s.old) }
-    ensures given { OnOk result (GivesParts place inode.now (IsAmong 1 (first_on 1 first) 1) (S.state s.old) (S.state s.new)) }
+    ensures given { OnOk result (GivesParts place inode.now (IsFrom level first) (S.state s.old) (S.state s.new)) }
     ensures store { SameStore (S.state s.old) (S.state s.new) }
     ensures cause { HasCause (S.state s.old).disk (S.state s.new).disk result }
 {
-    if DIRECT_BLOCKS < first {
-        return Ok(());
+    let own = own_count(level);
+    let mut content = [0; BLOCK];
+    give_listed(s, place, inode, level, &content, first.min(own), own)?;
+    for j in first.saturating_sub(own) / SECTOR_POINTERS..inode.number_end(level + 1) {
+        let sector = read_pointers(s, inode, level + 1, j, &mut content)?;
+        // Without it all its numbers are 0.
+        if sector != 0 {
+            let begin = own + SECTOR_POINTERS * j;
+            let end = begin + SECTOR_POINTERS;
+            give_listed(s, place, inode, level, &content, first.max(begin), end)?;
+        }
     }
-    if inode.indirect == 0 {
-        return Ok(());
-    }
-    give(s, place, Bitmap::Blocks, inode.indirect)?;
     Ok(())
 }
 
@@ -116,20 +106,11 @@ pub(crate) fn give_from<S: Sectors>(
     ensures store { SameStore (S.state s.old) (S.state s.new) }
     ensures cause { HasCause (S.state s.old).disk (S.state s.new).disk result }
 {
-    give_blocks(s, place, inode, first)?;
-    // No sector of pointers is listed then.
-    if inode.double_indirect == 0 {
-        give_indirect(s, place, inode, first)?;
-        return Ok(());
+    let mut from = first;
+    for level in 0..POINTER_LEVELS + 1 {
+        give_level(s, place, inode, level, from)?;
+        from = next_first(level, from);
     }
-    let mut content = [0; BLOCK];
-    read_listed(s, inode, 2, 0, &mut content)?;
-    let index = first
-        .saturating_sub(DIRECT_BLOCKS)
-        .div_ceil(SECTOR_POINTERS);
-    give_listed(s, place, inode, 1, &content, index, 1 + SECTOR_POINTERS)?;
-    let above = index.saturating_sub(1).div_ceil(SECTOR_POINTERS);
-    give_listed(s, place, inode, 2, &content, above, 1)?;
     Ok(())
 }
 
@@ -155,8 +136,7 @@ pub fn release_all<S: Sectors>(
     give_from(s, place, inode, 0)?;
     inode.size = 0;
     inode.direct = [0; DIRECT_BLOCKS as usize];
-    inode.indirect = 0;
-    inode.double_indirect = 0;
+    inode.indirect = [0; POINTER_LEVELS];
     write_inode(s, place, n, inode)?;
     Ok(())
 }

@@ -1,52 +1,69 @@
 //! Another size.
 
-ghost use Rattle.std.specs.Prelude.{◌≡◌, ◌≢◌, ◌≤◌, ◌<◌, ◌+◌, ◌*◌, ◌/◌, ◌↔◌, ℕ, List, length, get_or, Err, OnOk};
-ghost use Rattle.fs_layout.specs.declared.inode.TheConstants.{DIRECT_BLOCKS, MAX_BLOCKS, MAX_FILE_SIZE, SECTOR_POINTERS};
+ghost use Rattle.std.specs.Prelude.{◌≡◌, ◌≢◌, ◌≤◌, ◌<◌, ◌+◌, ◌*◌, ◌/◌, ◌↔◌, ℕ, suc, List, length, get_or, Err, OnOk};
+ghost use Rattle.fs_layout.specs.declared.inode.TheConstants.{DIRECT_BLOCKS, MAX_BLOCKS, MAX_FILE_SIZE, POINTER_LEVELS, SECTOR_POINTERS};
 ghost use Rattle.fs_layout.specs.Version.{max_file_size};
 ghost use Rattle.fs_layout.specs.Bytes.{IsBytes, resized, u32_of};
-ghost use Rattle.fs_layout.specs.Header.{log_end};
-ghost use Rattle.fs_layout.specs.Images.{Holds, HasNoHole, inode_at};
+ghost use Rattle.fs_layout.specs.Images.{Holds, HasNoHole, first_block, inode_at, own_count, place_in_holder};
 ghost use Rattle.sector_disk.specs.Disk.{HasCause};
 ghost use Rattle.sector_txn.specs.Sectors.{SameStore, IsUnchanged};
 ghost use Rattle.bit_alloc.specs.Faults.{HasCauseOf};
 ghost use Rattle.bit_alloc.specs.Inodes.{IsSound};
 ghost use Rattle.bit_alloc.specs.Room.{HasSpare};
-ghost use Rattle.block_map.specs.Blocks.{IsLoaded};
+ghost use Rattle.block_map.specs.Blocks.{IsLoaded, IsWithin};
 ghost use Rattle.block_map.specs.Contents.{AllowsSize, ChangesContent};
-ghost use Rattle.block_map.specs.Drops.{ClearsNumbers, CutsSector, DropsBlocks, cut_by};
+ghost use Rattle.block_map.specs.Drops.{ClearsNumbers, CutsLevel, DropsBlocks, cut_by};
 ghost use Rattle.block_map.specs.Sizes.{ClearsTail, Resizes, put_to};
 ghost use Rattle.block_map.specs.Steps.{MayChange, blocks_to};
 
 use crate::MapFault;
-use crate::blocks::{BLOCK, Blocks, read_listed, read_pointers};
-use crate::release::give_from;
+use crate::blocks::{BLOCK, Blocks, read_pointers};
+use crate::release::{give_from, next_first};
 use crate::steps::rewrite;
-use fs_layout::{DIRECT_BLOCKS, INDIRECT_END, Inode, Place, SECTOR_POINTERS};
+use fs_layout::{
+    DIRECT_BLOCKS, DOUBLE_INDIRECT_END, INDIRECT_END, Inode, POINTER_LEVELS, Place,
+    SECTOR_POINTERS, own_count,
+};
 use inode_table::write_inode;
 use sector_disk::DiskFault;
 use sector_txn::Sectors;
 
-fn clear_direct(direct: &mut [u32; DIRECT_BLOCKS as usize], first: usize)
-    requires { first ≤ DIRECT_BLOCKS }
-    ensures len { length direct.new ≡ DIRECT_BLOCKS }
-    ensures before { (i : ℕ) → i < first → get_or direct.new i 0 ≡ get_or direct.old i 0 }
-    ensures after { (i : ℕ) → first ≤ i → get_or direct.new i 0 ≡ 0 }
+// Writes zeros over numbers that stand in an inode, from number `first` on.
+fn clear_numbers(numbers: &mut [u32], first: usize)
+    requires { first ≤ length numbers.old }
+    ensures len { length numbers.new ≡ length numbers.old }
+    ensures before { (i : ℕ) → i < first → get_or numbers.new i 0 ≡ get_or numbers.old i 0 }
+    ensures after { (i : ℕ) → first ≤ i → get_or numbers.new i 0 ≡ 0 }
 {
-    (&mut direct[first..]).fill(0);
+    (&mut numbers[first..]).fill(0);
+}
+
+// How many sectors of pointers an inode names by which blocks before `first` are found.
+fn named_before(first: u64) -> usize
+    ensures most { result ≤ POINTER_LEVELS }
+    ensures before { (level : ℕ) → level < result → first_block (suc level) 0 < first }
+    ensures after { (level : ℕ) → level < POINTER_LEVELS → result ≤ level → first ≤ first_block (suc level) 0 }
+{
+    if first <= DIRECT_BLOCKS {
+        return 0;
+    }
+    if first <= INDIRECT_END {
+        return 1;
+    }
+    if first <= DOUBLE_INDIRECT_END {
+        return 2;
+    }
+    POINTER_LEVELS
 }
 
 // Takes from an inode the numbers by which only blocks from `first` on are found.
 fn clear_inode(inode: &mut Inode, first: u64)
-    requires { length inode.old.direct ≡ DIRECT_BLOCKS }
+    requires direct { length inode.old.direct ≡ DIRECT_BLOCKS }
+    requires indirect { length inode.old.indirect ≡ POINTER_LEVELS }
     ensures { ClearsNumbers first inode.old inode.new }
 {
-    clear_direct(&mut inode.direct, first.min(DIRECT_BLOCKS) as usize);
-    if first <= DIRECT_BLOCKS {
-        inode.indirect = 0;
-    }
-    if first <= INDIRECT_END {
-        inode.double_indirect = 0;
-    }
+    clear_numbers(&mut inode.direct, first.min(DIRECT_BLOCKS) as usize);
+    clear_numbers(&mut inode.indirect, named_before(first));
 }
 
 fn clear_pointers(pointers: &mut [u8; 512], first: usize)
@@ -58,22 +75,37 @@ fn clear_pointers(pointers: &mut [u8; 512], first: usize)
     (&mut pointers[4 * first..]).fill(0);
 }
 
-// Writes zeros over the numbers of a sector of pointers from number `from` on, if there is the sector and it keeps some. `content` is
-// what it holds.
-fn cut_sector<S: Sectors>(s: &mut S, sector: u32, content: &mut [u8; 512], from: usize)
-    requires within { sector ≢ 0 → (log_end (S.state s.old).header ≤ sector) × (sector < (S.state s.old).disk.size) }
-    requires few { from ≤ SECTOR_POINTERS }
-    requires room { from ≢ 0 → 0 < (S.state s.old).room }
-    ensures { CutsSector sector from content.old (S.state s.old) (S.state s.new) }
+// Writes zeros over a level's numbers from `first` on in the sector of pointers that has some before them, if it is there.
+fn cut_level<S: Sectors>(
+    s: &mut S,
+    inode: &Inode,
+    level: usize,
+    first: u64,
+) -> Result<(), DiskFault>
+    requires within { IsWithin (S.state s.old).header (S.state s.old).disk.size (S.state s.old).sectors inode.now }
+    requires level { level < POINTER_LEVELS }
+    requires room { place_in_holder (own_count level) first ≢ 0 → 0 < (S.state s.old).room }
+    ensures cut { OnOk result (CutsLevel level first (S.state s.old) (S.state s.new) inode.now) }
+    ensures store { SameStore (S.state s.old) (S.state s.new) }
+    ensures cause { HasCause (S.state s.old).disk (S.state s.new).disk result }
 {
-    if sector == 0 || from == 0 {
-        return;
+    let past = first.saturating_sub(own_count(level));
+    let from = past % SECTOR_POINTERS;
+    if from == 0 {
+        return Ok(());
     }
-    clear_pointers(content, from);
-    s.put(sector, content);
+    let mut content = [0; BLOCK];
+    let sector = read_pointers(s, inode, level + 1, past / SECTOR_POINTERS, &mut content)?;
+    if sector == 0 {
+        return Ok(());
+    }
+    clear_pointers(&mut content, from as usize);
+    s.put(sector, &content);
+    Ok(())
 }
 
-// Drops the blocks from `first` on, and the sectors of pointers by which no other is found.
+// Drops the blocks from `first` on, and the sectors of pointers by which no other is found. Level by level from the blocks up, so that
+// what a sector is found by isn't cut yet.
 fn drop_blocks<S: Sectors>(
     s: &mut S,
     place: Place,
@@ -87,20 +119,12 @@ fn drop_blocks<S: Sectors>(
     ensures store { SameStore (S.state s.old) (S.state s.new) }
     ensures cause { HasCause (S.state s.old).disk (S.state s.new).disk result }
 {
-    let past = first.saturating_sub(DIRECT_BLOCKS);
-    let index = past.div_ceil(SECTOR_POINTERS);
-    let mut pointers = [0; BLOCK];
-    let sector = read_pointers(s, inode, past / SECTOR_POINTERS, &mut pointers)?;
-    let mut double = [0; BLOCK];
-    let above = read_listed(s, inode, 2, 0, &mut double)?;
     give_from(s, place, inode, first)?;
-    cut_sector(s, sector, &mut pointers, (past % SECTOR_POINTERS) as usize);
-    cut_sector(
-        s,
-        above,
-        &mut double,
-        (index.saturating_sub(1) % SECTOR_POINTERS) as usize,
-    );
+    let mut from = first;
+    for level in 0..POINTER_LEVELS {
+        cut_level(s, inode, level, from)?;
+        from = next_first(level, from);
+    }
     clear_inode(inode, first);
     Ok(())
 }

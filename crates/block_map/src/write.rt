@@ -85,8 +85,8 @@ pub fn write_at<S: Sectors>(
     ensures untouched { max_file_size place.version < offset + length bytes.now → IsUnchanged (S.state s.old) (S.state s.new) }
     ensures full { result ≡ Err MapFault.Full
         → (free_sectors place (S.state s.old).sectors < taken_by (S.state s.old).sectors inode.old offset (length bytes.now))
-        × (taken_by (S.state s.old).sectors inode.old offset (length bytes.now) ≤ 12) }
-    ensures taken { OnOk result (taken_by (S.state s.old).sectors inode.old offset (length bytes.now) ≤ 12) }
+        × (taken_by (S.state s.old).sectors inode.old offset (length bytes.now) ≤ 14) }
+    ensures taken { OnOk result (taken_by (S.state s.old).sectors inode.old offset (length bytes.now) ≤ 14) }
     ensures store { SameStore (S.state s.old) (S.state s.new) }
     ensures cause { HasCauseOf MapFault.DiskFault (S.state s.old).disk (S.state s.new).disk result }
 {

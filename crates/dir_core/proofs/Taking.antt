@@ -2,18 +2,19 @@
 use Rattle.std.proofs.Common.{◌≡◌, ◌≢◌, ℕ, zero, suc, ◌+◌, ◌-◌, ◌*◌, ◌/◌, ◌%◌, ◌<◌, ◌≤◌, Bool, true, false, cond, List, length, refl, sym, ap, subst, ◌∙◌, arith, inl, inr}
 use Rattle.std.specs.Prelude.{nat_eq, nat_lt}
 use Rattle.std.proofs.lemmas.Bool.{cases_eq, cases_lt, eq-eqb, ne_eqb, lt-ltb, le-ltb}
-use Rattle.fs_layout.specs.declared.inode.TheConstants.{DIRECT_BLOCKS, INDIRECT_END, SECTOR_POINTERS, MAX_BLOCKS, MAX_DIRECTORY_SIZE}
+use Rattle.fs_layout.specs.declared.inode.TheConstants.{DIRECT_BLOCKS, INDIRECT_END, SECTOR_POINTERS, MAX_DIRECTORY_SIZE}
 use Rattle.fs_layout.specs.declared.version.Version.{Version}
 use Rattle.fs_layout.specs.Version.{slot_size}
 use Rattle.fs_layout.specs.declared.inode.Inode.{Inode}
 use Rattle.fs_layout.specs.Bytes.{SectorMap}
 use Rattle.fs_layout.specs.Images.{own_count, holder, place_in_holder, pointer_in, number_on}
 use Rattle.fs_layout.specs.Directories.{NamedInode}
+use Rattle.fs_layout.specs.Lacking.{lacks_from}
 use Rattle.fs_layout.proofs.ImageSlots.{length-slots}
 use Rattle.fs_layout.proofs.Pointers.{number_on_held}
-use Rattle.block_map.specs.Steps.{lack, lacks_on, hole, holes, lacks_above, lacks_pointers, blocks_to, taken_by}
+use Rattle.block_map.specs.Steps.{lack, hole, holes, lacks_pointers, blocks_to, taken_by}
 use Rattle.block_map.proofs.AddedPointers.{one_lacks}
-use Rattle.block_map.proofs.Counts.{lacks_more, lacks_pointers_is, no_lacks, taken_is as counted}
+use Rattle.block_map.proofs.Counts.{lacks_far, lacks_near, lacks_of_one, lacks_one, no_lacks, taken_is as counted}
 use Rattle.block_map.proofs.Writings.{hole_is_one}
 use Rattle.dir_core.specs.Faults.{pointers_for, taken_for}
 use Rattle.dir_core.specs.Slots.{HasSlots}
@@ -54,39 +55,48 @@ double_needs_two k is = ap pointers_for is
 none_lacks : (image : SectorMap) (v : Inode) (level i : ℕ) → number_on image v level i ≢ 0 → lack image v level i ≡ 0
 none_lacks image v level i some = rw (ne_eqb (number_on image v level i) 0 some) refl
 
--- one number
-one_lack : (image : SectorMap) (v : Inode) (level first count : ℕ) → count ≡ 1 → lacks_on image v level first count ≡ lack image v level first
-one_lack image v level first count one =
-    let next : count ≡ 0 + 1 = omega (arith, one) in
-    let zero : first + 0 ≡ first = omega arith in
-    let here : lack image v level (first + 0) ≡ lack image v level first = ap (lack image v level) zero in
-    let more : lacks_on image v level first (0 + 1) ≡ 0 + lack image v level (first + 0) = lacks_more image v level first 0 in
-    ap (lacks_on image v level first) next ∙ omega (arith, more, here)
-
 -- the double indirect sector, where a sector of pointers with this index needs it
-double_lacks_none : (image : SectorMap) (v : Inode) (i : ℕ) → (1 ≤ i → number_on image v 2 0 ≢ 0) → lacks_above image v i ≡ 0
+abbrev lacks_double : SectorMap → Inode → ℕ → ℕ
+lacks_double image v zero = 0
+lacks_double image v (suc last) = lack image v 2 0
+
+double_lacks_none : (image : SectorMap) (v : Inode) (i : ℕ) → (1 ≤ i → number_on image v 2 0 ≢ 0) → lacks_double image v i ≡ 0
 double_lacks_none image v zero some = refl
 double_lacks_none image v (suc last) some = none_lacks image v 2 0 (some (omega arith))
 
-double_lacks_one : (image : SectorMap) (v : Inode) (i : ℕ) → 1 ≤ i → number_on image v 2 0 ≡ 0 → lacks_above image v i ≡ 1
+double_lacks_one : (image : SectorMap) (v : Inode) (i : ℕ) → 1 ≤ i → number_on image v 2 0 ≡ 0 → lacks_double image v i ≡ 1
 double_lacks_one image v zero from none = absurd (omega (arith, from))
 double_lacks_one image v (suc last) from none = one_lacks image v 2 0 none
 
+-- a sector of pointers of a directory, and that one
+listed_lacks : (image : SectorMap) (v : Inode) (i : ℕ) → i ≤ SECTOR_POINTERS → lacks_from image v 3 1 i (i + 1) ≡ lack image v 1 i + lacks_double image v i
+listed_lacks image v zero few =
+    let all = lacks_near image v 2 1 0 (0 + 1) (omega arith) in
+    let one = lacks_one image v 1 0 (0 + 1 - 0) (omega arith) in
+    omega (arith, all, one)
+listed_lacks image v (suc last) few =
+    let all = lacks_of_one image v 2 1 (suc last) (omega arith) in
+    let top : holder 1 (suc last) ≡ 0 = omega (arith, few) in
+    let named = ap (λ (j : ℕ). lacks_from image v 2 2 j (j + 1)) top in
+    let double = lacks_near image v 1 2 0 (0 + 1) (omega arith) in
+    let one = lacks_one image v 2 0 (0 + 1 - 0) (omega arith) in
+    omega (arith, all, named, double, one)
+
 -- the sectors of pointers to one block
-block_lacks : (image : SectorMap) (v : Inode) (k : ℕ) → DIRECT_BLOCKS ≤ k → k < MAX_BLOCKS
-    → lacks_pointers image v k (k + 1) ≡ lack image v 1 (holder DIRECT_BLOCKS k) + lacks_above image v (holder DIRECT_BLOCKS k)
+block_lacks : (image : SectorMap) (v : Inode) (k : ℕ) → DIRECT_BLOCKS ≤ k → 512 * k < MAX_DIRECTORY_SIZE
+    → lacks_pointers image v k (k + 1) ≡ lack image v 1 (holder DIRECT_BLOCKS k) + lacks_double image v (holder DIRECT_BLOCKS k)
 block_lacks image v k far few =
     let i : ℕ = holder DIRECT_BLOCKS k in
     let last : k + 1 - 1 ≡ k = omega arith in
-    lacks_pointers_is image v k (k + 1) (omega (arith, far)) (omega arith) (omega (arith, few))
-    ∙ ap (λ (j : ℕ). lacks_on image v 1 i (holder DIRECT_BLOCKS j + 1 - i) + lacks_above image v (holder DIRECT_BLOCKS j)) last
-    ∙ ap (λ (n : ℕ). n + lacks_above image v i) (one_lack image v 1 i (i + 1 - i) (omega arith))
+    lacks_far image v k (k + 1) (omega (arith, far))
+    ∙ ap (λ (j : ℕ). lacks_from image v 3 1 i (holder DIRECT_BLOCKS j + 1)) last
+    ∙ listed_lacks image v i (omega (arith, few))
 
 -- and that block itself
 one_block_lacks : (image : SectorMap) (v : Inode) (k end : ℕ) → end ≡ k + 1
     → holes image v k (end - k) + lacks_pointers image v k end ≡ hole image v k + lacks_pointers image v k (k + 1)
 one_block_lacks image v k end is =
-    let one : holes image v k (end - k) ≡ hole image v k = one_lack image v 0 k (end - k) (omega (arith, is)) in
+    let one : holes image v k (end - k) ≡ hole image v k = lacks_one image v 0 k (end - k) (omega (arith, is)) in
     let more : lacks_pointers image v k end ≡ lacks_pointers image v k (k + 1) = ap (lacks_pointers image v k) is in
     omega (arith, one, more)
 
@@ -119,7 +129,7 @@ module _ {version : Version} {image : SectorMap} {v : Inode} {slots : List Named
   same_pointers j from lt same far =
       let i : ℕ = holder DIRECT_BLOCKS next in
       let one : lack image v 1 i ≡ 0 = none_lacks image v 1 i (subst (λ (n : ℕ). number_on image v 1 n ≢ 0) same (pointers_there j from lt)) in
-      let above : lacks_above image v i ≡ 0 = double_lacks_none image v i (λ some. double_there j (omega (arith, some, same, from)) lt) in
+      let above : lacks_double image v i ≡ 0 = double_lacks_none image v i (λ some. double_there j (omega (arith, some, same, from)) lt) in
       let all = block_lacks image v next far (omega (arith, few)) in
       omega (arith, all, one, above)
 
@@ -132,11 +142,11 @@ module _ {version : Version} {image : SectorMap} {v : Inode} {slots : List Named
       let all = block_lacks image v next far (omega (arith, few)) in
       elim (cases_eq next INDIRECT_END) [
         | inl twice ↦
-            let above : lacks_above image v i ≡ 1 = double_lacks_one image v i (omega (arith, twice)) (h.holds.trim 2 0 (omega (arith, whole, twice))) in
+            let above : lacks_double image v i ≡ 1 = double_lacks_one image v i (omega (arith, twice)) (h.holds.trim 2 0 (omega (arith, whole, twice))) in
             let is = double_needs_two next twice in
             omega (arith, all, one, above, is)
         | inr once ↦
-            let above : lacks_above image v i ≡ 0 =
+            let above : lacks_double image v i ≡ 0 =
             double_lacks_none image v i (λ some. double_there INDIRECT_END (omega arith) (omega (arith, some, once, whole, begins))) in
             let is = first_needs_one next far begins once in
             omega (arith, all, one, above, is)

@@ -47,9 +47,9 @@ pub(crate) fn give_size<S: Sectors>(
     requires inode { inode ≡ inode_at place (S.state s.old).sectors n }
     requires file { inode.kind ≡ Kind.File }
     requires fits { size ≤ max_file_size place.version }
-    requires spare { HasSpare place 4 (S.state s.old) }
+    requires spare { HasSpare place 5 (S.state s.old) }
     ensures change { OnOk result (ChangesBytes place n (S.state s.old) (S.state s.new) (λ held. resized held size)) }
-    ensures taken { OnOk result (TakesSpare place 4 (S.state s.old) (S.state s.new)) }
+    ensures taken { OnOk result (TakesSpare place 5 (S.state s.old) (S.state s.new)) }
     ensures store { SameStore (S.state s.old) (S.state s.new) }
     ensures fault { IfErr result (FailsToRead (S.state s.old).disk (S.state s.new).disk) }
 {

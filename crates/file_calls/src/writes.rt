@@ -49,7 +49,7 @@ fn write_bytes<S: Sectors>(
     requires spare { HasSpare place 47 (S.state s.old) }
     ensures store { SameStore (S.state s.old) (S.state s.new) }
     ensures change { OnOk result (ChangesBytes place n (S.state s.old) (S.state s.new) (λ held. overwritten held offset bytes.now)) }
-    ensures taken { OnOk result (TakesSpare place 13 (S.state s.old) (S.state s.new)) }
+    ensures taken { OnOk result (TakesSpare place 16 (S.state s.old) (S.state s.new)) }
     ensures err { IfErr result (FailsToRead (S.state s.old).disk (S.state s.new).disk) }
 {
     let mut inode = inode;

@@ -59,15 +59,16 @@ const FILE: Inode = Inode {
     acl: 200,
     default_acl: 0,
     direct: [146, 0, 0, 0, 0, 0, 0, 0, 0, 0, 0, 147],
-    indirect: 300,
-    double_indirect: 301,
+    indirect: [300, 301, 0],
     mtime: 0,
     ctime: 0,
     atime: 0,
 };
 
-// Modified 1,700,000,000.5 seconds after 1970 began, changed a nanosecond later, and read at the last time that there is.
+// With a sector of pointers of the third level; modified 1,700,000,000.5 seconds after 1970 began, changed a nanosecond later, and read at
+// the last time that there is.
 const TIMED_FILE: Inode = Inode {
+    indirect: [300, 301, 302],
     mtime: 1700000000500000000,
     ctime: 1700000000500000001,
     atime: 0xffffffffffffffff,
@@ -110,12 +111,17 @@ const TIMED_BYTES: &[u8] = &[
     1, 0, 0xa4, 1, 0xe8, 3, 0, 0, 4, 3, 2, 1, 2, 0, 0, 0, 1, 2, 0, 0, 0, 0, 0, 0, 0, 0, 0, 0, 0xc8,
     0, 0, 0, 0, 0, 0, 0, 0x92, 0, 0, 0, 0, 0, 0, 0, 0, 0, 0, 0, 0, 0, 0, 0, 0, 0, 0, 0, 0, 0, 0, 0,
     0, 0, 0, 0, 0, 0, 0, 0, 0, 0, 0, 0, 0, 0, 0, 0, 0, 0, 0, 0, 0x93, 0, 0, 0, 0x2c, 1, 0, 0, 0x2d,
-    1, 0, 0, 0, 0, 0, 0, 0, 0x65, 0xf7, 0x53, 0xfe, 0x9c, 0x97, 0x17, 1, 0x65, 0xf7, 0x53, 0xfe,
+    1, 0, 0, 0x2e, 1, 0, 0, 0, 0x65, 0xf7, 0x53, 0xfe, 0x9c, 0x97, 0x17, 1, 0x65, 0xf7, 0x53, 0xfe,
     0x9c, 0x97, 0x17, 0xff, 0xff, 0xff, 0xff, 0xff, 0xff, 0xff, 0xff,
 ];
 
 const LARGEST_FILE: &[u8] = &[
     1, 0, 0xff, 1, 0, 0, 0, 0, 0, 0, 0, 0, 0, 0, 0, 0, 0, 0x18, 0x81,
+];
+
+// One of as many bytes as version 3 allows.
+const LARGEST_NEXT_FILE: &[u8] = &[
+    1, 0, 0xff, 1, 0, 0, 0, 0, 0, 0, 0, 0, 0, 0, 0, 0, 0, 0x18, 0x81, 0x40,
 ];
 
 const DIRECTORY: &[u8] = &[2, 0, 0xff, 7, 0, 0, 0, 0, 0, 0, 0, 0, 0, 0, 0, 0, 0x80];
@@ -289,7 +295,7 @@ fn structures_are_as_the_format_says(rt: HostRuntime) {
 
 // What is read of a part's bytes where some of them are changed: the first that is, the one past the last, and their
 // new value.
-static READS: [(Part, &[u8], usize, usize, u8, Option<LayoutFault>); 104] = [
+static READS: [(Part, &[u8], usize, usize, u8, Option<LayoutFault>); 109] = [
     (Part::Super, SUPER_BYTES, 0, 0, 0, None),
     (Part::Super, SUPER_BYTES, 0, 1, 0x48, Some(BadMagic)),
     (Part::Super, SUPER_BYTES, 3, 4, 0, Some(BadMagic)),
@@ -336,16 +342,21 @@ static READS: [(Part, &[u8], usize, usize, u8, Option<LayoutFault>); 104] = [
     (Part::Inode, LARGEST_FILE, 88, 89, 1, None),
     (Part::Inode, LARGEST_FILE, 91, 92, 1, None),
     (Part::Inode, LARGEST_FILE, 92, 93, 1, Some(NotZero)),
+    (Part::Inode, LARGEST_FILE, 95, 96, 1, Some(NotZero)),
     (Part::Inode, LARGEST_FILE, 96, 97, 1, Some(NotZero)),
     (Part::Inode, LARGEST_FILE, 119, 120, 1, Some(NotZero)),
     (Part::Inode, LARGEST_FILE, 127, 128, 1, Some(NotZero)),
     (Part::Inode, TIMED_BYTES, 0, 0, 0, Some(NotZero)),
     (Part::AnyInode, FILE_BYTES, 0, 0, 0, None),
-    (Part::AnyInode, TIMED_BYTES, 95, 96, 1, Some(NotZero)),
+    (Part::AnyInode, TIMED_BYTES, 92, 96, 0xff, None),
     (Part::AnyInode, TIMED_BYTES, 96, 120, 0x80, None),
     (Part::AnyInode, TIMED_BYTES, 120, 121, 1, Some(NotZero)),
     (Part::AnyInode, TIMED_BYTES, 127, 128, 1, Some(NotZero)),
     (Part::Inode, LARGEST_FILE, 0, 128, 5, Some(BadKind)),
+    (Part::Inode, LARGEST_NEXT_FILE, 0, 0, 0, Some(BadNumber)),
+    (Part::AnyInode, LARGEST_FILE, 16, 17, 1, None),
+    (Part::AnyInode, LARGEST_NEXT_FILE, 0, 0, 0, None),
+    (Part::AnyInode, LARGEST_NEXT_FILE, 16, 17, 1, Some(BadNumber)),
     (Part::Inode, DIRECTORY, 0, 0, 0, None),
     (Part::Inode, DIRECTORY, 3, 4, 0x0f, Some(BadNumber)),
     (Part::Inode, DIRECTORY, 16, 17, 0x81, Some(BadNumber)),
@@ -375,7 +386,7 @@ static READS: [(Part, &[u8], usize, usize, u8, Option<LayoutFault>); 104] = [
         Some(BadNumber),
     ),
     (Part::AnyInode, LARGEST_DIRECTORY, 0, 1, 4, Some(BadKind)),
-    (Part::AnyInode, LARGEST_DIRECTORY, 92, 93, 1, Some(NotZero)),
+    (Part::AnyInode, LARGEST_DIRECTORY, 92, 93, 1, None),
     (Part::Inode, LONGEST_LINK, 0, 0, 0, None),
     (Part::Inode, LONGEST_LINK, 2, 3, 0xfe, Some(BadNumber)),
     (Part::Inode, LONGEST_LINK, 16, 17, 1, Some(BadNumber)),

@@ -4,6 +4,7 @@ use Rattle.std.proofs.Common.{sym, ap, arith, ◌∙◌, subst, inl, inr}
 use Rattle.std.proofs.lemmas.Result.{err_from_is_err_and}
 use Rattle.fs_layout.specs.declared.inode.Inode.{Inode}
 use Rattle.fs_layout.specs.declared.place.Place.{Place}
+use Rattle.fs_layout.specs.Images.{number_on}
 use Rattle.fs_layout.specs.Recovered.{recovered}
 use Rattle.sector_disk.specs.Disk.{DiskState, Image, IsImage, IsSame, Elapses, OnlyReads, HasFailed, sector}
 use Rattle.sector_disk.proofs.Moments.{reads_nothing, reads_more, reads_joined}
@@ -11,6 +12,8 @@ use Rattle.fs_layout.specs.Commit.{IsCommit, named_area}
 use Rattle.fs_model.specs.Rules.{IsPlaceOf, ImageRule, rule_number, ObeysEach, ObeysBefore, IsFinding, fails}
 use Rattle.fs_check.specs.declared.faults.CheckFault.{CheckFault}
 use Rattle.fs_check.specs.declared.faults.CheckFault.TheVariants.{Found, DiskFault, OutOfMemory}
+use Rattle.fs_check.specs.declared.owning.Pointers.{Pointers}
+use Rattle.fs_check.specs.Owning.{AreAtHand, HasLevelInData, HasAboveInData, OwnsData}
 use Rattle.fs_check.specs.Checks.{meaning, BeginsWith, AreInodes, IsReason, Passed, IsNone, IsLeast, IsFirst, IsFailureOf}
 use Rattle.fs_model.proofs.Findings.{next_obeyed}
 
@@ -34,6 +37,28 @@ module _ {old mid : DiskState} (reads : OnlyReads old mid) where
 
   pub table_still : {p : Place} {inodes : List Inode} → AreInodes p (meaning old) inodes → AreInodes p (meaning mid) inodes
   table_still {p} {inodes} x = subst (λ m. AreInodes p m inodes) (sym meaning_same) x
+
+  -- what is at hand, and what is known of numbers
+  pub hand_still : (q : Pointers) → AreAtHand (meaning old) q → AreAtHand (meaning mid) q
+  hand_still q x = subst (λ m. AreAtHand m q) (sym meaning_same) x
+
+  pub hand_back : (q : Pointers) → AreAtHand (meaning mid) q → AreAtHand (meaning old) q
+  hand_back q x = subst (λ m. AreAtHand m q) meaning_same x
+
+  pub owns_still : (p : Place) (v : Inode) → OwnsData p (meaning old) v → OwnsData p (meaning mid) v
+  owns_still p v x = subst (λ m. OwnsData p m v) (sym meaning_same) x
+
+  pub level_still : (p : Place) (v : Inode) (level : ℕ) → HasLevelInData p (meaning old) v level → HasLevelInData p (meaning mid) v level
+  level_still p v level x = subst (λ m. HasLevelInData p m v level) (sym meaning_same) x
+
+  pub above_still : (p : Place) (v : Inode) (level : ℕ) → HasAboveInData p (meaning old) v level → HasAboveInData p (meaning mid) v level
+  above_still p v level x = subst (λ m. HasAboveInData p m v level) (sym meaning_same) x
+
+  pub number_back : (v : Inode) (level i s : ℕ) → s ≡ number_on (meaning mid) v level i → s ≡ number_on (meaning old) v level i
+  number_back v level i s x = x ∙ ap (λ m. number_on m v level i) meaning_same
+
+  pub content_back : (s : ℕ) (content : List ℕ) → content ≡ meaning mid s → content ≡ meaning old s
+  content_back s content x = x ∙ ap (λ m. m s) meaning_same
 
   pub each_back : (p : Place) (r : ImageRule) → ObeysEach p (meaning mid) r → ObeysEach p (meaning old) r
   each_back p r x = subst (λ m. ObeysEach p m r) meaning_same x

@@ -1,48 +1,72 @@
 -- The numbers of a level: by which content they are known, and whether they are in the data area.
-use Rattle.std.specs.Prelude.{◌≡◌, ◌≢◌, ℕ, zero, suc, ◌+◌, ◌*◌, ◌<◌, ◌≤◌, List, Bool, true, false, IsTrue, ◌↔◌}
+use Rattle.std.specs.Prelude.{◌≡◌, ◌≢◌, ℕ, suc, ◌+◌, ◌-◌, ◌*◌, ◌<◌, ◌≤◌, List, [], get_or, Bool, true, false, IsTrue, ◌↔◌}
 use Rattle.std.proofs.Common.{sym, ap, arith, ◌∙◌, subst, inl, inr}
 use Rattle.std.proofs.lemmas.Bool.{cases_eq, cases_lt}
 use Rattle.fs_layout.specs.declared.inode.Inode.{Inode}
-use Rattle.fs_layout.specs.declared.inode.TheConstants.{DIRECT_BLOCKS, SECTOR_POINTERS, MAX_BLOCKS}
+use Rattle.fs_layout.specs.declared.inode.TheConstants.{POINTER_LEVELS, SECTOR_POINTERS}
 use Rattle.fs_layout.specs.declared.place.Place.{Place}
 use Rattle.fs_layout.specs.Bytes.{SectorMap}
-use Rattle.fs_layout.specs.Images.{pointer_in, own_count, holder, place_in_holder, number_on, HasPointers, Part, AccessAcl, DefaultAcl, OnLevel, part, IsData}
+use Rattle.fs_layout.specs.Images.{pointer_in, own_count, holder, place_in_holder, number_on, HasPointers, HasPointersAbove, Part, AccessAcl, DefaultAcl, OnLevel, part, IsData}
 use Rattle.fs_layout.proofs.Parts.{owns_acl, owns_default_acl, owns_on_level}
-use Rattle.fs_layout.proofs.Pointers.{pointer_held, number_on_double, no_number_on}
+use Rattle.fs_layout.proofs.Pointers.{number_on_held, no_level}
 use Rattle.fs_model.specs.Rules.{IsPlaceOf}
-use Rattle.fs_check.specs.Owning.{AreListed, AreInData, HasTopInData, OwnsData, level_end}
+use Rattle.fs_check.specs.Owning.{AreListed, AreInData, HasLevelInData, HasAboveInData, HasAclsInData, OwnsData}
 use Rattle.fs_check.proofs.Openings.{many_sectors, place_size}
-use Rattle.fs_check.proofs.OwnedParts.{number_past}
 use Rattle.fs_check.proofs.Tests.{refuses}
 
 -- ---- the content in which they stand
 
+pub next_level : (level : ℕ) → level + 1 ≡ suc level
+next_level level = omega arith
+
 module _ (m : SectorMap) (v : Inode) where
-  -- the blocks that are found by one sector of pointers
-  pub none_found : (j k : ℕ) → number_on m v 1 j ≡ 0 → DIRECT_BLOCKS + SECTOR_POINTERS * j ≤ k → k < DIRECT_BLOCKS + SECTOR_POINTERS * (j + 1)
-      → number_on m v 0 k ≡ 0
-  none_found j k none ge lt =
-      let at : holder DIRECT_BLOCKS k ≡ j = omega (arith, ge, lt) in
-      pointer_held m v k (omega (arith, ge))
-      ∙ ap (λ (i : ℕ). pointer_in m (number_on m v 1 i) (place_in_holder DIRECT_BLOCKS k)) at
-      ∙ ap (λ (s : ℕ). pointer_in m s (place_in_holder DIRECT_BLOCKS k)) none
+  -- that of a sector of pointers that is there
+  pub has_content : (level i s : ℕ) (content : List ℕ) → s ≡ number_on m v level i → s ≢ 0 → content ≡ m s → HasPointers m v level i content
+  has_content level i s content is some read = record { is = λ there. read ∙ ap m is; none = λ gone. absurd (some (is ∙ gone)) }
 
-  -- and by those from one on
-  pub none_past : (e k : ℕ) → ((i : ℕ) → e ≤ i → number_on m v 1 i ≡ 0) → DIRECT_BLOCKS + SECTOR_POINTERS * e ≤ k → number_on m v 0 k ≡ 0
-  none_past e k none ge = none_found (holder DIRECT_BLOCKS k) k (none (holder DIRECT_BLOCKS k) (omega (arith, ge))) (omega (arith, ge)) (omega (arith, ge))
+  -- number i of a level stands in one of the next
+  pub has_above : (level i s : ℕ) (content : List ℕ) → s ≡ number_on m v (level + 1) (holder (own_count level) i) → s ≢ 0 → content ≡ m s
+      → HasPointersAbove m v level i content
+  has_above level i s content is some read own =
+      subst (λ n. HasPointers m v n (holder (own_count level) i) content) (next_level level)
+      (has_content (level + 1) (holder (own_count level) i) s content is some read)
 
-  pub listed_blocks : (j : ℕ) (content : List ℕ) → HasPointers m v 1 j content
-      → AreListed m v content 0 (DIRECT_BLOCKS + SECTOR_POINTERS * j) (DIRECT_BLOCKS + SECTOR_POINTERS * (j + 1))
-  listed_blocks j content h k ge lt own =
-      subst (λ i. HasPointers m v 1 i content) (let at : j ≡ holder DIRECT_BLOCKS k = omega (arith, ge, lt) in at) h
+  -- those that one sector of pointers lists
+  pub are_listed : (level j s : ℕ) (content : List ℕ) → s ≡ number_on m v (level + 1) j → s ≢ 0 → content ≡ m s
+      → AreListed m v content level (own_count level + SECTOR_POINTERS * j) (own_count level + SECTOR_POINTERS * (j + 1))
+  are_listed level j s content is some read k ge lt own =
+      let at : j ≡ holder (own_count level) k = omega (arith, ge, lt) in
+      has_above level k s content (is ∙ ap (number_on m v (level + 1)) at) some read own
 
-  pub listed_sectors : (end : ℕ) (content : List ℕ) → HasPointers m v 2 0 content → end ≤ 1 + SECTOR_POINTERS → AreListed m v content 1 0 end
-  listed_sectors end content h few i ge lt own =
-      subst (λ j. HasPointers m v 2 j content) (let at : 0 ≡ holder 1 i = omega (arith, few, lt, own) in at) h
+  -- by the count of those in the inode, and the place of the level's content
+  pub sector_lists : (level j s own at : ℕ) (contents : List (List ℕ)) → own ≡ own_count level → at ≡ level → s ≡ number_on m v (level + 1) j → s ≢ 0
+      → get_or contents at [] ≡ m s → AreListed m v (get_or contents level []) level (own + SECTOR_POINTERS * j) (own + SECTOR_POINTERS * (j + 1))
+  sector_lists level j s own at contents few place is some read k ge lt =
+      are_listed level j s (get_or contents level []) is some (ap (λ n. get_or contents n []) (sym place) ∙ read) k (omega (arith, ge, few)) (omega (arith, lt, few))
 
   -- those that stand in the inode stand in no sector
   pub listed_own : (level first end : ℕ) (content : List ℕ) → end ≤ own_count level → AreListed m v content level first end
   listed_own level first end content few i ge lt own = absurd (omega (arith, few, lt, own))
+
+  -- ---- numbers that are none
+
+  -- number i of a level is none where its sector of pointers isn't there
+  pub none_held : (level i : ℕ) → own_count level ≤ i → number_on m v (level + 1) (holder (own_count level) i) ≡ 0 → number_on m v level i ≡ 0
+  none_held level i ge none =
+      number_on_held m v level i ge
+      ∙ ap (λ (s : ℕ). pointer_in m s (place_in_holder (own_count level) i))
+      (ap (λ n. number_on m v n (holder (own_count level) i)) (sym (next_level level)) ∙ none)
+
+  -- those that are found by one sector of pointers
+  pub none_found : (level j k : ℕ) → number_on m v (level + 1) j ≡ 0 → own_count level + SECTOR_POINTERS * j ≤ k
+      → k < own_count level + SECTOR_POINTERS * (j + 1) → number_on m v level k ≡ 0
+  none_found level j k none ge lt =
+      let at : j ≡ holder (own_count level) k = omega (arith, ge, lt) in
+      none_held level k (omega (arith, ge)) (sym (ap (number_on m v (level + 1)) at) ∙ none)
+
+  -- and by those from one on
+  pub none_past : (level e k : ℕ) → ((i : ℕ) → e ≤ i → number_on m v (level + 1) i ≡ 0) → own_count level + SECTOR_POINTERS * e ≤ k → number_on m v level k ≡ 0
+  none_past level e k none ge = none_held level k (omega (arith, ge)) (none (holder (own_count level) k) (omega (arith, ge)))
 
 -- ---- in the data area
 
@@ -53,11 +77,11 @@ number_below size image p at s in_data = elim (cases_eq s 0) [
   | inr some ↦ (let below = (in_data some).1 in let same = place_size size image p at in omega (arith, below, same))
 ]
 
--- each number of an inode that owns data sectors alone is one
-pub level_below : (size : ℕ) (image : SectorMap) (p : Place) (m : SectorMap) (v : Inode) (level i : ℕ) → IsPlaceOf size image p → OwnsData p m v
-    → number_on m v level i < size
-level_below size image p m v level i at in_data =
-    number_below size image p at (number_on m v level i) (λ some. in_data (number_on m v level i) (owns_on_level m v level i some))
+-- each number of a level whose sectors are data sectors is one
+pub level_below : (size : ℕ) (image : SectorMap) (p : Place) (m : SectorMap) (v : Inode) (level i s : ℕ) → IsPlaceOf size image p → HasLevelInData p m v level
+    → s ≡ number_on m v level i → s < size
+level_below size image p m v level i s at in_data is =
+    let below = number_below size image p at (number_on m v level i) (in_data i) in omega (arith, is, below)
 
 module _ (p : Place) (m : SectorMap) (v : Inode) where
   pub in_data_more : (level first i s : ℕ) (r : Bool) → s ≡ number_on m v level i → (IsTrue r ↔ (s ≢ 0 → IsData p s)) → r ≡ true
@@ -83,55 +107,76 @@ module _ (p : Place) (m : SectorMap) (v : Inode) where
   pub none_in_data : (level first end : ℕ) → ((i : ℕ) → first ≤ i → i < end → number_on m v level i ≡ 0) → AreInData p m v level first end
   none_in_data level first end none i ge lt some = absurd (some (none i ge lt))
 
+  -- all of a level, where those up to a sector of pointers are, and the others are none
+  pub level_in_data : (level e : ℕ) → AreInData p m v level 0 (own_count level + SECTOR_POINTERS * e) → ((i : ℕ) → e ≤ i → number_on m v (level + 1) i ≡ 0)
+      → HasLevelInData p m v level
+  level_in_data level e all none i some = elim (cases_lt i (own_count level + SECTOR_POINTERS * e)) [
+    | inl lt ↦ all i (omega arith) lt some
+    | inr ge ↦ absurd (some (none_past m v level e i none ge))
+  ]
+
   -- some of them aren't
-  pub not_among : (level first end a b : ℕ) (r : Bool) → first ≤ a → b ≤ end → (IsTrue r ↔ AreInData p m v level a b) → r ≡ false
-      → IsTrue false ↔ AreInData p m v level first end
-  not_among level first end a b r from to test bad = (
+  pub not_among : (level a b : ℕ) (r : Bool) → (IsTrue r ↔ AreInData p m v level a b) → r ≡ false → IsTrue false ↔ HasLevelInData p m v level
+  not_among level a b r test bad = (
     (λ f. absurd (let c : false ≡ true = f in cc)),
-    (λ all. absurd (refuses (AreInData p m v level a b) r bad test (λ i ge lt some. all i (omega (arith, from, ge)) (omega (arith, to, lt)) some))),
+    (λ all. absurd (refuses (AreInData p m v level a b) r bad test (λ i ge lt some. all i some))),
   )
 
   -- ---- all that is owned
 
-  pub level_owned : OwnsData p m v → (level first end : ℕ) → AreInData p m v level first end
-  level_owned all level first end i ge lt some = all (number_on m v level i) (owns_on_level m v level i some)
+  pub level_owned : OwnsData p m v → (level : ℕ) → HasLevelInData p m v level
+  level_owned all level i some = all (number_on m v level i) (owns_on_level m v level i some)
 
-  pub top_owned : OwnsData p m v → HasTopInData p v
-  top_owned all = record {
-    acl = λ some. all v.acl (owns_acl m v some);
-    default_acl = λ some. all v.default_acl (owns_default_acl m v some);
-    double_indirect = λ some.
-        subst (IsData p) (number_on_double m v)
-        (all (number_on m v 2 0) (owns_on_level m v 2 0 (λ none. some (sym (number_on_double m v) ∙ none))));
-  }
+  pub above_owned : OwnsData p m v → (level : ℕ) → HasAboveInData p m v level
+  above_owned all level above gt = level_owned all above
 
-  pub all_owned : HasTopInData p v → AreInData p m v 1 0 (1 + SECTOR_POINTERS) → AreInData p m v 0 0 MAX_BLOCKS → OwnsData p m v
+  pub acls_owned : OwnsData p m v → HasAclsInData p v
+  acls_owned all = record { acl = λ some. all v.acl (owns_acl m v some); default_acl = λ some. all v.default_acl (owns_default_acl m v some) }
+
+  -- there is no level above the highest
+  pub none_above : (level : ℕ) → POINTER_LEVELS ≤ level → HasAboveInData p m v level
+  none_above level high above gt i some = absurd (some (no_level m v above i (omega (arith, high, gt))))
+
+  pub all_owned : HasAclsInData p v → ((n : ℕ) → n ≤ POINTER_LEVELS → HasLevelInData p m v n) → OwnsData p m v
   unfolding part
-  all_owned top sectors blocks s o = go o.at o.is o.some
+  all_owned acls levels s o = go o.at o.is o.some
     where
-      level : (l i : ℕ) → AreInData p m v l 0 (level_end l) → number_on m v l i ≡ s → s ≢ 0 → IsData p s
-      level l i all e some = elim (cases_lt i (level_end l)) [
-        | inl lt ↦ subst (IsData p) e (all i (omega arith) lt (λ none. some (sym e ∙ none)))
-        | inr ge ↦ absurd (some (sym e ∙ number_past m v l i ge))
-      ]
-
-      highest : AreInData p m v 2 0 (level_end 2)
-      highest i ge lt some =
-          let first : i ≡ 0 = omega (arith, lt) in
-          let is : number_on m v 2 i ≡ v.double_indirect = ap (number_on m v 2) first ∙ number_on_double m v in
-          subst (IsData p) (sym is) (top.double_indirect (λ none. some (is ∙ none)))
-
       go : (a : Part) → part m v a ≡ s → s ≢ 0 → IsData p s
-      go AccessAcl e some = subst (IsData p) e (top.acl (λ none. some (sym e ∙ none)))
-      go DefaultAcl e some = subst (IsData p) e (top.default_acl (λ none. some (sym e ∙ none)))
-      go (OnLevel zero i) e some = level 0 i blocks e some
-      go (OnLevel (suc zero) i) e some = level 1 i sectors e some
-      go (OnLevel (suc (suc zero)) i) e some = level 2 i highest e some
-      go (OnLevel (suc (suc (suc l))) i) e some = absurd (some (sym e ∙ no_number_on m v l i))
+      go AccessAcl e some = subst (IsData p) e (acls.acl (λ none. some (sym e ∙ none)))
+      go DefaultAcl e some = subst (IsData p) e (acls.default_acl (λ none. some (sym e ∙ none)))
+      go (OnLevel level i) e some = elim (cases_lt POINTER_LEVELS level) [
+        | inl high ↦ absurd (some (sym e ∙ no_level m v level i high))
+        | inr few ↦ subst (IsData p) e (levels level (omega (arith, few)) i (λ none. some (sym e ∙ none)))
+      ]
 
   -- what isn't all in the data area
   pub not_owned : (P : Type 0) (r : Bool) → (OwnsData p m v → P) → (IsTrue r ↔ P) → r ≡ false → IsTrue false ↔ OwnsData p m v
   not_owned P r from test bad = (
     (λ f. absurd (let c : false ≡ true = f in cc)),
     (λ all. absurd (refuses P r bad test (from all))),
+  )
+
+  -- ---- a level, and those below it
+
+  pub levels_below : (level : ℕ) → HasLevelInData p m v level → ((n : ℕ) → n ≤ level - 1 → HasLevelInData p m v n)
+      → (n : ℕ) → n ≤ level → HasLevelInData p m v n
+  levels_below level here below n le = elim (cases_eq n level) [
+    | inl e ↦ subst (HasLevelInData p m v) (sym e) here
+    | inr ne ↦ below n (omega (arith, le, ne))
+  ]
+
+  pub lowest_level : (level : ℕ) → level ≡ 0 → HasLevelInData p m v level → (n : ℕ) → n ≤ level → HasLevelInData p m v n
+  lowest_level level lowest here n le = subst (HasLevelInData p m v) (let e : level ≡ n = omega (arith, lowest, le) in e) here
+
+  pub levels_above : (level : ℕ) → level ≢ 0 → HasLevelInData p m v level → HasAboveInData p m v level → HasAboveInData p m v (level - 1)
+  levels_above level some here above n gt = elim (cases_eq n level) [
+    | inl e ↦ subst (HasLevelInData p m v) (sym e) here
+    | inr ne ↦ above n (omega (arith, gt, ne, some))
+  ]
+
+  pub not_all : (level : ℕ) (r : Bool) → (IsTrue r ↔ HasLevelInData p m v level) → r ≡ false
+      → IsTrue false ↔ ((n : ℕ) → n ≤ level → HasLevelInData p m v n)
+  not_all level r test bad = (
+    (λ f. absurd (let c : false ≡ true = f in cc)),
+    (λ all. absurd (refuses (HasLevelInData p m v level) r bad test (all level (omega arith)))),
   )

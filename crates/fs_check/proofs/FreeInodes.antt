@@ -1,5 +1,5 @@
 -- Free inodes.
-use Rattle.std.specs.Prelude.{◌≡◌, ℕ, ◌+◌, ◌-◌, ◌<◌, ◌≤◌, List, length, get_or, take, drop, Ok}
+use Rattle.std.specs.Prelude.{◌≡◌, ℕ, ◌+◌, ◌<◌, ◌≤◌, List, length, get_or, drop, Ok}
 use Rattle.std.proofs.Common.{refl, sym, ap, arith, ◌∙◌, inl, inr}
 use Rattle.std.proofs.lemmas.Bool.{cases_eq}
 use Rattle.std.proofs.lemmas.List.{ext_get_or, length-take-le, length-drop}
@@ -34,7 +34,7 @@ blank_is_free content at len room zero =
 -- one is allowed in each version
 pub free_is_allowed : (version : Version) → IsAllowed version free_inode
 unfolding stamps_in
-free_is_allowed version = record { size = λ e. cc; double_indirect = λ le. refl; directory = λ e. cc; slots = λ e. cc; stamps = λ e. refl }
+free_is_allowed version = record { size = λ e. cc; indirect = λ level le. free_has_no_sector.indirect level; directory = λ e. cc; slots = λ e. cc; stamps = λ e. refl }
 
 -- ---- one obeys the rules
 

@@ -1,3 +1,5 @@
+pub mod Allowed
+pub mod AtHand
 pub mod BitTables
 pub mod BitTests
 pub mod Carrying

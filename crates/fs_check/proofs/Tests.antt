@@ -94,4 +94,4 @@ not_found None P Q none found = found
 
 -- what a read past the end of a list of inodes would give
 abbrev pub blank : Inode
-blank = record { kind = kinds.Free; mode = 0; uid = 0; gid = 0; names = 0; size = 0; parent = 0; acl = 0; default_acl = 0; direct = []; indirect = 0; double_indirect = 0; mtime = 0; ctime = 0; atime = 0 }
+blank = record { kind = kinds.Free; mode = 0; uid = 0; gid = 0; names = 0; size = 0; parent = 0; acl = 0; default_acl = 0; direct = []; indirect = []; mtime = 0; ctime = 0; atime = 0 }

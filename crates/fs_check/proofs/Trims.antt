@@ -1,4 +1,4 @@
--- What an inode holds goes with its size: its pointers do, and its last block.
+-- What an inode holds goes with its size: its numbers do, and its last block.
 use Rattle.std.specs.Prelude.{◌≡◌, ◌≢◌, ℕ, ◌+◌, ◌-◌, ◌*◌, ◌/◌, ◌%◌, ◌<◌, ◌≤◌, Bool, true, false, List, length, get_or}
 use Rattle.std.specs.Prelude.{take, drop, IsTrue, ◌↔◌}
 use Rattle.std.proofs.Common.{refl, sym, ap, arith, ◌∙◌, inl, inr}
@@ -6,13 +6,11 @@ use Rattle.std.proofs.lemmas.Bool.{cases_eq, cases_lt}
 use Rattle.std.proofs.lemmas.List.{get_or-drop, get_or-take, length-drop, length-take-le}
 use Rattle.fs_layout.specs.declared.inode.Kind.TheVariants as kinds
 use Rattle.fs_layout.specs.declared.inode.Inode.{Inode}
-use Rattle.fs_layout.specs.declared.place.Place.{Place}
 use Rattle.fs_layout.specs.Bytes.{SectorMap}
-use Rattle.fs_layout.specs.Images.{pointer, byte_in, byte_at, Owns, IsData}
-use Rattle.fs_layout.proofs.Parts.{byte_in_is, owns_block}
-use Rattle.fs_model.specs.Rules.{IsPlaceOf, IsLaidOut}
-use Rattle.fs_check.specs.LastBlocks.{last_block, last_bytes, FitPointers, FitsLast}
-use Rattle.fs_check.proofs.Openings.{place_size}
+use Rattle.fs_layout.specs.Images.{pointer, byte_in, byte_at}
+use Rattle.fs_layout.proofs.Parts.{byte_in_is}
+use Rattle.fs_model.specs.Rules.{IsLaidOut}
+use Rattle.fs_check.specs.LastBlocks.{last_block, last_bytes, FitsSize, FitsLast}
 
 -- ---- the last block
 
@@ -52,7 +50,7 @@ module _ (v : Inode) (content : List ℕ) (n : ℕ) (at : n ≡ last_bytes v) (l
 
 -- ---- the whole
 
-module _ (m : SectorMap) (v : Inode) (fit : FitPointers m v) where
+module _ (m : SectorMap) (v : Inode) (fit : FitsSize m v) where
   -- a block past the size has no byte but zeros
   past_byte : (i : ℕ) → v.size ≤ 512 * (i / 512) → byte_at m v i ≡ 0
   unfolding byte_at
@@ -127,17 +125,9 @@ module _ (m : SectorMap) (v : Inode) (fit : FitPointers m v) where
           })),
         )
 
--- the pointers don't go with the size
-pub not_fit : (m : SectorMap) (v : Inode) (r : Bool) → r ≡ false → (IsTrue r ↔ FitPointers m v) → IsTrue false ↔ IsLaidOut m v
+-- the numbers don't go with the size
+pub not_fit : (m : SectorMap) (v : Inode) (r : Bool) → r ≡ false → (IsTrue r ↔ FitsSize m v) → IsTrue false ↔ IsLaidOut m v
 not_fit m v r bad test = (
   (λ f. absurd (let c : false ≡ true = f in cc)),
   (λ out. sym bad ∙ test.1 (record { trim = out.trim; whole = out.whole })),
 )
-
--- a block's sector is one of the disk
-pub block_on_disk : (size : ℕ) (image : SectorMap) (p : Place) (m : SectorMap) (v : Inode) (k s : ℕ) → IsPlaceOf size image p
-    → ((q : ℕ) → Owns m v q → IsData p q) → s ≡ pointer m v k → s ≢ 0 → s < size
-block_on_disk size image p m v k s at in_data is some =
-    let below = (in_data (pointer m v k) (owns_block m v k (λ z. some (is ∙ z)))).1 in
-    let same = place_size size image p at in
-    omega (arith, below, same, is)

@@ -1,57 +1,48 @@
 //! What stands in blocks.
 
-ghost use Rattle.std.specs.Prelude.{◌≡◌, ◌≢◌, ◌≤◌, ◌<◌, ◌+◌, ◌*◌, ℕ, length, get_or, OnOk, IfOk, IsTrue, ◌↔◌};
-ghost use Rattle.fs_layout.specs.declared.inode.TheConstants.{SECTOR_POINTERS};
+ghost use Rattle.std.specs.Prelude.{◌≡◌, ◌≢◌, ◌≤◌, ◌<◌, ◌+◌, ℕ, length, get_or, OnOk, IfOk, IsTrue, ◌↔◌};
+ghost use Rattle.fs_layout.specs.declared.inode.TheConstants.{POINTER_LEVELS};
 ghost use Rattle.fs_layout.specs.Bytes.{SectorMap};
-ghost use Rattle.fs_layout.specs.Images.{HasPointers, HasPointersAbove, Owns, IsData};
+ghost use Rattle.fs_layout.specs.Images.{IsTrimmed, HasNoHole};
+ghost use Rattle.fs_model.specs.Nodes.{numbers_for};
 ghost use Rattle.fs_model.specs.Rules.{ObeysEach, ObeysBefore, LaidOut, IsLaidOut};
-ghost use Rattle.fs_check.specs.LastBlocks.{last_block, HasSize, FitsPointer, FitBlocks, FitListed, FitBefore, FitSectors, FitPointers, FitsLast};
-ghost use Rattle.fs_check.specs.Owning.{AreListed};
+ghost use Rattle.fs_check.specs.LastBlocks.{HasSize, AreNone, IsCut, FitsSize, FitsLast};
+ghost use Rattle.fs_check.specs.Owning.{AreListed, AreAtHand, OwnsData};
 ghost use Rattle.fs_check.specs.Checks.{meaning, BeginsWith, AreInodes, Passed, IsNone, IsLeast};
 
 use crate::faults::{CheckFault, Checked, Finding};
 use crate::opening::Opened;
-use crate::owning::{pointers_end, read_listed};
+use crate::owning::Pointers;
 use crate::reading::read_recovered;
 use crate::zeros::are_zero;
-use fs_layout::{DIRECT_BLOCKS, INDIRECT_END, Inode, Kind, SECTOR_POINTERS};
+use fs_layout::{Inode, Kind, POINTER_LEVELS, SECTOR_POINTERS, own_count};
 use sector_disk::Disk;
 
 const LAID_OUT: u8 = 8;
 
-// The number s of block k goes with the size.
-fn fits_pointer(inode: &Inode, k: u64, s: u32) -> bool
-    ensures { IsTrue result ↔ FitsPointer inode.now k s }
+// How many numbers of a level the size needs.
+fn needed_numbers(inode: &Inode, level: usize) -> u64
+    requires { level ≤ POINTER_LEVELS + 1 }
+    ensures is { result ≡ numbers_for level inode.now.size }
+    ensures few { result ≤ inode.now.size }
 {
-    if inode.size.div_ceil(512) <= k {
-        return s == 0;
+    let mut count = inode.size.div_ceil(512);
+    for below in 0..level {
+        count = count
+            .saturating_sub(own_count(below))
+            .div_ceil(SECTOR_POINTERS);
     }
-    s != 0 || inode.kind == Kind::File
+    count
 }
 
-// The numbers of the blocks from `first` up to `end` go with the size; `content` is that of the sector of pointers in which they
-// stand, if they don't stand in the inode.
-fn fit_blocks(inode: &Inode, content: &[u8; 512], first: u64, end: u64) -> bool
-    ensures { (m : SectorMap) → AreListed m inode.now content.now 0 first end → IsTrue result ↔ FitBlocks m inode.now first end }
+// The numbers of a level from `first` up to `end` are 0; `content` is that of the sector of pointers in which they stand, if they
+// don't stand in the inode.
+fn are_none(inode: &Inode, level: usize, content: &[u8; 512], first: u64, end: u64) -> bool
+    ensures { (m : SectorMap) → AreListed m inode.now content.now level first end
+        → IsTrue result ↔ AreNone m inode.now level first end }
 {
-    for k in first..end {
-        if !fits_pointer(inode, k, inode.number(0, content, k)) {
-            return false;
-        }
-    }
-    true
-}
-
-// No sector of pointers is past the size; `listed` is the content of the double indirect sector, zeros where there is none.
-fn fit_sectors(inode: &Inode, listed: &[u8; 512]) -> bool
-    ensures { (m : SectorMap) → HasPointers m inode.now 2 0 listed.now → IsTrue result ↔ FitSectors m inode.now }
-{
-    if inode.double_indirect != 0 && inode.size <= 512 * INDIRECT_END {
-        return false;
-    }
-    for i in 0..pointers_end(inode) {
-        let first = DIRECT_BLOCKS + SECTOR_POINTERS * i;
-        if inode.size <= 512 * first && inode.number(1, listed, i) != 0 {
+    for i in first..end {
+        if inode.number(level, content, i) != 0 {
             return false;
         }
     }
@@ -75,108 +66,134 @@ fn fits_last(inode: &Inode, content: &[u8; 512]) -> bool
     inode.kind != Kind::Link || has_no_zero(&content[..end])
 }
 
-// The numbers of the blocks go with the size that number `j` of the sectors of pointers to blocks lists. `content` is first that of
-// the sector in which this number stands, if it doesn't stand in the inode, and then that of the sector of pointers.
-fn fit_listed<D: Disk>(
+// Of the numbers of a level that the size doesn't need, there is none in the inode, nor in the sectors of pointers that it needs: only
+// the last of those has any of them.
+fn is_cut<D: Disk>(
     disk: &mut D,
     opened: &Opened,
     inode: &Inode,
-    j: u64,
-    content: &mut [u8; 512],
+    level: usize,
+    pointers: &mut Pointers,
 ) -> Checked<bool>
     requires opened { BeginsWith (D.state disk.old) opened.now.place opened.now.area opened.now.commit }
-    requires in_data { (s : ℕ) → Owns (meaning (D.state disk.old)) inode.now s → IsData opened.now.place s }
-    requires few { j ≤ SECTOR_POINTERS }
-    requires listed { HasPointersAbove (meaning (D.state disk.old)) inode.now 1 j content.old }
-    ensures test { IfOk result (λ b. IsTrue b ↔ FitListed (meaning (D.state disk.old)) inode.now j) }
-    ensures content { OnOk result (HasPointers (meaning (D.state disk.old)) inode.now 1 j content.new) }
+    requires in_data { OwnsData opened.now.place (meaning (D.state disk.old)) inode.now }
+    requires size { HasSize inode.now }
+    requires level { level ≤ POINTER_LEVELS }
+    requires at_hand { AreAtHand (meaning (D.state disk.old)) pointers.old }
+    ensures test { IfOk result (λ b. IsTrue b ↔ IsCut (meaning (D.state disk.old)) inode.now level) }
+    ensures at_hand { OnOk result (AreAtHand (meaning (D.state disk.old)) pointers.new) }
     ensures passed { Passed IsNone (D.state disk.old) (D.state disk.new) result }
 {
-    read_listed(disk, opened, inode, 1, j, content)?;
-    let first = DIRECT_BLOCKS + SECTOR_POINTERS * j;
-    let end = DIRECT_BLOCKS + SECTOR_POINTERS * (j + 1);
-    Ok(fit_blocks(inode, content, first, end))
-}
-
-// So do those that the sectors of pointers before number `end` list. Of a file none is looked at: it may have holes. `listed` is the
-// content of the double indirect sector, zeros where there is none.
-fn fit_before<D: Disk>(
-    disk: &mut D,
-    opened: &Opened,
-    inode: &Inode,
-    end: u64,
-    listed: &[u8; 512],
-) -> Checked<bool>
-    requires opened { BeginsWith (D.state disk.old) opened.now.place opened.now.area opened.now.commit }
-    requires in_data { (s : ℕ) → Owns (meaning (D.state disk.old)) inode.now s → IsData opened.now.place s }
-    requires few { end ≤ SECTOR_POINTERS }
-    requires listed { HasPointers (meaning (D.state disk.old)) inode.now 2 0 listed.now }
-    ensures test { IfOk result (λ b. IsTrue b ↔ FitBefore (meaning (D.state disk.old)) inode.now end) }
-    ensures passed { Passed IsNone (D.state disk.old) (D.state disk.new) result }
-{
-    if inode.kind == Kind::File {
+    let first = needed_numbers(inode, level);
+    let own = own_count(level);
+    if !are_none(inode, level, &pointers.contents[0], first, own) {
+        return Ok(false);
+    }
+    let above = needed_numbers(inode, level + 1);
+    if above == 0 {
         return Ok(true);
     }
-    for j in 0..end {
-        let mut content = *listed;
-        if !fit_listed(disk, opened, inode, j, &mut content)? {
+    if pointers.find(disk, opened, inode, level + 1, above - 1)? == 0 {
+        return Ok(true);
+    }
+    let end = own + SECTOR_POINTERS * above;
+    Ok(are_none(inode, level, &pointers.contents[level], first, end))
+}
+
+// No number of the inode is past its size.
+fn is_trimmed<D: Disk>(
+    disk: &mut D,
+    opened: &Opened,
+    inode: &Inode,
+    pointers: &mut Pointers,
+) -> Checked<bool>
+    requires opened { BeginsWith (D.state disk.old) opened.now.place opened.now.area opened.now.commit }
+    requires in_data { OwnsData opened.now.place (meaning (D.state disk.old)) inode.now }
+    requires size { HasSize inode.now }
+    requires at_hand { AreAtHand (meaning (D.state disk.old)) pointers.old }
+    ensures test { IfOk result (λ b. IsTrue b ↔ IsTrimmed (meaning (D.state disk.old)) inode.now) }
+    ensures at_hand { OnOk result (AreAtHand (meaning (D.state disk.old)) pointers.new) }
+    ensures passed { Passed IsNone (D.state disk.old) (D.state disk.new) result }
+{
+    for level in 0..POINTER_LEVELS + 1 {
+        if !is_cut(disk, opened, inode, level, pointers)? {
             return Ok(false);
         }
     }
     Ok(true)
 }
 
-// The numbers of the inode go with its size; `content` is then that of the sector of pointers in which the number of its last
-// block stands, if that doesn't stand in the inode.
-fn fit_pointers<D: Disk>(
+// Each block within the size has a sector.
+fn has_no_hole<D: Disk>(
     disk: &mut D,
     opened: &Opened,
     inode: &Inode,
-    content: &mut [u8; 512],
+    pointers: &mut Pointers,
 ) -> Checked<bool>
     requires opened { BeginsWith (D.state disk.old) opened.now.place opened.now.area opened.now.commit }
-    requires in_data { (s : ℕ) → Owns (meaning (D.state disk.old)) inode.now s → IsData opened.now.place s }
-    requires size { HasSize inode.now }
-    ensures test { IfOk result (λ b. IsTrue b ↔ FitPointers (meaning (D.state disk.old)) inode.now) }
-    ensures content { IfOk result (λ b. IsTrue b
-        → AreListed (meaning (D.state disk.old)) inode.now content.new 0 (last_block inode.now) (last_block inode.now + 1)) }
+    requires in_data { OwnsData opened.now.place (meaning (D.state disk.old)) inode.now }
+    requires at_hand { AreAtHand (meaning (D.state disk.old)) pointers.old }
+    ensures test { IfOk result (λ b. IsTrue b ↔ HasNoHole (meaning (D.state disk.old)) inode.now) }
+    ensures at_hand { OnOk result (AreAtHand (meaning (D.state disk.old)) pointers.new) }
     ensures passed { Passed IsNone (D.state disk.old) (D.state disk.new) result }
 {
-    read_listed(disk, opened, inode, 2, 0, content)?;
-    if !fit_sectors(inode, content) {
+    for k in 0..needed_numbers(inode, 0) {
+        if pointers.number(disk, opened, inode, 0, k)? == 0 {
+            return Ok(false);
+        }
+    }
+    Ok(true)
+}
+
+// The numbers of the inode go with its size. Of a file those within it may be any: it may have holes.
+fn fit_numbers<D: Disk>(
+    disk: &mut D,
+    opened: &Opened,
+    inode: &Inode,
+    pointers: &mut Pointers,
+) -> Checked<bool>
+    requires opened { BeginsWith (D.state disk.old) opened.now.place opened.now.area opened.now.commit }
+    requires in_data { OwnsData opened.now.place (meaning (D.state disk.old)) inode.now }
+    requires size { HasSize inode.now }
+    requires at_hand { AreAtHand (meaning (D.state disk.old)) pointers.old }
+    ensures test { IfOk result (λ b. IsTrue b ↔ FitsSize (meaning (D.state disk.old)) inode.now) }
+    ensures at_hand { OnOk result (AreAtHand (meaning (D.state disk.old)) pointers.new) }
+    ensures passed { Passed IsNone (D.state disk.old) (D.state disk.new) result }
+{
+    if !is_trimmed(disk, opened, inode, pointers)? {
         return Ok(false);
     }
-    if !fit_blocks(inode, content, 0, DIRECT_BLOCKS) {
-        return Ok(false);
-    }
-    let k = inode.size.saturating_sub(1) / 512;
-    if k < DIRECT_BLOCKS {
+    if inode.kind == Kind::File {
         return Ok(true);
     }
-    let i = (k - DIRECT_BLOCKS) / SECTOR_POINTERS;
-    if !fit_before(disk, opened, inode, i, content)? {
-        return Ok(false);
-    }
-    let fit = fit_listed(disk, opened, inode, i, content)?;
-    Ok(fit)
+    let whole = has_no_hole(disk, opened, inode, pointers)?;
+    Ok(whole)
 }
 
 // What the inode holds goes with its size.
-fn is_laid_out<D: Disk>(disk: &mut D, opened: &Opened, inode: &Inode) -> Checked<bool>
+fn is_laid_out<D: Disk>(
+    disk: &mut D,
+    opened: &Opened,
+    inode: &Inode,
+    pointers: &mut Pointers,
+) -> Checked<bool>
     requires opened { BeginsWith (D.state disk.old) opened.now.place opened.now.area opened.now.commit }
-    requires in_data { (s : ℕ) → Owns (meaning (D.state disk.old)) inode.now s → IsData opened.now.place s }
+    requires in_data { OwnsData opened.now.place (meaning (D.state disk.old)) inode.now }
     requires size { HasSize inode.now }
+    requires at_hand { AreAtHand (meaning (D.state disk.old)) pointers.old }
     ensures test { IfOk result (λ b. IsTrue b ↔ IsLaidOut (meaning (D.state disk.old)) inode.now) }
+    ensures at_hand { OnOk result (AreAtHand (meaning (D.state disk.old)) pointers.new) }
     ensures passed { Passed IsNone (D.state disk.old) (D.state disk.new) result }
 {
-    let mut content = [0; 512];
-    if !fit_pointers(disk, opened, inode, &mut content)? {
+    if !fit_numbers(disk, opened, inode, pointers)? {
         return Ok(false);
     }
-    let last = inode.number(0, &content, inode.size.saturating_sub(1) / 512);
+    let k = inode.size.saturating_sub(1) / 512;
+    let last = pointers.number(disk, opened, inode, 0, k)?;
     if last == 0 {
         return Ok(true);
     }
+    let mut content = [0; 512];
     read_recovered(disk, opened, last, &mut content)?;
     Ok(fits_last(inode, &content))
 }
@@ -189,8 +206,9 @@ pub(crate) fn laid_out<D: Disk>(disk: &mut D, opened: &Opened, inodes: &[Inode])
     ensures each { OnOk result (ObeysEach opened.now.place (meaning (D.state disk.old)) LaidOut) }
     ensures passed { Passed (IsLeast opened.now.place LaidOut) (D.state disk.old) (D.state disk.new) result }
 {
+    let mut pointers = Pointers::new();
     for n in 0..inodes.len() as u32 {
-        if !is_laid_out(disk, opened, &inodes[n as usize])? {
+        if !is_laid_out(disk, opened, &inodes[n as usize], &mut pointers)? {
             return Err(CheckFault::Found(Finding {
                 rule: LAID_OUT,
                 at: n,

@@ -1,9 +1,11 @@
 //! The inode table.
 
-ghost use Rattle.std.specs.Prelude.{◌≡◌, ◌≢◌, ◌≤◌, ◌+◌, ◌*◌, ◌%◌, IsTrue, ◌↔◌, OnOk, IfOk, IfErr, IfSome, IfNone, Ok, ℕ, ◌<◌, length, get_or};
+ghost use Rattle.std.specs.Prelude.{◌≡◌, ◌≢◌, ◌≤◌, ◌+◌, ◌*◌, ◌%◌, IsTrue, ◌↔◌, OnOk, IfOk, IfErr, IfSome, IfNone, Ok, ℕ, suc, ◌<◌, length, get_or};
 ghost use Rattle.fs_layout.specs.declared.inode.Inode.{Inode as AnInode};
 ghost use Rattle.fs_layout.specs.declared.inode.Kind.TheVariants.{Free, Directory};
+ghost use Rattle.fs_layout.specs.declared.inode.TheConstants.{DOUBLE_INDIRECT_END};
 ghost use Rattle.fs_layout.specs.Bytes.{window};
+ghost use Rattle.fs_layout.specs.Images.{first_block};
 ghost use Rattle.fs_layout.specs.Inode.{free_inode, inode_of};
 ghost use Rattle.fs_layout.specs.Version.{max_directory_size, slot_size};
 ghost use Rattle.fs_model.specs.Nodes.{no_stamps};
@@ -17,7 +19,9 @@ use crate::faults::{CheckFault, Checked, Finding};
 use crate::opening::Opened;
 use crate::reading::read_recovered;
 use crate::zeros::are_zero;
-use fs_layout::{INDIRECT_END, INODE_SIZE, Inode, Kind, Version};
+use fs_layout::{
+    DIRECT_BLOCKS, DOUBLE_INDIRECT_END, INDIRECT_END, INODE_SIZE, Inode, Kind, Version,
+};
 use sector_disk::Disk;
 
 const INODES: u8 = 4;
@@ -37,6 +41,27 @@ fn has_no_times(inode: &Inode) -> bool
     inode.mtime == 0 && inode.ctime == 0 && inode.atime == 0
 }
 
+// A sector of pointers by which no block before `first` is found may have this number, where a file has so many bytes at most.
+fn may_be_named(number: u32, first: u64, most: u64) -> bool
+    requires { first ≤ DOUBLE_INDIRECT_END }
+    ensures { IsTrue result ↔ (most ≤ 512 * first → number ≡ 0) }
+{
+    number == 0 || 512 * first < most
+}
+
+// The inode names no sector of pointers by which only blocks past so many bytes are found.
+fn names_none_past(inode: &Inode, most: u64) -> bool
+    ensures { IsTrue result ↔ ((level : ℕ) → most ≤ 512 * first_block (suc level) 0 → get_or inode.now.indirect level 0 ≡ 0) }
+{
+    if !may_be_named(inode.indirect[0], DIRECT_BLOCKS, most) {
+        return false;
+    }
+    if !may_be_named(inode.indirect[1], INDIRECT_END, most) {
+        return false;
+    }
+    may_be_named(inode.indirect[2], DOUBLE_INDIRECT_END, most)
+}
+
 // The inode is one of a disk of this version.
 fn is_allowed(inode: &Inode, version: Version) -> bool
     ensures { IsTrue result ↔ IsAllowed version inode.now }
@@ -51,7 +76,7 @@ fn is_allowed(inode: &Inode, version: Version) -> bool
     if !version.keeps_times() && !has_no_times(inode) {
         return false;
     }
-    inode.double_indirect == 0 || 512 * INDIRECT_END < most
+    names_none_past(inode, most)
 }
 
 // The bytes of an inode, which begin here, are all zero: it is free.

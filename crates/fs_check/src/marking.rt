@@ -1,18 +1,19 @@
 //! Who owns which sector.
 
 ghost use Rattle.std.specs.Prelude.{◌≡◌, ◌≢◌, ◌≤◌, ◌<◌, ◌+◌, ◌*◌, ◌^◌, ℕ, true, false, length, get_or, OnOk, IfOk, IfSome, IfNone, IsTrue, ◌↔◌, MatchOption};
-ghost use Rattle.fs_layout.specs.declared.inode.TheConstants.{DIRECT_BLOCKS, SECTOR_POINTERS, MAX_BLOCKS};
+ghost use Rattle.fs_layout.specs.declared.inode.TheConstants.{POINTER_LEVELS};
 ghost use Rattle.fs_layout.specs.Bytes.{SectorMap};
-ghost use Rattle.fs_layout.specs.Images.{HasPointers, IsData, inode_at, number_on};
+ghost use Rattle.fs_layout.specs.Images.{IsData, inode_at, level_end};
 ghost use Rattle.fs_model.specs.Rules.{ObeysEach, IsLeastFailure, InData, OwnedOnce};
-ghost use Rattle.fs_check.specs.Owning.{AreListed, AreInData, HasTopInData, OwnsData, level_end, first_part, owned_part, IsMarked};
+ghost use Rattle.fs_check.specs.Owning.{AreListed, AreInData, HasLevelInData, HasAboveInData, HasAclsInData, OwnsData, AreAtHand};
+ghost use Rattle.fs_check.specs.Owning.{first_part, owned_part, IsMarked};
 ghost use Rattle.fs_check.specs.Checks.{meaning, BeginsWith, AreInodes, IsOwnerMap, Passed, IsNone, IsLeast};
 
 use crate::bit_table::BitTable;
 use crate::faults::{CheckFault, Checked, Finding};
 use crate::opening::Opened;
-use crate::owning::{is_data, pointers_end, read_listed};
-use fs_layout::{DIRECT_BLOCKS, Inode, Place, SECTOR_POINTERS};
+use crate::owning::{Pointers, is_data};
+use fs_layout::{Inode, POINTER_LEVELS, Place, SECTOR_POINTERS, own_count};
 use sector_disk::Disk;
 
 const IN_DATA: u8 = 5;
@@ -80,7 +81,7 @@ fn mark_listed(
     owned: &mut BitTable,
     twice: &mut BitTable,
 ) -> bool
-    requires level { numbers.level ≤ 2 }
+    requires level { numbers.level ≤ POINTER_LEVELS }
     requires order { numbers.first ≤ numbers.end }
     requires few { numbers.end ≤ level_end numbers.level }
     requires owned { length owned.old ≡ place.sectors }
@@ -102,140 +103,153 @@ fn mark_listed(
     true
 }
 
-// Marks the blocks whose numbers stand in number j of the sectors of pointers to blocks. Not where one is outside the data area.
-// `listed` is the content of the double indirect sector, zeros where there is none.
-fn mark_sector<D: Disk>(
+// Marks the sectors of a level of an inode whose sectors of pointers above are in the data area. Not where one of the level is
+// outside of it.
+fn mark_level<D: Disk>(
     disk: &mut D,
     opened: &Opened,
     inode: &Inode,
-    listed: &[u8; 512],
-    j: u64,
+    level: usize,
+    pointers: &mut Pointers,
     owned: &mut BitTable,
     twice: &mut BitTable,
 ) -> Checked<bool>
     requires opened { BeginsWith (D.state disk.old) opened.now.place opened.now.area opened.now.commit }
-    requires listed { HasPointers (meaning (D.state disk.old)) inode.now 2 0 listed.now }
-    requires in_data { AreInData opened.now.place (meaning (D.state disk.old)) inode.now 1 0 (1 + SECTOR_POINTERS) }
-    requires few { j ≤ SECTOR_POINTERS }
+    requires level { level ≤ POINTER_LEVELS }
+    requires above { HasAboveInData opened.now.place (meaning (D.state disk.old)) inode.now level }
+    requires at_hand { AreAtHand (meaning (D.state disk.old)) pointers.old }
     requires owned { length owned.old ≡ opened.now.place.sectors }
     requires twice { length twice.old ≡ opened.now.place.sectors }
-    ensures test { IfOk result (λ b. IsTrue b ↔ AreInData opened.now.place (meaning (D.state disk.old)) inode.now 0
-        (DIRECT_BLOCKS + SECTOR_POINTERS * j) (DIRECT_BLOCKS + SECTOR_POINTERS * (j + 1))) }
+    ensures test { IfOk result (λ b. IsTrue b ↔ HasLevelInData opened.now.place (meaning (D.state disk.old)) inode.now level) }
     ensures marked { IfOk result (λ b. IsTrue b → (n : ℕ) → inode.now ≡ inode_at opened.now.place (meaning (D.state disk.old)) n
-        → IsMarked (owned_part opened.now.place (meaning (D.state disk.old))) n (first_part 0 + (DIRECT_BLOCKS + SECTOR_POINTERS * j))
-        opened.now.place.sectors owned.old twice.old
-        → IsMarked (owned_part opened.now.place (meaning (D.state disk.old))) n (first_part 0 + (DIRECT_BLOCKS + SECTOR_POINTERS * (j + 1)))
-        opened.now.place.sectors owned.new twice.new) }
+        → IsMarked (owned_part opened.now.place (meaning (D.state disk.old))) n (first_part level) opened.now.place.sectors owned.old twice.old
+        → IsMarked (owned_part opened.now.place (meaning (D.state disk.old))) n (first_part level + level_end level) opened.now.place.sectors
+        owned.new twice.new) }
+    ensures at_hand { OnOk result (AreAtHand (meaning (D.state disk.old)) pointers.new) }
     ensures owned_len { length owned.new ≡ opened.now.place.sectors }
     ensures twice_len { length twice.new ≡ opened.now.place.sectors }
     ensures passed { Passed IsNone (D.state disk.old) (D.state disk.new) result }
 {
-    if inode.number(1, listed, j) == 0 {
-        return Ok(true);
-    }
-    let mut content = *listed;
-    read_listed(disk, opened, inode, 1, j, &mut content)?;
-    let numbers = Numbers {
-        level: 0,
-        first: DIRECT_BLOCKS + SECTOR_POINTERS * j,
-        end: DIRECT_BLOCKS + SECTOR_POINTERS * (j + 1),
-    };
-    Ok(mark_listed(opened.place, inode, &content, numbers, owned, twice))
-}
-
-// Marks the blocks of an inode whose sectors of pointers are in the data area. Not where a block is outside of it. `listed` is the
-// content of the double indirect sector, zeros where there is none.
-fn mark_blocks<D: Disk>(
-    disk: &mut D,
-    opened: &Opened,
-    inode: &Inode,
-    listed: &[u8; 512],
-    owned: &mut BitTable,
-    twice: &mut BitTable,
-) -> Checked<bool>
-    requires opened { BeginsWith (D.state disk.old) opened.now.place opened.now.area opened.now.commit }
-    requires listed { HasPointers (meaning (D.state disk.old)) inode.now 2 0 listed.now }
-    requires in_data { AreInData opened.now.place (meaning (D.state disk.old)) inode.now 1 0 (1 + SECTOR_POINTERS) }
-    requires owned { length owned.old ≡ opened.now.place.sectors }
-    requires twice { length twice.old ≡ opened.now.place.sectors }
-    ensures test { IfOk result (λ b. IsTrue b ↔ AreInData opened.now.place (meaning (D.state disk.old)) inode.now 0 0 MAX_BLOCKS) }
-    ensures marked { IfOk result (λ b. IsTrue b → (n : ℕ) → inode.now ≡ inode_at opened.now.place (meaning (D.state disk.old)) n
-        → IsMarked (owned_part opened.now.place (meaning (D.state disk.old))) n (first_part 0) opened.now.place.sectors owned.old twice.old
-        → IsMarked (owned_part opened.now.place (meaning (D.state disk.old))) (n + 1) 0 opened.now.place.sectors owned.new twice.new) }
-    ensures owned_len { length owned.new ≡ opened.now.place.sectors }
-    ensures twice_len { length twice.new ≡ opened.now.place.sectors }
-    ensures passed { Passed IsNone (D.state disk.old) (D.state disk.new) result }
-{
-    let direct = Numbers {
-        level: 0,
+    let own = own_count(level);
+    let named = Numbers {
+        level,
         first: 0,
-        end: DIRECT_BLOCKS,
+        end: own,
     };
-    if !mark_listed(opened.place, inode, listed, direct, owned, twice) {
+    if !mark_listed(
+        opened.place,
+        inode,
+        &pointers.contents[0],
+        named,
+        owned,
+        twice,
+    ) {
         return Ok(false);
     }
-    for j in 0..pointers_end(inode) {
-        if !mark_sector(disk, opened, inode, listed, j, owned, twice)? {
+    for j in 0..inode.number_end(level + 1) {
+        if pointers.find(disk, opened, inode, level + 1, j)? == 0 {
+            continue;
+        }
+        let listed = Numbers {
+            level,
+            first: own + SECTOR_POINTERS * j,
+            end: own + SECTOR_POINTERS * (j + 1),
+        };
+        if !mark_listed(
+            opened.place,
+            inode,
+            &pointers.contents[level],
+            listed,
+            owned,
+            twice,
+        ) {
             return Ok(false);
         }
     }
     Ok(true)
 }
 
-// Marks the ACLs and the double indirect sector of an inode. Not where one is outside the data area.
-fn mark_top(place: Place, inode: &Inode, owned: &mut BitTable, twice: &mut BitTable) -> bool
+// Marks the sectors of a level, and then those of the levels below: each sector of pointers is read only where it is in the data
+// area. Not where one is outside of it.
+fn mark_levels<D: Disk>(
+    disk: &mut D,
+    opened: &Opened,
+    inode: &Inode,
+    level: usize,
+    pointers: &mut Pointers,
+    owned: &mut BitTable,
+    twice: &mut BitTable,
+) -> Checked<bool>
+    requires opened { BeginsWith (D.state disk.old) opened.now.place opened.now.area opened.now.commit }
+    requires level { level ≤ POINTER_LEVELS }
+    requires above { HasAboveInData opened.now.place (meaning (D.state disk.old)) inode.now level }
+    requires at_hand { AreAtHand (meaning (D.state disk.old)) pointers.old }
+    requires owned { length owned.old ≡ opened.now.place.sectors }
+    requires twice { length twice.old ≡ opened.now.place.sectors }
+    ensures test { IfOk result (λ b. IsTrue b ↔ ((n : ℕ) → n ≤ level
+        → HasLevelInData opened.now.place (meaning (D.state disk.old)) inode.now n)) }
+    ensures marked { IfOk result (λ b. IsTrue b → (n : ℕ) → inode.now ≡ inode_at opened.now.place (meaning (D.state disk.old)) n
+        → IsMarked (owned_part opened.now.place (meaning (D.state disk.old))) n (first_part level) opened.now.place.sectors owned.old twice.old
+        → IsMarked (owned_part opened.now.place (meaning (D.state disk.old))) (n + 1) 0 opened.now.place.sectors owned.new twice.new) }
+    ensures at_hand { OnOk result (AreAtHand (meaning (D.state disk.old)) pointers.new) }
+    ensures owned_len { length owned.new ≡ opened.now.place.sectors }
+    ensures twice_len { length twice.new ≡ opened.now.place.sectors }
+    ensures passed { Passed IsNone (D.state disk.old) (D.state disk.new) result }
+{
+    if !mark_level(disk, opened, inode, level, pointers, owned, twice)? {
+        return Ok(false);
+    }
+    if level == 0 {
+        return Ok(true);
+    }
+    let marked = mark_levels(disk, opened, inode, level - 1, pointers, owned, twice)?;
+    Ok(marked)
+}
+
+// Marks the ACLs of an inode. Not where one is outside the data area.
+fn mark_acls(place: Place, inode: &Inode, owned: &mut BitTable, twice: &mut BitTable) -> bool
     requires owned { length owned.old ≡ place.sectors }
     requires twice { length twice.old ≡ place.sectors }
-    ensures test { IsTrue result ↔ HasTopInData place inode.now }
+    ensures test { IsTrue result ↔ HasAclsInData place inode.now }
     ensures marked { IsTrue result → (m : SectorMap) (n : ℕ) → inode.now ≡ inode_at place m n
         → IsMarked (owned_part place m) n 0 place.sectors owned.old twice.old
-        → IsMarked (owned_part place m) n (first_part 1) place.sectors owned.new twice.new }
+        → IsMarked (owned_part place m) n (first_part POINTER_LEVELS) place.sectors owned.new twice.new }
     ensures owned_len { length owned.new ≡ place.sectors }
     ensures twice_len { length twice.new ≡ place.sectors }
 {
     if !mark_number(place, inode.acl, owned, twice) {
         return false;
     }
-    if !mark_number(place, inode.default_acl, owned, twice) {
-        return false;
-    }
-    mark_number(place, inode.double_indirect, owned, twice)
+    mark_number(place, inode.default_acl, owned, twice)
 }
 
-// Marks what an inode owns, from the top: each sector of pointers is read once, and only where it is in the data area. Not where
-// a sector that the inode owns is outside of it.
+// Marks what an inode owns, from the top. Not where a sector that it owns is outside the data area.
 fn mark_inode<D: Disk>(
     disk: &mut D,
     opened: &Opened,
     inode: &Inode,
+    pointers: &mut Pointers,
     owned: &mut BitTable,
     twice: &mut BitTable,
 ) -> Checked<bool>
     requires opened { BeginsWith (D.state disk.old) opened.now.place opened.now.area opened.now.commit }
+    requires at_hand { AreAtHand (meaning (D.state disk.old)) pointers.old }
     requires owned { length owned.old ≡ opened.now.place.sectors }
     requires twice { length twice.old ≡ opened.now.place.sectors }
     ensures test { IfOk result (λ b. IsTrue b ↔ OwnsData opened.now.place (meaning (D.state disk.old)) inode.now) }
     ensures marked { IfOk result (λ b. IsTrue b → (n : ℕ) → inode.now ≡ inode_at opened.now.place (meaning (D.state disk.old)) n
         → IsMarked (owned_part opened.now.place (meaning (D.state disk.old))) n 0 opened.now.place.sectors owned.old twice.old
         → IsMarked (owned_part opened.now.place (meaning (D.state disk.old))) (n + 1) 0 opened.now.place.sectors owned.new twice.new) }
+    ensures at_hand { OnOk result (AreAtHand (meaning (D.state disk.old)) pointers.new) }
     ensures owned_len { length owned.new ≡ opened.now.place.sectors }
     ensures twice_len { length twice.new ≡ opened.now.place.sectors }
     ensures passed { Passed IsNone (D.state disk.old) (D.state disk.new) result }
 {
-    if !mark_top(opened.place, inode, owned, twice) {
+    if !mark_acls(opened.place, inode, owned, twice) {
         return Ok(false);
     }
-    let mut listed = [0; 512];
-    read_listed(disk, opened, inode, 2, 0, &mut listed)?;
-    let sectors = Numbers {
-        level: 1,
-        first: 0,
-        end: pointers_end(inode),
-    };
-    if !mark_listed(opened.place, inode, &listed, sectors, owned, twice) {
-        return Ok(false);
-    }
-    mark_blocks(disk, opened, inode, &listed, owned, twice)
+    let marked = mark_levels(disk, opened, inode, POINTER_LEVELS, pointers, owned, twice)?;
+    Ok(marked)
 }
 
 // Both maps of all inodes, where each sector that one owns is in the data area.
@@ -254,9 +268,10 @@ fn mark_all<D: Disk>(
         (IsMarked (owned_part opened.now.place (meaning (D.state disk.old))) opened.now.place.inodes 0 opened.now.place.sectors owned.new twice.new) }
     ensures passed { Passed (IsLeast opened.now.place InData) (D.state disk.old) (D.state disk.new) result }
 {
+    let mut pointers = Pointers::new();
     for n in 0..inodes.len() as u32 {
         let inode = inodes[n as usize];
-        if !mark_inode(disk, opened, &inode, owned, twice)? {
+        if !mark_inode(disk, opened, &inode, &mut pointers, owned, twice)? {
             return Err(CheckFault::Found(Finding {
                 rule: IN_DATA,
                 at: n,

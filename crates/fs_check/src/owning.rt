@@ -1,27 +1,25 @@
 //! The numbers of the sectors that an inode owns.
 
-ghost use Rattle.std.specs.Prelude.{◌≡◌, ◌≤◌, ◌<◌, ◌+◌, ℕ, OnOk, IfOk, IsTrue, ◌↔◌};
-ghost use Rattle.fs_layout.specs.declared.inode.TheConstants.{SECTOR_POINTERS, MAX_BLOCKS};
+ghost use Rattle.std.specs.Prelude.{◌≡◌, ◌≢◌, ◌≤◌, ◌<◌, ◌-◌, ℕ, [], get_or, OnOk, IfOk, IsTrue, ◌↔◌};
+ghost use Rattle.fs_layout.specs.declared.inode.TheConstants.{POINTER_LEVELS};
 ghost use Rattle.fs_layout.specs.Bytes.{SectorMap};
-ghost use Rattle.fs_layout.specs.Images.{IsData, Owns, number_on, HasPointers, HasPointersAbove};
-ghost use Rattle.fs_check.specs.Owning.{AreAtHand};
+ghost use Rattle.fs_layout.specs.Images.{IsData, number_on};
+ghost use Rattle.fs_check.specs.Owning.{AreAtHand, HasLevelInData, HasAboveInData};
 ghost use Rattle.fs_check.specs.Checks.{meaning, BeginsWith, Passed, IsNone};
 
 use crate::faults::Checked;
 use crate::opening::Opened;
 use crate::reading::read_recovered;
-use fs_layout::{DIRECT_BLOCKS, Inode, Place, SECTOR_POINTERS};
+use fs_layout::{Inode, POINTER_LEVELS, Place, SECTOR_POINTERS, own_count};
 use sector_disk::Disk;
 
-/// The sectors of pointers of an inode that were read last, so that its blocks can be read one by one.
+/// The sectors of pointers that were read last, one of each level.
 #[derive(Drop)]
 pub(crate) struct Pointers {
-    // The content of the double indirect sector, zeros where there is none.
-    listed: [u8; 512],
-    // Which sector of pointers to blocks is at hand, counted from the one that the inode names.
-    index: u64,
-    /// Its content, zeros where there is none.
-    pub content: [u8; 512],
+    // Their numbers, those of the first level first; 0 where none was read.
+    sectors: [u32; POINTER_LEVELS],
+    /// What stands in them, that of the first level first.
+    pub contents: [[u8; 512]; POINTER_LEVELS],
 }
 
 /// The sector is in the data area.
@@ -31,94 +29,100 @@ pub(crate) fn is_data(place: Place, s: u32) -> bool
     place.first_data <= s && s < place.sectors
 }
 
-/// Where the sectors of pointers to blocks end that the inode can have, by whether it has a double indirect sector.
-pub(crate) fn pointers_end(inode: &Inode) -> u64
-    ensures some { 1 ≤ result }
-    ensures most { result ≤ 1 + SECTOR_POINTERS }
-    ensures past { (m : SectorMap) (i : ℕ) → result ≤ i → number_on m inode.now 1 i ≡ 0 }
-{
-    if inode.double_indirect == 0 {
-        1
-    } else {
-        1 + SECTOR_POINTERS
+impl Pointers {
+    /// No sector was read yet.
+    pub fn new() -> Pointers
+        ensures { (m : SectorMap) → AreAtHand m result }
+    {
+        Pointers {
+            sectors: [0; POINTER_LEVELS],
+            contents: [[0; 512]; POINTER_LEVELS],
+        }
     }
-}
 
-/// Reads the sector of pointers that is number `i` of a level, zeros where there is none. `content` is that of the sector in
-/// which the number stands, if it doesn't stand in the inode.
-///
-/// At `Err` nothing is said of `content`.
-pub(crate) fn read_listed<D: Disk>(
-    disk: &mut D,
-    opened: &Opened,
-    inode: &Inode,
-    level: usize,
-    i: u64,
-    content: &mut [u8; 512],
-) -> Checked<()>
-    requires opened { BeginsWith (D.state disk.old) opened.now.place opened.now.area opened.now.commit }
-    requires listed { HasPointersAbove (meaning (D.state disk.old)) inode.now level i content.old }
-    requires on_disk { number_on (meaning (D.state disk.old)) inode.now level i < (D.state disk.old).size }
-    ensures content { OnOk result (HasPointers (meaning (D.state disk.old)) inode.now level i content.new) }
-    ensures passed { Passed IsNone (D.state disk.old) (D.state disk.new) result }
-{
-    let s = inode.number(level, content, i);
-    if s == 0 {
-        *content = [0; 512];
-        return Ok(());
+    // Reads a sector of pointers of a level, unless it is at hand. At `Err` nothing is said of what is at hand.
+    fn load<D: Disk>(&mut self, disk: &mut D, opened: &Opened, level: usize, s: u32) -> Checked<()>
+        requires opened { BeginsWith (D.state disk.old) opened.now.place opened.now.area opened.now.commit }
+        requires lowest { 1 ≤ level }
+        requires highest { level ≤ POINTER_LEVELS }
+        requires some { s ≢ 0 }
+        requires on_disk { s < (D.state disk.old).size }
+        requires at_hand { AreAtHand (meaning (D.state disk.old)) self.old }
+        ensures at_hand { OnOk result (AreAtHand (meaning (D.state disk.old)) self.new) }
+        ensures content { OnOk result (get_or self.new.contents (level - 1) [] ≡ meaning (D.state disk.old) s) }
+        ensures passed { Passed IsNone (D.state disk.old) (D.state disk.new) result }
+    {
+        let at = level - 1;
+        if self.sectors[at] == s {
+            return Ok(());
+        }
+        read_recovered(disk, opened, s, &mut self.contents[at])?;
+        self.sectors[at] = s;
+        Ok(())
     }
-    read_recovered(disk, opened, s, content)
-}
 
-/// The sectors of pointers by which the first blocks of an inode are found.
-pub(crate) fn first_pointers<D: Disk>(
-    disk: &mut D,
-    opened: &Opened,
-    inode: &Inode,
-) -> Checked<Pointers>
-    requires opened { BeginsWith (D.state disk.old) opened.now.place opened.now.area opened.now.commit }
-    requires in_data { (s : ℕ) → Owns (meaning (D.state disk.old)) inode.now s → IsData opened.now.place s }
-    ensures at_hand { IfOk result (AreAtHand (meaning (D.state disk.old)) inode.now) }
-    ensures passed { Passed IsNone (D.state disk.old) (D.state disk.new) result }
-{
-    let mut listed = [0; 512];
-    read_listed(disk, opened, inode, 2, 0, &mut listed)?;
-    let mut content = [0; 512];
-    read_listed(disk, opened, inode, 1, 0, &mut content)?;
-    Ok(Pointers {
-        listed,
-        index: 0,
-        content,
-    })
-}
+    /// Number `i` of a level of an inode; 0 where there is none.
+    ///
+    /// At `Err` nothing is said of what is at hand.
+    pub fn number<D: Disk>(
+        &mut self,
+        disk: &mut D,
+        opened: &Opened,
+        inode: &Inode,
+        level: usize,
+        i: u64,
+    ) -> Checked<u32>
+        requires opened { BeginsWith (D.state disk.old) opened.now.place opened.now.area opened.now.commit }
+        requires level { level ≤ POINTER_LEVELS }
+        requires above { HasAboveInData opened.now.place (meaning (D.state disk.old)) inode.now level }
+        requires at_hand { AreAtHand (meaning (D.state disk.old)) self.old }
+        ensures number { IfOk result (λ s. s ≡ number_on (meaning (D.state disk.old)) inode.now level i) }
+        ensures at_hand { OnOk result (AreAtHand (meaning (D.state disk.old)) self.new) }
+        ensures passed { Passed IsNone (D.state disk.old) (D.state disk.new) result }
+    {
+        let own = own_count(level);
+        if i < own {
+            return Ok(inode.number(level, &self.contents[0], i));
+        }
+        // There is no level above the highest.
+        if level == POINTER_LEVELS {
+            return Ok(0);
+        }
+        let s = self.number(disk, opened, inode, level + 1, (i - own) / SECTOR_POINTERS)?;
+        if s == 0 {
+            return Ok(0);
+        }
+        self.load(disk, opened, level + 1, s)?;
+        Ok(inode.number(level, &self.contents[level], i))
+    }
 
-/// Reads the sector of pointers that has the number of block `k`, unless it is at hand, or the number stands in the inode.
-///
-/// At `Err` nothing is said of what is at hand.
-pub(crate) fn load_pointers<D: Disk>(
-    disk: &mut D,
-    opened: &Opened,
-    inode: &Inode,
-    k: u64,
-    pointers: &mut Pointers,
-) -> Checked<()>
-    requires opened { BeginsWith (D.state disk.old) opened.now.place opened.now.area opened.now.commit }
-    requires in_data { (s : ℕ) → Owns (meaning (D.state disk.old)) inode.now s → IsData opened.now.place s }
-    requires few { k < MAX_BLOCKS }
-    requires at_hand { AreAtHand (meaning (D.state disk.old)) inode.now pointers.old }
-    ensures at_hand { OnOk result (AreAtHand (meaning (D.state disk.old)) inode.now pointers.new) }
-    ensures loaded { OnOk result (HasPointersAbove (meaning (D.state disk.old)) inode.now 0 k pointers.new.content) }
-    ensures passed { Passed IsNone (D.state disk.old) (D.state disk.new) result }
-{
-    if k < DIRECT_BLOCKS {
-        return Ok(());
+    /// Number `i` of a level of sectors of pointers, 0 where there is none; that sector is at hand then.
+    ///
+    /// At `Err` nothing is said of what is at hand.
+    pub fn find<D: Disk>(
+        &mut self,
+        disk: &mut D,
+        opened: &Opened,
+        inode: &Inode,
+        level: usize,
+        i: u64,
+    ) -> Checked<u32>
+        requires opened { BeginsWith (D.state disk.old) opened.now.place opened.now.area opened.now.commit }
+        requires lowest { 1 ≤ level }
+        requires highest { level ≤ POINTER_LEVELS }
+        requires in_data { HasLevelInData opened.now.place (meaning (D.state disk.old)) inode.now level }
+        requires above { HasAboveInData opened.now.place (meaning (D.state disk.old)) inode.now level }
+        requires at_hand { AreAtHand (meaning (D.state disk.old)) self.old }
+        ensures number { IfOk result (λ s. s ≡ number_on (meaning (D.state disk.old)) inode.now level i) }
+        ensures content { IfOk result (λ s. s ≢ 0 → get_or self.new.contents (level - 1) [] ≡ meaning (D.state disk.old) s) }
+        ensures at_hand { OnOk result (AreAtHand (meaning (D.state disk.old)) self.new) }
+        ensures passed { Passed IsNone (D.state disk.old) (D.state disk.new) result }
+    {
+        let s = self.number(disk, opened, inode, level, i)?;
+        if s == 0 {
+            return Ok(0);
+        }
+        self.load(disk, opened, level, s)?;
+        Ok(s)
     }
-    let index = (k - DIRECT_BLOCKS) / SECTOR_POINTERS;
-    if index == pointers.index {
-        return Ok(());
-    }
-    pointers.content = pointers.listed;
-    read_listed(disk, opened, inode, 1, index, &mut pointers.content)?;
-    pointers.index = index;
-    Ok(())
 }

@@ -2,7 +2,7 @@
 
 ghost use Rattle.std.specs.Prelude.{◌≡◌, ◌≢◌, ◌≤◌, ◌<◌, ◌+◌, ◌/◌, ◌%◌, ℕ, length, get_or, OnOk, IfOk, IsTrue, ◌↔◌, MatchOption, All};
 ghost use Rattle.std.specs.List.Sorted.{IsPermutation, IsSortedBy};
-ghost use Rattle.fs_layout.specs.declared.inode.TheConstants.{MAX_BLOCKS, MAX_DIRECTORY_SIZE};
+ghost use Rattle.fs_layout.specs.declared.inode.TheConstants.{MAX_DIRECTORY_SIZE};
 ghost use Rattle.fs_layout.specs.Version.{block_slots};
 ghost use Rattle.fs_layout.specs.Images.{IsData, Owns};
 ghost use Rattle.fs_layout.specs.Directories.{NamedInode, HaveDistinctNames};
@@ -12,7 +12,7 @@ ghost use Rattle.fs_check.specs.Checks.{meaning, BeginsWith, AreInodes, Passed, 
 
 use crate::faults::Checked;
 use crate::opening::Opened;
-use crate::owning::{Pointers, first_pointers, load_pointers};
+use crate::owning::Pointers;
 use crate::reading::read_recovered;
 use fs_layout::{Inode, Kind, ROOT, Slot};
 use sector_disk::Disk;
@@ -27,12 +27,11 @@ fn read_block_of<D: Disk>(
     block: &mut [u8; 512],
 ) -> Checked<()>
     requires opened { BeginsWith (D.state disk.old) opened.now.place opened.now.area opened.now.commit }
-    requires few { k / block_slots opened.now.place.version < MAX_BLOCKS }
     requires in_data { (s : ℕ) → Owns (meaning (D.state disk.old)) inode.now s → IsData opened.now.place s }
-    requires at_hand { AreAtHand (meaning (D.state disk.old)) inode.now pointers.old }
+    requires at_hand { AreAtHand (meaning (D.state disk.old)) pointers.old }
     requires before { k % block_slots opened.now.place.version ≢ 0
         → block.old ≡ block_of_slot opened.now.place.version (meaning (D.state disk.old)) inode.now k }
-    ensures at_hand { OnOk result (AreAtHand (meaning (D.state disk.old)) inode.now pointers.new) }
+    ensures at_hand { OnOk result (AreAtHand (meaning (D.state disk.old)) pointers.new) }
     ensures content { OnOk result (block.new ≡ block_of_slot opened.now.place.version (meaning (D.state disk.old)) inode.now k) }
     ensures passed { Passed IsNone (D.state disk.old) (D.state disk.new) result }
 {
@@ -41,8 +40,7 @@ fn read_block_of<D: Disk>(
         return Ok(());
     }
     let at = (k / block_slots) as u64;
-    load_pointers(disk, opened, inode, at, pointers)?;
-    let s = inode.number(0, &pointers.content, at);
+    let s = pointers.number(disk, opened, inode, 0, at)?;
     read_recovered(disk, opened, s, block)?;
     Ok(())
 }
@@ -58,7 +56,7 @@ fn read_slots<D: Disk>(disk: &mut D, opened: &Opened, inode: &Inode) -> Checked<
 {
     let version = opened.place.version;
     let count = inode.size as usize / version.slot_size();
-    let mut pointers = first_pointers(disk, opened, inode)?;
+    let mut pointers = Pointers::new();
     let mut slots = Vec::with_capacity(opened.alloc, count)?;
     let mut block = [0; 512];
     for k in 0..count {

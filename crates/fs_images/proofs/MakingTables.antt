@@ -125,7 +125,7 @@ unfolding inode_fits
 root_is_inode = record { numbers = refl; free = λ e. absurd cc }
 
 length-root : length (inode_bytes root_inode) ≡ 128
-length-root = length-inode_bytes root_inode refl
+length-root = length-inode_bytes root_inode refl refl
 
 root_is_there : window root_table 128 128 ≡ inode_bytes root_inode
 unfolding root_table

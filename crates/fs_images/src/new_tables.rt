@@ -6,7 +6,7 @@ ghost use Rattle.fs_layout.specs.declared.place.TheConstants.{SECTOR_BITS};
 ghost use Rattle.fs_layout.specs.Place.{IsPlace};
 ghost use Rattle.fs_images.specs.NewTables.{IsBitmap, IsNewTable, is_outside, root_table};
 
-use fs_layout::{Inode, Kind, Place, ROOT, SECTOR_BITS};
+use fs_layout::{Inode, Kind, POINTER_LEVELS, Place, ROOT, SECTOR_BITS};
 
 /// What sector `n` of the bitmaps and the inode table holds on a new disk.
 #[tactic(auto, unfolding(fs_layout::specs::Bytes::zeros))]
@@ -78,8 +78,7 @@ fn root_sector() -> [u8; 512]
         acl: 0,
         default_acl: 0,
         direct: [0; 12],
-        indirect: 0,
-        double_indirect: 0,
+        indirect: [0; POINTER_LEVELS],
         mtime: 0,
         ctime: 0,
         atime: 0,

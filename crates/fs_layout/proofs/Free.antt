@@ -1,8 +1,8 @@
 -- An inode without sectors; an image in which no inode owns anything; and what an inode of an image fits.
 use Rattle.std.proofs.Common.{◌≡◌, ℕ, zero, suc, ◌+◌, ◌-◌, ◌*◌, ◌/◌, ◌%◌, ◌<◌, ◌≤◌, List, [], length, take, get_or, refl, sym, ap, ◌∙◌, arith, inl, inr, ◌⊎◌, ◌↔◌, IsTrue, Ok}
 use Rattle.std.proofs.lemmas.List.{drop-replicate, take-replicate}
-use Rattle.std.proofs.lemmas.Bool.{cases_eq, cases_lt}
-use Rattle.fs_layout.specs.declared.inode.TheConstants.{DIRECT_BLOCKS, INODE_SIZE}
+use Rattle.std.proofs.lemmas.Bool.{cases_lt}
+use Rattle.fs_layout.specs.declared.inode.TheConstants.{DIRECT_BLOCKS, POINTER_LEVELS, INODE_SIZE}
 use Rattle.fs_layout.specs.declared.inode.Inode.{Inode}
 use Rattle.fs_layout.specs.declared.place.Place.{Place}
 use Rattle.fs_layout.specs.Bytes.{SectorMap, IsSector, window, zeros, le16, le32, le64, le32s}
@@ -15,8 +15,7 @@ use Rattle.fs_layout.specs.InodeChanges.{IsOwnedApart, ChangesBlocks}
 use Rattle.fs_layout.proofs.Places.{after_map}
 use Rattle.fs_layout.proofs.Fields.{part_len, IsBytes-part}
 use Rattle.fs_layout.proofs.InodeLaw.{read_fits}
-use Rattle.fs_layout.proofs.Pointers.{pointer_direct, pointer_without, number_on_double, number_on_without, number_on_past, no_number_on}
-use Rattle.fs_layout.proofs.Parts.{number_on_indirect}
+use Rattle.fs_layout.proofs.Pointers.{pointer_direct, pointer_without, no_pointers}
 use Rattle.fs_layout.proofs.Saves.{in_table, inode_there, valid_there}
 use Rattle.fs_layout.proofs.Blocks.{rewrites}
 use Rattle.fs_layout.proofs.SplicedBytes.{get_or-zeros}
@@ -26,24 +25,15 @@ pub record HasNoSector (v : Inode) : Type 0 where
   pub acl : v.acl ≡ 0
   pub default_acl : v.default_acl ≡ 0
   pub direct : (k : ℕ) → get_or v.direct k 0 ≡ 0
-  pub indirect : v.indirect ≡ 0
-  pub double_indirect : v.double_indirect ≡ 0
+  pub indirect : (level : ℕ) → get_or v.indirect level 0 ≡ 0
 
 no_sector_on_level : (image : SectorMap) (v : Inode) (level i : ℕ) → HasNoSector v → number_on image v level i ≡ 0
 no_sector_on_level image v zero k none =
     elim (cases_lt k DIRECT_BLOCKS) [
       | inl lt ↦ pointer_direct image v k lt ∙ none.direct k
-      | inr ge ↦ pointer_without image v k ge none.indirect none.double_indirect
+      | inr ge ↦ pointer_without image v k ge none.indirect
     ]
-no_sector_on_level image v (suc zero) i none = elim (cases_eq i 0) [
-  | inl e ↦ ap (number_on image v 1) e ∙ number_on_indirect image v ∙ none.indirect
-  | inr ne ↦ number_on_without image v i (omega (arith, ne)) none.double_indirect
-]
-no_sector_on_level image v (suc (suc zero)) i none = elim (cases_eq i 0) [
-  | inl e ↦ ap (number_on image v 2) e ∙ number_on_double image v ∙ none.double_indirect
-  | inr ne ↦ number_on_past image v i (omega (arith, ne))
-]
-no_sector_on_level image v (suc (suc (suc level))) i none = no_number_on image v level i
+no_sector_on_level image v (suc level) i none = no_pointers image v none.indirect level i
 
 no_sector_part : (image : SectorMap) (v : Inode) (a : Part) → HasNoSector v → part image v a ≡ 0
 unfolding part
@@ -67,7 +57,7 @@ holds_nothing image v none empty = record {
 -- a free inode has no sector
 pub free_has_no_sector : HasNoSector free_inode
 unfolding zeros
-free_has_no_sector = record { acl = refl; default_acl = refl; direct = get_or-zeros DIRECT_BLOCKS; indirect = refl; double_indirect = refl }
+free_has_no_sector = record { acl = refl; default_acl = refl; direct = get_or-zeros DIRECT_BLOCKS; indirect = get_or-zeros POINTER_LEVELS }
 
 -- it fits its fields
 pub free_fits : FitsInode free_inode
@@ -84,8 +74,8 @@ free_fits = record {
   default_acl = omega arith;
   direct_len = refl;
   direct = λ i. let e : get_or (zeros DIRECT_BLOCKS) i 0 ≡ 0 = get_or-zeros DIRECT_BLOCKS i in omega (arith, e);
-  indirect = omega arith;
-  double_indirect = omega arith;
+  indirect_len = refl;
+  indirect = λ i. let e : get_or (zeros POINTER_LEVELS) i 0 ≡ 0 = get_or-zeros POINTER_LEVELS i in omega (arith, e);
   mtime = omega arith;
   ctime = omega arith;
   atime = omega arith;

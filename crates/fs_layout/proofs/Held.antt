@@ -5,9 +5,9 @@ use Rattle.std.proofs.lemmas.List.{ext_get_or, get_or-take, get_or-drop}
 use Rattle.fs_layout.specs.declared.inode.Inode.{Inode}
 use Rattle.fs_layout.specs.declared.place.Place.{Place}
 use Rattle.fs_layout.specs.Bytes.{SectorMap, splice, window, zeros}
-use Rattle.fs_layout.specs.Images.{levels, number_on, pointer, first_block, Part, Indirect, Block, part, Owns, byte_in, byte_at, IsTrimmed, Holds, HasNoHole}
+use Rattle.fs_layout.specs.Images.{levels, number_on, pointer, first_block, Part, Block, part, byte_in, byte_at, IsTrimmed, Holds, HasNoHole}
 use Rattle.fs_layout.specs.InodeChanges.{Keeps, Puts, IsBlockOf, ReplacesBlock, IsOwnedApart}
-use Rattle.fs_layout.proofs.Parts.{KeepsPointers, HasNoPointers, number_on_indirect, number_on_same, number_on_alike, pointer_same, byte_in_kept, byte_in_is, block_is_one, block_has_no_pointers, indirect_is_no_block, owns_block}
+use Rattle.fs_layout.proofs.Parts.{KeepsPointers, HasNoPointers, number_on_same, number_on_alike, pointer_same, byte_in_kept, byte_in_is, block_is_one, block_has_no_pointers, owns_block}
 use Rattle.fs_layout.proofs.Blocks.{pointers_apart, others_kept}
 use Rattle.fs_layout.proofs.Fields.{part_len}
 use Rattle.fs_layout.proofs.SplicedBytes.{get_or-zeros, length-splice, get_or-splice_before, get_or-splice_inside, get_or-splice_after}
@@ -20,13 +20,6 @@ unfolding part
 one_block {image = image} {v} apart j k some e =
     block_is_one j k (apart.once (pointer image v k) (record { at = Block j; is = e; some = λ z. some (e ∙ z) }) (record { at = Block k; is = refl; some = λ z. some (e ∙ z) }))
 
--- no block is the sector of pointers
-pub no_block_has_pointers : {p : Place} {image : SectorMap} {v : Inode} → IsOwnedApart p image v → (k : ℕ) → pointer image v k ≢ 0
-    → pointer image v k ≢ v.indirect
-unfolding part
-no_block_has_pointers {image = image} {v} apart k some e =
-    indirect_is_no_block k (apart.once (pointer image v k) (record { at = Indirect; is = number_on_indirect image v ∙ sym e; some = some }) (record { at = Block k; is = refl; some = some }))
-
 -- each block but k has the same sector's content in new as in old
 abbrev pub KeepsBlocks : SectorMap → SectorMap → Inode → ℕ → Type 0
 KeepsBlocks old new v k = (j : ℕ) → j ≢ k → pointer old v j ≢ 0 → new (pointer old v j) ≡ old (pointer old v j)
@@ -34,12 +27,6 @@ KeepsBlocks old new v k = (j : ℕ) → j ≢ k → pointer old v j ≢ 0 → ne
 -- each block has
 abbrev pub KeepsAllBlocks : SectorMap → SectorMap → Inode → Type 0
 KeepsAllBlocks old new v = (k : ℕ) → pointer old v k ≢ 0 → new (pointer old v k) ≡ old (pointer old v k)
-
--- of what the inode owns only the sector of pointers and block k differ: so each other block keeps its content
-pub keeps_blocks : {p : Place} {old new : SectorMap} {v : Inode} → IsOwnedApart p old v → (k : ℕ)
-    → ((s : ℕ) → Owns old v s → s ≢ v.indirect → s ≢ pointer old v k → new s ≡ old s) → KeepsBlocks old new v k
-keeps_blocks {old = old} {v = v} apart k same j ne some =
-    same (pointer old v j) (owns_block old v j some) (no_block_has_pointers apart j some) (λ e. ne (one_block apart j k some e))
 
 -- nothing that the inode owns differs
 pub keeps_all_blocks : {old new : SectorMap} {v : Inode} → Keeps old new v → KeepsAllBlocks old new v

@@ -8,7 +8,7 @@ use Rattle.fs_layout.specs.declared.fault.LayoutFault.TheVariants.{BadNumber, No
 use Rattle.fs_layout.specs.declared.inode.Inode.{Inode}
 use Rattle.fs_layout.specs.declared.inode.Kind.{Kind}
 use Rattle.fs_layout.specs.declared.inode.Kind.TheVariants.{Free}
-use Rattle.fs_layout.specs.declared.inode.TheConstants.{DIRECT_BLOCKS, INODE_SIZE}
+use Rattle.fs_layout.specs.declared.inode.TheConstants.{DIRECT_BLOCKS, INODE_SIZE, POINTER_LEVELS}
 use Rattle.fs_layout.specs.Bytes.{splice, window, u16_of, le16, le32, le64, le32s, zeros}
 use Rattle.fs_layout.specs.Inode.{inode_bytes, inode_of, inode_if, inode_fits, kind_number, kind_of, fields_of, gaps_are_zero}
 use Rattle.fs_layout.specs.InodeTimes.{DiffersInTimes}
@@ -63,7 +63,7 @@ part_replaced s a x y c at n there len same room =
 abbrev before_times : Inode → List ℕ
 before_times v =
     le16 (kind_number v.kind) ++ (le16 v.mode ++ (le32 v.uid ++ (le32 v.gid ++ (le32 v.names ++ (le64 v.size
-    ++ (le32 v.parent ++ (le32 v.acl ++ (le32 v.default_acl ++ (le32s v.direct ++ (le32 v.indirect ++ (le32 v.double_indirect ++ zeros 4)))))))))))
+    ++ (le32 v.parent ++ (le32 v.acl ++ (le32 v.default_acl ++ (le32s v.direct ++ le32s v.indirect)))))))))
 
 abbrev the_times : Inode → List ℕ
 the_times v = (le64 v.mtime ++ le64 v.ctime) ++ le64 v.atime
@@ -71,9 +71,9 @@ the_times v = (le64 v.mtime ++ le64 v.ctime) ++ le64 v.atime
 around_times : (v : Inode) → inode_bytes v ≡ before_times v ++ (the_times v ++ zeros 8)
 around_times v = simp append_assoc
 
-length-before_times : (v : Inode) → length v.direct ≡ DIRECT_BLOCKS → length (before_times v) ≡ 96
-unfolding le16 le32 le64 zeros
-length-before_times v d = omega (arith, length-le32s v.direct, length-append (le32s v.direct) (le32 v.indirect ++ (le32 v.double_indirect ++ zeros 4)), d)
+length-before_times : (v : Inode) → length v.direct ≡ DIRECT_BLOCKS → length v.indirect ≡ POINTER_LEVELS → length (before_times v) ≡ 96
+unfolding le16 le32 le64
+length-before_times v d i = omega (arith, length-le32s v.direct, length-le32s v.indirect, length-append (le32s v.direct) (le32s v.indirect), d, i)
 
 length-the_times : (v : Inode) → length (the_times v) ≡ 24
 unfolding le64
@@ -85,12 +85,14 @@ length-le64 x = omega arith
 
 -- those of w are written one after the other over those of v
 pub times_put : (s t u r : List ℕ) (at : ℕ) (v w : Inode) → length s ≡ 512 → at + INODE_SIZE ≤ 512 → length w.direct ≡ DIRECT_BLOCKS
+    → length w.indirect ≡ POINTER_LEVELS
     → t ≡ splice s (at + 96) (le64 w.mtime) → u ≡ splice t (at + 104) (le64 w.ctime) → r ≡ splice u (at + 112) (le64 w.atime)
     → DiffersInTimes v w → window s at INODE_SIZE ≡ inode_bytes v → r ≡ splice s at (inode_bytes w)
-times_put s t u r at v w len room direct first second third differs there =
+times_put s t u r at v w len room direct indirect first second third differs there =
     let same : before_times w ≡ before_times v = ap before_times differs in
     let fields : length v.direct ≡ DIRECT_BLOCKS = ap (λ (x : Inode). length x.direct) (sym differs) ∙ direct in
-    let start : length (before_times v) ≡ 96 = length-before_times v fields in
+    let above : length v.indirect ≡ POINTER_LEVELS = ap (λ (x : Inode). length x.indirect) (sym differs) ∙ indirect in
+    let start : length (before_times v) ≡ 96 = length-before_times v fields above in
     let stood = there ∙ around_times v in
     let all : INODE_SIZE ≡ length (before_times v ++ (the_times v ++ zeros 8)) =
     omega (arith, start, length-append (before_times v) (the_times v ++ zeros 8), length-append (the_times v) (zeros 8), length-the_times v, length-zeros 8) in

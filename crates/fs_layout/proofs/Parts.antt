@@ -3,7 +3,7 @@ use Rattle.std.proofs.Common.{◌≡◌, ◌≢◌, ℕ, zero, suc, ◌/◌, ◌
 use Rattle.fs_layout.specs.declared.inode.Inode.{Inode}
 use Rattle.fs_layout.specs.Bytes.{SectorMap}
 use Rattle.fs_layout.specs.Images.{levels, number_at, number_on, pointer, part, Owns, byte_in, byte_at, Holds, HasNoHole}
-use Rattle.fs_layout.specs.Images.{Part, AccessAcl, DefaultAcl, OnLevel, Indirect, Block, Part-discrete}
+use Rattle.fs_layout.specs.Images.{Part, AccessAcl, DefaultAcl, OnLevel, Block, Part-discrete}
 use Rattle.fs_layout.specs.InodeChanges.{Keeps}
 use Rattle.fs_layout.proofs.Levels.{KeepsEntries, Alike, Alike-refl, numbers_alike_above, entry_kept}
 use native.Mathlib.Decide.{ℕ_discrete}
@@ -56,10 +56,6 @@ access_acl_has_no_pointers level i e = cc
 pub default_acl_has_no_pointers : HasNoPointers DefaultAcl
 default_acl_has_no_pointers level i e = cc
 
--- the sector of pointers is no block's
-pub indirect_is_no_block : (k : ℕ) → Indirect ≢ Block k
-indirect_is_no_block k e = block_has_no_pointers k 0 0 (sym e)
-
 -- ---- what is read of a sector depends on it alone
 -- a byte of a sector
 pub byte_in_kept : (old new : SectorMap) (s i : ℕ) → (s ≢ 0 → new s ≡ old s) → byte_in new s i ≡ byte_in old s i
@@ -102,17 +98,6 @@ part_same old new v h AccessAcl = refl
 part_same old new v h DefaultAcl = refl
 part_same old new v h (OnLevel level i) = number_on_same old new v h level i
 
--- the sector of pointers that the inode names
-pub number_on_indirect : (image : SectorMap) (v : Inode) → number_on image v 1 0 ≡ v.indirect
-unfolding number_on
-number_on_indirect image v = refl
-
--- is the same
-pub indirect_kept : (old new : SectorMap) (v : Inode) → KeepsPointers old new v → v.indirect ≢ 0 → new v.indirect ≡ old v.indirect
-indirect_kept old new v h some =
-    let e = number_on_indirect old v in
-    ap new (sym e) ∙ h 0 0 (λ z. some (sym e ∙ z)) ∙ ap old e
-
 -- ---- what is owned
 -- a sector that the inode has for something
 pub owns_part : (image : SectorMap) (v : Inode) (a : Part) → part image v a ≢ 0 → Owns image v (part image v a)
@@ -136,10 +121,6 @@ owns_default_acl image v some = record { at = DefaultAcl; is = refl; some = some
 pub owns_on_level : (image : SectorMap) (v : Inode) (level i : ℕ) → number_on image v level i ≢ 0 → Owns image v (number_on image v level i)
 unfolding part
 owns_on_level image v level i some = record { at = OnLevel level i; is = refl; some = some }
-
-pub owns_indirect : (image : SectorMap) (v : Inode) → v.indirect ≢ 0 → Owns image v v.indirect
-unfolding part
-owns_indirect image v some = record { at = Indirect; is = number_on_indirect image v; some = some }
 
 module _ {old new : SectorMap} {v : Inode} (keeps : Keeps old new v) where
   -- the sectors of pointers are the same

@@ -1,132 +1,166 @@
 -- One number of an inode's sectors changes: one that stands in the inode, one in a sector of pointers, or an ACL's.
-use Rattle.std.proofs.Common.{◌≡◌, ◌≢◌, ℕ, zero, suc, ◌+◌, ◌-◌, ◌*◌, ◌^◌, ◌<◌, ◌≤◌, List, length, drop, get_or, refl, sym, ap, ◌∙◌, arith, inl, inr, ◌⊎◌}
-use Rattle.std.proofs.lemmas.List.{get_or-set_same, get_or-set_other, drop-drop}
+use Rattle.std.proofs.Common.{◌≡◌, ◌≢◌, ℕ, zero, suc, ◌+◌, ◌-◌, ◌*◌, ◌^◌, ◌<◌, ◌≤◌, List, length, drop, get_or, set, refl, sym, ap, ◌∙◌, arith, inl, inr, ◌⊎◌}
+use Rattle.std.proofs.lemmas.List.{get_or-set_same, get_or-set_other, get_or_past, drop-drop}
 use Rattle.std.proofs.lemmas.Bool.{cases_eq, cases_lt, lt-ltb, le-ltb}
-use Rattle.fs_layout.specs.declared.inode.TheConstants.{DIRECT_BLOCKS, INDIRECT_END, MAX_BLOCKS, SECTOR_POINTERS}
+use Rattle.fs_layout.specs.declared.inode.TheConstants.{DIRECT_BLOCKS, POINTER_LEVELS, SECTOR_POINTERS}
 use Rattle.fs_layout.specs.declared.inode.Inode.{Inode}
 use Rattle.fs_layout.specs.Bytes.{SectorMap, splice, le32, zeros, u32_of}
-use Rattle.fs_layout.specs.Images.{pointer_in, own_count, Level, levels, holder, place_in_holder, number_at, number_on, pointer, first_block, IsTrimmed}
-use Rattle.fs_layout.specs.Images.{HasPointersAbove, number_in, Part, AccessAcl, DefaultAcl, OnLevel, Indirect, Block, part}
-use Rattle.fs_layout.specs.InodeChanges.{Turns, Gains, Loses, with_direct}
+use Rattle.fs_layout.specs.Images.{pointer_in, own_count, own_number, Level, levels, level_end, holder, place_in_holder, number_at, number_on, pointer, first_block, IsTrimmed}
+use Rattle.fs_layout.specs.Images.{HasPointersAbove, number_in, Part, AccessAcl, DefaultAcl, OnLevel, Block, part}
+use Rattle.fs_layout.specs.InodeChanges.{Turns, Gains, with_direct, with_indirect}
 use Rattle.fs_layout.proofs.Levels.{entry_kept, entry_there, Alike-refl, AlikeBut, KeepsEntries, KeepsOtherEntries, numbers_alike, numbers_turned}
-use Rattle.fs_layout.proofs.Parts.{KeepsPointers, entries_kept, number_on_alike, number_on_indirect}
+use Rattle.fs_layout.proofs.Parts.{KeepsPointers, entries_kept, number_on_alike}
 use Rattle.fs_layout.proofs.Numbers.{are_numbers_32}
 use Rattle.fs_layout.proofs.SplicedBytes.{u32_of-splice_other, u32_of-zeros}
 
 -- ---- where a number stands
--- the first of a level stand in the inode: so those of the first blocks
+-- the first of a level stand in the inode
+pub number_on_own : (image : SectorMap) (v : Inode) (level i : ℕ) → level ≤ POINTER_LEVELS → i < own_count level → number_on image v level i ≡ own_number v level i
+unfolding number_on
+number_on_own image v zero i le lt = rw (lt-ltb i DIRECT_BLOCKS lt) refl
+number_on_own image v (suc zero) i le lt = rw (lt-ltb i 1 lt) refl
+number_on_own image v (suc (suc zero)) i le lt = rw (lt-ltb i 1 lt) refl
+number_on_own image v (suc (suc (suc zero))) i le lt = rw (lt-ltb i 1 lt) refl
+number_on_own image v (suc (suc (suc (suc level)))) i le lt = absurd (omega (arith, le))
+
+-- so those of the first blocks
 pub pointer_direct : (image : SectorMap) (v : Inode) (k : ℕ) → k < DIRECT_BLOCKS → pointer image v k ≡ get_or v.direct k 0
-unfolding number_on
-pointer_direct image v k lt = rw (lt-ltb k DIRECT_BLOCKS lt) refl
+pointer_direct image v k lt = number_on_own image v 0 k (omega arith) lt
 
--- the others in a sector of pointers
-pub pointer_held : (image : SectorMap) (v : Inode) (k : ℕ) → DIRECT_BLOCKS ≤ k
-    → pointer image v k ≡ pointer_in image (number_on image v 1 (holder DIRECT_BLOCKS k)) (place_in_holder DIRECT_BLOCKS k)
-unfolding number_on
-pointer_held image v k ge = rw (le-ltb k DIRECT_BLOCKS ge) refl
+-- and the first sector of pointers of each level
+pub number_on_named : (image : SectorMap) (v : Inode) (level : ℕ) → level < POINTER_LEVELS → number_on image v (suc level) 0 ≡ get_or v.indirect level 0
+number_on_named image v level lt = number_on_own image v (suc level) 0 (omega (arith, lt)) (omega arith)
 
--- of which the inode names the first
-pub number_on_held_above : (image : SectorMap) (v : Inode) (i : ℕ) → 1 ≤ i → number_on image v 1 i ≡ pointer_in image (number_on image v 2 (holder 1 i)) (place_in_holder 1 i)
-unfolding number_on
-number_on_held_above image v i ge = rw (le-ltb i 1 ge) refl
-
--- the others stand in the double indirect sector
-pub number_on_double : (image : SectorMap) (v : Inode) → number_on image v 2 0 ≡ v.double_indirect
-unfolding number_on
-number_on_double image v = refl
-
--- of which there is one
-pub number_on_past : (image : SectorMap) (v : Inode) (i : ℕ) → 1 ≤ i → number_on image v 2 i ≡ 0
-unfolding number_on
-number_on_past image v i ge = rw (le-ltb i 1 ge) refl
-
--- and no level above
-pub no_number_on : (image : SectorMap) (v : Inode) (level i : ℕ) → number_on image v (suc (suc (suc level))) i ≡ 0
+-- there is no level above the highest
+pub no_number_on : (image : SectorMap) (v : Inode) (level i : ℕ) → number_on image v (suc (suc (suc (suc level)))) i ≡ 0
 unfolding number_on
 no_number_on image v zero i = refl
 no_number_on image v (suc level) i = refl
 
--- the numbers of the next blocks
-pub pointer_indirect : (image : SectorMap) (v : Inode) (k : ℕ) → DIRECT_BLOCKS ≤ k → k < INDIRECT_END → pointer image v k ≡ pointer_in image v.indirect (k - DIRECT_BLOCKS)
-pointer_indirect image v k ge lt =
-    let first : holder DIRECT_BLOCKS k ≡ 0 = omega (arith, ge, lt) in
-    let at : place_in_holder DIRECT_BLOCKS k ≡ k - DIRECT_BLOCKS = omega (arith, ge, lt) in
-    pointer_held image v k ge
-    ∙ ap (λ (i : ℕ). pointer_in image (number_on image v 1 i) (place_in_holder DIRECT_BLOCKS k)) first
-    ∙ ap (λ (s : ℕ). pointer_in image s (place_in_holder DIRECT_BLOCKS k)) (number_on_indirect image v)
-    ∙ ap (pointer_in image v.indirect) at
+-- the others stand in a sector of pointers of the level above
+pub number_on_held : (image : SectorMap) (v : Inode) (level i : ℕ) → own_count level ≤ i
+    → number_on image v level i ≡ pointer_in image (number_on image v (suc level) (holder (own_count level) i)) (place_in_holder (own_count level) i)
+unfolding number_on
+number_on_held image v zero i ge = rw (le-ltb i DIRECT_BLOCKS ge) refl
+number_on_held image v (suc zero) i ge = rw (le-ltb i 1 ge) refl
+number_on_held image v (suc (suc zero)) i ge = rw (le-ltb i 1 ge) refl
+number_on_held image v (suc (suc (suc zero))) i ge = rw (le-ltb i 1 ge) refl
+number_on_held image v (suc (suc (suc (suc level)))) i ge =
+    no_number_on image v level i ∙ sym (ap (λ (s : ℕ). pointer_in image s (place_in_holder 1 i)) (no_number_on image v (suc level) (holder 1 i)))
 
--- where there is no double indirect sector, the inode has no other sector of pointers
-pub number_on_without : (image : SectorMap) (v : Inode) (i : ℕ) → 1 ≤ i → v.double_indirect ≡ 0 → number_on image v 1 i ≡ 0
-number_on_without image v i ge none = number_on_held_above image v i ge ∙ ap (λ (s : ℕ). pointer_in image s (place_in_holder 1 i)) (top (holder 1 i))
+pub pointer_held : (image : SectorMap) (v : Inode) (k : ℕ) → DIRECT_BLOCKS ≤ k
+    → pointer image v k ≡ pointer_in image (number_on image v 1 (holder DIRECT_BLOCKS k)) (place_in_holder DIRECT_BLOCKS k)
+pointer_held image v k ge = number_on_held image v 0 k ge
+
+-- ---- where numbers end
+-- where those of the level above do, with all that stand in them
+pub number_past_above : (image : SectorMap) (v : Inode) (level end : ℕ) → ((j : ℕ) → end ≤ j → number_on image v (suc level) j ≡ 0)
+    → (i : ℕ) → own_count level + SECTOR_POINTERS * end ≤ i → number_on image v level i ≡ 0
+number_past_above image v level end above i ge =
+    number_on_held image v level i (omega (arith, ge))
+    ∙ ap (λ (s : ℕ). pointer_in image s (place_in_holder (own_count level) i)) (above (holder (own_count level) i) (omega (arith, ge)))
+
+-- so each level ends somewhere
+pub number_past : (image : SectorMap) (v : Inode) (level i : ℕ) → level_end level ≤ i → number_on image v level i ≡ 0
+number_past image v level = past level
   where
-    top : (j : ℕ) → number_on image v 2 j ≡ 0
-    top j = elim (cases_eq j 0) [
-      | inl e ↦ ap (number_on image v 2) e ∙ number_on_double image v ∙ none
-      | inr ne ↦ number_on_past image v j (omega (arith, ne))
-    ]
+    highest : (i : ℕ) → 1 ≤ i → number_on image v 3 i ≡ 0
+    highest i ge = number_past_above image v 3 0 (λ j from. no_number_on image v 0 j) i (omega (arith, ge))
 
--- and no block past those of the indirect one
-pub pointer_past_indirect : (image : SectorMap) (v : Inode) (k : ℕ) → INDIRECT_END ≤ k → v.double_indirect ≡ 0 → pointer image v k ≡ 0
-pointer_past_indirect image v k ge none =
-    pointer_held image v k (omega arith)
-    ∙ ap (λ (s : ℕ). pointer_in image s (place_in_holder DIRECT_BLOCKS k)) (number_on_without image v (holder DIRECT_BLOCKS k) (omega arith) none)
+    second : (i : ℕ) → level_end 2 ≤ i → number_on image v 2 i ≡ 0
+    second i ge = number_past_above image v 2 1 highest i (omega (arith, ge))
 
--- and there are no more
-pub pointer_past : (image : SectorMap) (v : Inode) (k : ℕ) → MAX_BLOCKS ≤ k → pointer image v k ≡ 0
-pointer_past image v k ge =
-    let i = holder DIRECT_BLOCKS k in
-    pointer_held image v k (omega arith)
-    ∙ ap (λ (s : ℕ). pointer_in image s (place_in_holder DIRECT_BLOCKS k))
-    (number_on_held_above image v i (omega arith) ∙ ap (λ (s : ℕ). pointer_in image s (place_in_holder 1 i)) (number_on_past image v (holder 1 i) (omega arith)))
+    first : (i : ℕ) → level_end 1 ≤ i → number_on image v 1 i ≡ 0
+    first i ge = number_past_above image v 1 (level_end 2) second i (omega (arith, ge))
 
--- where no pointer stands in a sector
-pub pointer_without : (image : SectorMap) (v : Inode) (k : ℕ) → DIRECT_BLOCKS ≤ k → v.indirect ≡ 0 → v.double_indirect ≡ 0 → pointer image v k ≡ 0
-pointer_without image v k ge none no_double =
-    elim (cases_lt k INDIRECT_END) [
-      | inl lt ↦ pointer_indirect image v k ge lt ∙ ap (λ (s : ℕ). pointer_in image s (k - DIRECT_BLOCKS)) none
-      | inr past ↦ pointer_past_indirect image v k past no_double
-    ]
+    past : (n i : ℕ) → level_end n ≤ i → number_on image v n i ≡ 0
+    past zero i ge = number_past_above image v 0 (level_end 1) first i (omega (arith, ge))
+    past (suc zero) i ge = first i ge
+    past (suc (suc zero)) i ge = second i ge
+    past (suc (suc (suc zero))) i ge = highest i ge
+    past (suc (suc (suc (suc n)))) i ge = no_number_on image v n i
 
--- no number past the size, where there is no such block, and no sector of pointers without need
-pub trims : (image : SectorMap) (v : Inode) → ((k : ℕ) → v.size ≤ 512 * k → pointer image v k ≡ 0)
-    → ((i : ℕ) → v.size ≤ 512 * first_block 1 i → number_on image v 1 i ≡ 0) → (v.size ≤ 512 * INDIRECT_END → v.double_indirect ≡ 0) → IsTrimmed image v
-trims image v blocks pointers double zero i le = blocks i le
-trims image v blocks pointers double (suc zero) i le = pointers i le
-trims image v blocks pointers double (suc (suc zero)) i le = elim (cases_eq i 0) [
-  | inl e ↦ ap (number_on image v 2) e ∙ number_on_double image v ∙ double (let z = le in omega (arith, z, e))
-  | inr ne ↦ number_on_past image v i (omega (arith, ne))
+-- a level has no number where none stands in the inode nor in a sector of the level above
+pub none_named : (image : SectorMap) (v : Inode) (level : ℕ) → level < POINTER_LEVELS → get_or v.indirect level 0 ≡ 0
+    → ((j : ℕ) → number_on image v (suc (suc level)) j ≡ 0) → (i : ℕ) → number_on image v (suc level) i ≡ 0
+none_named image v level lt none above i = elim (cases_eq i 0) [
+  | inl e ↦ ap (number_on image v (suc level)) e ∙ number_on_named image v level lt ∙ none
+  | inr ne ↦ number_past_above image v (suc level) 0 (λ j from. above j) i (omega (arith, ne))
 ]
-trims image v blocks pointers double (suc (suc (suc level))) i le = no_number_on image v level i
 
--- of a size that needs no double indirect sector
-pub trims_small : (image : SectorMap) (v : Inode) → ((k : ℕ) → v.size ≤ 512 * k → pointer image v k ≡ 0) → (v.size ≤ 512 * DIRECT_BLOCKS → v.indirect ≡ 0)
-    → v.double_indirect ≡ 0 → IsTrimmed image v
-trims_small image v blocks indirect none = trims image v blocks pointers (λ le. none)
+-- the same of the level that follows, by how many numbers that has
+pub number_past_next : (image : SectorMap) (v : Inode) (level end count : ℕ) → own_count level ≡ count → ((j : ℕ) → end ≤ j → number_on image v (level + 1) j ≡ 0)
+    → (i : ℕ) → count + SECTOR_POINTERS * end ≤ i → number_on image v level i ≡ 0
+number_past_next image v level end count own above i ge =
+    let next : suc level ≡ level + 1 = omega arith in
+    number_past_above image v level end (λ j from. ap (λ (n : ℕ). number_on image v n j) next ∙ above j from) i (omega (arith, own, ge))
+
+pub none_on_next : (image : SectorMap) (v : Inode) (level end : ℕ) → level ≢ 0 → level ≤ POINTER_LEVELS → end ≡ 0 → get_or v.indirect (level - 1) 0 ≡ 0
+    → ((j : ℕ) → end ≤ j → number_on image v (level + 1) j ≡ 0) → (i : ℕ) → number_on image v level i ≡ 0
+none_on_next image v zero end ne le empty none above i = absurd (ne refl)
+none_on_next image v (suc level) end ne le empty none above i =
+    let own : suc level - 1 ≡ level = omega arith in
+    let next : suc (suc level) ≡ suc level + 1 = omega arith in
+    none_named image v level (omega (arith, le)) (sym (ap (λ (n : ℕ). get_or v.indirect n 0) own) ∙ none)
+    (λ j. ap (λ (n : ℕ). number_on image v n j) next ∙ above j (omega (arith, empty))) i
+
+-- of a level of sectors of pointers one number stands in the inode
+pub own_count_above : (level : ℕ) → level ≢ 0 → own_count level ≡ 1
+own_count_above zero ne = absurd (ne refl)
+own_count_above (suc level) ne = refl
+
+pub no_level : (image : SectorMap) (v : Inode) (level i : ℕ) → POINTER_LEVELS < level → number_on image v level i ≡ 0
+no_level image v (suc (suc (suc (suc level)))) i gt = no_number_on image v level i
+no_level image v zero i gt = absurd (omega (arith, gt))
+no_level image v (suc zero) i gt = absurd (omega (arith, gt))
+no_level image v (suc (suc zero)) i gt = absurd (omega (arith, gt))
+no_level image v (suc (suc (suc zero))) i gt = absurd (omega (arith, gt))
+
+-- where the inode names no sector of pointers, only direct blocks are there
+pub no_pointers : (image : SectorMap) (v : Inode) → ((level : ℕ) → get_or v.indirect level 0 ≡ 0) → (level i : ℕ) → number_on image v (suc level) i ≡ 0
+no_pointers image v none = on
   where
-    pointers : (i : ℕ) → v.size ≤ 512 * first_block 1 i → number_on image v 1 i ≡ 0
-    pointers i le = elim (cases_eq i 0) [
-      | inl e ↦ ap (number_on image v 1) e ∙ number_on_indirect image v ∙ indirect (let z = le in omega (arith, z, e))
-      | inr ne ↦ number_on_without image v i (omega (arith, ne)) none
-    ]
+    third : (i : ℕ) → number_on image v 3 i ≡ 0
+    third = none_named image v 2 (omega arith) (none 2) (no_number_on image v 0)
 
--- so the sector of pointers that the inode names
-pub trimmed_indirect : (image : SectorMap) (v : Inode) → IsTrimmed image v → v.size ≤ 512 * DIRECT_BLOCKS → v.indirect ≡ 0
-trimmed_indirect image v trim le = sym (number_on_indirect image v) ∙ trim 1 0 le
+    second : (i : ℕ) → number_on image v 2 i ≡ 0
+    second = none_named image v 1 (omega arith) (none 1) third
 
--- and the double indirect one
-pub trimmed_double : (image : SectorMap) (v : Inode) → IsTrimmed image v → v.size ≤ 512 * INDIRECT_END → v.double_indirect ≡ 0
-trimmed_double image v trim le = sym (number_on_double image v) ∙ trim 2 0 (omega (arith, le))
+    on : (n i : ℕ) → number_on image v (suc n) i ≡ 0
+    on zero i = none_named image v 0 (omega arith) (none 0) second i
+    on (suc zero) i = second i
+    on (suc (suc zero)) i = third i
+    on (suc (suc (suc n))) i = no_number_on image v n i
+
+pub pointer_without : (image : SectorMap) (v : Inode) (k : ℕ) → DIRECT_BLOCKS ≤ k → ((level : ℕ) → get_or v.indirect level 0 ≡ 0) → pointer image v k ≡ 0
+pointer_without image v k ge none = number_past_above image v 0 0 (λ j from. no_pointers image v none 0 j) k (omega (arith, ge))
+
+-- then there is no number past the size, where there is no such block
+pub trims_direct : (image : SectorMap) (v : Inode) → ((k : ℕ) → v.size ≤ 512 * k → pointer image v k ≡ 0) → ((level : ℕ) → get_or v.indirect level 0 ≡ 0)
+    → IsTrimmed image v
+trims_direct image v blocks none zero i le = blocks i le
+trims_direct image v blocks none (suc level) i le = no_pointers image v none level i
+
+-- and where there is none, the inode names no sector of pointers for blocks past the size
+pub trimmed_named : (image : SectorMap) (v : Inode) → length v.indirect ≡ POINTER_LEVELS → IsTrimmed image v → (level : ℕ)
+    → v.size ≤ 512 * first_block (suc level) 0 → get_or v.indirect level 0 ≡ 0
+trimmed_named image v len trim level le = elim (cases_lt level POINTER_LEVELS) [
+  | inl lt ↦ sym (number_on_named image v level lt) ∙ trim (suc level) 0 le
+  | inr ge ↦ get_or_past v.indirect level 0 (omega (arith, len, ge))
+]
 
 -- ---- by the content of a sector of pointers
-number_own_in : (image : SectorMap) (v : Inode) (level : ℕ) (content : List ℕ) (i : ℕ) → i < own_count level
+number_own_in : (image : SectorMap) (v : Inode) (level : ℕ) (content : List ℕ) (i : ℕ) → length v.indirect ≡ POINTER_LEVELS → i < own_count level
     → number_in v level content i ≡ number_on image v level i
-unfolding number_in number_on
-number_own_in image v zero content i lt = rw (lt-ltb i DIRECT_BLOCKS lt) refl
-number_own_in image v (suc zero) content i lt = rw (lt-ltb i 1 lt) refl
-number_own_in image v (suc (suc zero)) content i lt = rw (lt-ltb i 1 lt) refl
-number_own_in image v (suc (suc (suc zero))) content i lt = rw (lt-ltb i 1 lt) refl
-number_own_in image v (suc (suc (suc (suc level)))) content i lt = rw (lt-ltb i 1 lt) refl
+unfolding number_in
+number_own_in image v level content i len lt = rw (lt-ltb i (own_count level) lt) (own level lt)
+  where
+    own : (n : ℕ) → i < own_count n → own_number v n i ≡ number_on image v n i
+    own (suc (suc (suc (suc n)))) below = get_or_past v.indirect (suc (suc (suc n))) 0 (omega (arith, len)) ∙ sym (no_number_on image v n i)
+    own zero below = sym (number_on_own image v 0 i (omega arith) below)
+    own (suc zero) below = sym (number_on_own image v 1 i (omega arith) below)
+    own (suc (suc zero)) below = sym (number_on_own image v 2 i (omega arith) below)
+    own (suc (suc (suc zero))) below = sym (number_on_own image v 3 i (omega arith) below)
 
 pub number_held_in : (v : Inode) (level : ℕ) (content : List ℕ) (i : ℕ) → own_count level ≤ i
     → number_in v level content i ≡ u32_of content (4 * place_in_holder (own_count level) i)
@@ -178,7 +212,7 @@ pub turns_direct : (old new : SectorMap) (v : Inode) (k x y : ℕ) → k < DIREC
 turns_direct old new v k x y lt len was kept = turns_on_level was (record {
   acl = refl;
   default_acl = refl;
-  alike = (refl, refl, λ i below ne. get_or-set_other v.direct k i y 0 ne, (refl, λ i below. refl, (refl, λ i below. refl, tt)));
+  alike = (refl, refl, λ i below ne. get_or-set_other v.direct k i y 0 ne, (refl, λ i below. refl, (refl, λ i below. refl, (refl, λ i below. refl, tt))));
   kept = record {
     below = λ n q e small. absurd (let z = e in omega (arith, z));
     same = λ n p q small f g. entries_kept old new v kept n p q small;
@@ -225,20 +259,11 @@ put_entry {v} {level} {i} {y} {old} {new} h =
     ∙ ap (λ (r : List ℕ). u32_of r (4 * at)) h.is
     ∙ are_numbers_32.read (old s) (4 * at) y (omega (arith, h.len, low)) h.fits
 
--- a number that doesn't stand in the inode
-pub number_on_held : (image : SectorMap) (v : Inode) (level i : ℕ) → own_count level ≤ i
-    → number_on image v level i ≡ pointer_in image (number_on image v (suc level) (holder (own_count level) i)) (place_in_holder (own_count level) i)
-number_on_held image v zero i ge = pointer_held image v i ge
-number_on_held image v (suc zero) i ge = number_on_held_above image v i ge
-number_on_held image v (suc (suc zero)) i ge = number_on_past image v i ge ∙ sym (ap (λ (s : ℕ). pointer_in image s (place_in_holder 1 i)) (no_number_on image v 0 (holder 1 i)))
-number_on_held image v (suc (suc (suc level))) i ge =
-    no_number_on image v level i ∙ sym (ap (λ (s : ℕ). pointer_in image s (place_in_holder 1 i)) (no_number_on image v (suc level) (holder 1 i)))
-
 -- it is what the sector of pointers at hand says
-pub number_is : (image : SectorMap) (v : Inode) (level : ℕ) (content : List ℕ) (i : ℕ)
+pub number_is : (image : SectorMap) (v : Inode) (level : ℕ) (content : List ℕ) (i : ℕ) → length v.indirect ≡ POINTER_LEVELS
     → HasPointersAbove image v level i content → number_in v level content i ≡ number_on image v level i
-number_is image v level content i h = elim (cases_lt i (own_count level)) [
-  | inl lt ↦ number_own_in image v level content i lt
+number_is image v level content i len h = elim (cases_lt i (own_count level)) [
+  | inl lt ↦ number_own_in image v level content i len lt
   | inr ge ↦
       let s = number_on image v (suc level) (holder (own_count level) i) in
       let q = place_in_holder (own_count level) i in
@@ -270,10 +295,11 @@ entry_same {v} {level} {i} {y} {old} {new} h n p q small ne = elim (cases_eq n l
 
 -- a number in a sector of pointers is one of a level that there is
 alike_but : (image : SectorMap) (v : Inode) (t j : ℕ) → number_on image v (suc t) (holder (own_count t) j) ≢ 0 → AlikeBut t j (own_count t) (levels v) (levels v)
-alike_but image v zero j some = (refl, refl, λ k lt ne. refl, (refl, λ k lt. refl, (refl, λ k lt. refl, tt)))
-alike_but image v (suc zero) j some = (refl, λ k lt. refl, (refl, refl, λ k lt ne. refl, (refl, λ k lt. refl, tt)))
-alike_but image v (suc (suc zero)) j some = (refl, λ k lt. refl, (refl, λ k lt. refl, (refl, refl, λ k lt ne. refl, tt)))
-alike_but image v (suc (suc (suc t))) j some = absurd (some (no_number_on image v (suc t) (holder 1 j)))
+alike_but image v zero j some = (refl, refl, λ k lt ne. refl, (refl, λ k lt. refl, (refl, λ k lt. refl, (refl, λ k lt. refl, tt))))
+alike_but image v (suc zero) j some = (refl, λ k lt. refl, (refl, refl, λ k lt ne. refl, (refl, λ k lt. refl, (refl, λ k lt. refl, tt))))
+alike_but image v (suc (suc zero)) j some = (refl, λ k lt. refl, (refl, λ k lt. refl, (refl, refl, λ k lt ne. refl, (refl, λ k lt. refl, tt))))
+alike_but image v (suc (suc (suc zero))) j some = absurd (some (no_number_on image v 0 (holder 1 j)))
+alike_but image v (suc (suc (suc (suc t)))) j some = absurd (some (no_number_on image v (suc t) (holder 1 j)))
 
 -- the numbers of the levels above are the same
 above_same : {v : Inode} {level i y : ℕ} {old new : SectorMap} → HasEntry v level i y old new → (m p : ℕ) → level < m → number_on new v m p ≡ number_on old v m p
@@ -318,80 +344,65 @@ turns_number {v} {level} {i} {x} {y} {old} {new} h below was =
 pub turns_entry : {v : Inode} {k x y : ℕ} {old new : SectorMap} → pointer old v k ≡ x → HasEntry v 0 k y old new → Turns old new v v (Block k) x y
 turns_entry was h = turns_number h (λ lt. absurd (let z = lt in omega (arith, z))) was
 
--- ---- the sector of pointers that the inode names
-module _ (old new : SectorMap) (v : Inode) (y : ℕ) where
-  abbrev with_indirect : Inode
-  with_indirect = record v { indirect = y }
+-- ---- a sector of pointers that the inode names
+-- another one is named in one level, and the other numbers that stand in the inode are the same
+alike_named : (v : Inode) (level y : ℕ) → level < POINTER_LEVELS → AlikeBut (suc level) 0 1 (levels v) (levels (with_indirect v level y))
+alike_named v zero y lt = (
+  refl,
+  λ k below. refl,
+  (refl, refl, λ k below ne. absurd (omega (arith, below, ne)), (refl, λ k below. other 1 (omega arith), (refl, λ k below. other 2 (omega arith), tt))),
+)
+  where
+    other : (n : ℕ) → n ≢ 0 → get_or (set v.indirect 0 y) n 0 ≡ get_or v.indirect n 0
+    other n ne = get_or-set_other v.indirect 0 n y 0 ne
+alike_named v (suc zero) y lt = (
+  refl,
+  λ k below. refl,
+  (refl, λ k below. other 0 (omega arith), (refl, refl, λ k below ne. absurd (omega (arith, below, ne)), (refl, λ k below. other 2 (omega arith), tt))),
+)
+  where
+    other : (n : ℕ) → n ≢ 1 → get_or (set v.indirect 1 y) n 0 ≡ get_or v.indirect n 0
+    other n ne = get_or-set_other v.indirect 1 n y 0 ne
+alike_named v (suc (suc zero)) y lt = (
+  refl,
+  λ k below. refl,
+  (refl, λ k below. other 0 (omega arith), (refl, λ k below. other 1 (omega arith), (refl, refl, λ k below ne. absurd (omega (arith, below, ne)), tt))),
+)
+  where
+    other : (n : ℕ) → n ≢ 2 → get_or (set v.indirect 2 y) n 0 ≡ get_or v.indirect n 0
+    other n ne = get_or-set_other v.indirect 2 n y 0 ne
+alike_named v (suc (suc (suc level))) y lt = absurd (omega (arith, lt))
 
-  -- it becomes y, where both have the same numbers
-  turns_indirect : {x : ℕ} → v.indirect ≡ x → KeepsPointers old new v
-      → ((q : ℕ) → q < SECTOR_POINTERS → pointer_in new y q ≡ pointer_in old v.indirect q) → Turns old new v with_indirect Indirect x y
-  turns_indirect was kept same = turns_on_level (number_on_indirect old v ∙ was) (record {
-    acl = refl;
-    default_acl = refl;
-    alike = (refl, λ k lt. refl, (refl, refl, λ k lt ne. absurd (omega (arith, lt, ne)), (refl, λ k lt. refl, tt)));
-    kept = record { below = below; same = λ n p q small f g. entries_kept old new v kept n p q small };
-    now = number_on_indirect new with_indirect;
-  })
-    where
-      below : (n q : ℕ) → suc n ≡ 1 → q < SECTOR_POINTERS
-          → pointer_in new (number_at new (drop (suc n) (levels with_indirect)) 0) q ≡ pointer_in old (number_at old (drop (suc n) (levels v)) 0) q
-      below zero q e small = same q small
-      below (suc n) q e small = absurd (let z = e in omega (arith, z))
+-- it becomes y, where both have the same numbers
+turns_named : (old new : SectorMap) (v : Inode) (level y : ℕ) → level < POINTER_LEVELS → length v.indirect ≡ POINTER_LEVELS → {x : ℕ} → get_or v.indirect level 0 ≡ x
+    → KeepsPointers old new v → ((q : ℕ) → q < SECTOR_POINTERS → pointer_in new y q ≡ pointer_in old (get_or v.indirect level 0) q)
+    → Turns old new v (with_indirect v level y) (OnLevel (suc level) 0) x y
+unfolding number_on
+turns_named old new v level y lt len was kept same = turns_on_level (number_on_named old v level lt ∙ was) (record {
+  acl = refl;
+  default_acl = refl;
+  alike = alike_named v level y lt;
+  kept = record { below = below; same = λ n p q small f g. entries_kept old new v kept n p q small };
+  now = named;
+})
+  where
+    named : number_on new (with_indirect v level y) (suc level) 0 ≡ y
+    named = number_on_named new (with_indirect v level y) level lt ∙ get_or-set_same v.indirect level y 0 (omega (arith, len, lt))
 
--- the inode gets one, of zeros
-pub gains_indirect : (old new : SectorMap) (v : Inode) (s : ℕ) → KeepsPointers old new v → v.indirect ≡ 0 → s ≢ 0 → new s ≡ zeros 512
-    → Gains old new v (record v { indirect = s }) Indirect s
-gains_indirect old new v s kept none some clear = turns_indirect old new v s none kept (λ q small.
-    entry_there new s q some ∙ ap (λ (r : List ℕ). u32_of r (4 * q)) clear ∙ u32_of-zeros 512 (4 * q) ∙ sym (ap (λ (t : ℕ). pointer_in old t q) none))
-
--- the inode gives it up; its numbers are all 0
-pub loses_indirect : (old new : SectorMap) (v : Inode) (s : ℕ) → KeepsPointers old new v → v.indirect ≡ s
-    → ((k : ℕ) → DIRECT_BLOCKS ≤ k → k < INDIRECT_END → pointer old v k ≡ 0)
-    → Loses old new v (record v { indirect = 0 }) Indirect s
-loses_indirect old new v s kept was unused = turns_indirect old new v 0 was kept (λ q small.
-    let from : DIRECT_BLOCKS ≤ DIRECT_BLOCKS + q = omega arith in
-    let to : DIRECT_BLOCKS + q < INDIRECT_END = omega (arith, small) in
-    let at : DIRECT_BLOCKS + q - DIRECT_BLOCKS ≡ q = omega arith in
-    sym (sym (ap (pointer_in old v.indirect) at) ∙ sym (pointer_indirect old v (DIRECT_BLOCKS + q) from to) ∙ unused (DIRECT_BLOCKS + q) from to))
-
--- ---- the double indirect sector
-module _ (old new : SectorMap) (v : Inode) (y : ℕ) where
-  abbrev with_double : Inode
-  with_double = record v { double_indirect = y }
-
-  -- it becomes y, where both have the same numbers
-  turns_double : {x : ℕ} → v.double_indirect ≡ x → KeepsPointers old new v
-      → ((q : ℕ) → q < SECTOR_POINTERS → pointer_in new y q ≡ pointer_in old v.double_indirect q) → Turns old new v with_double (OnLevel 2 0) x y
-  turns_double was kept same = turns_on_level (number_on_double old v ∙ was) (record {
-    acl = refl;
-    default_acl = refl;
-    alike = (refl, λ k lt. refl, (refl, λ k lt. refl, (refl, refl, λ k lt ne. absurd (omega (arith, lt, ne)), tt)));
-    kept = record { below = below; same = λ n p q small f g. entries_kept old new v kept n p q small };
-    now = number_on_double new with_double;
-  })
-    where
-      below : (n q : ℕ) → suc n ≡ 2 → q < SECTOR_POINTERS
-          → pointer_in new (number_at new (drop (suc n) (levels with_double)) 0) q ≡ pointer_in old (number_at old (drop (suc n) (levels v)) 0) q
-      below zero q e small = absurd (let z = e in omega (arith, z))
-      below (suc zero) q e small = same q small
-      below (suc (suc n)) q e small = absurd (let z = e in omega (arith, z))
+    below : (n q : ℕ) → suc n ≡ suc level → q < SECTOR_POINTERS
+        → pointer_in new (number_at new (drop (suc n) (levels (with_indirect v level y))) 0) q ≡ pointer_in old (number_at old (drop (suc n) (levels v)) 0) q
+    below n q e small =
+        ap (λ (m : ℕ). pointer_in new (number_at new (drop m (levels (with_indirect v level y))) 0) q) e
+        ∙ ap (λ (s : ℕ). pointer_in new s q) named
+        ∙ same q small
+        ∙ sym (ap (λ (s : ℕ). pointer_in old s q) (number_on_named old v level lt))
+        ∙ sym (ap (λ (m : ℕ). pointer_in old (number_at old (drop m (levels v)) 0) q) e)
 
 -- the inode gets one, of zeros
-pub gains_double : (old new : SectorMap) (v : Inode) (s : ℕ) → KeepsPointers old new v → v.double_indirect ≡ 0 → s ≢ 0 → new s ≡ zeros 512
-    → Gains old new v (record v { double_indirect = s }) (OnLevel 2 0) s
-gains_double old new v s kept none some clear = turns_double old new v s none kept (λ q small.
+pub gains_named : (old new : SectorMap) (v : Inode) (level s : ℕ) → level < POINTER_LEVELS → length v.indirect ≡ POINTER_LEVELS → KeepsPointers old new v
+    → get_or v.indirect level 0 ≡ 0 → s ≢ 0 → new s ≡ zeros 512 → Gains old new v (with_indirect v level s) (OnLevel (suc level) 0) s
+gains_named old new v level s lt len kept none some clear = turns_named old new v level s lt len none kept (λ q small.
     entry_there new s q some ∙ ap (λ (r : List ℕ). u32_of r (4 * q)) clear ∙ u32_of-zeros 512 (4 * q) ∙ sym (ap (λ (t : ℕ). pointer_in old t q) none))
-
--- the inode gives it up; its numbers are all 0
-pub loses_double : (old new : SectorMap) (v : Inode) (s : ℕ) → KeepsPointers old new v → v.double_indirect ≡ s
-    → ((i : ℕ) → 1 ≤ i → number_on old v 1 i ≡ 0) → Loses old new v (record v { double_indirect = 0 }) (OnLevel 2 0) s
-loses_double old new v s kept was unused = turns_double old new v 0 was kept (λ q small.
-    let first : holder 1 (1 + q) ≡ 0 = omega (arith, small) in
-    let at : place_in_holder 1 (1 + q) ≡ q = omega (arith, small) in
-    sym (sym (ap (λ (s : ℕ). pointer_in old s q) (ap (number_on old v 2) first ∙ number_on_double old v))
-    ∙ sym (ap (pointer_in old (number_on old v 2 (holder 1 (1 + q)))) at)
-    ∙ sym (number_on_held_above old v (1 + q) (omega arith)) ∙ unused (1 + q) (omega arith)))
 
 -- a sector of pointers whose number stands in another comes, of zeros
 pub gains_on_level : {v : Inode} {level i s : ℕ} {old new : SectorMap} → HasEntry v level i s old new → number_on old v level i ≡ 0 → s ≢ 0 → new s ≡ zeros 512

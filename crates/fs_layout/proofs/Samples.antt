@@ -34,11 +34,11 @@ bit_elsewhere = refl
 -- sector 200 has the pointers 7 and 258, and sector 258 has bytes
 pointers : SectorMap
 pointers s = cond (nat_eq s 200) (7 ∷ 0 ∷ 0 ∷ 0 ∷ 2 ∷ 1 ∷ 0 ∷ 0 ∷ []) (cond (nat_eq s 258) (65 ∷ 66 ∷ []) (cond (nat_eq s 300) (zeros 508 ++ (45 ∷ 1 ∷ 0 ∷ 0 ∷ []))
-    (cond (nat_eq s 301) (zeros 508 ++ (9 ∷ 0 ∷ 0 ∷ 0 ∷ [])) [])))
+    (cond (nat_eq s 301) (zeros 508 ++ (9 ∷ 0 ∷ 0 ∷ 0 ∷ [])) (cond (nat_eq s 302) (zeros 508 ++ (44 ∷ 1 ∷ 0 ∷ 0 ∷ [])) []))))
 
 -- block 0 is sector 150, and the sector of pointers is 200
 file : Inode
-file = record free_inode { direct = 150 ∷ replicate 11 0; indirect = 200; double_indirect = 300 }
+file = record free_inode { direct = 150 ∷ replicate 11 0; indirect = 200 ∷ 300 ∷ 302 ∷ [] }
 
 block_0 : pointer pointers file 0 ≡ 150
 unfolding number_on pointers file
@@ -71,9 +71,9 @@ last_pointers : number_on pointers file 1 128 ≡ 301
 unfolding number_on pointers file u32_of zeros
 last_pointers = refl
 
-last_block : pointer pointers file 16523 ≡ 9
+last_by_double : pointer pointers file 16523 ≡ 9
 unfolding number_on pointers file u32_of zeros
-last_block = refl
+last_by_double = refl
 
 hole_before : pointer pointers file 16522 ≡ 0
 unfolding number_on pointers file u32_of zeros
@@ -86,6 +86,18 @@ hole_above = refl
 
 first_by_double : first_block 2 0 ≡ 140
 first_by_double = refl
+
+-- the triple indirect sector names 300 as its last, by which the last 16,384 blocks are found
+last_listed : number_on pointers file 2 128 ≡ 300
+unfolding number_on pointers file u32_of zeros
+last_listed = refl
+
+last_block : pointer pointers file 2113675 ≡ 9
+unfolding number_on pointers file u32_of zeros
+last_block = refl
+
+first_by_triple : first_block 3 0 ≡ 16524
+first_by_triple = refl
 
 first_by_next : first_block 1 1 ≡ 140
 first_by_next = refl
@@ -139,6 +151,16 @@ unfolding number_on pointers empty u32_of zeros
 takes_so_many = refl
 
 -- one byte at 8,460,287, where the double indirect sector is there
-takes_last : lacks pointers (record empty { double_indirect = 300 }) 16395 16396 ≡ 2
+takes_last_by_double : lacks pointers (record empty { indirect = 0 ∷ 300 ∷ 0 ∷ [] }) 16395 16396 ≡ 2
 unfolding number_on pointers empty u32_of zeros
-takes_last = refl
+takes_last_by_double = refl
+
+-- one byte at 8,460,288
+takes_four : lacks pointers empty 16524 16525 ≡ 4
+unfolding number_on pointers empty u32_of zeros
+takes_four = refl
+
+-- 4,096 bytes across the last block of the double indirect sector
+takes_fourteen : lacks pointers empty 16516 16525 ≡ 14
+unfolding number_on pointers empty u32_of zeros
+takes_fourteen = refl

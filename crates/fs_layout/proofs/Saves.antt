@@ -73,7 +73,7 @@ module _ {p : Place} {n : ℕ} {w : Inode} {old new : SectorMap}
   stored_saved =
       let len : length (old (p.table + n / 4)) ≡ 512 = table_sector.len in
       ap (λ (b : List ℕ). window b (INODE_SIZE * (n % 4)) INODE_SIZE) saves.here
-      ∙ window_same (old (p.table + n / 4)) (inode_bytes w) (INODE_SIZE * (n % 4)) INODE_SIZE (length-inode_bytes w fits.direct_len) (omega (arith, len))
+      ∙ window_same (old (p.table + n / 4)) (inode_bytes w) (INODE_SIZE * (n % 4)) INODE_SIZE (length-inode_bytes w fits.direct_len fits.indirect_len) (omega (arith, len))
 
   -- the bytes of each other inode are the same
   pub stored_other : (m : ℕ) → m ≢ n → stored p new m ≡ stored p old m
@@ -86,7 +86,7 @@ module _ {p : Place} {n : ℕ} {w : Inode} {old new : SectorMap}
             let k : p.table + m / 4 ≡ p.table + n / 4 = ap (λ (q : ℕ). p.table + q) e in
             ap (λ (q : ℕ). window (new q) (INODE_SIZE * (m % 4)) INODE_SIZE) k
             ∙ ap (λ (b : List ℕ). window b (INODE_SIZE * (m % 4)) INODE_SIZE) saves.here
-            ∙ window_other (old (p.table + n / 4)) (inode_bytes w) (INODE_SIZE * (n % 4)) (INODE_SIZE * (m % 4)) INODE_SIZE INODE_SIZE (length-inode_bytes w fits.direct_len)
+            ∙ window_other (old (p.table + n / 4)) (inode_bytes w) (INODE_SIZE * (n % 4)) (INODE_SIZE * (m % 4)) INODE_SIZE INODE_SIZE (length-inode_bytes w fits.direct_len fits.indirect_len)
             (omega (arith, len)) (omega (arith, len)) (beside m n e ne)
             ∙ ap (λ (q : ℕ). window (old q) (INODE_SIZE * (m % 4)) INODE_SIZE) (sym k)
       ]
@@ -104,7 +104,7 @@ module _ {p : Place} {n : ℕ} {w : Inode} {old new : SectorMap}
   tables_saved s past low = elim (cases_eq s (p.table + n / 4)) [
     | inr ne ↦ subst IsSector (sym (saves.others s ne)) (tables s past low)
     | inl e ↦
-        let len : length (inode_bytes w) ≡ INODE_SIZE = length-inode_bytes w fits.direct_len in
+        let len : length (inode_bytes w) ≡ INODE_SIZE = length-inode_bytes w fits.direct_len fits.indirect_len in
         subst (λ (t : ℕ). IsSector (new t)) (sym e)
         (subst IsSector (sym saves.here) (IsSector-splice (old (p.table + n / 4)) (inode_bytes w) (INODE_SIZE * (n % 4)) table_sector (IsBytes-inode_bytes w) (omega (arith, len))))
   ]

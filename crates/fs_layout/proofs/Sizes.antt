@@ -2,10 +2,9 @@
 use Rattle.std.proofs.Common.{◌≡◌, ◌≢◌, ℕ, suc, ◌+◌, ◌-◌, ◌*◌, ◌/◌, ◌%◌, ◌<◌, ◌≤◌, List, ◌++◌, length, take, get_or, refl, sym, ap, subst, ◌∙◌, arith, inl, inr}
 use Rattle.std.proofs.lemmas.List.{length-append, length-take-le, get_or_append_left, get_or-append_right, get_or_past, get_or-take, take_at, take_all, append-nil}
 use Rattle.std.proofs.lemmas.Bool.{cases_eq, cases_lt}
-use Rattle.fs_layout.specs.declared.inode.TheConstants.{DIRECT_SIZE}
 use Rattle.fs_layout.specs.declared.inode.Inode.{Inode}
 use Rattle.fs_layout.specs.Bytes.{SectorMap, zeros}
-use Rattle.fs_layout.specs.Images.{number_on, pointer, first_block, Part, AccessAcl, DefaultAcl, OnLevel, Indirect, Block, part, byte_in, byte_at, IsTrimmed, Holds}
+use Rattle.fs_layout.specs.Images.{number_on, pointer, first_block, Part, AccessAcl, DefaultAcl, OnLevel, Block, part, byte_in, byte_at, IsTrimmed, Holds}
 use Rattle.fs_layout.specs.InodeChanges.{ReplacesBlock, Turns, Gains, Loses}
 use Rattle.fs_layout.proofs.Writes.{length-zeros}
 use Rattle.fs_layout.proofs.SplicedBytes.{get_or-zeros}
@@ -103,16 +102,6 @@ turns_pointers {old} {new} {v} {w} {level} {i} t same size past h = Holds-again 
           subst (λ (x : ℕ). v.size ≤ 512 * first_block x i) a (subst (λ (x : ℕ). v.size ≤ 512 * first_block (suc n) x) b le) in
           ap (part new w) e ∙ t.now ∙ past le'
     ]
-
--- the inode gets a sector of pointers that it needs, and holds what it held
-pub gains_pointers : {old new : SectorMap} {v w : Inode} {s : ℕ} {bytes : List ℕ} → Gains old new v w Indirect s → KeepsAllBlocks old new v
-    → w.size ≡ v.size → DIRECT_SIZE < v.size → Holds old v bytes → Holds new w bytes
-gains_pointers g same size large h = turns_pointers g same size (λ le. absurd (omega (arith, le, large))) h
-
--- the inode gives up its sector of pointers, and holds what it held
-pub loses_pointers : {old new : SectorMap} {v w : Inode} {s : ℕ} {bytes : List ℕ} → Loses old new v w Indirect s → KeepsAllBlocks old new v
-    → w.size ≡ v.size → Holds old v bytes → Holds new w bytes
-loses_pointers l same size h = turns_pointers l same size (λ le. refl) h
 
 -- the sector of an ACL comes, goes or is another one, and the inode holds what it held
 pub turns_acl_holds : {old new : SectorMap} {v w : Inode} {x y : ℕ} {bytes : List ℕ} → Turns old new v w AccessAcl x y → KeepsAllBlocks old new v

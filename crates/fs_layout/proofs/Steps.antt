@@ -1,23 +1,23 @@
 -- Single writes put together: a sector is taken or released for one thing, and what changes and is held by it.
-use Rattle.std.proofs.Common.{◌≡◌, ◌≢◌, ℕ, suc, ◌-◌, ◌*◌, ◌^◌, ◌<◌, ◌≤◌, List, length, refl, sym, ap, subst, ◌∙◌, arith, inl, inr, ◌⊎◌}
-use Rattle.fs_layout.specs.declared.inode.TheConstants.{DIRECT_BLOCKS, DIRECT_SIZE, INDIRECT_END, SECTOR_POINTERS}
+use Rattle.std.proofs.Common.{◌≡◌, ◌≢◌, ℕ, suc, ◌*◌, ◌<◌, List, length, get_or, refl, sym, ap, subst, ◌∙◌, arith, inl, inr, ◌⊎◌}
+use Rattle.fs_layout.specs.declared.inode.TheConstants.{DIRECT_BLOCKS, POINTER_LEVELS, SECTOR_POINTERS}
 use Rattle.fs_layout.specs.declared.inode.Inode.{Inode}
 use Rattle.fs_layout.specs.declared.place.Place.{Place}
 use Rattle.fs_layout.specs.Bytes.{SectorMap, IsSector, splice, le32, zeros}
 use Rattle.fs_layout.specs.Place.{IsPlace}
 use Rattle.fs_layout.specs.Images.{own_count, holder, place_in_holder, number_on, pointer, first_block, OnLevel, Block, part, Owns, Holds}
-use Rattle.fs_layout.specs.InodeChanges.{Keeps, Puts, Gains, with_direct, IsOwnedApart, Takes, Rewrites, Allocates, Frees, PutsEntry, ReplacesBlock, ChangesBlocks}
+use Rattle.fs_layout.specs.InodeChanges.{Keeps, Gains, with_direct, with_indirect, IsOwnedApart, Takes, Rewrites, Allocates, Frees, PutsEntry, ReplacesBlock, ChangesBlocks}
 use Rattle.fs_layout.proofs.Places.{after_map, before_data}
-use Rattle.fs_layout.proofs.Parts.{KeepsPointers, pointers_kept, number_on_indirect, number_on_kept, owns_block, owns_on_level, level_is_one, index_is_one, block_has_no_pointers}
+use Rattle.fs_layout.proofs.Parts.{KeepsPointers, pointers_kept, number_on_kept, owns_block, owns_on_level, level_is_one, index_is_one, block_has_no_pointers}
 use Rattle.fs_layout.proofs.Sectors.{IsSector-splice, IsBytes-le32}
 use Rattle.fs_layout.proofs.SplicedBytes.{length-le32}
 use Rattle.fs_layout.proofs.Blocks.{put_rewrites}
-use Rattle.fs_layout.proofs.Pointers.{HasEntry, turns_direct, turns_entry, turns_acl, turns_default_acl, gains_indirect, loses_indirect, gains_double, gains_on_level}
+use Rattle.fs_layout.proofs.Pointers.{HasEntry, turns_direct, turns_entry, turns_acl, turns_default_acl, gains_named, gains_on_level}
 use Rattle.fs_layout.proofs.Gains.{gains}
 use Rattle.fs_layout.proofs.Releases.{loses}
 use Rattle.fs_layout.proofs.Marks.{no_map, free_not_owned, takes, takes_keeps, takes_and_puts, releases, releases_alone, marks_keeps}
 use Rattle.fs_layout.proofs.Held.{KeepsBlocks, KeepsAllBlocks, keeps_all_blocks, keeps_other_blocks}
-use Rattle.fs_layout.proofs.Sizes.{fills, drops, gains_pointers, loses_pointers, turns_acl_holds, turns_default_acl_holds, turns_pointers}
+use Rattle.fs_layout.proofs.Sizes.{fills, drops, turns_acl_holds, turns_default_acl_holds, turns_pointers}
 
 -- ---- a sector is taken
 module _ {p : Place} {v : Inode} {s : ℕ} {x : List ℕ} {old mid new : SectorMap} (place : IsPlace p) (apart : IsOwnedApart p old v) (a : Allocates p s x old mid new) where
@@ -64,23 +64,20 @@ module _ {p : Place} {v : Inode} {s : ℕ} {x : List ℕ} {old mid new : SectorM
   pub default_acl_gained_holds : (bytes : List ℕ) → v.default_acl ≡ 0 → Holds old v bytes → Holds new (record v { default_acl = s }) bytes
   default_acl_gained_holds bytes none h = turns_default_acl_holds (turns_default_acl old new v 0 s none kept) same_content refl h
 
-  -- for the double indirect sector, which is zeros
-  pub double_gained : v.double_indirect ≡ 0 → x ≡ zeros 512 → ChangesBlocks p v (record v { double_indirect = s }) old new
-  double_gained none clear = gains place apart (gains_double old new v s kept none allocated_some (a.put.here ∙ clear)) allocated
+  -- for a sector of pointers that the inode names, which is zeros
+  named_gains : (level : ℕ) → level < POINTER_LEVELS → length v.indirect ≡ POINTER_LEVELS → get_or v.indirect level 0 ≡ 0 → x ≡ zeros 512
+      → Gains old new v (with_indirect v level s) (OnLevel (suc level) 0) s
+  named_gains level lt len none clear = gains_named old new v level s lt len kept none allocated_some (a.put.here ∙ clear)
+
+  pub named_gained : (level : ℕ) → level < POINTER_LEVELS → length v.indirect ≡ POINTER_LEVELS → get_or v.indirect level 0 ≡ 0 → x ≡ zeros 512
+      → ChangesBlocks p v (with_indirect v level s) old new
+  named_gained level lt len none clear = gains place apart (named_gains level lt len none clear) allocated
 
   -- it holds what it held
-  pub double_gained_holds : (bytes : List ℕ) → v.double_indirect ≡ 0 → x ≡ zeros 512 → 512 * first_block 2 0 < v.size → Holds old v bytes
-      → Holds new (record v { double_indirect = s }) bytes
-  double_gained_holds bytes none clear large h =
-      turns_pointers (gains_double old new v s kept none allocated_some (a.put.here ∙ clear)) same_content refl (λ le. absurd (omega (arith, le, large))) h
-
-  -- for the sector of pointers, which is zeros
-  pub pointers_gained : v.indirect ≡ 0 → x ≡ zeros 512 → ChangesBlocks p v (record v { indirect = s }) old new
-  pointers_gained none clear = gains place apart (gains_indirect old new v s kept none allocated_some (a.put.here ∙ clear)) allocated
-
-  -- it holds what it held
-  pub pointers_gained_holds : (bytes : List ℕ) → v.indirect ≡ 0 → x ≡ zeros 512 → DIRECT_SIZE < v.size → Holds old v bytes → Holds new (record v { indirect = s }) bytes
-  pointers_gained_holds bytes none clear large h = gains_pointers (gains_indirect old new v s kept none allocated_some (a.put.here ∙ clear)) same_content refl large h
+  pub named_gained_holds : (level : ℕ) (bytes : List ℕ) → level < POINTER_LEVELS → length v.indirect ≡ POINTER_LEVELS → get_or v.indirect level 0 ≡ 0 → x ≡ zeros 512
+      → 512 * first_block (suc level) 0 < v.size → Holds old v bytes → Holds new (with_indirect v level s) bytes
+  named_gained_holds level bytes lt len none clear inside h =
+      turns_pointers (named_gains level lt len none clear) same_content refl (λ le. absurd (omega (arith, le, inside))) h
 
 -- ---- a sector is taken whose number stands in a sector of pointers
 -- that sector
@@ -125,21 +122,6 @@ entry_since {v = v} {level} {i} {y} {old} {mid} {new} apart keeps e =
           let s = number_on old v (suc n) p in
           e.put.others s (λ z. numbers_apart apart n level p (holder (own_count level) i) ne has (z ∙ holder_same))
           ∙ keeps s (owns_on_level old v (suc n) p has);
-    }
-
--- the number of one of the next blocks is put into the sector that the inode names
-pub puts_entry : (v : Inode) (k y : ℕ) (old new : SectorMap) → DIRECT_BLOCKS ≤ k → k < INDIRECT_END → v.indirect ≢ 0 → y < 2 ^ 32
-    → Puts v.indirect (splice (old v.indirect) (4 * (k - DIRECT_BLOCKS)) (le32 y)) old new → PutsEntry v 0 k y old new
-puts_entry v k y old new from to some fits put =
-    let first : holder DIRECT_BLOCKS k ≡ 0 = omega (arith, from, to) in
-    let at : place_in_holder DIRECT_BLOCKS k ≡ k - DIRECT_BLOCKS = omega (arith, from, to) in
-    let s : at_holder old v 0 k ≡ v.indirect = ap (number_on old v 1) first ∙ number_on_indirect old v in
-    record {
-      from = from;
-      some = λ z. some (sym s ∙ z);
-      fits = fits;
-      put = subst (λ (t : ℕ). Puts t (splice (old t) (4 * place_in_holder DIRECT_BLOCKS k) (le32 y)) old new) (sym s)
-          (subst (λ (q : ℕ). Puts v.indirect (splice (old v.indirect) (4 * q) (le32 y)) old new) (sym at) put);
     }
 
 -- no block is such a sector
@@ -257,14 +239,6 @@ module _ {p : Place} {v : Inode} {s : ℕ} {old new : SectorMap} (place : IsPlac
   -- it holds what it held
   pub default_acl_lost_holds : (bytes : List ℕ) → v.default_acl ≡ s → Holds old v bytes → Holds new (record v { default_acl = 0 }) bytes
   default_acl_lost_holds bytes was h = turns_default_acl_holds (turns_default_acl old new v s 0 was kept_then) same_then refl h
-
-  -- the sector of pointers, which are all 0
-  pub pointers_lost : v.indirect ≡ s → ((k : ℕ) → DIRECT_BLOCKS ≤ k → k < INDIRECT_END → pointer old v k ≡ 0) → ChangesBlocks p v (record v { indirect = 0 }) old new
-  pointers_lost was unused = loses place apart some (loses_indirect old new v s kept_then was unused) (releases_alone place apart f.mark f.clear)
-
-  -- it holds what it held
-  pub pointers_lost_holds : (bytes : List ℕ) → v.indirect ≡ s → ((k : ℕ) → DIRECT_BLOCKS ≤ k → k < INDIRECT_END → pointer old v k ≡ 0) → Holds old v bytes → Holds new (record v { indirect = 0 }) bytes
-  pointers_lost_holds bytes was unused h = loses_pointers (loses_indirect old new v s kept_then was unused) same_then refl h
 
 -- a block of a sector of pointers is released: its number is written as 0, and then its bit is cleared
 module _ {p : Place} {v : Inode} {k s : ℕ} {old put new : SectorMap}

@@ -4,7 +4,7 @@ use Rattle.std.proofs.lemmas.List.{take_at, drop_at, drop-drop, drop_all, append
 use Rattle.std.proofs.lemmas.List.Concat.{flat_map-append}
 use Rattle.std.specs.Prelude.{set}
 use Rattle.std.specs.List.{flat_map}
-use Rattle.fs_layout.specs.declared.inode.TheConstants.{DIRECT_BLOCKS, INODE_SIZE}
+use Rattle.fs_layout.specs.declared.inode.TheConstants.{DIRECT_BLOCKS, INODE_SIZE, POINTER_LEVELS}
 use Rattle.fs_layout.specs.declared.inode.Inode.{Inode}
 use native.Mathlib.Numerals.{unary_clauses}
 use Rattle.std.proofs.Common.{add-one}
@@ -123,9 +123,11 @@ pub length-zeros : (n : ℕ) → length (zeros n) ≡ n
 unfolding zeros
 length-zeros n = length-replicate n 0
 
-pub length-inode_bytes : (v : Inode) → length v.direct ≡ DIRECT_BLOCKS → length (inode_bytes v) ≡ INODE_SIZE
+pub length-inode_bytes : (v : Inode) → length v.direct ≡ DIRECT_BLOCKS → length v.indirect ≡ POINTER_LEVELS → length (inode_bytes v) ≡ INODE_SIZE
 unfolding le16 le32 le64 zeros
-length-inode_bytes v d = omega (arith, length-le32s v.direct, length-append (le32s v.direct) (le32 v.indirect ++ (le32 v.double_indirect ++ times_bytes v)))
+length-inode_bytes v d named =
+    let rest = length-append (le32s v.indirect) (times_bytes v) in
+    omega (arith, length-le32s v.direct, length-le32s v.indirect, rest, length-append (le32s v.direct) (le32s v.indirect ++ times_bytes v))
 
 pub put_step : (s t u a x : List ℕ) (at next : ℕ) → at + length a ≤ length s → next ≡ at + length a → t ≡ splice s at a
     → u ≡ splice t next x → u ≡ splice s at (a ++ x)

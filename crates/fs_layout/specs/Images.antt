@@ -4,7 +4,8 @@
 --     HasWholeTables        the bitmaps and the inode table are whole sectors
 --     bit, free_sectors        a bit of a bitmap; how many data sectors are free
 --     stored, inode_at        an inode's bytes, and the inode
---     levels, node, pointer        the numbers of an inode's sectors, level by level, and those of its blocks
+--     levels, number_on, pointer        the numbers of an inode's sectors, level by level, and those of its blocks
+--     level_end, first_block        how many numbers a level has at most; the first block that is found by one
 --     Part, part, Owns        the sectors that an inode owns, each by its role
 --     HasPointers, HasPointersAbove, number_in        a sector of pointers at hand, that in which a number stands, and a number by it
 --     byte_at, IsTrimmed, Holds, HasNoHole        the bytes that an inode holds
@@ -12,7 +13,7 @@ use Rattle.std.specs.Prelude.{◌≡◌, ◌≢◌, ℕ, zero, suc, ◌+◌, ◌
 use Rattle.std.specs.Int.{bit_at}
 use Rattle.std.specs.List.{range_with_len}
 use Rattle.fs_layout.specs.declared.inode.Inode.{Inode}
-use Rattle.fs_layout.specs.declared.inode.TheConstants.{INODE_SIZE, DIRECT_BLOCKS, SECTOR_POINTERS}
+use Rattle.fs_layout.specs.declared.inode.TheConstants.{INODE_SIZE, DIRECT_BLOCKS, SECTOR_POINTERS, MAX_BLOCKS}
 use Rattle.fs_layout.specs.declared.fault.LayoutFault.{LayoutFault}
 use Rattle.fs_layout.specs.declared.place.Place.{Place}
 use Rattle.fs_layout.specs.declared.place.TheConstants.{SECTOR_BITS}
@@ -68,18 +69,30 @@ abbrev pub own_count : ℕ → ℕ
 own_count zero = DIRECT_BLOCKS
 own_count (suc level) = 1
 
--- so many they are on this level, and these
+-- number i of a level that stands in the inode
+abbrev pub own_number : Inode → ℕ → ℕ → ℕ
+own_number v zero i = get_or v.direct i 0
+own_number v (suc level) i = get_or v.indirect level 0
+
+-- so many of a level stand in the inode, and these
 pub record Level : Type 0 where
   pub count : ℕ
   pub number : ℕ → ℕ
 
--- the levels of an inode
+abbrev pub level_of : Inode → ℕ → Level
+level_of v level = record { count = own_count level; number = own_number v level }
+
+-- the levels of an inode: its blocks, and three of sectors of pointers
 abbrev pub levels : Inode → List Level
-levels v =
-    record { count = own_count 0; number = λ k. get_or v.direct k 0 }
-    ∷ record { count = own_count 1; number = λ i. v.indirect }
-    ∷ record { count = own_count 2; number = λ i. v.double_indirect }
-    ∷ []
+levels v = level_of v 0 ∷ level_of v 1 ∷ level_of v 2 ∷ level_of v 3 ∷ []
+
+-- where the numbers of a level end
+abbrev pub level_end : ℕ → ℕ
+level_end zero = MAX_BLOCKS
+level_end (suc zero) = 1 + SECTOR_POINTERS + SECTOR_POINTERS * SECTOR_POINTERS
+level_end (suc (suc zero)) = 1 + SECTOR_POINTERS
+level_end (suc (suc (suc zero))) = 1
+level_end (suc (suc (suc (suc level)))) = 0
 
 -- where the other numbers stand, by how many stand in the inode: number i in this sector of the level above, at this place
 abbrev pub holder : ℕ → ℕ → ℕ
@@ -118,13 +131,9 @@ abbrev pub HasPointersAbove : SectorMap → Inode → ℕ → ℕ → List ℕ �
 HasPointersAbove image v level i content = own_count level ≤ i → HasPointers image v (suc level) (holder (own_count level) i) content
 
 -- number i of a level, by the content of the sector of pointers in which it stands, if it doesn't stand in the inode
-abbrev own_number : List Level → ℕ → ℕ
-own_number [] i = 0
-own_number (l ∷ above) i = l.number i
-
 unfoldable pub number_in : Inode → ℕ → List ℕ → ℕ → ℕ
 number_in v level content i =
-    if nat_lt i (own_count level) then own_number (drop level (levels v)) i else u32_of content (4 * place_in_holder (own_count level) i)
+    if nat_lt i (own_count level) then own_number v level i else u32_of content (4 * place_in_holder (own_count level) i)
 
 -- what an inode may own a sector for
 pub data Part : Type 0 where
@@ -136,10 +145,6 @@ pub data Part : Type 0 where
 -- block k
 abbrev pub Block : ℕ → Part
 Block k = OnLevel 0 k
-
--- the sector of the pointers to the blocks from `DIRECT_BLOCKS` on
-abbrev pub Indirect : Part
-Indirect = OnLevel 1 0
 
 -- the sector that an inode has for this; 0 where it has none
 unfoldable pub part : SectorMap → Inode → Part → ℕ

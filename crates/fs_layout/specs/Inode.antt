@@ -5,7 +5,7 @@ use Rattle.fs_layout.specs.declared.inode.Kind.TheVariants.{Free, File, Director
 use Rattle.fs_layout.specs.declared.inode.Inode.{Inode}
 use Rattle.fs_layout.specs.declared.fault.LayoutFault.{LayoutFault}
 use Rattle.fs_layout.specs.declared.fault.LayoutFault.TheVariants.{BadKind, BadNumber, NotZero}
-use Rattle.fs_layout.specs.declared.inode.TheConstants.{DIRECT_BLOCKS, MAX_FILE_SIZE, MAX_DIRECTORY_SIZE, MAX_LINK_SIZE, OLDER_DIRECTORY_SIZE}
+use Rattle.fs_layout.specs.declared.inode.TheConstants.{DIRECT_BLOCKS, POINTER_LEVELS, MAX_FILE_SIZE, MAX_DIRECTORY_SIZE, MAX_LINK_SIZE, OLDER_FILE_SIZE, OLDER_DIRECTORY_SIZE}
 use Rattle.fs_layout.specs.declared.inode.TheConstants.Inode.{FREE}
 use Rattle.fs_layout.specs.declared.slot.TheConstants.{SLOT_SIZE}
 use Rattle.fs_layout.specs.Bytes.{le16, le32, le64, le32s, zeros, u16_of, u32_of, u64_of, u32s_of, are_zero, window}
@@ -23,15 +23,15 @@ kind_of (suc (suc zero)) = Some Directory
 kind_of (suc (suc (suc zero))) = Some Link
 kind_of (suc (suc (suc (suc n)))) = None
 
--- the times, with zeros before and after them
+-- the times, with zeros after them
 abbrev pub times_bytes : Inode → List ℕ
-times_bytes v = zeros 4 ++ (le64 v.mtime ++ (le64 v.ctime ++ (le64 v.atime ++ zeros 8)))
+times_bytes v = le64 v.mtime ++ (le64 v.ctime ++ (le64 v.atime ++ zeros 8))
 
 -- the fields one after the other
 abbrev pub inode_bytes : Inode → List ℕ
 inode_bytes v =
     le16 (kind_number v.kind) ++ (le16 v.mode ++ (le32 v.uid ++ (le32 v.gid ++ (le32 v.names ++ (le64 v.size
-    ++ (le32 v.parent ++ (le32 v.acl ++ (le32 v.default_acl ++ (le32s v.direct ++ (le32 v.indirect ++ (le32 v.double_indirect ++ times_bytes v)))))))))))
+    ++ (le32 v.parent ++ (le32 v.acl ++ (le32 v.default_acl ++ (le32s v.direct ++ (le32s v.indirect ++ times_bytes v))))))))))
 
 -- mode and size are in the range of the kind, in the version that allows most
 abbrev pub numbers_fit : Kind → ℕ → ℕ → Bool
@@ -65,8 +65,8 @@ pub record FitsInode (v : Inode) : Type 0 where
   pub default_acl : v.default_acl < 2 ^ 32
   pub direct_len : length v.direct ≡ DIRECT_BLOCKS
   pub direct : (i : ℕ) → get_or v.direct i 0 < 2 ^ 32
-  pub indirect : v.indirect < 2 ^ 32
-  pub double_indirect : v.double_indirect < 2 ^ 32
+  pub indirect_len : length v.indirect ≡ POINTER_LEVELS
+  pub indirect : (level : ℕ) → get_or v.indirect level 0 < 2 ^ 32
   pub mtime : v.mtime < 2 ^ 64
   pub ctime : v.ctime < 2 ^ 64
   pub atime : v.atime < 2 ^ 64
@@ -83,39 +83,39 @@ fields_of kind s = record {
   acl = u32_of s 28;
   default_acl = u32_of s 32;
   direct = u32s_of s 36 DIRECT_BLOCKS;
-  indirect = u32_of s 84;
-  double_indirect = u32_of s 88;
+  indirect = u32s_of s 84 POINTER_LEVELS;
   mtime = u64_of s 96;
   ctime = u64_of s 104;
   atime = u64_of s 112;
 }
 
--- the bytes of no field are zero: of a free inode all of them, of another one those before and after its times
+-- the bytes of no field are zero: of a free inode all of them, of another one those after its times
 abbrev pub gaps_are_zero : Kind → List ℕ → Bool
 gaps_are_zero Free s = are_zero s
-gaps_are_zero File s = are_zero (window s 92 4) && are_zero (window s 120 8)
-gaps_are_zero Directory s = are_zero (window s 92 4) && are_zero (window s 120 8)
-gaps_are_zero Link s = are_zero (window s 92 4) && are_zero (window s 120 8)
+gaps_are_zero File s = are_zero (window s 120 8)
+gaps_are_zero Directory s = are_zero (window s 120 8)
+gaps_are_zero Link s = are_zero (window s 120 8)
 
--- and in versions 1 and 2 those of the times too
+-- and in versions 1 and 2 those of the triple indirect sector and of the times too
 abbrev pub older_gaps_are_zero : Kind → List ℕ → Bool
 older_gaps_are_zero kind s = gaps_are_zero kind s && are_zero (window s 92 36)
 
--- a directory has no more bytes than versions 1 and 2 allow
-abbrev pub is_small_directory : Kind → ℕ → Bool
-is_small_directory Free size = true
-is_small_directory File size = true
-is_small_directory Directory size = nat_le size OLDER_DIRECTORY_SIZE
-is_small_directory Link size = true
+-- it has no more bytes than versions 1 and 2 allow
+abbrev pub is_small : Kind → ℕ → Bool
+is_small Free size = true
+is_small File size = nat_le size OLDER_FILE_SIZE
+is_small Directory size = nat_le size OLDER_DIRECTORY_SIZE
+is_small Link size = true
 
 -- mode and size are in the range of the kind in versions 1 and 2
 unfoldable pub older_inode_fits : Inode → Bool
-older_inode_fits v = inode_fits v && is_small_directory v.kind v.size
+older_inode_fits v = inode_fits v && is_small v.kind v.size
 
--- that, each number fits its field, and no time is known
+-- that, each number fits its field, there is no triple indirect sector, and no time is known
 pub record FitsOlderInode (v : Inode) : Type 0 where
   pub fields : FitsInode v
   pub older : IsTrue (older_inode_fits v)
+  pub triple_indirect : get_or v.indirect 2 0 ≡ 0
   pub mtime : v.mtime ≡ 0
   pub ctime : v.ctime ≡ 0
   pub atime : v.atime ≡ 0

@@ -63,6 +63,10 @@ Loses old new v w at s = Turns old new v w at s 0
 abbrev pub with_direct : Inode → ℕ → ℕ → Inode
 with_direct v k s = record v { direct = set v.direct k s }
 
+-- the inode with s as the first sector of pointers of level `suc level`
+abbrev pub with_indirect : Inode → ℕ → ℕ → Inode
+with_indirect v level s = record v { indirect = set v.indirect level s }
+
 -- a sector of the inode bitmap, and of the block bitmap
 abbrev pub IsInodeMap : Place → ℕ → Type 0
 IsInodeMap p s = (p.inode_bitmap ≤ s) × (s < p.block_bitmap)

@@ -3,6 +3,7 @@
 use Rattle.std.specs.Prelude.{ℕ, zero, suc, ◌+◌, ◌-◌, nat_eq, nat_lt, if◌then◌else◌, count_by}
 use Rattle.std.specs.List.{range_with_len}
 use Rattle.fs_layout.specs.declared.inode.Inode.{Inode}
+use Rattle.fs_layout.specs.declared.inode.TheConstants.{POINTER_LEVELS}
 use Rattle.fs_layout.specs.Bytes.{SectorMap}
 use Rattle.fs_layout.specs.Images.{own_count, holder, number_on}
 
@@ -16,4 +17,4 @@ lacks_from image v (suc more) level first end =
 
 -- so many the blocks from `first` up to `end` lack
 abbrev pub lacks : SectorMap → Inode → ℕ → ℕ → ℕ
-lacks image v first end = lacks_from image v 3 0 first end
+lacks image v first end = lacks_from image v (suc POINTER_LEVELS) 0 first end

@@ -9,7 +9,7 @@
 use Rattle.std.specs.Prelude.{ℕ, zero, suc, ◌+◌, ◌*◌, Option, Some, None, Bool, true, false}
 use Rattle.fs_layout.specs.declared.version.Version.{Version}
 use Rattle.fs_layout.specs.declared.version.Version.TheVariants.{One, Two, Three}
-use Rattle.fs_layout.specs.declared.inode.TheConstants.{INDIRECT_END, DOUBLE_INDIRECT_END}
+use Rattle.fs_layout.specs.declared.inode.TheConstants.{INDIRECT_END, OLDER_FILE_SIZE, MAX_FILE_SIZE}
 
 abbrev pub version_number : Version → ℕ
 version_number One = 1
@@ -35,8 +35,8 @@ max_inodes Three = 1048576
 
 abbrev pub max_file_size : Version → ℕ
 max_file_size One = 512 * INDIRECT_END
-max_file_size Two = 512 * DOUBLE_INDIRECT_END
-max_file_size Three = 512 * DOUBLE_INDIRECT_END
+max_file_size Two = OLDER_FILE_SIZE
+max_file_size Three = MAX_FILE_SIZE
 
 abbrev pub max_name : Version → ℕ
 max_name One = 120

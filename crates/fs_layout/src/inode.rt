@@ -2,8 +2,8 @@
 
 ghost use Rattle.std.specs.Prelude.{◌≡◌, ◌≤◌, ◌+◌, ℕ, length, IfOk, Ok};
 ghost use Rattle.fs_layout.specs.Bytes.{SectorMap, splice, window};
-ghost use Rattle.fs_layout.specs.Images.{pointer, number_on, HasPointersAbove, number_in};
-ghost use Rattle.fs_layout.specs.Inode.{inode_bytes, inode_of, older_inode_of, inode_fits, kind_number, kind_of, fields_of, gaps_are_zero, IsInode, FitsInode, FitsOlderInode};
+ghost use Rattle.fs_layout.specs.Images.{level_end, number_on, own_count, HasPointersAbove, number_in};
+ghost use Rattle.fs_layout.specs.Inode.{inode_bytes, inode_of, older_inode_of, inode_fits, is_small, kind_number, kind_of, fields_of, gaps_are_zero, IsInode, FitsInode, FitsOlderInode};
 ghost use Rattle.fs_layout.specs.InodeTimes.{DiffersInTimes};
 
 use crate::bytes::{
@@ -21,20 +21,25 @@ pub const DIRECT_BLOCKS: u64 = 12;
 /// The block numbers that a sector of pointers has.
 pub const SECTOR_POINTERS: u64 = 128;
 
+/// The levels of sectors of pointers. Those of the first have the numbers of blocks; each level above has the numbers of the sectors of
+/// the level below. The inode names one sector of each.
+pub const POINTER_LEVELS: usize = 3;
+
 /// Where the blocks end whose numbers stand in the indirect sector.
 pub const INDIRECT_END: u64 = DIRECT_BLOCKS + SECTOR_POINTERS;
 
 /// Where the blocks end whose numbers stand in the indirect sectors that the double indirect sector lists.
 pub const DOUBLE_INDIRECT_END: u64 = INDIRECT_END + SECTOR_POINTERS * SECTOR_POINTERS;
 
-/// The most blocks of an inode, in the version that allows most.
-pub const MAX_BLOCKS: u64 = DOUBLE_INDIRECT_END;
-
-/// The bytes of the direct blocks. An inode of at most so many has no indirect sector.
-pub const DIRECT_SIZE: u64 = 512 * DIRECT_BLOCKS;
+/// The most blocks of an inode, in the version that allows most: they end where those end that are found by the triple indirect sector.
+pub const MAX_BLOCKS: u64 = DOUBLE_INDIRECT_END
+    + SECTOR_POINTERS * SECTOR_POINTERS * SECTOR_POINTERS;
 
 /// The most bytes of a file, in the version that allows most.
 pub const MAX_FILE_SIZE: u64 = 512 * MAX_BLOCKS;
+
+/// The most bytes of a file in versions 1 and 2.
+pub const OLDER_FILE_SIZE: u64 = 512 * DOUBLE_INDIRECT_END;
 
 /// The most bytes of a directory, in the version that allows most.
 pub const MAX_DIRECTORY_SIZE: u64 = 8388608;
@@ -53,6 +58,13 @@ pub const S_ISVTX: u16 = 0o1000;
 
 /// The bit of a directory's mode that gives its group to what is made in it (set-group-ID).
 pub const S_ISGID: u16 = 0o2000;
+
+/// How many numbers of a level stand in the inode. Level 0 are its blocks, the levels above those of sectors of pointers.
+pub fn own_count(level: usize) -> u64
+    ensures { result ≡ own_count level }
+{
+    if level == 0 { DIRECT_BLOCKS } else { 1 }
+}
 
 /// What an inode is: nothing yet, or a node of the tree.
 #[derive(Clone, Copy, Debug, PartialEq, Eq)]
@@ -83,9 +95,18 @@ impl Kind {
     {
         match self {
             Kind::Free => are_zero(from),
-            Kind::File | Kind::Directory | Kind::Link => {
-                are_zero(&from[92..96]) && are_zero(&from[120..128])
-            }
+            Kind::File | Kind::Directory | Kind::Link => { are_zero(&from[120..128]) }
+        }
+    }
+
+    // In versions 1 and 2 an inode of this kind may have so many bytes.
+    fn is_small(self, size: u64) -> bool
+        ensures { result ≡ is_small self size }
+    {
+        match self {
+            Kind::File => size <= OLDER_FILE_SIZE,
+            Kind::Directory => size <= OLDER_DIRECTORY_SIZE,
+            Kind::Free | Kind::Link => true,
         }
     }
 
@@ -127,10 +148,10 @@ pub struct Inode {
     pub default_acl: u32,
     /// The sectors of the first [`DIRECT_BLOCKS`] blocks; 0 is a hole.
     pub direct: [u32; DIRECT_BLOCKS as usize],
-    /// The sector that lists the sectors of the next [`SECTOR_POINTERS`] blocks, or 0: none of them is there.
-    pub indirect: u32,
-    /// The sector that lists [`SECTOR_POINTERS`] such sectors, for the blocks from [`INDIRECT_END`] on, or 0.
-    pub double_indirect: u32,
+    /// The sector of pointers that is the first of each level, or 0: it isn't there. By the indirect one the next
+    /// [`SECTOR_POINTERS`] blocks are found, by the double indirect one those up to [`DOUBLE_INDIRECT_END`], by the triple
+    /// indirect one those up to [`MAX_BLOCKS`].
+    pub indirect: [u32; POINTER_LEVELS],
     /// When the bytes of a file, or the names of a directory, last changed.
     pub mtime: u64,
     /// When anything of the inode last changed.
@@ -152,8 +173,7 @@ impl Inode {
         acl: 0,
         default_acl: 0,
         direct: [0; DIRECT_BLOCKS as usize],
-        indirect: 0,
-        double_indirect: 0,
+        indirect: [0; POINTER_LEVELS],
         mtime: 0,
         ctime: 0,
         atime: 0,
@@ -187,9 +207,7 @@ impl Inode {
         put_u32(to, 28, self.acl);
         put_u32(to, 32, self.default_acl);
         put_u32s(to, 36, &self.direct);
-        put_u32(to, 84, self.indirect);
-        put_u32(to, 88, self.double_indirect);
-        put_zeros(to, 92, 4);
+        put_u32s(to, 84, &self.indirect);
         put_u64(to, 96, self.mtime);
         put_u64(to, 104, self.ctime);
         put_u64(to, 112, self.atime);
@@ -203,6 +221,8 @@ impl Inode {
     {
         let mut direct = [0; DIRECT_BLOCKS as usize];
         get_u32s(from, 36, &mut direct);
+        let mut indirect = [0; POINTER_LEVELS];
+        get_u32s(from, 84, &mut indirect);
         Inode {
             kind,
             mode: u16_at(from, 2),
@@ -214,8 +234,7 @@ impl Inode {
             acl: u32_at(from, 28),
             default_acl: u32_at(from, 32),
             direct,
-            indirect: u32_at(from, 84),
-            double_indirect: u32_at(from, 88),
+            indirect,
             mtime: u64_at(from, 96),
             ctime: u64_at(from, 104),
             atime: u64_at(from, 112),
@@ -240,13 +259,15 @@ impl Inode {
         Ok(inode)
     }
 
-    // As `get` in versions 1 and 2, where no inode has times. The size's range comes before the zeros.
+    // As `get` in versions 1 and 2, where inodes are smaller and have no times. The size's range comes before the zeros.
     fn get_older(from: &[u8]) -> Result<Inode, LayoutFault>
         requires { length from.now ≡ INODE_SIZE }
         ensures { result ≡ older_inode_of from.now }
     {
-        let is_directory = u16_at(from, 0) == 2;
-        if is_directory && u64_at(from, 16) > OLDER_DIRECTORY_SIZE {
+        let Some(kind) = Kind::of_number(u16_at(from, 0)) else {
+            return Err(LayoutFault::BadKind);
+        };
+        if !kind.is_small(u64_at(from, 16)) {
             return Err(LayoutFault::BadNumber);
         }
         let inode = Inode::get(from)?;
@@ -256,18 +277,23 @@ impl Inode {
         Ok(inode)
     }
 
-    /// Where the blocks end that the inode can have, by which sectors of pointers it has.
-    pub fn block_end(&self) -> u64
-        ensures most { result ≤ MAX_BLOCKS }
-        ensures past { (image : SectorMap) (k : ℕ) → result ≤ k → pointer image self.now k ≡ 0 }
+    /// Where the numbers of a level end that the inode can have, by which sectors of pointers it names. Level 0 are its blocks.
+    pub fn number_end(&self, level: usize) -> u64
+        requires { level ≤ POINTER_LEVELS + 1 }
+        ensures most { result ≤ level_end level }
+        ensures past { (image : SectorMap) (i : ℕ) → result ≤ i → number_on image self.now level i ≡ 0 }
     {
-        if self.double_indirect != 0 {
-            DOUBLE_INDIRECT_END
-        } else if self.indirect != 0 {
-            INDIRECT_END
-        } else {
-            DIRECT_BLOCKS
+        if level > POINTER_LEVELS {
+            return 0;
         }
+        let listed = SECTOR_POINTERS * self.number_end(level + 1);
+        if level == 0 {
+            return DIRECT_BLOCKS + listed;
+        }
+        if listed == 0 && self.indirect[level - 1] == 0 {
+            return 0;
+        }
+        1 + listed
     }
 
     #[tactic(auto, unfolding(crate::specs::Images::number_in))]
@@ -284,11 +310,7 @@ impl Inode {
             );
         }
         if i == 0 {
-            return match level {
-                1 => self.indirect,
-                2 => self.double_indirect,
-                _ => 0,
-            };
+            return self.indirect.get(level - 1).copied().unwrap_or(0);
         }
         u32_at(content, 4 * ((i - 1) % SECTOR_POINTERS) as usize)
     }

@@ -20,9 +20,9 @@ pub use header::{
     LEAST_LOG_END, MAX_HEADER, area_start, header_of, log_end, max_targets, other_area,
 };
 pub use inode::{
-    DIRECT_BLOCKS, DIRECT_SIZE, DOUBLE_INDIRECT_END, INDIRECT_END, INODE_SIZE, Inode, Kind,
-    MAX_BLOCKS, MAX_DIRECTORY_SIZE, MAX_FILE_SIZE, MAX_INODE_NAMES, MAX_LINK_SIZE,
-    OLDER_DIRECTORY_SIZE, S_ISGID, S_ISVTX, SECTOR_POINTERS,
+    DIRECT_BLOCKS, DOUBLE_INDIRECT_END, INDIRECT_END, INODE_SIZE, Inode, Kind, MAX_BLOCKS,
+    MAX_DIRECTORY_SIZE, MAX_FILE_SIZE, MAX_INODE_NAMES, MAX_LINK_SIZE, OLDER_DIRECTORY_SIZE,
+    OLDER_FILE_SIZE, POINTER_LEVELS, S_ISGID, S_ISVTX, SECTOR_POINTERS, own_count,
 };
 pub use laws::{
     consistency_rests_on_used_sectors, maps_have_entries, names_fit_their_slots,

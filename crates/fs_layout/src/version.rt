@@ -3,7 +3,7 @@
 ghost use Rattle.std.specs.Prelude.{◌≡◌};
 ghost use Rattle.fs_layout.specs.Version.{version_number, version_of, max_sectors, max_inodes, max_file_size, max_name, max_names, max_inode_names, slot_size, block_slots, max_directory_size, keeps_times};
 
-use crate::inode::{DOUBLE_INDIRECT_END, INDIRECT_END};
+use crate::inode::{INDIRECT_END, MAX_FILE_SIZE, OLDER_FILE_SIZE};
 
 /// A version of the layout. It says how many blocks a file may have, how long a name may be, and how many names a directory, a file
 /// and a link may have.
@@ -13,7 +13,8 @@ pub enum Version {
     One,
     /// Those, and those of one double indirect sector.
     Two,
-    /// As many; longer names, and more of them, on larger disks, and times of each inode. No older one is upgraded to it.
+    /// Those, and those of one triple indirect sector; longer names, and more of them, on larger disks, and times of each inode. No
+    /// older one is upgraded to it.
     Three,
 }
 
@@ -67,7 +68,8 @@ impl Version {
     {
         match self {
             Version::One => 512 * INDIRECT_END,
-            Version::Two | Version::Three => 512 * DOUBLE_INDIRECT_END,
+            Version::Two => OLDER_FILE_SIZE,
+            Version::Three => MAX_FILE_SIZE,
         }
     }
 

@@ -40,7 +40,7 @@ root_fits : FitsInode root_inode
 root_fits = made_fits (λ e. cc) refl (omega arith) (omega arith) (omega arith) (omega arith)
 
 root_has_no_sector : HasNoSector root_inode
-root_has_no_sector = record { acl = refl; default_acl = refl; direct = free_has_no_sector.direct; indirect = refl; double_indirect = refl }
+root_has_no_sector = record { acl = refl; default_acl = refl; direct = free_has_no_sector.direct; indirect = free_has_no_sector.indirect }
 
 -- ---- the tree
 

@@ -16,7 +16,7 @@ use Rattle.fs_layout.specs.Bytes.{IsBytes, SectorMap, le16, le32, zeros}
 use Rattle.fs_layout.specs.Inode.{free_inode}
 use Rattle.fs_layout.specs.AclSector.{entries_bytes, acl_content}
 use Rattle.fs_layout.specs.Images.{pointer, byte_in, byte_at, Holds, HasNoHole}
-use Rattle.fs_layout.proofs.Pointers.{pointer_direct, pointer_without, trims_small}
+use Rattle.fs_layout.proofs.Pointers.{pointer_direct, pointer_without, trims_direct}
 use Rattle.fs_layout.proofs.SplicedBytes.{get_or-zeros}
 use Rattle.fs_model.specs.Nodes.{File, Dir, Link, Directory, no_stamps}
 use Rattle.fs_layout.specs.Directories.{HaveDistinctNames, slots_bytes, names_of_slots, NamedInode, FitsSlot}
@@ -26,28 +26,30 @@ use Rattle.fs_model.proofs.NodesHeld.{node_held}
 -- the inode has one block, with these bytes and zeros behind them
 record HasOneBlock (image : SectorMap) (v : Inode) (s : ℕ) (bytes : List ℕ) : Type 0 where
   direct : v.direct ≡ s ∷ zeros 11
-  indirect : v.indirect ≡ 0
-  double_indirect : v.double_indirect ≡ 0
+  indirect : v.indirect ≡ zeros 3
   some : s ≢ 0
   content : image s ≡ bytes ++ zeros (512 - length bytes)
   size : v.size ≡ length bytes
   full : 0 < length bytes
   room : length bytes ≤ 512
 
-one_block : (image : SectorMap) (v : Inode) (s : ℕ) (bytes : List ℕ) → v.direct ≡ s ∷ zeros 11 → v.indirect ≡ 0 → v.double_indirect ≡ 0 → s ≢ 0
+one_block : (image : SectorMap) (v : Inode) (s : ℕ) (bytes : List ℕ) → v.direct ≡ s ∷ zeros 11 → v.indirect ≡ zeros 3 → s ≢ 0
     → image s ≡ bytes ++ zeros (512 - length bytes) → v.size ≡ length bytes → 0 < length bytes → length bytes ≤ 512
     → HasOneBlock image v s bytes
-one_block image v s bytes direct indirect double_indirect some content size full room =
-    record { direct = direct; indirect = indirect; double_indirect = double_indirect; some = some; content = content; size = size; full = full; room = room }
+one_block image v s bytes direct indirect some content size full room =
+    record { direct = direct; indirect = indirect; some = some; content = content; size = size; full = full; room = room }
 
 module _ (image : SectorMap) (v : Inode) (s : ℕ) (bytes : List ℕ) (h : HasOneBlock image v s bytes) where
   first : pointer image v 0 ≡ s
   first = pointer_direct image v 0 (omega arith) ∙ ap (λ d. get_or d 0 0) h.direct
 
+  none_named : (level : ℕ) → get_or v.indirect level 0 ≡ 0
+  none_named level = ap (λ xs. get_or xs level 0) h.indirect ∙ get_or-zeros 3 level
+
   others : (k : ℕ) → pointer image v (suc k) ≡ 0
   others k = elim (cases_lt (suc k) 12) [
     | inl lt ↦ pointer_direct image v (suc k) lt ∙ ap (λ d. get_or d (suc k) 0) h.direct ∙ get_or-zeros 11 k
-    | inr ge ↦ pointer_without image v (suc k) ge h.indirect h.double_indirect
+    | inr ge ↦ pointer_without image v (suc k) ge none_named
   ]
 
   in_sector : (t i : ℕ) (x : List ℕ) → t ≢ 0 → image t ≡ x → byte_in image t i ≡ get_or x i 0
@@ -79,7 +81,7 @@ module _ (image : SectorMap) (v : Inode) (s : ℕ) (bytes : List ℕ) (h : HasOn
   one_block_holds = record {
     size = h.size;
     byte = byte;
-    trim = trims_small image v trim (λ le. h.indirect) h.double_indirect;
+    trim = trims_direct image v trim none_named;
   }
     where
       trim : (k : ℕ) → v.size ≤ 512 * k → pointer image v k ≡ 0
@@ -150,7 +152,7 @@ unfolding stamps_in file_inode with_block acl image acl_sector file_block acl_co
 a_file_with_an_acl = node_held One image file_inode _ refl refl refl refl refl refl (record {
   kind = refl;
   holds = one_block_holds image file_inode 147 (codes "hello")
-      (one_block image file_inode 147 (codes "hello") refl refl refl (λ e. omega (arith, e)) refl refl (omega arith) (omega arith));
+      (one_block image file_inode 147 (codes "hello") refl refl (λ e. omega (arith, e)) refl refl (omega arith) (omega arith));
   acl = acl_is_valid;
   has_acl = (λ e. omega (arith, e), refl);
   no_default = refl;
@@ -206,7 +208,7 @@ slots_fit =
 
 directory_has_a_block : HasOneBlock image directory_inode 149 (slots_bytes One slots)
 unfolding directory_inode with_block image slots_block le32 zeros
-directory_has_a_block = one_block image directory_inode 149 (slots_bytes One slots) refl refl refl (λ e. omega (arith, e)) refl refl (omega arith) (omega arith)
+directory_has_a_block = one_block image directory_inode 149 (slots_bytes One slots) refl refl (λ e. omega (arith, e)) refl refl (omega arith) (omega arith)
 
 abbrev two_names : Directory
 two_names = record { names = (codes "a", 2) ∷ (codes "b", 3) ∷ []; default = None; set_group_id = true; sticky = true }
@@ -234,7 +236,7 @@ a_directory_with_two_names = node_held One image directory_inode _ refl refl ref
 
 link_has_a_block : HasOneBlock image link_inode 150 (codes "a")
 unfolding link_inode with_block image target_block zeros
-link_has_a_block = one_block image link_inode 150 (codes "a") refl refl refl (λ e. omega (arith, e)) refl refl (omega arith) (omega arith)
+link_has_a_block = one_block image link_inode 150 (codes "a") refl refl (λ e. omega (arith, e)) refl refl (omega arith) (omega arith)
 
 a_link_with_two_names : HoldsNode One image link_inode (record { node = record { owner = 0; group = 0; body = Link (codes "a"); stamps = no_stamps }; names = 2; parent = 1 })
 unfolding stamps_in link_inode with_block zeros

@@ -14,13 +14,14 @@ use Rattle.fs_layout.specs.declared.inode.Inode.{Inode}
 use Rattle.fs_layout.specs.declared.version.Version.{Version}
 use Rattle.fs_layout.specs.declared.place.Place.{Place}
 use Rattle.fs_layout.specs.Bytes.{SectorMap, u16_of}
-use Rattle.fs_layout.specs.Inode.{free_inode, inode_fits}
+use Rattle.fs_layout.specs.Inode.{FitsInode, free_inode}
 use Rattle.fs_layout.specs.AclSector.{acl_sector_of, acl_content, HoldsAcl}
 use Rattle.fs_layout.specs.Images.{inode_map_bits, stored, inode_at, pointer, Holds, HasNoHole}
 use Rattle.fs_layout.proofs.AclSectorLaw.{acl_sector_codec}
 use Rattle.fs_layout.proofs.Free.{free_has_no_sector, holds_nothing, inode_fits_there}
 use Rattle.fs_layout.proofs.Parts.{owns_block}
-use Rattle.fs_layout.proofs.Pointers.{trimmed_double}
+use Rattle.fs_layout.proofs.Pointers.{trimmed_named}
+use Rattle.fs_layout.proofs.Versions.{file_bounds, file_least}
 use Rattle.fs_layout.specs.Version.{max_file_size, max_inode_names, max_directory_size, slot_size, keeps_times}
 use Rattle.fs_model.specs.Limits.{root}
 use Rattle.fs_layout.specs.Maps.{name_cmp, get}
@@ -39,7 +40,7 @@ use Rattle.fs_model.proofs.KindFields.{kind_field}
 use Rattle.fs_model.proofs.Marks.{marks}
 use Rattle.fs_layout.proofs.ImageSlots.{length-slots, slot_is, count_is}
 use Rattle.fs_layout.proofs.SlotSizes.{slots_most}
-use Rattle.fs_model.proofs.VersionLimits.{slots_even, directory_low}
+use Rattle.fs_model.proofs.VersionLimits.{slots_even}
 use Rattle.fs_model.proofs.StoredTrees.{StoresAt, Stores, unnamed, names_there, names_are_slots, used_is, directory_there, directory_stored, below_if}
 
 -- ---- one inode
@@ -146,14 +147,14 @@ its_parent version m v (Link target) parent h e k = absurd (let c : kinds.Link �
 
 -- what a version allows
 body_allowed : (version : Version) (room : Room) → room.file_limit ≡ max_file_size version
-    → (t : Tree) (m : SectorMap) (v : Inode) (b : Body) → HoldsBody version m v b → IsBody room t b → IsTrue (inode_fits v)
+    → (t : Tree) (m : SectorMap) (v : Inode) (b : Body) → HoldsBody version m v b → IsBody room t b → FitsInode v
     → (IsFalse (keeps_times version) → stamps_in v ≡ no_stamps) → IsAllowed version v
 body_allowed version room same t m v (File a bytes) h is fits none =
     let size = h.holds.size in
     let few = is.1 in
     record {
       size = λ e. omega (arith, size, few, same);
-      double_indirect = λ low. trimmed_double m v h.holds.trim (omega (arith, size, few, same, low));
+      indirect = λ level low. trimmed_named m v fits.indirect_len h.holds.trim level (omega (arith, size, few, same, low));
       directory = λ e. absurd (let c : kinds.File ≡ kinds.Directory = sym h.kind ∙ e in cc);
       slots = λ e. absurd (let c : kinds.File ≡ kinds.Directory = sym h.kind ∙ e in cc);
       stamps = none;
@@ -164,16 +165,16 @@ body_allowed version room same t m v (Dir a d) h is fits none =
     let few : v.size ≤ max_directory_size version = subst (λ q. q ≤ max_directory_size version) (sym size) (slots_most version (length n.slots) n.few) in
     record {
       size = λ e. absurd (let c : kinds.Directory ≡ kinds.File = sym h.names.kind ∙ e in cc);
-      double_indirect = λ low. trimmed_double m v n.holds.trim (let most = directory_low version low in omega (arith, few, most));
+      indirect = λ level low. trimmed_named m v fits.indirect_len n.holds.trim level (let most = (file_bounds version).0 in omega (arith, few, most, low));
       directory = λ e. few;
       slots = λ e. slots_even version (length n.slots) v.size size;
       stamps = none;
     }
 body_allowed version room same t m v (Link target) h is fits none =
-    let few = (link_fits v h.kind fits).2 in
+    let few = (link_fits v h.kind fits.valid.numbers).2 in
     record {
       size = λ e. absurd (let c : kinds.Link ≡ kinds.File = sym h.kind ∙ e in cc);
-      double_indirect = λ low. trimmed_double m v h.holds.trim (omega (arith, few));
+      indirect = λ level low. trimmed_named m v fits.indirect_len h.holds.trim level (let least = file_least version in omega (arith, few, least, low));
       directory = λ e. absurd (let c : kinds.Link ≡ kinds.Directory = sym h.kind ∙ e in cc);
       slots = λ e. absurd (let c : kinds.Link ≡ kinds.Directory = sym h.kind ∙ e in cc);
       stamps = none;
@@ -182,7 +183,7 @@ body_allowed version room same t m v (Link target) h is fits none =
 free_allowed : (version : Version) → IsAllowed version free_inode
 free_allowed version = record {
   size = λ e. absurd (let c : kinds.Free ≡ kinds.File = e in cc);
-  double_indirect = λ low. refl;
+  indirect = λ level low. free_has_no_sector.indirect level;
   directory = λ e. absurd (let c : kinds.Free ≡ kinds.Directory = e in cc);
   slots = λ e. absurd (let c : kinds.Free ≡ kinds.Directory = e in cc);
   stamps = λ less. free_stamps;
@@ -230,7 +231,7 @@ module _ (p : Place) (m : SectorMap) (t : Tree) (held : HoldsAll p m (placed t))
     is = held.consistent.valid n lt;
     allowed = by_node (λ q. IsAllowed p.version (inode_at p m q)) n lt
         (λ free. subst (IsAllowed p.version) (sym free) (free_allowed p.version))
-        (λ node at h. body_allowed p.version (room_of p) refl t m (inode_at p m n) node.body h.body (is.each n node at).body (inode_fits_there held.consistent n lt).valid.numbers
+        (λ node at h. body_allowed p.version (room_of p) refl t m (inode_at p m n) node.body h.body (is.each n node at).body (inode_fits_there held.consistent n lt)
         (λ less. h.stamps ∙ (is.each n node at).stamps.none less));
     none = λ e. by_node (λ q. (inode_at p m q).kind ≡ kinds.Free) n lt (λ free. ap (λ (v : Inode). v.kind) free)
         (λ node at h. absurd (let positive = (is.each n node at).positive in omega (arith, positive, e)));

@@ -23,7 +23,7 @@ use Rattle.fs_layout.proofs.ImageSlots.{length-slots}
 use Rattle.fs_layout.proofs.Pointers.{no_number_on}
 use Rattle.fs_layout.proofs.SlotNames.{length-names}
 use Rattle.fs_model.specs.Limits.{target_limit}
-use Rattle.fs_model.specs.Nodes.{Node, Body, File, Dir, Link, target_in, sectors_above, sectors_for, sectors_of}
+use Rattle.fs_model.specs.Nodes.{Node, Body, File, Dir, Link, target_in, numbers_for, sectors_for, sectors_of}
 use Rattle.fs_model.specs.Trees.{Tree, Room, node_at, names_of, parent, sectors_needed, IsBody, IsTree}
 use Rattle.fs_model.specs.States.{MayBeFree}
 use Rattle.fs_layout.specs.Directories.{slots_bytes}
@@ -63,25 +63,25 @@ in_numbers image v level (suc n) i lt = elim (cases_eq i n) [
   | inr ne ↦ inr (in_numbers image v level n i (omega arith))
 ]
 
--- how many numbers of a level so many bytes need
-abbrev count_on : ℕ → ℕ → ℕ
-count_on zero size = (size + 511) / 512
-count_on (suc level) size = sectors_above level (count_on level size)
-
 -- of so many bytes: the blocks, the sectors of pointers to them, and those to these
-content : SectorMap → Inode → ℕ → List ℕ
-content image v size =
-    numbers image v 0 (count_on 0 size) ++ (numbers image v 1 (count_on 1 size) ++ numbers image v 2 (count_on 2 size))
+module _ (image : SectorMap) (v : Inode) (size : ℕ) where
+  needed : ℕ → List ℕ
+  needed level = numbers image v level (numbers_for level size)
 
-length-content : (image : SectorMap) (v : Inode) (size : ℕ) → length (content image v size) ≡ sectors_for size
-unfolding content
-length-content image v size =
-    let a = length-append (numbers image v 0 (count_on 0 size)) (numbers image v 1 (count_on 1 size) ++ numbers image v 2 (count_on 2 size)) in
-    let b = length-append (numbers image v 1 (count_on 1 size)) (numbers image v 2 (count_on 2 size)) in
-    let c = length-numbers image v 0 (count_on 0 size) in
-    let d = length-numbers image v 1 (count_on 1 size) in
-    let e = length-numbers image v 2 (count_on 2 size) in
-    omega (arith, a, b, c, d, e)
+  content : List ℕ
+  content = needed 0 ++ (needed 1 ++ (needed 2 ++ needed 3))
+
+  length-content : length content ≡ sectors_for size
+  unfolding content needed
+  length-content =
+      let a = length-append (needed 0) (needed 1 ++ (needed 2 ++ needed 3)) in
+      let b = length-append (needed 1) (needed 2 ++ needed 3) in
+      let c = length-append (needed 2) (needed 3) in
+      let n0 = length-numbers image v 0 (numbers_for 0 size) in
+      let n1 = length-numbers image v 1 (numbers_for 1 size) in
+      let n2 = length-numbers image v 2 (numbers_for 2 size) in
+      let n3 = length-numbers image v 3 (numbers_for 3 size) in
+      omega (arith, a, b, c, n0, n1, n2, n3)
 
 abbrev taken : ℕ → SectorMap → Inode → Body → List ℕ
 taken slot image v (File a bytes) = content image v (length bytes) ++ only (is_extended a) v.acl
@@ -108,19 +108,21 @@ length-taken slot image v (Link target) = refl
 -- a number by which a block below the size is found
 in_content : (image : SectorMap) (v : Inode) (size level i : ℕ) → 512 * first_block level i < size → number_on image v level i ≢ 0
     → Names (content image v size) (number_on image v level i)
-unfolding content
+unfolding content needed
 in_content image v size zero i lt some =
-    in_first (numbers image v 0 (count_on 0 size)) (numbers image v 1 (count_on 1 size) ++ numbers image v 2 (count_on 2 size)) (number_on image v 0 i)
-    (in_numbers image v 0 (count_on 0 size) i (omega (arith, lt)))
+    in_first (needed image v size 0) _ (number_on image v 0 i) (in_numbers image v 0 (numbers_for 0 size) i (omega (arith, lt)))
 in_content image v size (suc zero) i lt some =
-    in_second (numbers image v 0 (count_on 0 size)) (numbers image v 1 (count_on 1 size) ++ numbers image v 2 (count_on 2 size)) (number_on image v 1 i)
-    (in_first (numbers image v 1 (count_on 1 size)) (numbers image v 2 (count_on 2 size)) (number_on image v 1 i)
-    (in_numbers image v 1 (count_on 1 size) i (omega (arith, lt))))
+    in_second (needed image v size 0) _ (number_on image v 1 i)
+    (in_first (needed image v size 1) _ (number_on image v 1 i) (in_numbers image v 1 (numbers_for 1 size) i (omega (arith, lt))))
 in_content image v size (suc (suc zero)) i lt some =
-    in_second (numbers image v 0 (count_on 0 size)) (numbers image v 1 (count_on 1 size) ++ numbers image v 2 (count_on 2 size)) (number_on image v 2 i)
-    (in_second (numbers image v 1 (count_on 1 size)) (numbers image v 2 (count_on 2 size)) (number_on image v 2 i)
-    (in_numbers image v 2 (count_on 2 size) i (omega (arith, lt))))
-in_content image v size (suc (suc (suc level))) i lt some = absurd (some (no_number_on image v level i))
+    in_second (needed image v size 0) _ (number_on image v 2 i)
+    (in_second (needed image v size 1) _ (number_on image v 2 i)
+    (in_first (needed image v size 2) _ (number_on image v 2 i) (in_numbers image v 2 (numbers_for 2 size) i (omega (arith, lt)))))
+in_content image v size (suc (suc (suc zero))) i lt some =
+    in_second (needed image v size 0) _ (number_on image v 3 i)
+    (in_second (needed image v size 1) _ (number_on image v 3 i)
+    (in_second (needed image v size 2) (needed image v size 3) (number_on image v 3 i) (in_numbers image v 3 (numbers_for 3 size) i (omega (arith, lt)))))
+in_content image v size (suc (suc (suc (suc level)))) i lt some = absurd (some (no_number_on image v level i))
 
 acl_is_extended : (image : SectorMap) (s : ℕ) (a : AccessList) → HoldsAcl image s (kept_acl a) → s ≢ 0 → is_extended a ≡ true
 acl_is_extended image s a h some = go (is_extended a) refl h
@@ -153,7 +155,8 @@ module _ (image : SectorMap) (v : Inode) where
   ]
   in_link bytes h short (suc zero) i some = absurd (some (h.trim 1 i (let size = h.size in omega (arith, size, short))))
   in_link bytes h short (suc (suc zero)) i some = absurd (some (h.trim 2 i (let size = h.size in omega (arith, size, short))))
-  in_link bytes h short (suc (suc (suc level))) i some = absurd (some (no_number_on image v level i))
+  in_link bytes h short (suc (suc (suc zero))) i some = absurd (some (h.trim 3 i (let size = h.size in omega (arith, size, short))))
+  in_link bytes h short (suc (suc (suc (suc level)))) i some = absurd (some (no_number_on image v level i))
 
   part_taken : (version : Version) (b : Body) → HoldsBody version image v b → length (target_in b) ≤ target_limit → (at : Part)
       → part image v at ≢ 0 → Names (taken (slot_size version) image v b) (part image v at)

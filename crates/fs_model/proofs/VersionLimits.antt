@@ -2,12 +2,11 @@
 use Rattle.std.specs.Prelude.{List, ◌∷◌, ◌++◌, ◌-◌, length}
 use Rattle.std.proofs.Common.{◌≡◌, ℕ, ◌*◌, ◌/◌, ◌%◌, ◌≤◌, refl, ap, arith}
 use Rattle.std.specs.List.{flat_map}
-use Rattle.fs_layout.specs.declared.inode.TheConstants.{INDIRECT_END}
 use Rattle.fs_layout.specs.declared.version.Version.{Version}
 use Rattle.fs_layout.specs.declared.version.Version.TheVariants.{One, Two, Three}
 use Rattle.fs_layout.specs.Place.{allows_header}
 use Rattle.fs_layout.specs.Superblock.{numbers_end}
-use Rattle.fs_layout.specs.Version.{max_sectors, max_inodes, max_file_size, max_name, max_names, max_inode_names, slot_size, max_directory_size, keeps_times}
+use Rattle.fs_layout.specs.Version.{max_sectors, max_inodes, max_name, max_names, max_inode_names, slot_size, max_directory_size, keeps_times}
 use Rattle.fs_layout.specs.Bytes.{le32, zeros}
 use Rattle.fs_layout.specs.Directories.{NamedInode, slots_bytes}
 
@@ -79,9 +78,3 @@ pub slots_even : (version : Version) (n size : ℕ) → size ≡ slot_size versi
 slots_even One n size is = omega (arith, is)
 slots_even Two n size is = omega (arith, is)
 slots_even Three n size is = omega (arith, is)
-
--- where no file reaches past the blocks of the indirect sector, no directory does
-pub directory_low : (version : Version) → max_file_size version ≤ 512 * INDIRECT_END → max_directory_size version ≤ 512 * INDIRECT_END
-directory_low One low = omega arith
-directory_low Two low = absurd (omega (arith, low))
-directory_low Three low = absurd (omega (arith, low))

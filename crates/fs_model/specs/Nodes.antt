@@ -7,7 +7,7 @@
 --     accessed        what an access decision reads of it
 --     type_of, shown_mode, shown_size        what stat(2) shows of it
 --     sectors_of        the sectors that it takes, without holes
-use Rattle.std.specs.Prelude.{ℕ, ◌+◌, ◌-◌, ◌*◌, ◌/◌, Bool, true, false, List, [], length, if◌then◌else◌, Option, None, Some, is_some, unwrap_or}
+use Rattle.std.specs.Prelude.{ℕ, zero, suc, ◌+◌, ◌-◌, ◌*◌, ◌/◌, Bool, true, false, List, [], length, if◌then◌else◌, Option, None, Some, is_some, unwrap_or}
 use Rattle.posix_acl.specs.AccessList.{AccessList, is_extended, mode_bits}
 use Rattle.fs_cred.specs.declared.node.Node.{Node as AccessNode}
 use Rattle.fs_cred.specs.declared.node.NodeKind.TheVariants.{File as FileKind, Directory as DirectoryKind}
@@ -120,16 +120,15 @@ shown_size (File _ bytes) = length bytes
 shown_size (Dir _ d) = SLOT_SIZE * length d.names
 shown_size (Link target) = length target
 
--- the sectors of pointers that so many numbers of a level take, without holes: the first stand in the inode
-abbrev pub sectors_above : ℕ → ℕ → ℕ
-sectors_above level count = (count - own_count level + (SECTOR_POINTERS - 1)) / SECTOR_POINTERS
+-- how many numbers of a level so many bytes need without holes: a block for 512 bytes; and a sector of pointers for as many numbers of
+-- the level below as it has, but the first stand in the inode
+abbrev pub numbers_for : ℕ → ℕ → ℕ
+numbers_for zero bytes = (bytes + 511) / 512
+numbers_for (suc level) bytes = (numbers_for level bytes - own_count level + (SECTOR_POINTERS - 1)) / SECTOR_POINTERS
 
--- sectors of so many bytes without holes: the blocks, the sectors of pointers to them, and those to these
+-- sectors of so many bytes without holes: the blocks, and three levels of sectors of pointers
 abbrev pub sectors_for : ℕ → ℕ
-sectors_for bytes =
-    let blocks = (bytes + 511) / 512 in
-    let pointers = sectors_above 0 blocks in
-    blocks + (pointers + sectors_above 1 pointers)
+sectors_for bytes = numbers_for 0 bytes + (numbers_for 1 bytes + (numbers_for 2 bytes + numbers_for 3 bytes))
 
 -- an ACL that is more than mode bits takes a sector
 abbrev pub acl_sectors : AccessList → ℕ

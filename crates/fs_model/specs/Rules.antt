@@ -6,14 +6,13 @@
 --     Obeys        an image obeys a rule at a number
 --     ObeysAll, ObeysBefore        all rules at each number; those with a lower number than k
 --     IsFinding        the first rule that fails, at its least number
-use Rattle.std.specs.Prelude.{◌≡◌, ◌≢◌, ℕ, ◌*◌, ◌%◌, ◌<◌, ◌≤◌, ◌==◌, nat_eq, nat_lt, nat_le, Bool, true, false, not, ◌||◌, List, if◌then◌else◌, Some, Ok, IsTrue, IsFalse, count_by, sum_by, ◌⊎◌, ◌↔◌}
+use Rattle.std.specs.Prelude.{◌≡◌, ◌≢◌, ℕ, suc, ◌*◌, ◌%◌, ◌<◌, ◌≤◌, ◌==◌, nat_eq, nat_lt, nat_le, Bool, true, false, not, ◌||◌, List, get_or, if◌then◌else◌, Some, Ok, IsTrue, IsFalse, count_by, sum_by, ◌⊎◌, ◌↔◌}
 use Rattle.std.specs.List.{range_with_len}
 use Rattle.posix_acl.specs.AccessList.{AccessList, IsAcl, is_extended, list_numbers, mode_bits}
 use Rattle.fs_layout.specs.declared.superblock.Super.{Super}
 use Rattle.fs_layout.specs.declared.inode.Kind.{Kind}
 use Rattle.fs_layout.specs.declared.inode.Kind.TheVariants as kinds
 use Rattle.fs_layout.specs.declared.version.Version.{Version}
-use Rattle.fs_layout.specs.declared.inode.TheConstants.{INDIRECT_END}
 use Rattle.fs_layout.specs.declared.inode.Inode.{Inode}
 use Rattle.fs_layout.specs.declared.place.Place.{Place}
 use Rattle.fs_layout.specs.Bytes.{SectorMap, IsSector, u16_of}
@@ -24,7 +23,7 @@ use Rattle.fs_layout.specs.AclSector.{acl_sector_of}
 use Rattle.fs_layout.specs.Directories.{slot_count, stored_slot, slot_at, slot_of}
 use Rattle.fs_layout.specs.Place.{place_in}
 use Rattle.fs_layout.specs.Version.{max_file_size, max_inode_names, max_directory_size, slot_size, keeps_times}
-use Rattle.fs_layout.specs.Images.{bit, inode_map_bits, map_bits, IsData, stored, inode_at, Owns, byte_at, IsTrimmed, HasNoHole}
+use Rattle.fs_layout.specs.Images.{bit, inode_map_bits, map_bits, IsData, stored, inode_at, Owns, byte_at, first_block, IsTrimmed, HasNoHole}
 use Rattle.fs_layout.specs.Ownership.{IsOwned}
 use Rattle.fs_layout.specs.Recovered.{recovered}
 use Rattle.fs_model.specs.Limits.{root}
@@ -67,11 +66,11 @@ namings p m n = sum_by (λ d. namings_in p.version m (inode_at p m d) n) (range_
 abbrev pub IsBit : Place → SectorMap → ℕ → Type 0
 IsBit p m n = bit m p.inode_bitmap n ≡ (nat_lt n 2 || nat_le p.inodes n || not (nat_eq (u16_of (stored p m n) 0) 0))
 
--- A file and a directory have at most the bytes that the version allows, a directory those of whole slots, and no inode has a
--- double indirect sector where no file reaches past the blocks of the indirect one, nor any times where none are kept.
+-- A file and a directory have at most the bytes that the version allows, a directory those of whole slots, and no inode names a sector
+-- of pointers by which only blocks past those of the largest file are found, nor has it any times where none are kept.
 pub record IsAllowed (version : Version) (v : Inode) : Type 0 where
   pub size : v.kind ≡ kinds.File → v.size ≤ max_file_size version
-  pub double_indirect : max_file_size version ≤ 512 * INDIRECT_END → v.double_indirect ≡ 0
+  pub indirect : (level : ℕ) → max_file_size version ≤ 512 * first_block (suc level) 0 → get_or v.indirect level 0 ≡ 0
   pub directory : v.kind ≡ kinds.Directory → v.size ≤ max_directory_size version
   pub slots : v.kind ≡ kinds.Directory → v.size % slot_size version ≡ 0
   pub stamps : IsFalse (keeps_times version) → stamps_in v ≡ no_stamps

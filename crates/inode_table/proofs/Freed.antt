@@ -1,12 +1,12 @@
 -- An inode is freed: its bit is cleared, the sectors of its ACLs are given back, and zeros are written.
-use Rattle.std.proofs.Common.{◌≡◌, ℕ, ◌<◌, ◌≤◌, [], None, length, refl, sym, subst, ◌∙◌, arith, inl, inr}
+use Rattle.std.proofs.Common.{◌≡◌, ℕ, ◌<◌, ◌≤◌, [], None, refl, sym, subst, ◌∙◌, arith, inl, inr}
 use Rattle.std.proofs.lemmas.Bool.{cases_lt}
 use Rattle.std.proofs.lemmas.List.{get_or_past}
 use Rattle.fs_layout.specs.declared.inode.TheConstants.{DIRECT_BLOCKS}
 use Rattle.fs_layout.specs.declared.inode.Inode.{Inode}
 use Rattle.fs_layout.specs.declared.place.Place.{Place}
 use Rattle.fs_layout.specs.Bytes.{SectorMap}
-use Rattle.fs_layout.specs.Inode.{free_inode}
+use Rattle.fs_layout.specs.Inode.{FitsInode, free_inode}
 use Rattle.fs_layout.specs.Images.{AccessAcl, DefaultAcl, part, Holds, inode_map_bits, bit, free_sectors, inode_at}
 use Rattle.fs_layout.specs.Ownership.{IsConsistent}
 use Rattle.fs_layout.specs.InodeChanges.{IsOwnedApart, MarksInode, ChangesBlocks, ChangesInode, Saves}
@@ -15,23 +15,22 @@ use Rattle.fs_layout.proofs.Consistent.{owned_is_apart, stays_consistent, saved_
 use Rattle.fs_layout.proofs.Free.{HasNoSector, free_fits, free_has_no_sector, inode_fits_there, no_sector_changes}
 use Rattle.fs_layout.proofs.Marks.{marks_change}
 use Rattle.fs_layout.proofs.Places.{after_map}
-use Rattle.fs_layout.proofs.Pointers.{pointer_direct, trimmed_double, trimmed_indirect, turns_acl, turns_default_acl}
+use Rattle.fs_layout.proofs.Pointers.{pointer_direct, trimmed_named, turns_acl, turns_default_acl}
 use Rattle.fs_layout.proofs.Saves.{IsSaved}
 use Rattle.bit_alloc.proofs.Soundness.{free_kept}
 use Rattle.inode_table.specs.Storing.{GivesBack}
 use Rattle.inode_table.proofs.Stores.{HasStored, stored}
 
 -- an inode that holds nothing has no sector but those of its ACLs
-without_acls : (image : SectorMap) (v : Inode) → length v.direct ≡ DIRECT_BLOCKS → Holds image v [] → HasNoSector (record v { acl = 0; default_acl = 0 })
-without_acls image v len h = record {
+without_acls : (image : SectorMap) (v : Inode) → FitsInode v → Holds image v [] → HasNoSector (record v { acl = 0; default_acl = 0 })
+without_acls image v fits h = record {
   acl = refl;
   default_acl = refl;
   direct = λ k. elim (cases_lt k DIRECT_BLOCKS) [
     | inl lt ↦ sym (pointer_direct image v k lt) ∙ h.trim 0 k (let z = h.size in omega (arith, z))
-    | inr ge ↦ get_or_past v.direct k 0 (omega (arith, len, ge))
+    | inr ge ↦ get_or_past v.direct k 0 (let len = fits.direct_len in omega (arith, len, ge))
   ];
-  indirect = trimmed_indirect image v h.trim (let z = h.size in omega (arith, z));
-  double_indirect = trimmed_double image v h.trim (let z = h.size in omega (arith, z));
+  indirect = λ level. trimmed_named image v fits.indirect_len h.trim level (let z = h.size in omega (arith, z));
 }
 
 module _ {p : Place} {n : ℕ} {m0 m1 m2 m3 m4 : SectorMap}
@@ -66,7 +65,7 @@ module _ {p : Place} {n : ℕ} {m0 m1 m2 m3 m4 : SectorMap}
   changes =
       let v = inode_at p m0 n in
       let both = both_changes h.place second.changes third.changes in
-      let none = without_acls m0 v (inode_fits_there h n lt).direct_len empty in
+      let none = without_acls m0 v (inode_fits_there h n lt) empty in
       both_changes h.place both (no_sector_changes h.place third.changes.owned.sectors (apart_after h.place apart both.owned) none free_has_no_sector)
 
   saved : IsConsistent p m4 × IsSaved p n free_inode m1 m3 m4

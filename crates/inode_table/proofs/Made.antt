@@ -2,7 +2,7 @@
 use Rattle.std.proofs.Common.{◌≡◌, ℕ, ◌+◌, ◌/◌, ◌<◌, ◌≤◌, List, [], Option, get_or, refl, sym, ap, subst, ◌∙◌, arith, IsTrue, Result, Ok, Err, IsErr, IfErr}
 use Rattle.std.specs.Prelude.{IsErrAnd}
 use Rattle.posix_acl.specs.AccessList.{AccessList, IsAcl, IsSomeAcl, mode_bits}
-use Rattle.fs_layout.specs.declared.inode.TheConstants.{DIRECT_BLOCKS}
+use Rattle.fs_layout.specs.declared.inode.TheConstants.{DIRECT_BLOCKS, POINTER_LEVELS}
 use Rattle.fs_layout.specs.declared.inode.Inode.{Inode}
 use Rattle.fs_layout.specs.declared.place.Place.{Place}
 use Rattle.fs_layout.specs.Bytes.{SectorMap, zeros}
@@ -48,8 +48,7 @@ blank_has_no_sector v blank = record {
   acl = blank.acl;
   default_acl = blank.default;
   direct = λ k. ap (λ (l : List ℕ). get_or l k 0) blank.direct ∙ get_or-zeros DIRECT_BLOCKS k;
-  indirect = blank.indirect;
-  double_indirect = blank.double_indirect;
+  indirect = λ level. ap (λ (xs : List ℕ). get_or xs level 0) blank.indirect ∙ get_or-zeros POINTER_LEVELS level;
 }
 
 -- what has come of it

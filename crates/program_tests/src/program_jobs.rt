@@ -138,7 +138,7 @@ free_inodes 59
 max_name 248
 max_directory_names 32768
 max_links 65000
-max_file_size 8460288
+max_file_size 1082202112
 keeps_times yes
 pending no
 ";

@@ -74,7 +74,7 @@ fn perform<S: Sectors>(s: &mut S, place: Place, n: u32, call: Call) -> Result<[u
     ensures sound { OnOk result (IsSound place (S.state s.new)) }
 {
     let mut inode = load(s, place, n)?;
-    if s.room() < (place.table - place.inode_bitmap) as usize + 13 {
+    if s.room() < (place.table - place.inode_bitmap) as usize + 16 {
         return Err(Fail::new("no room"));
     }
     let Kind::File = inode.kind else {
@@ -213,7 +213,7 @@ const BEHIND_HOLES: [Row; 8] = [
     (Call::Read(6143), [0, 7, 0, 0], 2, 0),
     (Call::Write(6656, 1), NOTHING, 3, 4),
     (Call::SetSize(6200), NOTHING, 6, 4),
-    (Call::SetSize(6144), NOTHING, 6, 3),
+    (Call::SetSize(6144), NOTHING, 5, 3),
     (Call::Release, NOTHING, 1, 1),
 ];
 
@@ -233,7 +233,7 @@ const LIMIT_OF_ONE: [Row; 11] = [
     (Call::HasFree(890), NOTHING, 1, 0),
     (Call::Write(6144, 1), NOTHING, 3, 6),
     (Call::HasFree(888), NOTHING, 1, 0),
-    (Call::SetSize(6144), NOTHING, 6, 3),
+    (Call::SetSize(6144), NOTHING, 5, 3),
     (Call::HasFree(890), NOTHING, 1, 0),
     (Call::Write(71_679, 2), TOO_BIG, 0, 0),
     (Call::SetSize(71_681), TOO_BIG, 0, 0),
@@ -254,13 +254,29 @@ const LIMIT_OF_TWO: [Row; 11] = [
     (Call::Write(8_460_287, 1), NOTHING, 4, 7),
     (Call::HasFree(883), NOTHING, 1, 0),
     (Call::Read(8_460_284), [0, 0, 0, 7], 3, 0),
-    (Call::SetSize(6144), NOTHING, 143, 8),
+    (Call::SetSize(6144), NOTHING, 141, 8),
     (Call::HasFree(890), NOTHING, 1, 0),
+];
+
+// In version 3 there is a third level of sectors of pointers: the last byte of all takes a sector on each. A cut by one block gives back
+// that block alone, and a cut to the first of those blocks the sectors of pointers too.
+const LIMIT_OF_THREE: [Row; 11] = [
+    (Call::SetSize(1_082_202_112), NOTHING, 1, 1),
+    (Call::SetSize(1_082_202_113), TOO_BIG, 0, 0),
+    (Call::Write(1_082_202_111, 2), TOO_BIG, 0, 0),
+    (Call::HasFree(506), NOTHING, 1, 0),
+    (Call::Write(1_082_202_111, 1), NOTHING, 8, 12),
+    (Call::HasFree(502), NOTHING, 1, 0),
+    (Call::Read(1_082_202_108), [0, 0, 0, 7], 4, 0),
+    (Call::SetSize(1_082_201_600), NOTHING, 11, 3),
+    (Call::HasFree(503), NOTHING, 1, 0),
+    (Call::SetSize(6144), NOTHING, 16_647, 4),
+    (Call::HasFree(506), NOTHING, 1, 0),
 ];
 
 #[test]
 fn calls(rt: HostRuntime) -> Result<(), Fail> {
-    let rows: [(Version, &[Row]); 11] = [
+    let rows: [(Version, &[Row]); 12] = [
         (Version::One, &DIRECT),
         (Version::One, &BEHIND_HOLES),
         (Version::One, &LONG),
@@ -272,6 +288,7 @@ fn calls(rt: HostRuntime) -> Result<(), Fail> {
         (Version::Three, &DIRECT),
         (Version::Three, &BEHIND_HOLES),
         (Version::Three, &LONG),
+        (Version::Three, &LIMIT_OF_THREE),
     ];
     for (version, calls) in rows.iter() {
         let seen = agreed_of(rt.alloc(), *version, calls)?;

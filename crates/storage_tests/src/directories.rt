@@ -271,7 +271,7 @@ const CHANGES: [Row; 19] = [
     (2, Call::Remove, 1, (Ok(1), 3, 2)),
     (2, Call::Remove, 2, (Err(DirFault::Absent), 1, 0)),
     (50, Call::Remove, 0, (Ok(49), 7, 3)),
-    (49, Call::Remove, 48, (Ok(48), 20, 3)),
+    (49, Call::Remove, 48, (Ok(48), 19, 3)),
     (2, Call::Replace, 0, (Ok(2), 2, 1)),
     (2, Call::Replace, 2, (Err(DirFault::Absent), 1, 0)),
     (50, Call::Replace, 49, (Ok(50), 16, 1)),
@@ -316,7 +316,7 @@ const MANY: [Row; 11] = [
     (281, Call::Insert, 281, (Ok(282), 149, 2)),
     (282, Call::Insert, 282, (Ok(283), 149, 4)),
     (536, Call::Insert, 536, (Ok(537), 275, 7)),
-    (281, Call::Remove, 280, (Ok(280), 283, 4)),
+    (281, Call::Remove, 280, (Ok(280), 280, 4)),
     (282, Call::Remove, 0, (Ok(281), 9, 3)),
     (600, Call::Replace, 599, (Ok(600), 308, 1)),
 ];

@@ -1,5 +1,6 @@
-//! An image whose one file has the largest size and no hole, so that both levels of sectors of pointers are full: what a check
-//! finds where bytes of it are changed, or where it is cut; and that a mount agrees.
+//! An image of version 2 whose one file has the largest size and no hole, so that both levels of sectors of pointers are full, and one of
+//! version 3 whose one file has a block that is found by all three: what a check finds where bytes of them are changed, or where they are
+//! cut; and that a mount agrees.
 
 ghost use Rattle.std.specs.Prelude.{◌+◌, ◌^◌, ◌≤◌, length};
 
@@ -76,6 +77,77 @@ fn content_of(s: u32) -> [u8; 512] {
     content
 }
 
+// Sectors of the disk of version 3; with 64 inodes its inode table begins at 514, and its data at 530.
+const THIRD_SECTORS: u32 = 2048;
+
+// The first sector behind those in use.
+const THIRD_END: u32 = 535;
+
+// Inode 1, the root, whose block is sector 530: a directory of 256 bytes.
+static THIRD_ROOT: &[u8] =
+    b"\x02\0\xed\x01\0\0\0\0\0\0\0\0\x01\0\0\0\0\x01\0\0\0\0\0\0\x01\0\0\0\0\0\0\0\0\0\0\0\x12\x02\0\0";
+
+// Inode 2, a file of 8,460,289 bytes, of which only the last is kept: its triple indirect sector is 531.
+static THIRD_FILE: &[u8] = b"\x01\0\xa4\x01\0\0\0\0\0\0\0\0\x01\0\0\0\x01\x18\x81\0";
+
+static TRIPLE_INDIRECT: &[u8] = b"\x13\x02\0\0";
+
+// What sector `s` of the disk of version 3 holds.
+fn third_content_of(s: u32) -> [u8; 512] {
+    let mut content = [0; 512];
+    match s {
+        0 => content = beginning_with(b"INOS\x03\0\0\0\0\x08\0\0\x40\0\0\0\x01"),
+        1 => content = beginning_with(b"INOJ"),
+        512 => {
+            content.fill(0xff);
+            (&mut content[..8]).copy_from_slice(b"\x07\0\0\0\0\0\0\0");
+        }
+        513 => {
+            (&mut content[..66]).fill(0xff);
+            content[66] = 0x7f;
+            (&mut content[256..]).fill(0xff);
+        }
+        514 => {
+            (&mut content[128..128 + THIRD_ROOT.len()]).copy_from_slice(THIRD_ROOT);
+            (&mut content[256..256 + THIRD_FILE.len()]).copy_from_slice(THIRD_FILE);
+            (&mut content[348..352]).copy_from_slice(TRIPLE_INDIRECT);
+        }
+        // Inode 2 is `f`.
+        530 => content = beginning_with(b"\x02\0\0\0\x01\0\0\0f"),
+        // Sectors of pointers of the third, the second and the first level, and block 16,524.
+        531 => content = beginning_with(b"\x14\x02\0\0"),
+        532 => content = beginning_with(b"\x15\x02\0\0"),
+        533 => content = beginning_with(b"\x16\x02\0\0"),
+        534 => content = beginning_with(b"c"),
+        _ => {}
+    }
+    content
+}
+
+// Which image.
+#[derive(Clone, Copy)]
+enum Version {
+    Two,
+    Three,
+}
+
+impl Version {
+    fn content_of(self, s: u32) -> [u8; 512] {
+        match self {
+            Version::Two => content_of(s),
+            Version::Three => third_content_of(s),
+        }
+    }
+
+    // From this sector on all are zeros.
+    fn end(self) -> u32 {
+        match self {
+            Version::Two => FIRST_BLOCK,
+            Version::Three => THIRD_END,
+        }
+    }
+}
+
 // A sector, an offset in it, and the bytes from there on.
 type Change = (usize, usize, &'static [u8]);
 
@@ -87,9 +159,9 @@ fn change(image: &mut [[u8; 512]], s: usize, at: usize, bytes: &[u8]) {
     (&mut image[s][at..at + bytes.len()]).copy_from_slice(bytes);
 }
 
-fn write_image(image: &mut [[u8; 512]], changes: &[Change]) {
-    for s in 0..FIRST_BLOCK {
-        change(image, s as usize, 0, &content_of(s));
+fn write_image(image: &mut [[u8; 512]], version: Version, changes: &[Change]) {
+    for s in 0..version.end() {
+        change(image, s as usize, 0, &version.content_of(s));
     }
     for &(s, at, bytes) in changes {
         change(image, s, at, bytes);
@@ -97,10 +169,15 @@ fn write_image(image: &mut [[u8; 512]], changes: &[Change]) {
 }
 
 // The image with these changes, cut to so many sectors, or with zeros behind it.
-fn changed_disk(alloc: Global, sectors: u32, changes: &[Change]) -> Result<MemDisk, AllocError> {
+fn changed_disk(
+    alloc: Global,
+    version: Version,
+    sectors: u32,
+    changes: &[Change],
+) -> Result<MemDisk, AllocError> {
     let mut image = Vec::new(alloc);
     image.resize(sectors as usize, [0; 512])?;
-    write_image(&mut image, changes);
+    write_image(&mut image, version, changes);
     MemDisk::from_sectors(alloc, image)
 }
 
@@ -115,8 +192,13 @@ fn checked_and_mounted<D: Disk + Drop>(alloc: Global, mut disk: D) -> Seen {
     (checked, mount_fault(alloc, disk))
 }
 
-fn seen_of(alloc: Global, sectors: u32, changes: &[Change]) -> Result<Seen, AllocError> {
-    let disk = changed_disk(alloc, sectors, changes)?;
+fn seen_of(
+    alloc: Global,
+    version: Version,
+    sectors: u32,
+    changes: &[Change],
+) -> Result<Seen, AllocError> {
+    let disk = changed_disk(alloc, version, sectors, changes)?;
     Ok(checked_and_mounted(alloc, disk))
 }
 
@@ -144,7 +226,7 @@ const LAST_BITS: Change = (133, 37, &[0; 16]);
 
 // How many sectors there are, what is changed, and what is wanted. Inode 2 has its size at 272 of sector 137, the number of its
 // indirect sector at 340, and that of its double indirect one at 344.
-static ROWS: [(u32, &[Change], Wanted); 38] = [
+static ROWS: [(u32, &[Change], Wanted); 39] = [
     (SECTORS, &[], Ok(15_960)),
     // Rule 1: as many sectors as the superblock says, and such as have a layout.
     (32767, &[], Err((1, 0))),
@@ -160,6 +242,8 @@ static ROWS: [(u32, &[Change], Wanted); 38] = [
         &[(0, 4, b"\x01"), (137, 272, b"\0\x18\x01\0")],
         Err((4, 2)),
     ),
+    // No triple indirect sector either.
+    (SECTORS, &[(137, 348, b"\xa8\x41\0\0")], Err((4, 2))),
     // Rule 5: the sector before the data, or the first past the end, in place of each kind of number.
     (SECTORS, &[(137, 336, b"\x98\0\0\0")], Err((5, 2))),
     (SECTORS, &[(137, 340, b"\x98\0\0\0")], Err((5, 2))),
@@ -223,10 +307,114 @@ static ROWS: [(u32, &[Change], Wanted); 38] = [
     ),
 ];
 
+// The bits of sectors 528 to 535 with that of sector 535 too, and without that of sector 534.
+const MORE_BITS: Change = (513, 66, b"\xff");
+
+const FEWER_BITS: Change = (513, 66, b"\x3f");
+
+// What is changed of the image of version 3, and what is wanted. Inode 2 has its size at 272 of sector 514, and the number of its triple
+// indirect sector at 348.
+static THIRD_ROWS: [(&[Change], Wanted); 33] = [
+    (&[], Ok(1513)),
+    // Rule 4: the largest file, and one byte more.
+    (&[(514, 272, b"\0\x18\x81\x40")], Ok(1513)),
+    (&[(514, 272, b"\x01\x18\x81\x40")], Err((4, 2))),
+    // Rule 5: the sector before the data, or the first past the end, in place of a number of each level.
+    (&[(514, 348, b"\x11\x02\0\0")], Err((5, 2))),
+    (&[(514, 348, b"\0\x08\0\0")], Err((5, 2))),
+    (&[(531, 0, b"\x11\x02\0\0")], Err((5, 2))),
+    (&[(531, 508, b"\0\x08\0\0")], Err((5, 2))),
+    (&[(532, 0, b"\x11\x02\0\0")], Err((5, 2))),
+    (&[(532, 508, b"\0\x08\0\0")], Err((5, 2))),
+    (&[(533, 0, b"\x11\x02\0\0")], Err((5, 2))),
+    (&[(533, 508, b"\0\x08\0\0")], Err((5, 2))),
+    // Rule 6: a sector of pointers of the third level on the second too, one of the first twice, or on two ways, and one that is a block.
+    (&[(531, 4, b"\x13\x02\0\0")], Err((6, 531))),
+    (&[(532, 4, b"\x15\x02\0\0")], Err((6, 533))),
+    (&[(514, 340, b"\x15\x02\0\0")], Err((6, 533))),
+    (&[(533, 4, b"\x14\x02\0\0")], Err((6, 532))),
+    // Rule 7: the bit of a sector of pointers is clear, or a number is gone with all that is found by it.
+    (&[(513, 66, b"\x77")], Err((7, 531))),
+    (&[(514, 348, &[0; 4])], Err((7, 531))),
+    (&[(531, 0, &[0; 4])], Err((7, 532))),
+    (&[(532, 0, &[0; 4])], Err((7, 533))),
+    (&[(533, 0, &[0; 4])], Err((7, 534))),
+    // Rule 8: the first block of the third level is past the size, or its bytes behind the size are no zeros.
+    (&[(514, 272, b"\0\x18\x81\0")], Err((8, 2))),
+    (&[(534, 1, b"\x01")], Err((8, 2))),
+    // Past the size there is one more sector of pointers of the second level, or of the first, or a block; each begins where the size ends,
+    // or there is one byte more.
+    (
+        &[
+            (531, 4, b"\x17\x02\0\0"),
+            MORE_BITS,
+            (514, 272, b"\0\x18\x01\x01"),
+        ],
+        Err((8, 2)),
+    ),
+    (
+        &[
+            (531, 4, b"\x17\x02\0\0"),
+            MORE_BITS,
+            (514, 272, b"\x01\x18\x01\x01"),
+        ],
+        Ok(1512),
+    ),
+    (
+        &[
+            (532, 4, b"\x17\x02\0\0"),
+            MORE_BITS,
+            (514, 272, b"\0\x18\x82\0"),
+        ],
+        Err((8, 2)),
+    ),
+    (
+        &[
+            (532, 4, b"\x17\x02\0\0"),
+            MORE_BITS,
+            (514, 272, b"\x01\x18\x82\0"),
+        ],
+        Ok(1512),
+    ),
+    (
+        &[
+            (533, 4, b"\x17\x02\0\0"),
+            MORE_BITS,
+            (514, 272, b"\0\x1a\x81\0"),
+        ],
+        Err((8, 2)),
+    ),
+    (
+        &[
+            (533, 4, b"\x17\x02\0\0"),
+            MORE_BITS,
+            (514, 272, b"\x01\x1a\x81\0"),
+        ],
+        Ok(1512),
+    ),
+    // Far behind the size: the last number of each level.
+    (&[(531, 508, b"\x17\x02\0\0"), MORE_BITS], Err((8, 2))),
+    (&[(532, 508, b"\x17\x02\0\0"), MORE_BITS], Err((8, 2))),
+    (&[(533, 508, b"\x17\x02\0\0"), MORE_BITS], Err((8, 2))),
+    // A hole: the sector of pointers to holes alone stays.
+    (&[(533, 0, &[0; 4]), FEWER_BITS], Ok(1514)),
+    // A directory needs no triple indirect sector.
+    (&[(514, 220, b"\x17\x02\0\0"), MORE_BITS], Err((8, 1))),
+];
+
 #[test]
 fn a_check_finds_damage_on_both_levels(rt: HostRuntime) -> Result<(), AllocError> {
     for (i, &(sectors, changes, wanted)) in ROWS.iter().enumerate() {
-        let seen = seen_of(rt.alloc(), sectors, changes)?;
+        let seen = seen_of(rt.alloc(), Version::Two, sectors, changes)?;
+        assert!(rt; seen == wanted_of(wanted), "{i}: {seen:?}");
+    }
+    Ok(())
+}
+
+#[test]
+fn a_check_finds_damage_on_three_levels(rt: HostRuntime) -> Result<(), AllocError> {
+    for (i, &(changes, wanted)) in THIRD_ROWS.iter().enumerate() {
+        let seen = seen_of(rt.alloc(), Version::Three, THIRD_SECTORS, changes)?;
         assert!(rt; seen == wanted_of(wanted), "{i}: {seen:?}");
     }
     Ok(())

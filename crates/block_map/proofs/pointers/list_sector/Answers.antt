@@ -1,10 +1,12 @@
-use Rattle.std.proofs.Common.{refl, arith, ap}
+use Rattle.std.proofs.Common.{◌∷◌, [], suc, refl, sym, arith, ap, subst}
+use Rattle.fs_layout.specs.declared.inode.Inode.{Inode}
 use Rattle.fs_layout.specs.Header.{log_end}
 use Rattle.fs_layout.specs.Bytes.{zeros}
 use Rattle.fs_layout.specs.Images.{holder}
 use Rattle.sector_txn.proofs.TransactionRuns.{still_put, store_joined}
 use Rattle.bit_alloc.specs.Room.{bitmaps}
-use Rattle.block_map.proofs.AddedPointers.{gets_listed, listed_at_hand}
+use Rattle.block_map.specs.Steps.{AddsSector}
+use Rattle.block_map.proofs.AddedPointers.{lists_sector, lists_at_hand}
 use Rattle.block_map.proofs.Numbers.{listed_within}
 use Rattle.block_map.proofs.Rewritten.{was_full}
 use Rattle.block_map.proofs.Rooms.{lacking_beside, lacking_unput, puts_beside}
@@ -23,11 +25,11 @@ returns-in_err-number-clause-full g c = λ is.
 
 pub put-requires-clause-part : goal.put-requires-clause-part
 put-requires-clause-part g c =
-    omega (arith, (listed_within (g.S.Sectors.state c.args.s.now).header c.args.blocks.now.inode 2 (holder 1 c.args.index) (may_within c.requires.may) c.requires.index.1 c.requires.index.2).0, ap log_end c.in_ok-number.ensures.store.header)
+    omega (arith, (listed_within (g.S.Sectors.state c.args.s.now).header c.args.blocks.now.inode (suc c.args.level) (holder 1 c.args.i) (may_within c.requires.may) c.requires.above.0 c.requires.above.1).0, ap log_end c.in_ok-number.ensures.store.header)
 
 pub put-requires-clause-on_disk : goal.put-requires-clause-on_disk
 put-requires-clause-on_disk g c =
-    omega (arith, (listed_within (g.S.Sectors.state c.args.s.now).header c.args.blocks.now.inode 2 (holder 1 c.args.index) (may_within c.requires.may) c.requires.index.1 c.requires.index.2).1, c.in_ok-number.ensures.store.reads.narrowed.size)
+    omega (arith, (listed_within (g.S.Sectors.state c.args.s.now).header c.args.blocks.now.inode (suc c.args.level) (holder 1 c.args.i) (may_within c.requires.may) c.requires.above.0 c.requires.above.1).1, c.in_ok-number.ensures.store.reads.narrowed.size)
 
 pub put-requires-clause-room : goal.put-requires-clause-room
 put-requires-clause-room g c = λ none.
@@ -38,14 +40,20 @@ put-requires-clause-room g c = λ none.
 pub returns-clause-added : goal.returns-clause-added
 unfolding zeros
 returns-clause-added g c =
-    gets_listed c.requires.may refl c.in_ok-number.ensures.taken.1 c.in_ok-number.ensures.free c.in_ok-number.ensures.bitmaps c.requires.index.0 c.requires.index.1 c.requires.index.2
-    c.requires.content c.write_pointer.ensures c.put.ensures.sectors c.put.ensures.store (pointers_puts 2 (holder 1 c.args.index) c.requires.may c.requires.index.1 c.requires.index.2 c.in_ok-number.ensures.puts c.put.ensures) (still_put c.put.ensures _ c.in_ok-number.ensures.has) c.requires.none c.requires.inside
+    subst (λ (w : Inode). AddsSector c.args.place (c.args.above ∷ []) c.args.level c.args.i (g.S.Sectors.state c.args.s.now) (g.S.Sectors.state c.put.new.self) c.args.blocks.now.inode w)
+    (sym c.was_taken.ensures.inode)
+    (lists_sector c.requires.may refl c.in_ok-number.ensures.taken.1 c.in_ok-number.ensures.free c.in_ok-number.ensures.bitmaps c.requires.number.2 c.requires.above.1
+    c.requires.content c.write_pointer.ensures c.put.ensures.sectors c.put.ensures.store
+    (pointers_puts (suc c.args.level) (holder 1 c.args.i) c.requires.may c.requires.above.0 c.requires.above.1 c.in_ok-number.ensures.puts c.put.ensures)
+    (still_put c.put.ensures _ c.in_ok-number.ensures.has) c.args.level c.requires.number.0 c.requires.above.0 c.requires.none c.requires.inside)
 
 pub returns-clause-at_hand : goal.returns-clause-at_hand
 unfolding zeros
 returns-clause-at_hand g c =
-    listed_at_hand c.requires.may refl c.in_ok-number.ensures.taken.1 c.in_ok-number.ensures.free c.in_ok-number.ensures.bitmaps c.requires.index.0 c.requires.index.1 c.requires.index.2
-    c.requires.content c.write_pointer.ensures c.put.ensures.sectors c.put.ensures.store (pointers_puts 2 (holder 1 c.args.index) c.requires.may c.requires.index.1 c.requires.index.2 c.in_ok-number.ensures.puts c.put.ensures) (still_put c.put.ensures _ c.in_ok-number.ensures.has) c.requires.none refl refl refl refl
+    lists_at_hand c.requires.may refl c.in_ok-number.ensures.taken.1 c.in_ok-number.ensures.free c.in_ok-number.ensures.bitmaps c.requires.number.2 c.requires.above.1
+    c.requires.content c.write_pointer.ensures c.put.ensures.sectors c.put.ensures.store
+    (pointers_puts (suc c.args.level) (holder 1 c.args.i) c.requires.may c.requires.above.0 c.requires.above.1 c.in_ok-number.ensures.puts c.put.ensures)
+    (still_put c.put.ensures _ c.in_ok-number.ensures.has) c.args.level c.requires.number.0 c.requires.above.0 c.requires.none c.requires.at_hand refl c.was_taken.ensures
 
 pub returns-clause-store : goal.returns-clause-store
 returns-clause-store g c = store_joined c.in_ok-number.ensures.store c.put.ensures.store

@@ -1,83 +1,79 @@
-use Rattle.std.proofs.Common.{◌≡◌, ◌-◌, ◌/◌, ◌%◌, ℕ, sym, ap, subst, ◌∙◌, arith}
-use Rattle.std.specs.Int.{div_ceil}
-use Rattle.fs_layout.specs.Header.{log_end}
-use Rattle.fs_layout.specs.declared.inode.TheConstants.{DIRECT_BLOCKS, SECTOR_POINTERS}
+use Rattle.std.proofs.Common.{◌≡◌, ◌+◌, ℕ, suc, refl, sym, ap, subst, ◌∙◌, arith}
+use Rattle.fs_layout.specs.declared.inode.TheConstants.{POINTER_LEVELS}
 use Rattle.fs_layout.specs.declared.inode.Inode.{Inode}
-use Rattle.fs_layout.specs.Images.{number_on, HasPointers}
-use Rattle.bit_alloc.proofs.Transactions.{spare_unchanged, unchanged_joined}
-use Rattle.block_map.specs.Drops.{DropsBlocks, ClearsNumbers, cut_by, first_on}
-use Rattle.block_map.proofs.Numbers.{has_before, listed_within, number_before, within_unchanged}
-use Rattle.block_map.proofs.Givings.{given_after, may_unchanged}
-use Rattle.block_map.proofs.Dropping.{drops}
+use Rattle.fs_layout.specs.Images.{own_count, place_in_holder}
+use Rattle.sector_txn.proofs.TransactionRuns.{store_joined}
+use Rattle.block_map.specs.Drops.{CutsLevel, DropsBlocks, ClearsNumbers, cut_by, first_above, first_on}
+use Rattle.block_map.proofs.Dropping.{AreCut, none_cut, more_cut, cut_within, drops, given_same, room_for_cut}
+use Rattle.block_map.proofs.Rooms.{spare_none}
+use Rattle.block_map.proofs.Runs.{fault_on, no_fault}
 use Rattle.block_map.proofs.Wrote.{may_within}
 use Rattle.block_map.proofs.size.drop_blocks.Goals as goal
 
-pub read_pointers-requires : goal.read_pointers-requires
-read_pointers-requires g c = record { within = may_within c.requires.may }
-
-pub read_listed-requires-clause-within : goal.read_listed-requires-clause-within
-read_listed-requires-clause-within g c = within_unchanged c.in_ok-sector.ensures.same (may_within c.requires.may)
-
-pub read_listed-requires-clause-listed : goal.read_listed-requires-clause-listed
-read_listed-requires-clause-listed g c = λ ge. absurd (omega (arith, ge))
-
-pub give_from-requires-clause-may : goal.give_from-requires-clause-may
-give_from-requires-clause-may g c = may_unchanged c.requires.may (unchanged_joined c.in_ok-sector.ensures.same c.in_ok-above.ensures.same)
-
 pub give_from-requires-clause-room : goal.give_from-requires-clause-room
-give_from-requires-clause-room g c =
-    let spare = spare_unchanged c.args.place (cut_by c.args.first) _ _ c.requires.room (unchanged_joined c.in_ok-sector.ensures.same c.in_ok-above.ensures.same) in
-    omega (arith, spare)
+give_from-requires-clause-room g c = spare_none c.args.place (g.S.Sectors.state c.args.s.now) (cut_by c.args.first) c.requires.room
 
-pub cut_sector-requires-clause-within : goal.cut_sector-requires-clause-within
-cut_sector-requires-clause-within g c = λ some.
-    let w = listed_within (g.S.Sectors.state c.args.s.now).header c.args.inode.now 1 _ (may_within c.requires.may) c.in_ok-sector.ensures.number some in (
-      omega (arith, w.0, ap log_end c.in_ok-sector.ensures.same.store.header, ap log_end c.in_ok-above.ensures.same.store.header, ap log_end c.in_ok-give_from.ensures.store.header),
-      omega (arith, w.1, c.in_ok-sector.ensures.same.store.reads.narrowed.size, c.in_ok-above.ensures.same.store.reads.narrowed.size, c.in_ok-give_from.ensures.store.reads.narrowed.size),
-    )
+pub loop-level-init : goal.loop-level-init
+loop-level-init g c = record {
+  from = refl;
+  most = omega arith;
+  cuts = none_cut c.args.place c.args.first (g.S.Sectors.state c.args.s.now).sectors (g.S.Sectors.state c.give_from.new.s) c.args.inode.now;
+}
 
-pub cut_sector-requires-clause-room : goal.cut_sector-requires-clause-room
-cut_sector-requires-clause-room g c = λ more.
-    let spare = spare_unchanged c.args.place (cut_by c.args.first) _ _ c.requires.room (unchanged_joined c.in_ok-sector.ensures.same c.in_ok-above.ensures.same) in
-    omega (arith, spare, c.in_ok-give_from.ensures.given.puts.room)
+pub cut_level-requires-clause-within : goal.cut_level-requires-clause-within
+cut_level-requires-clause-within g c =
+    cut_within (g.S.Sectors.state c.args.s.now) c.requires.may.apart (given_same c.requires.may c.in_ok-give_from.ensures.given) c.loop-level.invariant.cuts (may_within c.requires.may) c.in_ok-give_from.ensures.store
 
-pub cut_sector-requires-2-clause-within : goal.cut_sector-requires-2-clause-within
-cut_sector-requires-2-clause-within g c = λ some.
-    let is = number_before c.in_ok-sector.ensures.same c.args.inode.now 2 0 c.in_ok-above.ensures.number in
-    let w = listed_within (g.S.Sectors.state c.args.s.now).header c.args.inode.now 2 0 (may_within c.requires.may) is some in (
-      omega (arith, w.0, ap log_end c.in_ok-sector.ensures.same.store.header, ap log_end c.in_ok-above.ensures.same.store.header, ap log_end c.in_ok-give_from.ensures.store.header, ap log_end c.cut_sector.ensures.puts.store.header),
-      omega (arith, w.1, c.in_ok-sector.ensures.same.store.reads.narrowed.size, c.in_ok-above.ensures.same.store.reads.narrowed.size, c.in_ok-give_from.ensures.store.reads.narrowed.size, c.cut_sector.ensures.puts.store.reads.narrowed.size),
-    )
+pub cut_level-requires-clause-room : goal.cut_level-requires-clause-room
+cut_level-requires-clause-room g c = λ left.
+    let x = c.loop-level.invariant in
+    room_for_cut c.requires.room c.in_ok-give_from.ensures.given x.cuts c.loop-level-test.true (λ e. left (ap (place_in_holder (own_count c.loop-level.level)) x.from ∙ e))
 
-pub cut_sector-requires-2-clause-room : goal.cut_sector-requires-2-clause-room
-cut_sector-requires-2-clause-room g c = λ more.
-    let spare = spare_unchanged c.args.place (cut_by c.args.first) _ _ c.requires.room (unchanged_joined c.in_ok-sector.ensures.same c.in_ok-above.ensures.same) in
-    omega (arith, spare, more, c.in_ok-give_from.ensures.given.puts.room, c.cut_sector.ensures.puts.room, c.div_ceil-index.ensures, c.saturating_sub-past.ensures, c.saturating_sub.ensures)
+pub loop-level-preserved : goal.loop-level-preserved
+loop-level-preserved g c =
+    let x = c.loop-level.invariant in
+    let level = c.loop-level.level in
+    let next : suc level ≡ level + 1 = omega arith in
+    record {
+      from = c.next_first-from.ensures ∙ ap (first_above level) x.from ∙ ap (λ (n : ℕ). first_on n c.args.first) next;
+      most = omega (arith, c.loop-level-test.true);
+      cuts = more_cut (g.S.Sectors.state c.args.s.now) c.requires.may.apart (given_same c.requires.may c.in_ok-give_from.ensures.given) x.cuts
+          (subst (λ (m : ℕ). CutsLevel level m (g.S.Sectors.state c.loop-level.s) (g.S.Sectors.state c.cut_level.new.s) c.args.inode.now) x.from c.in_ok-cut_level.ensures.cut);
+    }
 
-pub clear_inode-requires : goal.clear_inode-requires
-clear_inode-requires g c = c.requires.may.fits.direct_len
+pub returns-in_err-cut_level-clause-store : goal.returns-in_err-cut_level-clause-store
+returns-in_err-cut_level-clause-store g c =
+    store_joined (store_joined c.in_ok-give_from.ensures.store c.loop-level.invariant.cuts.puts.store) c.in_err-cut_level.ensures.store
+
+pub returns-in_err-cut_level-clause-cause : goal.returns-in_err-cut_level-clause-cause
+returns-in_err-cut_level-clause-cause g c =
+    fault_on (store_joined c.in_ok-give_from.ensures.store c.loop-level.invariant.cuts.puts.store) c.in_err-cut_level.ensures.cause
+    c.from_residual-in_err-cut_level.result c.from_residual-in_err-cut_level.ensures
+
+pub clear_inode-requires-clause-direct : goal.clear_inode-requires-clause-direct
+clear_inode-requires-clause-direct g c = c.requires.may.fits.direct_len
+
+pub clear_inode-requires-clause-indirect : goal.clear_inode-requires-clause-indirect
+clear_inode-requires-clause-indirect g c = c.requires.may.fits.indirect_len
 
 pub returns-clause-dropped : goal.returns-clause-dropped
 returns-clause-dropped g c =
     let p = c.args.place in
+    let first = c.args.first in
     let v = c.args.inode.now in
     let w = c.clear_inode.new.inode in
     let old = g.S.Sectors.state c.args.s.now in
-    let new = g.S.Sectors.state c.cut_sector-2.new.s in
-    let first = c.args.first in
-    let read = unchanged_joined c.in_ok-sector.ensures.same c.in_ok-above.ensures.same in
-    let given = given_after read c.in_ok-give_from.ensures.given in
-    let past : c.saturating_sub-past.result ≡ first - DIRECT_BLOCKS = c.saturating_sub-past.ensures in
-    let number = subst (λ (m : ℕ). c.in_ok-sector.sector ≡ number_on old.sectors v 1 (m / SECTOR_POINTERS)) past c.in_ok-sector.ensures.number in
-    let content = subst (λ (m : ℕ). HasPointers old.sectors v 1 (m / SECTOR_POINTERS) c.read_pointers.new.content) past c.in_ok-sector.ensures.content in
-    let at0 : c.saturating_sub-past.result % SECTOR_POINTERS ≡ (first - DIRECT_BLOCKS) % SECTOR_POINTERS = ap (λ (m : ℕ). m % SECTOR_POINTERS) past in
-    let index : c.saturating_sub.result ≡ first_on 1 first - 1 =
-    c.saturating_sub.ensures ∙ ap (λ (m : ℕ). m - 1) (c.div_ceil-index.ensures ∙ ap (λ (m : ℕ). div_ceil m SECTOR_POINTERS) past) in
-    let at1 : c.saturating_sub.result % SECTOR_POINTERS ≡ (first_on 1 first - 1) % SECTOR_POINTERS = ap (λ (m : ℕ). m % SECTOR_POINTERS) index in
+    let given = g.S.Sectors.state c.give_from.new.s in
+    let new = g.S.Sectors.state c.loop-level.s in
+    let most = c.loop-level.invariant.most in
+    let all : c.loop-level.level ≡ POINTER_LEVELS = omega (arith, c.loop-level-test.false, most) in
+    let cuts = subst (λ (n : ℕ). AreCut p n first old.sectors given new v) all c.loop-level.invariant.cuts in
     let cleared : ClearsNumbers first v w = c.clear_inode.ensures in
-    let numbers : ClearsNumbers first v (record v { direct = w.direct; indirect = w.indirect; double_indirect = w.double_indirect }) =
-    subst (λ (u : Inode). ClearsNumbers first v u) cleared.others cleared in
-    subst (λ (u : Inode). DropsBlocks p first old new v u) (sym cleared.others)
-    (drops c.requires.may c.requires.few number content
-    (number_before c.in_ok-sector.ensures.same v 2 0 c.in_ok-above.ensures.number) (has_before c.in_ok-sector.ensures.same c.in_ok-above.ensures.content)
-    given at0 c.cut_sector.ensures at1 c.cut_sector-2.ensures numbers)
+    let numbers : ClearsNumbers first v (record v { direct = w.direct; indirect = w.indirect }) = subst (λ (u : Inode). ClearsNumbers first v u) cleared.others cleared in
+    subst (λ (u : Inode). DropsBlocks p first old new v u) (sym cleared.others) (drops c.requires.may c.in_ok-give_from.ensures.given cuts numbers)
+
+pub returns-clause-store : goal.returns-clause-store
+returns-clause-store g c = store_joined c.in_ok-give_from.ensures.store c.loop-level.invariant.cuts.puts.store
+
+pub returns-clause-cause : goal.returns-clause-cause
+returns-clause-cause g c = no_fault (store_joined c.in_ok-give_from.ensures.store c.loop-level.invariant.cuts.puts.store)

@@ -1,6 +1,7 @@
 use Rattle.std.proofs.Common.{◌≡◌, ◌+◌, ◌/◌, ℕ, sym, ap, subst, ◌∙◌, arith}
 use Rattle.fs_layout.specs.declared.inode.Inode.{Inode}
 use Rattle.sector_txn.proofs.TransactionRuns.{store_same, store_joined}
+use Rattle.bit_alloc.specs.Room.{HasSpare}
 use Rattle.bit_alloc.proofs.Transactions.{spare_unchanged}
 use Rattle.block_map.specs.Blocks.{IsWithin}
 use Rattle.block_map.proofs.Numbers.{loaded_unchanged}
@@ -10,6 +11,7 @@ use Rattle.block_map.specs.Steps.{MayChange, blocks_to}
 use Rattle.block_map.proofs.Alterings.{may_after}
 use Rattle.block_map.proofs.Givings.{may_unchanged}
 use Rattle.block_map.proofs.Resizing.{grows, resizes, resizes_last}
+use Rattle.block_map.proofs.Rooms.{spare_after_one, spare_one}
 use Rattle.block_map.proofs.Runs.{no_fault, fault_on}
 use Rattle.block_map.proofs.size.resize.Goals as goal
 
@@ -45,7 +47,9 @@ clear_tail-requires-clause-loaded g c = loaded_unchanged c.in_ok-load.ensures.sa
 pub drop_blocks-requires-clause-room : goal.drop_blocks-requires-clause-room
 drop_blocks-requires-clause-room g c =
     let spare = spare_unchanged c.args.place (1 + cut_by (blocks_to c.args.size)) _ _ c.requires.room c.in_ok-load.ensures.same in
-    omega (arith, spare, c.in_ok-clear_tail.ensures.cleared.puts.room)
+    let e : blocks_to c.args.size ≡ c.div_ceil-end.result = omega (arith, c.div_ceil-end.ensures) in
+    subst (λ (k : ℕ). HasSpare c.args.place (cut_by k) (g.S.Sectors.state c.clear_tail.new.s)) e
+    (spare_after_one c.args.place (cut_by (blocks_to c.args.size)) spare c.in_ok-clear_tail.ensures.cleared.puts)
 
 pub returns-clause-resized : goal.returns-clause-resized
 returns-clause-resized g c =
@@ -74,7 +78,7 @@ clear_tail-requires-clause-limit g c =
     omega (arith, e, c.requires.limit.1)
 
 pub clear_tail-requires-clause-room : goal.clear_tail-requires-clause-room
-clear_tail-requires-clause-room g c = spare_unchanged c.args.place 1 _ _ (omega (arith, c.requires.room)) c.in_ok-load.ensures.same
+clear_tail-requires-clause-room g c = spare_unchanged c.args.place 1 _ _ (spare_one c.args.place (g.S.Sectors.state c.args.s.now) (cut_by (blocks_to c.args.size)) c.requires.room) c.in_ok-load.ensures.same
 
 pub drop_blocks-requires-clause-few : goal.drop_blocks-requires-clause-few
 drop_blocks-requires-clause-few g c = omega (arith, c.requires.limit.0, c.div_ceil-end.ensures)

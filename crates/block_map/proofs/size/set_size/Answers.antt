@@ -1,9 +1,12 @@
-use Rattle.std.proofs.Common.{sym, arith}
+use Rattle.std.proofs.Common.{◌+◌, sym, arith}
 use Rattle.fs_layout.proofs.Parts.{Holds-kept, HasNoHole-kept}
 use Rattle.sector_txn.proofs.TransactionRuns.{store_joined}
+use Rattle.block_map.proofs.Rooms.{spare_but_one, spare_last}
 use Rattle.block_map.proofs.Saving.{IsEnded, saved_after}
 use Rattle.block_map.proofs.Sizing.{may_change, size_limit}
+use Rattle.block_map.specs.Drops.{cut_by}
 use Rattle.block_map.specs.Sizes.{put_to}
+use Rattle.block_map.specs.Steps.{blocks_to}
 use Rattle.block_map.proofs.size.set_size.Goals as goal
 
 pub resize-requires-clause-may : goal.resize-requires-clause-may
@@ -11,6 +14,12 @@ resize-requires-clause-may g c = may_change c.args.size c.requires.sound c.requi
 
 pub resize-requires-clause-limit : goal.resize-requires-clause-limit
 resize-requires-clause-limit g c = (omega (arith, c.if-size-max_file_size.false, c.max_file_size.ensures.most), size_limit c.args.size c.requires.sound c.requires.below c.requires.inode c.requires.kind)
+
+pub resize-requires-clause-room : goal.resize-requires-clause-room
+resize-requires-clause-room g c = spare_but_one c.args.place (g.S.Sectors.state c.args.s.now) (1 + cut_by (blocks_to c.args.size)) c.requires.spare
+
+pub write_inode-requires-clause-room : goal.write_inode-requires-clause-room
+write_inode-requires-clause-room g c = λ none. spare_last c.args.place (1 + cut_by (blocks_to c.args.size)) c.requires.spare c.in_ok-resize.ensures.resized.puts
 
 -- the steps and the save
 ended : (g : _) (c : goal.In_ok-write_inode g) → IsEnded c.args.place c.args.n 0 (put_to c.args.size) (g.S.Sectors.state c.args.s.now) (g.S.Sectors.state c.resize.new.s)

@@ -8,6 +8,7 @@ use Rattle.block_map.specs.declared.fault.MapFault.TheVariants.{Full}
 use Rattle.block_map.specs.Steps.{MayChange, taken_by, put_by}
 use Rattle.block_map.proofs.Alterings.{may_after}
 use Rattle.block_map.proofs.Sizing.{may_change, sized, size_limit}
+use Rattle.block_map.proofs.Rooms.{spare_last}
 use Rattle.block_map.proofs.Runs.{same_fault}
 use Rattle.block_map.proofs.Wrote.{limit_at, taken_few, taken_same, wrote, wrote_held, wrote_whole}
 use Rattle.std.specs.Prelude.{max}
@@ -50,7 +51,7 @@ returns-in_err-write_blocks-clause-full g c = λ is.
 
 pub write_inode-requires-clause-room : goal.write_inode-requires-clause-room
 write_inode-requires-clause-room g c = λ none.
-    omega (arith, c.requires.spare, c.in_ok-write_blocks.ensures.written.puts.room)
+    spare_last c.args.place _ c.requires.spare c.in_ok-write_blocks.ensures.written.puts
 
 -- the size that the inode is to have
 allowed : (g : _) (c : goal.After-inode-1 g) → AllowsSize c.args.inode.now.kind c.max-blocks.result

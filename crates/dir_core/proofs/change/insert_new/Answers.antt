@@ -50,17 +50,20 @@ write_at-requires-clause-few g c =
 
 -- how many sectors are put
 puts_few : {version : Version} {image : SectorMap} {v : Inode} {slots : List NamedInode} → HasSlots version image v slots → (n : ℕ) → n ≡ slot_size version
-    → put_by v.size n ≤ 4
-puts_few {version} {v = v} {slots} h n len =
+    → v.size + slot_size version ≤ max_directory_size version → put_by v.size n ≤ 4
+puts_few {version} {v = v} {slots} h n len few =
     let one = slot_in_one_block version (length slots) v.size (size_of_slots h) in
-    put_in_block v.size n (omega (arith, len)) (omega (arith, len, one))
+    let most = directory_most version in
+    put_in_block v.size n (omega (arith, len)) (omega (arith, len, one)) (omega (arith, len, few, most))
 
 pub write_at-requires-clause-spare : goal.write_at-requires-clause-spare
 write_at-requires-clause-spare g c =
     let len =
     length-written c.args.place.version (added c.args.name.now c.args.to) c.slot_size.result c.block_with-block.result c.slot_size.ensures
     c.block_with-block.ensures c.requires.short in
-    let puts = puts_few (slots_there c.requires.directory.1) (length (take c.slot_size.result c.block_with-block.result)) len in
+    let there = slots_there c.requires.directory.1 in
+    let room = (slots_few there (not_full _ _ _ c.if-end-max_directory_size.false c.max_directory_size.ensures)).0 in
+    let puts = puts_few there (length (take c.slot_size.result c.block_with-block.result)) len room in
     let spare = c.requires.spare in
     omega (arith, puts, spare)
 
@@ -117,7 +120,7 @@ returns-clause-change g c =
     c.block_with-block.ensures c.requires.short in
     let room = (slots_few there (not_full _ _ _ c.if-end-max_directory_size.false c.max_directory_size.ensures)).0 in
     let takes = takes_so there (length (take c.slot_size.result c.block_with-block.result)) len room in
-    content_at_most (puts_few there (length (take c.slot_size.result c.block_with-block.result)) len)
+    content_at_most (puts_few there (length (take c.slot_size.result c.block_with-block.result)) len room)
     (subst (λ (k : ℕ). ChangesContent p c.args.n k (put_by v.size (length (take c.slot_size.result c.block_with-block.result))) old new v c.write_at.new.inode) takes
     c.in_ok-write_at.ensures.change)
 

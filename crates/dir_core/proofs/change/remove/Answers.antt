@@ -7,7 +7,7 @@ use Rattle.fs_layout.proofs.SlotSizes.{directory_most}
 use Rattle.sector_txn.proofs.TransactionRuns.{store_joined}
 use Rattle.bit_alloc.proofs.Soundness.{spare_then}
 use Rattle.bit_alloc.proofs.Transactions.{spare_unchanged}
-use Rattle.block_map.proofs.Wrote.{put_to_few}
+use Rattle.block_map.proofs.Wrote.{put_to_fewer}
 use Rattle.block_map.proofs.Joins.{sound_after_reads, content_after_reads, content_joined, content_at_most}
 use Rattle.dir_core.specs.Faults.{WhyNotChanged}
 use Rattle.dir_core.proofs.Changing.{allows, slots_there, slots_after_reads, directory_within, directory_limit, slot_inside, found_there, said_by_slots, passed_on, added, names_without}
@@ -44,7 +44,9 @@ set_size-requires-clause-kind g c =
 
 pub set_size-requires-clause-spare : goal.set_size-requires-clause-spare
 set_size-requires-clause-spare g c =
-    let few = put_to_few (c.args.inode.now.size - c.slot_size.result) in
+    let limit = directory_limit (slots_there c.requires.directory.1) in
+    let most = directory_most c.args.place.version in
+    let few = put_to_fewer (c.args.inode.now.size - c.slot_size.result) (omega (arith, limit, most)) in
     let spare =
     spare_then c.args.place 1 4 (g.S.Sectors.state c.named_slot.new.s) (g.S.Sectors.state c.move_last.new.s)
     (spare_unchanged c.args.place 5 _ _ c.requires.spare c.in_ok-found.ensures.same) c.in_ok-move_last.ensures.change.touches.puts in
@@ -67,8 +69,10 @@ returns-in_err-set_size-clause-store g c = store_joined (store_joined c.in_ok-fo
 
 pub returns-clause-change : goal.returns-clause-change
 returns-clause-change g c =
+    let limit = directory_limit (slots_there c.requires.directory.1) in
+    let most = directory_most c.args.place.version in
     content_joined (content_after_reads c.in_ok-found.ensures.same c.in_ok-move_last.ensures.change)
-    (content_at_most (put_to_few (c.args.inode.now.size - c.slot_size.result)) c.in_ok-set_size.ensures.change)
+    (content_at_most (put_to_fewer (c.args.inode.now.size - c.slot_size.result) (omega (arith, limit, most))) c.in_ok-set_size.ensures.change)
 
 pub returns-clause-names : goal.returns-clause-names
 returns-clause-names g c = λ names h.

@@ -76,7 +76,7 @@ touch-requires g c =
     prepared_may_touch old new c.requires.sound c.requires.spare (store_joined same.store done.store)
     (old_emptied i c.args.n c.requires.some c.cred.result.now c.in_ok-inode.inode c.cred.ensures (c.in_ok-inode.ensures.each c.requires.found.0.tree (state_tree i.is_state) there)
     0 mid new (same_map same) (sym c.cuts-cuts.ensures ∙ c.if-not-cuts.false) done.change)
-    (number_below (state_tree i.is_state) c.args.n there, tt) 4 (taken_after c.args.caller.now.place 4 new same done.taken) (omega arith)
+    (number_below (state_tree i.is_state) c.args.n there, tt) 5 (taken_after c.args.caller.now.place 5 new same done.taken) (omega arith)
 
 pub returns-in_err-touch-clause-store : goal.returns-in_err-touch-clause-store
 returns-in_err-touch-clause-store g c =

@@ -63,7 +63,7 @@ touch-requires g c =
     let s = x.ready.state in
     let at = x.ready.is_state in
     may_touch x.ready done.store (cuts mid o c.args.size s at new (open_to_write x.is_open) fits (process_stays o x.table) done.change)
-    (open_below o s at, tt) 4 done.taken (omega arith)
+    (open_below o s at, tt) 5 done.taken (omega arith)
 
 pub returns-in_err-touch : goal.returns-in_err-touch
 returns-in_err-touch g c =

@@ -115,7 +115,7 @@ touch-requires g c =
     may_touch w.ready (store_joined same.store done.store)
     (size_changed (state_kept same at) has i.some i.number (kept (λ m. v ≡ inode_at c.args.caller.now.place m n) same i.inode) c.args.size _ i.met file granted.0 fits
     (few_enough (max_file_size c.args.caller.now.place.version) c.args.size fits) (file_kind _ v.kind (access_held {mid = mid} {new = mid} at has i unchanged_nothing).kind file) done.change)
-    (reached_below x.reached, tt) 4 (taken_after c.args.caller.now.place 4 (g.S.Sectors.state c.give_size.new.s) same done.taken) (omega arith)
+    (reached_below x.reached, tt) 5 (taken_after c.args.caller.now.place 5 (g.S.Sectors.state c.give_size.new.s) same done.taken) (omega arith)
 
 pub returns-in_err-touch : goal.returns-in_err-touch
 returns-in_err-touch g c =

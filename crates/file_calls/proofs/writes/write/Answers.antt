@@ -137,7 +137,7 @@ touch-requires g c =
     let at = ready.is_state in
     may_touch ready done.store
     (writes w.opened s at (open_to_write w) v is offset from bytes some near enough c.bytes-bytes.ensures.valid count counted s.desks (λ n was. was) change)
-    (open_below w.opened s at, tt) 13 done.taken (omega arith)
+    (open_below w.opened s at, tt) 16 done.taken (omega arith)
 
 pub returns-in_err-touch : goal.returns-in_err-touch
 returns-in_err-touch g c =

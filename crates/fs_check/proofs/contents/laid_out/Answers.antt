@@ -3,9 +3,10 @@ use Rattle.fs_layout.specs.declared.inode.Inode.{Inode}
 use Rattle.fs_layout.specs.Bytes.{SectorMap}
 use Rattle.fs_layout.specs.Images.{IsData, Owns, inode_at}
 use Rattle.fs_model.specs.Rules.{Inodes, InData, IsLaidOut, LaidOut}
+use Rattle.sector_disk.proofs.Moments.{reads_nothing}
 use Rattle.fs_check.specs.Checks.{meaning}
 use Rattle.fs_check.specs.LastBlocks.{HasSize}
-use Rattle.fs_check.proofs.Carrying.{meaning_same}
+use Rattle.fs_check.proofs.Carrying.{meaning_same, hand_back}
 use Rattle.fs_check.proofs.FreeInodes.{free_is_laid_out}
 use Rattle.fs_check.proofs.Tests.{within, few_inodes, inode_here, blank, all_tried, next_tried, fails_here}
 use Rattle.fs_check.proofs.Sizes.{good_size}
@@ -18,7 +19,7 @@ is_laid_out-requires-clause-in_data g c =
     let lt = c.loop-n-test.true in
     let here = inode_here p (meaning s0) c.args.inodes.now c.loop-n.n blank c.requires.table lt in
     let now : (s : ℕ) → Owns (meaning s0) (inode_at p (meaning s0) c.loop-n.n) s → IsData p s = c.requires.before InData (omega arith) c.loop-n.n (within p (meaning s0) c.args.inodes.now c.loop-n.n c.requires.table lt) in
-    subst (λ (m : SectorMap). (s : ℕ) → Owns m (get_or c.args.inodes.now c.loop-n.n blank) s → IsData p s) (sym (meaning_same c.loop-n.invariant.reads))
+    subst (λ (m : SectorMap). (s : ℕ) → Owns m (get_or c.args.inodes.now c.loop-n.n blank) s → IsData p s) (sym (meaning_same c.loop-n.invariant.tried.reads))
     (subst (λ (v : Inode). (s : ℕ) → Owns (meaning s0) v s → IsData p s) (sym here) now)
 
 pub is_laid_out-requires-clause-size : goal.is_laid_out-requires-clause-size
@@ -29,22 +30,30 @@ is_laid_out-requires-clause-size g c =
     subst HasSize (sym (inode_here p m c.args.inodes.now c.loop-n.n blank c.requires.table lt))
     (good_size p m c.loop-n.n (c.requires.before Inodes (omega arith) c.loop-n.n (within p m c.args.inodes.now c.loop-n.n c.requires.table lt)))
 
+pub loop-n-init : goal.loop-n-init
+loop-n-init g c = record {
+  tried = record { reads = reads_nothing; good = λ k lt. absurd (omega (arith, lt)) };
+  at_hand = c.new-pointers.ensures (meaning (g.D.Disk.state c.args.disk.now));
+}
+
 pub loop-n-preserved : goal.loop-n-preserved
-loop-n-preserved g c =
-    next_tried IsLaidOut c.args.opened.now.place (g.D.Disk.state c.args.disk.now) (g.D.Disk.state c.loop-n.disk) (g.D.Disk.state c.is_laid_out.new.disk) c.args.inodes.now c.loop-n.n _
-    c.in_ok-is_laid_out.field-0 c.loop-n.invariant c.in_ok-is_laid_out.ensures.passed.reads c.requires.table c.loop-n-test.true c.in_ok-is_laid_out.ensures.test
-    c.if-not-branch.false
+loop-n-preserved g c = record {
+  tried = next_tried IsLaidOut c.args.opened.now.place (g.D.Disk.state c.args.disk.now) (g.D.Disk.state c.loop-n.disk) (g.D.Disk.state c.is_laid_out.new.disk) c.args.inodes.now c.loop-n.n _
+      c.in_ok-is_laid_out.field-0 c.loop-n.invariant.tried c.in_ok-is_laid_out.ensures.passed.reads c.requires.table c.loop-n-test.true c.in_ok-is_laid_out.ensures.test
+      c.if-not-branch.false;
+  at_hand = hand_back c.loop-n.invariant.tried.reads c.is_laid_out.new.pointers c.in_ok-is_laid_out.ensures.at_hand;
+}
 
 pub returns-then-not-branch-clause-passed : goal.returns-then-not-branch-clause-passed
 returns-then-not-branch-clause-passed g c =
     fails_here IsLaidOut c.args.opened.now.place (g.D.Disk.state c.args.disk.now) (g.D.Disk.state c.loop-n.disk) (g.D.Disk.state c.is_laid_out.new.disk) c.args.inodes.now c.loop-n.n _
-    c.in_ok-is_laid_out.field-0 c.loop-n.invariant c.in_ok-is_laid_out.ensures.passed.reads c.requires.table c.loop-n-test.true c.in_ok-is_laid_out.ensures.test
+    c.in_ok-is_laid_out.field-0 c.loop-n.invariant.tried c.in_ok-is_laid_out.ensures.passed.reads c.requires.table c.loop-n-test.true c.in_ok-is_laid_out.ensures.test
     LaidOut (λ k. ((λ h. h), (λ h. h))) c.if-not-branch.true
 
 pub returns-clause-each : goal.returns-clause-each
 returns-clause-each g c =
     let s0 = g.D.Disk.state c.args.disk.now in
-    all_tried IsLaidOut c.args.opened.now.place s0 (g.D.Disk.state c.loop-n.disk) c.args.inodes.now c.loop-n.n c.loop-n.invariant c.requires.table
+    all_tried IsLaidOut c.args.opened.now.place s0 (g.D.Disk.state c.loop-n.disk) c.args.inodes.now c.loop-n.n c.loop-n.invariant.tried c.requires.table
     c.loop-n-test.false (free_is_laid_out (meaning s0))
 
 pub overflow_cast-n-end : goal.overflow_cast-n-end

@@ -1,6 +1,11 @@
 use Rattle.fs_model.specs.Rules.{IsLaidOut}
+use Rattle.fs_check.specs.Checks.{meaning}
+use Rattle.fs_check.specs.Owning.{AreAtHand}
 use Rattle.fs_check.proofs.Tests.{AreTried}
 use Rattle.fs_check.proofs.contents.laid_out.Given as goal
 
 abbrev pub invariant-loop-n : goal.invariant-loop-n
-invariant-loop-n g l = AreTried IsLaidOut l.opened.place (g.D.Disk.state l.initial.disk) (g.D.Disk.state l.disk) l.n
+invariant-loop-n g l = record {
+  tried : AreTried IsLaidOut l.opened.place (g.D.Disk.state l.initial.disk) (g.D.Disk.state l.disk) l.n;
+  at_hand : AreAtHand (meaning (g.D.Disk.state l.initial.disk)) l.pointers;
+}

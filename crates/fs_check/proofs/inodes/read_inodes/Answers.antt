@@ -6,8 +6,8 @@ use Rattle.fs_model.specs.Rules.{IsGoodInode}
 use Rattle.sector_disk.proofs.Moments.{reads_nothing, reads_joined}
 use Rattle.fs_check.specs.Checks.{meaning}
 use Rattle.fs_check.proofs.Carrying.{opened_still, read_error, memory_error}
-use Rattle.fs_check.proofs.Tables.{good_is, more_there, more_good}
-use Rattle.fs_check.proofs.TableSectors.{same_sector, sector_back, sector_still, one_longer}
+use Rattle.fs_check.proofs.Tables.{good_is, more_good}
+use Rattle.fs_check.proofs.TableSectors.{same_sector, sector_back, sector_still}
 use Rattle.fs_check.proofs.inodes.read_inodes.Goals as goal
 
 pub read_table-requires-clause-kept : goal.read_table-requires-clause-kept

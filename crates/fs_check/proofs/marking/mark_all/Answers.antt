@@ -1,12 +1,13 @@
-use Rattle.std.proofs.Common.{get_or, arith, refl, subst, inl, inr}
+use Rattle.std.proofs.Common.{◌+◌, get_or, arith, refl, subst, inl, inr}
 use Rattle.std.proofs.lemmas.Bool.{cases_lt}
 use Rattle.fs_layout.specs.Images.{Owns}
 use Rattle.fs_model.specs.Rules.{IsInData}
-use Rattle.sector_disk.proofs.Moments.{reads_joined}
+use Rattle.sector_disk.proofs.Moments.{reads_joined, reads_nothing}
 use Rattle.fs_check.specs.Checks.{meaning}
 use Rattle.fs_check.specs.Owning.{OwnsData}
+use Rattle.fs_check.proofs.Carrying.{hand_back}
 use Rattle.fs_check.proofs.FreeInodes.{free_owns_nothing}
-use Rattle.fs_check.proofs.MarkedParts.{inode_marked, all_marked}
+use Rattle.fs_check.proofs.MarkedParts.{step_marked, all_marked}
 use Rattle.fs_check.proofs.Tables.{more_good}
 use Rattle.fs_check.proofs.Tests.{within, few_inodes, inode_here, free_behind, known_of, refuses, blank}
 use Rattle.fs_check.proofs.marking.mark_all.Goals as goal
@@ -30,6 +31,14 @@ returns-then-not-branch-clause-passed g c =
       );
     }
 
+pub loop-n-init : goal.loop-n-init
+loop-n-init g c = record {
+  reads = reads_nothing;
+  good = λ k lt. absurd (omega (arith, lt));
+  at_hand = c.new-pointers.ensures (meaning (g.D.Disk.state c.args.disk.now));
+  marked = c.requires.none;
+}
+
 pub loop-n-preserved : goal.loop-n-preserved
 loop-n-preserved g c =
     let s0 = g.D.Disk.state c.args.disk.now in
@@ -43,8 +52,9 @@ loop-n-preserved g c =
       reads = reads_joined reads c.in_ok-mark_inode.ensures.passed.reads;
       good = more_good (IsInData p (meaning s0)) n c.loop-n.invariant.good
           (known_of (OwnsData p) s0 s1 p c.args.inodes.now n blank reads c.requires.table lt (c.in_ok-mark_inode.ensures.test.0 c.if-not-branch.false));
+      at_hand = hand_back reads c.mark_inode.new.pointers c.in_ok-mark_inode.ensures.at_hand;
       marked =
-          inode_marked p s0 s1 (get_or c.args.inodes.now n blank) n 0 c.loop-n.owned c.loop-n.twice c.mark_inode.new.owned c.mark_inode.new.twice reads here
+          step_marked p s0 s1 (get_or c.args.inodes.now n blank) n 0 (n + 1) 0 c.loop-n.owned c.loop-n.twice c.mark_inode.new.owned c.mark_inode.new.twice reads here
           (c.in_ok-mark_inode.ensures.marked c.if-not-branch.false n) c.loop-n.invariant.marked;
     }
 

@@ -1,7 +1,7 @@
 use Rattle.std.proofs.Common.{◌<◌, ℕ}
 use Rattle.fs_model.specs.Rules.{IsInData}
 use Rattle.sector_disk.specs.Disk.{OnlyReads}
-use Rattle.fs_check.specs.Owning.{owned_part, IsMarked}
+use Rattle.fs_check.specs.Owning.{AreAtHand, owned_part, IsMarked}
 use Rattle.fs_check.specs.Checks.{meaning}
 use Rattle.fs_check.proofs.marking.mark_all.Given as goal
 
@@ -9,5 +9,6 @@ abbrev pub invariant-loop-n : goal.invariant-loop-n
 invariant-loop-n g l = record {
   reads : OnlyReads (g.D.Disk.state l.initial.disk) (g.D.Disk.state l.disk);
   good : (k : ℕ) → k < l.n → IsInData l.opened.place (meaning (g.D.Disk.state l.initial.disk)) k;
+  at_hand : AreAtHand (meaning (g.D.Disk.state l.initial.disk)) l.pointers;
   marked : IsMarked (owned_part l.opened.place (meaning (g.D.Disk.state l.initial.disk))) l.n 0 l.opened.place.sectors l.owned l.twice;
 }

@@ -1,13 +1,18 @@
 use Rattle.std.proofs.Common.{◌/◌, arith}
 use Rattle.fs_check.specs.Checks.{meaning}
-use Rattle.fs_check.proofs.DataNumbers.{level_below}
+use Rattle.fs_check.proofs.DataNumbers.{above_owned, level_below, level_owned}
 use Rattle.fs_check.proofs.slots.read_block_of.Goals as goal
+
+pub number-requires-clause-above : goal.number-requires-clause-above
+number-requires-clause-above g c =
+    above_owned c.args.opened.now.place (meaning (g.D.Disk.state c.args.disk.now)) c.args.inode.now c.requires.in_data 0
 
 pub read_recovered-requires-clause-on_disk : goal.read_recovered-requires-clause-on_disk
 read_recovered-requires-clause-on_disk g c =
+    let p = c.args.opened.now.place in
     let m = meaning (g.D.Disk.state c.args.disk.now) in
-    let k = c.args.k / c.block_slots-block_slots.result in
-    let is = c.number-s.ensures m c.in_ok-load_pointers.ensures.loaded in
-    let below = level_below _ _ c.args.opened.now.place m c.args.inode.now 0 k c.requires.opened.place c.requires.in_data in
-    let size = c.in_ok-load_pointers.ensures.passed.reads.narrowed.size in
-    omega (arith, is, below, size)
+    let v = c.args.inode.now in
+    let below = level_below _ _ p m v 0 (c.args.k / c.block_slots-block_slots.result) c.in_ok-s.s c.requires.opened.place (level_owned p m v c.requires.in_data 0)
+    c.in_ok-s.ensures.number in
+    let size = c.in_ok-s.ensures.passed.reads.narrowed.size in
+    omega (arith, below, size)

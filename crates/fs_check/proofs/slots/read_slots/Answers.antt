@@ -1,4 +1,4 @@
-use Rattle.std.proofs.Common.{arith, subst}
+use Rattle.std.proofs.Common.{arith, rules, subst}
 use Rattle.std.specs.Prelude.{◌≡◌, ◌*◌, ◌/◌, ◌%◌, ◌<◌, Ok}
 use Rattle.sector_disk.proofs.Moments.{reads_joined}
 use Rattle.fs_layout.specs.Directories.{slot_count, slot_at, slot_of, stored_slot}
@@ -8,6 +8,11 @@ use Rattle.fs_check.proofs.Carrying.{meaning_same, read_error, memory_error}
 use Rattle.fs_check.proofs.Tables.{more_there, more_good}
 use Rattle.fs_check.proofs.DirectorySlots.{in_data_still, block_back, valid_here, not_valid, same_block, slot_begins}
 use Rattle.fs_check.proofs.slots.read_slots.Goals as goal
+
+pub loop-k-init : goal.loop-k-init
+loop-k-init g c =
+    let at_hand = c.new-pointers.ensures (meaning (g.D.Disk.state c.args.disk.now)) in
+    search rules
 
 pub read_block_of-requires-clause-in_data : goal.read_block_of-requires-clause-in_data
 read_block_of-requires-clause-in_data g c =
@@ -58,7 +63,7 @@ loop-k-preserved g c =
     let more = c.in_ok-push.ensures.len in
     record {
       reads = reads_joined c.loop-k.invariant.reads c.in_ok-read_block_of.ensures.passed.reads;
-      at_hand = subst (λ q. AreAtHand q v c.read_block_of.new.pointers) (meaning_same c.loop-k.invariant.reads) c.in_ok-read_block_of.ensures.at_hand;
+      at_hand = subst (λ q. AreAtHand q c.read_block_of.new.pointers) (meaning_same c.loop-k.invariant.reads) c.in_ok-read_block_of.ensures.at_hand;
       block = same_block version m v k block here;
       len = omega (arith, len, more);
       valid = more_good (λ j. slot_of version (stored_slot version m v j) ≡ Ok (slot_at version m v j)) k c.loop-k.invariant.valid good.0;

@@ -11,7 +11,7 @@ use Rattle.fs_check.proofs.slots.read_slots.Given as goal
 abbrev pub invariant-loop-k : goal.invariant-loop-k
 invariant-loop-k g l = record {
   reads : OnlyReads (g.D.Disk.state l.fn.disk) (g.D.Disk.state l.disk);
-  at_hand : AreAtHand (meaning (g.D.Disk.state l.fn.disk)) l.inode l.pointers;
+  at_hand : AreAtHand (meaning (g.D.Disk.state l.fn.disk)) l.pointers;
   block : l.k % block_slots l.opened.place.version ≢ 0
       → l.block ≡ block_of_slot l.opened.place.version (meaning (g.D.Disk.state l.fn.disk)) l.inode l.k;
   len : length l.slots.items ≡ l.k;

@@ -20,23 +20,19 @@ returns c =
     let b7 = next_write old _ _ _ (le32 s.acl) 28 b6 refl c.put_u32-5.ensures in
     let b8 = next_write old _ _ _ (le32 s.default_acl) 32 b7 refl c.put_u32-6.ensures in
     let b9 = next_write old _ _ _ (le32s s.direct) 36 b8 refl c.put_u32s.ensures in
-    let b10 = next_write old _ _ _ (le32 s.indirect) 84 b9 (omega (arith, len)) c.put_u32-7.ensures in
-    let pointers : length (le32s s.direct ++ le32 s.indirect) ≡ 52 = omega (arith, len, length-append (le32s s.direct) (le32 s.indirect)) in
-    let b11 = next_write old _ _ _ (le32 s.double_indirect) 88 b10 (omega (arith, pointers)) c.put_u32-8.ensures in
-    let all : length ((le32s s.direct ++ le32 s.indirect) ++ le32 s.double_indirect) ≡ 56 =
-    omega (arith, pointers, length-append (le32s s.direct ++ le32 s.indirect) (le32 s.double_indirect)) in
-    let numbers = (le32s s.direct ++ le32 s.indirect) ++ le32 s.double_indirect in
-    let b12 = next_write old _ _ _ (zeros 4) 92 b11 (omega (arith, all)) c.put_zeros.ensures in
-    let spaced : length (numbers ++ zeros 4) ≡ 60 = omega (arith, all, length-append numbers (zeros 4), length-zeros 4) in
-    let b13 = next_write old _ _ _ (le64 s.mtime) 96 b12 (omega (arith, spaced)) c.put_u64-2.ensures in
-    let modified : length ((numbers ++ zeros 4) ++ le64 s.mtime) ≡ 68 = omega (arith, spaced, length-append (numbers ++ zeros 4) (le64 s.mtime)) in
-    let b14 = next_write old _ _ _ (le64 s.ctime) 104 b13 (omega (arith, modified)) c.put_u64-3.ensures in
-    let changed : length (((numbers ++ zeros 4) ++ le64 s.mtime) ++ le64 s.ctime) ≡ 76 =
-    omega (arith, modified, length-append ((numbers ++ zeros 4) ++ le64 s.mtime) (le64 s.ctime)) in
-    let b15 = next_write old _ _ _ (le64 s.atime) 112 b14 (omega (arith, changed)) c.put_u64-4.ensures in
-    let times = ((numbers ++ zeros 4) ++ le64 s.mtime) ++ le64 s.ctime in
+    let b10 = next_write old _ _ _ (le32s s.indirect) 84 b9 (omega (arith, len)) c.put_u32s-2.ensures in
+    let all : length (le32s s.direct ++ le32s s.indirect) ≡ 60 =
+    omega (arith, len, length-le32s s.indirect, length-append (le32s s.direct) (le32s s.indirect)) in
+    let numbers = le32s s.direct ++ le32s s.indirect in
+    let b11 = next_write old _ _ _ (le64 s.mtime) 96 b10 (omega (arith, all)) c.put_u64-2.ensures in
+    let modified : length (numbers ++ le64 s.mtime) ≡ 68 = omega (arith, all, length-append numbers (le64 s.mtime)) in
+    let b12 = next_write old _ _ _ (le64 s.ctime) 104 b11 (omega (arith, modified)) c.put_u64-3.ensures in
+    let changed : length ((numbers ++ le64 s.mtime) ++ le64 s.ctime) ≡ 76 =
+    omega (arith, modified, length-append (numbers ++ le64 s.mtime) (le64 s.ctime)) in
+    let b13 = next_write old _ _ _ (le64 s.atime) 112 b12 (omega (arith, changed)) c.put_u64-4.ensures in
+    let times = (numbers ++ le64 s.mtime) ++ le64 s.ctime in
     let read : length (times ++ le64 s.atime) ≡ 84 = omega (arith, changed, length-append times (le64 s.atime)) in
-    let b16 = next_write old _ _ _ (zeros 8) 120 b15 (omega (arith, read)) c.put_zeros-2.ensures in
-    all_written old _ _ b16
+    let b14 = next_write old _ _ _ (zeros 8) 120 b13 (omega (arith, read)) c.put_zeros.ensures in
+    all_written old _ _ b14
     (omega (arith, c.requires, read, length-append (times ++ le64 s.atime) (zeros 8), length-zeros 8))
     ∙ simp append_assoc

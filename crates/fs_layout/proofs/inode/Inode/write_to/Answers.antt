@@ -7,4 +7,4 @@ use Rattle.fs_layout.specs.Inode.{inode_bytes}
 pub returns : goal.returns
 returns c =
     part_is_splice c.args.to.now _ (inode_bytes c.args.self.now) c.args.at _ INODE_SIZE
-    (length-inode_bytes c.args.self.now (omega arith)) c.put.ensures (omega arith)
+    (length-inode_bytes c.args.self.now (omega arith) (omega arith)) c.put.ensures (omega arith)

@@ -1,0 +1,67 @@
+use Rattle.std.proofs.Common.{◌≡◌, ◌+◌, ◌-◌, [], get_or, sym, ap, arith, refl, ◌∙◌}
+use Rattle.fs_model.specs.Nodes.{numbers_for}
+use Rattle.fs_check.specs.Checks.{meaning}
+use Rattle.fs_check.proofs.DataNumbers.{above_owned, level_owned, listed_own}
+use Rattle.fs_check.proofs.FitNumbers.{needed_level, to_cut, of_cut, own_not_cut, cut_without, cut_at_hole, last_lists}
+use Rattle.fs_check.proofs.contents.is_cut.Goals as goal
+
+pub returns-then-not-are_none-clause-test : goal.returns-then-not-are_none-clause-test
+returns-then-not-are_none-clause-test g c =
+    let m = meaning (g.D.Disk.state c.args.disk.now) in
+    let v = c.args.inode.now in
+    let level = c.args.level in
+    let first = c.needed_numbers-first.result in
+    let own = c.own_count-own.result in
+    own_not_cut m v level first own (numbers_for (level + 1) v.size) c.needed_numbers-first.ensures.is c.own_count-own.ensures refl c.are_none.result
+    (c.are_none.ensures m (listed_own m v level first own (get_or c.args.pointers.now.contents 0 []) (omega (arith, c.own_count-own.ensures)))) c.if-not-are_none.true
+
+pub returns-then-above-eq0-clause-test : goal.returns-then-above-eq0-clause-test
+returns-then-above-eq0-clause-test g c =
+    let m = meaning (g.D.Disk.state c.args.disk.now) in
+    let v = c.args.inode.now in
+    let level = c.args.level in
+    let first = c.needed_numbers-first.result in
+    let own = c.own_count-own.result in
+    let none = (c.are_none.ensures m (listed_own m v level first own (get_or c.args.pointers.now.contents 0 []) (omega (arith, c.own_count-own.ensures)))).0
+    c.if-not-are_none.false in
+    let cut = cut_without m v level first own c.needed_numbers-above.result c.needed_numbers-first.ensures.is c.own_count-own.ensures c.needed_numbers-above.ensures.is none
+    c.if-above-eq0.true in
+    ((λ t. cut), (λ all. refl))
+
+pub find-requires-clause-highest : goal.find-requires-clause-highest
+find-requires-clause-highest g c =
+    needed_level c.args.level c.args.inode.now.size c.requires.level c.requires.size.most (λ none. c.if-above-eq0.false (c.needed_numbers-above.ensures.is ∙ none))
+
+pub find-requires-clause-in_data : goal.find-requires-clause-in_data
+find-requires-clause-in_data g c =
+    level_owned c.args.opened.now.place (meaning (g.D.Disk.state c.args.disk.now)) c.args.inode.now c.requires.in_data (c.args.level + 1)
+
+pub find-requires-clause-above : goal.find-requires-clause-above
+find-requires-clause-above g c =
+    above_owned c.args.opened.now.place (meaning (g.D.Disk.state c.args.disk.now)) c.args.inode.now c.requires.in_data (c.args.level + 1)
+
+pub returns-then-branch-eq0-clause-test : goal.returns-then-branch-eq0-clause-test
+returns-then-branch-eq0-clause-test g c =
+    let m = meaning (g.D.Disk.state c.args.disk.now) in
+    let v = c.args.inode.now in
+    let cut = cut_at_hole m v c.args.level c.needed_numbers-first.result c.own_count-own.result c.needed_numbers-above.result c.needed_numbers-first.ensures.is
+    c.own_count-own.ensures c.needed_numbers-above.ensures.is c.if-above-eq0.false (sym c.in_ok-find.ensures.number ∙ c.if-branch-eq0.true) in
+    ((λ t. cut), (λ all. refl))
+
+pub returns-clause-test : goal.returns-clause-test
+returns-clause-test g c =
+    let m = meaning (g.D.Disk.state c.args.disk.now) in
+    let v = c.args.inode.now in
+    let level = c.args.level in
+    let first = c.needed_numbers-first.result in
+    let own = c.own_count-own.result in
+    let above = c.needed_numbers-above.result in
+    let s = c.in_ok-find.field-0 in
+    let content = get_or c.find.new.self.contents level [] in
+    let same : level + 1 - 1 ≡ level = omega arith in
+    let read : content ≡ m s = ap (λ n. get_or c.find.new.self.contents n []) (sym same) ∙ c.in_ok-find.ensures.content c.if-branch-eq0.false in
+    let test = c.are_none-2.ensures m (last_lists m v level first own above c.needed_numbers-first.ensures.is c.own_count-own.ensures c.needed_numbers-above.ensures.is
+    s content c.if-above-eq0.false c.in_ok-find.ensures.number c.if-branch-eq0.false read) in (
+      (λ t. to_cut m v level first own above c.needed_numbers-first.ensures.is c.own_count-own.ensures c.needed_numbers-above.ensures.is (test.0 t)),
+      (λ cut. test.1 (of_cut m v level first own above c.needed_numbers-first.ensures.is c.own_count-own.ensures c.needed_numbers-above.ensures.is cut)),
+    )
