@@ -4,11 +4,11 @@ use Rattle.std.specs.Prelude.{count_by}
 use Rattle.std.specs.List.{range_with_len}
 use Rattle.std.specs.Int.{bit_at}
 use Rattle.std.proofs.lemmas.Bool.{cases_lt}
-use Rattle.fs_layout.specs.declared.place.Place.{Place}
+use Rattle.fs_layout.specs.declared.geometry.Geometry.{Geometry}
 use Rattle.fs_layout.specs.declared.header.TheConstants.{MAX_HEADER}
 use Rattle.fs_layout.specs.Bytes.{SectorMap}
 use Rattle.fs_layout.specs.Header.{max_delta}
-use Rattle.fs_layout.specs.Place.{IsPlace}
+use Rattle.fs_layout.specs.Geometry.{IsGeometry}
 use Rattle.fs_layout.specs.Images.{bit, inode_map_bits, map_bits}
 use Rattle.fs_layout.proofs.Places.{after_map}
 use Rattle.fs_layout.proofs.Bits.{not_both}
@@ -25,8 +25,8 @@ unfolding bit
 bit_in_sector image start n =
     let s : List ℕ = image (start + n / 4096) in
     let byte : n % 4096 / 8 ≡ n % 4096 % 4096 / 8 = omega arith in
-    let place : n % 8 ≡ n % 4096 % 8 = omega arith in
-    ap (λ (m : ℕ). nat_eq (bit_at (get_or s m 0) (n % 8)) 1) byte ∙ ap (λ (m : ℕ). nat_eq (bit_at (get_or s (n % 4096 % 4096 / 8) 0) m) 1) place
+    let geometry : n % 8 ≡ n % 4096 % 8 = omega arith in
+    ap (λ (m : ℕ). nat_eq (bit_at (get_or s m 0) (n % 8)) 1) byte ∙ ap (λ (m : ℕ). nat_eq (bit_at (get_or s (n % 4096 % 4096 / 8) 0) m) 1) geometry
 
 -- and one of its byte
 pub bit_in_byte : (image : SectorMap) (start n : ℕ) (s : List ℕ) → s ≡ image (start + n / 4096) → nat_eq (bit_at (get_or s (n % 4096 / 8) 0) (n % 8)) 1 ≡ bit image start n
@@ -37,9 +37,9 @@ bit_in_byte image start n s is = ap (λ (t : List ℕ). nat_eq (bit_at (get_or t
 pub bit_of_sector : (image : SectorMap) (start k i : ℕ) (s : List ℕ) → s ≡ image (start + k) → i < 4096 → bit (λ _. s) 0 i ≡ bit image start (4096 * k + i)
 bit_of_sector image start k i s is few =
     let sector : k ≡ (4096 * k + i) / 4096 = omega arith in
-    let place : i ≡ (4096 * k + i) % 4096 = omega arith in
+    let geometry : i ≡ (4096 * k + i) % 4096 = omega arith in
     ap (λ (t : List ℕ). bit (λ _. t) 0 i) (is ∙ ap (λ (m : ℕ). image (start + m)) sector)
-    ∙ ap (bit (λ _. image (start + (4096 * k + i) / 4096)) 0) place ∙ sym (bit_in_sector image start (4096 * k + i))
+    ∙ ap (bit (λ _. image (start + (4096 * k + i) / 4096)) 0) geometry ∙ sym (bit_in_sector image start (4096 * k + i))
 
 -- the clear bits of one sector more
 pub sector_counted : (image : SectorMap) (start k m : ℕ) (s : List ℕ) → s ≡ image (start + k) → m ≤ 4096
@@ -79,17 +79,17 @@ all_set image start n set = count_none _ 0 n (λ i from to. ap not (set i (omega
 
 -- ---- from bits to numbers
 -- each number has a bit
-pub number_has_bit : (p : Place) (map : Bitmap) (n : ℕ) → IsPlace p → n < limit p map → n < bit_count p map
-number_has_bit p Inodes n place lt = let bits = place.inode_bits in omega (arith, bits, lt)
-number_has_bit p Blocks n place lt = let bits = place.bits in omega (arith, bits, lt)
+pub number_has_bit : (p : Geometry) (map : Bitmap) (n : ℕ) → IsGeometry p → n < limit p map → n < bit_count p map
+number_has_bit p Inodes n geometry lt = let bits = geometry.inode_bits in omega (arith, bits, lt)
+number_has_bit p Blocks n geometry lt = let bits = geometry.bits in omega (arith, bits, lt)
 
 -- and there are not too many for a number of 32 bits
-pub few_bits : (p : Place) (map : Bitmap) → IsPlace p → bit_count p map ≤ 4096 * max_delta MAX_HEADER
-few_bits p Inodes place = let room = place.room in let most = place.header in let after = after_map place in omega (arith, room, most, after)
-few_bits p Blocks place = let room = place.room in let most = place.header in let after = after_map place in omega (arith, room, most, after)
+pub few_bits : (p : Geometry) (map : Bitmap) → IsGeometry p → bit_count p map ≤ 4096 * max_delta MAX_HEADER
+few_bits p Inodes geometry = let room = geometry.room in let most = geometry.header in let after = after_map geometry in omega (arith, room, most, after)
+few_bits p Blocks geometry = let room = geometry.room in let most = geometry.header in let after = after_map geometry in omega (arith, room, most, after)
 
 -- a clear bit is that of a free number
-pub clear_is_free : (p : Place) (map : Bitmap) (image : SectorMap) (n : ℕ) → HasRestSet p image → n < bit_count p map → bit image (first_sector p map) n ≡ false
+pub clear_is_free : (p : Geometry) (map : Bitmap) (image : SectorMap) (n : ℕ) → HasRestSet p image → n < bit_count p map → bit image (first_sector p map) n ≡ false
     → IsFreeNumber p map image n
 clear_is_free p map image n rest low clear =
     let some : (least p map ≤ n) × (n < limit p map) = elim (cases_lt n (least p map)) [
@@ -102,7 +102,7 @@ clear_is_free p map image n rest low clear =
     (some.0, some.1, clear)
 
 -- so is one that is clear in a sector of the bitmap
-pub found_free : (p : Place) (map : Bitmap) (image : SectorMap) (k i sectors : ℕ) (s : List ℕ) → HasRestSet p image → s ≡ image (first_sector p map + k) → 4096 * sectors ≡ bit_count p map
+pub found_free : (p : Geometry) (map : Bitmap) (image : SectorMap) (k i sectors : ℕ) (s : List ℕ) → HasRestSet p image → s ≡ image (first_sector p map + k) → 4096 * sectors ≡ bit_count p map
     → k < sectors → i < 4096 → bit (λ _. s) 0 i ≡ false → IsFreeNumber p map image (4096 * k + i)
 found_free p map image k i sectors s rest is all low few clear =
     clear_is_free p map image (4096 * k + i) rest (omega arith) (sym (bit_of_sector image (first_sector p map) k i s is few) ∙ clear)
@@ -123,18 +123,18 @@ counted_within image start a m n le outside =
     omega (arith, whole, count_split f 0 a (m + r), moved, below, count_split f a m r, past)
 
 -- the clear bits are the free numbers
-pub numbers_counted : (p : Place) (map : Bitmap) (image : SectorMap) → IsPlace p → HasRestSet p image
+pub numbers_counted : (p : Geometry) (map : Bitmap) (image : SectorMap) → IsGeometry p → HasRestSet p image
     → clear_below image (first_sector p map) (bit_count p map) ≡ free_numbers p map image
-numbers_counted p Inodes image place rest =
-    let bits = place.inode_bits in
+numbers_counted p Inodes image geometry rest =
+    let bits = geometry.inode_bits in
     counted_within image p.inode_bitmap 0 p.inodes (inode_map_bits p) (omega (arith, bits)) (λ i low ban. rest Inodes i low (λ is. let b = is.1 in ban (omega arith, omega (arith, b))))
-numbers_counted p Blocks image place rest =
-    let bits = place.bits in
-    let some = place.data_sectors in
+numbers_counted p Blocks image geometry rest =
+    let bits = geometry.bits in
+    let some = geometry.data_sectors in
     counted_within image p.block_bitmap p.first_data (p.sectors - p.first_data) (map_bits p) (omega (arith, bits, some))
     (λ i low ban. rest Blocks i low (λ is. let b = is.1 in ban (is.0, omega (arith, b, some))))
 
 -- so they are not too many either
-pub few_free : (p : Place) (map : Bitmap) (image : SectorMap) → IsPlace p → HasRestSet p image → free_numbers p map image ≤ 4096 * max_delta MAX_HEADER
-few_free p map image place rest =
-    omega (arith, numbers_counted p map image place rest, counted_at_most image (first_sector p map) (bit_count p map), few_bits p map place)
+pub few_free : (p : Geometry) (map : Bitmap) (image : SectorMap) → IsGeometry p → HasRestSet p image → free_numbers p map image ≤ 4096 * max_delta MAX_HEADER
+few_free p map image geometry rest =
+    omega (arith, numbers_counted p map image geometry rest, counted_at_most image (first_sector p map) (bit_count p map), few_bits p map geometry)

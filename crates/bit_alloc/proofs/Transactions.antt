@@ -1,7 +1,7 @@
 -- What runs of reads and puts leave of a transaction, of its bitmaps, and of its room.
 use Rattle.std.proofs.Common.{◌≡◌, ℕ, refl, sym, subst, ◌∙◌, arith, inl, inr, ⊎_elim, List, ap}
 use Rattle.fs_layout.specs.Header.{log_end}
-use Rattle.fs_layout.specs.declared.place.Place.{Place}
+use Rattle.fs_layout.specs.declared.geometry.Geometry.{Geometry}
 use Rattle.sector_txn.specs.Sectors.{TxnState, IsUnchanged, PutsOnly}
 use Rattle.sector_txn.proofs.TransactionRuns.{store_same, store_joined, lacking_less}
 use Rattle.bit_alloc.specs.Bitmaps.{HasRestSet, HasBitmaps}
@@ -27,9 +27,9 @@ pub map_unchanged : {old new : TxnState} → IsUnchanged old new → old.sectors
 map_unchanged same = λ i n. sym (same.sectors n) i
 
 -- the bitmaps are
-pub bitmaps_unchanged : (p : Place) (old new : TxnState) → HasBitmaps p old → IsUnchanged old new → HasBitmaps p new
+pub bitmaps_unchanged : (p : Geometry) (old new : TxnState) → HasBitmaps p old → IsUnchanged old new → HasBitmaps p new
 bitmaps_unchanged p old new has same = record {
-  place = has.place;
+  geometry = has.geometry;
   disk = omega (arith, has.disk, same.store.reads.narrowed.size);
   header = omega (arith, has.header, ap log_end same.store.header);
   tables = subst (HasWholeTables p) (map_unchanged same) has.tables;
@@ -37,7 +37,7 @@ bitmaps_unchanged p old new has same = record {
 }
 
 -- and the room
-pub spare_unchanged : (p : Place) (k : ℕ) (old new : TxnState) → HasSpare p k old → IsUnchanged old new → HasSpare p k new
+pub spare_unchanged : (p : Geometry) (k : ℕ) (old new : TxnState) → HasSpare p k old → IsUnchanged old new → HasSpare p k new
 spare_unchanged p k old new spare same = omega (arith, spare, same.room, lacking_less old new (λ m has. same.delta m ∙ has) (bitmaps p))
 
 -- puts that follow

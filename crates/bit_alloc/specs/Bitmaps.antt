@@ -10,58 +10,58 @@ use Rattle.std.specs.Prelude.{◌≡◌, ℕ, ◌+◌, ◌/◌, ◌<◌, ◌≤�
 use Rattle.std.specs.List.{range_with_len}
 use Rattle.bit_alloc.specs.declared.bitmap.Bitmap.{Bitmap}
 use Rattle.bit_alloc.specs.declared.bitmap.Bitmap.TheVariants.{Inodes, Blocks}
-use Rattle.fs_layout.specs.declared.place.Place.{Place}
+use Rattle.fs_layout.specs.declared.geometry.Geometry.{Geometry}
 use Rattle.fs_layout.specs.Bytes.{SectorMap}
 use Rattle.fs_layout.specs.Header.{log_end}
-use Rattle.fs_layout.specs.Place.{IsPlace}
+use Rattle.fs_layout.specs.Geometry.{IsGeometry}
 use Rattle.fs_layout.specs.Images.{HasWholeTables, inode_map_bits, map_bits, bit, free_sectors}
 use Rattle.fs_layout.specs.InodeChanges.{MarksSector, MarksInode}
 use Rattle.sector_txn.specs.Sectors.{TxnState}
 
 -- the first sector of the bitmap
-abbrev pub first_sector : Place → Bitmap → ℕ
+abbrev pub first_sector : Geometry → Bitmap → ℕ
 first_sector p Inodes = p.inode_bitmap
 first_sector p Blocks = p.block_bitmap
 
 -- how many bits it has
-abbrev pub bit_count : Place → Bitmap → ℕ
+abbrev pub bit_count : Geometry → Bitmap → ℕ
 bit_count p Inodes = inode_map_bits p
 bit_count p Blocks = map_bits p
 
 -- the least number that it keeps
-abbrev pub least : Place → Bitmap → ℕ
+abbrev pub least : Geometry → Bitmap → ℕ
 least p Inodes = 1
 least p Blocks = p.first_data
 
 -- the end of these numbers
-abbrev pub limit : Place → Bitmap → ℕ
+abbrev pub limit : Geometry → Bitmap → ℕ
 limit p Inodes = p.inodes
 limit p Blocks = p.sectors
 
 -- an inode but for inode 0, which isn't used; a data sector
-abbrev pub IsNumber : Place → Bitmap → ℕ → Type 0
+abbrev pub IsNumber : Geometry → Bitmap → ℕ → Type 0
 IsNumber p map n = (least p map ≤ n) × (n < limit p map)
 
 -- one whose bit is clear
-abbrev pub IsFreeNumber : Place → Bitmap → SectorMap → ℕ → Type 0
+abbrev pub IsFreeNumber : Geometry → Bitmap → SectorMap → ℕ → Type 0
 IsFreeNumber p map image n = (least p map ≤ n) × (n < limit p map) × (bit image (first_sector p map) n ≡ false)
 
 -- how many inodes, or data sectors, have a clear bit
-abbrev pub free_numbers : Place → Bitmap → SectorMap → ℕ
+abbrev pub free_numbers : Geometry → Bitmap → SectorMap → ℕ
 free_numbers p Inodes image = count_by (λ n. not (bit image p.inode_bitmap n)) (range_with_len 0 p.inodes)
 free_numbers p Blocks image = free_sectors p image
 
 -- the sector in which the bit of n stands
-abbrev pub sector_of : Place → Bitmap → ℕ → ℕ
+abbrev pub sector_of : Geometry → Bitmap → ℕ → ℕ
 sector_of p map n = first_sector p map + n / 4096
 
 -- of the bitmap no bit but that of n differs, and nothing else does
-abbrev pub Marks : Place → Bitmap → ℕ → SectorMap → SectorMap → Type 0
+abbrev pub Marks : Geometry → Bitmap → ℕ → SectorMap → SectorMap → Type 0
 Marks p Inodes n old new = MarksInode p n old new
 Marks p Blocks n old new = MarksSector p n old new
 
 -- n was free, and its bit is set
-pub record TakesNumber (p : Place) (map : Bitmap) (n : ℕ) (old new : SectorMap) : Type 0 where
+pub record TakesNumber (p : Geometry) (map : Bitmap) (n : ℕ) (old new : SectorMap) : Type 0 where
   pub free : IsFreeNumber p map old n
   pub mark : Marks p map n old new
   pub set : IsTrue (bit new (first_sector p map) n)
@@ -69,7 +69,7 @@ pub record TakesNumber (p : Place) (map : Bitmap) (n : ℕ) (old new : SectorMap
   pub count : free_numbers p map old ≡ free_numbers p map new + 1
 
 -- the bit of n is clear
-pub record GivesNumber (p : Place) (map : Bitmap) (n : ℕ) (old new : SectorMap) : Type 0 where
+pub record GivesNumber (p : Geometry) (map : Bitmap) (n : ℕ) (old new : SectorMap) : Type 0 where
   pub mark : Marks p map n old new
   pub clear : bit new (first_sector p map) n ≡ false
   -- if n was taken, one number more is free
@@ -77,13 +77,13 @@ pub record GivesNumber (p : Place) (map : Bitmap) (n : ℕ) (old new : SectorMap
 
 -- The bits that are no number's are set: that of inode 0, those below the data, and those past the end. So each clear
 -- bit is that of a free number.
-abbrev pub HasRestSet : Place → SectorMap → Type 0
+abbrev pub HasRestSet : Geometry → SectorMap → Type 0
 HasRestSet p image =
     (map : Bitmap) (n : ℕ) → n < bit_count p map → (IsNumber p map n → ⊥) → IsTrue (bit image (first_sector p map) n)
 
 -- The transaction shows bitmaps and inode table of this layout. Of inodes, and of what they own, nothing is asked.
-pub record HasBitmaps (p : Place) (txn : TxnState) : Type 0 where
-  pub place : IsPlace p
+pub record HasBitmaps (p : Geometry) (txn : TxnState) : Type 0 where
+  pub geometry : IsGeometry p
   pub disk : p.sectors ≤ txn.disk.size
   pub header : log_end txn.header ≤ p.inode_bitmap
   pub tables : HasWholeTables p txn.sectors

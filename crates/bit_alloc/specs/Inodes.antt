@@ -8,7 +8,7 @@ use Rattle.std.specs.Prelude.{◌≡◌, ◌≢◌, ℕ, ◌+◌, ◌/◌, ◌�
 use Rattle.fs_layout.specs.declared.inode.TheConstants.{DIRECT_BLOCKS, POINTER_LEVELS}
 use Rattle.fs_layout.specs.declared.inode.Inode.{Inode}
 use Rattle.fs_layout.specs.declared.inode.Kind.TheVariants as kinds
-use Rattle.fs_layout.specs.declared.place.Place.{Place}
+use Rattle.fs_layout.specs.declared.geometry.Geometry.{Geometry}
 use Rattle.fs_layout.specs.Bytes.{SectorMap}
 use Rattle.fs_layout.specs.Images.{IsData, Holds, HasNoHole, free_sectors}
 use Rattle.fs_layout.specs.Ownership.{IsConsistent}
@@ -18,17 +18,17 @@ use Rattle.bit_alloc.specs.Bitmaps.{HasBitmaps}
 use Rattle.bit_alloc.specs.Room.{bitmaps}
 
 -- the map is consistent and laid out on its disk, and the bits that are no number's are set
-pub record IsSound (p : Place) (txn : TxnState) : Type 0 where
+pub record IsSound (p : Geometry) (txn : TxnState) : Type 0 where
   pub consistent : IsConsistent p txn.sectors
   pub bitmaps : HasBitmaps p txn
 
 -- a sector that a call on inode n may put: of a bitmap, the inode's, or of the data
-abbrev pub IsSectorFor : Place → ℕ → ℕ → Type 0
+abbrev pub IsSectorFor : Geometry → ℕ → ℕ → Type 0
 IsSectorFor p n s = ((p.inode_bitmap ≤ s) × (s < p.table)) ⊎ ((s ≡ p.table + n / 4) ⊎ IsData p s)
 
 -- Inode n changes with what it owns, and nothing else. At most so many free sectors were taken, and at most so many
 -- sectors put besides bitmaps.
-pub record Touches (p : Place) (n taken more : ℕ) (old new : TxnState) : Type 0 where
+pub record Touches (p : Geometry) (n taken more : ℕ) (old new : TxnState) : Type 0 where
   pub puts : PutsOnly (IsSectorFor p n) (bitmaps p) more old new
   pub super : new.sectors 0 ≡ old.sectors 0
   pub inode : ChangesInode p n old.sectors new.sectors

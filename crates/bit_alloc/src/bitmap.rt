@@ -1,11 +1,11 @@
 //! The two bitmaps.
 
 ghost use Rattle.std.specs.Prelude.{◌≡◌, ◌*◌};
-ghost use Rattle.fs_layout.specs.Place.{IsPlace};
+ghost use Rattle.fs_layout.specs.Geometry.{IsGeometry};
 ghost use Rattle.bit_alloc.specs.Bitmaps.{first_sector, bit_count};
 ghost use Rattle.bit_alloc.specs.declared.bitmap.TakeFault.TheVariants.{DiskFault as Device};
 
-use fs_layout::Place;
+use fs_layout::Geometry;
 use sector_disk::DiskFault;
 
 /// Which numbers a bitmap keeps.
@@ -19,23 +19,23 @@ pub enum Bitmap {
 
 impl Bitmap {
     // The first sector of the bitmap.
-    pub(crate) fn first(self, place: Place) -> u32
-        ensures { result ≡ first_sector place self }
+    pub(crate) fn first(self, geometry: Geometry) -> u32
+        ensures { result ≡ first_sector geometry self }
     {
         match self {
-            Bitmap::Inodes => place.inode_bitmap,
-            Bitmap::Blocks => place.block_bitmap,
+            Bitmap::Inodes => geometry.inode_bitmap,
+            Bitmap::Blocks => geometry.block_bitmap,
         }
     }
 
     // How many sectors it has.
-    pub(crate) fn sectors(self, place: Place) -> u32
-        requires { IsPlace place }
-        ensures { 4096 * result ≡ bit_count place self }
+    pub(crate) fn sectors(self, geometry: Geometry) -> u32
+        requires { IsGeometry geometry }
+        ensures { 4096 * result ≡ bit_count geometry self }
     {
         match self {
-            Bitmap::Inodes => place.block_bitmap - place.inode_bitmap,
-            Bitmap::Blocks => place.table - place.block_bitmap,
+            Bitmap::Inodes => geometry.block_bitmap - geometry.inode_bitmap,
+            Bitmap::Blocks => geometry.table - geometry.block_bitmap,
         }
     }
 }

@@ -10,33 +10,38 @@ ghost use Rattle.bit_alloc.specs.Room.{bitmaps, HasSpare};
 
 use crate::bits::{first_clear, with_bit};
 use crate::{Bitmap, TakeFault};
-use fs_layout::Place;
+use fs_layout::Geometry;
 use sector_disk::DiskFault;
 use sector_txn::Sectors;
 
 /// Takes a number that is free. The sectors of the bitmap are looked at in turn, from that of `near` on, round to the one
 /// before it, but for those that were full lately, and the number is the lowest one in the first of them that isn't full; no clause says
 /// so. `near` may be any number.
-pub fn take<S: Sectors>(s: &mut S, place: Place, map: Bitmap, near: u32) -> Result<u32, TakeFault>
-    requires bitmaps { HasBitmaps place (S.state s.old) }
-    requires room { HasSpare place 0 (S.state s.old) }
-    ensures taken { IfOk result (λ n. TakesNumber place map n (S.state s.old).sectors (S.state s.new).sectors) }
-    ensures puts { IfOk result (λ n. PutsOnly (λ t. t ≡ sector_of place map n) (bitmaps place) 0 (S.state s.old) (S.state s.new)) }
-    ensures bitmaps { OnOk result (HasBitmaps place (S.state s.new)) }
-    ensures full { IfErr result (λ e. e ≡ TakeFault.Full → free_numbers place map (S.state s.old).sectors ≡ 0) }
+pub fn take<S: Sectors>(
+    s: &mut S,
+    geometry: Geometry,
+    map: Bitmap,
+    near: u32,
+) -> Result<u32, TakeFault>
+    requires bitmaps { HasBitmaps geometry (S.state s.old) }
+    requires room { HasSpare geometry 0 (S.state s.old) }
+    ensures taken { IfOk result (λ n. TakesNumber geometry map n (S.state s.old).sectors (S.state s.new).sectors) }
+    ensures puts { IfOk result (λ n. PutsOnly (λ t. t ≡ sector_of geometry map n) (bitmaps geometry) 0 (S.state s.old) (S.state s.new)) }
+    ensures bitmaps { OnOk result (HasBitmaps geometry (S.state s.new)) }
+    ensures full { IfErr result (λ e. e ≡ TakeFault.Full → free_numbers geometry map (S.state s.old).sectors ≡ 0) }
     ensures unchanged { OnErr result (IsUnchanged (S.state s.old) (S.state s.new)) }
     ensures cause { HasCauseOf TakeFault.DiskFault (S.state s.old).disk (S.state s.new).disk result }
 {
     let mut sector = [0; 512];
-    let sectors = map.sectors(place);
+    let sectors = map.sectors(geometry);
     let from = near / 4096;
     let first = map.first_sought(s, from, sectors);
     for turn in 0..sectors {
         let k = (first + turn) % sectors;
-        s.get(map.first(place) + k, &mut sector)?;
+        s.get(map.first(geometry) + k, &mut sector)?;
         if let Some(i) = first_clear(&sector) {
             let n = 4096 * k + i;
-            put_bit(s, place, map, n, &mut sector, true);
+            put_bit(s, geometry, map, n, &mut sector, true);
             return Ok(n);
         }
         map.pass_by(s, from, k + 1, sectors);
@@ -45,41 +50,41 @@ pub fn take<S: Sectors>(s: &mut S, place: Place, map: Bitmap, near: u32) -> Resu
 }
 
 /// Makes a number free. One that was free stays so.
-pub fn give<S: Sectors>(s: &mut S, place: Place, map: Bitmap, n: u32) -> Result<(), DiskFault>
-    requires bitmaps { HasBitmaps place (S.state s.old) }
-    requires number { IsNumber place map n }
-    requires room { HasSpare place 0 (S.state s.old) }
-    ensures given { OnOk result (GivesNumber place map n (S.state s.old).sectors (S.state s.new).sectors) }
-    ensures puts { OnOk result (PutsOnly (λ t. t ≡ sector_of place map n) (bitmaps place) 0 (S.state s.old) (S.state s.new)) }
-    ensures bitmaps { OnOk result (HasBitmaps place (S.state s.new)) }
+pub fn give<S: Sectors>(s: &mut S, geometry: Geometry, map: Bitmap, n: u32) -> Result<(), DiskFault>
+    requires bitmaps { HasBitmaps geometry (S.state s.old) }
+    requires number { IsNumber geometry map n }
+    requires room { HasSpare geometry 0 (S.state s.old) }
+    ensures given { OnOk result (GivesNumber geometry map n (S.state s.old).sectors (S.state s.new).sectors) }
+    ensures puts { OnOk result (PutsOnly (λ t. t ≡ sector_of geometry map n) (bitmaps geometry) 0 (S.state s.old) (S.state s.new)) }
+    ensures bitmaps { OnOk result (HasBitmaps geometry (S.state s.new)) }
     ensures unchanged { OnErr result (IsUnchanged (S.state s.old) (S.state s.new)) }
     ensures cause { HasCause (S.state s.old).disk (S.state s.new).disk result }
 {
     let mut sector = [0; 512];
-    s.get(map.first(place) + n / 4096, &mut sector)?;
-    put_bit(s, place, map, n, &mut sector, false);
+    s.get(map.first(geometry) + n / 4096, &mut sector)?;
+    put_bit(s, geometry, map, n, &mut sector, false);
     Ok(())
 }
 
 // Writes the bit of a number into its sector, which is read already.
 fn put_bit<S: Sectors>(
     s: &mut S,
-    place: Place,
+    geometry: Geometry,
     map: Bitmap,
     n: u32,
     sector: &mut [u8; 512],
     set: bool,
 )
-    requires bitmaps { HasBitmaps place (S.state s.old) }
-    requires number { IsNumber place map n }
-    requires content { sector.old ≡ (S.state s.old).sectors (sector_of place map n) }
-    requires room { HasSpare place 0 (S.state s.old) }
-    ensures marks { Marks place map n (S.state s.old).sectors (S.state s.new).sectors }
-    ensures bit { bit (S.state s.new).sectors (first_sector place map) n ≡ set }
-    ensures puts { PutsOnly (λ t. t ≡ sector_of place map n) (bitmaps place) 0 (S.state s.old) (S.state s.new) }
-    ensures bitmaps { HasBitmaps place (S.state s.new) }
+    requires bitmaps { HasBitmaps geometry (S.state s.old) }
+    requires number { IsNumber geometry map n }
+    requires content { sector.old ≡ (S.state s.old).sectors (sector_of geometry map n) }
+    requires room { HasSpare geometry 0 (S.state s.old) }
+    ensures marks { Marks geometry map n (S.state s.old).sectors (S.state s.new).sectors }
+    ensures bit { bit (S.state s.new).sectors (first_sector geometry map) n ≡ set }
+    ensures puts { PutsOnly (λ t. t ≡ sector_of geometry map n) (bitmaps geometry) 0 (S.state s.old) (S.state s.new) }
+    ensures bitmaps { HasBitmaps geometry (S.state s.new) }
 {
     let at = n as usize % 4096 / 8;
     sector[at] = with_bit(sector[at], n % 8, set);
-    s.put(map.first(place) + n / 4096, sector);
+    s.put(map.first(geometry) + n / 4096, sector);
 }

@@ -8,7 +8,7 @@
 ghost use Rattle.std.specs.Prelude.{◌≡◌, ◌≤◌, ◌<◌, ℕ, false, replicate, IfOk, IsTrue, ◌↔◌};
 ghost use Rattle.fs_layout.specs.Bytes.{IsBytes, IsSector};
 ghost use Rattle.fs_layout.specs.Header.{log_end};
-ghost use Rattle.fs_layout.specs.Place.{IsPlace};
+ghost use Rattle.fs_layout.specs.Geometry.{IsGeometry};
 ghost use Rattle.fs_layout.specs.Images.{HasWholeTables, bit, inode_at};
 ghost use Rattle.fs_layout.specs.Inode.{free_inode};
 ghost use Rattle.sector_txn.specs.Sectors.{SameStore, IsUnchanged};
@@ -20,60 +20,60 @@ mod counted;
 
 use bit_alloc::{Bitmap, is_taken};
 pub use counted::Counted;
-use fs_layout::Place;
+use fs_layout::Geometry;
 use sector_disk::DiskFault;
 use sector_txn::Sectors;
 
 // Whether the bitmap keeps this number.
-fn is_number(place: Place, map: Bitmap, n: u32) -> bool
-    ensures { IsTrue result ↔ IsNumber place map n }
+fn is_number(geometry: Geometry, map: Bitmap, n: u32) -> bool
+    ensures { IsTrue result ↔ IsNumber geometry map n }
 {
     match map {
-        Bitmap::Inodes => 1 <= n && n < place.inodes,
-        Bitmap::Blocks => place.first_data <= n && n < place.sectors,
+        Bitmap::Inodes => 1 <= n && n < geometry.inodes,
+        Bitmap::Blocks => geometry.first_data <= n && n < geometry.sectors,
     }
 }
 
 // How many bits the bitmap has.
-fn count_bits(place: Place, map: Bitmap) -> u32
-    requires { IsPlace place }
-    ensures { result ≡ bit_count place map }
+fn count_bits(geometry: Geometry, map: Bitmap) -> u32
+    requires { IsGeometry geometry }
+    ensures { result ≡ bit_count geometry map }
 {
     match map {
-        Bitmap::Inodes => 4096 * (place.block_bitmap - place.inode_bitmap),
-        Bitmap::Blocks => 4096 * (place.table - place.block_bitmap),
+        Bitmap::Inodes => 4096 * (geometry.block_bitmap - geometry.inode_bitmap),
+        Bitmap::Blocks => 4096 * (geometry.table - geometry.block_bitmap),
     }
 }
 
 /// Puts all bitmaps and the inode table as they are where no inode and no data sector is used, as far as there is room.
-pub fn put_blank<S: Sectors>(s: &mut S, place: Place)
-    requires place { IsPlace place }
-    requires disk { place.sectors ≤ (S.state s.old).disk.size }
-    requires header { log_end (S.state s.old).header ≤ place.inode_bitmap }
+pub fn put_blank<S: Sectors>(s: &mut S, geometry: Geometry)
+    requires geometry { IsGeometry geometry }
+    requires disk { geometry.sectors ≤ (S.state s.old).disk.size }
+    requires header { log_end (S.state s.old).header ≤ geometry.inode_bitmap }
     ensures { SameStore (S.state s.old) (S.state s.new) }
 {
-    for t in place.inode_bitmap..place.first_data {
+    for t in geometry.inode_bitmap..geometry.first_data {
         if s.room() == 0 {
             return;
         }
-        s.put(t, &blank_sector(place, t));
+        s.put(t, &blank_sector(geometry, t));
     }
 }
 
 // Sector t of a map without inodes: a bit of a bitmap is set where it is no number's.
-fn blank_sector(place: Place, t: u32) -> [u8; 512] {
+fn blank_sector(geometry: Geometry, t: u32) -> [u8; 512] {
     let mut sector = [0; 512];
-    if place.table <= t {
+    if geometry.table <= t {
         return sector;
     }
-    let (map, first) = if t < place.block_bitmap {
-        (Bitmap::Inodes, place.inode_bitmap)
+    let (map, first) = if t < geometry.block_bitmap {
+        (Bitmap::Inodes, geometry.inode_bitmap)
     } else {
-        (Bitmap::Blocks, place.block_bitmap)
+        (Bitmap::Blocks, geometry.block_bitmap)
     };
     for n in 0..4096 {
         if !is_number(
-            place,
+            geometry,
             map,
             t.wrapping_sub(first).wrapping_mul(4096).wrapping_add(n),
         ) {
@@ -85,19 +85,19 @@ fn blank_sector(place: Place, t: u32) -> [u8; 512] {
 
 /// Whether all inodes and data sectors are free, the bits are set that are no number's, and there is room for all bitmaps and 12
 /// sectors.
-pub fn is_blank<S: Sectors>(s: &mut S, place: Place) -> Result<bool, DiskFault>
-    requires place { IsPlace place }
-    requires disk { place.sectors ≤ (S.state s.old).disk.size }
-    requires header { log_end (S.state s.old).header ≤ place.inode_bitmap }
-    ensures sound { IfOk result (λ b. IsTrue b → IsSound place (S.state s.new)) }
+pub fn is_blank<S: Sectors>(s: &mut S, geometry: Geometry) -> Result<bool, DiskFault>
+    requires geometry { IsGeometry geometry }
+    requires disk { geometry.sectors ≤ (S.state s.old).disk.size }
+    requires header { log_end (S.state s.old).header ≤ geometry.inode_bitmap }
+    ensures sound { IfOk result (λ b. IsTrue b → IsSound geometry (S.state s.new)) }
     // An inode whose bit is clear is free.
-    ensures clear { IfOk result (λ b. IsTrue b → (n : ℕ) → n < place.inodes → bit (S.state s.new).sectors place.inode_bitmap n ≡ false
-        → inode_at place (S.state s.new).sectors n ≡ free_inode) }
-    ensures spare { IfOk result (λ b. IsTrue b → HasSpare place 12 (S.state s.new)) }
+    ensures clear { IfOk result (λ b. IsTrue b → (n : ℕ) → n < geometry.inodes → bit (S.state s.new).sectors geometry.inode_bitmap n ≡ false
+        → inode_at geometry (S.state s.new).sectors n ≡ free_inode) }
+    ensures spare { IfOk result (λ b. IsTrue b → HasSpare geometry 12 (S.state s.new)) }
 {
-    let zero = has_zero_table(s, place)?;
-    let inodes = has_bits(s, place, Bitmap::Inodes)?;
-    let blocks = has_bits(s, place, Bitmap::Blocks)?;
+    let zero = has_zero_table(s, geometry)?;
+    let inodes = has_bits(s, geometry, Bitmap::Inodes)?;
+    let blocks = has_bits(s, geometry, Bitmap::Blocks)?;
     if !zero {
         return Ok(false);
     }
@@ -107,24 +107,24 @@ pub fn is_blank<S: Sectors>(s: &mut S, place: Place) -> Result<bool, DiskFault>
     if !blocks {
         return Ok(false);
     }
-    Ok(s.room() >= (place.table - place.inode_bitmap) as usize + 12)
+    Ok(s.room() >= (geometry.table - geometry.inode_bitmap) as usize + 12)
 }
 
 // Whether the inode table is zeros.
-fn has_zero_table<S: Sectors>(s: &mut S, place: Place) -> Result<bool, DiskFault>
-    requires place { IsPlace place }
-    requires disk { place.sectors ≤ (S.state s.old).disk.size }
-    requires header { log_end (S.state s.old).header ≤ place.inode_bitmap }
-    ensures tables { IfOk result (λ b. IsTrue b → HasWholeTables place (S.state s.old).sectors) }
-    ensures zero { IfOk result (λ b. IsTrue b → (t : ℕ) → place.table ≤ t → t < place.first_data
+fn has_zero_table<S: Sectors>(s: &mut S, geometry: Geometry) -> Result<bool, DiskFault>
+    requires geometry { IsGeometry geometry }
+    requires disk { geometry.sectors ≤ (S.state s.old).disk.size }
+    requires header { log_end (S.state s.old).header ≤ geometry.inode_bitmap }
+    ensures tables { IfOk result (λ b. IsTrue b → HasWholeTables geometry (S.state s.old).sectors) }
+    ensures zero { IfOk result (λ b. IsTrue b → (t : ℕ) → geometry.table ≤ t → t < geometry.first_data
         → (S.state s.old).sectors t ≡ replicate 512 0) }
     ensures same { IsUnchanged (S.state s.old) (S.state s.new) }
 {
     let mut sector = [0; 512];
-    for t in place.inode_bitmap..place.first_data {
+    for t in geometry.inode_bitmap..geometry.first_data {
         s.get(t, &mut sector)?;
         tell_bytes(&sector);
-        if !may_have(place, t, &sector) {
+        if !may_have(geometry, t, &sector) {
             return Ok(false);
         }
     }
@@ -132,10 +132,10 @@ fn has_zero_table<S: Sectors>(s: &mut S, place: Place) -> Result<bool, DiskFault
 }
 
 // Whether sector t isn't one of the inode table, or is zeros.
-fn may_have(place: Place, t: u32, sector: &[u8; 512]) -> bool
-    ensures { IsTrue result → place.table ≤ t → sector.now ≡ replicate 512 0 }
+fn may_have(geometry: Geometry, t: u32, sector: &[u8; 512]) -> bool
+    ensures { IsTrue result → geometry.table ≤ t → sector.now ≡ replicate 512 0 }
 {
-    if t < place.table {
+    if t < geometry.table {
         return true;
     }
     *sector == [0; 512]
@@ -149,27 +149,27 @@ fn tell_bytes(bytes: &[u8])
 }
 
 // Whether number n is clear, or the bit of no number is set.
-fn may_be(place: Place, map: Bitmap, n: u32, taken: bool) -> bool
-    ensures { IsTrue result → (IsTrue taken ↔ (IsNumber place map n → ⊥)) }
+fn may_be(geometry: Geometry, map: Bitmap, n: u32, taken: bool) -> bool
+    ensures { IsTrue result → (IsTrue taken ↔ (IsNumber geometry map n → ⊥)) }
 {
-    if is_number(place, map, n) {
+    if is_number(geometry, map, n) {
         return !taken;
     }
     taken
 }
 
 // Whether of one bitmap the bits are set that are no number's, and no others.
-fn has_bits<S: Sectors>(s: &mut S, place: Place, map: Bitmap) -> Result<bool, DiskFault>
-    requires place { IsPlace place }
-    requires disk { place.sectors ≤ (S.state s.old).disk.size }
-    requires header { log_end (S.state s.old).header ≤ place.inode_bitmap }
-    ensures set { IfOk result (λ b. IsTrue b → (n : ℕ) → n < bit_count place map
-        → (IsTrue (bit (S.state s.old).sectors (first_sector place map) n) ↔ (IsNumber place map n → ⊥))) }
+fn has_bits<S: Sectors>(s: &mut S, geometry: Geometry, map: Bitmap) -> Result<bool, DiskFault>
+    requires geometry { IsGeometry geometry }
+    requires disk { geometry.sectors ≤ (S.state s.old).disk.size }
+    requires header { log_end (S.state s.old).header ≤ geometry.inode_bitmap }
+    ensures set { IfOk result (λ b. IsTrue b → (n : ℕ) → n < bit_count geometry map
+        → (IsTrue (bit (S.state s.old).sectors (first_sector geometry map) n) ↔ (IsNumber geometry map n → ⊥))) }
     ensures same { IsUnchanged (S.state s.old) (S.state s.new) }
 {
-    for n in 0..count_bits(place, map) {
-        let taken = is_taken(s, place, map, n)?;
-        if !may_be(place, map, n, taken) {
+    for n in 0..count_bits(geometry, map) {
+        let taken = is_taken(s, geometry, map, n)?;
+        if !may_be(geometry, map, n, taken) {
             return Ok(false);
         }
     }

@@ -3,11 +3,11 @@ use Rattle.std.proofs.Common.{◌≡◌, ◌≢◌, ℕ, zero, suc, ◌+◌, ◌
 use Rattle.std.proofs.lemmas.Bool.{cases_eq, eq-eqb, lt-ltb, le-ltb}
 use Rattle.fs_layout.specs.declared.inode.Inode.{Inode}
 use Rattle.fs_layout.specs.declared.inode.TheConstants.{POINTER_LEVELS, SECTOR_POINTERS}
-use Rattle.fs_layout.specs.declared.place.Place.{Place}
+use Rattle.fs_layout.specs.declared.geometry.Geometry.{Geometry}
 use Rattle.fs_layout.specs.Bytes.{SectorMap, splice, le32, zeros}
 use Rattle.fs_layout.specs.Images.{holder, place_in_holder, number_on, first_block, OnLevel, part, Owns, Holds, free_sectors}
 use Rattle.fs_layout.specs.InodeChanges.{Keeps, Puts, PutsEntry, Allocates, Gains, with_indirect}
-use Rattle.fs_layout.specs.Place.{IsPlace}
+use Rattle.fs_layout.specs.Geometry.{IsGeometry}
 use Rattle.fs_layout.proofs.Blocks.{nothing_changes}
 use Rattle.fs_layout.proofs.Parts.{KeepsPointers, level_is_one, index_is_one, pointers_kept, owns_on_level}
 use Rattle.fs_layout.proofs.Pointers.{gains_named, number_on_named}
@@ -30,9 +30,9 @@ use Rattle.block_map.proofs.Runs.{same_map}
 use Rattle.block_map.proofs.Writings.{acls_beside, at_hand_content, free_after_put, puts_entry_at}
 
 -- nothing is altered
-pub alters_nothing : {p : Place} {txn : TxnState} {v : Inode} → MayChange p txn v → Alters p txn txn v v
+pub alters_nothing : {p : Geometry} {txn : TxnState} {v : Inode} → MayChange p txn v → Alters p txn txn v v
 alters_nothing may = record {
-  blocks = nothing_changes may.bitmaps.place may.bitmaps.tables may.apart;
+  blocks = nothing_changes may.bitmaps.geometry may.bitmaps.tables may.apart;
   fields = fields_same;
   acls = acls_kept refl refl (λ some. refl) (λ some. refl);
   bitmaps = may.bitmaps;
@@ -40,7 +40,7 @@ alters_nothing may = record {
 }
 
 -- ---- the sector is there
-pub sector_there : {p : Place} {ns : List ℕ} {level i : ℕ} {txn : TxnState} {v : Inode} → MayChange p txn v → number_on txn.sectors v level i ≢ 0 → AddsSector p ns level i txn txn v v
+pub sector_there : {p : Geometry} {ns : List ℕ} {level i : ℕ} {txn : TxnState} {v : Inode} → MayChange p txn v → number_on txn.sectors v level i ≢ 0 → AddsSector p ns level i txn txn v v
 sector_there {p} {ns} {level} {i} {txn} {v} may there = record {
   alters = alters_nothing may;
   puts = changes_weaker {Q = IsStepSector p} (λ n r. r) (omega arith) (changes_nothing {R = IsStepSector p} (ns ++ bitmaps p));
@@ -74,7 +74,7 @@ gained_others {level = level} {i} g n j ne = g.others (OnLevel n j) (λ e. elim 
   | inr away ↦ away (index_is_one n level j i e)
 ])
 
-pub adds_sector : {p : Place} {ns : List ℕ} {level i s : ℕ} {old new : TxnState} {v w : Inode} → Alters p old new v w → Gains old.sectors new.sectors v w (OnLevel level i) s
+pub adds_sector : {p : Geometry} {ns : List ℕ} {level i s : ℕ} {old new : TxnState} {v w : Inode} → Alters p old new v w → Gains old.sectors new.sectors v w (OnLevel level i) s
     → s ≢ 0 → new.has_put s ≡ true → PutsOnly (IsStepSector p) (ns ++ bitmaps p) 1 old new → w.size ≡ v.size
     → ((bytes : List ℕ) → Holds old.sectors v bytes → Holds new.sectors w bytes) → free_sectors p old.sectors ≡ free_sectors p new.sectors + 1
     → AddsSector p ns level i old new v w
@@ -116,20 +116,20 @@ taken_at_hand {old} {new} {b} {c} {w} {level} {i} {s} others now clear h same t 
 ]
 
 -- the one that it names
-module _ {p : Place} {s : ℕ} {old new : TxnState} {bits : SectorMap} {x : List ℕ} {v : Inode} (may : MayChange p old v) (clear : x ≡ zeros 512)
+module _ {p : Geometry} {s : ℕ} {old new : TxnState} {bits : SectorMap} {x : List ℕ} {v : Inode} (may : MayChange p old v) (clear : x ≡ zeros 512)
     (a : Allocates p s x old.sectors bits new.sectors) (free : free_sectors p old.sectors ≡ free_sectors p new.sectors + 1) (bitmaps_now : HasBitmaps p new)
     (puts : PutsOnly (IsStepSector p) (bitmaps p) 1 old new) (put : new.has_put s ≡ true) where
-  place : IsPlace p
-  place = may.bitmaps.place
+  geometry : IsGeometry p
+  geometry = may.bitmaps.geometry
 
   keeps : Keeps old.sectors new.sectors v
-  keeps = allocates_keeps place may.apart a
+  keeps = allocates_keeps geometry may.apart a
 
   some : s ≢ 0
-  some = allocated_some place may.apart a
+  some = allocated_some geometry may.apart a
 
   small : s < 2 ^ 32
-  small = let l = a.free.1 in let most = numbers_most place in omega (arith, l, most)
+  small = let l = a.free.1 in let most = numbers_most geometry in omega (arith, l, most)
 
   -- the inode names it
   named_now : (level : ℕ) → level < POINTER_LEVELS → get_or v.indirect level 0 ≡ 0 → Gains old.sectors new.sectors v (with_indirect v level s) (OnLevel (suc level) 0) s
@@ -139,14 +139,14 @@ module _ {p : Place} {s : ℕ} {old new : TxnState} {bits : SectorMap} {x : List
       → AddsSector p [] (suc level) 0 old new v (with_indirect v level s)
   gets_named level lt none large =
       let alters : Alters p old new v (with_indirect v level s) = record {
-        blocks = named_gained place may.apart a level lt may.fits.indirect_len none clear;
+        blocks = named_gained geometry may.apart a level lt may.fits.indirect_len none clear;
         fields = record { kind = refl; mode = refl; uid = refl; gid = refl; names = refl; parent = refl; mtime = refl; ctime = refl; atime = refl };
         acls = acls_where_kept refl refl keeps;
         bitmaps = bitmaps_now;
         fits = with_indirect_fits v level s may.fits may.used small;
       } in
       adds_sector alters (named_now level lt none) some put puts refl
-      (λ bytes h. named_gained_holds place may.apart a level bytes lt may.fits.indirect_len none clear large h) free
+      (λ bytes h. named_gained_holds geometry may.apart a level bytes lt may.fits.indirect_len none clear large h) free
 
   -- by its level
   pub sets_named : (level : ℕ) {w : Inode} → 1 ≤ level → level ≤ POINTER_LEVELS → get_or v.indirect (level - 1) 0 ≡ 0 → 512 * first_block level 0 < v.size
@@ -183,36 +183,36 @@ pub read_above : (image : SectorMap) (v : Inode) {n : ℕ} (level i : ℕ) → n
 read_above image v level i is = let next : level + 1 ≡ suc level = omega arith in is ∙ ap (λ (m : ℕ). number_on image v m (holder 1 i)) next
 
 -- one that is listed there
-module _ (level : ℕ) {p : Place} {s u index : ℕ} {old mid new : TxnState} {bits : SectorMap} {x before content : List ℕ} {v : Inode} (may : MayChange p old v) (clear : x ≡ zeros 512)
+module _ (level : ℕ) {p : Geometry} {s u index : ℕ} {old mid new : TxnState} {bits : SectorMap} {x before content : List ℕ} {v : Inode} (may : MayChange p old v) (clear : x ≡ zeros 512)
     (a : Allocates p s x old.sectors bits mid.sectors) (free : free_sectors p old.sectors ≡ free_sectors p mid.sectors + 1) (bitmaps_mid : HasBitmaps p mid)
     (from : 1 ≤ index) (sector : u ≡ number_on old.sectors v (suc (suc level)) (holder 1 index)) (has : u ≢ 0) (loaded : before ≡ old.sectors u)
     (entry : content ≡ splice before (4 * place_in_holder 1 index) (le32 s)) (put : Puts u content mid.sectors new.sectors) (store : SameStore mid new)
     (puts : PutsOnly (IsStepSector p) (u ∷ bitmaps p) 1 old new) (had : new.has_put s ≡ true) (none : number_on old.sectors v (suc level) index ≡ 0) where
   since : Keeps old.sectors mid.sectors v
-  since = allocates_keeps may.bitmaps.place may.apart a
+  since = allocates_keeps may.bitmaps.geometry may.apart a
 
   owned : Owns old.sectors v u
   owned = subst (λ (t : ℕ). Owns old.sectors v t) (sym sector) (owns_on_level old.sectors v (suc (suc level)) (holder 1 index) (λ e. has (sector ∙ e)))
 
   listed : PutsEntry v (suc level) index s mid.sectors new.sectors
-  listed = puts_entry_at (suc level) index s sector since from has (let l = a.free.1 in let most = numbers_most may.bitmaps.place in omega (arith, l, most))
+  listed = puts_entry_at (suc level) index s sector since from has (let l = a.free.1 in let most = numbers_most may.bitmaps.geometry in omega (arith, l, most))
       (entry ∙ ap (λ (r : List ℕ). splice r (4 * place_in_holder 1 index) (le32 s)) (loaded ∙ sym (since u owned))) put
 
   listed_gained : Gains old.sectors new.sectors v v (OnLevel (suc level) index) s
-  listed_gained = entry_pointers may.bitmaps.place may.apart a listed clear none
+  listed_gained = entry_pointers may.bitmaps.geometry may.apart a listed clear none
 
   pub gets_listed : 512 * first_block (suc level) index < v.size → AddsSector p (u ∷ []) (suc level) index old new v v
   gets_listed large =
       let alters : Alters p old new v v = record {
-        blocks = entry_pointers_gained may.bitmaps.place may.apart a listed clear none;
+        blocks = entry_pointers_gained may.bitmaps.geometry may.apart a listed clear none;
         fields = fields_same;
         acls = acls_beside (suc level) (holder 1 index) may.apart since sector has put;
         bitmaps = put_keeps_bitmaps bitmaps_mid store (may.apart.each u owned).0 put;
         fits = may.fits;
       } in
-      let same : free_sectors p new.sectors ≡ free_sectors p mid.sectors = free_after_put may.bitmaps.place (may.apart.each u owned).0 put in
-      adds_sector {ns = u ∷ []} alters listed_gained (allocated_some may.bitmaps.place may.apart a) had puts refl
-      (λ bytes h. entry_pointers_hold may.bitmaps.place may.apart a listed clear bytes none large h) (omega (arith, free, same))
+      let same : free_sectors p new.sectors ≡ free_sectors p mid.sectors = free_after_put may.bitmaps.geometry (may.apart.each u owned).0 put in
+      adds_sector {ns = u ∷ []} alters listed_gained (allocated_some may.bitmaps.geometry may.apart a) had puts refl
+      (λ bytes h. entry_pointers_hold may.bitmaps.geometry may.apart a listed clear bytes none large h) (omega (arith, free, same))
 
   -- of what the inode owns only the sector above differs
   same_at_hand : {b : Blocks} → IsAtHand old.sectors b → b.inode ≡ v → b.sector ≢ 0 → new.sectors b.sector ≡ old.sectors b.sector
@@ -220,17 +220,17 @@ module _ (level : ℕ) {p : Place} {s u index : ℕ} {old mid new : TxnState} {b
       let at : number_on old.sectors v 1 b.index ≡ b.sector = ap (λ (w : Inode). number_on old.sectors w 1 b.index) (sym is) ∙ h.number in
       let there : number_on old.sectors v 1 b.index ≢ 0 = λ e. some (sym at ∙ e) in
       subst (λ (t : ℕ). new.sectors t ≡ old.sectors t) at
-      (entry_keeps may.bitmaps.place may.apart a listed (number_on old.sectors v 1 b.index) (owns_on_level old.sectors v 1 b.index there)
+      (entry_keeps may.bitmaps.geometry may.apart a listed (number_on old.sectors v 1 b.index) (owns_on_level old.sectors v 1 b.index there)
       (numbers_apart may.apart 1 (suc (suc level)) b.index (holder 1 index) (inl (λ z. absurd (let y = z in omega (arith, y)))) there))
 
   -- it is at hand then, if it has the numbers of blocks
   pub listed_at_hand : {b c : Blocks} → IsAtHand old.sectors b → b.inode ≡ v → IsTaken (suc level) index s (record b { inode = v }) c → IsAtHand new.sectors c
   listed_at_hand {b} {c} h is t =
       taken_at_hand (λ n j away. gained_others listed_gained n j away ∙ ap (λ (w : Inode). number_on old.sectors w n j) (sym is)) (gained_number listed_gained)
-      (entry_content may.bitmaps.place may.apart a listed ∙ clear) h (same_at_hand h is) t
+      (entry_content may.bitmaps.geometry may.apart a listed ∙ clear) h (same_at_hand h is) t
 
 -- by its level
-module _ {p : Place} {s u index : ℕ} {old mid new : TxnState} {bits : SectorMap} {x before content : List ℕ} {v : Inode} (may : MayChange p old v) (clear : x ≡ zeros 512)
+module _ {p : Geometry} {s u index : ℕ} {old mid new : TxnState} {bits : SectorMap} {x before content : List ℕ} {v : Inode} (may : MayChange p old v) (clear : x ≡ zeros 512)
     (a : Allocates p s x old.sectors bits mid.sectors) (free : free_sectors p old.sectors ≡ free_sectors p mid.sectors + 1) (bitmaps_mid : HasBitmaps p mid)
     (from : 1 ≤ index) (has : u ≢ 0) (loaded : before ≡ old.sectors u) (entry : content ≡ splice before (4 * place_in_holder 1 index) (le32 s))
     (put : Puts u content mid.sectors new.sectors) (store : SameStore mid new) (puts : PutsOnly (IsStepSector p) (u ∷ bitmaps p) 1 old new) (had : new.has_put s ≡ true) where
@@ -254,7 +254,7 @@ sectors_far image v zero i low from = absurd (omega (arith, low))
 sectors_far image v (suc level) i low from = rw (le-ltb i 1 from) refl
 
 -- ---- others may share the room
-pub adds_beside : {p : Place} {level i : ℕ} {old new : TxnState} {v w : Inode} → AddsSector p [] level i old new v w → (ns : List ℕ) → AddsSector p ns level i old new v w
+pub adds_beside : {p : Geometry} {level i : ℕ} {old new : TxnState} {v w : Inode} → AddsSector p [] level i old new v w → (ns : List ℕ) → AddsSector p ns level i old new v w
 adds_beside {p} {level} {i} {old} {new} {v} {w} a ns = record {
   alters = a.alters;
   puts = puts_before a.puts ns;
@@ -275,7 +275,7 @@ adds_beside {p} {level} {i} {old} {new} {v} {w} a ns = record {
 }
 
 -- several numbers in place of one of them
-pub adds_among : {p : Place} {level i : ℕ} {old new : TxnState} {v w : Inode} (image : SectorMap) (u : Inode) (above first count j : ℕ) → first ≤ j → j < first + count
+pub adds_among : {p : Geometry} {level i : ℕ} {old new : TxnState} {v w : Inode} (image : SectorMap) (u : Inode) (above first count j : ℕ) → first ≤ j → j < first + count
     → AddsSector p (number_on image u above j ∷ []) level i old new v w → AddsSector p (numbers_on image u above first count) level i old new v w
 adds_among {p} {level} {i} {old} {new} {v} {w} image u above first count j from to a = record {
   alters = a.alters;
@@ -292,7 +292,7 @@ adds_among {p} {level} {i} {old} {new} {v} {w} image u above first count j from 
 }
 
 -- ---- after reads
-pub added_after : {p : Place} {ns : List ℕ} {level i : ℕ} {old mid new : TxnState} {v w : Inode} → IsUnchanged old mid → AddsSector p ns level i mid new v w
+pub added_after : {p : Geometry} {ns : List ℕ} {level i : ℕ} {old mid new : TxnState} {v w : Inode} → IsUnchanged old mid → AddsSector p ns level i mid new v w
     → AddsSector p ns level i old new v w
 added_after {p} {ns} {level} {i} {old} {mid} {new} {v} {w} same a =
     let e : mid.sectors ≡ old.sectors = same_map old.sectors mid.sectors same.sectors in

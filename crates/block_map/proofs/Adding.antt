@@ -4,7 +4,7 @@ use Rattle.std.specs.Prelude.{nat_eq, if◌then◌else◌}
 use Rattle.std.proofs.lemmas.Bool.{cases_lt, cases_eq, lt-ltb, le-ltb}
 use Rattle.fs_layout.specs.declared.inode.TheConstants.{DIRECT_BLOCKS, POINTER_LEVELS, SECTOR_POINTERS}
 use Rattle.fs_layout.specs.declared.inode.Inode.{Inode}
-use Rattle.fs_layout.specs.declared.place.Place.{Place}
+use Rattle.fs_layout.specs.declared.geometry.Geometry.{Geometry}
 use Rattle.fs_layout.specs.Bytes.{SectorMap}
 use Rattle.fs_layout.specs.Images.{own_count, holder, level_end, first_block, number_on, Holds, free_sectors}
 use Rattle.fs_layout.specs.Lacking.{lacks_from}
@@ -67,7 +67,7 @@ module _ (image now : SectorMap) (v w : Inode) (level first end i : ℕ) (level_
       sectors_far now w level i level_low from ∙ ap (λ (s : ℕ). s ∷ []) (ap (λ (n : ℕ). number_on now w n (holder 1 i)) next ∙ same (holder 1 i))
 
   -- the one of each number is among them
-  adds_under : {p : Place} {old new : TxnState} {u x : Inode} → AddsSector p (sectors_to now w level i) level i old new u x
+  adds_under : {p : Geometry} {old new : TxnState} {u x : Inode} → AddsSector p (sectors_to now w level i) level i old new u x
       → AddsSector p (above_of image v level first end) level i old new u x
   adds_under {p} {old} {new} {u} {x} a = elim (cases_eq i 0) [
     | inl e ↦ adds_beside (subst (λ (ns : List ℕ). AddsSector p ns level i old new u x) (sectors_near now w level i level_low e) a) (above_of image v level first end)
@@ -91,7 +91,7 @@ module _ (image now : SectorMap) (v w : Inode) (level first end i : ℕ) (level_
 
 -- ---- the loop
 -- a level's numbers from `first` up to i are there; `ns` are the sectors in which they stand
-pub record IsAdded (p : Place) (ns : List ℕ) (level first i : ℕ) (old new : TxnState) (v w : Inode) : Type 0 where
+pub record IsAdded (p : Geometry) (ns : List ℕ) (level first i : ℕ) (old new : TxnState) (v w : Inode) : Type 0 where
   pub may : MayChange p new w
   pub alters : Alters p old new v w
   pub size : w.size ≡ v.size
@@ -103,7 +103,7 @@ pub record IsAdded (p : Place) (ns : List ℕ) (level first i : ℕ) (old new : 
   pub free : free_sectors p old.sectors ≤ free_sectors p new.sectors + lacks_on old.sectors v level first (i - first)
 
 -- none of them is
-pub none_added : {p : Place} {level first : ℕ} {txn : TxnState} {v : Inode} (ns : List ℕ) → MayChange p txn v → IsAdded p ns level first first txn txn v v
+pub none_added : {p : Geometry} {level first : ℕ} {txn : TxnState} {v : Inode} (ns : List ℕ) → MayChange p txn v → IsAdded p ns level first first txn txn v v
 none_added {p} {level} {first} {txn} {v} ns may =
     let none : first - first ≡ 0 = omega arith in
     record {
@@ -119,7 +119,7 @@ none_added {p} {level} {first} {txn} {v} ns may =
     }
 
 -- one more is
-more_added : {p : Place} {ns : List ℕ} {level first i : ℕ} {old mid new : TxnState} {u v w : Inode} → IsAdded p ns level first i old mid u v
+more_added : {p : Geometry} {ns : List ℕ} {level first i : ℕ} {old mid new : TxnState} {u v w : Inode} → IsAdded p ns level first i old mid u v
     → AddsSector p ns level i mid new v w → first ≤ i → IsAdded p ns level first (i + 1) old new u w
 more_added {p} {ns} {level} {first} {i} {old} {mid} {new} {u} {v} {w} so_far step from =
     let n : ℕ = i - first in
@@ -164,7 +164,7 @@ more_added {p} {ns} {level} {first} {i} {old} {mid} {new} {u} {v} {w} so_far ste
     wider m j out = elim out [ inl away ↦ inl away | inr w ↦ inr (elim w [ inl low ↦ inl low | inr high ↦ inr (omega (arith, high)) ]) ]
 
 -- ---- a level, once those above are there
-module _ {p : Place} {level first end : ℕ} {old mid : TxnState} {u v : Inode} (low : 1 ≤ level) (lt : first < end) (far : 1 < end) (below : level < POINTER_LEVELS)
+module _ {p : Geometry} {level first end : ℕ} {old mid : TxnState} {u v : Inode} (low : 1 ≤ level) (lt : first < end) (far : 1 < end) (below : level < POINTER_LEVELS)
     (above : AddsNumbers p (level + 1) (holder 1 first) (holder 1 (end - 1) + 1) old mid u v) where
   abbrev ns : List ℕ
   ns = above_of mid.sectors v level first end
@@ -248,7 +248,7 @@ module _ {p : Place} {level first end : ℕ} {old mid : TxnState} {u v : Inode} 
       }
 
 -- where no sector is left for those above
-pub above_lacks : (p : Place) (level first end : ℕ) {from to : ℕ} (old : TxnState) (v : Inode) → 1 ≤ level → level < POINTER_LEVELS → 1 < end → from ≡ holder 1 first → to ≡ holder 1 (end - 1) + 1
+pub above_lacks : (p : Geometry) (level first end : ℕ) {from to : ℕ} (old : TxnState) (v : Inode) → 1 ≤ level → level < POINTER_LEVELS → 1 < end → from ≡ holder 1 first → to ≡ holder 1 (end - 1) + 1
     → free_sectors p old.sectors < lacks_from old.sectors v (POINTER_LEVELS + 1 - (level + 1)) (level + 1) from to
     → free_sectors p old.sectors < lacks_from old.sectors v (POINTER_LEVELS + 1 - level) level first end
 above_lacks p level first end {from} {to} old v low below far is_from is_to few =
@@ -258,7 +258,7 @@ above_lacks p level first end {from} {to} old v low below far is_from is_to few 
     omega (arith, count, few, same)
 
 -- there is room for those above
-pub spare_above : (p : Place) {level : ℕ} (first end : ℕ) {from to : ℕ} (old : TxnState) → 1 ≤ level → level < POINTER_LEVELS → 1 < end → from ≡ holder 1 first → to ≡ holder 1 (end - 1) + 1
+pub spare_above : (p : Geometry) {level : ℕ} (first end : ℕ) {from to : ℕ} (old : TxnState) → 1 ≤ level → level < POINTER_LEVELS → 1 < end → from ≡ holder 1 first → to ≡ holder 1 (end - 1) + 1
     → HasSpare p (most_for level first end) old → HasSpare p (most_for (level + 1) from to) old
 spare_above p {level} first end {from} {to} old low below far is_from is_to spare =
     let most = most_beyond level first end low below far in
@@ -266,7 +266,7 @@ spare_above p {level} first end {from} {to} old low below far is_from is_to spar
     omega (arith, most, same, spare)
 
 -- those above, as they were added
-pub above_at : {p : Place} (level first end : ℕ) {from to : ℕ} {old mid : TxnState} {u v : Inode} → from ≡ holder 1 first → to ≡ holder 1 (end - 1) + 1
+pub above_at : {p : Geometry} (level first end : ℕ) {from to : ℕ} {old mid : TxnState} {u v : Inode} → from ≡ holder 1 first → to ≡ holder 1 (end - 1) + 1
     → AddsNumbers p (level + 1) from to old mid u v → AddsNumbers p (level + 1) (holder 1 first) (holder 1 (end - 1) + 1) old mid u v
 above_at {p} level first end {from} {to} {old} {mid} {u} {v} is_from is_to a =
     subst (λ (i : ℕ). AddsNumbers p (level + 1) i (holder 1 (end - 1) + 1) old mid u v) is_from
@@ -280,7 +280,7 @@ named_lacks image v level first end low high lt near =
     let none : first ≡ 0 = omega (arith, lt, near) in
     lacks_named image v level first end low high near ∙ lacks_one image v level first (end - first) (omega (arith, lt, near)) ∙ ap (lack image v level) none
 
-pub named_added : {p : Place} {level first end : ℕ} {old new : TxnState} {v w : Inode} → 1 ≤ level → level ≤ POINTER_LEVELS → first < end → end ≤ 1 → AddsSector p [] level 0 old new v w
+pub named_added : {p : Geometry} {level first end : ℕ} {old new : TxnState} {v w : Inode} → 1 ≤ level → level ≤ POINTER_LEVELS → first < end → end ≤ 1 → AddsSector p [] level 0 old new v w
     → AddsNumbers p level first end old new v w
 named_added {p} {level} {first} {end} {old} {new} {v} {w} low high lt near a =
     let none : first ≡ 0 = omega (arith, lt, near) in
@@ -304,7 +304,7 @@ named_added {p} {level} {first} {end} {old} {new} {v} {w} low high lt near a =
     }
 
 -- ---- the blocks' own
-pub adds_pointers : {p : Place} {first end : ℕ} {old new : TxnState} {v w : Inode} → DIRECT_BLOCKS < end
+pub adds_pointers : {p : Geometry} {first end : ℕ} {old new : TxnState} {v w : Inode} → DIRECT_BLOCKS < end
     → AddsNumbers p 1 (holder DIRECT_BLOCKS first) (holder DIRECT_BLOCKS (end - 1) + 1) old new v w → AddsPointers p first end old new v w
 adds_pointers {p} {first} {end} {old} {new} {v} {w} far a =
     let most = sym (most_far first end far) in
@@ -323,13 +323,13 @@ adds_pointers {p} {first} {end} {old} {new} {v} {w} far a =
       free = subst (λ (m : ℕ). free_sectors p old.sectors ≤ free_sectors p new.sectors + m) (sym (lacks_far old.sectors v first end far)) a.free;
     }
 
-pub first_level_lacks : (p : Place) (first end : ℕ) (old : TxnState) (v : Inode) → DIRECT_BLOCKS < end
+pub first_level_lacks : (p : Geometry) (first end : ℕ) (old : TxnState) (v : Inode) → DIRECT_BLOCKS < end
     → free_sectors p old.sectors < lacks_from old.sectors v POINTER_LEVELS 1 (holder DIRECT_BLOCKS first) (holder DIRECT_BLOCKS (end - 1) + 1)
     → free_sectors p old.sectors < lacks_pointers old.sectors v first end
 first_level_lacks p first end old v far few = subst (λ (m : ℕ). free_sectors p old.sectors < m) (sym (lacks_far old.sectors v first end far)) few
 
 -- ---- there is no need
-pub needs_no_pointers : {p : Place} {first end : ℕ} {txn : TxnState} {v : Inode} → MayChange p txn v → (end ≤ DIRECT_BLOCKS) ⊎ (end ≡ first) → AddsPointers p first end txn txn v v
+pub needs_no_pointers : {p : Geometry} {first end : ℕ} {txn : TxnState} {v : Inode} → MayChange p txn v → (end ≤ DIRECT_BLOCKS) ⊎ (end ≡ first) → AddsPointers p first end txn txn v v
 needs_no_pointers {p} {first} {end} {txn} {v} may way = record {
   alters = alters_nothing may;
   puts = changes_weaker {Q = IsStepSector p} (λ n r. r) (omega arith) (changes_nothing {R = IsStepSector p} (bitmaps p));

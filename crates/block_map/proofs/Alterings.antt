@@ -1,7 +1,7 @@
 -- What a step leaves alone.
 use Rattle.std.proofs.Common.{◌≡◌, ◌≢◌, ℕ, refl, sym, subst, ◌∙◌}
 use Rattle.fs_layout.specs.declared.inode.Inode.{Inode}
-use Rattle.fs_layout.specs.declared.place.Place.{Place}
+use Rattle.fs_layout.specs.declared.geometry.Geometry.{Geometry}
 use Rattle.fs_layout.specs.Bytes.{SectorMap}
 use Rattle.fs_layout.specs.InodeChanges.{Keeps, ChangesBlocks}
 use Rattle.fs_layout.proofs.Parts.{owns_acl, owns_default_acl}
@@ -48,9 +48,9 @@ acls_joined {old} {mid} {new} {u} {v} {w} a b =
     (λ some. acl_on mid new u.acl v.acl a.access.acl b.access.acl_sector some ∙ a.access.acl_sector some)
     (λ some. acl_on mid new u.default_acl v.default_acl a.default.default b.default.default_sector some ∙ a.default.default_sector some)
 
-pub alters_joined : {p : Place} {old mid new : TxnState} {u v w : Inode} → Alters p old mid u v → Alters p mid new v w → Alters p old new u w
+pub alters_joined : {p : Geometry} {old mid new : TxnState} {u v w : Inode} → Alters p old mid u v → Alters p mid new v w → Alters p old new u w
 alters_joined a b = record {
-  blocks = both_changes a.bitmaps.place a.blocks b.blocks;
+  blocks = both_changes a.bitmaps.geometry a.blocks b.blocks;
   fields = fields_joined a.fields b.fields;
   acls = acls_joined a.acls b.acls;
   bitmaps = b.bitmaps;
@@ -58,16 +58,16 @@ alters_joined a b = record {
 }
 
 -- and the inode may be changed again
-pub may_after : {p : Place} {old new : TxnState} {v w : Inode} → MayChange p old v → Alters p old new v w → MayChange p new w
+pub may_after : {p : Geometry} {old new : TxnState} {v w : Inode} → MayChange p old v → Alters p old new v w → MayChange p new w
 may_after may a = record {
   bitmaps = a.bitmaps;
-  apart = apart_after a.bitmaps.place may.apart a.blocks.owned;
+  apart = apart_after a.bitmaps.geometry may.apart a.blocks.owned;
   fits = a.fits;
   used = λ e. may.used (sym a.fields.kind ∙ e);
 }
 
 -- after reads
-pub altered_after : {p : Place} {old start mid : TxnState} {v w : Inode} → IsUnchanged old start → Alters p start mid v w → Alters p old mid v w
+pub altered_after : {p : Geometry} {old start mid : TxnState} {v w : Inode} → IsUnchanged old start → Alters p start mid v w → Alters p old mid v w
 altered_after {p} {old} {start} {mid} {v} {w} same a =
     let e : start.sectors ≡ old.sectors = same_map old.sectors start.sectors same.sectors in
     record {

@@ -6,11 +6,11 @@ use Rattle.std.proofs.lemmas.List.{get_or_past}
 use Rattle.fs_layout.specs.declared.inode.TheConstants.{DIRECT_BLOCKS, POINTER_LEVELS, SECTOR_POINTERS}
 use Rattle.fs_layout.specs.declared.inode.Inode.{Inode}
 use Rattle.fs_layout.specs.declared.inode.Kind.TheVariants.{Free}
-use Rattle.fs_layout.specs.declared.place.Place.{Place}
+use Rattle.fs_layout.specs.declared.geometry.Geometry.{Geometry}
 use Rattle.fs_layout.specs.Bytes.{SectorMap, IsSector, u32_of}
 use Rattle.fs_layout.specs.Inode.{FitsInode}
 use Rattle.fs_layout.specs.Header.{log_end}
-use Rattle.fs_layout.specs.Place.{IsPlace}
+use Rattle.fs_layout.specs.Geometry.{IsGeometry}
 use Rattle.fs_layout.specs.Images.{pointer_in, own_count, holder, place_in_holder, number_on, pointer, first_block, Part, AccessAcl, DefaultAcl, OnLevel, part, Owns, bit, map_bits, free_sectors}
 use Rattle.fs_layout.specs.InodeChanges.{IsOwnedApart}
 use Rattle.fs_layout.proofs.Bits.{has_bit, block_bit_kept, free_sectors_kept}
@@ -131,7 +131,7 @@ abbrev pub left_at : ℕ → ℕ → ℕ
 left_at first level = place_in_holder (own_count level) (first_on level first)
 
 -- of the first levels, as many, that sector is cut, and no other is written
-pub record AreCut (p : Place) (count first : ℕ) (image : SectorMap) (old new : TxnState) (v : Inode) : Type 0 where
+pub record AreCut (p : Geometry) (count first : ℕ) (image : SectorMap) (old new : TxnState) (v : Inode) : Type 0 where
   pub puts : PutsOnly (IsStepSector p) (bitmaps p) (cut_below count first) old new
   pub cut : (level : ℕ) → level < count → cut_at image v first level ≢ 0 → left_at first level ≢ 0
       → IsCutFrom (left_at first level) (old.sectors (cut_at image v first level)) (new.sectors (cut_at image v first level))
@@ -139,7 +139,7 @@ pub record AreCut (p : Place) (count first : ℕ) (image : SectorMap) (old new :
       → new.sectors t ≡ old.sectors t
   pub whole : (t : ℕ) → IsSector (old.sectors t) → IsSector (new.sectors t)
 
-pub none_cut : (p : Place) (first : ℕ) (image : SectorMap) (txn : TxnState) (v : Inode) → AreCut p 0 first image txn txn v
+pub none_cut : (p : Geometry) (first : ℕ) (image : SectorMap) (txn : TxnState) (v : Inode) → AreCut p 0 first image txn txn v
 none_cut p first image txn v = record {
   puts = changes_nothing {R = IsStepSector p} (bitmaps p);
   cut = λ level lt. absurd (omega (arith, lt));
@@ -148,11 +148,11 @@ none_cut p first image txn v = record {
 }
 
 -- the sectors that are cut are two on two levels, and none is of a level above
-cut_apart : {p : Place} {image : SectorMap} {v : Inode} → IsOwnedApart p image v → (first level m i : ℕ) → suc level ≢ m → number_on image v m i ≢ 0
+cut_apart : {p : Geometry} {image : SectorMap} {v : Inode} → IsOwnedApart p image v → (first level m i : ℕ) → suc level ≢ m → number_on image v m i ≢ 0
     → number_on image v m i ≢ cut_at image v first level
 cut_apart apart first level m i ne some = numbers_apart apart m (suc level) i (holder (own_count level) (first_on level first)) (inl (λ e. ne (sym e))) some
 
-module _ {p : Place} {count first : ℕ} {v : Inode} (old : TxnState) {given now : TxnState} (apart : IsOwnedApart p old.sectors v)
+module _ {p : Geometry} {count first : ℕ} {v : Inode} (old : TxnState) {given now : TxnState} (apart : IsOwnedApart p old.sectors v)
     (same : (s : ℕ) → Owns old.sectors v s → given.sectors s ≡ old.sectors s) (a : AreCut p count first old.sectors given now v) where
   -- what the next level is read by
   read_same : (m i : ℕ) → count < m → number_on old.sectors v m i ≢ 0 → now.sectors (number_on old.sectors v m i) ≡ old.sectors (number_on old.sectors v m i)
@@ -302,9 +302,9 @@ module _ {p : Place} {count first : ℕ} {v : Inode} (old : TxnState) {given now
       }
 
 -- what the inode owns is the same once parts are given back
-pub given_same : {p : Place} {v : Inode} {P : Part → Type 0} {old given : TxnState} → MayChange p old v → GivesParts p v P old given → (s : ℕ) → Owns old.sectors v s
+pub given_same : {p : Geometry} {v : Inode} {P : Part → Type 0} {old given : TxnState} → MayChange p old v → GivesParts p v P old given → (s : ℕ) → Owns old.sectors v s
     → given.sectors s ≡ old.sectors s
-given_same may g s o = g.others s (no_map g.tables.place may.apart s o)
+given_same may g s o = g.others s (no_map g.tables.geometry may.apart s o)
 
 -- ---- the inode
 -- the inode with other numbers
@@ -332,13 +332,13 @@ none_more : (k : ℕ) → 0 + k ≤ k
 none_more k = omega arith
 
 -- ---- all of it
-module _ {p : Place} {v : Inode} {first : ℕ} {d a : List ℕ} {old given new : TxnState} (may : MayChange p old v)
+module _ {p : Geometry} {v : Inode} {first : ℕ} {d a : List ℕ} {old given new : TxnState} (may : MayChange p old v)
     (g : GivesParts p v (IsFor first) old given) (cuts : AreCut p POINTER_LEVELS first old.sectors given new v) (c : ClearsNumbers first v (with_numbers v d a)) where
   abbrev w : Inode
   w = with_numbers v d a
 
-  place : IsPlace p
-  place = g.tables.place
+  geometry : IsGeometry p
+  geometry = g.tables.geometry
 
   apart : IsOwnedApart p old.sectors v
   apart = may.apart
@@ -353,7 +353,7 @@ module _ {p : Place} {v : Inode} {first : ℕ} {d a : List ℕ} {old given new :
   low s lt = cuts.others s (λ level below has few e. let ge = (apart.each (cut_at old.sectors v first level) (cut_owned level has)).0 in omega (arith, lt, ge, e))
 
   bits : (s : ℕ) → s < map_bits p → bit new.sectors p.block_bitmap s ≡ bit given.sectors p.block_bitmap s
-  bits s small = block_bit_kept p given.sectors new.sectors s small (λ t m. low t (map_is_low place t m))
+  bits s small = block_bit_kept p given.sectors new.sectors s small (λ t m. low t (map_is_low geometry t m))
 
   -- a level, once the one above is right
   lower : (level : ℕ) → level ≤ POINTER_LEVELS → HasFirst old.sectors new.sectors v w (suc level) (first_on (suc level) first)
@@ -411,7 +411,7 @@ module _ {p : Place} {v : Inode} {first : ℕ} {d a : List ℕ} {old given new :
       gone level i le,
       λ some.
           let s = number_on old.sectors v level i in
-          bits s (has_bit place s (apart.each s (owns_on_level old.sectors v level i some)).1) ∙ g.cleared (OnLevel level i) le some,
+          bits s (has_bit geometry s (apart.each s (owns_on_level old.sectors v level i some)).1) ∙ g.cleared (OnLevel level i) le some,
     )
   ]
 
@@ -423,13 +423,13 @@ module _ {p : Place} {v : Inode} {first : ℕ} {d a : List ℕ} {old given new :
 
   tables_now : HasBitmaps p new
   tables_now =
-      bitmaps_kept p given new g.tables cuts.puts.store (λ s from to. low s (let d = before_data place in omega (arith, to, d)))
-      (λ s from to. subst IsSector (sym (low s to)) (g.tables.tables s (let m = after_map place in omega (arith, from, m)) to))
+      bitmaps_kept p given new g.tables cuts.puts.store (λ s from to. low s (let d = before_data geometry in omega (arith, to, d)))
+      (λ s from to. subst IsSector (sym (low s to)) (g.tables.tables s (let m = after_map geometry in omega (arith, from, m)) to))
 
   pub drops : DropsBlocks p first old new v (with_numbers v d a)
   drops = record {
     alters = record {
-      blocks = keeps_or_gives place apart (record {
+      blocks = keeps_or_gives geometry apart (record {
         tables = tables_now.tables;
         parts = parts;
         released = λ s small set clear. let r = g.released s small set (sym (bits s small) ∙ clear) in (r.0, r.2, gone_part r.0 r.1, r.3);
@@ -457,7 +457,7 @@ module _ {p : Place} {v : Inode} {first : ℕ} {d a : List ℕ} {old given new :
         ∙ same (pointer old.sectors v k) (owns_on_level old.sectors v 0 k some);
     free =
         let f = g.free in
-        let e : free_sectors p new.sectors ≡ free_sectors p given.sectors = free_sectors_kept p given.sectors new.sectors (λ s at. bits s (has_bit place s at.1)) in
+        let e : free_sectors p new.sectors ≡ free_sectors p given.sectors = free_sectors_kept p given.sectors new.sectors (λ s at. bits s (has_bit geometry s at.1)) in
         omega (arith, f, e);
   }
 
@@ -476,7 +476,7 @@ cut_grows few (suc more) first le = elim (cases_eq few (suc more)) [
     longer a b c few = omega (arith, few)
 
 -- for the next one
-pub room_for_cut : {p : Place} {level first : ℕ} {image : SectorMap} {old given now : TxnState} {v : Inode} → HasSpare p (cut_by first) old → GivesParts p v (IsFor first) old given
+pub room_for_cut : {p : Geometry} {level first : ℕ} {image : SectorMap} {old given now : TxnState} {v : Inode} → HasSpare p (cut_by first) old → GivesParts p v (IsFor first) old given
     → AreCut p level first image given now v → level < POINTER_LEVELS → left_at first level ≢ 0 → 0 < now.room
 room_for_cut {p} {level} {first} spare g cuts lt left =
     room_left _ _ _ _ _ _ (cut_below level first) (left_at first level) (cut_by first) spare g.puts.room cuts.puts.room

@@ -7,7 +7,7 @@ use Rattle.std.proofs.Common.{◌≡◌, ◌≢◌, ℕ, ◌+◌, ◌/◌, false
 use Rattle.fs_layout.specs.declared.inode.TheConstants.{DIRECT_BLOCKS, POINTER_LEVELS}
 use Rattle.fs_layout.specs.declared.inode.Inode.{Inode}
 use Rattle.fs_layout.specs.declared.inode.Kind.TheVariants as kinds
-use Rattle.fs_layout.specs.declared.place.Place.{Place}
+use Rattle.fs_layout.specs.declared.geometry.Geometry.{Geometry}
 use Rattle.fs_layout.specs.Bytes.{zeros}
 use Rattle.fs_layout.specs.Inode.{FitsInode, free_inode}
 use Rattle.fs_layout.specs.Images.{AccessAcl, DefaultAcl, part, bit, inode_at}
@@ -37,16 +37,16 @@ use Rattle.block_map.specs.Steps.{MayChange}
 use Rattle.block_map.proofs.Givings.{emptied_blocks}
 use Rattle.block_map.proofs.Saving.{puts_steps}
 
-pub record IsFreed (p : Place) (n : ℕ) (old new : TxnState) : Type 0 where
+pub record IsFreed (p : Geometry) (n : ℕ) (old new : TxnState) : Type 0 where
   pub touches : Touches p n 0 1 old new
   pub free : inode_at p new.sectors n ≡ free_inode
   pub unused : bit new.sectors p.inode_bitmap n ≡ false
 
-module _ {p : Place} {n : ℕ} {v : Inode} {t0 t1 t2 : TxnState} (sound : IsSound p t0) (number : IsNumber p Inodes n)
+module _ {p : Geometry} {n : ℕ} {v : Inode} {t0 t1 t2 : TxnState} (sound : IsSound p t0) (number : IsNumber p Inodes n)
     (is : v ≡ inode_at p t0.sectors n) (read : IsUnchanged t0 t1) (given : GivesNumber p Inodes n t1.sectors t2.sectors)
     (bit_put : PutsOnly (λ t. t ≡ p.inode_bitmap + n / 4096) (bitmaps p) 0 t1 t2) where
   pub cleared_puts : PutsOnly (IsSectorFor p n) (bitmaps p) 0 t0 t2
-  cleared_puts = changes_joined (puts_nothing p read) (puts_inode_bit n n sound.consistent.place number.1 bit_put)
+  cleared_puts = changes_joined (puts_nothing p read) (puts_inode_bit n n sound.consistent.geometry number.1 bit_put)
 
   mark : MarksInode p n t0.sectors t2.sectors
   mark = subst (λ m. MarksInode p n m t2.sectors) (sym (map_unchanged read)) given.mark
@@ -80,22 +80,22 @@ module _ {p : Place} {n : ℕ} {v : Inode} {t0 t1 t2 : TxnState} (sound : IsSoun
         module _ (t6 : TxnState) (may : MayChange p t2 v) (access : GivesBack p v.acl t3.sectors t4.sectors) (default : GivesBack p v.default_acl t4.sectors t5.sectors)
             (saves : Saves p n free_inode t5.sectors t6.sectors) where
           blocks : ChangesBlocks p v (emptied v) t2.sectors t3.sectors
-          blocks = emptied_blocks then.place may.apart all
+          blocks = emptied_blocks then.geometry may.apart all
 
           second : HasStored p (emptied v) (record (emptied v) { acl = 0 }) AccessAcl 0 t3.sectors t4.sectors
           unfolding part
           second =
-              stored {x = v.acl} then.place all.tables.tables (apart_after then.place may.apart blocks.owned) refl {y = 0} None (λ m i e. cc) (λ c e. cc)
+              stored {x = v.acl} then.geometry all.tables.tables (apart_after then.geometry may.apart blocks.owned) refl {y = 0} None (λ m i e. cc) (λ c e. cc)
               (refl, access) (λ keeps. turns_acl t3.sectors t4.sectors (emptied v) v.acl 0 refl keeps)
 
           both : ChangesBlocks p v (record (emptied v) { acl = 0 }) t2.sectors t4.sectors
-          both = both_changes then.place blocks second.changes
+          both = both_changes then.geometry blocks second.changes
 
           third : HasStored p (record (emptied v) { acl = 0 }) (record (emptied v) { acl = 0; default_acl = 0 }) DefaultAcl 0 t4.sectors t5.sectors
           unfolding part
           third =
               let between : Inode = record (emptied v) { acl = 0 } in
-              stored {x = v.default_acl} then.place second.changes.owned.sectors (apart_after then.place may.apart both.owned) refl {y = 0} None (λ m i e. cc) (λ c e. cc)
+              stored {x = v.default_acl} then.geometry second.changes.owned.sectors (apart_after then.geometry may.apart both.owned) refl {y = 0} None (λ m i e. cc) (λ c e. cc)
               (refl, default) (λ keeps. turns_default_acl t4.sectors t5.sectors between v.default_acl 0 refl keeps)
 
           none : HasNoSector (record (emptied v) { acl = 0; default_acl = 0 })
@@ -104,9 +104,9 @@ module _ {p : Place} {n : ℕ} {v : Inode} {t0 t1 t2 : TxnState} (sound : IsSoun
 
           frees : ChangesBlocks p v free_inode t2.sectors t5.sectors
           frees =
-              let all_three = both_changes then.place both third.changes in
-              both_changes then.place all_three
-              (no_sector_changes then.place third.changes.owned.sectors (apart_after then.place may.apart all_three.owned) none free_has_no_sector)
+              let all_three = both_changes then.geometry both third.changes in
+              both_changes then.geometry all_three
+              (no_sector_changes then.geometry third.changes.owned.sectors (apart_after then.geometry may.apart all_three.owned) none free_has_no_sector)
 
           ended : IsConsistent p t6.sectors × IsSaved p n free_inode t2.sectors t5.sectors t6.sectors
           ended = saved_stays_consistent then number.1 (cleared.1 ∙ sym is) free_fits frees saves
@@ -122,10 +122,10 @@ module _ {p : Place} {n : ℕ} {v : Inode} {t0 t1 t2 : TxnState} (sound : IsSoun
               record {
                 touches = record {
                   puts = puts;
-                  super = super_kept p n 1 t0 t6 then.place puts;
-                  inode = both_inodes then.place cleared.0 ended.1.changes;
+                  super = super_kept p n 1 t0 t6 then.geometry puts;
+                  inode = both_inodes then.geometry cleared.0 ended.1.changes;
                   free = omega (arith, same, f, a, d, e);
                 };
                 free = ended.1.is;
-                unused = ended.1.inode_bits n (inode_has_bit then.place n number.1) ∙ given.clear;
+                unused = ended.1.inode_bits n (inode_has_bit then.geometry n number.1) ∙ given.clear;
               }

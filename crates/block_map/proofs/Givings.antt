@@ -4,10 +4,10 @@ use Rattle.std.specs.Prelude.{min, max}
 use Rattle.std.proofs.lemmas.Bool.{cases_eq, cases_lt}
 use Rattle.fs_layout.specs.declared.inode.TheConstants.{DIRECT_BLOCKS, POINTER_LEVELS, SECTOR_POINTERS}
 use Rattle.fs_layout.specs.declared.inode.Inode.{Inode}
-use Rattle.fs_layout.specs.declared.place.Place.{Place}
+use Rattle.fs_layout.specs.declared.geometry.Geometry.{Geometry}
 use Rattle.fs_layout.specs.Bytes.{SectorMap, IsSector, zeros}
 use Rattle.fs_layout.specs.Inode.{FitsInode}
-use Rattle.fs_layout.specs.Place.{IsPlace}
+use Rattle.fs_layout.specs.Geometry.{IsGeometry}
 use Rattle.fs_layout.proofs.Places.{after_map}
 use Rattle.fs_layout.specs.Images.{HasWholeTables, pointer_in, own_count, holder, place_in_holder, number_on, first_block, Part, AccessAcl, DefaultAcl, OnLevel, part, Owns, Holds, byte_in, byte_at, bit, map_bits, free_sectors}
 use Rattle.fs_layout.specs.InodeChanges.{Keeps, IsOwnedApart, IsBlockMap, ChangesBlocks}
@@ -30,29 +30,29 @@ use Rattle.bit_alloc.specs.Bitmaps.{HasBitmaps, GivesNumber, sector_of}
 use Rattle.bit_alloc.specs.Room.{bitmaps}
 use Rattle.block_map.specs.Steps.{MayChange, IsStepSector, Alters}
 use Rattle.block_map.specs.Contents.{AllowsSize}
-use Rattle.block_map.specs.Drops.{GivesParts, IsInData, IsFor, IsAmong, IsFrom, first_on, emptied}
+use Rattle.block_map.specs.Drops.{GivesParts, OwnsOnlyData, IsFor, IsAmong, IsFrom, first_on, emptied}
 
 -- ---- one sector is given back
 -- at least as many are free then
-pub free_after_give : {p : Place} {n : ℕ} {old new : SectorMap} → GivesNumber p BlockMap n old new → IsPlace p → free_sectors p old ≤ free_sectors p new
-free_after_give {p} {n} {old} {new} given place = elim (set_or_clear (bit old p.block_bitmap n)) [
+pub free_after_give : {p : Geometry} {n : ℕ} {old new : SectorMap} → GivesNumber p BlockMap n old new → IsGeometry p → free_sectors p old ≤ free_sectors p new
+free_after_give {p} {n} {old} {new} given geometry = elim (set_or_clear (bit old p.block_bitmap n)) [
   | inl set ↦ let e = given.count set in omega (arith, e)
   | inr clear ↦
       let e : free_sectors p new ≡ free_sectors p old = free_sectors_kept p old new (λ s at. elim (cases_eq s n) [
         | inl here ↦ ap (bit new p.block_bitmap) here ∙ given.clear ∙ sym clear ∙ ap (bit old p.block_bitmap) (sym here)
-        | inr ne ↦ given.mark.bits s (has_bit place s at.1) ne
+        | inr ne ↦ given.mark.bits s (has_bit geometry s at.1) ne
       ]) in
       omega (arith, e)
 ]
 
-pub give_puts : (p : Place) {n : ℕ} {old new : TxnState} → IsPlace p → n < map_bits p → PutsOnly (λ t. t ≡ sector_of p BlockMap n) (bitmaps p) 0 old new
+pub give_puts : (p : Geometry) {n : ℕ} {old new : TxnState} → IsGeometry p → n < map_bits p → PutsOnly (λ t. t ≡ sector_of p BlockMap n) (bitmaps p) 0 old new
     → PutsOnly (IsStepSector p) (bitmaps p) 0 old new
-give_puts p place few puts =
-    let after = after_map place in
+give_puts p geometry few puts =
+    let after = after_map geometry in
     changes_weaker {Q = IsStepSector p} (λ t e. inl (omega (arith, e, after), omega (arith, e, few))) (omega arith) puts
 
 -- ---- several parts
-pub none_given : {p : Place} {v : Inode} {P : Part → Type 0} {txn : TxnState} → HasBitmaps p txn → ((at : Part) → P at → ⊥) → GivesParts p v P txn txn
+pub none_given : {p : Geometry} {v : Inode} {P : Part → Type 0} {txn : TxnState} → HasBitmaps p txn → ((at : Part) → P at → ⊥) → GivesParts p v P txn txn
 none_given {p} h none = record {
   tables = h;
   others = λ s ban. refl;
@@ -64,7 +64,7 @@ none_given {p} h none = record {
 }
 
 -- a part without a sector has nothing to give back
-pub given_weaker : {p : Place} {v : Inode} {P Q : Part → Type 0} {old new : TxnState} → GivesParts p v P old new → ((at : Part) → P at → Q at)
+pub given_weaker : {p : Geometry} {v : Inode} {P Q : Part → Type 0} {old new : TxnState} → GivesParts p v P old new → ((at : Part) → P at → Q at)
     → ((at : Part) → Q at → P at ⊎ (part old.sectors v at ≡ 0)) → GivesParts p v Q old new
 given_weaker {p} {v} {P} {Q} {old} {new} g wider none = record {
   tables = g.tables;
@@ -77,16 +77,16 @@ given_weaker {p} {v} {P} {Q} {old} {new} g wider none = record {
 }
 
 -- the sectors that the inode owns are the same meanwhile
-pub given_keeps : {p : Place} {v : Inode} {P : Part → Type 0} {old new : TxnState} → IsInData p old.sectors v → GivesParts p v P old new → Keeps old.sectors new.sectors v
-given_keeps inside g s o = g.others s (λ m. let low = map_is_low g.tables.place s m in let d = (inside s o).0 in omega (arith, low, d))
+pub given_keeps : {p : Geometry} {v : Inode} {P : Part → Type 0} {old new : TxnState} → OwnsOnlyData p old.sectors v → GivesParts p v P old new → Keeps old.sectors new.sectors v
+given_keeps inside g s o = g.others s (λ m. let low = map_is_low g.tables.geometry s m in let d = (inside s o).0 in omega (arith, low, d))
 
 -- those of some, and then those of others
-pub given_joined : {p : Place} {v : Inode} {P Q : Part → Type 0} {old mid new : TxnState} → IsInData p old.sectors v → GivesParts p v P old mid → GivesParts p v Q mid new
+pub given_joined : {p : Geometry} {v : Inode} {P Q : Part → Type 0} {old mid new : TxnState} → OwnsOnlyData p old.sectors v → GivesParts p v P old mid → GivesParts p v Q mid new
     → GivesParts p v (λ at. P at ⊎ Q at) old new
 given_joined {p} {v} {P} {Q} {old} {mid} {new} inside a b =
     let same : (at : Part) → part mid.sectors v at ≡ part old.sectors v at = λ at. part_kept (given_keeps inside a) at in
     let few : (at : Part) → part old.sectors v at ≢ 0 → part old.sectors v at < map_bits p =
-    λ at some. has_bit a.tables.place (part old.sectors v at) (inside (part old.sectors v at) (owns_part old.sectors v at some)).1 in
+    λ at some. has_bit a.tables.geometry (part old.sectors v at) (inside (part old.sectors v at) (owns_part old.sectors v at some)).1 in
     record {
       tables = b.tables;
       others = λ s ban. b.others s ban ∙ a.others s ban;
@@ -108,7 +108,7 @@ given_joined {p} {v} {P} {Q} {old} {mid} {new} inside a b =
     }
 
 -- one sector
-pub part_given : {p : Place} {v : Inode} {n : ℕ} {old new : TxnState} (at : Part) → HasBitmaps p old → part old.sectors v at ≡ n → n ≢ 0 → n < map_bits p
+pub part_given : {p : Geometry} {v : Inode} {n : ℕ} {old new : TxnState} (at : Part) → HasBitmaps p old → part old.sectors v at ≡ n → n ≢ 0 → n < map_bits p
     → GivesNumber p BlockMap n old.sectors new.sectors → HasBitmaps p new → PutsOnly (λ t. t ≡ sector_of p BlockMap n) (bitmaps p) 0 old new
     → GivesParts p v (λ other. other ≡ at) old new
 part_given {p} {v} {n} {old} {new} at h is some few given bits puts = record {
@@ -123,15 +123,15 @@ part_given {p} {v} {n} {old} {new} at h is some few given bits puts = record {
     | inl e ↦ absurd (not_both set (ap (bit new.sectors p.block_bitmap) e ∙ given.clear))
     | inr ne ↦ sym (given.mark.bits s small ne) ∙ set
   ];
-  puts = give_puts p h.place few puts;
-  free = free_after_give given h.place;
+  puts = give_puts p h.geometry few puts;
+  free = free_after_give given h.geometry;
 }
 
 -- ---- several numbers of a level
 no_number_between : (level first : ℕ) (at : Part) → IsAmong level first first at → ⊥
 no_number_between level first at w = let a = w.2 in let b = w.3 in omega (arith, a, b)
 
-pub none_among : {p : Place} {v : Inode} {level first : ℕ} {txn : TxnState} → HasBitmaps p txn → GivesParts p v (IsAmong level first first) txn txn
+pub none_among : {p : Geometry} {v : Inode} {level first : ℕ} {txn : TxnState} → HasBitmaps p txn → GivesParts p v (IsAmong level first first) txn txn
 none_among {level = level} {first} h = none_given h (no_number_between level first)
 
 among_more : (level first k : ℕ) (at : Part) → IsAmong level first (k + 1) at → (IsAmong level first k at) ⊎ (at ≡ OnLevel level k)
@@ -147,7 +147,7 @@ among_on level first k at from way = elim way [
 ]
 
 -- a hole
-pub hole_given : {p : Place} {v : Inode} {level first k : ℕ} {old new : TxnState} → GivesParts p v (IsAmong level first k) old new → number_on old.sectors v level k ≡ 0 → first ≤ k
+pub hole_given : {p : Geometry} {v : Inode} {level first k : ℕ} {old new : TxnState} → GivesParts p v (IsAmong level first k) old new → number_on old.sectors v level k ≡ 0 → first ≤ k
     → GivesParts p v (IsAmong level first (k + 1)) old new
 unfolding part
 hole_given {p} {v} {level} {first} {k} {old} {new} g none from =
@@ -155,7 +155,7 @@ hole_given {p} {v} {level} {first} {k} {old} {new} g none from =
     (λ at w. elim (among_more level first k at w) [ inl was ↦ inl was | inr e ↦ inr (ap (part old.sectors v) e ∙ none) ])
 
 -- nor have numbers past the last that the inode can have
-pub rest_given : {p : Place} {v : Inode} {level first k : ℕ} {old new : TxnState} → GivesParts p v (IsAmong level first k) old new → (end : ℕ) → k ≤ end
+pub rest_given : {p : Geometry} {v : Inode} {level first k : ℕ} {old new : TxnState} → GivesParts p v (IsAmong level first k) old new → (end : ℕ) → k ≤ end
     → ((j : ℕ) → k ≤ j → number_on old.sectors v level j ≡ 0) → GivesParts p v (IsAmong level first end) old new
 unfolding part
 rest_given {p} {v} {level} {first} {k} {old} {new} g end le none =
@@ -166,27 +166,27 @@ rest_given {p} {v} {level} {first} {k} {old} {new} g end le none =
     ])
 
 -- nor holes among them
-pub holes_given : {p : Place} {v : Inode} {level first end : ℕ} {txn : TxnState} → HasBitmaps p txn
+pub holes_given : {p : Geometry} {v : Inode} {level first end : ℕ} {txn : TxnState} → HasBitmaps p txn
     → ((i : ℕ) → first ≤ i → i < end → number_on txn.sectors v level i ≡ 0) → GivesParts p v (IsAmong level first end) txn txn
 unfolding part
 holes_given {p} {v} {level} {first} {end} {txn} h none =
     given_weaker {P = λ at. ⊥} (none_given h (λ at x. x)) (λ at x. absurd x) (λ at w. inr (ap (part txn.sectors v) w.1 ∙ none w.0 w.2 w.3))
 
 -- a number more
-pub number_given : {p : Place} {v : Inode} {level first k n : ℕ} {old mid new : TxnState} → IsInData p old.sectors v → GivesParts p v (IsAmong level first k) old mid → first ≤ k
+pub number_given : {p : Geometry} {v : Inode} {level first k n : ℕ} {old mid new : TxnState} → OwnsOnlyData p old.sectors v → GivesParts p v (IsAmong level first k) old mid → first ≤ k
     → number_on old.sectors v level k ≡ n → n ≢ 0 → GivesNumber p BlockMap n mid.sectors new.sectors → HasBitmaps p new → PutsOnly (λ t. t ≡ sector_of p BlockMap n) (bitmaps p) 0 mid new
     → GivesParts p v (IsAmong level first (k + 1)) old new
 unfolding part
 number_given {p} {v} {level} {first} {k} {n} {old} {mid} {new} inside g from is some given bits puts =
     let own : Owns old.sectors v n = record { at = OnLevel level k; is = is; some = some } in
-    let few : n < map_bits p = has_bit g.tables.place n (inside n own).1 in
+    let few : n < map_bits p = has_bit g.tables.geometry n (inside n own).1 in
     let now : number_on mid.sectors v level k ≡ n = number_on_kept (given_keeps inside g) level k ∙ is in
     given_weaker (given_joined inside g (part_given (OnLevel level k) g.tables now some few given bits puts)) (λ at way. among_on level first k at from way)
     (λ at w. inl (among_more level first k at w))
 
 -- ---- what is owned
 -- Each part of v stays or is given back, with its bit: then w has what v had and kept.
-pub record KeepsOrGives (p : Place) (v w : Inode) (old new : SectorMap) : Type 0 where
+pub record KeepsOrGives (p : Geometry) (v w : Inode) (old new : SectorMap) : Type 0 where
   pub tables : HasWholeTables p new
   pub parts : (at : Part) → (part new w at ≡ part old v at) ⊎ ((part new w at ≡ 0) × (part old v at ≢ 0 → bit new p.block_bitmap (part old v at) ≡ false))
   pub released : (s : ℕ) → s < map_bits p → IsTrue (bit old p.block_bitmap s) → bit new p.block_bitmap s ≡ false → (at : Part) × (part old v at ≡ s) × (part new w at ≡ 0) × (s ≢ 0)
@@ -194,15 +194,15 @@ pub record KeepsOrGives (p : Place) (v w : Inode) (old new : SectorMap) : Type 0
   pub whole : (s : ℕ) → Owns old v s → IsSector (new s)
   pub others : (s : ℕ) → (Owns old v s → ⊥) → (IsBlockMap p s → ⊥) → new s ≡ old s
 
-owned_still : {p : Place} {v w : Inode} {old new : SectorMap} {s : ℕ} → KeepsOrGives p v w old new → (o : Owns new w s) → part old v o.at ≡ s
+owned_still : {p : Geometry} {v w : Inode} {old new : SectorMap} {s : ℕ} → KeepsOrGives p v w old new → (o : Owns new w s) → part old v o.at ≡ s
 owned_still g o = elim (g.parts o.at) [ inl same ↦ sym same ∙ o.is | inr gone ↦ absurd (o.some (sym o.is ∙ gone.0)) ]
 
-pub keeps_or_gives : {p : Place} {v w : Inode} {old new : SectorMap} → IsPlace p → IsOwnedApart p old v → KeepsOrGives p v w old new → ChangesBlocks p v w old new
-keeps_or_gives {p} {v} {w} {old} {new} place apart g = record {
+pub keeps_or_gives : {p : Geometry} {v w : Inode} {old new : SectorMap} → IsGeometry p → IsOwnedApart p old v → KeepsOrGives p v w old new → ChangesBlocks p v w old new
+keeps_or_gives {p} {v} {w} {old} {new} geometry apart g = record {
   owned = record {
     sectors = g.tables;
     whole = λ s o. g.whole s (record { at = o.at; is = owned_still g o; some = o.some });
-    others = λ s ge lt used ban. g.others s ban (λ m. let low = map_is_low place s m in omega (arith, low, ge));
+    others = λ s ge lt used ban. g.others s ban (λ m. let low = map_is_low geometry s m in omega (arith, low, ge));
     fresh = λ s o. inl (record { at = o.at; is = owned_still g o; some = o.some });
     once = λ s a b. apart.once s (record { at = a.at; is = owned_still g a; some = a.some }) (record { at = b.at; is = owned_still g b; some = b.some });
     taken = λ s few o.
@@ -225,7 +225,7 @@ keeps_or_gives {p} {v} {w} {old} {new} place apart g = record {
 }
 
 -- those of some numbers, and then of the next
-pub among_joined : {p : Place} {v : Inode} {level first k end : ℕ} {old mid new : TxnState} → IsInData p old.sectors v → GivesParts p v (IsAmong level first k) old mid
+pub among_joined : {p : Geometry} {v : Inode} {level first k end : ℕ} {old mid new : TxnState} → OwnsOnlyData p old.sectors v → GivesParts p v (IsAmong level first k) old mid
     → GivesParts p v (IsAmong level k end) mid new → first ≤ k → k ≤ end → GivesParts p v (IsAmong level first end) old new
 among_joined {level = level} {first} {k} {end} inside a b from to = given_weaker (given_joined inside a b)
     (λ at way. elim way [
@@ -239,14 +239,14 @@ among_joined {level = level} {first} {k} {end} inside a b from to = given_weaker
 
 -- ---- the numbers of a level that one sector of pointers has after the other
 -- those that stand in the inode come first
-pub own_given : {p : Place} {v : Inode} {level first count : ℕ} {old new : TxnState} → GivesParts p v (IsAmong level (min first count) count) old new
+pub own_given : {p : Geometry} {v : Inode} {level first count : ℕ} {old new : TxnState} → GivesParts p v (IsAmong level (min first count) count) old new
     → GivesParts p v (IsAmong level first (max first (count + SECTOR_POINTERS * ((first - count) / SECTOR_POINTERS)))) old new
 own_given {first = first} {count} g = given_weaker g
     (λ at w. (w.0, w.1, (let ge = w.2 in let lt = w.3 in omega (arith, ge, lt)), (let lt = w.3 in omega (arith, lt))))
     (λ at w. inl (w.0, w.1, (let ge = w.2 in omega (arith, ge)), (let ge = w.2 in let lt = w.3 in omega (arith, ge, lt))))
 
 -- then those of the next sector
-pub next_given : {p : Place} {v : Inode} {level first : ℕ} {old mid new : TxnState} (count j : ℕ) → IsInData p old.sectors v
+pub next_given : {p : Geometry} {v : Inode} {level first : ℕ} {old mid new : TxnState} (count j : ℕ) → OwnsOnlyData p old.sectors v
     → GivesParts p v (IsAmong level first (max first (count + SECTOR_POINTERS * j))) old mid → (first - count) / SECTOR_POINTERS ≤ j
     → GivesParts p v (IsAmong level (max first (count + SECTOR_POINTERS * j)) (count + SECTOR_POINTERS * j + SECTOR_POINTERS)) mid new
     → GivesParts p v (IsAmong level first (max first (count + SECTOR_POINTERS * (j + 1)))) old new
@@ -263,7 +263,7 @@ none_listed image v level count j own none i ge lt =
     ∙ ap (λ (s : ℕ). pointer_in image s (place_in_holder (own_count level) i)) (ap (number_on image v (suc level)) at ∙ none)
 
 -- and behind the last there is none
-pub level_given : {p : Place} {v : Inode} {level first k : ℕ} {old new : TxnState} → GivesParts p v (IsAmong level first k) old new
+pub level_given : {p : Geometry} {v : Inode} {level first k : ℕ} {old new : TxnState} → GivesParts p v (IsAmong level first k) old new
     → ((i : ℕ) → k ≤ i → number_on old.sectors v level i ≡ 0) → GivesParts p v (IsFrom level first) old new
 unfolding part
 level_given {v = v} {level} {first} {k} {old} g past = given_weaker g (λ at w. (w.0, w.1, w.2)) (λ at w. elim (cases_lt w.0 k) [
@@ -290,7 +290,7 @@ none_below first AccessAcl here = here
 none_below first DefaultAcl here = here
 none_below first (OnLevel level i) here = let lt = here.0 in omega (arith, lt)
 
-pub none_given_below : {p : Place} {v : Inode} {first : ℕ} {txn : TxnState} → HasBitmaps p txn → GivesParts p v (IsForBelow 0 first) txn txn
+pub none_given_below : {p : Geometry} {v : Inode} {first : ℕ} {txn : TxnState} → HasBitmaps p txn → GivesParts p v (IsForBelow 0 first) txn txn
 none_given_below {first = first} h = none_given h (none_below first)
 
 below_more : (level first : ℕ) (at : Part) → (IsForBelow level first at) ⊎ (IsFrom level (first_on level first) at) → IsForBelow (level + 1) first at
@@ -310,7 +310,7 @@ more_below level first (OnLevel n i) here = elim (cases_eq n level) [
 ]
 
 -- one level more
-pub more_given : {p : Place} {v : Inode} {level first : ℕ} {old mid new : TxnState} → IsInData p old.sectors v → GivesParts p v (IsForBelow level first) old mid
+pub more_given : {p : Geometry} {v : Inode} {level first : ℕ} {old mid new : TxnState} → OwnsOnlyData p old.sectors v → GivesParts p v (IsForBelow level first) old mid
     → GivesParts p v (IsFrom level (first_on level first)) mid new → GivesParts p v (IsForBelow (level + 1) first) old new
 more_given {level = level} {first} inside a b = given_weaker (given_joined inside a b) (below_more level first) (λ at here. inl (more_below level first at here))
 
@@ -329,7 +329,7 @@ below_all image v first (OnLevel level i) here = elim (cases_lt level (POINTER_L
 ]
 
 -- and there are no more
-pub all_given : {p : Place} {v : Inode} {first : ℕ} {old new : TxnState} → GivesParts p v (IsForBelow (POINTER_LEVELS + 1) first) old new → GivesParts p v (IsFor first) old new
+pub all_given : {p : Geometry} {v : Inode} {first : ℕ} {old new : TxnState} → GivesParts p v (IsForBelow (POINTER_LEVELS + 1) first) old new → GivesParts p v (IsFor first) old new
 all_given {v = v} {first} {old} g = given_weaker g (all_below first) (below_all old.sectors v first)
 
 -- the inode without it has no block, nor a sector of pointers
@@ -350,7 +350,7 @@ emptied_holds image v = record {
   trim = λ level i le. emptied_number image v level i;
 }
 
-emptied_parts : {p : Place} {v : Inode} {old new : TxnState} → GivesParts p v (IsFor 0) old new → (at : Part)
+emptied_parts : {p : Geometry} {v : Inode} {old new : TxnState} → GivesParts p v (IsFor 0) old new → (at : Part)
     → (part new.sectors (emptied v) at ≡ part old.sectors v at)
     ⊎ ((part new.sectors (emptied v) at ≡ 0) × (part old.sectors v at ≢ 0 → bit new.sectors p.block_bitmap (part old.sectors v at) ≡ false))
 unfolding part
@@ -371,26 +371,26 @@ emptied_fits v fits allowed =
     with_blocks_fits (sized_fits v 0 fits allowed (omega arith)) (is_used v.kind 0 allowed) (blocks_fit free_fits)
 
 -- what it owned besides its ACLs is given back
-pub emptied_blocks : {p : Place} {v : Inode} {old new : TxnState} → IsPlace p → IsOwnedApart p old.sectors v → GivesParts p v (IsFor 0) old new
+pub emptied_blocks : {p : Geometry} {v : Inode} {old new : TxnState} → IsGeometry p → IsOwnedApart p old.sectors v → GivesParts p v (IsFor 0) old new
     → ChangesBlocks p v (emptied v) old.sectors new.sectors
-emptied_blocks {p} {v} {old} {new} place apart g = keeps_or_gives place apart (record {
+emptied_blocks {p} {v} {old} {new} geometry apart g = keeps_or_gives geometry apart (record {
   tables = g.tables.tables;
   parts = emptied_parts g;
   released = λ s few set clear.
       let r = g.released s few set clear in
       (r.0, r.2, gone_part new.sectors v r.0 r.1, r.3);
   set = g.set;
-  whole = λ s o. subst IsSector (sym (g.others s (no_map place apart s o))) (apart.whole s o);
+  whole = λ s o. subst IsSector (sym (g.others s (no_map geometry apart s o))) (apart.whole s o);
   others = λ s ban map. g.others s map;
 })
 
 -- the inode is emptied
-pub empties : {p : Place} {v : Inode} {old new : TxnState} → MayChange p old v → AllowsSize v.kind 0 → GivesParts p v (IsFor 0) old new → Alters p old new v (emptied v)
+pub empties : {p : Geometry} {v : Inode} {old new : TxnState} → MayChange p old v → AllowsSize v.kind 0 → GivesParts p v (IsFor 0) old new → Alters p old new v (emptied v)
 empties {p} {v} {old} {new} may allowed g =
-    let place : IsPlace p = g.tables.place in
-    let same : (s : ℕ) → Owns old.sectors v s → new.sectors s ≡ old.sectors s = λ s o. g.others s (no_map place may.apart s o) in
+    let geometry : IsGeometry p = g.tables.geometry in
+    let same : (s : ℕ) → Owns old.sectors v s → new.sectors s ≡ old.sectors s = λ s o. g.others s (no_map geometry may.apart s o) in
     record {
-      blocks = emptied_blocks place may.apart g;
+      blocks = emptied_blocks geometry may.apart g;
       fields = record { kind = refl; mode = refl; uid = refl; gid = refl; names = refl; parent = refl; mtime = refl; ctime = refl; atime = refl };
       acls = acls_where_kept refl refl same;
       bitmaps = g.tables;
@@ -399,7 +399,7 @@ empties {p} {v} {old} {new} may allowed g =
 
 -- ---- after reads
 -- an inode that may be changed may be so after reads
-pub may_unchanged : {p : Place} {old mid : TxnState} {v : Inode} → MayChange p old v → IsUnchanged old mid → MayChange p mid v
+pub may_unchanged : {p : Geometry} {old mid : TxnState} {v : Inode} → MayChange p old v → IsUnchanged old mid → MayChange p mid v
 may_unchanged {p} {old} {mid} {v} may same = record {
   bitmaps = bitmaps_unchanged p old mid may.bitmaps same;
   apart = subst (λ (image : SectorMap). IsOwnedApart p image v) (sym (same_map old.sectors mid.sectors same.sectors)) may.apart;
@@ -408,7 +408,7 @@ may_unchanged {p} {old} {mid} {v} may same = record {
 }
 
 -- parts are given back, after reads
-pub given_after : {p : Place} {v : Inode} {P : Part → Type 0} {old mid new : TxnState} → IsUnchanged old mid → GivesParts p v P mid new → GivesParts p v P old new
+pub given_after : {p : Geometry} {v : Inode} {P : Part → Type 0} {old mid new : TxnState} → IsUnchanged old mid → GivesParts p v P mid new → GivesParts p v P old new
 given_after {p} {v} {P} {old} {mid} {new} same g =
     let e : mid.sectors ≡ old.sectors = same_map old.sectors mid.sectors same.sectors in
     record {
@@ -423,7 +423,7 @@ given_after {p} {v} {P} {old} {mid} {new} same g =
     }
 
 -- and given on
-pub given_unchanged : {p : Place} {v : Inode} {P : Part → Type 0} {old mid new : TxnState} → GivesParts p v P old mid → IsUnchanged mid new → GivesParts p v P old new
+pub given_unchanged : {p : Geometry} {v : Inode} {P : Part → Type 0} {old mid new : TxnState} → GivesParts p v P old mid → IsUnchanged mid new → GivesParts p v P old new
 given_unchanged {p} {v} {P} {old} {mid} {new} g same =
     let e : mid.sectors ≡ new.sectors = sym (same_map mid.sectors new.sectors same.sectors) in
     record {
@@ -438,9 +438,9 @@ given_unchanged {p} {v} {P} {old} {mid} {new} g same =
     }
 
 -- what may be changed owns data sectors
-pub in_data : {p : Place} {txn : TxnState} {v : Inode} → MayChange p txn v → IsInData p txn.sectors v
+pub in_data : {p : Geometry} {txn : TxnState} {v : Inode} → MayChange p txn v → OwnsOnlyData p txn.sectors v
 in_data may s o = let d = may.apart.each s o in (d.0, d.1)
 
 -- so it is where they are the same
-pub in_data_kept : (p : Place) {old new : SectorMap} {v : Inode} → IsInData p old v → Keeps old new v → IsInData p new v
+pub in_data_kept : (p : Geometry) {old new : SectorMap} {v : Inode} → OwnsOnlyData p old v → Keeps old new v → OwnsOnlyData p new v
 in_data_kept p inside keeps s o = inside s (owned_before keeps o)

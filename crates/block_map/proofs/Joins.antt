@@ -1,7 +1,7 @@
 -- Calls on what one inode holds, one after another.
 use Rattle.std.proofs.Common.{◌≡◌, ℕ, ◌+◌, ◌≤◌, sym, ap, subst, ◌∙◌, arith}
 use Rattle.fs_layout.specs.declared.inode.Inode.{Inode}
-use Rattle.fs_layout.specs.declared.place.Place.{Place}
+use Rattle.fs_layout.specs.declared.geometry.Geometry.{Geometry}
 use Rattle.fs_layout.specs.Bytes.{SectorMap}
 use Rattle.fs_layout.specs.Images.{bit}
 use Rattle.fs_layout.specs.Ownership.{IsConsistent}
@@ -16,14 +16,14 @@ use Rattle.block_map.proofs.Alterings.{fields_joined, acls_joined}
 use Rattle.block_map.proofs.Wrote.{free_same}
 
 -- after reads the map is sound
-pub sound_after_reads : {p : Place} {old new : TxnState} → IsSound p old → IsUnchanged old new → IsSound p new
+pub sound_after_reads : {p : Geometry} {old new : TxnState} → IsSound p old → IsUnchanged old new → IsSound p new
 sound_after_reads {p} {old} {new} sound same = record {
   consistent = subst (IsConsistent p) (map_unchanged same) sound.consistent;
   bitmaps = bitmaps_unchanged p old new sound.bitmaps same;
 }
 
 -- a change after reads
-pub content_after_reads : {p : Place} {n taken more : ℕ} {old mid new : TxnState} {v w : Inode} → IsUnchanged old mid → ChangesContent p n taken more mid new v w
+pub content_after_reads : {p : Geometry} {n taken more : ℕ} {old mid new : TxnState} {v w : Inode} → IsUnchanged old mid → ChangesContent p n taken more mid new v w
     → ChangesContent p n taken more old new v w
 content_after_reads {p} {n} {old = old} {mid} {new} {v} {w} same c =
     let e : mid.sectors ≡ old.sectors = sym (map_unchanged same) in
@@ -42,11 +42,11 @@ content_after_reads {p} {n} {old = old} {mid} {new} {v} {w} same c =
     }
 
 -- one change after another
-pub content_joined : {p : Place} {n first then few more : ℕ} {old mid new : TxnState} {u v w : Inode} → ChangesContent p n first few old mid u v
+pub content_joined : {p : Geometry} {n first then few more : ℕ} {old mid new : TxnState} {u v w : Inode} → ChangesContent p n first few old mid u v
     → ChangesContent p n then more mid new v w → ChangesContent p n (first + then) (few + more) old new u w
 content_joined {p} {n} {first} {then} {few} {more} {old} {mid} {new} a b = record {
   sound = b.sound;
-  touches = touches_joined p n first then few more old mid new a.sound.bitmaps.place a.touches b.touches;
+  touches = touches_joined p n first then few more old mid new a.sound.bitmaps.geometry a.touches b.touches;
   now = b.now;
   fields = fields_joined a.fields b.fields;
   acls = acls_joined a.acls b.acls;
@@ -54,7 +54,7 @@ content_joined {p} {n} {first} {then} {few} {more} {old} {mid} {new} a b = recor
 }
 
 -- what puts few sectors puts no more than more
-pub content_at_most : {p : Place} {n taken few more : ℕ} {old new : TxnState} {v w : Inode} → few ≤ more → ChangesContent p n taken few old new v w
+pub content_at_most : {p : Geometry} {n taken few more : ℕ} {old new : TxnState} {v w : Inode} → few ≤ more → ChangesContent p n taken few old new v w
     → ChangesContent p n taken more old new v w
 content_at_most le c = record {
   sound = c.sound;

@@ -5,7 +5,7 @@ use Rattle.std.proofs.lemmas.List.{drop_all, append-nil}
 use Rattle.fs_layout.specs.declared.inode.TheConstants.{DIRECT_BLOCKS, POINTER_LEVELS}
 use Rattle.fs_layout.specs.declared.inode.Inode.{Inode}
 use Rattle.fs_layout.specs.declared.inode.Kind.TheVariants as kinds
-use Rattle.fs_layout.specs.declared.place.Place.{Place}
+use Rattle.fs_layout.specs.declared.geometry.Geometry.{Geometry}
 use Rattle.fs_layout.specs.Bytes.{SectorMap, splice, zeros}
 use Rattle.fs_layout.specs.Inode.{FitsInode, free_inode, numbers_fit}
 use Rattle.fs_layout.specs.Images.{pointer, Holds, HasNoHole, bit, free_sectors, inode_at}
@@ -90,7 +90,7 @@ target_fills target few =
 
 -- ---- a link is made: its inode's bit is set, its target gets a sector, and it is written
 -- what is so then
-pub record IsMade (p : Place) (n owner group : ℕ) (target : List ℕ) (old new : TxnState) : Type 0 where
+pub record IsMade (p : Geometry) (n owner group : ℕ) (target : List ℕ) (old new : TxnState) : Type 0 where
   pub touches : Touches p n 1 2 old new
   pub used : IsTrue (bit new.sectors p.inode_bitmap n)
   pub fields : IsNewLink owner group (inode_at p new.sectors n)
@@ -98,10 +98,10 @@ pub record IsMade (p : Place) (n owner group : ℕ) (target : List ℕ) (old new
   pub holds : Holds new.sectors (inode_at p new.sectors n) target
   pub whole : HasNoHole new.sectors (inode_at p new.sectors n)
 
-module _ {p : Place} {n : ℕ} {t0 t1 : TxnState} (sound : IsSound p t0) (taken : TakesNumber p Inodes n t0.sectors t1.sectors)
+module _ {p : Geometry} {n : ℕ} {t0 t1 : TxnState} (sound : IsSound p t0) (taken : TakesNumber p Inodes n t0.sectors t1.sectors)
     (bit_put : PutsOnly (λ t. t ≡ p.inode_bitmap + n / 4096) (bitmaps p) 0 t0 t1) where
   pub bit_puts : PutsOnly (IsSectorFor p n) (bitmaps p) 0 t0 t1
-  bit_puts = puts_inode_bit n n sound.consistent.place taken.free.1 bit_put
+  bit_puts = puts_inode_bit n n sound.consistent.geometry taken.free.1 bit_put
 
   first : ChangesInode p n t0.sectors t1.sectors × (inode_at p t1.sectors n ≡ inode_at p t0.sectors n)
   first = marks_change sound.consistent taken.free.1 taken.mark
@@ -124,23 +124,23 @@ module _ {p : Place} {n : ℕ} {t0 t1 : TxnState} (sound : IsSound p t0) (taken 
       free_apart = subst (λ (u : Inode). IsOwnedApart p t1.sectors u) was_free (owned_is_apart now n taken.free.1)
 
       begun : ChangesBlocks p free_inode (link_of owner group (length target)) t1.sectors t1.sectors
-      begun = no_sector_changes now.place now.sectors free_apart free_has_no_sector (link_has_no_sector owner group (length target))
+      begun = no_sector_changes now.geometry now.sectors free_apart free_has_no_sector (link_has_no_sector owner group (length target))
 
       apart : IsOwnedApart p t1.sectors (link_of owner group (length target))
-      apart = apart_after now.place free_apart begun.owned
+      apart = apart_after now.geometry free_apart begun.owned
 
       hole : pointer t1.sectors (link_of owner group (length target)) 0 ≡ 0
       hole = pointer_direct t1.sectors (link_of owner group (length target)) 0 (omega arith)
 
       changes : ChangesBlocks p free_inode (with_direct (link_of owner group (length target)) 0 y) t1.sectors t2.sectors
-      changes = both_changes now.place begun (direct_block_gained now.place apart a 0 (omega arith) refl hole)
+      changes = both_changes now.geometry begun (direct_block_gained now.geometry apart a 0 (omega arith) refl hole)
 
       saved : IsConsistent p t3.sectors × IsSaved p n (with_direct (link_of owner group (length target)) 0 y) t1.sectors t2.sectors t3.sectors
       saved = saved_stays_consistent now taken.free.1 was_free fits changes saves
 
       holds_target : Holds t2.sectors (with_direct (link_of owner group (length target)) 0 y) target
       holds_target =
-          direct_block_filled now.place apart a 0 (zeros (length target)) target (omega arith) refl hole (omega (arith, size.0))
+          direct_block_filled now.geometry apart a 0 (zeros (length target)) target (omega arith) refl hole (omega (arith, size.0))
           (link_holds_zeros t1.sectors owner group (length target))
           (subst (λ (x : List ℕ). ReplacesBlock 0 x (zeros (length target)) target) (sym is) (target_fills target size.1))
 
@@ -148,7 +148,7 @@ module _ {p : Place} {n : ℕ} {t0 t1 : TxnState} (sound : IsSound p t0) (taken 
       has_sector k lt none =
           let w : Inode = with_direct (link_of owner group (length target)) 0 y in
           let one : k ≡ 0 = omega (arith, lt, size.1) in
-          allocated_some now.place apart a (sym (pointer_direct t2.sectors w 0 (omega arith)) ∙ ap (pointer t2.sectors w) (sym one) ∙ none)
+          allocated_some now.geometry apart a (sym (pointer_direct t2.sectors w 0 (omega arith)) ∙ ap (pointer t2.sectors w) (sym one) ∙ none)
 
       pub link_made : free_sectors p t1.sectors ≡ free_sectors p t2.sectors + 1 → PutsOnly (λ t. t ≡ p.table + n / 4) [] 1 t2 t3 → IsMade p n owner group target t0 t3
       link_made one inode_put =
@@ -158,11 +158,11 @@ module _ {p : Place} {n : ℕ} {t0 t1 : TxnState} (sound : IsSound p t0) (taken 
           record {
             touches = record {
               puts = puts;
-              super = super_kept p n 2 t0 t3 now.place puts;
-              inode = both_inodes now.place first.0 saved.1.changes;
+              super = super_kept p n 2 t0 t3 now.geometry puts;
+              inode = both_inodes now.geometry first.0 saved.1.changes;
               free = omega (arith, one, same, f);
             };
-            used = saved.1.inode_bits n (inode_has_bit sound.consistent.place n taken.free.1) ∙ taken.set;
+            used = saved.1.inode_bits n (inode_has_bit sound.consistent.geometry n taken.free.1) ∙ taken.set;
             fields = subst (IsNewLink owner group) (sym saved.1.is) (record { kind = refl; mode = refl; uid = refl; gid = refl; names = refl; parent = refl; mtime = refl; ctime = refl; atime = refl });
             acls = subst HasNoAcls (sym saved.1.is) (record { acl = refl; default = refl });
             holds = subst (λ (u : Inode). Holds t3.sectors u target) (sym saved.1.is) (Holds-kept saved.1.keeps holds_target);

@@ -6,7 +6,7 @@ use Rattle.std.proofs.lemmas.List.{length-take-le, take_all}
 use Rattle.std.proofs.Math.Seq.{take-add}
 use Rattle.fs_layout.specs.declared.inode.TheConstants.{DIRECT_BLOCKS}
 use Rattle.fs_layout.specs.declared.inode.Inode.{Inode}
-use Rattle.fs_layout.specs.declared.place.Place.{Place}
+use Rattle.fs_layout.specs.declared.geometry.Geometry.{Geometry}
 use Rattle.fs_layout.specs.Bytes.{SectorMap, splice}
 use Rattle.fs_layout.specs.Images.{holder, number_on, pointer, Holds, free_sectors}
 use Rattle.fs_layout.proofs.Writes.{splice_next, nothing_put}
@@ -22,7 +22,7 @@ use Rattle.block_map.proofs.Rooms.{lacking-append, lacks_among, puts_among, puts
 use Rattle.block_map.proofs.Writings.{hole_is_one, pointers_are}
 
 -- the blocks from `first` up to k are written; `ns` are their sectors of pointers
-pub record IsWritten (p : Place) (ns : List ℕ) (offset first k : ℕ) (x : List ℕ) (old new : TxnState) (v w : Inode) : Type 0 where
+pub record IsWritten (p : Geometry) (ns : List ℕ) (offset first k : ℕ) (x : List ℕ) (old new : TxnState) (v w : Inode) : Type 0 where
   pub may : MayChange p new w
   pub alters : Alters p old new v w
   pub size : w.size ≡ v.size
@@ -34,7 +34,7 @@ pub record IsWritten (p : Place) (ns : List ℕ) (offset first k : ℕ) (x : Lis
   pub free : free_sectors p old.sectors ≤ free_sectors p new.sectors + holes old.sectors v first (k - first)
 
 -- none of them is
-pub none_written : {p : Place} {offset first : ℕ} {x : List ℕ} {txn : TxnState} {v : Inode} (ns : List ℕ) → MayChange p txn v → 512 * first ≤ offset
+pub none_written : {p : Geometry} {offset first : ℕ} {x : List ℕ} {txn : TxnState} {v : Inode} (ns : List ℕ) → MayChange p txn v → 512 * first ≤ offset
     → IsWritten p ns offset first first x txn txn v v
 none_written {p} {offset} {first} {x} {txn} {v} ns may before =
     let none : first - first ≡ 0 = omega arith in
@@ -105,7 +105,7 @@ module _ (image now : SectorMap) (v w : Inode) (first end k : ℕ) (low : first 
   ]
 
 -- one block more is written
-pub more_written : {p : Place} {offset first k at end : ℕ} {x piece : List ℕ} {old mid new : TxnState} {u v w : Inode} → (done len : ℕ)
+pub more_written : {p : Geometry} {offset first k at end : ℕ} {x piece : List ℕ} {old mid new : TxnState} {u v w : Inode} → (done len : ℕ)
     → IsWritten p (pointers_of old.sectors u first end) offset first k x old mid u v → WritesBlock p k at piece mid new v w
     → first ≤ k → k < end → 512 * k + at ≡ offset + done → done ≡ 512 * k - offset → piece ≡ take len (drop done x)
     → done + len ≤ length x → ((length x ≤ 512 * (k + 1) - offset) × (done + len ≡ length x)) ⊎ (done + len ≡ 512 * (k + 1) - offset)
@@ -148,7 +148,7 @@ more_written {p} {offset} {first} {k} {at} {end} {x} {piece} {old} {mid} {new} {
     wider j out = elim out [ inl low ↦ inl low | inr high ↦ inr (omega (arith, high)) ]
 
 -- ---- all blocks
-module _ {p : Place} (offset : ℕ) {end : ℕ} (x : List ℕ) {old mid : TxnState} {u v : Inode} (added : AddsPointers p (offset / 512) end old mid u v)
+module _ {p : Geometry} (offset : ℕ) {end : ℕ} (x : List ℕ) {old mid : TxnState} {u v : Inode} (added : AddsPointers p (offset / 512) end old mid u v)
     (is : end ≡ blocks_to (offset + length x)) where
   abbrev first : ℕ
   first = offset / 512
@@ -220,7 +220,7 @@ module _ {p : Place} (offset : ℕ) {end : ℕ} (x : List ℕ) {old mid : TxnSta
         omega (arith, one, two, shared, most, from, below, spare)
 
 -- and so where none is left for the pointers
-pub pointers_lack : (p : Place) (offset end : ℕ) (x : List ℕ) (old : TxnState) (v : Inode) → end ≡ blocks_to (offset + length x)
+pub pointers_lack : (p : Geometry) (offset end : ℕ) (x : List ℕ) (old : TxnState) (v : Inode) → end ≡ blocks_to (offset + length x)
     → free_sectors p old.sectors < lacks_pointers old.sectors v (offset / 512) end → free_sectors p old.sectors < taken_by old.sectors v offset (length x)
 pointers_lack p offset end x old v is few =
     let count = taken_is old.sectors v offset (length x)

@@ -8,10 +8,10 @@ use Rattle.fs_layout.specs.Images.{own_count, holder, number_on, pointer, HasPoi
 use Rattle.fs_layout.proofs.Pointers.{no_level, number_past, own_count_above}
 use Rattle.fs_layout.proofs.Parts.{level_is_one, index_is_one, number_on_kept, owns_block, owns_on_level, pointers_kept}
 use Rattle.fs_layout.proofs.Places.{after_map, before_data}
-use Rattle.fs_layout.specs.declared.place.Place.{Place}
+use Rattle.fs_layout.specs.declared.geometry.Geometry.{Geometry}
 use Rattle.fs_layout.specs.InodeChanges.{Keeps, IsOwnedApart}
 use Rattle.bit_alloc.specs.Bitmaps.{HasBitmaps}
-use Rattle.block_map.specs.Drops.{IsInData}
+use Rattle.block_map.specs.Drops.{OwnsOnlyData}
 use Rattle.sector_txn.specs.Sectors.{TxnState, IsUnchanged}
 use Rattle.bit_alloc.proofs.Transactions.{map_unchanged}
 use Rattle.block_map.specs.declared.blocks.Blocks.{Blocks}
@@ -94,7 +94,7 @@ listed_within {image} header v level i within is some =
     (omega (arith, is, w.0), omega (arith, is, w.1))
 
 -- ---- sectors are told apart
-pub numbers_apart : {p : Place} {image : SectorMap} {v : Inode} → IsOwnedApart p image v → (n m i j : ℕ) → (n ≢ m) ⊎ (i ≢ j) → number_on image v n i ≢ 0
+pub numbers_apart : {p : Geometry} {image : SectorMap} {v : Inode} → IsOwnedApart p image v → (n m i j : ℕ) → (n ≢ m) ⊎ (i ≢ j) → number_on image v n i ≢ 0
     → number_on image v n i ≢ number_on image v m j
 unfolding part
 numbers_apart {image = image} {v} apart n m i j ne some e =
@@ -147,9 +147,9 @@ has_kept {old} {new} {v} {level} {i} keeps h =
     }
 
 -- data sectors can be read
-pub data_within : {p : Place} {txn : TxnState} {v : Inode} → HasBitmaps p txn → IsInData p txn.sectors v → IsWithin txn.header txn.disk.size txn.sectors v
+pub data_within : {p : Geometry} {txn : TxnState} {v : Inode} → HasBitmaps p txn → OwnsOnlyData p txn.sectors v → IsWithin txn.header txn.disk.size txn.sectors v
 data_within h owned s o =
     let d = owned s o in
-    let m = after_map h.place in
-    let b = before_data h.place in
+    let m = after_map h.geometry in
+    let b = before_data h.geometry in
     (omega (arith, d.0, m, b, h.header), omega (arith, d.1, h.disk))

@@ -3,7 +3,7 @@ use Rattle.std.proofs.Common.{◌≡◌, ◌≢◌, ℕ, ◌+◌, ◌*◌, ◌/�
 use Rattle.std.proofs.lemmas.Bool.{cases_eq}
 use Rattle.fs_layout.specs.declared.inode.Inode.{Inode}
 use Rattle.fs_layout.specs.declared.inode.Kind.TheVariants as kinds
-use Rattle.fs_layout.specs.declared.place.Place.{Place}
+use Rattle.fs_layout.specs.declared.geometry.Geometry.{Geometry}
 use Rattle.fs_layout.specs.Bytes.{SectorMap, IsBytes, splice}
 use Rattle.fs_layout.specs.Inode.{FitsInode}
 use Rattle.fs_layout.specs.Images.{inode_map_bits, pointer, stored, inode_at, Holds, HasNoHole, Owns, free_sectors}
@@ -30,7 +30,7 @@ use Rattle.block_map.proofs.Writings.{free_after_put, writes_block_there}
 use Rattle.block_map.proofs.Wrote.{free_same}
 
 -- a used inode of the table may be changed
-pub used_may_change : {p : Place} {n : ℕ} {txn : TxnState} {v : Inode} → IsSound p txn → n < p.inodes → v ≡ inode_at p txn.sectors n → v.kind ≢ kinds.Free → MayChange p txn v
+pub used_may_change : {p : Geometry} {n : ℕ} {txn : TxnState} {v : Inode} → IsSound p txn → n < p.inodes → v ≡ inode_at p txn.sectors n → v.kind ≢ kinds.Free → MayChange p txn v
 used_may_change {p} {n} {txn} {v} sound lt is used = record {
   bitmaps = sound.bitmaps;
   apart = subst (λ (u : Inode). IsOwnedApart p txn.sectors u) (sym is) (owned_is_apart sound.consistent n lt);
@@ -40,20 +40,20 @@ used_may_change {p} {n} {txn} {v} sound lt is used = record {
 
 -- ---- a change without a save
 -- the inode stays in the table
-pub changed_unsaved : {p : Place} {n taken more : ℕ} {old new : TxnState} {v : Inode} → IsSound p old → n < p.inodes → inode_at p old.sectors n ≡ v
+pub changed_unsaved : {p : Geometry} {n taken more : ℕ} {old new : TxnState} {v : Inode} → IsSound p old → n < p.inodes → inode_at p old.sectors n ≡ v
     → Alters p old new v v → PutsOnly (IsStepSector p) (bitmaps p) more old new → free_sectors p old.sectors ≤ free_sectors p new.sectors + taken
     → ChangesContent p n taken more old new v v
 changed_unsaved {p} {n} {taken} {more} {old} {new} {v} sound lt at alters puts free =
     let h : IsConsistent p old.sectors = sound.consistent in
     let x = alters.blocks in
-    let few : n < inode_map_bits p = inode_has_bit h.place n lt in
-    let m = after_map h.place in
-    let d = before_data h.place in
-    let there : inode_at p new.sectors n ≡ v = blocks_keep_table h.place x n lt ∙ at in
+    let few : n < inode_map_bits p = inode_has_bit h.geometry n lt in
+    let m = after_map h.geometry in
+    let d = before_data h.geometry in
+    let there : inode_at p new.sectors n ≡ v = blocks_keep_table h.geometry x n lt ∙ at in
     let inode_map : (s : ℕ) → IsInodeMap p s → new.sectors s ≡ old.sectors s =
     λ s i. let below = i.1 in x.low s (omega (arith, below, m, d)) (λ b. let from = b.0 in omega (arith, below, from)) in
     let bytes : (k : ℕ) → k < p.inodes → stored p new.sectors k ≡ stored p old.sectors k =
-    λ k less. stored_kept p k old.sectors new.sectors (let i = in_table p k h.place less in x.low (p.table + k / 4) i.1 (λ b. let j = b.1 in omega (arith, j))) in
+    λ k less. stored_kept p k old.sectors new.sectors (let i = in_table p k h.geometry less in x.low (p.table + k / 4) i.1 (λ b. let j = b.1 in omega (arith, j))) in
     let bits = λ (k : ℕ) (small : k < inode_map_bits p). inode_bit_kept p old.sectors new.sectors k small inode_map in
     let changes : ChangesInode p n old.sectors new.sectors =
     record {
@@ -81,7 +81,7 @@ changed_unsaved {p} {n} {taken} {more} {old} {new} {v} sound lt at alters puts f
 pub loaded_number : (image : SectorMap) {u v : Inode} {number : ℕ} (k : ℕ) → number ≡ pointer image u k → u ≡ v → number ≡ pointer image v k
 loaded_number image k is e = is ∙ ap (λ (u : Inode). pointer image u k) e
 
-module _ {p : Place} {n s : ℕ} {old mid new : TxnState} {v : Inode} (k at : ℕ) (x : List ℕ)
+module _ {p : Geometry} {n s : ℕ} {old mid new : TxnState} {v : Inode} (k at : ℕ) (x : List ℕ)
     (sound : IsSound p old) (lt : n < p.inodes) (is : v ≡ inode_at p old.sectors n) (used : v.kind ≢ kinds.Free) (same : IsUnchanged old mid)
     (here : pointer old.sectors v k ≡ s) (some : s ≢ 0) (room : at + length x ≤ 512) (fine : IsBytes x) (inside : 512 * k + at + length x ≤ v.size)
     (put : Puts s (splice (mid.sectors s) at x) mid.sectors new.sectors) (puts : PutsOnly (λ t. t ≡ s) [] 1 mid new) where
@@ -104,7 +104,7 @@ module _ {p : Place} {n s : ℕ} {old mid new : TxnState} {v : Inode} (k at : �
   pub over_changes : ChangesContent p n 0 1 old new v v
   over_changes =
       changed_unsaved sound lt (sym is) (altered_after same step.alters) (puts_after same step_puts)
-      (let f = free_after_put sound.bitmaps.place in_data.0 put in let e = free_same p old mid same in omega (arith, e, f))
+      (let f = free_after_put sound.bitmaps.geometry in_data.0 put in let e = free_same p old mid same in omega (arith, e, f))
 
   pub over_holds : (held : List ℕ) → Holds old.sectors v held → Holds new.sectors v (splice held (512 * k + at) x)
   over_holds held h = step.held held (subst (λ (image : SectorMap). Holds image v held) (sym map_before) h)

@@ -5,7 +5,7 @@ use Rattle.std.proofs.lemmas.List.{ext_get_or, take_all, append-nil, get_or_past
 use Rattle.fs_layout.specs.declared.inode.TheConstants.{MAX_FILE_SIZE}
 use Rattle.fs_layout.specs.declared.inode.Inode.{Inode}
 use Rattle.fs_layout.specs.declared.inode.Kind.{Kind}
-use Rattle.fs_layout.specs.declared.place.Place.{Place}
+use Rattle.fs_layout.specs.declared.geometry.Geometry.{Geometry}
 use Rattle.fs_layout.specs.Bytes.{SectorMap, splice, zeros, resized}
 use Rattle.fs_layout.specs.Images.{pointer, Owns, Holds, byte_in, byte_at, free_sectors}
 use Rattle.fs_layout.specs.InodeChanges.{Puts}
@@ -37,7 +37,7 @@ at_least_one : (more : ℕ) → 1 ≤ 1 + more
 at_least_one more = omega arith
 
 -- ---- a longer one
-pub grows : {p : Place} {old : TxnState} {v : Inode} (m : ℕ) → MayChange p old v → AllowsSize v.kind m → m ≤ MAX_FILE_SIZE → v.size ≤ m
+pub grows : {p : Geometry} {old : TxnState} {v : Inode} (m : ℕ) → MayChange p old v → AllowsSize v.kind m → m ≤ MAX_FILE_SIZE → v.size ≤ m
     → Resizes p m old old v (record v { size = m })
 unfolding zeros
 grows {p} {old} {v} m may allowed few le = record {
@@ -53,10 +53,10 @@ grows {p} {old} {v} m may allowed few le = record {
 
 -- ---- the end of the last block
 -- nothing of it is to be cleared
-pub tail_kept : {p : Place} {m : ℕ} {old : TxnState} {v : Inode} → MayChange p old v
+pub tail_kept : {p : Geometry} {m : ℕ} {old : TxnState} {v : Inode} → MayChange p old v
     → ((bytes : List ℕ) → Holds old.sectors v bytes → (i : ℕ) → m ≤ i → i < 512 * ((m + 511) / 512) → get_or bytes i 0 ≡ 0) → ClearsTail p m old old v
 tail_kept {p} {m} {old} {v} may none = record {
-  alters = record { blocks = fields_change may.bitmaps.place may.bitmaps.tables may.apart refl refl refl; fields = fields_same; acls = acls_kept refl refl (λ some. refl) (λ some. refl); bitmaps = may.bitmaps; fits = may.fits };
+  alters = record { blocks = fields_change may.bitmaps.geometry may.bitmaps.tables may.apart refl refl refl; fields = fields_same; acls = acls_kept refl refl (λ some. refl) (λ some. refl); bitmaps = may.bitmaps; fits = may.fits };
   puts = changes_weaker {Q = IsStepSector p} (λ t r. r) (omega arith) (changes_nothing {R = IsStepSector p} (bitmaps p));
   pointers = λ k. refl;
   held = λ bytes h. (bytes, h, record { before = λ i lt. refl; after = none bytes h; len = refl });
@@ -98,7 +98,7 @@ some_zeros n len le =
     ext_get_or 0 (take len (zeros n)) (zeros len) (a ∙ sym (length-zeros len)) (λ i lt.
     get_or-take len (zeros n) i 0 (omega (arith, a, lt)) ∙ get_or-zeros n i ∙ sym (get_or-zeros len i))
 
-pub tail_written : {p : Place} {m len s : ℕ} {x : List ℕ} {old new : TxnState} {v : Inode} → MayChange p old v → pointer old.sectors v (m / 512) ≡ s → s ≢ 0
+pub tail_written : {p : Geometry} {m len s : ℕ} {x : List ℕ} {old new : TxnState} {v : Inode} → MayChange p old v → pointer old.sectors v (m / 512) ≡ s → s ≢ 0
     → Puts s (splice (old.sectors s) (m % 512) x) old.sectors new.sectors → x ≡ zeros len → PutsOnly (IsStepSector p) (bitmaps p) 1 old new
     → m + len ≤ v.size → m % 512 + len ≤ 512 → (len ≡ 512 - m % 512) ⊎ (m + len ≡ v.size) → ClearsTail p m old new v
 tail_written {p} {m} {len} {s} {x} {old} {new} {v} may is some written e puts fits room way =
@@ -110,7 +110,7 @@ tail_written {p} {m} {len} {s} {x} {old} {new} {v} may is some written e puts fi
     writes_block_there new (m / 512) (m % 512) (zeros len) may is some put (omega (arith, z, room)) (IsBytes-zeros len) puts (omega (arith, z, fits)) in
     let kept : KeepsPointers old.sectors new.sectors v = there_kept new (m / 512) (m % 512) (zeros len) may is some put in
     let free : free_sectors p new.sectors ≡ free_sectors p old.sectors =
-    free_after_put may.bitmaps.place (may.apart.each s (subst (Owns old.sectors v) is (owns_block old.sectors v (m / 512) (λ f. some (sym is ∙ f))))).0 put in
+    free_after_put may.bitmaps.geometry (may.apart.each s (subst (Owns old.sectors v) is (owns_block old.sectors v (m / 512) (λ f. some (sym is ∙ f))))).0 put in
     record {
       alters = block.alters;
       puts = puts;
@@ -128,7 +128,7 @@ tail_written {p} {m} {len} {s} {x} {old} {new} {v} may is some written e puts fi
 past_cut : (bytes : List ℕ) (m i : ℕ) → m ≤ i → get_or (take m bytes) i 0 ≡ 0
 past_cut bytes m i ge = let e = length-take m bytes in get_or_past (take m bytes) i 0 (omega (arith, e, ge))
 
-cut_byte : {p : Place} {m : ℕ} {mid new : TxnState} {v w : Inode} {bytes then : List ℕ} → DropsBlocks p ((m + 511) / 512) mid new v w → Holds mid.sectors v then
+cut_byte : {p : Geometry} {m : ℕ} {mid new : TxnState} {v w : Inode} {bytes then : List ℕ} → DropsBlocks p ((m + 511) / 512) mid new v w → Holds mid.sectors v then
     → HasZeroTail m bytes then → (i : ℕ) → byte_at new.sectors w i ≡ get_or (take m bytes) i 0
 unfolding byte_at
 cut_byte {p} {m} {mid} {new} {v} {w} {bytes} {then} d h c i = elim (cases_lt (i / 512) ((m + 511) / 512)) [
@@ -147,7 +147,7 @@ sized_byte : (image : SectorMap) (w : Inode) (m i : ℕ) → byte_at image (reco
 unfolding byte_at
 sized_byte image w m i = ap (λ (s : ℕ). byte_in image s (i % 512)) (sized_pointer image w m (i / 512))
 
-pub cuts_held : {p : Place} {m : ℕ} {mid new : TxnState} {v w : Inode} {bytes then : List ℕ} → DropsBlocks p ((m + 511) / 512) mid new v w → Holds mid.sectors v then
+pub cuts_held : {p : Geometry} {m : ℕ} {mid new : TxnState} {v w : Inode} {bytes then : List ℕ} → DropsBlocks p ((m + 511) / 512) mid new v w → Holds mid.sectors v then
     → HasZeroTail m bytes then → m ≤ length bytes → Holds new.sectors (record w { size = m }) (take m bytes)
 cuts_held {p} {m} {mid} {new} {v} {w} {bytes} {then} d h c le = record {
   size = sym (length-take-le m bytes le);
@@ -160,7 +160,7 @@ cut_is_resized bytes m le =
     let none : m - length bytes ≡ 0 = omega (arith, le) in
     sym (ap (λ (k : ℕ). take m bytes ++ replicate k 0) none ∙ append-nil (take m bytes))
 
-pub resizes : {p : Place} {m : ℕ} {old start mid new : TxnState} {u v w : Inode} → MayChange p old v → AllowsSize v.kind m → m ≤ v.size → v.size ≤ MAX_FILE_SIZE
+pub resizes : {p : Geometry} {m : ℕ} {old start mid new : TxnState} {u v w : Inode} → MayChange p old v → AllowsSize v.kind m → m ≤ v.size → v.size ≤ MAX_FILE_SIZE
     → IsUnchanged old start → u ≡ v → ClearsTail p m start mid u → DropsBlocks p ((m + 511) / 512) mid new u w → Resizes p m old new v (record w { size = m })
 resizes {p} {m} {old} {start} {mid} {new} {u} {v} {w} may allowed le small same e clear_u drop_u =
     let t : ClearsTail p m start mid v = subst (λ (i : Inode). ClearsTail p m start mid i) e clear_u in
@@ -202,7 +202,7 @@ tail_held {image} {v} {m} {bytes} {then} h c last le = record {
   trim = λ level i past. sized_number image v m level i ∙ h.trim level i (omega (arith, past, last));
 }
 
-pub resizes_last : {p : Place} {m : ℕ} {old start new : TxnState} {u v : Inode} → MayChange p old v → AllowsSize v.kind m → m ≤ v.size → v.size ≤ MAX_FILE_SIZE
+pub resizes_last : {p : Geometry} {m : ℕ} {old start new : TxnState} {u v : Inode} → MayChange p old v → AllowsSize v.kind m → m ≤ v.size → v.size ≤ MAX_FILE_SIZE
     → IsUnchanged old start → u ≡ v → ClearsTail p m start new u → v.size ≤ 512 * ((m + 511) / 512) → Resizes p m old new v (record v { size = m })
 resizes_last {p} {m} {old} {start} {new} {u} {v} may allowed le small same e clear_u last =
     let t : ClearsTail p m start new v = subst (λ (i : Inode). ClearsTail p m start new i) e clear_u in

@@ -2,7 +2,7 @@
 use Rattle.std.proofs.Common.{◌≡◌, ℕ, zero, suc, ◌+◌, ◌≤◌, ◌<◌, Bool, true, false, cond, List, [], ◌∷◌, ◌++◌, refl, sym, ap, arith, inl, inr}
 use Rattle.std.proofs.lemmas.Bool.{true≢false, cases_eq}
 use Rattle.fs_layout.specs.declared.inode.Inode.{Inode}
-use Rattle.fs_layout.specs.declared.place.Place.{Place}
+use Rattle.fs_layout.specs.declared.geometry.Geometry.{Geometry}
 use Rattle.fs_layout.specs.Bytes.{SectorMap}
 use Rattle.fs_layout.specs.Images.{number_on}
 use Rattle.sector_txn.specs.Sectors.{TxnState, PutsOnly, lacking}
@@ -195,19 +195,19 @@ room_among old new kept image v level first count i from to x ns =
     omega (arith, f, a, b, c, d, e, g)
 
 -- ---- room for several steps
-pub spare_one : (p : Place) (txn : TxnState) (more : ℕ) → HasSpare p (1 + more) txn → HasSpare p 1 txn
+pub spare_one : (p : Geometry) (txn : TxnState) (more : ℕ) → HasSpare p (1 + more) txn → HasSpare p 1 txn
 spare_one p txn more spare = omega (arith, spare)
 
-pub spare_none : (p : Place) (txn : TxnState) (more : ℕ) → HasSpare p more txn → HasSpare p 0 txn
+pub spare_none : (p : Geometry) (txn : TxnState) (more : ℕ) → HasSpare p more txn → HasSpare p 0 txn
 spare_none p txn more spare = omega (arith, spare)
 
-pub spare_but_one : (p : Place) (txn : TxnState) (more : ℕ) → HasSpare p (more + 1) txn → HasSpare p more txn
+pub spare_but_one : (p : Geometry) (txn : TxnState) (more : ℕ) → HasSpare p (more + 1) txn → HasSpare p more txn
 spare_but_one p txn more spare = omega (arith, spare)
 
 -- after the first one
-pub spare_after_one : (p : Place) {R : ℕ → Type 0} {old new : TxnState} (more : ℕ) → HasSpare p (1 + more) old → PutsOnly R (bitmaps p) 1 old new → HasSpare p more new
+pub spare_after_one : (p : Geometry) {R : ℕ → Type 0} {old new : TxnState} (more : ℕ) → HasSpare p (1 + more) old → PutsOnly R (bitmaps p) 1 old new → HasSpare p more new
 spare_after_one p more spare puts = let room = puts.room in omega (arith, spare, room)
 
 -- for the last one
-pub spare_last : (p : Place) {R : ℕ → Type 0} {old new : TxnState} (more : ℕ) → HasSpare p (more + 1) old → PutsOnly R (bitmaps p) more old new → 0 < new.room
+pub spare_last : (p : Geometry) {R : ℕ → Type 0} {old new : TxnState} (more : ℕ) → HasSpare p (more + 1) old → PutsOnly R (bitmaps p) more old new → 0 < new.room
 spare_last p more spare puts = let room = puts.room in omega (arith, spare, room)

@@ -1,7 +1,7 @@
 -- An inode is saved after steps of a change.
 use Rattle.std.proofs.Common.{◌≡◌, ℕ, ◌+◌, ◌/◌, ◌≤◌, ◌<◌, [], refl, ◌∙◌, arith, inl, inr}
 use Rattle.fs_layout.specs.declared.inode.Inode.{Inode}
-use Rattle.fs_layout.specs.declared.place.Place.{Place}
+use Rattle.fs_layout.specs.declared.geometry.Geometry.{Geometry}
 use Rattle.fs_layout.specs.Images.{inode_at, free_sectors}
 use Rattle.fs_layout.specs.Ownership.{IsConsistent}
 use Rattle.fs_layout.specs.InodeChanges.{Keeps, Saves}
@@ -19,26 +19,26 @@ use Rattle.block_map.specs.Steps.{IsStepSector, Alters}
 use Rattle.block_map.proofs.Alterings.{acls_joined, acls_where_kept}
 
 -- the sectors of a step are some of those that a call on an inode may put
-pub puts_steps : (p : Place) (n : ℕ) {more : ℕ} {old new : TxnState} → PutsOnly (IsStepSector p) (bitmaps p) more old new → PutsOnly (IsSectorFor p n) (bitmaps p) more old new
+pub puts_steps : (p : Geometry) (n : ℕ) {more : ℕ} {old new : TxnState} → PutsOnly (IsStepSector p) (bitmaps p) more old new → PutsOnly (IsSectorFor p n) (bitmaps p) more old new
 puts_steps p n puts =
     changes_weaker {R = IsStepSector p} {Q = IsSectorFor p n} (λ t way. elim way [ inl map ↦ inl map | inr data_sector ↦ inr (inr data_sector) ]) (omega arith) puts
 
 -- what the inode holds is not touched by its save
-pub record IsEnded (p : Place) (n taken more : ℕ) (old mid new : TxnState) (v w : Inode) : Type 0 where
+pub record IsEnded (p : Geometry) (n taken more : ℕ) (old mid new : TxnState) (v w : Inode) : Type 0 where
   pub content : ChangesContent p n taken more old new v w
   pub keeps : Keeps mid.sectors new.sectors w
 
 -- the steps and the save are one change
-pub saved_after : {p : Place} {n taken more : ℕ} {old mid new : TxnState} {v w : Inode} → IsSound p old → n < p.inodes → inode_at p old.sectors n ≡ v
+pub saved_after : {p : Geometry} {n taken more : ℕ} {old mid new : TxnState} {v w : Inode} → IsSound p old → n < p.inodes → inode_at p old.sectors n ≡ v
     → Alters p old mid v w → PutsOnly (IsStepSector p) (bitmaps p) more old mid → free_sectors p old.sectors ≤ free_sectors p mid.sectors + taken
     → Saves p n w mid.sectors new.sectors → PutsOnly (λ t. t ≡ p.table + n / 4) [] 1 mid new → IsEnded p n taken (more + 1) old mid new v w
 saved_after {p} {n} {taken} {more} {old} {mid} {new} {v} {w} sound lt at alters puts free saves put =
     let h : IsConsistent p old.sectors = sound.consistent in
     let after = saved_stays_consistent h lt at alters.fits alters.blocks saves in
     let saved : IsSaved p n w old.sectors mid.sectors new.sectors = after.1 in
-    let few = inode_has_bit h.place n lt in
-    let m = after_map h.place in
-    let d = before_data h.place in
+    let few = inode_has_bit h.geometry n lt in
+    let m = after_map h.geometry in
+    let d = before_data h.geometry in
     let all : PutsOnly (IsSectorFor p n) (bitmaps p) (more + 1) old new =
     changes_joined (puts_steps p n puts)
     (changes_weaker {Q = IsSectorFor p n} (λ t e. inr (inl e)) (omega arith) (changes_beside put (bitmaps p))) in

@@ -8,7 +8,7 @@ use Rattle.fs_layout.specs.declared.inode.TheConstants.{MAX_FILE_SIZE}
 use Rattle.fs_layout.specs.declared.inode.Inode.{Inode}
 use Rattle.fs_layout.specs.declared.inode.Kind.{Kind}
 use Rattle.fs_layout.specs.declared.inode.Kind.TheVariants.{Free, File, Directory, Link}
-use Rattle.fs_layout.specs.declared.place.Place.{Place}
+use Rattle.fs_layout.specs.declared.geometry.Geometry.{Geometry}
 use Rattle.fs_layout.specs.Bytes.{SectorMap, splice, zeros, resized, overwritten}
 use Rattle.fs_layout.specs.Inode.{FitsInode, inode_fits, numbers_fit}
 use Rattle.fs_layout.specs.Images.{number_on, pointer, Holds, inode_at}
@@ -50,7 +50,7 @@ sized_fits v m fits allowed few =
     (omega (arith, few)) fits.parent fits.acl fits.default_acl (blocks_fit fits) (times_fit fits)
 
 -- an inode of the table may be changed
-pub may_change : {p : Place} {n : ℕ} {txn : TxnState} {v : Inode} (m : ℕ) → IsSound p txn → n < p.inodes → v ≡ inode_at p txn.sectors n → AllowsSize v.kind m → MayChange p txn v
+pub may_change : {p : Geometry} {n : ℕ} {txn : TxnState} {v : Inode} (m : ℕ) → IsSound p txn → n < p.inodes → v ≡ inode_at p txn.sectors n → AllowsSize v.kind m → MayChange p txn v
 may_change {p} {n} {txn} {v} m sound lt is allowed = record {
   bitmaps = sound.bitmaps;
   apart = subst (λ (u : Inode). IsOwnedApart p txn.sectors u) (sym is) (owned_is_apart sound.consistent n lt);
@@ -65,20 +65,20 @@ number_limit Directory mode size m fits allowed = grind (arith, nat_tests)
 number_limit Link mode size m fits allowed = grind (arith, nat_tests)
 
 -- and is within the limit
-pub size_limit : {p : Place} {n : ℕ} {txn : TxnState} {v : Inode} (m : ℕ) → IsSound p txn → n < p.inodes → v ≡ inode_at p txn.sectors n → AllowsSize v.kind m → v.size ≤ MAX_FILE_SIZE
+pub size_limit : {p : Geometry} {n : ℕ} {txn : TxnState} {v : Inode} (m : ℕ) → IsSound p txn → n < p.inodes → v ≡ inode_at p txn.sectors n → AllowsSize v.kind m → v.size ≤ MAX_FILE_SIZE
 unfolding inode_fits
 size_limit {p} {n} {txn} {v} m sound lt is allowed =
     let fits : FitsInode v = subst FitsInode (sym is) (inode_fits_there sound.consistent n lt) in
     number_limit v.kind v.mode v.size m fits.valid.numbers allowed
 
 -- its size changes in memory, after reads
-pub sized : {p : Place} {old mid : TxnState} {v : Inode} (m : ℕ) → MayChange p old v → IsUnchanged old mid → AllowsSize v.kind m → m ≤ MAX_FILE_SIZE
+pub sized : {p : Geometry} {old mid : TxnState} {v : Inode} (m : ℕ) → MayChange p old v → IsUnchanged old mid → AllowsSize v.kind m → m ≤ MAX_FILE_SIZE
     → Alters p old mid v (record v { size = m })
 sized {p} {old} {mid} {v} m may same allowed few =
     let e : old.sectors ≡ mid.sectors = sym (same_map old.sectors mid.sectors same.sectors) in
     record {
       blocks = subst (λ (image : SectorMap). ChangesBlocks p v (record v { size = m }) old.sectors image) e
-          (fields_change may.bitmaps.place may.bitmaps.tables may.apart refl refl refl);
+          (fields_change may.bitmaps.geometry may.bitmaps.tables may.apart refl refl refl);
       fields = record { kind = refl; mode = refl; uid = refl; gid = refl; names = refl; parent = refl; mtime = refl; ctime = refl; atime = refl };
       acls = acls_kept refl refl (λ some. same.sectors v.acl) (λ some. same.sectors v.default_acl);
       bitmaps = bitmaps_unchanged p old mid may.bitmaps same;

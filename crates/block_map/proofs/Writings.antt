@@ -3,9 +3,9 @@ use Rattle.std.proofs.Common.{◌≡◌, ◌≢◌, ℕ, ◌+◌, ◌*◌, ◌^�
 use Rattle.std.proofs.lemmas.Bool.{eq-eqb, le-ltb}
 use Rattle.fs_layout.specs.declared.inode.TheConstants.{DIRECT_BLOCKS}
 use Rattle.fs_layout.specs.declared.inode.Inode.{Inode}
-use Rattle.fs_layout.specs.declared.place.Place.{Place}
+use Rattle.fs_layout.specs.declared.geometry.Geometry.{Geometry}
 use Rattle.fs_layout.specs.Bytes.{SectorMap, IsBytes, IsSector, splice, le32, zeros}
-use Rattle.fs_layout.specs.Place.{IsPlace}
+use Rattle.fs_layout.specs.Geometry.{IsGeometry}
 use Rattle.fs_layout.specs.Images.{own_count, holder, place_in_holder, number_on, pointer, AccessAcl, DefaultAcl, OnLevel, Block, part, Owns, Holds, free_sectors}
 use Rattle.fs_layout.specs.InodeChanges.{Keeps, Puts, PutsEntry, Allocates, Turns, ReplacesBlock, IsOwnedApart, with_direct}
 use Rattle.fs_layout.proofs.Parts.{KeepsPointers, block_has_no_pointers, number_on_kept, number_on_same, pointer_same, pointers_kept, owns_acl, owns_default_acl, owns_on_level}
@@ -56,16 +56,16 @@ puts_entry_at {old} {mid} {new} {v} {u} {pointers} level i s sector keeps from h
     }
 
 -- the sector of pointers of a block is the one that is shared
-pub shares_pointers : (p : Place) {u : ℕ} {old new : TxnState} (v : Inode) (k : ℕ) → DIRECT_BLOCKS ≤ k → u ≡ number_on old.sectors v 1 (holder DIRECT_BLOCKS k)
+pub shares_pointers : (p : Geometry) {u : ℕ} {old new : TxnState} (v : Inode) (k : ℕ) → DIRECT_BLOCKS ≤ k → u ≡ number_on old.sectors v 1 (holder DIRECT_BLOCKS k)
     → PutsOnly (IsStepSector p) (u ∷ bitmaps p) 1 old new → PutsOnly (IsStepSector p) (pointers_to old.sectors v k ++ bitmaps p) 1 old new
 shares_pointers p {u} {old} {new} v k from is puts =
     subst (λ (ns : List ℕ). PutsOnly (IsStepSector p) (ns ++ bitmaps p) 1 old new) (sym (pointers_are old.sectors v k from))
     (subst (λ (t : ℕ). PutsOnly (IsStepSector p) (t ∷ bitmaps p) 1 old new) is puts)
 
 -- the same sectors are free after a put into the data
-pub free_after_put : {p : Place} {s : ℕ} {x : List ℕ} {old new : SectorMap} → IsPlace p → p.first_data ≤ s → Puts s x old new → free_sectors p new ≡ free_sectors p old
-free_after_put {p} {s} {x} {old} {new} place ge put =
-    free_sectors_kept p old new (λ t at. block_bit_kept p old new t (has_bit place t at.1) (λ u m. put.others u (λ e. let low = map_is_low place u m in omega (arith, low, ge, e))))
+pub free_after_put : {p : Geometry} {s : ℕ} {x : List ℕ} {old new : SectorMap} → IsGeometry p → p.first_data ≤ s → Puts s x old new → free_sectors p new ≡ free_sectors p old
+free_after_put {p} {s} {x} {old} {new} geometry ge put =
+    free_sectors_kept p old new (λ t at. block_bit_kept p old new t (has_bit geometry t at.1) (λ u m. put.others u (λ e. let low = map_is_low geometry u m in omega (arith, low, ge, e))))
 
 acl_is_no_block : (k : ℕ) → AccessAcl ≢ Block k
 acl_is_no_block k e = cc
@@ -78,7 +78,7 @@ pub hole_is_one : (image : SectorMap) (v : Inode) (k : ℕ) → pointer image v 
 hole_is_one image v k none = rw (eq-eqb (pointer image v k) 0 none) refl
 
 -- ---- a block that has a sector
-module _ {p : Place} {old : TxnState} (new : TxnState) {v : Inode} (k at : ℕ) {s : ℕ} (x : List ℕ) (may : MayChange p old v) (is : pointer old.sectors v k ≡ s) (some : s ≢ 0)
+module _ {p : Geometry} {old : TxnState} (new : TxnState) {v : Inode} (k at : ℕ) {s : ℕ} (x : List ℕ) (may : MayChange p old v) (is : pointer old.sectors v k ≡ s) (some : s ≢ 0)
     (put : Puts s (splice (old.sectors s) at x) old.sectors new.sectors) where
   own : Owns old.sectors v s
   unfolding part
@@ -98,7 +98,7 @@ module _ {p : Place} {old : TxnState} (new : TxnState) {v : Inode} (k at : ℕ) 
       let same : (j : ℕ) → pointer new.sectors v j ≡ pointer old.sectors v j = λ j. pointer_same old.sectors new.sectors v there_kept j in
       record {
         alters = record {
-          blocks = block_changes may.bitmaps.place may.bitmaps.tables may.apart k is some (IsSector-splice (old.sectors s) x at whole fine room) put;
+          blocks = block_changes may.bitmaps.geometry may.bitmaps.tables may.apart k is some (IsSector-splice (old.sectors s) x at whole fine room) put;
           fields = fields_same;
           acls = acls_kept refl refl
               (λ has. others_kept may.apart (Block k) is some put (record { at = AccessAcl; is = refl; some = has }) (acl_is_no_block k))
@@ -114,7 +114,7 @@ module _ {p : Place} {old : TxnState} (new : TxnState) {v : Inode} (k at : ℕ) 
         held = λ bytes h.
             write_block may.apart is some put h
             (splice_replaces bytes (old.sectors s) x k at (held_block h k is some) whole.len room (let z = h.size in omega (arith, z, inside)));
-        free = let f = free_after_put may.bitmaps.place in_data put in omega (arith, f);
+        free = let f = free_after_put may.bitmaps.geometry in_data put in omega (arith, f);
       }
 
   -- so is what is at hand
@@ -125,34 +125,34 @@ module _ {p : Place} {old : TxnState} (new : TxnState) {v : Inode} (k at : ℕ) 
 
 -- ---- a hole
 -- directly
-module _ {p : Place} {old new : TxnState} {bits : SectorMap} {v : Inode} {k s : ℕ} (at : ℕ) (x : List ℕ) {y : List ℕ}
+module _ {p : Geometry} {old new : TxnState} {bits : SectorMap} {v : Inode} {k s : ℕ} (at : ℕ) (x : List ℕ) {y : List ℕ}
     (may : MayChange p old v) (none : pointer old.sectors v k ≡ 0) (room : at + length x ≤ 512)
     (is : y ≡ splice (zeros 512) at x) (fits : 512 * k + at + length x ≤ v.size) (inside : 512 * k < v.size)
     (a : Allocates p s y old.sectors bits new.sectors) (free : free_sectors p old.sectors ≡ free_sectors p new.sectors + 1) (bitmaps_now : HasBitmaps p new)
     (puts : PutsOnly (IsStepSector p) (bitmaps p) 1 old new) (lt : k < DIRECT_BLOCKS) where
   direct_turned : Turns old.sectors new.sectors v (with_direct v k s) (Block k) 0 s
-  direct_turned = turns_direct old.sectors new.sectors v k 0 s lt may.fits.direct_len none (pointers_kept (allocates_keeps may.bitmaps.place may.apart a))
+  direct_turned = turns_direct old.sectors new.sectors v k 0 s lt may.fits.direct_len none (pointers_kept (allocates_keeps may.bitmaps.geometry may.apart a))
 
   pub writes_direct_block : WritesBlock p k at x old new v (with_direct v k s)
   unfolding part
   writes_direct_block =
-      let place : IsPlace p = may.bitmaps.place in
+      let geometry : IsGeometry p = may.bitmaps.geometry in
       let len : length v.direct ≡ DIRECT_BLOCKS = may.fits.direct_len in
       record {
         alters = record {
-          blocks = direct_block_gained place may.apart a k lt len none;
+          blocks = direct_block_gained geometry may.apart a k lt len none;
           fields = record { kind = refl; mode = refl; uid = refl; gid = refl; names = refl; parent = refl; mtime = refl; ctime = refl; atime = refl };
-          acls = acls_where_kept refl refl (allocates_keeps place may.apart a);
+          acls = acls_where_kept refl refl (allocates_keeps geometry may.apart a);
           bitmaps = bitmaps_now;
-          fits = with_direct_fits v k s may.fits may.used (let l = a.free.1 in let most = numbers_most place in omega (arith, l, most));
+          fits = with_direct_fits v k s may.fits may.used (let l = a.free.1 in let most = numbers_most geometry in omega (arith, l, most));
         };
         puts = puts_before puts (pointers_to old.sectors v k);
         size = refl;
         pointers = λ i. direct_turned.others (OnLevel 1 i) (λ e. block_has_no_pointers k 0 i (sym e));
-        here = λ e. allocated_some place may.apart a (sym (now_block direct_turned) ∙ e);
+        here = λ e. allocated_some geometry may.apart a (sym (now_block direct_turned) ∙ e);
         others = λ j ne. other_blocks direct_turned j ne;
         held = λ bytes h.
-            direct_block_filled place may.apart a k bytes (splice bytes (512 * k + at) x) lt len none inside h
+            direct_block_filled geometry may.apart a k bytes (splice bytes (512 * k + at) x) lt len none inside h
             (subst (λ (z : List ℕ). ReplacesBlock k z bytes (splice bytes (512 * k + at) x)) (sym is)
             (splice_replaces bytes (zeros 512) x k at (held_hole h k none) IsSector-zeros.len room (let z = h.size in omega (arith, z, fits))));
         free = omega (arith, free, hole_is_one old.sectors v k none);
@@ -163,16 +163,16 @@ module _ {p : Place} {old new : TxnState} {bits : SectorMap} {v : Inode} {k s : 
   direct_at_hand {b} h e =
       at_hand_kept h (with_direct v k s)
       (direct_turned.others (OnLevel 1 b.index) (λ z. block_has_no_pointers k 0 b.index (sym z)) ∙ ap (λ (i : Inode). number_on old.sectors i 1 b.index) (sym e))
-      (at_hand_content new.sectors h (subst (λ (i : Inode). KeepsPointers old.sectors new.sectors i) (sym e) (pointers_kept (allocates_keeps may.bitmaps.place may.apart a))))
+      (at_hand_content new.sectors h (subst (λ (i : Inode). KeepsPointers old.sectors new.sectors i) (sym e) (pointers_kept (allocates_keeps may.bitmaps.geometry may.apart a))))
 
 -- a sector of pointers is no ACL's
-pub acl_apart : {p : Place} {image : SectorMap} {v : Inode} → IsOwnedApart p image v → (level i : ℕ) → number_on image v (suc level) i ≢ 0 → v.acl ≢ number_on image v (suc level) i
+pub acl_apart : {p : Geometry} {image : SectorMap} {v : Inode} → IsOwnedApart p image v → (level i : ℕ) → number_on image v (suc level) i ≢ 0 → v.acl ≢ number_on image v (suc level) i
 unfolding part
 acl_apart {image = image} {v} apart level i has f =
     let same : AccessAcl ≡ OnLevel (suc level) i =
     apart.once (number_on image v (suc level) i) (record { at = AccessAcl; is = f; some = has }) (record { at = OnLevel (suc level) i; is = refl; some = has }) in cc
 
-pub default_apart : {p : Place} {image : SectorMap} {v : Inode} → IsOwnedApart p image v → (level i : ℕ) → number_on image v (suc level) i ≢ 0
+pub default_apart : {p : Geometry} {image : SectorMap} {v : Inode} → IsOwnedApart p image v → (level i : ℕ) → number_on image v (suc level) i ≢ 0
     → v.default_acl ≢ number_on image v (suc level) i
 unfolding part
 default_apart {image = image} {v} apart level i has f =
@@ -180,7 +180,7 @@ default_apart {image = image} {v} apart level i has f =
     apart.once (number_on image v (suc level) i) (record { at = DefaultAcl; is = f; some = has }) (record { at = OnLevel (suc level) i; is = refl; some = has }) in cc
 
 -- the ACLs stay where a sector of pointers is written after a sector was taken
-pub acls_beside : {p : Place} {old mid new : SectorMap} {v : Inode} {u : ℕ} {y : List ℕ} (level i : ℕ) → IsOwnedApart p old v → Keeps old mid v
+pub acls_beside : {p : Geometry} {old mid new : SectorMap} {v : Inode} {u : ℕ} {y : List ℕ} (level i : ℕ) → IsOwnedApart p old v → Keeps old mid v
     → u ≡ number_on old v (suc level) i → u ≢ 0 → Puts u y mid new → KeepsAcls old new v v
 acls_beside {old = old} {mid} {new} {v} level i apart keeps is some put =
     let has : number_on old v (suc level) i ≢ 0 = λ e. some (is ∙ e) in
@@ -189,18 +189,18 @@ acls_beside {old = old} {mid} {new} {v} level i apart keeps is some put =
     (λ acl. put.others v.default_acl (λ e. default_apart apart level i has (e ∙ is)) ∙ keeps v.default_acl (owns_default_acl old v acl))
 
 -- through the sector of pointers at hand
-module _ {p : Place} {old mid new : TxnState} {bits : SectorMap} {v : Inode} {k s u : ℕ} (at : ℕ) (x : List ℕ) {y before pointers : List ℕ}
+module _ {p : Geometry} {old mid new : TxnState} {bits : SectorMap} {v : Inode} {k s u : ℕ} (at : ℕ) (x : List ℕ) {y before pointers : List ℕ}
     (may : MayChange p old v) (none : pointer old.sectors v k ≡ 0) (room : at + length x ≤ 512)
     (is : y ≡ splice (zeros 512) at x) (fits : 512 * k + at + length x ≤ v.size) (inside : 512 * k < v.size)
     (a : Allocates p s y old.sectors bits mid.sectors) (free : free_sectors p old.sectors ≡ free_sectors p mid.sectors + 1) (bitmaps_mid : HasBitmaps p mid)
     (from : DIRECT_BLOCKS ≤ k) (sector : u ≡ number_on old.sectors v 1 (holder DIRECT_BLOCKS k)) (has : u ≢ 0) (loaded : before ≡ old.sectors u)
     (entry : pointers ≡ splice before (4 * place_in_holder DIRECT_BLOCKS k) (le32 s)) (put : Puts u pointers mid.sectors new.sectors) (store : SameStore mid new)
     (puts : PutsOnly (IsStepSector p) (u ∷ bitmaps p) 1 old new) where
-  place : IsPlace p
-  place = may.bitmaps.place
+  geometry : IsGeometry p
+  geometry = may.bitmaps.geometry
 
   keeps : Keeps old.sectors mid.sectors v
-  keeps = allocates_keeps place may.apart a
+  keeps = allocates_keeps geometry may.apart a
 
   owned : Owns old.sectors v u
   owned = subst (λ (t : ℕ). Owns old.sectors v t) (sym sector) (owns_on_level old.sectors v 1 (holder DIRECT_BLOCKS k) (λ e. has (sector ∙ e)))
@@ -209,16 +209,16 @@ module _ {p : Place} {old mid new : TxnState} {bits : SectorMap} {v : Inode} {k 
   written = entry ∙ ap (λ (r : List ℕ). splice r (4 * place_in_holder DIRECT_BLOCKS k) (le32 s)) (loaded ∙ sym (keeps u owned))
 
   e : PutsEntry v 0 k s mid.sectors new.sectors
-  e = puts_entry_at 0 k s sector keeps from has (let l = a.free.1 in let most = numbers_most place in omega (arith, l, most)) written put
+  e = puts_entry_at 0 k s sector keeps from has (let l = a.free.1 in let most = numbers_most geometry in omega (arith, l, most)) written put
 
   entry_turned : Turns old.sectors new.sectors v v (Block k) 0 s
-  entry_turned = turns_entry none (entry_there_since place may.apart a e)
+  entry_turned = turns_entry none (entry_there_since geometry may.apart a e)
 
   pub writes_entry_block : WritesBlock p k at x old new v v
   unfolding part
   writes_entry_block = record {
     alters = record {
-      blocks = entry_block_gained place may.apart a e none;
+      blocks = entry_block_gained geometry may.apart a e none;
       fields = fields_same;
       acls = acls_beside 0 (holder DIRECT_BLOCKS k) may.apart keeps sector has put;
       bitmaps = put_keeps_bitmaps bitmaps_mid store (may.apart.each u owned).0 put;
@@ -227,14 +227,14 @@ module _ {p : Place} {old mid new : TxnState} {bits : SectorMap} {v : Inode} {k 
     puts = shares_pointers p v k from sector puts;
     size = refl;
     pointers = λ i. entry_turned.others (OnLevel 1 i) (λ e. block_has_no_pointers k 0 i (sym e));
-    here = λ f. allocated_some place may.apart a (sym (now_block entry_turned) ∙ f);
+    here = λ f. allocated_some geometry may.apart a (sym (now_block entry_turned) ∙ f);
     others = λ j ne. other_blocks entry_turned j ne;
     held = λ bytes h.
-        entry_block_filled place may.apart a e bytes (splice bytes (512 * k + at) x) none inside h
+        entry_block_filled geometry may.apart a e bytes (splice bytes (512 * k + at) x) none inside h
         (subst (λ (z : List ℕ). ReplacesBlock k z bytes (splice bytes (512 * k + at) x)) (sym is)
         (splice_replaces bytes (zeros 512) x k at (held_hole h k none) IsSector-zeros.len room (let z = h.size in omega (arith, z, fits))));
     free =
-        let f = free_after_put place (may.apart.each u owned).0 put in
+        let f = free_after_put geometry (may.apart.each u owned).0 put in
         omega (arith, free, f, hole_is_one old.sectors v k none);
   }
 
@@ -251,7 +251,7 @@ module _ {p : Place} {old mid new : TxnState} {bits : SectorMap} {v : Inode} {k 
   }
 
 -- ---- after reads
-pub writes_after : {p : Place} {k at : ℕ} {x : List ℕ} {old mid new : TxnState} {v w : Inode} → IsUnchanged old mid → WritesBlock p k at x mid new v w → WritesBlock p k at x old new v w
+pub writes_after : {p : Geometry} {k at : ℕ} {x : List ℕ} {old mid new : TxnState} {v w : Inode} → IsUnchanged old mid → WritesBlock p k at x mid new v w → WritesBlock p k at x old new v w
 writes_after {p} {k} {at} {x} {old} {mid} {new} {v} {w} same a =
     let e : mid.sectors ≡ old.sectors = same_map old.sectors mid.sectors same.sectors in
     record {

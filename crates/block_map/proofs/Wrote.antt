@@ -3,7 +3,7 @@ use Rattle.std.proofs.Common.{◌≡◌, ◌≢◌, ℕ, ◌+◌, ◌-◌, ◌/�
 use Rattle.std.specs.Prelude.{max, min, Contains}
 use Rattle.fs_layout.specs.declared.inode.TheConstants.{MAX_BLOCKS, MAX_FILE_SIZE, OLDER_FILE_SIZE, POINTER_LEVELS, SECTOR_POINTERS}
 use Rattle.fs_layout.specs.declared.inode.Inode.{Inode}
-use Rattle.fs_layout.specs.declared.place.Place.{Place}
+use Rattle.fs_layout.specs.declared.geometry.Geometry.{Geometry}
 use Rattle.fs_layout.specs.Bytes.{SectorMap, IsSector, zeros, overwritten}
 use Rattle.fs_layout.specs.Images.{own_count, number_on, place_in_holder, pointer, Holds, HasNoHole, inode_at, free_sectors}
 use Rattle.fs_layout.specs.InodeChanges.{Saves}
@@ -27,27 +27,27 @@ use Rattle.block_map.proofs.Saving.{IsEnded, saved_after}
 use Rattle.block_map.proofs.Sizing.{may_change, sized, sized_holds, sized_pointer, spliced_is_overwritten}
 
 -- what may be changed can be read
-pub may_within : {p : Place} {txn : TxnState} {v : Inode} → MayChange p txn v → IsWithin txn.header txn.disk.size txn.sectors v
+pub may_within : {p : Geometry} {txn : TxnState} {v : Inode} → MayChange p txn v → IsWithin txn.header txn.disk.size txn.sectors v
 may_within {p} {txn} {v} may s o =
     let d = may.apart.each s o in
-    let m = after_map may.bitmaps.place in
-    let b = before_data may.bitmaps.place in
+    let m = after_map may.bitmaps.geometry in
+    let b = before_data may.bitmaps.geometry in
     (omega (arith, d.0, m, b, may.bitmaps.header), omega (arith, d.1, may.bitmaps.disk))
 
 -- and each of its blocks is a whole sector
-pub block_whole : {p : Place} {txn : TxnState} {v : Inode} {s : ℕ} (k : ℕ) → MayChange p txn v → s ≡ pointer txn.sectors v k → s ≢ 0 → IsSector (txn.sectors s)
+pub block_whole : {p : Geometry} {txn : TxnState} {v : Inode} {s : ℕ} (k : ℕ) → MayChange p txn v → s ≡ pointer txn.sectors v k → s ≢ 0 → IsSector (txn.sectors s)
 block_whole {txn = txn} {v} k may is some =
     subst (λ (n : ℕ). IsSector (txn.sectors n)) (sym is) (may.apart.whole (pointer txn.sectors v k) (owns_block txn.sectors v k (λ e. some (is ∙ e))))
 
 -- which a rewrite alone puts
-pub rewrite_puts : {p : Place} {old new : TxnState} {v : Inode} {s : ℕ} (k : ℕ) → MayChange p old v → s ≡ pointer old.sectors v k → s ≢ 0
+pub rewrite_puts : {p : Geometry} {old new : TxnState} {v : Inode} {s : ℕ} (k : ℕ) → MayChange p old v → s ≡ pointer old.sectors v k → s ≢ 0
     → PutsOnly (λ t. t ≡ s) [] 1 old new → PutsOnly (IsStepSector p) (bitmaps p) 1 old new
 rewrite_puts {p} {old} {v = v} k may is some puts =
     let d = may.apart.each (pointer old.sectors v k) (owns_block old.sectors v k (λ e. some (is ∙ e))) in
     changes_weaker {Q = IsStepSector p} (λ t e. inr (omega (arith, e, is, d.0), omega (arith, e, is, d.1))) (omega arith) (changes_beside puts (bitmaps p))
 
 -- a sector of pointers is put after a sector was taken
-pub pointers_puts : {p : Place} {old mid new : TxnState} {v : Inode} {u : ℕ} {x : List ℕ} (level i : ℕ) → MayChange p old v → u ≡ number_on old.sectors v level i → u ≢ 0
+pub pointers_puts : {p : Geometry} {old mid new : TxnState} {v : Inode} {u : ℕ} {x : List ℕ} (level i : ℕ) → MayChange p old v → u ≡ number_on old.sectors v level i → u ≢ 0
     → PutsOnly (IsStepSector p) (bitmaps p) 1 old mid → IsPut u x mid new → PutsOnly (IsStepSector p) (u ∷ bitmaps p) 1 old new
 pointers_puts {p} {old} {v = v} {u} level i may is some puts put =
     let d = may.apart.each (number_on old.sectors v level i) (owns_on_level old.sectors v level i (λ e. some (is ∙ e))) in
@@ -78,7 +78,7 @@ taken_same old mid v m offset len same =
     let e : mid.sectors ≡ old.sectors = same_map old.sectors mid.sectors same.sectors in
     ap (λ (image : SectorMap). taken_by image (record v { size = m }) offset len) e
 
-pub free_same : (p : Place) (old mid : TxnState) → IsUnchanged old mid → free_sectors p mid.sectors ≡ free_sectors p old.sectors
+pub free_same : (p : Geometry) (old mid : TxnState) → IsUnchanged old mid → free_sectors p mid.sectors ≡ free_sectors p old.sectors
 free_same p old mid same = ap (free_sectors p) (same_map old.sectors mid.sectors same.sectors)
 
 -- ---- how many sectors are put
@@ -129,7 +129,7 @@ put_in_block offset len some within small =
     all_few blocks pointers one two = omega (arith, one, two)
 
 -- ---- the whole call
-module _ {p : Place} {n m offset : ℕ} {x : List ℕ} {old mid done new : TxnState} {u v w : Inode}
+module _ {p : Geometry} {n m offset : ℕ} {x : List ℕ} {old mid done new : TxnState} {u v w : Inode}
     (sound : IsSound p old) (lt : n < p.inodes) (at : v ≡ inode_at p old.sectors n) (allowed : AllowsSize v.kind m) (limit : m ≤ MAX_FILE_SIZE) (few : length x ≤ 4096)
     (is : m ≡ max v.size (offset + length x)) (same : IsUnchanged old mid) (e : u ≡ v) (step : WritesBlocks p offset x mid done (record u { size = m }) w) where
   pub wrote : Saves p n w done.sectors new.sectors → PutsOnly (λ t. t ≡ p.table + n / 4) [] 1 done new

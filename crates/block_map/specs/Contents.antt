@@ -7,7 +7,7 @@ use Rattle.fs_layout.specs.declared.inode.TheConstants.{MAX_DIRECTORY_SIZE, MAX_
 use Rattle.fs_layout.specs.declared.inode.Inode.{Inode}
 use Rattle.fs_layout.specs.declared.inode.Kind.{Kind}
 use Rattle.fs_layout.specs.declared.inode.Kind.TheVariants.{Free, File, Directory, Link}
-use Rattle.fs_layout.specs.declared.place.Place.{Place}
+use Rattle.fs_layout.specs.declared.geometry.Geometry.{Geometry}
 use Rattle.fs_layout.specs.Images.{bit, inode_at}
 use Rattle.sector_txn.specs.Sectors.{TxnState}
 use Rattle.bit_alloc.specs.Inodes.{IsSound, Touches, KeepsFields, KeepsAcls}
@@ -20,7 +20,7 @@ AllowsSize Directory size = (size ≤ MAX_DIRECTORY_SIZE) × (size % SLOT_SIZE �
 AllowsSize Link size = (1 ≤ size) × (size ≤ MAX_LINK_SIZE)
 
 -- Inode n was v and is w, with what it owns; its attributes, ACLs and its bit are the same. The map is sound again.
-pub record ChangesContent (p : Place) (n taken more : ℕ) (old new : TxnState) (v w : Inode) : Type 0 where
+pub record ChangesContent (p : Geometry) (n taken more : ℕ) (old new : TxnState) (v w : Inode) : Type 0 where
   pub sound : IsSound p new
   pub touches : Touches p n taken more old new
   pub now : inode_at p new.sectors n ≡ w

@@ -1,6 +1,6 @@
 -- Sectors are given back.
 --     GivesParts        the sectors that the inode has for these parts are given back
---     IsInData        what the inode owns is in the data
+--     OwnsOnlyData        what the inode owns is in the data
 --     IsFor, IsAmong        a part that serves only blocks from one on; one of several numbers of a level
 --     IsFrom        a number of a level from one on
 --     first_above, first_on        the first number of the level above, or of any level, that serves only numbers, or blocks, from one on
@@ -13,7 +13,7 @@ use Rattle.std.specs.Prelude.{◌≡◌, ◌≢◌, ℕ, zero, suc, min, ◌+◌
 use Rattle.std.specs.Int.{div_ceil}
 use Rattle.fs_layout.specs.declared.inode.TheConstants.{DIRECT_BLOCKS, POINTER_LEVELS, SECTOR_POINTERS}
 use Rattle.fs_layout.specs.declared.inode.Inode.{Inode}
-use Rattle.fs_layout.specs.declared.place.Place.{Place}
+use Rattle.fs_layout.specs.declared.geometry.Geometry.{Geometry}
 use Rattle.fs_layout.specs.Bytes.{SectorMap, IsSector, u32_of}
 use Rattle.fs_layout.specs.Images.{IsData, own_count, own_number, holder, place_in_holder, number_on, pointer, first_block, Part, AccessAcl, DefaultAcl, OnLevel, part, Owns, bit, map_bits, free_sectors}
 use Rattle.fs_layout.specs.InodeChanges.{IsBlockMap}
@@ -23,7 +23,7 @@ use Rattle.bit_alloc.specs.Room.{bitmaps}
 use Rattle.block_map.specs.Steps.{IsStepSector, Alters}
 
 -- the sectors that the inode has for parts with P are given back: their bits are clear, and nothing else differs
-pub record GivesParts (p : Place) (v : Inode) (P : Part → Type 0) (old new : TxnState) : Type 0 where
+pub record GivesParts (p : Geometry) (v : Inode) (P : Part → Type 0) (old new : TxnState) : Type 0 where
   pub tables : HasBitmaps p new
   pub others : (s : ℕ) → (IsBlockMap p s → ⊥) → new.sectors s ≡ old.sectors s
   pub cleared : (at : Part) → P at → part old.sectors v at ≢ 0 → bit new.sectors p.block_bitmap (part old.sectors v at) ≡ false
@@ -34,8 +34,8 @@ pub record GivesParts (p : Place) (v : Inode) (P : Part → Type 0) (old new : T
   pub free : free_sectors p old.sectors ≤ free_sectors p new.sectors
 
 -- each sector that the inode owns is a data sector
-abbrev pub IsInData : Place → SectorMap → Inode → Type 0
-IsInData p image v = (s : ℕ) → Owns image v s → IsData p s
+abbrev pub OwnsOnlyData : Geometry → SectorMap → Inode → Type 0
+OwnsOnlyData p image v = (s : ℕ) → Owns image v s → IsData p s
 
 -- by this part only blocks from `first` on are found
 abbrev pub IsFor : ℕ → Part → Type 0
@@ -99,7 +99,7 @@ cut_by first = cut_below POINTER_LEVELS first
 
 -- The blocks from `first` on are dropped, from v to w, and the sectors of pointers by which only such blocks are found. The
 -- other numbers stay, and the other blocks with what is in them.
-pub record DropsBlocks (p : Place) (first : ℕ) (old new : TxnState) (v w : Inode) : Type 0 where
+pub record DropsBlocks (p : Geometry) (first : ℕ) (old new : TxnState) (v w : Inode) : Type 0 where
   pub alters : Alters p old new v w
   pub puts : PutsOnly (IsStepSector p) (bitmaps p) (cut_by first) old new
   pub size : w.size ≡ v.size

@@ -4,7 +4,7 @@
 --     Resizes        the size changes, and what is held with it
 use Rattle.std.specs.Prelude.{◌≡◌, ℕ, ◌+◌, ◌*◌, ◌/◌, ◌<◌, ◌≤◌, List, length, get_or}
 use Rattle.fs_layout.specs.declared.inode.Inode.{Inode}
-use Rattle.fs_layout.specs.declared.place.Place.{Place}
+use Rattle.fs_layout.specs.declared.geometry.Geometry.{Geometry}
 use Rattle.fs_layout.specs.Bytes.{resized}
 use Rattle.fs_layout.specs.Images.{pointer, Holds, HasNoHole, free_sectors}
 use Rattle.sector_txn.specs.Sectors.{TxnState, PutsOnly}
@@ -19,7 +19,7 @@ pub record HasZeroTail (size : ℕ) (bytes then : List ℕ) : Type 0 where
   pub len : length then ≡ length bytes
 
 -- the bytes from `size` to the end of their block are zeros
-pub record ClearsTail (p : Place) (size : ℕ) (old new : TxnState) (v : Inode) : Type 0 where
+pub record ClearsTail (p : Geometry) (size : ℕ) (old new : TxnState) (v : Inode) : Type 0 where
   pub alters : Alters p old new v v
   pub puts : PutsOnly (IsStepSector p) (bitmaps p) 1 old new
   pub pointers : (k : ℕ) → pointer new.sectors v k ≡ pointer old.sectors v k
@@ -32,7 +32,7 @@ abbrev pub put_to : ℕ → ℕ
 put_to size = 1 + cut_by (blocks_to size) + 1
 
 -- the inode has this size, and holds so many bytes
-pub record Resizes (p : Place) (size : ℕ) (old new : TxnState) (v w : Inode) : Type 0 where
+pub record Resizes (p : Geometry) (size : ℕ) (old new : TxnState) (v w : Inode) : Type 0 where
   pub alters : Alters p old new v w
   pub puts : PutsOnly (IsStepSector p) (bitmaps p) (1 + cut_by (blocks_to size)) old new
   pub held : (bytes : List ℕ) → Holds old.sectors v bytes → Holds new.sectors w (resized bytes size)

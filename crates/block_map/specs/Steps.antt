@@ -13,7 +13,7 @@ use Rattle.std.specs.List.{range_with_len}
 use Rattle.fs_layout.specs.declared.inode.TheConstants.{DIRECT_BLOCKS, POINTER_LEVELS}
 use Rattle.fs_layout.specs.declared.inode.Inode.{Inode}
 use Rattle.fs_layout.specs.declared.inode.Kind.TheVariants as kinds
-use Rattle.fs_layout.specs.declared.place.Place.{Place}
+use Rattle.fs_layout.specs.declared.geometry.Geometry.{Geometry}
 use Rattle.fs_layout.specs.Bytes.{SectorMap, splice}
 use Rattle.fs_layout.specs.Inode.{FitsInode}
 use Rattle.fs_layout.specs.Images.{IsData, own_count, holder, number_on, pointer, Holds, free_sectors}
@@ -25,22 +25,22 @@ use Rattle.bit_alloc.specs.Room.{bitmaps}
 use Rattle.bit_alloc.specs.Inodes.{KeepsFields, KeepsAcls}
 
 -- a used inode, and what it owns; it need not stand so in the table
-pub record MayChange (p : Place) (txn : TxnState) (v : Inode) : Type 0 where
+pub record MayChange (p : Geometry) (txn : TxnState) (v : Inode) : Type 0 where
   pub bitmaps : HasBitmaps p txn
   pub apart : IsOwnedApart p txn.sectors v
   pub fits : FitsInode v
   pub used : v.kind ≢ kinds.Free
 
 -- a sector of a bitmap, or of the data
-abbrev pub IsStepSector : Place → ℕ → Type 0
+abbrev pub IsStepSector : Geometry → ℕ → Type 0
 IsStepSector p s = ((p.inode_bitmap ≤ s) × (s < p.table)) ⊎ IsData p s
 
 -- room for these sectors, for the bitmaps, and for so many sectors more
-abbrev pub HasRoomFor : Place → List ℕ → ℕ → TxnState → Type 0
+abbrev pub HasRoomFor : Geometry → List ℕ → ℕ → TxnState → Type 0
 HasRoomFor p ns more txn = lacking txn (ns ++ bitmaps p) + more ≤ txn.room
 
 -- from old, where the inode is v, to new, where it is w: it has its attributes and ACLs
-pub record Alters (p : Place) (old new : TxnState) (v w : Inode) : Type 0 where
+pub record Alters (p : Geometry) (old new : TxnState) (v w : Inode) : Type 0 where
   pub blocks : ChangesBlocks p v w old.sectors new.sectors
   pub fields : KeepsFields v w
   pub acls : KeepsAcls old.sectors new.sectors v w
@@ -104,7 +104,7 @@ pointers_of image v first end =
     if nat_lt DIRECT_BLOCKS end then numbers_on image v 1 (holder DIRECT_BLOCKS first) (holder DIRECT_BLOCKS (end - 1) + 1 - holder DIRECT_BLOCKS first) else []
 
 -- Number i of a level of pointers is there. If it wasn't, it is a new sector, of zeros; besides it at most `ns` were put.
-pub record AddsSector (p : Place) (ns : List ℕ) (level i : ℕ) (old new : TxnState) (v w : Inode) : Type 0 where
+pub record AddsSector (p : Geometry) (ns : List ℕ) (level i : ℕ) (old new : TxnState) (v w : Inode) : Type 0 where
   pub alters : Alters p old new v w
   pub puts : PutsOnly (IsStepSector p) (ns ++ bitmaps p) 1 old new
   -- the room that is left, where the sector may be put again
@@ -116,7 +116,7 @@ pub record AddsSector (p : Place) (ns : List ℕ) (level i : ℕ) (old new : Txn
   pub free : free_sectors p old.sectors ≤ free_sectors p new.sectors + lack old.sectors v level i
 
 -- a level's numbers from `first` up to `end` are there, and those by which they are found
-pub record AddsNumbers (p : Place) (level first end : ℕ) (old new : TxnState) (v w : Inode) : Type 0 where
+pub record AddsNumbers (p : Geometry) (level first end : ℕ) (old new : TxnState) (v w : Inode) : Type 0 where
   pub alters : Alters p old new v w
   pub puts : PutsOnly (IsStepSector p) (bitmaps p) (most_for level first end) old new
   -- the room that is left, where they may be put again
@@ -130,7 +130,7 @@ pub record AddsNumbers (p : Place) (level first end : ℕ) (old new : TxnState) 
   pub free : free_sectors p old.sectors ≤ free_sectors p new.sectors + lacks_from old.sectors v (POINTER_LEVELS + 1 - level) level first end
 
 -- the inode has the sectors of pointers that the blocks from `first` up to `end` need
-pub record AddsPointers (p : Place) (first end : ℕ) (old new : TxnState) (v w : Inode) : Type 0 where
+pub record AddsPointers (p : Geometry) (first end : ℕ) (old new : TxnState) (v w : Inode) : Type 0 where
   pub alters : Alters p old new v w
   pub puts : PutsOnly (IsStepSector p) (bitmaps p) (pointer_sectors first end) old new
   -- the room that is left, where they may be put again
@@ -142,7 +142,7 @@ pub record AddsPointers (p : Place) (first end : ℕ) (old new : TxnState) (v w 
   pub free : free_sectors p old.sectors ≤ free_sectors p new.sectors + lacks_pointers old.sectors v first end
 
 -- the bytes are written into block k, at `at`
-pub record WritesBlock (p : Place) (k at : ℕ) (x : List ℕ) (old new : TxnState) (v w : Inode) : Type 0 where
+pub record WritesBlock (p : Geometry) (k at : ℕ) (x : List ℕ) (old new : TxnState) (v w : Inode) : Type 0 where
   pub alters : Alters p old new v w
   pub puts : PutsOnly (IsStepSector p) (pointers_to old.sectors v k ++ bitmaps p) 1 old new
   pub size : w.size ≡ v.size
@@ -167,7 +167,7 @@ put_by offset len =
     blocks_to (offset + len) - offset / 512 + pointer_sectors (offset / 512) (blocks_to (offset + len)) + 1
 
 -- the bytes are written within the size
-pub record WritesBlocks (p : Place) (offset : ℕ) (x : List ℕ) (old new : TxnState) (v w : Inode) : Type 0 where
+pub record WritesBlocks (p : Geometry) (offset : ℕ) (x : List ℕ) (old new : TxnState) (v w : Inode) : Type 0 where
   pub alters : Alters p old new v w
   pub puts : PutsOnly (IsStepSector p) (bitmaps p) (blocks_to (offset + length x) - offset / 512 + pointer_sectors (offset / 512) (blocks_to (offset + length x))) old new
   pub size : w.size ≡ v.size

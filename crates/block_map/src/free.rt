@@ -12,30 +12,30 @@ ghost use Rattle.bit_alloc.specs.Room.{HasSpare};
 
 use crate::release::give_from;
 use bit_alloc::{Bitmap, give};
-use fs_layout::{Inode, Kind, Place};
+use fs_layout::{Geometry, Inode, Kind};
 use inode_table::{give_sector, load, write_inode};
 use sector_disk::DiskFault;
 use sector_txn::Sectors;
 
 /// Frees inode n, a file, a directory or a link, with the sectors of its blocks and of its ACLs: its 128 bytes become zero, and
 /// its bit is cleared.
-pub fn free_all<S: Sectors>(s: &mut S, place: Place, n: u32) -> Result<(), DiskFault>
-    requires sound { IsSound place (S.state s.old) }
-    requires number { IsNumber place Inodes n }
-    requires used { (inode_at place (S.state s.old).sectors n).kind ≢ Kind.Free }
-    requires spare { HasSpare place 1 (S.state s.old) }
+pub fn free_all<S: Sectors>(s: &mut S, geometry: Geometry, n: u32) -> Result<(), DiskFault>
+    requires sound { IsSound geometry (S.state s.old) }
+    requires number { IsNumber geometry Inodes n }
+    requires used { (inode_at geometry (S.state s.old).sectors n).kind ≢ Kind.Free }
+    requires spare { HasSpare geometry 1 (S.state s.old) }
     ensures store { SameStore (S.state s.old) (S.state s.new) }
-    ensures sound { OnOk result (IsSound place (S.state s.new)) }
-    ensures touches { OnOk result (Touches place n 0 1 (S.state s.old) (S.state s.new)) }
-    ensures free { OnOk result (inode_at place (S.state s.new).sectors n ≡ free_inode) }
-    ensures unused { OnOk result (bit (S.state s.new).sectors place.inode_bitmap n ≡ false) }
+    ensures sound { OnOk result (IsSound geometry (S.state s.new)) }
+    ensures touches { OnOk result (Touches geometry n 0 1 (S.state s.old) (S.state s.new)) }
+    ensures free { OnOk result (inode_at geometry (S.state s.new).sectors n ≡ free_inode) }
+    ensures unused { OnOk result (bit (S.state s.new).sectors geometry.inode_bitmap n ≡ false) }
     ensures cause { HasCause (S.state s.old).disk (S.state s.new).disk result }
 {
-    let inode = load(s, place, n)?;
-    give(s, place, Bitmap::Inodes, n)?;
-    give_from(s, place, &inode, 0)?;
-    give_sector(s, place, inode.acl)?;
-    give_sector(s, place, inode.default_acl)?;
-    write_inode(s, place, n, &Inode::FREE)?;
+    let inode = load(s, geometry, n)?;
+    give(s, geometry, Bitmap::Inodes, n)?;
+    give_from(s, geometry, &inode, 0)?;
+    give_sector(s, geometry, inode.acl)?;
+    give_sector(s, geometry, inode.default_acl)?;
+    write_inode(s, geometry, n, &Inode::FREE)?;
     Ok(())
 }

@@ -13,25 +13,25 @@ ghost use Rattle.block_map.specs.Steps.{MayChange, HasRoomFor, AddsSector, AddsN
 use crate::MapFault;
 use crate::blocks::{BLOCK, Blocks, read_pointers, write_pointer};
 use crate::steps::take_sector;
-use fs_layout::{DIRECT_BLOCKS, Place, SECTOR_POINTERS};
+use fs_layout::{DIRECT_BLOCKS, Geometry, SECTOR_POINTERS};
 use sector_txn::Sectors;
 
 // Takes the first sector of pointers of a level, which the inode names, unless it is there.
 fn add_named<S: Sectors>(
     s: &mut S,
-    place: Place,
+    geometry: Geometry,
     blocks: &mut Blocks,
     level: usize,
 ) -> Result<(), MapFault>
-    requires may { MayChange place (S.state s.old) blocks.old.inode }
+    requires may { MayChange geometry (S.state s.old) blocks.old.inode }
     requires at_hand { IsAtHand (S.state s.old).sectors blocks.old }
     requires level { (1 ≤ level) × (level ≤ POINTER_LEVELS) }
     requires inside { 512 * first_block level 0 < blocks.old.inode.size }
-    requires room { HasSpare place 1 (S.state s.old) }
-    ensures added { OnOk result (AddsSector place [] level 0 (S.state s.old) (S.state s.new) blocks.old.inode blocks.new.inode) }
+    requires room { HasSpare geometry 1 (S.state s.old) }
+    ensures added { OnOk result (AddsSector geometry [] level 0 (S.state s.old) (S.state s.new) blocks.old.inode blocks.new.inode) }
     ensures at_hand { OnOk result (IsAtHand (S.state s.new).sectors blocks.new) }
     ensures full { result ≡ Err MapFault.Full
-        → (number_on (S.state s.old).sectors blocks.old.inode level 0 ≡ 0) × (free_sectors place (S.state s.old).sectors ≡ 0) }
+        → (number_on (S.state s.old).sectors blocks.old.inode level 0 ≡ 0) × (free_sectors geometry (S.state s.old).sectors ≡ 0) }
     ensures small { result ≢ Err MapFault.TooBig }
     ensures store { SameStore (S.state s.old) (S.state s.new) }
     ensures cause { HasCauseOf MapFault.DiskFault (S.state s.old).disk (S.state s.new).disk result }
@@ -39,7 +39,7 @@ fn add_named<S: Sectors>(
     if blocks.inode.indirect[level - 1] != 0 {
         return Ok(());
     }
-    let number = take_sector(s, place, blocks.near, &[0; BLOCK])?;
+    let number = take_sector(s, geometry, blocks.near, &[0; BLOCK])?;
     blocks.inode.indirect[level - 1] = number;
     blocks.was_taken(level, 0, number);
     Ok(())
@@ -48,29 +48,29 @@ fn add_named<S: Sectors>(
 // Takes a sector of pointers that is number `i` of a level, which stands in the sector `above`. `content` is what that holds.
 fn list_sector<S: Sectors>(
     s: &mut S,
-    place: Place,
+    geometry: Geometry,
     blocks: &mut Blocks,
     level: usize,
     i: u64,
     above: u32,
     content: &mut [u8; 512],
 ) -> Result<(), MapFault>
-    requires may { MayChange place (S.state s.old) blocks.old.inode }
+    requires may { MayChange geometry (S.state s.old) blocks.old.inode }
     requires at_hand { IsAtHand (S.state s.old).sectors blocks.old }
     requires number { (1 ≤ level) × (level ≤ POINTER_LEVELS) × (1 ≤ i) }
     requires above { (above ≡ number_on (S.state s.old).sectors blocks.old.inode (suc level) (holder 1 i)) × (above ≢ 0) }
     requires content { content.old ≡ (S.state s.old).sectors above }
     requires none { number_on (S.state s.old).sectors blocks.old.inode level i ≡ 0 }
     requires inside { 512 * first_block level i < blocks.old.inode.size }
-    requires room { HasRoomFor place (above ∷ []) 1 (S.state s.old) }
-    ensures added { OnOk result (AddsSector place (above ∷ []) level i (S.state s.old) (S.state s.new) blocks.old.inode blocks.new.inode) }
+    requires room { HasRoomFor geometry (above ∷ []) 1 (S.state s.old) }
+    ensures added { OnOk result (AddsSector geometry (above ∷ []) level i (S.state s.old) (S.state s.new) blocks.old.inode blocks.new.inode) }
     ensures at_hand { OnOk result (IsAtHand (S.state s.new).sectors blocks.new) }
-    ensures full { result ≡ Err MapFault.Full → free_sectors place (S.state s.old).sectors ≡ 0 }
+    ensures full { result ≡ Err MapFault.Full → free_sectors geometry (S.state s.old).sectors ≡ 0 }
     ensures small { result ≢ Err MapFault.TooBig }
     ensures store { SameStore (S.state s.old) (S.state s.new) }
     ensures cause { HasCauseOf MapFault.DiskFault (S.state s.old).disk (S.state s.new).disk result }
 {
-    let number = take_sector(s, place, blocks.near, &[0; BLOCK])?;
+    let number = take_sector(s, geometry, blocks.near, &[0; BLOCK])?;
     write_pointer(content, ((i - 1) % SECTOR_POINTERS) as usize, number);
     s.put(above, content);
     blocks.was_taken(level, i, number);
@@ -80,22 +80,22 @@ fn list_sector<S: Sectors>(
 // Takes a sector of pointers that is number `i` of a level, which stands in a sector of the level above, unless it is there.
 fn add_listed<S: Sectors>(
     s: &mut S,
-    place: Place,
+    geometry: Geometry,
     blocks: &mut Blocks,
     level: usize,
     i: u64,
 ) -> Result<(), MapFault>
-    requires may { MayChange place (S.state s.old) blocks.old.inode }
+    requires may { MayChange geometry (S.state s.old) blocks.old.inode }
     requires at_hand { IsAtHand (S.state s.old).sectors blocks.old }
     requires number { (1 ≤ level) × (level ≤ POINTER_LEVELS) × (1 ≤ i) }
     requires above { number_on (S.state s.old).sectors blocks.old.inode (suc level) (holder 1 i) ≢ 0 }
     requires inside { 512 * first_block level i < blocks.old.inode.size }
-    requires room { HasRoomFor place (number_on (S.state s.old).sectors blocks.old.inode (suc level) (holder 1 i) ∷ []) 1 (S.state s.old) }
-    ensures added { OnOk result (AddsSector place (number_on (S.state s.old).sectors blocks.old.inode (suc level) (holder 1 i) ∷ []) level i
+    requires room { HasRoomFor geometry (number_on (S.state s.old).sectors blocks.old.inode (suc level) (holder 1 i) ∷ []) 1 (S.state s.old) }
+    ensures added { OnOk result (AddsSector geometry (number_on (S.state s.old).sectors blocks.old.inode (suc level) (holder 1 i) ∷ []) level i
         (S.state s.old) (S.state s.new) blocks.old.inode blocks.new.inode) }
     ensures at_hand { OnOk result (IsAtHand (S.state s.new).sectors blocks.new) }
     ensures full { result ≡ Err MapFault.Full
-        → (number_on (S.state s.old).sectors blocks.old.inode level i ≡ 0) × (free_sectors place (S.state s.old).sectors ≡ 0) }
+        → (number_on (S.state s.old).sectors blocks.old.inode level i ≡ 0) × (free_sectors geometry (S.state s.old).sectors ≡ 0) }
     ensures small { result ≢ Err MapFault.TooBig }
     ensures store { SameStore (S.state s.old) (S.state s.new) }
     ensures cause { HasCauseOf MapFault.DiskFault (S.state s.old).disk (S.state s.new).disk result }
@@ -107,7 +107,7 @@ fn add_listed<S: Sectors>(
     if number != 0 {
         return Ok(());
     }
-    list_sector(s, place, blocks, level, i, above, &mut content)?;
+    list_sector(s, geometry, blocks, level, i, above, &mut content)?;
     Ok(())
 }
 
@@ -115,52 +115,52 @@ fn add_listed<S: Sectors>(
 // in the inode, is there.
 fn add_sector<S: Sectors>(
     s: &mut S,
-    place: Place,
+    geometry: Geometry,
     blocks: &mut Blocks,
     level: usize,
     i: u64,
 ) -> Result<(), MapFault>
-    requires may { MayChange place (S.state s.old) blocks.old.inode }
+    requires may { MayChange geometry (S.state s.old) blocks.old.inode }
     requires at_hand { IsAtHand (S.state s.old).sectors blocks.old }
     requires level { (1 ≤ level) × (level ≤ POINTER_LEVELS) }
     requires above { 1 ≤ i → number_on (S.state s.old).sectors blocks.old.inode (suc level) (holder 1 i) ≢ 0 }
     requires inside { 512 * first_block level i < blocks.old.inode.size }
-    requires room { HasRoomFor place (sectors_to (S.state s.old).sectors blocks.old.inode level i) 1 (S.state s.old) }
-    ensures added { OnOk result (AddsSector place (sectors_to (S.state s.old).sectors blocks.old.inode level i) level i
+    requires room { HasRoomFor geometry (sectors_to (S.state s.old).sectors blocks.old.inode level i) 1 (S.state s.old) }
+    ensures added { OnOk result (AddsSector geometry (sectors_to (S.state s.old).sectors blocks.old.inode level i) level i
         (S.state s.old) (S.state s.new) blocks.old.inode blocks.new.inode) }
     ensures at_hand { OnOk result (IsAtHand (S.state s.new).sectors blocks.new) }
     ensures full { result ≡ Err MapFault.Full
-        → (number_on (S.state s.old).sectors blocks.old.inode level i ≡ 0) × (free_sectors place (S.state s.old).sectors ≡ 0) }
+        → (number_on (S.state s.old).sectors blocks.old.inode level i ≡ 0) × (free_sectors geometry (S.state s.old).sectors ≡ 0) }
     ensures small { result ≢ Err MapFault.TooBig }
     ensures store { SameStore (S.state s.old) (S.state s.new) }
     ensures cause { HasCauseOf MapFault.DiskFault (S.state s.old).disk (S.state s.new).disk result }
 {
     if i == 0 {
-        add_named(s, place, blocks, level)?;
+        add_named(s, geometry, blocks, level)?;
         return Ok(());
     }
-    add_listed(s, place, blocks, level, i)?;
+    add_listed(s, geometry, blocks, level, i)?;
     Ok(())
 }
 
 // Takes sectors for a level's numbers from `first` up to `end`, and for those by which they are found, where there are none.
 fn add_numbers<S: Sectors>(
     s: &mut S,
-    place: Place,
+    geometry: Geometry,
     blocks: &mut Blocks,
     level: usize,
     first: u64,
     end: u64,
 ) -> Result<(), MapFault>
-    requires may { MayChange place (S.state s.old) blocks.old.inode }
+    requires may { MayChange geometry (S.state s.old) blocks.old.inode }
     requires at_hand { IsAtHand (S.state s.old).sectors blocks.old }
     requires level { (1 ≤ level) × (level ≤ POINTER_LEVELS) }
     requires order { (first < end) × (end ≤ level_end level) }
     requires inside { 512 * first_block level (end - 1) < blocks.old.inode.size }
-    requires room { HasSpare place (most_for level first end) (S.state s.old) }
-    ensures added { OnOk result (AddsNumbers place level first end (S.state s.old) (S.state s.new) blocks.old.inode blocks.new.inode) }
+    requires room { HasSpare geometry (most_for level first end) (S.state s.old) }
+    ensures added { OnOk result (AddsNumbers geometry level first end (S.state s.old) (S.state s.new) blocks.old.inode blocks.new.inode) }
     ensures at_hand { OnOk result (IsAtHand (S.state s.new).sectors blocks.new) }
-    ensures full { result ≡ Err MapFault.Full → free_sectors place (S.state s.old).sectors
+    ensures full { result ≡ Err MapFault.Full → free_sectors geometry (S.state s.old).sectors
         < lacks_from (S.state s.old).sectors blocks.old.inode (POINTER_LEVELS + 1 - level) level first end }
     ensures small { result ≢ Err MapFault.TooBig }
     ensures store { SameStore (S.state s.old) (S.state s.new) }
@@ -168,14 +168,14 @@ fn add_numbers<S: Sectors>(
 {
     // The first number stands in the inode.
     if end <= 1 {
-        add_named(s, place, blocks, level)?;
+        add_named(s, geometry, blocks, level)?;
         return Ok(());
     }
     let from = first.saturating_sub(1) / SECTOR_POINTERS;
     let last = (end - 2) / SECTOR_POINTERS;
-    add_numbers(s, place, blocks, level + 1, from, last + 1)?;
+    add_numbers(s, geometry, blocks, level + 1, from, last + 1)?;
     for i in first..end {
-        add_sector(s, place, blocks, level, i)?;
+        add_sector(s, geometry, blocks, level, i)?;
     }
     Ok(())
 }
@@ -183,19 +183,19 @@ fn add_numbers<S: Sectors>(
 /// Takes sectors for the pointers to the blocks from `first` up to `end`, where there are none.
 pub(crate) fn add_pointers<S: Sectors>(
     s: &mut S,
-    place: Place,
+    geometry: Geometry,
     blocks: &mut Blocks,
     first: u64,
     end: u64,
 ) -> Result<(), MapFault>
-    requires may { MayChange place (S.state s.old) blocks.old.inode }
+    requires may { MayChange geometry (S.state s.old) blocks.old.inode }
     requires at_hand { IsAtHand (S.state s.old).sectors blocks.old }
     requires inside { (DIRECT_BLOCKS < end → 512 * (end - 1) < blocks.old.inode.size) × (first ≤ end) × (end ≤ MAX_BLOCKS) }
-    requires room { HasSpare place (pointer_sectors first end) (S.state s.old) }
-    ensures added { OnOk result (AddsPointers place first end (S.state s.old) (S.state s.new) blocks.old.inode blocks.new.inode) }
+    requires room { HasSpare geometry (pointer_sectors first end) (S.state s.old) }
+    ensures added { OnOk result (AddsPointers geometry first end (S.state s.old) (S.state s.new) blocks.old.inode blocks.new.inode) }
     ensures at_hand { OnOk result (IsAtHand (S.state s.new).sectors blocks.new) }
     ensures full { result ≡ Err MapFault.Full
-        → free_sectors place (S.state s.old).sectors < lacks_pointers (S.state s.old).sectors blocks.old.inode first end }
+        → free_sectors geometry (S.state s.old).sectors < lacks_pointers (S.state s.old).sectors blocks.old.inode first end }
     ensures small { result ≢ Err MapFault.TooBig }
     ensures store { SameStore (S.state s.old) (S.state s.new) }
     ensures cause { HasCauseOf MapFault.DiskFault (S.state s.old).disk (S.state s.new).disk result }
@@ -208,6 +208,6 @@ pub(crate) fn add_pointers<S: Sectors>(
     }
     let last = (end - 1 - DIRECT_BLOCKS) / SECTOR_POINTERS;
     let from = first.saturating_sub(DIRECT_BLOCKS) / SECTOR_POINTERS;
-    add_numbers(s, place, blocks, 1, from, last + 1)?;
+    add_numbers(s, geometry, blocks, 1, from, last + 1)?;
     Ok(())
 }

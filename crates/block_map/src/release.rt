@@ -9,12 +9,12 @@ ghost use Rattle.bit_alloc.specs.Bitmaps.{HasBitmaps};
 ghost use Rattle.bit_alloc.specs.Room.{HasSpare};
 ghost use Rattle.bit_alloc.specs.Inodes.{IsSound};
 ghost use Rattle.block_map.specs.Contents.{AllowsSize, ChangesContent};
-ghost use Rattle.block_map.specs.Drops.{GivesParts, IsAmong, IsFor, IsFrom, IsInData, first_above};
+ghost use Rattle.block_map.specs.Drops.{GivesParts, IsAmong, IsFor, IsFrom, OwnsOnlyData, first_above};
 ghost use Rattle.block_map.specs.Steps.{MayChange};
 
 use crate::blocks::{BLOCK, read_pointers};
 use bit_alloc::{Bitmap, give};
-use fs_layout::{DIRECT_BLOCKS, Inode, POINTER_LEVELS, Place, SECTOR_POINTERS, own_count};
+use fs_layout::{DIRECT_BLOCKS, Geometry, Inode, POINTER_LEVELS, SECTOR_POINTERS, own_count};
 use inode_table::write_inode;
 use sector_disk::DiskFault;
 use sector_txn::Sectors;
@@ -32,27 +32,27 @@ pub(crate) fn next_first(level: usize, first: u64) -> u64
 // those stand that don't stand in the inode.
 fn give_listed<S: Sectors>(
     s: &mut S,
-    place: Place,
+    geometry: Geometry,
     inode: &Inode,
     level: usize,
     content: &[u8; 512],
     first: u64,
     end: u64,
 ) -> Result<(), DiskFault>
-    requires bitmaps { HasBitmaps place (S.state s.old) }
-    requires inside { IsInData place (S.state s.old).sectors inode.now }
+    requires bitmaps { HasBitmaps geometry (S.state s.old) }
+    requires inside { OwnsOnlyData geometry (S.state s.old).sectors inode.now }
     requires listed { (i : ℕ) → first ≤ i → i < end → own_count level ≤ i
         → HasPointers (S.state s.old).sectors inode.now (suc level) (holder (own_count level) i) content.now }
     requires few { first ≤ end }
-    requires room { HasSpare place 0 (S.state s.old) }
-    ensures given { OnOk result (GivesParts place inode.now (IsAmong level first end) (S.state s.old) (S.state s.new)) }
+    requires room { HasSpare geometry 0 (S.state s.old) }
+    ensures given { OnOk result (GivesParts geometry inode.now (IsAmong level first end) (S.state s.old) (S.state s.new)) }
     ensures store { SameStore (S.state s.old) (S.state s.new) }
     ensures cause { HasCause (S.state s.old).disk (S.state s.new).disk result }
 {
     for i in first..end {
         let number = inode.number(level, content, i);
         if number != 0 {
-            give(s, place, Bitmap::Blocks, number)?;
+            give(s, geometry, Bitmap::Blocks, number)?;
         }
     }
     Ok(())
@@ -62,30 +62,30 @@ fn give_listed<S: Sectors>(
 // pointers after the other has.
 fn give_level<S: Sectors>(
     s: &mut S,
-    place: Place,
+    geometry: Geometry,
     inode: &Inode,
     level: usize,
     first: u64,
 ) -> Result<(), DiskFault>
-    requires bitmaps { HasBitmaps place (S.state s.old) }
-    requires inside { IsInData place (S.state s.old).sectors inode.now }
+    requires bitmaps { HasBitmaps geometry (S.state s.old) }
+    requires inside { OwnsOnlyData geometry (S.state s.old).sectors inode.now }
     requires level { level ≤ POINTER_LEVELS }
     requires few { first ≤ MAX_BLOCKS }
-    requires room { HasSpare place 0 (S.state s.old) }
-    ensures given { OnOk result (GivesParts place inode.now (IsFrom level first) (S.state s.old) (S.state s.new)) }
+    requires room { HasSpare geometry 0 (S.state s.old) }
+    ensures given { OnOk result (GivesParts geometry inode.now (IsFrom level first) (S.state s.old) (S.state s.new)) }
     ensures store { SameStore (S.state s.old) (S.state s.new) }
     ensures cause { HasCause (S.state s.old).disk (S.state s.new).disk result }
 {
     let own = own_count(level);
     let mut content = [0; BLOCK];
-    give_listed(s, place, inode, level, &content, first.min(own), own)?;
+    give_listed(s, geometry, inode, level, &content, first.min(own), own)?;
     for j in first.saturating_sub(own) / SECTOR_POINTERS..inode.number_end(level + 1) {
         let sector = read_pointers(s, inode, level + 1, j, &mut content)?;
         // Without it all its numbers are 0.
         if sector != 0 {
             let begin = own + SECTOR_POINTERS * j;
             let end = begin + SECTOR_POINTERS;
-            give_listed(s, place, inode, level, &content, first.max(begin), end)?;
+            give_listed(s, geometry, inode, level, &content, first.max(begin), end)?;
         }
     }
     Ok(())
@@ -95,20 +95,20 @@ fn give_level<S: Sectors>(
 /// still points to them.
 pub(crate) fn give_from<S: Sectors>(
     s: &mut S,
-    place: Place,
+    geometry: Geometry,
     inode: &Inode,
     first: u64,
 ) -> Result<(), DiskFault>
-    requires may { MayChange place (S.state s.old) inode.now }
+    requires may { MayChange geometry (S.state s.old) inode.now }
     requires few { first ≤ MAX_BLOCKS }
-    requires room { HasSpare place 0 (S.state s.old) }
-    ensures given { OnOk result (GivesParts place inode.now (IsFor first) (S.state s.old) (S.state s.new)) }
+    requires room { HasSpare geometry 0 (S.state s.old) }
+    ensures given { OnOk result (GivesParts geometry inode.now (IsFor first) (S.state s.old) (S.state s.new)) }
     ensures store { SameStore (S.state s.old) (S.state s.new) }
     ensures cause { HasCause (S.state s.old).disk (S.state s.new).disk result }
 {
     let mut from = first;
     for level in 0..POINTER_LEVELS + 1 {
-        give_level(s, place, inode, level, from)?;
+        give_level(s, geometry, inode, level, from)?;
         from = next_first(level, from);
     }
     Ok(())
@@ -119,24 +119,24 @@ pub(crate) fn give_from<S: Sectors>(
 /// At `Err` the caller drops the changes of the transaction; of `inode` nothing is said then.
 pub fn release_all<S: Sectors>(
     s: &mut S,
-    place: Place,
+    geometry: Geometry,
     n: u32,
     inode: &mut Inode,
 ) -> Result<(), DiskFault>
-    requires sound { IsSound place (S.state s.old) }
-    requires below { n < place.inodes }
-    requires inode { inode.old ≡ inode_at place (S.state s.old).sectors n }
+    requires sound { IsSound geometry (S.state s.old) }
+    requires below { n < geometry.inodes }
+    requires inode { inode.old ≡ inode_at geometry (S.state s.old).sectors n }
     requires kind { AllowsSize inode.old.kind 0 }
-    requires spare { HasSpare place 1 (S.state s.old) }
-    ensures change { OnOk result (ChangesContent place n 0 1 (S.state s.old) (S.state s.new) inode.old inode.new) }
+    requires spare { HasSpare geometry 1 (S.state s.old) }
+    ensures change { OnOk result (ChangesContent geometry n 0 1 (S.state s.old) (S.state s.new) inode.old inode.new) }
     ensures held { OnOk result (Holds (S.state s.new).sectors inode.new []) }
     ensures store { SameStore (S.state s.old) (S.state s.new) }
     ensures cause { HasCause (S.state s.old).disk (S.state s.new).disk result }
 {
-    give_from(s, place, inode, 0)?;
+    give_from(s, geometry, inode, 0)?;
     inode.size = 0;
     inode.direct = [0; DIRECT_BLOCKS as usize];
     inode.indirect = [0; POINTER_LEVELS];
-    write_inode(s, place, n, inode)?;
+    write_inode(s, geometry, n, inode)?;
     Ok(())
 }

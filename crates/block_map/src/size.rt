@@ -21,7 +21,7 @@ use crate::blocks::{BLOCK, Blocks, read_pointers};
 use crate::release::{give_from, next_first};
 use crate::steps::rewrite;
 use fs_layout::{
-    DIRECT_BLOCKS, DOUBLE_INDIRECT_END, INDIRECT_END, Inode, POINTER_LEVELS, Place,
+    DIRECT_BLOCKS, DOUBLE_INDIRECT_END, Geometry, INDIRECT_END, Inode, POINTER_LEVELS,
     SECTOR_POINTERS, own_count,
 };
 use inode_table::write_inode;
@@ -108,18 +108,18 @@ fn cut_level<S: Sectors>(
 // what a sector is found by isn't cut yet.
 fn drop_blocks<S: Sectors>(
     s: &mut S,
-    place: Place,
+    geometry: Geometry,
     inode: &mut Inode,
     first: u64,
 ) -> Result<(), DiskFault>
-    requires may { MayChange place (S.state s.old) inode.old }
+    requires may { MayChange geometry (S.state s.old) inode.old }
     requires few { first ≤ MAX_BLOCKS }
-    requires room { HasSpare place (cut_by first) (S.state s.old) }
-    ensures dropped { OnOk result (DropsBlocks place first (S.state s.old) (S.state s.new) inode.old inode.new) }
+    requires room { HasSpare geometry (cut_by first) (S.state s.old) }
+    ensures dropped { OnOk result (DropsBlocks geometry first (S.state s.old) (S.state s.new) inode.old inode.new) }
     ensures store { SameStore (S.state s.old) (S.state s.new) }
     ensures cause { HasCause (S.state s.old).disk (S.state s.new).disk result }
 {
-    give_from(s, place, inode, first)?;
+    give_from(s, geometry, inode, first)?;
     let mut from = first;
     for level in 0..POINTER_LEVELS {
         cut_level(s, inode, level, from)?;
@@ -132,16 +132,16 @@ fn drop_blocks<S: Sectors>(
 // Writes zeros over the bytes from `size` to the end of their block.
 fn clear_tail<S: Sectors>(
     s: &mut S,
-    place: Place,
+    geometry: Geometry,
     blocks: &Blocks,
     size: u64,
 ) -> Result<(), DiskFault>
-    requires may { MayChange place (S.state s.old) blocks.now.inode }
+    requires may { MayChange geometry (S.state s.old) blocks.now.inode }
     requires loaded { IsLoaded (S.state s.old).sectors blocks.now (size / 512) }
     requires less { size < blocks.now.inode.size }
     requires limit { blocks.now.inode.size ≤ MAX_FILE_SIZE }
-    requires room { HasSpare place 1 (S.state s.old) }
-    ensures cleared { OnOk result (ClearsTail place size (S.state s.old) (S.state s.new) blocks.now.inode) }
+    requires room { HasSpare geometry 1 (S.state s.old) }
+    ensures cleared { OnOk result (ClearsTail geometry size (S.state s.old) (S.state s.new) blocks.now.inode) }
     ensures store { SameStore (S.state s.old) (S.state s.new) }
     ensures cause { HasCause (S.state s.old).disk (S.state s.new).disk result }
 {
@@ -161,15 +161,15 @@ fn clear_tail<S: Sectors>(
 // Gives the inode, which isn't saved, another size.
 fn resize<S: Sectors>(
     s: &mut S,
-    place: Place,
+    geometry: Geometry,
     inode: &mut Inode,
     size: u64,
 ) -> Result<(), DiskFault>
-    requires may { MayChange place (S.state s.old) inode.old }
+    requires may { MayChange geometry (S.state s.old) inode.old }
     requires kind { AllowsSize inode.old.kind size }
     requires limit { (size ≤ MAX_FILE_SIZE) × (inode.old.size ≤ MAX_FILE_SIZE) }
-    requires room { HasSpare place (1 + cut_by (blocks_to size)) (S.state s.old) }
-    ensures resized { OnOk result (Resizes place size (S.state s.old) (S.state s.new) inode.old inode.new) }
+    requires room { HasSpare geometry (1 + cut_by (blocks_to size)) (S.state s.old) }
+    ensures resized { OnOk result (Resizes geometry size (S.state s.old) (S.state s.new) inode.old inode.new) }
     ensures store { SameStore (S.state s.old) (S.state s.new) }
     ensures cause { HasCause (S.state s.old).disk (S.state s.new).disk result }
 {
@@ -179,14 +179,14 @@ fn resize<S: Sectors>(
     }
     let mut blocks = Blocks::new(inode);
     blocks.load(s, size / BLOCK as u64)?;
-    clear_tail(s, place, &blocks, size)?;
+    clear_tail(s, geometry, &blocks, size)?;
     let end = size.div_ceil(BLOCK as u64);
     // Past its size an inode has no block: where the last one stays, there is none to drop.
     if inode.size <= end * BLOCK as u64 {
         inode.size = size;
         return Ok(());
     }
-    drop_blocks(s, place, &mut blocks.inode, end)?;
+    drop_blocks(s, geometry, &mut blocks.inode, end)?;
     blocks.inode.size = size;
     *inode = blocks.inode;
     Ok(())
@@ -198,32 +198,32 @@ fn resize<S: Sectors>(
 /// At `Err` the caller drops the changes of the transaction; of `inode` nothing is said then.
 pub fn set_size<S: Sectors>(
     s: &mut S,
-    place: Place,
+    geometry: Geometry,
     n: u32,
     inode: &mut Inode,
     size: u64,
 ) -> Result<(), MapFault>
-    requires sound { IsSound place (S.state s.old) }
-    requires below { n < place.inodes }
-    requires inode { inode.old ≡ inode_at place (S.state s.old).sectors n }
+    requires sound { IsSound geometry (S.state s.old) }
+    requires below { n < geometry.inodes }
+    requires inode { inode.old ≡ inode_at geometry (S.state s.old).sectors n }
     requires kind { AllowsSize inode.old.kind size }
-    requires spare { HasSpare place (put_to size) (S.state s.old) }
-    ensures change { OnOk result (ChangesContent place n 0 (put_to size) (S.state s.old) (S.state s.new) inode.old inode.new) }
+    requires spare { HasSpare geometry (put_to size) (S.state s.old) }
+    ensures change { OnOk result (ChangesContent geometry n 0 (put_to size) (S.state s.old) (S.state s.new) inode.old inode.new) }
     ensures held { OnOk result ((held : List ℕ) → Holds (S.state s.old).sectors inode.old held
         → Holds (S.state s.new).sectors inode.new (resized held size)) }
     // A cut makes no hole.
     ensures whole { OnOk result (HasNoHole (S.state s.old).sectors inode.old → size ≤ inode.old.size
         → HasNoHole (S.state s.new).sectors inode.new) }
-    ensures too_big { (result ≡ Err MapFault.TooBig) ↔ (max_file_size place.version < size) }
-    ensures untouched { max_file_size place.version < size → IsUnchanged (S.state s.old) (S.state s.new) }
+    ensures too_big { (result ≡ Err MapFault.TooBig) ↔ (max_file_size geometry.version < size) }
+    ensures untouched { max_file_size geometry.version < size → IsUnchanged (S.state s.old) (S.state s.new) }
     ensures never_full { result ≢ Err MapFault.Full }
     ensures store { SameStore (S.state s.old) (S.state s.new) }
     ensures cause { HasCauseOf MapFault.DiskFault (S.state s.old).disk (S.state s.new).disk result }
 {
-    if size > place.max_file_size() {
+    if size > geometry.max_file_size() {
         return Err(MapFault::TooBig);
     }
-    resize(s, place, inode, size)?;
-    write_inode(s, place, n, inode)?;
+    resize(s, geometry, inode, size)?;
+    write_inode(s, geometry, n, inode)?;
     Ok(())
 }

@@ -17,7 +17,7 @@ ghost use Rattle.block_map.specs.Steps.{MayChange, IsStepSector, HasRoomFor, Wri
 use crate::MapFault;
 use crate::blocks::{BLOCK, Blocks};
 use bit_alloc::{Bitmap, TakeFault, take};
-use fs_layout::{DIRECT_BLOCKS, Place};
+use fs_layout::{DIRECT_BLOCKS, Geometry};
 use sector_disk::DiskFault;
 use sector_txn::Sectors;
 
@@ -53,23 +53,23 @@ pub(crate) fn rewrite<S: Sectors>(
 /// Takes a sector, sought near this number, and writes this into it.
 pub(crate) fn take_sector<S: Sectors>(
     s: &mut S,
-    place: Place,
+    geometry: Geometry,
     near: u32,
     content: &[u8; 512],
 ) -> Result<u32, TakeFault>
-    requires bitmaps { HasBitmaps place (S.state s.old) }
-    requires room { HasSpare place 1 (S.state s.old) }
+    requires bitmaps { HasBitmaps geometry (S.state s.old) }
+    requires room { HasSpare geometry 1 (S.state s.old) }
     ensures taken { IfOk result (λ n. (bits : SectorMap)
-        × Allocates place n content.now (S.state s.old).sectors bits (S.state s.new).sectors) }
-    ensures free { OnOk result (free_sectors place (S.state s.old).sectors ≡ free_sectors place (S.state s.new).sectors + 1) }
+        × Allocates geometry n content.now (S.state s.old).sectors bits (S.state s.new).sectors) }
+    ensures free { OnOk result (free_sectors geometry (S.state s.old).sectors ≡ free_sectors geometry (S.state s.new).sectors + 1) }
     ensures has { IfOk result (λ n. (S.state s.new).has_put n ≡ true) }
-    ensures puts { OnOk result (PutsOnly (IsStepSector place) (bitmaps place) 1 (S.state s.old) (S.state s.new)) }
-    ensures bitmaps { OnOk result (HasBitmaps place (S.state s.new)) }
-    ensures full { IfErr result (λ e. e ≡ TakeFault.Full → free_sectors place (S.state s.old).sectors ≡ 0) }
+    ensures puts { OnOk result (PutsOnly (IsStepSector geometry) (bitmaps geometry) 1 (S.state s.old) (S.state s.new)) }
+    ensures bitmaps { OnOk result (HasBitmaps geometry (S.state s.new)) }
+    ensures full { IfErr result (λ e. e ≡ TakeFault.Full → free_sectors geometry (S.state s.old).sectors ≡ 0) }
     ensures store { SameStore (S.state s.old) (S.state s.new) }
     ensures cause { HasCauseOf TakeFault.DiskFault (S.state s.old).disk (S.state s.new).disk result }
 {
-    let number = take(s, place, Bitmap::Blocks, near)?;
+    let number = take(s, geometry, Bitmap::Blocks, near)?;
     s.put(number, content);
     Ok(number)
 }
@@ -77,54 +77,54 @@ pub(crate) fn take_sector<S: Sectors>(
 // Takes a sector, sought near this number, and writes bytes into it, from `at` on, with zeros before and after them.
 fn take_block<S: Sectors>(
     s: &mut S,
-    place: Place,
+    geometry: Geometry,
     near: u32,
     at: usize,
     bytes: &[u8],
 ) -> Result<u32, TakeFault>
-    requires bitmaps { HasBitmaps place (S.state s.old) }
+    requires bitmaps { HasBitmaps geometry (S.state s.old) }
     requires fits { at + length bytes.now ≤ 512 }
-    requires room { HasSpare place 1 (S.state s.old) }
+    requires room { HasSpare geometry 1 (S.state s.old) }
     ensures taken { IfOk result (λ n. (bits : SectorMap)
-        × Allocates place n (splice (zeros 512) at bytes.now) (S.state s.old).sectors bits (S.state s.new).sectors) }
-    ensures free { OnOk result (free_sectors place (S.state s.old).sectors ≡ free_sectors place (S.state s.new).sectors + 1) }
+        × Allocates geometry n (splice (zeros 512) at bytes.now) (S.state s.old).sectors bits (S.state s.new).sectors) }
+    ensures free { OnOk result (free_sectors geometry (S.state s.old).sectors ≡ free_sectors geometry (S.state s.new).sectors + 1) }
     ensures has { IfOk result (λ n. (S.state s.new).has_put n ≡ true) }
-    ensures puts { OnOk result (PutsOnly (IsStepSector place) (bitmaps place) 1 (S.state s.old) (S.state s.new)) }
-    ensures bitmaps { OnOk result (HasBitmaps place (S.state s.new)) }
-    ensures full { IfErr result (λ e. e ≡ TakeFault.Full → free_sectors place (S.state s.old).sectors ≡ 0) }
+    ensures puts { OnOk result (PutsOnly (IsStepSector geometry) (bitmaps geometry) 1 (S.state s.old) (S.state s.new)) }
+    ensures bitmaps { OnOk result (HasBitmaps geometry (S.state s.new)) }
+    ensures full { IfErr result (λ e. e ≡ TakeFault.Full → free_sectors geometry (S.state s.old).sectors ≡ 0) }
     ensures store { SameStore (S.state s.old) (S.state s.new) }
     ensures cause { HasCauseOf TakeFault.DiskFault (S.state s.old).disk (S.state s.new).disk result }
 {
     // A whole block is written from its place.
     if let Some(whole) = bytes.as_array() {
-        let number = take_sector(s, place, near, whole)?;
+        let number = take_sector(s, geometry, near, whole)?;
         return Ok(number);
     }
     let mut content = [0; BLOCK];
     (&mut content[at..at + bytes.len()]).copy_from_slice(bytes);
-    let number = take_sector(s, place, near, &content)?;
+    let number = take_sector(s, geometry, near, &content)?;
     Ok(number)
 }
 
 // Writes bytes into block k, from `at` on, where its sector of pointers is at hand. A hole takes a sector.
 fn write_loaded<S: Sectors>(
     s: &mut S,
-    place: Place,
+    geometry: Geometry,
     blocks: &mut Blocks,
     k: u64,
     at: usize,
     bytes: &[u8],
 ) -> Result<(), MapFault>
-    requires may { MayChange place (S.state s.old) blocks.old.inode }
+    requires may { MayChange geometry (S.state s.old) blocks.old.inode }
     requires loaded { IsLoaded (S.state s.old).sectors blocks.old k }
     requires pointers { DIRECT_BLOCKS ≤ k → number_on (S.state s.old).sectors blocks.old.inode 1 (holder DIRECT_BLOCKS k) ≢ 0 }
     requires fits { (at + length bytes.now ≤ 512) × (512 * k + at + length bytes.now ≤ blocks.old.inode.size) }
     requires inside { 512 * k < blocks.old.inode.size }
-    requires room { HasRoomFor place (pointers_to (S.state s.old).sectors blocks.old.inode k) 1 (S.state s.old) }
-    ensures written { OnOk result (WritesBlock place k at bytes.now (S.state s.old) (S.state s.new) blocks.old.inode blocks.new.inode) }
+    requires room { HasRoomFor geometry (pointers_to (S.state s.old).sectors blocks.old.inode k) 1 (S.state s.old) }
+    ensures written { OnOk result (WritesBlock geometry k at bytes.now (S.state s.old) (S.state s.new) blocks.old.inode blocks.new.inode) }
     ensures at_hand { OnOk result (IsAtHand (S.state s.new).sectors blocks.new) }
     ensures full { result ≡ Err MapFault.Full
-        → (pointer (S.state s.old).sectors blocks.old.inode k ≡ 0) × (free_sectors place (S.state s.old).sectors ≡ 0) }
+        → (pointer (S.state s.old).sectors blocks.old.inode k ≡ 0) × (free_sectors geometry (S.state s.old).sectors ≡ 0) }
     ensures small { result ≢ Err MapFault.TooBig }
     ensures store { SameStore (S.state s.old) (S.state s.new) }
     ensures cause { HasCauseOf MapFault.DiskFault (S.state s.old).disk (S.state s.new).disk result }
@@ -134,7 +134,7 @@ fn write_loaded<S: Sectors>(
         rewrite(s, number, at, bytes)?;
         return Ok(());
     }
-    let number = take_block(s, place, blocks.near, at, bytes)?;
+    let number = take_block(s, geometry, blocks.near, at, bytes)?;
     blocks.near = number;
     if k < DIRECT_BLOCKS {
         blocks.inode.direct[k as usize] = number;
@@ -147,27 +147,27 @@ fn write_loaded<S: Sectors>(
 /// Writes bytes into block k, from `at` on. A hole takes a sector.
 pub(crate) fn write_block<S: Sectors>(
     s: &mut S,
-    place: Place,
+    geometry: Geometry,
     blocks: &mut Blocks,
     k: u64,
     at: usize,
     bytes: &[u8],
 ) -> Result<(), MapFault>
-    requires may { MayChange place (S.state s.old) blocks.old.inode }
+    requires may { MayChange geometry (S.state s.old) blocks.old.inode }
     requires at_hand { IsAtHand (S.state s.old).sectors blocks.old }
     requires pointers { DIRECT_BLOCKS ≤ k → number_on (S.state s.old).sectors blocks.old.inode 1 (holder DIRECT_BLOCKS k) ≢ 0 }
     requires fits { (at + length bytes.now ≤ 512) × (512 * k + at + length bytes.now ≤ blocks.old.inode.size) }
     requires inside { 512 * k < blocks.old.inode.size }
-    requires room { HasRoomFor place (pointers_to (S.state s.old).sectors blocks.old.inode k) 1 (S.state s.old) }
-    ensures written { OnOk result (WritesBlock place k at bytes.now (S.state s.old) (S.state s.new) blocks.old.inode blocks.new.inode) }
+    requires room { HasRoomFor geometry (pointers_to (S.state s.old).sectors blocks.old.inode k) 1 (S.state s.old) }
+    ensures written { OnOk result (WritesBlock geometry k at bytes.now (S.state s.old) (S.state s.new) blocks.old.inode blocks.new.inode) }
     ensures at_hand { OnOk result (IsAtHand (S.state s.new).sectors blocks.new) }
     ensures full { result ≡ Err MapFault.Full
-        → (pointer (S.state s.old).sectors blocks.old.inode k ≡ 0) × (free_sectors place (S.state s.old).sectors ≡ 0) }
+        → (pointer (S.state s.old).sectors blocks.old.inode k ≡ 0) × (free_sectors geometry (S.state s.old).sectors ≡ 0) }
     ensures small { result ≢ Err MapFault.TooBig }
     ensures store { SameStore (S.state s.old) (S.state s.new) }
     ensures cause { HasCauseOf MapFault.DiskFault (S.state s.old).disk (S.state s.new).disk result }
 {
     blocks.load(s, k)?;
-    write_loaded(s, place, blocks, k, at, bytes)?;
+    write_loaded(s, geometry, blocks, k, at, bytes)?;
     Ok(())
 }

@@ -19,7 +19,7 @@ use crate::MapFault;
 use crate::blocks::{BLOCK, Blocks};
 use crate::pointers::add_pointers;
 use crate::steps::{rewrite, write_block};
-use fs_layout::{Inode, Place};
+use fs_layout::{Geometry, Inode};
 use inode_table::write_inode;
 use sector_disk::DiskFault;
 use sector_txn::Sectors;
@@ -27,31 +27,31 @@ use sector_txn::Sectors;
 /// Writes bytes within the size of an inode, which isn't saved.
 pub(crate) fn write_blocks<S: Sectors>(
     s: &mut S,
-    place: Place,
+    geometry: Geometry,
     blocks: &mut Blocks,
     offset: u64,
     bytes: &[u8],
 ) -> Result<(), MapFault>
-    requires may { MayChange place (S.state s.old) blocks.old.inode }
+    requires may { MayChange geometry (S.state s.old) blocks.old.inode }
     requires at_hand { IsAtHand (S.state s.old).sectors blocks.old }
     requires inside { (offset + length bytes.now ≤ blocks.old.inode.size) × (blocks.old.inode.size ≤ MAX_FILE_SIZE) }
-    requires room { HasSpare place (blocks_to (offset + length bytes.now) - offset / 512
+    requires room { HasSpare geometry (blocks_to (offset + length bytes.now) - offset / 512
         + pointer_sectors (offset / 512) (blocks_to (offset + length bytes.now))) (S.state s.old) }
-    ensures written { OnOk result (WritesBlocks place offset bytes.now (S.state s.old) (S.state s.new) blocks.old.inode blocks.new.inode) }
+    ensures written { OnOk result (WritesBlocks geometry offset bytes.now (S.state s.old) (S.state s.new) blocks.old.inode blocks.new.inode) }
     ensures full { result ≡ Err MapFault.Full
-        → free_sectors place (S.state s.old).sectors < taken_by (S.state s.old).sectors blocks.old.inode offset (length bytes.now) }
+        → free_sectors geometry (S.state s.old).sectors < taken_by (S.state s.old).sectors blocks.old.inode offset (length bytes.now) }
     ensures small { result ≢ Err MapFault.TooBig }
     ensures store { SameStore (S.state s.old) (S.state s.new) }
     ensures cause { HasCauseOf MapFault.DiskFault (S.state s.old).disk (S.state s.new).disk result }
 {
     let end = (offset + bytes.len() as u64).div_ceil(BLOCK as u64);
-    add_pointers(s, place, blocks, offset / BLOCK as u64, end)?;
+    add_pointers(s, geometry, blocks, offset / BLOCK as u64, end)?;
     for k in offset / BLOCK as u64..end {
         let begin = k * BLOCK as u64;
         let at = offset.saturating_sub(begin) as usize;
         let done = begin.saturating_sub(offset) as usize;
         let len = (BLOCK - at).min(bytes.len() - done);
-        write_block(s, place, blocks, k, at, &bytes[done..done + len])?;
+        write_block(s, geometry, blocks, k, at, &bytes[done..done + len])?;
     }
     Ok(())
 }
@@ -62,42 +62,42 @@ pub(crate) fn write_blocks<S: Sectors>(
 /// At `Err` the caller drops the changes of the transaction; of `inode` nothing is said then.
 pub fn write_at<S: Sectors>(
     s: &mut S,
-    place: Place,
+    geometry: Geometry,
     n: u32,
     inode: &mut Inode,
     offset: u64,
     bytes: &[u8],
 ) -> Result<(), MapFault>
-    requires sound { IsSound place (S.state s.old) }
-    requires below { n < place.inodes }
-    requires inode { inode.old ≡ inode_at place (S.state s.old).sectors n }
+    requires sound { IsSound geometry (S.state s.old) }
+    requires below { n < geometry.inodes }
+    requires inode { inode.old ≡ inode_at geometry (S.state s.old).sectors n }
     requires size { AllowsSize inode.old.kind (max inode.old.size (offset + length bytes.now)) }
     requires few { length bytes.now ≤ 4096 }
-    requires spare { HasSpare place (put_by offset (length bytes.now)) (S.state s.old) }
-    ensures change { OnOk result (ChangesContent place n (taken_by (S.state s.old).sectors inode.old offset (length bytes.now))
+    requires spare { HasSpare geometry (put_by offset (length bytes.now)) (S.state s.old) }
+    ensures change { OnOk result (ChangesContent geometry n (taken_by (S.state s.old).sectors inode.old offset (length bytes.now))
         (put_by offset (length bytes.now)) (S.state s.old) (S.state s.new) inode.old inode.new) }
     ensures held { OnOk result ((held : List ℕ) → Holds (S.state s.old).sectors inode.old held
         → Holds (S.state s.new).sectors inode.new (overwritten held offset bytes.now)) }
     // No hole is made but before the bytes.
     ensures whole { OnOk result (HasNoHole (S.state s.old).sectors inode.old → offset ≤ inode.old.size
         → HasNoHole (S.state s.new).sectors inode.new) }
-    ensures too_big { (result ≡ Err MapFault.TooBig) ↔ (max_file_size place.version < offset + length bytes.now) }
-    ensures untouched { max_file_size place.version < offset + length bytes.now → IsUnchanged (S.state s.old) (S.state s.new) }
+    ensures too_big { (result ≡ Err MapFault.TooBig) ↔ (max_file_size geometry.version < offset + length bytes.now) }
+    ensures untouched { max_file_size geometry.version < offset + length bytes.now → IsUnchanged (S.state s.old) (S.state s.new) }
     ensures full { result ≡ Err MapFault.Full
-        → (free_sectors place (S.state s.old).sectors < taken_by (S.state s.old).sectors inode.old offset (length bytes.now))
+        → (free_sectors geometry (S.state s.old).sectors < taken_by (S.state s.old).sectors inode.old offset (length bytes.now))
         × (taken_by (S.state s.old).sectors inode.old offset (length bytes.now) ≤ 14) }
     ensures taken { OnOk result (taken_by (S.state s.old).sectors inode.old offset (length bytes.now) ≤ 14) }
     ensures store { SameStore (S.state s.old) (S.state s.new) }
     ensures cause { HasCauseOf MapFault.DiskFault (S.state s.old).disk (S.state s.new).disk result }
 {
-    if offset > place.max_file_size() - bytes.len() as u64 {
+    if offset > geometry.max_file_size() - bytes.len() as u64 {
         return Err(MapFault::TooBig);
     }
     let end = offset + bytes.len() as u64;
     let mut blocks = Blocks::new(inode);
     blocks.inode.size = inode.size.max(end);
-    write_blocks(s, place, &mut blocks, offset, bytes)?;
-    write_inode(s, place, n, &blocks.inode)?;
+    write_blocks(s, geometry, &mut blocks, offset, bytes)?;
+    write_inode(s, geometry, n, &blocks.inode)?;
     *inode = blocks.inode;
     Ok(())
 }
@@ -107,21 +107,21 @@ pub fn write_at<S: Sectors>(
 /// At `Err` the caller drops the changes of the transaction.
 pub fn overwrite<S: Sectors>(
     s: &mut S,
-    place: Place,
+    geometry: Geometry,
     n: u32,
     inode: &Inode,
     offset: u64,
     bytes: &[u8],
 ) -> Result<(), DiskFault>
-    requires sound { IsSound place (S.state s.old) }
-    requires below { n < place.inodes }
-    requires inode { inode.now ≡ inode_at place (S.state s.old).sectors n }
+    requires sound { IsSound geometry (S.state s.old) }
+    requires below { n < geometry.inodes }
+    requires inode { inode.now ≡ inode_at geometry (S.state s.old).sectors n }
     requires used { inode.now.kind ≢ Free }
     requires inside { offset + length bytes.now ≤ inode.now.size }
     requires one_block { offset % 512 + length bytes.now ≤ 512 }
     requires no_hole { pointer (S.state s.old).sectors inode.now (offset / 512) ≢ 0 }
-    requires spare { HasSpare place 1 (S.state s.old) }
-    ensures change { OnOk result (ChangesContent place n 0 1 (S.state s.old) (S.state s.new) inode.now inode.now) }
+    requires spare { HasSpare geometry 1 (S.state s.old) }
+    ensures change { OnOk result (ChangesContent geometry n 0 1 (S.state s.old) (S.state s.new) inode.now inode.now) }
     ensures held { OnOk result ((held : List ℕ) → Holds (S.state s.old).sectors inode.now held
         → Holds (S.state s.new).sectors inode.now (splice held offset bytes.now)) }
     ensures whole { OnOk result (HasNoHole (S.state s.old).sectors inode.now → HasNoHole (S.state s.new).sectors inode.now) }

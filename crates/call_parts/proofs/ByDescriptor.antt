@@ -23,7 +23,7 @@ use Rattle.fs_cred.specs.declared.refusal.Refusal.{Refusal}
 use Rattle.fs_cred.specs.declared.refusal.Refusal.TheVariants.{Failed}
 use Rattle.fs_layout.specs.declared.inode.Inode.{Inode}
 use Rattle.fs_layout.specs.declared.inode.Kind.TheVariants as kinds
-use Rattle.fs_layout.specs.declared.place.Place.{Place}
+use Rattle.fs_layout.specs.declared.geometry.Geometry.{Geometry}
 use Rattle.fs_layout.specs.Bytes.{SectorMap}
 use Rattle.fs_layout.specs.Images.{inode_at}
 use Rattle.fs_layout.specs.Maps.{get, with_entry, without, IsMap}
@@ -37,7 +37,7 @@ use Rattle.fs_model.specs.declared.reply.Reply.{Reply}
 use Rattle.fs_model.specs.declared.touch.Touch.{Touch}
 use Rattle.fs_model.specs.TreeChanges.{Same}
 use Rattle.fs_model.specs.Demands.{Demand, refuse, first_of}
-use Rattle.fs_model.specs.Processes.{Descriptor, Process, Desks, descriptor, the_descriptor, no_descriptor, with_offset, is_open}
+use Rattle.fs_model.specs.Processes.{Descriptor, Process, ProcessTable, descriptor, the_descriptor, no_descriptor, with_offset, is_open}
 use Rattle.fs_model.specs.Births.{the_node}
 use Rattle.fs_model.specs.Nodes.{Node, is_directory}
 use Rattle.fs_model.specs.Rules.{is_directory_kind}
@@ -80,30 +80,30 @@ none_if_err : (o : Option Descriptor) (e errno : Errno) → ok_or o e ≡ Err er
 none_if_err None e errno h = (refl, cc)
 none_if_err (Some x) e errno h = absurd (cc)
 
-pub opened : (desks : Desks) (pid fd : ℕ) (d : Descriptor) → open_in desks pid fd ≡ Ok d → IsOpened desks pid fd d
-opened desks pid fd d e = go (get nat_cmp desks pid) refl e
+pub opened : (processes : ProcessTable) (pid fd : ℕ) (d : Descriptor) → open_in processes pid fd ≡ Ok d → IsOpened processes pid fd d
+opened processes pid fd d e = go (get nat_cmp processes pid) refl e
   where
-    go : (o : Option Process) → get nat_cmp desks pid ≡ o → answer_of_found (open_at fd) o ≡ Ok d → IsOpened desks pid fd d
+    go : (o : Option Process) → get nat_cmp processes pid ≡ o → answer_of_found (open_at fd) o ≡ Ok d → IsOpened processes pid fd d
     go None at e = absurd (cc)
     go (Some q) at e = record { process = q; there = at; at = some_if_ok (descriptor q fd) EBADF d e }
 
-pub opened_ok : {desks : Desks} {pid fd : ℕ} {d : Descriptor} → IsOpened desks pid fd d → IsOk (open_in desks pid fd)
-opened_ok {desks} {pid} {fd} o =
+pub opened_ok : {processes : ProcessTable} {pid fd : ℕ} {d : Descriptor} → IsOpened processes pid fd d → IsOk (open_in processes pid fd)
+opened_ok {processes} {pid} {fd} o =
     subst (λ (x : Option Process). IsOk (answer_of_found (open_at fd) x)) (sym o.there) (subst (λ (x : Option Descriptor). IsOk (ok_or x EBADF)) (sym o.at) refl)
 
 -- under another name
-pub open_as : {desks : Desks} {pid fd : ℕ} {purpose : OpenFor} {d e : Descriptor} → e ≡ d → IsOpenFor desks pid fd purpose d → IsOpenFor desks pid fd purpose e
-open_as {desks} {pid} {fd} {purpose} same o = subst (IsOpenFor desks pid fd purpose) (sym same) o
+pub open_as : {processes : ProcessTable} {pid fd : ℕ} {purpose : OpenFor} {d e : Descriptor} → e ≡ d → IsOpenFor processes pid fd purpose d → IsOpenFor processes pid fd purpose e
+open_as {processes} {pid} {fd} {purpose} same o = subst (IsOpenFor processes pid fd purpose) (sym same) o
 
-pub reached_as : {p : Place} {txn : TxnState} {desks : Desks} {pid fd : ℕ} {purpose : OpenFor} {d e : Descriptor} {v : Inode} → e ≡ d
-    → HasOpened p txn desks pid fd purpose d v → HasOpened p txn desks pid fd purpose e v
-reached_as {p} {txn} {desks} {pid} {fd} {purpose} {v = v} same o = subst (λ (x : Descriptor). HasOpened p txn desks pid fd purpose x v) (sym same) o
+pub reached_as : {p : Geometry} {txn : TxnState} {processes : ProcessTable} {pid fd : ℕ} {purpose : OpenFor} {d e : Descriptor} {v : Inode} → e ≡ d
+    → HasOpened p txn processes pid fd purpose d v → HasOpened p txn processes pid fd purpose e v
+reached_as {p} {txn} {processes} {pid} {fd} {purpose} {v = v} same o = subst (λ (x : Descriptor). HasOpened p txn processes pid fd purpose x v) (sym same) o
 
-pub the_opened : {desks : Desks} {pid fd : ℕ} {d : Descriptor} → (o : IsOpened desks pid fd d) → the_descriptor o.process fd ≡ d
+pub the_opened : {processes : ProcessTable} {pid fd : ℕ} {d : Descriptor} → (o : IsOpened processes pid fd d) → the_descriptor o.process fd ≡ d
 the_opened o = ap (λ (x : Option Descriptor). unwrap_or x no_descriptor) o.at
 
 -- in a state it is there
-module _ {p : Place} {map : SectorMap} {desks : Desks} {pid fd : ℕ} {d : Descriptor} (o : IsOpened desks pid fd d) (s : State) (at : IsStateOf p map desks s) where
+module _ {p : Geometry} {map : SectorMap} {processes : ProcessTable} {pid fd : ℕ} {d : Descriptor} (o : IsOpened processes pid fd d) (s : State) (at : IsStateOf p map processes s) where
   pub open_fits : IsDescriptor s.tree fd d
   open_fits = (state_process at pid o.process o.there).each fd d o.at
 
@@ -123,15 +123,15 @@ module _ {p : Place} {map : SectorMap} {desks : Desks} {pid fd : ℕ} {d : Descr
       ∙ ap (λ (w : Inode). is_directory_kind w.kind) (sym is)
 
 -- the inode of what was reached is used
-pub open_used : {p : Place} {txn : TxnState} {desks : Desks} {pid fd : ℕ} {purpose : OpenFor} {d : Descriptor} {v : Inode}
-    → HasOpened p txn desks pid fd purpose d v → v.kind ≢ kinds.Free
+pub open_used : {p : Geometry} {txn : TxnState} {processes : ProcessTable} {pid fd : ℕ} {purpose : OpenFor} {d : Descriptor} {v : Inode}
+    → HasOpened p txn processes pid fd purpose d v → v.kind ≢ kinds.Free
 open_used {d = d} x =
     let at = x.ready.is_state in
     subst (λ (u : Inode). u.kind ≢ kinds.Free) (sym x.inode) (is_used (state_tree at) d.number (open_there x.is_open.opened x.ready.state at))
 
 -- ---- a row
 
-pub absent_firm : (s : State) (pid : ℕ) (call : Call) → get nat_cmp s.desks pid ≡ None → firm_refusal s (Calls pid call) ≡ Some (Failed ESRCH)
+pub absent_firm : (s : State) (pid : ℕ) (call : Call) → get nat_cmp s.processes pid ≡ None → firm_refusal s (Calls pid call) ≡ Some (Failed ESRCH)
 unfolding firm_refusal
 absent_firm s pid call e = rw e refl
 
@@ -146,7 +146,7 @@ bad_open Reading fd q d at = ap (λ (o : Option Descriptor). refuse EBADF (not (
 bad_open Writing fd q d at = ap (λ (o : Option Descriptor). refuse EBADF (not (unwrap_or o no_descriptor).write)) at
 
 module _ (s : State) (pid : ℕ) (q : Process) {call : Call} {fd : ℕ} {purpose : OpenFor} {demands : Scene → List Demand} {effect : Scene → Effect}
-    (is : ActsOn call fd purpose demands effect) (there : get nat_cmp s.desks pid ≡ Some q) where
+    (is : ActsOn call fd purpose demands effect) (there : get nat_cmp s.processes pid ≡ Some q) where
   open_firm : firm_refusal s (Calls pid call) ≡ bad_for purpose fd q
   open_firm = early_is s pid q call there ∙ ap (early_refusal q) is.row ∙ or_else-none (bad_for purpose fd q)
 
@@ -180,9 +180,9 @@ abbrev pub has_open : ℕ → Process → Bool
 has_open n q = list_any (λ d. d.1.number == n) q.descriptors
 
 -- what a process that changes still has open, is still open
-pub still_open : (desks : Desks) (pid : ℕ) (q r : Process) → IsMap nat_cmp desks → get nat_cmp desks pid ≡ Some q → (n : ℕ) → has_open n r ≡ has_open n q
-    → is_open (with_entry nat_cmp desks pid r) n ≡ is_open desks n
-still_open desks pid q r h there n same = any_kept (has_open n) desks pid q r h there same
+pub still_open : (processes : ProcessTable) (pid : ℕ) (q r : Process) → IsMap nat_cmp processes → get nat_cmp processes pid ≡ Some q → (n : ℕ) → has_open n r ≡ has_open n q
+    → is_open (with_entry nat_cmp processes pid r) n ≡ is_open processes n
+still_open processes pid q r h there n same = any_kept (has_open n) processes pid q r h there same
 
 offset_keeps : (q : Process) (fd offset : ℕ) (d : Descriptor) → IsMap nat_cmp q.descriptors → descriptor q fd ≡ Some d → (n : ℕ)
     → has_open n (with_offset q fd offset) ≡ has_open n q
@@ -190,35 +190,35 @@ offset_keeps q fd offset d h at n =
     any_kept (λ (x : Descriptor). x.number == n) q.descriptors fd d (record (the_descriptor q fd) { offset = offset }) h at
     (ap (λ (x : Option Descriptor). (unwrap_or x no_descriptor).number == n) at)
 
-pub offset_stays_open : {desks : Desks} {pid fd : ℕ} {d : Descriptor} → (o : IsOpened desks pid fd d) → IsTable desks → (offset n : ℕ)
+pub offset_stays_open : {processes : ProcessTable} {pid fd : ℕ} {d : Descriptor} → (o : IsOpened processes pid fd d) → IsTable processes → (offset n : ℕ)
     → has_open n (with_offset o.process fd offset) ≡ has_open n o.process
-offset_stays_open {desks} {pid} {fd} {d} o table offset n =
+offset_stays_open {processes} {pid} {fd} {d} o table offset n =
     offset_keeps o.process fd offset d (table.each pid o.process o.there).descriptors.rising o.at n
 
-pub changed_there : (desks : Desks) (pid : ℕ) (q : Process) (f : Process → Process) → get nat_cmp desks pid ≡ Some q
-    → with_changed desks pid f ≡ with_entry nat_cmp desks pid (f q)
-changed_there desks pid q f there = ap (changed_where desks pid f) there
+pub changed_there : (processes : ProcessTable) (pid : ℕ) (q : Process) (f : Process → Process) → get nat_cmp processes pid ≡ Some q
+    → with_changed processes pid f ≡ with_entry nat_cmp processes pid (f q)
+changed_there processes pid q f there = ap (changed_where processes pid f) there
 
 -- where one process changes and keeps open what it had
-pub still_now : {p : Place} {map : SectorMap} {desks : Desks} {pid fd : ℕ} {d : Descriptor} (o : IsOpened desks pid fd d) (s : State) → IsStateOf p map desks s → (now : Desks)
-    (f : Process → Process) → now ≡ with_changed desks pid f → ((n : ℕ) → has_open n (f o.process) ≡ has_open n o.process)
-    → (n : ℕ) → IsTrue (is_open s.desks n) → IsTrue (is_open now n)
-still_now {p} {map} {desks} {pid} {fd} {d} o s at now f is_now keeps n was =
+pub still_now : {p : Geometry} {map : SectorMap} {processes : ProcessTable} {pid fd : ℕ} {d : Descriptor} (o : IsOpened processes pid fd d) (s : State) → IsStateOf p map processes s → (now : ProcessTable)
+    (f : Process → Process) → now ≡ with_changed processes pid f → ((n : ℕ) → has_open n (f o.process) ≡ has_open n o.process)
+    → (n : ℕ) → IsTrue (is_open s.processes n) → IsTrue (is_open now n)
+still_now {p} {map} {processes} {pid} {fd} {d} o s at now f is_now keeps n was =
     let here = same_process at pid o.process o.there in
-    ap (λ (x : Desks). is_open x n) (is_now ∙ changed_there desks pid o.process f o.there ∙ ap (λ (x : Desks). with_entry nat_cmp x pid (f o.process)) (sym at.same_desks))
-    ∙ still_open s.desks pid o.process (f o.process) at.is_state.pids here n (keeps n) ∙ was
+    ap (λ (x : ProcessTable). is_open x n) (is_now ∙ changed_there processes pid o.process f o.there ∙ ap (λ (x : ProcessTable). with_entry nat_cmp x pid (f o.process)) (sym at.same_processes))
+    ∙ still_open s.processes pid o.process (f o.process) at.is_state.pids here n (keeps n) ∙ was
 
 -- ---- each call that acts so is refused
 
-module _ (s : State) (pid fd : ℕ) (purpose : OpenFor) {desks : Desks} (same : s.desks ≡ desks) where
-  here_too : {o : Option Process} → get nat_cmp desks pid ≡ o → get nat_cmp s.desks pid ≡ o
-  here_too at = ap (λ (d : Desks). get nat_cmp d pid) same ∙ at
+module _ (s : State) (pid fd : ℕ) (purpose : OpenFor) {processes : ProcessTable} (same : s.processes ≡ processes) where
+  here_too : {o : Option Process} → get nat_cmp processes pid ≡ o → get nat_cmp s.processes pid ≡ o
+  here_too at = ap (λ (d : ProcessTable). get nat_cmp d pid) same ∙ at
 
   -- there is no such process, or it has nothing open there
-  pub closed_open : (errno : Errno) → open_in desks pid fd ≡ Err errno → IsNotOpen s pid fd purpose (Failed errno)
-  closed_open errno e = go (get nat_cmp desks pid) refl e
+  pub closed_open : (errno : Errno) → open_in processes pid fd ≡ Err errno → IsNotOpen s pid fd purpose (Failed errno)
+  closed_open errno e = go (get nat_cmp processes pid) refl e
     where
-      go : (o : Option Process) → get nat_cmp desks pid ≡ o → answer_of_found (open_at fd) o ≡ Err errno → IsNotOpen s pid fd purpose (Failed errno)
+      go : (o : Option Process) → get nat_cmp processes pid ≡ o → answer_of_found (open_at fd) o ≡ Err errno → IsNotOpen s pid fd purpose (Failed errno)
       go None at e =
           let no : ESRCH ≡ errno = cc in
           record { each = λ call demands effect is. absent_firm s pid call (here_too at) ∙ ap (λ (x : Errno). Some (Failed x)) no }
@@ -229,7 +229,7 @@ module _ (s : State) (pid fd : ℕ) (purpose : OpenFor) {desks : Desks} (same : 
                 open_firm s pid q is (here_too at) ∙ bad_closed purpose fd q none.0 ∙ ap (λ (x : Errno). Some (Failed x)) (sym none.1);
           }
 
-  module _ {d : Descriptor} (o : IsOpened desks pid fd d) where
+  module _ {d : Descriptor} (o : IsOpened processes pid fd d) where
     -- it isn't open for that
     pub unfit_open : not (opens_for purpose d) ≡ true → IsNotOpen s pid fd purpose (Failed EBADF)
     unfit_open unfit = record {
@@ -242,31 +242,31 @@ module _ (s : State) (pid fd : ℕ) (purpose : OpenFor) {desks : Desks} (same : 
     not_open refuses = record { each = λ call demands effect is. why.early (refuses.each call demands effect is) }
 
     -- its inode can't be read
-    pub unread_open : {d : Descriptor} (e : Refusal) → IsOpenFor desks pid fd purpose d → FailsToRead old new e → RefusesOpen old new s pid fd purpose e
+    pub unread_open : {d : Descriptor} (e : Refusal) → IsOpenFor processes pid fd purpose d → FailsToRead old new e → RefusesOpen old new s pid fd purpose e
     unread_open e w fails = record {
       each = λ call demands effect is.
           why.read_fails (open_firm s pid w.opened.process is (here_too w.opened.there) ∙ w.fine) fails.1 fails.0;
     }
 
-pub fit_open : {desks : Desks} {pid fd : ℕ} {d : Descriptor} (purpose : OpenFor) → IsOpened desks pid fd d → not (opens_for purpose d) ≡ false → IsOpenFor desks pid fd purpose d
+pub fit_open : {processes : ProcessTable} {pid fd : ℕ} {d : Descriptor} (purpose : OpenFor) → IsOpened processes pid fd d → not (opens_for purpose d) ≡ false → IsOpenFor processes pid fd purpose d
 fit_open {fd = fd} {d = d} purpose o fit = record { opened = o; fine = bad_open purpose fd o.process d o.at ∙ ap (refuse EBADF) fit }
 
 -- ---- a call that acts so
 
 module _ {pid : ℕ} {call : Call} {fd : ℕ} {purpose : OpenFor} {demands : Scene → List Demand} {effect : Scene → Effect}
-    (is : ActsOn call fd purpose demands effect) {p : Place} where
+    (is : ActsOn call fd purpose demands effect) {p : Geometry} where
   -- its refusal is passed on
-  pub closed_refused : {time : ℕ} {txn : TxnState} {desks : Desks} (r : Result Reply Refusal) (e : Refusal) → IsErr r → IsErrAnd r (λ y. y ≡ e)
-      → ((s : State) → s.desks ≡ desks → IsNotOpen s pid fd purpose e) → Performs p time pid call txn txn desks desks r
-  closed_refused r e err and refuses = refused_performs r e err and store_same (λ s at. why.early ((refuses s at.same_desks).each call demands effect is))
+  pub closed_refused : {time : ℕ} {txn : TxnState} {processes : ProcessTable} (r : Result Reply Refusal) (e : Refusal) → IsErr r → IsErrAnd r (λ y. y ≡ e)
+      → ((s : State) → s.processes ≡ processes → IsNotOpen s pid fd purpose e) → Performs p time pid call txn txn processes processes r
+  closed_refused r e err and refuses = refused_performs r e err and store_same (λ s at. why.early ((refuses s at.same_processes).each call demands effect is))
 
-  pub open_refused : {time : ℕ} {old new : TxnState} {desks : Desks} (r : Result Reply Refusal) (e : Refusal) → IsErr r → IsErrAnd r (λ y. y ≡ e) → SameStore old new
-      → ((s : State) → IsStateOf p old.sectors desks s → RefusesOpen old.disk new.disk s pid fd purpose e) → Performs p time pid call old new desks desks r
+  pub open_refused : {time : ℕ} {old new : TxnState} {processes : ProcessTable} (r : Result Reply Refusal) (e : Refusal) → IsErr r → IsErrAnd r (λ y. y ≡ e) → SameStore old new
+      → ((s : State) → IsStateOf p old.sectors processes s → RefusesOpen old.disk new.disk s pid fd purpose e) → Performs p time pid call old new processes processes r
   open_refused r e err and store refuses = refused_performs r e err and store (λ s at. (refuses s at).each call demands effect is)
 
-  module _ {old mid : TxnState} (same : IsUnchanged old mid) {desks : Desks} {d : Descriptor} (w : IsOpenFor desks pid fd purpose d) where
-    module _ (s : State) (at : IsStateOf p old.sectors desks s) where
-      here : get nat_cmp s.desks pid ≡ Some w.opened.process
+  module _ {old mid : TxnState} (same : IsUnchanged old mid) {processes : ProcessTable} {d : Descriptor} (w : IsOpenFor processes pid fd purpose d) where
+    module _ (s : State) (at : IsStateOf p old.sectors processes s) where
+      here : get nat_cmp s.processes pid ≡ Some w.opened.process
       here = same_process at pid w.opened.process w.opened.there
 
       firm : firm_refusal s (Calls pid call) ≡ None
@@ -277,71 +277,71 @@ module _ {pid : ℕ} {call : Call} {fd : ℕ} {purpose : OpenFor} {demands : Sce
 
     module _ (new : TxnState) (r : Result Reply Refusal) (e : Refusal) (err : IsErr r) (and : IsErrAnd r (λ y. y ≡ e)) (store : SameStore mid new) where
       -- what it asks of what is open refuses, or a read fails
-      pub unread_performs : {time : ℕ} → ((s : State) → IsStateOf p mid.sectors desks s → (first_of (demands (open_scene s w.opened.process)) ≡ Some e) ⊎ FailsToRead mid.disk new.disk e)
-          → Performs p time pid call old new desks desks r
+      pub unread_performs : {time : ℕ} → ((s : State) → IsStateOf p mid.sectors processes s → (first_of (demands (open_scene s w.opened.process)) ≡ Some e) ⊎ FailsToRead mid.disk new.disk e)
+          → Performs p time pid call old new processes processes r
       unread_performs asked = refused_performs r e err and (store_joined same.store store)
           (λ s at. elim (asked s (state_kept same at)) [
             | inl refuses ↦ why.late (firm s at) (late s at ∙ refuses)
             | inr read ↦ why.read_fails (firm s at) (failed_later old.disk mid.disk new.disk same.store.reads.failures read.1) read.0
           ])
 
-      pub asked_performs : {time : ℕ} → ((s : State) → IsStateOf p mid.sectors desks s → first_of (demands (open_scene s w.opened.process)) ≡ Some e) → Performs p time pid call old new desks desks r
+      pub asked_performs : {time : ℕ} → ((s : State) → IsStateOf p mid.sectors processes s → first_of (demands (open_scene s w.opened.process)) ≡ Some e) → Performs p time pid call old new processes processes r
       asked_performs asked = unread_performs (λ s at. inl (asked s at))
 
       -- or memory is lacking
-      pub interrupted_performs : {time : ℕ} → IsTrue (asks_in_call call) → Interrupts mid.disk new.disk e → Performs p time pid call old new desks desks r
+      pub interrupted_performs : {time : ℕ} → IsTrue (asks_in_call call) → Interrupts mid.disk new.disk e → Performs p time pid call old new processes processes r
       interrupted_performs asks way = refused_performs r e err and (store_joined same.store store)
           (λ s at. interrupted_refused old.disk new.disk s pid call (firm s at) asks e (interrupts_later new.disk same way))
 
     pub told : {time : ℕ} (new : TxnState) → IsUnchanged mid new → (reply : Reply)
-        → ((s : State) → IsStateOf p mid.sectors desks s → (first_of (demands (open_scene s w.opened.process)) ≡ None) × (effect (open_scene s w.opened.process) ≡ answers (open_scene s w.opened.process) reply))
-        → Performs p time pid call old new desks desks (Ok reply)
+        → ((s : State) → IsStateOf p mid.sectors processes s → (first_of (demands (open_scene s w.opened.process)) ≡ None) × (effect (open_scene s w.opened.process) ≡ answers (open_scene s w.opened.process) reply))
+        → Performs p time pid call old new processes processes (Ok reply)
     told new later reply says = told_performs (Ok reply) (unchanged_joined same later)
         (λ s at.
         let t = says s (state_kept same at) in (
           firm s at,
           late s at ∙ t.0,
           open_after s pid w.opened.process is (here s at) ∙ ap (after_effect s pid) t.1
-              ∙ ap (λ (x : Desks). record { change = Same; desks = x; reply = reply; now = s.now }) (same_process_stays s.desks pid w.opened.process at.is_state.pids (here s at)),
+              ∙ ap (λ (x : ProcessTable). record { change = Same; processes = x; reply = reply; now = s.now }) (same_process_stays s.processes pid w.opened.process at.is_state.pids (here s at)),
         ))
 
     -- or a fault, after it has changed the tree
     pub broken_later : {time : ℕ} {last : TxnState} (new : TxnState) (r : Result Reply Refusal) (e : Refusal) → IsErr r × IsErrAnd r (λ y. y ≡ e) → SameStore mid last → SameStore last new
-        → FailsToRead last.disk new.disk e → Performs p time pid call old new desks desks r
+        → FailsToRead last.disk new.disk e → Performs p time pid call old new processes processes r
     broken_later {last} new r e err first store fault = unread_performs new r e err.0 err.1 (store_joined first store)
         (λ s at. inr (fault.0, failed_later mid.disk last.disk new.disk first.reads.failures fault.1))
 
     -- it has changed the tree, then its times have moved, and then its process has changed
-    pub changed_tree : {time : ℕ} (last : TxnState) {new : TxnState} {touches : List (ℕ × Touch)} (now : Desks) → SameStore mid last → last.sectors 0 ≡ mid.sectors 0
-        → MovesTimes p time touches last new → (f : Process → Process) (reply : Reply) → now ≡ with_changed desks pid f
-        → ((s : State) → IsStateOf p mid.sectors desks s
+    pub changed_tree : {time : ℕ} (last : TxnState) {new : TxnState} {touches : List (ℕ × Touch)} (now : ProcessTable) → SameStore mid last → last.sectors 0 ≡ mid.sectors 0
+        → MovesTimes p time touches last new → (f : Process → Process) (reply : Reply) → now ≡ with_changed processes pid f
+        → ((s : State) → IsStateOf p mid.sectors processes s
         → IsChange p last.sectors now s (f w.opened.process) (demands (open_scene s w.opened.process)) (λ k. effect (open_scene s w.opened.process)) reply touches)
-        → Performs p time pid call old new desks now (Ok reply)
+        → Performs p time pid call old new processes now (Ok reply)
     changed_tree last now store super moved f reply is_now says = record {
       store = store_joined same.store (store_joined store moved.store);
       super = moved.super ∙ super ∙ same.sectors 0;
       table = tt;
       each = λ s at.
           let t = says s (state_kept same at) in
-          let of_state : with_entry nat_cmp s.desks pid (f w.opened.process) ≡ now =
-          ap (λ (x : Desks). with_entry nat_cmp x pid (f w.opened.process)) at.same_desks ∙ sym (is_now ∙ changed_there desks pid w.opened.process f w.opened.there) in
+          let of_state : with_entry nat_cmp s.processes pid (f w.opened.process) ≡ now =
+          ap (λ (x : ProcessTable). with_entry nat_cmp x pid (f w.opened.process)) at.same_processes ∙ sym (is_now ∙ changed_there processes pid w.opened.process f w.opened.there) in
           record {
             early = firm s at;
             late = late s at ∙ t.met;
             number = 0;
             change = t.change;
             effect = open_after s pid w.opened.process is (here s at) ∙ ap (after_effect s pid) t.is
-                ∙ ap (λ (x : Desks). record { change = t.change; desks = x; reply = reply; now = s.now }) of_state;
+                ∙ ap (λ (x : ProcessTable). record { change = t.change; processes = x; reply = reply; now = s.now }) of_state;
             new_number = t.new_number;
             holds = times_moved at t moved;
           };
     }
 
     -- its process alone
-    pub changed_one : {time : ℕ} (new : TxnState) (now : Desks) → IsUnchanged mid new → (f : Process → Process) (reply : Reply) → now ≡ with_changed desks pid f
+    pub changed_one : {time : ℕ} (new : TxnState) (now : ProcessTable) → IsUnchanged mid new → (f : Process → Process) (reply : Reply) → now ≡ with_changed processes pid f
         → ((n : ℕ) → has_open n (f w.opened.process) ≡ has_open n w.opened.process)
-        → ((s : State) → IsStateOf p mid.sectors desks s → (first_of (demands (open_scene s w.opened.process)) ≡ None) × (effect (open_scene s w.opened.process) ≡ with_process (f w.opened.process) reply))
-        → Performs p time pid call old new desks now (Ok reply)
+        → ((s : State) → IsStateOf p mid.sectors processes s → (first_of (demands (open_scene s w.opened.process)) ≡ None) × (effect (open_scene s w.opened.process) ≡ with_process (f w.opened.process) reply))
+        → Performs p time pid call old new processes now (Ok reply)
     changed_one new now later f reply is_now keeps says = changed_tree new now later.store (later.sectors 0) (none_moved new) f reply is_now
         (λ s at.
         let t = says s at in
@@ -353,6 +353,6 @@ module _ {pid : ℕ} {call : Call} {fd : ℕ} {purpose : OpenFor} {demands : Sce
           new_number = tt;
           times = refl;
           holds = subst (λ (x : Tree). HoldsAll p new.sectors (placed x))
-              (sym (open_stays s.room s.tree s.desks now at.is_state.tree (at.is_state.desks at.up) (still_now w.opened s at now f is_now keeps)))
+              (sym (open_stays s.room s.tree s.processes now at.is_state.tree (at.is_state.processes at.up) (still_now w.opened s at now f is_now keeps)))
               (subst (λ m. HoldsAll p m (placed s.tree)) (sym (map_kept later)) at.holds);
         })

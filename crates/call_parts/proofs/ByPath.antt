@@ -8,13 +8,13 @@ use Rattle.fs_cred.specs.declared.errno.Errno.{Errno}
 use Rattle.fs_cred.specs.declared.errno.Errno.TheVariants.{ESRCH}
 use Rattle.fs_cred.specs.declared.refusal.Refusal.{Refusal}
 use Rattle.fs_cred.specs.declared.refusal.Refusal.TheVariants.{Failed}
-use Rattle.fs_layout.specs.declared.place.Place.{Place}
+use Rattle.fs_layout.specs.declared.geometry.Geometry.{Geometry}
 use Rattle.fs_layout.specs.Maps.{get}
 use Rattle.sector_txn.specs.Sectors.{TxnState, SameStore}
 use Rattle.sector_txn.proofs.TransactionRuns.{store_same}
 use Rattle.fs_model.specs.declared.call.Call.{Call}
 use Rattle.fs_model.specs.declared.reply.Reply.{Reply}
-use Rattle.fs_model.specs.Processes.{Desks}
+use Rattle.fs_model.specs.Processes.{ProcessTable}
 use Rattle.fs_model.specs.States.{State}
 use Rattle.call_parts.specs.Performing.{IsStateOf, IsRefused, Performs}
 use Rattle.path_walk.proofs.Kept.{is_err}
@@ -22,18 +22,18 @@ use Rattle.call_parts.proofs.Calling.{absent_refused}
 
 -- ---- a refusal, passed on
 
-pub refused_performs : {p : Place} {time pid : ℕ} {call : Call} {old new : TxnState} {desks : Desks} (r : Result Reply Refusal) (e : Refusal) → IsErr r → IsErrAnd r (λ y. y ≡ e)
-    → SameStore old new → ((s : State) → IsStateOf p old.sectors desks s → IsRefused old.disk new.disk s pid call e) → Performs p time pid call old new desks desks r
-refused_performs {p} {time} {pid} {call} {old} {new} {desks} r e err and store each =
-    subst (λ (x : Result Reply Refusal). Performs p time pid call old new desks desks x) (sym (is_err r e err and))
+pub refused_performs : {p : Geometry} {time pid : ℕ} {call : Call} {old new : TxnState} {processes : ProcessTable} (r : Result Reply Refusal) (e : Refusal) → IsErr r → IsErrAnd r (λ y. y ≡ e)
+    → SameStore old new → ((s : State) → IsStateOf p old.sectors processes s → IsRefused old.disk new.disk s pid call e) → Performs p time pid call old new processes processes r
+refused_performs {p} {time} {pid} {call} {old} {new} {processes} r e err and store each =
+    subst (λ (x : Result Reply Refusal). Performs p time pid call old new processes processes x) (sym (is_err r e err and))
     (record { store = store; super = tt; table = refl; each = each })
 
 -- there is no such process
-pub absent_performs : {p : Place} {time pid : ℕ} {call : Call} {txn : TxnState} {desks : Desks} (r : Result Reply Refusal) (errno : Errno) → IsErr r
-    → IsErrAnd r (λ y. y ≡ Failed errno) → (errno ≡ ESRCH) × (get nat_cmp desks pid ≡ None) → Performs p time pid call txn txn desks desks r
-absent_performs {p} {time} {pid} {call} {txn} {desks} r errno err and is = refused_performs r (Failed errno) err and store_same
+pub absent_performs : {p : Geometry} {time pid : ℕ} {call : Call} {txn : TxnState} {processes : ProcessTable} (r : Result Reply Refusal) (errno : Errno) → IsErr r
+    → IsErrAnd r (λ y. y ≡ Failed errno) → (errno ≡ ESRCH) × (get nat_cmp processes pid ≡ None) → Performs p time pid call txn txn processes processes r
+absent_performs {p} {time} {pid} {call} {txn} {processes} r errno err and is = refused_performs r (Failed errno) err and store_same
     (λ s at. subst (λ (e : Errno). IsRefused txn.disk txn.disk s pid call (Failed e)) (sym is.0)
-    (absent_refused txn.disk txn.disk s pid call (ap (λ (d : Desks). get nat_cmp d pid) at.same_desks ∙ is.1)))
+    (absent_refused txn.disk txn.disk s pid call (ap (λ (d : ProcessTable). get nat_cmp d pid) at.same_processes ∙ is.1)))
 
 abbrev pub refusing : (A : Type 0) → Refusal → Result A Refusal
 refusing A e = Err e

@@ -16,7 +16,7 @@ use Rattle.fs_cred.specs.declared.errno.Errno.TheVariants.{ESRCH}
 use Rattle.fs_cred.specs.declared.refusal.Refusal.{Refusal}
 use Rattle.fs_cred.specs.declared.refusal.Refusal.TheVariants.{Failed}
 use Rattle.fs_cred.specs.Credentials.{Credential}
-use Rattle.fs_layout.specs.declared.place.Place.{Place}
+use Rattle.fs_layout.specs.declared.geometry.Geometry.{Geometry}
 use Rattle.fs_layout.specs.Maps.{get}
 use Rattle.sector_txn.specs.Sectors.{TxnState, SameStore, IsUnchanged}
 use Rattle.sector_txn.proofs.TransactionRuns.{store_joined}
@@ -28,7 +28,7 @@ use Rattle.fs_model.specs.declared.walk.Form.TheVariants.{Parent}
 use Rattle.fs_model.specs.declared.walk.Found.{Found}
 use Rattle.fs_model.specs.Demands.{Demand, or_else, first_of}
 use Rattle.fs_model.specs.Parts.{path_checks}
-use Rattle.fs_model.specs.Processes.{Process, Desks}
+use Rattle.fs_model.specs.Processes.{Process, ProcessTable}
 use Rattle.fs_model.specs.Scenes.{Scene, Effect, Row}
 use Rattle.fs_model.specs.States.{State}
 use Rattle.fs_model.specs.Steps.{after, after_call, after_effect, early_refusal, late_refusal, firm_refusal, other_refusal, found_by}
@@ -126,7 +126,7 @@ same_err x y e = cc
 -- ---- a row
 
 module _ (s : State) (pid : ℕ) (q : Process) {call : Call} {old_path new_path : List ℕ} {demands : Scene → List Demand} {effect : Scene → Effect}
-    (is : WalksBoth call old_path new_path demands effect) (there : get nat_cmp s.desks pid ≡ Some q) where
+    (is : WalksBoth call old_path new_path demands effect) (there : get nat_cmp s.processes pid ≡ Some q) where
   abbrev first : Found
   first = found_by s.room s.tree q.cwd (Parent, old_path)
 
@@ -187,14 +187,14 @@ module _ (s : State) (pid : ℕ) (q : Process) {call : Call} {old_path new_path 
 -- ---- each call that walks both so is refused
 
 -- there is no such process
-pub absent_both : (old new : DiskState) (s : State) (pid : ℕ) (old_path new_path : List ℕ) (errno : Errno) → errno ≡ ESRCH → get nat_cmp s.desks pid ≡ None
+pub absent_both : (old new : DiskState) (s : State) (pid : ℕ) (old_path new_path : List ℕ) (errno : Errno) → errno ≡ ESRCH → get nat_cmp s.processes pid ≡ None
     → RefusesBoth old new s pid old_path new_path (Failed errno)
 absent_both old new s pid old_path new_path errno is none = record {
   each = λ call demands effect w. subst (λ (x : Errno). IsRefused old new s pid call (Failed x)) (sym is) (absent_refused old new s pid call none);
 }
 
 -- the checks or the walks of its paths refuse
-pub unwalked_both : (old new : DiskState) (s : State) (pid : ℕ) (q : Process) → get nat_cmp s.desks pid ≡ Some q → (old_path new_path : List ℕ) (e : Refusal)
+pub unwalked_both : (old new : DiskState) (s : State) (pid : ℕ) (q : Process) → get nat_cmp s.processes pid ≡ Some q → (old_path new_path : List ℕ) (e : Refusal)
     → ((x : Refusal) → first_of (both_checks old_path new_path) ≡ Some x → e ≡ x)
     → (first_of (both_checks old_path new_path) ≡ None → IsAnswered old new (walks_of s.room s.tree q.cred q.cwd q.second_cwd old_path new_path) (Err e))
     → RefusesBoth old new s pid old_path new_path e
@@ -203,7 +203,7 @@ unwalked_both old new s pid q there old_path new_path e fit each = record {
 }
 
 -- what the walks have found
-pub both_found : (old new : DiskState) (s : State) (pid : ℕ) (q : Process) → get nat_cmp s.desks pid ≡ Some q → (old_path new_path : List ℕ) (f g : Found)
+pub both_found : (old new : DiskState) (s : State) (pid : ℕ) (q : Process) → get nat_cmp s.processes pid ≡ Some q → (old_path new_path : List ℕ) (f g : Found)
     → first_of (both_checks old_path new_path) ≡ None
     → IsAnswered old new (walks_of s.room s.tree q.cred q.cwd q.second_cwd old_path new_path) (Ok (f, g)) → HasFoundBoth s pid q old_path new_path f g
 both_found old new s pid q there old_path new_path f g fit is =
@@ -222,25 +222,25 @@ both_found old new s pid q there old_path new_path f g fit is =
 -- ---- a call that walks both so
 
 module _ {pid : ℕ} {call : Call} {old_path new_path : List ℕ} {demands : Scene → List Demand} {effect : Scene → Effect}
-    (is : WalksBoth call old_path new_path demands effect) {p : Place} where
+    (is : WalksBoth call old_path new_path demands effect) {p : Geometry} where
   -- its refusal is passed on
-  pub walks_refused : {time : ℕ} {old new : TxnState} {desks : Desks} (r : Result Reply Refusal) (e : Refusal) → IsErr r → IsErrAnd r (λ y. y ≡ e) → IsUnchanged old new
-      → ((s : State) → IsStateOf p old.sectors desks s → RefusesBoth old.disk new.disk s pid old_path new_path e) → Performs p time pid call old new desks desks r
+  pub walks_refused : {time : ℕ} {old new : TxnState} {processes : ProcessTable} (r : Result Reply Refusal) (e : Refusal) → IsErr r → IsErrAnd r (λ y. y ≡ e) → IsUnchanged old new
+      → ((s : State) → IsStateOf p old.sectors processes s → RefusesBoth old.disk new.disk s pid old_path new_path e) → Performs p time pid call old new processes processes r
   walks_refused r e err and same refuses = refused_performs r e err and same.store (λ s at. (refuses s at).each call demands effect is)
 
-  module _ {old mid : TxnState} (same : IsUnchanged old mid) {desks : Desks} {q : Process} {f g : Found} (w : HasWalkedBoth p mid desks pid old_path new_path q f g) where
-    module _ (s : State) (at : IsStateOf p old.sectors desks s) where
+  module _ {old mid : TxnState} (same : IsUnchanged old mid) {processes : ProcessTable} {q : Process} {f g : Found} (w : HasWalkedBoth p mid processes pid old_path new_path q f g) where
+    module _ (s : State) (at : IsStateOf p old.sectors processes s) where
       has : HasFoundBoth s pid q old_path new_path f g
       has = w.found s (state_kept same at)
 
-      here : get nat_cmp s.desks pid ≡ Some q
+      here : get nat_cmp s.processes pid ≡ Some q
       here = same_process at pid q w.there
 
     -- what it asks of what was found refuses
     pub both_refused : {time : ℕ} (new : TxnState) (r : Result Reply Refusal) (e : Refusal) → IsErr r → IsErrAnd r (λ y. y ≡ e) → SameStore mid new
-        → {A : Type 0} (x : A) → ((s : State) → HasFoundBoth s pid q old_path new_path f g → IsStateOf p mid.sectors desks s
+        → {A : Type 0} (x : A) → ((s : State) → HasFoundBoth s pid q old_path new_path f g → IsStateOf p mid.sectors processes s
         → IsAnswered mid.disk new.disk (refused_or (first_of (demands (scene_with s q f g))) (Ok x)) (Err e))
-        → Performs p time pid call old new desks desks r
+        → Performs p time pid call old new processes processes r
     both_refused new r e err and store {A} x refused = refused_performs r e err and (store_joined same.store store)
         (λ s at.
         answered_refused old.disk new.disk s pid call (both_found_firm s pid q is (here s at) (has s at)) is.asks e
@@ -249,21 +249,21 @@ module _ {pid : ℕ} {call : Call} {old_path new_path : List ℕ} {demands : Sce
 
     -- or a fault, in what it does after that
     pub both_broken : {time : ℕ} {last : TxnState} (new : TxnState) (r : Result Reply Refusal) (e : Refusal) → IsErr r × IsErrAnd r (λ y. y ≡ e) → IsUnchanged mid last → SameStore last new
-        → FailsToRead last.disk new.disk e → Performs p time pid call old new desks desks r
+        → FailsToRead last.disk new.disk e → Performs p time pid call old new processes processes r
     both_broken {last} new r e err later store fault =
         both_refused new r e err.0 err.1 (store_joined later.store store) {A = ℕ} 0 (λ s has at. inr (interrupts_later new.disk later (inr fault)))
 
     -- the same, after it has changed the tree
     pub both_broken_later : {time : ℕ} {last : TxnState} (new : TxnState) (r : Result Reply Refusal) (e : Refusal) → IsErr r × IsErrAnd r (λ y. y ≡ e) → SameStore mid last → SameStore last new
-        → FailsToRead last.disk new.disk e → Performs p time pid call old new desks desks r
+        → FailsToRead last.disk new.disk e → Performs p time pid call old new processes processes r
     both_broken_later {last} new r e err first store fault = both_refused new r e err.0 err.1 (store_joined first store) {A = ℕ} 0
         (λ s has at. inr (inr (fault.0, failed_later mid.disk last.disk new.disk first.reads.failures fault.1)))
 
     -- it has changed the tree, and then its times have moved
     pub both_performs : {time : ℕ} (last : TxnState) {new : TxnState} {touches : List (ℕ × Touch)} → SameStore mid last → last.sectors 0 ≡ mid.sectors 0 → MovesTimes p time touches last new → (reply : Reply)
-        → ((s : State) → HasFoundBoth s pid q old_path new_path f g → IsStateOf p mid.sectors desks s
-        → IsChange p last.sectors desks s q (demands (scene_with s q f g)) (λ n. effect (scene_with s q f g)) reply touches)
-        → Performs p time pid call old new desks desks (Ok reply)
+        → ((s : State) → HasFoundBoth s pid q old_path new_path f g → IsStateOf p mid.sectors processes s
+        → IsChange p last.sectors processes s q (demands (scene_with s q f g)) (λ n. effect (scene_with s q f g)) reply touches)
+        → Performs p time pid call old new processes processes (Ok reply)
     both_performs last store super moved reply changes = record {
       store = store_joined same.store (store_joined store moved.store);
       super = moved.super ∙ super ∙ same.sectors 0;
@@ -278,8 +278,8 @@ module _ {pid : ℕ} {call : Call} {old_path new_path : List ℕ} {demands : Sce
             change = c.change;
             effect = both_found_after s pid q is (here s at) found c.number
                 ∙ ap (after_effect s pid) c.is
-                ∙ ap (λ (d : Desks). record { change = c.change; desks = d; reply = reply; now = s.now })
-                (same_process_stays s.desks pid q at.is_state.pids (here s at) ∙ at.same_desks);
+                ∙ ap (λ (d : ProcessTable). record { change = c.change; processes = d; reply = reply; now = s.now })
+                (same_process_stays s.processes pid q at.is_state.pids (here s at) ∙ at.same_processes);
             new_number = c.new_number;
             holds = times_moved at c moved;
           };

@@ -6,7 +6,7 @@ use Rattle.sector_disk.specs.Disk.{DiskState}
 use Rattle.fs_cred.specs.declared.errno.Errno.TheVariants.{ESRCH}
 use Rattle.fs_cred.specs.declared.refusal.Refusal.{Refusal}
 use Rattle.fs_cred.specs.declared.refusal.Refusal.TheVariants.{Failed}
-use Rattle.fs_layout.specs.declared.place.Place.{Place}
+use Rattle.fs_layout.specs.declared.geometry.Geometry.{Geometry}
 use Rattle.fs_layout.specs.Bytes.{SectorMap}
 use Rattle.fs_layout.specs.Maps.{get}
 use Rattle.sector_txn.specs.Sectors.{TxnState, IsUnchanged}
@@ -18,7 +18,7 @@ use Rattle.fs_model.specs.declared.walk.Found.{Found}
 use Rattle.fs_model.specs.TreeChanges.{Same, changed, swept}
 use Rattle.fs_model.specs.Demands.{Demand, or_else, first_of}
 use Rattle.fs_model.specs.Parts.{path_checks}
-use Rattle.fs_model.specs.Processes.{Process, Desks}
+use Rattle.fs_model.specs.Processes.{Process, ProcessTable}
 use Rattle.fs_model.specs.Rows.{row_of}
 use Rattle.fs_model.specs.Scenes.{Scene, Effect, Row, answers, by_path}
 use Rattle.fs_model.specs.Stands.{HoldsAll, placed}
@@ -40,34 +40,34 @@ use Rattle.path_walk.proofs.Kept.{same_map, kept, interrupts_later}
 
 -- ---- the state of a map and a table
 
-module _ {p : Place} {map : SectorMap} {desks : Desks} {s : State} (at : IsStateOf p map desks s) where
+module _ {p : Geometry} {map : SectorMap} {processes : ProcessTable} {s : State} (at : IsStateOf p map processes s) where
   pub state_tree : HoldsTree p map s.tree
   state_tree = record { holds = at.holds; tree = subst (λ (r : Room). IsTree r s.tree) at.same_room at.is_state.tree }
 
-  pub same_process : (pid : ℕ) (q : Process) → get nat_cmp desks pid ≡ Some q → get nat_cmp s.desks pid ≡ Some q
-  same_process pid q there = ap (λ (d : Desks). get nat_cmp d pid) at.same_desks ∙ there
+  pub same_process : (pid : ℕ) (q : Process) → get nat_cmp processes pid ≡ Some q → get nat_cmp s.processes pid ≡ Some q
+  same_process pid q there = ap (λ (d : ProcessTable). get nat_cmp d pid) at.same_processes ∙ there
 
-  pub state_process : (pid : ℕ) (q : Process) → get nat_cmp desks pid ≡ Some q → IsProcess s.tree q
-  state_process pid q there = (at.is_state.desks at.up).processes pid q (same_process pid q there)
+  pub state_process : (pid : ℕ) (q : Process) → get nat_cmp processes pid ≡ Some q → IsProcess s.tree q
+  state_process pid q there = (at.is_state.processes at.up).each_process pid q (same_process pid q there)
 
   -- its current directory
-  pub cwd_there : (pid : ℕ) (q : Process) → get nat_cmp desks pid ≡ Some q → IsThere s.tree q.cwd
+  pub cwd_there : (pid : ℕ) (q : Process) → get nat_cmp processes pid ≡ Some q → IsThere s.tree q.cwd
   cwd_there pid q there = let d = (state_process pid q there).cwd in is_there s.tree q.cwd d.node d.is_there
 
-  pub cwd_below : (pid : ℕ) (q : Process) → get nat_cmp desks pid ≡ Some q → q.cwd < p.inodes
+  pub cwd_below : (pid : ℕ) (q : Process) → get nat_cmp processes pid ≡ Some q → q.cwd < p.inodes
   cwd_below pid q there = number_below state_tree q.cwd (cwd_there pid q there)
 
   -- the directory in which its second paths start
-  pub second_cwd_there : (pid : ℕ) (q : Process) → get nat_cmp desks pid ≡ Some q → IsThere s.tree q.second_cwd
+  pub second_cwd_there : (pid : ℕ) (q : Process) → get nat_cmp processes pid ≡ Some q → IsThere s.tree q.second_cwd
   second_cwd_there pid q there = let d = (state_process pid q there).second_cwd in is_there s.tree q.second_cwd d.node d.is_there
 
-  pub second_cwd_below : (pid : ℕ) (q : Process) → get nat_cmp desks pid ≡ Some q → q.second_cwd < p.inodes
+  pub second_cwd_below : (pid : ℕ) (q : Process) → get nat_cmp processes pid ≡ Some q → q.second_cwd < p.inodes
   second_cwd_below pid q there = number_below state_tree q.second_cwd (second_cwd_there pid q there)
 
 -- it is the state of the map after reads, too
-pub state_kept : {p : Place} {old new : TxnState} {desks : Desks} {s : State} → IsUnchanged old new → IsStateOf p old.sectors desks s
-    → IsStateOf p new.sectors desks s
-state_kept {p} {old} {new} {desks} {s} same at = kept (λ m. IsStateOf p m desks s) same at
+pub state_kept : {p : Geometry} {old new : TxnState} {processes : ProcessTable} {s : State} → IsUnchanged old new → IsStateOf p old.sectors processes s
+    → IsStateOf p new.sectors processes s
+state_kept {p} {old} {new} {processes} {s} same at = kept (λ m. IsStateOf p m processes s) same at
 
 -- ---- answers
 
@@ -117,7 +117,7 @@ on_err_same (Err e) h = h
 
 -- ---- refusals
 
-pub absent_refused : (old new : DiskState) (s : State) (pid : ℕ) (call : Call) → get nat_cmp s.desks pid ≡ None
+pub absent_refused : (old new : DiskState) (s : State) (pid : ℕ) (call : Call) → get nat_cmp s.processes pid ≡ None
     → IsRefused old new s pid call (Failed ESRCH)
 unfolding firm_refusal
 absent_refused old new s pid call e = why.early (rw e refl)
@@ -136,7 +136,7 @@ module _ (old new : DiskState) (s : State) (pid : ℕ) (call : Call) (firm : fir
 
 -- ---- a call in a state
 
-module _ (s : State) (pid : ℕ) (q : Process) (call : Call) (there : get nat_cmp s.desks pid ≡ Some q) where
+module _ (s : State) (pid : ℕ) (q : Process) (call : Call) (there : get nat_cmp s.processes pid ≡ Some q) where
   pub early_is : firm_refusal s (Calls pid call) ≡ early_refusal q (row_of call)
   unfolding firm_refusal
   early_is = rw there refl
@@ -168,16 +168,16 @@ unfolding found_of
 found_ino room t cwd form path = refl
 
 -- what was found is there
-pub found_there : {p : Place} {map : SectorMap} {desks : Desks} {s : State} {pid : ℕ} {q : Process} {form : Form} {path : List ℕ} {f : Found} (n : ℕ)
-    → IsStateOf p map desks s → HasFound s pid q form path f → f.ino ≡ Some n → IsThere s.tree n
-found_there {p} {map} {desks} {s} {pid} {q} {form} {path} {f} n at found is =
-    let here = (at.is_state.desks at.up).processes pid q found.there in
+pub found_there : {p : Geometry} {map : SectorMap} {processes : ProcessTable} {s : State} {pid : ℕ} {q : Process} {form : Form} {path : List ℕ} {f : Found} (n : ℕ)
+    → IsStateOf p map processes s → HasFound s pid q form path f → f.ino ≡ Some n → IsThere s.tree n
+found_there {p} {map} {processes} {s} {pid} {q} {form} {path} {f} n at found is =
+    let here = (at.is_state.processes at.up).each_process pid q found.there in
     finds_are_there s.room s.tree at.is_state.tree q.cwd form path (is_there s.tree q.cwd here.cwd.node here.cwd.is_there) n
     (sym (found_ino s.room s.tree q.cwd form path) ∙ ap (λ (g : Found). g.ino) (sym found.is) ∙ is)
 
 module _ (s : State) (pid : ℕ) (q : Process) (call : Call) (form : Form) (path : List ℕ) (arguments : List Demand) (demands : Scene → List Demand)
     (effect : Scene → ℕ → Effect) (row : row_of call ≡ by_path arguments form path demands effect) (met : first_of arguments ≡ None)
-    (there : get nat_cmp s.desks pid ≡ Some q) where
+    (there : get nat_cmp s.processes pid ≡ Some q) where
   pub by_path_firm : firm_refusal s (Calls pid call) ≡ first_of (path_checks path)
   by_path_firm =
       early_is s pid q call there ∙ ap (early_refusal q) row
@@ -226,14 +226,14 @@ module _ (s : State) (pid : ℕ) (q : Process) (call : Call) (form : Form) (path
         ∙ ap (λ (g : Found). after_effect s pid (effect (scene_at s q g) number)) (sym found.is)
 
     -- where it only answers
-    pub found_told : {p : Place} {map : SectorMap} {desks : Desks} (reply : Reply) → IsStateOf p map desks s
+    pub found_told : {p : Geometry} {map : SectorMap} {processes : ProcessTable} (reply : Reply) → IsStateOf p map processes s
         → effect (scene_at s q f) 0 ≡ answers (scene_at s q f) reply → after s (Calls pid call) (chosen 0 0) ≡ unchanged s reply
     found_told reply at is =
         found_after 0 ∙ ap (after_effect s pid) is
-        ∙ ap (λ (d : Desks). record { change = Same; desks = d; reply = reply; now = s.now }) (same_process_stays s.desks pid q at.is_state.pids there)
+        ∙ ap (λ (d : ProcessTable). record { change = Same; processes = d; reply = reply; now = s.now }) (same_process_stays s.processes pid q at.is_state.pids there)
 
 -- what the walk of a path has found
-pub resolved : (old new : DiskState) {s : State} {pid : ℕ} {q : Process} {form : Form} {path : List ℕ} (f : Found) → get nat_cmp s.desks pid ≡ Some q
+pub resolved : (old new : DiskState) {s : State} {pid : ℕ} {q : Process} {form : Form} {path : List ℕ} (f : Found) → get nat_cmp s.processes pid ≡ Some q
     → first_of (path_checks path) ≡ None → IsAnswered old new (walk_of s.room s.tree q.cred 1 form q.cwd path) (Ok f) → HasFound s pid q form path f
 resolved old new {s} {pid} {q} {form} {path} f there checked e =
     let is = met_ok (first_refusal s.tree q.cred 1 form (trail_in s.room s.tree q.cwd (form, path))) (found_by s.room s.tree q.cwd (form, path)) f e in
@@ -241,29 +241,29 @@ resolved old new {s} {pid} {q} {form} {path} f there checked e =
 
 -- ---- a call that changes nothing
 
-told_done : {p : Place} {time : ℕ} {map : SectorMap} {desks : Desks} {s : State} (new : SectorMap) (old' new' : DiskState) (pid : ℕ) (call : Call) (reply : Reply) → new ≡ map
-    → IsStateOf p map desks s → IsTold old' new' s pid call (Ok reply) → IsDone p time new desks s pid call reply
-told_done {p} {time} {map} {desks} {s} new old' new' pid call reply same at told = record {
+told_done : {p : Geometry} {time : ℕ} {map : SectorMap} {processes : ProcessTable} {s : State} (new : SectorMap) (old' new' : DiskState) (pid : ℕ) (call : Call) (reply : Reply) → new ≡ map
+    → IsStateOf p map processes s → IsTold old' new' s pid call (Ok reply) → IsDone p time new processes s pid call reply
+told_done {p} {time} {map} {processes} {s} new old' new' pid call reply same at told = record {
   early = told.0;
   late = told.1;
   number = 0;
   change = Same;
-  effect = told.2 ∙ ap (λ (d : Desks). record { change = Same; desks = d; reply = reply; now = s.now }) at.same_desks;
+  effect = told.2 ∙ ap (λ (d : ProcessTable). record { change = Same; processes = d; reply = reply; now = s.now }) at.same_processes;
   new_number = tt;
-  holds = subst (λ (d : Desks). HoldsAll p new (placed (swept (changed s.tree Same) d))) at.same_desks
-      (subst (λ (t : Tree). HoldsAll p new (placed t)) (sym (nothing_to_drop s.room s.tree s.desks at.is_state.tree (at.is_state.desks at.up)))
+  holds = subst (λ (d : ProcessTable). HoldsAll p new (placed (swept (changed s.tree Same) d))) at.same_processes
+      (subst (λ (t : Tree). HoldsAll p new (placed t)) (sym (nothing_to_drop s.room s.tree s.processes at.is_state.tree (at.is_state.processes at.up)))
       (subst (λ (m : SectorMap). HoldsAll p m (placed s.tree)) (sym same) at.holds));
 }
 
-pub told_performs : {p : Place} {time pid : ℕ} {call : Call} {old new : TxnState} {desks : Desks} (result : Result Reply Refusal) → IsUnchanged old new
-    → ((s : State) → IsStateOf p old.sectors desks s → IsTold old.disk new.disk s pid call result) → Performs p time pid call old new desks desks result
-told_performs {p} {time} {pid} {call} {old} {new} {desks} (Ok reply) same each = record {
+pub told_performs : {p : Geometry} {time pid : ℕ} {call : Call} {old new : TxnState} {processes : ProcessTable} (result : Result Reply Refusal) → IsUnchanged old new
+    → ((s : State) → IsStateOf p old.sectors processes s → IsTold old.disk new.disk s pid call result) → Performs p time pid call old new processes processes result
+told_performs {p} {time} {pid} {call} {old} {new} {processes} (Ok reply) same each = record {
   store = same.store;
   super = same.sectors 0;
   table = tt;
   each = λ s at. told_done new.sectors old.disk new.disk pid call reply (same_map same) at (each s at);
 }
-told_performs {p} {time} {pid} {call} {old} {new} {desks} (Err r) same each = record {
+told_performs {p} {time} {pid} {call} {old} {new} {processes} (Err r) same each = record {
   store = same.store;
   super = tt;
   table = refl;

@@ -6,7 +6,7 @@
 use Rattle.std.specs.Prelude.{◌≡◌, ℕ, ◌+◌, ◌≤◌, nat_eq, nat_le, ◌||◌, Bool, true, false, List, [], ◌∷◌, length, Option, None, Some, is_some, ◌⊎◌, if◌then◌else◌, IsTrue}
 use Rattle.std.proofs.Common.{refl, sym, ap, arith, subst, ◌∙◌, inl, inr}
 use Rattle.std.proofs.lemmas.Bool.{eq-eqb, le-leb}
-use Rattle.fs_layout.specs.declared.place.Place.{Place}
+use Rattle.fs_layout.specs.declared.geometry.Geometry.{Geometry}
 use Rattle.fs_layout.specs.Bytes.{SectorMap}
 use Rattle.fs_layout.specs.Header.{log_end}
 use Rattle.fs_layout.specs.Images.{inode_at}
@@ -23,7 +23,7 @@ use Rattle.fs_model.specs.declared.touch.Touch.{Touch}
 use Rattle.fs_model.specs.TreeChanges.{Change, Same, Rewrite, Make, AddName, TakeName, MoveName, changed, touches_of, touches, touched, swept}
 use Rattle.fs_model.specs.Demands.{Demand, first_of}
 use Rattle.fs_model.specs.Nodes.{Node}
-use Rattle.fs_model.specs.Processes.{Process, Desks, is_open}
+use Rattle.fs_model.specs.Processes.{Process, ProcessTable, is_open}
 use Rattle.fs_model.specs.Scenes.{Effect, number, rewrites}
 use Rattle.fs_model.specs.Stands.{HoldsAll, placed, room_of}
 use Rattle.fs_model.specs.States.{State}
@@ -33,14 +33,14 @@ use Rattle.fs_model.specs.Trees.{Room, node_at, names_of, parent}
 use Rattle.fs_model.proofs.PlacedChanges.{rewrite_held}
 use Rattle.fs_model.proofs.StepsKinds.{MayReplace}
 use Rattle.call_parts.specs.Paths.{scene_at}
-use Rattle.call_parts.specs.Performing.{IsStateOf, IsReady}
+use Rattle.call_parts.specs.Performing.{IsStateOf, MayPerform}
 use Rattle.call_parts.specs.Given.{ChangesOne}
 use Rattle.call_parts.specs.Times.{AreBelow, kept_touches, MayMoveTimes, MovesTimes}
 
 -- ---- a change
 
 -- Its demands are met, and the map holds the tree that its effect leaves, before times move: these are to.
-pub record IsChange (p : Place) (map : SectorMap) (desks : Desks) (s : State) (q : Process) (asked : List Demand) (effect : ℕ → Effect) (reply : Reply)
+pub record IsChange (p : Geometry) (map : SectorMap) (processes : ProcessTable) (s : State) (q : Process) (asked : List Demand) (effect : ℕ → Effect) (reply : Reply)
     (touching : List (ℕ × Touch)) : Type 0 where
   pub met : first_of asked ≡ None
   pub number : ℕ
@@ -48,7 +48,7 @@ pub record IsChange (p : Place) (map : SectorMap) (desks : Desks) (s : State) (q
   pub is : effect number ≡ record { change = change; process = q; reply = reply }
   pub new_number : HasNewNumber s change
   pub times : touches_of s.tree change ≡ touching
-  pub holds : HoldsAll p map (placed (swept (changed s.tree change) desks))
+  pub holds : HoldsAll p map (placed (swept (changed s.tree change) processes))
 
 -- ---- and then its times move
 
@@ -60,7 +60,7 @@ none_kept true = refl
 none_kept false = refl
 
 -- those that the disk keeps
-module _ {p : Place} {map : SectorMap} {desks : Desks} {s : State} (at : IsStateOf p map desks s) where
+module _ {p : Geometry} {map : SectorMap} {processes : ProcessTable} {s : State} (at : IsStateOf p map processes s) where
   touches_kept : (change : Change) → touches s.room s.tree change ≡ kept_touches p (touches_of s.tree change)
   touches_kept Same = none_kept (room_of p).keeps_times
   touches_kept (Rewrite touch n node) = ap (λ (r : Room). touches r s.tree (Rewrite touch n node)) at.same_room
@@ -70,20 +70,20 @@ module _ {p : Place} {map : SectorMap} {desks : Desks} {s : State} (at : IsState
   touches_kept (MoveName dir name to_dir to_name) = ap (λ (r : Room). touches r s.tree (MoveName dir name to_dir to_name)) at.same_room
 
   -- whatever becomes of the processes
-  pub all_moved : {time : ℕ} {touching : List (ℕ × Touch)} {old new : TxnState} (change : Change) → touches_of s.tree change ≡ touching → MovesTimes p time touching old new → (now : Desks)
+  pub all_moved : {time : ℕ} {touching : List (ℕ × Touch)} {old new : TxnState} (change : Change) → touches_of s.tree change ≡ touching → MovesTimes p time touching old new → (now : ProcessTable)
       → HoldsAll p old.sectors (placed (swept (changed s.tree change) now))
       → HoldsAll p new.sectors (placed (touched time (touches s.room s.tree change) (swept (changed s.tree change) now)))
   all_moved {time} {touching} {old} {new} change are moved now held =
       subst (λ (l : List (ℕ × Touch)). HoldsAll p new.sectors (placed (touched time l (swept (changed s.tree change) now))))
       (sym (touches_kept change ∙ ap (kept_touches p) are)) (moved.held (swept (changed s.tree change) now) held)
 
-  pub times_moved : {time : ℕ} {touching : List (ℕ × Touch)} {old new : TxnState} {now : Desks} {q : Process} {asked : List Demand} {effect : ℕ → Effect} {reply : Reply}
+  pub times_moved : {time : ℕ} {touching : List (ℕ × Touch)} {old new : TxnState} {now : ProcessTable} {q : Process} {asked : List Demand} {effect : ℕ → Effect} {reply : Reply}
       → (c : IsChange p old.sectors now s q asked effect reply touching) → MovesTimes p time touching old new
       → HoldsAll p new.sectors (placed (touched time (touches s.room s.tree c.change) (swept (changed s.tree c.change) now)))
   times_moved {now = now} c moved = all_moved c.change c.times moved now c.holds
 
 -- none move
-pub none_moved : {p : Place} {time : ℕ} (txn : TxnState) → MovesTimes p time [] txn txn
+pub none_moved : {p : Geometry} {time : ℕ} (txn : TxnState) → MovesTimes p time [] txn txn
 none_moved {p} {time} txn = record {
   store = store_same;
   super = refl;
@@ -101,13 +101,13 @@ outside inodes n some (inl none) = ap (λ b. b || nat_le inodes n || some) (eq-e
 outside inodes n some (inr past) = ap (λ b. nat_eq n 0 || b || some) (le-leb inodes n past) ∙ or_past (nat_eq n 0) some
 
 -- a map that holds a tree is sound, where another one was
-pub sound_again : (p : Place) (old new : TxnState) (what : ℕ → Option Placed) → IsSound p old → SameStore old new → HoldsAll p new.sectors what → IsSound p new
+pub sound_again : (p : Geometry) (old new : TxnState) (what : ℕ → Option Placed) → IsSound p old → SameStore old new → HoldsAll p new.sectors what → IsSound p new
 sound_again p old new what sound store held =
     sound_from p new held.consistent (omega (arith, sound.bitmaps.disk, store.reads.narrowed.size)) (omega (arith, sound.bitmaps.header, ap log_end store.header))
     (λ n low none. held.inode_bits n low ∙ outside p.inodes n (is_some (what n)) none)
 
-pub may_touch : {p : Place} {old new : TxnState} {desks now : Desks} {q : Process} {asked : List Demand} {effect : ℕ → Effect} {reply : Reply} {touching : List (ℕ × Touch)}
-    → (ready : IsReady p old desks) → SameStore old new → IsChange p new.sectors now ready.state q asked effect reply touching → AreBelow p.inodes touching
+pub may_touch : {p : Geometry} {old new : TxnState} {processes now : ProcessTable} {q : Process} {asked : List Demand} {effect : ℕ → Effect} {reply : Reply} {touching : List (ℕ × Touch)}
+    → (ready : MayPerform p old processes) → SameStore old new → IsChange p new.sectors now ready.state q asked effect reply touching → AreBelow p.inodes touching
     → (k : ℕ) → TakesSpare p k old new → length touching + k ≤ 47 → MayMoveTimes p touching new
 may_touch {p} {old} {new} {now = now} ready store c below k taken few = record {
   sound = sound_again p old new (placed (swept (changed ready.state.tree c.change) now)) ready.sound store c.holds;
@@ -117,18 +117,18 @@ may_touch {p} {old} {new} {now = now} ready store c below k taken few = record {
 
 -- ---- a node is made another
 
-module _ {p : Place} {mid : SectorMap} {desks : Desks} {s : State} (at : IsStateOf p mid desks s) (new : SectorMap) (touch : Touch) (n : ℕ) (was now : Node)
+module _ {p : Geometry} {mid : SectorMap} {processes : ProcessTable} {s : State} (at : IsStateOf p mid processes s) (new : SectorMap) (touch : Touch) (n : ℕ) (was now : Node)
     (there : node_at s.tree n ≡ Some was) (may : MayReplace s.room s.tree was now) (one : ChangesOne p n mid new)
     (here : HoldsNode p.version new (inode_at p new n) (record { node = now; names = names_of s.tree n; parent = parent s.tree n })) where
   -- the map after node n was made another
-  pub rewritten : HoldsAll p new (placed (swept (changed s.tree (Rewrite touch n now)) desks))
+  pub rewritten : HoldsAll p new (placed (swept (changed s.tree (Rewrite touch n now)) processes))
   rewritten =
-      rewrite_held s at.is_state at.up desks (λ k is. subst (λ (d : Desks). IsTrue (is_open d k)) at.same_desks is) p mid at.holds at.same_room
+      rewrite_held s at.is_state at.up processes (λ k is. subst (λ (d : ProcessTable). IsTrue (is_open d k)) at.same_processes is) p mid at.holds at.same_room
       new touch n was now there may one.inode one.used here
 
   -- it is the node that was found
   pub rewrites_found : (q : Process) (f : Found) (asked : List Demand) (g : Node → Node) → first_of asked ≡ None → number f ≡ n
-      → the_node s.tree (number f) ≡ was → g was ≡ now → IsChange p new desks s q asked (λ k. rewrites (scene_at s q f) touch (number f) g) Done ((n, touch) ∷ [])
+      → the_node s.tree (number f) ≡ was → g was ≡ now → IsChange p new processes s q asked (λ k. rewrites (scene_at s q f) touch (number f) g) Done ((n, touch) ∷ [])
   rewrites_found q f asked g met is node_is now_is = record {
     met = met;
     number = 0;

@@ -12,7 +12,7 @@ use Rattle.fs_cred.specs.declared.rule.Rule.{Rule}
 use Rattle.sector_txn.specs.Sectors.{TxnState, IsUnchanged}
 use Rattle.fs_layout.specs.declared.inode.Inode.{Inode}
 use Rattle.fs_layout.specs.Images.{inode_at}
-use Rattle.fs_layout.specs.declared.place.Place.{Place}
+use Rattle.fs_layout.specs.declared.geometry.Geometry.{Geometry}
 use Rattle.fs_layout.specs.Bytes.{SectorMap}
 use Rattle.fs_model.specs.declared.walk.Form.TheVariants.{Follow}
 use Rattle.fs_model.specs.declared.walk.Found.{Found}
@@ -21,7 +21,7 @@ use Rattle.fs_model.specs.AttributeCalls.{access_effect, granted_by}
 use Rattle.fs_model.specs.Births.{no_node}
 use Rattle.fs_model.specs.Demands.{Demand, accessed_at, decided, permission_of, permission_on}
 use Rattle.fs_model.specs.Nodes.{Node, Body, File, Dir, Link, accessed, accessed_body, is_directory, is_link}
-use Rattle.fs_model.specs.Processes.{Process, Desks}
+use Rattle.fs_model.specs.Processes.{Process, ProcessTable}
 use Rattle.fs_model.specs.Scenes.{number, node_found, body_found, permission_at_end, answers}
 use Rattle.fs_model.specs.Rules.{is_directory_kind}
 use Rattle.fs_model.specs.States.{State}
@@ -59,11 +59,11 @@ accessible owner group (File a bytes) e = (_, refl)
 accessible owner group (Dir a d) e = (_, refl)
 accessible owner group (Link target) e = absurd (cc)
 
-pub followed_access : {p : Place} {map : SectorMap} {desks : Desks} {s : State} {pid : ℕ} {q : Process} {path : List ℕ} {f : Found} (n : ℕ)
-    → IsStateOf p map desks s → HasFound s pid q Follow path f → f.ino ≡ Some n → IsAccessed s.tree n
-followed_access {p} {map} {desks} {s} {pid} {q} {path} {f} n at found is =
+pub followed_access : {p : Geometry} {map : SectorMap} {processes : ProcessTable} {s : State} {pid : ℕ} {q : Process} {path : List ℕ} {f : Found} (n : ℕ)
+    → IsStateOf p map processes s → HasFound s pid q Follow path f → f.ino ≡ Some n → IsAccessed s.tree n
+followed_access {p} {map} {processes} {s} {pid} {q} {path} {f} n at found is =
     let there = stands s.tree n (found_there n at found is) in
-    let here = (at.is_state.desks at.up).processes pid q found.there in
+    let here = (at.is_state.processes at.up).each_process pid q found.there in
     let none = followed_no_link s.room s.tree at.is_state.tree q.cwd path here.cwd n
     (sym (found_ino s.room s.tree q.cwd Follow path) ∙ ap (λ (g : Found). g.ino) (sym found.is) ∙ is) there.node there.at in
     let a = accessible there.node.owner there.node.group there.node.body none in
@@ -80,10 +80,10 @@ pub node_is : (s : State) (q : Process) (f : Found) (n : ℕ) → number f ≡ n
 node_is s q f n is a = ap (λ (k : ℕ). unwrap_or (node_at s.tree k) no_node) is ∙ ap (λ o. unwrap_or o no_node) a.at
 
 -- it is a directory where its inode says so
-pub directory_is : {p : Place} {map : SectorMap} {desks : Desks} {s : State} {pid : ℕ} {q : Process} {path : List ℕ} {f : Found} {n : ℕ} {v : Inode}
-    → IsStateOf p map desks s → HasFound s pid q Follow path f → f.ino ≡ Some n → number f ≡ n → v ≡ inode_at p map n
+pub directory_is : {p : Geometry} {map : SectorMap} {processes : ProcessTable} {s : State} {pid : ℕ} {q : Process} {path : List ℕ} {f : Found} {n : ℕ} {v : Inode}
+    → IsStateOf p map processes s → HasFound s pid q Follow path f → f.ino ≡ Some n → number f ≡ n → v ≡ inode_at p map n
     → is_directory (body_found (scene_at s q f) f) ≡ is_directory_kind v.kind
-directory_is {p} {map} {desks} {s} {pid} {q} {path} {f} {n} {v} at has some is inode =
+directory_is {p} {map} {processes} {s} {pid} {q} {path} {f} {n} {v} at has some is inode =
     let a = followed_access n at has some in
     ap (λ (u : Node). is_directory u.body) (node_is s q f n is a)
     ∙ sym (ap (λ (w : Inode). is_directory_kind w.kind) inode ∙ held_kind (state_tree at) n a.node a.at)
@@ -96,8 +96,8 @@ rule_told s q f want n is a =
     ∙ ap (λ o. answers (scene_at s q f) (granted_by q.cred want o)) a.is
 
 -- its inode, as it was read
-module _ {p : Place} {mid new : TxnState} {desks : Desks} {s : State} {pid : ℕ} {q : Process} {path : List ℕ} {f : Found} {n : ℕ} {v : Inode}
-    (at : IsStateOf p mid.sectors desks s) (has : HasFound s pid q Follow path f) (i : IsInodeFound p mid.sectors f n v) (same : IsUnchanged mid new) where
+module _ {p : Geometry} {mid new : TxnState} {processes : ProcessTable} {s : State} {pid : ℕ} {q : Process} {path : List ℕ} {f : Found} {n : ℕ} {v : Inode}
+    (at : IsStateOf p mid.sectors processes s) (has : HasFound s pid q Follow path f) (i : IsInodeFound p mid.sectors f n v) (same : IsUnchanged mid new) where
   pub access_held : HasAccess new.sectors v (followed_access n at has i.some).access
   access_held =
       let a = followed_access n at has i.some in

@@ -7,13 +7,13 @@ use Rattle.std.specs.Prelude.{◌≡◌, ℕ, ◌==◌, List, None, Some}
 use Rattle.std.proofs.Common.{sym, ap, subst, ◌∙◌}
 use Rattle.std.specs.List.{list_any}
 use Rattle.fs_cred.specs.declared.errno.Errno.TheVariants.{ENOENT, EINVAL}
-use Rattle.fs_layout.specs.declared.place.Place.{Place}
+use Rattle.fs_layout.specs.declared.geometry.Geometry.{Geometry}
 use Rattle.fs_layout.specs.Bytes.{SectorMap, IsBytes}
 use Rattle.fs_model.specs.declared.walk.Form.TheVariants.{Parent}
 use Rattle.fs_model.specs.declared.walk.Found.{Found}
 use Rattle.fs_model.specs.Demands.{refuse, first_of}
 use Rattle.fs_model.specs.Parts.{is_empty, path_checks}
-use Rattle.fs_model.specs.Processes.{Process, Desks}
+use Rattle.fs_model.specs.Processes.{Process, ProcessTable}
 use Rattle.fs_model.specs.States.{State, IsProcess}
 use Rattle.fs_model.specs.Trees.{IsDirectoryAt}
 use Rattle.fs_model.specs.Steps.{found_by}
@@ -29,19 +29,19 @@ use Rattle.sector_txn.specs.Sectors.{TxnState}
 use Rattle.call_parts.specs.Reaching.{HasWalkedBoth}
 use Rattle.call_parts.specs.TwoPaths.{walk_refusal, scene_with, HasFoundBoth, FindsBoth}
 
-pub finds_both : {p : Place} {map : SectorMap} {desks : Desks} {s : State} {pid : ℕ} {q : Process} {old new : List ℕ} {f g : Found} → IsBytes old → IsBytes new
-    → IsStateOf p map desks s → HasFoundBoth s pid q old new f g → FindsBoth p map desks q f g s
-finds_both {p} {map} {desks} {s} {pid} {q} {old} {new} {f} {g} old_bytes new_bytes at has =
+pub finds_both : {p : Geometry} {map : SectorMap} {processes : ProcessTable} {s : State} {pid : ℕ} {q : Process} {old new : List ℕ} {f g : Found} → IsBytes old → IsBytes new
+    → IsStateOf p map processes s → HasFoundBoth s pid q old new f g → FindsBoth p map processes q f g s
+finds_both {p} {map} {processes} {s} {pid} {q} {old} {new} {f} {g} old_bytes new_bytes at has =
     record { pid = pid; old = old; new = new; old_bytes = old_bytes; new_bytes = new_bytes; is_state = at; found = has }
 
 -- in each state
-pub finds_each : {p : Place} {txn : TxnState} {desks : Desks} {pid : ℕ} {old new : List ℕ} {q : Process} {f g : Found} → HasWalkedBoth p txn desks pid old new q f g
-    → (s : State) → IsStateOf p txn.sectors desks s → FindsBoth p txn.sectors desks q f g s
+pub finds_each : {p : Geometry} {txn : TxnState} {processes : ProcessTable} {pid : ℕ} {old new : List ℕ} {q : Process} {f g : Found} → HasWalkedBoth p txn processes pid old new q f g
+    → (s : State) → IsStateOf p txn.sectors processes s → FindsBoth p txn.sectors processes q f g s
 finds_each w s at = finds_both w.old_bytes w.new_bytes at (w.found s at)
 
 -- ---- one of both
 
-module _ {p : Place} {map : SectorMap} {desks : Desks} {s : State} (at : IsStateOf p map desks s) (q : Process)
+module _ {p : Geometry} {map : SectorMap} {processes : ProcessTable} {s : State} (at : IsStateOf p map processes s) (q : Process)
     (cwd : ℕ) (from : IsDirectoryAt s.tree cwd) (path : List ℕ) (x : Found) (is : x ≡ found_by s.room s.tree cwd (Parent, path)) where
   path_there : (n : ℕ) → x.ino ≡ Some n → IsThere s.tree n
   path_there n some =
@@ -56,9 +56,9 @@ module _ {p : Place} {map : SectorMap} {desks : Desks} {s : State} (at : IsState
 
 -- ---- both
 
-module _ {p : Place} {map : SectorMap} {desks : Desks} {q : Process} {f g : Found} {s : State} (i : FindsBoth p map desks q f g s) where
+module _ {p : Geometry} {map : SectorMap} {processes : ProcessTable} {q : Process} {f g : Found} {s : State} (i : FindsBoth p map processes q f g s) where
   fits : IsProcess s.tree q
-  fits = (i.is_state.is_state.desks i.is_state.up).processes i.pid q i.found.there
+  fits = (i.is_state.is_state.processes i.is_state.up).each_process i.pid q i.found.there
 
   pub first_there : (n : ℕ) → f.ino ≡ Some n → IsThere s.tree n
   first_there = path_there i.is_state q q.cwd fits.cwd i.old f i.found.first_is

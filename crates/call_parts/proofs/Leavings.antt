@@ -9,7 +9,7 @@ use Rattle.std.proofs.Common.{refl, sym, ap, subst, ◌∙◌, inl, inr}
 use Rattle.std.proofs.lemmas.Bool.{ne_eqb, eq-eqb}
 use Rattle.std.specs.List.{list_any}
 use Rattle.std.specs.Ordering.{nat_cmp}
-use Rattle.fs_layout.specs.declared.place.Place.{Place}
+use Rattle.fs_layout.specs.declared.geometry.Geometry.{Geometry}
 use Rattle.fs_layout.specs.Bytes.{SectorMap}
 use Rattle.fs_layout.specs.Images.{inode_at}
 use Rattle.fs_layout.specs.Maps.{get, IsMap}
@@ -19,7 +19,7 @@ use Rattle.bit_alloc.specs.Bitmaps.{IsNumber}
 use Rattle.bit_alloc.specs.Inodes.{IsSound}
 use Rattle.fs_model.specs.TreeChanges.{swept, lives_nameless}
 use Rattle.fs_model.specs.Nodes.{Node, Body, File, Dir, Link, is_link}
-use Rattle.fs_model.specs.Processes.{Descriptor, Process, Desks, is_open}
+use Rattle.fs_model.specs.Processes.{Descriptor, Process, ProcessTable, is_open}
 use Rattle.fs_model.specs.Stands.{HoldsAll, placed}
 use Rattle.fs_model.specs.States.{State, FitsTree}
 use Rattle.fs_model.specs.StoredNodes.{HoldsNode, names_field}
@@ -41,7 +41,7 @@ use Rattle.call_parts.proofs.Removed.{touches_after}
 
 -- ---- of the map
 
-pub dropped_after : {p : Place} {n : ℕ} {old mid new : TxnState} → IsUnchanged old mid → Drops p n mid new → Drops p n old new
+pub dropped_after : {p : Geometry} {n : ℕ} {old mid new : TxnState} → IsUnchanged old mid → Drops p n mid new → Drops p n old new
 dropped_after {p} {n} {old} {mid} {new} same drops = record {
   sound = drops.sound;
   touches = touches_after same drops.touches;
@@ -49,13 +49,13 @@ dropped_after {p} {n} {old} {mid} {new} same drops = record {
   clear = drops.clear;
 }
 
-pub left_super : {p : Place} {n : ℕ} {opened : Bool} {old new : TxnState} → LeavesInode p n opened old new → new.sectors 0 ≡ old.sectors 0
+pub left_super : {p : Geometry} {n : ℕ} {opened : Bool} {old new : TxnState} → LeavesInode p n opened old new → new.sectors 0 ≡ old.sectors 0
 left_super (stays_open o same) = same.sectors 0
 left_super (has_name o same) = same.sectors 0
 left_super (was_free o same) = same.sectors 0
 left_super (goes closed none used drops) = drops.touches.super
 
-pub left_sound : {p : Place} {n : ℕ} {opened : Bool} {old new : TxnState} → IsSound p old → LeavesInode p n opened old new → IsSound p new
+pub left_sound : {p : Geometry} {n : ℕ} {opened : Bool} {old new : TxnState} → IsSound p old → LeavesInode p n opened old new → IsSound p new
 left_sound sound (stays_open o same) = sound_kept same sound
 left_sound sound (has_name o same) = sound_kept same sound
 left_sound sound (was_free o same) = sound_kept same sound
@@ -68,14 +68,14 @@ or_true true = refl
 or_true false = refl
 
 -- what stands in a tree with these processes stays where it stays open
-pub node_stood : (room : Room) (t : Tree) (was now : Desks) → IsTree room t → FitsTree t was → (n : ℕ) (node : Node) → node_at t n ≡ Some node
+pub node_stood : (room : Room) (t : Tree) (was now : ProcessTable) → IsTree room t → FitsTree t was → (n : ℕ) (node : Node) → node_at t n ≡ Some node
     → (IsTrue (is_open was n) → IsTrue (is_open now n)) → stays t now (n, node) ≡ true
 node_stood room t was now is fits n node at still =
     fitting_stays room now n node.body (names_of t n) (is.each n node at).names (λ none ne. still (fits.nameless n node at none ne))
     (root_directory room t n node is at)
 
 -- It stays, or goes, as its inode says.
-pub left_node : {p : Place} {n : ℕ} {old new : TxnState} (t : Tree) (was now : Desks) (node : Node) (up : ℕ)
+pub left_node : {p : Geometry} {n : ℕ} {old new : TxnState} (t : Tree) (was now : ProcessTable) (node : Node) (up : ℕ)
     → HoldsNode p.version old.sectors (inode_at p old.sectors n) (record { node = node; names = names_of t n; parent = up })
     → IsFalse (is_link node.body) → stays t was (n, node) ≡ true → LeavesInode p n (is_open now n) old new
     → ((stays t now (n, node) ≡ true) × IsUnchanged old new) ⊎ ((stays t now (n, node) ≡ false) × Drops p n old new)
@@ -116,33 +116,33 @@ open_besides q fd d rising at m ne =
 
 -- ---- close
 
-module _ {p : Place} {map : SectorMap} {before : Desks} {pid fd : ℕ} {d : Descriptor} (o : IsOpened before pid fd d) (s : State) (at : IsStateOf p map before s) where
+module _ {p : Geometry} {map : SectorMap} {before : ProcessTable} {pid fd : ℕ} {d : Descriptor} (o : IsOpened before pid fd d) (s : State) (at : IsStateOf p map before s) where
   pub closed_number : IsNumber p Inodes d.number
   closed_number = let x = open_fits o s at in ((at.is_state.tree.each d.number x.node x.is_there).positive, open_below o s at)
 
-  others_open : (now : Desks) → now ≡ with_changed before pid (λ q. without_descriptor q fd) → (m : ℕ) → m ≢ d.number → is_open now m ≡ is_open s.desks m
+  others_open : (now : ProcessTable) → now ≡ with_changed before pid (λ q. without_descriptor q fd) → (m : ℕ) → m ≢ d.number → is_open now m ≡ is_open s.processes m
   others_open now is m ne =
-      let rising : IsMap nat_cmp before = subst (λ (x : Desks). IsMap nat_cmp x) at.same_desks at.is_state.pids in
-      let fits = (at.is_state.desks at.up).processes pid o.process (same_process at pid o.process o.there) in
-      ap (λ (x : Desks). is_open x m) (is ∙ changed_there before pid o.process (λ q. without_descriptor q fd) o.there)
+      let rising : IsMap nat_cmp before = subst (λ (x : ProcessTable). IsMap nat_cmp x) at.same_processes at.is_state.pids in
+      let fits = (at.is_state.processes at.up).each_process pid o.process (same_process at pid o.process o.there) in
+      ap (λ (x : ProcessTable). is_open x m) (is ∙ changed_there before pid o.process (λ q. without_descriptor q fd) o.there)
       ∙ still_open before pid o.process (without_descriptor o.process fd) rising o.there m (open_besides o.process fd d fits.descriptors o.at m ne)
-      ∙ ap (λ (x : Desks). is_open x m) (sym at.same_desks)
+      ∙ ap (λ (x : ProcessTable). is_open x m) (sym at.same_processes)
 
-pub closed_holds : {p : Place} {old new : TxnState} {before : Desks} {pid fd : ℕ} {d : Descriptor} (now : Desks) (o : IsOpened before pid fd d)
+pub closed_holds : {p : Geometry} {old new : TxnState} {before : ProcessTable} {pid fd : ℕ} {d : Descriptor} (now : ProcessTable) (o : IsOpened before pid fd d)
     → now ≡ with_changed before pid (λ q. without_descriptor q fd) → (s : State) → IsStateOf p old.sectors before s
     → LeavesInode p d.number (is_open now d.number) old new → HoldsAll p new.sectors (placed (swept s.tree now))
 closed_holds {p} {old} {new} {before} {pid} {fd} {d} now o is s at leaves =
     let x = open_fits o s at in
-    let fits = at.is_state.desks at.up in
+    let fits = at.is_state.processes at.up in
     let others = others_open o s at now is in
-    let stood = node_stood s.room s.tree s.desks s.desks at.is_state.tree fits d.number x.node x.is_there (λ still. still) in
-    let held : HoldsAll p old.sectors (placed (swept s.tree s.desks)) =
-    subst (λ (t : Tree). HoldsAll p old.sectors (placed t)) (sym (nothing_to_drop s.room s.tree s.desks at.is_state.tree fits)) at.holds in
-    elim (left_node s.tree s.desks now x.node (parent s.tree d.number) (held_node (state_tree at) d.number x.node x.is_there) x.no_link stood leaves) [
+    let stood = node_stood s.room s.tree s.processes s.processes at.is_state.tree fits d.number x.node x.is_there (λ still. still) in
+    let held : HoldsAll p old.sectors (placed (swept s.tree s.processes)) =
+    subst (λ (t : Tree). HoldsAll p old.sectors (placed t)) (sym (nothing_to_drop s.room s.tree s.processes at.is_state.tree fits)) at.holds in
+    elim (left_node s.tree s.processes now x.node (parent s.tree d.number) (held_node (state_tree at) d.number x.node x.is_there) x.no_link stood leaves) [
       | inl stay ↦
           kept (λ (m : SectorMap). HoldsAll p m (placed (swept s.tree now))) stay.1
-          (close_held s.room s.tree at.is_state.tree s.desks now d.number others x.node x.is_there stood p old.sectors held stay.0)
+          (close_held s.room s.tree at.is_state.tree s.processes now d.number others x.node x.is_there stood p old.sectors held stay.0)
       | inr gone ↦
-          close_drop_held s.room s.tree at.is_state.tree s.desks now d.number others x.node x.is_there stood p old.sectors held new.sectors gone.0
+          close_drop_held s.room s.tree at.is_state.tree s.processes now d.number others x.node x.is_there stood p old.sectors held new.sectors gone.0
           (open_below o s at) gone.1.touches.inode gone.1.clear gone.1.free
     ]

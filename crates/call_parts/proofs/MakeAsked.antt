@@ -7,7 +7,7 @@ use Rattle.fs_cred.specs.declared.refusal.Refusal.{Refusal}
 use Rattle.fs_cred.specs.Credentials.{Credential}
 use Rattle.sector_disk.specs.Disk.{DiskState}
 use Rattle.fs_layout.specs.declared.inode.Inode.{Inode}
-use Rattle.fs_layout.specs.declared.place.Place.{Place}
+use Rattle.fs_layout.specs.declared.geometry.Geometry.{Geometry}
 use Rattle.fs_layout.specs.declared.version.Version.{Version}
 use Rattle.fs_layout.specs.declared.version.Version.TheVariants.{One, Two, Three}
 use Rattle.fs_layout.specs.Bytes.{SectorMap}
@@ -19,7 +19,7 @@ use Rattle.bit_alloc.specs.Bitmaps.{free_numbers}
 use Rattle.fs_model.specs.Births.{the_node}
 use Rattle.fs_model.specs.Demands.{Demand, refuse, first_of, permission_on, write_and_search}
 use Rattle.fs_model.specs.Limits.{least_free}
-use Rattle.fs_model.specs.Nodes.{Node, Body, File, Dir, Link, is_directory, is_link, names_in}
+use Rattle.fs_model.specs.Nodes.{Node, Body, File, Dir, Link, is_directory, is_link, names_of_body}
 use Rattle.fs_model.specs.Stands.{room_of}
 use Rattle.fs_model.specs.Trees.{Tree, free_inodes, IsDirectoryAt}
 use Rattle.fs_model.proofs.FreeInodes.{free_are_clear}
@@ -56,14 +56,14 @@ same_test Three k size e = same_tests (max_directory_size Three) size (max_names
 
 -- ---- since an earlier moment
 
-pub sectors_later : (p : Place) {old mid : TxnState} (new : DiskState) (e : Refusal) → IsUnchanged old mid
+pub sectors_later : (p : Geometry) {old mid : TxnState} (new : DiskState) (e : Refusal) → IsUnchanged old mid
     → IsAnswered mid.disk new (checked (refuse ENOSPC (nat_lt (free_sectors p mid.sectors) least_free))) (Err e)
     → IsAnswered old.disk new (checked (refuse ENOSPC (nat_lt (free_sectors p old.sectors) least_free))) (Err e)
 sectors_later p {old} {mid} new e same is =
     kept_back (λ (m : SectorMap). IsAnswered old.disk new (checked (refuse ENOSPC (nat_lt (free_sectors p m) least_free))) (Err e)) same
     (answered_later {A = Unit {0}} new same is)
 
-pub inodes_later : (p : Place) {old mid : TxnState} (new : DiskState) (e : Refusal) → IsUnchanged old mid
+pub inodes_later : (p : Geometry) {old mid : TxnState} (new : DiskState) (e : Refusal) → IsUnchanged old mid
     → IsAnswered mid.disk new (checked (refuse ENOSPC (free_numbers p Inodes mid.sectors == 0))) (Err e)
     → IsAnswered old.disk new (checked (refuse ENOSPC (free_numbers p Inodes old.sectors == 0))) (Err e)
 inodes_later p {old} {mid} new e same is =
@@ -75,7 +75,7 @@ pub answered_as : (d : Demand) {v w : Inode} → refused_or d (Ok v) ≡ Ok w �
 answered_as d {v} {w} is = sym (met_ok {A = Inode} d v w is).1
 
 -- it was asked for after reads
-pub directory_met : (p : Place) {old mid : TxnState} (dir : ℕ) {d : Inode} (asked : Demand) → IsUnchanged old mid
+pub directory_met : (p : Geometry) {old mid : TxnState} (dir : ℕ) {d : Inode} (asked : Demand) → IsUnchanged old mid
     → refused_or asked (Ok (inode_at p mid.sectors dir)) ≡ Ok d → (asked ≡ None) × (d ≡ inode_at p old.sectors dir)
 directory_met p {old} {mid} dir {d} asked same is =
     let x = met_ok {A = Inode} asked (inode_at p mid.sectors dir) d is in
@@ -85,14 +85,14 @@ pub size_as : (most : ℕ) {v w : Inode} {r : Checked} → w ≡ v → checked (
 size_as most {v} {w} {r} same is = subst (λ (u : Inode). checked (refuse ENOSPC (nat_le most u.size)) ≡ r) same is
 
 -- the size of its inode says whether a directory has place for one more name
-pub names_are : {p : Place} {map : SectorMap} {t : Tree} → HoldsTree p map t → (dir : ℕ) → IsDirectoryAt t dir
-    → refuse ENOSPC (nat_le (max_directory_size p.version) (inode_at p map dir).size) ≡ refuse ENOSPC (nat_le (max_names p.version) (length (names_in (the_node t dir).body)))
+pub names_are : {p : Geometry} {map : SectorMap} {t : Tree} → HoldsTree p map t → (dir : ℕ) → IsDirectoryAt t dir
+    → refuse ENOSPC (nat_le (max_directory_size p.version) (inode_at p map dir).size) ≡ refuse ENOSPC (nat_le (max_names p.version) (length (names_of_body (the_node t dir).body)))
 names_are {p} {map} {t} h dir d =
     let size = names_size (held_names h dir d) in
-    ap (refuse ENOSPC) (same_test p.version (length (names_in d.node.body)) (inode_at p map dir).size size)
-    ∙ sym (ap (λ (u : Node). refuse ENOSPC (nat_le (max_names p.version) (length (names_in u.body)))) (the_node_is t dir d.node d.is_there))
+    ap (refuse ENOSPC) (same_test p.version (length (names_of_body d.node.body)) (inode_at p map dir).size size)
+    ∙ sym (ap (λ (u : Node). refuse ENOSPC (nat_le (max_names p.version) (length (names_of_body u.body)))) (the_node_is t dir d.node d.is_there))
 
-module _ {p : Place} {map : SectorMap} {t : Tree} (h : HoldsTree p map t) (dir : ℕ) (d : IsDirectoryAt t dir) (cred : Credential) (step : ℕ) where
+module _ {p : Geometry} {map : SectorMap} {t : Tree} (h : HoldsTree p map t) (dir : ℕ) (d : IsDirectoryAt t dir) (cred : Credential) (step : ℕ) where
   pub dir_access : IsAccessed t dir
   dir_access =
       let a = accessible d.node.owner d.node.group d.node.body (no_link d.node.body d.directory) in
@@ -111,7 +111,7 @@ module _ {p : Place} {map : SectorMap} {t : Tree} (h : HoldsTree p map t) (dir :
   inodes = refuse ENOSPC (free_inodes (room_of p) t == 0)
 
   abbrev names : Demand
-  names = refuse ENOSPC (nat_le (max_names p.version) (length (names_in (the_node t dir).body)))
+  names = refuse ENOSPC (nat_le (max_names p.version) (length (names_of_body (the_node t dir).body)))
 
   inodes_are : refuse ENOSPC (free_numbers p Inodes map == 0) ≡ inodes
   inodes_are = ap (λ (n : ℕ). refuse ENOSPC (n == 0)) (sym (free_are_clear p map t h.holds h.tree))
@@ -151,7 +151,7 @@ module _ {p : Place} {map : SectorMap} {t : Tree} (h : HoldsTree p map t) (dir :
       (both_met inodes (names ∷ []) some
       (or_else-none names ∙ sym (names_are h dir d) ∙ (met_ok {A = Unit {0}} (refuse ENOSPC (nat_le (max_directory_size p.version) (inode_at p map dir).size)) tt tt is).0)))
 
-module _ {p : Place} {old : TxnState} {t : Tree} (h : HoldsTree p old.sectors t) (dir : ℕ) (d : IsDirectoryAt t dir) (cred : Credential) (step : ℕ)
+module _ {p : Geometry} {old : TxnState} {t : Tree} (h : HoldsTree p old.sectors t) (dir : ℕ) (d : IsDirectoryAt t dir) (cred : Credential) (step : ℕ)
     {mid : TxnState} (same : IsUnchanged old mid) where
   pub held_later : (v : Inode) → v ≡ inode_at p old.sectors dir → HasAccess mid.sectors v (dir_access h dir d cred step).access
   held_later v is =

@@ -7,7 +7,7 @@ use Rattle.std.specs.List.{list_any}
 use Rattle.std.proofs.lemmas.Bool.Decides.{nat_tests}
 use Rattle.fs_cred.specs.declared.errno.Errno.TheVariants.{ENOENT, EINVAL, ENOSPC}
 use Rattle.fs_cred.specs.Credentials.{Credential}
-use Rattle.fs_layout.specs.declared.place.Place.{Place}
+use Rattle.fs_layout.specs.declared.geometry.Geometry.{Geometry}
 use Rattle.fs_layout.specs.Bytes.{SectorMap, IsBytes}
 use Rattle.fs_layout.specs.Directories.{IsName}
 use Rattle.fs_layout.specs.Images.{free_sectors}
@@ -18,9 +18,9 @@ use Rattle.fs_model.specs.declared.walk.Found.{Found}
 use Rattle.fs_model.specs.Births.{the_node}
 use Rattle.fs_model.specs.Demands.{refuse, first_of, permission_on, write_and_search}
 use Rattle.fs_model.specs.Limits.{least_free}
-use Rattle.fs_model.specs.Nodes.{Node, names_in}
+use Rattle.fs_model.specs.Nodes.{Node, names_of_body}
 use Rattle.fs_model.specs.Parts.{is_empty}
-use Rattle.fs_model.specs.Processes.{Process, Desks}
+use Rattle.fs_model.specs.Processes.{Process, ProcessTable}
 use Rattle.fs_model.specs.Stands.{room_of}
 use Rattle.fs_model.specs.States.{State}
 use Rattle.fs_model.specs.Steps.{found_by}
@@ -34,27 +34,27 @@ use Rattle.call_parts.specs.Performing.{IsStateOf}
 use Rattle.call_parts.specs.Makings.{CanMake, make_asked}
 use Rattle.call_parts.proofs.Shown.{the_node_is}
 
-pub found_new : {p : Place} {map : SectorMap} {desks : Desks} {s : State} {pid : ℕ} {q : Process} {form : Form} {path : List ℕ} {f : Found}
-    → IsStateOf p map desks s → HasFound s pid q form path f → IsBytes path → f.ino ≡ None → IsNameAt s.room s.tree f.dir f.name None
-found_new {p} {map} {desks} {s} {pid} {q} {form} {path} {f} at has bytes none =
+pub found_new : {p : Geometry} {map : SectorMap} {processes : ProcessTable} {s : State} {pid : ℕ} {q : Process} {form : Form} {path : List ℕ} {f : Found}
+    → IsStateOf p map processes s → HasFound s pid q form path f → IsBytes path → f.ino ≡ None → IsNameAt s.room s.tree f.dir f.name None
+found_new {p} {map} {processes} {s} {pid} {q} {form} {path} {f} at has bytes none =
     let later = then_met (refuse ENOENT (is_empty path)) _ has.checked in
     let no_zero = unrefused EINVAL (list_any (λ b. b == 0) path) (first_met (refuse EINVAL (list_any (λ b. b == 0) path)) _ later) in
     let walked : IsWalked s.room s.tree form (found_by s.room s.tree q.cwd (form, path)) =
     is_walked s.room at.is_state.room.name_limit s.tree at.is_state.tree q.cred q.cwd 1 (form, path) bytes no_zero has.unrefused in
     (subst (IsWalked s.room s.tree form) (sym has.is) walked).new none
 
-pub has_few : (p : Place) (map : SectorMap) (t : Tree) (dir : ℕ) (cred : Credential) (step : ℕ) → first_of (make_asked p map cred t dir step) ≡ None
-    → length (names_in (the_node t dir).body) < max_names p.version
+pub has_few : (p : Geometry) (map : SectorMap) (t : Tree) (dir : ℕ) (cred : Credential) (step : ℕ) → first_of (make_asked p map cred t dir step) ≡ None
+    → length (names_of_body (the_node t dir).body) < max_names p.version
 has_few p map t dir cred step met =
-    let names = length (names_in (the_node t dir).body) in
+    let names = length (names_of_body (the_node t dir).body) in
     let space = then_met (permission_on cred t dir write_and_search 1 step) _ met in
     let two = then_met (refuse ENOSPC (nat_lt (free_sectors p map) least_free)) _ space in
     let three = then_met (refuse ENOSPC (free_inodes (room_of p) t == 0)) _ two in
     let few : nat_le (max_names p.version) names ≡ false = unrefused ENOSPC (nat_le (max_names p.version) names) (first_met (refuse ENOSPC (nat_le (max_names p.version) names)) _ three) in
     grind (arith, nat_tests)
 
-module _ {p : Place} {map : SectorMap} {t : Tree} {dir : ℕ} (cred : Credential) (step : ℕ) (met : first_of (make_asked p map cred t dir step) ≡ None) where
-  pub may_make : HoldsTree p map t → (d : IsDirectoryAt t dir) (name : List ℕ) → IsName name → length name ≤ max_name p.version → get name_cmp (names_in d.node.body) name ≡ None
+module _ {p : Geometry} {map : SectorMap} {t : Tree} {dir : ℕ} (cred : Credential) (step : ℕ) (met : first_of (make_asked p map cred t dir step) ≡ None) where
+  pub may_make : HoldsTree p map t → (d : IsDirectoryAt t dir) (name : List ℕ) → IsName name → length name ≤ max_name p.version → get name_cmp (names_of_body d.node.body) name ≡ None
       → CanMake p map t dir name
   may_make h d name is_name short is_new =
       let space = then_met (permission_on cred t dir write_and_search 1 step) _ met in
@@ -70,7 +70,7 @@ module _ {p : Place} {map : SectorMap} {t : Tree} {dir : ℕ} (cred : Credential
         is_name = is_name;
         short = short;
         is_new = is_new;
-        has_room = subst (λ (u : Node). length (names_in u.body) < max_names p.version) (the_node_is t dir d.node d.is_there) (has_few p map t dir cred step met);
+        has_room = subst (λ (u : Node). length (names_of_body u.body) < max_names p.version) (the_node_is t dir d.node d.is_there) (has_few p map t dir cred step met);
         some = λ zero. let clear : free_inodes (room_of p) t ≡ 0 = counted ∙ zero in grind (arith, nat_tests);
         enough = grind (arith, nat_tests);
       }

@@ -12,14 +12,14 @@ use Rattle.fs_cred.specs.declared.rule.Rule.{Rule}
 use Rattle.fs_cred.specs.Credentials.{Credential}
 use Rattle.fs_cred.specs.Verdicts.{verdict}
 use Rattle.fs_layout.specs.declared.inode.Inode.{Inode}
-use Rattle.fs_layout.specs.declared.place.Place.{Place}
+use Rattle.fs_layout.specs.declared.geometry.Geometry.{Geometry}
 use Rattle.fs_layout.specs.Bytes.{SectorMap}
 use Rattle.fs_layout.specs.Version.{max_names, max_directory_size}
 use Rattle.fs_layout.specs.Images.{inode_at, free_sectors}
 use Rattle.fs_model.specs.Births.{the_node}
 use Rattle.fs_model.specs.Demands.{Demand, refuse, first_of, decided, permission_of, permission_on, write_and_search}
 use Rattle.fs_model.specs.Limits.{least_free}
-use Rattle.fs_model.specs.Nodes.{names_in}
+use Rattle.fs_model.specs.Nodes.{names_of_body}
 use Rattle.fs_model.specs.Trees.{Tree, IsDirectoryAt}
 use Rattle.path_walk.specs.Answers.{refused_or, IsAnswered}
 use Rattle.path_walk.specs.HeldTrees.{HoldsTree}
@@ -40,7 +40,7 @@ asked_as {cred} {who} {step} {steps} t dir walk y r old new same is h =
     subst (λ (k : ℕ). IsAnswered old new (refused_or {A = Inode} (permission_on who t dir write_and_search walk k) (Ok y)) r) is
     (subst (λ (k : Credential). IsAnswered old new (refused_or {A = Inode} (permission_on k t dir write_and_search walk step) (Ok y)) r) same h)
 
-module _ {p : Place} {map : SectorMap} {t : Tree} (h : HoldsTree p map t) (dir : ℕ) (d : IsDirectoryAt t dir) (cred : Credential) (walk step : ℕ) where
+module _ {p : Geometry} {map : SectorMap} {t : Tree} (h : HoldsTree p map t) (dir : ℕ) (d : IsDirectoryAt t dir) (cred : Credential) (walk step : ℕ) where
   abbrev pub decision : Result Rule Refusal
   decision =
       refused_or {A = Rule} (decided walk step (Perm write_and_search) (verdict cred (dir_access h dir d cred step).access write_and_search))
@@ -64,12 +64,12 @@ module _ {p : Place} {map : SectorMap} {t : Tree} (h : HoldsTree p map t) (dir :
 
 -- ---- room for a name
 
-module _ {p : Place} {map : SectorMap} {t : Tree} (h : HoldsTree p map t) (dir : ℕ) (d : IsDirectoryAt t dir) where
+module _ {p : Geometry} {map : SectorMap} {t : Tree} (h : HoldsTree p map t) (dir : ℕ) (d : IsDirectoryAt t dir) where
   abbrev sectors : Demand
   sectors = refuse ENOSPC (nat_lt (free_sectors p map) least_free)
 
   abbrev slots : Demand
-  slots = refuse ENOSPC (nat_le (max_names p.version) (length (names_in (the_node t dir).body)))
+  slots = refuse ENOSPC (nat_le (max_names p.version) (length (names_of_body (the_node t dir).body)))
 
   pub room_few : (e : Refusal) (old new : DiskState) → IsAnswered old new (checked (refuse ENOSPC (nat_lt (free_sectors p map) least_free))) (Err e)
       → IsAnswered old new (checked (first_of (room_asked p map t dir))) (Err e)

@@ -12,7 +12,7 @@ use Rattle.sector_disk.specs.Disk.{DiskState, HasFailed}
 use Rattle.fs_layout.specs.declared.inode.TheConstants.{S_ISGID, S_ISVTX}
 use Rattle.fs_layout.specs.declared.inode.Inode.{Inode}
 use Rattle.fs_layout.specs.declared.inode.Kind.TheVariants as kinds
-use Rattle.fs_layout.specs.declared.place.Place.{Place}
+use Rattle.fs_layout.specs.declared.geometry.Geometry.{Geometry}
 use Rattle.fs_layout.specs.AclSector.{kept_acl}
 use Rattle.fs_layout.specs.Bytes.{SectorMap}
 use Rattle.fs_layout.specs.InodeChanges.{ChangesInode}
@@ -49,14 +49,14 @@ use Rattle.fs_model.specs.Births.{the_directory}
 
 -- ---- a free number
 
-pub nothing_stands : {p : Place} {map : SectorMap} {t : Tree} → HoldsTree p map t → (n : ℕ) → IsFreeNumber p Inodes map n → node_at t n ≡ None
+pub nothing_stands : {p : Geometry} {map : SectorMap} {t : Tree} → HoldsTree p map t → (n : ℕ) → IsFreeNumber p Inodes map n → node_at t n ≡ None
 nothing_stands {p} {map} {t} h n free = go (node_at t n) refl
   where
     go : (o : Option Node) → node_at t n ≡ o → node_at t n ≡ None
     go None e = e
     go (Some node) e =
         let set : bit map p.inode_bitmap n ≡ true =
-        h.holds.inode_bits n (inode_has_bit h.holds.consistent.place n free.1)
+        h.holds.inode_bits n (inode_has_bit h.holds.consistent.geometry n free.1)
         ∙ ap (λ o. nat_eq n 0 || nat_le p.inodes n || is_some o) (placed_from t n (Some node) (names_of t n) (parent t n) e refl refl)
         ∙ or_right (nat_eq n 0 || nat_le p.inodes n) true refl in
         absurd (true≢false (sym set ∙ free.2))
@@ -78,11 +78,11 @@ takes_one (Some a) = omega arith
 pub takes_few : (a : AccessList) → acls_take a None ≤ 1
 takes_few a = let few = takes_one (kept_acl a) in omega (arith, few)
 
-module _ {p : Place} {map : SectorMap} {t : Tree} {dir : ℕ} {name : List ℕ} (can : CanMake p map t dir name) where
+module _ {p : Geometry} {map : SectorMap} {t : Tree} {dir : ℕ} {name : List ℕ} (can : CanMake p map t dir name) where
   pub dir_below : dir < p.inodes
   dir_below = number_below can.holds dir (is_there t dir can.directory.node can.directory.is_there)
 
-module _ {p : Place} {map : SectorMap} {t : Tree} (h : HoldsTree p map t) {dir : ℕ} (d : IsDirectoryAt t dir) {mid : SectorMap} (n : ℕ)
+module _ {p : Geometry} {map : SectorMap} {t : Tree} (h : HoldsTree p map t) {dir : ℕ} (d : IsDirectoryAt t dir) {mid : SectorMap} (n : ℕ)
     (free : IsFreeNumber p Inodes map n) (first : ChangesInode p n map mid) where
   pub apart_from_new : dir ≢ n
   apart_from_new e =
@@ -102,7 +102,7 @@ module _ {p : Place} {map : SectorMap} {t : Tree} (h : HoldsTree p map t) {dir :
       dir (number_below h dir (is_there t dir d.node d.is_there)) (record { node = d.node; names = names_of t dir; parent = parent t dir })
       (placing_other n (Some x) (placed t) dir apart_from_new ∙ placed_from t dir (Some d.node) (names_of t dir) (parent t dir) d.is_there refl refl)
 
-module _ {p : Place} {n taken more : ℕ} {old new : TxnState} (free : IsFreeNumber p Inodes old.sectors n) (touches : Touches p n taken more old new)
+module _ {p : Geometry} {n taken more : ℕ} {old new : TxnState} (free : IsFreeNumber p Inodes old.sectors n) (touches : Touches p n taken more old new)
     (used : IsTrue (bit new.sectors p.inode_bitmap n)) where
   pub file_taken : (dir uid gid : ℕ) (a : AccessList) → KeepsFields (with_acl_bits (new_file uid gid) a) (inode_at p new.sectors n) → Holds new.sectors (inode_at p new.sectors n) []
       → HasAcl new.sectors (inode_at p new.sectors n) a → HasDefaultAcl new.sectors (inode_at p new.sectors n) None
@@ -117,7 +117,7 @@ module _ {p : Place} {n taken more : ℕ} {old new : TxnState} (free : IsFreeNum
 
 -- ---- its name
 
-module _ (p : Place) (map : SectorMap) (v : Inode) (names : List (List ℕ × ℕ)) (name : List ℕ) (is_new : get name_cmp names name ≡ None) (few : length names < max_names p.version)
+module _ (p : Geometry) (map : SectorMap) (v : Inode) (names : List (List ℕ × ℕ)) (name : List ℕ) (is_new : get name_cmp names name ≡ None) (few : length names < max_names p.version)
     (enough : 3 ≤ free_sectors p map) where
   -- a name isn't refused for want of room, nor because it is there
   pub room_suffices : (old new : DiskState) (e : DirFault) → WhyNotAdded p map v names name e → (e ≡ naming.DiskFault → HasFailed old new) → HasFailed old new

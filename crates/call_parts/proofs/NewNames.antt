@@ -12,7 +12,7 @@ use Rattle.sector_disk.specs.Disk.{DiskState, HasFailed}
 use Rattle.fs_cred.specs.declared.errno.Errno.TheVariants.{ENOSPC}
 use Rattle.fs_cred.specs.declared.refusal.Refusal.{Refusal}
 use Rattle.fs_cred.specs.Credentials.{Credential}
-use Rattle.fs_layout.specs.declared.place.Place.{Place}
+use Rattle.fs_layout.specs.declared.geometry.Geometry.{Geometry}
 use Rattle.fs_layout.specs.Bytes.{SectorMap, IsBytes}
 use Rattle.fs_layout.specs.Images.{inode_at, free_sectors}
 use Rattle.fs_layout.specs.Version.{max_names}
@@ -35,8 +35,8 @@ use Rattle.fs_model.specs.declared.touch.Touch.TheVariants.{Modified, Born}
 use Rattle.fs_model.specs.TreeChanges.{Make}
 use Rattle.fs_model.specs.Demands.{Demand, refuse, first_of}
 use Rattle.fs_model.specs.Limits.{least_free}
-use Rattle.fs_model.specs.Nodes.{Node, names_in, with_names}
-use Rattle.fs_model.specs.Processes.{Process, Desks, is_open}
+use Rattle.fs_model.specs.Nodes.{Node, names_of_body, with_names}
+use Rattle.fs_model.specs.Processes.{Process, ProcessTable, is_open}
 use Rattle.fs_model.specs.Scenes.{Scene, Effect, permission_at_dir, space_to_make, changes}
 use Rattle.fs_model.specs.States.{State, IsProcess}
 use Rattle.fs_model.specs.Steps.{HasNewNumber}
@@ -68,7 +68,7 @@ use Rattle.call_parts.proofs.Shown.{the_node_is}
 use Rattle.call_parts.specs.NewNodes.{MayBeNamed, IsMade, IsNewIn, MakesNode, TakesInode}
 use Rattle.call_parts.specs.Times.{MayMoveTimes, MovesTimes}
 
-module _ {p : Place} {map : SectorMap} {t : Tree} {dir : ℕ} {name : List ℕ} (can : CanMake p map t dir name) where
+module _ {p : Geometry} {map : SectorMap} {t : Tree} {dir : ℕ} {name : List ℕ} (can : CanMake p map t dir name) where
   pub room_then : (mid : SectorMap) (n : ℕ) (x : Placed) → TakesInode p n x map mid → free_sectors p map ≤ free_sectors p mid + 2 → MayBeNamed p mid dir name
   room_then mid n x takes left =
       let held = dir_still_held can.holds can.directory n takes.free takes.change x takes.holds takes.taken in
@@ -77,7 +77,7 @@ module _ {p : Place} {map : SectorMap} {t : Tree} {dir : ℕ} {name : List ℕ} 
         below = dir_below can;
         is_name = can.is_name;
         short = can.short;
-        names = names_in can.directory.node.body;
+        names = names_of_body can.directory.node.body;
         are = names_say p.version mid (inode_at p mid dir) can.directory.node.body can.directory.directory held.body;
         is_new = can.is_new;
         few = can.has_room;
@@ -96,12 +96,12 @@ module _ {p : Place} {map : SectorMap} {t : Tree} {dir : ℕ} {name : List ℕ} 
 -- ---- what is asked of the directory
 
 -- as this caller, after so many lookups
-pub asked_as : (p : Place) (map : SectorMap) (t : Tree) (dir : ℕ) {cred who : Credential} {step steps : ℕ} → cred ≡ who → step ≡ steps
+pub asked_as : (p : Geometry) (map : SectorMap) (t : Tree) (dir : ℕ) {cred who : Credential} {step steps : ℕ} → cred ≡ who → step ≡ steps
     → make_asked p map cred t dir step ≡ make_asked p map who t dir steps
 asked_as p map t dir {cred} {who} {step} {steps} same count =
     ap (λ (k : Credential). make_asked p map k t dir step) same ∙ ap (λ (k : ℕ). make_asked p map who t dir k) count
 
-module _ (p : Place) (old new : TxnState) (who : Credential) (t : Tree) (f : Found) (node : Node) where
+module _ (p : Geometry) (old new : TxnState) (who : Credential) (t : Tree) (f : Found) (node : Node) where
   -- it isn't made
   pub not_made : (r : Result ℕ Refusal) (e : Refusal) → IsErr r × IsErrAnd r (λ y. y ≡ e)
       → IsAnswered old.disk new.disk (refused_or {A = Unit {0}} (first_of (make_asked p old.sectors who t f.dir (f.step - 1))) (Ok tt)) (Err e)
@@ -117,7 +117,7 @@ module _ (p : Place) (old new : TxnState) (who : Credential) (t : Tree) (f : Fou
       (subst (λ (ds : List Demand). IsAnswered old.disk new.disk (refused_or {A = B} (first_of ds) (Ok x)) (Err e)) (asked_as p old.sectors t f.dir same count) h))
 
 -- it is met, and answers this
-pub allowed : (p : Place) (map : SectorMap) (t : Tree) (f : Found) {cred who : Credential} {step : ℕ} → cred ≡ who → step ≡ f.step - 1 → {B : Type 0} (x y : B)
+pub allowed : (p : Geometry) (map : SectorMap) (t : Tree) (f : Found) {cred who : Credential} {step : ℕ} → cred ≡ who → step ≡ f.step - 1 → {B : Type 0} (x y : B)
     → refused_or {A = B} (first_of (make_asked p map cred t f.dir step)) (Ok x) ≡ Ok y → (first_of (make_asked p map who t f.dir (f.step - 1)) ≡ None) × (y ≡ x)
 allowed p map t f {cred} {who} {step} same count {B} x y h =
     let met = met_ok {A = B} (first_of (make_asked p map cred t f.dir step)) x y h in
@@ -131,24 +131,24 @@ pub record ParentFits (room : Room) (t : Tree) (node : Node) : Type 0 where
   pub body : IsBody room t node.body
 
 -- the caller is one of the state
-pub caller_fits : {p : Place} {map : SectorMap} {desks : Desks} {s : State} {pid : ℕ} {q : Process} {form : Form} {path : List ℕ} {f : Found}
-    → IsStateOf p map desks s → HasFound s pid q form path f → IsProcess s.tree q
-caller_fits {p} {map} {desks} {s} {pid} {q} at has = (at.is_state.desks at.up).processes pid q has.there
+pub caller_fits : {p : Geometry} {map : SectorMap} {processes : ProcessTable} {s : State} {pid : ℕ} {q : Process} {form : Form} {path : List ℕ} {f : Found}
+    → IsStateOf p map processes s → HasFound s pid q form path f → IsProcess s.tree q
+caller_fits {p} {map} {processes} {s} {pid} {q} at has = (at.is_state.processes at.up).each_process pid q has.there
 
 -- what a call asks that makes something, after what it asks of the name
 abbrev pub space_at : Scene → List Demand
 space_at s = permission_at_dir s s.first 1 ∷ space_to_make s
 
-module _ {p : Place} {map : SectorMap} {desks : Desks} {s : State} (at : IsStateOf p map desks s) (q : Process) (f : Found) where
+module _ {p : Geometry} {map : SectorMap} {processes : ProcessTable} {s : State} (at : IsStateOf p map processes s) (q : Process) (f : Found) where
   abbrev space : List Demand
   space = space_at (scene_at s q f)
 
   space_is : space ≡ make_asked p map q.cred s.tree f.dir (f.step - 1)
   space_is =
       ap (λ (k : ℕ). permission_at_dir (scene_at s q f) f 1 ∷ refuse ENOSPC (nat_lt k least_free)
-      ∷ refuse ENOSPC (free_inodes s.room s.tree == 0) ∷ refuse ENOSPC (nat_le s.room.entries_limit (length (names_in (the_node s.tree f.dir).body))) ∷ []) at.free_is
+      ∷ refuse ENOSPC (free_inodes s.room s.tree == 0) ∷ refuse ENOSPC (nat_le s.room.entries_limit (length (names_of_body (the_node s.tree f.dir).body))) ∷ []) at.free_is
       ∙ ap (λ (r : Room). permission_at_dir (scene_at s q f) f 1 ∷ refuse ENOSPC (nat_lt (free_sectors p map) least_free)
-      ∷ refuse ENOSPC (free_inodes r s.tree == 0) ∷ refuse ENOSPC (nat_le r.entries_limit (length (names_in (the_node s.tree f.dir).body))) ∷ []) at.same_room
+      ∷ refuse ENOSPC (free_inodes r s.tree == 0) ∷ refuse ENOSPC (nat_le r.entries_limit (length (names_of_body (the_node s.tree f.dir).body))) ∷ []) at.same_room
 
   module _ (asked : List Demand) (met : first_of asked ≡ None) where
     pub space_refused : (e : Refusal) (old new : DiskState)
@@ -194,7 +194,7 @@ module _ {p : Place} {map : SectorMap} {desks : Desks} {s : State} (at : IsState
           (free.0, omega (arith, below, same), nothing_stands (state_tree at) n free)
 
       renamed_held : HoldsNode p.version new (inode_at p new f.dir) (record {
-        node = record directory { body = with_names (with_entry name_cmp (names_in directory.body) f.name n) directory.body };
+        node = record directory { body = with_names (with_entry name_cmp (names_of_body directory.body) f.name n) directory.body };
         names = names_of s.tree f.dir;
         parent = parent s.tree f.dir;
       })
@@ -202,12 +202,12 @@ module _ {p : Place} {map : SectorMap} {desks : Desks} {s : State} (at : IsState
           let before = inode_at p made.mid f.dir in
           let held = dir_still_held (state_tree at) directory_there n made.takes.free made.takes.change (record { node = node; names = 1; parent = f.dir }) made.takes.holds made.takes.taken in
           names_held made.mid new before (inode_at p new f.dir) (record { node = directory; names = names_of s.tree f.dir; parent = parent s.tree f.dir }) held
-          (with_entry name_cmp (names_in directory.body) f.name n) new_name.directory made.names.kept made.names.acls
-          (made.names.named (names_in directory.body) (names_say p.version made.mid before directory.body new_name.directory held.body))
+          (with_entry name_cmp (names_of_body directory.body) f.name n) new_name.directory made.names.kept made.names.acls
+          (made.names.named (names_of_body directory.body) (names_say p.version made.mid before directory.body new_name.directory held.body))
 
       -- the node was made
       pub node_made : (asked : List Demand) → first_of asked ≡ None → first_of (make_asked p map q.cred s.tree f.dir (f.step - 1)) ≡ None
-          → IsChange p new desks s q asked (λ k. changes (scene_at s q f) (Make f.dir f.name k node)) Done ((f.dir, Modified) ∷ (n, Born) ∷ [])
+          → IsChange p new processes s q asked (λ k. changes (scene_at s q f) (Make f.dir f.name k node)) Done ((f.dir, Modified) ∷ (n, Born) ∷ [])
       node_made asked met allows = record {
         met = met;
         number = n;
@@ -216,10 +216,10 @@ module _ {p : Place} {map : SectorMap} {desks : Desks} {s : State} (at : IsState
         new_number = fresh;
         times = refl;
         holds =
-            let few = subst (λ (u : Node). length (names_in u.body) < max_names p.version) (the_node_is s.tree f.dir directory new_name.stands) (has_few p map s.tree f.dir q.cred (f.step - 1) allows) in
-            make_held s at.is_state at.up desks (λ k is. subst (λ (d : Desks). IsTrue (is_open d k)) at.same_desks is) p map at.holds at.same_room
+            let few = subst (λ (u : Node). length (names_of_body u.body) < max_names p.version) (the_node_is s.tree f.dir directory new_name.stands) (has_few p map s.tree f.dir q.cred (f.step - 1) allows) in
+            make_held s at.is_state at.up processes (λ k is. subst (λ (d : ProcessTable). IsTrue (is_open d k)) at.same_processes is) p map at.holds at.same_room
             made.mid new f.dir directory f.name n node (record {
-              takes = takes_new new_name (subst (λ (r : Room). length (names_in directory.body) < r.entries_limit) (sym at.same_room) few);
+              takes = takes_new new_name (subst (λ (r : Room). length (names_of_body directory.body) < r.entries_limit) (sym at.same_room) few);
               positive = fresh.0;
               below = fresh.1;
               unused = fresh.2;
@@ -230,11 +230,11 @@ module _ {p : Place} {map : SectorMap} {desks : Desks} {s : State} (at : IsState
 -- ---- a call that makes something, by its row
 
 module _ {pid : ℕ} {call : Call} {checks : Checked} {path : List ℕ} (asked : Found → List Demand) {effect : Scene → ℕ → Effect}
-    (is : WalksPath call checks Parent path (λ x. asked x.first ++ space_at x) effect) {p : Place} {old mid : TxnState} {desks : Desks} {q : Process} {f : Found}
-    (same : IsUnchanged old mid) (w : HasWalked p mid desks pid checks Parent path q f) where
+    (is : WalksPath call checks Parent path (λ x. asked x.first ++ space_at x) effect) {p : Geometry} {old mid : TxnState} {processes : ProcessTable} {q : Process} {f : Found}
+    (same : IsUnchanged old mid) (w : HasWalked p mid processes pid checks Parent path q f) where
   -- the name isn't new
   pub name_refused : {time : ℕ} (r : Result Reply Refusal) (e : Refusal) → IsErr r × IsErrAnd r (λ y. y ≡ e) → {d : Demand} → Refuses d (first_of (asked f)) → checked d ≡ Err e
-      → Performs p time pid call old mid desks desks r
+      → Performs p time pid call old mid processes processes r
   name_refused r e err {d} refuses is_refused = asked_refused is same w mid r e err.0 err.1 store_same {A = Unit {0}} tt
       (λ s has at.
       inl (ap checked
@@ -251,22 +251,22 @@ module _ {pid : ℕ} {call : Call} {checks : Checked} {path : List ℕ} (asked :
     pub made_refused : {time : ℕ} (r : Result Reply Refusal) (e : Refusal) → IsErr r × IsErrAnd r (λ y. y ≡ e) → SameStore mid new → first_of (asked f) ≡ None
         → ((t : Tree) → HoldsTree p mid.sectors t → IsNewIn p t f.dir f.name
         → IsAnswered mid.disk new.disk (refused_or {A = Unit {0}} (first_of (make_asked p mid.sectors q.cred t f.dir (f.step - 1))) (Ok tt)) (Err e))
-        → Performs p time pid call old new desks desks r
+        → Performs p time pid call old new processes processes r
     made_refused r e err store met each = asked_refused is same w new r e err.0 err.1 store {A = Unit {0}} tt
         (λ s has at. space_refused at q f (asked f) met e mid.disk new.disk (each s.tree (state_tree at) (new_in at q f has w.bytes none)))
 
   -- it is, at this number
   module _ (none : f.ino ≡ None) (last : TxnState) (n : ℕ) (node : Tree → Node)
       (each : (t : Tree) → HoldsTree p mid.sectors t → IsNewIn p t f.dir f.name → IsMade p mid last q.cred t f (node t) (Ok n))
-      (says : (s : State) → HasFound s pid q Parent path f → IsStateOf p mid.sectors desks s → first_of (make_asked p mid.sectors q.cred s.tree f.dir (f.step - 1)) ≡ None
+      (says : (s : State) → HasFound s pid q Parent path f → IsStateOf p mid.sectors processes s → first_of (make_asked p mid.sectors q.cred s.tree f.dir (f.step - 1)) ≡ None
       → MakesNode p f.dir f.name n (node s.tree) mid.sectors last.sectors
-      → IsChange p last.sectors desks s q (asked f ++ space_at (scene_at s q f)) (effect (scene_at s q f)) Done ((f.dir, Modified) ∷ (n, Born) ∷ [])) where
-    made_at : (s : State) → IsStateOf p mid.sectors desks s → HasFound s pid q Parent path f
+      → IsChange p last.sectors processes s q (asked f ++ space_at (scene_at s q f)) (effect (scene_at s q f)) Done ((f.dir, Modified) ∷ (n, Born) ∷ [])) where
+    made_at : (s : State) → IsStateOf p mid.sectors processes s → HasFound s pid q Parent path f
         → (first_of (make_asked p mid.sectors q.cred s.tree f.dir (f.step - 1)) ≡ None) × MakesNode p f.dir f.name n (node s.tree) mid.sectors last.sectors
     made_at s at has = each s.tree (state_tree at) (new_in at q f has w.bytes none)
 
-    made_change : (s : State) → HasFound s pid q Parent path f → IsStateOf p mid.sectors desks s
-        → IsChange p last.sectors desks s q (asked f ++ space_at (scene_at s q f)) (effect (scene_at s q f)) Done ((f.dir, Modified) ∷ (n, Born) ∷ [])
+    made_change : (s : State) → HasFound s pid q Parent path f → IsStateOf p mid.sectors processes s
+        → IsChange p last.sectors processes s q (asked f ++ space_at (scene_at s q f)) (effect (scene_at s q f)) Done ((f.dir, Modified) ∷ (n, Born) ∷ [])
     made_change s has at = let m = made_at s at has in says s has at m.0 m.1
 
     -- its times and the directory's may move
@@ -281,7 +281,7 @@ module _ {pid : ℕ} {call : Call} {checks : Checked} {path : List ℕ} (asked :
         k taken (omega (arith, few))
 
     -- and it is done
-    pub made_done : {time : ℕ} {new : TxnState} → SameStore mid last → MovesTimes p time ((f.dir, Modified) ∷ (n, Born) ∷ []) last new → Performs p time pid call old new desks desks (Ok Done)
+    pub made_done : {time : ℕ} {new : TxnState} → SameStore mid last → MovesTimes p time ((f.dir, Modified) ∷ (n, Born) ∷ []) last new → Performs p time pid call old new processes processes (Ok Done)
     made_done store moved =
         let ready = w.ready in
         let done = (made_at ready.state ready.is_state (w.found ready.state ready.is_state)).1 in

@@ -6,7 +6,7 @@ use Rattle.fs_cred.specs.declared.refusal.Refusal.{Refusal}
 use Rattle.fs_cred.specs.Credentials.{Credential}
 use Rattle.fs_layout.specs.declared.inode.Inode.{Inode}
 use Rattle.fs_layout.specs.declared.inode.Kind.TheVariants as kinds
-use Rattle.fs_layout.specs.declared.place.Place.{Place}
+use Rattle.fs_layout.specs.declared.geometry.Geometry.{Geometry}
 use Rattle.fs_layout.specs.declared.version.Version.{Version}
 use Rattle.fs_layout.specs.Bytes.{SectorMap}
 use Rattle.fs_layout.specs.Images.{inode_at}
@@ -18,7 +18,7 @@ use Rattle.fs_model.specs.AttributeCalls.{chown_demands, chown_effect, owned}
 use Rattle.fs_model.specs.Births.{the_node}
 use Rattle.fs_model.specs.Demands.{Demand, or_else, first_of}
 use Rattle.fs_model.specs.Nodes.{Node}
-use Rattle.fs_model.specs.Processes.{Process, Desks}
+use Rattle.fs_model.specs.Processes.{Process, ProcessTable}
 use Rattle.fs_model.specs.Scenes.{number, must_be_there, own_at_end}
 use Rattle.fs_model.specs.States.{State}
 use Rattle.fs_model.specs.StoredNodes.{HoldsNode}
@@ -70,7 +70,7 @@ pub record IsNode (version : Version) (map : SectorMap) (t : Tree) (f : Found) (
   pub is : the_node t (number f) ≡ node
   pub holds : HoldsNode version map v (record { node = node; names = names_of t n; parent = parent t n })
 
-pub node_of : {p : Place} {map : SectorMap} {t : Tree} (h : HoldsTree p map t) (f : Found) (n : ℕ) (v : Inode) → number f ≡ n → v ≡ inode_at p map n
+pub node_of : {p : Geometry} {map : SectorMap} {t : Tree} (h : HoldsTree p map t) (f : Found) (n : ℕ) (v : Inode) → number f ≡ n → v ≡ inode_at p map n
     → IsThere t n → IsNode p.version map t f n v
 node_of {p} {map} {t} h f n v is inode there =
     let s = stands t n there in
@@ -83,8 +83,8 @@ node_of {p} {map} {t} h f n v is inode there =
 
 -- ---- to own it is asked
 
-module _ {p : Place} {map : SectorMap} {desks : Desks} {s : State} {pid : ℕ} {q : Process} {form : Form} {path : List ℕ} {f : Found} {n : ℕ} {v : Inode}
-    (at : IsStateOf p map desks s) (has : HasFound s pid q form path f) (i : IsInodeFound p map f n v) where
+module _ {p : Geometry} {map : SectorMap} {processes : ProcessTable} {s : State} {pid : ℕ} {q : Process} {form : Form} {path : List ℕ} {f : Found} {n : ℕ} {v : Inode}
+    (at : IsStateOf p map processes s) (has : HasFound s pid q form path f) (i : IsInodeFound p map f n v) where
   pub found_node : IsNode p.version map s.tree f n v
   found_node = node_of (state_tree at) f n v i.number i.inode (found_there n at has i.some)
 
@@ -113,8 +113,8 @@ owner_rest owner group s q f =
 pub owner_given : (v : Inode) (uid gid : ℕ) → FitsInode v → v.kind ≢ kinds.Free → uid < 2 ^ 32 → gid < 2 ^ 32 → FitsInode (record v { uid = uid; gid = gid })
 owner_given v uid gid fits used u g = attributes_fit v uid gid v.names v.parent fits used u g fits.names fits.parent
 
-module _ {p : Place} {map : SectorMap} {desks : Desks} {s : State} {pid : ℕ} {q : Process} {form : Form} {path : List ℕ} {f : Found} {n : ℕ} {v : Inode}
-    (at : IsStateOf p map desks s) (has : HasFound s pid q form path f) (i : IsInodeFound p map f n v) where
+module _ {p : Geometry} {map : SectorMap} {processes : ProcessTable} {s : State} {pid : ℕ} {q : Process} {form : Form} {path : List ℕ} {f : Found} {n : ℕ} {v : Inode}
+    (at : IsStateOf p map processes s) (has : HasFound s pid q form path f) (i : IsInodeFound p map f n v) where
   module _ (owner group : Option ℕ) (uid gid : ℕ) (uid_is : uid ≡ unwrap_or owner v.uid) (gid_is : gid ≡ unwrap_or group v.gid) where
     owner_is : chown_demands owner group (scene_at s q f) ≡ must_be_there f ∷ owner_asked q.cred v.uid v.gid uid gid f.step
     owner_is =
@@ -141,7 +141,7 @@ module _ {p : Place} {map : SectorMap} {desks : Desks} {s : State} {pid : ℕ} {
     pub owner_changed : {B : Type 0} (cred : Credential) (y : B) (new : SectorMap) → cred ≡ q.cred
         → refused_or (first_of (owner_asked cred v.uid v.gid uid gid f.step)) (Ok y) ≡ Ok y
         → GivesOwner p n uid gid map new
-        → IsChange p new desks s q (chown_demands owner group (scene_at s q f)) (chown_effect owner group (scene_at s q f)) Done ((n, Changed) ∷ [])
+        → IsChange p new processes s q (chown_demands owner group (scene_at s q f)) (chown_effect owner group (scene_at s q f)) Done ((n, Changed) ∷ [])
     owner_changed {B} cred y new same given gives =
         let x = found_node at has i in
         let is = (at.is_state.tree).each n x.node x.at in

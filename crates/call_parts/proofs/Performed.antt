@@ -2,14 +2,14 @@
 --     performed        what that promises of its call, of the call that was matched
 use Rattle.std.specs.Prelude.{◌≡◌, ℕ, Result}
 use Rattle.std.proofs.Common.{sym, subst}
-use Rattle.fs_layout.specs.declared.place.Place.{Place}
+use Rattle.fs_layout.specs.declared.geometry.Geometry.{Geometry}
 use Rattle.fs_cred.specs.declared.refusal.Refusal.{Refusal}
 use Rattle.sector_txn.specs.Sectors.{TxnState}
 use Rattle.fs_model.specs.declared.call.Call.{Call}
 use Rattle.fs_model.specs.declared.reply.Reply.{Reply}
-use Rattle.fs_model.specs.Processes.{Desks}
+use Rattle.fs_model.specs.Processes.{ProcessTable}
 use Rattle.call_parts.specs.Performing.{Performs}
 
-pub performed : (p : Place) (time pid : ℕ) (call this : Call) (old new : TxnState) (before now : Desks) (result : Result Reply Refusal) → call ≡ this
+pub performed : (p : Geometry) (time pid : ℕ) (call this : Call) (old new : TxnState) (before now : ProcessTable) (result : Result Reply Refusal) → call ≡ this
     → Performs p time pid this old new before now result → Performs p time pid call old new before now result
 performed p time pid call this old new before now result is h = subst (λ (q : Call). Performs p time pid q old new before now result) (sym is) h

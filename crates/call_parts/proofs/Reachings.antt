@@ -18,7 +18,7 @@ use Rattle.fs_cred.specs.declared.refusal.Refusal.{Refusal}
 use Rattle.fs_cred.specs.declared.refusal.Refusal.TheVariants.{Failed}
 use Rattle.fs_layout.specs.declared.inode.Inode.{Inode}
 use Rattle.fs_layout.specs.declared.inode.Kind.TheVariants as kinds
-use Rattle.fs_layout.specs.declared.place.Place.{Place}
+use Rattle.fs_layout.specs.declared.geometry.Geometry.{Geometry}
 use Rattle.fs_layout.specs.Bytes.{SectorMap}
 use Rattle.fs_layout.specs.Maps.{get, with_entry}
 use Rattle.sector_txn.specs.Sectors.{TxnState, SameStore, IsUnchanged}
@@ -35,7 +35,7 @@ use Rattle.fs_model.specs.declared.touch.Touch.{Touch}
 use Rattle.fs_model.specs.TreeChanges.{Same}
 use Rattle.fs_model.specs.Demands.{Demand, or_else, first_of}
 use Rattle.fs_model.specs.Parts.{path_checks}
-use Rattle.fs_model.specs.Processes.{Process, Desks, Descriptor, is_open}
+use Rattle.fs_model.specs.Processes.{Process, ProcessTable, Descriptor, is_open}
 use Rattle.fs_model.specs.Scenes.{Scene, Effect, answers, with_process, must_be_there, own_at_end}
 use Rattle.fs_model.specs.Stands.{HoldsAll, placed}
 use Rattle.fs_model.specs.States.{State}
@@ -50,7 +50,7 @@ use Rattle.path_walk.proofs.Kept.{kept, kept_back, sound_kept, same_map, interru
 use Rattle.call_parts.specs.Asked.{own_asked}
 use Rattle.call_parts.specs.Given.{HasBody}
 use Rattle.call_parts.specs.Paths.{scene_at, HasFound}
-use Rattle.call_parts.specs.Performing.{IsStateOf, IsReady, IsRefused, Performs}
+use Rattle.call_parts.specs.Performing.{IsStateOf, MayPerform, IsRefused, Performs}
 use Rattle.call_parts.specs.Performing as why
 use Rattle.call_parts.specs.Reaching.{Checked, checked, WalksPath, RefusesWalk, RefusesReach, RefusesOwned, HasWalked, IsInodeFound, HasReached}
 use Rattle.call_parts.proofs.ByDescriptor.{still_open}
@@ -63,7 +63,7 @@ use Rattle.call_parts.proofs.Ownership.{own_refused}
 use Rattle.call_parts.proofs.Shown.{is_used}
 
 -- reads leave a transaction in which calls may be performed
-pub ready_kept : {p : Place} {old new : TxnState} {desks : Desks} → IsUnchanged old new → IsReady p old desks → IsReady p new desks
+pub ready_kept : {p : Geometry} {old new : TxnState} {processes : ProcessTable} → IsUnchanged old new → MayPerform p old processes → MayPerform p new processes
 ready_kept {p} {old} {new} same ready = record {
   sound = sound_kept same ready.sound;
   spare = spare_unchanged p 47 old new ready.spare same;
@@ -71,19 +71,19 @@ ready_kept {p} {old} {new} same ready = record {
   is_state = state_kept same ready.is_state;
 }
 
-pub inode_later : {p : Place} {mid new : TxnState} {f : Found} {n : ℕ} {v : Inode} → IsUnchanged mid new → IsInodeFound p mid.sectors f n v → IsInodeFound p new.sectors f n v
+pub inode_later : {p : Geometry} {mid new : TxnState} {f : Found} {n : ℕ} {v : Inode} → IsUnchanged mid new → IsInodeFound p mid.sectors f n v → IsInodeFound p new.sectors f n v
 inode_later {p} {mid} {new} {f} {n} {v} same i = kept (λ (m : SectorMap). IsInodeFound p m f n v) same i
 
 -- ---- each call that walks so is refused
 
 -- there is no such process
-pub absent_walk : (old new : DiskState) (s : State) (pid : ℕ) (checks : Checked) (form : Form) (path : List ℕ) (errno : Errno) → errno ≡ ESRCH → get nat_cmp s.desks pid ≡ None
+pub absent_walk : (old new : DiskState) (s : State) (pid : ℕ) (checks : Checked) (form : Form) (path : List ℕ) (errno : Errno) → errno ≡ ESRCH → get nat_cmp s.processes pid ≡ None
     → RefusesWalk old new s pid checks form path (Failed errno)
 absent_walk old new s pid checks form path errno is none = record {
   each = λ call demands effect w. subst (λ (x : Errno). IsRefused old new s pid call (Failed x)) (sym is) (absent_refused old new s pid call none);
 }
 
-module _ (old new : DiskState) (s : State) (pid : ℕ) (q : Process) (there : get nat_cmp s.desks pid ≡ Some q) (checks : Checked) (form : Form) (path : List ℕ) (e : Refusal) where
+module _ (old new : DiskState) (s : State) (pid : ℕ) (q : Process) (there : get nat_cmp s.processes pid ≡ Some q) (checks : Checked) (form : Form) (path : List ℕ) (e : Refusal) where
   -- an argument is refused
   pub unchecked_walk : checks ≡ Err e → RefusesWalk old new s pid checks form path e
   unchecked_walk is = record {
@@ -112,21 +112,21 @@ walk_reaches refuses = record { each = λ call rest effect w. refuses.each call 
 -- ---- a call that walks so
 
 module _ {pid : ℕ} {call : Call} {checks : Checked} {form : Form} {path : List ℕ} {demands : Scene → List Demand} {effect : Scene → ℕ → Effect}
-    (is : WalksPath call checks form path demands effect) {p : Place} where
+    (is : WalksPath call checks form path demands effect) {p : Geometry} where
   -- its refusal is passed on
-  pub walk_refused : {time : ℕ} {old new : TxnState} {desks : Desks} (r : Result Reply Refusal) (e : Refusal) → IsErr r → IsErrAnd r (λ y. y ≡ e) → IsUnchanged old new
-      → ((s : State) → IsStateOf p old.sectors desks s → RefusesWalk old.disk new.disk s pid checks form path e) → Performs p time pid call old new desks desks r
+  pub walk_refused : {time : ℕ} {old new : TxnState} {processes : ProcessTable} (r : Result Reply Refusal) (e : Refusal) → IsErr r → IsErrAnd r (λ y. y ≡ e) → IsUnchanged old new
+      → ((s : State) → IsStateOf p old.sectors processes s → RefusesWalk old.disk new.disk s pid checks form path e) → Performs p time pid call old new processes processes r
   walk_refused r e err and same refuses = refused_performs r e err and same.store (λ s at. (refuses s at).each call demands effect is)
 
-  module _ {old mid : TxnState} (same : IsUnchanged old mid) {desks : Desks} {q : Process} {f : Found} (w : HasWalked p mid desks pid checks form path q f) where
+  module _ {old mid : TxnState} (same : IsUnchanged old mid) {processes : ProcessTable} {q : Process} {f : Found} (w : HasWalked p mid processes pid checks form path q f) where
     met : first_of is.arguments ≡ None
     met = (met_ok {A = Unit {0}} (first_of is.arguments) tt tt (sym is.are_checked ∙ w.fine)).0
 
-    module _ (s : State) (at : IsStateOf p old.sectors desks s) where
+    module _ (s : State) (at : IsStateOf p old.sectors processes s) where
       has : HasFound s pid q form path f
       has = w.found s (state_kept same at)
 
-      here : get nat_cmp s.desks pid ≡ Some q
+      here : get nat_cmp s.processes pid ≡ Some q
       here = same_process at pid q w.there
 
       pub firm : firm_refusal s (Calls pid call) ≡ None
@@ -142,29 +142,29 @@ module _ {pid : ℕ} {call : Call} {checks : Checked} {form : Form} {path : List
 
     -- what it asks of what was found refuses
     pub asked_refused : {time : ℕ} (new : TxnState) (r : Result Reply Refusal) (e : Refusal) → IsErr r → IsErrAnd r (λ y. y ≡ e) → SameStore mid new → {A : Type 0} (x : A)
-        → ((s : State) → HasFound s pid q form path f → IsStateOf p mid.sectors desks s
+        → ((s : State) → HasFound s pid q form path f → IsStateOf p mid.sectors processes s
         → IsAnswered mid.disk new.disk (refused_or (first_of (demands (scene_at s q f))) (Ok x)) (Err e))
-        → Performs p time pid call old new desks desks r
+        → Performs p time pid call old new processes processes r
     asked_refused new r e err and store x asked = refused_performs r e err and (store_joined same.store store)
         (λ s at. refused_since s at new.disk e x (asked s (has s at) (state_kept same at)))
 
     -- or a fault, in what it does after that
     pub asked_broken : {time : ℕ} {last : TxnState} (new : TxnState) (r : Result Reply Refusal) (e : Refusal) → IsErr r × IsErrAnd r (λ y. y ≡ e) → IsUnchanged mid last → SameStore last new
-        → FailsToRead last.disk new.disk e → Performs p time pid call old new desks desks r
+        → FailsToRead last.disk new.disk e → Performs p time pid call old new processes processes r
     asked_broken {last} new r e err later store fault =
         asked_refused new r e err.0 err.1 (store_joined later.store store) {A = ℕ} 0 (λ s has at. inr (interrupts_later new.disk later (inr fault)))
 
     -- the same, after it has changed the tree
     pub broken_later : {time : ℕ} {last : TxnState} (new : TxnState) (r : Result Reply Refusal) (e : Refusal) → IsErr r × IsErrAnd r (λ y. y ≡ e) → SameStore mid last → SameStore last new
-        → FailsToRead last.disk new.disk e → Performs p time pid call old new desks desks r
+        → FailsToRead last.disk new.disk e → Performs p time pid call old new processes processes r
     broken_later {last} new r e err first store fault = asked_refused new r e err.0 err.1 (store_joined first store) {A = ℕ} 0
         (λ s has at. inr (inr (fault.0, failed_later mid.disk last.disk new.disk first.reads.failures fault.1)))
 
     -- it answers
     pub told : {time : ℕ} (new : TxnState) → IsUnchanged mid new → (reply : Reply)
-        → ((s : State) → HasFound s pid q form path f → IsStateOf p mid.sectors desks s
+        → ((s : State) → HasFound s pid q form path f → IsStateOf p mid.sectors processes s
         → (first_of (demands (scene_at s q f)) ≡ None) × (effect (scene_at s q f) 0 ≡ answers (scene_at s q f) reply))
-        → Performs p time pid call old new desks desks (Ok reply)
+        → Performs p time pid call old new processes processes (Ok reply)
     told new later reply says = told_performs (Ok reply) (unchanged_joined same later)
         (λ s at.
         let t = says s (has s at) (state_kept same at) in (
@@ -175,9 +175,9 @@ module _ {pid : ℕ} {call : Call} {checks : Checked} {form : Form} {path : List
 
     -- it has changed the tree, and then its times have moved
     pub changed : {time : ℕ} (last : TxnState) {new : TxnState} {touches : List (ℕ × Touch)} → SameStore mid last → last.sectors 0 ≡ mid.sectors 0 → MovesTimes p time touches last new → (reply : Reply)
-        → ((s : State) → HasFound s pid q form path f → IsStateOf p mid.sectors desks s
-        → IsChange p last.sectors desks s q (demands (scene_at s q f)) (effect (scene_at s q f)) reply touches)
-        → Performs p time pid call old new desks desks (Ok reply)
+        → ((s : State) → HasFound s pid q form path f → IsStateOf p mid.sectors processes s
+        → IsChange p last.sectors processes s q (demands (scene_at s q f)) (effect (scene_at s q f)) reply touches)
+        → Performs p time pid call old new processes processes (Ok reply)
     changed last store super moved reply changes = record {
       store = store_joined same.store (store_joined store moved.store);
       super = moved.super ∙ super ∙ same.sectors 0;
@@ -191,19 +191,19 @@ module _ {pid : ℕ} {call : Call} {checks : Checked} {form : Form} {path : List
             change = c.change;
             effect = found_after s pid q call form path is.arguments demands effect is.row met (here s at) f (has s at) c.number
                 ∙ ap (after_effect s pid) c.is
-                ∙ ap (λ (d : Desks). record { change = c.change; desks = d; reply = reply; now = s.now })
-                (same_process_stays s.desks pid q at.is_state.pids (here s at) ∙ at.same_desks);
+                ∙ ap (λ (d : ProcessTable). record { change = c.change; processes = d; reply = reply; now = s.now })
+                (same_process_stays s.processes pid q at.is_state.pids (here s at) ∙ at.same_processes);
             new_number = c.new_number;
             holds = times_moved at c moved;
           };
     }
 
     -- its process alone has changed, and what it has open stays
-    pub process_changed : {time : ℕ} (new : TxnState) (now : Desks) → IsUnchanged mid new → (r : Process) (reply : Reply) → now ≡ with_entry nat_cmp desks pid r
+    pub process_changed : {time : ℕ} (new : TxnState) (now : ProcessTable) → IsUnchanged mid new → (r : Process) (reply : Reply) → now ≡ with_entry nat_cmp processes pid r
         → r.descriptors ≡ q.descriptors
-        → ((s : State) → HasFound s pid q form path f → IsStateOf p mid.sectors desks s
+        → ((s : State) → HasFound s pid q form path f → IsStateOf p mid.sectors processes s
         → (first_of (demands (scene_at s q f)) ≡ None) × (effect (scene_at s q f) 0 ≡ with_process r reply))
-        → Performs p time pid call old new desks now (Ok reply)
+        → Performs p time pid call old new processes now (Ok reply)
     process_changed new now later r reply is_now descriptors says =
         let whole = unchanged_joined same later in
         record {
@@ -212,10 +212,10 @@ module _ {pid : ℕ} {call : Call} {checks : Checked} {form : Form} {path : List
           table = tt;
           each = λ s at.
               let t = says s (has s at) (state_kept same at) in
-              let of_state : with_entry nat_cmp s.desks pid r ≡ now = ap (λ (d : Desks). with_entry nat_cmp d pid r) at.same_desks ∙ sym is_now in
-              let still : (n : ℕ) → IsTrue (is_open s.desks n) → IsTrue (is_open now n) = λ n was.
-              ap (λ (d : Desks). is_open d n) (sym of_state)
-              ∙ still_open s.desks pid q r at.is_state.pids (here s at) n (ap (λ (l : List (ℕ × Descriptor)). list_any (λ (d : ℕ × Descriptor). d.1.number == n) l) descriptors) ∙ was in
+              let of_state : with_entry nat_cmp s.processes pid r ≡ now = ap (λ (d : ProcessTable). with_entry nat_cmp d pid r) at.same_processes ∙ sym is_now in
+              let still : (n : ℕ) → IsTrue (is_open s.processes n) → IsTrue (is_open now n) = λ n was.
+              ap (λ (d : ProcessTable). is_open d n) (sym of_state)
+              ∙ still_open s.processes pid q r at.is_state.pids (here s at) n (ap (λ (l : List (ℕ × Descriptor)). list_any (λ (d : ℕ × Descriptor). d.1.number == n) l) descriptors) ∙ was in
               record {
                 early = firm s at;
                 late = late s at ∙ t.0;
@@ -223,10 +223,10 @@ module _ {pid : ℕ} {call : Call} {checks : Checked} {form : Form} {path : List
                 change = Same;
                 effect = found_after s pid q call form path is.arguments demands effect is.row met (here s at) f (has s at) 0
                     ∙ ap (after_effect s pid) t.1
-                    ∙ ap (λ (d : Desks). record { change = Same; desks = d; reply = reply; now = s.now }) of_state;
+                    ∙ ap (λ (d : ProcessTable). record { change = Same; processes = d; reply = reply; now = s.now }) of_state;
                 new_number = tt;
                 holds = subst (λ (x : Tree). HoldsAll p new.sectors (placed x))
-                    (sym (open_stays s.room s.tree s.desks now at.is_state.tree (at.is_state.desks at.up) still))
+                    (sym (open_stays s.room s.tree s.processes now at.is_state.tree (at.is_state.processes at.up) still))
                     (subst (λ (m : SectorMap). HoldsAll p m (placed s.tree)) (sym (same_map whole)) at.holds);
               };
         }
@@ -234,16 +234,16 @@ module _ {pid : ℕ} {call : Call} {checks : Checked} {form : Form} {path : List
 -- ---- a call that asks that something is there
 
 module _ {pid : ℕ} {call : Call} {checks : Checked} {form : Form} {path : List ℕ} {rest : Scene → List Demand} {effect : Scene → ℕ → Effect}
-    (is : WalksPath call checks form path (λ x. must_be_there x.first ∷ rest x) effect) {p : Place} where
-  pub reach_refused : {time : ℕ} {old new : TxnState} {desks : Desks} (r : Result Reply Refusal) (e : Refusal) → IsErr r → IsErrAnd r (λ y. y ≡ e) → IsUnchanged old new
-      → ((s : State) → IsStateOf p old.sectors desks s → RefusesReach old.disk new.disk s pid checks form path e) → Performs p time pid call old new desks desks r
+    (is : WalksPath call checks form path (λ x. must_be_there x.first ∷ rest x) effect) {p : Geometry} where
+  pub reach_refused : {time : ℕ} {old new : TxnState} {processes : ProcessTable} (r : Result Reply Refusal) (e : Refusal) → IsErr r → IsErrAnd r (λ y. y ≡ e) → IsUnchanged old new
+      → ((s : State) → IsStateOf p old.sectors processes s → RefusesReach old.disk new.disk s pid checks form path e) → Performs p time pid call old new processes processes r
   reach_refused r e err and same refuses = refused_performs r e err and same.store (λ s at. (refuses s at).each call rest effect is)
 
-module _ {p : Place} {desks : Desks} {pid : ℕ} {checks : Checked} {form : Form} {path : List ℕ} {q : Process} {f : Found} where
+module _ {p : Geometry} {processes : ProcessTable} {pid : ℕ} {checks : Checked} {form : Form} {path : List ℕ} {q : Process} {f : Found} where
   -- nothing is there, or a read fails
-  pub unreached : {old mid : TxnState} (new : DiskState) (e : Refusal) {A : Type 0} (x : A) → IsUnchanged old mid → HasWalked p mid desks pid checks form path q f
+  pub unreached : {old mid : TxnState} (new : DiskState) (e : Refusal) {A : Type 0} (x : A) → IsUnchanged old mid → HasWalked p mid processes pid checks form path q f
       → IsAnswered mid.disk new (refused_or (must_be_there f) (Ok x)) (Err e)
-      → (s : State) → IsStateOf p old.sectors desks s → RefusesReach old.disk new s pid checks form path e
+      → (s : State) → IsStateOf p old.sectors processes s → RefusesReach old.disk new s pid checks form path e
   unreached {old} {mid} new e x same w h s at = record {
     each = λ call rest effect is.
         refused_since is same w s at new e x (first_asked (must_be_there f) (rest (scene_at s q f)) x x e mid.disk new h);
@@ -251,24 +251,24 @@ module _ {p : Place} {desks : Desks} {pid : ℕ} {checks : Checked} {form : Form
 
   -- ---- what is known once it was reached
 
-  pub walk_kept : {mid new : TxnState} → IsUnchanged mid new → HasWalked p mid desks pid checks form path q f → HasWalked p new desks pid checks form path q f
+  pub walk_kept : {mid new : TxnState} → IsUnchanged mid new → HasWalked p mid processes pid checks form path q f → HasWalked p new processes pid checks form path q f
   walk_kept {mid} {new} same w = record {
     ready = ready_kept same w.ready;
     there = w.there;
     fine = w.fine;
     bytes = w.bytes;
-    found = λ s at. w.found s (kept_back (λ (m : SectorMap). IsStateOf p m desks s) same at);
+    found = λ s at. w.found s (kept_back (λ (m : SectorMap). IsStateOf p m processes s) same at);
   }
 
-  pub walked_below : {mid : TxnState} → HasWalked p mid desks pid checks form path q f → (n : ℕ) → f.ino ≡ Some n → n < p.inodes
+  pub walked_below : {mid : TxnState} → HasWalked p mid processes pid checks form path q f → (n : ℕ) → f.ino ≡ Some n → n < p.inodes
   walked_below w n is = let at = w.ready.is_state in number_below (state_tree at) n (found_there n at (w.found w.ready.state at) is)
 
-  module _ {mid : TxnState} {n : ℕ} {v : Inode} (r : HasReached p mid desks pid checks form path q f n v) where
+  module _ {mid : TxnState} {n : ℕ} {v : Inode} (r : HasReached p mid processes pid checks form path q f n v) where
     pub reached_below : n < p.inodes
     reached_below = walked_below r.walked n r.inode.some
 
     -- what was found is there
-    pub reached_there : (s : State) → IsStateOf p mid.sectors desks s → IsThere s.tree n
+    pub reached_there : (s : State) → IsStateOf p mid.sectors processes s → IsThere s.tree n
     reached_there s at = found_there n at (r.walked.found s at) r.inode.some
 
     pub reached_used : v.kind ≢ kinds.Free
@@ -279,9 +279,9 @@ module _ {p : Place} {desks : Desks} {pid : ℕ} {checks : Checked} {form : Form
 -- ---- a call that asks that it is the caller's
 
 module _ {pid : ℕ} {call : Call} {checks : Checked} {form : Form} {path : List ℕ} {rest : Scene → List Demand} {effect : Scene → ℕ → Effect}
-    (is : WalksPath call checks form path (λ x. must_be_there x.first ∷ own_at_end x ∷ rest x) effect) {p : Place} where
-  pub owned_refused : {time : ℕ} {old new : TxnState} {desks : Desks} (r : Result Reply Refusal) (e : Refusal) → IsErr r → IsErrAnd r (λ y. y ≡ e) → IsUnchanged old new
-      → ((s : State) → IsStateOf p old.sectors desks s → RefusesOwned old.disk new.disk s pid checks form path e) → Performs p time pid call old new desks desks r
+    (is : WalksPath call checks form path (λ x. must_be_there x.first ∷ own_at_end x ∷ rest x) effect) {p : Geometry} where
+  pub owned_refused : {time : ℕ} {old new : TxnState} {processes : ProcessTable} (r : Result Reply Refusal) (e : Refusal) → IsErr r → IsErrAnd r (λ y. y ≡ e) → IsUnchanged old new
+      → ((s : State) → IsStateOf p old.sectors processes s → RefusesOwned old.disk new.disk s pid checks form path e) → Performs p time pid call old new processes processes r
   owned_refused r e err and same refuses = refused_performs r e err and same.store (λ s at. (refuses s at).each call rest effect is)
 
 pub reach_owns : {old new : DiskState} {s : State} {pid : ℕ} {checks : Checked} {form : Form} {path : List ℕ} {e : Refusal}
@@ -289,10 +289,10 @@ pub reach_owns : {old new : DiskState} {s : State} {pid : ℕ} {checks : Checked
 reach_owns refuses = record { each = λ call rest effect w. refuses.each call (λ x. own_at_end x ∷ rest x) effect w }
 
 -- it isn't the caller's
-pub unowned : {p : Place} {old mid : TxnState} {desks : Desks} {pid : ℕ} {checks : Checked} {form : Form} {path : List ℕ} {q : Process} {f : Found} {n : ℕ} {v : Inode}
-    (e : Refusal) → IsUnchanged old mid → HasReached p mid desks pid checks form path q f n v → checked (own_asked q.cred v.uid f.step) ≡ Err e
-    → (s : State) → IsStateOf p old.sectors desks s → RefusesOwned old.disk mid.disk s pid checks form path e
-unowned {p} {old} {mid} {desks} {pid} {checks} {form} {path} {q} {f} {n} {v} e same r refuses s at = record {
+pub unowned : {p : Geometry} {old mid : TxnState} {processes : ProcessTable} {pid : ℕ} {checks : Checked} {form : Form} {path : List ℕ} {q : Process} {f : Found} {n : ℕ} {v : Inode}
+    (e : Refusal) → IsUnchanged old mid → HasReached p mid processes pid checks form path q f n v → checked (own_asked q.cred v.uid f.step) ≡ Err e
+    → (s : State) → IsStateOf p old.sectors processes s → RefusesOwned old.disk mid.disk s pid checks form path e
+unowned {p} {old} {mid} {processes} {pid} {checks} {form} {path} {q} {f} {n} {v} e same r refuses s at = record {
   each = λ call rest effect is.
       let later = state_kept same at in
       refused_since is same r.walked s at mid.disk e {A = Unit {0}} tt
@@ -300,8 +300,8 @@ unowned {p} {old} {mid} {desks} {pid} {checks} {form} {path} {q} {f} {n} {v} e s
 }
 
 -- what a link at the end was followed to, as access to it is decided
-module _ {p : Place} {desks : Desks} {pid : ℕ} {checks : Checked} {path : List ℕ} {q : Process} {f : Found} {mid : TxnState} {n : ℕ} {v : Inode}
-    (r : HasReached p mid desks pid checks Follow path q f n v) where
+module _ {p : Geometry} {processes : ProcessTable} {pid : ℕ} {checks : Checked} {path : List ℕ} {q : Process} {f : Found} {mid : TxnState} {n : ℕ} {v : Inode}
+    (r : HasReached p mid processes pid checks Follow path q f n v) where
   abbrev pub accessed : IsAccessed r.walked.ready.state.tree n
   accessed = let at = r.walked.ready.is_state in followed_access n at (r.walked.found r.walked.ready.state at) r.inode.some
 

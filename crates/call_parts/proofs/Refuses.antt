@@ -8,7 +8,7 @@ use Rattle.std.specs.Prelude.{◌≡◌, List, ◌∷◌, ◌++◌, None, Some, 
 use Rattle.std.proofs.Common.{ap, ◌∙◌, inl, inr}
 use Rattle.sector_disk.specs.Disk.{DiskState}
 use Rattle.fs_cred.specs.declared.refusal.Refusal.{Refusal}
-use Rattle.fs_layout.specs.declared.place.Place.{Place}
+use Rattle.fs_layout.specs.declared.geometry.Geometry.{Geometry}
 use Rattle.fs_layout.specs.Bytes.{SectorMap}
 use Rattle.sector_disk.proofs.Moments.{failed_later}
 use Rattle.sector_txn.specs.Sectors.{TxnState, IsUnchanged, SameStore}
@@ -74,5 +74,5 @@ demand_met d is = (met_ok {A = Unit {0}} d tt tt is).0
 pub answered_ok : {A : Type 0} {whole : Demand} {x y : A} → whole ≡ None → x ≡ y → refused_or whole (Ok x) ≡ Ok y
 answered_ok {A} {whole} {x} {y} none same = ap (λ (o : Demand). refused_or {A = A} o (Ok x)) none ∙ ap (λ (k : A). Ok k) same
 
-pub tree_kept : {p : Place} {t : Tree} {old mid : TxnState} → IsUnchanged old mid → HoldsTree p old.sectors t → HoldsTree p mid.sectors t
+pub tree_kept : {p : Geometry} {t : Tree} {old mid : TxnState} → IsUnchanged old mid → HoldsTree p old.sectors t → HoldsTree p mid.sectors t
 tree_kept {p} {t} same h = kept (λ (m : SectorMap). HoldsTree p m t) same h

@@ -9,7 +9,7 @@ use Rattle.sector_disk.specs.Disk.{DiskState, HasFailed}
 use Rattle.sector_disk.proofs.Moments.{failed_later}
 use Rattle.fs_layout.specs.declared.inode.Inode.{Inode}
 use Rattle.fs_layout.specs.declared.inode.Kind.TheVariants as kinds
-use Rattle.fs_layout.specs.declared.place.Place.{Place}
+use Rattle.fs_layout.specs.declared.geometry.Geometry.{Geometry}
 use Rattle.fs_layout.specs.Bytes.{SectorMap}
 use Rattle.fs_layout.specs.InodeChanges.{ChangesInode}
 use Rattle.fs_layout.specs.Directories.{HasNames}
@@ -36,7 +36,7 @@ use Rattle.fs_cred.specs.declared.refusal.Refusal.TheVariants.{Failed}
 
 -- ---- since before a read
 
-pub touches_after : {p : Place} {n taken more : ℕ} {old mid new : TxnState} → IsUnchanged old mid → Touches p n taken more mid new → Touches p n taken more old new
+pub touches_after : {p : Geometry} {n taken more : ℕ} {old mid new : TxnState} → IsUnchanged old mid → Touches p n taken more mid new → Touches p n taken more old new
 touches_after {p} {n} {taken} {more} {old} {mid} {new} same touches = record {
   puts = puts_after same touches.puts;
   super = touches.super ∙ same.sectors 0;
@@ -44,7 +44,7 @@ touches_after {p} {n} {taken} {more} {old} {mid} {new} same touches = record {
   free = kept_back (λ (m : SectorMap). free_sectors p m ≤ free_sectors p new.sectors + taken) same touches.free;
 }
 
-pub names_changed : {p : Place} {dir taken more : ℕ} {f : List (List ℕ × ℕ) → List (List ℕ × ℕ)} {old mid new : TxnState} {v w : Inode} → IsUnchanged old mid
+pub names_changed : {p : Geometry} {dir taken more : ℕ} {f : List (List ℕ × ℕ) → List (List ℕ × ℕ)} {old mid new : TxnState} {v w : Inode} → IsUnchanged old mid
     → v ≡ inode_at p old.sectors dir → ChangesContent p dir taken more mid new v w
     → ((names : List (List ℕ × ℕ)) → HasNames p.version mid.sectors v names → HasNames p.version new.sectors w (f names))
     → ChangesNames p dir f old.sectors new.sectors
@@ -61,20 +61,20 @@ names_changed {p} {dir} {taken} {more} {f} {old} {mid} {new} {v} {w} same is c s
 }
 
 -- what was put, since before a read
-pub taken_after : (p : Place) (more : ℕ) {old mid : TxnState} (new : TxnState) → IsUnchanged old mid → TakesSpare p more mid new → TakesSpare p more old new
+pub taken_after : (p : Geometry) (more : ℕ) {old mid : TxnState} (new : TxnState) → IsUnchanged old mid → TakesSpare p more mid new → TakesSpare p more old new
 taken_after p more {old} {mid} new same taken =
     let room = same.room in
     let lacks = lacking_less old mid (λ k has. same.delta k ∙ has) (bitmaps p) in
     omega (arith, taken, room, lacks)
 
 -- by one call after another
-pub taken_joined : (p : Place) (first then more : ℕ) (old mid new : TxnState) → first + then ≤ more → TakesSpare p first old mid → TakesSpare p then mid new
+pub taken_joined : (p : Geometry) (first then more : ℕ) (old mid new : TxnState) → first + then ≤ more → TakesSpare p first old mid → TakesSpare p then mid new
     → TakesSpare p more old new
 taken_joined p first then more old mid new fits one two = omega (arith, fits, one, two)
 
 -- ---- the name goes from its directory
 
-pub name_removed : {p : Place} {dir : ℕ} {name : List ℕ} {old mid new : TxnState} {v w : Inode} → IsUnchanged old mid → v ≡ inode_at p old.sectors dir
+pub name_removed : {p : Geometry} {dir : ℕ} {name : List ℕ} {old mid new : TxnState} {v w : Inode} → IsUnchanged old mid → v ≡ inode_at p old.sectors dir
     → ChangesContent p dir 0 5 mid new v w
     → ((names : List (List ℕ × ℕ)) → HasNames p.version mid.sectors v names → (get name_cmp names name ≢ None) × HasNames p.version new.sectors w (without name_cmp names name))
     → RemovesName p dir name old new
@@ -94,7 +94,7 @@ not_removed names name old new faults.DiskFault there why failed = failed refl
 not_removed names name old new faults.OutOfMemory there why failed = absurd why
 
 -- since before the directory was read
-pub fails_to_change : (p : Place) (dir : ℕ) (name : List ℕ) {old mid : TxnState} {v : Inode} (new : DiskState) (e : DirFault) → HasName p old.sectors dir name → IsUnchanged old mid
+pub fails_to_change : (p : Geometry) (dir : ℕ) (name : List ℕ) {old mid : TxnState} {v : Inode} (new : DiskState) (e : DirFault) → HasName p old.sectors dir name → IsUnchanged old mid
     → v ≡ inode_at p old.sectors dir → ((names : List (List ℕ × ℕ)) → HasNames p.version mid.sectors v names → WhyNotChanged names name e)
     → (e ≡ faults.DiskFault → HasFailed mid.disk new) → FailsToRead old.disk new (Failed EIO)
 fails_to_change p dir name {old} {mid} {v} new e named same is why failed = (

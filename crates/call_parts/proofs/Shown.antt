@@ -5,7 +5,7 @@ use Rattle.fs_cred.specs.declared.errno.Errno.TheVariants.{ENOENT}
 use Rattle.fs_layout.specs.declared.inode.Inode.{Inode}
 use Rattle.fs_layout.specs.declared.inode.Kind.{Kind}
 use Rattle.fs_layout.specs.declared.inode.Kind.TheVariants as kinds
-use Rattle.fs_layout.specs.declared.place.Place.{Place}
+use Rattle.fs_layout.specs.declared.geometry.Geometry.{Geometry}
 use Rattle.fs_layout.specs.declared.slot.TheConstants.{SLOT_SIZE}
 use Rattle.fs_layout.specs.declared.version.Version.{Version}
 use Rattle.fs_layout.specs.Bytes.{SectorMap}
@@ -85,7 +85,7 @@ module _ (version : Version) (image : SectorMap) (v : Inode) where
 pub the_node_is : (t : Tree) (n : ℕ) (node : Node) → node_at t n ≡ Some node → the_node t n ≡ node
 the_node_is t n node at = ap (λ o. unwrap_or o no_node) at
 
-module _ {p : Place} {image : SectorMap} {t : Tree} (h : HoldsTree p image t) (n : ℕ) (there : IsThere t n) where
+module _ {p : Geometry} {image : SectorMap} {t : Tree} (h : HoldsTree p image t) (n : ℕ) (there : IsThere t n) where
   -- the inode of what is there is used
   pub is_used : (inode_at p image n).kind ≢ kinds.Free
   is_used e =
@@ -130,7 +130,7 @@ there_unless : (b : Bool) → refuse ENOENT (not b) ≡ None → b ≡ true
 there_unless true e = refl
 there_unless false e = absurd (cc)
 
-pub is_inode : (p : Place) (image : SectorMap) (f : Found) (n : ℕ) (v : Inode) → refused_or {A = ℕ × Inode} (must_be_there f) (Ok (number f, inode_at p image (number f))) ≡ Ok (n, v)
+pub is_inode : (p : Geometry) (image : SectorMap) (f : Found) (n : ℕ) (v : Inode) → refused_or {A = ℕ × Inode} (must_be_there f) (Ok (number f, inode_at p image (number f))) ≡ Ok (n, v)
     → IsInodeFound p image f n v
 is_inode p image f n v e =
     let is = met_ok {A = ℕ × Inode} (must_be_there f) (number f, inode_at p image (number f)) (n, v) e in
@@ -139,7 +139,7 @@ is_inode p image f n v e =
     record { some = some ∙ ap Some same; number = same; inode = sym (ap (λ x. x.1) is.1) ∙ ap (inode_at p image) same; met = is.0 }
 
 -- what stat and lstat answer
-pub stat_told : {p : Place} {map : SectorMap} (s : State) (q : Process) (f : Found) (n : ℕ) (v : Inode) (status : Status) → IsInodeFound p map f n v
+pub stat_told : {p : Geometry} {map : SectorMap} (s : State) (q : Process) (f : Found) (n : ℕ) (v : Inode) (status : Status) → IsInodeFound p map f n v
     → HoldsTree p map s.tree → IsThere s.tree n
     → ((kind : FileType) → type_of_kind v.kind ≡ Some kind → status
     ≡ record { inode = n; kind = kind; mode = v.mode; links = v.names; owner = v.uid; group = v.gid; size = size_shown p.version v })

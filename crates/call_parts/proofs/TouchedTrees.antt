@@ -9,7 +9,7 @@ use Rattle.std.proofs.Common.{refl, sym, ap, arith, ◌∙◌, subst}
 use Rattle.std.proofs.lemmas.List.{take_more}
 use Rattle.std.proofs.Math.Seq.{take-length}
 use Rattle.std.specs.Option.{option_map}
-use Rattle.fs_layout.specs.declared.place.Place.{Place}
+use Rattle.fs_layout.specs.declared.geometry.Geometry.{Geometry}
 use Rattle.fs_layout.specs.declared.inode.Inode.{Inode}
 use Rattle.fs_layout.specs.declared.inode.Kind.TheVariants as kinds
 use Rattle.fs_layout.specs.Bytes.{SectorMap}
@@ -69,7 +69,7 @@ times_fit_then time touch v w is small fits used = subst FitsInode (sym is) last
 
 -- ---- the times of one inode move
 
-module _ (p : Place) (time n : ℕ) (touch : Touch) (t : Tree) where
+module _ (p : Geometry) (time n : ℕ) (touch : Touch) (t : Tree) where
   abbrev put : Node → Placed
   put node = record { node = node; names = names_of t n; parent = parent t n }
 
@@ -106,14 +106,14 @@ module _ (p : Place) (time n : ℕ) (touch : Touch) (t : Tree) where
 -- ---- several, one after another
 
 -- after the first k of them
-pub record HasTouched (p : Place) (time k : ℕ) (touches : List (ℕ × Touch)) (old new : TxnState) : Type 0 where
+pub record HasTouched (p : Geometry) (time k : ℕ) (touches : List (ℕ × Touch)) (old new : TxnState) : Type 0 where
   pub store : SameStore old new
   pub super : new.sectors 0 ≡ old.sectors 0
   pub sound : IsSound p new
   pub taken : TakesSpare p k old new
   pub held : (t : Tree) → HoldsAll p old.sectors (placed t) → HoldsAll p new.sectors (placed (touched time (take k touches) t))
 
-pub touching_begun : {p : Place} {time : ℕ} {touches : List (ℕ × Touch)} {txn : TxnState} → IsSound p txn → HasTouched p time 0 touches txn txn
+pub touching_begun : {p : Geometry} {time : ℕ} {touches : List (ℕ × Touch)} {txn : TxnState} → IsSound p txn → HasTouched p time 0 touches txn txn
 touching_begun sound = record {
   store = unchanged_nothing.store;
   super = refl;
@@ -122,7 +122,7 @@ touching_begun sound = record {
   held = λ t held. held;
 }
 
-pub touching_on : {p : Place} {time k : ℕ} {touches : List (ℕ × Touch)} {old mid new : TxnState} (d : ℕ × Touch) → k < length touches → HasTouched p time k touches old mid
+pub touching_on : {p : Geometry} {time k : ℕ} {touches : List (ℕ × Touch)} {old mid new : TxnState} (d : ℕ × Touch) → k < length touches → HasTouched p time k touches old mid
     → SameStore mid new → new.sectors 0 ≡ mid.sectors 0 → IsSound p new → TakesSpare p 1 mid new
     → ((t : Tree) → HoldsAll p mid.sectors (placed t) → HoldsAll p new.sectors (placed (restamped (touch_one time (get_or touches k d)) t)))
     → HasTouched p time (k + 1) touches old new
@@ -138,7 +138,7 @@ touching_on {p} {time} {k} {touches} {old} {mid} {new} d lt h store super sound 
 }
 
 -- on a disk that keeps them
-pub touching_done : {p : Place} {time k : ℕ} {touches : List (ℕ × Touch)} {old new : TxnState} → keeps_times p.version ≡ true → k ≡ length touches → HasTouched p time k touches old new
+pub touching_done : {p : Geometry} {time k : ℕ} {touches : List (ℕ × Touch)} {old new : TxnState} → keeps_times p.version ≡ true → k ≡ length touches → HasTouched p time k touches old new
     → MovesTimes p time touches old new
 touching_done {p} {time} {k} {touches} {old} {new} keeps all h = record {
   store = h.store;
@@ -149,7 +149,7 @@ touching_done {p} {time} {k} {touches} {old} {new} keeps all h = record {
 }
 
 -- and on one that keeps none
-pub untouched : {p : Place} {time : ℕ} {touches : List (ℕ × Touch)} {txn : TxnState} → keeps_times p.version ≡ false → MovesTimes p time touches txn txn
+pub untouched : {p : Geometry} {time : ℕ} {touches : List (ℕ × Touch)} {txn : TxnState} → keeps_times p.version ≡ false → MovesTimes p time touches txn txn
 untouched {p} {time} {touches} {txn} keeps = record {
   store = unchanged_nothing.store;
   super = refl;

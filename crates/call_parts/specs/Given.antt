@@ -12,7 +12,7 @@ use Rattle.fs_cred.specs.Ownership.{keeps_set_group_id}
 use Rattle.fs_layout.specs.declared.inode.TheConstants.{S_ISGID, S_ISVTX}
 use Rattle.fs_layout.specs.declared.inode.Kind.{Kind}
 use Rattle.fs_layout.specs.declared.inode.Kind.TheVariants.{Directory}
-use Rattle.fs_layout.specs.declared.place.Place.{Place}
+use Rattle.fs_layout.specs.declared.geometry.Geometry.{Geometry}
 use Rattle.fs_layout.specs.declared.version.Version.{Version}
 use Rattle.fs_layout.specs.declared.slot.TheConstants.{SLOT_SIZE}
 use Rattle.fs_layout.specs.Version.{slot_size}
@@ -28,13 +28,13 @@ use Rattle.bit_alloc.specs.Inodes.{KeepsFields, KeepsBytes, KeepsAccess, KeepsDe
 use Rattle.inode_table.specs.Acls.{HasAcl, HasDefaultAcl, with_acl_bits}
 
 -- inode n, and no other, and it stays used or unused
-pub record ChangesOne (p : Place) (n : ℕ) (old new : SectorMap) : Type 0 where
+pub record ChangesOne (p : Geometry) (n : ℕ) (old new : SectorMap) : Type 0 where
   pub super : new 0 ≡ old 0
   pub inode : ChangesInode p n old new
   pub used : bit new p.inode_bitmap n ≡ bit old p.inode_bitmap n
 
 -- directory dir has other names, which f makes of those that it had, and is else as it was
-pub record ChangesNames (p : Place) (dir : ℕ) (f : List (List ℕ × ℕ) → List (List ℕ × ℕ)) (old new : SectorMap) : Type 0 where
+pub record ChangesNames (p : Geometry) (dir : ℕ) (f : List (List ℕ × ℕ) → List (List ℕ × ℕ)) (old new : SectorMap) : Type 0 where
   pub super : new 0 ≡ old 0
   pub change : ChangesInode p dir old new
   pub used : bit new p.inode_bitmap dir ≡ bit old p.inode_bitmap dir
@@ -43,7 +43,7 @@ pub record ChangesNames (p : Place) (dir : ℕ) (f : List (List ℕ × ℕ) → 
   pub named : (names : List (List ℕ × ℕ)) → HasNames p.version old (inode_at p old dir) names → HasNames p.version new (inode_at p new dir) (f names)
 
 -- inode n has another owner and group, and all else that it had
-pub record GivesOwner (p : Place) (n uid gid : ℕ) (old new : SectorMap) : Type 0 where
+pub record GivesOwner (p : Geometry) (n uid gid : ℕ) (old new : SectorMap) : Type 0 where
   pub one : ChangesOne p n old new
   pub saved : inode_at p new n ≡ record (inode_at p old n) { uid = uid; gid = gid }
   pub uid_fits : uid < 2 ^ 32
@@ -58,7 +58,7 @@ special_mode cred Directory group mode =
 special_mode cred _ group mode = 0
 
 -- inode n has this access ACL, and its mode the bits of m above the permission bits
-pub record SavesAcl (p : Place) (n m : ℕ) (a : AccessList) (old new : SectorMap) : Type 0 where
+pub record SavesAcl (p : Geometry) (n m : ℕ) (a : AccessList) (old new : SectorMap) : Type 0 where
   pub one : ChangesOne p n old new
   pub fields : KeepsFields (with_acl_bits (record (inode_at p old n) { mode = m }) a) (inode_at p new n)
   pub bytes : KeepsBytes old new (inode_at p old n) (inode_at p new n)
@@ -66,7 +66,7 @@ pub record SavesAcl (p : Place) (n m : ℕ) (a : AccessList) (old new : SectorMa
   pub access : HasAcl new (inode_at p new n) a
 
 -- inode n has this default ACL, or none, and all else that it had
-pub record SavesDefaultAcl (p : Place) (n : ℕ) (a : Option AccessList) (old new : SectorMap) : Type 0 where
+pub record SavesDefaultAcl (p : Geometry) (n : ℕ) (a : Option AccessList) (old new : SectorMap) : Type 0 where
   pub one : ChangesOne p n old new
   pub fields : KeepsFields (inode_at p old n) (inode_at p new n)
   pub bytes : KeepsBytes old new (inode_at p old n) (inode_at p new n)

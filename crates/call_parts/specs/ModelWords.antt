@@ -8,7 +8,7 @@ pub use Rattle.fs_model.specs.Limits.{least_free}
 pub use Rattle.fs_model.specs.NameCalls.{link_demands, symlink_arguments}
 pub use Rattle.fs_model.specs.Nodes.{Body}
 pub use Rattle.fs_model.specs.Parts.{path_checks}
-pub use Rattle.fs_model.specs.Processes.{Desks, is_in_use, is_open, standing_at}
+pub use Rattle.fs_model.specs.Processes.{ProcessTable, is_in_use, is_open, standing_at}
 pub use Rattle.fs_model.specs.RenameCall.{rename_demands, rename_moved, rename_permissions, rename_space}
 pub use Rattle.fs_model.specs.Rules.{is_directory_kind}
 pub use Rattle.fs_model.specs.Scenes.{check_of_mode, ends_dot, ends_dot_dot, ends_top, is_found, is_special, must_be_new, must_be_there, number}

@@ -15,7 +15,7 @@ use Rattle.fs_cred.specs.declared.errno.Errno.TheVariants.{ENOENT}
 use Rattle.fs_cred.specs.declared.refusal.Refusal.{Refusal}
 use Rattle.fs_layout.specs.declared.inode.TheConstants.{S_ISGID, S_ISVTX}
 use Rattle.fs_layout.specs.declared.inode.Inode.{Inode}
-use Rattle.fs_layout.specs.declared.place.Place.{Place}
+use Rattle.fs_layout.specs.declared.geometry.Geometry.{Geometry}
 use Rattle.fs_layout.specs.Bytes.{SectorMap}
 use Rattle.fs_layout.specs.InodeChanges.{ChangesInode}
 use Rattle.fs_layout.specs.Directories.{IsName, HasNames}
@@ -27,7 +27,7 @@ use Rattle.bit_alloc.specs.declared.bitmap.Bitmap.TheVariants.{Inodes}
 use Rattle.bit_alloc.specs.Bitmaps.{IsFreeNumber}
 use Rattle.fs_model.specs.declared.walk.Found.{Found}
 use Rattle.fs_model.specs.Demands.{Demand, refuse, first_of}
-use Rattle.fs_model.specs.Nodes.{no_stamps, Node, File, Dir, Link, names_in}
+use Rattle.fs_model.specs.Nodes.{no_stamps, Node, File, Dir, Link, names_of_body}
 use Rattle.fs_model.specs.Scenes.{must_be_new}
 use Rattle.fs_model.specs.StoredNodes.{Placed, HoldsNode}
 use Rattle.fs_model.specs.Trees.{Tree, IsDirectoryAt}
@@ -35,18 +35,18 @@ use Rattle.path_walk.specs.Answers.{refused_or, IsAnswered}
 use Rattle.call_parts.specs.Given.{ChangesNames}
 use Rattle.call_parts.specs.Makings.{make_asked}
 
-pub record IsNewIn (p : Place) (t : Tree) (dir : ℕ) (name : List ℕ) : Type 0 where
+pub record IsNewIn (p : Geometry) (t : Tree) (dir : ℕ) (name : List ℕ) : Type 0 where
   pub directory : IsDirectoryAt t dir
   pub is_name : IsName name
   pub short : length name ≤ max_name p.version
-  pub is_new : get name_cmp (names_in directory.node.body) name ≡ None
+  pub is_new : get name_cmp (names_of_body directory.node.body) name ≡ None
 
 -- directory dir has this name
-abbrev pub HasName : Place → SectorMap → ℕ → List ℕ → Type 0
+abbrev pub HasName : Geometry → SectorMap → ℕ → List ℕ → Type 0
 HasName p map dir name = (names : List (List ℕ × ℕ)) × HasNames p.version map (inode_at p map dir) names × (get name_cmp names name ≢ None)
 
 -- Of the names of directory dir this is none, and it has room for one more, as the disk has for that.
-pub record MayBeNamed (p : Place) (map : SectorMap) (dir : ℕ) (name : List ℕ) : Type 0 where
+pub record MayBeNamed (p : Geometry) (map : SectorMap) (dir : ℕ) (name : List ℕ) : Type 0 where
   pub below : dir < p.inodes
   pub is_name : IsName name
   pub short : length name ≤ max_name p.version
@@ -57,11 +57,11 @@ pub record MayBeNamed (p : Place) (map : SectorMap) (dir : ℕ) (name : List ℕ
   pub enough : 3 ≤ free_sectors p map
 
 -- directory dir names inode n, and is else as it was
-abbrev pub NamesInode : Place → ℕ → List ℕ → ℕ → SectorMap → SectorMap → Type 0
+abbrev pub NamesInode : Geometry → ℕ → List ℕ → ℕ → SectorMap → SectorMap → Type 0
 NamesInode p dir name n old new = ChangesNames p dir (λ names. with_entry name_cmp names name n) old new
 
 -- inode n was free, and holds this
-pub record TakesInode (p : Place) (n : ℕ) (x : Placed) (old new : SectorMap) : Type 0 where
+pub record TakesInode (p : Geometry) (n : ℕ) (x : Placed) (old new : SectorMap) : Type 0 where
   pub super : new 0 ≡ old 0
   pub free : IsFreeNumber p Inodes old n
   pub change : ChangesInode p n old new
@@ -69,7 +69,7 @@ pub record TakesInode (p : Place) (n : ℕ) (x : Placed) (old new : SectorMap) :
   pub holds : HoldsNode p.version new (inode_at p new n) x
 
 -- Inode n was free and holds this node, and then directory dir names it.
-pub record MakesNode (p : Place) (dir : ℕ) (name : List ℕ) (n : ℕ) (node : Node) (old new : SectorMap) : Type 0 where
+pub record MakesNode (p : Geometry) (dir : ℕ) (name : List ℕ) (n : ℕ) (node : Node) (old new : SectorMap) : Type 0 where
   pub mid : SectorMap
   pub takes : TakesInode p n (record { node = node; names = 1; parent = dir }) old mid
   pub names : NamesInode p dir name n mid new
@@ -106,7 +106,7 @@ link_name_asked f = must_be_new f ∷ refuse ENOENT f.slash ∷ []
 
 -- All that is asked of the directory of the last lookup is met, and it has this node, at this number; or one of that is not, or
 -- memory or the disk fails.
-abbrev pub IsMade : Place → TxnState → TxnState → Credential → Tree → Found → Node → Result ℕ Refusal → Type 0
+abbrev pub IsMade : Geometry → TxnState → TxnState → Credential → Tree → Found → Node → Result ℕ Refusal → Type 0
 IsMade p old new cred t f node result =
     MatchResult result
     (λ n. (first_of (make_asked p old.sectors cred t f.dir (f.step - 1)) ≡ None) × MakesNode p f.dir f.name n node old.sectors new.sectors)

@@ -27,7 +27,7 @@ scene_at s p found = record { state = s; process = p; first = found; second = no
 
 -- Process pid is p, its path may be walked, nothing refuses the walk, and it finds this.
 pub record HasFound (s : State) (pid : ℕ) (p : Process) (form : Form) (path : List ℕ) (found : Found) : Type 0 where
-  pub there : get nat_cmp s.desks pid ≡ Some p
+  pub there : get nat_cmp s.processes pid ≡ Some p
   pub checked : first_of (path_checks path) ≡ None
   pub unrefused : first_refusal s.tree p.cred 1 form (trail_in s.room s.tree p.cwd (form, path)) ≡ None
   pub is : found ≡ found_by s.room s.tree p.cwd (form, path)

@@ -1,6 +1,6 @@
 -- What a call of a process does inside a transaction, in one form for all calls.
 --     IsStateOf        the state of a map and a table of processes
---     IsReady        a transaction in which a call may be performed
+--     MayPerform        a transaction in which a call may be performed
 --     IsDone        nothing refuses the call, and the map holds the tree after it
 --     IsRefused        why the call is refused
 --     Performs        the whole
@@ -11,7 +11,7 @@ use Rattle.sector_disk.specs.Disk.{DiskState, HasFailed}
 use Rattle.fs_cred.specs.declared.errno.Errno.TheVariants.{ENOMEM, EIO}
 use Rattle.fs_cred.specs.declared.refusal.Refusal.{Refusal}
 use Rattle.fs_cred.specs.declared.refusal.Refusal.TheVariants.{Failed}
-use Rattle.fs_layout.specs.declared.place.Place.{Place}
+use Rattle.fs_layout.specs.declared.geometry.Geometry.{Geometry}
 use Rattle.fs_layout.specs.Bytes.{SectorMap}
 use Rattle.fs_layout.specs.Images.{free_sectors}
 use Rattle.sector_txn.specs.Sectors.{TxnState, SameStore}
@@ -19,7 +19,7 @@ use Rattle.fs_model.specs.declared.call.Call.{Call}
 use Rattle.fs_model.specs.declared.call.Call.TheVariants.{Mkdir, Rmdir, Link, Symlink, Readlink, Unlink, Rename, Chdir}
 use Rattle.fs_model.specs.declared.reply.Reply.{Reply}
 use Rattle.fs_model.specs.declared.event.Event.TheVariants.{Call as Calls}
-use Rattle.fs_model.specs.Processes.{Desks}
+use Rattle.fs_model.specs.Processes.{ProcessTable}
 use Rattle.fs_model.specs.TreeChanges.{Change, changed, touches, touched, swept}
 use Rattle.fs_model.specs.States.{State, IsState}
 use Rattle.fs_model.specs.Stands.{HoldsAll, placed, room_of}
@@ -29,21 +29,21 @@ use Rattle.bit_alloc.specs.Room.{HasSpare}
 use Rattle.call_parts.specs.declared.caller.Caller.{Caller}
 
 -- a state that runs: its tree is what the map holds, and its processes are those of the table
-pub record IsStateOf (p : Place) (map : SectorMap) (desks : Desks) (s : State) : Type 0 where
+pub record IsStateOf (p : Geometry) (map : SectorMap) (processes : ProcessTable) (s : State) : Type 0 where
   pub is_state : IsState s
   pub up : IsFalse s.halted
-  pub same_desks : s.desks ≡ desks
+  pub same_processes : s.processes ≡ processes
   pub same_room : s.room ≡ room_of p
   pub holds : HoldsAll p map (placed s.tree)
   pub free_is : s.free ≡ free_sectors p map
 
 -- The transaction has put nothing, or little enough: all bitmaps can be put, and as many sectors more as there are at its start.
 -- Its map and the table are those of a state.
-pub record IsReady (p : Place) (txn : TxnState) (desks : Desks) : Type 0 where
+pub record MayPerform (p : Geometry) (txn : TxnState) (processes : ProcessTable) : Type 0 where
   pub sound : IsSound p txn
   pub spare : HasSpare p 47 txn
   pub state : State
-  pub is_state : IsStateOf p txn.sectors desks state
+  pub is_state : IsStateOf p txn.sectors processes state
 
 -- a call reads no more of a choice than the number of a new node
 abbrev pub chosen : ℕ → ℕ → Choice
@@ -51,14 +51,14 @@ chosen number free = record { number = number; pid = 0; free = free }
 
 -- Nothing refuses the call. It gives this reply and leaves these processes, and the map holds the tree after it, in which times
 -- have moved to this one.
-pub record IsDone (p : Place) (time : ℕ) (map : SectorMap) (desks : Desks) (s : State) (pid : ℕ) (call : Call) (reply : Reply) : Type 0 where
+pub record IsDone (p : Geometry) (time : ℕ) (map : SectorMap) (processes : ProcessTable) (s : State) (pid : ℕ) (call : Call) (reply : Reply) : Type 0 where
   pub early : firm_refusal s (Calls pid call) ≡ None
   pub late : other_refusal s (Calls pid call) ≡ None
   pub number : ℕ
   pub change : Change
-  pub effect : after s (Calls pid call) (chosen number 0) ≡ record { change = change; desks = desks; reply = reply; now = s.now }
+  pub effect : after s (Calls pid call) (chosen number 0) ≡ record { change = change; processes = processes; reply = reply; now = s.now }
   pub new_number : HasNewNumber s change
-  pub holds : HoldsAll p map (placed (touched time (touches s.room s.tree change) (swept (changed s.tree change) desks)))
+  pub holds : HoldsAll p map (placed (touched time (touches s.room s.tree change) (swept (changed s.tree change) processes)))
 
 -- The call is refused: by what is asked first, by what is asked then, for want of memory, or for a read that failed.
 pub data IsRefused (old new : DiskState) (s : State) (pid : ℕ) (call : Call) (r : Refusal) : Type 0 where
@@ -68,7 +68,7 @@ pub data IsRefused (old new : DiskState) (s : State) (pid : ℕ) (call : Call) (
   read_fails : firm_refusal s (Calls pid call) ≡ None → HasFailed old new → r ≡ Failed EIO → IsRefused old new s pid call r
 
 -- A call of process pid, at this time. At `Err` the table is as it was, and of the map nothing is said: its changes are dropped.
-pub record Performs (p : Place) (time pid : ℕ) (call : Call) (old new : TxnState) (before now : Desks) (result : Result Reply Refusal) : Type 0 where
+pub record Performs (p : Geometry) (time pid : ℕ) (call : Call) (old new : TxnState) (before now : ProcessTable) (result : Result Reply Refusal) : Type 0 where
   pub store : SameStore old new
   pub super : OnOk result (new.sectors 0 ≡ old.sectors 0)
   pub table : OnErr result (now ≡ before)
@@ -77,11 +77,11 @@ pub record Performs (p : Place) (time pid : ℕ) (call : Call) (old new : TxnSta
 
 -- A caller's call may be performed.
 abbrev pub IsReadyFor : Caller → TxnState → Type 0
-IsReadyFor c txn = IsReady c.place txn c.procs.now
+IsReadyFor c txn = MayPerform c.geometry txn c.procs.now
 
 -- A caller's call, which leaves all processes as they are, whatever it answers.
 abbrev pub PerformsFor : Caller → Call → TxnState → TxnState → Result Reply Refusal → Type 0
-PerformsFor c call old new result = Performs c.place c.time c.pid call old new c.procs.now c.procs.now result
+PerformsFor c call old new result = Performs c.geometry c.time c.pid call old new c.procs.now c.procs.now result
 
 -- whether the call is on directories and what they name
 abbrev pub is_on_names : Call → Bool

@@ -12,7 +12,7 @@ use Rattle.std.specs.Ordering.{nat_cmp}
 use Rattle.sector_disk.specs.Disk.{DiskState}
 use Rattle.fs_cred.specs.declared.refusal.Refusal.{Refusal}
 use Rattle.fs_layout.specs.declared.inode.Inode.{Inode}
-use Rattle.fs_layout.specs.declared.place.Place.{Place}
+use Rattle.fs_layout.specs.declared.geometry.Geometry.{Geometry}
 use Rattle.fs_layout.specs.Bytes.{SectorMap, IsBytes}
 use Rattle.fs_layout.specs.Images.{inode_at}
 use Rattle.fs_layout.specs.Maps.{get}
@@ -22,7 +22,7 @@ use Rattle.fs_model.specs.declared.event.Event.TheVariants.{Call as Calls}
 use Rattle.fs_model.specs.declared.walk.Form.{Form}
 use Rattle.fs_model.specs.declared.walk.Found.{Found}
 use Rattle.fs_model.specs.Demands.{Demand, first_of}
-use Rattle.fs_model.specs.Processes.{Process, Descriptor, Desks, descriptor}
+use Rattle.fs_model.specs.Processes.{Process, Descriptor, ProcessTable, descriptor}
 use Rattle.fs_model.specs.Rows.{row_of}
 use Rattle.fs_model.specs.Scenes.{Scene, Effect, by_path, by_two_paths, by_descriptor, number, must_be_there, own_at_end, is_bad, is_bad_to_read, is_bad_to_write}
 use Rattle.fs_model.specs.States.{State}
@@ -34,7 +34,7 @@ use Rattle.call_parts.specs.declared.reaching.OpenFor.TheVariants.{Anything, Rea
 use Rattle.call_parts.specs.Asked.{own_asked}
 use Rattle.call_parts.specs.Paths.{HasFound}
 use Rattle.call_parts.specs.TwoPaths.{HasFoundBoth}
-use Rattle.call_parts.specs.Performing.{IsStateOf, IsReady, IsRefused}
+use Rattle.call_parts.specs.Performing.{IsStateOf, MayPerform, IsRefused}
 
 -- what the checks of a call's arguments answer
 abbrev pub Checked : Type 0
@@ -66,26 +66,26 @@ pub record RefusesOwned (old new : DiskState) (s : State) (pid : ℕ) (checks : 
       → WalksPath call checks form path (λ x. must_be_there x.first ∷ own_at_end x ∷ rest x) effect → IsRefused old new s pid call e
 
 -- Process pid is q, its arguments are fine, and in each state of this map and this table its walk finds f.
-pub record HasWalked (p : Place) (txn : TxnState) (desks : Desks) (pid : ℕ) (checks : Checked) (form : Form) (path : List ℕ) (q : Process) (f : Found) : Type 0 where
-  pub ready : IsReady p txn desks
-  pub there : get nat_cmp desks pid ≡ Some q
+pub record HasWalked (p : Geometry) (txn : TxnState) (processes : ProcessTable) (pid : ℕ) (checks : Checked) (form : Form) (path : List ℕ) (q : Process) (f : Found) : Type 0 where
+  pub ready : MayPerform p txn processes
+  pub there : get nat_cmp processes pid ≡ Some q
   pub fine : checks ≡ Ok tt
   pub bytes : IsBytes path
-  pub found : (s : State) → IsStateOf p txn.sectors desks s → HasFound s pid q form path f
+  pub found : (s : State) → IsStateOf p txn.sectors processes s → HasFound s pid q form path f
 
 -- the number and the inode of what was found
-pub record IsInodeFound (p : Place) (image : SectorMap) (f : Found) (n : ℕ) (v : Inode) : Type 0 where
+pub record IsInodeFound (p : Geometry) (image : SectorMap) (f : Found) (n : ℕ) (v : Inode) : Type 0 where
   pub some : f.ino ≡ Some n
   pub number : number f ≡ n
   pub inode : v ≡ inode_at p image n
   pub met : must_be_there f ≡ None
 
-pub record HasReached (p : Place) (txn : TxnState) (desks : Desks) (pid : ℕ) (checks : Checked) (form : Form) (path : List ℕ) (q : Process) (f : Found) (n : ℕ) (v : Inode) : Type 0 where
-  pub walked : HasWalked p txn desks pid checks form path q f
+pub record HasReached (p : Geometry) (txn : TxnState) (processes : ProcessTable) (pid : ℕ) (checks : Checked) (form : Form) (path : List ℕ) (q : Process) (f : Found) (n : ℕ) (v : Inode) : Type 0 where
+  pub walked : HasWalked p txn processes pid checks form path q f
   pub inode : IsInodeFound p txn.sectors f n v
 
-pub record HasOwned (p : Place) (txn : TxnState) (desks : Desks) (pid : ℕ) (checks : Checked) (form : Form) (path : List ℕ) (q : Process) (f : Found) (n : ℕ) (v : Inode) : Type 0 where
-  pub reached : HasReached p txn desks pid checks form path q f n v
+pub record HasOwned (p : Geometry) (txn : TxnState) (processes : ProcessTable) (pid : ℕ) (checks : Checked) (form : Form) (path : List ℕ) (q : Process) (f : Found) (n : ℕ) (v : Inode) : Type 0 where
+  pub reached : HasReached p txn processes pid checks form path q f n v
   pub met : own_asked q.cred v.uid f.step ≡ None
 
 -- It walks both paths, the first from its start to its end before the second. Then it asks these demands of what is found.
@@ -99,12 +99,12 @@ pub record RefusesBoth (old new : DiskState) (s : State) (pid : ℕ) (old_path n
       → IsRefused old new s pid call e
 
 -- Process pid is q, and in each state of this map and this table its walks find f and g.
-pub record HasWalkedBoth (p : Place) (txn : TxnState) (desks : Desks) (pid : ℕ) (old_path new_path : List ℕ) (q : Process) (f g : Found) : Type 0 where
-  pub ready : IsReady p txn desks
-  pub there : get nat_cmp desks pid ≡ Some q
+pub record HasWalkedBoth (p : Geometry) (txn : TxnState) (processes : ProcessTable) (pid : ℕ) (old_path new_path : List ℕ) (q : Process) (f g : Found) : Type 0 where
+  pub ready : MayPerform p txn processes
+  pub there : get nat_cmp processes pid ≡ Some q
   pub old_bytes : IsBytes old_path
   pub new_bytes : IsBytes new_path
-  pub found : (s : State) → IsStateOf p txn.sectors desks s → HasFoundBoth s pid q old_path new_path f g
+  pub found : (s : State) → IsStateOf p txn.sectors processes s → HasFoundBoth s pid q old_path new_path f g
 
 -- EBADF: nothing is open there, or it isn't open for this
 abbrev pub bad_for : OpenFor → ℕ → Process → Demand
@@ -132,18 +132,18 @@ pub record RefusesOpen (old new : DiskState) (s : State) (pid fd : ℕ) (purpose
       → IsRefused old new s pid call e
 
 -- Process pid has d open at fd.
-pub record IsOpened (desks : Desks) (pid fd : ℕ) (d : Descriptor) : Type 0 where
+pub record IsOpened (processes : ProcessTable) (pid fd : ℕ) (d : Descriptor) : Type 0 where
   pub process : Process
-  pub there : get nat_cmp desks pid ≡ Some process
+  pub there : get nat_cmp processes pid ≡ Some process
   pub at : descriptor process fd ≡ Some d
 
-pub record IsOpenFor (desks : Desks) (pid fd : ℕ) (purpose : OpenFor) (d : Descriptor) : Type 0 where
-  pub opened : IsOpened desks pid fd d
+pub record IsOpenFor (processes : ProcessTable) (pid fd : ℕ) (purpose : OpenFor) (d : Descriptor) : Type 0 where
+  pub opened : IsOpened processes pid fd d
   pub fine : bad_for purpose fd opened.process ≡ None
 
 -- and v is its inode
-pub record HasOpened (p : Place) (txn : TxnState) (desks : Desks) (pid fd : ℕ) (purpose : OpenFor) (d : Descriptor) (v : Inode) : Type 0 where
-  pub ready : IsReady p txn desks
-  pub table : IsTable desks
-  pub is_open : IsOpenFor desks pid fd purpose d
+pub record HasOpened (p : Geometry) (txn : TxnState) (processes : ProcessTable) (pid fd : ℕ) (purpose : OpenFor) (d : Descriptor) (v : Inode) : Type 0 where
+  pub ready : MayPerform p txn processes
+  pub table : IsTable processes
+  pub is_open : IsOpenFor processes pid fd purpose d
   pub inode : v ≡ inode_at p txn.sectors d.number

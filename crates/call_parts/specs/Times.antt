@@ -5,7 +5,7 @@
 --     MayMoveTimes, MovesTimes        what is asked before; whatever tree stands there, these times of it have moved
 use Rattle.std.specs.Prelude.{◌≡◌, ℕ, ◌<◌, List, [], ◌∷◌, length, if◌then◌else◌}
 use Rattle.fs_layout.specs.declared.inode.Inode.{Inode}
-use Rattle.fs_layout.specs.declared.place.Place.{Place}
+use Rattle.fs_layout.specs.declared.geometry.Geometry.{Geometry}
 use Rattle.fs_layout.specs.Images.{bit, inode_at}
 use Rattle.fs_layout.specs.Version.{keeps_times}
 use Rattle.sector_txn.specs.Sectors.{TxnState, SameStore}
@@ -22,7 +22,7 @@ abbrev pub with_times : Inode → Stamps → Inode
 with_times v x = record v { atime = x.atime; mtime = x.mtime; ctime = x.ctime }
 
 -- these times of inode n have moved, and all else that it had stays
-pub record SavesTimes (p : Place) (time n : ℕ) (touch : Touch) (old new : TxnState) : Type 0 where
+pub record SavesTimes (p : Geometry) (time n : ℕ) (touch : Touch) (old new : TxnState) : Type 0 where
   pub sound : IsSound p new
   pub touches : Touches p n 0 1 old new
   pub saved : inode_at p new.sectors n ≡ with_times (inode_at p old.sectors n) (touch_at time touch (stamps_in (inode_at p old.sectors n)))
@@ -35,17 +35,17 @@ AreBelow inodes [] = Unit {0}
 AreBelow inodes (e ∷ es) = (e.0 < inodes) × AreBelow inodes es
 
 -- all, or none where the disk keeps no times
-abbrev pub kept_touches : Place → List (ℕ × Touch) → List (ℕ × Touch)
+abbrev pub kept_touches : Geometry → List (ℕ × Touch) → List (ℕ × Touch)
 kept_touches p touches = if keeps_times p.version then touches else []
 
 -- each is of an inode, and may put its sector
-pub record MayMoveTimes (p : Place) (touches : List (ℕ × Touch)) (txn : TxnState) : Type 0 where
+pub record MayMoveTimes (p : Geometry) (touches : List (ℕ × Touch)) (txn : TxnState) : Type 0 where
   pub sound : IsSound p txn
   pub below : AreBelow p.inodes touches
   pub spare : HasSpare p (length touches) txn
 
 -- They have moved, one after another, of those inodes that are used.
-pub record MovesTimes (p : Place) (time : ℕ) (touches : List (ℕ × Touch)) (old new : TxnState) : Type 0 where
+pub record MovesTimes (p : Geometry) (time : ℕ) (touches : List (ℕ × Touch)) (old new : TxnState) : Type 0 where
   pub store : SameStore old new
   pub super : new.sectors 0 ≡ old.sectors 0
   pub held : (t : Tree) → HoldsAll p old.sectors (placed t) → HoldsAll p new.sectors (placed (touched time (kept_touches p touches) t))

@@ -7,14 +7,14 @@ use Rattle.std.specs.Prelude.{◌≡◌, ℕ, List, ◌++◌, None, Some, Result
 use Rattle.std.specs.Ordering.{nat_cmp}
 use Rattle.fs_cred.specs.Credentials.{Credential}
 use Rattle.fs_cred.specs.declared.refusal.Refusal.{Refusal}
-use Rattle.fs_layout.specs.declared.place.Place.{Place}
+use Rattle.fs_layout.specs.declared.geometry.Geometry.{Geometry}
 use Rattle.fs_layout.specs.Bytes.{SectorMap, IsBytes}
 use Rattle.fs_layout.specs.Maps.{get}
 use Rattle.fs_model.specs.declared.walk.Form.TheVariants.{Parent}
 use Rattle.fs_model.specs.declared.walk.Found.{Found}
 use Rattle.fs_model.specs.Demands.{Demand, or_else, first_of}
 use Rattle.fs_model.specs.Parts.{path_checks}
-use Rattle.fs_model.specs.Processes.{Process, Desks}
+use Rattle.fs_model.specs.Processes.{Process, ProcessTable}
 use Rattle.fs_model.specs.Scenes.{Scene}
 use Rattle.fs_model.specs.States.{State}
 use Rattle.fs_model.specs.Steps.{found_by, trail_in}
@@ -42,7 +42,7 @@ scene_with s p first second = record { state = s; process = p; first = first; se
 
 -- Process pid is p, its paths may be walked, nothing refuses the walks, and they find these.
 pub record HasFoundBoth (s : State) (pid : ℕ) (p : Process) (old new : List ℕ) (f g : Found) : Type 0 where
-  pub there : get nat_cmp s.desks pid ≡ Some p
+  pub there : get nat_cmp s.processes pid ≡ Some p
   pub checked : first_of (both_checks old new) ≡ None
   pub first_unrefused : walk_refusal s.room s.tree p.cred 1 p.cwd old ≡ None
   pub second_unrefused : walk_refusal s.room s.tree p.cred 2 p.second_cwd new ≡ None
@@ -50,11 +50,11 @@ pub record HasFoundBoth (s : State) (pid : ℕ) (p : Process) (old new : List �
   pub second_is : g ≡ found_by s.room s.tree p.second_cwd (Parent, new)
 
 -- in a state of this map and this table the process has found these
-pub record FindsBoth (p : Place) (map : SectorMap) (desks : Desks) (q : Process) (f g : Found) (s : State) : Type 0 where
+pub record FindsBoth (p : Geometry) (map : SectorMap) (processes : ProcessTable) (q : Process) (f g : Found) (s : State) : Type 0 where
   pub pid : ℕ
   pub old : List ℕ
   pub new : List ℕ
   pub old_bytes : IsBytes old
   pub new_bytes : IsBytes new
-  pub is_state : IsStateOf p map desks s
+  pub is_state : IsStateOf p map processes s
   pub found : HasFoundBoth s pid q old new f g

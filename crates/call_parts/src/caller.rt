@@ -1,7 +1,7 @@
 //! Who makes a call, and what it answers.
 
 use fs_cred::Refusal;
-use fs_layout::Place;
+use fs_layout::Geometry;
 use fs_model::Reply;
 use open_files::Procs;
 use std::alloc::Global;
@@ -10,7 +10,7 @@ use std::alloc::Global;
 #[derive(Clone, Copy)]
 pub struct Caller<'a> {
     pub alloc: Global,
-    pub place: Place,
+    pub geometry: Geometry,
     pub time: u64,
     pub procs: &'a Procs,
     pub pid: usize,

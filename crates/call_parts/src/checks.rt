@@ -50,8 +50,8 @@ pub fn permitted<S: Sectors>(
     walk: u8,
     step: usize,
 ) -> Result<Rule, Refusal>
-    requires sound { IsSound caller.now.place (S.state s.old) }
-    requires there { IsInodeOf caller.now.place (S.state s.old).sectors inode.now }
+    requires sound { IsSound caller.now.geometry (S.state s.old) }
+    requires there { IsInodeOf caller.now.geometry (S.state s.old).sectors inode.now }
     requires has { (node : AccessNode) × HasAccess (S.state s.old).sectors inode.now node }
     ensures each { (node : AccessNode) → HasAccess (S.state s.old).sectors inode.now node
         → IsAnswered (S.state s.old).disk (S.state s.new).disk
@@ -59,7 +59,7 @@ pub fn permitted<S: Sectors>(
         (Ok (verdict cred.now node want).rule)) result }
     ensures same { IsUnchanged (S.state s.old) (S.state s.new) }
 {
-    let verdict = permission(caller.alloc, s, caller.place, cred, inode, want)?;
+    let verdict = permission(caller.alloc, s, caller.geometry, cred, inode, want)?;
     if !verdict.yes {
         return Err(Refusal::Denied(Denial::new(walk, step, Need::Perm(want), verdict.rule)));
     }

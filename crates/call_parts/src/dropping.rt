@@ -9,67 +9,72 @@ ghost use Rattle.call_parts.specs.UsedInode.{IsUsedInode};
 
 use block_map::free_all;
 use fs_cred::{Errno, Refusal};
-use fs_layout::{Inode, Kind, Place};
+use fs_layout::{Geometry, Inode, Kind};
 use inode_table::save;
 use path_walk::load_inode;
 use sector_txn::Sectors;
 
 /// Frees inode n, which nothing names and nobody has open: a file or a directory with its bytes and ACLs, a link with its
 /// target. EIO: the disk has failed.
-pub fn drop_node<S: Sectors>(s: &mut S, place: Place, n: u32) -> Result<(), Refusal>
-    requires sound { IsSound place (S.state s.old) }
-    requires number { IsNumber place Inodes n }
-    requires used { (inode_at place (S.state s.old).sectors n).kind ≢ Kind.Free }
-    requires spare { HasSpare place 1 (S.state s.old) }
+pub fn drop_node<S: Sectors>(s: &mut S, geometry: Geometry, n: u32) -> Result<(), Refusal>
+    requires sound { IsSound geometry (S.state s.old) }
+    requires number { IsNumber geometry Inodes n }
+    requires used { (inode_at geometry (S.state s.old).sectors n).kind ≢ Kind.Free }
+    requires spare { HasSpare geometry 1 (S.state s.old) }
     ensures store { SameStore (S.state s.old) (S.state s.new) }
-    ensures drops { OnOk result (Drops place n (S.state s.old) (S.state s.new)) }
+    ensures drops { OnOk result (Drops geometry n (S.state s.old) (S.state s.new)) }
     ensures fault { IfErr result (FailsToRead (S.state s.old).disk (S.state s.new).disk) }
 {
-    match free_all(s, place, n) {
+    match free_all(s, geometry, n) {
         Ok(()) => Ok(()),
         Err(_) => Err(Refusal::Failed(Errno::EIO)),
     }
 }
 
 /// Frees inode n, of which a descriptor goes, unless it stays open, has a name, or was freed before. EIO: the disk has failed.
-pub fn leave<S: Sectors>(s: &mut S, place: Place, n: u32, stays_open: bool) -> Result<(), Refusal>
-    requires sound { IsSound place (S.state s.old) }
-    requires number { IsNumber place Inodes n }
-    requires spare { HasSpare place 1 (S.state s.old) }
+pub fn leave<S: Sectors>(
+    s: &mut S,
+    geometry: Geometry,
+    n: u32,
+    stays_open: bool,
+) -> Result<(), Refusal>
+    requires sound { IsSound geometry (S.state s.old) }
+    requires number { IsNumber geometry Inodes n }
+    requires spare { HasSpare geometry 1 (S.state s.old) }
     ensures store { SameStore (S.state s.old) (S.state s.new) }
-    ensures leaves { OnOk result (LeavesInode place n stays_open (S.state s.old) (S.state s.new)) }
+    ensures leaves { OnOk result (LeavesInode geometry n stays_open (S.state s.old) (S.state s.new)) }
     ensures fault { IfErr result (FailsToRead (S.state s.old).disk (S.state s.new).disk) }
 {
     if stays_open {
         return Ok(());
     }
-    let inode = load_inode(s, place, n)?;
+    let inode = load_inode(s, geometry, n)?;
     if inode.names != 0 {
         return Ok(());
     }
     if inode.kind == Kind::Free {
         return Ok(());
     }
-    drop_node(s, place, n)?;
+    drop_node(s, geometry, n)?;
     Ok(())
 }
 
 /// Gives inode n, which is used, another count of names. EIO: the disk has failed.
 pub fn set_names<S: Sectors>(
     s: &mut S,
-    place: Place,
+    geometry: Geometry,
     n: u32,
     inode: &Inode,
     names: u32,
 ) -> Result<(), Refusal>
-    requires loaded { IsUsedInode place (S.state s.old) n inode.now }
-    requires spare { HasSpare place 1 (S.state s.old) }
+    requires loaded { IsUsedInode geometry (S.state s.old) n inode.now }
+    requires spare { HasSpare geometry 1 (S.state s.old) }
     ensures store { SameStore (S.state s.old) (S.state s.new) }
-    ensures counts { OnOk result (Counts place n names (S.state s.old) (S.state s.new)) }
+    ensures counts { OnOk result (Counts geometry n names (S.state s.old) (S.state s.new)) }
     ensures fault { IfErr result (FailsToRead (S.state s.old).disk (S.state s.new).disk) }
 {
     let counted = Inode { names, ..*inode };
-    match save(s, place, n, &counted) {
+    match save(s, geometry, n, &counted) {
         Ok(()) => Ok(()),
         Err(_) => Err(Refusal::Failed(Errno::EIO)),
     }

@@ -6,7 +6,7 @@ ghost use Rattle.call_parts.specs.ModelWords.{first_of, path_checks, number, mus
 
 use crate::caller::Caller;
 use fs_cred::{Errno, Refusal};
-use fs_layout::{Inode, Place};
+use fs_layout::{Geometry, Inode};
 use fs_model::{Form, Found, Path};
 use open_files::Process;
 use path_walk::{load_inode, resolve};
@@ -20,37 +20,37 @@ pub(crate) fn find<S: Sectors>(
     path: &Path,
     form: Form,
 ) -> Result<Found, Refusal>
-    requires sound { IsSound caller.now.place (S.state s.old) }
-    requires inodes { HasSoundInodes caller.now.place (S.state s.old).sectors }
-    requires start { process.now.cwd < caller.now.place.inodes }
+    requires sound { IsSound caller.now.geometry (S.state s.old) }
+    requires inodes { HasSoundInodes caller.now.geometry (S.state s.old).sectors }
+    requires start { process.now.cwd < caller.now.geometry.inodes }
     ensures checked { (refusal : Refusal) → first_of (path_checks path.now) ≡ Some refusal → result ≡ Err refusal }
     ensures each { first_of (path_checks path.now) ≡ None
-        → (t : Tree) → HoldsTree caller.now.place (S.state s.old).sectors t → IsThere t process.now.cwd
+        → (t : Tree) → HoldsTree caller.now.geometry (S.state s.old).sectors t → IsThere t process.now.cwd
         → IsAnswered (S.state s.old).disk (S.state s.new).disk
-        (walk_of (room_of caller.now.place) t process.now.cred 1 form process.now.cwd path.now) result }
+        (walk_of (room_of caller.now.geometry) t process.now.cred 1 form process.now.cwd path.now) result }
     ensures valid { IfOk result (λ found. first_of (path_checks path.now) ≡ None) }
     ensures same { IsUnchanged (S.state s.old) (S.state s.new) }
 {
     let cred = process.cred();
     let cwd = process.cwd();
-    resolve(caller.alloc, s, caller.place, cred, cwd, path, form)
+    resolve(caller.alloc, s, caller.geometry, cred, cwd, path, form)
 }
 
 /// The inode that was found, with its number. ENOENT: none was.
 pub fn inode_found<S: Sectors>(
     s: &mut S,
-    place: Place,
+    geometry: Geometry,
     found: &Found,
 ) -> Result<(u32, Inode), Refusal>
-    requires sound { IsSound place (S.state s.old) }
-    requires below { (n : ℕ) → found.now.ino ≡ Some n → n < place.inodes }
+    requires sound { IsSound geometry (S.state s.old) }
+    requires below { (n : ℕ) → found.now.ino ≡ Some n → n < geometry.inodes }
     ensures each { IsAnswered (S.state s.old).disk (S.state s.new).disk (refused_or (must_be_there found.now)
-        (Ok (number found.now, inode_at place (S.state s.old).sectors (number found.now)))) result }
+        (Ok (number found.now, inode_at geometry (S.state s.old).sectors (number found.now)))) result }
     ensures same { IsUnchanged (S.state s.old) (S.state s.new) }
 {
     let Some(n) = found.ino else {
         return Err(Refusal::Failed(Errno::ENOENT));
     };
-    let inode = load_inode(s, place, n)?;
+    let inode = load_inode(s, geometry, n)?;
     Ok((n, inode))
 }

@@ -9,7 +9,7 @@ use crate::caller::Caller;
 use crate::checks::{WRITE_AND_SEARCH, permitted, refuse_if};
 use crate::space::{ask_for_inode, ask_for_sectors};
 use fs_cred::{Cred, Errno, Refusal};
-use fs_layout::{Inode, Place, S_ISGID};
+use fs_layout::{Geometry, Inode, S_ISGID};
 use fs_model::Found;
 use inode_table::{LoadAclFault, load_default_acl};
 use open_files::Process;
@@ -19,10 +19,10 @@ use sector_txn::Sectors;
 use std::alloc::Global;
 
 /// Asks whether a directory has place for one more slot. ENOSPC: it has none.
-pub(crate) fn check_names(place: Place, directory: &Inode) -> Result<(), Refusal>
-    ensures { result ≡ refused_or (refuse Errno.ENOSPC (nat_le (max_directory_size place.version) directory.now.size)) (Ok tt) }
+pub(crate) fn check_names(geometry: Geometry, directory: &Inode) -> Result<(), Refusal>
+    ensures { result ≡ refused_or (refuse Errno.ENOSPC (nat_le (max_directory_size geometry.version) directory.now.size)) (Ok tt) }
 {
-    let most = place.version.max_directory_size();
+    let most = geometry.version.max_directory_size();
     refuse_if(Errno::ENOSPC, directory.size >= most)
 }
 
@@ -35,15 +35,15 @@ fn ask_in_directory<S: Sectors>(
     walk: u8,
     step: usize,
 ) -> Result<Inode, Refusal>
-    requires sound { IsSound caller.now.place (S.state s.old) }
-    requires there { (t : Tree) × HoldsTree caller.now.place (S.state s.old).sectors t × IsDirectoryAt t dir }
-    ensures each { (t : Tree) → HoldsTree caller.now.place (S.state s.old).sectors t → IsDirectoryAt t dir
+    requires sound { IsSound caller.now.geometry (S.state s.old) }
+    requires there { (t : Tree) × HoldsTree caller.now.geometry (S.state s.old).sectors t × IsDirectoryAt t dir }
+    ensures each { (t : Tree) → HoldsTree caller.now.geometry (S.state s.old).sectors t → IsDirectoryAt t dir
         → IsAnswered (S.state s.old).disk (S.state s.new).disk
         (refused_or (permission_on cred.now t dir write_and_search walk step)
-        (Ok (inode_at caller.now.place (S.state s.old).sectors dir))) result }
+        (Ok (inode_at caller.now.geometry (S.state s.old).sectors dir))) result }
     ensures same { IsUnchanged (S.state s.old) (S.state s.new) }
 {
-    let directory = load_inode(s, caller.place, dir)?;
+    let directory = load_inode(s, caller.geometry, dir)?;
     permitted(s, caller, cred, &directory, WRITE_AND_SEARCH, walk, step)?;
     Ok(directory)
 }
@@ -56,12 +56,12 @@ pub fn ask_directory<S: Sectors>(
     found: &Found,
     walk: u8,
 ) -> Result<Inode, Refusal>
-    requires sound { IsSound caller.now.place (S.state s.old) }
-    requires there { (t : Tree) × HoldsTree caller.now.place (S.state s.old).sectors t × IsDirectoryAt t found.now.dir }
-    ensures each { (t : Tree) → HoldsTree caller.now.place (S.state s.old).sectors t → IsDirectoryAt t found.now.dir
+    requires sound { IsSound caller.now.geometry (S.state s.old) }
+    requires there { (t : Tree) × HoldsTree caller.now.geometry (S.state s.old).sectors t × IsDirectoryAt t found.now.dir }
+    ensures each { (t : Tree) → HoldsTree caller.now.geometry (S.state s.old).sectors t → IsDirectoryAt t found.now.dir
         → IsAnswered (S.state s.old).disk (S.state s.new).disk
         (refused_or (permission_on process.now.cred t found.now.dir write_and_search walk (found.now.step - 1))
-        (Ok (inode_at caller.now.place (S.state s.old).sectors found.now.dir))) result }
+        (Ok (inode_at caller.now.geometry (S.state s.old).sectors found.now.dir))) result }
     ensures same { IsUnchanged (S.state s.old) (S.state s.new) }
 {
     let cred = process.cred();
@@ -78,18 +78,18 @@ pub fn check_make<S: Sectors>(
     dir: u32,
     step: usize,
 ) -> Result<Inode, Refusal>
-    requires sound { IsSound caller.now.place (S.state s.old) }
-    requires there { (t : Tree) × HoldsTree caller.now.place (S.state s.old).sectors t × IsDirectoryAt t dir }
-    ensures each { (t : Tree) → HoldsTree caller.now.place (S.state s.old).sectors t → IsDirectoryAt t dir
+    requires sound { IsSound caller.now.geometry (S.state s.old) }
+    requires there { (t : Tree) × HoldsTree caller.now.geometry (S.state s.old).sectors t × IsDirectoryAt t dir }
+    ensures each { (t : Tree) → HoldsTree caller.now.geometry (S.state s.old).sectors t → IsDirectoryAt t dir
         → IsAnswered (S.state s.old).disk (S.state s.new).disk
-        (refused_or (first_of (make_asked caller.now.place (S.state s.old).sectors cred.now t dir step))
-        (Ok (inode_at caller.now.place (S.state s.old).sectors dir))) result }
+        (refused_or (first_of (make_asked caller.now.geometry (S.state s.old).sectors cred.now t dir step))
+        (Ok (inode_at caller.now.geometry (S.state s.old).sectors dir))) result }
     ensures same { IsUnchanged (S.state s.old) (S.state s.new) }
 {
     let directory = ask_in_directory(s, caller, cred, dir, 1, step)?;
-    ask_for_sectors(s, caller.place)?;
-    ask_for_inode(s, caller.place)?;
-    check_names(caller.place, &directory)?;
+    ask_for_sectors(s, caller.geometry)?;
+    ask_for_inode(s, caller.geometry)?;
+    check_names(caller.geometry, &directory)?;
     Ok(directory)
 }
 
@@ -140,15 +140,15 @@ pub fn default_of<S: Sectors>(
     caller: &Caller,
     directory: &Inode,
 ) -> Result<Option<Acl>, Refusal>
-    requires sound { IsSound caller.now.place (S.state s.old) }
-    requires there { IsInodeOf caller.now.place (S.state s.old).sectors directory.now }
+    requires sound { IsSound caller.now.geometry (S.state s.old) }
+    requires there { IsInodeOf caller.now.geometry (S.state s.old).sectors directory.now }
     requires has { (a : Option AccessList) × HasDefaultAcl (S.state s.old).sectors directory.now a }
     ensures found { IfOk result (λ acl. (a : Option AccessList) → HasDefaultAcl (S.state s.old).sectors directory.now a
         → acl ≡ a) }
     ensures err { IfErr result (Interrupts (S.state s.old).disk (S.state s.new).disk) }
     ensures same { IsUnchanged (S.state s.old) (S.state s.new) }
 {
-    match load_default_acl(caller.alloc, s, caller.place, directory) {
+    match load_default_acl(caller.alloc, s, caller.geometry, directory) {
         Ok(default) => Ok(default),
         Err(LoadAclFault::OutOfMemory) => Err(Refusal::Failed(Errno::ENOMEM)),
         Err(LoadAclFault::DiskFault) => Err(Refusal::Failed(Errno::EIO)),

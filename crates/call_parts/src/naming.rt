@@ -12,7 +12,7 @@ use crate::making::check_names;
 use crate::space::ask_for_sectors;
 use dir_core::{insert_new, remove};
 use fs_cred::{Errno, Refusal};
-use fs_layout::{Inode, Place};
+use fs_layout::{Geometry, Inode};
 use fs_model::{Form, Found, Last, Path};
 use open_files::Process;
 use path_walk::{check_path, load_inode, walk};
@@ -23,20 +23,20 @@ use std::alloc::Global;
 pub(crate) fn find_names<S: Sectors>(
     alloc: Global,
     s: &mut S,
-    place: Place,
+    geometry: Geometry,
     process: &Process,
     old: &Path,
     new: &Path,
 ) -> Result<(Found, Found), Refusal>
-    requires sound { IsSound place (S.state s.old) }
-    requires inodes { HasSoundInodes place (S.state s.old).sectors }
-    requires start { process.now.cwd < place.inodes }
-    requires second_start { process.now.second_cwd < place.inodes }
+    requires sound { IsSound geometry (S.state s.old) }
+    requires inodes { HasSoundInodes geometry (S.state s.old).sectors }
+    requires start { process.now.cwd < geometry.inodes }
+    requires second_start { process.now.second_cwd < geometry.inodes }
     ensures checked { (refusal : Refusal) → first_of (both_checks old.now new.now) ≡ Some refusal → result ≡ Err refusal }
     ensures each { first_of (both_checks old.now new.now) ≡ None
-        → (t : Tree) → HoldsTree place (S.state s.old).sectors t → IsThere t process.now.cwd → IsThere t process.now.second_cwd
+        → (t : Tree) → HoldsTree geometry (S.state s.old).sectors t → IsThere t process.now.cwd → IsThere t process.now.second_cwd
         → IsAnswered (S.state s.old).disk (S.state s.new).disk
-        (walks_of (room_of place) t process.now.cred process.now.cwd process.now.second_cwd old.now new.now) result }
+        (walks_of (room_of geometry) t process.now.cred process.now.cwd process.now.second_cwd old.now new.now) result }
     ensures valid { IfOk result (λ found. first_of (both_checks old.now new.now) ≡ None) }
     ensures old_bytes { IsBytes old.now }
     ensures new_bytes { IsBytes new.now }
@@ -49,8 +49,8 @@ pub(crate) fn find_names<S: Sectors>(
     let cred = process.cred();
     let cwd = process.cwd();
     let second_cwd = process.second_cwd();
-    let first = walk(alloc, s, place, cred, cwd, old, Form::Parent, 1)?;
-    let second = walk(alloc, s, place, cred, second_cwd, new, Form::Parent, 2)?;
+    let first = walk(alloc, s, geometry, cred, cwd, old, Form::Parent, 1)?;
+    let second = walk(alloc, s, geometry, cred, second_cwd, new, Form::Parent, 2)?;
     Ok((first, second))
 }
 
@@ -65,40 +65,44 @@ pub fn is_new(found: &Found) -> bool
 }
 
 /// Asks whether there is room for one more name in a directory. ENOSPC: fewer than 16 sectors are free, or it has no slot left.
-pub fn ask_for_name<S: Sectors>(s: &mut S, place: Place, directory: &Inode) -> Result<(), Refusal>
-    requires { HasBitmaps place (S.state s.old) }
-    ensures each { (t : Tree) (dir : ℕ) → HoldsTree place (S.state s.old).sectors t → IsDirectoryAt t dir
-        → directory.now ≡ inode_at place (S.state s.old).sectors dir
+pub fn ask_for_name<S: Sectors>(
+    s: &mut S,
+    geometry: Geometry,
+    directory: &Inode,
+) -> Result<(), Refusal>
+    requires { HasBitmaps geometry (S.state s.old) }
+    ensures each { (t : Tree) (dir : ℕ) → HoldsTree geometry (S.state s.old).sectors t → IsDirectoryAt t dir
+        → directory.now ≡ inode_at geometry (S.state s.old).sectors dir
         → IsAnswered (S.state s.old).disk (S.state s.new).disk
-        (refused_or (first_of (room_asked place (S.state s.old).sectors t dir)) (Ok tt)) result }
+        (refused_or (first_of (room_asked geometry (S.state s.old).sectors t dir)) (Ok tt)) result }
     ensures same { IsUnchanged (S.state s.old) (S.state s.new) }
 {
-    ask_for_sectors(s, place)?;
-    check_names(place, directory)?;
+    ask_for_sectors(s, geometry)?;
+    check_names(geometry, directory)?;
     Ok(())
 }
 
 /// Gives inode n a name in directory dir, where there is room for it. EIO: the disk has failed.
 pub fn name_inode<S: Sectors>(
     s: &mut S,
-    place: Place,
+    geometry: Geometry,
     dir: u32,
     directory: Inode,
     name: &[u8],
     n: u32,
 ) -> Result<(), Refusal>
-    requires sound { IsSound place (S.state s.old) }
-    requires inode { directory ≡ inode_at place (S.state s.old).sectors dir }
-    requires room { MayBeNamed place (S.state s.old).sectors dir name.now }
-    requires spare { HasSpare place 4 (S.state s.old) }
+    requires sound { IsSound geometry (S.state s.old) }
+    requires inode { directory ≡ inode_at geometry (S.state s.old).sectors dir }
+    requires room { MayBeNamed geometry (S.state s.old).sectors dir name.now }
+    requires spare { HasSpare geometry 4 (S.state s.old) }
     ensures store { SameStore (S.state s.old) (S.state s.new) }
-    ensures sound { OnOk result (IsSound place (S.state s.new)) }
-    ensures taken { OnOk result (TakesSpare place 4 (S.state s.old) (S.state s.new)) }
-    ensures named { OnOk result (NamesInode place dir name.now n (S.state s.old).sectors (S.state s.new).sectors) }
+    ensures sound { OnOk result (IsSound geometry (S.state s.new)) }
+    ensures taken { OnOk result (TakesSpare geometry 4 (S.state s.old) (S.state s.new)) }
+    ensures named { OnOk result (NamesInode geometry dir name.now n (S.state s.old).sectors (S.state s.new).sectors) }
     ensures err { IfErr result (FailsToRead (S.state s.old).disk (S.state s.new).disk) }
 {
     let mut directory = directory;
-    match insert_new(s, place, dir, &mut directory, name, n) {
+    match insert_new(s, geometry, dir, &mut directory, name, n) {
         Ok(()) => Ok(()),
         Err(_) => Err(Refusal::Failed(Errno::EIO)),
     }
@@ -107,20 +111,20 @@ pub fn name_inode<S: Sectors>(
 /// Removes a name from directory dir. EIO: the disk has failed.
 pub fn remove_name<S: Sectors>(
     s: &mut S,
-    place: Place,
+    geometry: Geometry,
     dir: u32,
     name: &[u8],
 ) -> Result<(), Refusal>
-    requires sound { IsSound place (S.state s.old) }
-    requires below { dir < place.inodes }
-    requires named { HasName place (S.state s.old).sectors dir name.now }
-    requires spare { HasSpare place 5 (S.state s.old) }
+    requires sound { IsSound geometry (S.state s.old) }
+    requires below { dir < geometry.inodes }
+    requires named { HasName geometry (S.state s.old).sectors dir name.now }
+    requires spare { HasSpare geometry 5 (S.state s.old) }
     ensures store { SameStore (S.state s.old) (S.state s.new) }
-    ensures removes { OnOk result (RemovesName place dir name.now (S.state s.old) (S.state s.new)) }
+    ensures removes { OnOk result (RemovesName geometry dir name.now (S.state s.old) (S.state s.new)) }
     ensures fault { IfErr result (FailsToRead (S.state s.old).disk (S.state s.new).disk) }
 {
-    let mut directory = load_inode(s, place, dir)?;
-    match remove(s, place, dir, &mut directory, name) {
+    let mut directory = load_inode(s, geometry, dir)?;
+    match remove(s, geometry, dir, &mut directory, name) {
         Ok(()) => Ok(()),
         Err(_) => Err(Refusal::Failed(Errno::EIO)),
     }

@@ -60,9 +60,9 @@ pub fn walk_path<'a, S: Sectors>(
 ) -> Result<Walked<'a>, Refusal>
     requires ready { IsReadyFor caller.now (S.state s.old) }
     ensures refused { IfErr result (λ e. (st : State)
-        → IsStateOf caller.now.place (S.state s.old).sectors caller.now.procs.now st
+        → IsStateOf caller.now.geometry (S.state s.old).sectors caller.now.procs.now st
         → RefusesWalk (S.state s.old).disk (S.state s.new).disk st caller.now.pid checks form path.now e) }
-    ensures walked { IfOk result (λ w. HasWalked caller.now.place (S.state s.new)
+    ensures walked { IfOk result (λ w. HasWalked caller.now.geometry (S.state s.new)
         caller.now.procs.now caller.now.pid checks form path.now w.process.now w.found) }
     ensures same { IsUnchanged (S.state s.old) (S.state s.new) }
 {
@@ -83,14 +83,14 @@ pub fn reach<'a, S: Sectors>(
 ) -> Result<Reached<'a>, Refusal>
     requires ready { IsReadyFor caller.now (S.state s.old) }
     ensures refused { IfErr result (λ e. (st : State)
-        → IsStateOf caller.now.place (S.state s.old).sectors caller.now.procs.now st
+        → IsStateOf caller.now.geometry (S.state s.old).sectors caller.now.procs.now st
         → RefusesReach (S.state s.old).disk (S.state s.new).disk st caller.now.pid checks form path.now e) }
-    ensures reached { IfOk result (λ r. HasReached caller.now.place (S.state s.new)
+    ensures reached { IfOk result (λ r. HasReached caller.now.geometry (S.state s.new)
         caller.now.procs.now caller.now.pid checks form path.now r.process.now r.found r.number r.inode) }
     ensures same { IsUnchanged (S.state s.old) (S.state s.new) }
 {
     let Walked { process, found } = walk_path(s, caller, checks, path, form)?;
-    let (number, inode) = inode_found(s, caller.place, &found)?;
+    let (number, inode) = inode_found(s, caller.geometry, &found)?;
     Ok(Reached {
         process,
         found,
@@ -109,9 +109,9 @@ pub fn reach_owned<'a, S: Sectors>(
 ) -> Result<Reached<'a>, Refusal>
     requires ready { IsReadyFor caller.now (S.state s.old) }
     ensures refused { IfErr result (λ e. (st : State)
-        → IsStateOf caller.now.place (S.state s.old).sectors caller.now.procs.now st
+        → IsStateOf caller.now.geometry (S.state s.old).sectors caller.now.procs.now st
         → RefusesOwned (S.state s.old).disk (S.state s.new).disk st caller.now.pid checks form path.now e) }
-    ensures owned { IfOk result (λ r. HasOwned caller.now.place (S.state s.new)
+    ensures owned { IfOk result (λ r. HasOwned caller.now.geometry (S.state s.new)
         caller.now.procs.now caller.now.pid checks form path.now r.process.now r.found r.number r.inode) }
     ensures same { IsUnchanged (S.state s.old) (S.state s.new) }
 {
@@ -131,14 +131,14 @@ pub fn walk_both<'a, S: Sectors>(
 ) -> Result<WalkedBoth<'a>, Refusal>
     requires ready { IsReadyFor caller.now (S.state s.old) }
     ensures refused { IfErr result (λ e. (st : State)
-        → IsStateOf caller.now.place (S.state s.old).sectors caller.now.procs.now st
+        → IsStateOf caller.now.geometry (S.state s.old).sectors caller.now.procs.now st
         → RefusesBoth (S.state s.old).disk (S.state s.new).disk st caller.now.pid old.now new.now e) }
-    ensures walked { IfOk result (λ w. HasWalkedBoth caller.now.place (S.state s.new)
+    ensures walked { IfOk result (λ w. HasWalkedBoth caller.now.geometry (S.state s.new)
         caller.now.procs.now caller.now.pid old.now new.now w.process.now w.first w.second) }
     ensures same { IsUnchanged (S.state s.old) (S.state s.new) }
 {
     let process = caller.procs.process(caller.pid)?;
-    let (first, second) = find_names(caller.alloc, s, caller.place, process, old, new)?;
+    let (first, second) = find_names(caller.alloc, s, caller.geometry, process, old, new)?;
     Ok(WalkedBoth {
         process,
         first,
@@ -165,7 +165,7 @@ pub fn find_open(
     fd: usize,
     purpose: OpenFor,
 ) -> Result<Descriptor, Refusal>
-    ensures refused { IfErr result (λ e. (st : State) → st.desks ≡ procs.now → IsNotOpen st pid fd purpose e) }
+    ensures refused { IfErr result (λ e. (st : State) → st.processes ≡ procs.now → IsNotOpen st pid fd purpose e) }
     ensures is_open { IfOk result (λ d. IsOpenFor procs.now pid fd purpose d) }
     ensures table { IsTable procs.now }
 {
@@ -185,13 +185,13 @@ pub fn reach_open<S: Sectors>(
 ) -> Result<(Descriptor, Inode), Refusal>
     requires ready { IsReadyFor caller.now (S.state s.old) }
     ensures refused { IfErr result (λ e. (st : State)
-        → IsStateOf caller.now.place (S.state s.old).sectors caller.now.procs.now st
+        → IsStateOf caller.now.geometry (S.state s.old).sectors caller.now.procs.now st
         → RefusesOpen (S.state s.old).disk (S.state s.new).disk st caller.now.pid fd purpose e) }
-    ensures opened { IfOk result (λ r. HasOpened caller.now.place (S.state s.new)
+    ensures opened { IfOk result (λ r. HasOpened caller.now.geometry (S.state s.new)
         caller.now.procs.now caller.now.pid fd purpose r.0 r.1) }
     ensures same { IsUnchanged (S.state s.old) (S.state s.new) }
 {
     let descriptor = find_open(caller.procs, caller.pid, fd, purpose)?;
-    let inode = load_inode(s, caller.place, descriptor.number)?;
+    let inode = load_inode(s, caller.geometry, descriptor.number)?;
     Ok((descriptor, inode))
 }

@@ -6,23 +6,28 @@ ghost use Rattle.call_parts.specs.ModelWords.{ENOSPC, refuse, least_free, refuse
 
 use bit_alloc::{Bitmap, has_free};
 use fs_cred::{Errno, Refusal};
-use fs_layout::Place;
+use fs_layout::Geometry;
 use sector_txn::Sectors;
 
 /// How many data sectors have to be free for a call that may take one, whatever it needs.
 const LEAST_FREE: u32 = 16;
 
 // Whether so many numbers are free, or else ENOSPC.
-fn ask_for<S: Sectors>(s: &mut S, place: Place, map: Bitmap, count: u32) -> Result<(), Refusal>
-    requires { HasBitmaps place (S.state s.old) }
+fn ask_for<S: Sectors>(
+    s: &mut S,
+    geometry: Geometry,
+    map: Bitmap,
+    count: u32,
+) -> Result<(), Refusal>
+    requires { HasBitmaps geometry (S.state s.old) }
     ensures each { IsAnswered (S.state s.old).disk (S.state s.new).disk
-        (refused_or (refuse ENOSPC (nat_lt (free_numbers place map (S.state s.old).sectors) count)) (Ok tt)) result }
+        (refused_or (refuse ENOSPC (nat_lt (free_numbers geometry map (S.state s.old).sectors) count)) (Ok tt)) result }
     ensures fault { IfErr result (λ refusal.
-        ((refusal ≡ Refusal.Failed Errno.ENOSPC) × (free_numbers place map (S.state s.old).sectors < count))
+        ((refusal ≡ Refusal.Failed Errno.ENOSPC) × (free_numbers geometry map (S.state s.old).sectors < count))
         ⊎ FailsToRead (S.state s.old).disk (S.state s.new).disk refusal) }
     ensures same { IsUnchanged (S.state s.old) (S.state s.new) }
 {
-    match has_free(s, place, map, count) {
+    match has_free(s, geometry, map, count) {
         Ok(true) => Ok(()),
         Ok(false) => Err(Refusal::Failed(Errno::ENOSPC)),
         Err(_) => Err(Refusal::Failed(Errno::EIO)),
@@ -30,24 +35,24 @@ fn ask_for<S: Sectors>(s: &mut S, place: Place, map: Bitmap, count: u32) -> Resu
 }
 
 /// Asks for free data sectors, before a call that may take some. ENOSPC: fewer than 16 are free.
-pub fn ask_for_sectors<S: Sectors>(s: &mut S, place: Place) -> Result<(), Refusal>
-    requires { HasBitmaps place (S.state s.old) }
+pub fn ask_for_sectors<S: Sectors>(s: &mut S, geometry: Geometry) -> Result<(), Refusal>
+    requires { HasBitmaps geometry (S.state s.old) }
     ensures each { IsAnswered (S.state s.old).disk (S.state s.new).disk
-        (refused_or (refuse ENOSPC (nat_lt (free_sectors place (S.state s.old).sectors) least_free)) (Ok tt)) result }
+        (refused_or (refuse ENOSPC (nat_lt (free_sectors geometry (S.state s.old).sectors) least_free)) (Ok tt)) result }
     ensures fault { IfErr result (λ refusal.
-        ((refusal ≡ Refusal.Failed Errno.ENOSPC) × (free_sectors place (S.state s.old).sectors < least_free))
+        ((refusal ≡ Refusal.Failed Errno.ENOSPC) × (free_sectors geometry (S.state s.old).sectors < least_free))
         ⊎ FailsToRead (S.state s.old).disk (S.state s.new).disk refusal) }
     ensures same { IsUnchanged (S.state s.old) (S.state s.new) }
 {
-    ask_for(s, place, Bitmap::Blocks, LEAST_FREE)
+    ask_for(s, geometry, Bitmap::Blocks, LEAST_FREE)
 }
 
 /// Asks for a free inode. ENOSPC: none is free.
-pub(crate) fn ask_for_inode<S: Sectors>(s: &mut S, place: Place) -> Result<(), Refusal>
-    requires { HasBitmaps place (S.state s.old) }
+pub(crate) fn ask_for_inode<S: Sectors>(s: &mut S, geometry: Geometry) -> Result<(), Refusal>
+    requires { HasBitmaps geometry (S.state s.old) }
     ensures each { IsAnswered (S.state s.old).disk (S.state s.new).disk
-        (refused_or (refuse ENOSPC (free_numbers place Inodes (S.state s.old).sectors == 0)) (Ok tt)) result }
+        (refused_or (refuse ENOSPC (free_numbers geometry Inodes (S.state s.old).sectors == 0)) (Ok tt)) result }
     ensures same { IsUnchanged (S.state s.old) (S.state s.new) }
 {
-    ask_for(s, place, Bitmap::Inodes, 1)
+    ask_for(s, geometry, Bitmap::Inodes, 1)
 }

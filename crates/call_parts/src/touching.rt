@@ -8,7 +8,7 @@ ghost use Rattle.fs_model.specs.StoredStamps.{stamps_in};
 ghost use Rattle.fs_model.specs.TreeChanges.{touch_at, touch_one, restamped};
 
 use fs_cred::{Errno, Refusal};
-use fs_layout::{Inode, Kind, Place};
+use fs_layout::{Geometry, Inode, Kind};
 use fs_model::Touch;
 use inode_table::{load_with_content, save_times};
 use sector_txn::Sectors;
@@ -40,31 +40,31 @@ fn with_touch(inode: &Inode, touch: Touch, now: u64) -> Inode
 // Moves these times of inode n, if it is used. EIO: the disk has failed.
 fn touch_inode<S: Sectors>(
     s: &mut S,
-    place: Place,
+    geometry: Geometry,
     n: u32,
     touch: Touch,
     now: u64,
 ) -> Result<(), Refusal>
-    requires sound { IsSound place (S.state s.old) }
-    requires below { n < place.inodes }
-    requires spare { HasSpare place 1 (S.state s.old) }
+    requires sound { IsSound geometry (S.state s.old) }
+    requires below { n < geometry.inodes }
+    requires spare { HasSpare geometry 1 (S.state s.old) }
     ensures store { SameStore (S.state s.old) (S.state s.new) }
     ensures superblock { OnOk result ((S.state s.new).sectors 0 ≡ (S.state s.old).sectors 0) }
-    ensures sound { OnOk result (IsSound place (S.state s.new)) }
-    ensures taken { OnOk result (TakesSpare place 1 (S.state s.old) (S.state s.new)) }
-    ensures held { OnOk result ((t : Tree) → HoldsAll place (S.state s.old).sectors (placed t)
-        → HoldsAll place (S.state s.new).sectors (placed (restamped (touch_one now (n, touch)) t))) }
+    ensures sound { OnOk result (IsSound geometry (S.state s.new)) }
+    ensures taken { OnOk result (TakesSpare geometry 1 (S.state s.old) (S.state s.new)) }
+    ensures held { OnOk result ((t : Tree) → HoldsAll geometry (S.state s.old).sectors (placed t)
+        → HoldsAll geometry (S.state s.new).sectors (placed (restamped (touch_one now (n, touch)) t))) }
     ensures fault { IfErr result (FailsToRead (S.state s.old).disk (S.state s.new).disk) }
 {
     let mut content = [0; 512];
-    let Ok(inode) = load_with_content(s, place, n, &mut content) else {
+    let Ok(inode) = load_with_content(s, geometry, n, &mut content) else {
         return Err(Refusal::Failed(Errno::EIO));
     };
     if inode.kind == Kind::Free {
         return Ok(());
     }
     let touched = with_touch(&inode, touch, now);
-    save_times(s, place, n, &touched, &mut content);
+    save_times(s, geometry, n, &touched, &mut content);
     Ok(())
 }
 
@@ -72,20 +72,20 @@ fn touch_inode<S: Sectors>(
 /// last name. EIO: the disk has failed.
 pub fn touch<S: Sectors>(
     s: &mut S,
-    place: Place,
+    geometry: Geometry,
     now: u64,
     touches: &[(u32, Touch)],
 ) -> Result<(), Refusal>
-    requires { MayMoveTimes place touches.now (S.state s.old) }
+    requires { MayMoveTimes geometry touches.now (S.state s.old) }
     ensures store { SameStore (S.state s.old) (S.state s.new) }
-    ensures moved { OnOk result (MovesTimes place now touches.now (S.state s.old) (S.state s.new)) }
+    ensures moved { OnOk result (MovesTimes geometry now touches.now (S.state s.old) (S.state s.new)) }
     ensures fault { IfErr result (FailsToRead (S.state s.old).disk (S.state s.new).disk) }
 {
-    if !place.version.keeps_times() {
+    if !geometry.version.keeps_times() {
         return Ok(());
     }
     for (n, touch) in touches {
-        touch_inode(s, place, *n, *touch, now)?;
+        touch_inode(s, geometry, *n, *touch, now)?;
     }
     Ok(())
 }

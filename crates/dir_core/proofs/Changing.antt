@@ -6,7 +6,7 @@ use Rattle.fs_layout.specs.declared.inode.TheConstants.{MAX_DIRECTORY_SIZE}
 use Rattle.fs_layout.specs.declared.inode.Inode.{Inode}
 use Rattle.fs_layout.specs.declared.inode.Kind.{Kind}
 use Rattle.fs_layout.specs.declared.inode.Kind.TheVariants as kinds
-use Rattle.fs_layout.specs.declared.place.Place.{Place}
+use Rattle.fs_layout.specs.declared.geometry.Geometry.{Geometry}
 use Rattle.fs_layout.specs.declared.slot.TheConstants.{SLOT_SIZE}
 use Rattle.fs_layout.specs.declared.version.Version.{Version}
 use Rattle.fs_layout.specs.Version.{max_name, max_names, slot_size, max_directory_size}
@@ -61,7 +61,7 @@ allows k m e few whole = subst (λ (kind : Kind). AllowsSize kind m) (sym e) (fe
 pub no_free : (k : Kind) → k ≡ kinds.Directory → k ≢ kinds.Free
 no_free k e f = let same : kinds.Directory ≡ kinds.Free = sym e ∙ f in cc
 
-module _ {p : Place} {n : ℕ} {txn : TxnState} {v : Inode} (sound : IsSound p txn) (lt : n < p.inodes) (is : v ≡ inode_at p txn.sectors n) (kind : v.kind ≡ kinds.Directory) where
+module _ {p : Geometry} {n : ℕ} {txn : TxnState} {v : Inode} (sound : IsSound p txn) (lt : n < p.inodes) (is : v ≡ inode_at p txn.sectors n) (kind : v.kind ≡ kinds.Directory) where
   -- it can be read
   pub directory_within : IsWithin txn.header txn.disk.size txn.sectors v
   directory_within = may_within (used_may_change sound lt is (no_free v.kind kind))

@@ -4,7 +4,7 @@ use Rattle.fs_layout.specs.declared.version.Version.{Version}
 use Rattle.fs_layout.specs.Header.{log_end}
 use Rattle.fs_layout.specs.Version.{block_slots}
 use Rattle.fs_layout.specs.declared.inode.Inode.{Inode}
-use Rattle.fs_layout.specs.declared.place.Place.{Place}
+use Rattle.fs_layout.specs.declared.geometry.Geometry.{Geometry}
 use Rattle.fs_layout.specs.Bytes.{SectorMap}
 use Rattle.fs_layout.specs.Images.{Owns}
 use Rattle.fs_layout.specs.Directories.{HasNames}
@@ -18,7 +18,7 @@ use Rattle.dir_core.specs.Slots.{HasSlots, IsBlock}
 use Rattle.dir_core.proofs.SlotPlaces.{same_block}
 
 -- what stands in the table can be read
-pub inode_within : {p : Place} {txn : TxnState} {v : Inode} → IsSound p txn → IsInodeOf p txn.sectors v → IsWithin txn.header txn.disk.size txn.sectors v
+pub inode_within : {p : Geometry} {txn : TxnState} {v : Inode} → IsSound p txn → IsInodeOf p txn.sectors v → IsWithin txn.header txn.disk.size txn.sectors v
 inode_within {p} {txn} {v} sound there s o =
     data_mapped sound (sound.consistent.in_data there.0 s there.1 (subst (λ u. Owns txn.sectors u s) there.2 o))
 

@@ -5,7 +5,7 @@
 use Rattle.std.specs.Prelude.{◌≡◌, ◌≢◌, ◌⊎◌, ℕ, ◌+◌, ◌-◌, ◌/◌, ◌%◌, ◌<◌, nat_eq, nat_lt, if◌then◌else◌, List, length, None}
 use Rattle.fs_layout.specs.declared.inode.TheConstants.{DIRECT_BLOCKS, SECTOR_POINTERS, INDIRECT_END}
 use Rattle.fs_layout.specs.declared.inode.Inode.{Inode}
-use Rattle.fs_layout.specs.declared.place.Place.{Place}
+use Rattle.fs_layout.specs.declared.geometry.Geometry.{Geometry}
 use Rattle.fs_layout.specs.Version.{max_names}
 use Rattle.fs_layout.specs.Bytes.{SectorMap}
 use Rattle.fs_layout.specs.Images.{free_sectors}
@@ -28,7 +28,7 @@ taken_for v = if nat_eq (v.size % 512) 0 then 1 + pointers_for (v.size / 512) el
 
 -- Why a name isn't added to a directory with these names, in this order: it is there; there are as many names as can be,
 -- or fewer sectors are free than one more takes.
-abbrev pub WhyNotAdded : Place → SectorMap → Inode → List (List ℕ × ℕ) → List ℕ → DirFault → Type 0
+abbrev pub WhyNotAdded : Geometry → SectorMap → Inode → List (List ℕ × ℕ) → List ℕ → DirFault → Type 0
 WhyNotAdded p image v names name Exists = get name_cmp names name ≢ None
 WhyNotAdded p image v names name Full =
     (get name_cmp names name ≡ None) × ((length names ≡ max_names p.version) ⊎ (free_sectors p image < taken_for v))

@@ -18,7 +18,7 @@ ghost use Rattle.dir_core.specs.Slots.{HasSlots, IsFoundIn};
 use crate::DirFault;
 use crate::find::{FoundSlot, find_slot};
 use block_map::{overwrite, read_at, set_size, write_at};
-use fs_layout::{Inode, MAX_SLOT_SIZE, Place, Slot, Version};
+use fs_layout::{Geometry, Inode, MAX_SLOT_SIZE, Slot, Version};
 use sector_disk::DiskFault;
 use sector_txn::Sectors;
 
@@ -38,7 +38,7 @@ fn block_with(version: Version, inode: u32, name: &[u8]) -> [u8; 512]
 /// It doesn't look for the name. At `Err` the caller drops the changes of the transaction; of `inode` nothing is said then.
 pub fn insert_new<S: Sectors>(
     s: &mut S,
-    place: Place,
+    place: Geometry,
     n: u32,
     inode: &mut Inode,
     name: &[u8],
@@ -75,7 +75,7 @@ pub fn insert_new<S: Sectors>(
 /// At `Err` the caller drops the changes of the transaction; of `inode` nothing is said then.
 pub fn insert<S: Sectors>(
     s: &mut S,
-    place: Place,
+    place: Geometry,
     n: u32,
     inode: &mut Inode,
     name: &[u8],
@@ -107,7 +107,7 @@ pub fn insert<S: Sectors>(
 // Finds the slot of a name of a directory, which has to be there.
 fn named_slot<S: Sectors>(
     s: &mut S,
-    place: Place,
+    place: Geometry,
     inode: &Inode,
     name: &[u8],
 ) -> Result<FoundSlot, DirFault>
@@ -131,7 +131,7 @@ fn named_slot<S: Sectors>(
 // Writes the last slot over another one. `bytes` has room for a slot.
 fn put_last<S: Sectors>(
     s: &mut S,
-    place: Place,
+    place: Geometry,
     n: u32,
     inode: &Inode,
     slot: u64,
@@ -163,7 +163,7 @@ fn put_last<S: Sectors>(
 // Writes the last slot in the place of another one.
 fn move_last<S: Sectors>(
     s: &mut S,
-    place: Place,
+    place: Geometry,
     n: u32,
     inode: &Inode,
     slot: u64,
@@ -199,7 +199,7 @@ fn move_last<S: Sectors>(
 /// nothing is said then.
 pub fn remove<S: Sectors>(
     s: &mut S,
-    place: Place,
+    place: Geometry,
     n: u32,
     inode: &mut Inode,
     name: &[u8],
@@ -228,7 +228,7 @@ pub fn remove<S: Sectors>(
 // Writes a name, which leads to inode `to`, in the place of a slot.
 fn set_slot<S: Sectors>(
     s: &mut S,
-    place: Place,
+    place: Geometry,
     n: u32,
     inode: &Inode,
     slot: u64,
@@ -262,7 +262,7 @@ fn set_slot<S: Sectors>(
 /// At `Err` the caller drops the changes of the transaction.
 pub fn replace<S: Sectors>(
     s: &mut S,
-    place: Place,
+    place: Geometry,
     n: u32,
     inode: &Inode,
     name: &[u8],
@@ -292,7 +292,7 @@ pub fn replace<S: Sectors>(
 /// It takes no sector. At `Err` the caller drops the changes of the transaction.
 pub fn rename<S: Sectors>(
     s: &mut S,
-    place: Place,
+    place: Geometry,
     n: u32,
     inode: &Inode,
     name: &[u8],

@@ -15,7 +15,7 @@ ghost use Rattle.dir_core.specs.declared.fault.DirFault.TheVariants.{DiskFault a
 use crate::DirFault;
 use crate::find::hint_key;
 use block_map::Blocks;
-use fs_layout::{Inode, Place, Slot, Version};
+use fs_layout::{Geometry, Inode, Slot, Version};
 use sector_disk::DiskFault;
 use sector_txn::Sectors;
 use std::alloc::Global;
@@ -104,7 +104,7 @@ fn leave_hints<S: Sectors>(s: &mut S, inode: &Inode, slots: &[Slot])
 pub fn list<S: Sectors>(
     alloc: Global,
     s: &mut S,
-    place: Place,
+    place: Geometry,
     inode: &Inode,
 ) -> Result<Vec<Slot>, DirFault>
     requires sound { IsSound place (S.state s.old) }

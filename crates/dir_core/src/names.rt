@@ -11,14 +11,14 @@ ghost use Rattle.bit_alloc.specs.Inodes.{IsSound};
 ghost use Rattle.inode_table.specs.Inodes.{IsInodeOf};
 
 use crate::find::find_slot;
-use fs_layout::{Inode, Place};
+use fs_layout::{Geometry, Inode};
 use sector_disk::DiskFault;
 use sector_txn::Sectors;
 
 /// The inode that a name leads to in a directory of the table. Bytes that can't be a name lead nowhere.
 pub fn lookup<S: Sectors>(
     s: &mut S,
-    place: Place,
+    place: Geometry,
     inode: &Inode,
     name: &[u8],
 ) -> Result<Option<u32>, DiskFault>

@@ -1,6 +1,6 @@
 -- Several writes, each of a content to a sector.
 --     after_writes        what reads give after them
---     IsAmong        what they may leave
+--     IsContentOf        what they may leave
 use Rattle.std.specs.Prelude.{ℕ, List, fold, slice_set, Contains}
 use Rattle.sector_disk.specs.Disk.{Image}
 
@@ -9,5 +9,5 @@ abbrev pub after_writes : Image → List (ℕ × List ℕ) → Image
 after_writes image writes = fold (λ image write. slice_set image write.0 write.1) image writes
 
 -- one of the contents, in its sector
-abbrev pub IsAmong : List (ℕ × List ℕ) → ℕ → List ℕ → Type 0
-IsAmong writes n content = Contains writes (n, content)
+abbrev pub IsContentOf : List (ℕ × List ℕ) → ℕ → List ℕ → Type 0
+IsContentOf writes n content = Contains writes (n, content)

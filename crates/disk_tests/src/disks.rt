@@ -3,7 +3,7 @@
 
 ghost use Rattle.std.specs.Prelude.{◌≡◌, ◌≢◌, ◌<◌, ◌⊎◌, OnOk, All};
 ghost use Rattle.sector_disk.specs.Disk.{Image, sector, IsStable, HasCause, LeavesOnly, AddsOnly, IsImageOr};
-ghost use Rattle.disk_tests.specs.Writes.{IsAmong, after_writes};
+ghost use Rattle.disk_tests.specs.Writes.{IsContentOf, after_writes};
 
 use sector_disk::{CrashDisk, Disk, DiskFault, FailOnce, FaultyDisk, FuseDisk, MemDisk};
 use std::alloc::Global;
@@ -42,8 +42,8 @@ fn write_and_mark<D: Disk>(
 fn scatter<D: Disk>(disk: &mut D, contents: &[(u32, [u8; 512])]) -> Result<(), DiskFault>
     requires { All (λ content. content.0 < (D.state disk.old).size) contents.now }
     ensures seen { OnOk result ((D.state disk.new).seen ≡ after_writes (D.state disk.old).seen contents.now) }
-    ensures adds { AddsOnly (IsAmong contents.now) (D.state disk.old) (D.state disk.new) }
-    ensures any_moment { LeavesOnly (D.state disk.old) (D.state disk.new) (IsImageOr (IsAmong contents.now) (D.state disk.old)) }
+    ensures adds { AddsOnly (IsContentOf contents.now) (D.state disk.old) (D.state disk.new) }
+    ensures any_moment { LeavesOnly (D.state disk.old) (D.state disk.new) (IsImageOr (IsContentOf contents.now) (D.state disk.old)) }
     ensures cause { HasCause (D.state disk.old) (D.state disk.new) result }
 {
     for content in contents {

@@ -8,7 +8,7 @@ use Rattle.std.proofs.Common.{refl, sym, ap, subst, arith, ◌∙◌}
 use Rattle.std.proofs.lemmas.Bool.{le-ltb}
 use Rattle.fs_cred.specs.declared.errno.Errno.TheVariants.{EFBIG}
 use Rattle.fs_cred.specs.declared.refusal.Refusal.{Refusal}
-use Rattle.fs_layout.specs.declared.place.Place.{Place}
+use Rattle.fs_layout.specs.declared.geometry.Geometry.{Geometry}
 use Rattle.fs_layout.specs.Bytes.{resized}
 use Rattle.fs_layout.specs.Version.{max_file_size}
 use Rattle.sector_txn.specs.Sectors.{TxnState}
@@ -20,7 +20,7 @@ use Rattle.fs_model.specs.TreeChanges.{Rewrite}
 use Rattle.fs_model.specs.Demands.{refuse, first_of}
 use Rattle.fs_model.specs.DescriptorCalls.{ftruncate_row, ftruncate_demands, ftruncate_effect, resized_node}
 use Rattle.fs_model.specs.Nodes.{Node, bytes_in}
-use Rattle.fs_model.specs.Processes.{Desks, Descriptor, is_open}
+use Rattle.fs_model.specs.Processes.{ProcessTable, Descriptor, is_open}
 use Rattle.fs_model.specs.Rows.{row_of}
 use Rattle.fs_model.specs.Scenes.{Effect}
 use Rattle.fs_model.specs.States.{State}
@@ -47,12 +47,12 @@ pub ftruncate_by : (fd size : ℕ) → ActsOn (Ftruncate fd size) fd Writing (ft
 ftruncate_by fd size = record { row = ftruncate_is fd size }
 
 -- its process is written back as it is
-pub process_stays : {desks : Desks} {pid fd : ℕ} {d : Descriptor} → IsOpened desks pid fd d → IsTable desks → desks ≡ with_changed desks pid (λ p. p)
-process_stays {desks} {pid} o table =
-    sym (changed_there desks pid o.process (λ p. p) o.there ∙ same_process_stays desks pid o.process table.rising o.there)
+pub process_stays : {processes : ProcessTable} {pid fd : ℕ} {d : Descriptor} → IsOpened processes pid fd d → IsTable processes → processes ≡ with_changed processes pid (λ p. p)
+process_stays {processes} {pid} o table =
+    sym (changed_there processes pid o.process (λ p. p) o.there ∙ same_process_stays processes pid o.process table.rising o.there)
 
-module _ {p : Place} (old : TxnState) {desks : Desks} {pid fd : ℕ} {d : Descriptor} (o : IsOpened desks pid fd d) (size : ℕ) (s : State)
-    (at : IsStateOf p old.sectors desks s) where
+module _ {p : Geometry} (old : TxnState) {processes : ProcessTable} {pid fd : ℕ} {d : Descriptor} (o : IsOpened processes pid fd d) (size : ℕ) (s : State)
+    (at : IsStateOf p old.sectors processes s) where
   asked_is : first_of (ftruncate_demands size (open_scene s o.process)) ≡ first_of (refuse EFBIG (nat_lt (max_file_size p.version) size) ∷ [])
   asked_is =
       ap (λ (r : Room). first_of (refuse EFBIG (nat_lt r.file_limit size) ∷ [])) at.same_room
@@ -64,9 +64,9 @@ module _ {p : Place} (old : TxnState) {desks : Desks} {pid fd : ℕ} {d : Descri
   size_met : size ≤ max_file_size p.version → first_of (ftruncate_demands size (open_scene s o.process)) ≡ None
   size_met fits = asked_is ∙ ap (λ (b : Bool). first_of (refuse EFBIG b ∷ [])) (le-ltb (max_file_size p.version) size fits)
 
-  pub cuts : (new : TxnState) → d.write ≡ true → size ≤ max_file_size p.version → desks ≡ with_changed desks pid (λ p. p)
+  pub cuts : (new : TxnState) → d.write ≡ true → size ≤ max_file_size p.version → processes ≡ with_changed processes pid (λ p. p)
       → ChangesBytes p d.number old new (λ held. resized held size)
-      → IsChange p new.sectors desks s o.process (ftruncate_demands size (open_scene s o.process)) (λ k. ftruncate_effect fd size (open_scene s o.process)) Done
+      → IsChange p new.sectors processes s o.process (ftruncate_demands size (open_scene s o.process)) (λ k. ftruncate_effect fd size (open_scene s o.process)) Done
       ((d.number, Modified) ∷ [])
   cuts new open_to_write fits same c =
       let x = open_fits o s at in
@@ -81,7 +81,7 @@ module _ {p : Place} (old : TxnState) {desks : Desks} {pid fd : ℕ} {d : Descri
             ∙ ap (change_of d.number) (sym (ap (λ (y : Descriptor). the_node s.tree y.number) (the_opened o)) ∙ open_node o s at);
         new_number = tt;
         times = refl;
-        holds = bytes_rewritten at desks (λ n was. subst (λ (k : Desks). IsTrue (is_open k n)) at.same_desks was) d.number x.node x.is_there
+        holds = bytes_rewritten at processes (λ n was. subst (λ (k : ProcessTable). IsTrue (is_open k n)) at.same_processes was) d.number x.node x.is_there
             (file_kind o s at open_to_write) (λ held. resized held size) c
             (omega (arith, len, limit, fits)) (IsBytes-resized (bytes_in x.node.body) size (bytes_are_bytes s.room s.tree x.node.body body));
       }

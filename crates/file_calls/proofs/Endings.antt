@@ -15,7 +15,7 @@ use Rattle.fs_cred.specs.declared.errno.Errno.TheVariants.{ESRCH, EBADF, EIO}
 use Rattle.fs_cred.specs.declared.refusal.Refusal.{Refusal}
 use Rattle.fs_cred.specs.declared.refusal.Refusal.TheVariants.{Failed}
 use Rattle.fs_layout.specs.declared.inode.Inode.{Inode}
-use Rattle.fs_layout.specs.declared.place.Place.{Place}
+use Rattle.fs_layout.specs.declared.geometry.Geometry.{Geometry}
 use Rattle.fs_layout.specs.Bytes.{SectorMap}
 use Rattle.fs_layout.specs.Images.{inode_at}
 use Rattle.fs_layout.specs.Inode.{free_inode}
@@ -34,7 +34,7 @@ use Rattle.fs_model.specs.declared.reply.Reply.TheVariants.{Done}
 use Rattle.fs_model.specs.TreeChanges.{Same, swept}
 use Rattle.fs_model.specs.Limits.{descriptors_limit}
 use Rattle.fs_model.specs.Nodes.{Node}
-use Rattle.fs_model.specs.Processes.{Descriptor, Process, Desks, is_open}
+use Rattle.fs_model.specs.Processes.{Descriptor, Process, ProcessTable, is_open}
 use Rattle.fs_model.specs.Stands.{HoldsPlaced, HoldsAll, placed}
 use Rattle.fs_model.specs.States.{State, IsProcess}
 use Rattle.fs_model.specs.Steps.{after, firm_refusal, other_refusal}
@@ -59,26 +59,26 @@ use Rattle.call_parts.proofs.Leavings.{left_super, left_sound, left_node, node_s
 
 -- What is placed at each number is what the tree has there after the end, or still what it has before; then none of the
 -- descriptors below is for it.
-abbrev pub AreLeft : Tree → Desks → ℕ → ℕ → (ℕ → Option Placed) → Type 0
-AreLeft t desks pid below what =
-    (m : ℕ) → (what m ≡ placed (swept t (without nat_cmp desks pid)) m)
-    ⊎ ((what m ≡ placed t m) × ((fd : ℕ) (d : Descriptor) → fd < below → open_in desks pid fd ≡ Ok d → d.number ≢ m))
+abbrev pub AreLeft : Tree → ProcessTable → ℕ → ℕ → (ℕ → Option Placed) → Type 0
+AreLeft t processes pid below what =
+    (m : ℕ) → (what m ≡ placed (swept t (without nat_cmp processes pid)) m)
+    ⊎ ((what m ≡ placed t m) × ((fd : ℕ) (d : Descriptor) → fd < below → open_in processes pid fd ≡ Ok d → d.number ≢ m))
 
-pub record HoldsLeft (p : Place) (map : SectorMap) (t : Tree) (desks : Desks) (pid below : ℕ) : Type 0 where
+pub record HoldsLeft (p : Geometry) (map : SectorMap) (t : Tree) (processes : ProcessTable) (pid below : ℕ) : Type 0 where
   pub what : ℕ → Option Placed
   pub holds : HoldsAll p map what
-  pub left : AreLeft t desks pid below what
+  pub left : AreLeft t processes pid below what
 
 -- the descriptors below are closed
-pub record IsLeaving (p : Place) (old new : TxnState) (desks : Desks) (pid below : ℕ) : Type 0 where
+pub record IsLeaving (p : Geometry) (old new : TxnState) (processes : ProcessTable) (pid below : ℕ) : Type 0 where
   pub store : SameStore old new
   pub super : new.sectors 0 ≡ old.sectors 0
   pub sound : IsSound p new
   pub spare : HasSpare p (47 - below) new
-  pub each : (s : State) → IsStateOf p old.sectors desks s → HoldsLeft p new.sectors s.tree desks pid below
+  pub each : (s : State) → IsStateOf p old.sectors processes s → HoldsLeft p new.sectors s.tree processes pid below
 
-pub leaving_begun : {p : Place} {old : TxnState} {desks : Desks} {pid : ℕ} → IsSound p old → HasSpare p 47 old → IsLeaving p old old desks pid 0
-leaving_begun {p} {old} {desks} {pid} sound spare = record {
+pub leaving_begun : {p : Geometry} {old : TxnState} {processes : ProcessTable} {pid : ℕ} → IsSound p old → HasSpare p 47 old → IsLeaving p old old processes pid 0
+leaving_begun {p} {old} {processes} {pid} sound spare = record {
   store = store_same;
   super = refl;
   sound = sound;
@@ -87,25 +87,25 @@ leaving_begun {p} {old} {desks} {pid} sound spare = record {
 }
 
 -- what is open has a number of the disk
-pub open_number : {p : Place} {map : SectorMap} {desks : Desks} (pid fd : ℕ) (s : State) → IsStateOf p map desks s → (d : Descriptor)
-    → open_in desks pid fd ≡ Ok d → IsNumber p Inodes d.number
-open_number {p} {map} {desks} pid fd s at d is = closed_number (opened desks pid fd d is) s at
+pub open_number : {p : Geometry} {map : SectorMap} {processes : ProcessTable} (pid fd : ℕ) (s : State) → IsStateOf p map processes s → (d : Descriptor)
+    → open_in processes pid fd ≡ Ok d → IsNumber p Inodes d.number
+open_number {p} {map} {processes} pid fd s at d is = closed_number (opened processes pid fd d is) s at
 
 -- what is open at none of the descriptors below is open at none up to this one
-not_below : (desks : Desks) (pid below m : ℕ) → ((fd : ℕ) (d : Descriptor) → fd < below → open_in desks pid fd ≡ Ok d → d.number ≢ m)
-    → ((d : Descriptor) → open_in desks pid below ≡ Ok d → d.number ≢ m)
-    → (fd : ℕ) (d : Descriptor) → fd < below + 1 → open_in desks pid fd ≡ Ok d → d.number ≢ m
-not_below desks pid below m before here fd d low there = elim (cases_eq fd below) [
-  | inl e ↦ here d (ap (open_in desks pid) (sym e) ∙ there)
+not_below : (processes : ProcessTable) (pid below m : ℕ) → ((fd : ℕ) (d : Descriptor) → fd < below → open_in processes pid fd ≡ Ok d → d.number ≢ m)
+    → ((d : Descriptor) → open_in processes pid below ≡ Ok d → d.number ≢ m)
+    → (fd : ℕ) (d : Descriptor) → fd < below + 1 → open_in processes pid fd ≡ Ok d → d.number ≢ m
+not_below processes pid below m before here fd d low there = elim (cases_eq fd below) [
+  | inl e ↦ here d (ap (open_in processes pid) (sym e) ∙ there)
   | inr ne ↦ before fd d (omega (arith, low, ne)) there
 ]
 
 -- ---- one descriptor
 
-module _ {p : Place} {was : SectorMap} (mid : TxnState) {desks : Desks} {pid : ℕ} (s : State) (at : IsStateOf p was desks s) (what : ℕ → Option Placed)
-    (holds : HoldsAll p mid.sectors what) {fd : ℕ} {d : Descriptor} (o : IsOpened desks pid fd d) where
-  abbrev now : Desks
-  now = without nat_cmp desks pid
+module _ {p : Geometry} {was : SectorMap} (mid : TxnState) {processes : ProcessTable} {pid : ℕ} (s : State) (at : IsStateOf p was processes s) (what : ℕ → Option Placed)
+    (holds : HoldsAll p mid.sectors what) {fd : ℕ} {d : Descriptor} (o : IsOpened processes pid fd d) where
+  abbrev now : ProcessTable
+  now = without nat_cmp processes pid
 
   abbrev n : ℕ
   n = d.number
@@ -145,8 +145,8 @@ module _ {p : Place} {was : SectorMap} (mid : TxnState) {desks : Desks} {pid : �
   standing {new} is leaves =
       let x = open_fits o s at in
       let number = closed_number o s at in
-      let stood = node_stood s.room s.tree s.desks s.desks at.is_state.tree (at.is_state.desks at.up) n node there (λ still. still) in
-      elim (left_node s.tree s.desks now node (parent s.tree n) (held_at p mid.sectors what holds n number.1 here is) x.no_link stood leaves) [
+      let stood = node_stood s.room s.tree s.processes s.processes at.is_state.tree (at.is_state.processes at.up) n node there (λ still. still) in
+      elim (left_node s.tree s.processes now node (parent s.tree n) (held_at p mid.sectors what holds n number.1 here is) x.no_link stood leaves) [
         | inl stay ↦ unchanged stay.1 (is ∙ sym (placed_stays s.tree now at.is_state.tree.numbers gone n node there stay.0))
         | inr went ↦ record {
           then_what = placing n None what;
@@ -176,8 +176,8 @@ module _ {p : Place} {was : SectorMap} (mid : TxnState) {desks : Desks} {pid : �
       by_stay true stay is = standing (is ∙ placed_stays s.tree now at.is_state.tree.numbers gone n node there stay) leaves
       by_stay false went is = dropped (is ∙ placed_goes s.tree now at.is_state.tree.numbers gone n node there went) is leaves
 
-  pub left_on : {new : TxnState} → AreLeft s.tree desks pid fd what → LeavesInode p n (is_open now n) mid new → open_in desks pid fd ≡ Ok d
-      → HoldsLeft p new.sectors s.tree desks pid (fd + 1)
+  pub left_on : {new : TxnState} → AreLeft s.tree processes pid fd what → LeavesInode p n (is_open now n) mid new → open_in processes pid fd ≡ Ok d
+      → HoldsLeft p new.sectors s.tree processes pid (fd + 1)
   left_on {new} left leaves is =
       let then = settled_at (elim (left n) [ inl done ↦ inl done | inr yet ↦ inr yet.0 ]) leaves in
       record {
@@ -189,56 +189,56 @@ module _ {p : Place} {was : SectorMap} (mid : TxnState) {desks : Desks} {pid : �
             | inl done ↦ inl (then.others m ne ∙ done)
             | inr yet ↦ inr (
               then.others m ne ∙ yet.0,
-              not_below desks pid fd m yet.1 (λ c same e. (let one : c ≡ d = (let two = sym same ∙ is in cc) in ne (sym e ∙ ap (λ (x : Descriptor). x.number) one))),
+              not_below processes pid fd m yet.1 (λ c same e. (let one : c ≡ d = (let two = sym same ∙ is in cc) in ne (sym e ∙ ap (λ (x : Descriptor). x.number) one))),
             )
           ]
         ];
       }
 
-none_closed : {p : Place} {mid new : TxnState} {t : Tree} {desks : Desks} {pid fd : ℕ} (errno : Errno) → open_in desks pid fd ≡ Err errno → IsUnchanged mid new
-    → HoldsLeft p mid.sectors t desks pid fd → HoldsLeft p new.sectors t desks pid (fd + 1)
-none_closed {p} {mid} {new} {t} {desks} {pid} {fd} errno none same left = record {
+none_closed : {p : Geometry} {mid new : TxnState} {t : Tree} {processes : ProcessTable} {pid fd : ℕ} (errno : Errno) → open_in processes pid fd ≡ Err errno → IsUnchanged mid new
+    → HoldsLeft p mid.sectors t processes pid fd → HoldsLeft p new.sectors t processes pid (fd + 1)
+none_closed {p} {mid} {new} {t} {processes} {pid} {fd} errno none same left = record {
   what = left.what;
   holds = kept (λ (m : SectorMap). HoldsAll p m left.what) same left.holds;
   left = λ m. elim (left.left m) [
     | inl done ↦ inl done
-    | inr yet ↦ inr (yet.0, not_below desks pid fd m yet.1 (λ d there. absurd (let both = sym none ∙ there in cc)))
+    | inr yet ↦ inr (yet.0, not_below processes pid fd m yet.1 (λ d there. absurd (let both = sym none ∙ there in cc)))
   ];
 }
 
-spare_left : (p : Place) (desks : Desks) (pid fd : ℕ) (mid new : TxnState) → fd < descriptors_limit → HasSpare p (47 - fd) mid → LeavesAt p desks pid fd mid new
+spare_left : (p : Geometry) (processes : ProcessTable) (pid fd : ℕ) (mid new : TxnState) → fd < descriptors_limit → HasSpare p (47 - fd) mid → LeavesAt p processes pid fd mid new
     → HasSpare p (47 - (fd + 1)) new
-spare_left p desks pid fd mid new low spare (is_closed errno none same) = let room = spare_unchanged p (47 - fd) mid new spare same in omega (arith, room)
-spare_left p desks pid fd mid new low spare (was_open d there (stays_open o same)) = let room = spare_unchanged p (47 - fd) mid new spare same in omega (arith, room)
-spare_left p desks pid fd mid new low spare (was_open d there (has_name o same)) = let room = spare_unchanged p (47 - fd) mid new spare same in omega (arith, room)
-spare_left p desks pid fd mid new low spare (was_open d there (was_free o same)) = let room = spare_unchanged p (47 - fd) mid new spare same in omega (arith, room)
-spare_left p desks pid fd mid new low spare (was_open d there (goes closed none used drops)) =
+spare_left p processes pid fd mid new low spare (is_closed errno none same) = let room = spare_unchanged p (47 - fd) mid new spare same in omega (arith, room)
+spare_left p processes pid fd mid new low spare (was_open d there (stays_open o same)) = let room = spare_unchanged p (47 - fd) mid new spare same in omega (arith, room)
+spare_left p processes pid fd mid new low spare (was_open d there (has_name o same)) = let room = spare_unchanged p (47 - fd) mid new spare same in omega (arith, room)
+spare_left p processes pid fd mid new low spare (was_open d there (was_free o same)) = let room = spare_unchanged p (47 - fd) mid new spare same in omega (arith, room)
+spare_left p processes pid fd mid new low spare (was_open d there (goes closed none used drops)) =
     spare_then p 1 (47 - (fd + 1)) mid new (omega (arith, spare, low)) drops.touches.puts
 
-left_at_super : {p : Place} {desks : Desks} {pid fd : ℕ} {mid new : TxnState} → LeavesAt p desks pid fd mid new → new.sectors 0 ≡ mid.sectors 0
+left_at_super : {p : Geometry} {processes : ProcessTable} {pid fd : ℕ} {mid new : TxnState} → LeavesAt p processes pid fd mid new → new.sectors 0 ≡ mid.sectors 0
 left_at_super (is_closed errno none same) = same.sectors 0
 left_at_super (was_open d there leaves) = left_super leaves
 
-left_at_sound : {p : Place} {desks : Desks} {pid fd : ℕ} {mid new : TxnState} → IsSound p mid → LeavesAt p desks pid fd mid new → IsSound p new
+left_at_sound : {p : Geometry} {processes : ProcessTable} {pid fd : ℕ} {mid new : TxnState} → IsSound p mid → LeavesAt p processes pid fd mid new → IsSound p new
 left_at_sound sound (is_closed errno none same) = sound_kept same sound
 left_at_sound sound (was_open d there leaves) = left_sound sound leaves
 
 -- the next one is closed
-pub leaving_on : {p : Place} {old mid new : TxnState} {desks : Desks} {pid fd : ℕ} → fd < descriptors_limit → IsLeaving p old mid desks pid fd → SameStore mid new
-    → LeavesAt p desks pid fd mid new → IsLeaving p old new desks pid (fd + 1)
-leaving_on {p} {old} {mid} {new} {desks} {pid} {fd} low so_far store leaves = record {
+pub leaving_on : {p : Geometry} {old mid new : TxnState} {processes : ProcessTable} {pid fd : ℕ} → fd < descriptors_limit → IsLeaving p old mid processes pid fd → SameStore mid new
+    → LeavesAt p processes pid fd mid new → IsLeaving p old new processes pid (fd + 1)
+leaving_on {p} {old} {mid} {new} {processes} {pid} {fd} low so_far store leaves = record {
   store = store_joined so_far.store store;
   super = left_at_super leaves ∙ so_far.super;
   sound = left_at_sound so_far.sound leaves;
-  spare = spare_left p desks pid fd mid new low so_far.spare leaves;
+  spare = spare_left p processes pid fd mid new low so_far.spare leaves;
   each = λ s at. next s at leaves;
 }
   where
-    next : (s : State) → IsStateOf p old.sectors desks s → LeavesAt p desks pid fd mid new → HoldsLeft p new.sectors s.tree desks pid (fd + 1)
+    next : (s : State) → IsStateOf p old.sectors processes s → LeavesAt p processes pid fd mid new → HoldsLeft p new.sectors s.tree processes pid (fd + 1)
     next s at (is_closed errno none same) = none_closed errno none same (so_far.each s at)
     next s at (was_open d there one) =
         let left = so_far.each s at in
-        left_on mid s at left.what left.holds (opened desks pid fd d there) left.left one there
+        left_on mid s at left.what left.holds (opened processes pid fd d there) left.left one there
 
 -- ---- the end
 
@@ -254,40 +254,40 @@ some_process None h = absurd (cc)
 some_process (Some q) h = (q, refl)
 
 -- all are closed
-pub leaving_done : {p : Place} {old new : TxnState} {desks : Desks} {pid below : ℕ} → IsSome (get nat_cmp desks pid) → descriptors_limit ≤ below
-    → IsLeaving p old new desks pid below → (s : State) → IsStateOf p old.sectors desks s
-    → HoldsAll p new.sectors (placed (swept s.tree (without nat_cmp desks pid)))
-leaving_done {p} {old} {new} {desks} {pid} {below} some all so_far s at =
+pub leaving_done : {p : Geometry} {old new : TxnState} {processes : ProcessTable} {pid below : ℕ} → IsSome (get nat_cmp processes pid) → descriptors_limit ≤ below
+    → IsLeaving p old new processes pid below → (s : State) → IsStateOf p old.sectors processes s
+    → HoldsAll p new.sectors (placed (swept s.tree (without nat_cmp processes pid)))
+leaving_done {p} {old} {new} {processes} {pid} {below} some all so_far s at =
     let left = so_far.each s at in
     same_placed p new.sectors left.what (placed (swept s.tree now)) left.holds
     (λ m. elim (left.left m) [ inl done ↦ sym done | inr yet ↦ same_there m yet.1 ∙ sym yet.0 ])
   where
-    now : Desks
-    now = without nat_cmp desks pid
+    now : ProcessTable
+    now = without nat_cmp processes pid
 
     q : Process
-    q = (some_process (get nat_cmp desks pid) some).0
+    q = (some_process (get nat_cmp processes pid) some).0
 
-    there : get nat_cmp desks pid ≡ Some q
-    there = (some_process (get nat_cmp desks pid) some).1
+    there : get nat_cmp processes pid ≡ Some q
+    there = (some_process (get nat_cmp processes pid) some).1
 
-    rising : IsMap nat_cmp desks
-    rising = subst (λ (x : Desks). IsMap nat_cmp x) at.same_desks at.is_state.pids
+    rising : IsMap nat_cmp processes
+    rising = subst (λ (x : ProcessTable). IsMap nat_cmp x) at.same_processes at.is_state.pids
 
     is_process : IsProcess s.tree q
     is_process = state_process at pid q there
 
-    same_open : (m : ℕ) → ((fd : ℕ) (d : Descriptor) → fd < below → open_in desks pid fd ≡ Ok d → d.number ≢ m) → is_open s.desks m ≡ is_open now m
+    same_open : (m : ℕ) → ((fd : ℕ) (d : Descriptor) → fd < below → open_in processes pid fd ≡ Ok d → d.number ≢ m) → is_open s.processes m ≡ is_open now m
     same_open m no_one =
-        ap (λ (x : Desks). is_open x m) at.same_desks
-        ∙ sym (ap (λ (x : Desks). is_open x m) (entry_again desks pid q rising there))
-        ∙ any_with_entry (has_open m) desks pid q rising
+        ap (λ (x : ProcessTable). is_open x m) at.same_processes
+        ∙ sym (ap (λ (x : ProcessTable). is_open x m) (entry_again processes pid q rising there))
+        ∙ any_with_entry (has_open m) processes pid q rising
         ∙ ap (λ b. b || is_open now m) (no_number m q.descriptors is_process.descriptors
         (λ fd d here.
         let low = (is_process.each fd d here).below in
         no_one fd d (omega (arith, low, all)) (ap (answer_of_found (open_at fd)) there ∙ ap (λ (o : Option Descriptor). ok_or o EBADF) here)))
 
-    same_there : (m : ℕ) → ((fd : ℕ) (d : Descriptor) → fd < below → open_in desks pid fd ≡ Ok d → d.number ≢ m)
+    same_there : (m : ℕ) → ((fd : ℕ) (d : Descriptor) → fd < below → open_in processes pid fd ≡ Ok d → d.number ≢ m)
         → placed (swept s.tree now) m ≡ placed s.tree m
     same_there m no_one = go (node_at s.tree m) refl
       where
@@ -299,17 +299,17 @@ leaving_done {p} {old} {new} {desks} {pid} {below} some all so_far s at =
             placed_none s.tree now at.is_state.tree.numbers gone m e
             ∙ sym (placed_from s.tree m None (names_of s.tree m) (parent s.tree m) e refl refl)
         go (Some node) e =
-            let stay = node_stood s.room s.tree s.desks now at.is_state.tree (at.is_state.desks at.up) m node e (λ was. sym (same_open m no_one) ∙ was) in
+            let stay = node_stood s.room s.tree s.processes now at.is_state.tree (at.is_state.processes at.up) m node e (λ was. sym (same_open m no_one) ∙ was) in
             placed_stays s.tree now at.is_state.tree.numbers gone m node e stay
             ∙ sym (placed_from s.tree m (Some node) (names_of s.tree m) (parent s.tree m) e refl refl)
 
 -- ---- what it answers
 
-exit_absent : (s : State) (pid : ℕ) → get nat_cmp s.desks pid ≡ None → firm_refusal s (Exit pid) ≡ Some (Failed ESRCH)
+exit_absent : (s : State) (pid : ℕ) → get nat_cmp s.processes pid ≡ None → firm_refusal s (Exit pid) ≡ Some (Failed ESRCH)
 unfolding firm_refusal
 exit_absent s pid none = rw none refl
 
-exit_firm : (s : State) (pid : ℕ) (q : Process) → get nat_cmp s.desks pid ≡ Some q → firm_refusal s (Exit pid) ≡ None
+exit_firm : (s : State) (pid : ℕ) (q : Process) → get nat_cmp s.processes pid ≡ Some q → firm_refusal s (Exit pid) ≡ None
 unfolding firm_refusal
 exit_firm s pid q there = rw there refl
 
@@ -317,7 +317,7 @@ exit_late : (s : State) (pid : ℕ) → other_refusal s (Exit pid) ≡ None
 unfolding other_refusal
 exit_late s pid = refl
 
-pub exit_after : (s : State) (pid free : ℕ) → after s (Exit pid) (chosen 0 free) ≡ record { change = Same; desks = without nat_cmp s.desks pid; reply = Done; now = s.now }
+pub exit_after : (s : State) (pid free : ℕ) → after s (Exit pid) (chosen 0 free) ≡ record { change = Same; processes = without nat_cmp s.processes pid; reply = Done; now = s.now }
 unfolding after
 exit_after s pid free = refl
 
@@ -325,33 +325,33 @@ abbrev ended : Process → Result (Unit {0}) Errno
 ended p = Ok tt
 
 -- who is there can end
-pub no_exit_err : (desks : Desks) (pid : ℕ) (q : Process) (errno : Errno) → get nat_cmp desks pid ≡ Some q → Err errno ≡ answer_of desks pid ended → ⊥
-no_exit_err desks pid q errno there e = let both : Err errno ≡ ended q = e ∙ ap (answer_of_found ended) there in cc
+pub no_exit_err : (processes : ProcessTable) (pid : ℕ) (q : Process) (errno : Errno) → get nat_cmp processes pid ≡ Some q → Err errno ≡ answer_of processes pid ended → ⊥
+no_exit_err processes pid q errno there e = let both : Err errno ≡ ended q = e ∙ ap (answer_of_found ended) there in cc
 
-module _ {p : Place} {pid : ℕ} {old new : TxnState} {desks : Desks} where
+module _ {p : Geometry} {pid : ℕ} {old new : TxnState} {processes : ProcessTable} where
   exits_err : (r : Result (Unit {0}) Refusal) (e : Refusal) → IsErr r → IsErrAnd r (λ y. y ≡ e) → SameStore old new
-      → ((s : State) → IsStateOf p old.sectors desks s → IsNotExited old.disk new.disk s pid e) → Exits p pid old new desks desks r
+      → ((s : State) → IsStateOf p old.sectors processes s → IsNotExited old.disk new.disk s pid e) → Exits p pid old new processes processes r
   exits_err r e err and store each =
-      subst (λ (x : Result (Unit {0}) Refusal). Exits p pid old new desks desks x) (sym (is_err r e err and))
+      subst (λ (x : Result (Unit {0}) Refusal). Exits p pid old new processes processes x) (sym (is_err r e err and))
       (record { store = store; super = tt; table = refl; each = each })
 
   -- there is no such process
   pub absent_exits : (r : Result (Unit {0}) Refusal) (errno : Errno) → IsErr r → IsErrAnd r (λ y. y ≡ Failed errno) → SameStore old new
-      → (errno ≡ ESRCH) × (get nat_cmp desks pid ≡ None) → Exits p pid old new desks desks r
+      → (errno ≡ ESRCH) × (get nat_cmp processes pid ≡ None) → Exits p pid old new processes processes r
   absent_exits r errno err and store none = exits_err r (Failed errno) err and store
-      (λ s at. why.absent (exit_absent s pid (ap (λ (x : Desks). get nat_cmp x pid) at.same_desks ∙ none.1) ∙ ap (λ (x : Errno). Some (Failed x)) (sym none.0)))
+      (λ s at. why.absent (exit_absent s pid (ap (λ (x : ProcessTable). get nat_cmp x pid) at.same_processes ∙ none.1) ∙ ap (λ (x : Errno). Some (Failed x)) (sym none.0)))
 
   -- a read fails
-  pub failed_exits : (q : Process) → get nat_cmp desks pid ≡ Some q → (r : Result (Unit {0}) Refusal) (e : Refusal) → IsErr r → IsErrAnd r (λ y. y ≡ e)
-      → SameStore old new → (e ≡ Failed EIO) × HasFailed old.disk new.disk → Exits p pid old new desks desks r
+  pub failed_exits : (q : Process) → get nat_cmp processes pid ≡ Some q → (r : Result (Unit {0}) Refusal) (e : Refusal) → IsErr r → IsErrAnd r (λ y. y ≡ e)
+      → SameStore old new → (e ≡ Failed EIO) × HasFailed old.disk new.disk → Exits p pid old new processes processes r
   failed_exits q there r e err and store failed = exits_err r e err and store
       (λ s at. why.read_fails (exit_firm s pid q (same_process at pid q there)) failed.1 failed.0)
 
   -- it is ended
-  pub exited : (now : Desks) (q : Process) → get nat_cmp desks pid ≡ Some q → now ≡ without nat_cmp desks pid → SameStore old new
+  pub exited : (now : ProcessTable) (q : Process) → get nat_cmp processes pid ≡ Some q → now ≡ without nat_cmp processes pid → SameStore old new
       → new.sectors 0 ≡ old.sectors 0
-      → ((s : State) → IsStateOf p old.sectors desks s → HoldsAll p new.sectors (placed (swept s.tree (without nat_cmp desks pid))))
-      → Exits p pid old new desks now (Ok tt)
+      → ((s : State) → IsStateOf p old.sectors processes s → HoldsAll p new.sectors (placed (swept s.tree (without nat_cmp processes pid))))
+      → Exits p pid old new processes now (Ok tt)
   exited now q there is store super left = record {
     store = store;
     super = super;
@@ -360,7 +360,7 @@ module _ {p : Place} {pid : ℕ} {old new : TxnState} {desks : Desks} where
       early = exit_firm s pid q (same_process at pid q there);
       late = exit_late s pid;
       effect = exit_after s pid 0
-          ∙ ap (λ (x : Desks). record { change = Same; desks = x; reply = Done; now = s.now }) (ap (λ (x : Desks). without nat_cmp x pid) at.same_desks ∙ sym is);
-      holds = subst (λ (x : Desks). HoldsAll p new.sectors (placed (swept s.tree x))) (sym is) (left s at);
+          ∙ ap (λ (x : ProcessTable). record { change = Same; processes = x; reply = Done; now = s.now }) (ap (λ (x : ProcessTable). without nat_cmp x pid) at.same_processes ∙ sym is);
+      holds = subst (λ (x : ProcessTable). HoldsAll p new.sectors (placed (swept s.tree x))) (sym is) (left s at);
     };
   }

@@ -9,7 +9,7 @@ use Rattle.sector_disk.specs.Disk.{DiskState}
 use Rattle.fs_cred.specs.declared.errno.Errno.TheVariants.{ENOTDIR}
 use Rattle.fs_cred.specs.declared.refusal.Refusal.{Refusal}
 use Rattle.fs_layout.specs.declared.inode.Inode.{Inode}
-use Rattle.fs_layout.specs.declared.place.Place.{Place}
+use Rattle.fs_layout.specs.declared.geometry.Geometry.{Geometry}
 use Rattle.fs_layout.specs.Bytes.{SectorMap}
 use Rattle.fs_layout.specs.Images.{inode_at, free_sectors}
 use Rattle.sector_txn.specs.Sectors.{TxnState, IsUnchanged}
@@ -22,7 +22,7 @@ use Rattle.fs_model.specs.declared.walk.Found.{Found}
 use Rattle.fs_model.specs.AttributeCalls.{is_default, set_acl_arguments, set_acl_demands, set_acl_effect, with_set_acl}
 use Rattle.fs_model.specs.Demands.{Demand, refuse, first_of}
 use Rattle.fs_model.specs.Nodes.{Node, is_directory, is_link}
-use Rattle.fs_model.specs.Processes.{Process, Desks}
+use Rattle.fs_model.specs.Processes.{Process, ProcessTable}
 use Rattle.fs_model.specs.Rules.{is_directory_kind}
 use Rattle.fs_model.specs.Scenes.{body_found, must_be_there, own_at_end}
 use Rattle.fs_model.specs.States.{State}
@@ -46,12 +46,12 @@ use Rattle.call_parts.specs.Reaching.{IsInodeFound}
 -- ---- what the inode holds then
 
 -- the node with this ACL
-record IsGiven (p : Place) (n : ℕ) (x : Placed) (which : AclType) (acl : Option AccessList) (map new : SectorMap) : Type 0 where
+record IsGiven (p : Geometry) (n : ℕ) (x : Placed) (which : AclType) (acl : Option AccessList) (map new : SectorMap) : Type 0 where
   valid : IsSomeAcl acl
   one : ChangesOne p n map new
   held : HoldsNode p.version new (inode_at p new n) (record x { node = record x.node { body = with_set_acl which acl x.node.body } })
 
-is_given : (p : Place) (n : ℕ) (x : Placed) (which : AclType) (acl : Option AccessList) (map new : SectorMap) → HoldsNode p.version map (inode_at p map n) x
+is_given : (p : Geometry) (n : ℕ) (x : Placed) (which : AclType) (acl : Option AccessList) (map new : SectorMap) → HoldsNode p.version map (inode_at p map n) x
     → IsFalse (is_link x.node.body) → (is_default which ≡ true → is_directory x.node.body ≡ true) → first_of (set_acl_arguments which acl) ≡ None
     → (which ≡ Access → (a : AccessList) → acl ≡ Some a → SavesAcl p n (inode_at p map n).mode a map new)
     → (which ≡ Default → SavesDefaultAcl p n acl map new) → IsGiven p n x which acl map new
@@ -78,7 +78,7 @@ gets_default true false none is = absurd (cc)
 gets_default false k none is = absurd (cc)
 
 -- the superblock stays
-pub given_super : (p : Place) (n : ℕ) (which : AclType) (acl : Option AccessList) {m : ℕ} {map new : SectorMap} → first_of (set_acl_arguments which acl) ≡ None
+pub given_super : (p : Geometry) (n : ℕ) (which : AclType) (acl : Option AccessList) {m : ℕ} {map new : SectorMap} → first_of (set_acl_arguments which acl) ≡ None
     → (which ≡ Access → (a : AccessList) → acl ≡ Some a → SavesAcl p n m a map new) → (which ≡ Default → SavesDefaultAcl p n acl map new) → new 0 ≡ map 0
 given_super p n Access None given access default = absurd (cc)
 given_super p n Access (Some a) given access default = (access refl a refl).one.super
@@ -91,15 +91,15 @@ abbrev pub acl_rest : AclType → Option AccessList → State → Process → Fo
 acl_rest which acl s q f = refuse ENOTDIR (is_default which && not (is_directory (body_found (scene_at s q f) f))) ∷ acl_space_asked which acl s.free
 
 -- since an earlier moment
-pub space_later : (p : Place) (which : AclType) (acl : Option AccessList) {old mid : TxnState} (new : DiskState) (e : Refusal) → IsUnchanged old mid
+pub space_later : (p : Geometry) (which : AclType) (acl : Option AccessList) {old mid : TxnState} (new : DiskState) (e : Refusal) → IsUnchanged old mid
     → IsAnswered mid.disk new (refused_or {A = Unit {0}} (first_of (acl_space_asked which acl (free_sectors p mid.sectors))) (Ok tt)) (Err e)
     → IsAnswered old.disk new (refused_or {A = Unit {0}} (first_of (acl_space_asked which acl (free_sectors p old.sectors))) (Ok tt)) (Err e)
 space_later p which acl {old} {mid} new e same is =
     kept_back (λ (m : SectorMap). IsAnswered old.disk new (refused_or {A = Unit {0}} (first_of (acl_space_asked which acl (free_sectors p m))) (Ok tt)) (Err e)) same
     (answered_later {A = Unit {0}} new same is)
 
-module _ {p : Place} {map : SectorMap} {desks : Desks} {s : State} {pid : ℕ} {q : Process} {path : List ℕ} {f : Found} {n : ℕ} {v : Inode}
-    (at : IsStateOf p map desks s) (has : HasFound s pid q Follow path f) (i : IsInodeFound p map f n v)
+module _ {p : Geometry} {map : SectorMap} {processes : ProcessTable} {s : State} {pid : ℕ} {q : Process} {path : List ℕ} {f : Found} {n : ℕ} {v : Inode}
+    (at : IsStateOf p map processes s) (has : HasFound s pid q Follow path f) (i : IsInodeFound p map f n v)
     (met : own_asked q.cred v.uid f.step ≡ None) (which : AclType) (acl : Option AccessList) where
   abbrev first_two : List Demand
   first_two = must_be_there f ∷ own_at_end (scene_at s q f) ∷ []
@@ -134,7 +134,7 @@ module _ {p : Place} {map : SectorMap} {desks : Desks} {s : State} {pid : ℕ} {
     -- it is given
     pub acl_changed : (new : SectorMap) → first_of space ≡ None → first_of (set_acl_arguments which acl) ≡ None
         → (which ≡ Access → (a : AccessList) → acl ≡ Some a → SavesAcl p n v.mode a map new) → (which ≡ Default → SavesDefaultAcl p n acl map new)
-        → IsChange p new desks s q (set_acl_demands which acl (scene_at s q f)) (set_acl_effect which acl (scene_at s q f)) Done ((n, Changed) ∷ [])
+        → IsChange p new processes s q (set_acl_demands which acl (scene_at s q f)) (set_acl_effect which acl (scene_at s q f)) Done ((n, Changed) ∷ [])
     acl_changed new enough given access default =
         let a = followed_access n at has i.some in
         let kind = sym (held_kind (state_tree at) n a.node a.at) ∙ ap (λ (w : Inode). is_directory_kind w.kind) (sym i.inode) in

@@ -8,13 +8,13 @@ use Rattle.fs_layout.specs.declared.inode.Inode.{Inode}
 use Rattle.fs_cred.specs.declared.errno.Errno.TheVariants.{EISDIR, ENOTDIR}
 use Rattle.fs_layout.specs.declared.inode.Kind.{Kind}
 use Rattle.fs_layout.specs.declared.inode.Kind.TheVariants as kinds
-use Rattle.fs_layout.specs.declared.place.Place.{Place}
+use Rattle.fs_layout.specs.declared.geometry.Geometry.{Geometry}
 use Rattle.fs_layout.specs.declared.version.Version.{Version}
 use Rattle.fs_layout.specs.Bytes.{SectorMap}
 use Rattle.fs_layout.specs.Images.{inode_at, Holds}
 use Rattle.fs_model.specs.Demands.{refuse}
-use Rattle.fs_model.specs.Nodes.{Node, Body, File, Dir, Link, is_directory, is_link, names_in, bytes_in}
-use Rattle.fs_model.specs.Processes.{Desks, Descriptor}
+use Rattle.fs_model.specs.Nodes.{Node, Body, File, Dir, Link, is_directory, is_link, names_of_body, bytes_in}
+use Rattle.fs_model.specs.Processes.{ProcessTable, Descriptor}
 use Rattle.fs_model.specs.Rules.{is_directory_kind}
 use Rattle.fs_model.specs.Scenes.{node_open}
 use Rattle.fs_model.specs.States.{State}
@@ -48,7 +48,7 @@ file_held version map v (File a bytes) h no_link no_directory = record { no_dire
 file_held version map v (Dir a d) h no_link no_directory = absurd (no_directory h.names.kind)
 file_held version map v (Link target) h no_link no_directory = absurd (cc)
 
-module _ {p : Place} {map : SectorMap} {desks : Desks} {pid fd : ℕ} {d : Descriptor} (o : IsOpened desks pid fd d) (s : State) (at : IsStateOf p map desks s) where
+module _ {p : Geometry} {map : SectorMap} {processes : ProcessTable} {pid fd : ℕ} {d : Descriptor} (o : IsOpened processes pid fd d) (s : State) (at : IsStateOf p map processes s) where
   pub open_file : (v : Inode) → v ≡ inode_at p map d.number → v.kind ≢ kinds.Directory → IsFile map v (node_open (open_scene s o.process) fd).body
   open_file v is no_directory =
       let x = open_fits o s at in
@@ -70,11 +70,11 @@ module _ {p : Place} {map : SectorMap} {desks : Desks} {pid fd : ℕ} {d : Descr
       }
 
   -- its names and its parent
-  pub open_names : (v : Inode) → v ≡ inode_at p map d.number → v.kind ≡ kinds.Directory → HasNames p.version map v (names_in (node_open (open_scene s o.process) fd).body)
+  pub open_names : (v : Inode) → v ≡ inode_at p map d.number → v.kind ≡ kinds.Directory → HasNames p.version map v (names_of_body (node_open (open_scene s o.process) fd).body)
   open_names v is directory =
       let here = held_names (state_tree at) d.number (the_directory (sym (ap (λ (w : Inode). w.kind) is) ∙ directory)) in
-      subst (λ (n : Node). HasNames p.version map v (names_in n.body)) (sym (open_node o s at))
-      (subst (λ (w : Inode). HasNames p.version map w (names_in (open_fits o s at).node.body)) (sym is) here)
+      subst (λ (n : Node). HasNames p.version map v (names_of_body n.body)) (sym (open_node o s at))
+      (subst (λ (w : Inode). HasNames p.version map w (names_of_body (open_fits o s at).node.body)) (sym is) here)
 
   pub open_parent : (v : Inode) → v ≡ inode_at p map d.number → v.kind ≡ kinds.Directory → v.parent ≡ parent s.tree d.number
   open_parent v is directory =
@@ -82,4 +82,4 @@ module _ {p : Place} {map : SectorMap} {desks : Desks} {pid fd : ℕ} {d : Descr
       ∙ held_parent (state_tree at) d.number (the_directory (sym (ap (λ (w : Inode). w.kind) is) ∙ directory))
 
   pub has_names : (v : Inode) → v ≡ inode_at p map d.number → v.kind ≡ kinds.Directory → (names : List (List ℕ × ℕ)) × HasNames p.version map v names
-  has_names v is directory = (names_in (node_open (open_scene s o.process) fd).body, open_names v is directory)
+  has_names v is directory = (names_of_body (node_open (open_scene s o.process) fd).body, open_names v is directory)

@@ -9,7 +9,7 @@ use Rattle.fs_cred.specs.declared.errno.Errno.TheVariants.{ENOTDIR}
 use Rattle.fs_cred.specs.declared.refusal.Refusal.{Refusal}
 use Rattle.fs_layout.specs.declared.inode.Inode.{Inode}
 use Rattle.fs_layout.specs.declared.inode.Kind.TheVariants as kinds
-use Rattle.fs_layout.specs.declared.place.Place.{Place}
+use Rattle.fs_layout.specs.declared.geometry.Geometry.{Geometry}
 use Rattle.fs_layout.specs.Bytes.{SectorMap}
 use Rattle.fs_layout.specs.Directories.{NamedInode, HasNames}
 use Rattle.fs_layout.specs.Images.{inode_at}
@@ -17,8 +17,8 @@ use Rattle.dir_core.specs.Slots.{name_entry}
 use Rattle.fs_model.specs.declared.call.Call.TheVariants.{Readdir}
 use Rattle.fs_model.specs.declared.reply.Reply.TheVariants.{Names}
 use Rattle.fs_model.specs.Demands.{refuse, first_of}
-use Rattle.fs_model.specs.Nodes.{names_in}
-use Rattle.fs_model.specs.Processes.{Desks, Descriptor}
+use Rattle.fs_model.specs.Nodes.{names_of_body}
+use Rattle.fs_model.specs.Processes.{ProcessTable, Descriptor}
 use Rattle.fs_model.specs.Rows.{row_of}
 use Rattle.fs_model.specs.Rules.{is_directory_kind}
 use Rattle.fs_model.specs.Scenes.{Scene, node_open, answers}
@@ -69,7 +69,7 @@ readdir_by fd = record { row = readdir_is fd }
 
 -- ---- what it answers
 
-module _ {p : Place} {map : SectorMap} {desks : Desks} {pid fd : ℕ} {d : Descriptor} (o : IsOpened desks pid fd d) (s : State) (at : IsStateOf p map desks s) where
+module _ {p : Geometry} {map : SectorMap} {processes : ProcessTable} {pid fd : ℕ} {d : Descriptor} (o : IsOpened processes pid fd d) (s : State) (at : IsStateOf p map processes s) where
   abbrev scene : Scene
   scene = open_scene s o.process
 
@@ -83,7 +83,7 @@ module _ {p : Place} {map : SectorMap} {desks : Desks} {pid fd : ℕ} {d : Descr
       → ((names : List (List ℕ × ℕ)) → HasNames p.version map v names → found ≡ (46 ∷ [], d.number) ∷ (46 ∷ 46 ∷ [], v.parent) ∷ names)
       → (first_of (readdir_demands fd scene) ≡ None) × (readdir_effect fd scene ≡ answers scene (Names found))
   readdir_told v is directory found lists =
-      let names = names_in (node_open scene fd).body in (
+      let names = names_of_body (node_open scene fd).body in (
         ap (λ (b : Bool). first_of (refuse ENOTDIR (not b) ∷ [])) (open_directory o s at (sym (ap (λ (w : Inode). w.kind) is) ∙ directory)),
         ap (λ (x : Descriptor). answers scene (Names ((46 ∷ [], x.number) ∷ (46 ∷ 46 ∷ [], parent s.tree x.number) ∷ names))) (the_opened o)
             ∙ ap (λ (m : ℕ). answers scene (Names ((46 ∷ [], d.number) ∷ (46 ∷ 46 ∷ [], m) ∷ names))) (sym (open_parent o s at v is directory))

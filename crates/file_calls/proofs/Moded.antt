@@ -15,7 +15,7 @@ use Rattle.fs_layout.specs.declared.inode.TheConstants.{MAX_DIRECTORY_SIZE, MAX_
 use Rattle.fs_layout.specs.declared.inode.Inode.{Inode}
 use Rattle.fs_layout.specs.declared.inode.Kind.{Kind}
 use Rattle.fs_layout.specs.declared.inode.Kind.TheVariants as kinds
-use Rattle.fs_layout.specs.declared.place.Place.{Place}
+use Rattle.fs_layout.specs.declared.geometry.Geometry.{Geometry}
 use Rattle.fs_layout.specs.AclSector.{HoldsAcl, kept_acl}
 use Rattle.fs_layout.specs.Bytes.{SectorMap}
 use Rattle.fs_layout.specs.Images.{inode_at}
@@ -28,7 +28,7 @@ use Rattle.fs_model.specs.AttributeCalls.{chmod_demands, chmod_effect, with_mode
 use Rattle.fs_model.specs.Births.{the_node}
 use Rattle.fs_model.specs.Kinds.{kind_of_type}
 use Rattle.fs_model.specs.Nodes.{Body, File, Dir, Link, acl_in, accessed_body, type_of}
-use Rattle.fs_model.specs.Processes.{Process, Desks}
+use Rattle.fs_model.specs.Processes.{Process, ProcessTable}
 use Rattle.fs_model.specs.States.{State}
 use Rattle.fs_model.proofs.StepsBodies.{mode_may_replace}
 use Rattle.bit_alloc.specs.declared.bitmap.TakeFault.{TakeFault}
@@ -155,13 +155,13 @@ acl_told owner group (Dir a d) x e =
     let is : record { kind = nodes.Directory; owner = owner; group = group; acl = a } ≡ x = cc in ap (λ (n : AccessNode). Some n.acl) is
 acl_told owner group (Link target) x e = absurd (cc)
 
-module _ {p : Place} {map : SectorMap} {desks : Desks} {s : State} {pid : ℕ} {q : Process} {path : List ℕ} {f : Found} {n : ℕ} {v : Inode}
-    (at : IsStateOf p map desks s) (has : HasFound s pid q Follow path f) (i : IsInodeFound p map f n v) where
+module _ {p : Geometry} {map : SectorMap} {processes : ProcessTable} {s : State} {pid : ℕ} {q : Process} {path : List ℕ} {f : Found} {n : ℕ} {v : Inode}
+    (at : IsStateOf p map processes s) (has : HasFound s pid q Follow path f) (i : IsInodeFound p map f n v) where
   -- the mode is given
   pub mode_changed : (cred : Credential) (mode : ℕ) (new : SectorMap) → cred ≡ q.cred
       → own_asked q.cred v.uid f.step ≡ None
       → ((a : AccessList) → HasAcl map v a → SavesAcl p n (special_mode cred v.kind v.gid mode) (with_mode_bits a mode) map new)
-      → IsChange p new desks s q (chmod_demands (scene_at s q f)) (chmod_effect mode (scene_at s q f)) Done ((n, Changed) ∷ [])
+      → IsChange p new processes s q (chmod_demands (scene_at s q f)) (chmod_effect mode (scene_at s q f)) Done ((n, Changed) ∷ [])
   mode_changed cred mode new same met gives =
       let a = followed_access n at has i.some in
       let u = inode_at p map n in

@@ -13,7 +13,7 @@ use Rattle.posix_acl.specs.declared.entry.Perms.{Perms}
 use Rattle.sector_disk.specs.Disk.{DiskState}
 use Rattle.fs_layout.specs.declared.inode.Inode.{Inode}
 use Rattle.fs_layout.specs.declared.inode.Kind.TheVariants as kinds
-use Rattle.fs_layout.specs.declared.place.Place.{Place}
+use Rattle.fs_layout.specs.declared.geometry.Geometry.{Geometry}
 use Rattle.fs_layout.specs.declared.version.Version.{Version}
 use Rattle.fs_layout.specs.Bytes.{SectorMap, resized}
 use Rattle.fs_layout.specs.Images.{inode_at}
@@ -27,7 +27,7 @@ use Rattle.fs_model.specs.TreeChanges.{Change, Same, Rewrite, Make, changed, tou
 use Rattle.fs_model.specs.Demands.{Demand, refuse, first_of, perms, decided, permission_of, permission_on}
 use Rattle.fs_model.specs.Nodes.{Node, Body, File, Dir, Link, is_directory, is_link, bytes_in, with_bytes}
 use Rattle.fs_model.specs.OpenCall.{open_demands, open_new_demands, open_change}
-use Rattle.fs_model.specs.Processes.{Process, Desks, is_open}
+use Rattle.fs_model.specs.Processes.{Process, ProcessTable, is_open}
 use Rattle.fs_model.specs.Rules.{is_directory_kind}
 use Rattle.fs_model.specs.Stands.{HoldsAll, placed}
 use Rattle.fs_model.specs.States.{State}
@@ -66,7 +66,7 @@ no_link_of None None c d e = refl
 no_link_of None (Some r) c d e = absurd (cc)
 no_link_of (Some r) b c d e = absurd (cc)
 
-module _ {p : Place} {map : SectorMap} {t : Tree} (h : HoldsTree p map t) (n : ℕ) (there : IsThere t n) (f : Flags) (cred : Credential) (step : ℕ) where
+module _ {p : Geometry} {map : SectorMap} {t : Tree} (h : HoldsTree p map t) (n : ℕ) (there : IsThere t n) (f : Flags) (cred : Credential) (step : ℕ) where
   -- what is asked of its kind, and permission
   pub found_is : open_kind_asked f (inode_at p map n).kind ++ (permission_on cred t n (perms f.read f.write false) 1 step ∷ []) ≡ found_asked f cred t n step
   found_is =
@@ -148,7 +148,7 @@ second_of : (a b : Bool) → (a && b) ≡ true → b ≡ true
 second_of true b e = e
 second_of false b e = absurd (cc)
 
-module _ {p : Place} {map : SectorMap} {flags : Flags} {q : Process} {f : Found} {s : State} (i : FindsIn p map flags q f s) (n : ℕ) (some : f.ino ≡ Some n) where
+module _ {p : Geometry} {map : SectorMap} {flags : Flags} {q : Process} {f : Found} {s : State} (i : FindsIn p map flags q f s) (n : ℕ) (some : f.ino ≡ Some n) where
   pub old_there : IsThere s.tree n
   old_there = found_there n i.is_state i.found some
 
@@ -203,7 +203,7 @@ module _ {p : Place} {map : SectorMap} {flags : Flags} {q : Process} {f : Found}
 
     prepared_by : (mode : ℕ) (new : SectorMap) (touching : List (ℕ × Touch)) (change : Change) → open_change flags mode (scene_at s q f) n ≡ change → HasNewNumber s change
         → touches_of s.tree change ≡ touching
-        → ((now : Desks) → ((k : ℕ) → IsTrue (is_open s.desks k) → IsTrue (is_open now k)) → HoldsAll p new (placed (swept (changed s.tree change) now)))
+        → ((now : ProcessTable) → ((k : ℕ) → IsTrue (is_open s.processes k) → IsTrue (is_open now k)) → HoldsAll p new (placed (swept (changed s.tree change) now)))
         → Prepares p new flags mode q f s n touching
     prepared_by mode new touching change change_to fresh times holds = record {
       met = old_met;
@@ -227,7 +227,7 @@ module _ {p : Place} {map : SectorMap} {flags : Flags} {q : Process} {f : Found}
       → (mode : ℕ) (old new : TxnState) → old.sectors ≡ map → flags.trunc && flags.write ≡ true → ChangesBytes p n old new (λ held. resized held 0)
       → Prepares p new.sectors flags mode q f s n ((n, Modified) ∷ [])
   old_emptied cred v same is mode old new old_is cuts c =
-      let at = subst (λ (m : SectorMap). IsStateOf p m i.desks s) (sym old_is) i.is_state in
+      let at = subst (λ (m : SectorMap). IsStateOf p m i.processes s) (sym old_is) i.is_state in
       let x = stands s.tree n old_there in
       let here = the_node_is s.tree n x.node x.at in
       let body = (at.is_state.tree.each n x.node x.at).body in
@@ -243,10 +243,10 @@ module _ {p : Place} {map : SectorMap} {flags : Flags} {q : Process} {f : Found}
       (IsBytes-resized (bytes_in x.node.body) 0 (bytes_are_bytes s.room s.tree x.node.body body)))
 
 -- what is answered as an error, and as a number
-abbrev pub Answered : (p : Place) (time : ℕ) (map : SectorMap) → DiskState → DiskState → Flags → ℕ → Process → Found → State → Result ℕ Refusal → Type 0
+abbrev pub Answered : (p : Geometry) (time : ℕ) (map : SectorMap) → DiskState → DiskState → Flags → ℕ → Process → Found → State → Result ℕ Refusal → Type 0
 Answered p time map old new flags mode q f s r = MatchResult r (λ m. Reaches p time map flags mode q f s m) (λ e. IsRefusedOpen old new flags q f s e)
 
-pub refusing : {p : Place} {map : SectorMap} {flags : Flags} {q : Process} {f : Found} {s : State} → FindsIn p map flags q f s → (time : ℕ) (new : SectorMap) (mode : ℕ)
+pub refusing : {p : Geometry} {map : SectorMap} {flags : Flags} {q : Process} {f : Found} {s : State} → FindsIn p map flags q f s → (time : ℕ) (new : SectorMap) (mode : ℕ)
     (first last : DiskState) (r : Result ℕ Refusal) (e : Refusal) → IsErr r → IsErrAnd r (λ y. y ≡ e) → IsRefusedOpen first last flags q f s e
     → Answered p time new first last flags mode q f s r
 refusing {p} {map} {flags} {q} {f} {s} i time new mode first last r e err and is =

@@ -14,7 +14,7 @@ use Rattle.sector_disk.specs.Disk.{DiskState}
 use Rattle.sector_txn.specs.Sectors.{TxnState, IsUnchanged}
 use Rattle.fs_layout.specs.declared.inode.TheConstants.{S_ISGID}
 use Rattle.fs_layout.specs.declared.inode.Inode.{Inode}
-use Rattle.fs_layout.specs.declared.place.Place.{Place}
+use Rattle.fs_layout.specs.declared.geometry.Geometry.{Geometry}
 use Rattle.fs_layout.specs.Bytes.{SectorMap}
 use Rattle.fs_layout.specs.Images.{inode_at, free_sectors}
 use Rattle.fs_layout.specs.Maps.{name_cmp, with_entry}
@@ -27,7 +27,7 @@ use Rattle.fs_model.specs.declared.touch.Touch.TheVariants.{Modified, Born}
 use Rattle.fs_model.specs.TreeChanges.{Change, Make, Rewrite, Same, changed, touches_of, swept}
 use Rattle.fs_model.specs.Demands.{Demand, refuse, first_of, permission_on, write_and_search}
 use Rattle.fs_model.specs.Limits.{least_free}
-use Rattle.fs_model.specs.Nodes.{no_stamps, Node, File, default_in, names_in, with_bytes, with_names}
+use Rattle.fs_model.specs.Nodes.{no_stamps, Node, File, default_in, names_of_body, with_bytes, with_names}
 use Rattle.fs_model.specs.OpenCall.{open_demands, open_found_demands, open_new_demands, open_change}
 use Rattle.fs_model.specs.Processes.{Process}
 use Rattle.fs_model.specs.Stands.{HoldsAll, placed}
@@ -57,18 +57,18 @@ use Rattle.call_parts.specs.Reaching.{checked}
 
 -- ---- what was found
 
-pub finds_kept : {p : Place} {old mid : TxnState} {flags : Flags} {q : Process} {f : Found} {s : State} → IsUnchanged old mid → FindsIn p old.sectors flags q f s
+pub finds_kept : {p : Geometry} {old mid : TxnState} {flags : Flags} {q : Process} {f : Found} {s : State} → IsUnchanged old mid → FindsIn p old.sectors flags q f s
     → FindsIn p mid.sectors flags q f s
 finds_kept {p} {old} {mid} {flags} {q} {f} {s} same i = kept (λ (m : SectorMap). FindsIn p m flags q f s) same i
 
 -- and what was asked
-pub asked_later : (p : Place) {old mid : TxnState} (t : Tree) (dir step : ℕ) (cred : Credential) (v : Inode) → IsUnchanged old mid
+pub asked_later : (p : Geometry) {old mid : TxnState} (t : Tree) (dir step : ℕ) (cred : Credential) (v : Inode) → IsUnchanged old mid
     → refused_or {A = Inode} (first_of (make_asked p old.sectors cred t dir step)) (Ok (inode_at p old.sectors dir)) ≡ Ok v
     → refused_or {A = Inode} (first_of (make_asked p mid.sectors cred t dir step)) (Ok (inode_at p mid.sectors dir)) ≡ Ok v
 asked_later p {old} {mid} t dir step cred v same is =
     kept (λ (m : SectorMap). refused_or {A = Inode} (first_of (make_asked p m cred t dir step)) (Ok (inode_at p m dir)) ≡ Ok v) same is
 
-module _ {p : Place} {map : SectorMap} {flags : Flags} {q : Process} {f : Found} {s : State} (i : FindsIn p map flags q f s) (none : f.ino ≡ None) where
+module _ {p : Geometry} {map : SectorMap} {flags : Flags} {q : Process} {f : Found} {s : State} (i : FindsIn p map flags q f s) (none : f.ino ≡ None) where
   pub new_name : IsNameAt s.room s.tree f.dir f.name None
   new_name = found_new i.is_state i.found i.bytes none
 
@@ -92,9 +92,9 @@ module _ {p : Place} {map : SectorMap} {flags : Flags} {q : Process} {f : Found}
   demands_are =
       ap (λ (o : Option ℕ). if is_some o then open_found_demands flags (scene_at s q f) else open_new_demands flags (scene_at s q f)) none
       ∙ ap (λ (k : ℕ). absent ∷ permission_on q.cred s.tree f.dir write_and_search 1 (f.step - 1) ∷ refuse ENOSPC (nat_lt k least_free)
-      ∷ refuse ENOSPC (free_inodes s.room s.tree == 0) ∷ refuse ENOSPC (nat_le s.room.entries_limit (length (names_in (the_node s.tree f.dir).body))) ∷ []) i.is_state.free_is
+      ∷ refuse ENOSPC (free_inodes s.room s.tree == 0) ∷ refuse ENOSPC (nat_le s.room.entries_limit (length (names_of_body (the_node s.tree f.dir).body))) ∷ []) i.is_state.free_is
       ∙ ap (λ (r : Room). absent ∷ permission_on q.cred s.tree f.dir write_and_search 1 (f.step - 1) ∷ refuse ENOSPC (nat_lt (free_sectors p map) least_free)
-      ∷ refuse ENOSPC (free_inodes r s.tree == 0) ∷ refuse ENOSPC (nat_le r.entries_limit (length (names_in (the_node s.tree f.dir).body))) ∷ []) i.is_state.same_room
+      ∷ refuse ENOSPC (free_inodes r s.tree == 0) ∷ refuse ENOSPC (nat_le r.entries_limit (length (names_of_body (the_node s.tree f.dir).body))) ∷ []) i.is_state.same_room
 
   pub none_is_there : (old new : DiskState) (e : Refusal) → checked absent ≡ Err e → IsRefusedOpen old new flags q f s e
   none_is_there old new e is =
@@ -129,9 +129,9 @@ module _ {p : Place} {map : SectorMap} {flags : Flags} {q : Process} {f : Found}
         pub asked_of_it : v ≡ y
         asked_of_it = sym (met_ok {A = A} (first_of (make_asked p map cred s.tree f.dir step)) y v is).1
 
-        pub few_names : length (names_in new_name.node.body) < max_names p.version
+        pub few_names : length (names_of_body new_name.node.body) < max_names p.version
         few_names =
-            subst (λ (u : Node). length (names_in u.body) < max_names p.version) (the_node_is s.tree f.dir new_name.node new_name.stands)
+            subst (λ (u : Node). length (names_of_body u.body) < max_names p.version) (the_node_is s.tree f.dir new_name.node new_name.stands)
             (has_few p map s.tree f.dir q.cred (f.step - 1) asked_none)
 
         pub can_make : CanMake p map s.tree f.dir f.name
@@ -150,7 +150,7 @@ module _ {p : Place} {map : SectorMap} {flags : Flags} {q : Process} {f : Found}
     newborn : IsNewborn s.room s.tree file
     newborn =
         let is = i.is_state.is_state in
-        let here = (is.desks i.is_state.up).processes i.pid q i.found.there in
+        let here = (is.processes i.is_state.up).each_process i.pid q i.found.there in
         let fits = is.tree.each f.dir node new_name.stands in
         file_is_born s.room s.tree q.cred here.cred node fits.group q.umask mode fits.body
 
@@ -193,7 +193,7 @@ module _ {p : Place} {map : SectorMap} {flags : Flags} {q : Process} {f : Found}
           (record { node = record { owner = q.cred.uid; group = gid; body = File l []; stamps = no_stamps }; names = 1; parent = f.dir })) acl_given made.takes.holds)
 
       here : HoldsNode p.version new (inode_at p new f.dir) (record {
-        node = record node { body = with_names (with_entry name_cmp (names_in node.body) f.name n) node.body };
+        node = record node { body = with_names (with_entry name_cmp (names_of_body node.body) f.name n) node.body };
         names = names_of s.tree f.dir;
         parent = parent s.tree f.dir;
       })
@@ -201,10 +201,10 @@ module _ {p : Place} {map : SectorMap} {flags : Flags} {q : Process} {f : Found}
           let before = inode_at p made.mid f.dir in
           let held = dir_still_held (state_tree i.is_state) directory_there n made.takes.free made.takes.change (record { node = file; names = 1; parent = f.dir }) born made.takes.taken in
           names_held made.mid new before (inode_at p new f.dir) (record { node = node; names = names_of s.tree f.dir; parent = parent s.tree f.dir }) held
-          (with_entry name_cmp (names_in node.body) f.name n) new_name.directory made.names.kept made.names.acls
-          (made.names.named (names_in node.body) (names_say p.version made.mid before node.body new_name.directory held.body))
+          (with_entry name_cmp (names_of_body node.body) f.name n) new_name.directory made.names.kept made.names.acls
+          (made.names.named (names_of_body node.body) (names_say p.version made.mid before node.body new_name.directory held.body))
 
-      pub made_prepares : first_of (open_demands flags (scene_at s q f)) ≡ None → length (names_in node.body) < max_names p.version
+      pub made_prepares : first_of (open_demands flags (scene_at s q f)) ≡ None → length (names_of_body node.body) < max_names p.version
           → Prepares p new flags mode q f s n ((f.dir, Modified) ∷ (n, Born) ∷ [])
       made_prepares met has_room =
           let at = i.is_state in
@@ -216,7 +216,7 @@ module _ {p : Place} {map : SectorMap} {flags : Flags} {q : Process} {f : Found}
             holds = λ now still.
                 subst (λ (x : Change). HoldsAll p new (placed (swept (changed s.tree x) now))) (sym change_is)
                 (make_held s at.is_state at.up now still p map at.holds at.same_room made.mid new f.dir node f.name n file (record {
-                  takes = takes_new new_name (subst (λ (r : Room). length (names_in node.body) < r.entries_limit) (sym at.same_room) has_room);
+                  takes = takes_new new_name (subst (λ (r : Room). length (names_of_body node.body) < r.entries_limit) (sym at.same_room) has_room);
                   positive = fresh.0;
                   below = fresh.1;
                   unused = fresh.2;

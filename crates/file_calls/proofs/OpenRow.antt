@@ -15,7 +15,7 @@ use Rattle.fs_cred.specs.declared.errno.Errno.{Errno}
 use Rattle.fs_cred.specs.declared.errno.Errno.TheVariants.{EINVAL, EISDIR, EMFILE, ENAMETOOLONG, ENOENT}
 use Rattle.fs_cred.specs.declared.refusal.Refusal.{Refusal}
 use Rattle.fs_cred.specs.declared.refusal.Refusal.TheVariants.{Failed}
-use Rattle.fs_layout.specs.declared.place.Place.{Place}
+use Rattle.fs_layout.specs.declared.geometry.Geometry.{Geometry}
 use Rattle.fs_layout.specs.Bytes.{IsBytes}
 use Rattle.fs_layout.specs.Maps.{get, with_entry, without, IsMap}
 use Rattle.fs_layout.proofs.FirstEntries.{tied}
@@ -33,7 +33,7 @@ use Rattle.fs_model.specs.Demands.{Demand, refuse, or_else, first_of}
 use Rattle.fs_model.specs.Limits.{descriptors_limit, path_limit}
 use Rattle.fs_model.specs.OpenCall.{open_row, open_arguments, open_form, open_demands, open_change, open_effect, open_process}
 use Rattle.fs_model.specs.Parts.{is_empty, path_checks, ends_with_slash}
-use Rattle.fs_model.specs.Processes.{Process, Desks, Descriptor, descriptor, with_descriptor, least_unused, is_open}
+use Rattle.fs_model.specs.Processes.{Process, ProcessTable, Descriptor, descriptor, with_descriptor, least_unused, is_open}
 use Rattle.fs_model.specs.Rows.{row_of}
 use Rattle.fs_model.specs.Scenes.{Row}
 use Rattle.fs_model.specs.Stands.{room_of}
@@ -75,7 +75,7 @@ or_else-none : (a : Demand) → or_else a None ≡ a
 or_else-none None = refl
 or_else-none (Some r) = refl
 
-module _ (s : State) (pid : ℕ) (q : Process) (path : List ℕ) (f : Flags) (mode : ℕ) (there : get nat_cmp s.desks pid ≡ Some q) where
+module _ (s : State) (pid : ℕ) (q : Process) (path : List ℕ) (f : Flags) (mode : ℕ) (there : get nat_cmp s.processes pid ≡ Some q) where
   pub open_firm : firm_refusal s (Calls pid (Open path f mode)) ≡ or_else (first_of (open_asked f mode path)) (full q)
   open_firm =
       let some = open_arguments f mode ++ path_checks path in
@@ -130,20 +130,20 @@ again {X} test m k x h there =
     ap (λ (l : List (ℕ × X)). list_any (λ (e : ℕ × X). test e.1) l) (sym (entry_again m k x h there)) ∙ any_with_entry test m k x h
 
 -- what was open is still open
-opened_too : (desks : Desks) (pid : ℕ) (q : Process) (fd : ℕ) (d : Descriptor) (n : ℕ) → IsMap nat_cmp desks → get nat_cmp desks pid ≡ Some q
-    → IsMap nat_cmp q.descriptors → descriptor q fd ≡ None → IsTrue (is_open desks n) → IsTrue (is_open (with_entry nat_cmp desks pid (with_descriptor q fd d)) n)
-opened_too desks pid q fd d n h there rising none was =
-    any_with_entry (has_open n) desks pid (with_descriptor q fd d) h
-    ∙ or_first (has_open n q) (has_open n (with_descriptor q fd d)) (list_any (λ (e : ℕ × Process). has_open n e.1) (without nat_cmp desks pid))
+opened_too : (processes : ProcessTable) (pid : ℕ) (q : Process) (fd : ℕ) (d : Descriptor) (n : ℕ) → IsMap nat_cmp processes → get nat_cmp processes pid ≡ Some q
+    → IsMap nat_cmp q.descriptors → descriptor q fd ≡ None → IsTrue (is_open processes n) → IsTrue (is_open (with_entry nat_cmp processes pid (with_descriptor q fd d)) n)
+opened_too processes pid q fd d n h there rising none was =
+    any_with_entry (has_open n) processes pid (with_descriptor q fd d) h
+    ∙ or_first (has_open n q) (has_open n (with_descriptor q fd d)) (list_any (λ (e : ℕ × Process). has_open n e.1) (without nat_cmp processes pid))
     (λ e. any_with_entry (λ (x : Descriptor). x.number == n) q.descriptors fd d rising
     ∙ or_second (d.number == n) (list_any (λ (e : ℕ × Descriptor). e.1.number == n) (without nat_cmp q.descriptors fd))
     (ap (λ (l : List (ℕ × Descriptor)). list_any (λ (e : ℕ × Descriptor). e.1.number == n) l) (without_absent q.descriptors fd rising none) ∙ e))
-    (sym (again (has_open n) desks pid q h there) ∙ was)
+    (sym (again (has_open n) processes pid q h there) ∙ was)
 
 -- ---- the least unused descriptor
 
-slot_of : (desks : Desks) (pid : ℕ) (q : Process) → get nat_cmp desks pid ≡ Some q → slot_in desks pid ≡ lowest_slot q
-slot_of desks pid q there = ap (answer_of_found lowest_slot) there
+slot_of : (processes : ProcessTable) (pid : ℕ) (q : Process) → get nat_cmp processes pid ≡ Some q → slot_in processes pid ≡ lowest_slot q
+slot_of processes pid q there = ap (answer_of_found lowest_slot) there
 
 full_if : (q : Process) (errno : Errno) → lowest_slot q ≡ Err errno → full q ≡ Some (Failed errno)
 full_if q errno e = go (nat_le descriptors_limit (length q.descriptors)) e
@@ -168,38 +168,38 @@ path_checked path f mode asked =
     let both = first_met (first_of some) (first_of (slash ∷ [])) (sym (first_of-append some (slash ∷ [])) ∙ asked) in
     then_met (first_of (open_arguments f mode)) (first_of (path_checks path)) (sym (first_of-append (open_arguments f mode) (path_checks path)) ∙ both)
 
-module _ {p : Place} (pid : ℕ) (path : List ℕ) (f : Flags) (mode : ℕ) (old : TxnState) {desks : Desks} (q : Process) (there : get nat_cmp desks pid ≡ Some q) where
+module _ {p : Geometry} (pid : ℕ) (path : List ℕ) (f : Flags) (mode : ℕ) (old : TxnState) {processes : ProcessTable} (q : Process) (there : get nat_cmp processes pid ≡ Some q) where
   -- the call or its path is refused
   pub asked_refuses : {time : ℕ} (r : Result Reply Refusal) (e : Refusal) → IsErr r → IsErrAnd r (λ y. y ≡ e) → first_of (open_asked f mode path) ≡ Some e
-      → Performs p time pid (Open path f mode) old old desks desks r
+      → Performs p time pid (Open path f mode) old old processes processes r
   asked_refuses r e err and asked = refused_performs r e err and store_same
       (λ s at. why.early (open_firm s pid q path f mode (same_process at pid q there) ∙ ap (λ (d : Demand). or_else d (full q)) asked))
 
   module _ (asked : first_of (open_asked f mode path) ≡ None) where
     -- all descriptors are used
-    pub slot_refuses : {time : ℕ} (r : Result Reply Refusal) (errno : Errno) → IsErr r → IsErrAnd r (λ y. y ≡ Failed errno) → Err errno ≡ slot_in desks pid
-        → Performs p time pid (Open path f mode) old old desks desks r
+    pub slot_refuses : {time : ℕ} (r : Result Reply Refusal) (errno : Errno) → IsErr r → IsErrAnd r (λ y. y ≡ Failed errno) → Err errno ≡ slot_in processes pid
+        → Performs p time pid (Open path f mode) old old processes processes r
     slot_refuses r errno err and slot = refused_performs r (Failed errno) err and store_same
         (λ s at. why.early (open_firm s pid q path f mode (same_process at pid q there) ∙ ap (λ (d : Demand). or_else d (full q)) asked
-        ∙ full_if q errno (sym (slot ∙ slot_of desks pid q there))))
+        ∙ full_if q errno (sym (slot ∙ slot_of processes pid q there))))
 
-    module _ (fd : ℕ) (slot : Ok fd ≡ slot_in desks pid) where
-      firm : (s : State) → IsStateOf p old.sectors desks s → firm_refusal s (Calls pid (Open path f mode)) ≡ None
+    module _ (fd : ℕ) (slot : Ok fd ≡ slot_in processes pid) where
+      firm : (s : State) → IsStateOf p old.sectors processes s → firm_refusal s (Calls pid (Open path f mode)) ≡ None
       firm s at =
           open_firm s pid q path f mode (same_process at pid q there) ∙ ap (λ (d : Demand). or_else d (full q)) asked
-          ∙ (slot_if q fd (sym (slot ∙ slot_of desks pid q there))).0
+          ∙ (slot_if q fd (sym (slot ∙ slot_of processes pid q there))).0
 
       module _ (mid : TxnState) (same : IsUnchanged old mid) where
         -- its walk is refused
         pub walk_refuses : {time : ℕ} (r : Result Reply Refusal) (e : Refusal) → IsErr r → IsErrAnd r (λ y. y ≡ e)
-            → ((s : State) → IsStateOf p old.sectors desks s → IsAnswered old.disk mid.disk (walk_of s.room s.tree q.cred 1 (open_form f) q.cwd path) (Err e))
-            → Performs p time pid (Open path f mode) old mid desks desks r
+            → ((s : State) → IsStateOf p old.sectors processes s → IsAnswered old.disk mid.disk (walk_of s.room s.tree q.cred 1 (open_form f) q.cwd path) (Err e))
+            → Performs p time pid (Open path f mode) old mid processes processes r
         walk_refuses r e err and walks = refused_performs r e err and same.store (λ s at. elim (walks s at) [
           | inl is ↦ why.late (firm s at) (late s at (first_refusal s.tree q.cred 1 (open_form f) (trail_in s.room s.tree q.cwd (open_form f, path))) refl is)
           | inr way ↦ interrupted_refused old.disk mid.disk s pid (Open path f mode) (firm s at) refl e way
         ])
           where
-            late : (s : State) → IsStateOf p old.sectors desks s → (d : Demand)
+            late : (s : State) → IsStateOf p old.sectors processes s → (d : Demand)
                 → first_refusal s.tree q.cred 1 (open_form f) (trail_in s.room s.tree q.cwd (open_form f, path)) ≡ d
                 → refused_or d (Ok (found_by s.room s.tree q.cwd (open_form f, path))) ≡ Err e → other_refusal s (Calls pid (Open path f mode)) ≡ Some e
             late s at d is refused =
@@ -207,14 +207,14 @@ module _ {p : Place} (pid : ℕ) (path : List ℕ) (f : Flags) (mode : ℕ) (old
                 ∙ ap (λ x. or_else x (first_of (open_demands f (scene_at s q (found_by s.room s.tree q.cwd (open_form f, path))))))
                 (is ∙ refused_err d (found_by s.room s.tree q.cwd (open_form f, path)) e refused)
 
-        module _ (found : Found) (walks : (s : State) → IsStateOf p old.sectors desks s → IsAnswered old.disk mid.disk (walk_of s.room s.tree q.cred 1 (open_form f) q.cwd path) (Ok found)) where
-          pub open_found : (s : State) → IsStateOf p old.sectors desks s → HasFound s pid q (open_form f) path found
+        module _ (found : Found) (walks : (s : State) → IsStateOf p old.sectors processes s → IsAnswered old.disk mid.disk (walk_of s.room s.tree q.cred 1 (open_form f) q.cwd path) (Ok found)) where
+          pub open_found : (s : State) → IsStateOf p old.sectors processes s → HasFound s pid q (open_form f) path found
           open_found s at = resolved old.disk mid.disk found (same_process at pid q there) (path_checked path f mode asked) (walks s at)
 
-          pub found_in : IsBytes path → (s : State) → IsStateOf p old.sectors desks s → FindsIn p mid.sectors f q found s
-          found_in bytes s at = record { desks = desks; pid = pid; path = path; bytes = bytes; is_state = state_kept same at; found = open_found s at }
+          pub found_in : IsBytes path → (s : State) → IsStateOf p old.sectors processes s → FindsIn p mid.sectors f q found s
+          found_in bytes s at = record { processes = processes; pid = pid; path = path; bytes = bytes; is_state = state_kept same at; found = open_found s at }
 
-          late_is_asked : (s : State) → IsStateOf p old.sectors desks s → other_refusal s (Calls pid (Open path f mode)) ≡ first_of (open_demands f (scene_at s q found))
+          late_is_asked : (s : State) → IsStateOf p old.sectors processes s → other_refusal s (Calls pid (Open path f mode)) ≡ first_of (open_demands f (scene_at s q found))
           late_is_asked s at =
               let has = open_found s at in
               open_late s pid q path f mode (same_process at pid q there)
@@ -224,18 +224,18 @@ module _ {p : Place} (pid : ℕ) (path : List ℕ) (f : Flags) (mode : ℕ) (old
           -- what it asks of what was found is refused
           pub demands_refuse : {time : ℕ} (bytes : IsBytes path) (new : TxnState) (r : Result Reply Refusal) (e : Refusal) → IsErr r → IsErrAnd r (λ y. y ≡ e) → SameStore mid new
               → ((s : State) → FindsIn p mid.sectors f q found s → IsRefusedOpen mid.disk new.disk f q found s e)
-              → Performs p time pid (Open path f mode) old new desks desks r
+              → Performs p time pid (Open path f mode) old new processes processes r
           demands_refuse bytes new r e err and store refused = refused_performs r e err and (store_joined same.store store)
               (λ s at. answered_refused old.disk new.disk s pid (Open path f mode) (firm s at) refl e {A = ℕ} (first_of (open_demands f (scene_at s q found))) 0
               (late_is_asked s at) (answered_later new.disk same (refused s (found_in bytes s at))))
 
           -- or it is done
-          pub opens : {time : ℕ} (bytes : IsBytes path) (table : IsTable desks) (new : TxnState) (now : Desks) → SameStore mid new → new.sectors 0 ≡ mid.sectors 0 → (n : ℕ) (d : Descriptor)
-              → IsUnused desks pid fd
+          pub opens : {time : ℕ} (bytes : IsBytes path) (table : IsTable processes) (new : TxnState) (now : ProcessTable) → SameStore mid new → new.sectors 0 ≡ mid.sectors 0 → (n : ℕ) (d : Descriptor)
+              → IsUnused processes pid fd
               → d ≡ record { number = n; offset = 0; read = f.read; write = f.write; append = f.append }
-              → now ≡ with_changed desks pid (λ x. with_descriptor x fd d)
+              → now ≡ with_changed processes pid (λ x. with_descriptor x fd d)
               → ((s : State) → FindsIn p mid.sectors f q found s → Reaches p time new.sectors f mode q found s n)
-              → Performs p time pid (Open path f mode) old new desks now (Ok (Fd fd))
+              → Performs p time pid (Open path f mode) old new processes now (Ok (Fd fd))
           opens bytes table new now store super n d unused d_is now_is reaches = record {
             store = store_joined same.store store;
             super = super ∙ same.sectors 0;
@@ -243,10 +243,10 @@ module _ {p : Place} (pid : ℕ) (path : List ℕ) (f : Flags) (mode : ℕ) (old
             each = λ s at.
                 let here = same_process at pid q there in
                 let x = reaches s (found_in bytes s at) in
-                let least = (slot_if q fd (sym (slot ∙ slot_of desks pid q there))).1 in
-                let entered : with_entry nat_cmp s.desks pid (with_descriptor q fd d) ≡ now =
-                ap (λ (y : Desks). with_entry nat_cmp y pid (with_descriptor q fd d)) at.same_desks
-                ∙ sym (now_is ∙ changed_there desks pid q (λ x. with_descriptor x fd d) there) in
+                let least = (slot_if q fd (sym (slot ∙ slot_of processes pid q there))).1 in
+                let entered : with_entry nat_cmp s.processes pid (with_descriptor q fd d) ≡ now =
+                ap (λ (y : ProcessTable). with_entry nat_cmp y pid (with_descriptor q fd d)) at.same_processes
+                ∙ sym (now_is ∙ changed_there processes pid q (λ x. with_descriptor x fd d) there) in
                 let none = free unused in
                 record {
                   early = firm s at;
@@ -254,17 +254,17 @@ module _ {p : Place} (pid : ℕ) (path : List ℕ) (f : Flags) (mode : ℕ) (old
                   number = n;
                   change = open_change f mode (scene_at s q found) n;
                   effect = open_after s pid q path f mode here found (open_found s at).is n
-                      ∙ ap (λ (k : ℕ). record { change = open_change f mode (scene_at s q found) n; desks = with_entry nat_cmp s.desks pid (open_process q f k); reply = Fd (least_unused 0 q.descriptors); now = s.now }) x.number
-                      ∙ ap (λ (k : ℕ). record { change = open_change f mode (scene_at s q found) n; desks = with_entry nat_cmp s.desks pid (with_descriptor q k (record { number = n; offset = 0; read = f.read; write = f.write; append = f.append })); reply = Fd k; now = s.now }) (sym least)
-                      ∙ ap (λ (y : Descriptor). record { change = open_change f mode (scene_at s q found) n; desks = with_entry nat_cmp s.desks pid (with_descriptor q fd y); reply = Fd fd; now = s.now }) (sym d_is)
-                      ∙ ap (λ (y : Desks). record { change = open_change f mode (scene_at s q found) n; desks = y; reply = Fd fd; now = s.now }) entered;
+                      ∙ ap (λ (k : ℕ). record { change = open_change f mode (scene_at s q found) n; processes = with_entry nat_cmp s.processes pid (open_process q f k); reply = Fd (least_unused 0 q.descriptors); now = s.now }) x.number
+                      ∙ ap (λ (k : ℕ). record { change = open_change f mode (scene_at s q found) n; processes = with_entry nat_cmp s.processes pid (with_descriptor q k (record { number = n; offset = 0; read = f.read; write = f.write; append = f.append })); reply = Fd k; now = s.now }) (sym least)
+                      ∙ ap (λ (y : Descriptor). record { change = open_change f mode (scene_at s q found) n; processes = with_entry nat_cmp s.processes pid (with_descriptor q fd y); reply = Fd fd; now = s.now }) (sym d_is)
+                      ∙ ap (λ (y : ProcessTable). record { change = open_change f mode (scene_at s q found) n; processes = y; reply = Fd fd; now = s.now }) entered;
                   new_number = x.new_number;
-                  holds = x.holds now (λ k was. subst (λ (y : Desks). IsTrue (is_open y k)) entered
-                      (opened_too s.desks pid q fd d k at.is_state.pids here (table.each pid q there).descriptors.rising none was));
+                  holds = x.holds now (λ k was. subst (λ (y : ProcessTable). IsTrue (is_open y k)) entered
+                      (opened_too s.processes pid q fd d k at.is_state.pids here (table.each pid q there).descriptors.rising none was));
                 };
           }
             where
-              free : IsUnused desks pid fd → descriptor q fd ≡ None
+              free : IsUnused processes pid fd → descriptor q fd ≡ None
               free u =
                   let both : Some u.process ≡ Some q = sym u.is_there ∙ there in
                   let same : u.process ≡ q = cc in
@@ -301,10 +301,10 @@ walked_as old mid room t q f path r cred form cwd same_cred same_form same_cwd w
     (subst (λ (k : ℕ). IsAnswered old mid (walk_of room t cred 1 form k path) r) same_cwd (walks (subst (IsThere t) (sym same_cwd) there))))
 
 -- the same of each state that the map may hold
-pub walks_as : (p : Place) (old mid : TxnState) (desks : Desks) (pid : ℕ) (q : Process) → get nat_cmp desks pid ≡ Some q → (f : Flags) (path : List ℕ)
+pub walks_as : (p : Geometry) (old mid : TxnState) (processes : ProcessTable) (pid : ℕ) (q : Process) → get nat_cmp processes pid ≡ Some q → (f : Flags) (path : List ℕ)
     (r : Result Found Refusal) (cred : Credential) (form : Form) (cwd : ℕ) → cred ≡ q.cred → form ≡ open_form f → cwd ≡ q.cwd
     → ((t : Tree) → HoldsTree p old.sectors t → IsThere t cwd → IsAnswered old.disk mid.disk (walk_of (room_of p) t cred 1 form cwd path) r)
-    → (s : State) → IsStateOf p old.sectors desks s → IsAnswered old.disk mid.disk (walk_of s.room s.tree q.cred 1 (open_form f) q.cwd path) r
-walks_as p old mid desks pid q there f path r cred form cwd same_cred same_form same_cwd walks s at =
+    → (s : State) → IsStateOf p old.sectors processes s → IsAnswered old.disk mid.disk (walk_of s.room s.tree q.cred 1 (open_form f) q.cwd path) r
+walks_as p old mid processes pid q there f path r cred form cwd same_cred same_form same_cwd walks s at =
     subst (λ (room : Room). IsAnswered old.disk mid.disk (walk_of room s.tree q.cred 1 (open_form f) q.cwd path) r) (sym at.same_room)
     (walked_as old.disk mid.disk (room_of p) s.tree q f path r cred form cwd same_cred same_form same_cwd (walks s.tree (state_tree at)) (cwd_there at pid q there))

@@ -9,7 +9,7 @@ use Rattle.fs_cred.specs.declared.errno.Errno.TheVariants.{EISDIR}
 use Rattle.fs_cred.specs.declared.refusal.Refusal.{Refusal}
 use Rattle.fs_layout.specs.declared.inode.Inode.{Inode}
 use Rattle.fs_layout.specs.declared.inode.Kind.TheVariants as kinds
-use Rattle.fs_layout.specs.declared.place.Place.{Place}
+use Rattle.fs_layout.specs.declared.geometry.Geometry.{Geometry}
 use Rattle.fs_layout.specs.Bytes.{SectorMap}
 use Rattle.fs_layout.specs.Images.{inode_at, Holds}
 use Rattle.block_map.specs.Blocks.{IsReadOf}
@@ -18,7 +18,7 @@ use Rattle.fs_model.specs.declared.reply.Reply.TheVariants.{Data}
 use Rattle.fs_model.specs.Demands.{refuse, first_of}
 use Rattle.fs_model.specs.Limits.{move_limit}
 use Rattle.fs_model.specs.Nodes.{Node, bytes_in}
-use Rattle.fs_model.specs.Processes.{Desks, Descriptor, with_offset}
+use Rattle.fs_model.specs.Processes.{ProcessTable, Descriptor, with_offset}
 use Rattle.fs_model.specs.Rows.{row_of}
 use Rattle.fs_model.specs.Rules.{is_directory_kind}
 use Rattle.fs_model.specs.Scenes.{Scene, node_open, with_process}
@@ -61,7 +61,7 @@ read_by fd len = record { row = read_is fd len }
 
 -- ---- what it answers
 
-module _ {p : Place} {map : SectorMap} {desks : Desks} {pid fd : ℕ} {d : Descriptor} (o : IsOpened desks pid fd d) (s : State) (at : IsStateOf p map desks s) where
+module _ {p : Geometry} {map : SectorMap} {processes : ProcessTable} {pid fd : ℕ} {d : Descriptor} (o : IsOpened processes pid fd d) (s : State) (at : IsStateOf p map processes s) where
   abbrev scene : Scene
   scene = open_scene s o.process
 

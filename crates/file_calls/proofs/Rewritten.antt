@@ -5,7 +5,7 @@ use Rattle.std.specs.Prelude.{◌≡◌, ℕ, ◌≤◌, List, length, Some, IsT
 use Rattle.std.proofs.Common.{refl, sym, subst}
 use Rattle.fs_layout.specs.declared.inode.Inode.{Inode}
 use Rattle.fs_layout.specs.declared.inode.Kind.TheVariants as kinds
-use Rattle.fs_layout.specs.declared.place.Place.{Place}
+use Rattle.fs_layout.specs.declared.geometry.Geometry.{Geometry}
 use Rattle.fs_layout.specs.Bytes.{IsBytes}
 use Rattle.fs_layout.specs.Images.{Holds, inode_at}
 use Rattle.sector_disk.specs.Disk.{DiskState, HasFailed}
@@ -19,7 +19,7 @@ use Rattle.block_map.specs.declared.fault.MapFault.TheVariants as map
 use Rattle.fs_model.specs.declared.touch.Touch.TheVariants.{Modified}
 use Rattle.fs_model.specs.TreeChanges.{Rewrite, changed, swept}
 use Rattle.fs_model.specs.Nodes.{Node, bytes_in, with_bytes}
-use Rattle.fs_model.specs.Processes.{Desks, is_open}
+use Rattle.fs_model.specs.Processes.{ProcessTable, is_open}
 use Rattle.fs_model.specs.Stands.{HoldsAll, placed}
 use Rattle.fs_model.specs.States.{State}
 use Rattle.fs_model.specs.Trees.{node_at, names_of, parent}
@@ -32,12 +32,12 @@ use Rattle.path_walk.specs.Answers.{FailsToRead}
 use Rattle.path_walk.proofs.HeldNodes.{held_node, bytes_say}
 use Rattle.call_parts.specs.ByteChanges.{ChangesBytes}
 
-pub bytes_rewritten : {p : Place} {old new : TxnState} {desks : Desks} {s : State} (at : IsStateOf p old.sectors desks s) (now : Desks)
-    → ((n : ℕ) → IsTrue (is_open s.desks n) → IsTrue (is_open now n)) → (n : ℕ) (node : Node) → node_at s.tree n ≡ Some node
+pub bytes_rewritten : {p : Geometry} {old new : TxnState} {processes : ProcessTable} {s : State} (at : IsStateOf p old.sectors processes s) (now : ProcessTable)
+    → ((n : ℕ) → IsTrue (is_open s.processes n) → IsTrue (is_open now n)) → (n : ℕ) (node : Node) → node_at s.tree n ≡ Some node
     → (inode_at p old.sectors n).kind ≡ kinds.File → (f : List ℕ → List ℕ) → ChangesBytes p n old new f
     → length (f (bytes_in node.body)) ≤ s.room.file_limit → IsBytes (f (bytes_in node.body))
     → HoldsAll p new.sectors (placed (swept (changed s.tree (Rewrite Modified n (record node { body = with_bytes (f (bytes_in node.body)) node.body }))) now))
-bytes_rewritten {p} {old} {new} {desks} {s} at now still n node there file f c few are =
+bytes_rewritten {p} {old} {new} {processes} {s} at now still n node there file f c few are =
     let v = inode_at p old.sectors n in
     let w = inode_at p new.sectors n in
     let held = held_node (state_tree at) n node there in
@@ -49,7 +49,7 @@ bytes_rewritten {p} {old} {new} {desks} {s} at now still n node there file f c f
 
 -- ---- from the calls on what an inode holds
 
-pub content_changes : {p : Place} {n taken more : ℕ} {old new : TxnState} {v w : Inode} (f : List ℕ → List ℕ) → v ≡ inode_at p old.sectors n
+pub content_changes : {p : Geometry} {n taken more : ℕ} {old new : TxnState} {v w : Inode} (f : List ℕ → List ℕ) → v ≡ inode_at p old.sectors n
     → ChangesContent p n taken more old new v w → ((held : List ℕ) → Holds old.sectors v held → Holds new.sectors w (f held)) → ChangesBytes p n old new f
 content_changes {p} {n} {taken} {more} {old} {new} {v} {w} f is c held = record {
   super = c.touches.super;

@@ -13,7 +13,7 @@ use Rattle.fs_cred.specs.declared.refusal.Refusal.{Refusal}
 use Rattle.fs_cred.specs.declared.refusal.Refusal.TheVariants.{Failed}
 use Rattle.fs_layout.specs.declared.inode.Inode.{Inode}
 use Rattle.fs_layout.specs.declared.inode.Kind.TheVariants as kinds
-use Rattle.fs_layout.specs.declared.place.Place.{Place}
+use Rattle.fs_layout.specs.declared.geometry.Geometry.{Geometry}
 use Rattle.fs_layout.specs.Bytes.{SectorMap}
 use Rattle.fs_layout.specs.Images.{inode_at}
 use Rattle.fs_model.specs.declared.call.Call.TheVariants.{Lseek}
@@ -21,7 +21,7 @@ use Rattle.fs_model.specs.declared.call.Whence.{Whence}
 use Rattle.fs_model.specs.declared.call.Whence.TheVariants.{Set, Cur, End}
 use Rattle.fs_model.specs.declared.reply.Reply.TheVariants.{At}
 use Rattle.fs_model.specs.Demands.{refuse, first_of}
-use Rattle.fs_model.specs.Processes.{Desks, Descriptor, with_offset}
+use Rattle.fs_model.specs.Processes.{ProcessTable, Descriptor, with_offset}
 use Rattle.fs_model.specs.Rows.{row_of}
 use Rattle.fs_model.specs.Rules.{is_directory_kind}
 use Rattle.fs_model.specs.Scenes.{Scene, with_process}
@@ -80,7 +80,7 @@ lseek_by fd whence by = record { row = lseek_is fd whence by }
 
 -- ---- what it answers
 
-module _ {p : Place} {map : SectorMap} {desks : Desks} {pid fd : ℕ} {d : Descriptor} (o : IsOpened desks pid fd d) (whence : Whence) (by : ℤ) (s : State) (at : IsStateOf p map desks s) where
+module _ {p : Geometry} {map : SectorMap} {processes : ProcessTable} {pid fd : ℕ} {d : Descriptor} (o : IsOpened processes pid fd d) (whence : Whence) (by : ℤ) (s : State) (at : IsStateOf p map processes s) where
   abbrev scene : Scene
   scene = open_scene s o.process
 

@@ -10,7 +10,7 @@ use Rattle.fs_cred.specs.declared.errno.Errno.{Errno}
 use Rattle.fs_cred.specs.declared.errno.Errno.TheVariants.{ESRCH}
 use Rattle.fs_cred.specs.declared.refusal.Refusal.{Refusal}
 use Rattle.fs_cred.specs.declared.refusal.Refusal.TheVariants.{Failed}
-use Rattle.fs_layout.specs.declared.place.Place.{Place}
+use Rattle.fs_layout.specs.declared.geometry.Geometry.{Geometry}
 use Rattle.fs_layout.specs.Bytes.{SectorMap}
 use Rattle.fs_layout.specs.Maps.{get, with_entry}
 use Rattle.sector_txn.specs.Sectors.{TxnState, IsUnchanged}
@@ -22,7 +22,7 @@ use Rattle.fs_model.specs.declared.reply.Reply.TheVariants.{Mask}
 use Rattle.fs_model.specs.AttributeCalls.{umask_row}
 use Rattle.fs_model.specs.TreeChanges.{Same, swept}
 use Rattle.fs_model.specs.DescriptorCalls.{close_row, close_effect}
-use Rattle.fs_model.specs.Processes.{Process, Desks, is_open}
+use Rattle.fs_model.specs.Processes.{Process, ProcessTable, is_open}
 use Rattle.fs_model.specs.Rows.{row_of}
 use Rattle.fs_model.specs.Scenes.{Row, nothing_asked}
 use Rattle.fs_model.specs.Stands.{HoldsAll, placed}
@@ -41,13 +41,13 @@ use Rattle.call_parts.specs.Reaching.{ActsOn}
 use Rattle.call_parts.proofs.ByDescriptor.{absent_firm, changed_there, still_open}
 
 -- a refusal, passed on
-pub settled_err : {pid : ℕ} {call : Call} {before now : Desks} (r : Result Reply Refusal) (e : Refusal) → IsErr r → IsErrAnd r (λ y. y ≡ e) → now ≡ before
-    → ((s : State) → s.desks ≡ before → firm_refusal s (Calls pid call) ≡ Some e) → Settles pid call before now r
+pub settled_err : {pid : ℕ} {call : Call} {before now : ProcessTable} (r : Result Reply Refusal) (e : Refusal) → IsErr r → IsErrAnd r (λ y. y ≡ e) → now ≡ before
+    → ((s : State) → s.processes ≡ before → firm_refusal s (Calls pid call) ≡ Some e) → Settles pid call before now r
 settled_err {pid} {call} {before} {now} r e err and table each =
     subst (λ (x : Result Reply Refusal). Settles pid call before now x) (sym (is_err r e err and)) (record { table = table; each = each })
 
-process_of : (s : State) {before : Desks} → s.desks ≡ before → (pid : ℕ) (o : Option Process) → get nat_cmp before pid ≡ o → get nat_cmp s.desks pid ≡ o
-process_of s same pid o at = ap (λ (d : Desks). get nat_cmp d pid) same ∙ at
+process_of : (s : State) {before : ProcessTable} → s.processes ≡ before → (pid : ℕ) (o : Option Process) → get nat_cmp before pid ≡ o → get nat_cmp s.processes pid ≡ o
+process_of s same pid o at = ap (λ (d : ProcessTable). get nat_cmp d pid) same ∙ at
 
 -- ---- umask
 
@@ -61,44 +61,44 @@ with_umask mask p = record p { umask = mask % 512 }
 abbrev umask_answer : Process → Result ℕ Errno
 umask_answer p = Ok p.umask
 
-pub umask_absent : (desks : Desks) (pid mask : ℕ) (errno : Errno) → Err errno ≡ answer_of desks pid umask_answer
-    → ((s : State) → s.desks ≡ desks → firm_refusal s (Calls pid (Umask mask)) ≡ Some (Failed errno)) × (with_changed desks pid (with_umask mask) ≡ desks)
-umask_absent desks pid mask errno e = go (get nat_cmp desks pid) refl e
+pub umask_absent : (processes : ProcessTable) (pid mask : ℕ) (errno : Errno) → Err errno ≡ answer_of processes pid umask_answer
+    → ((s : State) → s.processes ≡ processes → firm_refusal s (Calls pid (Umask mask)) ≡ Some (Failed errno)) × (with_changed processes pid (with_umask mask) ≡ processes)
+umask_absent processes pid mask errno e = go (get nat_cmp processes pid) refl e
   where
-    go : (o : Option Process) → get nat_cmp desks pid ≡ o → Err errno ≡ answer_of_found umask_answer o
-        → ((s : State) → s.desks ≡ desks → firm_refusal s (Calls pid (Umask mask)) ≡ Some (Failed errno)) × (with_changed desks pid (with_umask mask) ≡ desks)
+    go : (o : Option Process) → get nat_cmp processes pid ≡ o → Err errno ≡ answer_of_found umask_answer o
+        → ((s : State) → s.processes ≡ processes → firm_refusal s (Calls pid (Umask mask)) ≡ Some (Failed errno)) × (with_changed processes pid (with_umask mask) ≡ processes)
     go None at e =
         let no : ESRCH ≡ errno = cc in (
           λ s same. absent_firm s pid (Umask mask) (process_of s same pid None at) ∙ ap (λ (x : Errno). Some (Failed x)) no,
-          ap (changed_where desks pid (with_umask mask)) at,
+          ap (changed_where processes pid (with_umask mask)) at,
         )
     go (Some q) at e = absurd (cc)
 
-module _ (s : State) (pid mask : ℕ) (q : Process) (there : get nat_cmp s.desks pid ≡ Some q) where
-  umask_after : after s (Calls pid (Umask mask)) (chosen 0 0) ≡ record { change = Same; desks = with_entry nat_cmp s.desks pid (with_umask mask q); reply = Mask q.umask; now = s.now }
+module _ (s : State) (pid mask : ℕ) (q : Process) (there : get nat_cmp s.processes pid ≡ Some q) where
+  umask_after : after s (Calls pid (Umask mask)) (chosen 0 0) ≡ record { change = Same; processes = with_entry nat_cmp s.processes pid (with_umask mask q); reply = Mask q.umask; now = s.now }
   umask_after = after_is s pid q (Umask mask) there (chosen 0 0) ∙ ap (λ (x : Row). after_call s pid x 0 (Some q)) (umask_is mask)
 
-  umask_done : (now : Desks) (old : ℕ) → with_entry nat_cmp s.desks pid (with_umask mask q) ≡ now → q.umask ≡ old → IsSettled s pid (Umask mask) now (Mask old)
+  umask_done : (now : ProcessTable) (old : ℕ) → with_entry nat_cmp s.processes pid (with_umask mask q) ≡ now → q.umask ≡ old → IsSettled s pid (Umask mask) now (Mask old)
   umask_done now old is same = record {
     early = early_is s pid q (Umask mask) there ∙ ap (early_refusal q) (umask_is mask);
     late = late_is s pid q (Umask mask) there ∙ ap (late_refusal s q) (umask_is mask);
     effect = umask_after
-        ∙ ap (λ (d : Desks). record { change = Same; desks = d; reply = Mask q.umask; now = s.now }) is
-        ∙ ap (λ (m : ℕ). record { change = Same; desks = now; reply = Mask m; now = s.now }) same;
+        ∙ ap (λ (d : ProcessTable). record { change = Same; processes = d; reply = Mask q.umask; now = s.now }) is
+        ∙ ap (λ (m : ℕ). record { change = Same; processes = now; reply = Mask m; now = s.now }) same;
   }
 
-pub umask_settles : (desks now : Desks) (pid mask old : ℕ) → Ok old ≡ answer_of desks pid umask_answer → now ≡ with_changed desks pid (with_umask mask)
-    → Settles pid (Umask mask) desks now (Ok (Mask old))
-umask_settles desks now pid mask old e is = go (get nat_cmp desks pid) refl e
+pub umask_settles : (processes now : ProcessTable) (pid mask old : ℕ) → Ok old ≡ answer_of processes pid umask_answer → now ≡ with_changed processes pid (with_umask mask)
+    → Settles pid (Umask mask) processes now (Ok (Mask old))
+umask_settles processes now pid mask old e is = go (get nat_cmp processes pid) refl e
   where
-    go : (o : Option Process) → get nat_cmp desks pid ≡ o → Ok old ≡ answer_of_found umask_answer o → Settles pid (Umask mask) desks now (Ok (Mask old))
+    go : (o : Option Process) → get nat_cmp processes pid ≡ o → Ok old ≡ answer_of_found umask_answer o → Settles pid (Umask mask) processes now (Ok (Mask old))
     go None at e = absurd (cc)
     go (Some q) at e =
         let same : q.umask ≡ old = cc in
         record {
           table = tt;
-          each = λ s desks_are. umask_done s pid mask q (process_of s desks_are pid (Some q) at) now old
-              (ap (λ (d : Desks). with_entry nat_cmp d pid (with_umask mask q)) desks_are ∙ sym (changed_there desks pid q (with_umask mask) at) ∙ sym is) same;
+          each = λ s processes_are. umask_done s pid mask q (process_of s processes_are pid (Some q) at) now old
+              (ap (λ (d : ProcessTable). with_entry nat_cmp d pid (with_umask mask q)) processes_are ∙ sym (changed_there processes pid q (with_umask mask) at) ∙ sym is) same;
         }
 
 -- ---- close
@@ -112,7 +112,7 @@ close_by fd = record { row = close_is fd }
 
 -- ---- in a transaction
 
-settled_performs : {p : Place} {time pid : ℕ} {call : Call} {old new : TxnState} {before now : Desks} (result : Result Reply Refusal) → IsUnchanged old new
+settled_performs : {p : Geometry} {time pid : ℕ} {call : Call} {old new : TxnState} {before now : ProcessTable} (result : Result Reply Refusal) → IsUnchanged old new
     → Settles pid call before now result
     → ((s : State) → IsStateOf p old.sectors before s → (reply : Reply) → IsSettled s pid call now reply → swept s.tree now ≡ s.tree)
     → Performs p time pid call old new before now result
@@ -121,7 +121,7 @@ settled_performs {p} {time} {pid} {call} {old} {new} {before} {now} (Ok reply) s
   super = same.sectors 0;
   table = tt;
   each = λ s at.
-      let is = settles.each s at.same_desks in
+      let is = settles.each s at.same_processes in
       record {
         early = is.early;
         late = is.late;
@@ -137,23 +137,23 @@ settled_performs {p} {time} {pid} {call} {old} {new} {before} {now} (Err r) same
   store = same.store;
   super = tt;
   table = settles.table;
-  each = λ s at. why.early (settles.each s at.same_desks);
+  each = λ s at. why.early (settles.each s at.same_processes);
 }
 
-umask_stays : (s : State) (pid mask : ℕ) (now : Desks) (reply : Reply) {p : Place} {map : SectorMap} {before : Desks} → IsStateOf p map before s
+umask_stays : (s : State) (pid mask : ℕ) (now : ProcessTable) (reply : Reply) {p : Geometry} {map : SectorMap} {before : ProcessTable} → IsStateOf p map before s
     → IsSettled s pid (Umask mask) now reply → swept s.tree now ≡ s.tree
-umask_stays s pid mask now reply at is = go (get nat_cmp s.desks pid) refl
+umask_stays s pid mask now reply at is = go (get nat_cmp s.processes pid) refl
   where
-    go : (o : Option Process) → get nat_cmp s.desks pid ≡ o → swept s.tree now ≡ s.tree
+    go : (o : Option Process) → get nat_cmp s.processes pid ≡ o → swept s.tree now ≡ s.tree
     go None none =
         let both : Some (Failed ESRCH) ≡ None = sym (absent_firm s pid (Umask mask) none) ∙ is.early in
         absurd (cc)
     go (Some q) there =
-        let entered : with_entry nat_cmp s.desks pid (with_umask mask q) ≡ now = ap (λ (x : After). x.desks) (sym (umask_after s pid mask q there) ∙ is.effect) in
-        open_stays s.room s.tree s.desks now at.is_state.tree (at.is_state.desks at.up)
-        (λ n was. ap (λ (x : Desks). is_open x n) (sym entered) ∙ still_open s.desks pid q (with_umask mask q) at.is_state.pids there n refl ∙ was)
+        let entered : with_entry nat_cmp s.processes pid (with_umask mask q) ≡ now = ap (λ (x : After). x.processes) (sym (umask_after s pid mask q there) ∙ is.effect) in
+        open_stays s.room s.tree s.processes now at.is_state.tree (at.is_state.processes at.up)
+        (λ n was. ap (λ (x : ProcessTable). is_open x n) (sym entered) ∙ still_open s.processes pid q (with_umask mask q) at.is_state.pids there n refl ∙ was)
 
-pub umask_performs : {p : Place} {time pid mask : ℕ} {old new : TxnState} {before now : Desks} (result : Result Reply Refusal) → IsUnchanged old new
+pub umask_performs : {p : Geometry} {time pid mask : ℕ} {old new : TxnState} {before now : ProcessTable} (result : Result Reply Refusal) → IsUnchanged old new
     → Settles pid (Umask mask) before now result → Performs p time pid (Umask mask) old new before now result
 umask_performs {p} {time} {pid} {mask} {old} {new} {before} {now} result same settles =
     settled_performs result same settles (λ s at reply is. umask_stays s pid mask now reply at is)

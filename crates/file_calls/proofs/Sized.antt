@@ -10,7 +10,7 @@ use Rattle.fs_cred.specs.declared.refusal.Refusal.{Refusal}
 use Rattle.fs_layout.specs.declared.inode.Inode.{Inode}
 use Rattle.fs_layout.specs.declared.inode.Kind.{Kind}
 use Rattle.fs_layout.specs.declared.inode.Kind.TheVariants as kinds
-use Rattle.fs_layout.specs.declared.place.Place.{Place}
+use Rattle.fs_layout.specs.declared.geometry.Geometry.{Geometry}
 use Rattle.fs_layout.specs.Bytes.{SectorMap, resized}
 use Rattle.fs_layout.specs.Images.{inode_at}
 use Rattle.fs_layout.specs.Version.{max_file_size}
@@ -23,7 +23,7 @@ use Rattle.fs_model.specs.AttributeCalls.{truncate_demands, truncate_effect}
 use Rattle.fs_model.specs.Demands.{Demand, refuse, first_of, perms}
 use Rattle.fs_model.specs.DescriptorCalls.{resized_node}
 use Rattle.fs_model.specs.Nodes.{is_directory, bytes_in}
-use Rattle.fs_model.specs.Processes.{Process, Desks}
+use Rattle.fs_model.specs.Processes.{Process, ProcessTable}
 use Rattle.fs_model.specs.Rules.{is_directory_kind}
 use Rattle.fs_model.specs.Scenes.{number, must_be_there, body_found, permission_at_end}
 use Rattle.fs_model.specs.States.{State}
@@ -59,8 +59,8 @@ truncate_rest size s q f =
     ∷ refuse EFBIG (nat_lt s.room.file_limit size)
     ∷ []
 
-module _ {p : Place} {map : SectorMap} {desks : Desks} {s : State} {pid : ℕ} {q : Process} {path : List ℕ} {f : Found} {n : ℕ} {v : Inode}
-    (at : IsStateOf p map desks s) (has : HasFound s pid q Follow path f) (some : f.ino ≡ Some n) (number_is : number f ≡ n) (inode : v ≡ inode_at p map n)
+module _ {p : Geometry} {map : SectorMap} {processes : ProcessTable} {s : State} {pid : ℕ} {q : Process} {path : List ℕ} {f : Found} {n : ℕ} {v : Inode}
+    (at : IsStateOf p map processes s) (has : HasFound s pid q Follow path f) (some : f.ino ≡ Some n) (number_is : number f ≡ n) (inode : v ≡ inode_at p map n)
     (size : ℕ) where
   abbrev last_asked : List Demand
   last_asked = refuse EFBIG (nat_lt (max_file_size p.version) size) ∷ []
@@ -121,14 +121,14 @@ module _ {p : Place} {map : SectorMap} {desks : Desks} {s : State} {pid : ℕ} {
             (both_met (permission_at_end (scene_at s q f) f 1 (perms false true false)) last_asked granted
             (or_else-none (refuse EFBIG (nat_lt (max_file_size p.version) size)) ∙ fits)))
 
-module _ {p : Place} {old : TxnState} {desks : Desks} {s : State} {pid : ℕ} {q : Process} {path : List ℕ} {f : Found} {n : ℕ} {v : Inode}
-    (at : IsStateOf p old.sectors desks s) (has : HasFound s pid q Follow path f) (some : f.ino ≡ Some n) (number_is : number f ≡ n) (inode : v ≡ inode_at p old.sectors n)
+module _ {p : Geometry} {old : TxnState} {processes : ProcessTable} {s : State} {pid : ℕ} {q : Process} {path : List ℕ} {f : Found} {n : ℕ} {v : Inode}
+    (at : IsStateOf p old.sectors processes s) (has : HasFound s pid q Follow path f) (some : f.ino ≡ Some n) (number_is : number f ≡ n) (inode : v ≡ inode_at p old.sectors n)
     (size : ℕ) where
   -- it has that size
   pub size_changed : (new : TxnState) → must_be_there f ≡ None → refuse EISDIR (is_directory_kind v.kind) ≡ None
       → permission_at_end (scene_at s q f) f 1 (perms false true false) ≡ None → refuse EFBIG (nat_lt (max_file_size p.version) size) ≡ None
       → size ≤ max_file_size p.version → v.kind ≡ kinds.File → ChangesBytes p n old new (λ held. resized held size)
-      → IsChange p new.sectors desks s q (truncate_demands size (scene_at s q f)) (truncate_effect size (scene_at s q f)) Done ((n, Modified) ∷ [])
+      → IsChange p new.sectors processes s q (truncate_demands size (scene_at s q f)) (truncate_effect size (scene_at s q f)) Done ((n, Modified) ∷ [])
   size_changed new there file granted fits few kind c =
       let a = followed_access n at has some in
       let is_file = sym (ap (λ (w : Inode). w.kind) inode) ∙ kind in

@@ -12,7 +12,7 @@ use Rattle.fs_cred.specs.declared.errno.Errno.TheVariants.{EBADF, EFBIG, ENOSPC}
 use Rattle.fs_cred.specs.declared.refusal.Refusal.TheVariants.{Failed}
 use Rattle.fs_layout.specs.declared.inode.Inode.{Inode}
 use Rattle.fs_layout.specs.declared.inode.Kind.TheVariants as kinds
-use Rattle.fs_layout.specs.declared.place.Place.{Place}
+use Rattle.fs_layout.specs.declared.geometry.Geometry.{Geometry}
 use Rattle.fs_layout.specs.declared.version.Version.{Version}
 use Rattle.fs_layout.specs.Bytes.{SectorMap, IsBytes, overwritten}
 use Rattle.fs_layout.specs.Images.{inode_at, free_sectors}
@@ -28,7 +28,7 @@ use Rattle.fs_model.specs.DescriptorCalls.{write_row, write_demands, write_effec
 use Rattle.fs_model.specs.Limits.{move_limit, least_free}
 use Rattle.fs_model.specs.Nodes.{Node, Body, File, Dir, Link, bytes_in, is_directory, is_link}
 use Rattle.fs_model.specs.Parts.{is_empty}
-use Rattle.fs_model.specs.Processes.{Desks, Descriptor, the_descriptor, with_offset, is_open}
+use Rattle.fs_model.specs.Processes.{ProcessTable, Descriptor, the_descriptor, with_offset, is_open}
 use Rattle.fs_model.specs.Rows.{row_of}
 use Rattle.fs_model.specs.Scenes.{Scene, Effect, node_open, answers}
 use Rattle.fs_model.specs.States.{State}
@@ -59,7 +59,7 @@ met_only true e = refl
 met_only false e = absurd (cc)
 
 -- what is open for writing was opened so
-pub open_to_write : {desks : Desks} {pid fd : ℕ} {d : Descriptor} → IsOpenFor desks pid fd Writing d → d.write ≡ true
+pub open_to_write : {processes : ProcessTable} {pid fd : ℕ} {d : Descriptor} → IsOpenFor processes pid fd Writing d → d.write ≡ true
 open_to_write {d = d} w = met_only d.write (ap (λ (x : Descriptor). refuse EBADF (not x.write)) (sym (the_opened w.opened)) ∙ w.fine)
 
 pub is_enough : (free least : ℕ) → refused_or {A = Unit {0}} (refuse ENOSPC (nat_lt free least)) (Ok tt) ≡ Ok tt → least ≤ free
@@ -88,14 +88,14 @@ no_directory_written : (b w : Bool) → (IsTrue b → IsFalse w) → w ≡ true 
 no_directory_written true w never is = absurd (let e = never refl in let f : true ≡ false = sym is ∙ e in cc)
 no_directory_written false w never is = refl
 
-module _ {desks : Desks} {pid fd : ℕ} {d : Descriptor} (o : IsOpened desks pid fd d) where
+module _ {processes : ProcessTable} {pid fd : ℕ} {d : Descriptor} (o : IsOpened processes pid fd d) where
   pub asks_nothing : (s : State) (bytes : List ℕ) → is_empty bytes ≡ true
       → (first_of (write_demands fd bytes (open_scene s o.process)) ≡ None)
       × (write_effect fd bytes (open_scene s o.process) ≡ answers (open_scene s o.process) (Wrote 0))
   asks_nothing s [] e = (refl, refl)
   asks_nothing s (b ∷ bytes) e = absurd (cc)
 
-module _ {p : Place} {map : SectorMap} {desks : Desks} {pid fd : ℕ} {d : Descriptor} (o : IsOpened desks pid fd d) (s : State) (at : IsStateOf p map desks s)
+module _ {p : Geometry} {map : SectorMap} {processes : ProcessTable} {pid fd : ℕ} {d : Descriptor} (o : IsOpened processes pid fd d) (s : State) (at : IsStateOf p map processes s)
     (wrote : d.write ≡ true) where
   pub file_kind : (inode_at p map d.number).kind ≡ kinds.File
   file_kind =
@@ -112,17 +112,17 @@ module _ {p : Place} {map : SectorMap} {desks : Desks} {pid fd : ℕ} {d : Descr
   scene = open_scene s o.process
 
   module _ (v : Inode) (is : v ≡ inode_at p map d.number) (offset : ℕ) (offset_is : offset ≡ (if d.append then v.size else d.offset)) where
-    abbrev place_of : Descriptor → Node → ℕ
-    place_of x node = if x.append then length (bytes_in node.body) else x.offset
+    abbrev geometry_of : Descriptor → Node → ℕ
+    geometry_of x node = if x.append then length (bytes_in node.body) else x.offset
 
-    starts_at : place_of d (open_fits o s at).node ≡ offset
+    starts_at : geometry_of d (open_fits o s at).node ≡ offset
     starts_at =
         ap (λ (n : ℕ). if d.append then n else d.offset) (sym (ap (λ (i : Inode). i.size) is ∙ file_size)) ∙ sym offset_is
 
     offset_same : write_offset (open_scene s o.process) fd ≡ offset
     offset_same =
-        ap (λ (x : Descriptor). place_of x (node_open (open_scene s o.process) fd)) (the_opened o)
-        ∙ ap (place_of d) (open_node o s at)
+        ap (λ (x : Descriptor). geometry_of x (node_open (open_scene s o.process) fd)) (the_opened o)
+        ∙ ap (geometry_of d) (open_node o s at)
         ∙ starts_at
 
     limit_is : s.room.file_limit ≡ max_file_size p.version
@@ -156,11 +156,11 @@ module _ {p : Place} {map : SectorMap} {desks : Desks} {pid fd : ℕ} {d : Descr
             (ap (λ (n : ℕ). nat_lt n least_free) at.free_is ∙ le-ltb (free_sectors p map) least_free enough)
 
         abbrev pub effect_at : ℕ → Node → ℕ → ℕ → Effect
-        effect_at n node place limit =
-            let count = min (length bytes) (min move_limit (limit - place)) in
+        effect_at n node geometry limit =
+            let count = min (length bytes) (min move_limit (limit - geometry)) in
             record {
-              change = Rewrite Modified n (written node place (take count bytes));
-              process = with_offset o.process fd (place + count);
+              change = Rewrite Modified n (written node geometry (take count bytes));
+              process = with_offset o.process fd (geometry + count);
               reply = Wrote count;
             }
 
@@ -175,11 +175,11 @@ module _ {p : Place} {map : SectorMap} {desks : Desks} {pid fd : ℕ} {d : Descr
 
 -- ---- what is written
 
-module _ {p : Place} {old new : TxnState} {desks : Desks} {pid fd : ℕ} {d : Descriptor} (o : IsOpened desks pid fd d) (s : State) (at : IsStateOf p old.sectors desks s)
+module _ {p : Geometry} {old new : TxnState} {processes : ProcessTable} {pid fd : ℕ} {d : Descriptor} (o : IsOpened processes pid fd d) (s : State) (at : IsStateOf p old.sectors processes s)
     (wrote : d.write ≡ true) (v : Inode) (is : v ≡ inode_at p old.sectors d.number) (offset : ℕ) (offset_is : offset ≡ (if d.append then v.size else d.offset))
     (bytes : List ℕ) (some : is_empty bytes ≡ false) (near : offset < max_file_size p.version) (enough : least_free ≤ free_sectors p old.sectors) (fresh : IsBytes bytes) (count : ℕ)
     (counted : count ≡ min (length bytes) (min move_limit (max_file_size p.version - offset)))
-    (now : Desks) (still : (n : ℕ) → IsTrue (is_open s.desks n) → IsTrue (is_open now n))
+    (now : ProcessTable) (still : (n : ℕ) → IsTrue (is_open s.processes n) → IsTrue (is_open now n))
     (c : ChangesBytes p d.number old new (λ held. overwritten held offset (take count bytes))) where
   pub writes : IsChange p new.sectors now s (with_offset o.process fd (offset + count)) (write_demands fd bytes (open_scene s o.process))
       (λ k. write_effect fd bytes (open_scene s o.process)) (Wrote count) ((d.number, Modified) ∷ [])

@@ -9,7 +9,7 @@ use Rattle.fs_cred.specs.declared.errno.Errno.{Errno}
 use Rattle.fs_cred.specs.declared.errno.Errno.TheVariants.{EIO}
 use Rattle.fs_cred.specs.declared.refusal.Refusal.{Refusal}
 use Rattle.fs_cred.specs.declared.refusal.Refusal.TheVariants.{Failed}
-use Rattle.fs_layout.specs.declared.place.Place.{Place}
+use Rattle.fs_layout.specs.declared.geometry.Geometry.{Geometry}
 use Rattle.fs_layout.specs.Bytes.{SectorMap}
 use Rattle.fs_layout.specs.Maps.{without}
 use Rattle.std.specs.Ordering.{nat_cmp}
@@ -17,7 +17,7 @@ use Rattle.sector_txn.specs.Sectors.{TxnState, SameStore, IsUnchanged}
 use Rattle.fs_model.specs.declared.event.Event.TheVariants.{Exit}
 use Rattle.fs_model.specs.declared.reply.Reply.TheVariants.{Done}
 use Rattle.fs_model.specs.TreeChanges.{Same, swept}
-use Rattle.fs_model.specs.Processes.{Descriptor, Desks, is_open}
+use Rattle.fs_model.specs.Processes.{Descriptor, ProcessTable, is_open}
 use Rattle.fs_model.specs.Stands.{HoldsAll, placed}
 use Rattle.fs_model.specs.States.{State}
 use Rattle.fs_model.specs.Steps.{after, firm_refusal, other_refusal}
@@ -26,11 +26,11 @@ use Rattle.call_parts.specs.Performing.{IsStateOf, chosen}
 use Rattle.call_parts.specs.Dropping.{LeavesInode}
 
 -- Nothing refuses the end of the process. It leaves these processes, and the map holds the tree after it.
-pub record IsExited (p : Place) (map : SectorMap) (desks : Desks) (s : State) (pid : ℕ) : Type 0 where
+pub record IsExited (p : Geometry) (map : SectorMap) (processes : ProcessTable) (s : State) (pid : ℕ) : Type 0 where
   pub early : firm_refusal s (Exit pid) ≡ None
   pub late : other_refusal s (Exit pid) ≡ None
-  pub effect : after s (Exit pid) (chosen 0 0) ≡ record { change = Same; desks = desks; reply = Done; now = s.now }
-  pub holds : HoldsAll p map (placed (swept s.tree desks))
+  pub effect : after s (Exit pid) (chosen 0 0) ≡ record { change = Same; processes = processes; reply = Done; now = s.now }
+  pub holds : HoldsAll p map (placed (swept s.tree processes))
 
 -- It is refused: there is no such process, or a read failed.
 pub data IsNotExited (old new : DiskState) (s : State) (pid : ℕ) (r : Refusal) : Type 0 where
@@ -38,7 +38,7 @@ pub data IsNotExited (old new : DiskState) (s : State) (pid : ℕ) (r : Refusal)
   read_fails : firm_refusal s (Exit pid) ≡ None → HasFailed old new → r ≡ Failed EIO → IsNotExited old new s pid r
 
 -- The end of process pid. At `Err` the table is as it was, and of the map nothing is said: its changes are dropped.
-pub record Exits (p : Place) (pid : ℕ) (old new : TxnState) (before now : Desks) (result : Result (Unit {0}) Refusal) : Type 0 where
+pub record Exits (p : Geometry) (pid : ℕ) (old new : TxnState) (before now : ProcessTable) (result : Result (Unit {0}) Refusal) : Type 0 where
   pub store : SameStore old new
   pub super : OnOk result (new.sectors 0 ≡ old.sectors 0)
   pub table : OnErr result (now ≡ before)
@@ -46,7 +46,7 @@ pub record Exits (p : Place) (pid : ℕ) (old new : TxnState) (before now : Desk
       → MatchResult result (λ done. IsExited p new.sectors now s pid) (λ r. IsNotExited old.disk new.disk s pid r)
 
 -- Where a process has something open at the descriptor, that is as it was, or gone: no other process may have it open.
-pub data LeavesAt (p : Place) (desks : Desks) (pid fd : ℕ) (old new : TxnState) : Type 0 where
-  is_closed : (errno : Errno) → open_in desks pid fd ≡ Err errno → IsUnchanged old new → LeavesAt p desks pid fd old new
-  was_open : (d : Descriptor) → open_in desks pid fd ≡ Ok d → LeavesInode p d.number (is_open (without nat_cmp desks pid) d.number) old new
-      → LeavesAt p desks pid fd old new
+pub data LeavesAt (p : Geometry) (processes : ProcessTable) (pid fd : ℕ) (old new : TxnState) : Type 0 where
+  is_closed : (errno : Errno) → open_in processes pid fd ≡ Err errno → IsUnchanged old new → LeavesAt p processes pid fd old new
+  was_open : (d : Descriptor) → open_in processes pid fd ≡ Ok d → LeavesInode p d.number (is_open (without nat_cmp processes pid) d.number) old new
+      → LeavesAt p processes pid fd old new

@@ -11,7 +11,7 @@ use Rattle.fs_cred.specs.declared.refusal.Refusal.{Refusal}
 use Rattle.fs_cred.specs.declared.errno.Errno.TheVariants.{EEXIST, EISDIR, ELOOP, ENOTDIR}
 use Rattle.fs_cred.specs.Credentials.{Credential}
 use Rattle.fs_layout.specs.declared.inode.Kind.{Kind}
-use Rattle.fs_layout.specs.declared.place.Place.{Place}
+use Rattle.fs_layout.specs.declared.geometry.Geometry.{Geometry}
 use Rattle.fs_layout.specs.Bytes.{SectorMap, IsBytes}
 use Rattle.fs_model.specs.declared.call.Flags.{Flags}
 use Rattle.fs_model.specs.declared.walk.Found.{Found}
@@ -21,7 +21,7 @@ use Rattle.fs_model.specs.Demands.{Demand, refuse, first_of, perms, permission_o
 use Rattle.fs_model.specs.Nodes.{is_directory, is_link}
 use Rattle.fs_model.specs.OpenCall.{open_arguments, open_form, open_demands, open_change}
 use Rattle.fs_model.specs.Parts.{path_checks, ends_with_slash}
-use Rattle.fs_model.specs.Processes.{Process, Desks, is_open}
+use Rattle.fs_model.specs.Processes.{Process, ProcessTable, is_open}
 use Rattle.fs_model.specs.Rules.{is_directory_kind}
 use Rattle.fs_model.specs.Stands.{HoldsAll, placed}
 use Rattle.fs_model.specs.States.{State}
@@ -53,12 +53,12 @@ found_asked f cred t n step =
     ∷ permission_on cred t n (perms f.read f.write false) 1 step
     ∷ []
 
-pub record FindsIn (p : Place) (map : SectorMap) (flags : Flags) (q : Process) (f : Found) (s : State) : Type 0 where
-  pub desks : Desks
+pub record FindsIn (p : Geometry) (map : SectorMap) (flags : Flags) (q : Process) (f : Found) (s : State) : Type 0 where
+  pub processes : ProcessTable
   pub pid : ℕ
   pub path : List ℕ
   pub bytes : IsBytes path
-  pub is_state : IsStateOf p map desks s
+  pub is_state : IsStateOf p map processes s
   pub found : HasFound s pid q (open_form flags) path f
 
 -- its demands on what was found refuse it, or what may stand in their place does
@@ -66,10 +66,10 @@ abbrev pub IsRefusedOpen : DiskState → DiskState → Flags → Process → Fou
 IsRefusedOpen old new flags q f s e = IsAnswered old new (refused_or {A = ℕ} (first_of (open_demands flags (scene_at s q f))) (Ok 0)) (Err e)
 
 -- n is what is opened, at this time
-pub record Reaches (p : Place) (time : ℕ) (map : SectorMap) (flags : Flags) (mode : ℕ) (q : Process) (f : Found) (s : State) (n : ℕ) : Type 0 where
+pub record Reaches (p : Geometry) (time : ℕ) (map : SectorMap) (flags : Flags) (mode : ℕ) (q : Process) (f : Found) (s : State) (n : ℕ) : Type 0 where
   pub met : first_of (open_demands flags (scene_at s q f)) ≡ None
   pub number : unwrap_or f.ino n ≡ n
   pub new_number : HasNewNumber s (open_change flags mode (scene_at s q f) n)
-  pub holds : (now : Desks) → ((k : ℕ) → IsTrue (is_open s.desks k) → IsTrue (is_open now k))
+  pub holds : (now : ProcessTable) → ((k : ℕ) → IsTrue (is_open s.processes k) → IsTrue (is_open now k))
       → HoldsAll p map (placed (touched time (touches s.room s.tree (open_change flags mode (scene_at s q f) n))
       (swept (changed s.tree (open_change flags mode (scene_at s q f) n)) now)))

@@ -7,19 +7,19 @@ use Rattle.fs_model.specs.declared.call.Call.{Call}
 use Rattle.fs_model.specs.declared.reply.Reply.{Reply}
 use Rattle.fs_model.specs.declared.event.Event.TheVariants.{Call as Calls}
 use Rattle.fs_model.specs.TreeChanges.{Same}
-use Rattle.fs_model.specs.Processes.{Desks}
+use Rattle.fs_model.specs.Processes.{ProcessTable}
 use Rattle.fs_model.specs.States.{State}
 use Rattle.fs_model.specs.Steps.{after, firm_refusal, other_refusal}
 use Rattle.call_parts.specs.Performing.{chosen}
 
 -- Nothing refuses the call. It gives this reply and leaves these processes, and of the tree it changes nothing.
-pub record IsSettled (s : State) (pid : ℕ) (call : Call) (now : Desks) (reply : Reply) : Type 0 where
+pub record IsSettled (s : State) (pid : ℕ) (call : Call) (now : ProcessTable) (reply : Reply) : Type 0 where
   pub early : firm_refusal s (Calls pid call) ≡ None
   pub late : other_refusal s (Calls pid call) ≡ None
-  pub effect : after s (Calls pid call) (chosen 0 0) ≡ record { change = Same; desks = now; reply = reply; now = s.now }
+  pub effect : after s (Calls pid call) (chosen 0 0) ≡ record { change = Same; processes = now; reply = reply; now = s.now }
 
 -- A call of process pid, in every state that has this table. At `Err` the table is as it was.
-pub record Settles (pid : ℕ) (call : Call) (before now : Desks) (result : Result Reply Refusal) : Type 0 where
+pub record Settles (pid : ℕ) (call : Call) (before now : ProcessTable) (result : Result Reply Refusal) : Type 0 where
   pub table : OnErr result (now ≡ before)
-  pub each : (s : State) → s.desks ≡ before
+  pub each : (s : State) → s.processes ≡ before
       → MatchResult result (λ reply. IsSettled s pid call now reply) (λ r. firm_refusal s (Calls pid call) ≡ Some r)

@@ -18,7 +18,7 @@ ghost use Rattle.call_parts.specs.UsedInode.{IsUsedInode};
 
 use call_parts::{CallResult, Caller, ask_for_sectors, default_of, reach, reach_owned, touch};
 use fs_cred::{Errno, Refusal};
-use fs_layout::{Inode, Kind, Place};
+use fs_layout::{Geometry, Inode, Kind};
 use fs_model::{AclType, Form, Path, Reply, Touch};
 use inode_table::{LoadAclFault, load_acl, save_acl, save_default_acl};
 use posix_acl::Acl;
@@ -26,14 +26,14 @@ use sector_txn::Sectors;
 
 /// The access ACL of an inode of the table, a file or a directory. ENOMEM: it finds no memory. EIO: the disk has failed.
 pub(crate) fn acl_of<S: Sectors>(s: &mut S, caller: &Caller, inode: &Inode) -> Result<Acl, Refusal>
-    requires sound { IsSound caller.now.place (S.state s.old) }
-    requires there { IsInodeOf caller.now.place (S.state s.old).sectors inode.now }
+    requires sound { IsSound caller.now.geometry (S.state s.old) }
+    requires there { IsInodeOf caller.now.geometry (S.state s.old).sectors inode.now }
     requires has { (a : AccessList) × HasAcl (S.state s.old).sectors inode.now a }
     ensures found { IfOk result (λ acl. (a : AccessList) → HasAcl (S.state s.old).sectors inode.now a → acl ≡ a) }
     ensures same { IsUnchanged (S.state s.old) (S.state s.new) }
     ensures interrupts { IfErr result (Interrupts (S.state s.old).disk (S.state s.new).disk) }
 {
-    match load_acl(caller.alloc, s, caller.place, inode) {
+    match load_acl(caller.alloc, s, caller.geometry, inode) {
         Ok(acl) => Ok(acl),
         Err(LoadAclFault::OutOfMemory) => Err(Refusal::Failed(Errno::ENOMEM)),
         Err(LoadAclFault::DiskFault) => Err(Refusal::Failed(Errno::EIO)),
@@ -44,25 +44,25 @@ pub(crate) fn acl_of<S: Sectors>(s: &mut S, caller: &Caller, inode: &Inode) -> R
 /// disk has failed.
 pub(crate) fn give_acl<S: Sectors>(
     s: &mut S,
-    place: Place,
+    geometry: Geometry,
     n: u32,
     inode: &Inode,
     acl: &Acl,
 ) -> Result<(), Refusal>
-    requires sound { IsSound place (S.state s.old) }
-    requires below { n < place.inodes }
-    requires inode { inode.now ≡ record (inode_at place (S.state s.old).sectors n) { mode = inode.now.mode } }
+    requires sound { IsSound geometry (S.state s.old) }
+    requires below { n < geometry.inodes }
+    requires inode { inode.now ≡ record (inode_at geometry (S.state s.old).sectors n) { mode = inode.now.mode } }
     requires fits { FitsInode inode.now }
     requires used { inode.now.kind ≢ Kind.Free }
     requires no_link { inode.now.kind ≢ Kind.Link }
-    requires spare { HasSpare place 2 (S.state s.old) }
-    requires room { acl_takes inode.now.acl (kept_acl acl.now) ≤ free_sectors place (S.state s.old).sectors }
-    ensures given { OnOk result (SavesAcl place n inode.now.mode acl.now (S.state s.old).sectors (S.state s.new).sectors) }
-    ensures taken { OnOk result (TakesSpare place 2 (S.state s.old) (S.state s.new)) }
+    requires spare { HasSpare geometry 2 (S.state s.old) }
+    requires room { acl_takes inode.now.acl (kept_acl acl.now) ≤ free_sectors geometry (S.state s.old).sectors }
+    ensures given { OnOk result (SavesAcl geometry n inode.now.mode acl.now (S.state s.old).sectors (S.state s.new).sectors) }
+    ensures taken { OnOk result (TakesSpare geometry 2 (S.state s.old) (S.state s.new)) }
     ensures store { SameStore (S.state s.old) (S.state s.new) }
     ensures interrupts { IfErr result (Interrupts (S.state s.old).disk (S.state s.new).disk) }
 {
-    match save_acl(s, place, n, inode, acl) {
+    match save_acl(s, geometry, n, inode, acl) {
         Ok(()) => Ok(()),
         Err(_) => Err(Refusal::Failed(Errno::EIO)),
     }
@@ -74,10 +74,10 @@ fn shown_default<S: Sectors>(
     caller: &Caller,
     inode: &Inode,
 ) -> Result<Option<Acl>, Refusal>
-    requires sound { IsSound caller.now.place (S.state s.old) }
-    requires there { IsInodeOf caller.now.place (S.state s.old).sectors inode.now }
-    requires has { (b : Body) × HasBody caller.now.place.version (S.state s.old).sectors inode.now b }
-    ensures found { IfOk result (λ acl. (b : Body) → HasBody caller.now.place.version (S.state s.old).sectors inode.now b
+    requires sound { IsSound caller.now.geometry (S.state s.old) }
+    requires there { IsInodeOf caller.now.geometry (S.state s.old).sectors inode.now }
+    requires has { (b : Body) × HasBody caller.now.geometry.version (S.state s.old).sectors inode.now b }
+    ensures found { IfOk result (λ acl. (b : Body) → HasBody caller.now.geometry.version (S.state s.old).sectors inode.now b
         → acl ≡ default_in b) }
     ensures same { IsUnchanged (S.state s.old) (S.state s.new) }
     ensures interrupts { IfErr result (Interrupts (S.state s.old).disk (S.state s.new).disk) }
@@ -96,10 +96,10 @@ fn shown_acl<S: Sectors>(
     inode: &Inode,
     which: AclType,
 ) -> Result<Option<Acl>, Refusal>
-    requires sound { IsSound caller.now.place (S.state s.old) }
-    requires there { IsInodeOf caller.now.place (S.state s.old).sectors inode.now }
-    requires has { (b : Body) × HasBody caller.now.place.version (S.state s.old).sectors inode.now b }
-    ensures found { IfOk result (λ acl. (b : Body) → HasBody caller.now.place.version (S.state s.old).sectors inode.now b
+    requires sound { IsSound caller.now.geometry (S.state s.old) }
+    requires there { IsInodeOf caller.now.geometry (S.state s.old).sectors inode.now }
+    requires has { (b : Body) × HasBody caller.now.geometry.version (S.state s.old).sectors inode.now b }
+    ensures found { IfOk result (λ acl. (b : Body) → HasBody caller.now.geometry.version (S.state s.old).sectors inode.now b
         → acl ≡ acl_shown which b) }
     ensures same { IsUnchanged (S.state s.old) (S.state s.new) }
     ensures interrupts { IfErr result (Interrupts (S.state s.old).disk (S.state s.new).disk) }
@@ -160,39 +160,39 @@ fn takes_sector(which: AclType, acl: Option<&Acl>) -> bool
 // Asks for free data sectors, where the ACL that is given needs one. ENOSPC: fewer than 16 are free.
 fn ask_for_space<S: Sectors>(
     s: &mut S,
-    place: Place,
+    geometry: Geometry,
     which: AclType,
     acl: Option<&Acl>,
 ) -> Result<(), Refusal>
-    requires { HasBitmaps place (S.state s.old) }
+    requires { HasBitmaps geometry (S.state s.old) }
     ensures each { IsAnswered (S.state s.old).disk (S.state s.new).disk (refused_or
-        (first_of (acl_space_asked which (option_copied acl.entry) (free_sectors place (S.state s.old).sectors))) (Ok tt)) result }
+        (first_of (acl_space_asked which (option_copied acl.entry) (free_sectors geometry (S.state s.old).sectors))) (Ok tt)) result }
     ensures same { IsUnchanged (S.state s.old) (S.state s.new) }
 {
     if !takes_sector(which, acl) {
         return Ok(());
     }
-    ask_for_sectors(s, place)?;
+    ask_for_sectors(s, geometry)?;
     Ok(())
 }
 
 // Gives inode n this default ACL, for which there is space, or none. EIO: the disk has failed.
 fn give_default_acl<S: Sectors>(
     s: &mut S,
-    place: Place,
+    geometry: Geometry,
     n: u32,
     inode: &Inode,
     acl: Option<&Acl>,
 ) -> Result<(), Refusal>
-    requires loaded { IsUsedInode place (S.state s.old) n inode.now }
-    requires spare { HasSpare place 2 (S.state s.old) }
-    requires room { acl_takes inode.now.default_acl (option_copied acl) ≤ free_sectors place (S.state s.old).sectors }
-    ensures given { OnOk result (SavesDefaultAcl place n (option_copied acl.entry) (S.state s.old).sectors (S.state s.new).sectors) }
-    ensures taken { OnOk result (TakesSpare place 2 (S.state s.old) (S.state s.new)) }
+    requires loaded { IsUsedInode geometry (S.state s.old) n inode.now }
+    requires spare { HasSpare geometry 2 (S.state s.old) }
+    requires room { acl_takes inode.now.default_acl (option_copied acl) ≤ free_sectors geometry (S.state s.old).sectors }
+    ensures given { OnOk result (SavesDefaultAcl geometry n (option_copied acl.entry) (S.state s.old).sectors (S.state s.new).sectors) }
+    ensures taken { OnOk result (TakesSpare geometry 2 (S.state s.old) (S.state s.new)) }
     ensures store { SameStore (S.state s.old) (S.state s.new) }
     ensures interrupts { IfErr result (Interrupts (S.state s.old).disk (S.state s.new).disk) }
 {
-    match save_default_acl(s, place, n, inode, acl) {
+    match save_default_acl(s, geometry, n, inode, acl) {
         Ok(()) => Ok(()),
         Err(_) => Err(Refusal::Failed(Errno::EIO)),
     }
@@ -201,27 +201,27 @@ fn give_default_acl<S: Sectors>(
 // Gives inode n, a file or a directory, this ACL, for which there is space, or removes its default ACL.
 fn replace_acl<S: Sectors>(
     s: &mut S,
-    place: Place,
+    geometry: Geometry,
     n: u32,
     inode: &Inode,
     which: AclType,
     acl: Option<&Acl>,
 ) -> Result<(), Refusal>
-    requires loaded { IsUsedInode place (S.state s.old) n inode.now }
+    requires loaded { IsUsedInode geometry (S.state s.old) n inode.now }
     requires no_link { inode.now.kind ≢ Kind.Link }
-    requires spare { HasSpare place 2 (S.state s.old) }
-    requires space { first_of (acl_space_asked which (option_copied acl) (free_sectors place (S.state s.old).sectors)) ≡ None }
+    requires spare { HasSpare geometry 2 (S.state s.old) }
+    requires space { first_of (acl_space_asked which (option_copied acl) (free_sectors geometry (S.state s.old).sectors)) ≡ None }
     ensures access { OnOk result (which ≡ AclType.Access → (a : AccessList) → option_copied acl.entry ≡ Some a
-        → SavesAcl place n inode.now.mode a (S.state s.old).sectors (S.state s.new).sectors) }
+        → SavesAcl geometry n inode.now.mode a (S.state s.old).sectors (S.state s.new).sectors) }
     ensures default { OnOk result (which ≡ AclType.Default
-        → SavesDefaultAcl place n (option_copied acl.entry) (S.state s.old).sectors (S.state s.new).sectors) }
-    ensures taken { OnOk result (TakesSpare place 2 (S.state s.old) (S.state s.new)) }
+        → SavesDefaultAcl geometry n (option_copied acl.entry) (S.state s.old).sectors (S.state s.new).sectors) }
+    ensures taken { OnOk result (TakesSpare geometry 2 (S.state s.old) (S.state s.new)) }
     ensures store { SameStore (S.state s.old) (S.state s.new) }
     ensures interrupts { IfErr result (Interrupts (S.state s.old).disk (S.state s.new).disk) }
 {
     match (which, acl) {
-        (AclType::Access, Some(acl)) => give_acl(s, place, n, inode, acl),
-        _ => give_default_acl(s, place, n, inode, acl),
+        (AclType::Access, Some(acl)) => give_acl(s, geometry, n, inode, acl),
+        _ => give_default_acl(s, geometry, n, inode, acl),
     }
 }
 
@@ -243,9 +243,9 @@ pub fn set_acl<S: Sectors>(
     let reached = reach_owned(s, caller, checks, path, Form::Follow)?;
     let inode = reached.inode;
     check_holder(which, inode.kind)?;
-    ask_for_space(s, caller.place, which, acl)?;
+    ask_for_space(s, caller.geometry, which, acl)?;
     let n = reached.number;
-    replace_acl(s, caller.place, n, &inode, which, acl)?;
-    touch(s, caller.place, caller.time, &[(n, Touch::Changed)])?;
+    replace_acl(s, caller.geometry, n, &inode, which, acl)?;
+    touch(s, caller.geometry, caller.time, &[(n, Touch::Changed)])?;
     Ok(Reply::Done)
 }

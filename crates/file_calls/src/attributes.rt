@@ -16,7 +16,7 @@ use call_parts::{CallResult, Caller, allowed_by, check_mode, reach, reach_owned,
 use fs_cred::{
     Cred, Errno, Need, Refusal, keeps_set_group_id, may_chgrp, may_chown, owns_or_may_chown,
 };
-use fs_layout::{Inode, Kind, Place, S_ISGID, S_ISVTX};
+use fs_layout::{Geometry, Inode, Kind, S_ISGID, S_ISVTX};
 use fs_model::{Form, Path, Reply, Touch};
 use inode_table::save;
 use sector_txn::Sectors;
@@ -34,21 +34,21 @@ fn check_owner(cred: &Cred, inode: &Inode, uid: u32, gid: u32, step: usize) -> R
 // Gives inode n this owner and group.
 fn give_owner<S: Sectors>(
     s: &mut S,
-    place: Place,
+    geometry: Geometry,
     n: u32,
     inode: &Inode,
     uid: u32,
     gid: u32,
 ) -> Result<(), Refusal>
-    requires loaded { IsUsedInode place (S.state s.old) n inode.now }
-    requires spare { HasSpare place 1 (S.state s.old) }
-    ensures given { OnOk result (GivesOwner place n uid gid (S.state s.old).sectors (S.state s.new).sectors) }
-    ensures taken { OnOk result (TakesSpare place 1 (S.state s.old) (S.state s.new)) }
+    requires loaded { IsUsedInode geometry (S.state s.old) n inode.now }
+    requires spare { HasSpare geometry 1 (S.state s.old) }
+    ensures given { OnOk result (GivesOwner geometry n uid gid (S.state s.old).sectors (S.state s.new).sectors) }
+    ensures taken { OnOk result (TakesSpare geometry 1 (S.state s.old) (S.state s.new)) }
     ensures store { SameStore (S.state s.old) (S.state s.new) }
     ensures interrupts { IfErr result (Interrupts (S.state s.old).disk (S.state s.new).disk) }
 {
     let given = Inode { uid, gid, ..*inode };
-    match save(s, place, n, &given) {
+    match save(s, geometry, n, &given) {
         Ok(()) => Ok(()),
         Err(_) => Err(Refusal::Failed(Errno::EIO)),
     }
@@ -78,14 +78,14 @@ fn give_mode<S: Sectors>(
     inode: &Inode,
     mode: u16,
 ) -> Result<(), Refusal>
-    requires loaded { IsUsedInode caller.now.place (S.state s.old) n inode.now }
+    requires loaded { IsUsedInode caller.now.geometry (S.state s.old) n inode.now }
     requires has { (a : AccessList) × HasAcl (S.state s.old).sectors inode.now a }
     requires no_link { inode.now.kind ≢ Kind.Link }
-    requires spare { HasSpare caller.now.place 2 (S.state s.old) }
+    requires spare { HasSpare caller.now.geometry 2 (S.state s.old) }
     ensures given { OnOk result ((a : AccessList) → HasAcl (S.state s.old).sectors inode.now a
-        → SavesAcl caller.now.place n (special_mode cred.now inode.now.kind inode.now.gid mode) (with_mode_bits a mode)
+        → SavesAcl caller.now.geometry n (special_mode cred.now inode.now.kind inode.now.gid mode) (with_mode_bits a mode)
         (S.state s.old).sectors (S.state s.new).sectors) }
-    ensures taken { OnOk result (TakesSpare caller.now.place 2 (S.state s.old) (S.state s.new)) }
+    ensures taken { OnOk result (TakesSpare caller.now.geometry 2 (S.state s.old) (S.state s.new)) }
     ensures store { SameStore (S.state s.old) (S.state s.new) }
     ensures interrupts { IfErr result (Interrupts (S.state s.old).disk (S.state s.new).disk) }
 {
@@ -95,7 +95,7 @@ fn give_mode<S: Sectors>(
         mode: special_bits(cred, inode, mode),
         ..*inode
     };
-    give_acl(s, caller.place, n, &moded, &acl)?;
+    give_acl(s, caller.geometry, n, &moded, &acl)?;
     Ok(())
 }
 
@@ -112,7 +112,7 @@ pub fn chmod<S: Sectors>(s: &mut S, caller: &Caller, path: &Path, mode: u16) -> 
     let cred = reached.process.cred();
     let n = reached.number;
     give_mode(s, caller, cred, n, &reached.inode, mode)?;
-    touch(s, caller.place, caller.time, &[(n, Touch::Changed)])?;
+    touch(s, caller.geometry, caller.time, &[(n, Touch::Changed)])?;
     Ok(Reply::Done)
 }
 
@@ -137,7 +137,7 @@ pub fn chown<S: Sectors>(
     let gid = group.unwrap_or(inode.gid);
     check_owner(cred, &inode, uid, gid, reached.found.step)?;
     let number = reached.number;
-    give_owner(s, caller.place, number, &inode, uid, gid)?;
-    touch(s, caller.place, caller.time, &[(number, Touch::Changed)])?;
+    give_owner(s, caller.geometry, number, &inode, uid, gid)?;
+    touch(s, caller.geometry, caller.time, &[(number, Touch::Changed)])?;
     Ok(Reply::Done)
 }

@@ -10,12 +10,12 @@ ghost use Rattle.fs_model.specs.Stands.{HoldsAll, placed};
 ghost use Rattle.fs_model.specs.States.{State};
 ghost use Rattle.open_files.specs.Tables.{open_in};
 ghost use Rattle.path_walk.specs.Words.{SameStore, IsNumber, IsSound, HasSpare, FailsToRead};
-ghost use Rattle.call_parts.specs.Performing.{IsReady, IsStateOf};
+ghost use Rattle.call_parts.specs.Performing.{MayPerform, IsStateOf};
 ghost use Rattle.file_calls.specs.Exiting.{Exits, LeavesAt};
 
 use call_parts::leave;
 use fs_cred::Refusal;
-use fs_layout::Place;
+use fs_layout::Geometry;
 use open_files::{MAX_DESCRIPTORS, Procs};
 use sector_txn::Sectors;
 
@@ -23,17 +23,17 @@ use sector_txn::Sectors;
 // freed before. EIO: the disk has failed.
 fn leave_descriptor<S: Sectors>(
     s: &mut S,
-    place: Place,
+    geometry: Geometry,
     procs: &Procs,
     pid: usize,
     fd: usize,
 ) -> Result<(), Refusal>
-    requires sound { IsSound place (S.state s.old) }
+    requires sound { IsSound geometry (S.state s.old) }
     requires found { IsSome (get nat_cmp procs.now pid) }
-    requires number { (d : OpenFile) → open_in procs.now pid fd ≡ Ok d → IsNumber place Inodes d.number }
-    requires spare { HasSpare place 1 (S.state s.old) }
+    requires number { (d : OpenFile) → open_in procs.now pid fd ≡ Ok d → IsNumber geometry Inodes d.number }
+    requires spare { HasSpare geometry 1 (S.state s.old) }
     ensures store { SameStore (S.state s.old) (S.state s.new) }
-    ensures leaves { OnOk result (LeavesAt place procs.now pid fd (S.state s.old) (S.state s.new)) }
+    ensures leaves { OnOk result (LeavesAt geometry procs.now pid fd (S.state s.old) (S.state s.new)) }
     ensures fault { IfErr result (FailsToRead (S.state s.old).disk (S.state s.new).disk) }
 {
     let descriptor = match procs.get(pid, fd) {
@@ -42,24 +42,29 @@ fn leave_descriptor<S: Sectors>(
     };
     let n = descriptor.number;
     let stays_open = procs.is_open_by_others(pid, n);
-    leave(s, place, n, stays_open)?;
+    leave(s, geometry, n, stays_open)?;
     Ok(())
 }
 
 // Frees what a process that ends has open alone, and that has no name. EIO: the disk has failed.
-fn leave_all<S: Sectors>(s: &mut S, place: Place, procs: &Procs, pid: usize) -> Result<(), Refusal>
-    requires sound { IsSound place (S.state s.old) }
+fn leave_all<S: Sectors>(
+    s: &mut S,
+    geometry: Geometry,
+    procs: &Procs,
+    pid: usize,
+) -> Result<(), Refusal>
+    requires sound { IsSound geometry (S.state s.old) }
     requires found { IsSome (get nat_cmp procs.now pid) }
-    requires state { (st : State) × IsStateOf place (S.state s.old).sectors procs.now st }
-    requires spare { HasSpare place 47 (S.state s.old) }
+    requires state { (st : State) × IsStateOf geometry (S.state s.old).sectors procs.now st }
+    requires spare { HasSpare geometry 47 (S.state s.old) }
     ensures store { SameStore (S.state s.old) (S.state s.new) }
     ensures superblock { OnOk result ((S.state s.new).sectors 0 ≡ (S.state s.old).sectors 0) }
-    ensures left { OnOk result ((st : State) → IsStateOf place (S.state s.old).sectors procs.now st
-        → HoldsAll place (S.state s.new).sectors (placed (swept st.tree (without nat_cmp procs.now pid)))) }
+    ensures left { OnOk result ((st : State) → IsStateOf geometry (S.state s.old).sectors procs.now st
+        → HoldsAll geometry (S.state s.new).sectors (placed (swept st.tree (without nat_cmp procs.now pid)))) }
     ensures fault { IfErr result (FailsToRead (S.state s.old).disk (S.state s.new).disk) }
 {
     for fd in 0..MAX_DESCRIPTORS {
-        leave_descriptor(s, place, procs, pid, fd)?;
+        leave_descriptor(s, geometry, procs, pid, fd)?;
     }
     Ok(())
 }
@@ -69,15 +74,15 @@ fn leave_all<S: Sectors>(s: &mut S, place: Place, procs: &Procs, pid: usize) -> 
 /// ESRCH: there is no such process. EIO: the disk has failed.
 pub fn exit<S: Sectors>(
     s: &mut S,
-    place: Place,
+    geometry: Geometry,
     procs: &mut Procs,
     pid: usize,
 ) -> Result<(), Refusal>
-    requires ready { IsReady place (S.state s.old) procs.old }
-    ensures { Exits place pid (S.state s.old) (S.state s.new) procs.old procs.new result }
+    requires ready { MayPerform geometry (S.state s.old) procs.old }
+    ensures { Exits geometry pid (S.state s.old) (S.state s.new) procs.old procs.new result }
 {
     procs.process(pid)?;
-    leave_all(s, place, procs, pid)?;
+    leave_all(s, geometry, procs, pid)?;
     procs.exit(pid)?;
     Ok(())
 }

@@ -53,16 +53,16 @@ fn list_names<S: Sectors>(
     n: u32,
     inode: &Inode,
 ) -> Result<Listing, Refusal>
-    requires sound { IsSound caller.now.place (S.state s.old) }
-    requires there { IsInodeOf caller.now.place (S.state s.old).sectors inode.now }
-    requires directory { (names : List (List ℕ × ℕ)) × HasNames caller.now.place.version (S.state s.old).sectors inode.now names }
+    requires sound { IsSound caller.now.geometry (S.state s.old) }
+    requires there { IsInodeOf caller.now.geometry (S.state s.old).sectors inode.now }
+    requires directory { (names : List (List ℕ × ℕ)) × HasNames caller.now.geometry.version (S.state s.old).sectors inode.now names }
     ensures found { IfOk result (λ found. (names : List (List ℕ × ℕ))
-        → HasNames caller.now.place.version (S.state s.old).sectors inode.now names
+        → HasNames caller.now.geometry.version (S.state s.old).sectors inode.now names
         → found ≡ (codes ".", n) ∷ (codes "..", inode.now.parent) ∷ names) }
     ensures fault { IfErr result (λ e. Interrupts (S.state s.old).disk (S.state s.new).disk e) }
     ensures same { IsUnchanged (S.state s.old) (S.state s.new) }
 {
-    let slots = match list(caller.alloc, s, caller.place, inode) {
+    let slots = match list(caller.alloc, s, caller.geometry, inode) {
         Ok(slots) => slots,
         Err(DirFault::OutOfMemory) => return Err(Refusal::Failed(Errno::ENOMEM)),
         Err(_) => return Err(Refusal::Failed(Errno::EIO)),

@@ -14,7 +14,7 @@ ghost use Rattle.file_calls.specs.Openings.{FindsIn, IsRefusedOpen, Reaches};
 
 use call_parts::{Caller, check_make, default_of, inherited, name_inode, new_group, touch};
 use fs_cred::{Errno, Refusal};
-use fs_layout::{Inode, Kind, Place};
+use fs_layout::{Geometry, Inode, Kind};
 use fs_model::{Flags, Found, Touch};
 use inode_table::new_inode;
 use open_files::Process;
@@ -29,8 +29,8 @@ fn new_acl<S: Sectors>(
     mode: u16,
     umask: u16,
 ) -> Result<Acl, Refusal>
-    requires sound { IsSound caller.now.place (S.state s.old) }
-    requires there { IsInodeOf caller.now.place (S.state s.old).sectors directory.now }
+    requires sound { IsSound caller.now.geometry (S.state s.old) }
+    requires there { IsInodeOf caller.now.geometry (S.state s.old).sectors directory.now }
     requires has { (a : Option AccessList) × HasDefaultAcl (S.state s.old).sectors directory.now a }
     ensures born { IfOk result (λ acl. (a : Option AccessList) → HasDefaultAcl (S.state s.old).sectors directory.now a
         → acl ≡ born_acl a mode umask) }
@@ -45,7 +45,7 @@ fn new_acl<S: Sectors>(
 // Makes an empty file with this owner, group and ACL, and names it in directory dir. EIO: the disk has failed.
 fn make_file<S: Sectors>(
     s: &mut S,
-    place: Place,
+    geometry: Geometry,
     dir: u32,
     directory: Inode,
     name: &[u8],
@@ -53,14 +53,14 @@ fn make_file<S: Sectors>(
     gid: u32,
     acl: &Acl,
 ) -> Result<u32, Refusal>
-    requires sound { IsSound place (S.state s.old) }
-    requires directory { directory ≡ inode_at place (S.state s.old).sectors dir }
-    requires may { (t : Tree) × CanMake place (S.state s.old).sectors t dir name.now }
-    requires spare { HasSpare place 47 (S.state s.old) }
+    requires sound { IsSound geometry (S.state s.old) }
+    requires directory { directory ≡ inode_at geometry (S.state s.old).sectors dir }
+    requires may { (t : Tree) × CanMake geometry (S.state s.old).sectors t dir name.now }
+    requires spare { HasSpare geometry 47 (S.state s.old) }
     ensures store { SameStore (S.state s.old) (S.state s.new) }
-    ensures made { IfOk result (λ n. MakesNode place dir name.now n (file_made uid gid acl.now)
+    ensures made { IfOk result (λ n. MakesNode geometry dir name.now n (file_made uid gid acl.now)
         (S.state s.old).sectors (S.state s.new).sectors) }
-    ensures taken { OnOk result (TakesSpare place 7 (S.state s.old) (S.state s.new)) }
+    ensures taken { OnOk result (TakesSpare geometry 7 (S.state s.old) (S.state s.new)) }
     ensures err { IfErr result (FailsToRead (S.state s.old).disk (S.state s.new).disk) }
 {
     let file = Inode {
@@ -70,10 +70,10 @@ fn make_file<S: Sectors>(
         names: 1,
         ..Inode::FREE
     };
-    let Ok(n) = new_inode(s, place, &file, acl, None) else {
+    let Ok(n) = new_inode(s, geometry, &file, acl, None) else {
         return Err(Refusal::Failed(Errno::EIO));
     };
-    name_inode(s, place, dir, directory, name, n)?;
+    name_inode(s, geometry, dir, directory, name, n)?;
     Ok(n)
 }
 
@@ -96,14 +96,14 @@ pub(crate) fn open_new<S: Sectors>(
     flags: Flags,
     mode: u16,
 ) -> Result<u32, Refusal>
-    requires sound { IsSound caller.now.place (S.state s.old) }
-    requires spare { HasSpare caller.now.place 47 (S.state s.old) }
-    requires found { (st : State) × FindsIn caller.now.place (S.state s.old).sectors flags process.now found.now st }
+    requires sound { IsSound caller.now.geometry (S.state s.old) }
+    requires spare { HasSpare caller.now.geometry 47 (S.state s.old) }
+    requires found { (st : State) × FindsIn caller.now.geometry (S.state s.old).sectors flags process.now found.now st }
     requires none { found.now.ino ≡ None }
     ensures store { SameStore (S.state s.old) (S.state s.new) }
     ensures superblock { OnOk result ((S.state s.new).sectors 0 ≡ (S.state s.old).sectors 0) }
-    ensures each { (st : State) → FindsIn caller.now.place (S.state s.old).sectors flags process.now found.now st
-        → MatchResult result (λ m. Reaches caller.now.place caller.now.time (S.state s.new).sectors flags mode process.now found.now st m)
+    ensures each { (st : State) → FindsIn caller.now.geometry (S.state s.old).sectors flags process.now found.now st
+        → MatchResult result (λ m. Reaches caller.now.geometry caller.now.time (S.state s.new).sectors flags mode process.now found.now st m)
         (λ e. IsRefusedOpen (S.state s.old).disk (S.state s.new).disk flags process.now found.now st e) }
 {
     check_new(flags, found)?;
@@ -114,10 +114,19 @@ pub(crate) fn open_new<S: Sectors>(
     let gid = new_group(&directory, cred);
     let name = found.name.bytes();
     let uid = cred.uid();
-    let n = make_file(s, caller.place, found.dir, directory, name, uid, gid, &acl)?;
+    let n = make_file(
+        s,
+        caller.geometry,
+        found.dir,
+        directory,
+        name,
+        uid,
+        gid,
+        &acl,
+    )?;
     touch(
         s,
-        caller.place,
+        caller.geometry,
         caller.time,
         &[(found.dir, Touch::Modified), (n, Touch::Born)],
     )?;

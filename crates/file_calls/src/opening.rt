@@ -10,14 +10,14 @@ ghost use Rattle.fs_model.specs.Trees.{Tree};
 ghost use Rattle.fs_model.specs.declared.call.Call.TheVariants.{Open};
 ghost use Rattle.path_walk.specs.Words.{inode_at, SameStore, IsUnchanged, IsSound, HasSpare, refused_or, IsAnswered};
 ghost use Rattle.path_walk.specs.HeldTrees.{HoldsTree, IsThere};
-ghost use Rattle.call_parts.specs.Performing.{IsReady, Performs};
+ghost use Rattle.call_parts.specs.Performing.{MayPerform, Performs};
 ghost use Rattle.file_calls.specs.Openings.{open_asked, open_kind_asked, found_asked, FindsIn, IsRefusedOpen, Reaches};
 
 use crate::making::open_new;
 use crate::sizes::give_size;
 use call_parts::{CallResult, Caller, permitted, touch};
 use fs_cred::{Cred, Errno, Refusal};
-use fs_layout::{Inode, Kind, Place};
+use fs_layout::{Geometry, Inode, Kind};
 use fs_model::{Flags, Form, Found, Path, Reply, Touch};
 use open_files::{Descriptor, Process, Procs};
 use path_walk::{check_path, ends_with_slash, load_inode, walk};
@@ -112,15 +112,15 @@ fn check_found<S: Sectors>(
     step: usize,
     flags: Flags,
 ) -> Result<Inode, Refusal>
-    requires sound { IsSound caller.now.place (S.state s.old) }
-    requires there { (t : Tree) × HoldsTree caller.now.place (S.state s.old).sectors t × IsThere t n }
-    ensures each { (t : Tree) → HoldsTree caller.now.place (S.state s.old).sectors t → IsThere t n
+    requires sound { IsSound caller.now.geometry (S.state s.old) }
+    requires there { (t : Tree) × HoldsTree caller.now.geometry (S.state s.old).sectors t × IsThere t n }
+    ensures each { (t : Tree) → HoldsTree caller.now.geometry (S.state s.old).sectors t → IsThere t n
         → IsAnswered (S.state s.old).disk (S.state s.new).disk
         (refused_or (first_of (found_asked flags cred.now t n step))
-        (Ok (inode_at caller.now.place (S.state s.old).sectors n))) result }
+        (Ok (inode_at caller.now.geometry (S.state s.old).sectors n))) result }
     ensures same { IsUnchanged (S.state s.old) (S.state s.new) }
 {
-    let inode = load_inode(s, caller.place, n)?;
+    let inode = load_inode(s, caller.geometry, n)?;
     check_kind(flags, inode.kind)?;
     permitted(s, caller, cred, &inode, wanted(flags), 1, step)?;
     Ok(inode)
@@ -142,14 +142,14 @@ fn open_old<S: Sectors>(
     n: u32,
     flags: Flags,
 ) -> Result<u32, Refusal>
-    requires sound { IsSound caller.now.place (S.state s.old) }
-    requires spare { HasSpare caller.now.place 47 (S.state s.old) }
-    requires found { (st : State) × FindsIn caller.now.place (S.state s.old).sectors flags process.now found.now st }
+    requires sound { IsSound caller.now.geometry (S.state s.old) }
+    requires spare { HasSpare caller.now.geometry 47 (S.state s.old) }
+    requires found { (st : State) × FindsIn caller.now.geometry (S.state s.old).sectors flags process.now found.now st }
     requires some { found.now.ino ≡ Some n }
     ensures store { SameStore (S.state s.old) (S.state s.new) }
     ensures superblock { OnOk result ((S.state s.new).sectors 0 ≡ (S.state s.old).sectors 0) }
-    ensures each { (mode : ℕ) (st : State) → FindsIn caller.now.place (S.state s.old).sectors flags process.now found.now st
-        → MatchResult result (λ m. Reaches caller.now.place caller.now.time (S.state s.new).sectors flags mode process.now found.now st m)
+    ensures each { (mode : ℕ) (st : State) → FindsIn caller.now.geometry (S.state s.old).sectors flags process.now found.now st
+        → MatchResult result (λ m. Reaches caller.now.geometry caller.now.time (S.state s.new).sectors flags mode process.now found.now st m)
         (λ e. IsRefusedOpen (S.state s.old).disk (S.state s.new).disk flags process.now found.now st e) }
 {
     let inode = check_found(s, caller, process.cred(), n, found.step, flags)?;
@@ -157,8 +157,8 @@ fn open_old<S: Sectors>(
     if !cuts {
         return Ok(n);
     }
-    give_size(s, caller.place, n, inode, 0)?;
-    touch(s, caller.place, caller.time, &[(n, Touch::Modified)])?;
+    give_size(s, caller.geometry, n, inode, 0)?;
+    touch(s, caller.geometry, caller.time, &[(n, Touch::Modified)])?;
     Ok(n)
 }
 
@@ -171,13 +171,13 @@ fn open_inode<S: Sectors>(
     flags: Flags,
     mode: u16,
 ) -> Result<u32, Refusal>
-    requires sound { IsSound caller.now.place (S.state s.old) }
-    requires spare { HasSpare caller.now.place 47 (S.state s.old) }
-    requires found { (st : State) × FindsIn caller.now.place (S.state s.old).sectors flags process.now found.now st }
+    requires sound { IsSound caller.now.geometry (S.state s.old) }
+    requires spare { HasSpare caller.now.geometry 47 (S.state s.old) }
+    requires found { (st : State) × FindsIn caller.now.geometry (S.state s.old).sectors flags process.now found.now st }
     ensures store { SameStore (S.state s.old) (S.state s.new) }
     ensures superblock { OnOk result ((S.state s.new).sectors 0 ≡ (S.state s.old).sectors 0) }
-    ensures each { (st : State) → FindsIn caller.now.place (S.state s.old).sectors flags process.now found.now st
-        → MatchResult result (λ m. Reaches caller.now.place caller.now.time (S.state s.new).sectors flags mode process.now found.now st m)
+    ensures each { (st : State) → FindsIn caller.now.geometry (S.state s.old).sectors flags process.now found.now st
+        → MatchResult result (λ m. Reaches caller.now.geometry caller.now.time (S.state s.new).sectors flags mode process.now found.now st m)
         (λ e. IsRefusedOpen (S.state s.old).disk (S.state s.new).disk flags process.now found.now st e) }
 {
     match found.ino {
@@ -195,7 +195,7 @@ fn open_inode<S: Sectors>(
 pub fn open<S: Sectors>(
     alloc: Global,
     s: &mut S,
-    place: Place,
+    geometry: Geometry,
     now: u64,
     procs: &mut Procs,
     pid: usize,
@@ -203,12 +203,12 @@ pub fn open<S: Sectors>(
     flags: Flags,
     mode: u16,
 ) -> CallResult
-    requires ready { IsReady place (S.state s.old) procs.old }
-    ensures { Performs place now pid (Open path.now flags mode) (S.state s.old) (S.state s.new) procs.old procs.new result }
+    requires ready { MayPerform geometry (S.state s.old) procs.old }
+    ensures { Performs geometry now pid (Open path.now flags mode) (S.state s.old) (S.state s.new) procs.old procs.new result }
 {
     let caller = Caller {
         alloc,
-        place,
+        geometry,
         time: now,
         procs,
         pid,
@@ -219,7 +219,7 @@ pub fn open<S: Sectors>(
     let form = form_of(flags);
     let cred = process.cred();
     let cwd = process.cwd();
-    let found = walk(alloc, s, place, cred, cwd, path, form, 1)?;
+    let found = walk(alloc, s, geometry, cred, cwd, path, form, 1)?;
     let n = open_inode(s, &caller, process, &found, flags, mode)?;
     let descriptor = Descriptor {
         number: n,

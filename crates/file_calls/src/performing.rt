@@ -1,7 +1,7 @@
 //! The calls on files, handed to their functions.
 
 ghost use Rattle.std.specs.Prelude.{◌≡◌, MatchOption, IsTrue};
-ghost use Rattle.call_parts.specs.Performing.{IsReady, Performs, is_on_names};
+ghost use Rattle.call_parts.specs.Performing.{MayPerform, Performs, is_on_names};
 
 use crate::acls::{get_acl, set_acl};
 use crate::attributes::{chmod, chown};
@@ -14,7 +14,7 @@ use crate::sizes::{ftruncate, truncate};
 use crate::transfer::{lseek, read};
 use crate::writes::write;
 use call_parts::{CallResult, Caller};
-use fs_layout::Place;
+use fs_layout::Geometry;
 use fs_model::Call;
 use open_files::Procs;
 use sector_txn::Sectors;
@@ -24,33 +24,33 @@ use std::alloc::Global;
 pub fn perform<S: Sectors>(
     alloc: Global,
     s: &mut S,
-    place: Place,
+    geometry: Geometry,
     now: u64,
     procs: &mut Procs,
     pid: usize,
     call: &Call,
 ) -> Option<CallResult>
-    requires ready { IsReady place (S.state s.old) procs.old }
+    requires ready { MayPerform geometry (S.state s.old) procs.old }
     ensures { MatchOption result (IsTrue (is_on_names call.now) × (s.new ≡ s.old) × (procs.new ≡ procs.old))
-        (λ r. Performs place now pid call.now (S.state s.old) (S.state s.new) procs.old procs.new r) }
+        (λ r. Performs geometry now pid call.now (S.state s.old) (S.state s.new) procs.old procs.new r) }
 {
     let caller = Caller {
         alloc,
-        place,
+        geometry,
         time: now,
         procs,
         pid,
     };
     match call {
         Call::Open(path, flags, mode) => Some(open(
-            alloc, s, place, now, procs, pid, path, *flags, *mode,
+            alloc, s, geometry, now, procs, pid, path, *flags, *mode,
         )),
-        Call::Read { fd, len } => Some(read(alloc, s, place, now, procs, pid, *fd, *len)),
-        Call::Write(fd, bytes) => Some(write(s, place, now, procs, pid, *fd, bytes)),
+        Call::Read { fd, len } => Some(read(alloc, s, geometry, now, procs, pid, *fd, *len)),
+        Call::Write(fd, bytes) => Some(write(s, geometry, now, procs, pid, *fd, bytes)),
         Call::Lseek(fd, whence, by) => Some(lseek(
-            alloc, s, place, now, procs, pid, *fd, *whence, *by,
+            alloc, s, geometry, now, procs, pid, *fd, *whence, *by,
         )),
-        Call::Close(fd) => Some(close(s, place, procs, pid, *fd)),
+        Call::Close(fd) => Some(close(s, geometry, procs, pid, *fd)),
         Call::Fstat(fd) => Some(fstat(s, &caller, *fd)),
         Call::Ftruncate(fd, size) => Some(ftruncate(s, &caller, *fd, *size)),
         Call::Readdir(fd) => Some(readdir(s, &caller, *fd)),

@@ -2,11 +2,11 @@
 
 ghost use Rattle.std.specs.Prelude.{ℕ};
 ghost use Rattle.fs_model.specs.declared.call.Call.TheVariants.{Umask, Close};
-ghost use Rattle.call_parts.specs.Performing.{IsReady, Performs};
+ghost use Rattle.call_parts.specs.Performing.{MayPerform, Performs};
 ghost use Rattle.file_calls.specs.Settling.{Settles};
 
 use call_parts::{CallResult, OpenFor, find_open, leave};
-use fs_layout::Place;
+use fs_layout::Geometry;
 use fs_model::Reply;
 use open_files::Procs;
 use sector_txn::Sectors;
@@ -24,18 +24,18 @@ pub fn umask(procs: &mut Procs, pid: usize, mask: u16) -> CallResult
 /// EBADF: it isn't open.
 pub fn close<S: Sectors>(
     s: &mut S,
-    place: Place,
+    geometry: Geometry,
     procs: &mut Procs,
     pid: usize,
     fd: usize,
 ) -> CallResult
-    requires ready { IsReady place (S.state s.old) procs.old }
-    ensures { (time : ℕ) → Performs place time pid (Close fd) (S.state s.old) (S.state s.new) procs.old procs.new result }
+    requires ready { MayPerform geometry (S.state s.old) procs.old }
+    ensures { (time : ℕ) → Performs geometry time pid (Close fd) (S.state s.old) (S.state s.new) procs.old procs.new result }
 {
     let descriptor = find_open(procs, pid, fd, OpenFor::Anything)?;
     let n = descriptor.number;
     let stays_open = procs.is_open_besides(pid, fd, n);
-    leave(s, place, n, stays_open)?;
+    leave(s, geometry, n, stays_open)?;
     procs.close(pid, fd);
     Ok(Reply::Done)
 }

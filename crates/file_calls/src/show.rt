@@ -62,7 +62,7 @@ fn show_path<S: Sectors>(s: &mut S, caller: &Caller, path: &Path, form: Form) ->
     ensures same { IsUnchanged (S.state s.old) (S.state s.new) }
 {
     let reached = reach(s, caller, Ok(()), path, form)?;
-    let version = caller.place.version;
+    let version = caller.geometry.version;
     Ok(Reply::Shown(status(version, reached.number, &reached.inode)))
 }
 
@@ -91,6 +91,6 @@ pub fn fstat<S: Sectors>(s: &mut S, caller: &Caller, fd: usize) -> CallResult
     ensures same { IsUnchanged (S.state s.old) (S.state s.new) }
 {
     let (descriptor, inode) = reach_open(s, caller, fd, OpenFor::Anything)?;
-    let version = caller.place.version;
+    let version = caller.geometry.version;
     Ok(Reply::Shown(status(version, descriptor.number, &inode)))
 }

@@ -16,7 +16,7 @@ use call_parts::{
     CallResult, Caller, OpenFor, check_no_directory, permitted, reach, reach_open, refuse_if, touch,
 };
 use fs_cred::{Errno, Refusal};
-use fs_layout::{Inode, Kind, Place};
+use fs_layout::{Geometry, Inode, Kind};
 use fs_model::{Form, Path, Reply, Touch};
 use posix_acl::Perms;
 use sector_txn::Sectors;
@@ -28,33 +28,33 @@ const WRITE: Perms = Perms {
 };
 
 // Refuses a size that no file on this disk has.
-fn check_size(place: Place, size: u64) -> Result<(), Refusal>
-    ensures { result ≡ refused_or (refuse EFBIG (nat_lt (max_file_size place.version) size)) (Ok tt) }
+fn check_size(geometry: Geometry, size: u64) -> Result<(), Refusal>
+    ensures { result ≡ refused_or (refuse EFBIG (nat_lt (max_file_size geometry.version) size)) (Ok tt) }
 {
-    refuse_if(Errno::EFBIG, size > place.max_file_size())
+    refuse_if(Errno::EFBIG, size > geometry.max_file_size())
 }
 
 /// Cuts inode n, a file, to this size, or fills it up with zeros.
 pub(crate) fn give_size<S: Sectors>(
     s: &mut S,
-    place: Place,
+    geometry: Geometry,
     n: u32,
     inode: Inode,
     size: u64,
 ) -> Result<(), Refusal>
-    requires sound { IsSound place (S.state s.old) }
-    requires below { n < place.inodes }
-    requires inode { inode ≡ inode_at place (S.state s.old).sectors n }
+    requires sound { IsSound geometry (S.state s.old) }
+    requires below { n < geometry.inodes }
+    requires inode { inode ≡ inode_at geometry (S.state s.old).sectors n }
     requires file { inode.kind ≡ Kind.File }
-    requires fits { size ≤ max_file_size place.version }
-    requires spare { HasSpare place 5 (S.state s.old) }
-    ensures change { OnOk result (ChangesBytes place n (S.state s.old) (S.state s.new) (λ held. resized held size)) }
-    ensures taken { OnOk result (TakesSpare place 5 (S.state s.old) (S.state s.new)) }
+    requires fits { size ≤ max_file_size geometry.version }
+    requires spare { HasSpare geometry 5 (S.state s.old) }
+    ensures change { OnOk result (ChangesBytes geometry n (S.state s.old) (S.state s.new) (λ held. resized held size)) }
+    ensures taken { OnOk result (TakesSpare geometry 5 (S.state s.old) (S.state s.new)) }
     ensures store { SameStore (S.state s.old) (S.state s.new) }
     ensures fault { IfErr result (FailsToRead (S.state s.old).disk (S.state s.new).disk) }
 {
     let mut inode = inode;
-    match set_size(s, place, n, &mut inode, size) {
+    match set_size(s, geometry, n, &mut inode, size) {
         Ok(()) => Ok(()),
         Err(_) => Err(Refusal::Failed(Errno::EIO)),
     }
@@ -73,10 +73,10 @@ pub fn truncate<S: Sectors>(s: &mut S, caller: &Caller, path: &Path, size: u64) 
     let cred = reached.process.cred();
     let step = reached.found.step;
     permitted(s, caller, cred, &inode, WRITE, 1, step)?;
-    check_size(caller.place, size)?;
+    check_size(caller.geometry, size)?;
     let n = reached.number;
-    give_size(s, caller.place, n, inode, size)?;
-    touch(s, caller.place, caller.time, &[(n, Touch::Modified)])?;
+    give_size(s, caller.geometry, n, inode, size)?;
+    touch(s, caller.geometry, caller.time, &[(n, Touch::Modified)])?;
     Ok(Reply::Done)
 }
 
@@ -88,9 +88,9 @@ pub fn ftruncate<S: Sectors>(s: &mut S, caller: &Caller, fd: usize, size: u64) -
     ensures { PerformsFor caller.now (Ftruncate fd size) (S.state s.old) (S.state s.new) result }
 {
     let (descriptor, inode) = reach_open(s, caller, fd, OpenFor::Writing)?;
-    check_size(caller.place, size)?;
+    check_size(caller.geometry, size)?;
     let n = descriptor.number;
-    give_size(s, caller.place, n, inode, size)?;
-    touch(s, caller.place, caller.time, &[(n, Touch::Modified)])?;
+    give_size(s, caller.geometry, n, inode, size)?;
+    touch(s, caller.geometry, caller.time, &[(n, Touch::Modified)])?;
     Ok(Reply::Done)
 }

@@ -6,12 +6,12 @@ ghost use Rattle.fs_model.specs.DescriptorCalls.{seekable};
 ghost use Rattle.fs_model.specs.Limits.{move_limit};
 ghost use Rattle.block_map.specs.Blocks.{IsWithin};
 ghost use Rattle.path_walk.specs.Words.{Holds, IsUnchanged, Interrupts};
-ghost use Rattle.call_parts.specs.Performing.{IsReady, Performs};
+ghost use Rattle.call_parts.specs.Performing.{MayPerform, Performs};
 
 use block_map::read_at;
 use call_parts::{CallResult, Caller, OpenFor, check_no_directory, reach_open};
 use fs_cred::{Errno, Refusal};
-use fs_layout::{Inode, Place};
+use fs_layout::{Geometry, Inode};
 use fs_model::{Bytes, Reply, Whence};
 use open_files::Procs;
 use sector_txn::Sectors;
@@ -56,20 +56,20 @@ fn read_bytes<S: Sectors>(
 pub fn read<S: Sectors>(
     alloc: Global,
     s: &mut S,
-    place: Place,
+    geometry: Geometry,
     now: u64,
     procs: &mut Procs,
     pid: usize,
     fd: usize,
     len: usize,
 ) -> CallResult
-    requires ready { IsReady place (S.state s.old) procs.old }
-    ensures performs { Performs place now pid (Read fd len) (S.state s.old) (S.state s.new) procs.old procs.new result }
+    requires ready { MayPerform geometry (S.state s.old) procs.old }
+    ensures performs { Performs geometry now pid (Read fd len) (S.state s.old) (S.state s.new) procs.old procs.new result }
     ensures same { IsUnchanged (S.state s.old) (S.state s.new) }
 {
     let caller = Caller {
         alloc,
-        place,
+        geometry,
         time: now,
         procs,
         pid,
@@ -114,7 +114,7 @@ fn moved(base: u64, by: i64) -> Option<u64>
 pub fn lseek<S: Sectors>(
     alloc: Global,
     s: &mut S,
-    place: Place,
+    geometry: Geometry,
     now: u64,
     procs: &mut Procs,
     pid: usize,
@@ -122,13 +122,13 @@ pub fn lseek<S: Sectors>(
     whence: Whence,
     by: i64,
 ) -> CallResult
-    requires ready { IsReady place (S.state s.old) procs.old }
-    ensures performs { Performs place now pid (Lseek fd whence by) (S.state s.old) (S.state s.new) procs.old procs.new result }
+    requires ready { MayPerform geometry (S.state s.old) procs.old }
+    ensures performs { Performs geometry now pid (Lseek fd whence by) (S.state s.old) (S.state s.new) procs.old procs.new result }
     ensures same { IsUnchanged (S.state s.old) (S.state s.new) }
 {
     let caller = Caller {
         alloc,
-        place,
+        geometry,
         time: now,
         procs,
         pid,

@@ -8,52 +8,52 @@ ghost use Rattle.fs_model.specs.Limits.{least_free, move_limit};
 ghost use Rattle.fs_model.specs.declared.call.Call.TheVariants.{Write};
 ghost use Rattle.path_walk.specs.Words.{inode_at, free_sectors, SameStore, IsSound, HasSpare, FailsToRead};
 ghost use Rattle.bit_alloc.specs.Room.{TakesSpare};
-ghost use Rattle.call_parts.specs.Performing.{IsReady, Performs};
+ghost use Rattle.call_parts.specs.Performing.{MayPerform, Performs};
 ghost use Rattle.call_parts.specs.ByteChanges.{ChangesBytes};
 
 use crate::transfer::MAX_MOVE;
 use block_map::write_at;
 use call_parts::{CallResult, OpenFor, ask_for_sectors, find_open, touch};
 use fs_cred::{Errno, Refusal};
-use fs_layout::{Inode, Place};
+use fs_layout::{Geometry, Inode};
 use fs_model::{Bytes, Reply, Touch};
 use open_files::{Descriptor, Procs};
 use path_walk::load_inode;
 use sector_txn::Sectors;
 
 // How many of so many bytes are written at an offset within the limit of a file.
-fn write_count(place: Place, len: usize, offset: u64) -> usize
-    requires { offset ≤ max_file_size place.version }
-    ensures { result ≡ min len (min move_limit (max_file_size place.version - offset)) }
+fn write_count(geometry: Geometry, len: usize, offset: u64) -> usize
+    requires { offset ≤ max_file_size geometry.version }
+    ensures { result ≡ min len (min move_limit (max_file_size geometry.version - offset)) }
 {
-    let left = (place.max_file_size() - offset) as usize;
+    let left = (geometry.max_file_size() - offset) as usize;
     len.min(MAX_MOVE.min(left))
 }
 
 // Writes bytes that fit into what inode n, a file, holds. EIO: the disk has failed.
 fn write_bytes<S: Sectors>(
     s: &mut S,
-    place: Place,
+    geometry: Geometry,
     n: u32,
     inode: Inode,
     offset: u64,
     bytes: &[u8],
 ) -> Result<(), Refusal>
-    requires sound { IsSound place (S.state s.old) }
-    requires below { n < place.inodes }
-    requires inode { inode ≡ inode_at place (S.state s.old).sectors n }
+    requires sound { IsSound geometry (S.state s.old) }
+    requires below { n < geometry.inodes }
+    requires inode { inode ≡ inode_at geometry (S.state s.old).sectors n }
     requires file { inode.kind ≡ File }
     requires few { length bytes.now ≤ move_limit }
-    requires fits { offset + length bytes.now ≤ max_file_size place.version }
-    requires space { least_free ≤ free_sectors place (S.state s.old).sectors }
-    requires spare { HasSpare place 47 (S.state s.old) }
+    requires fits { offset + length bytes.now ≤ max_file_size geometry.version }
+    requires space { least_free ≤ free_sectors geometry (S.state s.old).sectors }
+    requires spare { HasSpare geometry 47 (S.state s.old) }
     ensures store { SameStore (S.state s.old) (S.state s.new) }
-    ensures change { OnOk result (ChangesBytes place n (S.state s.old) (S.state s.new) (λ held. overwritten held offset bytes.now)) }
-    ensures taken { OnOk result (TakesSpare place 16 (S.state s.old) (S.state s.new)) }
+    ensures change { OnOk result (ChangesBytes geometry n (S.state s.old) (S.state s.new) (λ held. overwritten held offset bytes.now)) }
+    ensures taken { OnOk result (TakesSpare geometry 16 (S.state s.old) (S.state s.new)) }
     ensures err { IfErr result (FailsToRead (S.state s.old).disk (S.state s.new).disk) }
 {
     let mut inode = inode;
-    match write_at(s, place, n, &mut inode, offset, bytes) {
+    match write_at(s, geometry, n, &mut inode, offset, bytes) {
         Ok(()) => Ok(()),
         Err(_) => Err(Refusal::Failed(Errno::EIO)),
     }
@@ -77,15 +77,15 @@ fn write_offset(descriptor: Descriptor, inode: &Inode) -> u64
 /// never refused.
 pub fn write<S: Sectors>(
     s: &mut S,
-    place: Place,
+    geometry: Geometry,
     now: u64,
     procs: &mut Procs,
     pid: usize,
     fd: usize,
     bytes: &Bytes,
 ) -> CallResult
-    requires ready { IsReady place (S.state s.old) procs.old }
-    ensures { Performs place now pid (Write fd bytes.now) (S.state s.old) (S.state s.new) procs.old procs.new result }
+    requires ready { MayPerform geometry (S.state s.old) procs.old }
+    ensures { Performs geometry now pid (Write fd bytes.now) (S.state s.old) (S.state s.new) procs.old procs.new result }
 {
     let descriptor = find_open(procs, pid, fd, OpenFor::Writing)?;
     let bytes = bytes.bytes();
@@ -93,16 +93,16 @@ pub fn write<S: Sectors>(
         return Ok(Reply::Wrote(0));
     }
     let n = descriptor.number;
-    let inode = load_inode(s, place, n)?;
+    let inode = load_inode(s, geometry, n)?;
     let offset = write_offset(descriptor, &inode);
-    let limit = place.max_file_size();
+    let limit = geometry.max_file_size();
     if offset >= limit {
         return Err(Refusal::Failed(Errno::EFBIG));
     }
-    ask_for_sectors(s, place)?;
-    let count = write_count(place, bytes.len(), offset);
-    write_bytes(s, place, n, inode, offset, &bytes[..count])?;
-    touch(s, place, now, &[(n, Touch::Modified)])?;
+    ask_for_sectors(s, geometry)?;
+    let count = write_count(geometry, bytes.len(), offset);
+    write_bytes(s, geometry, n, inode, offset, &bytes[..count])?;
+    touch(s, geometry, now, &[(n, Touch::Modified)])?;
     procs.seek(pid, fd, offset + count as u64);
     Ok(Reply::Wrote(count))
 }

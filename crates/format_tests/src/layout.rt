@@ -1,7 +1,9 @@
 //! What the documents say of an image's bytes, and that each call succeeds.
 
 use fs_layout::LayoutFault::{self, BadKind, BadMagic, BadNumber, BadVersion, NotZero};
-use fs_layout::{AclSector, Commit, Inode, Kind, Place, Slot, Super, Version, is_name, place_of};
+use fs_layout::{
+    AclSector, Commit, Geometry, Inode, Kind, Slot, Super, Version, geometry_of, is_name,
+};
 use posix_acl::EntryNumbers;
 
 // A structure. The tests have each at an offset of its own in a sector.
@@ -356,7 +358,14 @@ static READS: [(Part, &[u8], usize, usize, u8, Option<LayoutFault>); 109] = [
     (Part::Inode, LARGEST_NEXT_FILE, 0, 0, 0, Some(BadNumber)),
     (Part::AnyInode, LARGEST_FILE, 16, 17, 1, None),
     (Part::AnyInode, LARGEST_NEXT_FILE, 0, 0, 0, None),
-    (Part::AnyInode, LARGEST_NEXT_FILE, 16, 17, 1, Some(BadNumber)),
+    (
+        Part::AnyInode,
+        LARGEST_NEXT_FILE,
+        16,
+        17,
+        1,
+        Some(BadNumber),
+    ),
     (Part::Inode, DIRECTORY, 0, 0, 0, None),
     (Part::Inode, DIRECTORY, 3, 4, 0x0f, Some(BadNumber)),
     (Part::Inode, DIRECTORY, 16, 17, 0x81, Some(BadNumber)),
@@ -624,26 +633,26 @@ static PLACES: [(Version, u32, u32, u32, Option<Starts>); 16] = [
     (Version::Three, 1, 585728, 8193, None),
 ];
 
-fn starts_of(place: Place) -> Starts {
+fn starts_of(geometry: Geometry) -> Starts {
     (
-        place.inode_bitmap,
-        place.block_bitmap,
-        place.table,
-        place.first_data,
+        geometry.inode_bitmap,
+        geometry.block_bitmap,
+        geometry.table,
+        geometry.first_data,
     )
 }
 
 fn new_disk(version: Version, sectors: u32, inodes: u32) -> NewDisk {
-    let place = place_of(version, sectors, inodes)?;
+    let geometry = geometry_of(version, sectors, inodes)?;
     Some((
-        place.header,
-        starts_of(place),
-        place.sectors.saturating_sub(place.first_data),
+        geometry.header,
+        starts_of(geometry),
+        geometry.sectors.saturating_sub(geometry.first_data),
     ))
 }
 
 #[test]
-fn places_are_as_the_format_says(rt: HostRuntime) {
+fn geometries_are_as_the_format_says(rt: HostRuntime) {
     for &(version, sectors, inodes, wanted) in &NEW_DISKS {
         let found = new_disk(version, sectors, inodes);
         assert!(rt; found == wanted, "{sectors} sectors and {inodes} inodes");
@@ -655,7 +664,7 @@ fn places_are_as_the_format_says(rt: HostRuntime) {
             inodes,
             header,
         };
-        let found = superblock.place().map(starts_of);
+        let found = superblock.geometry().map(starts_of);
         assert!(rt;
             found == starts,
             "{header} header sectors, {sectors} sectors and {inodes} inodes"

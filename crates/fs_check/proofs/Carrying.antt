@@ -3,13 +3,13 @@ use Rattle.std.specs.Prelude.{◌≡◌, ℕ, ◌+◌, ◌≤◌, List, Result, 
 use Rattle.std.proofs.Common.{sym, ap, arith, ◌∙◌, subst, inl, inr}
 use Rattle.std.proofs.lemmas.Result.{err_from_is_err_and}
 use Rattle.fs_layout.specs.declared.inode.Inode.{Inode}
-use Rattle.fs_layout.specs.declared.place.Place.{Place}
+use Rattle.fs_layout.specs.declared.geometry.Geometry.{Geometry}
 use Rattle.fs_layout.specs.Images.{number_on}
 use Rattle.fs_layout.specs.Recovered.{recovered}
 use Rattle.sector_disk.specs.Disk.{DiskState, Image, IsImage, IsSame, Elapses, OnlyReads, HasFailed, sector}
 use Rattle.sector_disk.proofs.Moments.{reads_nothing, reads_more, reads_joined}
 use Rattle.fs_layout.specs.Commit.{IsCommit, named_area}
-use Rattle.fs_model.specs.Rules.{IsPlaceOf, ImageRule, rule_number, ObeysEach, ObeysBefore, IsFinding, fails}
+use Rattle.fs_model.specs.Rules.{IsGeometryOf, ImageRule, rule_number, ObeysEach, ObeysBefore, IsFinding, fails}
 use Rattle.fs_check.specs.declared.faults.CheckFault.{CheckFault}
 use Rattle.fs_check.specs.declared.faults.CheckFault.TheVariants.{Found, DiskFault, OutOfMemory}
 use Rattle.fs_check.specs.declared.owning.Pointers.{Pointers}
@@ -28,14 +28,14 @@ module _ {old mid : DiskState} (reads : OnlyReads old mid) where
   pub meaning_same : meaning mid ≡ meaning old
   meaning_same = ap (λ n. recovered n (sector mid.seen)) reads.narrowed.size ∙ ap (λ (i : Image). recovered old.size (sector i)) reads.narrowed.seen
 
-  pub opened_still : {p : Place} {area : ℕ} {targets : List ℕ} → BeginsWith old p area targets → BeginsWith mid p area targets
+  pub opened_still : {p : Geometry} {area : ℕ} {targets : List ℕ} → BeginsWith old p area targets → BeginsWith mid p area targets
   opened_still {p} {area} {targets} x = record {
-    place = same_of (λ n i. IsPlaceOf n (sector i) p) reads x.place;
+    geometry = same_of (λ n i. IsGeometryOf n (sector i) p) reads x.geometry;
     log = same_of (λ n i. area ≡ named_area (sector i)) reads x.log;
     commit = same_of (λ n i. IsCommit n (sector i) targets) reads x.commit;
   }
 
-  pub table_still : {p : Place} {inodes : List Inode} → AreInodes p (meaning old) inodes → AreInodes p (meaning mid) inodes
+  pub table_still : {p : Geometry} {inodes : List Inode} → AreInodes p (meaning old) inodes → AreInodes p (meaning mid) inodes
   table_still {p} {inodes} x = subst (λ m. AreInodes p m inodes) (sym meaning_same) x
 
   -- what is at hand, and what is known of numbers
@@ -45,13 +45,13 @@ module _ {old mid : DiskState} (reads : OnlyReads old mid) where
   pub hand_back : (q : Pointers) → AreAtHand (meaning mid) q → AreAtHand (meaning old) q
   hand_back q x = subst (λ m. AreAtHand m q) meaning_same x
 
-  pub owns_still : (p : Place) (v : Inode) → OwnsData p (meaning old) v → OwnsData p (meaning mid) v
+  pub owns_still : (p : Geometry) (v : Inode) → OwnsData p (meaning old) v → OwnsData p (meaning mid) v
   owns_still p v x = subst (λ m. OwnsData p m v) (sym meaning_same) x
 
-  pub level_still : (p : Place) (v : Inode) (level : ℕ) → HasLevelInData p (meaning old) v level → HasLevelInData p (meaning mid) v level
+  pub level_still : (p : Geometry) (v : Inode) (level : ℕ) → HasLevelInData p (meaning old) v level → HasLevelInData p (meaning mid) v level
   level_still p v level x = subst (λ m. HasLevelInData p m v level) (sym meaning_same) x
 
-  pub above_still : (p : Place) (v : Inode) (level : ℕ) → HasAboveInData p (meaning old) v level → HasAboveInData p (meaning mid) v level
+  pub above_still : (p : Geometry) (v : Inode) (level : ℕ) → HasAboveInData p (meaning old) v level → HasAboveInData p (meaning mid) v level
   above_still p v level x = subst (λ m. HasAboveInData p m v level) (sym meaning_same) x
 
   pub number_back : (v : Inode) (level i s : ℕ) → s ≡ number_on (meaning mid) v level i → s ≡ number_on (meaning old) v level i
@@ -60,7 +60,7 @@ module _ {old mid : DiskState} (reads : OnlyReads old mid) where
   pub content_back : (s : ℕ) (content : List ℕ) → content ≡ meaning mid s → content ≡ meaning old s
   content_back s content x = x ∙ ap (λ m. m s) meaning_same
 
-  pub each_back : (p : Place) (r : ImageRule) → ObeysEach p (meaning mid) r → ObeysEach p (meaning old) r
+  pub each_back : (p : Geometry) (r : ImageRule) → ObeysEach p (meaning mid) r → ObeysEach p (meaning old) r
   each_back p r x = subst (λ m. ObeysEach p m r) meaning_same x
 
   failed_back : (new : DiskState) → HasFailed mid new → HasFailed old new
@@ -74,15 +74,15 @@ module _ {old mid : DiskState} (reads : OnlyReads old mid) where
   reason_back new OutOfMemory x = tt
 
 -- a rule whose predecessors hold: its finding is the first
-pub first_if : {old : DiskState} {p : Place} {area : ℕ} {targets : List ℕ} (new : DiskState) (r : ImageRule) (e : CheckFault) → BeginsWith old p area targets
+pub first_if : {old : DiskState} {p : Geometry} {area : ℕ} {targets : List ℕ} (new : DiskState) (r : ImageRule) (e : CheckFault) → BeginsWith old p area targets
     → ObeysBefore p (meaning old) (rule_number r) → IsReason (IsLeast p r) old new e → IsReason IsFirst old new e
 first_if {old} {p} {targets = targets} new r (Found f) opened before x =
-    subst (λ k. IsFinding old.size (sector old.seen) k f.at) (sym x.0) (fails p r f.at opened.place (record { targets = targets; is = opened.commit }) before x.1)
+    subst (λ k. IsFinding old.size (sector old.seen) k f.at) (sym x.0) (fails p r f.at opened.geometry (record { targets = targets; is = opened.commit }) before x.1)
 first_if new r DiskFault opened before x = x
 first_if new r OutOfMemory opened before x = tt
 
 -- the failure of a rule that was found in tables
-pub failed_of : {T : Type 0} (old mid new : DiskState) {p : Place} {area : ℕ} {targets : List ℕ} → OnlyReads old mid → OnlyReads mid new → BeginsWith old p area targets
+pub failed_of : {T : Type 0} (old mid new : DiskState) {p : Geometry} {area : ℕ} {targets : List ℕ} → OnlyReads old mid → OnlyReads mid new → BeginsWith old p area targets
     → (e y : CheckFault) (q : Result T CheckFault) → q ≡ Err y → y ≡ e → IsFailureOf p (meaning mid) e → Passed IsFirst old new q
 failed_of {T} old mid new {p} {targets = targets} reads then opened e y q at same x =
     subst (λ z. Passed {T = T} IsFirst old new z) (sym (at ∙ ap (λ z. Err z) same)) (record { reads = reads_joined reads then; reason = go e x })
@@ -91,7 +91,7 @@ failed_of {T} old mid new {p} {targets = targets} reads then opened e y q at sam
     go (Found f) x =
         let now = opened_still reads opened in
         back_of (λ n i. IsFinding n (sector i) f.rule f.at) reads
-        (subst (λ k. IsFinding mid.size (sector mid.seen) k f.at) (sym x.number) (fails p x.of f.at now.place (record { targets = targets; is = now.commit }) x.before x.least))
+        (subst (λ k. IsFinding mid.size (sector mid.seen) k f.at) (sym x.number) (fails p x.of f.at now.geometry (record { targets = targets; is = now.commit }) x.before x.least))
     go DiskFault x = absurd x
     go OutOfMemory x = tt
 
@@ -102,13 +102,13 @@ reads_once same time later quiet counts = reads_more reads_nothing same time lat
 
 -- ---- one part after the other
 
-pub before_still : {old mid : DiskState} {p : Place} {k : ℕ} → OnlyReads old mid → ObeysBefore p (meaning old) k → ObeysBefore p (meaning mid) k
+pub before_still : {old mid : DiskState} {p : Geometry} {k : ℕ} → OnlyReads old mid → ObeysBefore p (meaning old) k → ObeysBefore p (meaning mid) k
 before_still {p = p} {k} reads x = subst (λ m. ObeysBefore p m k) (sym (meaning_same reads)) x
 
-pub before_back : {old mid : DiskState} {p : Place} {k : ℕ} → OnlyReads old mid → ObeysBefore p (meaning mid) k → ObeysBefore p (meaning old) k
+pub before_back : {old mid : DiskState} {p : Geometry} {k : ℕ} → OnlyReads old mid → ObeysBefore p (meaning mid) k → ObeysBefore p (meaning old) k
 before_back {p = p} {k} reads x = subst (λ m. ObeysBefore p m k) (meaning_same reads) x
 
-pub next_before : (old mid : DiskState) {p : Place} (r : ImageRule) (k : ℕ) → rule_number r ≡ k → OnlyReads old mid → ObeysBefore p (meaning old) k
+pub next_before : (old mid : DiskState) {p : Geometry} (r : ImageRule) (k : ℕ) → rule_number r ≡ k → OnlyReads old mid → ObeysBefore p (meaning old) k
     → ObeysEach p (meaning mid) r → ObeysBefore p (meaning old) (k + 1)
 next_before old mid {p} r k is reads before each = next_obeyed p (meaning old) r k is before (each_back reads p r each)
 
@@ -123,13 +123,13 @@ passed_on : {T : Type 0} (I J : DiskState → ℕ → ℕ → Type 0) (old mid n
 passed_on I J old mid new reads back (Ok v) x = record { reads = reads_joined reads x.reads; reason = tt }
 passed_on I J old mid new reads back (Err e) x = record { reads = reads_joined reads x.reads; reason = back e x.reason }
 
-reason_of_rule : {old mid : DiskState} {p : Place} {area : ℕ} {targets : List ℕ} (new : DiskState) (r : ImageRule) (k : ℕ) → rule_number r ≡ k → OnlyReads old mid
+reason_of_rule : {old mid : DiskState} {p : Geometry} {area : ℕ} {targets : List ℕ} (new : DiskState) (r : ImageRule) (k : ℕ) → rule_number r ≡ k → OnlyReads old mid
     → BeginsWith old p area targets → ObeysBefore p (meaning old) k → (x : CheckFault) → IsReason (IsLeast p r) mid new x → IsReason IsFirst old new x
 reason_of_rule {mid = mid} {p} new r k is reads opened before x h =
     reason_back reads new x (first_if new r x (opened_still reads opened) (subst (λ q. ObeysBefore p (meaning mid) q) (sym is) (before_still reads before)) h)
 
 -- a rule's part, and the error of one
-pub rule_error : {T U : Type 0} (old mid new : DiskState) {p : Place} {area : ℕ} {targets : List ℕ} (r : ImageRule) (k : ℕ) → rule_number r ≡ k → OnlyReads old mid
+pub rule_error : {T U : Type 0} (old mid new : DiskState) {p : Geometry} {area : ℕ} {targets : List ℕ} (r : ImageRule) (k : ℕ) → rule_number r ≡ k → OnlyReads old mid
     → BeginsWith old p area targets
     → ObeysBefore p (meaning old) k → (e : CheckFault) (q : Result U CheckFault) → (y : CheckFault) × (q ≡ Err y) × (y ≡ e)
     → Passed {T = T} (IsLeast p r) mid new (Err e) → Passed IsFirst old new q
@@ -137,12 +137,12 @@ rule_error old mid new {p} r k is reads opened before e q at x =
     passed_err (IsLeast p r) IsFirst old mid new reads (reason_of_rule new r k is reads opened before) e at.0 q at.1 at.2 x
 
 -- the same of the first part
-pub first_error : {T U : Type 0} (old new : DiskState) {p : Place} {area : ℕ} {targets : List ℕ} (r : ImageRule) (k : ℕ) → rule_number r ≡ k → BeginsWith old p area targets
+pub first_error : {T U : Type 0} (old new : DiskState) {p : Geometry} {area : ℕ} {targets : List ℕ} (r : ImageRule) (k : ℕ) → rule_number r ≡ k → BeginsWith old p area targets
     → ObeysBefore p (meaning old) k → (e : CheckFault) (q : Result U CheckFault) → (y : CheckFault) × (q ≡ Err y) × (y ≡ e)
     → Passed {T = T} (IsLeast p r) old new (Err e) → Passed IsFirst old new q
 first_error old new r k is opened before e q at x = rule_error old old new r k is reads_nothing opened before e q at x
 
-pub rule_passed : {T : Type 0} (old mid new : DiskState) {p : Place} {area : ℕ} {targets : List ℕ} (r : ImageRule) (k : ℕ) → rule_number r ≡ k → OnlyReads old mid
+pub rule_passed : {T : Type 0} (old mid new : DiskState) {p : Geometry} {area : ℕ} {targets : List ℕ} (r : ImageRule) (k : ℕ) → rule_number r ≡ k → OnlyReads old mid
     → BeginsWith old p area targets → ObeysBefore p (meaning old) k → (q : Result T CheckFault) → Passed (IsLeast p r) mid new q → Passed IsFirst old new q
 rule_passed old mid new {p} r k is reads opened before q x =
     passed_on (IsLeast p r) IsFirst old mid new reads (reason_of_rule new r k is reads opened before) q x
@@ -152,7 +152,7 @@ on_ok (Ok x) p f = f p
 on_ok (Err e) p f = tt
 
 -- two rules, one after the other
-module _ {T : Type 0} (old mid new : DiskState) {p : Place} {area : ℕ} {targets : List ℕ} (r q : ImageRule) (k : ℕ) (is : rule_number r ≡ k) (then : rule_number q ≡ k + 1)
+module _ {T : Type 0} (old mid new : DiskState) {p : Geometry} {area : ℕ} {targets : List ℕ} (r q : ImageRule) (k : ℕ) (is : rule_number r ≡ k) (then : rule_number q ≡ k + 1)
     (opened : BeginsWith old p area targets) (before : ObeysBefore p (meaning old) k) (reads : OnlyReads old mid) (each : ObeysEach p (meaning old) r)
     (x : Result T CheckFault) where
   first_obeyed : ObeysBefore p (meaning old) (k + 1)

@@ -7,23 +7,23 @@ use Rattle.std.proofs.lemmas.List.{ext_get_or, get_or-drop, length-drop}
 use Rattle.std.proofs.lemmas.List.FromFn.{get_or-map-range_with_len, length-map-range_with_len}
 use Rattle.std.proofs.lemmas.List.Sums.{sum_by-cons}
 use Rattle.fs_layout.specs.declared.inode.Inode.{Inode}
-use Rattle.fs_layout.specs.declared.place.Place.{Place}
+use Rattle.fs_layout.specs.declared.geometry.Geometry.{Geometry}
 use Rattle.fs_layout.specs.Bytes.{SectorMap}
 use Rattle.fs_layout.specs.Inode.{free_inode}
-use Rattle.fs_layout.specs.Place.{IsPlace}
+use Rattle.fs_layout.specs.Geometry.{IsGeometry}
 use Rattle.fs_layout.specs.Images.{IsData, bit, inode_at, free_sectors}
 use Rattle.fs_layout.specs.Commit.{IsCommit, named_area}
 use Rattle.fs_layout.proofs.Bits.{has_bit}
 use Rattle.fs_layout.proofs.Counting.{count_split, count_none}
-use Rattle.fs_layout.proofs.Places.{place_is_place}
+use Rattle.fs_layout.proofs.Places.{is_a_geometry}
 use Rattle.fs_layout.proofs.Targets.{targets_in-commit}
 use Rattle.sector_disk.specs.Disk.{DiskState, IsImage, IsWholeSector, OnlyReads, sector}
-use Rattle.fs_model.specs.Rules.{IsPlaceOf, InData, BlockBits, is_directory_kind, ObeysBefore, ObeysAll, HasWholeSectors}
+use Rattle.fs_model.specs.Rules.{IsGeometryOf, InData, BlockBits, is_directory_kind, ObeysBefore, ObeysAll, HasWholeSectors}
 use Rattle.fs_model.specs.Summaries.{is_file_kind, is_link_kind, is_used, some_target}
 use Rattle.fs_model.specs.Trees.{Tree}
 use Rattle.fs_model.specs.Stands.{room_of}
 use Rattle.fs_model.proofs.BuiltTrees.{tree_is, held_all}
-use Rattle.fs_model.proofs.RulesLaw.{place, now_whole, the_tree, stands}
+use Rattle.fs_model.proofs.RulesLaw.{geometry, now_whole, the_tree, stands}
 use Rattle.fs_model.proofs.Findings.{each_obeyed}
 use Rattle.fs_model.proofs.Summaries.{files_counted, nameless_counted, directories_counted, links_counted, nodes_counted}
 use Rattle.fs_check.specs.declared.faults.Summary.{Summary}
@@ -63,15 +63,15 @@ pub whole_seen : (d : DiskState) → IsImage d d.seen → ((n : ℕ) (content : 
     → HasWholeSectors d.size (sector d.seen)
 whole_seen d is each s lt = let here = each s (sector d.seen s) lt (is.each s lt) in record { len = here.len; bytes = here.bytes }
 
-module _ (d : DiskState) (p : Place) (area : ℕ) (targets : List ℕ) (inodes : List Inode) (owned : List Bool) (s : Summary) (small : d.size < 2 ^ 32)
+module _ (d : DiskState) (p : Geometry) (area : ℕ) (targets : List ℕ) (inodes : List Inode) (owned : List Bool) (s : Summary) (small : d.size < 2 ^ 32)
     (whole : HasWholeSectors d.size (sector d.seen)) (opened : BeginsWith d p area targets) (table : AreInodes p (meaning d) inodes)
     (owners : IsOwnerMap p (meaning d) owned)
     (before : ObeysBefore p (meaning d) 15) (counts : IsCounted p targets inodes owned s) where
   abbrev pub all : ObeysAll d.size (sector d.seen)
-  all = record { place = p; is_place = opened.place; commit = record { targets = targets; is = opened.commit }; rules = each_obeyed p (meaning d) before }
+  all = record { geometry = p; is_geometry = opened.geometry; commit = record { targets = targets; is = opened.commit }; rules = each_obeyed p (meaning d) before }
 
-  abbrev pub the_place_is : IsPlace p
-  the_place_is = place d.size (sector d.seen) whole all
+  abbrev pub the_geometry_is : IsGeometry p
+  the_geometry_is = geometry d.size (sector d.seen) whole all
 
   abbrev pub t : Tree
   t = the_tree d.size (sector d.seen) whole all
@@ -97,7 +97,7 @@ module _ (d : DiskState) (p : Place) (area : ℕ) (targets : List ℕ) (inodes :
   -- a data sector's bit says whether it is owned
   bit_is : (k : ℕ) → IsData p k → get_or owned k false ≡ bit (meaning d) p.block_bitmap k
   bit_is k data_sector =
-      let rule = before BlockBits (omega arith) k (has_bit the_place_is k data_sector.1) in
+      let rule = before BlockBits (omega arith) k (has_bit the_geometry_is k data_sector.1) in
       same_bools _ _ (
         (λ set. rule.1 (inr (inr ((owners.each k data_sector.1).0 set)))),
         (λ set. elim (rule.0 set) [
@@ -112,7 +112,7 @@ module _ (d : DiskState) (p : Place) (area : ℕ) (targets : List ℕ) (inodes :
   free_list : drop p.first_data owned ≡ map (bit (meaning d) p.block_bitmap) (range_with_len p.first_data (p.sectors - p.first_data))
   free_list =
       let len = owners.len in
-      let room = the_place_is.data_sectors in
+      let room = the_geometry_is.data_sectors in
       list_is (drop p.first_data owned) false (bit (meaning d) p.block_bitmap) p.first_data (p.sectors - p.first_data)
       (omega (arith, len, length-drop p.first_data owned))
       (λ k lt. get_or-drop p.first_data owned k false ∙ bit_is (p.first_data + k) (omega arith, omega (arith, lt)))
@@ -124,8 +124,8 @@ module _ (d : DiskState) (p : Place) (area : ℕ) (targets : List ℕ) (inodes :
   unfolding the_tree
   clean =
       let whole' = now_whole d.size (sector d.seen) whole all in
-      let held = held_all p (meaning d) (place d.size (sector d.seen) whole all) whole' all.rules in
-      let is = tree_is p (meaning d) (place d.size (sector d.seen) whole all) whole' all.rules in (
+      let held = held_all p (meaning d) (geometry d.size (sector d.seen) whole all) whole' all.rules in
+      let is = tree_is p (meaning d) (geometry d.size (sector d.seen) whole all) whole' all.rules in (
         room_of p,
         t,
         free_sectors p (meaning d),
@@ -142,14 +142,14 @@ module _ (d : DiskState) (p : Place) (area : ℕ) (targets : List ℕ) (inodes :
       )
 
 -- facts that were found one after the other
-pub clean_after : (s0 s1 s2 s3 : DiskState) (p : Place) (area : ℕ) (targets : List ℕ) (items inodes : List Inode) (owned : List Bool) (s : Summary)
-    → s0.size < 2 ^ 32 → HasWholeSectors s0.size (sector s0.seen) → IsPlaceOf s0.size (sector s0.seen) p
+pub clean_after : (s0 s1 s2 s3 : DiskState) (p : Geometry) (area : ℕ) (targets : List ℕ) (items inodes : List Inode) (owned : List Bool) (s : Summary)
+    → s0.size < 2 ^ 32 → HasWholeSectors s0.size (sector s0.seen) → IsGeometryOf s0.size (sector s0.seen) p
     → OnlyReads s0 s1 → area ≡ named_area (sector s1.seen) → IsCommit s1.size (sector s1.seen) targets
     → OnlyReads s0 s2 → AreInodes p (meaning s2) items → inodes ≡ items
     → OnlyReads s0 s3 → IsOwnerMap p (meaning s3) owned → ObeysBefore p (meaning s3) 15 → IsCounted p targets inodes owned s → IsClean s0 s
 clean_after s0 s1 s2 s3 p area targets items inodes owned s small whole at r1 named commit r2 table same r3 owners before counts =
     let opened : BeginsWith s0 p area targets = record {
-      place = at;
+      geometry = at;
       log = back_of (λ n i. area ≡ named_area (sector i)) r1 named;
       commit = back_of (λ n i. IsCommit n (sector i) targets) r1 commit;
     } in
@@ -159,19 +159,19 @@ clean_after s0 s1 s2 s3 p area targets items inodes owned s small whole at r1 na
     (before_back r3 before) counts
 
 -- the data begins within the owner map
-pub first_within : (size : ℕ) (image : SectorMap) (p : Place) (m : SectorMap) (owned : List Bool) → IsPlaceOf size image p → IsOwnerMap p m owned
+pub first_within : (size : ℕ) (image : SectorMap) (p : Geometry) (m : SectorMap) (owned : List Bool) → IsGeometryOf size image p → IsOwnerMap p m owned
     → p.first_data ≤ length owned
 first_within size image p m owned at owners =
-    let room = (place_is_place _ _ size at.super.inodes at.has_place).data_sectors in
+    let room = (is_a_geometry _ _ size at.super.inodes at.has_geometry).data_sectors in
     let len = owners.len in
     omega (arith, room, len)
 
 -- and no sector before it is owned
-pub none_before : (size : ℕ) (image : SectorMap) (p : Place) (m : SectorMap) (owned : List Bool) → IsPlaceOf size image p → IsOwnerMap p m owned
+pub none_before : (size : ℕ) (image : SectorMap) (p : Geometry) (m : SectorMap) (owned : List Bool) → IsGeometryOf size image p → IsOwnerMap p m owned
     → ObeysBefore p m 15 → (s : ℕ) → s < p.first_data → get_or owned s false ≡ false
 none_before size image p m owned at owners before s low = elim (either (get_or owned s false)) [
   | inl set ↦
-      let room = (place_is_place _ _ size at.super.inodes at.has_place).data_sectors in
+      let room = (is_a_geometry _ _ size at.super.inodes at.has_geometry).data_sectors in
       let by = (owners.each s (omega (arith, room, low))).0 set in
       absurd (let from = (before InData (omega arith) by.by by.below s by.is).0 in omega (arith, from, low))
   | inr clear ↦ clear

@@ -6,7 +6,7 @@ use Rattle.std.proofs.lemmas.Bool.Decides.{nat_tests}
 use Rattle.std.proofs.lemmas.List.Sums.{sum_by-set}
 use Rattle.fs_layout.specs.declared.inode.Kind.TheVariants as kinds
 use Rattle.fs_layout.specs.declared.inode.Inode.{Inode}
-use Rattle.fs_layout.specs.declared.place.Place.{Place}
+use Rattle.fs_layout.specs.declared.geometry.Geometry.{Geometry}
 use Rattle.fs_layout.specs.Bytes.{SectorMap}
 use Rattle.fs_layout.specs.Inode.{free_inode}
 use Rattle.fs_layout.specs.Images.{inode_at}
@@ -139,7 +139,7 @@ module _ (inodes : List Inode) (marks : List ℕ) (d : ℕ) where
 
 -- ---- the ways of an image
 
-module _ (p : Place) (m : SectorMap) (inodes : List Inode) (table : AreInodes p m inodes) where
+module _ (p : Geometry) (m : SectorMap) (inodes : List Inode) (table : AreInodes p m inodes) where
   pub reaches_root : (d : ℕ) → Climbs inodes d → GoesUp p m d
   reaches_root d at_top = at_root
   reaches_root d (up n lt c) =

@@ -4,14 +4,14 @@ use Rattle.std.proofs.Common.{sym, ap, arith, ◌∙◌, subst, inl, inr}
 use Rattle.std.proofs.lemmas.Bool.{cases_eq, cases_lt}
 use Rattle.fs_layout.specs.declared.inode.Inode.{Inode}
 use Rattle.fs_layout.specs.declared.inode.TheConstants.{POINTER_LEVELS, SECTOR_POINTERS}
-use Rattle.fs_layout.specs.declared.place.Place.{Place}
+use Rattle.fs_layout.specs.declared.geometry.Geometry.{Geometry}
 use Rattle.fs_layout.specs.Bytes.{SectorMap}
 use Rattle.fs_layout.specs.Images.{pointer_in, own_count, holder, place_in_holder, number_on, HasPointers, HasPointersAbove, Part, AccessAcl, DefaultAcl, OnLevel, part, IsData}
 use Rattle.fs_layout.proofs.Parts.{owns_acl, owns_default_acl, owns_on_level}
 use Rattle.fs_layout.proofs.Pointers.{number_on_held, no_level}
-use Rattle.fs_model.specs.Rules.{IsPlaceOf}
+use Rattle.fs_model.specs.Rules.{IsGeometryOf}
 use Rattle.fs_check.specs.Owning.{AreListed, AreInData, HasLevelInData, HasAboveInData, HasAclsInData, OwnsData}
-use Rattle.fs_check.proofs.Openings.{many_sectors, place_size}
+use Rattle.fs_check.proofs.Openings.{many_sectors, geometry_size}
 use Rattle.fs_check.proofs.Tests.{refuses}
 
 -- ---- the content in which they stand
@@ -41,8 +41,8 @@ module _ (m : SectorMap) (v : Inode) where
   -- by the count of those in the inode, and the place of the level's content
   pub sector_lists : (level j s own at : ℕ) (contents : List (List ℕ)) → own ≡ own_count level → at ≡ level → s ≡ number_on m v (level + 1) j → s ≢ 0
       → get_or contents at [] ≡ m s → AreListed m v (get_or contents level []) level (own + SECTOR_POINTERS * j) (own + SECTOR_POINTERS * (j + 1))
-  sector_lists level j s own at contents few place is some read k ge lt =
-      are_listed level j s (get_or contents level []) is some (ap (λ n. get_or contents n []) (sym place) ∙ read) k (omega (arith, ge, few)) (omega (arith, lt, few))
+  sector_lists level j s own at contents few geometry is some read k ge lt =
+      are_listed level j s (get_or contents level []) is some (ap (λ n. get_or contents n []) (sym geometry) ∙ read) k (omega (arith, ge, few)) (omega (arith, lt, few))
 
   -- those that stand in the inode stand in no sector
   pub listed_own : (level first end : ℕ) (content : List ℕ) → end ≤ own_count level → AreListed m v content level first end
@@ -71,19 +71,19 @@ module _ (m : SectorMap) (v : Inode) where
 -- ---- in the data area
 
 -- a sector of the data area, or none, is one of the disk
-pub number_below : (size : ℕ) (image : SectorMap) (p : Place) → IsPlaceOf size image p → (s : ℕ) → (s ≢ 0 → IsData p s) → s < size
+pub number_below : (size : ℕ) (image : SectorMap) (p : Geometry) → IsGeometryOf size image p → (s : ℕ) → (s ≢ 0 → IsData p s) → s < size
 number_below size image p at s in_data = elim (cases_eq s 0) [
-  | inl none ↦ (let many = many_sectors size image (record { place = p; is = at }) in omega (arith, none, many))
-  | inr some ↦ (let below = (in_data some).1 in let same = place_size size image p at in omega (arith, below, same))
+  | inl none ↦ (let many = many_sectors size image (record { geometry = p; is = at }) in omega (arith, none, many))
+  | inr some ↦ (let below = (in_data some).1 in let same = geometry_size size image p at in omega (arith, below, same))
 ]
 
 -- each number of a level whose sectors are data sectors is one
-pub level_below : (size : ℕ) (image : SectorMap) (p : Place) (m : SectorMap) (v : Inode) (level i s : ℕ) → IsPlaceOf size image p → HasLevelInData p m v level
+pub level_below : (size : ℕ) (image : SectorMap) (p : Geometry) (m : SectorMap) (v : Inode) (level i s : ℕ) → IsGeometryOf size image p → HasLevelInData p m v level
     → s ≡ number_on m v level i → s < size
 level_below size image p m v level i s at in_data is =
     let below = number_below size image p at (number_on m v level i) (in_data i) in omega (arith, is, below)
 
-module _ (p : Place) (m : SectorMap) (v : Inode) where
+module _ (p : Geometry) (m : SectorMap) (v : Inode) where
   pub in_data_more : (level first i s : ℕ) (r : Bool) → s ≡ number_on m v level i → (IsTrue r ↔ (s ≢ 0 → IsData p s)) → r ≡ true
       → AreInData p m v level first i → AreInData p m v level first (i + 1)
   in_data_more level first i s r is test e all j ge lt some = elim (cases_lt j i) [

@@ -4,7 +4,7 @@ use Rattle.std.proofs.Common.{refl, sym, ap, arith, ◌∙◌, subst, inl, inr}
 use Rattle.std.proofs.lemmas.Bool.{cases_eq, cases_lt}
 use Rattle.fs_layout.specs.declared.fault.LayoutFault.{LayoutFault}
 use Rattle.fs_layout.specs.declared.inode.Inode.{Inode}
-use Rattle.fs_layout.specs.declared.place.Place.{Place}
+use Rattle.fs_layout.specs.declared.geometry.Geometry.{Geometry}
 use Rattle.fs_layout.specs.declared.version.Version.{Version}
 use Rattle.fs_layout.specs.declared.version.Version.TheVariants.{One, Two, Three}
 use Rattle.fs_layout.specs.Version.{slot_size, block_slots}
@@ -12,29 +12,29 @@ use Rattle.fs_layout.specs.Bytes.{SectorMap, window}
 use Rattle.fs_layout.specs.Images.{Part, part, pointer, Owns, IsData}
 use Rattle.fs_layout.specs.Directories.{NamedInode, stored_slot, slot_at, slot_of, slot_or_none, slot_count}
 use Rattle.sector_disk.specs.Disk.{DiskState, OnlyReads}
-use Rattle.fs_model.specs.Rules.{IsPlaceOf}
+use Rattle.fs_model.specs.Rules.{IsGeometryOf}
 use Rattle.fs_check.specs.Checks.{meaning, AreInodes}
 use Rattle.fs_layout.specs.declared.inode.Kind.TheVariants.{Free}
 use Rattle.fs_check.proofs.Tests.{free_behind, refuses}
 use Rattle.fs_check.specs.Naming.{block_of_slot, AreValid, AreSlots, IsUsable, HasGoodSlots}
 use Rattle.fs_check.proofs.Carrying.{meaning_same}
-use Rattle.fs_check.proofs.Openings.{many_sectors, place_size}
+use Rattle.fs_check.proofs.Openings.{many_sectors, geometry_size}
 
 -- ---- the block of a slot
 
 -- what an inode has is on the disk, or it has none
-pub part_on_disk : (size : ℕ) (image : SectorMap) (p : Place) (m : SectorMap) (v : Inode) (a : Part) → IsPlaceOf size image p
+pub part_on_disk : (size : ℕ) (image : SectorMap) (p : Geometry) (m : SectorMap) (v : Inode) (a : Part) → IsGeometryOf size image p
     → ((s : ℕ) → Owns m v s → IsData p s) → part m v a < size
 part_on_disk size image p m v a at in_data = elim (cases_eq (part m v a) 0) [
-  | inl none ↦ (let many = many_sectors size image (record { place = p; is = at }) in omega (arith, none, many))
+  | inl none ↦ (let many = many_sectors size image (record { geometry = p; is = at }) in omega (arith, none, many))
   | inr some ↦
       let below = (in_data (part m v a) (record { at = a; is = refl; some = some })).1 in
-      let same = place_size size image p at in
+      let same = geometry_size size image p at in
       omega (arith, below, same)
 ]
 
 module _ (old mid : DiskState) (reads : OnlyReads old mid) (v : Inode) where
-  pub in_data_still : (p : Place) → ((s : ℕ) → Owns (meaning old) v s → IsData p s) → (s : ℕ) → Owns (meaning mid) v s → IsData p s
+  pub in_data_still : (p : Geometry) → ((s : ℕ) → Owns (meaning old) v s → IsData p s) → (s : ℕ) → Owns (meaning mid) v s → IsData p s
   in_data_still p x = subst (λ m. (s : ℕ) → Owns m v s → IsData p s) (sym (meaning_same reads)) x
 
   pub block_back : (version : Version) (k : ℕ) (block : List ℕ) → block ≡ block_of_slot version (meaning mid) v k → block ≡ block_of_slot version (meaning old) v k
@@ -83,7 +83,7 @@ slot_begins version k size slots a b = ap (λ n. n * (k % slots)) a ∙ ap (λ n
 
 -- ---- the rule on slots
 
-module _ (p : Place) (m : SectorMap) (v : Inode) (inodes : List Inode) (slots : List NamedInode) (table : AreInodes p m inodes) (are : AreSlots p.version m v slots) where
+module _ (p : Geometry) (m : SectorMap) (v : Inode) (inodes : List Inode) (slots : List NamedInode) (table : AreInodes p m inodes) (are : AreSlots p.version m v slots) where
   good_if_usable : All (IsUsable inodes) slots → HasGoodSlots p m v
   good_if_usable usable k lt =
       let len = are.len in

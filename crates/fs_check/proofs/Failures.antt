@@ -2,7 +2,7 @@
 use Rattle.std.specs.Prelude.{◌≡◌, ℕ, ◌+◌, List, Option, Some, None, Result, Ok, Err, IfSome, IfNone, MatchOption, MatchResult}
 use Rattle.std.proofs.Common.{sym, ap, ◌∙◌, subst}
 use Rattle.fs_layout.specs.declared.inode.Inode.{Inode}
-use Rattle.fs_layout.specs.declared.place.Place.{Place}
+use Rattle.fs_layout.specs.declared.geometry.Geometry.{Geometry}
 use Rattle.fs_layout.specs.Bytes.{SectorMap}
 use Rattle.fs_model.specs.Rules.{ImageRule, rule_number, ObeysEach, ObeysBefore, IsLeastFailure}
 use Rattle.fs_model.proofs.Findings.{next_obeyed}
@@ -14,7 +14,7 @@ use Rattle.fs_check.specs.Checks.{meaning, BeginsWith, AreInodes, IsNameTable, I
 use Rattle.fs_check.proofs.Carrying.{next_before, rule_error}
 
 -- what a rule's test says of one image
-pub of_image : (p : Place) (r : ImageRule) (k : ℕ) (inodes : List Inode) (counts directories : List ℕ) (first : Option ℕ)
+pub of_image : (p : Geometry) (r : ImageRule) (k : ℕ) (inodes : List Inode) (counts directories : List ℕ) (first : Option ℕ)
     → IfSome first (λ n. (m : SectorMap) → AreInodes p m inodes → IsNameTable p m counts directories → ObeysBefore p m k → IsLeastFailure p m r n)
     → IfNone first ((m : SectorMap) → AreInodes p m inodes → IsNameTable p m counts directories → ObeysBefore p m k → ObeysEach p m r)
     → (m : SectorMap) → AreInodes p m inodes → IsNameTable p m counts directories → ObeysBefore p m k
@@ -26,7 +26,7 @@ of_image p r k inodes counts directories None some none m table named before = n
 abbrev IsAnswer : ℕ → Option ℕ → Result (Unit {0}) CheckFault → Type 0
 IsAnswer k first result = MatchOption first (result ≡ Ok tt) (λ n. result ≡ Err (Found (record { rule = k; at = n })))
 
-module _ (p : Place) (m : SectorMap) where
+module _ (p : Geometry) (m : SectorMap) where
   -- one rule
   pub rule_found : (r : ImageRule) (k : ℕ) → rule_number r ≡ k → (first : Option ℕ) (result : Result (Unit {0}) CheckFault)
       → IsAnswer k first result
@@ -51,7 +51,7 @@ module _ (p : Place) (m : SectorMap) where
   tree_next k u r was x = subst (λ z. MatchResult z (λ _. ObeysBefore p m k) (IsFailureOf p m)) was x
 
 -- one that holds of the image, and the next may be tried
-pub image_next : (p : Place) (r : ImageRule) (k : ℕ) → rule_number r ≡ k → (inodes : List Inode) (counts directories : List ℕ) (first : Option ℕ) (u : Unit {0})
+pub image_next : (p : Geometry) (r : ImageRule) (k : ℕ) → rule_number r ≡ k → (inodes : List Inode) (counts directories : List ℕ) (first : Option ℕ) (u : Unit {0})
     (result : Result (Unit {0}) CheckFault) → IsAnswer k first result → result ≡ Ok u
     → IfSome first (λ n. (m : SectorMap) → AreInodes p m inodes → IsNameTable p m counts directories → ObeysBefore p m k → IsLeastFailure p m r n)
     → IfNone first ((m : SectorMap) → AreInodes p m inodes → IsNameTable p m counts directories → ObeysBefore p m k → ObeysEach p m r)
@@ -63,7 +63,7 @@ image_next p r k is inodes counts directories first u result says was some none 
 -- ---- a rule whose least failure is known before it is tried
 
 -- what is found of it is why the check ends
-pub found_reason : (p : Place) (r : ImageRule) (k : ℕ) → rule_number r ≡ k → (old new : DiskState) (first : Option ℕ) (e : CheckFault)
+pub found_reason : (p : Geometry) (r : ImageRule) (k : ℕ) → rule_number r ≡ k → (old new : DiskState) (first : Option ℕ) (e : CheckFault)
     → IsAnswer k first (Err e)
     → MatchOption first (ObeysEach p (meaning old) r) (λ n. IsLeastFailure p (meaning old) r n) → IsReason (IsLeast p r) old new e
 found_reason p r k is old new (Some n) e says least =
@@ -71,14 +71,14 @@ found_reason p r k is old new (Some n) e says least =
 found_reason p r k is old new None e says each = absurd cc
 
 -- nothing found
-pub found_none : (p : Place) (m : SectorMap) (r : ImageRule) (k : ℕ) (first : Option ℕ)
+pub found_none : (p : Geometry) (m : SectorMap) (r : ImageRule) (k : ℕ) (first : Option ℕ)
     → IsAnswer k first (Ok tt)
     → MatchOption first (ObeysEach p m r) (λ n. IsLeastFailure p m r n) → ObeysEach p m r
 found_none p m r k (Some n) says least = absurd cc
 found_none p m r k None says each = each
 
 -- two rules of one part, of which the second was tried along with the first
-module _ (old new : DiskState) {p : Place} {area : ℕ} {targets : List ℕ} (r q : ImageRule) (k : ℕ) (is : rule_number r ≡ k) (then : rule_number q ≡ k + 1)
+module _ (old new : DiskState) {p : Geometry} {area : ℕ} {targets : List ℕ} (r q : ImageRule) (k : ℕ) (is : rule_number r ≡ k) (then : rule_number q ≡ k + 1)
     (opened : BeginsWith old p area targets) (before : ObeysBefore p (meaning old) k) (reads : OnlyReads old new) (each : ObeysEach p (meaning old) r) (first : Option ℕ)
     (found : MatchOption first (ObeysEach p (meaning old) q) (λ n. IsLeastFailure p (meaning old) q n)) where
   before_second : ObeysBefore p (meaning old) (k + 1)

@@ -5,7 +5,7 @@ use Rattle.std.proofs.lemmas.Bool.{eqb-true, eq-eqb}
 use Rattle.posix_acl.specs.AccessList.{AccessList, list_numbers, is_extended, mode_bits}
 use Rattle.posix_acl.proofs.Laws.{one_of_numbers}
 use Rattle.fs_layout.specs.declared.inode.Inode.{Inode}
-use Rattle.fs_layout.specs.declared.place.Place.{Place}
+use Rattle.fs_layout.specs.declared.geometry.Geometry.{Geometry}
 use Rattle.fs_layout.specs.Bytes.{SectorMap}
 use Rattle.fs_layout.specs.AclSector.{acl_sector_of}
 use Rattle.fs_layout.specs.Images.{inode_at}
@@ -14,9 +14,9 @@ use Rattle.fs_layout.proofs.Parts.{owns_acl, owns_default_acl}
 use Rattle.sector_disk.specs.Disk.{DiskState, OnlyReads}
 use Rattle.fs_model.specs.Rules.{IsStoredAcl, HasSomeAccessAcl, HasSomeDefaultAcl, HasAcls, InData, ObeysBefore}
 use Rattle.fs_check.specs.Checks.{meaning, BeginsWith, AreInodes}
-use Rattle.fs_check.specs.StoredAcls.{IsAclIn, IsInPlace}
+use Rattle.fs_check.specs.StoredAcls.{IsAclIn, HasListsInPlace}
 use Rattle.fs_check.proofs.Carrying.{meaning_same}
-use Rattle.fs_check.proofs.Openings.{room, place_size}
+use Rattle.fs_check.proofs.Openings.{room, geometry_size}
 use Rattle.fs_check.proofs.Tests.{within, inode_here}
 
 -- ---- the ACL that a sector has
@@ -52,7 +52,7 @@ module _ (m : SectorMap) (v : Inode) (content : List ℕ) (a : AccessList) (ther
 -- ---- the ACLs of an inode
 
 module _ (m : SectorMap) (v : Inode) where
-  pub misplaced : (b : Bool) → b ≡ false → (IsTrue b ↔ IsInPlace v) → IsTrue false ↔ HasAcls m v
+  pub misplaced : (b : Bool) → b ≡ false → (IsTrue b ↔ HasListsInPlace v) → IsTrue false ↔ HasAcls m v
   misplaced b bad test = (
     (λ f. absurd (let c : false ≡ true = f in cc)),
     (λ x. absurd (let c : false ≡ true = sym bad ∙ test.1 (x.no_link, x.only_directory) in cc)),
@@ -65,7 +65,7 @@ module _ (m : SectorMap) (v : Inode) where
   )
 
 -- the default ACL is read later
-pub good_by_default : (old mid : DiskState) (v : Inode) → OnlyReads old mid → (a b r : Bool) → a ≡ true → b ≡ true → (IsTrue a ↔ IsInPlace v)
+pub good_by_default : (old mid : DiskState) (v : Inode) → OnlyReads old mid → (a b r : Bool) → a ≡ true → b ≡ true → (IsTrue a ↔ HasListsInPlace v)
     → (IsTrue b ↔ (v.acl ≢ 0 → HasSomeAccessAcl (meaning old) v)) → (IsTrue r ↔ (v.default_acl ≢ 0 → HasSomeDefaultAcl (meaning mid) v))
     → IsTrue r ↔ HasAcls (meaning old) v
 good_by_default old mid v reads a b r is good placed access later =
@@ -76,14 +76,14 @@ good_by_default old mid v reads a b r is good placed access later =
 
 -- ---- their sectors
 
-module _ {area : ℕ} {targets : List ℕ} (old mid : DiskState) (p : Place) (inodes : List Inode) (n : ℕ) (d : Inode)
+module _ {area : ℕ} {targets : List ℕ} (old mid : DiskState) (p : Geometry) (inodes : List Inode) (n : ℕ) (d : Inode)
     (reads : OnlyReads old mid) (opened : BeginsWith old p area targets)
     (table : AreInodes p (meaning old) inodes) (before : ObeysBefore p (meaning old) 9) (lt : n < length inodes) where
   on_disk : (s : ℕ) → (s ≢ 0 → s < p.sectors) → s < mid.size
   on_disk zero below = let some = room old p opened in let kept = reads.narrowed.size in omega (arith, some, kept)
   on_disk (suc s) below =
       let small : suc s < p.sectors = below (λ e. cc) in
-      let same = place_size _ _ p opened.place in
+      let same = geometry_size _ _ p opened.geometry in
       let kept = reads.narrowed.size in
       omega (arith, same, kept, small)
 

@@ -3,7 +3,7 @@ use Rattle.std.specs.Prelude.{◌≡◌, ℕ, ◌+◌, ◌-◌, ◌*◌, ◌<◌
 use Rattle.std.proofs.Common.{ap, arith, ◌∙◌, subst}
 use Rattle.fs_layout.specs.declared.inode.Inode.{Inode}
 use Rattle.fs_layout.specs.declared.inode.TheConstants.{POINTER_LEVELS, SECTOR_POINTERS}
-use Rattle.fs_layout.specs.declared.place.Place.{Place}
+use Rattle.fs_layout.specs.declared.geometry.Geometry.{Geometry}
 use Rattle.fs_layout.specs.Bytes.{SectorMap}
 use Rattle.fs_layout.specs.Images.{own_count, level_end, number_on, inode_at, part}
 use Rattle.fs_layout.proofs.Pointers.{number_past}
@@ -17,7 +17,7 @@ use Rattle.fs_check.proofs.Marks.{mark_skip, mark_next, mark_rest}
 use Rattle.fs_check.proofs.OwnedParts.{owned_number, owned_block}
 use Rattle.fs_check.proofs.Tests.{free_behind}
 
-module _ (p : Place) (m : SectorMap) (n : ℕ) (v : Inode) (is : v ≡ inode_at p m n) (owned twice : List Bool) where
+module _ (p : Geometry) (m : SectorMap) (n : ℕ) (v : Inode) (is : v ≡ inode_at p m n) (owned twice : List Bool) where
   -- numbers of a level that are none
   pub numbers_skipped : (level first end : ℕ) → level ≤ POINTER_LEVELS → first ≤ end → end ≤ level_end level
       → ((i : ℕ) → first ≤ i → i < end → number_on m v level i ≡ 0)
@@ -59,7 +59,7 @@ module _ (p : Place) (m : SectorMap) (n : ℕ) (v : Inode) (is : v ≡ inode_at 
       p.sectors owned twice x
 
 -- all inodes, where those of the list are marked: one behind it owns nothing
-pub all_marked : (p : Place) (m : SectorMap) (inodes : List Inode) (n : ℕ) (owned twice : List Bool) → AreInodes p m inodes → length inodes ≤ n → n ≤ p.inodes
+pub all_marked : (p : Geometry) (m : SectorMap) (inodes : List Inode) (n : ℕ) (owned twice : List Bool) → AreInodes p m inodes → length inodes ≤ n → n ≤ p.inodes
     → IsMarked (owned_part p m) n 0 p.sectors owned twice → IsMarked (owned_part p m) p.inodes 0 p.sectors owned twice
 all_marked p m inodes n owned twice table past most x =
     subst (λ k. IsMarked (owned_part p m) k 0 p.sectors owned twice) (let e : n + (p.inodes - n) ≡ p.inodes = omega (arith, most) in e)
@@ -68,7 +68,7 @@ all_marked p m inodes n owned twice table past most x =
     ap (λ v. part m v (part_at k)) (free_behind p m inodes j table (omega (arith, from, past)) (omega (arith, to, most))) ∙ free_part m (part_at k)) x)
 
 -- what is marked of one inode by a step, of the image as it was
-pub step_marked : (p : Place) (old mid : DiskState) (v : Inode) (n i k j : ℕ) (owned twice owned' twice' : List Bool) → OnlyReads old mid
+pub step_marked : (p : Geometry) (old mid : DiskState) (v : Inode) (n i k j : ℕ) (owned twice owned' twice' : List Bool) → OnlyReads old mid
     → v ≡ inode_at p (meaning old) n
     → (v ≡ inode_at p (meaning mid) n → IsMarked (owned_part p (meaning mid)) n i p.sectors owned twice
     → IsMarked (owned_part p (meaning mid)) k j p.sectors owned' twice')

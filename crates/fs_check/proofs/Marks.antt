@@ -4,7 +4,7 @@ use Rattle.std.specs.Prelude.{Option, Some, None, IfSome, IfNone, MatchOption}
 use Rattle.std.proofs.Common.{refl, sym, ap, subst, arith, ◌∙◌, inl, inr, get_or-set_other, get_or-set_same, length-set}
 use Rattle.std.proofs.lemmas.Bool.{cases_eq, cases_lt}
 use Rattle.std.proofs.lemmas.List.{length-replicate, get_or-replicate, get_or_past}
-use Rattle.fs_layout.specs.declared.place.Place.{Place}
+use Rattle.fs_layout.specs.declared.geometry.Geometry.{Geometry}
 use Rattle.fs_layout.specs.Bytes.{SectorMap}
 use Rattle.fs_layout.specs.Images.{inode_at}
 use Rattle.fs_model.specs.Rules.{OwnedOnce, IsInData, IsOwnedOnce, ObeysEach, IsLeastFailure}
@@ -214,7 +214,7 @@ mark_rest f n (suc more) size owned twice none x =
 
 -- ---- all parts
 
-module _ (p : Place) (m : SectorMap) where
+module _ (p : Geometry) (m : SectorMap) where
   twice_here : {n i s : ℕ} → n < p.inodes → owned_part p m n i ≡ s → IsOnce (owned_part p m) n i s → IsTwice (owned_part p m) p.inodes 0 s
   twice_here {n} {i} lt is other = record { inode = n; at = i; before = inl lt; is = is; other = other }
 
@@ -266,7 +266,7 @@ clear_marked f size owned twice a b =
 
 -- ---- what the maps say
 
-module _ (p : Place) (m : SectorMap) (owned twice : List Bool) (x : IsMarked (owned_part p m) p.inodes 0 p.sectors owned twice) where
+module _ (p : Geometry) (m : SectorMap) (owned twice : List Bool) (x : IsMarked (owned_part p m) p.inodes 0 p.sectors owned twice) where
   set_not : (s : ℕ) → s < p.sectors → get_or twice s false ≡ false → IsTwice (owned_part p m) p.inodes 0 s → ⊥
   set_not s lt clear y = let c : false ≡ true = sym clear ∙ (x.again s lt).1 y in absurd cc
 

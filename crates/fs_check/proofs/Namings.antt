@@ -7,7 +7,7 @@ use Rattle.std.proofs.lemmas.List.Sums.{sum_by-cons}
 use Rattle.fs_layout.specs.declared.inode.Kind.{Kind}
 use Rattle.fs_layout.specs.declared.inode.Kind.TheVariants as kinds
 use Rattle.fs_layout.specs.declared.inode.Inode.{Inode}
-use Rattle.fs_layout.specs.declared.place.Place.{Place}
+use Rattle.fs_layout.specs.declared.geometry.Geometry.{Geometry}
 use Rattle.fs_layout.specs.Bytes.{SectorMap}
 use Rattle.fs_layout.specs.Inode.{free_inode}
 use Rattle.fs_layout.specs.Images.{inode_at}
@@ -40,7 +40,7 @@ two_of_sum f a (suc n) i j from lt to =
     ]
 
 -- two directories that name an inode make two namings
-two_namings : (p : Place) (m : SectorMap) (n d e : ℕ) → d < p.inodes → e < p.inodes → d ≢ e → 1 ≤ namings_in p.version m (inode_at p m d) n
+two_namings : (p : Geometry) (m : SectorMap) (n d e : ℕ) → d < p.inodes → e < p.inodes → d ≢ e → 1 ≤ namings_in p.version m (inode_at p m d) n
     → 1 ≤ namings_in p.version m (inode_at p m e) n → 2 ≤ namings p m n
 two_namings p m n d e dl el apart x y = elim (cases_lt d e) [
   | inl lt ↦
@@ -75,7 +75,7 @@ directory_or kinds.Directory = inl refl
 directory_or kinds.Link = inr (λ e. cc)
 
 -- a free inode has the parent field that it has to have
-pub free_parent : (p : Place) (m : SectorMap) (n : ℕ) → (n ≡ root → (inode_at p m n).kind ≡ kinds.Directory) → inode_at p m n ≡ free_inode → HasParent p m n
+pub free_parent : (p : Geometry) (m : SectorMap) (n : ℕ) → (n ≡ root → (inode_at p m n).kind ≡ kinds.Directory) → inode_at p m n ≡ free_inode → HasParent p m n
 free_parent p m n top free =
     let kind = ap (λ (v : Inode). v.kind) free in
     record {
@@ -88,7 +88,7 @@ free_parent p m n top free =
 abbrev pub IsPlaced : List ℕ → ℕ → Inode → Type 0
 IsPlaced directories n v = v.parent ≡ the_parent n v.kind (get_or directories n 0)
 
-module _ (p : Place) (m : SectorMap) (counts directories : List ℕ) (table : IsNameTable p m counts directories) (before : ObeysBefore p m 13)
+module _ (p : Geometry) (m : SectorMap) (counts directories : List ℕ) (table : IsNameTable p m counts directories) (before : ObeysBefore p m 13)
     (n : ℕ) (lt : n < p.inodes) where
   one_naming : (inode_at p m n).kind ≡ kinds.Directory → n ≢ root → namings p m n ≡ 1
   one_naming is other =

@@ -4,7 +4,7 @@ use Rattle.std.proofs.Common.{refl, sym, ap, arith, ◌∙◌, inl, inr}
 use Rattle.std.proofs.lemmas.Bool.{cases_eq, cases_lt, lt-ltb, le-ltb, ne_eqb}
 use Rattle.fs_layout.specs.declared.inode.TheConstants.{POINTER_LEVELS, SECTOR_POINTERS}
 use Rattle.fs_layout.specs.declared.inode.Inode.{Inode}
-use Rattle.fs_layout.specs.declared.place.Place.{Place}
+use Rattle.fs_layout.specs.declared.geometry.Geometry.{Geometry}
 use Rattle.fs_layout.specs.Bytes.{SectorMap}
 use Rattle.fs_layout.specs.Images.{own_count, level_end, number_on, Part, AccessAcl, DefaultAcl, OnLevel, part, Owns, inode_at}
 use Rattle.fs_layout.proofs.Pointers.{number_past, no_level}
@@ -124,7 +124,7 @@ module _ (m : SectorMap) (v : Inode) where
       go (OnLevel level i) e some = on_level level i e some
 
 -- of inode n
-module _ (p : Place) (m : SectorMap) (n : ℕ) (v : Inode) (is : v ≡ inode_at p m n) where
+module _ (p : Geometry) (m : SectorMap) (n : ℕ) (v : Inode) (is : v ≡ inode_at p m n) where
   pub owned_acl : owned_part p m n 0 ≡ v.acl
   unfolding part
   owned_acl = ap (λ (w : Inode). w.acl) (sym is)

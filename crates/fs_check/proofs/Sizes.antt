@@ -6,7 +6,7 @@ use Rattle.fs_layout.specs.declared.inode.Kind.{Kind}
 use Rattle.fs_layout.specs.declared.inode.Kind.TheVariants as kinds
 use Rattle.fs_layout.specs.declared.inode.Inode.{Inode}
 use Rattle.fs_layout.specs.declared.fault.LayoutFault.TheVariants.{BadNumber, NotZero}
-use Rattle.fs_layout.specs.declared.place.Place.{Place}
+use Rattle.fs_layout.specs.declared.geometry.Geometry.{Geometry}
 use Rattle.fs_layout.specs.Bytes.{SectorMap, zeros, u16_of, u64_of, are_zero}
 use Rattle.fs_layout.specs.Images.{stored, inode_at}
 use Rattle.fs_layout.specs.Inode.{inode_of, inode_if, inode_fits, kind_of, fields_of, gaps_are_zero}
@@ -51,7 +51,7 @@ read_is s v e = read_if (kind_of (u16_of s 0)) s v e
 
 -- ---- what its kind asks
 
-pub good_size : (p : Place) (m : SectorMap) (n : ℕ) → IsGoodInode p m n → HasSize (inode_at p m n)
+pub good_size : (p : Geometry) (m : SectorMap) (n : ℕ) → IsGoodInode p m n → HasSize (inode_at p m n)
 good_size p m n good = go (inode_at p m n).kind refl
   where
     read : IsRead (stored p m n) (inode_at p m n)

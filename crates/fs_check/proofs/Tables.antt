@@ -7,42 +7,42 @@ use Rattle.std.proofs.lemmas.List.{get_or_past, get_or_append_left, get_or-appen
 use Rattle.fs_layout.specs.declared.inode.TheConstants.{INODE_SIZE}
 use Rattle.fs_layout.specs.declared.inode.Inode.{Inode}
 use Rattle.fs_layout.specs.declared.inode.Kind.TheVariants.{Free, Directory}
-use Rattle.fs_layout.specs.declared.place.Place.{Place}
+use Rattle.fs_layout.specs.declared.geometry.Geometry.{Geometry}
 use Rattle.fs_layout.specs.declared.version.Version.TheVariants.{Three}
 use Rattle.fs_layout.specs.Bytes.{SectorMap, window}
 use Rattle.fs_layout.specs.Inode.{inode_of}
 use Rattle.fs_layout.specs.Images.{stored, inode_at, inode_or_free}
 use Rattle.fs_layout.specs.Version.{max_inodes}
-use Rattle.fs_layout.proofs.Places.{numbers_most, place_is_place}
-use Rattle.fs_model.specs.Rules.{IsPlaceOf, IsAllowed, IsGoodInode}
-use Rattle.fs_check.proofs.Openings.{place_size}
+use Rattle.fs_layout.proofs.Places.{numbers_most, is_a_geometry}
+use Rattle.fs_model.specs.Rules.{IsGeometryOf, IsAllowed, IsGoodInode}
+use Rattle.fs_check.proofs.Openings.{geometry_size}
 
 -- where inode n stands
-pub record HasSector (size : ℕ) (p : Place) (n : ℕ) : Type 0 where
+pub record HasSector (size : ℕ) (p : Geometry) (n : ℕ) : Type 0 where
   pub on_disk : p.table + n / 4 < size
   pub room : 128 ≤ size
   pub small : size < 2 ^ 32
   pub few : n < max_inodes Three
 
-pub table_place : (size : ℕ) (image : SectorMap) (p : Place) (n : ℕ) → IsPlaceOf size image p → n < p.inodes → HasSector size p n
-table_place size image p n x lt =
-    let place = place_is_place _ _ size x.super.inodes x.has_place in
-    let same = place_size size image p x in
-    let slots = place.slots in
-    let room = place.data_sectors in
-    let least = place.least_sectors in
-    let most = numbers_most place in
+pub table_geometry : (size : ℕ) (image : SectorMap) (p : Geometry) (n : ℕ) → IsGeometryOf size image p → n < p.inodes → HasSector size p n
+table_geometry size image p n x lt =
+    let geometry = is_a_geometry _ _ size x.super.inodes x.has_geometry in
+    let same = geometry_size size image p x in
+    let slots = geometry.slots in
+    let room = geometry.data_sectors in
+    let least = geometry.least_sectors in
+    let most = numbers_most geometry in
     record { on_disk = omega (arith, same, slots, room, lt); room = omega (arith, same, least); small = omega (arith, same, most.0); few = omega (arith, lt, most.1) }
 
-at_is : (p : Place) (m : SectorMap) (n : ℕ) (v : Inode) → inode_of (stored p m n) ≡ Ok v → inode_at p m n ≡ v
+at_is : (p : Geometry) (m : SectorMap) (n : ℕ) (v : Inode) → inode_of (stored p m n) ≡ Ok v → inode_at p m n ≡ v
 unfolding inode_at
 at_is p m n v e = ap inode_or_free e
 
-there : (p : Place) (m : SectorMap) (n : ℕ) (content : List ℕ) → content ≡ m (p.table + n / 4) → window content (INODE_SIZE * (n % 4)) INODE_SIZE ≡ stored p m n
+there : (p : Geometry) (m : SectorMap) (n : ℕ) (content : List ℕ) → content ≡ m (p.table + n / 4) → window content (INODE_SIZE * (n % 4)) INODE_SIZE ≡ stored p m n
 unfolding stored
 there p m n content e = ap (λ (s : List ℕ). window s (INODE_SIZE * (n % 4)) INODE_SIZE) e
 
-pub good_is : (p : Place) (m : SectorMap) (n : ℕ) (content : List ℕ) (o : Option Inode) → content ≡ m (p.table + n / 4)
+pub good_is : (p : Geometry) (m : SectorMap) (n : ℕ) (content : List ℕ) (o : Option Inode) → content ≡ m (p.table + n / 4)
     → IfSome o (λ v. inode_of (window content (INODE_SIZE * (n % 4)) INODE_SIZE) ≡ Ok v) → IfSome o (λ v. IsAllowed p.version v) → IfSome o (λ v. n ≡ 0 → v.kind ≡ Free) → IfSome o (λ v. n ≡ 1 → v.kind ≡ Directory)
     → IfNone o ((v : Inode) → inode_of (window content (INODE_SIZE * (n % 4)) INODE_SIZE) ≡ Ok v → IsAllowed p.version v → (n ≡ 0 → v.kind ≡ Free) → (n ≡ 1 → v.kind ≡ Directory) → ⊥)
     → MatchOption o (IsGoodInode p m n → ⊥) (λ v. IsGoodInode p m n × (v ≡ inode_at p m n))

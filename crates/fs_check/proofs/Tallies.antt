@@ -13,7 +13,7 @@ use Rattle.fs_layout.specs.declared.fault.LayoutFault.TheVariants.{BadNumber, No
 use Rattle.fs_layout.specs.declared.inode.Inode.{Inode}
 use Rattle.fs_layout.specs.declared.inode.Kind.{Kind}
 use Rattle.fs_layout.specs.declared.inode.Kind.TheVariants as kinds
-use Rattle.fs_layout.specs.declared.place.Place.{Place}
+use Rattle.fs_layout.specs.declared.geometry.Geometry.{Geometry}
 use Rattle.fs_layout.specs.declared.version.Version.{Version}
 use Rattle.fs_layout.specs.declared.version.Version.TheVariants.{One, Two, Three}
 use Rattle.fs_layout.specs.Bytes.{SectorMap, u16_of}
@@ -102,7 +102,7 @@ read_fits : (s : List ℕ) (v : Inode) → inode_of s ≡ Ok v → IsTrue (inode
 unfolding inode_of
 read_fits s v e = fits_if (kind_of (u16_of s 0)) s v e
 
-pub directory_size : (p : Place) (m : SectorMap) (n : ℕ) → IsGoodInode p m n → (inode_at p m n).kind ≡ kinds.Directory → (inode_at p m n).size ≤ MAX_DIRECTORY_SIZE
+pub directory_size : (p : Geometry) (m : SectorMap) (n : ℕ) → IsGoodInode p m n → (inode_at p m n).kind ≡ kinds.Directory → (inode_at p m n).size ≤ MAX_DIRECTORY_SIZE
 directory_size p m n good is = (directory_fits (inode_at p m n) is (read_fits (stored p m n) (inode_at p m n) good.is)).1
 
 -- ---- the names in a directory
@@ -175,7 +175,7 @@ sum_below f b (suc n) each =
 
 -- ---- the tables
 
-module _ (p : Place) (m : SectorMap) where
+module _ (p : Geometry) (m : SectorMap) where
   abbrev so_far : ℕ → ℕ → ℕ
   so_far upto n = sum_by (λ d. namings_in p.version m (inode_at p m d) n) (range_with_len 0 upto)
 
@@ -279,7 +279,7 @@ module _ (p : Place) (m : SectorMap) where
   }
 
 -- all of them, where the directories of the list have been: one behind it is free
-module _ (p : Place) (m : SectorMap) (inodes : List Inode) (table : AreInodes p m inodes) where
+module _ (p : Geometry) (m : SectorMap) (inodes : List Inode) (table : AreInodes p m inodes) where
   rest_naming : (n more : ℕ) (c0 d0 : List ℕ) (first : Option ℕ) → length inodes ≤ n → n + more ≤ p.inodes → IsNaming p m n c0 d0 first
       → IsNaming p m (n + more) c0 d0 first
   rest_naming n zero c0 d0 first past most x = subst (λ k. IsNaming p m k c0 d0 first) (let e : n ≡ n + 0 = omega arith in e) x
@@ -296,7 +296,7 @@ module _ (p : Place) (m : SectorMap) (inodes : List Inode) (table : AreInodes p 
       (rest_naming n (p.inodes - n) c0 d0 first past (omega (arith, most)) x)
 
 -- the first such directory, where d is the next
-module _ (p : Place) (m : SectorMap) (d : ℕ) where
+module _ (p : Geometry) (m : SectorMap) (d : ℕ) where
   pub stays_first : (first : Option ℕ) → is_some first ≡ true → IsRepeated p m d first → IsRepeated p m (d + 1) first
   stays_first None some x = absurd cc
   stays_first (Some k) some x = x
@@ -315,16 +315,16 @@ pub adds_same : (d : ℕ) (slots seen : List NamedInode) (c0 d0 c1 d1 cs ds : Li
 adds_same d slots seen c0 d0 c1 d1 cs ds a b e x =
     subst (λ l. AddsSlots d l c0 d0 c1 d1) a (subst (λ l. AddsSlots d seen l d0 c1 d1) b (subst (λ l. AddsSlots d seen cs l c1 d1) e x))
 
-pub naming_same : (p : Place) (m : SectorMap) (upto : ℕ) (c0 d0 c1 d1 : List ℕ) (first : Option ℕ) → c1 ≡ c0 → d1 ≡ d0 → IsNaming p m upto c0 d0 first
+pub naming_same : (p : Geometry) (m : SectorMap) (upto : ℕ) (c0 d0 c1 d1 : List ℕ) (first : Option ℕ) → c1 ≡ c0 → d1 ≡ d0 → IsNaming p m upto c0 d0 first
     → IsNaming p m upto c1 d1 first
 naming_same p m upto c0 d0 c1 d1 first a b x = subst (λ l. IsNaming p m upto l d1 first) (sym a) (subst (λ l. IsNaming p m upto c0 l first) (sym b) x)
 
 -- ---- all directories
 
-pub all_repeated : (p : Place) (m : SectorMap) (upto : ℕ) (first : Option ℕ) → p.inodes ≤ upto → IsRepeated p m upto first
+pub all_repeated : (p : Geometry) (m : SectorMap) (upto : ℕ) (first : Option ℕ) → p.inodes ≤ upto → IsRepeated p m upto first
     → MatchOption first (ObeysEach p m NamesApart) (λ d. IsLeastFailure p m NamesApart d)
 all_repeated p m upto None past x = λ n lt. x n (omega (arith, lt, past)) lt
 all_repeated p m upto (Some k) past x = x
 
-pub all_named : (p : Place) (m : SectorMap) (upto : ℕ) (c0 d0 : List ℕ) → upto ≡ p.inodes → IsTally p m upto c0 d0 → IsNameTable p m c0 d0
+pub all_named : (p : Geometry) (m : SectorMap) (upto : ℕ) (c0 d0 : List ℕ) → upto ≡ p.inodes → IsTally p m upto c0 d0 → IsNameTable p m c0 d0
 all_named p m upto c0 d0 e t = name_table p m c0 d0 (subst (λ k. IsTally p m k c0 d0) e t)

@@ -5,12 +5,12 @@ use Rattle.std.proofs.lemmas.Bool.{cases_lt}
 use Rattle.std.proofs.lemmas.List.{get_or_default, get_or_past}
 use Rattle.fs_layout.specs.declared.inode.Kind.TheVariants as kinds
 use Rattle.fs_layout.specs.declared.inode.Inode.{Inode}
-use Rattle.fs_layout.specs.declared.place.Place.{Place}
+use Rattle.fs_layout.specs.declared.geometry.Geometry.{Geometry}
 use Rattle.fs_layout.specs.Bytes.{SectorMap}
 use Rattle.fs_layout.specs.Inode.{free_inode}
 use Rattle.fs_layout.specs.Images.{inode_at}
-use Rattle.fs_layout.proofs.Places.{numbers_most, place_is_place}
-use Rattle.fs_model.specs.Rules.{IsPlaceOf, ImageRule, Obeys, rule_number}
+use Rattle.fs_layout.proofs.Places.{numbers_most, is_a_geometry}
+use Rattle.fs_model.specs.Rules.{IsGeometryOf, ImageRule, Obeys, rule_number}
 use Rattle.sector_disk.specs.Disk.{DiskState, OnlyReads}
 use Rattle.sector_disk.proofs.Moments.{reads_joined}
 use Rattle.fs_check.specs.declared.faults.CheckFault.TheVariants.{Found}
@@ -19,27 +19,27 @@ use Rattle.fs_check.proofs.Carrying.{meaning_same}
 use Rattle.fs_check.proofs.Tables.{more_good}
 
 -- an inode of the list is one of the table
-pub within : (p : Place) (m : SectorMap) (inodes : List Inode) (n : ℕ) → AreInodes p m inodes → n < length inodes → n < p.inodes
+pub within : (p : Geometry) (m : SectorMap) (inodes : List Inode) (n : ℕ) → AreInodes p m inodes → n < length inodes → n < p.inodes
 within p m inodes n table lt = let len = table.len in omega (arith, lt, len)
 
-pub inode_here : (p : Place) (m : SectorMap) (inodes : List Inode) (n : ℕ) (d : Inode) → AreInodes p m inodes → n < length inodes
+pub inode_here : (p : Geometry) (m : SectorMap) (inodes : List Inode) (n : ℕ) (d : Inode) → AreInodes p m inodes → n < length inodes
     → get_or inodes n d ≡ inode_at p m n
 inode_here p m inodes n d table lt = get_or_default inodes n d free_inode lt ∙ table.each n (within p m inodes n table lt)
 
 -- they have numbers
-pub few_inodes : (size : ℕ) (image : SectorMap) (p : Place) (m : SectorMap) (inodes : List Inode) → IsPlaceOf size image p → AreInodes p m inodes
+pub few_inodes : (size : ℕ) (image : SectorMap) (p : Geometry) (m : SectorMap) (inodes : List Inode) → IsGeometryOf size image p → AreInodes p m inodes
     → length inodes < 2 ^ 32
 few_inodes size image p m inodes at table =
-    let most = (numbers_most (place_is_place _ _ size at.super.inodes at.has_place)).1 in
+    let most = (numbers_most (is_a_geometry _ _ size at.super.inodes at.has_geometry)).1 in
     let len = table.len in
     omega (arith, most, len)
 
 -- one behind the list is free
-pub free_behind : (p : Place) (m : SectorMap) (inodes : List Inode) (n : ℕ) → AreInodes p m inodes → length inodes ≤ n → n < p.inodes → inode_at p m n ≡ free_inode
+pub free_behind : (p : Geometry) (m : SectorMap) (inodes : List Inode) (n : ℕ) → AreInodes p m inodes → length inodes ≤ n → n < p.inodes → inode_at p m n ≡ free_inode
 free_behind p m inodes n table past lt = sym (table.each n lt) ∙ get_or_past inodes n free_inode past
 
 -- what is known of it later, of the image as it was
-pub known_of : (P : SectorMap → Inode → Type 0) (old mid : DiskState) (p : Place) (inodes : List Inode) (n : ℕ) (d : Inode) → OnlyReads old mid
+pub known_of : (P : SectorMap → Inode → Type 0) (old mid : DiskState) (p : Geometry) (inodes : List Inode) (n : ℕ) (d : Inode) → OnlyReads old mid
     → AreInodes p (meaning old) inodes → n < length inodes → P (meaning mid) (get_or inodes n d) → P (meaning old) (inode_at p (meaning old) n)
 known_of P old mid p inodes n d reads table lt known =
     subst (λ v. P (meaning old) v) (inode_here p (meaning old) inodes n d table lt) (subst (λ m. P m (get_or inodes n d)) (meaning_same reads) known)
@@ -48,12 +48,12 @@ pub refuses : (P : Type 0) (b : Bool) → b ≡ false → (IsTrue b ↔ P) → P
 refuses P b e test x = let c : false ≡ true = sym e ∙ test.1 x in absurd cc
 
 -- Each inode below n is as a rule asks, and the disk was only read meanwhile.
-pub record AreTried (P : SectorMap → Inode → Type 0) (p : Place) (old now : DiskState) (n : ℕ) : Type 0 where
+pub record AreTried (P : SectorMap → Inode → Type 0) (p : Geometry) (old now : DiskState) (n : ℕ) : Type 0 where
   pub reads : OnlyReads old now
   pub good : (k : ℕ) → k < n → P (meaning old) (inode_at p (meaning old) k)
 
 -- a test of inode n, where those before it have passed
-module _ (P : SectorMap → Inode → Type 0) (p : Place) (old mid new : DiskState) (inodes : List Inode) (n : ℕ) (d : Inode) (b : Bool)
+module _ (P : SectorMap → Inode → Type 0) (p : Geometry) (old mid new : DiskState) (inodes : List Inode) (n : ℕ) (d : Inode) (b : Bool)
     (tried : AreTried P p old mid n) (reads : OnlyReads mid new) (table : AreInodes p (meaning old) inodes) (lt : n < length inodes)
     (test : IsTrue b ↔ P (meaning mid) (get_or inodes n d)) where
   here : IsTrue b ↔ P (meaning old) (inode_at p (meaning old) n)
@@ -80,7 +80,7 @@ module _ (P : SectorMap → Inode → Type 0) (p : Place) (old mid new : DiskSta
   }
 
 -- each is as the rule asks, where those of the list are, and a free one is
-pub all_tried : (P : SectorMap → Inode → Type 0) (p : Place) (old now : DiskState) (inodes : List Inode) (n : ℕ) → AreTried P p old now n
+pub all_tried : (P : SectorMap → Inode → Type 0) (p : Geometry) (old now : DiskState) (inodes : List Inode) (n : ℕ) → AreTried P p old now n
     → AreInodes p (meaning old) inodes → length inodes ≤ n → P (meaning old) free_inode → (k : ℕ) → k < p.inodes → P (meaning old) (inode_at p (meaning old) k)
 all_tried P p old now inodes n tried table past free k lt = elim (cases_lt k n) [
   | inl low ↦ tried.good k low

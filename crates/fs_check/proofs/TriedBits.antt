@@ -2,7 +2,7 @@
 use Rattle.std.specs.Prelude.{◌≡◌, ◌≢◌, ℕ, ◌+◌, ◌/◌, ◌%◌, ◌<◌, nat_eq, nat_lt, nat_le, not, ◌||◌, Bool, true, false, List, ◌↔◌, Err}
 use Rattle.std.proofs.Common.{refl, ap, arith, ◌∙◌}
 use Rattle.std.proofs.Math.Bool.{beq}
-use Rattle.fs_layout.specs.declared.place.Place.{Place}
+use Rattle.fs_layout.specs.declared.geometry.Geometry.{Geometry}
 use Rattle.fs_layout.specs.Bytes.{SectorMap, u16_of}
 use Rattle.fs_layout.specs.Images.{inode_map_bits, bit, stored}
 use Rattle.fs_model.specs.Rules.{IsBit, InodeBits}
@@ -18,14 +18,14 @@ use Rattle.fs_check.proofs.TableSectors.{same_sector, sector_back}
 
 -- The bits below n are as they have to be; the sectors of the bitmap and of the table that were read last are those of n, unless n is
 -- the first of its own.
-pub record AreBits (p : Place) (old now : DiskState) (n : ℕ) (map table : List ℕ) : Type 0 where
+pub record AreBits (p : Geometry) (old now : DiskState) (n : ℕ) (map table : List ℕ) : Type 0 where
   pub reads : OnlyReads old now
   pub map_kept : n % 4096 ≢ 0 → map ≡ meaning old (p.inode_bitmap + n / 4096)
   pub kept : n % 4 ≢ 0 → IsTableSector p (meaning old) n table
   pub good : (k : ℕ) → k < n → IsBit p (meaning old) k
 
 -- a test of bit n, where those before it have passed
-module _ (s0 s1 s2 s3 : DiskState) (p : Place) (n : ℕ) (map table new_map new : List ℕ) (b t : Bool) (so_far : AreBits p s0 s1 n map table)
+module _ (s0 s1 s2 s3 : DiskState) (p : Geometry) (n : ℕ) (map table new_map new : List ℕ) (b t : Bool) (so_far : AreBits p s0 s1 n map table)
     (first : OnlyReads s1 s2) (second : OnlyReads s2 s3) (lt : n < inode_map_bits p) (read : new_map ≡ meaning s1 (p.inode_bitmap + n / 4096))
     (there : IsTableSector p (meaning s2) n new)
     (set : (m : SectorMap) (start : ℕ) → new_map ≡ m (start + n / 4096) → b ≡ bit m start n)

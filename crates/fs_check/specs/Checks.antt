@@ -8,7 +8,7 @@
 --     CountsTree, IsClean        the summary counts a tree; the disk stands for a tree that it counts
 use Rattle.std.specs.Prelude.{◌≡◌, ℕ, ◌<◌, ◌≤◌, List, length, get_or, Bool, false, not, ◌&&◌, ◌==◌, ◌-◌, count_by, drop, Result, IfErr, IsTrue, ◌↔◌}
 use Rattle.fs_layout.specs.declared.inode.Inode.{Inode}
-use Rattle.fs_layout.specs.declared.place.Place.{Place}
+use Rattle.fs_layout.specs.declared.geometry.Geometry.{Geometry}
 use Rattle.fs_layout.specs.Bytes.{SectorMap}
 use Rattle.fs_layout.specs.Commit.{IsCommit, named_area}
 use Rattle.fs_layout.specs.Inode.{free_inode}
@@ -18,7 +18,7 @@ use Rattle.fs_layout.specs.Recovered.{recovered}
 use Rattle.sector_disk.specs.Disk.{DiskState, OnlyReads, HasFailed, sector}
 use Rattle.fs_model.specs.Trees.{Tree, Room, free_inodes}
 use Rattle.fs_model.specs.Stands.{Stands}
-use Rattle.fs_model.specs.Rules.{IsPlaceOf, namings_in, namings, is_directory_kind, ImageRule, rule_number, ObeysBefore, IsLeastFailure, IsFinding}
+use Rattle.fs_model.specs.Rules.{IsGeometryOf, namings_in, namings, is_directory_kind, ImageRule, rule_number, ObeysBefore, IsLeastFailure, IsFinding}
 use Rattle.fs_model.specs.Summaries.{named_files, nameless_files, directories, links, is_sealed, is_file_kind, is_link_kind, is_used, some_target}
 use Rattle.fs_check.specs.declared.faults.CheckFault.{CheckFault}
 use Rattle.fs_check.specs.declared.faults.CheckFault.TheVariants.{Found, DiskFault, OutOfMemory}
@@ -31,32 +31,32 @@ abbrev pub meaning : DiskState → SectorMap
 meaning disk = recovered disk.size (sector disk.seen)
 
 -- the superblock gives this place, and the commit is valid, names this log area and has these targets
-pub record BeginsWith (disk : DiskState) (p : Place) (area : ℕ) (targets : List ℕ) : Type 0 where
-  pub place : IsPlaceOf disk.size (sector disk.seen) p
+pub record BeginsWith (disk : DiskState) (p : Geometry) (area : ℕ) (targets : List ℕ) : Type 0 where
+  pub geometry : IsGeometryOf disk.size (sector disk.seen) p
   pub log : area ≡ named_area (sector disk.seen)
   pub commit : IsCommit disk.size (sector disk.seen) targets
 
 -- all inodes of the image, but for free ones at the end
-pub record AreInodes (p : Place) (m : SectorMap) (inodes : List Inode) : Type 0 where
+pub record AreInodes (p : Geometry) (m : SectorMap) (inodes : List Inode) : Type 0 where
   pub len : length inodes ≤ p.inodes
   pub each : (n : ℕ) → n < p.inodes → get_or inodes n free_inode ≡ inode_at p m n
 
 -- which sectors are owned
-pub record IsOwnerMap (p : Place) (m : SectorMap) (owned : List Bool) : Type 0 where
+pub record IsOwnerMap (p : Geometry) (m : SectorMap) (owned : List Bool) : Type 0 where
   pub len : length owned ≡ p.sectors
   pub each : (s : ℕ) → s < p.sectors → IsTrue (get_or owned s false) ↔ IsOwned p m s
 
 -- how many slots name each inode
-pub record IsNameCount (p : Place) (m : SectorMap) (counts : List ℕ) : Type 0 where
+pub record IsNameCount (p : Geometry) (m : SectorMap) (counts : List ℕ) : Type 0 where
   pub len : length counts ≡ p.inodes
   pub each : (n : ℕ) → n < p.inodes → get_or counts n 0 ≡ namings p m n
 
 -- directory d has a slot that names n
-abbrev pub IsNamedBy : Place → SectorMap → ℕ → ℕ → Type 0
+abbrev pub IsNamedBy : Geometry → SectorMap → ℕ → ℕ → Type 0
 IsNamedBy p m d n = (d < p.inodes) × (1 ≤ namings_in p.version m (inode_at p m d) n)
 
 -- the same, and for each inode that is named a directory that names it
-pub record IsNameTable (p : Place) (m : SectorMap) (counts directories : List ℕ) : Type 0 where
+pub record IsNameTable (p : Geometry) (m : SectorMap) (counts directories : List ℕ) : Type 0 where
   pub counted : IsNameCount p m counts
   pub len : length directories ≡ p.inodes
   pub named_by : (n : ℕ) → n < p.inodes → 1 ≤ namings p m n → IsNamedBy p m (get_or directories n 0) n
@@ -75,7 +75,7 @@ pub record Passed {T : Type 0} (IsIt : DiskState → ℕ → ℕ → Type 0) (ol
   pub reason : IfErr result (IsReason IsIt old new)
 
 -- this rule fails, and not at a lower number
-abbrev pub IsLeast : Place → ImageRule → DiskState → ℕ → ℕ → Type 0
+abbrev pub IsLeast : Geometry → ImageRule → DiskState → ℕ → ℕ → Type 0
 IsLeast p r disk rule at = (rule ≡ rule_number r) × IsLeastFailure p (meaning disk) r at
 
 -- The first rule that fails, at its least number.
@@ -83,14 +83,14 @@ abbrev pub IsFirst : DiskState → ℕ → ℕ → Type 0
 IsFirst disk rule at = IsFinding disk.size (sector disk.seen) rule at
 
 -- a rule that fails, where those before it hold, at its least number
-pub record IsFailure (p : Place) (m : SectorMap) (rule at : ℕ) : Type 0 where
+pub record IsFailure (p : Geometry) (m : SectorMap) (rule at : ℕ) : Type 0 where
   pub of : ImageRule
   pub number : rule ≡ rule_number of
   pub before : ObeysBefore p m (rule_number of)
   pub least : IsLeastFailure p m of at
 
 -- the same as the reason of a fault, which no device gives
-abbrev pub IsFailureOf : Place → SectorMap → CheckFault → Type 0
+abbrev pub IsFailureOf : Geometry → SectorMap → CheckFault → Type 0
 IsFailureOf p m (Found f) = IsFailure p m f.rule f.at
 IsFailureOf p m DiskFault = ⊥
 IsFailureOf p m OutOfMemory = Unit {0}
@@ -110,7 +110,7 @@ pub record CountsTree (disk : DiskState) (room : Room) (t : Tree) (free : ℕ) (
   pub pending : s.pending ≡ is_sealed disk.size (sector disk.seen)
 
 -- what a summary counts of the tables
-pub record IsCounted (p : Place) (targets : List ℕ) (inodes : List Inode) (owned : List Bool) (s : Summary) : Type 0 where
+pub record IsCounted (p : Geometry) (targets : List ℕ) (inodes : List Inode) (owned : List Bool) (s : Summary) : Type 0 where
   pub files : s.files ≡ count_by (λ v. is_file_kind v.kind && not (v.names == 0)) inodes
   pub dirs : s.dirs ≡ count_by (λ v. is_directory_kind v.kind) inodes
   pub link_count : s.links ≡ count_by (λ v. is_link_kind v.kind) inodes

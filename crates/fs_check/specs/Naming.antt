@@ -11,7 +11,7 @@ use Rattle.std.specs.Ordering.{is_lt}
 use Rattle.fs_layout.specs.Maps.{name_cmp}
 use Rattle.fs_layout.specs.declared.inode.Kind.TheVariants.{Free}
 use Rattle.fs_layout.specs.declared.inode.Inode.{Inode}
-use Rattle.fs_layout.specs.declared.place.Place.{Place}
+use Rattle.fs_layout.specs.declared.geometry.Geometry.{Geometry}
 use Rattle.fs_layout.specs.declared.version.Version.{Version}
 use Rattle.fs_layout.specs.Bytes.{SectorMap}
 use Rattle.fs_layout.specs.Inode.{free_inode}
@@ -43,7 +43,7 @@ pub record IsUsable (inodes : List Inode) (x : NamedInode) : Type 0 where
   pub used : (get_or inodes x.inode free_inode).kind ≢ Free
   pub not_root : x.inode ≢ root
 
-abbrev pub HasGoodSlots : Place → SectorMap → Inode → Type 0
+abbrev pub HasGoodSlots : Geometry → SectorMap → Inode → Type 0
 HasGoodSlots p m v = (k : ℕ) → k < slot_count p.version v → IsGoodSlot p m v k
 
 -- the bytewise order of the names
@@ -65,16 +65,16 @@ pub record AddsSlots (d : ℕ) (slots : List NamedInode) (counts directories cou
 -- ---- all directories
 
 -- the tables of what the directories below a number name
-pub record IsTally (p : Place) (m : SectorMap) (upto : ℕ) (counts directories : List ℕ) : Type 0 where
+pub record IsTally (p : Geometry) (m : SectorMap) (upto : ℕ) (counts directories : List ℕ) : Type 0 where
   pub counts_len : length counts ≡ p.inodes
   pub directories_len : length directories ≡ p.inodes
   pub counted : (n : ℕ) → n < p.inodes → get_or counts n 0 ≡ sum_by (λ d. namings_in p.version m (inode_at p m d) n) (range_with_len 0 upto)
   pub named_by : (n : ℕ) → n < p.inodes → 1 ≤ get_or counts n 0 → IsNamedBy p m (get_or directories n 0) n
 
 -- the first directory in which a name stands twice, if there is one below a number
-abbrev pub IsRepeated : Place → SectorMap → ℕ → Option ℕ → Type 0
+abbrev pub IsRepeated : Geometry → SectorMap → ℕ → Option ℕ → Type 0
 IsRepeated p m upto first = MatchOption first ((d : ℕ) → d < upto → Obeys p m NamesApart d) (λ d. IsLeastFailure p m NamesApart d)
 
-pub record IsNaming (p : Place) (m : SectorMap) (upto : ℕ) (counts directories : List ℕ) (first : Option ℕ) : Type 0 where
+pub record IsNaming (p : Geometry) (m : SectorMap) (upto : ℕ) (counts directories : List ℕ) (first : Option ℕ) : Type 0 where
   pub tally : IsTally p m upto counts directories
   pub repeated : IsRepeated p m upto first

@@ -8,7 +8,7 @@
 --     IsOnce, IsTwice, IsMarked        a sector that is owned by the parts so far, once and twice, and two maps of them
 use Rattle.std.specs.Prelude.{◌≡◌, ◌≢◌, ◌⊎◌, ℕ, zero, suc, ◌+◌, ◌-◌, ◌<◌, ◌≤◌, nat_eq, nat_lt, List, [], length, get_or, Bool, false, if◌then◌else◌, IsTrue, ◌↔◌}
 use Rattle.fs_layout.specs.declared.inode.Inode.{Inode}
-use Rattle.fs_layout.specs.declared.place.Place.{Place}
+use Rattle.fs_layout.specs.declared.geometry.Geometry.{Geometry}
 use Rattle.fs_layout.specs.Bytes.{SectorMap}
 use Rattle.fs_check.specs.declared.owning.Pointers.{Pointers}
 use Rattle.fs_layout.specs.Images.{Part, AccessAcl, DefaultAcl, OnLevel, own_count, level_end, holder, number_on, HasPointers, part, Owns, IsData, inode_at}
@@ -21,23 +21,23 @@ AreListed m v content level first end = (i : ℕ) → first ≤ i → i < end �
     → HasPointers m v (suc level) (holder (own_count level) i) content
 
 -- each of them that is there is in the data area
-abbrev pub AreInData : Place → SectorMap → Inode → ℕ → ℕ → ℕ → Type 0
+abbrev pub AreInData : Geometry → SectorMap → Inode → ℕ → ℕ → ℕ → Type 0
 AreInData p m v level first end = (i : ℕ) → first ≤ i → i < end → number_on m v level i ≢ 0 → IsData p (number_on m v level i)
 
 -- each number of a level that is there is in the data area
-abbrev pub HasLevelInData : Place → SectorMap → Inode → ℕ → Type 0
+abbrev pub HasLevelInData : Geometry → SectorMap → Inode → ℕ → Type 0
 HasLevelInData p m v level = (i : ℕ) → number_on m v level i ≢ 0 → IsData p (number_on m v level i)
 
 -- the sectors of pointers by which the numbers of a level are found are in the data area
-abbrev pub HasAboveInData : Place → SectorMap → Inode → ℕ → Type 0
+abbrev pub HasAboveInData : Geometry → SectorMap → Inode → ℕ → Type 0
 HasAboveInData p m v level = (above : ℕ) → level < above → HasLevelInData p m v above
 
 -- the ACLs that are there are in the data area
-pub record HasAclsInData (p : Place) (v : Inode) : Type 0 where
+pub record HasAclsInData (p : Geometry) (v : Inode) : Type 0 where
   pub acl : v.acl ≢ 0 → IsData p v.acl
   pub default_acl : v.default_acl ≢ 0 → IsData p v.default_acl
 
-abbrev pub OwnsData : Place → SectorMap → Inode → Type 0
+abbrev pub OwnsData : Geometry → SectorMap → Inode → Type 0
 OwnsData p m v = (s : ℕ) → Owns m v s → IsData p s
 
 -- what is at hand of a level is the content of a sector, if one was read
@@ -62,7 +62,7 @@ part_at i =
     (if nat_lt i (first_part 1) then OnLevel 2 (i - first_part 2) else
     (if nat_lt i (first_part 0) then OnLevel 1 (i - first_part 1) else OnLevel 0 (i - first_part 0)))))
 
-abbrev pub owned_part : Place → SectorMap → ℕ → ℕ → ℕ
+abbrev pub owned_part : Geometry → SectorMap → ℕ → ℕ → ℕ
 owned_part p m n i = part m (inode_at p m n) (part_at i)
 
 -- part i of inode n comes before part j of inode m

@@ -2,7 +2,7 @@
 --     AreNoEntries        no entries have these numbers
 --     IsListed        the ACL with these entries, in canonical order, or none where there is none
 --     IsAclIn        the ACL that a sector has, or none where it has none
---     IsInPlace        an inode has no ACL of a sort that it mustn't have
+--     HasListsInPlace        an inode has no ACL of a sort that it mustn't have
 use Rattle.std.specs.Prelude.{◌≡◌, ◌≢◌, ℕ, List, map, Option, Some, None}
 use Rattle.posix_acl.specs.declared.entry.Entry.{Entry}
 use Rattle.posix_acl.specs.declared.entry.EntryNumbers.{EntryNumbers}
@@ -23,5 +23,5 @@ abbrev pub IsAclIn : List ℕ → Option AccessList → Type 0
 IsAclIn content None = (a : AccessList) → IsStoredAcl content a → ⊥
 IsAclIn content (Some a) = IsStoredAcl content a
 
-abbrev pub IsInPlace : Inode → Type 0
-IsInPlace v = (v.kind ≡ kinds.Link → v.acl ≡ 0) × (v.kind ≢ kinds.Directory → v.default_acl ≡ 0)
+abbrev pub HasListsInPlace : Inode → Type 0
+HasListsInPlace v = (v.kind ≡ kinds.Link → v.acl ≡ 0) × (v.kind ≢ kinds.Directory → v.default_acl ≡ 0)

@@ -4,7 +4,7 @@ ghost use Rattle.std.specs.Prelude.{◌≡◌, ◌<◌, ◌≢◌, OnOk, IfOk, I
 ghost use Rattle.posix_acl.specs.Entries.{numbers_of};
 ghost use Rattle.fs_layout.specs.Bytes.{SectorMap};
 ghost use Rattle.fs_model.specs.Rules.{ObeysEach, ObeysBefore, Acls, HasAcls, HasSomeAccessAcl, HasSomeDefaultAcl};
-ghost use Rattle.fs_check.specs.StoredAcls.{AreNoEntries, IsListed, IsAclIn, IsInPlace};
+ghost use Rattle.fs_check.specs.StoredAcls.{AreNoEntries, IsListed, IsAclIn, HasListsInPlace};
 ghost use Rattle.fs_check.specs.Checks.{meaning, BeginsWith, AreInodes, Passed, IsNone, IsLeast};
 ghost use Rattle.fs_check.specs.declared.faults.CheckFault.TheVariants.{OutOfMemory};
 
@@ -101,7 +101,7 @@ fn is_default_acl(alloc: Global, inode: &Inode, content: &[u8; 512]) -> Checked<
 
 // Whether the inode has no ACL that its kind mustn't have.
 fn is_in_place(inode: &Inode) -> bool
-    ensures { IsTrue result ↔ IsInPlace inode.now }
+    ensures { IsTrue result ↔ HasListsInPlace inode.now }
 {
     if inode.kind == Kind::Link && inode.acl != 0 {
         return false;
@@ -111,7 +111,7 @@ fn is_in_place(inode: &Inode) -> bool
 
 // Whether the inode's access ACL is good, if it has one.
 fn has_access_acl<D: Disk>(disk: &mut D, opened: &Opened, inode: &Inode) -> Checked<bool>
-    requires opened { BeginsWith (D.state disk.old) opened.now.place opened.now.area opened.now.commit }
+    requires opened { BeginsWith (D.state disk.old) opened.now.geometry opened.now.area opened.now.commit }
     requires on_disk { inode.now.acl < (D.state disk.old).size }
     ensures test { IfOk result (λ b. IsTrue b ↔ (inode.now.acl ≢ 0 → HasSomeAccessAcl (meaning (D.state disk.old)) inode.now)) }
     ensures passed { Passed IsNone (D.state disk.old) (D.state disk.new) result }
@@ -126,7 +126,7 @@ fn has_access_acl<D: Disk>(disk: &mut D, opened: &Opened, inode: &Inode) -> Chec
 
 // Whether the inode's default ACL is good, if it has one.
 fn has_default_acl<D: Disk>(disk: &mut D, opened: &Opened, inode: &Inode) -> Checked<bool>
-    requires opened { BeginsWith (D.state disk.old) opened.now.place opened.now.area opened.now.commit }
+    requires opened { BeginsWith (D.state disk.old) opened.now.geometry opened.now.area opened.now.commit }
     requires on_disk { inode.now.default_acl < (D.state disk.old).size }
     ensures test { IfOk result (λ b. IsTrue b ↔ (inode.now.default_acl ≢ 0 → HasSomeDefaultAcl (meaning (D.state disk.old)) inode.now)) }
     ensures passed { Passed IsNone (D.state disk.old) (D.state disk.new) result }
@@ -141,7 +141,7 @@ fn has_default_acl<D: Disk>(disk: &mut D, opened: &Opened, inode: &Inode) -> Che
 
 // Whether the inode's ACLs are good, and none is where it mustn't be.
 fn has_good_acls<D: Disk>(disk: &mut D, opened: &Opened, inode: &Inode) -> Checked<bool>
-    requires opened { BeginsWith (D.state disk.old) opened.now.place opened.now.area opened.now.commit }
+    requires opened { BeginsWith (D.state disk.old) opened.now.geometry opened.now.area opened.now.commit }
     requires access { inode.now.acl < (D.state disk.old).size }
     requires default { inode.now.default_acl < (D.state disk.old).size }
     ensures test { IfOk result (λ b. IsTrue b ↔ HasAcls (meaning (D.state disk.old)) inode.now) }
@@ -158,11 +158,11 @@ fn has_good_acls<D: Disk>(disk: &mut D, opened: &Opened, inode: &Inode) -> Check
 
 /// Each sector of an ACL has a valid one, with the mode's bits, and none is where it mustn't be.
 pub(crate) fn acls<D: Disk>(disk: &mut D, opened: &Opened, inodes: &[Inode]) -> Checked<()>
-    requires opened { BeginsWith (D.state disk.old) opened.now.place opened.now.area opened.now.commit }
-    requires table { AreInodes opened.now.place (meaning (D.state disk.old)) inodes.now }
-    requires before { ObeysBefore opened.now.place (meaning (D.state disk.old)) 9 }
-    ensures each { OnOk result (ObeysEach opened.now.place (meaning (D.state disk.old)) Acls) }
-    ensures passed { Passed (IsLeast opened.now.place Acls) (D.state disk.old) (D.state disk.new) result }
+    requires opened { BeginsWith (D.state disk.old) opened.now.geometry opened.now.area opened.now.commit }
+    requires table { AreInodes opened.now.geometry (meaning (D.state disk.old)) inodes.now }
+    requires before { ObeysBefore opened.now.geometry (meaning (D.state disk.old)) 9 }
+    ensures each { OnOk result (ObeysEach opened.now.geometry (meaning (D.state disk.old)) Acls) }
+    ensures passed { Passed (IsLeast opened.now.geometry Acls) (D.state disk.old) (D.state disk.new) result }
 {
     for n in 0..inodes.len() as u32 {
         if !has_good_acls(disk, opened, &inodes[n as usize])? {

@@ -14,7 +14,7 @@ use crate::inodes::read_table;
 use crate::opening::Opened;
 use crate::reading::read_recovered;
 use byteorder::{ByteOrder, LittleEndian};
-use fs_layout::{INODE_SIZE, Place, SECTOR_BITS};
+use fs_layout::{Geometry, INODE_SIZE, SECTOR_BITS};
 use sector_disk::Disk;
 
 const INODE_BITS: u8 = 3;
@@ -38,19 +38,19 @@ fn kind_field(table: &[u8; 512], at: usize) -> u16
 }
 
 // What bit n of the inode bitmap has to be; `table` is the sector of the inode, if there is such an inode.
-fn is_taken(place: Place, table: &[u8; 512], n: u32) -> bool
-    ensures { (m : SectorMap) → IsTableSector place m n table.now
-        → result ≡ (nat_lt n 2 || nat_le place.inodes n || not (nat_eq (u16_of (stored place m n) 0) 0)) }
+fn is_taken(geometry: Geometry, table: &[u8; 512], n: u32) -> bool
+    ensures { (m : SectorMap) → IsTableSector geometry m n table.now
+        → result ≡ (nat_lt n 2 || nat_le geometry.inodes n || not (nat_eq (u16_of (stored geometry m n) 0) 0)) }
 {
-    n < 2 || place.inodes <= n || kind_field(table, place.inode_offset(n)) != 0
+    n < 2 || geometry.inodes <= n || kind_field(table, geometry.inode_offset(n)) != 0
 }
 
 // The sector of the inode bitmap in which bit n stands: `map` has it, and is read again only where n is the sector's first bit.
 fn read_map<D: Disk>(disk: &mut D, opened: &Opened, n: u32, map: &mut [u8; 512]) -> Checked<()>
-    requires opened { BeginsWith (D.state disk.old) opened.now.place opened.now.area opened.now.commit }
-    requires bit { n < inode_map_bits opened.now.place }
-    requires kept { n % 4096 ≢ 0 → map.old ≡ meaning (D.state disk.old) (opened.now.place.inode_bitmap + n / 4096) }
-    ensures map { OnOk result (map.new ≡ meaning (D.state disk.old) (opened.now.place.inode_bitmap + n / 4096)) }
+    requires opened { BeginsWith (D.state disk.old) opened.now.geometry opened.now.area opened.now.commit }
+    requires bit { n < inode_map_bits opened.now.geometry }
+    requires kept { n % 4096 ≢ 0 → map.old ≡ meaning (D.state disk.old) (opened.now.geometry.inode_bitmap + n / 4096) }
+    ensures map { OnOk result (map.new ≡ meaning (D.state disk.old) (opened.now.geometry.inode_bitmap + n / 4096)) }
     ensures passed { Passed IsNone (D.state disk.old) (D.state disk.new) result }
 {
     if n % SECTOR_BITS != 0 {
@@ -59,23 +59,23 @@ fn read_map<D: Disk>(disk: &mut D, opened: &Opened, n: u32, map: &mut [u8; 512])
     read_recovered(
         disk,
         opened,
-        opened.place.inode_bitmap + n / SECTOR_BITS,
+        opened.geometry.inode_bitmap + n / SECTOR_BITS,
         map,
     )
 }
 
 /// Each bit of the inode bitmap is set exactly where it has to be.
 pub(crate) fn inode_bits<D: Disk>(disk: &mut D, opened: &Opened) -> Checked<()>
-    requires opened { BeginsWith (D.state disk.old) opened.now.place opened.now.area opened.now.commit }
-    ensures each { OnOk result (ObeysEach opened.now.place (meaning (D.state disk.old)) InodeBits) }
-    ensures passed { Passed (IsLeast opened.now.place InodeBits) (D.state disk.old) (D.state disk.new) result }
+    requires opened { BeginsWith (D.state disk.old) opened.now.geometry opened.now.area opened.now.commit }
+    ensures each { OnOk result (ObeysEach opened.now.geometry (meaning (D.state disk.old)) InodeBits) }
+    ensures passed { Passed (IsLeast opened.now.geometry InodeBits) (D.state disk.old) (D.state disk.new) result }
 {
     let mut map = [0; 512];
     let mut table = [0; 512];
-    for n in 0..SECTOR_BITS * (opened.place.block_bitmap - opened.place.inode_bitmap) {
+    for n in 0..SECTOR_BITS * (opened.geometry.block_bitmap - opened.geometry.inode_bitmap) {
         read_map(disk, opened, n, &mut map)?;
         read_table(disk, opened, n, &mut table)?;
-        if has_bit(&map, n) != is_taken(opened.place, &table, n) {
+        if has_bit(&map, n) != is_taken(opened.geometry, &table, n) {
             return Err(CheckFault::Found(Finding {
                 rule: INODE_BITS,
                 at: n,
@@ -86,44 +86,44 @@ pub(crate) fn inode_bits<D: Disk>(disk: &mut D, opened: &Opened) -> Checked<()>
 }
 
 // What bit s of the block bitmap has to be.
-fn is_used(place: Place, owned: &BitTable, s: u32) -> bool
-    requires { length owned.now ≡ place.sectors }
-    ensures { (m : SectorMap) → IsOwnerMap place m owned.now
-        → IsTrue result ↔ ((s < place.first_data) ⊎ ((place.sectors ≤ s) ⊎ IsOwned place m s)) }
+fn is_used(geometry: Geometry, owned: &BitTable, s: u32) -> bool
+    requires { length owned.now ≡ geometry.sectors }
+    ensures { (m : SectorMap) → IsOwnerMap geometry m owned.now
+        → IsTrue result ↔ ((s < geometry.first_data) ⊎ ((geometry.sectors ≤ s) ⊎ IsOwned geometry m s)) }
 {
-    s < place.first_data || place.sectors <= s || owned.has(s)
+    s < geometry.first_data || geometry.sectors <= s || owned.has(s)
 }
 
 // The bits in sector k of the block bitmap, which is `map`, are all of data sectors, and what they have to be.
-fn are_right(place: Place, map: &[u8; 512], owned: &BitTable, k: u32) -> bool
-    requires owned { length owned.now ≡ place.sectors }
+fn are_right(geometry: Geometry, map: &[u8; 512], owned: &BitTable, k: u32) -> bool
+    requires owned { length owned.now ≡ geometry.sectors }
     requires low { 4096 * (k + 1) < 2 ^ 32 }
-    ensures { IsTrue result → (m : SectorMap) → IsOwnerMap place m owned.now → map.now ≡ m (place.block_bitmap + k)
-        → (i : ℕ) → 4096 * k ≤ i → i < 4096 * (k + 1) → IsBlockBit place m i }
+    ensures { IsTrue result → (m : SectorMap) → IsOwnerMap geometry m owned.now → map.now ≡ m (geometry.block_bitmap + k)
+        → (i : ℕ) → 4096 * k ≤ i → i < 4096 * (k + 1) → IsBlockBit geometry m i }
 {
-    if SECTOR_BITS * k < place.first_data {
+    if SECTOR_BITS * k < geometry.first_data {
         return false;
     }
-    if place.sectors < SECTOR_BITS * (k + 1) {
+    if geometry.sectors < SECTOR_BITS * (k + 1) {
         return false;
     }
     owned.has_sector(k, map)
 }
 
 // The least bit that isn't what it has to be, of those in sector k of the block bitmap, which is `map`.
-fn first_wrong(place: Place, map: &[u8; 512], owned: &BitTable, k: u32) -> Option<u32>
-    requires owned { length owned.now ≡ place.sectors }
+fn first_wrong(geometry: Geometry, map: &[u8; 512], owned: &BitTable, k: u32) -> Option<u32>
+    requires owned { length owned.now ≡ geometry.sectors }
     requires low { 4096 * (k + 1) < 2 ^ 32 }
-    ensures wrong { (m : SectorMap) → IsOwnerMap place m owned.now → map.now ≡ m (place.block_bitmap + k)
-        → IfSome result (λ s. (s < 4096 * (k + 1)) × (IsBlockBit place m s → ⊥) × ((i : ℕ) → 4096 * k ≤ i → i < s → IsBlockBit place m i)) }
-    ensures none { (m : SectorMap) → IsOwnerMap place m owned.now → map.now ≡ m (place.block_bitmap + k)
-        → IfNone result ((i : ℕ) → 4096 * k ≤ i → i < 4096 * (k + 1) → IsBlockBit place m i) }
+    ensures wrong { (m : SectorMap) → IsOwnerMap geometry m owned.now → map.now ≡ m (geometry.block_bitmap + k)
+        → IfSome result (λ s. (s < 4096 * (k + 1)) × (IsBlockBit geometry m s → ⊥) × ((i : ℕ) → 4096 * k ≤ i → i < s → IsBlockBit geometry m i)) }
+    ensures none { (m : SectorMap) → IsOwnerMap geometry m owned.now → map.now ≡ m (geometry.block_bitmap + k)
+        → IfNone result ((i : ℕ) → 4096 * k ≤ i → i < 4096 * (k + 1) → IsBlockBit geometry m i) }
 {
-    if are_right(place, map, owned, k) {
+    if are_right(geometry, map, owned, k) {
         return None;
     }
     for s in SECTOR_BITS * k..SECTOR_BITS * (k + 1) {
-        if has_bit(map, s) != is_used(place, owned, s) {
+        if has_bit(map, s) != is_used(geometry, owned, s) {
             return Some(s);
         }
     }
@@ -132,15 +132,15 @@ fn first_wrong(place: Place, map: &[u8; 512], owned: &BitTable, k: u32) -> Optio
 
 /// Each bit of the block bitmap is set exactly where it has to be.
 pub(crate) fn block_bits<D: Disk>(disk: &mut D, opened: &Opened, owned: &BitTable) -> Checked<()>
-    requires opened { BeginsWith (D.state disk.old) opened.now.place opened.now.area opened.now.commit }
-    requires owners { IsOwnerMap opened.now.place (meaning (D.state disk.old)) owned.now }
-    ensures each { OnOk result (ObeysEach opened.now.place (meaning (D.state disk.old)) BlockBits) }
-    ensures passed { Passed (IsLeast opened.now.place BlockBits) (D.state disk.old) (D.state disk.new) result }
+    requires opened { BeginsWith (D.state disk.old) opened.now.geometry opened.now.area opened.now.commit }
+    requires owners { IsOwnerMap opened.now.geometry (meaning (D.state disk.old)) owned.now }
+    ensures each { OnOk result (ObeysEach opened.now.geometry (meaning (D.state disk.old)) BlockBits) }
+    ensures passed { Passed (IsLeast opened.now.geometry BlockBits) (D.state disk.old) (D.state disk.new) result }
 {
     let mut map = [0; 512];
-    for k in 0..opened.place.table - opened.place.block_bitmap {
-        read_recovered(disk, opened, opened.place.block_bitmap + k, &mut map)?;
-        if let Some(s) = first_wrong(opened.place, &map, owned, k) {
+    for k in 0..opened.geometry.table - opened.geometry.block_bitmap {
+        read_recovered(disk, opened, opened.geometry.block_bitmap + k, &mut map)?;
+        if let Some(s) = first_wrong(opened.geometry, &map, owned, k) {
             return Err(CheckFault::Found(Finding {
                 rule: BLOCK_BITS,
                 at: s,

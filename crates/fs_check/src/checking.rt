@@ -15,10 +15,10 @@ use crate::faults::{CheckFault, Checked, Finding, Summary};
 use crate::inodes::read_inodes;
 use crate::marking::read_owners;
 use crate::names::{miscounted, misplaced};
-use crate::opening::{Opened, open_commit, open_place};
+use crate::opening::{Opened, open_commit, open_geometry};
 use crate::summary::summary;
 use crate::ways::unreached;
-use fs_layout::{Inode, Place};
+use fs_layout::{Geometry, Inode};
 use sector_disk::Disk;
 use std::alloc::Global;
 
@@ -34,10 +34,10 @@ const WAYS: u8 = 14;
 
 // The inode bitmap and the inode table.
 fn check_tables<D: Disk>(disk: &mut D, opened: &Opened) -> Checked<Vec<Inode>>
-    requires opened { BeginsWith (D.state disk.old) opened.now.place opened.now.area opened.now.commit }
-    requires before { ObeysBefore opened.now.place (meaning (D.state disk.old)) 3 }
-    ensures table { IfOk result (λ inodes. AreInodes opened.now.place (meaning (D.state disk.old)) inodes.items) }
-    ensures before { OnOk result (ObeysBefore opened.now.place (meaning (D.state disk.old)) 5) }
+    requires opened { BeginsWith (D.state disk.old) opened.now.geometry opened.now.area opened.now.commit }
+    requires before { ObeysBefore opened.now.geometry (meaning (D.state disk.old)) 3 }
+    ensures table { IfOk result (λ inodes. AreInodes opened.now.geometry (meaning (D.state disk.old)) inodes.items) }
+    ensures before { OnOk result (ObeysBefore opened.now.geometry (meaning (D.state disk.old)) 5) }
     ensures passed { Passed IsFirst (D.state disk.old) (D.state disk.new) result }
 {
     inode_bits(disk, opened)?;
@@ -46,11 +46,11 @@ fn check_tables<D: Disk>(disk: &mut D, opened: &Opened) -> Checked<Vec<Inode>>
 
 // What inodes own, and the block bitmap.
 fn check_owners<D: Disk>(disk: &mut D, opened: &Opened, inodes: &[Inode]) -> Checked<BitTable>
-    requires opened { BeginsWith (D.state disk.old) opened.now.place opened.now.area opened.now.commit }
-    requires table { AreInodes opened.now.place (meaning (D.state disk.old)) inodes.now }
-    requires before { ObeysBefore opened.now.place (meaning (D.state disk.old)) 5 }
-    ensures owners { IfOk result (λ owned. IsOwnerMap opened.now.place (meaning (D.state disk.old)) owned) }
-    ensures before { OnOk result (ObeysBefore opened.now.place (meaning (D.state disk.old)) 8) }
+    requires opened { BeginsWith (D.state disk.old) opened.now.geometry opened.now.area opened.now.commit }
+    requires table { AreInodes opened.now.geometry (meaning (D.state disk.old)) inodes.now }
+    requires before { ObeysBefore opened.now.geometry (meaning (D.state disk.old)) 5 }
+    ensures owners { IfOk result (λ owned. IsOwnerMap opened.now.geometry (meaning (D.state disk.old)) owned) }
+    ensures before { OnOk result (ObeysBefore opened.now.geometry (meaning (D.state disk.old)) 8) }
     ensures passed { Passed IsFirst (D.state disk.old) (D.state disk.new) result }
 {
     let owners = read_owners(disk, opened, inodes)?;
@@ -61,10 +61,10 @@ fn check_owners<D: Disk>(disk: &mut D, opened: &Opened, inodes: &[Inode]) -> Che
 
 // What stands in blocks and ACL sectors.
 fn check_contents<D: Disk>(disk: &mut D, opened: &Opened, inodes: &[Inode]) -> Checked<()>
-    requires opened { BeginsWith (D.state disk.old) opened.now.place opened.now.area opened.now.commit }
-    requires table { AreInodes opened.now.place (meaning (D.state disk.old)) inodes.now }
-    requires before { ObeysBefore opened.now.place (meaning (D.state disk.old)) 8 }
-    ensures before { OnOk result (ObeysBefore opened.now.place (meaning (D.state disk.old)) 10) }
+    requires opened { BeginsWith (D.state disk.old) opened.now.geometry opened.now.area opened.now.commit }
+    requires table { AreInodes opened.now.geometry (meaning (D.state disk.old)) inodes.now }
+    requires before { ObeysBefore opened.now.geometry (meaning (D.state disk.old)) 8 }
+    ensures before { OnOk result (ObeysBefore opened.now.geometry (meaning (D.state disk.old)) 10) }
     ensures passed { Passed IsFirst (D.state disk.old) (D.state disk.new) result }
 {
     laid_out(disk, opened, inodes)?;
@@ -73,12 +73,12 @@ fn check_contents<D: Disk>(disk: &mut D, opened: &Opened, inodes: &[Inode]) -> C
 
 // The names in directories.
 fn check_names<D: Disk>(disk: &mut D, opened: &Opened, inodes: &[Inode]) -> Checked<Names>
-    requires opened { BeginsWith (D.state disk.old) opened.now.place opened.now.area opened.now.commit }
-    requires table { AreInodes opened.now.place (meaning (D.state disk.old)) inodes.now }
-    requires before { ObeysBefore opened.now.place (meaning (D.state disk.old)) 10 }
+    requires opened { BeginsWith (D.state disk.old) opened.now.geometry opened.now.area opened.now.commit }
+    requires table { AreInodes opened.now.geometry (meaning (D.state disk.old)) inodes.now }
+    requires before { ObeysBefore opened.now.geometry (meaning (D.state disk.old)) 10 }
     ensures names { IfOk result (λ names.
-        IsNameTable opened.now.place (meaning (D.state disk.old)) names.counts.items names.directories.items) }
-    ensures before { OnOk result (ObeysBefore opened.now.place (meaning (D.state disk.old)) 12) }
+        IsNameTable opened.now.geometry (meaning (D.state disk.old)) names.counts.items names.directories.items) }
+    ensures before { OnOk result (ObeysBefore opened.now.geometry (meaning (D.state disk.old)) 12) }
     ensures passed { Passed IsFirst (D.state disk.old) (D.state disk.new) result }
 {
     let names = read_names(disk, opened, inodes)?;
@@ -97,31 +97,31 @@ fn found_at(rule: u8, first: Option<u32>) -> Checked<()>
 }
 
 // What the tables say: how often each inode is named, parents, and the ways up to the root.
-fn check_tree(alloc: Global, place: Place, inodes: &[Inode], names: &Names) -> Checked<()>
-    requires inodes { length inodes.now ≤ place.inodes }
-    requires counts { length names.now.counts.items ≡ place.inodes }
-    requires directories { length names.now.directories.items ≡ place.inodes }
-    ensures { (m : SectorMap) → AreInodes place m inodes.now → IsNameTable place m names.now.counts.items names.now.directories.items
-        → ObeysBefore place m 12 → MatchResult result (λ _. ObeysBefore place m 15) (IsFailureOf place m) }
+fn check_tree(alloc: Global, geometry: Geometry, inodes: &[Inode], names: &Names) -> Checked<()>
+    requires inodes { length inodes.now ≤ geometry.inodes }
+    requires counts { length names.now.counts.items ≡ geometry.inodes }
+    requires directories { length names.now.directories.items ≡ geometry.inodes }
+    ensures { (m : SectorMap) → AreInodes geometry m inodes.now → IsNameTable geometry m names.now.counts.items names.now.directories.items
+        → ObeysBefore geometry m 12 → MatchResult result (λ _. ObeysBefore geometry m 15) (IsFailureOf geometry m) }
 {
-    found_at(NAMES, miscounted(place, inodes, names))?;
-    found_at(PARENTS, misplaced(place, inodes, names))?;
-    found_at(WAYS, unreached(alloc, place, inodes)?)
+    found_at(NAMES, miscounted(geometry, inodes, names))?;
+    found_at(PARENTS, misplaced(geometry, inodes, names))?;
+    found_at(WAYS, unreached(alloc, geometry, inodes)?)
 }
 
 // All that inodes hold.
 fn check_inodes<D: Disk>(disk: &mut D, opened: &Opened, inodes: &[Inode]) -> Checked<BitTable>
-    requires opened { BeginsWith (D.state disk.old) opened.now.place opened.now.area opened.now.commit }
-    requires table { AreInodes opened.now.place (meaning (D.state disk.old)) inodes.now }
-    requires before { ObeysBefore opened.now.place (meaning (D.state disk.old)) 5 }
-    ensures owners { IfOk result (λ owned. IsOwnerMap opened.now.place (meaning (D.state disk.old)) owned) }
-    ensures before { OnOk result (ObeysBefore opened.now.place (meaning (D.state disk.old)) 15) }
+    requires opened { BeginsWith (D.state disk.old) opened.now.geometry opened.now.area opened.now.commit }
+    requires table { AreInodes opened.now.geometry (meaning (D.state disk.old)) inodes.now }
+    requires before { ObeysBefore opened.now.geometry (meaning (D.state disk.old)) 5 }
+    ensures owners { IfOk result (λ owned. IsOwnerMap opened.now.geometry (meaning (D.state disk.old)) owned) }
+    ensures before { OnOk result (ObeysBefore opened.now.geometry (meaning (D.state disk.old)) 15) }
     ensures passed { Passed IsFirst (D.state disk.old) (D.state disk.new) result }
 {
     let owned = check_owners(disk, opened, inodes)?;
     check_contents(disk, opened, inodes)?;
     let names = check_names(disk, opened, inodes)?;
-    check_tree(opened.alloc, opened.place, inodes, &names)?;
+    check_tree(opened.alloc, opened.geometry, inodes, &names)?;
     Ok(owned)
 }
 
@@ -131,11 +131,11 @@ pub fn check<D: Disk>(alloc: Global, disk: &mut D) -> Result<Summary, CheckFault
     ensures clean { IfOk result (IsClean (D.state disk.old)) }
     ensures passed { Passed IsFirst (D.state disk.old) (D.state disk.new) result }
 {
-    let place = open_place(disk)?;
-    let (area, commit) = open_commit(disk, place)?;
+    let geometry = open_geometry(disk)?;
+    let (area, commit) = open_commit(disk, geometry)?;
     let opened = Opened {
         alloc,
-        place,
+        geometry,
         area,
         commit,
     };

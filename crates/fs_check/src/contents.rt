@@ -75,8 +75,8 @@ fn is_cut<D: Disk>(
     level: usize,
     pointers: &mut Pointers,
 ) -> Checked<bool>
-    requires opened { BeginsWith (D.state disk.old) opened.now.place opened.now.area opened.now.commit }
-    requires in_data { OwnsData opened.now.place (meaning (D.state disk.old)) inode.now }
+    requires opened { BeginsWith (D.state disk.old) opened.now.geometry opened.now.area opened.now.commit }
+    requires in_data { OwnsData opened.now.geometry (meaning (D.state disk.old)) inode.now }
     requires size { HasSize inode.now }
     requires level { level ≤ POINTER_LEVELS }
     requires at_hand { AreAtHand (meaning (D.state disk.old)) pointers.old }
@@ -107,8 +107,8 @@ fn is_trimmed<D: Disk>(
     inode: &Inode,
     pointers: &mut Pointers,
 ) -> Checked<bool>
-    requires opened { BeginsWith (D.state disk.old) opened.now.place opened.now.area opened.now.commit }
-    requires in_data { OwnsData opened.now.place (meaning (D.state disk.old)) inode.now }
+    requires opened { BeginsWith (D.state disk.old) opened.now.geometry opened.now.area opened.now.commit }
+    requires in_data { OwnsData opened.now.geometry (meaning (D.state disk.old)) inode.now }
     requires size { HasSize inode.now }
     requires at_hand { AreAtHand (meaning (D.state disk.old)) pointers.old }
     ensures test { IfOk result (λ b. IsTrue b ↔ IsTrimmed (meaning (D.state disk.old)) inode.now) }
@@ -130,8 +130,8 @@ fn has_no_hole<D: Disk>(
     inode: &Inode,
     pointers: &mut Pointers,
 ) -> Checked<bool>
-    requires opened { BeginsWith (D.state disk.old) opened.now.place opened.now.area opened.now.commit }
-    requires in_data { OwnsData opened.now.place (meaning (D.state disk.old)) inode.now }
+    requires opened { BeginsWith (D.state disk.old) opened.now.geometry opened.now.area opened.now.commit }
+    requires in_data { OwnsData opened.now.geometry (meaning (D.state disk.old)) inode.now }
     requires at_hand { AreAtHand (meaning (D.state disk.old)) pointers.old }
     ensures test { IfOk result (λ b. IsTrue b ↔ HasNoHole (meaning (D.state disk.old)) inode.now) }
     ensures at_hand { OnOk result (AreAtHand (meaning (D.state disk.old)) pointers.new) }
@@ -152,8 +152,8 @@ fn fit_numbers<D: Disk>(
     inode: &Inode,
     pointers: &mut Pointers,
 ) -> Checked<bool>
-    requires opened { BeginsWith (D.state disk.old) opened.now.place opened.now.area opened.now.commit }
-    requires in_data { OwnsData opened.now.place (meaning (D.state disk.old)) inode.now }
+    requires opened { BeginsWith (D.state disk.old) opened.now.geometry opened.now.area opened.now.commit }
+    requires in_data { OwnsData opened.now.geometry (meaning (D.state disk.old)) inode.now }
     requires size { HasSize inode.now }
     requires at_hand { AreAtHand (meaning (D.state disk.old)) pointers.old }
     ensures test { IfOk result (λ b. IsTrue b ↔ FitsSize (meaning (D.state disk.old)) inode.now) }
@@ -177,8 +177,8 @@ fn is_laid_out<D: Disk>(
     inode: &Inode,
     pointers: &mut Pointers,
 ) -> Checked<bool>
-    requires opened { BeginsWith (D.state disk.old) opened.now.place opened.now.area opened.now.commit }
-    requires in_data { OwnsData opened.now.place (meaning (D.state disk.old)) inode.now }
+    requires opened { BeginsWith (D.state disk.old) opened.now.geometry opened.now.area opened.now.commit }
+    requires in_data { OwnsData opened.now.geometry (meaning (D.state disk.old)) inode.now }
     requires size { HasSize inode.now }
     requires at_hand { AreAtHand (meaning (D.state disk.old)) pointers.old }
     ensures test { IfOk result (λ b. IsTrue b ↔ IsLaidOut (meaning (D.state disk.old)) inode.now) }
@@ -200,11 +200,11 @@ fn is_laid_out<D: Disk>(
 
 /// Past the size of each inode there is nothing, only files have holes, and no link's target has a zero byte.
 pub(crate) fn laid_out<D: Disk>(disk: &mut D, opened: &Opened, inodes: &[Inode]) -> Checked<()>
-    requires opened { BeginsWith (D.state disk.old) opened.now.place opened.now.area opened.now.commit }
-    requires table { AreInodes opened.now.place (meaning (D.state disk.old)) inodes.now }
-    requires before { ObeysBefore opened.now.place (meaning (D.state disk.old)) 8 }
-    ensures each { OnOk result (ObeysEach opened.now.place (meaning (D.state disk.old)) LaidOut) }
-    ensures passed { Passed (IsLeast opened.now.place LaidOut) (D.state disk.old) (D.state disk.new) result }
+    requires opened { BeginsWith (D.state disk.old) opened.now.geometry opened.now.area opened.now.commit }
+    requires table { AreInodes opened.now.geometry (meaning (D.state disk.old)) inodes.now }
+    requires before { ObeysBefore opened.now.geometry (meaning (D.state disk.old)) 8 }
+    ensures each { OnOk result (ObeysEach opened.now.geometry (meaning (D.state disk.old)) LaidOut) }
+    ensures passed { Passed (IsLeast opened.now.geometry LaidOut) (D.state disk.old) (D.state disk.new) result }
 {
     let mut pointers = Pointers::new();
     for n in 0..inodes.len() as u32 {

@@ -10,7 +10,7 @@ ghost use Rattle.fs_check.specs.Checks.{meaning, BeginsWith, AreInodes, IsNameTa
 use crate::faults::{CheckFault, Checked, Finding};
 use crate::opening::Opened;
 use crate::slots::{are_names_apart, read_good_slots};
-use fs_layout::{Inode, Kind, Place, Slot};
+use fs_layout::{Geometry, Inode, Kind, Slot};
 use sector_disk::Disk;
 
 const SLOTS: u8 = 10;
@@ -52,7 +52,7 @@ fn add_slots(slots: &[Slot], d: u32, counts: &mut [u64], directories: &mut [u32]
 
 // The first directory in which a name stands twice, where d with these slots is the next.
 fn first_repeated(first: Option<u32>, d: u32, slots: &mut [Slot]) -> Option<u32>
-    ensures { (p : Place) (m : SectorMap) → IsRepeated p m d first → (HaveDistinctNames slots.old ↔ Obeys p m NamesApart d)
+    ensures { (p : Geometry) (m : SectorMap) → IsRepeated p m d first → (HaveDistinctNames slots.old ↔ Obeys p m NamesApart d)
         → IsRepeated p m (d + 1) result }
 {
     if first.is_some() {
@@ -72,15 +72,15 @@ fn add_directory<D: Disk>(
     d: u32,
     names: &mut Names,
 ) -> Checked<bool>
-    requires opened { BeginsWith (D.state disk.old) opened.now.place opened.now.area opened.now.commit }
-    requires table { AreInodes opened.now.place (meaning (D.state disk.old)) inodes.now }
-    requires before { ObeysBefore opened.now.place (meaning (D.state disk.old)) 10 }
+    requires opened { BeginsWith (D.state disk.old) opened.now.geometry opened.now.area opened.now.commit }
+    requires table { AreInodes opened.now.geometry (meaning (D.state disk.old)) inodes.now }
+    requires before { ObeysBefore opened.now.geometry (meaning (D.state disk.old)) 10 }
     requires below { d < length inodes.now }
-    requires names { IsNaming opened.now.place (meaning (D.state disk.old)) d
+    requires names { IsNaming opened.now.geometry (meaning (D.state disk.old)) d
         names.old.counts.items names.old.directories.items names.old.repeated }
-    ensures test { IfOk result (λ b. IsTrue b ↔ Obeys opened.now.place (meaning (D.state disk.old)) Slots d) }
+    ensures test { IfOk result (λ b. IsTrue b ↔ Obeys opened.now.geometry (meaning (D.state disk.old)) Slots d) }
     ensures names { IfOk result (λ b. IsTrue b
-        → IsNaming opened.now.place (meaning (D.state disk.old)) (d + 1) names.new.counts.items names.new.directories.items names.new.repeated) }
+        → IsNaming opened.now.geometry (meaning (D.state disk.old)) (d + 1) names.new.counts.items names.new.directories.items names.new.repeated) }
     ensures passed { Passed IsNone (D.state disk.old) (D.state disk.new) result }
 {
     let inode = inodes[d as usize];
@@ -98,19 +98,19 @@ fn add_directory<D: Disk>(
 /// What the slots of all directories name, where each is valid and its inode is in use and isn't the root. Each sector of a
 /// directory is read once.
 pub(crate) fn read_names<D: Disk>(disk: &mut D, opened: &Opened, inodes: &[Inode]) -> Checked<Names>
-    requires opened { BeginsWith (D.state disk.old) opened.now.place opened.now.area opened.now.commit }
-    requires table { AreInodes opened.now.place (meaning (D.state disk.old)) inodes.now }
-    requires before { ObeysBefore opened.now.place (meaning (D.state disk.old)) 10 }
-    ensures each { OnOk result (ObeysEach opened.now.place (meaning (D.state disk.old)) Slots) }
+    requires opened { BeginsWith (D.state disk.old) opened.now.geometry opened.now.area opened.now.commit }
+    requires table { AreInodes opened.now.geometry (meaning (D.state disk.old)) inodes.now }
+    requires before { ObeysBefore opened.now.geometry (meaning (D.state disk.old)) 10 }
+    ensures each { OnOk result (ObeysEach opened.now.geometry (meaning (D.state disk.old)) Slots) }
     ensures names { IfOk result (λ names.
-        IsNameTable opened.now.place (meaning (D.state disk.old)) names.counts.items names.directories.items) }
-    ensures repeated { IfOk result (λ names. MatchOption names.repeated (ObeysEach opened.now.place (meaning (D.state disk.old)) NamesApart)
-        (λ d. IsLeastFailure opened.now.place (meaning (D.state disk.old)) NamesApart d)) }
-    ensures passed { Passed (IsLeast opened.now.place Slots) (D.state disk.old) (D.state disk.new) result }
+        IsNameTable opened.now.geometry (meaning (D.state disk.old)) names.counts.items names.directories.items) }
+    ensures repeated { IfOk result (λ names. MatchOption names.repeated (ObeysEach opened.now.geometry (meaning (D.state disk.old)) NamesApart)
+        (λ d. IsLeastFailure opened.now.geometry (meaning (D.state disk.old)) NamesApart d)) }
+    ensures passed { Passed (IsLeast opened.now.geometry Slots) (D.state disk.old) (D.state disk.new) result }
 {
     let mut names = Names {
-        counts: vec![in opened.alloc; 0; opened.place.inodes as usize]?,
-        directories: vec![in opened.alloc; 0; opened.place.inodes as usize]?,
+        counts: vec![in opened.alloc; 0; opened.geometry.inodes as usize]?,
+        directories: vec![in opened.alloc; 0; opened.geometry.inodes as usize]?,
         repeated: None,
     };
     for d in 0..inodes.len() as u32 {

@@ -124,19 +124,19 @@ pub(crate) fn read_table<D: Disk>(
     n: u32,
     table: &mut [u8; 512],
 ) -> Checked<()>
-    requires opened { BeginsWith (D.state disk.old) opened.now.place opened.now.area opened.now.commit }
-    requires kept { n % 4 ≢ 0 → IsTableSector opened.now.place (meaning (D.state disk.old)) n table.old }
-    ensures table { OnOk result (IsTableSector opened.now.place (meaning (D.state disk.old)) n table.new) }
+    requires opened { BeginsWith (D.state disk.old) opened.now.geometry opened.now.area opened.now.commit }
+    requires kept { n % 4 ≢ 0 → IsTableSector opened.now.geometry (meaning (D.state disk.old)) n table.old }
+    ensures table { OnOk result (IsTableSector opened.now.geometry (meaning (D.state disk.old)) n table.new) }
     ensures passed { Passed IsNone (D.state disk.old) (D.state disk.new) result }
 {
     if n % 4 != 0 {
         return Ok(());
     }
-    let place = opened.place;
-    if place.inodes <= n {
+    let geometry = opened.geometry;
+    if geometry.inodes <= n {
         return Ok(());
     }
-    read_recovered(disk, opened, place.inode_sector(n), table)?;
+    read_recovered(disk, opened, geometry.inode_sector(n), table)?;
     Ok(())
 }
 
@@ -162,16 +162,16 @@ fn keep_inode(inodes: &mut Vec<Inode>, n: u32, inode: Inode) -> Checked<()>
 
 /// The inodes, up to the last that is in use.
 pub(crate) fn read_inodes<D: Disk>(disk: &mut D, opened: &Opened) -> Checked<Vec<Inode>>
-    requires opened { BeginsWith (D.state disk.old) opened.now.place opened.now.area opened.now.commit }
-    ensures each { OnOk result (ObeysEach opened.now.place (meaning (D.state disk.old)) Inodes) }
-    ensures table { IfOk result (λ inodes. AreInodes opened.now.place (meaning (D.state disk.old)) inodes.items) }
-    ensures passed { Passed (IsLeast opened.now.place Inodes) (D.state disk.old) (D.state disk.new) result }
+    requires opened { BeginsWith (D.state disk.old) opened.now.geometry opened.now.area opened.now.commit }
+    ensures each { OnOk result (ObeysEach opened.now.geometry (meaning (D.state disk.old)) Inodes) }
+    ensures table { IfOk result (λ inodes. AreInodes opened.now.geometry (meaning (D.state disk.old)) inodes.items) }
+    ensures passed { Passed (IsLeast opened.now.geometry Inodes) (D.state disk.old) (D.state disk.new) result }
 {
-    let mut inodes = Vec::with_capacity(opened.alloc, opened.place.inodes as usize)?;
+    let mut inodes = Vec::with_capacity(opened.alloc, opened.geometry.inodes as usize)?;
     let mut table = [0; 512];
-    for n in 0..opened.place.inodes {
+    for n in 0..opened.geometry.inodes {
         read_table(disk, opened, n, &mut table)?;
-        match good_inode(&table, n, opened.place.version) {
+        match good_inode(&table, n, opened.geometry.version) {
             Some(inode) => keep_inode(&mut inodes, n, inode)?,
             None => {
                 return Err(CheckFault::Found(Finding {

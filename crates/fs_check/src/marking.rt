@@ -13,7 +13,7 @@ use crate::bit_table::BitTable;
 use crate::faults::{CheckFault, Checked, Finding};
 use crate::opening::Opened;
 use crate::owning::{Pointers, is_data};
-use fs_layout::{Inode, POINTER_LEVELS, Place, SECTOR_POINTERS, own_count};
+use fs_layout::{Geometry, Inode, POINTER_LEVELS, SECTOR_POINTERS, own_count};
 use sector_disk::Disk;
 
 const IN_DATA: u8 = 5;
@@ -52,19 +52,19 @@ fn mark(owned: &mut BitTable, twice: &mut BitTable, s: u32)
 }
 
 // Marks a sector that an inode has for something; 0 is none. Not one outside the data area.
-fn mark_number(place: Place, s: u32, owned: &mut BitTable, twice: &mut BitTable) -> bool
-    requires owned { length owned.old ≡ place.sectors }
-    requires twice { length twice.old ≡ place.sectors }
-    ensures test { IsTrue result ↔ (s ≢ 0 → IsData place s) }
-    ensures marked { IsTrue result → (f : ℕ → ℕ → ℕ) (n i : ℕ) → f n i ≡ s → IsMarked f n i place.sectors owned.old twice.old
-        → IsMarked f n (i + 1) place.sectors owned.new twice.new }
-    ensures owned_len { length owned.new ≡ place.sectors }
-    ensures twice_len { length twice.new ≡ place.sectors }
+fn mark_number(geometry: Geometry, s: u32, owned: &mut BitTable, twice: &mut BitTable) -> bool
+    requires owned { length owned.old ≡ geometry.sectors }
+    requires twice { length twice.old ≡ geometry.sectors }
+    ensures test { IsTrue result ↔ (s ≢ 0 → IsData geometry s) }
+    ensures marked { IsTrue result → (f : ℕ → ℕ → ℕ) (n i : ℕ) → f n i ≡ s → IsMarked f n i geometry.sectors owned.old twice.old
+        → IsMarked f n (i + 1) geometry.sectors owned.new twice.new }
+    ensures owned_len { length owned.new ≡ geometry.sectors }
+    ensures twice_len { length twice.new ≡ geometry.sectors }
 {
     if s == 0 {
         return true;
     }
-    if !is_data(place, s) {
+    if !is_data(geometry, s) {
         return false;
     }
     mark(owned, twice, s);
@@ -74,7 +74,7 @@ fn mark_number(place: Place, s: u32, owned: &mut BitTable, twice: &mut BitTable)
 // Marks sectors whose numbers stand in the inode, or in the sector of pointers with this content. Not where one is outside the
 // data area.
 fn mark_listed(
-    place: Place,
+    geometry: Geometry,
     inode: &Inode,
     content: &[u8; 512],
     numbers: Numbers,
@@ -84,19 +84,24 @@ fn mark_listed(
     requires level { numbers.level ≤ POINTER_LEVELS }
     requires order { numbers.first ≤ numbers.end }
     requires few { numbers.end ≤ level_end numbers.level }
-    requires owned { length owned.old ≡ place.sectors }
-    requires twice { length twice.old ≡ place.sectors }
+    requires owned { length owned.old ≡ geometry.sectors }
+    requires twice { length twice.old ≡ geometry.sectors }
     ensures test { (m : SectorMap) → AreListed m inode.now content.now numbers.level numbers.first numbers.end
-        → IsTrue result ↔ AreInData place m inode.now numbers.level numbers.first numbers.end }
-    ensures marked { IsTrue result → (m : SectorMap) (n : ℕ) → inode.now ≡ inode_at place m n
+        → IsTrue result ↔ AreInData geometry m inode.now numbers.level numbers.first numbers.end }
+    ensures marked { IsTrue result → (m : SectorMap) (n : ℕ) → inode.now ≡ inode_at geometry m n
         → AreListed m inode.now content.now numbers.level numbers.first numbers.end
-        → IsMarked (owned_part place m) n (first_part numbers.level + numbers.first) place.sectors owned.old twice.old
-        → IsMarked (owned_part place m) n (first_part numbers.level + numbers.end) place.sectors owned.new twice.new }
-    ensures owned_len { length owned.new ≡ place.sectors }
-    ensures twice_len { length twice.new ≡ place.sectors }
+        → IsMarked (owned_part geometry m) n (first_part numbers.level + numbers.first) geometry.sectors owned.old twice.old
+        → IsMarked (owned_part geometry m) n (first_part numbers.level + numbers.end) geometry.sectors owned.new twice.new }
+    ensures owned_len { length owned.new ≡ geometry.sectors }
+    ensures twice_len { length twice.new ≡ geometry.sectors }
 {
     for i in numbers.first..numbers.end {
-        if !mark_number(place, inode.number(numbers.level, content, i), owned, twice) {
+        if !mark_number(
+            geometry,
+            inode.number(numbers.level, content, i),
+            owned,
+            twice,
+        ) {
             return false;
         }
     }
@@ -114,20 +119,20 @@ fn mark_level<D: Disk>(
     owned: &mut BitTable,
     twice: &mut BitTable,
 ) -> Checked<bool>
-    requires opened { BeginsWith (D.state disk.old) opened.now.place opened.now.area opened.now.commit }
+    requires opened { BeginsWith (D.state disk.old) opened.now.geometry opened.now.area opened.now.commit }
     requires level { level ≤ POINTER_LEVELS }
-    requires above { HasAboveInData opened.now.place (meaning (D.state disk.old)) inode.now level }
+    requires above { HasAboveInData opened.now.geometry (meaning (D.state disk.old)) inode.now level }
     requires at_hand { AreAtHand (meaning (D.state disk.old)) pointers.old }
-    requires owned { length owned.old ≡ opened.now.place.sectors }
-    requires twice { length twice.old ≡ opened.now.place.sectors }
-    ensures test { IfOk result (λ b. IsTrue b ↔ HasLevelInData opened.now.place (meaning (D.state disk.old)) inode.now level) }
-    ensures marked { IfOk result (λ b. IsTrue b → (n : ℕ) → inode.now ≡ inode_at opened.now.place (meaning (D.state disk.old)) n
-        → IsMarked (owned_part opened.now.place (meaning (D.state disk.old))) n (first_part level) opened.now.place.sectors owned.old twice.old
-        → IsMarked (owned_part opened.now.place (meaning (D.state disk.old))) n (first_part level + level_end level) opened.now.place.sectors
+    requires owned { length owned.old ≡ opened.now.geometry.sectors }
+    requires twice { length twice.old ≡ opened.now.geometry.sectors }
+    ensures test { IfOk result (λ b. IsTrue b ↔ HasLevelInData opened.now.geometry (meaning (D.state disk.old)) inode.now level) }
+    ensures marked { IfOk result (λ b. IsTrue b → (n : ℕ) → inode.now ≡ inode_at opened.now.geometry (meaning (D.state disk.old)) n
+        → IsMarked (owned_part opened.now.geometry (meaning (D.state disk.old))) n (first_part level) opened.now.geometry.sectors owned.old twice.old
+        → IsMarked (owned_part opened.now.geometry (meaning (D.state disk.old))) n (first_part level + level_end level) opened.now.geometry.sectors
         owned.new twice.new) }
     ensures at_hand { OnOk result (AreAtHand (meaning (D.state disk.old)) pointers.new) }
-    ensures owned_len { length owned.new ≡ opened.now.place.sectors }
-    ensures twice_len { length twice.new ≡ opened.now.place.sectors }
+    ensures owned_len { length owned.new ≡ opened.now.geometry.sectors }
+    ensures twice_len { length twice.new ≡ opened.now.geometry.sectors }
     ensures passed { Passed IsNone (D.state disk.old) (D.state disk.new) result }
 {
     let own = own_count(level);
@@ -137,7 +142,7 @@ fn mark_level<D: Disk>(
         end: own,
     };
     if !mark_listed(
-        opened.place,
+        opened.geometry,
         inode,
         &pointers.contents[0],
         named,
@@ -156,7 +161,7 @@ fn mark_level<D: Disk>(
             end: own + SECTOR_POINTERS * (j + 1),
         };
         if !mark_listed(
-            opened.place,
+            opened.geometry,
             inode,
             &pointers.contents[level],
             listed,
@@ -180,20 +185,20 @@ fn mark_levels<D: Disk>(
     owned: &mut BitTable,
     twice: &mut BitTable,
 ) -> Checked<bool>
-    requires opened { BeginsWith (D.state disk.old) opened.now.place opened.now.area opened.now.commit }
+    requires opened { BeginsWith (D.state disk.old) opened.now.geometry opened.now.area opened.now.commit }
     requires level { level ≤ POINTER_LEVELS }
-    requires above { HasAboveInData opened.now.place (meaning (D.state disk.old)) inode.now level }
+    requires above { HasAboveInData opened.now.geometry (meaning (D.state disk.old)) inode.now level }
     requires at_hand { AreAtHand (meaning (D.state disk.old)) pointers.old }
-    requires owned { length owned.old ≡ opened.now.place.sectors }
-    requires twice { length twice.old ≡ opened.now.place.sectors }
+    requires owned { length owned.old ≡ opened.now.geometry.sectors }
+    requires twice { length twice.old ≡ opened.now.geometry.sectors }
     ensures test { IfOk result (λ b. IsTrue b ↔ ((n : ℕ) → n ≤ level
-        → HasLevelInData opened.now.place (meaning (D.state disk.old)) inode.now n)) }
-    ensures marked { IfOk result (λ b. IsTrue b → (n : ℕ) → inode.now ≡ inode_at opened.now.place (meaning (D.state disk.old)) n
-        → IsMarked (owned_part opened.now.place (meaning (D.state disk.old))) n (first_part level) opened.now.place.sectors owned.old twice.old
-        → IsMarked (owned_part opened.now.place (meaning (D.state disk.old))) (n + 1) 0 opened.now.place.sectors owned.new twice.new) }
+        → HasLevelInData opened.now.geometry (meaning (D.state disk.old)) inode.now n)) }
+    ensures marked { IfOk result (λ b. IsTrue b → (n : ℕ) → inode.now ≡ inode_at opened.now.geometry (meaning (D.state disk.old)) n
+        → IsMarked (owned_part opened.now.geometry (meaning (D.state disk.old))) n (first_part level) opened.now.geometry.sectors owned.old twice.old
+        → IsMarked (owned_part opened.now.geometry (meaning (D.state disk.old))) (n + 1) 0 opened.now.geometry.sectors owned.new twice.new) }
     ensures at_hand { OnOk result (AreAtHand (meaning (D.state disk.old)) pointers.new) }
-    ensures owned_len { length owned.new ≡ opened.now.place.sectors }
-    ensures twice_len { length twice.new ≡ opened.now.place.sectors }
+    ensures owned_len { length owned.new ≡ opened.now.geometry.sectors }
+    ensures twice_len { length twice.new ≡ opened.now.geometry.sectors }
     ensures passed { Passed IsNone (D.state disk.old) (D.state disk.new) result }
 {
     if !mark_level(disk, opened, inode, level, pointers, owned, twice)? {
@@ -207,20 +212,20 @@ fn mark_levels<D: Disk>(
 }
 
 // Marks the ACLs of an inode. Not where one is outside the data area.
-fn mark_acls(place: Place, inode: &Inode, owned: &mut BitTable, twice: &mut BitTable) -> bool
-    requires owned { length owned.old ≡ place.sectors }
-    requires twice { length twice.old ≡ place.sectors }
-    ensures test { IsTrue result ↔ HasAclsInData place inode.now }
-    ensures marked { IsTrue result → (m : SectorMap) (n : ℕ) → inode.now ≡ inode_at place m n
-        → IsMarked (owned_part place m) n 0 place.sectors owned.old twice.old
-        → IsMarked (owned_part place m) n (first_part POINTER_LEVELS) place.sectors owned.new twice.new }
-    ensures owned_len { length owned.new ≡ place.sectors }
-    ensures twice_len { length twice.new ≡ place.sectors }
+fn mark_acls(geometry: Geometry, inode: &Inode, owned: &mut BitTable, twice: &mut BitTable) -> bool
+    requires owned { length owned.old ≡ geometry.sectors }
+    requires twice { length twice.old ≡ geometry.sectors }
+    ensures test { IsTrue result ↔ HasAclsInData geometry inode.now }
+    ensures marked { IsTrue result → (m : SectorMap) (n : ℕ) → inode.now ≡ inode_at geometry m n
+        → IsMarked (owned_part geometry m) n 0 geometry.sectors owned.old twice.old
+        → IsMarked (owned_part geometry m) n (first_part POINTER_LEVELS) geometry.sectors owned.new twice.new }
+    ensures owned_len { length owned.new ≡ geometry.sectors }
+    ensures twice_len { length twice.new ≡ geometry.sectors }
 {
-    if !mark_number(place, inode.acl, owned, twice) {
+    if !mark_number(geometry, inode.acl, owned, twice) {
         return false;
     }
-    mark_number(place, inode.default_acl, owned, twice)
+    mark_number(geometry, inode.default_acl, owned, twice)
 }
 
 // Marks what an inode owns, from the top. Not where a sector that it owns is outside the data area.
@@ -232,20 +237,20 @@ fn mark_inode<D: Disk>(
     owned: &mut BitTable,
     twice: &mut BitTable,
 ) -> Checked<bool>
-    requires opened { BeginsWith (D.state disk.old) opened.now.place opened.now.area opened.now.commit }
+    requires opened { BeginsWith (D.state disk.old) opened.now.geometry opened.now.area opened.now.commit }
     requires at_hand { AreAtHand (meaning (D.state disk.old)) pointers.old }
-    requires owned { length owned.old ≡ opened.now.place.sectors }
-    requires twice { length twice.old ≡ opened.now.place.sectors }
-    ensures test { IfOk result (λ b. IsTrue b ↔ OwnsData opened.now.place (meaning (D.state disk.old)) inode.now) }
-    ensures marked { IfOk result (λ b. IsTrue b → (n : ℕ) → inode.now ≡ inode_at opened.now.place (meaning (D.state disk.old)) n
-        → IsMarked (owned_part opened.now.place (meaning (D.state disk.old))) n 0 opened.now.place.sectors owned.old twice.old
-        → IsMarked (owned_part opened.now.place (meaning (D.state disk.old))) (n + 1) 0 opened.now.place.sectors owned.new twice.new) }
+    requires owned { length owned.old ≡ opened.now.geometry.sectors }
+    requires twice { length twice.old ≡ opened.now.geometry.sectors }
+    ensures test { IfOk result (λ b. IsTrue b ↔ OwnsData opened.now.geometry (meaning (D.state disk.old)) inode.now) }
+    ensures marked { IfOk result (λ b. IsTrue b → (n : ℕ) → inode.now ≡ inode_at opened.now.geometry (meaning (D.state disk.old)) n
+        → IsMarked (owned_part opened.now.geometry (meaning (D.state disk.old))) n 0 opened.now.geometry.sectors owned.old twice.old
+        → IsMarked (owned_part opened.now.geometry (meaning (D.state disk.old))) (n + 1) 0 opened.now.geometry.sectors owned.new twice.new) }
     ensures at_hand { OnOk result (AreAtHand (meaning (D.state disk.old)) pointers.new) }
-    ensures owned_len { length owned.new ≡ opened.now.place.sectors }
-    ensures twice_len { length twice.new ≡ opened.now.place.sectors }
+    ensures owned_len { length owned.new ≡ opened.now.geometry.sectors }
+    ensures twice_len { length twice.new ≡ opened.now.geometry.sectors }
     ensures passed { Passed IsNone (D.state disk.old) (D.state disk.new) result }
 {
-    if !mark_acls(opened.place, inode, owned, twice) {
+    if !mark_acls(opened.geometry, inode, owned, twice) {
         return Ok(false);
     }
     let marked = mark_levels(disk, opened, inode, POINTER_LEVELS, pointers, owned, twice)?;
@@ -260,13 +265,13 @@ fn mark_all<D: Disk>(
     owned: &mut BitTable,
     twice: &mut BitTable,
 ) -> Checked<()>
-    requires opened { BeginsWith (D.state disk.old) opened.now.place opened.now.area opened.now.commit }
-    requires table { AreInodes opened.now.place (meaning (D.state disk.old)) inodes.now }
-    requires none { IsMarked (owned_part opened.now.place (meaning (D.state disk.old))) 0 0 opened.now.place.sectors owned.old twice.old }
-    ensures each { OnOk result (ObeysEach opened.now.place (meaning (D.state disk.old)) InData) }
+    requires opened { BeginsWith (D.state disk.old) opened.now.geometry opened.now.area opened.now.commit }
+    requires table { AreInodes opened.now.geometry (meaning (D.state disk.old)) inodes.now }
+    requires none { IsMarked (owned_part opened.now.geometry (meaning (D.state disk.old))) 0 0 opened.now.geometry.sectors owned.old twice.old }
+    ensures each { OnOk result (ObeysEach opened.now.geometry (meaning (D.state disk.old)) InData) }
     ensures marked { OnOk result
-        (IsMarked (owned_part opened.now.place (meaning (D.state disk.old))) opened.now.place.inodes 0 opened.now.place.sectors owned.new twice.new) }
-    ensures passed { Passed (IsLeast opened.now.place InData) (D.state disk.old) (D.state disk.new) result }
+        (IsMarked (owned_part opened.now.geometry (meaning (D.state disk.old))) opened.now.geometry.inodes 0 opened.now.geometry.sectors owned.new twice.new) }
+    ensures passed { Passed (IsLeast opened.now.geometry InData) (D.state disk.old) (D.state disk.new) result }
 {
     let mut pointers = Pointers::new();
     for n in 0..inodes.len() as u32 {
@@ -288,15 +293,15 @@ pub(crate) fn read_owners<D: Disk>(
     opened: &Opened,
     inodes: &[Inode],
 ) -> Checked<Owners>
-    requires opened { BeginsWith (D.state disk.old) opened.now.place opened.now.area opened.now.commit }
-    requires table { AreInodes opened.now.place (meaning (D.state disk.old)) inodes.now }
-    ensures each { OnOk result (ObeysEach opened.now.place (meaning (D.state disk.old)) InData) }
-    ensures owners { IfOk result (λ owners. IsOwnerMap opened.now.place (meaning (D.state disk.old)) owners.owned) }
-    ensures twice { IfOk result (λ owners. MatchOption owners.twice (ObeysEach opened.now.place (meaning (D.state disk.old)) OwnedOnce)
-        (λ s. IsLeastFailure opened.now.place (meaning (D.state disk.old)) OwnedOnce s)) }
-    ensures passed { Passed (IsLeast opened.now.place InData) (D.state disk.old) (D.state disk.new) result }
+    requires opened { BeginsWith (D.state disk.old) opened.now.geometry opened.now.area opened.now.commit }
+    requires table { AreInodes opened.now.geometry (meaning (D.state disk.old)) inodes.now }
+    ensures each { OnOk result (ObeysEach opened.now.geometry (meaning (D.state disk.old)) InData) }
+    ensures owners { IfOk result (λ owners. IsOwnerMap opened.now.geometry (meaning (D.state disk.old)) owners.owned) }
+    ensures twice { IfOk result (λ owners. MatchOption owners.twice (ObeysEach opened.now.geometry (meaning (D.state disk.old)) OwnedOnce)
+        (λ s. IsLeastFailure opened.now.geometry (meaning (D.state disk.old)) OwnedOnce s)) }
+    ensures passed { Passed (IsLeast opened.now.geometry InData) (D.state disk.old) (D.state disk.new) result }
 {
-    let size = opened.place.sectors as usize;
+    let size = opened.geometry.sectors as usize;
     let mut owned = BitTable::new(opened.alloc, size)?;
     let mut twice = BitTable::new(opened.alloc, size)?;
     mark_all(disk, opened, inodes, &mut owned, &mut twice)?;

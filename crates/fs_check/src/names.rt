@@ -7,7 +7,7 @@ ghost use Rattle.fs_check.specs.Checks.{AreInodes, IsNameTable};
 ghost use Rattle.fs_check.specs.Ways.{the_parent};
 
 use crate::directories::Names;
-use fs_layout::{Inode, Kind, Place, ROOT, Version};
+use fs_layout::{Geometry, Inode, Kind, ROOT, Version};
 
 // Whether inode n may have the names field that it has, where so many slots name it.
 fn has_name_count(version: Version, n: u32, inode: &Inode, count: u64) -> bool
@@ -24,17 +24,17 @@ fn has_name_count(version: Version, n: u32, inode: &Inode, count: u64) -> bool
 }
 
 /// The first inode whose count of names isn't the number of slots that name it, or isn't one that it may have.
-pub(crate) fn miscounted(place: Place, inodes: &[Inode], names: &Names) -> Option<u32>
-    requires inodes { length inodes.now ≤ place.inodes }
-    requires counts { length names.now.counts.items ≡ place.inodes }
-    ensures some { IfSome result (λ n. (m : SectorMap) → AreInodes place m inodes.now
-        → IsNameTable place m names.now.counts.items names.now.directories.items → ObeysBefore place m 12 → IsLeastFailure place m NameCounts n) }
-    ensures none { IfNone result ((m : SectorMap) → AreInodes place m inodes.now
-        → IsNameTable place m names.now.counts.items names.now.directories.items → ObeysBefore place m 12 → ObeysEach place m NameCounts) }
+pub(crate) fn miscounted(geometry: Geometry, inodes: &[Inode], names: &Names) -> Option<u32>
+    requires inodes { length inodes.now ≤ geometry.inodes }
+    requires counts { length names.now.counts.items ≡ geometry.inodes }
+    ensures some { IfSome result (λ n. (m : SectorMap) → AreInodes geometry m inodes.now
+        → IsNameTable geometry m names.now.counts.items names.now.directories.items → ObeysBefore geometry m 12 → IsLeastFailure geometry m NameCounts n) }
+    ensures none { IfNone result ((m : SectorMap) → AreInodes geometry m inodes.now
+        → IsNameTable geometry m names.now.counts.items names.now.directories.items → ObeysBefore geometry m 12 → ObeysEach geometry m NameCounts) }
 {
     for n in 0..inodes.len() as u32 {
         let count = names.counts[n as usize];
-        if !has_name_count(place.version, n, &inodes[n as usize], count) {
+        if !has_name_count(geometry.version, n, &inodes[n as usize], count) {
             return Some(n);
         }
     }
@@ -55,13 +55,13 @@ fn has_parent(n: u32, inode: &Inode, directory: u32) -> bool
 }
 
 /// The first inode whose parent field isn't the directory that names it.
-pub(crate) fn misplaced(place: Place, inodes: &[Inode], names: &Names) -> Option<u32>
-    requires inodes { length inodes.now ≤ place.inodes }
-    requires directories { length names.now.directories.items ≡ place.inodes }
-    ensures some { IfSome result (λ n. (m : SectorMap) → AreInodes place m inodes.now
-        → IsNameTable place m names.now.counts.items names.now.directories.items → ObeysBefore place m 13 → IsLeastFailure place m Parents n) }
-    ensures none { IfNone result ((m : SectorMap) → AreInodes place m inodes.now
-        → IsNameTable place m names.now.counts.items names.now.directories.items → ObeysBefore place m 13 → ObeysEach place m Parents) }
+pub(crate) fn misplaced(geometry: Geometry, inodes: &[Inode], names: &Names) -> Option<u32>
+    requires inodes { length inodes.now ≤ geometry.inodes }
+    requires directories { length names.now.directories.items ≡ geometry.inodes }
+    ensures some { IfSome result (λ n. (m : SectorMap) → AreInodes geometry m inodes.now
+        → IsNameTable geometry m names.now.counts.items names.now.directories.items → ObeysBefore geometry m 13 → IsLeastFailure geometry m Parents n) }
+    ensures none { IfNone result ((m : SectorMap) → AreInodes geometry m inodes.now
+        → IsNameTable geometry m names.now.counts.items names.now.directories.items → ObeysBefore geometry m 13 → ObeysEach geometry m Parents) }
 {
     for n in 0..inodes.len() as u32 {
         if !has_parent(n, &inodes[n as usize], names.directories[n as usize]) {

@@ -3,12 +3,12 @@
 ghost use Rattle.std.specs.Prelude.{◌≡◌, IfOk, IfSome, IfNone};
 ghost use Rattle.fs_layout.specs.Bytes.{SectorMap};
 ghost use Rattle.fs_layout.specs.Commit.{IsCommit, named_area};
-ghost use Rattle.fs_model.specs.Rules.{IsPlaceOf, HasPlace};
+ghost use Rattle.fs_model.specs.Rules.{IsGeometryOf, HasGeometry};
 ghost use Rattle.sector_disk.specs.Disk.{sector};
 ghost use Rattle.fs_check.specs.Checks.{Passed, IsFirst};
 
 use crate::faults::{CheckFault, Checked, Finding};
-use fs_layout::{Commit, Place, Super};
+use fs_layout::{Commit, Geometry, Super};
 use redo_journal::read_commit;
 use sector_disk::Disk;
 use std::alloc::Global;
@@ -18,19 +18,19 @@ use std::alloc::Global;
 pub(crate) struct Opened {
     /// Where the memory for a check's tables is taken from.
     pub alloc: Global,
-    pub place: Place,
+    pub geometry: Geometry,
     pub area: u32,
     pub commit: Commit,
 }
 
-const NO_PLACE: CheckFault = CheckFault::Found(Finding { rule: 1, at: 0 });
+const NO_GEOMETRY: CheckFault = CheckFault::Found(Finding { rule: 1, at: 0 });
 
 const NO_COMMIT: CheckFault = CheckFault::Found(Finding { rule: 2, at: 1 });
 
 // The layout of a disk of so many sectors, as its superblock says it.
-fn place_in(content: &[u8; 512], size: u32) -> Option<Place>
-    ensures some { IfSome result (λ p. (image : SectorMap) → image 0 ≡ content.now → IsPlaceOf size image p) }
-    ensures none { IfNone result ((image : SectorMap) → image 0 ≡ content.now → HasPlace size image → ⊥) }
+fn geometry_in(content: &[u8; 512], size: u32) -> Option<Geometry>
+    ensures some { IfSome result (λ p. (image : SectorMap) → image 0 ≡ content.now → IsGeometryOf size image p) }
+    ensures none { IfNone result ((image : SectorMap) → image 0 ≡ content.now → HasGeometry size image → ⊥) }
 {
     let Ok(superblock) = Super::read_from(content, 0) else {
         return None;
@@ -38,34 +38,34 @@ fn place_in(content: &[u8; 512], size: u32) -> Option<Place>
     if superblock.sectors != size {
         return None;
     }
-    superblock.place()
+    superblock.geometry()
 }
 
 /// Reads where the parts of the disk lie: the first rule.
-pub(crate) fn open_place<D: Disk>(disk: &mut D) -> Checked<Place>
-    ensures place { IfOk result (λ p. IsPlaceOf (D.state disk.old).size (sector (D.state disk.old).seen) p) }
+pub(crate) fn open_geometry<D: Disk>(disk: &mut D) -> Checked<Geometry>
+    ensures geometry { IfOk result (λ p. IsGeometryOf (D.state disk.old).size (sector (D.state disk.old).seen) p) }
     ensures passed { Passed IsFirst (D.state disk.old) (D.state disk.new) result }
 {
     let size = disk.size();
     if size == 0 {
-        return Err(NO_PLACE);
+        return Err(NO_GEOMETRY);
     }
     let mut content = [0; 512];
     disk.read(0, &mut content)?;
-    match place_in(&content, size) {
-        Some(place) => Ok(place),
-        None => Err(NO_PLACE),
+    match geometry_in(&content, size) {
+        Some(geometry) => Ok(geometry),
+        None => Err(NO_GEOMETRY),
     }
 }
 
 /// Reads the log area that the commit names, and the commit: the second rule.
-pub(crate) fn open_commit<D: Disk>(disk: &mut D, place: Place) -> Checked<(u32, Commit)>
-    requires { IsPlaceOf (D.state disk.old).size (sector (D.state disk.old).seen) place }
+pub(crate) fn open_commit<D: Disk>(disk: &mut D, geometry: Geometry) -> Checked<(u32, Commit)>
+    requires { IsGeometryOf (D.state disk.old).size (sector (D.state disk.old).seen) geometry }
     ensures area { IfOk result (λ found. found.0 ≡ named_area (sector (D.state disk.old).seen)) }
     ensures targets { IfOk result (λ found. IsCommit (D.state disk.old).size (sector (D.state disk.old).seen) found.1) }
     ensures passed { Passed IsFirst (D.state disk.old) (D.state disk.new) result }
 {
-    let (area, found) = read_commit(disk, place.header)?;
+    let (area, found) = read_commit(disk, geometry.header)?;
     match found {
         Some(commit) => Ok((area, commit)),
         None => Err(NO_COMMIT),

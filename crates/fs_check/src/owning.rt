@@ -10,7 +10,7 @@ ghost use Rattle.fs_check.specs.Checks.{meaning, BeginsWith, Passed, IsNone};
 use crate::faults::Checked;
 use crate::opening::Opened;
 use crate::reading::read_recovered;
-use fs_layout::{Inode, POINTER_LEVELS, Place, SECTOR_POINTERS, own_count};
+use fs_layout::{Geometry, Inode, POINTER_LEVELS, SECTOR_POINTERS, own_count};
 use sector_disk::Disk;
 
 /// The sectors of pointers that were read last, one of each level.
@@ -23,10 +23,10 @@ pub(crate) struct Pointers {
 }
 
 /// The sector is in the data area.
-pub(crate) fn is_data(place: Place, s: u32) -> bool
-    ensures { IsTrue result ↔ IsData place s }
+pub(crate) fn is_data(geometry: Geometry, s: u32) -> bool
+    ensures { IsTrue result ↔ IsData geometry s }
 {
-    place.first_data <= s && s < place.sectors
+    geometry.first_data <= s && s < geometry.sectors
 }
 
 impl Pointers {
@@ -42,7 +42,7 @@ impl Pointers {
 
     // Reads a sector of pointers of a level, unless it is at hand. At `Err` nothing is said of what is at hand.
     fn load<D: Disk>(&mut self, disk: &mut D, opened: &Opened, level: usize, s: u32) -> Checked<()>
-        requires opened { BeginsWith (D.state disk.old) opened.now.place opened.now.area opened.now.commit }
+        requires opened { BeginsWith (D.state disk.old) opened.now.geometry opened.now.area opened.now.commit }
         requires lowest { 1 ≤ level }
         requires highest { level ≤ POINTER_LEVELS }
         requires some { s ≢ 0 }
@@ -72,9 +72,9 @@ impl Pointers {
         level: usize,
         i: u64,
     ) -> Checked<u32>
-        requires opened { BeginsWith (D.state disk.old) opened.now.place opened.now.area opened.now.commit }
+        requires opened { BeginsWith (D.state disk.old) opened.now.geometry opened.now.area opened.now.commit }
         requires level { level ≤ POINTER_LEVELS }
-        requires above { HasAboveInData opened.now.place (meaning (D.state disk.old)) inode.now level }
+        requires above { HasAboveInData opened.now.geometry (meaning (D.state disk.old)) inode.now level }
         requires at_hand { AreAtHand (meaning (D.state disk.old)) self.old }
         ensures number { IfOk result (λ s. s ≡ number_on (meaning (D.state disk.old)) inode.now level i) }
         ensures at_hand { OnOk result (AreAtHand (meaning (D.state disk.old)) self.new) }
@@ -107,11 +107,11 @@ impl Pointers {
         level: usize,
         i: u64,
     ) -> Checked<u32>
-        requires opened { BeginsWith (D.state disk.old) opened.now.place opened.now.area opened.now.commit }
+        requires opened { BeginsWith (D.state disk.old) opened.now.geometry opened.now.area opened.now.commit }
         requires lowest { 1 ≤ level }
         requires highest { level ≤ POINTER_LEVELS }
-        requires in_data { HasLevelInData opened.now.place (meaning (D.state disk.old)) inode.now level }
-        requires above { HasAboveInData opened.now.place (meaning (D.state disk.old)) inode.now level }
+        requires in_data { HasLevelInData opened.now.geometry (meaning (D.state disk.old)) inode.now level }
+        requires above { HasAboveInData opened.now.geometry (meaning (D.state disk.old)) inode.now level }
         requires at_hand { AreAtHand (meaning (D.state disk.old)) self.old }
         ensures number { IfOk result (λ s. s ≡ number_on (meaning (D.state disk.old)) inode.now level i) }
         ensures content { IfOk result (λ s. s ≢ 0 → get_or self.new.contents (level - 1) [] ≡ meaning (D.state disk.old) s) }

@@ -16,7 +16,7 @@ use sector_disk::Disk;
 // Where the sector stands among the targets.
 fn target_index(targets: &[u32], n: u32) -> Option<usize>
     ensures none { IfNone result ((k : ℕ) → k < length targets.now → get_or targets.now k 0 ≢ n) }
-    ensures place { IfSome result (λ k. k < length targets.now) }
+    ensures geometry { IfSome result (λ k. k < length targets.now) }
     ensures there { IfSome result (λ k. get_or targets.now k 0 ≡ n) }
 {
     for (k, target) in targets.iter().enumerate() {
@@ -47,12 +47,12 @@ pub(crate) fn read_recovered<D: Disk>(
     n: u32,
     to: &mut [u8; 512],
 ) -> Checked<()>
-    requires opened { BeginsWith (D.state disk.old) opened.now.place opened.now.area opened.now.commit }
+    requires opened { BeginsWith (D.state disk.old) opened.now.geometry opened.now.area opened.now.commit }
     requires on_disk { n < (D.state disk.old).size }
     ensures content { OnOk result (to.new ≡ meaning (D.state disk.old) n) }
     ensures passed { Passed IsNone (D.state disk.old) (D.state disk.new) result }
 {
-    let header = opened.place.header;
+    let header = opened.geometry.header;
     disk.read(content_of(header, opened.area, &opened.commit, n), to)?;
     Ok(())
 }

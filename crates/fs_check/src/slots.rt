@@ -26,16 +26,16 @@ fn read_block_of<D: Disk>(
     k: usize,
     block: &mut [u8; 512],
 ) -> Checked<()>
-    requires opened { BeginsWith (D.state disk.old) opened.now.place opened.now.area opened.now.commit }
-    requires in_data { (s : ℕ) → Owns (meaning (D.state disk.old)) inode.now s → IsData opened.now.place s }
+    requires opened { BeginsWith (D.state disk.old) opened.now.geometry opened.now.area opened.now.commit }
+    requires in_data { (s : ℕ) → Owns (meaning (D.state disk.old)) inode.now s → IsData opened.now.geometry s }
     requires at_hand { AreAtHand (meaning (D.state disk.old)) pointers.old }
-    requires before { k % block_slots opened.now.place.version ≢ 0
-        → block.old ≡ block_of_slot opened.now.place.version (meaning (D.state disk.old)) inode.now k }
+    requires before { k % block_slots opened.now.geometry.version ≢ 0
+        → block.old ≡ block_of_slot opened.now.geometry.version (meaning (D.state disk.old)) inode.now k }
     ensures at_hand { OnOk result (AreAtHand (meaning (D.state disk.old)) pointers.new) }
-    ensures content { OnOk result (block.new ≡ block_of_slot opened.now.place.version (meaning (D.state disk.old)) inode.now k) }
+    ensures content { OnOk result (block.new ≡ block_of_slot opened.now.geometry.version (meaning (D.state disk.old)) inode.now k) }
     ensures passed { Passed IsNone (D.state disk.old) (D.state disk.new) result }
 {
-    let block_slots = opened.place.version.block_slots();
+    let block_slots = opened.geometry.version.block_slots();
     if k % block_slots != 0 {
         return Ok(());
     }
@@ -47,14 +47,14 @@ fn read_block_of<D: Disk>(
 
 // The slots of a directory, where each is valid.
 fn read_slots<D: Disk>(disk: &mut D, opened: &Opened, inode: &Inode) -> Checked<Option<Vec<Slot>>>
-    requires opened { BeginsWith (D.state disk.old) opened.now.place opened.now.area opened.now.commit }
-    requires in_data { (s : ℕ) → Owns (meaning (D.state disk.old)) inode.now s → IsData opened.now.place s }
+    requires opened { BeginsWith (D.state disk.old) opened.now.geometry opened.now.area opened.now.commit }
+    requires in_data { (s : ℕ) → Owns (meaning (D.state disk.old)) inode.now s → IsData opened.now.geometry s }
     requires size { inode.now.size ≤ MAX_DIRECTORY_SIZE }
-    ensures slots { IfOk result (λ o. MatchOption o (AreValid opened.now.place.version (meaning (D.state disk.old)) inode.now → ⊥)
-        (λ slots. AreSlots opened.now.place.version (meaning (D.state disk.old)) inode.now slots.items)) }
+    ensures slots { IfOk result (λ o. MatchOption o (AreValid opened.now.geometry.version (meaning (D.state disk.old)) inode.now → ⊥)
+        (λ slots. AreSlots opened.now.geometry.version (meaning (D.state disk.old)) inode.now slots.items)) }
     ensures passed { Passed IsNone (D.state disk.old) (D.state disk.new) result }
 {
-    let version = opened.place.version;
+    let version = opened.geometry.version;
     let count = inode.size as usize / version.slot_size();
     let mut pointers = Pointers::new();
     let mut slots = Vec::with_capacity(opened.alloc, count)?;
@@ -99,13 +99,13 @@ pub(crate) fn read_good_slots<D: Disk>(
     inodes: &[Inode],
     inode: &Inode,
 ) -> Checked<Option<Vec<Slot>>>
-    requires opened { BeginsWith (D.state disk.old) opened.now.place opened.now.area opened.now.commit }
-    requires table { AreInodes opened.now.place (meaning (D.state disk.old)) inodes.now }
-    requires in_data { (s : ℕ) → Owns (meaning (D.state disk.old)) inode.now s → IsData opened.now.place s }
+    requires opened { BeginsWith (D.state disk.old) opened.now.geometry opened.now.area opened.now.commit }
+    requires table { AreInodes opened.now.geometry (meaning (D.state disk.old)) inodes.now }
+    requires in_data { (s : ℕ) → Owns (meaning (D.state disk.old)) inode.now s → IsData opened.now.geometry s }
     requires size { inode.now.size ≤ MAX_DIRECTORY_SIZE }
-    ensures slots { IfOk result (λ o. MatchOption o (HasGoodSlots opened.now.place (meaning (D.state disk.old)) inode.now → ⊥)
-        (λ slots. HasGoodSlots opened.now.place (meaning (D.state disk.old)) inode.now
-        × AreSlots opened.now.place.version (meaning (D.state disk.old)) inode.now slots.items)) }
+    ensures slots { IfOk result (λ o. MatchOption o (HasGoodSlots opened.now.geometry (meaning (D.state disk.old)) inode.now → ⊥)
+        (λ slots. HasGoodSlots opened.now.geometry (meaning (D.state disk.old)) inode.now
+        × AreSlots opened.now.geometry.version (meaning (D.state disk.old)) inode.now slots.items)) }
     ensures passed { Passed IsNone (D.state disk.old) (D.state disk.new) result }
 {
     let Some(slots) = read_slots(disk, opened, inode)? else {

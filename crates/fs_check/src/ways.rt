@@ -6,7 +6,7 @@ ghost use Rattle.fs_model.specs.Rules.{ObeysEach, ObeysBefore, IsLeastFailure, W
 ghost use Rattle.fs_check.specs.Checks.{AreInodes};
 ghost use Rattle.fs_check.specs.Ways.{Climbs, AllClimb};
 
-use fs_layout::{Inode, Kind, Place, ROOT};
+use fs_layout::{Geometry, Inode, Kind, ROOT};
 use std::alloc::{AllocError, Global};
 
 // Whether the way up from directory d reaches the root. It ends where it meets an earlier way, as all of them reach the
@@ -38,12 +38,12 @@ fn goes_up(inodes: &[Inode], marks: &mut [u32], d: u32) -> bool
 /// The first directory from which the way up doesn't reach the root.
 pub(crate) fn unreached(
     alloc: Global,
-    place: Place,
+    geometry: Geometry,
     inodes: &[Inode],
 ) -> Result<Option<u32>, AllocError>
-    requires inodes { length inodes.now ≤ place.inodes }
-    ensures { IfOk result (λ first. (m : SectorMap) → AreInodes place m inodes.now → ObeysBefore place m 14
-        → MatchOption first (ObeysEach place m Ways) (λ d. IsLeastFailure place m Ways d)) }
+    requires inodes { length inodes.now ≤ geometry.inodes }
+    ensures { IfOk result (λ first. (m : SectorMap) → AreInodes geometry m inodes.now → ObeysBefore geometry m 14
+        → MatchOption first (ObeysEach geometry m Ways) (λ d. IsLeastFailure geometry m Ways d)) }
 {
     let mut marks = vec![in alloc; 0; inodes.len()]?;
     for d in 1..inodes.len() as u32 {

@@ -32,8 +32,8 @@ abbrev pub directory : Rule
 directory = record (new_rule (codes "DIR")) { required = true }
 
 -- the argument has to be given
-abbrev pub needed : Rule → Rule
-needed rule = record rule { required = true }
+abbrev pub must_be_given : Rule → Rule
+must_be_given rule = record rule { required = true }
 
 -- `--name N`, which may be given, with a number in its range
 abbrev pub number_option : Text → ℕ → ℕ → Rule
@@ -49,15 +49,15 @@ flag name = record (new_rule name) { long = Some name; action = Some SetTrue }
 
 abbrev pub mkfs : App
 mkfs = with_rule (with_rule (with_rule (new_app (codes "mkfs")) image)
-    (needed (number_option (codes "sectors") 1024 65536))) (needed (number_option (codes "inodes") 16 4096))
+    (must_be_given (number_option (codes "sectors") 1024 65536))) (must_be_given (number_option (codes "inodes") 16 4096))
 
 abbrev pub format : App
 format = with_rule (with_rule (with_rule (new_app (codes "format")) image)
-    (needed (text_option (codes "size")))) (number_option (codes "inodes") 16 1048576)
+    (must_be_given (text_option (codes "size")))) (number_option (codes "inodes") 16 1048576)
 
 abbrev pub pack : App
 pack = with_rule (with_rule (with_rule (with_rule (with_rule (with_rule (new_app (codes "pack")) image) directory)
-    (needed (text_option (codes "size")))) (number_option (codes "inodes") 16 1048576))
+    (must_be_given (text_option (codes "size")))) (number_option (codes "inodes") 16 1048576))
     (number_option (codes "uid") 0 4294967295)) (number_option (codes "gid") 0 4294967295)
 
 abbrev pub unpack : App

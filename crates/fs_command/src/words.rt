@@ -2,7 +2,7 @@
 ghost use Rattle.std.specs.Prelude.{◌≡◌, MatchResult, IfOk, [], codes, map, string_bytes, false};
 ghost use Rattle.clap.specs.Words.{app_of, found_of, rows_of, rule_of, fault_of, subcommand_rows_of};
 ghost use Rattle.fs_command.specs.Words.{command_line, alone, mkfs, format, pack, unpack, run, check, info, upgrade, fuse};
-ghost use Rattle.fs_command.specs.Words.{image, directory, needed, number_option, text_option, flag, words_status};
+ghost use Rattle.fs_command.specs.Words.{image, directory, must_be_given, number_option, text_option, flag, words_status};
 ghost use Rattle.fs_command.specs.Words.{HasValues, IsGiven, IsNumberGiven, IsNumberIfGiven, IsFlag, AsksFor, SaysJob, Refuses};
 ghost use Rattle.fs_command.specs.Words.{SaysMkfs, SaysFormat, SaysPack, SaysUnpack, SaysRun, SaysCheck, SaysInfo, SaysUpgrade, SaysFuse, HasBadSize, HasBadValue};
 

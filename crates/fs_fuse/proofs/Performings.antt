@@ -10,7 +10,7 @@ use Rattle.fuse_state.specs.declared.settings.Settings.{Settings}
 use Rattle.fuse_plans.specs.Plans.{Plan, CarriesOut, finishes, asks}
 use Rattle.fuse_plans.specs.Serving.{requests_plan}
 use Rattle.fuse_serving.specs.Exchanges.{Exchange}
-use Rattle.fuse_serving.specs.Rounds.{Scene, Round, AreServed, IsEnd, Ends, ServedAll, BrokenOff, rounds_limit}
+use Rattle.fuse_serving.specs.Rounds.{Parties, Round, AreServed, IsEnd, HasEnded, ServedAll, BrokenOff, rounds_limit}
 use Rattle.fuse_serving.specs.declared.fault.ServeFault.{ServeFault}
 use Rattle.fs_fuse.specs.Performing.{ServesOne, Performed, Served, ServedFrom, BrokenFrom, ServingEnds, broke_off}
 
@@ -28,7 +28,7 @@ module _ {D X : Type 0} (state : D → DiskState) where
 
 module _ {D K : Type 0} (state : D → DiskState) (Does : K → Exchange → K → Type 0) (settings : Settings) where
   -- a session that was served, until its last request
-  pub served_until : (old last : Scene (System D) K) (new : System D) (after : K) (rounds : List Round)
+  pub served_until : (old last : Parties (System D) K) (new : System D) (after : K) (rounds : List Round)
       → old.server ≡ new_server settings
       → AreServed (ServesOne state) Does old rounds last → new ≡ last.machine
       → IsEnd Does last.server last.kernel after ⊎ ((length rounds ≡ rounds_limit) × (after ≡ last.kernel))
@@ -49,19 +49,19 @@ module _ {D K : Type 0} (state : D → DiskState) (Does : K → Exchange → K �
       }
 
   -- a session that was served
-  pub served_from : (old new : Scene (System D) K) → old.server ≡ new_server settings → ServedAll (ServesOne state) Does old new
+  pub served_from : (old new : Parties (System D) K) → old.server ≡ new_server settings → ServedAll (ServesOne state) Does old new
       → ServedFrom state Does settings old.machine new.machine old.kernel new.kernel
   served_from old new begun all = ends all.end
     where
-      ends : Ends Does all.last new ⊎ ((length all.rounds ≡ rounds_limit) × (new ≡ all.last))
+      ends : HasEnded Does all.last new ⊎ ((length all.rounds ≡ rounds_limit) × (new ≡ all.last))
           → ServedFrom state Does settings old.machine new.machine old.kernel new.kernel
       ends (inl e) = served_until old all.last new.machine new.kernel all.rounds begun all.served e.machine (inl e.is_end)
       ends (inr many) =
-          served_until old all.last new.machine new.kernel all.rounds begun all.served (ap (λ (s : Scene (System D) K). s.machine) many.1)
-          (inr (many.0, ap (λ (s : Scene (System D) K). s.kernel) many.1))
+          served_until old all.last new.machine new.kernel all.rounds begun all.served (ap (λ (s : Parties (System D) K). s.machine) many.1)
+          (inr (many.0, ap (λ (s : Parties (System D) K). s.kernel) many.1))
 
   -- a session that broke off
-  pub broken_from : (old new : Scene (System D) K) (fault : ServeFault) → old.server ≡ new_server settings
+  pub broken_from : (old new : Parties (System D) K) (fault : ServeFault) → old.server ≡ new_server settings
       → BrokenOff (ServesOne state) Does fault old new → BrokenFrom state Does settings fault old.machine new.machine old.kernel
   broken_from old new fault begun b =
       let heard : List Round = b.rounds ++ b.break.untold in
@@ -80,7 +80,7 @@ module _ {D K : Type 0} (state : D → DiskState) (Does : K → Exchange → K �
       }
 
   -- a session, however it ended, between a file system that was given and one that comes back
-  pub serves_between : (old new : Scene (System D) K) (first last : System D) (served : Result (Unit {0}) ServeFault)
+  pub serves_between : (old new : Parties (System D) K) (first last : System D) (served : Result (Unit {0}) ServeFault)
       → old.machine ≡ first → old.server ≡ new_server settings → new.machine ≡ last
       → OnOk served (ServedAll (ServesOne state) Does old new) → IfErr served (λ fault. BrokenOff (ServesOne state) Does fault old new)
       → ServingEnds state Does settings first last old.kernel new.kernel served

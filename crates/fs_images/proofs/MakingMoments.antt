@@ -4,13 +4,13 @@ use Rattle.std.proofs.lemmas.Bool.{cases_eq}
 use Rattle.std.proofs.lemmas.List.{length-set}
 use Rattle.sector_disk.specs.Disk.{DiskState, Image, sector, AddsOnly, IsImage, IsImageOr, IsStable, IsWrite}
 use Rattle.sector_disk.proofs.Moments.{image_or, stays, stays_or}
-use Rattle.fs_layout.specs.declared.place.Place.{Place}
+use Rattle.fs_layout.specs.declared.geometry.Geometry.{Geometry}
 use Rattle.fs_layout.specs.Bytes.{zeros}
 use Rattle.fs_layout.specs.Commit.{commit_bytes}
 use Rattle.fs_layout.specs.declared.version.Version.{Version}
-use Rattle.fs_layout.specs.Place.{IsPlace, new_header, super_for, the_place}
+use Rattle.fs_layout.specs.Geometry.{IsGeometry, new_header, super_for, the_geometry}
 use Rattle.fs_layout.specs.Superblock.{super_bytes}
-use Rattle.fs_layout.proofs.Places.{after_map, place_is_laid_out, place_is_place}
+use Rattle.fs_layout.proofs.Places.{after_map, geometry_is_laid_out, is_a_geometry}
 use Rattle.fs_model.specs.NewDisk.{empty_tree, IsNewImage}
 use Rattle.fs_model.specs.Stands.{room_of, Stands}
 use Rattle.fs_model.proofs.NewDiskStands.{new_disk_stands}
@@ -44,7 +44,7 @@ pub still_cleared : (old : DiskState) → IsCleared old → (image : Image) → 
 still_cleared old at_rest image is = stays at_rest.stable at_rest.whole is 0 (λ content lt. omega (arith, lt)) ∙ at_rest.cleared
 
 -- one sector of the tables more
-pub table_more : (p : Place) (old new : Image) (n : ℕ) (content : List ℕ) → n < length old → new ≡ set old n content → IsNewTable p n content
+pub table_more : (p : Geometry) (old new : Image) (n : ℕ) (content : List ℕ) → n < length old → new ≡ set old n content → IsNewTable p n content
     → ((s : ℕ) → p.inode_bitmap ≤ s → s < n → IsNewTable p s (sector old s)) → (s : ℕ) → p.inode_bitmap ≤ s → s < n + 1
     → IsNewTable p s (sector new s)
 table_more p old new n content fits put is so_far s ge lt = elim (cases_eq s n) [
@@ -74,53 +74,53 @@ image_joined {old = old} {mid} first image is = record {
 }
 
 -- a place is that of a disk of its size
-pub place_size : (version : Version) (size inodes : ℕ) (p : Place) → the_place version size inodes ≡ Some p → p.sectors ≡ size
-place_size version size inodes p e = ap (λ (q : Place). q.sectors) (place_is_laid_out size inodes e)
+pub geometry_size : (version : Version) (size inodes : ℕ) (p : Geometry) → the_geometry version size inodes ≡ Some p → p.sectors ≡ size
+geometry_size version size inodes p e = ap (λ (q : Geometry). q.sectors) (geometry_is_laid_out size inodes e)
 
 -- of its version
-pub place_version : (version : Version) (size inodes : ℕ) (p : Place) → the_place version size inodes ≡ Some p → p.version ≡ version
-place_version version size inodes p e = ap (λ (q : Place). q.version) (place_is_laid_out size inodes e)
+pub geometry_version : (version : Version) (size inodes : ℕ) (p : Geometry) → the_geometry version size inodes ≡ Some p → p.version ≡ version
+geometry_version version size inodes p e = ap (λ (q : Geometry). q.version) (geometry_is_laid_out size inodes e)
 
 -- and of so many inodes
-pub place_inodes : (version : Version) (size inodes : ℕ) (p : Place) → the_place version size inodes ≡ Some p → p.inodes ≡ inodes
-place_inodes version size inodes p e = ap (λ (q : Place). q.inodes) (place_is_laid_out size inodes e)
+pub geometry_inodes : (version : Version) (size inodes : ℕ) (p : Geometry) → the_geometry version size inodes ≡ Some p → p.inodes ≡ inodes
+geometry_inodes version size inodes p e = ap (λ (q : Geometry). q.inodes) (geometry_is_laid_out size inodes e)
 
 -- its parts are on the disk
-pub record IsOnDisk (p : Place) (size : ℕ) : Type 0 where
+pub record IsOnDisk (p : Geometry) (size : ℕ) : Type 0 where
   pub least : 1024 ≤ size
   pub first_data : p.first_data ≤ size
 
-pub place_on_disk : (version : Version) (size inodes : ℕ) (p : Place) → the_place version size inodes ≡ Some p → IsOnDisk p size
-place_on_disk version size inodes p e =
-    let place = place_is_place version (new_header version size inodes) size inodes e in
-    let same = place_size version size inodes p e in
-    record { least = omega (arith, place.least_sectors, same); first_data = omega (arith, place.data_sectors, same) }
+pub geometry_on_disk : (version : Version) (size inodes : ℕ) (p : Geometry) → the_geometry version size inodes ≡ Some p → IsOnDisk p size
+geometry_on_disk version size inodes p e =
+    let geometry = is_a_geometry version (new_header version size inodes) size inodes e in
+    let same = geometry_size version size inodes p e in
+    record { least = omega (arith, geometry.least_sectors, same); first_data = omega (arith, geometry.data_sectors, same) }
 
 -- with the superblock a prepared disk is a new one
-pub is_new_disk : (p : Place) (old : DiskState) → IsPrepared p old → (image : Image) → length image ≡ old.size
+pub is_new_disk : (p : Geometry) (old : DiskState) → IsPrepared p old → (image : Image) → length image ≡ old.size
     → sector image 0 ≡ super_bytes (super_for p)
     → ((n : ℕ) → 0 < n → n < old.size → sector image n ≡ sector old.seen n) → IsNewDisk p.version p.inodes image
 is_new_disk p old ready image size super others = record {
-  place = p;
-  has_place = ap (λ (k : ℕ). the_place p.version k p.inodes) size ∙ ready.has_place;
+  geometry = p;
+  has_geometry = ap (λ (k : ℕ). the_geometry p.version k p.inodes) size ∙ ready.has_geometry;
   new = new;
   stands = subst (λ (k : ℕ). Stands k (sector image) (room_of p) empty_tree (p.sectors - p.first_data)) (sectors ∙ sym size) (new_disk_stands p (sector image) new);
 }
   where
     sectors : p.sectors ≡ old.size
-    sectors = place_size p.version old.size p.inodes p ready.has_place
+    sectors = geometry_size p.version old.size p.inodes p ready.has_geometry
 
-    place : IsPlace p
-    place = place_is_place p.version (new_header p.version old.size p.inodes) old.size p.inodes ready.has_place
+    geometry : IsGeometry p
+    geometry = is_a_geometry p.version (new_header p.version old.size p.inodes) old.size p.inodes ready.has_geometry
 
     new : IsNewImage p (sector image)
     new =
-        new_image p (sector image) (ap (λ (k : ℕ). the_place p.version k p.inodes) sectors ∙ ready.has_place) super
-        (others 1 (omega arith) (omega (arith, sectors, place.least_sectors)) ∙ ready.commit)
-        (λ s ge lt. subst (IsNewTable p s) (sym (others s (omega (arith, ge, (after_map place).0)) (omega (arith, lt, sectors, place.data_sectors)))) (ready.tables s ge lt))
+        new_image p (sector image) (ap (λ (k : ℕ). the_geometry p.version k p.inodes) sectors ∙ ready.has_geometry) super
+        (others 1 (omega arith) (omega (arith, sectors, geometry.least_sectors)) ∙ ready.commit)
+        (λ s ge lt. subst (IsNewTable p s) (sym (others s (omega (arith, ge, (after_map geometry).0)) (omega (arith, lt, sectors, geometry.data_sectors)))) (ready.tables s ge lt))
 
 -- while the superblock is written, an image has none, or is that of a new disk
-pub cleared_or_new : (p : Place) (old : DiskState) (content : List ℕ) → IsPrepared p old → content ≡ super_bytes (super_for p)
+pub cleared_or_new : (p : Geometry) (old : DiskState) (content : List ℕ) → IsPrepared p old → content ≡ super_bytes (super_for p)
     → (image : Image) → IsImageOr (IsWrite 0 content) old image → HasNoSuperblock image ⊎ IsNewDisk p.version p.inodes image
 cleared_or_new p old content ready super image is =
     ⊎_elim (λ was. inl (was ∙ ready.at_rest.cleared))
@@ -129,7 +129,7 @@ cleared_or_new p old content ready super image is =
     (stays_or ready.at_rest.stable is 0 ready.at_rest.room)
 
 -- once it is written
-pub written_new : (p : Place) (old : DiskState) (content : List ℕ) → IsPrepared p old → content ≡ super_bytes (super_for p)
+pub written_new : (p : Geometry) (old : DiskState) (content : List ℕ) → IsPrepared p old → content ≡ super_bytes (super_for p)
     → (image : Image) → image ≡ set old.seen 0 content → IsNewDisk p.version p.inodes image
 written_new p old content ready super image put =
     let room : 0 < length old.seen = omega (arith, ready.at_rest.room, ready.at_rest.whole) in
@@ -138,10 +138,10 @@ written_new p old content ready super image put =
     (λ n some below. ap (λ (i : Image). sector i n) put ∙ get_or-set_other old.seen 0 n content [] (λ (e : n ≡ 0). omega (arith, some, e)))
 
 -- the disk once all but the superblock is stable
-pub prepared : (p : Place) (old new : DiskState) → the_place p.version old.size p.inodes ≡ Some p → IsCleared old → AddsOnly BehindSuperblock old new → IsImage new new.seen
+pub prepared : (p : Geometry) (old new : DiskState) → the_geometry p.version old.size p.inodes ≡ Some p → IsCleared old → AddsOnly BehindSuperblock old new → IsImage new new.seen
     → sector new.seen 1 ≡ commit_bytes [] → HoldsNewTables p new.seen → IsStable new → IsPrepared p new
-prepared p old new has_place at_rest adds seen commit tables stable = record {
-  has_place = ap (λ (k : ℕ). the_place p.version k p.inodes) adds.size ∙ has_place;
+prepared p old new has_geometry at_rest adds seen commit tables stable = record {
+  has_geometry = ap (λ (k : ℕ). the_geometry p.version k p.inodes) adds.size ∙ has_geometry;
   at_rest = record {
     room = omega (arith, adds.size, at_rest.room);
     whole = seen.size;

@@ -4,10 +4,10 @@ use Rattle.std.specs.Prelude.{MatchResult}
 use Rattle.std.specs.Option.{ok_or}
 use Rattle.std.proofs.lemmas.Bool.{le-leb}
 use Rattle.std.proofs.lemmas.Bool.Decides.{nat_tests}
-use Rattle.fs_layout.specs.declared.place.Place.{Place}
+use Rattle.fs_layout.specs.declared.geometry.Geometry.{Geometry}
 use Rattle.fs_layout.specs.declared.version.Version.{Version}
 use Rattle.fs_layout.specs.Version.{max_sectors, max_inodes}
-use Rattle.fs_layout.specs.Place.{allows_header, are_in_range, laid_out, new_header, place_in, the_place}
+use Rattle.fs_layout.specs.Geometry.{allows_header, are_in_range, laid_out, new_header, geometry_in, the_geometry}
 use Rattle.fs_layout.proofs.Places.{new_header_allowed}
 use Rattle.fs_images.specs.declared.faults.MkfsFault.TheVariants.{BadSize, BadInodes, TooSmall}
 use Rattle.fs_images.specs.Making.{is_out_of, mkfs_refusal}
@@ -64,8 +64,8 @@ range_passed version sectors inodes fit =
     ) refl
 
 last_test : (version : Version) (sectors inodes : ℕ) → AreInRange version sectors inodes
-    → the_place version sectors inodes ≡ cond (is_full version sectors inodes) None (Some (laid_out version sectors inodes))
-unfolding place_in
+    → the_geometry version sectors inodes ≡ cond (is_full version sectors inodes) None (Some (laid_out version sectors inodes))
+unfolding geometry_in
 last_test version sectors inodes fit =
     let range = range_passed version sectors inodes fit in
     let allowed = new_header_allowed version sectors inodes range in
@@ -73,23 +73,23 @@ last_test version sectors inodes fit =
     (cond (is_full version sectors inodes) None (Some (laid_out version sectors inodes))))) range
     ∙ ap (λ b. cond (not b) None (cond (is_full version sectors inodes) None (Some (laid_out version sectors inodes)))) allowed
 
-none_then : (b : Bool) (l : Place) → None ≡ cond b None (Some l) → cond b (Some TooSmall) None ≡ Some TooSmall
+none_then : (b : Bool) (l : Geometry) → None ≡ cond b None (Some l) → cond b (Some TooSmall) None ≡ Some TooSmall
 none_then true l e = refl
 none_then false l e = absurd cc
 
-some_then : (b : Bool) (l p : Place) → Some p ≡ cond b None (Some l) → cond b (Some TooSmall) None ≡ None
+some_then : (b : Bool) (l p : Geometry) → Some p ≡ cond b None (Some l) → cond b (Some TooSmall) None ≡ None
 some_then true l p e = absurd cc
 some_then false l p e = refl
 
 -- there is a place, or no room for the data
-pub place_or_too_small : (version : Version) (sectors inodes : ℕ) → AreInRange version sectors inodes → (o : Option Place)
-    → o ≡ the_place version sectors inodes
-    → MatchResult (ok_or o TooSmall) (λ p. (mkfs_refusal version sectors inodes ≡ None) × (the_place version sectors inodes ≡ Some p))
+pub geometry_or_too_small : (version : Version) (sectors inodes : ℕ) → AreInRange version sectors inodes → (o : Option Geometry)
+    → o ≡ the_geometry version sectors inodes
+    → MatchResult (ok_or o TooSmall) (λ p. (mkfs_refusal version sectors inodes ≡ None) × (the_geometry version sectors inodes ≡ Some p))
     (λ f. mkfs_refusal version sectors inodes ≡ Some f)
-place_or_too_small version sectors inodes fit None e =
+geometry_or_too_small version sectors inodes fit None e =
     last_refusal version sectors inodes fit
     ∙ none_then (is_full version sectors inodes) (laid_out version sectors inodes) (e ∙ last_test version sectors inodes fit)
-place_or_too_small version sectors inodes fit (Some p) e = (
+geometry_or_too_small version sectors inodes fit (Some p) e = (
   last_refusal version sectors inodes fit
       ∙ some_then (is_full version sectors inodes) (laid_out version sectors inodes) p (e ∙ last_test version sectors inodes fit),
   sym e,

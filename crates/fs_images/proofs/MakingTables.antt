@@ -5,14 +5,14 @@ use Rattle.std.proofs.lemmas.Bool.{cases_eq, cases_lt}
 use Rattle.std.proofs.lemmas.Bool.Decides.{nat_tests}
 use Rattle.std.proofs.lemmas.List.{drop-replicate, take-replicate, get_or-set_same, get_or-set_other, length-set}
 use Rattle.std.proofs.lemmas.Nat.Bits.{bit_at_set_same, bit_at_set_other}
-use Rattle.fs_layout.specs.declared.place.Place.{Place}
+use Rattle.fs_layout.specs.declared.geometry.Geometry.{Geometry}
 use Rattle.fs_layout.specs.Bytes.{SectorMap, IsBytes, IsSector, window, zeros, le16, le32, le64, le32s}
 use Rattle.fs_layout.specs.Commit.{commit_bytes}
 use Rattle.fs_layout.specs.Inode.{IsInode, free_inode, inode_bytes, inode_fits}
 use Rattle.fs_layout.specs.Images.{bit, stored}
-use Rattle.fs_layout.specs.Place.{IsPlace, new_header, super_for, the_place}
+use Rattle.fs_layout.specs.Geometry.{IsGeometry, new_header, super_for, the_geometry}
 use Rattle.fs_layout.specs.Superblock.{super_bytes}
-use Rattle.fs_layout.proofs.Places.{after_map, before_data, place_is_place}
+use Rattle.fs_layout.proofs.Places.{after_map, before_data, is_a_geometry}
 use Rattle.fs_layout.proofs.Sectors.{IsSector-splice, IsBytes-inode_bytes}
 use Rattle.fs_layout.proofs.SplicedBytes.{IsSector-zeros}
 use Rattle.fs_layout.proofs.Splices.{window_same, window_other}
@@ -135,9 +135,9 @@ free_bytes : inode_bytes free_inode ≡ zeros 128
 unfolding le16 le32 le64 le32s zeros
 free_bytes = refl
 
-free_in_zeros : (place : ℕ) → place + 128 ≤ 512 → window (zeros 512) place 128 ≡ inode_bytes free_inode
+free_in_zeros : (geometry : ℕ) → geometry + 128 ≤ 512 → window (zeros 512) geometry 128 ≡ inode_bytes free_inode
 unfolding zeros
-free_in_zeros place room = ap (take 128) (drop-replicate place 512 0) ∙ take-replicate 128 (512 - place) 0 (omega arith) ∙ sym free_bytes
+free_in_zeros geometry room = ap (take 128) (drop-replicate geometry 512 0) ∙ take-replicate 128 (512 - geometry) 0 (omega arith) ∙ sym free_bytes
 
 others_are_free : (k : ℕ) → k < 4 → k ≢ 1 → window root_table (128 * k) 128 ≡ inode_bytes free_inode
 unfolding root_table
@@ -153,7 +153,7 @@ unfolding root_table
 root_table_whole = IsSector-splice (zeros 512) (inode_bytes root_inode) 128 IsSector-zeros (IsBytes-inode_bytes root_inode) (omega (arith, length-root))
 
 -- ---- the tables as a whole
-table_whole : (p : Place) (s : ℕ) (content : List ℕ) → p.inode_bitmap ≤ s → IsNewTable p s content → IsSector content
+table_whole : (p : Geometry) (s : ℕ) (content : List ℕ) → p.inode_bitmap ≤ s → IsNewTable p s content → IsSector content
 table_whole p s content ge is = elim (cases_lt s p.block_bitmap) [
   | inl first ↦ (is.inodes ge first).whole
   | inr behind ↦ elim (cases_lt s p.table) [
@@ -178,11 +178,11 @@ bit_of_sector image start n =
 root_and_none : (most n : ℕ) → is_outside 2 most n ≡ (nat_eq n 0 || nat_le most n || nat_eq n root)
 root_and_none most n = grind (arith, nat_tests)
 
-pub new_image : (p : Place) (image : SectorMap) → the_place p.version p.sectors p.inodes ≡ Some p → image 0 ≡ super_bytes (super_for p)
+pub new_image : (p : Geometry) (image : SectorMap) → the_geometry p.version p.sectors p.inodes ≡ Some p → image 0 ≡ super_bytes (super_for p)
     → image 1 ≡ commit_bytes [] → ((s : ℕ) → p.inode_bitmap ≤ s → s < p.first_data → IsNewTable p s (image s)) → IsNewImage p image
 unfolding stored
-new_image p image has_place super commit tables = record {
-  has_place = has_place;
+new_image p image has_geometry super commit tables = record {
+  has_geometry = has_geometry;
   super = super;
   commit = commit;
   tables = λ s ge lt. table_whole p s (image s) ge (tables s ge lt);
@@ -205,9 +205,9 @@ new_image p image has_place super commit tables = record {
       (λ set. cases.0 (sym is ∙ set), λ out. is ∙ cases.1 out);
   root_is =
       let e : p.table + 1 / 4 ≡ p.table = omega arith in
-      ap (λ (s : ℕ). window (image s) 128 128) e ∙ ap (λ (x : List ℕ). window x 128 128) ((tables p.table (omega (arith, order.1, order.2)) (omega (arith, place.slots, place.least_inodes))).root refl) ∙ root_is_there;
+      ap (λ (s : ℕ). window (image s) 128 128) e ∙ ap (λ (x : List ℕ). window x 128 128) ((tables p.table (omega (arith, order.1, order.2)) (omega (arith, geometry.slots, geometry.least_inodes))).root refl) ∙ root_is_there;
   free = λ n lt ne.
-      let inside : p.table + n / 4 < p.first_data = omega (arith, place.slots, lt) in
+      let inside : p.table + n / 4 < p.first_data = omega (arith, geometry.slots, lt) in
       let there = tables (p.table + n / 4) (omega (arith, order.1, order.2)) inside in
       elim (cases_lt n 4) [
         | inl few ↦
@@ -219,11 +219,11 @@ new_image p image has_place super commit tables = record {
       ];
 }
   where
-    place : IsPlace p
-    place = place_is_place p.version (new_header p.version p.sectors p.inodes) p.sectors p.inodes has_place
+    geometry : IsGeometry p
+    geometry = is_a_geometry p.version (new_header p.version p.sectors p.inodes) p.sectors p.inodes has_geometry
 
     order : (128 ≤ p.inode_bitmap) × (p.inode_bitmap < p.block_bitmap) × (p.block_bitmap < p.table)
-    order = after_map place
+    order = after_map geometry
 
     high : p.table ≤ p.first_data
-    high = before_data place
+    high = before_data geometry

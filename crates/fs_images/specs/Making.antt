@@ -7,12 +7,12 @@
 --     HoldsNewTables, IsCleared, IsPrepared        the disk after each step
 use Rattle.std.specs.Prelude.{◌≡◌, ◌⊎◌, ℕ, ◌+◌, ◌-◌, ◌<◌, ◌≤◌, Bool, nat_lt, ◌||◌, List, [], length, Option, Some, None, if◌then◌else◌}
 use Rattle.sector_disk.specs.Disk.{DiskState, Image, sector, HasFailed, IsImage, IsStable}
-use Rattle.fs_layout.specs.declared.place.Place.{Place}
+use Rattle.fs_layout.specs.declared.geometry.Geometry.{Geometry}
 use Rattle.fs_layout.specs.declared.version.Version.{Version}
 use Rattle.fs_layout.specs.Version.{max_sectors, max_inodes}
 use Rattle.fs_layout.specs.Bytes.{zeros}
 use Rattle.fs_layout.specs.Commit.{commit_bytes}
-use Rattle.fs_layout.specs.Place.{laid_out, the_place}
+use Rattle.fs_layout.specs.Geometry.{laid_out, the_geometry}
 use Rattle.fs_model.specs.NewDisk.{empty_tree, IsNewImage}
 use Rattle.fs_model.specs.Stands.{room_of}
 use Rattle.fs_images.specs.declared.faults.MkfsFault.{MkfsFault}
@@ -37,10 +37,10 @@ IsDeviceFault before now fault = (fault ≡ DiskFault) × HasFailed before now
 
 -- The image is that of a new disk of this version, with so many inodes: it stands for an empty root, and all its data sectors are free.
 pub record IsNewDisk (version : Version) (inodes : ℕ) (image : Image) : Type 0 where
-  pub place : Place
-  pub has_place : the_place version (length image) inodes ≡ Some place
-  pub new : IsNewImage place (sector image)
-  pub stands : StandsFor (room_of place) image empty_tree (place.sectors - place.first_data)
+  pub geometry : Geometry
+  pub has_geometry : the_geometry version (length image) inodes ≡ Some geometry
+  pub new : IsNewImage geometry (sector image)
+  pub stands : StandsFor (room_of geometry) image empty_tree (geometry.sectors - geometry.first_data)
 
 -- sector 0 is zero
 abbrev pub HasNoSuperblock : Image → Type 0
@@ -65,7 +65,7 @@ BehindSuperblock n content = 0 < n
 
 -- ---- the disk after each step
 -- bitmaps and inode table are those of a new disk
-abbrev pub HoldsNewTables : Place → Image → Type 0
+abbrev pub HoldsNewTables : Geometry → Image → Type 0
 HoldsNewTables p image = (s : ℕ) → p.inode_bitmap ≤ s → s < p.first_data → IsNewTable p s (sector image s)
 
 -- all is stable, and there is no superblock
@@ -76,8 +76,8 @@ pub record IsCleared (disk : DiskState) : Type 0 where
   pub cleared : HasNoSuperblock disk.seen
 
 -- that, and all but the superblock is as on a new disk
-pub record IsPrepared (p : Place) (disk : DiskState) : Type 0 where
-  pub has_place : the_place p.version disk.size p.inodes ≡ Some p
+pub record IsPrepared (p : Geometry) (disk : DiskState) : Type 0 where
+  pub has_geometry : the_geometry p.version disk.size p.inodes ≡ Some p
   pub at_rest : IsCleared disk
   pub commit : sector disk.seen 1 ≡ commit_bytes []
   pub tables : HoldsNewTables p disk.seen

@@ -4,7 +4,7 @@
 --     root_table        the sector of the table with the root
 --     IsNewTable        the content of each of these sectors
 use Rattle.std.specs.Prelude.{◌≡◌, ℕ, ◌+◌, ◌-◌, ◌*◌, ◌<◌, ◌≤◌, Bool, nat_lt, nat_le, ◌||◌, List}
-use Rattle.fs_layout.specs.declared.place.Place.{Place}
+use Rattle.fs_layout.specs.declared.geometry.Geometry.{Geometry}
 use Rattle.fs_layout.specs.Bytes.{IsSector, splice, zeros}
 use Rattle.fs_layout.specs.Inode.{inode_bytes}
 use Rattle.fs_layout.specs.Images.{bit}
@@ -29,7 +29,7 @@ root_table = splice (zeros 512) 128 (inode_bytes root_inode)
 
 -- The content of sector s, from the bitmaps to the end of the inode table. Inode 0 isn't used, and inode 1 is the root;
 -- the slots past the last inode are zero.
-pub record IsNewTable (p : Place) (s : ℕ) (content : List ℕ) : Type 0 where
+pub record IsNewTable (p : Geometry) (s : ℕ) (content : List ℕ) : Type 0 where
   pub inodes : p.inode_bitmap ≤ s → s < p.block_bitmap → IsBitmap (4096 * (s - p.inode_bitmap)) 2 p.inodes content
   pub sectors : p.block_bitmap ≤ s → s < p.table → IsBitmap (4096 * (s - p.block_bitmap)) p.first_data p.sectors content
   pub root : s ≡ p.table → content ≡ root_table

@@ -7,7 +7,7 @@
 --     HasFinding        why a disk stands for no tree, as a check finds it
 use Rattle.std.specs.Prelude.{◌≡◌, ℕ, List, length, Contains}
 use Rattle.sector_disk.specs.Disk.{DiskState, Image, sector, IsImage, OnlyReads}
-use Rattle.fs_layout.specs.declared.place.Place.{Place}
+use Rattle.fs_layout.specs.declared.geometry.Geometry.{Geometry}
 use Rattle.fs_model.specs.Trees.{Tree, Room}
 use Rattle.fs_model.specs.TreeChanges.{pruned}
 use Rattle.fs_model.specs.Stands.{Stands}
@@ -22,8 +22,8 @@ abbrev pub StandsForSome : Image → Type 0
 StandsForSome image = (room : Room) × (t : Tree) × (free : ℕ) × StandsFor room image t free
 
 -- whatever the image stands for, it does so with its parts there
-abbrev pub HasPartsAt : Image → Place → Type 0
-HasPartsAt image place = (room : Room) (t : Tree) (free : ℕ) → (stands : StandsFor room image t free) → stands.place ≡ place
+abbrev pub HasPartsAt : Image → Geometry → Type 0
+HasPartsAt image geometry = (room : Room) (t : Tree) (free : ℕ) → (stands : StandsFor room image t free) → stands.geometry ≡ geometry
 
 -- what the one stands for, the other stands for too
 abbrev pub StandsAs : Image → Image → Type 0

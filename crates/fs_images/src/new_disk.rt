@@ -2,13 +2,13 @@
 
 ghost use Rattle.std.specs.Prelude.{◌≡◌, ◌≤◌, ◌<◌, Some, None, Err, IfErr, OnOk, MatchResult};
 ghost use Rattle.sector_disk.specs.Disk.{AddsOnly, HasCause, IsImageOr, IsStable, LeavesOnly, sector};
-ghost use Rattle.fs_layout.specs.Place.{IsPlace, super_for, the_place};
+ghost use Rattle.fs_layout.specs.Geometry.{IsGeometry, super_for, the_geometry};
 ghost use Rattle.fs_layout.specs.Superblock.{super_bytes};
 ghost use Rattle.fs_images.specs.Making.{BehindSuperblock, HasNoSuperblock, HoldsNewTables, IsCleared, IsDeviceFault, IsHalfCleared, IsHalfDone, IsHalfMade, IsNewDisk, IsPrepared, mkfs_refusal};
 
 use crate::MkfsFault;
 use crate::new_tables::table_sector;
-use fs_layout::{COMMIT_SECTOR, Commit, Place, Super, Version, place_of};
+use fs_layout::{COMMIT_SECTOR, Commit, Geometry, Super, Version, geometry_of};
 use sector_disk::{Disk, DiskFault, write_synced};
 
 const SUPERBLOCK: u32 = 0;
@@ -29,14 +29,14 @@ pub fn mkfs<D: Disk>(disk: &mut D, version: Version, inodes: u32) -> Result<(), 
     ensures size { (D.state disk.new).size ≡ (D.state disk.old).size }
     ensures failures { (D.state disk.old).failures ≤ (D.state disk.new).failures }
 {
-    let place = place_for(version, disk.size(), inodes)?;
-    write_all(disk, place).map_err(|_| MkfsFault::DiskFault)
+    let geometry = geometry_for(version, disk.size(), inodes)?;
+    write_all(disk, geometry).map_err(|_| MkfsFault::DiskFault)
 }
 
 // Where the parts of the disk are to lie.
-fn place_for(version: Version, sectors: u32, inodes: u32) -> Result<Place, MkfsFault>
+fn geometry_for(version: Version, sectors: u32, inodes: u32) -> Result<Geometry, MkfsFault>
     ensures { MatchResult result
-        (λ p. (mkfs_refusal version sectors inodes ≡ None) × (the_place version sectors inodes ≡ Some p))
+        (λ p. (mkfs_refusal version sectors inodes ≡ None) × (the_geometry version sectors inodes ≡ Some p))
         (λ f. mkfs_refusal version sectors inodes ≡ Some f) }
 {
     if sectors < 1024 || version.max_sectors() < sectors {
@@ -45,21 +45,21 @@ fn place_for(version: Version, sectors: u32, inodes: u32) -> Result<Place, MkfsF
     if inodes < 16 || version.max_inodes() < inodes {
         return Err(MkfsFault::BadInodes);
     }
-    place_of(version, sectors, inodes).ok_or(MkfsFault::TooSmall)
+    geometry_of(version, sectors, inodes).ok_or(MkfsFault::TooSmall)
 }
 
 // Writes the new disk: its superblock last, after all else is stable.
-fn write_all<D: Disk>(disk: &mut D, place: Place) -> Result<(), DiskFault>
-    requires { the_place place.version (D.state disk.old).size place.inodes ≡ Some place }
-    ensures made { OnOk result (IsNewDisk place.version place.inodes (D.state disk.new).seen) }
+fn write_all<D: Disk>(disk: &mut D, geometry: Geometry) -> Result<(), DiskFault>
+    requires { the_geometry geometry.version (D.state disk.old).size geometry.inodes ≡ Some geometry }
+    ensures made { OnOk result (IsNewDisk geometry.version geometry.inodes (D.state disk.new).seen) }
     ensures stable { OnOk result (IsStable (D.state disk.new)) }
-    ensures any_moment { LeavesOnly (D.state disk.old) (D.state disk.new) (IsHalfMade (D.state disk.old) place.version place.inodes) }
+    ensures any_moment { LeavesOnly (D.state disk.old) (D.state disk.new) (IsHalfMade (D.state disk.old) geometry.version geometry.inodes) }
     ensures size { (D.state disk.new).size ≡ (D.state disk.old).size }
     ensures cause { HasCause (D.state disk.old) (D.state disk.new) result }
 {
     clear_superblock(disk)?;
-    prepare(disk, place)?;
-    write_superblock(disk, place)
+    prepare(disk, geometry)?;
+    write_superblock(disk, geometry)
 }
 
 // Writes zeros over the superblock, and syncs.
@@ -74,52 +74,52 @@ fn clear_superblock<D: Disk>(disk: &mut D) -> Result<(), DiskFault>
 }
 
 // Writes all but the superblock, and syncs.
-fn prepare<D: Disk>(disk: &mut D, place: Place) -> Result<(), DiskFault>
+fn prepare<D: Disk>(disk: &mut D, geometry: Geometry) -> Result<(), DiskFault>
     requires cleared { IsCleared (D.state disk.old) }
-    requires place { the_place place.version (D.state disk.old).size place.inodes ≡ Some place }
-    ensures prepared { OnOk result (IsPrepared place (D.state disk.new)) }
+    requires geometry { the_geometry geometry.version (D.state disk.old).size geometry.inodes ≡ Some geometry }
+    ensures prepared { OnOk result (IsPrepared geometry (D.state disk.new)) }
     ensures any_moment { LeavesOnly (D.state disk.old) (D.state disk.new) HasNoSuperblock }
     ensures size { (D.state disk.new).size ≡ (D.state disk.old).size }
     ensures cause { HasCause (D.state disk.old) (D.state disk.new) result }
 {
     disk.write(COMMIT_SECTOR, &Commit::idle().to_sector())?;
-    write_tables(disk, place)?;
+    write_tables(disk, geometry)?;
     disk.sync()
 }
 
 // Writes bitmaps and inode table.
-fn write_tables<D: Disk>(disk: &mut D, place: Place) -> Result<(), DiskFault>
-    requires place { IsPlace place }
-    requires room { place.first_data ≤ (D.state disk.old).size }
-    ensures written { OnOk result (HoldsNewTables place (D.state disk.new).seen) }
+fn write_tables<D: Disk>(disk: &mut D, geometry: Geometry) -> Result<(), DiskFault>
+    requires geometry { IsGeometry geometry }
+    requires room { geometry.first_data ≤ (D.state disk.old).size }
+    ensures written { OnOk result (HoldsNewTables geometry (D.state disk.new).seen) }
     ensures commit { OnOk result (sector (D.state disk.new).seen 1 ≡ sector (D.state disk.old).seen 1) }
     ensures adds { AddsOnly BehindSuperblock (D.state disk.old) (D.state disk.new) }
     ensures any_moment { LeavesOnly (D.state disk.old) (D.state disk.new) (IsImageOr BehindSuperblock (D.state disk.old)) }
     ensures cause { HasCause (D.state disk.old) (D.state disk.new) result }
 {
-    for n in place.inode_bitmap..place.first_data {
-        disk.write(n, &table_sector(place, n))?;
+    for n in geometry.inode_bitmap..geometry.first_data {
+        disk.write(n, &table_sector(geometry, n))?;
     }
     Ok(())
 }
 
 // Writes the superblock, and syncs.
-fn write_superblock<D: Disk>(disk: &mut D, place: Place) -> Result<(), DiskFault>
-    requires { IsPrepared place (D.state disk.old) }
-    ensures made { OnOk result (IsNewDisk place.version place.inodes (D.state disk.new).seen) }
+fn write_superblock<D: Disk>(disk: &mut D, geometry: Geometry) -> Result<(), DiskFault>
+    requires { IsPrepared geometry (D.state disk.old) }
+    ensures made { OnOk result (IsNewDisk geometry.version geometry.inodes (D.state disk.new).seen) }
     ensures stable { OnOk result (IsStable (D.state disk.new)) }
-    ensures any_moment { LeavesOnly (D.state disk.old) (D.state disk.new) (IsHalfDone place.version place.inodes) }
+    ensures any_moment { LeavesOnly (D.state disk.old) (D.state disk.new) (IsHalfDone geometry.version geometry.inodes) }
     ensures size { (D.state disk.new).size ≡ (D.state disk.old).size }
     ensures cause { HasCause (D.state disk.old) (D.state disk.new) result }
 {
-    write_synced(disk, SUPERBLOCK, &superblock(place))
+    write_synced(disk, SUPERBLOCK, &superblock(geometry))
 }
 
 // The content of the superblock.
-fn superblock(place: Place) -> [u8; 512]
-    ensures { result ≡ super_bytes (super_for place) }
+fn superblock(geometry: Geometry) -> [u8; 512]
+    ensures { result ≡ super_bytes (super_for geometry) }
 {
     let mut content = [0; 512];
-    Super::of_place(place).write_to(&mut content, 0);
+    Super::of_geometry(geometry).write_to(&mut content, 0);
     content
 }

@@ -2,33 +2,33 @@
 
 ghost use Rattle.std.specs.Prelude.{◌≡◌, ◌≤◌, ◌<◌, ◌+◌, ◌^◌, ℕ, nat_eq};
 ghost use Rattle.std.specs.Int.{bit_at};
-ghost use Rattle.fs_layout.specs.declared.place.TheConstants.{SECTOR_BITS};
-ghost use Rattle.fs_layout.specs.Place.{IsPlace};
+ghost use Rattle.fs_layout.specs.declared.geometry.TheConstants.{SECTOR_BITS};
+ghost use Rattle.fs_layout.specs.Geometry.{IsGeometry};
 ghost use Rattle.fs_images.specs.NewTables.{IsBitmap, IsNewTable, is_outside, root_table};
 
-use fs_layout::{Inode, Kind, POINTER_LEVELS, Place, ROOT, SECTOR_BITS};
+use fs_layout::{Geometry, Inode, Kind, POINTER_LEVELS, ROOT, SECTOR_BITS};
 
 /// What sector `n` of the bitmaps and the inode table holds on a new disk.
 #[tactic(auto, unfolding(fs_layout::specs::Bytes::zeros))]
-pub(crate) fn table_sector(place: Place, n: u32) -> [u8; 512]
-    requires place { IsPlace place }
-    requires from { place.inode_bitmap ≤ n }
-    ensures { IsNewTable place n result }
+pub(crate) fn table_sector(geometry: Geometry, n: u32) -> [u8; 512]
+    requires geometry { IsGeometry geometry }
+    requires from { geometry.inode_bitmap ≤ n }
+    ensures { IsNewTable geometry n result }
 {
-    if n < place.block_bitmap {
+    if n < geometry.block_bitmap {
         // Inode 0 isn't used, and inode 1 is the root.
         bitmap_sector(
-            (n - place.inode_bitmap) * SECTOR_BITS,
+            (n - geometry.inode_bitmap) * SECTOR_BITS,
             ROOT + 1,
-            place.inodes,
+            geometry.inodes,
         )
-    } else if n < place.table {
+    } else if n < geometry.table {
         bitmap_sector(
-            (n - place.block_bitmap) * SECTOR_BITS,
-            place.first_data,
-            place.sectors,
+            (n - geometry.block_bitmap) * SECTOR_BITS,
+            geometry.first_data,
+            geometry.sectors,
         )
-    } else if n == place.table {
+    } else if n == geometry.table {
         root_sector()
     } else {
         [0; 512]

@@ -29,7 +29,7 @@ fn read_map<D: Disk>(
     n: u32,
     map: &mut [u8; 512],
 ) -> Result<(), DiskFault>
-    requires opened { BeginsWith (D.state disk.old) opened.now.place opened.now.area opened.now.commit }
+    requires opened { BeginsWith (D.state disk.old) opened.now.geometry opened.now.area opened.now.commit }
     requires on_disk { start + n / 4096 < (D.state disk.old).size }
     requires kept { from < n → map.old ≡ meaning (D.state disk.old) (start + (n - 1) / 4096) }
     ensures map { OnOk result (map.new ≡ meaning (D.state disk.old) (start + n / 4096)) }
@@ -50,7 +50,7 @@ pub(crate) fn count_clear<D: Disk>(
     from: u32,
     to: u32,
 ) -> Result<u32, DiskFault>
-    requires opened { BeginsWith (D.state disk.old) opened.now.place opened.now.area opened.now.commit }
+    requires opened { BeginsWith (D.state disk.old) opened.now.geometry opened.now.area opened.now.commit }
     requires order { from ≤ to }
     requires on_disk { (n : ℕ) → n < to → start + n / 4096 < (D.state disk.old).size }
     ensures count { IfOk result (λ k. k ≡ clear_bits (meaning (D.state disk.old)) start from (to - from)) }

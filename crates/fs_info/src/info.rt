@@ -4,19 +4,19 @@ ghost use Rattle.std.specs.Prelude.{◌≡◌, IfOk, IfErr};
 ghost use Rattle.fs_model.specs.Summaries.{some_target};
 ghost use Rattle.sector_disk.specs.Disk.{OnlyReads};
 ghost use Rattle.fs_check.specs.Checks.{BeginsWith};
-ghost use Rattle.fs_info.specs.Infos.{IsInfo, IsReason};
+ghost use Rattle.fs_info.specs.Infos.{IsInfo, IsWhyNoInfo};
 
 use crate::counting::count_clear;
 use crate::faults::InfoFault;
-use crate::opening::{Opened, open_commit, open_place};
-use fs_layout::Place;
+use crate::opening::{Opened, open_commit, open_geometry};
+use fs_layout::Geometry;
 use sector_disk::Disk;
 
 /// What a disk says of itself.
 #[derive(Clone, Copy)]
 pub struct Info {
     /// The layout: version, size, inodes.
-    pub place: Place,
+    pub geometry: Geometry,
     /// The data sectors whose bit is clear, as a waiting commit has them.
     pub free_sectors: u32,
     /// The inodes whose bit is clear, as a waiting commit has them.
@@ -28,13 +28,13 @@ pub struct Info {
 /// Reads what a disk says of itself. Whether the disk obeys the other rules isn't asked.
 pub fn read_info<D: Disk>(disk: &mut D) -> Result<Info, InfoFault>
     ensures info { IfOk result (IsInfo (D.state disk.old)) }
-    ensures fault { IfErr result (IsReason (D.state disk.old) (D.state disk.new)) }
+    ensures fault { IfErr result (IsWhyNoInfo (D.state disk.old) (D.state disk.new)) }
     ensures reads { OnlyReads (D.state disk.old) (D.state disk.new) }
 {
-    let place = open_place(disk)?;
-    let (area, commit) = open_commit(disk, place)?;
+    let geometry = open_geometry(disk)?;
+    let (area, commit) = open_commit(disk, geometry)?;
     let opened = Opened {
-        place,
+        geometry,
         area,
         commit,
     };
@@ -43,22 +43,22 @@ pub fn read_info<D: Disk>(disk: &mut D) -> Result<Info, InfoFault>
 
 // What is free, and whether a commit waits.
 fn count_free<D: Disk>(disk: &mut D, opened: &Opened) -> Result<Info, InfoFault>
-    requires { BeginsWith (D.state disk.old) opened.now.place opened.now.area opened.now.commit }
+    requires { BeginsWith (D.state disk.old) opened.now.geometry opened.now.area opened.now.commit }
     ensures info { IfOk result (IsInfo (D.state disk.old)) }
-    ensures fault { IfErr result (IsReason (D.state disk.old) (D.state disk.new)) }
+    ensures fault { IfErr result (IsWhyNoInfo (D.state disk.old) (D.state disk.new)) }
     ensures reads { OnlyReads (D.state disk.old) (D.state disk.new) }
 {
-    let place = opened.place;
+    let geometry = opened.geometry;
     let free_sectors = count_clear(
         disk,
         opened,
-        place.block_bitmap,
-        place.first_data,
-        place.sectors,
+        geometry.block_bitmap,
+        geometry.first_data,
+        geometry.sectors,
     )?;
-    let free_inodes = count_clear(disk, opened, place.inode_bitmap, 0, place.inodes)?;
+    let free_inodes = count_clear(disk, opened, geometry.inode_bitmap, 0, geometry.inodes)?;
     Ok(Info {
-        place,
+        geometry,
         free_sectors,
         free_inodes,
         pending: has_targets(opened.commit.targets()),

@@ -6,9 +6,9 @@ use Rattle.std.specs.Int.{bit_at}
 use Rattle.std.specs.List.{range_with_len}
 use Rattle.std.proofs.lemmas.Bool.{cases_eq, eq-eqb, ne_eqb}
 use Rattle.std.proofs.lemmas.List.{get_or-set_same, get_or-set_other}
-use Rattle.fs_layout.specs.declared.place.Place.{Place}
+use Rattle.fs_layout.specs.declared.geometry.Geometry.{Geometry}
 use Rattle.fs_layout.specs.Bytes.{SectorMap}
-use Rattle.fs_layout.specs.Place.{IsPlace}
+use Rattle.fs_layout.specs.Geometry.{IsGeometry}
 use Rattle.fs_layout.specs.Images.{IsData, inode_map_bits, map_bits, bit, free_sectors}
 use Rattle.fs_layout.specs.InodeChanges.{IsInodeMap, IsBlockMap, IsFree}
 use Rattle.fs_layout.proofs.Counting.{count_same, count_one_more, count_all}
@@ -28,25 +28,25 @@ unfolding bit
 bit_kept old new start n e = ap (λ (s : List ℕ). nat_eq (bit_at (get_or s (n % 4096 / 8) 0) (n % 8)) 1) e
 
 -- the bit of an inode stands in the inode bitmap, and that of a sector in the block bitmap
-pub in_inode_map : (p : Place) (n : ℕ) → n < inode_map_bits p → IsInodeMap p (p.inode_bitmap + n / 4096)
+pub in_inode_map : (p : Geometry) (n : ℕ) → n < inode_map_bits p → IsInodeMap p (p.inode_bitmap + n / 4096)
 in_inode_map p n lt = (omega arith, omega arith)
 
-pub in_block_map : (p : Place) (s : ℕ) → s < map_bits p → IsBlockMap p (p.block_bitmap + s / 4096)
+pub in_block_map : (p : Geometry) (s : ℕ) → s < map_bits p → IsBlockMap p (p.block_bitmap + s / 4096)
 in_block_map p s lt = (omega arith, omega arith)
 
 -- each inode has a bit there, and each sector of the disk
-pub inode_has_bit : {p : Place} → IsPlace p → (n : ℕ) → n < p.inodes → n < inode_map_bits p
-inode_has_bit place n lt = let fits = place.inode_bits in omega (arith, fits, lt)
+pub inode_has_bit : {p : Geometry} → IsGeometry p → (n : ℕ) → n < p.inodes → n < inode_map_bits p
+inode_has_bit geometry n lt = let fits = geometry.inode_bits in omega (arith, fits, lt)
 
-pub has_bit : {p : Place} → IsPlace p → (s : ℕ) → s < p.sectors → s < map_bits p
-has_bit place s lt = let fits = place.bits in omega (arith, fits, lt)
+pub has_bit : {p : Geometry} → IsGeometry p → (s : ℕ) → s < p.sectors → s < map_bits p
+has_bit geometry s lt = let fits = geometry.bits in omega (arith, fits, lt)
 
 -- the bits of a bitmap depend on its sectors alone
-pub inode_bit_kept : (p : Place) (old new : SectorMap) (n : ℕ) → n < inode_map_bits p → ((t : ℕ) → IsInodeMap p t → new t ≡ old t)
+pub inode_bit_kept : (p : Geometry) (old new : SectorMap) (n : ℕ) → n < inode_map_bits p → ((t : ℕ) → IsInodeMap p t → new t ≡ old t)
     → bit new p.inode_bitmap n ≡ bit old p.inode_bitmap n
 inode_bit_kept p old new n lt same = bit_kept old new p.inode_bitmap n (same (p.inode_bitmap + n / 4096) (in_inode_map p n lt))
 
-pub block_bit_kept : (p : Place) (old new : SectorMap) (s : ℕ) → s < map_bits p → ((t : ℕ) → IsBlockMap p t → new t ≡ old t)
+pub block_bit_kept : (p : Geometry) (old new : SectorMap) (s : ℕ) → s < map_bits p → ((t : ℕ) → IsBlockMap p t → new t ≡ old t)
     → bit new p.block_bitmap s ≡ bit old p.block_bitmap s
 block_bit_kept p old new s lt same = bit_kept old new p.block_bitmap s (same (p.block_bitmap + s / 4096) (in_block_map p s lt))
 
@@ -93,37 +93,37 @@ bit_put_other {start} {n} {b} {old} {new} p same m ne =
     apart e f ne g = ne (omega (arith, e, f, g))
 
 -- ---- free sectors
-free_bit : Place → SectorMap → ℕ → Bool
+free_bit : Geometry → SectorMap → ℕ → Bool
 free_bit p image s = not (bit image p.block_bitmap s)
 
 -- free, and not s
-all_but : Place → SectorMap → ℕ → ℕ → Bool
+all_but : Geometry → SectorMap → ℕ → ℕ → Bool
 all_but p image s t = cond (nat_eq t s) false (free_bit p image t)
 
-but_one : (p : Place) (image : SectorMap) (s : ℕ) → all_but p image s s ≡ false
+but_one : (p : Geometry) (image : SectorMap) (s : ℕ) → all_but p image s s ≡ false
 unfolding all_but
 but_one p image s = rw (eq-eqb s s refl) refl
 
-but_other : (p : Place) (image : SectorMap) (s t : ℕ) → t ≢ s → free_bit p image t ≡ all_but p image s t
+but_other : (p : Geometry) (image : SectorMap) (s t : ℕ) → t ≢ s → free_bit p image t ≡ all_but p image s t
 unfolding all_but
 but_other p image s t ne = rw (ne_eqb t s ne) refl
 
 -- a data sector lies between the first one and the end
-in_range : (p : Place) (s : ℕ) → p.first_data ≤ s → s < p.first_data + (p.sectors - p.first_data) → IsData p s
+in_range : (p : Geometry) (s : ℕ) → p.first_data ≤ s → s < p.first_data + (p.sectors - p.first_data) → IsData p s
 in_range p s low high = (low, omega arith)
 
-above : (p : Place) (s : ℕ) → p.first_data ≤ s → s < p.sectors → s < p.first_data + (p.sectors - p.first_data)
+above : (p : Geometry) (s : ℕ) → p.first_data ≤ s → s < p.sectors → s < p.first_data + (p.sectors - p.first_data)
 above p s low high = omega arith
 
 -- the count of free sectors depends on the bits of data sectors alone
-pub free_sectors_kept : (p : Place) (old new : SectorMap) → ((s : ℕ) → IsData p s → bit new p.block_bitmap s ≡ bit old p.block_bitmap s)
+pub free_sectors_kept : (p : Geometry) (old new : SectorMap) → ((s : ℕ) → IsData p s → bit new p.block_bitmap s ≡ bit old p.block_bitmap s)
     → free_sectors p new ≡ free_sectors p old
 unfolding free_bit
 free_sectors_kept p old new same =
     count_same (free_bit p new) (free_bit p old) p.first_data (p.sectors - p.first_data) (λ s low high. ap not (same s (in_range p s low high)))
 
 -- the bit of data sector s is set, and was clear; then one sector less is free
-pub free_sectors_less : (p : Place) (old new : SectorMap) (s : ℕ) → IsFree p old s → IsTrue (bit new p.block_bitmap s)
+pub free_sectors_less : (p : Geometry) (old new : SectorMap) (s : ℕ) → IsFree p old s → IsTrue (bit new p.block_bitmap s)
     → ((t : ℕ) → IsData p t → t ≢ s → bit new p.block_bitmap t ≡ bit old p.block_bitmap t) → free_sectors p old ≡ free_sectors p new + 1
 unfolding free_bit
 free_sectors_less p old new s free set same =
@@ -131,12 +131,12 @@ free_sectors_less p old new s free set same =
     (λ t low high ne. ap not (sym (same t (in_range p t low high) ne)))
 
 -- the bit of data sector s is clear, and was set; then one sector more is free
-pub free_sectors_more : (p : Place) (old new : SectorMap) (s : ℕ) → IsData p s → IsTrue (bit old p.block_bitmap s) → bit new p.block_bitmap s ≡ false
+pub free_sectors_more : (p : Geometry) (old new : SectorMap) (s : ℕ) → IsData p s → IsTrue (bit old p.block_bitmap s) → bit new p.block_bitmap s ≡ false
     → ((t : ℕ) → IsData p t → t ≢ s → bit new p.block_bitmap t ≡ bit old p.block_bitmap t) → free_sectors p new ≡ free_sectors p old + 1
 free_sectors_more p old new s at set clear same = free_sectors_less p new old s (at.0, at.1, clear) set (λ t here ne. sym (same t here ne))
 
 -- where a sector is free there are free sectors
-pub free_sectors_some : (p : Place) (image : SectorMap) (s : ℕ) → IsFree p image s → 0 < free_sectors p image
+pub free_sectors_some : (p : Geometry) (image : SectorMap) (s : ℕ) → IsFree p image s → 0 < free_sectors p image
 unfolding free_bit
 free_sectors_some p image s free =
     let all : List ℕ = range_with_len p.first_data (p.sectors - p.first_data) in
@@ -146,14 +146,14 @@ free_sectors_some p image s free =
     omega (arith, one)
 
 -- where there is none, each data sector's bit is set
-pub free_sectors_none : (p : Place) (image : SectorMap) → free_sectors p image ≡ 0 → (s : ℕ) → IsData p s → IsTrue (bit image p.block_bitmap s)
+pub free_sectors_none : (p : Geometry) (image : SectorMap) → free_sectors p image ≡ 0 → (s : ℕ) → IsData p s → IsTrue (bit image p.block_bitmap s)
 free_sectors_none p image none s at = elim (set_or_clear (bit image p.block_bitmap s)) [
   | inl set ↦ set
   | inr clear ↦ absurd (let some = free_sectors_some p image s (at.0, at.1, clear) in omega (arith, none, some))
 ]
 
 -- where each data sector's bit is clear, all are free
-pub free_sectors_all : (p : Place) (image : SectorMap) → ((s : ℕ) → IsData p s → bit image p.block_bitmap s ≡ false)
+pub free_sectors_all : (p : Geometry) (image : SectorMap) → ((s : ℕ) → IsData p s → bit image p.block_bitmap s ≡ false)
     → free_sectors p image ≡ p.sectors - p.first_data
 unfolding free_bit
 free_sectors_all p image clear =

@@ -1,30 +1,30 @@
 -- Changes of what one inode owns, one after the other.
 use Rattle.std.proofs.Common.{ℕ, ◌<◌, ◌∙◌, inl, inr, IsTrue}
 use Rattle.fs_layout.specs.declared.inode.Inode.{Inode}
-use Rattle.fs_layout.specs.declared.place.Place.{Place}
+use Rattle.fs_layout.specs.declared.geometry.Geometry.{Geometry}
 use Rattle.fs_layout.specs.Bytes.{SectorMap}
-use Rattle.fs_layout.specs.Place.{IsPlace}
+use Rattle.fs_layout.specs.Geometry.{IsGeometry}
 use Rattle.fs_layout.specs.Images.{IsData, map_bits, bit, Owns}
 use Rattle.fs_layout.specs.InodeChanges.{IsOwnedApart, ChangesOwned, ChangesBlocks, ChangesInode}
 use Rattle.fs_layout.proofs.Bits.{has_bit, set_or_clear, not_both}
 
 -- ---- two changes
 -- a sector that was used, and not by v, is used
-pub used_on : {p : Place} {v w : Inode} {a b : SectorMap} {s : ℕ} → ChangesOwned p v w a b → s < map_bits p
+pub used_on : {p : Geometry} {v w : Inode} {a b : SectorMap} {s : ℕ} → ChangesOwned p v w a b → s < map_bits p
     → IsTrue (bit a p.block_bitmap s) → (Owns a v s → ⊥)
     → IsTrue (bit b p.block_bitmap s)
 used_on {p} {b = b} {s = s} x fits t ban = elim (set_or_clear (bit b p.block_bitmap s)) [ inl m ↦ m | inr e ↦ absurd (ban (x.released s fits t e)) ]
 
 -- and it is not w's
-still_apart : {p : Place} {v w : Inode} {a b : SectorMap} {s : ℕ} → ChangesOwned p v w a b → IsTrue (bit a p.block_bitmap s)
+still_apart : {p : Geometry} {v w : Inode} {a b : SectorMap} {s : ℕ} → ChangesOwned p v w a b → IsTrue (bit a p.block_bitmap s)
     → (Owns a v s → ⊥) → Owns b w s → ⊥
 still_apart {s = s} x t ban o = elim (x.fresh s o) [ inl was ↦ ban was | inr f ↦ not_both t f.2 ]
 
 -- one change of what an inode owns after the other is one
-pub both_owned : {p : Place} {u v w : Inode} {a b c : SectorMap} → IsPlace p → ChangesOwned p u v a b → ChangesOwned p v w b c
+pub both_owned : {p : Geometry} {u v w : Inode} {a b c : SectorMap} → IsGeometry p → ChangesOwned p u v a b → ChangesOwned p v w b c
     → ChangesOwned p u w a c
-both_owned {p} {u} {v} {w} {a} {b} {c} place x y =
-    let few : (s : ℕ) → s < p.sectors → s < map_bits p = has_bit place in
+both_owned {p} {u} {v} {w} {a} {b} {c} geometry x y =
+    let few : (s : ℕ) → s < p.sectors → s < map_bits p = has_bit geometry in
     record {
       sectors = y.sectors;
       whole = y.whole;
@@ -47,26 +47,26 @@ both_owned {p} {u} {v} {w} {a} {b} {c} place x y =
     }
 
 -- one change of blocks after the other is one
-pub both_changes : {p : Place} {u v w : Inode} {a b c : SectorMap} → IsPlace p → ChangesBlocks p u v a b → ChangesBlocks p v w b c
+pub both_changes : {p : Geometry} {u v w : Inode} {a b c : SectorMap} → IsGeometry p → ChangesBlocks p u v a b → ChangesBlocks p v w b c
     → ChangesBlocks p u w a c
-both_changes place x y = record { owned = both_owned place x.owned y.owned; low = λ s lt ban. y.low s lt ban ∙ x.low s lt ban }
+both_changes geometry x y = record { owned = both_owned geometry x.owned y.owned; low = λ s lt ban. y.low s lt ban ∙ x.low s lt ban }
 
 -- what the inode owns after a change is apart again
-pub apart_after : {p : Place} {v w : Inode} {old new : SectorMap} → IsPlace p → IsOwnedApart p old v → ChangesOwned p v w old new
+pub apart_after : {p : Geometry} {v w : Inode} {old new : SectorMap} → IsGeometry p → IsOwnedApart p old v → ChangesOwned p v w old new
     → IsOwnedApart p new w
-apart_after {p} {v} {w} {old} {new} place apart x =
+apart_after {p} {v} {w} {old} {new} geometry apart x =
     let in_data : (s : ℕ) → Owns new w s → IsData p s =
     λ s o. elim (x.fresh s o) [ inl was ↦ ((apart.each s was).0, (apart.each s was).1) | inr f ↦ (f.0, f.1) ] in
     record {
-      each = λ s o. let d = in_data s o in (d.0, d.1, x.taken s (has_bit place s d.1) o);
+      each = λ s o. let d = in_data s o in (d.0, d.1, x.taken s (has_bit geometry s d.1) o);
       whole = x.whole;
       once = x.once;
     }
 
 -- one change of an inode after the other is one
-pub both_inodes : {p : Place} {n : ℕ} {a b c : SectorMap} → IsPlace p → ChangesInode p n a b → ChangesInode p n b c → ChangesInode p n a c
-both_inodes place x y = record {
-  owned = both_owned place x.owned y.owned;
+pub both_inodes : {p : Geometry} {n : ℕ} {a b c : SectorMap} → IsGeometry p → ChangesInode p n a b → ChangesInode p n b c → ChangesInode p n a c
+both_inodes geometry x y = record {
+  owned = both_owned geometry x.owned y.owned;
   valid = y.valid;
   table = λ m lt ne. y.table m lt ne ∙ x.table m lt ne;
   inode_bits = λ m few ne. y.inode_bits m few ne ∙ x.inode_bits m few ne;

@@ -2,10 +2,10 @@
 use Rattle.std.proofs.Common.{◌≡◌, ◌≢◌, ℕ, ◌+◌, ◌/◌, ◌<◌, ◌≤◌, refl, sym, ap, subst, ◌∙◌, arith, inl, inr, ◌⊎◌, IsTrue, Ok}
 use Rattle.std.proofs.lemmas.Bool.{cases_eq}
 use Rattle.fs_layout.specs.declared.inode.Inode.{Inode}
-use Rattle.fs_layout.specs.declared.place.Place.{Place}
+use Rattle.fs_layout.specs.declared.geometry.Geometry.{Geometry}
 use Rattle.fs_layout.specs.Bytes.{SectorMap, IsSector}
 use Rattle.fs_layout.specs.Inode.{inode_of, FitsInode}
-use Rattle.fs_layout.specs.Place.{IsPlace}
+use Rattle.fs_layout.specs.Geometry.{IsGeometry}
 use Rattle.fs_layout.specs.Images.{IsData, map_bits, bit, stored, inode_at, levels, part, Owns}
 use Rattle.fs_layout.specs.Ownership.{IsOwned, IsConsistent}
 use Rattle.fs_layout.specs.InodeChanges.{Keeps, IsOwnedApart, ChangesOwned, ChangesBlocks, Saves, ChangesInode}
@@ -20,14 +20,14 @@ abbrev pub owns_as : {image : SectorMap} {v w : Inode} {s : ℕ} → v ≡ w →
 owns_as {image} e o = record { at = o.at; is = ap (λ (u : Inode). part image u o.at) (sym e) ∙ o.is; some = o.some }
 
 -- a sector that an inode of a consistent image owns is used
-pub owned_is_used : {p : Place} {image : SectorMap} → IsConsistent p image → (n s : ℕ) → n < p.inodes → Owns image (inode_at p image n) s
+pub owned_is_used : {p : Geometry} {image : SectorMap} → IsConsistent p image → (n s : ℕ) → n < p.inodes → Owns image (inode_at p image n) s
     → IsTrue (bit image p.block_bitmap s)
 owned_is_used h n s lt o =
     let d = h.in_data n s lt o in
-    (h.block_bits s (has_bit h.place s d.1)).1 (inr (inr (record { by = n; below = lt; is = o })))
+    (h.block_bits s (has_bit h.geometry s d.1)).1 (inr (inr (record { by = n; below = lt; is = o })))
 
 -- what an inode of a consistent image owns is in the data, has its bit set, and serves one thing
-pub owned_is_apart : {p : Place} {image : SectorMap} → IsConsistent p image → (n : ℕ) → n < p.inodes → IsOwnedApart p image (inode_at p image n)
+pub owned_is_apart : {p : Geometry} {image : SectorMap} → IsConsistent p image → (n : ℕ) → n < p.inodes → IsOwnedApart p image (inode_at p image n)
 owned_is_apart h n lt = record {
   each = λ s o. let d = h.in_data n s lt o in (d.0, d.1, owned_is_used h n s lt o);
   whole = λ s o. h.owned_sectors n s lt o;
@@ -36,21 +36,21 @@ owned_is_apart h n lt = record {
 
 -- ---- what an inode owns changes, and it is not saved yet
 -- each inode, also this one, stands in the table as before
-pub blocks_keep_table : {p : Place} {v w : Inode} {old mid : SectorMap} → IsPlace p → ChangesBlocks p v w old mid → (m : ℕ)
+pub blocks_keep_table : {p : Geometry} {v w : Inode} {old mid : SectorMap} → IsGeometry p → ChangesBlocks p v w old mid → (m : ℕ)
     → m < p.inodes → inode_at p mid m ≡ inode_at p old m
-blocks_keep_table {p} {old = old} {mid} place x m lm =
-    let i = in_table p m place lm in
+blocks_keep_table {p} {old = old} {mid} geometry x m lm =
+    let i = in_table p m geometry lm in
     inode_kept p m old mid (stored_kept p m old mid (x.low (p.table + m / 4) i.1 (λ b. let k = b.1 in omega (arith, k))))
 
 -- each sector that another inode owns is the same
-pub blocks_keep_others : {p : Place} {n m : ℕ} {w : Inode} {old mid : SectorMap} → IsConsistent p old → n < p.inodes → m < p.inodes → m ≢ n
+pub blocks_keep_others : {p : Geometry} {n m : ℕ} {w : Inode} {old mid : SectorMap} → IsConsistent p old → n < p.inodes → m < p.inodes → m ≢ n
     → ChangesOwned p (inode_at p old n) w old mid → Keeps old mid (inode_at p old m)
 blocks_keep_others {n = n} {m} h ln lm ne x s o =
     let d = h.in_data m s lm o in
     x.others s d.0 d.1 (owned_is_used h m s lm o) (λ b. ne (h.sole m n s lm ln o b).0)
 
 -- and what it owns is apart, as before
-pub blocks_leave_apart : {p : Place} {n m : ℕ} {w : Inode} {old mid : SectorMap} → IsConsistent p old → n < p.inodes → m < p.inodes → m ≢ n
+pub blocks_leave_apart : {p : Geometry} {n m : ℕ} {w : Inode} {old mid : SectorMap} → IsConsistent p old → n < p.inodes → m < p.inodes → m ≢ n
     → ChangesOwned p (inode_at p old n) w old mid → IsOwnedApart p mid (inode_at p old m)
 blocks_leave_apart {p} {n} {m} {w} {old} {mid} h ln lm ne x =
     let keeps : Keeps old mid (inode_at p old m) = blocks_keep_others h ln lm ne x in
@@ -59,13 +59,13 @@ blocks_leave_apart {p} {n} {m} {w} {old} {mid} h ln lm ne x =
       each = λ s o.
           let was : Owns old (inode_at p old m) s = owned_before keeps o in
           let d = apart.each s was in
-          (d.0, d.1, used_on x (has_bit h.place s d.1) d.2 (λ b. ne (h.sole m n s lm ln was b).0));
+          (d.0, d.1, used_on x (has_bit h.geometry s d.1) d.2 (λ b. ne (h.sole m n s lm ln was b).0));
       whole = λ s o. let was = owned_before keeps o in subst IsSector (sym (keeps s was)) (apart.whole s was);
       once = λ s a b. apart.once s (owned_before keeps a) (owned_before keeps b);
     }
 
 -- ---- one inode changes
-module _ {p : Place} {n : ℕ} {old new : SectorMap} (h : IsConsistent p old) (ln : n < p.inodes) (c : ChangesInode p n old new) where
+module _ {p : Geometry} {n : ℕ} {old new : SectorMap} (h : IsConsistent p old) (ln : n < p.inodes) (c : ChangesInode p n old new) where
   -- each other inode is the same
   pub other_inode : (m : ℕ) → m < p.inodes → m ≢ n → inode_at p new m ≡ inode_at p old m
   other_inode m lm ne = inode_kept p m old new (c.table m lm ne)
@@ -151,7 +151,7 @@ module _ {p : Place} {n : ℕ} {old new : SectorMap} (h : IsConsistent p old) (l
   -- the image is consistent again
   pub stays_consistent : IsConsistent p new
   stays_consistent = record {
-    place = h.place;
+    geometry = h.geometry;
     sectors = c.owned.sectors;
     owned_sectors = whole_now;
     valid = λ m lm. elim (cases_eq m n) [
@@ -164,19 +164,19 @@ module _ {p : Place} {n : ℕ} {old new : SectorMap} (h : IsConsistent p old) (l
   }
 
 -- What an inode of a consistent image owns changes, and it is saved: the image is consistent again.
-pub saved_stays_consistent : {p : Place} {n : ℕ} {v w : Inode} {old mid new : SectorMap} → IsConsistent p old → n < p.inodes
+pub saved_stays_consistent : {p : Geometry} {n : ℕ} {v w : Inode} {old mid new : SectorMap} → IsConsistent p old → n < p.inodes
     → inode_at p old n ≡ v → FitsInode w
     → ChangesBlocks p v w old mid → Saves p n w mid new → IsConsistent p new × IsSaved p n w old mid new
 saved_stays_consistent {p} {n} {v} {w} {old} {mid} {new} h lt at fits x y =
     let x' : ChangesBlocks p (inode_at p old n) w old mid = subst (λ (u : Inode). ChangesBlocks p u w old mid) (sym at) x in
-    let s : IsSaved p n w old mid new = saved h.place lt refl (owned_is_apart h n lt) fits x' y in
+    let s : IsSaved p n w old mid new = saved h.geometry lt refl (owned_is_apart h n lt) fits x' y in
     (stays_consistent h lt s.changes, s)
 
 -- An inode is saved with the sectors that it had: the image is consistent again.
-pub fields_saved_stay_consistent : {p : Place} {n : ℕ} {v w : Inode} {old new : SectorMap} → IsConsistent p old → n < p.inodes
+pub fields_saved_stay_consistent : {p : Geometry} {n : ℕ} {v w : Inode} {old new : SectorMap} → IsConsistent p old → n < p.inodes
     → inode_at p old n ≡ v → FitsInode w
     → w.acl ≡ v.acl → w.default_acl ≡ v.default_acl → levels w ≡ levels v → Saves p n w old new
     → IsConsistent p new × IsSaved p n w old old new
 fields_saved_stay_consistent {p} {n} {v} {w} {old} {new} h lt at fits acl default_acl same y =
     let apart : IsOwnedApart p old v = subst (λ (u : Inode). IsOwnedApart p old u) at (owned_is_apart h n lt) in
-    saved_stays_consistent h lt at fits (fields_change h.place h.sectors apart acl default_acl same) y
+    saved_stays_consistent h lt at fits (fields_change h.geometry h.sectors apart acl default_acl same) y

@@ -4,10 +4,10 @@ use Rattle.std.proofs.lemmas.List.{drop-replicate, take-replicate}
 use Rattle.std.proofs.lemmas.Bool.{cases_lt}
 use Rattle.fs_layout.specs.declared.inode.TheConstants.{DIRECT_BLOCKS, POINTER_LEVELS, INODE_SIZE}
 use Rattle.fs_layout.specs.declared.inode.Inode.{Inode}
-use Rattle.fs_layout.specs.declared.place.Place.{Place}
+use Rattle.fs_layout.specs.declared.geometry.Geometry.{Geometry}
 use Rattle.fs_layout.specs.Bytes.{SectorMap, IsSector, window, zeros, le16, le32, le64, le32s}
 use Rattle.fs_layout.specs.Inode.{inode_bytes, inode_of, inode_fits, free_inode, FitsInode}
-use Rattle.fs_layout.specs.Place.{IsPlace}
+use Rattle.fs_layout.specs.Geometry.{IsGeometry}
 use Rattle.fs_layout.specs.Images.{HasWholeTables, map_bits, bit, stored, inode_at}
 use Rattle.fs_layout.specs.Images.{number_on, byte_in, byte_at, Part, AccessAcl, DefaultAcl, OnLevel, part, Owns, Holds}
 use Rattle.fs_layout.specs.Ownership.{IsOwned, IsConsistent}
@@ -82,10 +82,10 @@ free_fits = record {
 }
 
 -- A used inode without sectors becomes free, or a free one used: what is owned does not change.
-pub no_sector_changes : {p : Place} {v w : Inode} {image : SectorMap} → IsPlace p → HasWholeTables p image → IsOwnedApart p image v → HasNoSector v
+pub no_sector_changes : {p : Geometry} {v w : Inode} {image : SectorMap} → IsGeometry p → HasWholeTables p image → IsOwnedApart p image v → HasNoSector v
     → HasNoSector w → ChangesBlocks p v w image image
-no_sector_changes {v = v} {w} {image} place tables apart none then =
-    rewrites place tables apart (λ a. no_sector_part image w a then ∙ sym (no_sector_part image v a none)) (record { whole = apart.whole; others = λ s ban. refl })
+no_sector_changes {v = v} {w} {image} geometry tables apart none then =
+    rewrites geometry tables apart (λ a. no_sector_part image w a then ∙ sym (no_sector_part image v a none)) (record { whole = apart.whole; others = λ s ban. refl })
 
 -- ---- an inode table of zeros
 free_bytes : inode_bytes free_inode ≡ zeros INODE_SIZE
@@ -97,7 +97,7 @@ unfolding zeros
 zeros_window at room = ap (take INODE_SIZE) (drop-replicate at 512 0) ∙ take-replicate INODE_SIZE (512 - at) 0 (omega arith)
 
 -- a sector of zeros in the table has free inodes, which are valid
-pub free_where_zeros : (p : Place) (image : SectorMap) (n : ℕ) → image (p.table + n / 4) ≡ zeros 512
+pub free_where_zeros : (p : Geometry) (image : SectorMap) (n : ℕ) → image (p.table + n / 4) ≡ zeros 512
     → (inode_at p image n ≡ free_inode) × (inode_of (stored p image n) ≡ Ok (inode_at p image n))
 unfolding stored
 free_where_zeros p image n e =
@@ -106,11 +106,11 @@ free_where_zeros p image n e =
 
 -- ---- what is read fits
 -- an inode of a consistent image fits its fields
-pub inode_fits_there : {p : Place} {image : SectorMap} → IsConsistent p image → (n : ℕ) → n < p.inodes → FitsInode (inode_at p image n)
+pub inode_fits_there : {p : Geometry} {image : SectorMap} → IsConsistent p image → (n : ℕ) → n < p.inodes → FitsInode (inode_at p image n)
 unfolding stored
 inode_fits_there {p} {image} h n lt =
-    let i = in_table p n h.place lt in
-    let whole : IsSector (image (p.table + n / 4)) = h.sectors (p.table + n / 4) (let a = after_map h.place in omega (arith, a)) i.1 in
+    let i = in_table p n h.geometry lt in
+    let whole : IsSector (image (p.table + n / 4)) = h.sectors (p.table + n / 4) (let a = after_map h.geometry in omega (arith, a)) i.1 in
     let room : INODE_SIZE * (n % 4) + INODE_SIZE ≤ length (image (p.table + n / 4)) = omega (arith, whole.len) in
     read_fits (stored p image n) (inode_at p image n) (part_len INODE_SIZE (INODE_SIZE * (n % 4)) (image (p.table + n / 4)) room)
     (IsBytes-part INODE_SIZE (INODE_SIZE * (n % 4)) (image (p.table + n / 4)) whole.bytes) (h.valid n lt)
@@ -118,13 +118,13 @@ inode_fits_there {p} {image} h n lt =
 -- ---- an image in which nothing is owned
 -- It is consistent where its inodes are valid, and the bits set are those below the data and past the end. So is
 -- the image of a new disk.
-pub consistent_without_owners : (p : Place) (image : SectorMap) → IsPlace p → HasWholeTables p image
+pub consistent_without_owners : (p : Geometry) (image : SectorMap) → IsGeometry p → HasWholeTables p image
     → ((n : ℕ) → n < p.inodes → inode_of (stored p image n) ≡ Ok (inode_at p image n))
     → ((n s : ℕ) → n < p.inodes → Owns image (inode_at p image n) s → ⊥)
     → ((s : ℕ) → s < map_bits p → IsTrue (bit image p.block_bitmap s) ↔ ((s < p.first_data) ⊎ (p.sectors ≤ s)))
     → IsConsistent p image
-consistent_without_owners p image place tables valid none bits = record {
-  place = place;
+consistent_without_owners p image geometry tables valid none bits = record {
+  geometry = geometry;
   sectors = tables;
   owned_sectors = λ n s lt o. absurd (none n s lt o);
   valid = valid;

@@ -5,10 +5,10 @@ use Rattle.std.specs.Int.{bit_at}
 use Rattle.std.proofs.lemmas.Bool.{cases_eq, cases_lt, ne_eqb}
 use Rattle.std.proofs.lemmas.List.{get_or_append_left, get_or-append_right, get_or-replicate, get_or_past, length-append, length-replicate}
 use Rattle.std.proofs.lemmas.Nat.Bits.{bit_at_ones, bit_at_ones_above, bit_at-zero}
-use Rattle.fs_layout.specs.declared.place.Place.{Place}
+use Rattle.fs_layout.specs.declared.geometry.Geometry.{Geometry}
 use Rattle.fs_layout.specs.Bytes.{SectorMap, IsBytes, IsSector, zeros}
 use Rattle.fs_layout.specs.declared.version.Version.TheVariants.{Two}
-use Rattle.fs_layout.specs.Place.{IsPlace, laid_out}
+use Rattle.fs_layout.specs.Geometry.{IsGeometry, laid_out}
 use Rattle.fs_layout.specs.Images.{bit, free_sectors, inode_at}
 use Rattle.fs_layout.specs.Ownership.{IsConsistent}
 use Rattle.fs_layout.proofs.SplicedBytes.{get_or-zeros, IsSector-zeros}
@@ -148,12 +148,12 @@ full_ends_whole : IsSector full_ends
 unfolding full_ends
 full_ends_whole = record { len = length-parts 18 3 109 384; bytes = full_ends_small }
 
-pub small_disk : Place
+pub small_disk : Geometry
 small_disk = laid_out Two 1024 64
 
-small_disk_is_place : IsPlace small_disk
+small_disk_is_geometry : IsGeometry small_disk
 unfolding small_disk
-small_disk_is_place = record {
+small_disk_is_geometry = record {
   least_sectors = omega arith;
   most_sectors = omega arith;
   least_inodes = omega arith;
@@ -171,7 +171,7 @@ small_disk_is_place = record {
 pub fresh_is_consistent : IsConsistent small_disk fresh
 unfolding small_disk
 fresh_is_consistent =
-    consistent_without_owners small_disk fresh small_disk_is_place
+    consistent_without_owners small_disk fresh small_disk_is_geometry
     (λ s past low. elim (cases_eq s 129) [
       | inl e ↦ subst (λ (q : ℕ). IsSector (fresh q)) (sym e) (subst IsSector (sym at_map) full_ends_whole)
       | inr ne ↦ subst IsSector (sym (elsewhere s ne)) IsSector-zeros

@@ -2,9 +2,9 @@
 use Rattle.std.proofs.Common.{◌≡◌, ◌≢◌, ℕ, ◌+◌, ◌≤◌, false, sym, ap, subst, ◌∙◌, arith, inl, inr}
 use Rattle.std.proofs.lemmas.Bool.{cases_eq}
 use Rattle.fs_layout.specs.declared.inode.Inode.{Inode}
-use Rattle.fs_layout.specs.declared.place.Place.{Place}
+use Rattle.fs_layout.specs.declared.geometry.Geometry.{Geometry}
 use Rattle.fs_layout.specs.Bytes.{SectorMap, IsSector}
-use Rattle.fs_layout.specs.Place.{IsPlace}
+use Rattle.fs_layout.specs.Geometry.{IsGeometry}
 use Rattle.fs_layout.specs.Images.{bit, free_sectors, Part, part, Owns}
 use Rattle.fs_layout.specs.InodeChanges.{IsBlockMap, Gains, Takes, IsFree, IsOwnedApart, ChangesBlocks}
 use Rattle.fs_layout.proofs.Places.{after_map, before_data}
@@ -20,7 +20,7 @@ gained_still : {old new : SectorMap} {v w : Inode} {at : Part} {s t : ℕ} → G
 gained_still {old} {v = v} g o = record { at = o.at; is = g.others o.at (λ e. o.some (sym o.is ∙ ap (part old v) e ∙ g.was)) ∙ o.is; some = o.some }
 
 -- a sector that was free is there for one thing
-gained_at : {p : Place} {old new : SectorMap} {v w : Inode} {at : Part} {s : ℕ} → IsOwnedApart p old v → Gains old new v w at s
+gained_at : {p : Geometry} {old new : SectorMap} {v w : Inode} {at : Part} {s : ℕ} → IsOwnedApart p old v → Gains old new v w at s
     → bit old p.block_bitmap s ≡ false → (o : Owns new w s) → o.at ≡ at
 gained_at {at = at} {s = s} apart g clear o =
     elim (same_part_or_not o.at at) [
@@ -29,12 +29,12 @@ gained_at {at = at} {s = s} apart g clear o =
     ]
 
 -- the inode has one more sector, which was free, and the bitmap follows
-pub gains : {p : Place} {old new : SectorMap} {v w : Inode} {at : Part} {s : ℕ} → IsPlace p → IsOwnedApart p old v → Gains old new v w at s
+pub gains : {p : Geometry} {old new : SectorMap} {v w : Inode} {at : Part} {s : ℕ} → IsGeometry p → IsOwnedApart p old v → Gains old new v w at s
     → Takes p v s old new → ChangesBlocks p v w old new
-gains {p} {old} {new} {v} {w} {at} {s} place apart g x =
+gains {p} {old} {new} {v} {w} {at} {s} geometry apart g x =
     let clear : bit old p.block_bitmap s ≡ false = x.free.2 in
-    let some : s ≢ 0 = λ e. let a = x.free.0 in let b = before_data place in let c = after_map place in omega (arith, a, b, c, e) in
-    let no_map : (t : ℕ) → p.first_data ≤ t → IsBlockMap p t → ⊥ = λ t ge m. let a = map_is_low place t m in omega (arith, a, ge) in
+    let some : s ≢ 0 = λ e. let a = x.free.0 in let b = before_data geometry in let c = after_map geometry in omega (arith, a, b, c, e) in
+    let no_map : (t : ℕ) → p.first_data ≤ t → IsBlockMap p t → ⊥ = λ t ge m. let a = map_is_low geometry t m in omega (arith, a, ge) in
     record {
       owned = record {
         sectors = x.sectors;
@@ -69,7 +69,7 @@ gains {p} {old} {new} {v} {w} {at} {s} place apart g x =
     }
 
 -- one sector less is free then
-pub gains_free_sectors : {p : Place} {v : Inode} {s : ℕ} {old new : SectorMap} → IsPlace p → Takes p v s old new
+pub gains_free_sectors : {p : Geometry} {v : Inode} {s : ℕ} {old new : SectorMap} → IsGeometry p → Takes p v s old new
     → free_sectors p old ≡ free_sectors p new + 1
-gains_free_sectors {p} {s = s} {old} {new} place x =
-    free_sectors_less p old new s x.free x.set (λ t at ne. x.bits t (has_bit place t at.1) ne)
+gains_free_sectors {p} {s = s} {old} {new} geometry x =
+    free_sectors_less p old new s x.free x.set (λ t at ne. x.bits t (has_bit geometry t at.1) ne)

@@ -3,7 +3,7 @@ use Rattle.std.proofs.Common.{◌≡◌, ◌≢◌, ℕ, zero, suc, ◌+◌, ◌
 use Rattle.std.proofs.lemmas.Bool.{cases_eq, cases_lt}
 use Rattle.std.proofs.lemmas.List.{ext_get_or, get_or-take, get_or-drop}
 use Rattle.fs_layout.specs.declared.inode.Inode.{Inode}
-use Rattle.fs_layout.specs.declared.place.Place.{Place}
+use Rattle.fs_layout.specs.declared.geometry.Geometry.{Geometry}
 use Rattle.fs_layout.specs.Bytes.{SectorMap, splice, window, zeros}
 use Rattle.fs_layout.specs.Images.{levels, number_on, pointer, first_block, Part, Block, part, byte_in, byte_at, IsTrimmed, Holds, HasNoHole}
 use Rattle.fs_layout.specs.InodeChanges.{Keeps, Puts, IsBlockOf, ReplacesBlock, IsOwnedApart}
@@ -14,7 +14,7 @@ use Rattle.fs_layout.proofs.SplicedBytes.{get_or-zeros, length-splice, get_or-sp
 
 -- ---- blocks apart
 -- a sector is one block of the inode
-pub one_block : {p : Place} {image : SectorMap} {v : Inode} → IsOwnedApart p image v → (j k : ℕ) → pointer image v j ≢ 0
+pub one_block : {p : Geometry} {image : SectorMap} {v : Inode} → IsOwnedApart p image v → (j k : ℕ) → pointer image v j ≢ 0
     → pointer image v j ≡ pointer image v k → j ≡ k
 unfolding part
 one_block {image = image} {v} apart j k some e =
@@ -120,7 +120,7 @@ has_block {old} {new} {v} {w} {k} {s} {x} b h r = record {
         b.pointers level i same (h.trim (suc level) i same)
 
 -- One block is written: what the inode holds has x there.
-pub write_block : {p : Place} {old new : SectorMap} {v : Inode} {k s : ℕ} {x bytes then : List ℕ} → IsOwnedApart p old v
+pub write_block : {p : Geometry} {old new : SectorMap} {v : Inode} {k s : ℕ} {x bytes then : List ℕ} → IsOwnedApart p old v
     → pointer old v k ≡ s → s ≢ 0 → Puts s x old new
     → Holds old v bytes → ReplacesBlock k x bytes then → Holds new v then
 unfolding part
@@ -166,7 +166,7 @@ pub HasNoHole-again : {old new : SectorMap} {v w : Inode} → HasSameBlocks old 
 HasNoHole-again b whole k lt none = whole k (let z = b.size in omega (arith, z, lt)) (sym (b.pointers k) ∙ none)
 
 -- a sector that the inode has for an ACL is written: it holds what it held
-pub write_acl : {p : Place} {old new : SectorMap} {v : Inode} {s : ℕ} {x bytes : List ℕ} → IsOwnedApart p old v → (at : Part) → HasNoPointers at
+pub write_acl : {p : Geometry} {old new : SectorMap} {v : Inode} {s : ℕ} {x bytes : List ℕ} → IsOwnedApart p old v → (at : Part) → HasNoPointers at
     → ((k : ℕ) → Block k ≢ at) → part old v at ≡ s → s ≢ 0 → Puts s x old new
     → Holds old v bytes → Holds new v bytes
 unfolding part

@@ -2,7 +2,7 @@
 use Rattle.std.proofs.Common.{◌≡◌, ◌≢◌, ℕ, ◌+◌, ◌*◌, ◌<◌, ◌≤◌, List, refl, sym, ap, ◌∙◌, arith, inl, inr}
 use Rattle.std.proofs.lemmas.Bool.{cases_eq}
 use Rattle.fs_layout.specs.declared.inode.Inode.{Inode}
-use Rattle.fs_layout.specs.declared.place.Place.{Place}
+use Rattle.fs_layout.specs.declared.geometry.Geometry.{Geometry}
 use Rattle.fs_layout.specs.Bytes.{SectorMap}
 use Rattle.fs_layout.specs.Images.{levels, number_on, pointer, Block, part, HasNoHole}
 use Rattle.fs_layout.specs.InodeChanges.{Puts, Gains, IsOwnedApart}
@@ -41,7 +41,7 @@ unfolding number_on
 cuts_no_hole image v n le whole j lt = whole j (omega (arith, lt))
 
 -- one block is written
-pub put_no_hole : {p : Place} {old new : SectorMap} {v : Inode} {s : ℕ} {x : List ℕ} → IsOwnedApart p old v → (k : ℕ) → pointer old v k ≡ s → s ≢ 0
+pub put_no_hole : {p : Geometry} {old new : SectorMap} {v : Inode} {s : ℕ} {x : List ℕ} → IsOwnedApart p old v → (k : ℕ) → pointer old v k ≡ s → s ≢ 0
     → Puts s x old new → HasNoHole old v → HasNoHole new v
 unfolding part
 put_no_hole {old = old} {new} {v} apart k is some put whole j lt none =

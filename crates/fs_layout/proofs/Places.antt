@@ -3,13 +3,13 @@ use Rattle.std.proofs.Common.{◌≡◌, ℕ, zero, suc, ◌+◌, ◌*◌, ◌<�
 use Rattle.std.proofs.lemmas.Bool.{and_parts, eqb-true, leb-true, le-leb, lt-leb, ltb-false}
 use Rattle.std.specs.Int.{div_ceil}
 use Rattle.fs_layout.specs.declared.header.TheConstants.{MAX_HEADER, LEAST_LOG_END}
-use Rattle.fs_layout.specs.declared.place.Place.{Place}
-use Rattle.fs_layout.specs.declared.place.TheConstants.{SECTOR_BITS}
+use Rattle.fs_layout.specs.declared.geometry.Geometry.{Geometry}
+use Rattle.fs_layout.specs.declared.geometry.TheConstants.{SECTOR_BITS}
 use Rattle.fs_layout.specs.declared.version.Version.{Version}
 use Rattle.fs_layout.specs.declared.version.Version.TheVariants.{One, Two, Three}
 use Rattle.fs_layout.specs.Header.{log_end, max_delta}
 use Rattle.fs_layout.specs.Version.{max_sectors, max_inodes}
-use Rattle.fs_layout.specs.Place.{IsPlace, allows_header, are_in_range, least_header, new_header, place_in, laid_out_in}
+use Rattle.fs_layout.specs.Geometry.{IsGeometry, allows_header, are_in_range, least_header, new_header, geometry_in, laid_out_in}
 
 -- a disk of the third version may have the most sectors and inodes
 numbers_to : (version : Version) → (max_sectors version ≤ max_sectors Three) × (max_inodes version ≤ max_inodes Three)
@@ -32,24 +32,24 @@ record Passed (version : Version) (header sectors inodes : ℕ) : Type 0 where
   header_allowed : allows_header version header sectors inodes ≡ true
   room : (laid_out_in version header sectors inodes).first_data + 64 ≤ sectors
 
-placed : {p : Place} {version : Version} {header : ℕ} (sectors inodes : ℕ) → place_in version header sectors inodes ≡ Some p
+placed : {p : Geometry} {version : Version} {header : ℕ} (sectors inodes : ℕ) → geometry_in version header sectors inodes ≡ Some p
     → (p ≡ laid_out_in version header sectors inodes) × Passed version header sectors inodes
-unfolding place_in
+unfolding geometry_in
 placed {p} {version} {header} s i e =
-    let l : Place = laid_out_in version header s i in
+    let l : Geometry = laid_out_in version header s i in
     let full = nat_lt s (l.first_data + 64) in
     let x = some_of (are_in_range version s i) (cond (not (allows_header version header s i)) None (cond full None (Some l))) p e in
     let y = some_of (allows_header version header s i) (cond full None (Some l)) p x.1 in
     let z = some_unless full (Some l) p y.1 in
     (sym (same_some l p z.1), record { range = x.0; header_allowed = y.0; room = ltb-false s (l.first_data + 64) z.0 })
   where
-    same_some : (x y : Place) → Some x ≡ Some y → x ≡ y
+    same_some : (x y : Geometry) → Some x ≡ Some y → x ≡ y
     same_some x y e = cc
 
 -- the place of a disk is where its parts are laid out
-pub place_is_laid_out : {p : Place} {version : Version} {header : ℕ} (sectors inodes : ℕ) → place_in version header sectors inodes ≡ Some p
+pub geometry_is_laid_out : {p : Geometry} {version : Version} {header : ℕ} (sectors inodes : ℕ) → geometry_in version header sectors inodes ≡ Some p
     → p ≡ laid_out_in version header sectors inodes
-place_is_laid_out s i e = (placed s i e).0
+geometry_is_laid_out s i e = (placed s i e).0
 
 -- what the tests of the numbers say
 record InRange (version : Version) (sectors inodes : ℕ) : Type 0 where
@@ -135,8 +135,8 @@ parts_small version header s i range allowed =
     let log = log_end_most header in
     omega (arith, most, log)
 
-laid_out_is_place : (version : Version) (header s i : ℕ) → Passed version header s i → IsPlace (laid_out_in version header s i)
-laid_out_is_place version header s i p =
+laid_out_is_geometry : (version : Version) (header s i : ℕ) → Passed version header s i → IsGeometry (laid_out_in version header s i)
+laid_out_is_geometry version header s i p =
     let r = in_range version s i p.range in
     let h = has_header version header s i r p.header_allowed in
     let room = h.room in
@@ -155,28 +155,28 @@ laid_out_is_place version header s i p =
     }
 
 -- a disk that has a place has room for its parts
-pub place_is_place : {p : Place} (version : Version) (header sectors inodes : ℕ) → place_in version header sectors inodes ≡ Some p → IsPlace p
-place_is_place version header s i e = let x = placed s i e in subst IsPlace (sym x.0) (laid_out_is_place version header s i x.1)
+pub is_a_geometry : {p : Geometry} (version : Version) (header sectors inodes : ℕ) → geometry_in version header sectors inodes ≡ Some p → IsGeometry p
+is_a_geometry version header s i e = let x = placed s i e in subst IsGeometry (sym x.0) (laid_out_is_geometry version header s i x.1)
 
 -- ---- from a place
 -- log, inode bitmap, block bitmap and inode table stand one behind the other
-pub after_map : {p : Place} → IsPlace p → (128 ≤ p.inode_bitmap) × (p.inode_bitmap < p.block_bitmap) × (p.block_bitmap < p.table)
-after_map place =
-    let log = place.log in
-    let inodes = place.inode_bits in
-    let some = place.least_inodes in
-    let bits = place.bits in
-    let least = place.least_sectors in
+pub after_map : {p : Geometry} → IsGeometry p → (128 ≤ p.inode_bitmap) × (p.inode_bitmap < p.block_bitmap) × (p.block_bitmap < p.table)
+after_map geometry =
+    let log = geometry.log in
+    let inodes = geometry.inode_bits in
+    let some = geometry.least_inodes in
+    let bits = geometry.bits in
+    let least = geometry.least_sectors in
     (omega (arith, log), omega (arith, inodes, some), omega (arith, bits, least))
 
 -- the inode table stands before the data
-pub before_data : {p : Place} → IsPlace p → p.table ≤ p.first_data
-before_data place = let slots = place.slots in let least = place.least_inodes in omega (arith, slots, least)
+pub before_data : {p : Geometry} → IsGeometry p → p.table ≤ p.first_data
+before_data geometry = let slots = geometry.slots in let least = geometry.least_inodes in omega (arith, slots, least)
 
 -- as many sectors and inodes as a disk may have in any version
-pub numbers_most : {p : Place} → IsPlace p → (p.sectors ≤ max_sectors Three) × (p.inodes ≤ max_inodes Three)
-numbers_most {p} place =
-    let s = place.most_sectors in
-    let i = place.most_inodes in
+pub numbers_most : {p : Geometry} → IsGeometry p → (p.sectors ≤ max_sectors Three) × (p.inodes ≤ max_inodes Three)
+numbers_most {p} geometry =
+    let s = geometry.most_sectors in
+    let i = geometry.most_inodes in
     let m = numbers_to p.version in
     (omega (arith, s, m.0), omega (arith, i, m.1))

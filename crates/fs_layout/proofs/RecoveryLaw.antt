@@ -8,9 +8,9 @@ use Rattle.fs_layout.specs.declared.superblock.Super.{Super}
 use Rattle.fs_layout.specs.Header.{log_end, area_start, header_for, header_of}
 use Rattle.fs_layout.specs.Superblock.{FitsSuper, super_bytes}
 use Rattle.fs_layout.specs.declared.header.TheConstants.{MAX_HEADER}
-use Rattle.fs_layout.specs.declared.place.Place.{Place}
-use Rattle.fs_layout.specs.Place.{place_in}
-use Rattle.fs_layout.proofs.Places.{place_is_laid_out, place_is_place}
+use Rattle.fs_layout.specs.declared.geometry.Geometry.{Geometry}
+use Rattle.fs_layout.specs.Geometry.{geometry_in}
+use Rattle.fs_layout.proofs.Places.{geometry_is_laid_out, is_a_geometry}
 use Rattle.fs_layout.proofs.SuperLaw.{super_codec}
 use Rattle.fs_layout.specs.Commit.{AreDistinct, AreTargets, IsArea, IsCommit, IsValidCommit, area_in, commit_bytes, commit_bytes_in, named_area, named_start, targets_in}
 use Rattle.fs_layout.specs.Recovered.{replayed, recovered}
@@ -205,18 +205,18 @@ unfolding header_of
 header_of-super_bytes v fits = ap header_for (super_codec.again v fits)
 
 -- as many as the layout has that it gives,
-pub header_there : {p : Place} (v : Super) (content : List ℕ) (sectors : ℕ) → FitsSuper v → content ≡ super_bytes v
-    → place_in v.version v.header sectors v.inodes ≡ Some p → header_of content ≡ p.header
+pub header_there : {p : Geometry} (v : Super) (content : List ℕ) (sectors : ℕ) → FitsSuper v → content ≡ super_bytes v
+    → geometry_in v.version v.header sectors v.inodes ≡ Some p → header_of content ≡ p.header
 header_there {p} v content sectors fits is has =
-    let same : p.header ≡ v.header = ap (λ (q : Place). q.header) (place_is_laid_out sectors v.inodes has) in
-    let few = (place_is_place v.version v.header sectors v.inodes has).header in
+    let same : p.header ≡ v.header = ap (λ (q : Geometry). q.header) (geometry_is_laid_out sectors v.inodes has) in
+    let few = (is_a_geometry v.version v.header sectors v.inodes has).header in
     ap header_of is ∙ header_of-super_bytes v fits ∙ ap (λ b. cond b v.header 0) (le-leb v.header MAX_HEADER (omega (arith, same, few))) ∙ sym same
 
 -- and the log that it tells ends where the bitmaps begin
-pub log_there : {p : Place} (v : Super) (content : List ℕ) (sectors : ℕ) → FitsSuper v → content ≡ super_bytes v
-    → place_in v.version v.header sectors v.inodes ≡ Some p → log_end (header_of content) ≡ p.inode_bitmap
+pub log_there : {p : Geometry} (v : Super) (content : List ℕ) (sectors : ℕ) → FitsSuper v → content ≡ super_bytes v
+    → geometry_in v.version v.header sectors v.inodes ≡ Some p → log_end (header_of content) ≡ p.inode_bitmap
 log_there {p} v content sectors fits is has =
-    ap log_end (header_there v content sectors fits is has) ∙ sym (place_is_place v.version v.header sectors v.inodes has).log
+    ap log_end (header_there v content sectors fits is has) ∙ sym (is_a_geometry v.version v.header sectors v.inodes has).log
 
 -- a valid commit stays one where superblock, commit sector and header stay
 pub valid_alike : (size : ℕ) (image new : SectorMap) → header_of (new 0) ≡ header_of (image 0) → new 1 ≡ image 1

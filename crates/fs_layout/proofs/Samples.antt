@@ -6,13 +6,13 @@ use Rattle.fs_layout.specs.Bytes.{SectorMap, u32_of, zeros}
 use Rattle.fs_layout.specs.Inode.{free_inode}
 use Rattle.fs_layout.specs.Lacking.{lacks}
 use Rattle.fs_layout.specs.declared.version.Version.TheVariants.{Two}
-use Rattle.fs_layout.specs.Place.{laid_out}
+use Rattle.fs_layout.specs.Geometry.{laid_out}
 use Rattle.fs_layout.specs.Images.{bit, number_on, pointer, first_block, part, Block, byte_at, stored}
 
 -- 1024 sectors and 64 inodes: the bitmaps begin at 128 and 129, the table at 130, the data at 146
-place_of_1024 : laid_out Two 1024 64
+geometry_of_1024 : laid_out Two 1024 64
     ≡ record { version = Two; sectors = 1024; inodes = 64; header = 0; inode_bitmap = 128; block_bitmap = 129; table = 130; first_data = 146 }
-place_of_1024 = refl
+geometry_of_1024 = refl
 
 -- sector 130 of the image has byte 6 at offset 1, and no other sector has anything
 two_bits : SectorMap

@@ -5,7 +5,7 @@ use Rattle.std.specs.Str.{bytes_eq}
 use Rattle.fs_layout.specs.declared.fault.LayoutFault.{LayoutFault}
 use Rattle.fs_layout.specs.declared.fault.LayoutFault.TheVariants.{BadMagic, BadNumber, NotZero}
 use Rattle.fs_layout.specs.declared.commit.TheConstants.{MAX_TARGETS, HEADER_TARGETS}
-use Rattle.fs_layout.specs.declared.place.TheConstants.{COMMIT_SECTOR}
+use Rattle.fs_layout.specs.declared.geometry.TheConstants.{COMMIT_SECTOR}
 use Rattle.fs_layout.specs.Bytes.{SectorMap, le32, le32s, zeros, u32_of, u32s_of, are_zero}
 use Rattle.fs_layout.specs.Header.{area_start, header_of, log_end, max_targets}
 

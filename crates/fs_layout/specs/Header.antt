@@ -10,7 +10,7 @@
 use Rattle.std.specs.Prelude.{ℕ, zero, suc, ◌+◌, ◌-◌, ◌*◌, List, Result, Ok, Err, nat_lt, nat_le, ◌&&◌, if◌then◌else◌}
 use Rattle.fs_layout.specs.declared.commit.TheConstants.{MAX_TARGETS, HEADER_TARGETS}
 use Rattle.fs_layout.specs.declared.fault.LayoutFault.{LayoutFault}
-use Rattle.fs_layout.specs.declared.place.TheConstants.{FIRST_LOG_SECTOR}
+use Rattle.fs_layout.specs.declared.geometry.TheConstants.{FIRST_LOG_SECTOR}
 use Rattle.fs_layout.specs.declared.superblock.Super.{Super}
 use Rattle.fs_layout.specs.declared.header.TheConstants.{MAX_HEADER, LEAST_LOG_END}
 use Rattle.fs_layout.specs.Superblock.{super_of}

@@ -15,24 +15,24 @@ use Rattle.std.specs.List.{range_with_len}
 use Rattle.fs_layout.specs.declared.inode.Inode.{Inode}
 use Rattle.fs_layout.specs.declared.inode.TheConstants.{INODE_SIZE, DIRECT_BLOCKS, SECTOR_POINTERS, MAX_BLOCKS}
 use Rattle.fs_layout.specs.declared.fault.LayoutFault.{LayoutFault}
-use Rattle.fs_layout.specs.declared.place.Place.{Place}
-use Rattle.fs_layout.specs.declared.place.TheConstants.{SECTOR_BITS}
+use Rattle.fs_layout.specs.declared.geometry.Geometry.{Geometry}
+use Rattle.fs_layout.specs.declared.geometry.TheConstants.{SECTOR_BITS}
 use Rattle.fs_layout.specs.Bytes.{SectorMap, IsSector, window, zeros, u32_of}
 use Rattle.fs_layout.specs.Inode.{inode_of, free_inode}
 
 -- the number of bits of the inode bitmap, and of the block bitmap
-abbrev pub inode_map_bits : Place → ℕ
+abbrev pub inode_map_bits : Geometry → ℕ
 inode_map_bits p = SECTOR_BITS * (p.block_bitmap - p.inode_bitmap)
 
-abbrev pub map_bits : Place → ℕ
+abbrev pub map_bits : Geometry → ℕ
 map_bits p = SECTOR_BITS * (p.table - p.block_bitmap)
 
 -- a data sector
-abbrev pub IsData : Place → ℕ → Type 0
+abbrev pub IsData : Geometry → ℕ → Type 0
 IsData p s = (p.first_data ≤ s) × (s < p.sectors)
 
 -- each sector of the bitmaps and of the inode table is whole
-abbrev pub HasWholeTables : Place → SectorMap → Type 0
+abbrev pub HasWholeTables : Geometry → SectorMap → Type 0
 HasWholeTables p image = (s : ℕ) → p.inode_bitmap ≤ s → s < p.first_data → IsSector (image s)
 
 -- bit n of the bitmap that begins at a sector
@@ -40,11 +40,11 @@ unfoldable pub bit : SectorMap → ℕ → ℕ → Bool
 bit image start n = nat_eq (bit_at (get_or (image (start + n / SECTOR_BITS)) (n % SECTOR_BITS / 8) 0) (n % 8)) 1
 
 -- how many data sectors have a clear bit
-abbrev pub free_sectors : Place → SectorMap → ℕ
+abbrev pub free_sectors : Geometry → SectorMap → ℕ
 free_sectors p image = count_by (λ s. not (bit image p.block_bitmap s)) (range_with_len p.first_data (p.sectors - p.first_data))
 
 -- the bytes of inode n
-unfoldable pub stored : Place → SectorMap → ℕ → List ℕ
+unfoldable pub stored : Geometry → SectorMap → ℕ → List ℕ
 stored p image n = window (image (p.table + n / 4)) (INODE_SIZE * (n % 4)) INODE_SIZE
 
 abbrev pub inode_or_free : Result Inode LayoutFault → Inode
@@ -52,7 +52,7 @@ inode_or_free (Ok v) = v
 inode_or_free (Err e) = free_inode
 
 -- inode n, a free one where its bytes are none
-unfoldable pub inode_at : Place → SectorMap → ℕ → Inode
+unfoldable pub inode_at : Geometry → SectorMap → ℕ → Inode
 inode_at p image n = inode_or_free (inode_of (stored p image n))
 
 -- ---- the numbers of an inode's sectors, level by level

@@ -12,7 +12,7 @@
 use Rattle.std.specs.Prelude.{◌≡◌, ◌≢◌, ℕ, suc, ◌+◌, ◌*◌, ◌/◌, ◌%◌, ◌^◌, ◌<◌, ◌≤◌, false, Ok, IsTrue, List, length, get_or, set, ◌⊎◌}
 use Rattle.fs_layout.specs.declared.inode.Inode.{Inode}
 use Rattle.fs_layout.specs.declared.inode.TheConstants.{INODE_SIZE}
-use Rattle.fs_layout.specs.declared.place.Place.{Place}
+use Rattle.fs_layout.specs.declared.geometry.Geometry.{Geometry}
 use Rattle.fs_layout.specs.Bytes.{SectorMap, IsSector, splice, le32}
 use Rattle.fs_layout.specs.Inode.{inode_bytes, inode_of}
 use Rattle.fs_layout.specs.Images.{HasWholeTables, own_count, holder, place_in_holder, number_on, Part, part, inode_map_bits, map_bits, bit, stored, inode_at, Owns}
@@ -68,30 +68,30 @@ abbrev pub with_indirect : Inode → ℕ → ℕ → Inode
 with_indirect v level s = record v { indirect = set v.indirect level s }
 
 -- a sector of the inode bitmap, and of the block bitmap
-abbrev pub IsInodeMap : Place → ℕ → Type 0
+abbrev pub IsInodeMap : Geometry → ℕ → Type 0
 IsInodeMap p s = (p.inode_bitmap ≤ s) × (s < p.block_bitmap)
 
-abbrev pub IsBlockMap : Place → ℕ → Type 0
+abbrev pub IsBlockMap : Geometry → ℕ → Type 0
 IsBlockMap p s = (p.block_bitmap ≤ s) × (s < p.table)
 
 -- a data sector that is free
-abbrev pub IsFree : Place → SectorMap → ℕ → Type 0
+abbrev pub IsFree : Geometry → SectorMap → ℕ → Type 0
 IsFree p image s = (p.first_data ≤ s) × (s < p.sectors) × (bit image p.block_bitmap s ≡ false)
 
 -- what the inode owns is in the data, has its bit set, and serves one thing
-pub record IsOwnedApart (p : Place) (image : SectorMap) (v : Inode) : Type 0 where
+pub record IsOwnedApart (p : Geometry) (image : SectorMap) (v : Inode) : Type 0 where
   pub each : (s : ℕ) → Owns image v s → (p.first_data ≤ s) × (s < p.sectors) × IsTrue (bit image p.block_bitmap s)
   pub whole : (s : ℕ) → Owns image v s → IsSector (image s)
   pub once : (s : ℕ) → (a b : Owns image v s) → a.at ≡ b.at
 
 -- of the block bitmap no bit but that of sector s differs, and nothing else does
-pub record MarksSector (p : Place) (s : ℕ) (old new : SectorMap) : Type 0 where
+pub record MarksSector (p : Geometry) (s : ℕ) (old new : SectorMap) : Type 0 where
   pub sectors : HasWholeTables p new
   pub bits : (t : ℕ) → t < map_bits p → t ≢ s → bit new p.block_bitmap t ≡ bit old p.block_bitmap t
   pub others : (t : ℕ) → (IsBlockMap p t → ⊥) → new t ≡ old t
 
 -- the free sector s is taken and its bit set, and then x is written there
-pub record Allocates (p : Place) (s : ℕ) (x : List ℕ) (old mid new : SectorMap) : Type 0 where
+pub record Allocates (p : Geometry) (s : ℕ) (x : List ℕ) (old mid new : SectorMap) : Type 0 where
   pub free : IsFree p old s
   pub mark : MarksSector p s old mid
   pub set : IsTrue (bit mid p.block_bitmap s)
@@ -99,7 +99,7 @@ pub record Allocates (p : Place) (s : ℕ) (x : List ℕ) (old mid new : SectorM
   pub whole : IsSector x
 
 -- the bit of sector s is cleared
-pub record Frees (p : Place) (s : ℕ) (old new : SectorMap) : Type 0 where
+pub record Frees (p : Geometry) (s : ℕ) (old new : SectorMap) : Type 0 where
   pub mark : MarksSector p s old new
   pub clear : bit new p.block_bitmap s ≡ false
 
@@ -109,7 +109,7 @@ pub record Rewrites (v : Inode) (old new : SectorMap) : Type 0 where
   pub others : (s : ℕ) → (Owns old v s → ⊥) → new s ≡ old s
 
 -- The free sector s is taken and its bit set. Besides, only sectors that the inode owns differ.
-pub record Takes (p : Place) (v : Inode) (s : ℕ) (old new : SectorMap) : Type 0 where
+pub record Takes (p : Geometry) (v : Inode) (s : ℕ) (old new : SectorMap) : Type 0 where
   pub free : IsFree p old s
   pub set : IsTrue (bit new p.block_bitmap s)
   pub bits : (t : ℕ) → t < map_bits p → t ≢ s → bit new p.block_bitmap t ≡ bit old p.block_bitmap t
@@ -119,7 +119,7 @@ pub record Takes (p : Place) (v : Inode) (s : ℕ) (old new : SectorMap) : Type 
   pub others : (t : ℕ) → t ≢ s → (Owns old v t → ⊥) → (IsBlockMap p t → ⊥) → new t ≡ old t
 
 -- The bit of sector s is cleared. Besides, only sectors that the inode owns differ.
-pub record Releases (p : Place) (v : Inode) (s : ℕ) (old new : SectorMap) : Type 0 where
+pub record Releases (p : Geometry) (v : Inode) (s : ℕ) (old new : SectorMap) : Type 0 where
   pub clear : bit new p.block_bitmap s ≡ false
   pub bits : (t : ℕ) → t < map_bits p → t ≢ s → bit new p.block_bitmap t ≡ bit old p.block_bitmap t
   pub sectors : HasWholeTables p new
@@ -128,7 +128,7 @@ pub record Releases (p : Place) (v : Inode) (s : ℕ) (old new : SectorMap) : Ty
 
 -- From old, where the inode is v, to new, where it is w: of the used data sectors only those that v owns differ;
 -- w owns sectors of v and sectors that were free; the block bitmap follows.
-pub record ChangesOwned (p : Place) (v w : Inode) (old new : SectorMap) : Type 0 where
+pub record ChangesOwned (p : Geometry) (v w : Inode) (old new : SectorMap) : Type 0 where
   pub sectors : HasWholeTables p new
   pub whole : (s : ℕ) → Owns new w s → IsSector (new s)
   pub others : (s : ℕ) → p.first_data ≤ s → s < p.sectors → IsTrue (bit old p.block_bitmap s) → (Owns old v s → ⊥) → new s ≡ old s
@@ -141,24 +141,24 @@ pub record ChangesOwned (p : Place) (v w : Inode) (old new : SectorMap) : Type 0
   pub stayed : (s : ℕ) → s < map_bits p → IsTrue (bit new p.block_bitmap s) → Owns old v s → Owns new w s
 
 -- that, and below the data only the block bitmap differs
-pub record ChangesBlocks (p : Place) (v w : Inode) (old new : SectorMap) : Type 0 where
+pub record ChangesBlocks (p : Geometry) (v w : Inode) (old new : SectorMap) : Type 0 where
   pub owned : ChangesOwned p v w old new
   pub low : (s : ℕ) → s < p.first_data → (IsBlockMap p s → ⊥) → new s ≡ old s
 
 -- inode n is written as v, and nothing else differs
-pub record Saves (p : Place) (n : ℕ) (v : Inode) (old new : SectorMap) : Type 0 where
+pub record Saves (p : Geometry) (n : ℕ) (v : Inode) (old new : SectorMap) : Type 0 where
   pub here : new (p.table + n / 4) ≡ splice (old (p.table + n / 4)) (INODE_SIZE * (n % 4)) (inode_bytes v)
   pub others : (s : ℕ) → s ≢ p.table + n / 4 → new s ≡ old s
 
 -- inode n changes with what it owns, and no other inode does
-pub record ChangesInode (p : Place) (n : ℕ) (old new : SectorMap) : Type 0 where
+pub record ChangesInode (p : Geometry) (n : ℕ) (old new : SectorMap) : Type 0 where
   pub owned : ChangesOwned p (inode_at p old n) (inode_at p new n) old new
   pub valid : inode_of (stored p new n) ≡ Ok (inode_at p new n)
   pub table : (m : ℕ) → m < p.inodes → m ≢ n → stored p new m ≡ stored p old m
   pub inode_bits : (m : ℕ) → m < inode_map_bits p → m ≢ n → bit new p.inode_bitmap m ≡ bit old p.inode_bitmap m
 
 -- of the inode bitmap no bit but that of inode n differs, and nothing else does
-pub record MarksInode (p : Place) (n : ℕ) (old new : SectorMap) : Type 0 where
+pub record MarksInode (p : Geometry) (n : ℕ) (old new : SectorMap) : Type 0 where
   pub sectors : HasWholeTables p new
   pub bits : (m : ℕ) → m < inode_map_bits p → m ≢ n → bit new p.inode_bitmap m ≡ bit old p.inode_bitmap m
   pub others : (s : ℕ) → (IsInodeMap p s → ⊥) → new s ≡ old s

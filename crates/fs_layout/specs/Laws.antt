@@ -5,10 +5,10 @@ use Rattle.std.specs.List.{range_with_len}
 use Rattle.std.specs.declared.cmp.Ordering.{Ordering}
 use Rattle.posix_acl.specs.AccessList.{AccessList, IsAcl, IsSomeAcl, list_numbers, mode_bits}
 use Rattle.fs_layout.specs.declared.inode.Inode.{Inode}
-use Rattle.fs_layout.specs.declared.place.Place.{Place}
+use Rattle.fs_layout.specs.declared.geometry.Geometry.{Geometry}
 use Rattle.fs_layout.specs.declared.version.Version.{Version}
 use Rattle.fs_layout.specs.declared.version.Version.TheVariants.{Three}
-use Rattle.fs_layout.specs.Place.{allows_header, are_in_range, least_header, new_header}
+use Rattle.fs_layout.specs.Geometry.{allows_header, are_in_range, least_header, new_header}
 use Rattle.fs_layout.specs.Version.{slot_size, max_names, max_directory_size}
 use Rattle.fs_layout.specs.Bytes.{IsBytes, IsSector, SectorMap, splice, window}
 use Rattle.fs_layout.specs.Inode.{FitsInode}
@@ -53,28 +53,28 @@ NewHeadersAreAllowed =
 
 -- In a consistent image, where inode n changes with what it owns, the image stays consistent, and each other inode is
 -- the same with all that it owns.
-pub record LeavesOthers (p : Place) (n : ℕ) (old new : SectorMap) : Type 0 where
+pub record LeavesOthers (p : Geometry) (n : ℕ) (old new : SectorMap) : Type 0 where
   pub consistent : IsConsistent p new
   pub others : (m : ℕ) → m < p.inodes → m ≢ n → inode_at p new m ≡ inode_at p old m
   pub kept : (m : ℕ) → m < p.inodes → m ≢ n → Keeps old new (inode_at p old m)
 
 abbrev pub OneInodeChanges : Type 0
 OneInodeChanges =
-    (p : Place) (n : ℕ) (old new : SectorMap) → IsConsistent p old → n < p.inodes → ChangesInode p n old new → LeavesOthers p n old new
+    (p : Geometry) (n : ℕ) (old new : SectorMap) → IsConsistent p old → n < p.inodes → ChangesInode p n old new → LeavesOthers p n old new
 
 -- Where the blocks of an inode change and then the inode is saved, one inode changes, and it is the one that was saved.
 abbrev pub SavingEnds : Type 0
 SavingEnds =
-    (p : Place) (n : ℕ) (w : Inode) (old mid new : SectorMap) → IsConsistent p old → n < p.inodes → FitsInode w
+    (p : Geometry) (n : ℕ) (w : Inode) (old mid new : SectorMap) → IsConsistent p old → n < p.inodes → FitsInode w
     → ChangesBlocks p (inode_at p old n) w old mid → Saves p n w mid new → ChangesInode p n old new × (inode_at p new n ≡ w)
 
 -- What a consistent image is rests on its tables and on the data sectors that are used alone.
 abbrev pub RestsOnUsed : Type 0
-RestsOnUsed = (p : Place) (old new : SectorMap) → IsConsistent p old → Agrees p old new → IsConsistent p new
+RestsOnUsed = (p : Geometry) (old new : SectorMap) → IsConsistent p old → Agrees p old new → IsConsistent p new
 
 -- There is a consistent image.
 abbrev pub SomeConsistent : Type 0
-SomeConsistent = (p : Place) × (image : SectorMap) × IsConsistent p image
+SomeConsistent = (p : Geometry) × (image : SectorMap) × IsConsistent p image
 
 -- Finite maps with keys in this order: an entry that is set or removed is no longer what it was, each other one is; and a
 -- map is what it has at each key.

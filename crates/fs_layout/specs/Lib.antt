@@ -11,7 +11,7 @@ pub mod Lacking
 pub mod Laws
 pub mod Maps
 pub mod Ownership
-pub mod Place
+pub mod Geometry
 pub mod Recovered
 pub mod Superblock
 pub mod Version

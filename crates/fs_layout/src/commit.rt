@@ -9,8 +9,8 @@ ghost use Rattle.fs_layout.specs.declared.header.TheConstants.{MAX_HEADER};
 
 use crate::bytes::{are_zero, get_u32s, put_u32, put_u32s, put_zeros, u32_at};
 use crate::fault::LayoutFault;
+use crate::geometry::FIRST_LOG_SECTOR;
 use crate::header::{MAX_HEADER, log_end, max_targets};
-use crate::place::FIRST_LOG_SECTOR;
 use std::marker::Model;
 
 /// The most targets that the commit sector has. Those past them stand in the header.

@@ -6,7 +6,7 @@ ghost use Rattle.fs_layout.specs.Header.{area_start, header_of, log_end, max_tar
 ghost use Rattle.fs_layout.specs.declared.header.TheConstants.{MAX_HEADER};
 
 use crate::commit::{HEADER_TARGETS, MAX_TARGETS};
-use crate::place::FIRST_LOG_SECTOR;
+use crate::geometry::FIRST_LOG_SECTOR;
 use crate::superblock::Super;
 
 /// The first sector behind the log of a disk without a header: no target of a commit lies before it.

@@ -22,7 +22,7 @@ pub fn numbers_of_64_bits()
     ensures { AreNumbersAsBytes 8 le64 u64_of }
 {}
 
-/// With as many header sectors as [`crate::place_of`] gives a disk, a call that puts each sector of the bitmaps has room for 47 more:
+/// With as many header sectors as [`crate::geometry_of`] gives a disk, a call that puts each sector of the bitmaps has room for 47 more:
 /// so the layout of a new disk is refused for its numbers' ranges and for too few data sectors alone.
 pub fn new_headers_are_allowed()
     ensures { NewHeadersAreAllowed }

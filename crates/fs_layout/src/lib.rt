@@ -5,10 +5,10 @@ mod acl_sector;
 mod bytes;
 mod commit;
 mod fault;
+mod geometry;
 mod header;
 mod inode;
 mod laws;
-mod place;
 mod slot;
 mod superblock;
 mod version;
@@ -16,6 +16,7 @@ mod version;
 pub use acl_sector::AclSector;
 pub use commit::{Commit, HEADER_TARGETS, MAX_LOG_SECTORS, MAX_TARGETS};
 pub use fault::LayoutFault;
+pub use geometry::{COMMIT_SECTOR, FIRST_LOG_SECTOR, Geometry, ROOT, SECTOR_BITS, geometry_of};
 pub use header::{
     LEAST_LOG_END, MAX_HEADER, area_start, header_of, log_end, max_targets, other_area,
 };
@@ -29,7 +30,6 @@ pub use laws::{
     numbers_of_16_bits, numbers_of_32_bits, numbers_of_64_bits, one_inode_changes, recovery,
     saving_ends, sectors_say_the_acls, slots_say_the_names, some_image_is_consistent,
 };
-pub use place::{COMMIT_SECTOR, FIRST_LOG_SECTOR, Place, ROOT, SECTOR_BITS, place_of};
 pub use slot::{MAX_NAME, MAX_SLOT_SIZE, SLOT_SIZE, Slot, is_name};
 pub use superblock::Super;
 pub use version::Version;

@@ -1,17 +1,17 @@
 //! The superblock, sector 0.
 
 ghost use Rattle.std.specs.Prelude.{◌≡◌, ◌≤◌, length, IfOk, IfSome, Ok};
-ghost use Rattle.fs_layout.specs.Place.{IsPlace, super_for, place_for};
+ghost use Rattle.fs_layout.specs.Geometry.{IsGeometry, super_for, geometry_for};
 ghost use Rattle.fs_layout.specs.Superblock.{super_bytes, super_of, numbers_end, FitsSuper};
 
 use crate::bytes::{are_zero, put_u32, put_zeros, u32_at};
 use crate::fault::LayoutFault;
-use crate::place::{Place, place_in};
+use crate::geometry::{Geometry, geometry_in};
 use crate::version::Version;
 
 const SUPER_MAGIC: u32 = 0x534f4e49;
 
-/// What the superblock says of its disk. Whether the disk is of that size, and [`Super::place`] gives a layout, is
+/// What the superblock says of its disk. Whether the disk is of that size, and [`Super::geometry`] gives a layout, is
 /// not asked here.
 #[derive(Clone, Copy, PartialEq, Eq)]
 pub struct Super {
@@ -40,23 +40,23 @@ impl Version {
 
 impl Super {
     /// The superblock of a disk of this layout.
-    pub fn of_place(place: Place) -> Super
-        ensures { result ≡ super_for place }
+    pub fn of_geometry(geometry: Geometry) -> Super
+        ensures { result ≡ super_for geometry }
     {
         Super {
-            version: place.version,
-            sectors: place.sectors,
-            inodes: place.inodes,
-            header: place.header,
+            version: geometry.version,
+            sectors: geometry.sectors,
+            inodes: geometry.inodes,
+            header: geometry.header,
         }
     }
 
     /// The layout of the disk; None where a disk may not have these numbers.
-    pub fn place(self) -> Option<Place>
-        ensures value { result ≡ place_for self }
-        ensures room { IfSome result IsPlace }
+    pub fn geometry(self) -> Option<Geometry>
+        ensures value { result ≡ geometry_for self }
+        ensures room { IfSome result IsGeometry }
     {
-        place_in(self.version, self.header, self.sectors, self.inodes)
+        geometry_in(self.version, self.header, self.sectors, self.inodes)
     }
 
     fn put(&self, to: &mut [u8])

@@ -8,11 +8,11 @@ use Rattle.std.proofs.lemmas.Bool.Decides.{nat_tests}
 use Rattle.std.proofs.lemmas.List.{get_or_default}
 use Rattle.fs_layout.specs.declared.inode.Kind.{Kind}
 use Rattle.fs_layout.specs.declared.inode.Kind.TheVariants as kinds
-use Rattle.fs_layout.specs.declared.place.Place.{Place}
+use Rattle.fs_layout.specs.declared.geometry.Geometry.{Geometry}
 use Rattle.fs_layout.specs.Bytes.{SectorMap, IsSector, IsBytes, u16_of}
 use Rattle.fs_layout.specs.Inode.{inode_fits, FitsInode}
 use Rattle.fs_layout.specs.Version.{max_name, keeps_times}
-use Rattle.fs_layout.specs.Place.{IsPlace}
+use Rattle.fs_layout.specs.Geometry.{IsGeometry}
 use Rattle.fs_layout.specs.Images.{inode_map_bits, bit, HasWholeTables, stored, inode_at, pointer, Owns, byte_in, byte_at, Holds}
 use Rattle.fs_layout.specs.Ownership.{IsConsistent}
 use Rattle.fs_model.specs.Limits.{root}
@@ -34,15 +34,15 @@ use Rattle.fs_model.proofs.StoredTrees.{StoresAt, Stores, unnamed, names_there, 
 use Rattle.fs_model.proofs.BuiltNodes.{file_node, link_node, directory_node, whole_blocks, link_fits}
 
 -- what is owned by an inode of kind k, if it is free
-module _ (p : Place) (m : SectorMap) (place : IsPlace p) (sectors : (s : ℕ) → s < p.sectors → IsSector (m s)) (rules : (r : ImageRule) → ObeysEach p m r) where
+module _ (p : Geometry) (m : SectorMap) (geometry : IsGeometry p) (sectors : (s : ℕ) → s < p.sectors → IsSector (m s)) (rules : (r : ImageRule) → ObeysEach p m r) where
   tables : HasWholeTables p m
-  tables s ge lt = let room = place.data_sectors in sectors s (omega (arith, lt, room))
+  tables s ge lt = let room = geometry.data_sectors in sectors s (omega (arith, lt, room))
 
   good : (n : ℕ) → n < p.inodes → IsGoodInode p m n
   good n lt = rules Inodes n lt
 
   fits : (n : ℕ) → n < p.inodes → FitsInode (inode_at p m n)
-  fits n lt = inode_fits_at p m n place tables lt (good n lt).is
+  fits n lt = inode_fits_at p m n geometry tables lt (good n lt).is
 
   whole : (n : ℕ) → n < p.inodes → (s : ℕ) → Owns m (inode_at p m n) s → IsSector (m s)
   whole n lt s o = sectors s (rules InData n lt s o).1
@@ -279,7 +279,7 @@ module _ (p : Place) (m : SectorMap) (place : IsPlace p) (sectors : (s : ℕ) �
 
   pub tree_is : IsTree (room_of p) tree
   tree_is =
-      let many = place.least_inodes in
+      let many = geometry.least_inodes in
       let lt : root < p.inodes = omega (arith, many) in
       record {
         numbers = stores.numbers;
@@ -291,7 +291,7 @@ module _ (p : Place) (m : SectorMap) (place : IsPlace p) (sectors : (s : ℕ) �
 
   pub consistent : IsConsistent p m
   consistent = record {
-    place = place;
+    geometry = geometry;
     sectors = tables;
     owned_sectors = λ n s lt o. whole n lt s o;
     valid = λ n lt. (good n lt).is;

@@ -13,9 +13,9 @@ use Rattle.fs_model.specs.declared.call.Call.{Call}
 use Rattle.fs_model.specs.declared.event.Event.{Event}
 use Rattle.fs_model.specs.declared.event.Event.TheVariants.{Spawn, Exit, Call as Calls, Enter, Stamp, Clock, Fsync, Sync, Statfs, Arm, Restart}
 use Rattle.fs_model.specs.declared.reply.Reply.{Reply}
-use Rattle.fs_model.specs.Nodes.{Node, names_in}
+use Rattle.fs_model.specs.Nodes.{Node, names_of_body}
 use Rattle.fs_model.specs.Trees.{Tree, Room, node_at, with_node, names_of}
-use Rattle.fs_model.specs.Processes.{Process, Desks}
+use Rattle.fs_model.specs.Processes.{Process, ProcessTable}
 use Rattle.fs_model.specs.TreeChanges.{Make, changed, swept, touches, touched}
 use Rattle.fs_model.specs.States.{State, IsState, MayBeFree}
 use Rattle.fs_model.specs.Alike.{AreAlike, node_seen}
@@ -25,7 +25,7 @@ use Rattle.fs_model.specs.Rows.{row_of}
 use Rattle.fs_model.specs.Steps.{Choice, Acts, after, after_call, after_effect, tree_after, state_after, scene_of, firm_refusal, other_refusal, early_refusal, late_refusal, demand_of, HasNewNumber, HasNewPid}
 use Rattle.fs_model.specs.Confinement.{IsConfined, StepBy, early, late, done, IsOf, AnswerAlike}
 use Rattle.fs_model.proofs.ConfinedEvents.{confined}
-use Rattle.fs_model.proofs.ConfinedSteps.{same_desks, same_seen}
+use Rattle.fs_model.proofs.ConfinedSteps.{same_processes, same_seen}
 use Rattle.fs_model.proofs.SeenTrees.{node_at-seen}
 use Rattle.fs_model.proofs.StepsFound.{IsNameAt}
 use Rattle.fs_model.proofs.StepsNaming.{renamed, renamed_node, at_it, at_others, names_of-renamed}
@@ -55,20 +55,20 @@ module _ {room : Room} (t : Tree) (numbers : IsMap nat_cmp t) (dir : ℕ) (name 
   dir_at : node_at w dir ≡ Some is.node
   dir_at = at_others t n node dir dir_apart ∙ is.stands
 
-  made_is : made ≡ renamed w dir is.node (with_entry name_cmp (names_in is.node.body) name n)
+  made_is : made ≡ renamed w dir is.node (with_entry name_cmp (names_of_body is.node.body) name n)
   made_is = named_is w dir is.node name n dir_at
 
   made_at : node_at made n ≡ Some node
   made_at =
       ap (λ u. node_at u n) made_is
-      ∙ at_others w dir (renamed_node is.node (with_entry name_cmp (names_in is.node.body) name n)) n (λ e. dir_apart (sym e))
+      ∙ at_others w dir (renamed_node is.node (with_entry name_cmp (names_of_body is.node.body) name n)) n (λ e. dir_apart (sym e))
       ∙ at_it t n node
 
   has_name : 1 ≤ names_of made n
   has_name =
-      let names = with_entry name_cmp (names_in is.node.body) name n in
+      let names = with_entry name_cmp (names_of_body is.node.body) name n in
       let all = names_of-renamed w dir is.node names is.directory (with_entry-IsMap t n node numbers) dir_at n in
-      let more = leading-with_name (names_in is.node.body) name n n is.leads in
+      let more = leading-with_name (names_of_body is.node.body) name n n is.leads in
       let one = once_same n n refl in
       let some : 1 ≤ names_of (renamed w dir is.node names) n = omega (arith, all, more, one) in
       subst (λ u. 1 ≤ names_of u n) (sym made_is) some
@@ -79,7 +79,7 @@ module _ {room : Room} (t : Tree) (numbers : IsMap nat_cmp t) (dir : ℕ) (name 
     | inr other ↦
         sym (ap is_some (
         ap (λ u. node_at u m) made_is
-        ∙ at_others w dir (renamed_node is.node (with_entry name_cmp (names_in is.node.body) name n)) m other
+        ∙ at_others w dir (renamed_node is.node (with_entry name_cmp (names_of_body is.node.body) name n)) m other
         ∙ at_others t n node m ne
         )) ∙ there
   ]
@@ -102,25 +102,25 @@ some_kept : (keeps : ℕ × Node → Bool) (m : ℕ) (o : Option Node) → is_so
 some_kept keeps m None h = h
 some_kept keeps m (Some node) h = refl
 
-made_stays : (s : State) (desks : Desks) (dir : ℕ) (name : List ℕ) (n : ℕ) (node : Node) → IsState s → IsNameAt s.room s.tree dir name None
+made_stays : (s : State) (processes : ProcessTable) (dir : ℕ) (name : List ℕ) (n : ℕ) (node : Node) → IsState s → IsNameAt s.room s.tree dir name None
     → node_at s.tree n ≡ None
-    → MayBeLeft s.room (changed s.tree (Make dir name n node)) desks → Made s.tree (swept (changed s.tree (Make dir name n node)) desks) n
-made_stays s desks dir name n node is at new left =
+    → MayBeLeft s.room (changed s.tree (Make dir name n node)) processes → Made s.tree (swept (changed s.tree (Make dir name n node)) processes) n
+made_stays s processes dir name n node is at new left =
     let made = changed s.tree (Make dir name n node) in
     let swept_at =
-    at-swept s.room made desks left.tree n node (made_at s.tree is.tree.numbers dir name at n node new)
-    (named_stays s.room made desks left.tree n node (has_name s.tree is.tree.numbers dir name at n node new)) in
+    at-swept s.room made processes left.tree n node (made_at s.tree is.tree.numbers dir name at n node new)
+    (named_stays s.room made processes left.tree n node (has_name s.tree is.tree.numbers dir name at n node new)) in
     record {
       unused = new;
       there = ap is_some swept_at;
       others = λ m ne there.
           others_were s.tree is.tree.numbers dir name at n node new m ne
-          (some_kept (stays made desks) m (node_at made m) (sym (ap is_some (get-filter (stays made desks) made left.tree.numbers m)) ∙ there));
+          (some_kept (stays made processes) m (node_at made m) (sym (ap is_some (get-filter (stays made processes) made left.tree.numbers m)) ∙ there));
     }
 
 -- ---- one call that acts
 
-module _ (s : State) (is : IsState s) (pid : ℕ) (p : Process) (here : get nat_cmp s.desks pid ≡ Some p) (call : Call) (fits : IsCall call) where
+module _ (s : State) (is : IsState s) (pid : ℕ) (p : Process) (here : get nat_cmp s.processes pid ≡ Some p) (call : Call) (fits : IsCall call) where
   abbrev effect_with : ℕ → Effect
   effect_with n = (row_of call).effect (scene_of s p (row_of call)) n
 
@@ -151,15 +151,15 @@ module _ (s : State) (is : IsState s) (pid : ℕ) (p : Process) (here : get nat_
             let node = makes.1.0 in
             let a : after s (Calls pid call) choice ≡ after_effect s pid (effect_with choice.number) = after_is choice in
             let change : (effect_with choice.number).change ≡ Make c.first.dir c.first.name choice.number node = makes.1.1 choice.number in
-            let desks = with_entry nat_cmp s.desks pid (effect_with choice.number).process in
+            let processes = with_entry nat_cmp s.processes pid (effect_with choice.number).process in
             let fresh : HasNewNumber s (effect_with choice.number).change = subst (λ a. HasNewNumber s a.change) a acts.allowed.number in
             let made : HasNewNumber s (Make c.first.dir c.first.name choice.number node) = subst (HasNewNumber s) change fresh in
-            let left : MayBeLeft s.room (changed s.tree (effect_with choice.number).change) desks =
+            let left : MayBeLeft s.room (changed s.tree (effect_with choice.number).change) processes =
             process_leaves s pid p call choice.number is acts.running here fits early late fresh in
-            let stays = made_stays s desks c.first.dir c.first.name choice.number node is makes.0 made.2
-            (subst (λ ch. MayBeLeft s.room (changed s.tree ch) desks) change left) in
+            let stays = made_stays s processes c.first.dir c.first.name choice.number node is makes.0 made.2
+            (subst (λ ch. MayBeLeft s.room (changed s.tree ch) processes) change left) in
             subst (λ a. Made s.tree (tree_after s a) choice.number) (sym a)
-            (made_touched s.now (touches s.room s.tree (effect_with choice.number).change) s.tree (swept (changed s.tree (effect_with choice.number).change) desks) choice.number (subst (λ ch. Made s.tree (swept (changed s.tree ch) desks) choice.number) (sym change) stays))
+            (made_touched s.now (touches s.room s.tree (effect_with choice.number).change) s.tree (swept (changed s.tree (effect_with choice.number).change) processes) choice.number (subst (λ ch. Made s.tree (swept (changed s.tree ch) processes) choice.number) (sym change) stays))
             )
       ]
 
@@ -170,7 +170,7 @@ some_mapped f None = refl
 some_mapped f (Some node) = refl
 
 -- in states that are alike the same inodes are in use
-same_there : (pid : ℕ) (p : Process) (s t : State) → AreAlike pid s t → get nat_cmp s.desks pid ≡ Some p
+same_there : (pid : ℕ) (p : Process) (s t : State) → AreAlike pid s t → get nat_cmp s.processes pid ≡ Some p
     → (n : ℕ) → is_some (node_at s.tree n) ≡ is_some (node_at t.tree n)
 same_there pid p s t alike here n =
     sym (some_mapped (node_seen p n) (node_at s.tree n))
@@ -224,7 +224,7 @@ no_pid pid s (Arm a) of k = absurd of
 no_pid pid s (Restart bytes arm) of k = absurd of
 
 module _ (pid : ℕ) (p : Process) (s t s' t' : State) (c d : Choice) (reply reply' : Reply) (is : IsState s) (js : IsState t)
-    (here : get nat_cmp s.desks pid ≡ Some p) (plain : IsConfined p.cred) (alike : AreAlike pid s t)
+    (here : get nat_cmp s.processes pid ≡ Some p) (plain : IsConfined p.cred) (alike : AreAlike pid s t)
     (numbers : (n : ℕ) → is_some (node_at s'.tree n) ≡ is_some (node_at t'.tree n)) (counts : s'.free ≡ t'.free) where
   -- one of the choices serves for both
   by_second : (e : Event) → IsEvent e → IsOf pid e → c.free ≡ d.free → StepBy c s e reply s' → StepBy d t e reply' t' → after s e c ≡ after s e d
@@ -242,8 +242,8 @@ module _ (pid : ℕ) (p : Process) (s t s' t' : State) (c d : Choice) (reply rep
       → Acts t (Calls by call) d → t' ≡ state_after t (after t (Calls by call) d) d.free → StepBy d t (Calls by call) reply' t'
       → AnswerAlike pid reply reply' s' t'
   call_alike by call fits of free act now x act' now' y =
-      let here_by : get nat_cmp s.desks by ≡ Some p = ap (get nat_cmp s.desks) of ∙ here in
-      let there_by : get nat_cmp t.desks by ≡ Some p = ap (λ desks. get nat_cmp desks by) (sym (same_desks pid s t alike)) ∙ here_by in
+      let here_by : get nat_cmp s.processes by ≡ Some p = ap (get nat_cmp s.processes) of ∙ here in
+      let there_by : get nat_cmp t.processes by ≡ Some p = ap (λ processes. get nat_cmp processes by) (sym (same_processes pid s t alike)) ∙ here_by in
       let e = Calls by call in
       elim (acted s is by p here_by call fits.1 c act) [
         | inl any ↦ by_second e fits of free x y (

@@ -7,7 +7,7 @@ use Rattle.fs_model.specs.declared.event.Event.{Event}
 use Rattle.fs_model.specs.declared.reply.Reply.{Reply}
 use Rattle.fs_model.specs.declared.reply.Reply.TheVariants.{Refused}
 use Rattle.fs_layout.specs.Maps.{get}
-use Rattle.fs_model.specs.Processes.{Process, Desks}
+use Rattle.fs_model.specs.Processes.{Process, ProcessTable}
 use Rattle.fs_model.specs.TreeChanges.{swept}
 use Rattle.fs_model.specs.States.{State, IsState}
 use Rattle.fs_model.specs.Alike.{seen_by, AreAlike}
@@ -24,7 +24,7 @@ use Rattle.fs_model.specs.declared.reply.Reply.TheVariants.{Done}
 use Rattle.fs_layout.specs.Maps.{without, IsMap}
 use Rattle.fs_model.specs.Steps.{after_call, unchanged, firm_refusal, other_refusal, demand_of}
 use Rattle.fs_model.proofs.Swept.{kept, get-filter}
-use Rattle.fs_model.proofs.ConfinedSteps.{effect_in, left_by, same_reply, same_process, left_alike, Confines, same_desks, here_alike, same_seen}
+use Rattle.fs_model.proofs.ConfinedSteps.{effect_in, left_by, same_reply, same_process, left_alike, Confines, same_processes, here_alike, same_seen}
 use Rattle.fs_model.proofs.VeiledRefusals.{same_firm, same_other}
 use Rattle.fs_model.proofs.EachCall.{each_call}
 
@@ -34,14 +34,14 @@ use Rattle.fs_model.proofs.EachCall.{each_call}
 abbrev pub ActsAlike : Event → Type 0
 ActsAlike e =
     (pid : ℕ) (p : Process) (s t : State) (choice : Choice)
-    → IsState s → IsState t → get nat_cmp s.desks pid ≡ Some p → IsConfined p.cred → IsEvent e → IsOf pid e
+    → IsState s → IsState t → get nat_cmp s.processes pid ≡ Some p → IsConfined p.cred → IsEvent e → IsOf pid e
     → AreAlike pid s t → Acts s e choice → Acts t e choice
     → AnswerAlike pid (after s e choice).reply (after t e choice).reply (state_after s (after s e choice) choice.free) (state_after t (after t e choice) choice.free)
 
 abbrev pub ConfinesEvent : Event → Type 0
 ConfinesEvent e =
     (pid : ℕ) (p : Process) (s t s' t' : State) (choice : Choice) (reply reply' : Reply)
-    → IsState s → IsState t → get nat_cmp s.desks pid ≡ Some p → IsConfined p.cred → IsEvent e → IsOf pid e
+    → IsState s → IsState t → get nat_cmp s.processes pid ≡ Some p → IsConfined p.cred → IsEvent e → IsOf pid e
     → AreAlike pid s t → StepBy choice s e reply s' → StepBy choice t e reply' t'
     → AnswerAlike pid reply reply' s' t'
 
@@ -77,26 +77,26 @@ confines_event e acts pid p s t s' t' choice reply reply' is js here confined fi
 
 -- ---- a call
 
-firm_is : (s : State) (pid : ℕ) (p : Process) (call : Call) → get nat_cmp s.desks pid ≡ Some p → firm_refusal s (Calls pid call) ≡ None → early_refusal p (row_of call) ≡ None
+firm_is : (s : State) (pid : ℕ) (p : Process) (call : Call) → get nat_cmp s.processes pid ≡ Some p → firm_refusal s (Calls pid call) ≡ None → early_refusal p (row_of call) ≡ None
 unfolding firm_refusal
 firm_is s pid p call here e = ap (demand_of (λ p. early_refusal p (row_of call))) (sym here) ∙ e
 
-other_is : (s : State) (pid : ℕ) (p : Process) (call : Call) → get nat_cmp s.desks pid ≡ Some p → other_refusal s (Calls pid call) ≡ None → late_refusal s p (row_of call) ≡ None
+other_is : (s : State) (pid : ℕ) (p : Process) (call : Call) → get nat_cmp s.processes pid ≡ Some p → other_refusal s (Calls pid call) ≡ None → late_refusal s p (row_of call) ≡ None
 unfolding other_refusal
 other_is s pid p call here e = ap (demand_of (λ p. late_refusal s p (row_of call))) (sym here) ∙ e
 
-after_is : (s : State) (pid : ℕ) (p : Process) (call : Call) (choice : Choice) → get nat_cmp s.desks pid ≡ Some p
+after_is : (s : State) (pid : ℕ) (p : Process) (call : Call) (choice : Choice) → get nat_cmp s.processes pid ≡ Some p
     → after s (Calls pid call) choice ≡ after_effect s pid (effect_in pid p (row_of call) choice.number choice.free s)
 unfolding after
 after_is s pid p call choice here = ap (after_call s pid (row_of call) choice.number) here
 
 call_acts : (pid : ℕ) (call : Call) → Confines call → (p : Process) (s t : State) (choice : Choice)
     → IsState s → IsState t → IsConfined p.cred → IsCall call → Acts s (Calls pid call) choice → Acts t (Calls pid call) choice
-    → get nat_cmp s.desks pid ≡ Some p → AreAlike pid s t
+    → get nat_cmp s.processes pid ≡ Some p → AreAlike pid s t
     → AnswerAlike pid (after s (Calls pid call) choice).reply (after t (Calls pid call) choice).reply
     (state_after s (after s (Calls pid call) choice) choice.free) (state_after t (after t (Calls pid call) choice) choice.free)
 call_acts pid call conf p s t choice is js confined fits act act' here alike =
-    let there : get nat_cmp t.desks pid ≡ Some p = ap (λ desks. get nat_cmp desks pid) (sym (same_desks pid s t alike)) ∙ here in
+    let there : get nat_cmp t.processes pid ≡ Some p = ap (λ processes. get nat_cmp processes pid) (sym (same_processes pid s t alike)) ∙ here in
     let a = after_is s pid p call choice here in
     let b = after_is t pid p call choice there in
     let row = row_of call in
@@ -115,7 +115,7 @@ call_acts pid call conf p s t choice is js confined fits act act' here alike =
 
 pub confines_call : (by : ℕ) (call : Call) → Confines call → ConfinesEvent (Calls by call)
 confines_call by call conf = confines_event (Calls by call) (λ pid p s t choice is js here confined fits of alike act act'.
-    subst (λ q. get nat_cmp s.desks q ≡ Some p → AreAlike q s t
+    subst (λ q. get nat_cmp s.processes q ≡ Some p → AreAlike q s t
     → AnswerAlike q (after s (Calls by call) choice).reply (after t (Calls by call) choice).reply
     (state_after s (after s (Calls by call) choice) choice.free) (state_after t (after t (Calls by call) choice) choice.free)) of
     (call_acts by call conf p s t choice is js confined fits.1 act act') here alike)
@@ -124,20 +124,20 @@ confines_call by call conf = confines_event (Calls by call) (λ pid p s t choice
 
 swept_state : (p : Process) (u : State) (free : ℕ)
     → seen_by (Some p) (state_after u (unchanged u Done) free)
-    ≡ record (seen_by (Some p) u) { tree = swept (seen_by (Some p) u).tree u.desks; free = free }
-swept_state p u free = ap (λ t. record u { tree = t; free = free }) (sym (swept-seen p u.tree u.desks))
+    ≡ record (seen_by (Some p) u) { tree = swept (seen_by (Some p) u).tree u.processes; free = free }
+swept_state p u free = ap (λ t. record u { tree = t; free = free }) (sym (swept-seen p u.tree u.processes))
 
-swept_alike : (pid : ℕ) (p : Process) (s t : State) (free : ℕ) → IsFalse s.halted → IsFalse t.halted → get nat_cmp s.desks pid ≡ Some p → AreAlike pid s t
+swept_alike : (pid : ℕ) (p : Process) (s t : State) (free : ℕ) → IsFalse s.halted → IsFalse t.halted → get nat_cmp s.processes pid ≡ Some p → AreAlike pid s t
     → AreAlike pid (state_after s (unchanged s Done) free) (state_after t (unchanged t Done) free)
 swept_alike pid p s t free first second here alike =
-    let there : get nat_cmp t.desks pid ≡ Some p = ap (λ desks. get nat_cmp desks pid) (sym (same_desks pid s t alike)) ∙ here in
+    let there : get nat_cmp t.processes pid ≡ Some p = ap (λ processes. get nat_cmp processes pid) (sym (same_processes pid s t alike)) ∙ here in
     record {
       first_runs = first;
       second_runs = second;
       same =
           ap (λ o. seen_by o (state_after s (unchanged s Done) free)) here
           ∙ swept_state p s free
-          ∙ ap {A = State} {B = State} (λ u. record u { tree = swept u.tree u.desks; free = free }) (same_seen pid p s t alike here)
+          ∙ ap {A = State} {B = State} (λ u. record u { tree = swept u.tree u.processes; free = free }) (same_seen pid p s t alike here)
           ∙ sym (swept_state p t free)
           ∙ ap (λ o. seen_by o (state_after t (unchanged t Done) free)) (sym there);
     }
@@ -152,24 +152,24 @@ confines_fsync by fd = confines_event (Fsync by fd) (λ pid p s t choice is js h
 
 -- ---- exit
 
-gone : (desks : Desks) (pid : ℕ) → IsMap nat_cmp desks → get nat_cmp (without nat_cmp desks pid) pid ≡ None
-gone desks pid m = get-filter (λ e. not (eq_by_cmp nat_cmp pid e.0)) desks m pid ∙ go (get nat_cmp desks pid)
+gone : (processes : ProcessTable) (pid : ℕ) → IsMap nat_cmp processes → get nat_cmp (without nat_cmp processes pid) pid ≡ None
+gone processes pid m = get-filter (λ e. not (eq_by_cmp nat_cmp pid e.0)) processes m pid ∙ go (get nat_cmp processes pid)
   where
     go : (o : Option Process) → kept (λ e. not (eq_by_cmp nat_cmp pid e.0)) pid o ≡ None
     go None = refl
     go (Some p) = ap (λ b. cond (not b) (Some p) None) (ties pid pid refl)
 
-pub gone_by : (desks : Desks) (by pid : ℕ) → IsMap nat_cmp desks → by ≡ pid → get nat_cmp (without nat_cmp desks by) pid ≡ None
-gone_by desks by pid m of = subst (λ q. get nat_cmp (without nat_cmp desks by) q ≡ None) of (gone desks by m)
+pub gone_by : (processes : ProcessTable) (by pid : ℕ) → IsMap nat_cmp processes → by ≡ pid → get nat_cmp (without nat_cmp processes by) pid ≡ None
+gone_by processes by pid m of = subst (λ q. get nat_cmp (without nat_cmp processes by) q ≡ None) of (gone processes by m)
 
 pub confines_exit : (by : ℕ) → ConfinesEvent (Exit by)
 unfolding after
 confines_exit by = confines_event (Exit by) (λ pid p s t choice is js here confined fits of alike act act'. record {
   replies = refl;
-  process = gone_by s.desks by pid is.pids of ∙ sym (gone_by t.desks by pid js.pids of);
+  process = gone_by s.processes by pid is.pids of ∙ sym (gone_by t.processes by pid js.pids of);
   alike = λ there. absurd (
-      let none : get nat_cmp (without nat_cmp s.desks by) pid ≡ None = gone_by s.desks by pid is.pids of in
-      let x : is_some (get nat_cmp (without nat_cmp s.desks by) pid) ≡ true = there in
+      let none : get nat_cmp (without nat_cmp s.processes by) pid ≡ None = gone_by s.processes by pid is.pids of in
+      let x : is_some (get nat_cmp (without nat_cmp s.processes by) pid) ≡ true = there in
       cc
       );
 })

@@ -7,7 +7,7 @@ use Rattle.fs_model.specs.declared.call.AclType.TheVariants.{Access as AccessTyp
 use Rattle.fs_model.specs.declared.call.Call.{Call}
 use Rattle.fs_model.specs.declared.call.Call.TheVariants.{Fstat, Stat, Lstat, Access, GetAcl, Readdir, Readlink, Chdir, Umask}
 use Rattle.fs_model.specs.declared.reply.Reply.TheVariants.{Shown, Acl, Target, Names}
-use Rattle.fs_model.specs.Nodes.{Node, is_directory, names_in, target_in, type_of, shown_mode, shown_size, acl_in, default_in, accessed}
+use Rattle.fs_model.specs.Nodes.{Node, is_directory, names_of_body, target_in, type_of, shown_mode, shown_size, acl_in, default_in, accessed}
 use Rattle.fs_model.specs.Trees.{parent, names_of}
 use Rattle.fs_model.specs.Processes.{Process, the_descriptor}
 use Rattle.fs_model.specs.Births.{the_node}
@@ -85,8 +85,8 @@ module _ (c : Scene) where
   target-veil : target_in (body_found (veiled_scene c) c.first) ≡ target_in (body_found c c.first)
   target-veil = ap (λ node. target_in node.body) (the_node-veil c.state.tree (number c.first)) ∙ target_in-blotted (body_found c c.first)
 
-  listed-veil : (n : ℕ) → names_in (the_node (veil c.state.tree) n).body ≡ names_in (the_node c.state.tree n).body
-  listed-veil n = ap (λ node. names_in node.body) (the_node-veil c.state.tree n) ∙ names_in-blotted (the_node c.state.tree n).body
+  listed-veil : (n : ℕ) → names_of_body (the_node (veil c.state.tree) n).body ≡ names_of_body (the_node c.state.tree n).body
+  listed-veil n = ap (λ node. names_of_body node.body) (the_node-veil c.state.tree n) ∙ names_in-blotted (the_node c.state.tree n).body
 
 looks : (row : Row) (number : ℕ) → ((c : Scene) → (row.effect c number).change ≡ Same) → ((c : Scene) → (row.effect c number).process ≡ c.process)
     → ((c : Scene) → (row.effect (veiled_scene c) number).reply ≡ (row.effect c number).reply) → IsLook row number
@@ -128,7 +128,7 @@ pub readdir_confined : (fd : ℕ) → Confines (Readdir fd)
 unfolding row_of
 readdir_confined fd = look_at (Readdir fd) (λ new. looks (row_of (Readdir fd)) new (λ c. refl) (λ c. refl) (λ c.
     let n = (the_descriptor c.process fd).number in
-    ap (λ up. Names ((46 ∷ [], n) ∷ (46 ∷ 46 ∷ [], up) ∷ names_in (the_node (veil c.state.tree) n).body)) (parent-veil c.state.tree n)
+    ap (λ up. Names ((46 ∷ [], n) ∷ (46 ∷ 46 ∷ [], up) ∷ names_of_body (the_node (veil c.state.tree) n).body)) (parent-veil c.state.tree n)
     ∙ ap (λ names. Names ((46 ∷ [], n) ∷ (46 ∷ 46 ∷ [], parent c.state.tree n) ∷ names)) (listed-veil c n)))
 
 pub chdir_confined : (path : List ℕ) → Confines (Chdir path)

@@ -7,7 +7,7 @@ use Rattle.std.specs.Option.{option_map}
 use Rattle.fs_model.specs.declared.call.Call.{Call}
 use Rattle.fs_model.specs.declared.call.Call.TheVariants.{Mkdir, Rmdir, Link as LinkCall, Symlink, Unlink, Rename}
 use Rattle.fs_layout.specs.Maps.{name_cmp, with_entry, without}
-use Rattle.fs_model.specs.Nodes.{Node, Body, File, Dir, Link, names_in, with_names}
+use Rattle.fs_model.specs.Nodes.{Node, Body, File, Dir, Link, names_of_body, with_names}
 use Rattle.fs_model.specs.Trees.{Tree, Room, node_at, with_node, lookup, lookup_in}
 use Rattle.fs_model.specs.Processes.{Process}
 use Rattle.fs_model.specs.Births.{the_node, the_directory, born_directory, born_link}
@@ -29,7 +29,7 @@ module _ (p : Process) where
 
   module _ (g : List (List ℕ × ℕ) → List (List ℕ × ℕ)) (dir : ℕ) where
     abbrev renamed : Node → Node
-    renamed node = record node { body = with_names (g (names_in node.body)) node.body }
+    renamed node = record node { body = with_names (g (names_of_body node.body)) node.body }
 
     renamed_seen : (owner group : ℕ) (stamps : Stamps) (body : Body)
         → node_seen p dir (renamed (record { owner = owner; group = group; stamps = stamps; body = body })) ≡ renamed (node_seen p dir (record { owner = owner; group = group; stamps = stamps; body = body }))

@@ -12,7 +12,7 @@ use Rattle.fs_layout.proofs.FirstEntries.{right}
 use Rattle.fs_layout.proofs.MapLaws.{with_entry-IsMap}
 use Rattle.fs_model.specs.declared.call.Flags.{Flags}
 use Rattle.fs_model.specs.declared.call.Call.TheVariants.{Open}
-use Rattle.fs_model.specs.Nodes.{Node, accessed, names_in, with_names, with_bytes}
+use Rattle.fs_model.specs.Nodes.{Node, accessed, names_of_body, with_names, with_bytes}
 use Rattle.fs_model.specs.Trees.{Tree, node_at, with_node, Room}
 use Rattle.fs_model.specs.Processes.{Process, least_unused}
 use Rattle.fs_model.specs.Births.{the_node, no_node, born_file}
@@ -120,11 +120,11 @@ module _ (p : Process) (flags : Flags) (n : ℕ) where
     made_own : (f : List (List ℕ × ℕ) → List (List ℕ × ℕ)) (o : Option Node) → node_at (with_node t n node) dir ≡ o
         → (m : ℕ) (x : Node) → node_at (with_names_at (with_node t n node) dir f o) m ≡ Some x → IsOwn m x
     made_own f None at = added_own
-    made_own f (Some v) at = in_with_entry IsOwn (with_node t n node) dir (record v { body = with_names (f (names_in v.body)) v.body }) (added_own dir v at) added_own
+    made_own f (Some v) at = in_with_entry IsOwn (with_node t n node) dir (record v { body = with_names (f (names_of_body v.body)) v.body }) (added_own dir v at) added_own
 
     made_is : (f : List (List ℕ × ℕ) → List (List ℕ × ℕ)) (o : Option Node) → IsMap nat_cmp (with_names_at (with_node t n node) dir f o)
     made_is f None = with_entry-IsMap t n node is
-    made_is f (Some v) = with_entry-IsMap (with_node t n node) dir (record v { body = with_names (f (names_in v.body)) v.body }) (with_entry-IsMap t n node is)
+    made_is f (Some v) = with_entry-IsMap (with_node t n node) dir (record v { body = with_names (f (names_of_body v.body)) v.body }) (with_entry-IsMap t n node is)
 
     pub new_tree : tree_seen opener (changed (tree_seen p t) (Make dir name n node)) ≡ tree_seen opener (changed t (Make dir name n node))
     new_tree =

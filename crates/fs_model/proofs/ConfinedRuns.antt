@@ -26,26 +26,26 @@ use Rattle.fs_model.proofs.ConfinedStepsOf.{steps_by}
 
 -- ---- a process keeps its credential
 
-module _ (pid : ℕ) (p q : Process) (s : State) (here : get nat_cmp s.desks pid ≡ Some p) where
+module _ (pid : ℕ) (p q : Process) (s : State) (here : get nat_cmp s.processes pid ≡ Some p) where
   called_cred : (call : Call) (choice : Choice)
-      → get nat_cmp (after_call s pid (row_of call) choice.number (get nat_cmp s.desks pid)).desks pid ≡ Some q → q.cred ≡ p.cred
+      → get nat_cmp (after_call s pid (row_of call) choice.number (get nat_cmp s.processes pid)).processes pid ≡ Some q → q.cred ≡ p.cred
   called_cred call choice there =
       let effect = effect_in pid p (row_of call) choice.number choice.free s in
-      let now : get nat_cmp (after_call s pid (row_of call) choice.number (Some p)).desks pid ≡ Some q =
-      ap (λ o. get nat_cmp (after_call s pid (row_of call) choice.number o).desks pid) (sym here) ∙ there in
-      let same : Some effect.process ≡ Some q = sym (here_after pid p (row_of call) choice.number choice.free s.desks effect.process) ∙ now in
+      let now : get nat_cmp (after_call s pid (row_of call) choice.number (Some p)).processes pid ≡ Some q =
+      ap (λ o. get nat_cmp (after_call s pid (row_of call) choice.number o).processes pid) (sym here) ∙ there in
+      let same : Some effect.process ≡ Some q = sym (here_after pid p (row_of call) choice.number choice.free s.processes effect.process) ∙ now in
       let is : effect.process ≡ q = cc in
       ap (λ x. x.cred) (sym is) ∙ (each_call call).keeps (scene_of s p (row_of call)) choice.number
 
-  same_cred : get nat_cmp s.desks pid ≡ Some q → q.cred ≡ p.cred
+  same_cred : get nat_cmp s.processes pid ≡ Some q → q.cred ≡ p.cred
   same_cred there = let is : Some p ≡ Some q = sym here ∙ there in let same : p ≡ q = cc in ap (λ x. x.cred) (sym same)
 
-  acted_cred : IsState s → (e : Event) (choice : Choice) → IsOf pid e → get nat_cmp (after s e choice).desks pid ≡ Some q → q.cred ≡ p.cred
+  acted_cred : IsState s → (e : Event) (choice : Choice) → IsOf pid e → get nat_cmp (after s e choice).processes pid ≡ Some q → q.cred ≡ p.cred
   unfolding after
   acted_cred is (Calls by call) choice of there =
-      called_cred call choice (subst (λ b. get nat_cmp (after_call s b (row_of call) choice.number (get nat_cmp s.desks b)).desks pid ≡ Some q) of there)
+      called_cred call choice (subst (λ b. get nat_cmp (after_call s b (row_of call) choice.number (get nat_cmp s.processes b)).processes pid ≡ Some q) of there)
   acted_cred is (Fsync by fd) choice of there = same_cred there
-  acted_cred is (Exit by) choice of there = absurd (let none = gone_by s.desks by pid is.pids of in let both : None ≡ Some q = sym none ∙ there in cc)
+  acted_cred is (Exit by) choice of there = absurd (let none = gone_by s.processes by pid is.pids of in let both : None ≡ Some q = sym none ∙ there in cc)
   acted_cred is (Spawn cred) choice of there = absurd of
   acted_cred is (Enter by directory second) choice of there = absurd of
   acted_cred is (Stamp n atime mtime ctime) choice of there = absurd of
@@ -56,10 +56,10 @@ module _ (pid : ℕ) (p q : Process) (s : State) (here : get nat_cmp s.desks pid
   acted_cred is (Restart bytes arm) choice of there = absurd of
 
   pub stepped_cred : IsState s → (e : Event) (choice : Choice) (reply : Reply) (s' : State) → IsOf pid e → StepBy choice s e reply s'
-      → get nat_cmp s'.desks pid ≡ Some q → q.cred ≡ p.cred
-  stepped_cred is e choice reply s' of (early on r a b c) there = same_cred (ap (λ u. get nat_cmp u.desks pid) (sym c) ∙ there)
-  stepped_cred is e choice reply s' of (late on r d a b c) there = same_cred (ap (λ u. get nat_cmp u.desks pid) (sym c) ∙ there)
-  stepped_cred is e choice reply s' of (done act b c) there = acted_cred is e choice of (ap (λ u. get nat_cmp u.desks pid) (sym c) ∙ there)
+      → get nat_cmp s'.processes pid ≡ Some q → q.cred ≡ p.cred
+  stepped_cred is e choice reply s' of (early on r a b c) there = same_cred (ap (λ u. get nat_cmp u.processes pid) (sym c) ∙ there)
+  stepped_cred is e choice reply s' of (late on r d a b c) there = same_cred (ap (λ u. get nat_cmp u.processes pid) (sym c) ∙ there)
+  stepped_cred is e choice reply s' of (done act b c) there = acted_cred is e choice of (ap (λ u. get nat_cmp u.processes pid) (sym c) ∙ there)
 
 -- ---- the events
 
@@ -71,11 +71,11 @@ rest_of_these pid e es ofs = All-tail (λ e. IsOf pid e.0 × IsEvent e.0) e es o
 
 -- ---- once the process is gone
 
-gone_firm : (pid : ℕ) (s : State) (e : Event) → IsOf pid e → get nat_cmp s.desks pid ≡ None → firm_refusal s e ≡ Some (Failed ESRCH)
+gone_firm : (pid : ℕ) (s : State) (e : Event) → IsOf pid e → get nat_cmp s.processes pid ≡ None → firm_refusal s e ≡ Some (Failed ESRCH)
 unfolding firm_refusal
-gone_firm pid s (Calls by call) of none = ap (demand_of _) (subst (λ q. get nat_cmp s.desks q ≡ None) (sym of) none)
-gone_firm pid s (Fsync by fd) of none = ap (demand_of _) (subst (λ q. get nat_cmp s.desks q ≡ None) (sym of) none)
-gone_firm pid s (Exit by) of none = ap (demand_of _) (subst (λ q. get nat_cmp s.desks q ≡ None) (sym of) none)
+gone_firm pid s (Calls by call) of none = ap (demand_of _) (subst (λ q. get nat_cmp s.processes q ≡ None) (sym of) none)
+gone_firm pid s (Fsync by fd) of none = ap (demand_of _) (subst (λ q. get nat_cmp s.processes q ≡ None) (sym of) none)
+gone_firm pid s (Exit by) of none = ap (demand_of _) (subst (λ q. get nat_cmp s.processes q ≡ None) (sym of) none)
 gone_firm pid s (Spawn cred) of none = absurd of
 gone_firm pid s (Enter by directory second) of none = absurd of
 gone_firm pid s (Stamp n atime mtime ctime) of none = absurd of
@@ -85,7 +85,7 @@ gone_firm pid s Statfs of none = absurd of
 gone_firm pid s (Arm k) of none = absurd of
 gone_firm pid s (Restart bytes arm) of none = absurd of
 
-gone_step : (pid : ℕ) (s s' : State) (e : Event) (choice : Choice) (reply : Reply) → IsOf pid e → get nat_cmp s.desks pid ≡ None
+gone_step : (pid : ℕ) (s s' : State) (e : Event) (choice : Choice) (reply : Reply) → IsOf pid e → get nat_cmp s.processes pid ≡ None
     → StepBy choice s e reply s' → (reply ≡ Refused (Failed ESRCH)) × (s' ≡ s)
 gone_step pid s s' e choice reply of none (early on r a b c) = (let firm = gone_firm pid s e of none in cc, c)
 gone_step pid s s' e choice reply of none (late on r d a b c) = absurd (let firm = gone_firm pid s e of none in cc)
@@ -97,7 +97,7 @@ gone_is_refused pid s s' [] (reply ∷ replies) none ofs run = absurd run
 gone_is_refused pid s s' (e ∷ es) [] none ofs run = absurd run
 gone_is_refused pid s s' (e ∷ es) (reply ∷ replies) none ofs run =
     let one = gone_step pid s run.0 e.0 e.1 reply (first_of_these pid e es ofs).0 none run.1 in
-    let none_then : get nat_cmp run.0.desks pid ≡ None = ap (λ u. get nat_cmp u.desks pid) one.1 ∙ none in
+    let none_then : get nat_cmp run.0.processes pid ≡ None = ap (λ u. get nat_cmp u.processes pid) one.1 ∙ none in
     let rest = gone_is_refused pid run.0 s' es replies none_then (rest_of_these pid e es ofs) run.2 in (
       ap (λ r. r ∷ replies) one.0 ∙ ap (λ rs. Refused (Failed ESRCH) ∷ rs) rest.0,
       rest.1 ∙ one.1,
@@ -129,17 +129,17 @@ none_alike pid s t s' t' alike e f =
     (subst (λ u. AnswerAlike {X = List Reply} pid [] [] s u) (sym f) (record { replies = refl; process = here_alike pid s t alike; alike = λ _. alike }))
 
 -- the rest, where the process is gone
-gone_alike : (pid : ℕ) (m n s' t' : State) (es : List (Event × Choice)) (rs rs' : List Reply) → get nat_cmp m.desks pid ≡ None → get nat_cmp n.desks pid ≡ None
+gone_alike : (pid : ℕ) (m n s' t' : State) (es : List (Event × Choice)) (rs rs' : List Reply) → get nat_cmp m.processes pid ≡ None → get nat_cmp n.processes pid ≡ None
     → AreOf pid es → RunBy m es rs s' → RunBy n es rs' t' → AnswerAlike pid rs rs' s' t'
 gone_alike pid m n s' t' es rs rs' here there ofs x y =
     let one = gone_is_refused pid m s' es rs here ofs x in
     let two = gone_is_refused pid n t' es rs' there ofs y in
-    let first : get nat_cmp s'.desks pid ≡ None = ap (λ u. get nat_cmp u.desks pid) one.1 ∙ here in
-    let second : get nat_cmp t'.desks pid ≡ None = ap (λ u. get nat_cmp u.desks pid) two.1 ∙ there in
+    let first : get nat_cmp s'.processes pid ≡ None = ap (λ u. get nat_cmp u.processes pid) one.1 ∙ here in
+    let second : get nat_cmp t'.processes pid ≡ None = ap (λ u. get nat_cmp u.processes pid) two.1 ∙ there in
     record {
       replies = one.0 ∙ sym two.0;
       process = first ∙ sym second;
-      alike = λ some. absurd (let k : is_some (get nat_cmp s'.desks pid) ≡ true = some in cc);
+      alike = λ some. absurd (let k : is_some (get nat_cmp s'.processes pid) ≡ true = some in cc);
     }
 
 -- one more reply
@@ -153,10 +153,10 @@ then_alike pid s' t' r r' rs rs' e is = record {
 -- one step, and the rest by induction where the process is there
 more_alike : (pid : ℕ) (m n s' t' : State) (es : List (Event × Choice)) (r r' : Reply) (rs rs' : List Reply) → AnswerAlike pid r r' m n → AreOf pid es
     → RunBy m es rs s' → RunBy n es rs' t'
-    → ((q : Process) → get nat_cmp m.desks pid ≡ Some q → AnswerAlike pid rs rs' s' t') → AnswerAlike pid (r ∷ rs) (r' ∷ rs') s' t'
-more_alike pid m n s' t' es r r' rs rs' one ofs x y on = then_alike pid s' t' r r' rs rs' one.replies (go (get nat_cmp m.desks pid) refl)
+    → ((q : Process) → get nat_cmp m.processes pid ≡ Some q → AnswerAlike pid rs rs' s' t') → AnswerAlike pid (r ∷ rs) (r' ∷ rs') s' t'
+more_alike pid m n s' t' es r r' rs rs' one ofs x y on = then_alike pid s' t' r r' rs rs' one.replies (go (get nat_cmp m.processes pid) refl)
   where
-    go : (o : Option Process) → get nat_cmp m.desks pid ≡ o → AnswerAlike pid rs rs' s' t'
+    go : (o : Option Process) → get nat_cmp m.processes pid ≡ o → AnswerAlike pid rs rs' s' t'
     go None at = gone_alike pid m n s' t' es rs rs' at (sym one.process ∙ at) ofs x y
     go (Some q) at = on q at
 

@@ -5,7 +5,7 @@ use Rattle.std.proofs.Common.{refl, sym, ap, ◌∙◌}
 use Rattle.std.specs.Ordering.{nat_cmp}
 use Rattle.fs_model.specs.declared.call.Call.{Call}
 use Rattle.fs_layout.specs.Maps.{get, with_entry}
-use Rattle.fs_model.specs.Processes.{Process, Desks}
+use Rattle.fs_model.specs.Processes.{Process, ProcessTable}
 use Rattle.fs_model.specs.TreeChanges.{changed, touches, touched, swept}
 use Rattle.fs_model.specs.States.{State, IsState}
 use Rattle.fs_model.specs.Alike.{tree_seen, seen_by, AreAlike}
@@ -38,37 +38,37 @@ module _ (pid : ℕ) (p : Process) (row : Row) (number free : ℕ) where
   left_seen : (u : State) → IsConfinedAt u → seen_by (Some (effect_in u).process) (left_by (seen_by (Some p) u)) ≡ seen_by (Some (effect_in u).process) (left_by u)
   left_seen u is =
       let q = (effect_in u).process in
-      let desks = with_entry nat_cmp u.desks pid q in
+      let processes = with_entry nat_cmp u.processes pid q in
       let e = effect_in (seen_by (Some p) u) in
-      ap (λ r. record u { tree = tree_seen q (tree_after (seen_by (Some p) u) (record { change = e.change; desks = with_entry nat_cmp u.desks pid r; reply = e.reply; now = u.now })); desks = with_entry nat_cmp u.desks pid r; free = free }) is.process
-      ∙ ap (λ t. record u { tree = t; desks = desks; free = free })
-      (seen-touched q u.now (touches u.room (tree_seen p u.tree) e.change) (swept (changed (tree_seen p u.tree) e.change) desks)
+      ap (λ r. record u { tree = tree_seen q (tree_after (seen_by (Some p) u) (record { change = e.change; processes = with_entry nat_cmp u.processes pid r; reply = e.reply; now = u.now })); processes = with_entry nat_cmp u.processes pid r; free = free }) is.process
+      ∙ ap (λ t. record u { tree = t; processes = processes; free = free })
+      (seen-touched q u.now (touches u.room (tree_seen p u.tree) e.change) (swept (changed (tree_seen p u.tree) e.change) processes)
       ∙ ap (touched u.now (touches u.room (tree_seen p u.tree) e.change))
-      (sym (swept-seen q (changed (tree_seen p u.tree) e.change) desks) ∙ ap (λ t. swept t desks) is.tree ∙ swept-seen q (changed u.tree (effect_in u).change) desks)
-      ∙ ap (λ es. touched u.now es (tree_seen q (swept (changed u.tree (effect_in u).change) desks))) is.moved
-      ∙ sym (seen-touched q u.now (touches u.room u.tree (effect_in u).change) (swept (changed u.tree (effect_in u).change) desks)))
+      (sym (swept-seen q (changed (tree_seen p u.tree) e.change) processes) ∙ ap (λ t. swept t processes) is.tree ∙ swept-seen q (changed u.tree (effect_in u).change) processes)
+      ∙ ap (λ es. touched u.now es (tree_seen q (swept (changed u.tree (effect_in u).change) processes))) is.moved
+      ∙ sym (seen-touched q u.now (touches u.room u.tree (effect_in u).change) (swept (changed u.tree (effect_in u).change) processes)))
 
   pub same_left : (s t : State) → seen_by (Some p) s ≡ seen_by (Some p) t → IsConfinedAt s → IsConfinedAt t
       → seen_by (Some (effect_in s).process) (left_by s) ≡ seen_by (Some (effect_in t).process) (left_by t)
   same_left s t same is js =
-      let processes : (effect_in s).process ≡ (effect_in t).process = sym is.process ∙ ap (λ u. (effect_in u).process) same ∙ js.process in
+      let each_process : (effect_in s).process ≡ (effect_in t).process = sym is.process ∙ ap (λ u. (effect_in u).process) same ∙ js.process in
       sym (left_seen s is)
-      ∙ ap (λ q. seen_by (Some q) (left_by (seen_by (Some p) s))) processes
+      ∙ ap (λ q. seen_by (Some q) (left_by (seen_by (Some p) s))) each_process
       ∙ ap (λ u. seen_by (Some (effect_in t).process) (left_by u)) same
       ∙ left_seen t js
 
   pub same_reply : (s t : State) → seen_by (Some p) s ≡ seen_by (Some p) t → IsConfinedAt s → IsConfinedAt t → (effect_in s).reply ≡ (effect_in t).reply
   same_reply s t same is js = sym is.reply ∙ ap (λ u. (effect_in u).reply) same ∙ js.reply
 
-  pub here_after : (desks : Desks) (q : Process) → get nat_cmp (with_entry nat_cmp desks pid q) pid ≡ Some q
-  here_after desks q = get-with_entry desks pid q pid ∙ ap (λ b. cond b (Some q) (get nat_cmp desks pid)) (ties pid pid refl)
+  pub here_after : (processes : ProcessTable) (q : Process) → get nat_cmp (with_entry nat_cmp processes pid q) pid ≡ Some q
+  here_after processes q = get-with_entry processes pid q pid ∙ ap (λ b. cond b (Some q) (get nat_cmp processes pid)) (ties pid pid refl)
 
   pub same_process : (s t : State) → seen_by (Some p) s ≡ seen_by (Some p) t → IsConfinedAt s → IsConfinedAt t
-      → get nat_cmp (left_by s).desks pid ≡ get nat_cmp (left_by t).desks pid
+      → get nat_cmp (left_by s).processes pid ≡ get nat_cmp (left_by t).processes pid
   same_process s t same is js =
-      here_after s.desks (effect_in s).process
+      here_after s.processes (effect_in s).process
       ∙ ap Some (sym is.process ∙ ap (λ u. (effect_in u).process) same ∙ js.process)
-      ∙ sym (here_after t.desks (effect_in t).process)
+      ∙ sym (here_after t.processes (effect_in t).process)
 
   pub left_alike : (s t : State) → IsFalse s.halted → IsFalse t.halted → seen_by (Some p) s ≡ seen_by (Some p) t → IsConfinedAt s → IsConfinedAt t
       → AreAlike pid (left_by s) (left_by t)
@@ -76,31 +76,31 @@ module _ (pid : ℕ) (p : Process) (row : Row) (number free : ℕ) where
     first_runs = first;
     second_runs = second;
     same =
-        ap (λ o. seen_by o (left_by s)) (here_after s.desks (effect_in s).process)
+        ap (λ o. seen_by o (left_by s)) (here_after s.processes (effect_in s).process)
         ∙ same_left s t same is js
-        ∙ ap (λ o. seen_by o (left_by t)) (sym (here_after t.desks (effect_in t).process));
+        ∙ ap (λ o. seen_by o (left_by t)) (sym (here_after t.processes (effect_in t).process));
   }
 
 -- a call is confined in each state in which it isn't refused
 abbrev pub Confines : Call → Type 0
 Confines call =
-    (u : State) (pid : ℕ) (p : Process) (number free : ℕ) → IsState u → IsFalse u.halted → get nat_cmp u.desks pid ≡ Some p
+    (u : State) (pid : ℕ) (p : Process) (number free : ℕ) → IsState u → IsFalse u.halted → get nat_cmp u.processes pid ≡ Some p
     → IsConfined p.cred → IsCall call → early_refusal p (row_of call) ≡ None → late_refusal u p (row_of call) ≡ None
     → HasNewNumber u (effect_in pid p (row_of call) number free u).change → IsConfinedAt pid p (row_of call) number free u
 
 -- ---- states that are alike
 
-desks_seen : (o : Option Process) (s : State) → (seen_by o s).desks ≡ s.desks
-desks_seen None s = refl
-desks_seen (Some p) s = refl
+processes_seen : (o : Option Process) (s : State) → (seen_by o s).processes ≡ s.processes
+processes_seen None s = refl
+processes_seen (Some p) s = refl
 
-pub same_desks : (pid : ℕ) (s t : State) → AreAlike pid s t → s.desks ≡ t.desks
-same_desks pid s t is = sym (desks_seen (get nat_cmp s.desks pid) s) ∙ ap (λ u. u.desks) is.same ∙ desks_seen (get nat_cmp t.desks pid) t
+pub same_processes : (pid : ℕ) (s t : State) → AreAlike pid s t → s.processes ≡ t.processes
+same_processes pid s t is = sym (processes_seen (get nat_cmp s.processes pid) s) ∙ ap (λ u. u.processes) is.same ∙ processes_seen (get nat_cmp t.processes pid) t
 
-pub here_alike : (pid : ℕ) (s t : State) → AreAlike pid s t → get nat_cmp s.desks pid ≡ get nat_cmp t.desks pid
-here_alike pid s t is = ap (λ desks. get nat_cmp desks pid) (same_desks pid s t is)
+pub here_alike : (pid : ℕ) (s t : State) → AreAlike pid s t → get nat_cmp s.processes pid ≡ get nat_cmp t.processes pid
+here_alike pid s t is = ap (λ processes. get nat_cmp processes pid) (same_processes pid s t is)
 
-pub same_seen : (pid : ℕ) (p : Process) (s t : State) → AreAlike pid s t → get nat_cmp s.desks pid ≡ Some p → seen_by (Some p) s ≡ seen_by (Some p) t
+pub same_seen : (pid : ℕ) (p : Process) (s t : State) → AreAlike pid s t → get nat_cmp s.processes pid ≡ Some p → seen_by (Some p) s ≡ seen_by (Some p) t
 same_seen pid p s t is here =
     ap (λ o. seen_by o s) (sym here) ∙ is.same
-    ∙ ap (λ desks. seen_by (get nat_cmp desks pid) t) (sym (same_desks pid s t is)) ∙ ap (λ o. seen_by o t) here
+    ∙ ap (λ processes. seen_by (get nat_cmp processes pid) t) (sym (same_processes pid s t is)) ∙ ap (λ o. seen_by o t) here

@@ -85,7 +85,7 @@ pub record IsLawful (call : Call) : Type 0 where
   -- what it asks depends on no byte of a file
   pub asks : (c : Scene) → (row_of call).demands (veiled_scene c) ≡ (row_of call).demands c
   -- what it leaves may be left
-  pub leaves : (c : Scene) (is : IsScene c) (pid : ℕ) (here : get nat_cmp c.state.desks pid ≡ Some c.process) (new : ℕ) → IsUnrefused c call
+  pub leaves : (c : Scene) (is : IsScene c) (pid : ℕ) (here : get nat_cmp c.state.processes pid ≡ Some c.process) (new : ℕ) → IsUnrefused c call
       → HasNewNumber c.state ((row_of call).effect c new).change → Leaves c is pid here ((row_of call).effect c new)
   -- the process keeps its credential
   pub keeps : (c : Scene) (new : ℕ) → ((row_of call).effect c new).process.cred ≡ c.process.cred

@@ -3,15 +3,15 @@ use Rattle.std.specs.Prelude.{◌≡◌, ℕ, ◌+◌, ◌-◌, ◌<◌, ◌≤�
 use Rattle.std.proofs.Common.{refl, sym, ap, arith, ◌∙◌, subst, inl, inr}
 use Rattle.std.proofs.lemmas.Bool.{cases_eq, cases_lt}
 use Rattle.fs_layout.specs.declared.superblock.Super.{Super}
-use Rattle.fs_layout.specs.declared.place.Place.{Place}
+use Rattle.fs_layout.specs.declared.geometry.Geometry.{Geometry}
 use Rattle.fs_layout.specs.Bytes.{SectorMap}
-use Rattle.fs_layout.specs.Place.{place_in}
+use Rattle.fs_layout.specs.Geometry.{geometry_in}
 use Rattle.fs_layout.specs.Superblock.{super_of}
 use Rattle.fs_layout.specs.Recovered.{recovered}
 use Rattle.fs_layout.proofs.Codecs.{same_ok}
 use Rattle.fs_model.specs.Trees.{Tree, Room}
 use Rattle.fs_model.specs.Stands.{Stands}
-use Rattle.fs_model.specs.Rules.{IsPlaceOf, ImageRule, InodeBits, Inodes, InData, OwnedOnce, BlockBits, LaidOut, Acls, Slots, NamesApart, Names, Parents, Ways, rule_number, ObeysEach, ObeysBefore, ObeysAll, IsLeastFailure, IsFinding, no_place, no_commit, fails}
+use Rattle.fs_model.specs.Rules.{IsGeometryOf, ImageRule, InodeBits, Inodes, InData, OwnedOnce, BlockBits, LaidOut, Acls, Slots, NamesApart, Names, Parents, Ways, rule_number, ObeysEach, ObeysBefore, ObeysAll, IsLeastFailure, IsFinding, no_geometry, no_commit, fails}
 use Rattle.fs_model.proofs.RulesLaw.{obeys_all}
 
 -- ---- the order of the rules
@@ -68,7 +68,7 @@ to_fourteen Names = omega arith
 to_fourteen Parents = omega arith
 to_fourteen Ways = omega arith
 
-module _ (p : Place) (m : SectorMap) where
+module _ (p : Geometry) (m : SectorMap) where
   -- before the first there is none
   pub none_before : ObeysBefore p m 3
   none_before r lt = absurd (omega (arith, lt, from_three r))
@@ -86,13 +86,13 @@ module _ (p : Place) (m : SectorMap) where
 
 -- ---- one finding
 
-same_place : (sectors : ℕ) (image : SectorMap) (p q : Place) → IsPlaceOf sectors image p → IsPlaceOf sectors image q → p ≡ q
-same_place sectors image p q x y =
+same_geometry : (sectors : ℕ) (image : SectorMap) (p q : Geometry) → IsGeometryOf sectors image p → IsGeometryOf sectors image q → p ≡ q
+same_geometry sectors image p q x y =
     let super : x.super ≡ y.super = same_ok x.super y.super (super_of (image 0)) x.super_is y.super_is in
-    let place : Some p ≡ Some q = sym x.has_place ∙ ap (λ (s : Super). place_in s.version s.header sectors s.inodes) super ∙ y.has_place in
+    let geometry : Some p ≡ Some q = sym x.has_geometry ∙ ap (λ (s : Super). geometry_in s.version s.header sectors s.inodes) super ∙ y.has_geometry in
     cc
 
-least_is_one : (p : Place) (m : SectorMap) (r : ImageRule) (i j : ℕ) → IsLeastFailure p m r i → IsLeastFailure p m r j → i ≡ j
+least_is_one : (p : Geometry) (m : SectorMap) (r : ImageRule) (i j : ℕ) → IsLeastFailure p m r i → IsLeastFailure p m r j → i ≡ j
 least_is_one p m r i j x y = elim (cases_lt i j) [
   | inl lt ↦ absurd (x.fails (y.least i lt))
   | inr ge ↦ elim (cases_lt j i) [
@@ -101,7 +101,7 @@ least_is_one p m r i j x y = elim (cases_lt i j) [
   ]
 ]
 
-first_is_one : (p : Place) (m : SectorMap) (r q : ImageRule) (i j : ℕ) → ObeysBefore p m (rule_number r) → ObeysBefore p m (rule_number q)
+first_is_one : (p : Geometry) (m : SectorMap) (r q : ImageRule) (i j : ℕ) → ObeysBefore p m (rule_number r) → ObeysBefore p m (rule_number q)
     → IsLeastFailure p m r i → IsLeastFailure p m q j → r ≡ q
 first_is_one p m r q i j a b x y = elim (cases_lt (rule_number r) (rule_number q)) [
   | inl lt ↦ absurd (x.fails (b r lt i))
@@ -112,17 +112,17 @@ first_is_one p m r q i j a b x y = elim (cases_lt (rule_number r) (rule_number q
 ]
 
 pub one_finding : (sectors : ℕ) (image : SectorMap) (k l i j : ℕ) → IsFinding sectors image k i → IsFinding sectors image l j → (k ≡ l) × (i ≡ j)
-one_finding sectors image k l i j (no_place x) (no_place y) = (refl, refl)
-one_finding sectors image k l i j (no_place x) (no_commit p y) = absurd (x p)
-one_finding sectors image k l i j (no_place x) (fails p r at is c b f) = absurd (x (record { place = p; is = is }))
-one_finding sectors image k l i j (no_commit p x) (no_place y) = absurd (y p)
+one_finding sectors image k l i j (no_geometry x) (no_geometry y) = (refl, refl)
+one_finding sectors image k l i j (no_geometry x) (no_commit p y) = absurd (x p)
+one_finding sectors image k l i j (no_geometry x) (fails p r at is c b f) = absurd (x (record { geometry = p; is = is }))
+one_finding sectors image k l i j (no_commit p x) (no_geometry y) = absurd (y p)
 one_finding sectors image k l i j (no_commit p x) (no_commit q y) = (refl, refl)
 one_finding sectors image k l i j (no_commit p x) (fails q r at is c b f) = absurd (x c)
-one_finding sectors image k l i j (fails p r at is c b f) (no_place y) = absurd (y (record { place = p; is = is }))
+one_finding sectors image k l i j (fails p r at is c b f) (no_geometry y) = absurd (y (record { geometry = p; is = is }))
 one_finding sectors image k l i j (fails p r at is c b f) (no_commit q y) = absurd (y c)
 one_finding sectors image k l i j (fails p r at is c b f) (fails q s to js d e g) =
     let m = recovered sectors image in
-    let same : q ≡ p = same_place sectors image q p js is in
+    let same : q ≡ p = same_geometry sectors image q p js is in
     let e' = subst (λ x. ObeysBefore x m (rule_number s)) same e in
     let g' = subst (λ x. IsLeastFailure x m s to) same g in
     let rules : r ≡ s = first_is_one p m r s at to b e' f g' in
@@ -130,10 +130,10 @@ one_finding sectors image k l i j (fails p r at is c b f) (fails q s to js d e g
 
 -- an image that obeys all rules has none
 no_finding : (sectors : ℕ) (image : SectorMap) (k i : ℕ) → IsFinding sectors image k i → ObeysAll sectors image → ⊥
-no_finding sectors image k i (no_place x) o = x (record { place = o.place; is = o.is_place })
+no_finding sectors image k i (no_geometry x) o = x (record { geometry = o.geometry; is = o.is_geometry })
 no_finding sectors image k i (no_commit p x) o = x o.commit
 no_finding sectors image k i (fails p r at is c b f) o =
-    let same = same_place sectors image o.place p o.is_place is in
+    let same = same_geometry sectors image o.geometry p o.is_geometry is in
     f.fails (subst (λ q. ObeysEach q (recovered sectors image) r) same (o.rules r) at)
 
 pub finding_refuses : (sectors : ℕ) (image : SectorMap) (k i : ℕ) (room : Room) (t : Tree) (free : ℕ) → IsFinding sectors image k i

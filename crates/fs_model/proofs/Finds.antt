@@ -5,7 +5,7 @@ use Rattle.std.proofs.lemmas.Bool.{cases_eq}
 use Rattle.std.specs.Ordering.{nat_cmp}
 use Rattle.fs_model.specs.Limits.{root, links_limit}
 use Rattle.fs_layout.specs.Maps.{get, name_cmp, IsMap}
-use Rattle.fs_model.specs.Nodes.{Node, Body, File, Dir, Link, names_in}
+use Rattle.fs_model.specs.Nodes.{Node, Body, File, Dir, Link, names_of_body}
 use Rattle.fs_model.specs.Trees.{Tree, Room, node_at, names_for, parent, IsTree, IsBody}
 use Rattle.fs_model.specs.Parts.{Parts, parts_of, start_of}
 use Rattle.fs_model.specs.declared.walk.Form.{Form}
@@ -49,16 +49,16 @@ module _ (room : Room) (t : Tree) (is : IsTree room t) where
       go false = there
 
   -- a name in a directory leads to something
-  entry_there : (b : Body) (name : List ℕ) (n : ℕ) → IsBody room t b → get name_cmp (names_in b) name ≡ Some n → IsThere t n
+  entry_there : (b : Body) (name : List ℕ) (n : ℕ) → IsBody room t b → get name_cmp (names_of_body b) name ≡ Some n → IsThere t n
   entry_there (File a bytes) name n h e = absurd cc
   entry_there (Dir a d) name n h e = (h.2.each name n e).leads.1
   entry_there (Link target) name n h e = absurd cc
 
   pub number_there : (dir : ℕ) (node : Node) (name : List ℕ) (n : ℕ) → node_at t dir ≡ Some node
-      → named_inode t dir (names_in node.body) name ≡ Some n → IsThere t n
+      → named_inode t dir (names_of_body node.body) name ≡ Some n → IsThere t n
   number_there dir node name n at e = go (is_dot name) (is_dot_dot name) e
     where
-      go : (dot dots : Bool) → cond dot (Some dir) (cond dots (Some (parent t dir)) (get name_cmp (names_in node.body) name)) ≡ Some n → IsThere t n
+      go : (dot dots : Bool) → cond dot (Some dir) (cond dots (Some (parent t dir)) (get name_cmp (names_of_body node.body) name)) ≡ Some n → IsThere t n
       go true dots f = let same : dir ≡ n = cc in subst (IsThere t) same (ap is_some at)
       go false true f = let same : parent t dir ≡ n = cc in subst (IsThere t) same (parent_there dir)
       go false false f = entry_there node.body name n (is.each dir node at).body f
@@ -88,7 +88,7 @@ module _ (room : Room) (t : Tree) (is : IsTree room t) where
   pub lookup_reached : (is_last follow : Bool) (dir : ℕ) (name : List ℕ) (o : Option Node) → node_at t dir ≡ o
       → Reached (looked_up room t is_last follow dir name o)
   lookup_reached is_last follow dir name o at = looked_up_is Reached room t is_last follow dir name o tt tt (λ node e.
-      arrival_reached is_last follow (named_inode t dir (names_in node.body) name) (λ n f. number_there dir node name n (at ∙ e) f))
+      arrival_reached is_last follow (named_inode t dir (names_of_body node.body) name) (λ n f. number_there dir node name n (at ∙ e) f))
 
   -- what the trail found is there
   pub finds_are_there : (cwd : ℕ) (form : Form) (path : List ℕ) → IsThere t cwd → (n : ℕ) → (trail_of room t cwd form path).found ≡ Some n → IsThere t n

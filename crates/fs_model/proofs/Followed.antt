@@ -2,7 +2,7 @@
 use Rattle.std.specs.Prelude.{◌≡◌, ℕ, Bool, true, false, cond, List, Option, None, Some}
 use Rattle.std.proofs.Common.{refl, sym, ap, ◌∙◌}
 use Rattle.fs_model.specs.Limits.{root, links_limit}
-use Rattle.fs_model.specs.Nodes.{Node, Body, File, Dir, Link, is_directory, is_link, names_in}
+use Rattle.fs_model.specs.Nodes.{Node, Body, File, Dir, Link, is_directory, is_link, names_of_body}
 use Rattle.fs_model.specs.Trees.{Tree, Room, node_at, IsTree, IsDirectoryAt}
 use Rattle.fs_model.specs.Parts.{Parts, parts_of, start_of}
 use Rattle.fs_model.specs.declared.walk.Form.TheVariants.{Follow}
@@ -57,7 +57,7 @@ module _ (room : Room) (t : Tree) (is : IsTree room t) where
 
   lookup_reached : (is_last : Bool) (dir : ℕ) (name : List ℕ) (o : Option Node) → Reached (looked_up room t is_last true dir name o)
   lookup_reached is_last dir name o =
-      looked_up_is Reached room t is_last true dir name o tt tt (λ node e. arrival_reached is_last (named_inode t dir (names_in node.body) name))
+      looked_up_is Reached room t is_last true dir name o tt tt (λ node e. arrival_reached is_last (named_inode t dir (names_of_body node.body) name))
 
   pub followed_no_link : (cwd : ℕ) (path : List ℕ) → IsDirectoryAt t cwd → (n : ℕ) → (trail_of room t cwd Follow path).found ≡ Some n → NoLink t n
   unfolding trail_of

@@ -5,7 +5,7 @@ use Rattle.std.proofs.lemmas.Bool.{cases_eq}
 use Rattle.std.specs.Option.{option_map}
 use Rattle.std.specs.Ordering.{nat_cmp}
 use Rattle.fs_layout.specs.declared.inode.Inode.{Inode}
-use Rattle.fs_layout.specs.declared.place.Place.{Place}
+use Rattle.fs_layout.specs.declared.geometry.Geometry.{Geometry}
 use Rattle.fs_layout.specs.Bytes.{SectorMap}
 use Rattle.fs_layout.specs.Inode.{FitsInode}
 use Rattle.fs_layout.specs.Images.{inode_map_bits, bit, inode_at}
@@ -14,7 +14,7 @@ use Rattle.fs_layout.specs.InodeChanges.{ChangesBlocks, ChangesInode, Saves}
 use Rattle.fs_layout.proofs.Agree.{agree_consistent, agree_inode, agree_inode_bit, agree_keeps}
 use Rattle.fs_layout.proofs.Consistent.{stays_consistent, other_inode, other_keeps, saved_stays_consistent}
 use Rattle.fs_layout.specs.Maps.{IsMap}
-use Rattle.fs_model.specs.Nodes.{Node, names_in}
+use Rattle.fs_model.specs.Nodes.{Node, names_of_body}
 use Rattle.fs_model.specs.Trees.{Tree, node_at, with_node, names_of, parent}
 use Rattle.fs_model.specs.StoredNodes.{Placed, HoldsNode}
 use Rattle.fs_model.specs.Stands.{HoldsPlaced, HoldsAll, placed}
@@ -24,7 +24,7 @@ use Rattle.fs_layout.proofs.MapLaws.{get-with_entry}
 use Rattle.fs_model.proofs.Rewrites.{names_of-rewritten, parent-rewritten}
 use Rattle.fs_model.proofs.Kept.{node_kept, placed_kept}
 
-pub one_node_changes : (p : Place) (n : ℕ) (old new : SectorMap) (what then : ℕ → Option Placed) → HoldsAll p old what
+pub one_node_changes : (p : Geometry) (n : ℕ) (old new : SectorMap) (what then : ℕ → Option Placed) → HoldsAll p old what
     → ChangesInode p n old new → OneIsPlaced p n new what then → HoldsAll p new then
 one_node_changes p n old new what then h c is = record {
   consistent = stays_consistent h.consistent is.below c;
@@ -40,7 +40,7 @@ one_node_changes p n old new what then h c is = record {
 }
 
 -- What is held rests on the tables and on the data sectors that are used.
-pub agreed : (p : Place) (old new : SectorMap) (what : ℕ → Option Placed) → HoldsAll p old what → Agrees p old new → HoldsAll p new what
+pub agreed : (p : Geometry) (old new : SectorMap) (what : ℕ → Option Placed) → HoldsAll p old what → Agrees p old new → HoldsAll p new what
 agreed p old new what h same = record {
   consistent = agree_consistent h.consistent same;
   nodes = λ n lt. placed_kept p.version (what n) old new (inode_at p old n) (inode_at p new n) (agree_inode h.consistent same n lt) (agree_keeps h.consistent same n lt) (h.nodes n lt);
@@ -48,14 +48,14 @@ agreed p old new what h same = record {
 }
 
 -- Inode n changes its blocks, is saved as w, and holds node y then, where it held a node before: all else stands.
-pub saved_node : (p : Place) (n : ℕ) (old mid new : SectorMap) (what then : ℕ → Option Placed) (w : Inode) (x y : Placed)
+pub saved_node : (p : Geometry) (n : ℕ) (old mid new : SectorMap) (what then : ℕ → Option Placed) (w : Inode) (x y : Placed)
     → HoldsAll p old what → n < p.inodes → what n ≡ Some x → then n ≡ Some y → ((m : ℕ) → m ≢ n → then m ≡ what m)
     → ChangesBlocks p (inode_at p old n) w old mid → HoldsNode p.version mid w y → FitsInode w → Saves p n w mid new → HoldsAll p new then
 saved_node p n old mid new what then w x y h lt was now others blocks holds fits saves =
     let saved = (saved_stays_consistent h.consistent lt refl fits blocks saves).1 in
     let here : HoldsNode p.version new (inode_at p new n) y =
     subst (λ u. HoldsNode p.version new u y) (sym saved.is) (node_kept p.version mid new w y saved.keeps holds) in
-    let few : n < inode_map_bits p = let bits = h.consistent.place.inode_bits in omega (arith, lt, bits) in
+    let few : n < inode_map_bits p = let bits = h.consistent.geometry.inode_bits in omega (arith, lt, bits) in
     let both : is_some (what n) ≡ is_some (then n) = ap is_some was ∙ sym (ap is_some now) in
     one_node_changes p n old new what then h saved.changes (record {
       below = lt;
@@ -65,7 +65,7 @@ saved_node p n old mid new what then w x y h lt was now others blocks holds fits
     })
 
 -- A node of a tree is rewritten, its names staying: each other number is to hold what it held.
-pub placed_elsewhere : (t : Tree) (n : ℕ) (old new : Node) → IsMap nat_cmp t → node_at t n ≡ Some old → names_in new.body ≡ names_in old.body
+pub placed_elsewhere : (t : Tree) (n : ℕ) (old new : Node) → IsMap nat_cmp t → node_at t n ≡ Some old → names_of_body new.body ≡ names_of_body old.body
     → (m : ℕ) → m ≢ n → placed (with_node t n new) m ≡ placed t m
 placed_elsewhere t n old new sorted was names m ne =
     let at : node_at (with_node t n new) m ≡ node_at t m = get-with_entry t n new m ∙ ap (λ b. cond b (Some new) (node_at t m)) (apart m n ne) in

@@ -5,7 +5,7 @@ use Rattle.std.specs.List.{range_with_len}
 use Rattle.std.specs.Option.{option_map}
 use Rattle.std.proofs.lemmas.Bool.{ne_eqb}
 use Rattle.std.proofs.lemmas.Bool.Decides.{nat_tests}
-use Rattle.fs_layout.specs.declared.place.Place.{Place}
+use Rattle.fs_layout.specs.declared.geometry.Geometry.{Geometry}
 use Rattle.fs_layout.specs.Bytes.{SectorMap}
 use Rattle.fs_layout.specs.Images.{inode_map_bits, bit}
 use Rattle.fs_model.specs.Nodes.{Node}
@@ -34,7 +34,7 @@ is_some_map : {X Y : Type 0} (f : X → Y) (o : Option X) → is_some (option_ma
 is_some_map f None = refl
 is_some_map f (Some x) = refl
 
-module _ (p : Place) (image : SectorMap) (t : Tree) (held : HoldsAll p image (placed t)) (is : IsTree (room_of p) t) where
+module _ (p : Geometry) (image : SectorMap) (t : Tree) (held : HoldsAll p image (placed t)) (is : IsTree (room_of p) t) where
   used : ℕ → Bool
   used n = is_some (node_at t n)
 
@@ -42,7 +42,7 @@ module _ (p : Place) (image : SectorMap) (t : Tree) (held : HoldsAll p image (pl
   clear n = not (bit image p.inode_bitmap n)
 
   few : (n : ℕ) → n < p.inodes → n < inode_map_bits p
-  few n lt = let bits = held.consistent.place.inode_bits in omega (arith, lt, bits)
+  few n lt = let bits = held.consistent.geometry.inode_bits in omega (arith, lt, bits)
 
   bit_is : (n : ℕ) → n < p.inodes → bit image p.inode_bitmap n ≡ (nat_eq n 0 || nat_le p.inodes n || used n)
   unfolding used
@@ -91,4 +91,4 @@ module _ (p : Place) (image : SectorMap) (t : Tree) (held : HoldsAll p image (pl
 
   pub free_are_clear : free_inodes (room_of p) t ≡ count_by (λ n. not (bit image p.inode_bitmap n)) (range_with_len 0 p.inodes)
   unfolding clear
-  free_are_clear = let least = held.consistent.place.least_inodes in all_but_zero (p.inodes - 1) (omega (arith, least))
+  free_are_clear = let least = held.consistent.geometry.least_inodes in all_but_zero (p.inodes - 1) (omega (arith, least))

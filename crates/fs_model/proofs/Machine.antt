@@ -36,14 +36,14 @@ abbrev pub fresh : State
 fresh = record {
   room = room_with One 64 878;
   tree = empty_tree;
-  desks = [];
+  processes = [];
   free = 878;
   now = 0;
   halted = false;
 }
 
 abbrev pub least_choice : State → Choice
-least_choice s = record { number = least_unused 1 s.tree; pid = least_unused 1 s.desks; free = 0 }
+least_choice s = record { number = least_unused 1 s.tree; pid = least_unused 1 s.processes; free = 0 }
 
 abbrev pub filled : State → State
 filled s = record s { free = s.room.sectors - sectors_needed s.room s.tree }

@@ -8,12 +8,12 @@ use Rattle.std.proofs.lemmas.List.Elements.{All-nil}
 use Rattle.std.specs.Ordering.{nat_cmp, is_eq}
 use Rattle.posix_acl.specs.AccessList.{minimal}
 use Rattle.posix_acl.proofs.Laws.{minimal_valid}
-use Rattle.fs_layout.specs.declared.place.Place.{Place}
+use Rattle.fs_layout.specs.declared.geometry.Geometry.{Geometry}
 use Rattle.fs_layout.specs.Bytes.{SectorMap}
 use Rattle.fs_layout.specs.Inode.{FitsInode, free_inode, inode_of}
 use Rattle.fs_layout.specs.declared.version.Version.{Version}
 use Rattle.fs_layout.specs.declared.version.Version.TheVariants.{One, Two, Three}
-use Rattle.fs_layout.specs.Place.{IsPlace, place_in, new_header, super_for}
+use Rattle.fs_layout.specs.Geometry.{IsGeometry, geometry_in, new_header, super_for}
 use Rattle.fs_layout.specs.Superblock.{numbers_end}
 use Rattle.std.specs.Option.{option_map}
 use Rattle.fs_layout.specs.Images.{IsData, bit, inode_at, stored, free_sectors}
@@ -22,7 +22,7 @@ use Rattle.fs_layout.specs.Recovered.{recovered}
 use Rattle.fs_layout.proofs.Bits.{has_bit, set_or_clear, free_sectors_all}
 use Rattle.fs_layout.proofs.Free.{HasNoSector, owns_nothing, holds_nothing, free_has_no_sector, free_fits, consistent_without_owners}
 use Rattle.fs_layout.proofs.UsedInodes.{made_fits}
-use Rattle.fs_layout.proofs.Places.{numbers_most, place_is_laid_out, place_is_place}
+use Rattle.fs_layout.proofs.Places.{numbers_most, geometry_is_laid_out, is_a_geometry}
 use Rattle.fs_layout.proofs.RecoveryLaw.{idle_commit, recovered-idle}
 use Rattle.fs_layout.proofs.Saves.{inode_there, valid_there}
 use Rattle.fs_model.specs.Limits.{root}
@@ -93,12 +93,12 @@ without_header One sectors inodes e = refl
 without_header Two sectors inodes e = refl
 without_header Three sectors inodes e = absurd (omega (arith, e))
 
-module _ (p : Place) (image : SectorMap) (h : IsNewImage p image) where
-  place : IsPlace p
-  place = place_is_place p.version (new_header p.version p.sectors p.inodes) p.sectors p.inodes h.has_place
+module _ (p : Geometry) (image : SectorMap) (h : IsNewImage p image) where
+  geometry : IsGeometry p
+  geometry = is_a_geometry p.version (new_header p.version p.sectors p.inodes) p.sectors p.inodes h.has_geometry
 
   few : root < p.inodes
-  few = let many = place.least_inodes in omega (arith, many)
+  few = let many = geometry.least_inodes in omega (arith, many)
 
   the_root : inode_at p image root ≡ root_inode
   the_root = inode_there p image root root_inode root_fits h.root_is
@@ -119,7 +119,7 @@ module _ (p : Place) (image : SectorMap) (h : IsNewImage p image) where
   ]
 
   consistent : IsConsistent p image
-  consistent = consistent_without_owners p image place h.tables valid (λ n s lt o. owns_nothing image (inode_at p image n) s (no_sector n lt) o) h.block_bits
+  consistent = consistent_without_owners p image geometry h.tables valid (λ n s lt o. owns_nothing image (inode_at p image n) s (no_sector n lt) o) h.block_bits
 
   root_held : HoldsNode p.version image root_inode (record { node = root_node; names = 0; parent = root })
   unfolding names_of_slots
@@ -159,7 +159,7 @@ module _ (p : Place) (image : SectorMap) (h : IsNewImage p image) where
 
   clear : (s : ℕ) → IsData p s → bit image p.block_bitmap s ≡ false
   clear s at = elim (set_or_clear (bit image p.block_bitmap s)) [
-    | inl set ↦ elim ((h.block_bits s (has_bit place s at.1)).0 set) [
+    | inl set ↦ elim ((h.block_bits s (has_bit geometry s at.1)).0 set) [
       | inl low ↦ absurd (let from = at.0 in omega (arith, from, low))
       | inr past ↦ absurd (let to = at.1 in omega (arith, to, past))
     ]
@@ -167,37 +167,37 @@ module _ (p : Place) (image : SectorMap) (h : IsNewImage p image) where
   ]
 
   small : p.sectors < 2 ^ 32
-  small = let most = numbers_most place in omega (arith, most.0)
+  small = let most = numbers_most geometry in omega (arith, most.0)
 
   inodes_small : p.inodes < 2 ^ 32
-  inodes_small = let most = numbers_most place in omega (arith, most.1)
+  inodes_small = let most = numbers_most geometry in omega (arith, most.1)
 
   idle : recovered p.sectors image ≡ image
   idle = λ i s. recovered-idle p.sectors image s small h.commit i
 
   header_is : p.header ≡ new_header p.version p.sectors p.inodes
-  header_is = ap (λ (q : Place). q.header) (place_is_laid_out p.sectors p.inodes h.has_place)
+  header_is = ap (λ (q : Geometry). q.header) (geometry_is_laid_out p.sectors p.inodes h.has_geometry)
 
   -- it says how many header sectors it has
-  own_place : place_in p.version p.header p.sectors p.inodes ≡ Some p
-  own_place = ap (λ (n : ℕ). place_in p.version n p.sectors p.inodes) header_is ∙ h.has_place
+  own_geometry : geometry_in p.version p.header p.sectors p.inodes ≡ Some p
+  own_geometry = ap (λ (n : ℕ). geometry_in p.version n p.sectors p.inodes) header_is ∙ h.has_geometry
 
   pub new_disk_stands : Stands p.sectors image (room_of p) empty_tree (p.sectors - p.first_data)
   new_disk_stands = record {
     super = super_for p;
-    place = p;
+    geometry = p;
     super_is = h.super;
     super_fits = record {
       sectors = small;
       inodes = inodes_small;
-      header = let few = place.header in omega (arith, few);
+      header = let few = geometry.header in omega (arith, few);
       no_header = λ e. header_is ∙ without_header p.version p.sectors p.inodes e;
     };
     same_size = refl;
-    has_place = own_place;
+    has_geometry = own_geometry;
     commit_is = record { targets = []; is = idle_commit p.sectors image h.commit };
     room_is = refl;
     holds = subst (λ m. HoldsAll p m (placed empty_tree)) (sym idle) held;
-    tree_is = empty_is_tree (room_of p) place.least_inodes;
+    tree_is = empty_is_tree (room_of p) geometry.least_inodes;
     free_is = sym (free_sectors_all p image clear) ∙ ap (free_sectors p) (sym idle);
   }

@@ -8,15 +8,15 @@ use Rattle.std.proofs.lemmas.Nat.Bits.{bit_at_lowest, bit_at-suc}
 use Rattle.std.proofs.lemmas.List.{get_or_past}
 use Rattle.std.proofs.lemmas.List.FromFn.{get_or-map-range_with_len, length-map-range_with_len}
 use Rattle.fs_layout.specs.declared.inode.TheConstants.{INODE_SIZE}
-use Rattle.fs_layout.specs.declared.place.Place.{Place}
+use Rattle.fs_layout.specs.declared.geometry.Geometry.{Geometry}
 use Rattle.fs_layout.specs.Bytes.{SectorMap, IsBytes, IsSector, window, zeros, le16, le32, le64, le32s}
 use Rattle.fs_layout.specs.Superblock.{super_bytes}
 use Rattle.fs_layout.specs.Commit.{commit_bytes}
 use Rattle.fs_layout.specs.Inode.{inode_bytes, free_inode}
 use Rattle.fs_layout.specs.declared.version.Version.TheVariants.{Two}
-use Rattle.fs_layout.specs.Place.{IsPlace, allows_header, new_header, place_in, the_place, laid_out, super_for}
+use Rattle.fs_layout.specs.Geometry.{IsGeometry, allows_header, new_header, geometry_in, the_geometry, laid_out, super_for}
 use Rattle.fs_layout.specs.Images.{HasWholeTables, inode_map_bits, map_bits, bit, stored}
-use Rattle.fs_layout.proofs.Places.{after_map, place_is_place}
+use Rattle.fs_layout.proofs.Places.{after_map, is_a_geometry}
 use Rattle.fs_layout.proofs.Sectors.{IsBytes-append, IsBytes-zeros, IsBytes-inode_bytes}
 use Rattle.fs_layout.proofs.SplicedBytes.{IsSector-zeros}
 use Rattle.fs_model.specs.Limits.{root}
@@ -102,7 +102,7 @@ from_or false c t = inr t
 root_sector : List ℕ
 root_sector = zeros INODE_SIZE ++ (inode_bytes root_inode ++ zeros 256)
 
-module _ (p : Place) where
+module _ (p : Geometry) where
   -- of the inode bitmap's sector s
   inode_marks : ℕ → ℕ → Bool
   inode_marks s n =
@@ -128,11 +128,11 @@ module _ (p : Place) where
 
 -- ---- what stands where
 
-module _ (p : Place) (place : IsPlace p) where
+module _ (p : Geometry) (geometry : IsGeometry p) where
   above_log : (s : ℕ) → p.inode_bitmap ≤ s → new_image p s ≡ tables p s
   unfolding new_image
-  above_log zero ge = let order = after_map place in absurd (omega (arith, ge, order.0))
-  above_log (suc zero) ge = let order = after_map place in absurd (omega (arith, ge, order.0))
+  above_log zero ge = let order = after_map geometry in absurd (omega (arith, ge, order.0))
+  above_log (suc zero) ge = let order = after_map geometry in absurd (omega (arith, ge, order.0))
   above_log (suc (suc s)) ge = ap (λ b. cond b (zeros 512) (tables p (suc (suc s)))) (le-ltb (suc (suc s)) p.inode_bitmap ge)
 
   inode_map : (s : ℕ) → p.inode_bitmap ≤ s → s < p.block_bitmap → new_image p s ≡ bit_sector (inode_marks p s)
@@ -142,7 +142,7 @@ module _ (p : Place) (place : IsPlace p) where
   past_inode_map : (s : ℕ) → p.block_bitmap ≤ s → new_image p s ≡ from_map p s
   unfolding tables
   past_inode_map s ge =
-      let order = after_map place in
+      let order = after_map geometry in
       above_log s (omega (arith, order.1, ge)) ∙ ap (λ b. cond b (bit_sector (inode_marks p s)) (from_map p s)) (le-ltb s p.block_bitmap ge)
 
   block_map : (s : ℕ) → p.block_bitmap ≤ s → s < p.table → new_image p s ≡ bit_sector (block_marks p s)
@@ -152,7 +152,7 @@ module _ (p : Place) (place : IsPlace p) where
   inode_table : (s : ℕ) → p.table ≤ s → new_image p s ≡ table_sector p s
   unfolding from_map
   inode_table s ge =
-      let order = after_map place in
+      let order = after_map geometry in
       past_inode_map s (omega (arith, order.2, ge)) ∙ ap (λ b. cond b (bit_sector (block_marks p s)) (table_sector p s)) (le-ltb s p.table ge)
 
   root_there : new_image p p.table ≡ root_sector
@@ -199,18 +199,18 @@ root_sector_whole = record { len = refl; bytes = root_sector_bytes }
 
 -- ---- it is a new image
 
-module _ (p : Place) (there : the_place p.version p.sectors p.inodes ≡ Some p) where
-  place : IsPlace p
-  place = place_is_place p.version (new_header p.version p.sectors p.inodes) p.sectors p.inodes there
+module _ (p : Geometry) (there : the_geometry p.version p.sectors p.inodes ≡ Some p) where
+  geometry : IsGeometry p
+  geometry = is_a_geometry p.version (new_header p.version p.sectors p.inodes) p.sectors p.inodes there
 
   whole_tables : HasWholeTables p (new_image p)
   whole_tables s from to = elim (cases_lt s p.block_bitmap) [
-    | inl first ↦ subst IsSector (sym (inode_map p place s from first)) (bit_sector_whole (inode_marks p s))
+    | inl first ↦ subst IsSector (sym (inode_map p geometry s from first)) (bit_sector_whole (inode_marks p s))
     | inr past ↦ elim (cases_lt s p.table) [
-      | inl lt ↦ subst IsSector (sym (block_map p place s past lt)) (bit_sector_whole (block_marks p s))
+      | inl lt ↦ subst IsSector (sym (block_map p geometry s past lt)) (bit_sector_whole (block_marks p s))
       | inr ge ↦ elim (cases_eq s p.table) [
-        | inl e ↦ subst (λ k. IsSector (new_image p k)) (sym e) (subst IsSector (sym (root_there p place)) root_sector_whole)
-        | inr other ↦ subst IsSector (sym (zeros_there p place s (omega (arith, ge, other)))) IsSector-zeros
+        | inl e ↦ subst (λ k. IsSector (new_image p k)) (sym e) (subst IsSector (sym (root_there p geometry)) root_sector_whole)
+        | inr other ↦ subst IsSector (sym (zeros_there p geometry s (omega (arith, ge, other)))) IsSector-zeros
       ]
     ]
   ]
@@ -220,7 +220,7 @@ module _ (p : Place) (there : the_place p.version p.sectors p.inodes ≡ Some p)
   inode_bits n lt =
       let k : ℕ = p.inode_bitmap + n / 4096 in
       let at : 4096 * (k - p.inode_bitmap) + n % 4096 ≡ n = omega arith in
-      bit_there (new_image p) p.inode_bitmap n (inode_marks p k) (inode_map p place k (omega arith) (omega (arith, lt)))
+      bit_there (new_image p) p.inode_bitmap n (inode_marks p k) (inode_map p geometry k (omega arith) (omega (arith, lt)))
       ∙ ap (λ m. nat_eq m 0 || nat_le p.inodes m || nat_eq m root) at
 
   block_bit : (s : ℕ) → s < map_bits p → bit (new_image p) p.block_bitmap s ≡ (nat_lt s p.first_data || nat_le p.sectors s)
@@ -228,7 +228,7 @@ module _ (p : Place) (there : the_place p.version p.sectors p.inodes ≡ Some p)
   block_bit s lt =
       let k : ℕ = p.block_bitmap + s / 4096 in
       let at : 4096 * (k - p.block_bitmap) + s % 4096 ≡ s = omega arith in
-      bit_there (new_image p) p.block_bitmap s (block_marks p k) (block_map p place k (omega arith) (omega (arith, lt)))
+      bit_there (new_image p) p.block_bitmap s (block_marks p k) (block_map p geometry k (omega arith) (omega (arith, lt)))
       ∙ ap (λ n. nat_lt n p.first_data || nat_le p.sectors n) at
 
   block_bits : (s : ℕ) → s < map_bits p → IsTrue (bit (new_image p) p.block_bitmap s) ↔ ((s < p.first_data) ⊎ (p.sectors ≤ s))
@@ -247,21 +247,21 @@ module _ (p : Place) (there : the_place p.version p.sectors p.inodes ≡ Some p)
   unfolding stored
   root_is =
       let sector : p.table + root / 4 ≡ p.table = omega arith in
-      ap (λ s. window s INODE_SIZE INODE_SIZE) (ap (new_image p) sector ∙ root_there p place) ∙ root_quarter
+      ap (λ s. window s INODE_SIZE INODE_SIZE) (ap (new_image p) sector ∙ root_there p geometry) ∙ root_quarter
 
   others_free : (n : ℕ) → n < p.inodes → n ≢ root → stored p (new_image p) n ≡ inode_bytes free_inode
   unfolding stored
   others_free n lt ne = elim (cases_lt n 4) [
     | inl few ↦
         let sector : p.table + n / 4 ≡ p.table = omega arith in
-        ap (λ s. window s (INODE_SIZE * (n % 4)) INODE_SIZE) (ap (new_image p) sector ∙ root_there p place) ∙ other_quarter (n % 4) (omega arith) (λ e. ne (omega arith))
-    | inr more ↦ ap (λ s. window s (INODE_SIZE * (n % 4)) INODE_SIZE) (zeros_there p place (p.table + n / 4) (omega (arith, more))) ∙ free_quarter (n % 4) (omega arith)
+        ap (λ s. window s (INODE_SIZE * (n % 4)) INODE_SIZE) (ap (new_image p) sector ∙ root_there p geometry) ∙ other_quarter (n % 4) (omega arith) (λ e. ne (omega arith))
+    | inr more ↦ ap (λ s. window s (INODE_SIZE * (n % 4)) INODE_SIZE) (zeros_there p geometry (p.table + n / 4) (omega (arith, more))) ∙ free_quarter (n % 4) (omega arith)
   ]
 
   new_image_is_new : IsNewImage p (new_image p)
   unfolding new_image
   new_image_is_new = record {
-    has_place = there;
+    has_geometry = there;
     super = refl;
     commit = refl;
     tables = whole_tables;
@@ -272,14 +272,14 @@ module _ (p : Place) (there : the_place p.version p.sectors p.inodes ≡ Some p)
   }
 
 -- Each disk that has a place has such an image.
-pub new_images_exist : (p : Place) → the_place p.version p.sectors p.inodes ≡ Some p → (image : SectorMap) × IsNewImage p image
+pub new_images_exist : (p : Geometry) → the_geometry p.version p.sectors p.inodes ≡ Some p → (image : SectorMap) × IsNewImage p image
 new_images_exist p there = (new_image p, new_image_is_new p there)
 
-small_disk : Place
+small_disk : Geometry
 small_disk = laid_out Two 1024 64
 
-small_disk_is_there : the_place Two 1024 64 ≡ Some small_disk
-unfolding place_in allows_header small_disk
+small_disk_is_there : the_geometry Two 1024 64 ≡ Some small_disk
+unfolding geometry_in allows_header small_disk
 small_disk_is_there = refl
 
 -- and so some image stands for a tree

@@ -18,7 +18,7 @@ use Rattle.fs_model.specs.declared.walk.Form.{Form}
 use Rattle.fs_model.specs.declared.walk.Found.{Found}
 use Rattle.fs_model.specs.declared.call.Flags.{Flags}
 use Rattle.fs_model.specs.Limits.{links_limit}
-use Rattle.fs_model.specs.Nodes.{Node, Body, File, Dir, Link, names_in}
+use Rattle.fs_model.specs.Nodes.{Node, Body, File, Dir, Link, names_of_body}
 use Rattle.fs_model.specs.Trees.{Tree, Room, node_at}
 use Rattle.fs_model.specs.Processes.{Process, cwd_of}
 use Rattle.fs_model.specs.Demands.{Demand, refuse, or_else, first_of, only_if, decided, allowed_by, search_only, write_and_search, perms, failed_with, accessed_at, permission_of, permission_on, search_of, search_on}
@@ -133,7 +133,7 @@ module _ (room : Room) (t : Tree) (follow : Bool) where
 
   lookup_spares : (is_last : Bool) (dir : ℕ) (name : List ℕ) (o : Option Node) → OutcomeSpares (looked_up room t is_last follow dir name o)
   lookup_spares is_last dir name o =
-      looked_up_is OutcomeSpares room t is_last follow dir name o refl refl (λ node e. arrival_spares is_last (named_inode t dir (names_in node.body) name))
+      looked_up_is OutcomeSpares room t is_last follow dir name o refl refl (λ node e. arrival_spares is_last (named_inode t dir (names_of_body node.body) name))
 
   abbrev GoesSpared : Option GoesOn → Type 0
   GoesSpared None = Unit {0}

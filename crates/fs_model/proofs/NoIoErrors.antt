@@ -46,12 +46,12 @@ process_spares f (Some p) each = each p
 pub firm_spares : (s : State) (e : Event) → Spares (firm_refusal s e)
 unfolding firm_refusal
 firm_spares s (Calls pid call) =
-    process_spares (λ p. early_refusal p (row_of call)) (get nat_cmp s.desks pid) (λ p. early_spares p (row_of call) (each_call call).spares)
-firm_spares s (Fsync pid fd) = process_spares (λ p. is_bad fd p) (get nat_cmp s.desks pid) (λ p. refused EBADF _ refl)
-firm_spares s (Exit pid) = process_spares (λ p. None) (get nat_cmp s.desks pid) (λ p. refl)
+    process_spares (λ p. early_refusal p (row_of call)) (get nat_cmp s.processes pid) (λ p. early_spares p (row_of call) (each_call call).spares)
+firm_spares s (Fsync pid fd) = process_spares (λ p. is_bad fd p) (get nat_cmp s.processes pid) (λ p. refused EBADF _ refl)
+firm_spares s (Exit pid) = process_spares (λ p. None) (get nat_cmp s.processes pid) (λ p. refl)
 firm_spares s (Stamp n atime mtime ctime) = refl
 firm_spares s (Clock time) = refl
-firm_spares s (Enter pid directory second) = process_spares (λ p. None) (get nat_cmp s.desks pid) (λ p. refl)
+firm_spares s (Enter pid directory second) = process_spares (λ p. None) (get nat_cmp s.processes pid) (λ p. refl)
 firm_spares s (Spawn cred) = refused EAGAIN _ refl
 firm_spares s Sync = refl
 firm_spares s Statfs = refl
@@ -61,7 +61,7 @@ firm_spares s (Restart choice arm) = refl
 pub other_spares : (s : State) (e : Event) → Spares (other_refusal s e)
 unfolding other_refusal
 other_spares s (Calls pid call) =
-    process_spares (λ p. late_refusal s p (row_of call)) (get nat_cmp s.desks pid) (λ p. late_spares s p (row_of call) (each_call call).spares)
+    process_spares (λ p. late_refusal s p (row_of call)) (get nat_cmp s.processes pid) (λ p. late_spares s p (row_of call) (each_call call).spares)
 other_spares s (Clock time) = refl
 other_spares s (Stamp n atime mtime ctime) = refused ENOENT _ refl
 other_spares s (Enter pid directory second) =

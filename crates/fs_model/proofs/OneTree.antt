@@ -3,13 +3,13 @@ use Rattle.std.specs.Prelude.{◌≡◌, ℕ, ◌≤◌, Option, None, Some, Mat
 use Rattle.std.proofs.Common.{refl, sym, ap, arith, ◌∙◌, subst, inl, inr}
 use Rattle.std.specs.Option.{option_map}
 use Rattle.std.proofs.lemmas.Bool.{cases_lt}
-use Rattle.fs_layout.specs.declared.place.Place.{Place}
+use Rattle.fs_layout.specs.declared.geometry.Geometry.{Geometry}
 use Rattle.fs_layout.specs.declared.inode.Inode.{Inode}
 use Rattle.fs_layout.specs.declared.version.Version.{Version}
 use Rattle.fs_layout.specs.Bytes.{SectorMap}
 use Rattle.fs_layout.specs.Inode.{free_inode}
 use Rattle.fs_layout.specs.Images.{inode_at, free_sectors}
-use Rattle.fs_layout.specs.Place.{place_in}
+use Rattle.fs_layout.specs.Geometry.{geometry_in}
 use Rattle.fs_layout.specs.Recovered.{recovered}
 use Rattle.fs_layout.specs.Superblock.{FitsSuper, super_bytes, super_of}
 use Rattle.fs_layout.proofs.SuperLaw.{super_codec}
@@ -40,7 +40,7 @@ past : (room : Room) (t : Tree) (n : ℕ) → IsTree room t → room.inodes ≤ 
 past room t n is ge None e = e
 past room t n is ge (Some node) e = absurd (let b = (is.each n node e).below in omega (arith, b, ge))
 
-at_same : (p : Place) (image : SectorMap) (t u : Tree) → HoldsAll p image (placed t) → HoldsAll p image (placed u)
+at_same : (p : Geometry) (image : SectorMap) (t u : Tree) → HoldsAll p image (placed t) → HoldsAll p image (placed u)
     → IsTree (room_of p) t → IsTree (room_of p) u → (n : ℕ) → node_at t n ≡ node_at u n
 at_same p image t u h k it iu n =
     elim (cases_lt n p.inodes) [
@@ -49,24 +49,24 @@ at_same p image t u h k it iu n =
     ]
 
 -- a map holds at most one tree
-pub held_once : (p : Place) (image : SectorMap) (t u : Tree) → HoldsAll p image (placed t) → HoldsAll p image (placed u)
+pub held_once : (p : Geometry) (image : SectorMap) (t u : Tree) → HoldsAll p image (placed t) → HoldsAll p image (placed u)
     → IsTree (room_of p) t → IsTree (room_of p) u → t ≡ u
 held_once p image t u h k it iu = same_map t u it.numbers iu.numbers (at_same p image t u h k it iu)
 
-some_same : (p q : Place) (x y : Option Place) → x ≡ Some p → y ≡ Some q → x ≡ y → p ≡ q
+some_same : (p q : Geometry) (x y : Option Geometry) → x ≡ Some p → y ≡ Some q → x ≡ y → p ≡ q
 some_same p q x y e f g = cc
 
 pub one_tree : (sectors : ℕ) (image : SectorMap) (room room' : Room) (t t' : Tree) (free free' : ℕ)
     → Stands sectors image room t free → Stands sectors image room' t' free' → AreSame room room' t t' free free'
 one_tree sectors image room room' t t' free free' x y =
     let super : x.super ≡ y.super = same_spelling 512 FitsSuper super_bytes super_of super_codec x.super y.super x.super_fits y.super_fits (sym x.super_is ∙ y.super_is) in
-    let place : x.place ≡ y.place = some_same x.place y.place _ _ x.has_place y.has_place (ap (λ s. place_in s.version s.header sectors s.inodes) super) in
+    let geometry : x.geometry ≡ y.geometry = some_same x.geometry y.geometry _ _ x.has_geometry y.has_geometry (ap (λ s. geometry_in s.version s.header sectors s.inodes) super) in
     let now : SectorMap = recovered sectors image in
-    let held : HoldsAll y.place now (placed t) = subst (λ p. HoldsAll p now (placed t)) place x.holds in
-    let first : IsTree (room_of y.place) t = subst (λ r. IsTree r t) (x.room_is ∙ ap room_of place) x.tree_is in
-    let second : IsTree (room_of y.place) t' = subst (λ r. IsTree r t') y.room_is y.tree_is in
+    let held : HoldsAll y.geometry now (placed t) = subst (λ p. HoldsAll p now (placed t)) geometry x.holds in
+    let first : IsTree (room_of y.geometry) t = subst (λ r. IsTree r t) (x.room_is ∙ ap room_of geometry) x.tree_is in
+    let second : IsTree (room_of y.geometry) t' = subst (λ r. IsTree r t') y.room_is y.tree_is in
     record {
-      rooms = x.room_is ∙ ap room_of place ∙ sym y.room_is;
-      trees = held_once y.place now t t' held y.holds first second;
-      counts = x.free_is ∙ ap (λ p. free_sectors p now) place ∙ sym y.free_is;
+      rooms = x.room_is ∙ ap room_of geometry ∙ sym y.room_is;
+      trees = held_once y.geometry now t t' held y.holds first second;
+      counts = x.free_is ∙ ap (λ p. free_sectors p now) geometry ∙ sym y.free_is;
     }

@@ -4,16 +4,16 @@
 use Rattle.std.specs.Prelude.{◌≡◌, ◌≢◌, ℕ, ◌+◌, ◌-◌, ◌<◌, ◌≤◌, nat_eq, nat_le, ◌==◌, true, false, not, ◌||◌, List, Option, None, Some, IsTrue, IsFalse}
 use Rattle.std.proofs.Common.{refl, sym, ap, ◌∙◌, subst}
 use Rattle.std.proofs.lemmas.Bool.{or_right}
-use Rattle.fs_layout.specs.declared.place.Place.{Place}
+use Rattle.fs_layout.specs.declared.geometry.Geometry.{Geometry}
 use Rattle.fs_layout.specs.Bytes.{SectorMap}
 use Rattle.fs_layout.specs.InodeChanges.{ChangesInode}
 use Rattle.fs_layout.specs.Inode.{free_inode}
 use Rattle.fs_layout.specs.Images.{bit, inode_at}
 use Rattle.fs_layout.specs.Maps.{name_cmp, with_entry, without}
 use Rattle.fs_layout.proofs.NameMaps.{leading}
-use Rattle.fs_model.specs.Nodes.{Node, names_in}
+use Rattle.fs_model.specs.Nodes.{Node, names_of_body}
 use Rattle.fs_model.specs.Trees.{Tree, node_at, with_node, names_of, parent}
-use Rattle.fs_model.specs.Processes.{Desks, is_open}
+use Rattle.fs_model.specs.Processes.{ProcessTable, is_open}
 use Rattle.fs_model.specs.declared.touch.Touch.{Touch}
 use Rattle.fs_model.specs.TreeChanges.{Same, Rewrite, Make, AddName, TakeName, changed, swept, lives_nameless, with_names_at}
 use Rattle.fs_model.specs.States.{State, IsState}
@@ -43,11 +43,11 @@ pub record MakesNode (s : State) (dir : ℕ) (directory : Node) (name : List ℕ
 
 -- ---- the image after the call
 
-module _ (s : State) (is : IsState s) (up : IsFalse s.halted) (desks : Desks) (still : (n : ℕ) → IsTrue (is_open s.desks n) → IsTrue (is_open desks n))
-    (p : Place) (old : SectorMap) (held : HoldsAll p old (placed s.tree)) (room : s.room ≡ room_of p) where
+module _ (s : State) (is : IsState s) (up : IsFalse s.halted) (processes : ProcessTable) (still : (n : ℕ) → IsTrue (is_open s.processes n) → IsTrue (is_open processes n))
+    (p : Geometry) (old : SectorMap) (held : HoldsAll p old (placed s.tree)) (room : s.room ≡ room_of p) where
   -- nothing changed
-  pub same_held : HoldsAll p old (placed (swept (changed s.tree Same) desks))
-  same_held = subst (λ u. HoldsAll p old (placed u)) (sym (open_stays s.room s.tree s.desks desks is.tree (is.desks up) still)) held
+  pub same_held : HoldsAll p old (placed (swept (changed s.tree Same) processes))
+  same_held = subst (λ u. HoldsAll p old (placed u)) (sym (open_stays s.room s.tree s.processes processes is.tree (is.processes up) still)) held
 
   module _ (new : SectorMap) (touch : Touch) (n : ℕ) (was now : Node) (at : node_at s.tree n ≡ Some was) (may : MayReplace s.room s.tree was now) (changes : ChangesInode p n old new)
       (used : bit new p.inode_bitmap n ≡ bit old p.inode_bitmap n)
@@ -55,13 +55,13 @@ module _ (s : State) (is : IsState s) (up : IsFalse s.halted) (desks : Desks) (s
     names_stay : (x : ℕ) → names_of (with_node s.tree n now) x ≡ names_of s.tree x
     names_stay x = names_of-rewritten s.tree n was now is.tree.numbers at may.names x
 
-    rewrite_stays : swept (changed s.tree (Rewrite touch n now)) desks ≡ with_node s.tree n now
+    rewrite_stays : swept (changed s.tree (Rewrite touch n now)) processes ≡ with_node s.tree n now
     rewrite_stays =
-        nothing_goes s is up desks still (with_node s.tree n now) (replaced_is_tree s.room s.tree n was now is.tree at may) (replaced_keeps_types s.tree n was now at may.same)
+        nothing_goes s is up processes still (with_node s.tree n now) (replaced_is_tree s.room s.tree n was now is.tree at may) (replaced_keeps_types s.tree n was now at may.same)
         (λ x there none. (sym (there-rewritten s.tree n was now is.tree.numbers at may.names x) ∙ there, sym (names_stay x) ∙ none))
 
     -- the node at n was rewritten
-    pub rewrite_held : HoldsAll p new (placed (swept (changed s.tree (Rewrite touch n now)) desks))
+    pub rewrite_held : HoldsAll p new (placed (swept (changed s.tree (Rewrite touch n now)) processes))
     rewrite_held =
         let there : placed (with_node s.tree n now) n ≡ Some (record { node = now; names = names_of s.tree n; parent = parent s.tree n }) =
         placed_from (with_node s.tree n now) n (Some now) _ _ (at_it s.tree n now) (names_stay n) (parent-rewritten s.tree n was now is.tree.numbers at may.names n) in
@@ -73,12 +73,12 @@ module _ (s : State) (is : IsState s) (up : IsFalse s.halted) (desks : Desks) (s
   module _ (mid new : SectorMap) (dir : ℕ) (directory : Node) (name : List ℕ) (n : ℕ) (now : Node) (makes : MakesNode s dir directory name n now)
       (first : ChangesInode p n old mid) (taken : IsTrue (bit mid p.inode_bitmap n)) (born : HoldsNode p.version mid (inode_at p mid n) (record { node = now; names = 1; parent = dir }))
       (second : ChangesInode p dir mid new) (used : bit new p.inode_bitmap dir ≡ bit mid p.inode_bitmap dir)
-      (here : HoldsNode p.version new (inode_at p new dir) (record { node = renamed_node directory (with_entry name_cmp (names_in directory.body) name n); names = names_of s.tree dir; parent = parent s.tree dir })) where
+      (here : HoldsNode p.version new (inode_at p new dir) (record { node = renamed_node directory (with_entry name_cmp (names_of_body directory.body) name n); names = names_of s.tree dir; parent = parent s.tree dir })) where
     abbrev w : Tree
     w = with_node s.tree n now
 
     abbrev made : Tree
-    made = renamed (with_node s.tree n now) dir directory (with_entry name_cmp (names_in directory.body) name n)
+    made = renamed (with_node s.tree n now) dir directory (with_entry name_cmp (names_of_body directory.body) name n)
 
     adds : AddsName s.room s.tree w dir directory name n now
     adds =
@@ -94,10 +94,10 @@ module _ (s : State) (is : IsState s) (up : IsFalse s.halted) (desks : Desks) (s
     tree_is : changed s.tree (Make dir name n now) ≡ made
     tree_is = named_is w dir directory name n (stands_then s.room s.tree w dir directory name n now is.tree adds)
 
-    make_stays : swept (changed s.tree (Make dir name n now)) desks ≡ made
+    make_stays : swept (changed s.tree (Make dir name n now)) processes ≡ made
     make_stays =
-        ap (λ u. swept u desks) tree_is
-        ∙ nothing_goes s is up desks still made (added_is_tree s.room s.tree w dir directory name n now is.tree adds) (added_keeps_types s.room s.tree w dir directory name n now is.tree adds)
+        ap (λ u. swept u processes) tree_is
+        ∙ nothing_goes s is up processes still made (added_is_tree s.room s.tree w dir directory name n now is.tree adds) (added_keeps_types s.room s.tree w dir directory name n now is.tree adds)
         (added_nameless s.room s.tree w dir directory name n now is.tree adds parents)
 
     node_now : placed made n ≡ Some (record { node = now; names = 1; parent = dir })
@@ -113,7 +113,7 @@ module _ (s : State) (is : IsState s) (up : IsFalse s.halted) (desks : Desks) (s
         (taken ∙ sym (or_right (nat_eq n 0 || nat_le p.inodes n) true refl))
 
     -- a node was made, and named
-    pub make_held : HoldsAll p new (placed (swept (changed s.tree (Make dir name n now)) desks))
+    pub make_held : HoldsAll p new (placed (swept (changed s.tree (Make dir name n now)) processes))
     make_held =
         subst (λ u. HoldsAll p new (placed u)) (sym make_stays)
         (same_placed p new _ (placed made)
@@ -127,27 +127,27 @@ module _ (s : State) (is : IsState s) (up : IsFalse s.halted) (desks : Desks) (s
       (first : ChangesInode p n old mid) (taken : bit mid p.inode_bitmap n ≡ bit old p.inode_bitmap n)
       (counted : HoldsNode p.version mid (inode_at p mid n) (record { node = target; names = names_of s.tree n + 1; parent = parent (changed s.tree (AddName dir name n)) n }))
       (second : ChangesInode p dir mid new) (used : bit new p.inode_bitmap dir ≡ bit mid p.inode_bitmap dir)
-      (here : HoldsNode p.version new (inode_at p new dir) (record { node = renamed_node directory (with_entry name_cmp (names_in directory.body) name n); names = names_of s.tree dir; parent = parent s.tree dir })) where
+      (here : HoldsNode p.version new (inode_at p new dir) (record { node = renamed_node directory (with_entry name_cmp (names_of_body directory.body) name n); names = names_of s.tree dir; parent = parent s.tree dir })) where
     given : AddsName s.room s.tree s.tree dir directory name n target
     given = gives_name s.room s.tree dir directory name n target is.tree gives
 
     abbrev linked : Tree
-    linked = renamed s.tree dir directory (with_entry name_cmp (names_in directory.body) name n)
+    linked = renamed s.tree dir directory (with_entry name_cmp (names_of_body directory.body) name n)
 
     linked_is : changed s.tree (AddName dir name n) ≡ linked
     linked_is = named_is s.tree dir directory name n gives.takes.stands
 
-    add_stays : swept (changed s.tree (AddName dir name n)) desks ≡ linked
+    add_stays : swept (changed s.tree (AddName dir name n)) processes ≡ linked
     add_stays =
-        ap (λ u. swept u desks) linked_is
-        ∙ nothing_goes s is up desks still linked (added_is_tree s.room s.tree s.tree dir directory name n target is.tree given) (added_keeps_types s.room s.tree s.tree dir directory name n target is.tree given)
+        ap (λ u. swept u processes) linked_is
+        ∙ nothing_goes s is up processes still linked (added_is_tree s.room s.tree s.tree dir directory name n target is.tree given) (added_keeps_types s.room s.tree s.tree dir directory name n target is.tree given)
         (added_nameless s.room s.tree s.tree dir directory name n target is.tree given (λ x. refl))
 
     counted_then : HoldsNode p.version mid (inode_at p mid n) (record { node = target; names = names_of s.tree n + 1; parent = parent linked n })
     counted_then = subst (λ u. HoldsNode p.version mid (inode_at p mid n) (record { node = target; names = names_of s.tree n + 1; parent = parent u n })) linked_is counted
 
     -- what is no directory was named once more
-    pub add_held : HoldsAll p new (placed (swept (changed s.tree (AddName dir name n)) desks))
+    pub add_held : HoldsAll p new (placed (swept (changed s.tree (AddName dir name n)) processes))
     add_held =
         subst (λ u. HoldsAll p new (placed u)) (sym add_stays)
         (same_placed p new _ (placed linked)
@@ -159,18 +159,18 @@ module _ (s : State) (is : IsState s) (up : IsFalse s.halted) (desks : Desks) (s
         (added_dir s.room s.tree s.tree dir directory name n target is.tree given (λ x. refl))
         (added_others s.room s.tree s.tree dir directory name n target is.tree given (λ x. refl))))
 
-  module _ (mid new : SectorMap) (dir : ℕ) (directory : Node) (name : List ℕ) (m : ℕ) (target : Node) (takes : TakesName s.tree s.desks dir directory name m)
+  module _ (mid new : SectorMap) (dir : ℕ) (directory : Node) (name : List ℕ) (m : ℕ) (target : Node) (takes : TakesName s.tree s.processes dir directory name m)
       (at : node_at s.tree m ≡ Some target) (first : ChangesInode p dir old mid) (used : bit mid p.inode_bitmap dir ≡ bit old p.inode_bitmap dir)
-      (here : HoldsNode p.version mid (inode_at p mid dir) (record { node = renamed_node directory (without name_cmp (names_in directory.body) name); names = names_of s.tree dir; parent = parent s.tree dir }))
+      (here : HoldsNode p.version mid (inode_at p mid dir) (record { node = renamed_node directory (without name_cmp (names_of_body directory.body) name); names = names_of s.tree dir; parent = parent s.tree dir }))
       (second : ChangesInode p m mid new) where
     abbrev taken_tree : Tree
-    taken_tree = renamed s.tree dir directory (without name_cmp (names_in directory.body) name)
+    taken_tree = renamed s.tree dir directory (without name_cmp (names_of_body directory.body) name)
 
     taken_is : changed s.tree (TakeName dir name) ≡ taken_tree
     taken_is = ap (with_names_at s.tree dir (λ names. without name_cmp names name)) takes.stands
 
     abbrev between : ℕ → Option Placed
-    between = placing dir (Some (record { node = renamed_node directory (without name_cmp (names_in directory.body) name); names = names_of s.tree dir; parent = parent s.tree dir })) (placed s.tree)
+    between = placing dir (Some (record { node = renamed_node directory (without name_cmp (names_of_body directory.body) name); names = names_of s.tree dir; parent = parent s.tree dir })) (placed s.tree)
 
     between_held : HoldsAll p mid between
     between_held =
@@ -180,27 +180,27 @@ module _ (s : State) (is : IsState s) (up : IsFalse s.halted) (desks : Desks) (s
     below : m < p.inodes
     below = node_below s p is room m target at
 
-    taken_then : (o : Option Placed) → placed (swept taken_tree desks) m ≡ o → HoldsAll p new (placing m o between)
-        → HoldsAll p new (placed (swept (changed s.tree (TakeName dir name)) desks))
+    taken_then : (o : Option Placed) → placed (swept taken_tree processes) m ≡ o → HoldsAll p new (placing m o between)
+        → HoldsAll p new (placed (swept (changed s.tree (TakeName dir name)) processes))
     taken_then o is_o all =
-        subst (λ u. HoldsAll p new (placed (swept u desks))) (sym taken_is)
-        (same_placed p new (placing m o between) (placed (swept taken_tree desks)) all
-        (placed_twice (placed s.tree) (placed (swept taken_tree desks)) dir m _ o (taken_dir s is up desks still dir directory name m takes) is_o
-        (taken_others s is up desks still dir directory name m takes)))
+        subst (λ u. HoldsAll p new (placed (swept u processes))) (sym taken_is)
+        (same_placed p new (placing m o between) (placed (swept taken_tree processes)) all
+        (placed_twice (placed s.tree) (placed (swept taken_tree processes)) dir m _ o (taken_dir s is up processes still dir directory name m takes) is_o
+        (taken_others s is up processes still dir directory name m takes)))
 
     -- a name was taken from what stays
-    pub take_held : (not (names_of s.tree m - 1 == 0) || lives_nameless desks m target.body) ≡ true → bit new p.inode_bitmap m ≡ bit mid p.inode_bitmap m
+    pub take_held : (not (names_of s.tree m - 1 == 0) || lives_nameless processes m target.body) ≡ true → bit new p.inode_bitmap m ≡ bit mid p.inode_bitmap m
         → HoldsNode p.version new (inode_at p new m) (record { node = target; names = names_of s.tree m - 1; parent = parent (changed s.tree (TakeName dir name)) m })
-        → HoldsAll p new (placed (swept (changed s.tree (TakeName dir name)) desks))
+        → HoldsAll p new (placed (swept (changed s.tree (TakeName dir name)) processes))
     take_held stay marked counted =
-        taken_then _ (taken_stays s is up desks still dir directory name m takes target at stay)
+        taken_then _ (taken_stays s is up processes still dir directory name m takes target at stay)
         (one_replaced p m mid new between between_held below second _ _
-        (placing_other dir _ (placed s.tree) m (taken_apart s is up desks still dir directory name m takes) ∙ placed_from s.tree m (Some target) _ _ at refl refl)
+        (placing_other dir _ (placed s.tree) m (taken_apart s is up processes still dir directory name m takes) ∙ placed_from s.tree m (Some target) _ _ at refl refl)
         (subst (λ u. HoldsNode p.version new (inode_at p new m) (record { node = target; names = names_of s.tree m - 1; parent = parent u m })) taken_is counted) marked)
 
     -- the last name was taken
-    pub drop_held : (not (names_of s.tree m - 1 == 0) || lives_nameless desks m target.body) ≡ false → bit new p.inode_bitmap m ≡ false
-        → inode_at p new m ≡ free_inode → HoldsAll p new (placed (swept (changed s.tree (TakeName dir name)) desks))
+    pub drop_held : (not (names_of s.tree m - 1 == 0) || lives_nameless processes m target.body) ≡ false → bit new p.inode_bitmap m ≡ false
+        → inode_at p new m ≡ free_inode → HoldsAll p new (placed (swept (changed s.tree (TakeName dir name)) processes))
     drop_held goes clear free =
-        taken_then None (taken_goes s is up desks still dir directory name m takes target at goes)
+        taken_then None (taken_goes s is up processes still dir directory name m takes target at goes)
         (one_dropped p m mid new between between_held below second (is.tree.each m target at).positive free clear)

@@ -4,14 +4,14 @@
 use Rattle.std.specs.Prelude.{◌≡◌, ◌≢◌, ℕ, ◌<◌, ◌==◌, Bool, true, false, not, ◌||◌, Option, None, Some}
 use Rattle.std.proofs.Common.{refl, sym, ap, ◌∙◌, inl, inr}
 use Rattle.std.proofs.lemmas.Bool.{cases_eq}
-use Rattle.fs_layout.specs.declared.place.Place.{Place}
+use Rattle.fs_layout.specs.declared.geometry.Geometry.{Geometry}
 use Rattle.fs_layout.specs.Bytes.{SectorMap}
 use Rattle.fs_layout.specs.InodeChanges.{ChangesInode}
 use Rattle.fs_layout.specs.Inode.{free_inode}
 use Rattle.fs_layout.specs.Images.{bit, inode_at}
 use Rattle.fs_model.specs.Nodes.{Node, Body, File, Dir, Link}
 use Rattle.fs_model.specs.Trees.{Tree, Room, node_at, names_of, IsTree}
-use Rattle.fs_model.specs.Processes.{Desks, is_open}
+use Rattle.fs_model.specs.Processes.{ProcessTable, is_open}
 use Rattle.fs_model.specs.TreeChanges.{swept, lives_nameless}
 use Rattle.fs_model.specs.Stands.{HoldsAll, placed}
 use Rattle.fs_model.proofs.PlacedNodes.{same_placed, placing, placed_once, one_dropped, placed_none, placed_stays, placed_goes}
@@ -19,15 +19,15 @@ use Rattle.fs_model.proofs.StepsSwept.{tree_may_be_swept}
 use Rattle.fs_model.proofs.Swept.{DropsNoNames, stays}
 
 -- who has it open decides of files alone
-same_lives : (was now : Desks) (n : ℕ) (b : Body) → is_open now n ≡ is_open was n → lives_nameless now n b ≡ lives_nameless was n b
+same_lives : (was now : ProcessTable) (n : ℕ) (b : Body) → is_open now n ≡ is_open was n → lives_nameless now n b ≡ lives_nameless was n b
 same_lives was now n (File a bytes) same = same
 same_lives was now n (Dir a d) same = refl
 same_lives was now n (Link target) same = refl
 
-module _ (room : Room) (t : Tree) (is : IsTree room t) (was now : Desks) (n : ℕ) (others : (m : ℕ) → m ≢ n → is_open now m ≡ is_open was m)
-    (node : Node) (at : node_at t n ≡ Some node) (stood : stays t was (n, node) ≡ true) (p : Place) (old : SectorMap) (held : HoldsAll p old (placed (swept t was))) where
-  gone : (desks : Desks) → DropsNoNames (stays t desks) t t
-  gone desks = (tree_may_be_swept room t desks is).gone
+module _ (room : Room) (t : Tree) (is : IsTree room t) (was now : ProcessTable) (n : ℕ) (others : (m : ℕ) → m ≢ n → is_open now m ≡ is_open was m)
+    (node : Node) (at : node_at t n ≡ Some node) (stood : stays t was (n, node) ≡ true) (p : Geometry) (old : SectorMap) (held : HoldsAll p old (placed (swept t was))) where
+  gone : (processes : ProcessTable) → DropsNoNames (stays t processes) t t
+  gone processes = (tree_may_be_swept room t processes is).gone
 
   same_others : (m : ℕ) → m ≢ n → placed (swept t now) m ≡ placed (swept t was) m
   same_others m ne = go (node_at t m) refl

@@ -8,7 +8,7 @@ use Rattle.std.proofs.Common.{refl, sym, ap, arith, ◌∙◌, subst, inl, inr}
 use Rattle.std.proofs.lemmas.Bool.{cases_eq}
 use Rattle.fs_layout.specs.declared.inode.Inode.{Inode}
 use Rattle.fs_layout.specs.declared.version.Version.{Version}
-use Rattle.fs_layout.specs.declared.place.Place.{Place}
+use Rattle.fs_layout.specs.declared.geometry.Geometry.{Geometry}
 use Rattle.fs_layout.specs.Bytes.{SectorMap}
 use Rattle.fs_layout.specs.InodeChanges.{ChangesInode}
 use Rattle.fs_layout.specs.Inode.{free_inode}
@@ -16,9 +16,9 @@ use Rattle.fs_layout.specs.Images.{bit, inode_at}
 use Rattle.fs_layout.specs.Maps.{name_cmp, with_entry, without}
 use Rattle.fs_layout.proofs.NameMaps.{Names, leading, once_same, once_other, lost_of, leading_if}
 use Rattle.fs_model.specs.Limits.{root}
-use Rattle.fs_model.specs.Nodes.{Node, Body, File, Dir, Link, is_directory, names_in, with_names}
+use Rattle.fs_model.specs.Nodes.{Node, Body, File, Dir, Link, is_directory, names_of_body, with_names}
 use Rattle.fs_model.specs.Trees.{Tree, node_at, names_of, parent, IsUnderRoot, is_root, is_in, IsDirectoryAt}
-use Rattle.fs_model.specs.Processes.{Desks, is_open}
+use Rattle.fs_model.specs.Processes.{ProcessTable, is_open}
 use Rattle.fs_model.specs.TreeChanges.{MoveName, changed, swept, lives_nameless}
 use Rattle.fs_model.specs.States.{State, IsState}
 use Rattle.fs_model.specs.StoredNodes.{Placed, HoldsNode, parent_field}
@@ -67,35 +67,35 @@ named_anywhere version image v x up other h = record {
     go (Dir a d) other = absurd cc
     go (Link target) other = refl
 
-module _ (s : State) (is : IsState s) (up : IsFalse s.halted) (desks : Desks) (still : (n : ℕ) → IsTrue (is_open s.desks n) → IsTrue (is_open desks n))
+module _ (s : State) (is : IsState s) (up : IsFalse s.halted) (processes : ProcessTable) (still : (n : ℕ) → IsTrue (is_open s.processes n) → IsTrue (is_open processes n))
     (dir : ℕ) (directory : Node) (name : List ℕ) (n : ℕ) (to_dir : ℕ) (to_directory : Node) (to_name : List ℕ) (o : Option ℕ)
-    (moves : MovesName s.room s.tree s.desks dir directory name n to_dir to_directory to_name o) (target : Node) (at : node_at s.tree n ≡ Some target) where
+    (moves : MovesName s.room s.tree s.processes dir directory name n to_dir to_directory to_name o) (target : Node) (at : node_at s.tree n ≡ Some target) where
   abbrev pub less : Names
-  less = without name_cmp (names_in directory.body) name
+  less = without name_cmp (names_of_body directory.body) name
 
   abbrev v : Tree
-  v = renamed s.tree dir directory (without name_cmp (names_in directory.body) name)
+  v = renamed s.tree dir directory (without name_cmp (names_of_body directory.body) name)
 
   -- the directory to which the name goes, once it was taken
-  abbrev pub middle : Between s.room s.tree (renamed s.tree dir directory (without name_cmp (names_in directory.body) name)) to_dir to_name o
-  middle = between s.room s.tree s.desks dir directory name n to_dir to_directory to_name o is.tree moves
+  abbrev pub middle : Between s.room s.tree (renamed s.tree dir directory (without name_cmp (names_of_body directory.body) name)) to_dir to_name o
+  middle = between s.room s.tree s.processes dir directory name n to_dir to_directory to_name o is.tree moves
 
   abbrev pub more : Names
-  more = with_entry name_cmp (names_in middle.node.body) to_name n
+  more = with_entry name_cmp (names_of_body middle.node.body) to_name n
 
   abbrev pub u : Tree
-  u = moved s.room s.tree s.desks dir directory name n to_dir to_directory to_name o is.tree moves
+  u = moved s.room s.tree s.processes dir directory name n to_dir to_directory to_name o is.tree moves
 
-  loses : LosesNames s.room s.tree u s.desks (lost_of o)
-  loses = moves_loses s.room s.tree s.desks dir directory name n to_dir to_directory to_name o is.tree moves
+  loses : LosesNames s.room s.tree u s.processes (lost_of o)
+  loses = moves_loses s.room s.tree s.processes dir directory name n to_dir to_directory to_name o is.tree moves
 
-  gone : DropsNoNames (stays u desks) u u
-  gone = gone_empty s.room s.tree u s.desks (lost_of o) is.tree loses desks
+  gone : DropsNoNames (stays u processes) u u
+  gone = gone_empty s.room s.tree u s.processes (lost_of o) is.tree loses processes
 
   -- ---- numbers that differ
 
   n_not_root : n ≢ root
-  n_not_root = ((were s.room s.tree s.desks dir directory name n to_dir to_directory to_name o is.tree moves).each name n moves.leads).leads.0
+  n_not_root = ((were s.room s.tree s.processes dir directory name n to_dir to_directory to_name o is.tree moves).each name n moves.leads).leads.0
 
   pub apart_to : n ≢ to_dir
   apart_to e =
@@ -106,8 +106,8 @@ module _ (s : State) (is : IsState s) (up : IsFalse s.halted) (desks : Desks) (s
   parent_was : IsDirectoryAt s.tree n → parent s.tree n ≡ dir
   parent_was d =
       let one = directory_named s.room s.tree is.tree n d n_not_root in
-      let some : 1 ≤ leading n (names_in directory.body) = leading_if (names_in directory.body) name n (were s.room s.tree s.desks dir directory name n to_dir to_directory to_name o is.tree moves).rising moves.leads in
-      let names : names_at s.tree dir ≡ names_in directory.body = ap names_or moves.stands in
+      let some : 1 ≤ leading n (names_of_body directory.body) = leading_if (names_of_body directory.body) name n (were s.room s.tree s.processes dir directory name n to_dir to_directory to_name o is.tree moves).rising moves.leads in
+      let names : names_at s.tree dir ≡ names_of_body directory.body = ap names_or moves.stands in
       parent_is s.tree dir n (subst (λ q. 1 ≤ leading n q) (sym names) some) (omega (arith, one))
 
   pub apart_from : n ≢ dir
@@ -123,43 +123,43 @@ module _ (s : State) (is : IsState s) (up : IsFalse s.halted) (desks : Desks) (s
   parent_same : (x : ℕ) → x ≢ n → lost_of o x ≡ 0 → parent u x ≡ parent s.tree x
   parent_same x other none =
       let once = once_other n x (λ e. other (sym e)) in
-      let first = fewer s.room s.tree s.desks dir directory name n to_dir to_directory to_name o is.tree moves x in
-      let second = set s.room s.tree s.desks dir directory name n to_dir to_directory to_name o is.tree moves x in
-      let now : leading x (names_in (renamed_node directory less).body) ≡ leading x less = ap (leading x) (names_with_names less directory.body moves.is_dir) in
-      let was : leading x (names_or (node_at s.tree dir)) ≡ leading x (names_in directory.body) = ap (λ q. leading x (names_or q)) moves.stands in
-      let last : leading x (names_in (renamed_node middle.node more).body) ≡ leading x more = ap (leading x) (names_with_names more middle.node.body middle.directory) in
-      let mid : leading x (names_or (node_at v to_dir)) ≡ leading x (names_in middle.node.body) = ap (λ q. leading x (names_or q)) middle.here in
-      parent-with_node v to_dir (renamed_node middle.node more) (v_numbers s.room s.tree s.desks dir directory name n to_dir to_directory to_name o is.tree moves) x (omega (arith, second, once, none, last, mid))
+      let first = fewer s.room s.tree s.processes dir directory name n to_dir to_directory to_name o is.tree moves x in
+      let second = set s.room s.tree s.processes dir directory name n to_dir to_directory to_name o is.tree moves x in
+      let now : leading x (names_of_body (renamed_node directory less).body) ≡ leading x less = ap (leading x) (names_with_names less directory.body moves.is_dir) in
+      let was : leading x (names_or (node_at s.tree dir)) ≡ leading x (names_of_body directory.body) = ap (λ q. leading x (names_or q)) moves.stands in
+      let last : leading x (names_of_body (renamed_node middle.node more).body) ≡ leading x more = ap (leading x) (names_with_names more middle.node.body middle.directory) in
+      let mid : leading x (names_or (node_at v to_dir)) ≡ leading x (names_of_body middle.node.body) = ap (λ q. leading x (names_or q)) middle.here in
+      parent-with_node v to_dir (renamed_node middle.node more) (v_numbers s.room s.tree s.processes dir directory name n to_dir to_directory to_name o is.tree moves) x (omega (arith, second, once, none, last, mid))
       ∙ parent-with_node s.tree dir (renamed_node directory less) is.tree.numbers x (omega (arith, first, once, now, was))
 
   at_elsewhere : (x : ℕ) → x ≢ dir → x ≢ to_dir → node_at u x ≡ node_at s.tree x
   at_elsewhere x from to = at_others v to_dir (renamed_node middle.node more) x to ∙ at_others s.tree dir (renamed_node directory less) x from
 
   -- the directory to which it went
-  moved_to : placed (swept u desks) to_dir ≡ Some (record { node = renamed_node middle.node more; names = names_of s.tree to_dir; parent = parent s.tree to_dir })
+  moved_to : placed (swept u processes) to_dir ≡ Some (record { node = renamed_node middle.node more; names = names_of s.tree to_dir; parent = parent s.tree to_dir })
   moved_to =
-      let none = to_dir_kept s.room s.tree s.desks dir directory name n to_dir to_directory to_name o is.tree moves o refl in
+      let none = to_dir_kept s.room s.tree s.processes dir directory name n to_dir to_directory to_name o is.tree moves o refl in
       let other : to_dir ≢ n = λ e. apart_to (sym e) in
-      placed_stays u desks loses.numbers gone to_dir (renamed_node middle.node more) (at_it v to_dir (renamed_node middle.node more))
-      (stays_if s is up desks still u to_dir (renamed_node middle.node more) middle.stood.old middle.stood.was (type_with_names more middle.node.body ∙ middle.stood.same) (names_same to_dir none))
+      placed_stays u processes loses.numbers gone to_dir (renamed_node middle.node more) (at_it v to_dir (renamed_node middle.node more))
+      (stays_if s is up processes still u to_dir (renamed_node middle.node more) middle.stood.old middle.stood.was (type_with_names more middle.node.body ∙ middle.stood.same) (names_same to_dir none))
       ∙ ap (λ k. Some (record { node = renamed_node middle.node more; names = k; parent = parent u to_dir })) (names_same to_dir none)
       ∙ ap (λ k. Some (record { node = renamed_node middle.node more; names = names_of s.tree to_dir; parent = k })) (parent_same to_dir other none)
 
   -- another one from which it went
-  moved_from : dir ≢ to_dir → placed (swept u desks) dir ≡ Some (record { node = renamed_node directory less; names = names_of s.tree dir; parent = parent s.tree dir })
+  moved_from : dir ≢ to_dir → placed (swept u processes) dir ≡ Some (record { node = renamed_node directory less; names = names_of s.tree dir; parent = parent s.tree dir })
   moved_from differ =
-      let none = dir_kept s.room s.tree s.desks dir directory name n to_dir to_directory to_name o is.tree moves o refl in
+      let none = dir_kept s.room s.tree s.processes dir directory name n to_dir to_directory to_name o is.tree moves o refl in
       let other : dir ≢ n = λ e. apart_from (sym e) in
-      placed_stays u desks loses.numbers gone dir (renamed_node directory less) (at_others v to_dir (renamed_node middle.node more) dir differ ∙ at_it s.tree dir (renamed_node directory less))
-      (stays_if s is up desks still u dir (renamed_node directory less) directory moves.stands (type_with_names less directory.body) (names_same dir none))
+      placed_stays u processes loses.numbers gone dir (renamed_node directory less) (at_others v to_dir (renamed_node middle.node more) dir differ ∙ at_it s.tree dir (renamed_node directory less))
+      (stays_if s is up processes still u dir (renamed_node directory less) directory moves.stands (type_with_names less directory.body) (names_same dir none))
       ∙ ap (λ k. Some (record { node = renamed_node directory less; names = k; parent = parent u dir })) (names_same dir none)
       ∙ ap (λ k. Some (record { node = renamed_node directory less; names = names_of s.tree dir; parent = k })) (parent_same dir other none)
 
   -- what was moved
-  moved_node : placed (swept u desks) n ≡ Some (record { node = target; names = names_of s.tree n; parent = parent u n })
+  moved_node : placed (swept u processes) n ≡ Some (record { node = target; names = names_of s.tree n; parent = parent u n })
   moved_node =
-      let none = n_kept s.room s.tree s.desks dir directory name n to_dir to_directory to_name o is.tree moves o refl in
-      placed_stays u desks loses.numbers gone n target (at_elsewhere n apart_from apart_to ∙ at) (stays_if s is up desks still u n target target at refl (names_same n none))
+      let none = n_kept s.room s.tree s.processes dir directory name n to_dir to_directory to_name o is.tree moves o refl in
+      placed_stays u processes loses.numbers gone n target (at_elsewhere n apart_from apart_to ∙ at) (stays_if s is up processes still u n target target at refl (names_same n none))
       ∙ ap (λ k. Some (record { node = target; names = k; parent = parent u n })) (names_same n none)
 
   -- both directories, and what was moved
@@ -172,26 +172,26 @@ module _ (s : State) (is : IsState s) (up : IsFalse s.halted) (desks : Desks) (s
   abbrev pub arrived : ℕ → Option Placed
   arrived = placing n (Some (record { node = target; names = names_of s.tree n; parent = parent u n })) begun
 
-  as_begun : (x : ℕ) → x ≢ n → lost_of o x ≡ 0 → placed (swept u desks) x ≡ begun x
+  as_begun : (x : ℕ) → x ≢ n → lost_of o x ≡ 0 → placed (swept u processes) x ≡ begun x
   as_begun x other none = elim (cases_eq x to_dir) [
-    | inl e ↦ ap (placed (swept u desks)) e ∙ moved_to ∙ sym (ap begun e ∙ placing_here to_dir _ taken)
+    | inl e ↦ ap (placed (swept u processes)) e ∙ moved_to ∙ sym (ap begun e ∙ placing_here to_dir _ taken)
     | inr ne ↦ elim (cases_eq x dir) [
-      | inl e ↦ ap (placed (swept u desks)) e ∙ moved_from (λ same. ne (e ∙ same)) ∙ sym (ap taken e ∙ placing_here dir _ (placed s.tree)) ∙ sym (placing_other to_dir _ taken x ne)
+      | inl e ↦ ap (placed (swept u processes)) e ∙ moved_from (λ same. ne (e ∙ same)) ∙ sym (ap taken e ∙ placing_here dir _ (placed s.tree)) ∙ sym (placing_other to_dir _ taken x ne)
       | inr differs ↦
-          placed_again s is up desks still u loses.numbers gone x (at_elsewhere x differs ne) (names_same x none) (parent_same x other none)
+          placed_again s is up processes still u loses.numbers gone x (at_elsewhere x differs ne) (names_same x none) (parent_same x other none)
           ∙ sym (placing_other dir _ (placed s.tree) x differs) ∙ sym (placing_other to_dir _ taken x ne)
     ]
   ]
 
-  as_arrived : (x : ℕ) → lost_of o x ≡ 0 → placed (swept u desks) x ≡ arrived x
+  as_arrived : (x : ℕ) → lost_of o x ≡ 0 → placed (swept u processes) x ≡ arrived x
   as_arrived x none = elim (cases_eq x n) [
-    | inl e ↦ ap (placed (swept u desks)) e ∙ moved_node ∙ sym (ap arrived e ∙ placing_here n _ begun)
+    | inl e ↦ ap (placed (swept u processes)) e ∙ moved_node ∙ sym (ap arrived e ∙ placing_here n _ begun)
     | inr ne ↦ as_begun x ne none ∙ sym (placing_other n _ begun x ne)
   ]
 
   -- ---- the image
 
-  module _ (p : Place) (room : s.room ≡ room_of p) where
+  module _ (p : Geometry) (room : s.room ≡ room_of p) where
     module _ (old mid : SectorMap) (held : HoldsAll p old (placed s.tree)) (first : ChangesInode p dir old mid) (used : bit mid p.inode_bitmap dir ≡ bit old p.inode_bitmap dir)
         (here : HoldsNode p.version mid (inode_at p mid dir) (record { node = renamed_node directory less; names = names_of s.tree dir; parent = parent s.tree dir })) where
       taken_held : HoldsAll p mid taken
@@ -248,7 +248,7 @@ module _ (s : State) (is : IsState s) (up : IsFalse s.halted) (desks : Desks) (s
 
         last : renamed_node middle.node more ≡ renamed_node directory (with_entry name_cmp less to_name n)
         last =
-            let names : names_in middle.node.body ≡ less = ap (λ (q : Node). names_in q.body) middle_less ∙ names_with_names less directory.body moves.is_dir in
+            let names : names_of_body middle.node.body ≡ less = ap (λ (q : Node). names_of_body q.body) middle_less ∙ names_with_names less directory.body moves.is_dir in
             ap (λ (q : Node). renamed_node q more) middle_less ∙ renamed_twice directory less more
             ∙ ap (λ (q : Names). renamed_node directory (with_entry name_cmp q to_name n)) names
 
@@ -271,7 +271,7 @@ module _ (s : State) (is : IsState s) (up : IsFalse s.halted) (desks : Desks) (s
     n_below = node_below s p is room n target at
 
     parent_then : IsTrue (is_directory target.body) → parent u n ≡ to_dir
-    parent_then d = moved_parent s.room s.tree s.desks dir directory name n to_dir to_directory to_name o is.tree moves (record { node = target; is_there = at; directory = d }) n_not_root
+    parent_then d = moved_parent s.room s.tree s.processes dir directory name n to_dir to_directory to_name o is.tree moves (record { node = target; is_there = at; directory = d }) n_not_root
 
     -- a directory has its new parent
     pub parent_held : (mid new : SectorMap) → HoldsAll p mid begun → IsTrue (is_directory target.body) → ChangesInode p n mid new → bit new p.inode_bitmap n ≡ bit mid p.inode_bitmap n
@@ -294,23 +294,23 @@ module _ (s : State) (is : IsState s) (up : IsFalse s.halted) (desks : Desks) (s
             let stays_there : parent s.tree n ≡ parent u n = parent_was (record { node = target; is_there = at; directory = e }) ∙ same ∙ sym (parent_then e) in
             subst (λ k. HoldsNode p.version image (inode_at p image n) (record { node = target; names = names_of s.tree n; parent = k })) stays_there was
 
-    moved_then : (image : SectorMap) → HoldsAll p image (placed (swept u desks)) → HoldsAll p image (placed (swept (changed s.tree (MoveName dir name to_dir to_name)) desks))
-    moved_then image h = subst (λ w. HoldsAll p image (placed (swept w desks))) (sym (moved_is s.room s.tree s.desks dir directory name n to_dir to_directory to_name o is.tree moves)) h
+    moved_then : (image : SectorMap) → HoldsAll p image (placed (swept u processes)) → HoldsAll p image (placed (swept (changed s.tree (MoveName dir name to_dir to_name)) processes))
+    moved_then image h = subst (λ w. HoldsAll p image (placed (swept w processes))) (sym (moved_is s.room s.tree s.processes dir directory name n to_dir to_directory to_name o is.tree moves)) h
 
     -- nothing was replaced
-    pub move_held : (image : SectorMap) → HoldsAll p image arrived → o ≡ None → HoldsAll p image (placed (swept (changed s.tree (MoveName dir name to_dir to_name)) desks))
+    pub move_held : (image : SectorMap) → HoldsAll p image arrived → o ≡ None → HoldsAll p image (placed (swept (changed s.tree (MoveName dir name to_dir to_name)) processes))
     move_held image held none =
-        moved_then image (same_placed p image arrived (placed (swept u desks)) held (λ x. as_arrived x (ap (λ q. lost_of q x) none)))
+        moved_then image (same_placed p image arrived (placed (swept u processes)) held (λ x. as_arrived x (ap (λ q. lost_of q x) none)))
 
     module _ (m : ℕ) (led : o ≡ Some m) (replaced : Node) (at_m : node_at s.tree m ≡ Some replaced) where
       lost_one : lost_of o m ≡ 1
       lost_one = ap (λ q. lost_of q m) led ∙ once_same m m refl
 
       pub m_not_from : m ≢ dir
-      m_not_from e = let none : lost_of o m ≡ 0 = ap (lost_of o) e ∙ dir_kept s.room s.tree s.desks dir directory name n to_dir to_directory to_name o is.tree moves o refl in let one = lost_one in omega (arith, none, one)
+      m_not_from e = let none : lost_of o m ≡ 0 = ap (lost_of o) e ∙ dir_kept s.room s.tree s.processes dir directory name n to_dir to_directory to_name o is.tree moves o refl in let one = lost_one in omega (arith, none, one)
 
       pub m_not_to : m ≢ to_dir
-      m_not_to e = let none : lost_of o m ≡ 0 = ap (lost_of o) e ∙ to_dir_kept s.room s.tree s.desks dir directory name n to_dir to_directory to_name o is.tree moves o refl in let one = lost_one in omega (arith, none, one)
+      m_not_to e = let none : lost_of o m ≡ 0 = ap (lost_of o) e ∙ to_dir_kept s.room s.tree s.processes dir directory name n to_dir to_directory to_name o is.tree moves o refl in let one = lost_one in omega (arith, none, one)
 
       names_less : names_of u m ≡ names_of s.tree m - 1
       names_less = let all = loses.counts m in let one = lost_one in omega (arith, all, one)
@@ -327,28 +327,28 @@ module _ (s : State) (is : IsState s) (up : IsFalse s.halted) (desks : Desks) (s
       at_then = at_elsewhere m m_not_from m_not_to ∙ at_m
 
       module _ (mid new : SectorMap) (held : HoldsAll p mid arrived) (changes : ChangesInode p m mid new) where
-        replaced_then : (q : Option Placed) → placed (swept u desks) m ≡ q → HoldsAll p new (placing m q arrived)
-            → HoldsAll p new (placed (swept (changed s.tree (MoveName dir name to_dir to_name)) desks))
+        replaced_then : (q : Option Placed) → placed (swept u processes) m ≡ q → HoldsAll p new (placing m q arrived)
+            → HoldsAll p new (placed (swept (changed s.tree (MoveName dir name to_dir to_name)) processes))
         replaced_then q is_q h =
             moved_then new
-            (same_placed p new (placing m q arrived) (placed (swept u desks)) h
-            (placed_once arrived (placed (swept u desks)) m q is_q (λ x ne. as_arrived x (ap (λ z. lost_of z x) led ∙ once_other m x (λ e. ne (sym e))))))
+            (same_placed p new (placing m q arrived) (placed (swept u processes)) h
+            (placed_once arrived (placed (swept u processes)) m q is_q (λ x ne. as_arrived x (ap (λ z. lost_of z x) led ∙ once_other m x (λ e. ne (sym e))))))
 
         -- what was replaced stays
-        pub move_take_held : (not (names_of s.tree m - 1 == 0) || lives_nameless desks m replaced.body) ≡ true → bit new p.inode_bitmap m ≡ bit mid p.inode_bitmap m
+        pub move_take_held : (not (names_of s.tree m - 1 == 0) || lives_nameless processes m replaced.body) ≡ true → bit new p.inode_bitmap m ≡ bit mid p.inode_bitmap m
             → HoldsNode p.version new (inode_at p new m) (record { node = replaced; names = names_of s.tree m - 1; parent = parent (changed s.tree (MoveName dir name to_dir to_name)) m })
-            → HoldsAll p new (placed (swept (changed s.tree (MoveName dir name to_dir to_name)) desks))
+            → HoldsAll p new (placed (swept (changed s.tree (MoveName dir name to_dir to_name)) processes))
         move_take_held stay same here =
             replaced_then _
-            (placed_stays u desks loses.numbers gone m replaced at_then (ap (λ k. not (k == 0) || lives_nameless desks m replaced.body) names_less ∙ stay)
+            (placed_stays u processes loses.numbers gone m replaced at_then (ap (λ k. not (k == 0) || lives_nameless processes m replaced.body) names_less ∙ stay)
             ∙ ap (λ k. Some (record { node = replaced; names = k; parent = parent u m })) names_less)
             (one_replaced p m mid new arrived held m_below changes _ _ arrived_m
-            (subst (λ w. HoldsNode p.version new (inode_at p new m) (record { node = replaced; names = names_of s.tree m - 1; parent = parent w m })) (moved_is s.room s.tree s.desks dir directory name n to_dir to_directory to_name o is.tree moves) here) same)
+            (subst (λ w. HoldsNode p.version new (inode_at p new m) (record { node = replaced; names = names_of s.tree m - 1; parent = parent w m })) (moved_is s.room s.tree s.processes dir directory name n to_dir to_directory to_name o is.tree moves) here) same)
 
         -- it goes
-        pub move_drop_held : (not (names_of s.tree m - 1 == 0) || lives_nameless desks m replaced.body) ≡ false → bit new p.inode_bitmap m ≡ false
-            → inode_at p new m ≡ free_inode → HoldsAll p new (placed (swept (changed s.tree (MoveName dir name to_dir to_name)) desks))
+        pub move_drop_held : (not (names_of s.tree m - 1 == 0) || lives_nameless processes m replaced.body) ≡ false → bit new p.inode_bitmap m ≡ false
+            → inode_at p new m ≡ free_inode → HoldsAll p new (placed (swept (changed s.tree (MoveName dir name to_dir to_name)) processes))
         move_drop_held goes clear free =
             replaced_then None
-            (placed_goes u desks loses.numbers gone m replaced at_then (ap (λ k. not (k == 0) || lives_nameless desks m replaced.body) names_less ∙ goes))
+            (placed_goes u processes loses.numbers gone m replaced at_then (ap (λ k. not (k == 0) || lives_nameless processes m replaced.body) names_less ∙ goes))
             (one_dropped p m mid new arrived held m_below changes (is.tree.each m replaced at_m).positive free clear)

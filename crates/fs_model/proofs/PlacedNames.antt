@@ -6,9 +6,9 @@ use Rattle.std.proofs.Common.{refl, sym, ap, arith, ◌∙◌, inl, inr}
 use Rattle.std.proofs.lemmas.Bool.{cases_eq}
 use Rattle.fs_layout.specs.Maps.{name_cmp, with_entry, without}
 use Rattle.fs_layout.proofs.NameMaps.{Names, leading, once_if, once_same, once_other}
-use Rattle.fs_model.specs.Nodes.{Node, names_in}
+use Rattle.fs_model.specs.Nodes.{Node, names_of_body}
 use Rattle.fs_model.specs.Trees.{Tree, Room, node_at, names_of, parent, IsTree}
-use Rattle.fs_model.specs.Processes.{Desks, is_open}
+use Rattle.fs_model.specs.Processes.{ProcessTable, is_open}
 use Rattle.fs_model.specs.TreeChanges.{swept, lives_nameless}
 use Rattle.fs_model.specs.States.{State, IsState}
 use Rattle.fs_model.specs.Stands.{placed}
@@ -27,17 +27,17 @@ use Rattle.fs_model.proofs.Swept.{DropsNoNames, stays}
 module _ (room : Room) (t w : Tree) (dir : ℕ) (directory : Node) (name : List ℕ) (n : ℕ) (target : Node) (is : IsTree room t)
     (adds : AddsName room t w dir directory name n target) (parents : (x : ℕ) → parent w x ≡ parent t x) where
   abbrev new : Names
-  new = with_entry name_cmp (names_in directory.body) name n
+  new = with_entry name_cmp (names_of_body directory.body) name n
 
   abbrev u : Tree
-  u = renamed w dir directory (with_entry name_cmp (names_in directory.body) name n)
+  u = renamed w dir directory (with_entry name_cmp (names_of_body directory.body) name n)
 
   parent_other : (x : ℕ) → x ≢ n → parent u x ≡ parent t x
   parent_other x ne =
       let all = more room t w dir directory name n target is adds x in
       let none = once_other n x (λ e. ne (sym e)) in
-      let now : leading x (names_in (renamed_node directory new).body) ≡ leading x new = ap (leading x) (names_with_names new directory.body adds.takes.is_dir) in
-      let was : leading x (names_or (node_at w dir)) ≡ leading x (names_in directory.body) = ap (λ o. leading x (names_or o)) (stands_then room t w dir directory name n target is adds) in
+      let now : leading x (names_of_body (renamed_node directory new).body) ≡ leading x new = ap (leading x) (names_with_names new directory.body adds.takes.is_dir) in
+      let was : leading x (names_or (node_at w dir)) ≡ leading x (names_of_body directory.body) = ap (λ o. leading x (names_or o)) (stands_then room t w dir directory name n target is adds) in
       parent-with_node w dir (renamed_node directory new) adds.numbers x (omega (arith, all, none, now, was)) ∙ parents x
 
   -- the directory with the name
@@ -78,19 +78,19 @@ module _ (room : Room) (t w : Tree) (dir : ℕ) (directory : Node) (name : List 
 
 -- ---- a name less
 
-module _ (s : State) (is : IsState s) (up : IsFalse s.halted) (desks : Desks) (still : (n : ℕ) → IsTrue (is_open s.desks n) → IsTrue (is_open desks n))
-    (dir : ℕ) (directory : Node) (name : List ℕ) (m : ℕ) (takes : TakesName s.tree s.desks dir directory name m) where
+module _ (s : State) (is : IsState s) (up : IsFalse s.halted) (processes : ProcessTable) (still : (n : ℕ) → IsTrue (is_open s.processes n) → IsTrue (is_open processes n))
+    (dir : ℕ) (directory : Node) (name : List ℕ) (m : ℕ) (takes : TakesName s.tree s.processes dir directory name m) where
   abbrev less : Names
-  less = without name_cmp (names_in directory.body) name
+  less = without name_cmp (names_of_body directory.body) name
 
   abbrev left : Tree
-  left = renamed s.tree dir directory (without name_cmp (names_in directory.body) name)
+  left = renamed s.tree dir directory (without name_cmp (names_of_body directory.body) name)
 
-  loses : LosesNames s.room s.tree left s.desks (once_if m)
-  loses = takes_loses s.room s.tree s.desks dir directory name m is.tree takes
+  loses : LosesNames s.room s.tree left s.processes (once_if m)
+  loses = takes_loses s.room s.tree s.processes dir directory name m is.tree takes
 
-  gone : DropsNoNames (stays left desks) left left
-  gone = gone_empty s.room s.tree left s.desks (once_if m) is.tree loses desks
+  gone : DropsNoNames (stays left processes) left left
+  gone = gone_empty s.room s.tree left s.processes (once_if m) is.tree loses processes
 
   names_same : (x : ℕ) → x ≢ m → names_of left x ≡ names_of s.tree x
   names_same x other = let all = loses.counts x in let none = once_other m x (λ e. other (sym e)) in omega (arith, all, none)
@@ -100,43 +100,43 @@ module _ (s : State) (is : IsState s) (up : IsFalse s.halted) (desks : Desks) (s
 
   parent_same : (x : ℕ) → x ≢ m → parent left x ≡ parent s.tree x
   parent_same x other =
-      let all = fewer s.room s.tree s.desks dir directory name m is.tree takes x in
+      let all = fewer s.room s.tree s.processes dir directory name m is.tree takes x in
       let none = once_other m x (λ e. other (sym e)) in
-      let now : leading x (names_in (renamed_node directory less).body) ≡ leading x less = ap (leading x) (names_with_names less directory.body takes.is_dir) in
-      let was : leading x (names_or (node_at s.tree dir)) ≡ leading x (names_in directory.body) = ap (λ o. leading x (names_or o)) takes.stands in
+      let now : leading x (names_of_body (renamed_node directory less).body) ≡ leading x less = ap (leading x) (names_with_names less directory.body takes.is_dir) in
+      let was : leading x (names_or (node_at s.tree dir)) ≡ leading x (names_of_body directory.body) = ap (λ o. leading x (names_or o)) takes.stands in
       parent-with_node s.tree dir (renamed_node directory less) is.tree.numbers x (omega (arith, all, none, now, was))
 
   -- the name doesn't lead to its directory
   pub taken_apart : m ≢ dir
   taken_apart e =
-      not_dir s.room s.tree s.desks dir directory name m is.tree takes
+      not_dir s.room s.tree s.processes dir directory name m is.tree takes
       (record { node = directory; is_there = ap (node_at s.tree) e ∙ takes.stands; directory = takes.is_dir }) e
 
   -- the directory without the name
-  pub taken_dir : placed (swept left desks) dir ≡ Some (record { node = renamed_node directory less; names = names_of s.tree dir; parent = parent s.tree dir })
+  pub taken_dir : placed (swept left processes) dir ≡ Some (record { node = renamed_node directory less; names = names_of s.tree dir; parent = parent s.tree dir })
   taken_dir =
       let other : dir ≢ m = λ e. taken_apart (sym e) in
-      placed_stays left desks loses.numbers gone dir (renamed_node directory less) (at_it s.tree dir (renamed_node directory less))
-      (stays_if s is up desks still left dir (renamed_node directory less) directory takes.stands (type_with_names less directory.body) (names_same dir other))
+      placed_stays left processes loses.numbers gone dir (renamed_node directory less) (at_it s.tree dir (renamed_node directory less))
+      (stays_if s is up processes still left dir (renamed_node directory less) directory takes.stands (type_with_names less directory.body) (names_same dir other))
       ∙ ap (λ k. Some (record { node = renamed_node directory less; names = k; parent = parent left dir })) (names_same dir other)
       ∙ ap (λ k. Some (record { node = renamed_node directory less; names = names_of s.tree dir; parent = k })) (parent_same dir other)
 
   -- all else
-  pub taken_others : (x : ℕ) → x ≢ dir → x ≢ m → placed (swept left desks) x ≡ placed s.tree x
+  pub taken_others : (x : ℕ) → x ≢ dir → x ≢ m → placed (swept left processes) x ≡ placed s.tree x
   taken_others x other_dir other =
-      placed_again s is up desks still left loses.numbers gone x (at_others s.tree dir (renamed_node directory less) x other_dir) (names_same x other) (parent_same x other)
+      placed_again s is up processes still left loses.numbers gone x (at_others s.tree dir (renamed_node directory less) x other_dir) (names_same x other) (parent_same x other)
 
   module _ (target : Node) (at : node_at s.tree m ≡ Some target) where
     at_then : node_at left m ≡ Some target
     at_then = at_others s.tree dir (renamed_node directory less) m taken_apart ∙ at
 
     -- what it led to has a name less, or is gone
-    pub taken_stays : (not (names_of s.tree m - 1 == 0) || lives_nameless desks m target.body) ≡ true
-        → placed (swept left desks) m ≡ Some (record { node = target; names = names_of s.tree m - 1; parent = parent left m })
+    pub taken_stays : (not (names_of s.tree m - 1 == 0) || lives_nameless processes m target.body) ≡ true
+        → placed (swept left processes) m ≡ Some (record { node = target; names = names_of s.tree m - 1; parent = parent left m })
     taken_stays stay =
-        placed_stays left desks loses.numbers gone m target at_then (ap (λ k. not (k == 0) || lives_nameless desks m target.body) names_less ∙ stay)
+        placed_stays left processes loses.numbers gone m target at_then (ap (λ k. not (k == 0) || lives_nameless processes m target.body) names_less ∙ stay)
         ∙ ap (λ k. Some (record { node = target; names = k; parent = parent left m })) names_less
 
-    pub taken_goes : (not (names_of s.tree m - 1 == 0) || lives_nameless desks m target.body) ≡ false → placed (swept left desks) m ≡ None
+    pub taken_goes : (not (names_of s.tree m - 1 == 0) || lives_nameless processes m target.body) ≡ false → placed (swept left processes) m ≡ None
     taken_goes goes =
-        placed_goes left desks loses.numbers gone m target at_then (ap (λ k. not (k == 0) || lives_nameless desks m target.body) names_less ∙ goes)
+        placed_goes left processes loses.numbers gone m target at_then (ap (λ k. not (k == 0) || lives_nameless processes m target.body) names_less ∙ goes)

@@ -9,7 +9,7 @@ use Rattle.std.proofs.lemmas.Bool.{cases_eq, cond-true, cond-false, eq-eqb, ne_e
 use Rattle.std.proofs.lemmas.Bool.Decides.{nat_tests}
 use Rattle.std.specs.Option.{option_map}
 use Rattle.std.specs.Ordering.{nat_cmp}
-use Rattle.fs_layout.specs.declared.place.Place.{Place}
+use Rattle.fs_layout.specs.declared.geometry.Geometry.{Geometry}
 use Rattle.fs_layout.specs.Bytes.{SectorMap}
 use Rattle.fs_layout.specs.Inode.{free_inode}
 use Rattle.fs_layout.specs.Images.{bit, inode_at}
@@ -17,7 +17,7 @@ use Rattle.fs_layout.specs.InodeChanges.{ChangesInode}
 use Rattle.fs_layout.specs.Maps.{IsMap}
 use Rattle.fs_model.specs.Nodes.{Node, type_of}
 use Rattle.fs_model.specs.Trees.{Tree, Room, node_at, names_of, parent, NamesFit, IsTree}
-use Rattle.fs_model.specs.Processes.{Desks, is_open}
+use Rattle.fs_model.specs.Processes.{ProcessTable, is_open}
 use Rattle.fs_model.specs.Births.{the_node}
 use Rattle.fs_model.specs.TreeChanges.{swept, lives_nameless}
 use Rattle.fs_model.specs.States.{State, IsState, FitsTree}
@@ -33,7 +33,7 @@ use Rattle.fs_model.proofs.Unchanged.{fitting_stays, root_directory, open_stays}
 -- ---- number by number
 
 -- the same is to be held
-pub same_placed : (p : Place) (image : SectorMap) (what next : ℕ → Option Placed) → HoldsAll p image what → ((n : ℕ) → next n ≡ what n)
+pub same_placed : (p : Geometry) (image : SectorMap) (what next : ℕ → Option Placed) → HoldsAll p image what → ((n : ℕ) → next n ≡ what n)
     → HoldsAll p image next
 same_placed p image what next h same = record {
   consistent = h.consistent;
@@ -66,7 +66,7 @@ placed_twice what next a b x y at_a at_b others = placed_once (placing a x what)
   | inr other ↦ others m other ne ∙ sym (placing_other a x what m other)
 ])
 
-module _ (p : Place) (n : ℕ) (old new : SectorMap) (what : ℕ → Option Placed) (h : HoldsAll p old what) (below : n < p.inodes) (changes : ChangesInode p n old new) where
+module _ (p : Geometry) (n : ℕ) (old new : SectorMap) (what : ℕ → Option Placed) (h : HoldsAll p old what) (below : n < p.inodes) (changes : ChangesInode p n old new) where
   -- inode n holds this then
   pub one_placed : (o : Option Placed) → HoldsPlaced p new n o → bit new p.inode_bitmap n ≡ (nat_eq n 0 || nat_le p.inodes n || is_some o)
       → HoldsAll p new (placing n o what)
@@ -83,7 +83,7 @@ module _ (p : Place) (n : ℕ) (old new : SectorMap) (what : ℕ → Option Plac
       → HoldsAll p new (placing n (Some y) what)
   one_replaced x y was here same =
       one_placed (Some y) here
-      (same ∙ h.inode_bits n (let bits = h.consistent.place.inode_bits in omega (arith, below, bits)) ∙ ap (λ q. nat_eq n 0 || nat_le p.inodes n || is_some q) was)
+      (same ∙ h.inode_bits n (let bits = h.consistent.geometry.inode_bits in omega (arith, below, bits)) ∙ ap (λ q. nat_eq n 0 || nat_le p.inodes n || is_some q) was)
 
   -- where it holds none
   pub one_dropped : 1 ≤ n → inode_at p new n ≡ free_inode → bit new p.inode_bitmap n ≡ false → HoldsAll p new (placing n None what)
@@ -93,7 +93,7 @@ module _ (p : Place) (n : ℕ) (old new : SectorMap) (what : ℕ → Option Plac
       let inside : nat_le p.inodes n ≡ false = grind (arith, nat_tests) in
       one_placed None free (clear ∙ sym (ap (λ b. b || nat_le p.inodes n || false) positive ∙ ap (λ b. b || false) inside))
 
-module _ (p : Place) (image : SectorMap) (what : ℕ → Option Placed) (h : HoldsAll p image what) (n : ℕ) where
+module _ (p : Geometry) (image : SectorMap) (what : ℕ → Option Placed) (h : HoldsAll p image what) (n : ℕ) where
   pub held_at : n < p.inodes → (x : Placed) → what n ≡ Some x → HoldsNode p.version image (inode_at p image n) x
   held_at below x was = subst (HoldsPlaced p image n) was (h.nodes n below)
 
@@ -122,69 +122,69 @@ placed_from t n o names up at count above =
     ∙ ap (λ k. option_map (λ node. record { node = node; names = k; parent = parent t n }) o) count
     ∙ ap (λ k. option_map (λ node. record { node = node; names = names; parent = k }) o) above
 
-pub below_inodes : (s : State) (p : Place) → s.room ≡ room_of p → (n : ℕ) → n < s.room.inodes → n < p.inodes
+pub below_inodes : (s : State) (p : Geometry) → s.room ≡ room_of p → (n : ℕ) → n < s.room.inodes → n < p.inodes
 below_inodes s p room n lt = let e = ap (λ (q : Room). q.inodes) room in omega (arith, lt, e)
 
-pub node_below : (s : State) (p : Place) → IsState s → s.room ≡ room_of p → (n : ℕ) (node : Node) → node_at s.tree n ≡ Some node → n < p.inodes
+pub node_below : (s : State) (p : Geometry) → IsState s → s.room ≡ room_of p → (n : ℕ) (node : Node) → node_at s.tree n ≡ Some node → n < p.inodes
 node_below s p is room n node at = below_inodes s p room n (is.tree.each n node at).below
 
 -- ---- a sweep
 
-module _ (u : Tree) (desks : Desks) (numbers : IsMap nat_cmp u) (gone : DropsNoNames (stays u desks) u u) (n : ℕ) where
+module _ (u : Tree) (processes : ProcessTable) (numbers : IsMap nat_cmp u) (gone : DropsNoNames (stays u processes) u u) (n : ℕ) where
   placed_swept : (o : Option Node) → node_at u n ≡ o
-      → placed (swept u desks) n ≡ option_map (λ node. record { node = node; names = names_of u n; parent = parent u n }) (kept (stays u desks) n o)
+      → placed (swept u processes) n ≡ option_map (λ node. record { node = node; names = names_of u n; parent = parent u n }) (kept (stays u processes) n o)
   placed_swept o at =
-      placed_from (swept u desks) n (kept (stays u desks) n o) (names_of u n) (parent u n)
-      (get-filter (stays u desks) u numbers n ∙ ap (kept (stays u desks) n) at)
-      (names_of-filter (stays u desks) u numbers gone n) (parent-filter (stays u desks) u numbers gone n)
+      placed_from (swept u processes) n (kept (stays u processes) n o) (names_of u n) (parent u n)
+      (get-filter (stays u processes) u numbers n ∙ ap (kept (stays u processes) n) at)
+      (names_of-filter (stays u processes) u numbers gone n) (parent-filter (stays u processes) u numbers gone n)
 
-  pub placed_none : node_at u n ≡ None → placed (swept u desks) n ≡ None
+  pub placed_none : node_at u n ≡ None → placed (swept u processes) n ≡ None
   placed_none at = placed_swept None at
 
   module _ (node : Node) (at : node_at u n ≡ Some node) where
-    pub placed_stays : stays u desks (n, node) ≡ true → placed (swept u desks) n ≡ Some (record { node = node; names = names_of u n; parent = parent u n })
+    pub placed_stays : stays u processes (n, node) ≡ true → placed (swept u processes) n ≡ Some (record { node = node; names = names_of u n; parent = parent u n })
     placed_stays stay =
         placed_swept (Some node) at
         ∙ ap (λ b. option_map (λ node. record { node = node; names = names_of u n; parent = parent u n }) (cond b (Some node) None)) stay
 
-    pub placed_goes : stays u desks (n, node) ≡ false → placed (swept u desks) n ≡ None
+    pub placed_goes : stays u processes (n, node) ≡ false → placed (swept u processes) n ≡ None
     placed_goes goes =
         placed_swept (Some node) at
         ∙ ap (λ b. option_map (λ node. record { node = node; names = names_of u n; parent = parent u n }) (cond b (Some node) None)) goes
 
 -- ---- where what is open stays open
 
-module _ (s : State) (is : IsState s) (up : IsFalse s.halted) (desks : Desks) (still : (n : ℕ) → IsTrue (is_open s.desks n) → IsTrue (is_open desks n)) (u : Tree) where
+module _ (s : State) (is : IsState s) (up : IsFalse s.halted) (processes : ProcessTable) (still : (n : ℕ) → IsTrue (is_open s.processes n) → IsTrue (is_open processes n)) (u : Tree) where
   -- a node that is of the type that it was, with as many names
   pub stays_if : (n : ℕ) (node old : Node) → node_at s.tree n ≡ Some old → type_of node.body ≡ type_of old.body → names_of u n ≡ names_of s.tree n
-      → stays u desks (n, node) ≡ true
+      → stays u processes (n, node) ≡ true
   stays_if n node old was type names =
-      let fits = is.desks up in
+      let fits = is.processes up in
       let fit : NamesFit s.room n node.body (names_of s.tree n) = same_fit s.room n (names_of s.tree n) node.body old.body type (is.tree.each n old was).names in
-      ap (λ k. not (k == 0) || lives_nameless desks n node.body) names
-      ∙ fitting_stays s.room desks n node.body (names_of s.tree n) fit (λ none ne. still n (fits.nameless n old was none ne))
+      ap (λ k. not (k == 0) || lives_nameless processes n node.body) names
+      ∙ fitting_stays s.room processes n node.body (names_of s.tree n) fit (λ none ne. still n (fits.nameless n old was none ne))
       (λ e. same_directory node.body old.body type ∙ root_directory s.room s.tree n old is.tree was e)
 
   -- and all of it is as it was
-  pub placed_again : IsMap nat_cmp u → DropsNoNames (stays u desks) u u → (n : ℕ) → node_at u n ≡ node_at s.tree n → names_of u n ≡ names_of s.tree n
-      → parent u n ≡ parent s.tree n → placed (swept u desks) n ≡ placed s.tree n
+  pub placed_again : IsMap nat_cmp u → DropsNoNames (stays u processes) u u → (n : ℕ) → node_at u n ≡ node_at s.tree n → names_of u n ≡ names_of s.tree n
+      → parent u n ≡ parent s.tree n → placed (swept u processes) n ≡ placed s.tree n
   placed_again numbers gone n at names above = go (node_at s.tree n) refl
     where
-      go : (o : Option Node) → node_at s.tree n ≡ o → placed (swept u desks) n ≡ placed s.tree n
-      go None e = placed_none u desks numbers gone n (at ∙ e) ∙ sym (placed_from s.tree n None (names_of u n) (parent u n) e (sym names) (sym above))
+      go : (o : Option Node) → node_at s.tree n ≡ o → placed (swept u processes) n ≡ placed s.tree n
+      go None e = placed_none u processes numbers gone n (at ∙ e) ∙ sym (placed_from s.tree n None (names_of u n) (parent u n) e (sym names) (sym above))
       go (Some node) e =
-          placed_stays u desks numbers gone n node (at ∙ e) (stays_if n node node e refl names)
+          placed_stays u processes numbers gone n node (at ∙ e) (stays_if n node node e refl names)
           ∙ sym (placed_from s.tree n (Some node) (names_of u n) (parent u n) e (sym names) (sym above))
 
   -- Each node is of the type that it was, and none has lost its last name.
   pub nothing_goes : IsTree s.room u → KeepsTypes s.tree u → ((n : ℕ) → IsThere u n → names_of u n ≡ 0 → IsThere s.tree n × (names_of s.tree n ≡ 0))
-      → swept u desks ≡ u
+      → swept u processes ≡ u
   nothing_goes tree types nameless =
-      let fits = is.desks up in
-      let fits_then : FitsTree u s.desks = record {
-        processes = λ pid q there. process_moves s.tree u types q (fits.processes pid q there);
+      let fits = is.processes up in
+      let fits_then : FitsTree u s.processes = record {
+        each_process = λ pid q there. process_moves s.tree u types q (fits.each_process pid q there);
         nameless = λ n node at none ne.
             let was = nameless n (ap is_some at) none in
             fits.nameless n (the_node s.tree n) (node_is_there s.tree n was.0) was.1 ne;
       } in
-      open_stays s.room u s.desks desks tree fits_then still
+      open_stays s.room u s.processes processes tree fits_then still

@@ -3,7 +3,7 @@ use Rattle.std.specs.Prelude.{◌≡◌, ◌≢◌, ℕ, ◌<◌, cond, Option, 
 use Rattle.std.proofs.Common.{refl, sym, ap, ◌∙◌}
 use Rattle.std.proofs.lemmas.Bool.{eq-eqb, ne_eqb}
 use Rattle.std.specs.Option.{option_map}
-use Rattle.fs_layout.specs.declared.place.Place.{Place}
+use Rattle.fs_layout.specs.declared.geometry.Geometry.{Geometry}
 use Rattle.fs_layout.specs.Bytes.{SectorMap}
 use Rattle.fs_layout.specs.Images.{bit, inode_at}
 use Rattle.fs_layout.specs.InodeChanges.{ChangesInode}
@@ -49,7 +49,7 @@ module _ (now n : ℕ) (touch : Touch) (u : Tree) (node : Node) (at : node_at u 
           same (Some v) = ap (λ b. Some (record { node = record v { stamps = cond b (touch_at now touch v.stamps) v.stamps }; names = names_of u m; parent = parent u m })) (ne_eqb m n ne)
 
   -- the image, after inode n alone was saved with these times
-  pub touched_held : (p : Place) (old new : SectorMap) → HoldsAll p old (placed u) → n < p.inodes → ChangesInode p n old new
+  pub touched_held : (p : Geometry) (old new : SectorMap) → HoldsAll p old (placed u) → n < p.inodes → ChangesInode p n old new
       → bit new p.inode_bitmap n ≡ bit old p.inode_bitmap n
       → HoldsNode p.version new (inode_at p new n) (record { node = node_touched; names = names_of u n; parent = parent u n })
       → HoldsAll p new (placed next)

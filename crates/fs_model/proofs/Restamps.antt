@@ -17,7 +17,7 @@ use Rattle.fs_model.specs.declared.reply.Stamps.{Stamps}
 use Rattle.fs_model.specs.Limits.{root}
 use Rattle.fs_model.specs.Nodes.{Node, sectors_of}
 use Rattle.fs_model.specs.Trees.{Tree, Room, node_at, names_for, names_of, parent, sectors_needed, AreStamps, NamesFit, IsNode, IsTree}
-use Rattle.fs_model.specs.Processes.{Desks, Process}
+use Rattle.fs_model.specs.Processes.{ProcessTable, Process}
 use Rattle.fs_model.specs.declared.touch.Touch.{Touch}
 use Rattle.fs_model.specs.declared.touch.Touch.TheVariants.{Untouched, Changed, Modified, Born}
 use Rattle.fs_model.specs.TreeChanges.{Change, Same, Rewrite, Make, AddName, TakeName, MoveName, touch_at, touch_one, touched, touches, touches_of, restamp, restamped}
@@ -127,9 +127,9 @@ module _ (f : ℕ → Stamps → Stamps) where
       each = λ n node at. let s = stood t n node at in subst (IsNode room (restamped f t) n) s.is (node_is n s.old (is.each n s.old s.was));
     }
 
-  pub restamped_fits : (t : Tree) (desks : Desks) → FitsTree t desks → FitsTree (restamped f t) desks
-  restamped_fits t desks fits = record {
-    processes = λ pid p here. process_moves t (restamped f t) (restamped_keeps_types t) p (fits.processes pid p here);
+  pub restamped_fits : (t : Tree) (processes : ProcessTable) → FitsTree t processes → FitsTree (restamped f t) processes
+  restamped_fits t processes fits = record {
+    each_process = λ pid p here. process_moves t (restamped f t) (restamped_keeps_types t) p (fits.each_process pid p here);
     nameless = λ n node at none ne. let s = stood t n node at in fits.nameless n s.old s.was (sym (names_of-restamped t n) ∙ none) ne;
   }
 
@@ -164,7 +164,7 @@ restamped_is_state s f fit is = record {
   few = is.few;
   free = restamped_free f s.room s.tree s.free is.free;
   now = is.now;
-  desks = λ runs. restamped_fits f s.tree s.desks (is.desks runs);
+  processes = λ runs. restamped_fits f s.tree s.processes (is.processes runs);
 }
 
 -- ---- touches

@@ -7,7 +7,7 @@ use Rattle.std.specs.Ordering.{nat_cmp, is_eq, is_lt}
 use Rattle.std.specs.FinMap.Entries.{by_order}
 use Rattle.fs_model.specs.Limits.{root}
 use Rattle.fs_layout.specs.Maps.{get, IsMap}
-use Rattle.fs_model.specs.Nodes.{Node, Body, names_in, is_directory}
+use Rattle.fs_model.specs.Nodes.{Node, Body, names_of_body, is_directory}
 use Rattle.fs_model.specs.Trees.{Tree, Room, node_at, with_node, names_for, names_of, parent, IsBody, NamesFit, AreStamps, IsUnderRoot, is_root, is_in, IsNode, IsTree, IsDirectoryAt}
 use Rattle.fs_layout.proofs.FirstEntries.{above, left, right, lower, tied}
 use Rattle.fs_layout.proofs.MapLaws.{get-with_entry, with_entry-IsMap, sum-with_entry, summand}
@@ -16,7 +16,7 @@ use Rattle.fs_model.proofs.Moves.{body_moves}
 use Rattle.fs_model.proofs.StepsParents.{names_or, names_at}
 
 -- the same number of names for d in both bodies, for each d
-module _ (t : Tree) (k : ℕ) (old new : Node) (m : IsMap nat_cmp t) (was : node_at t k ≡ Some old) (names : names_in new.body ≡ names_in old.body) where
+module _ (t : Tree) (k : ℕ) (old new : Node) (m : IsMap nat_cmp t) (was : node_at t k ≡ Some old) (names : names_of_body new.body ≡ names_of_body old.body) where
   pub names_of-rewritten : (d : ℕ) → names_of (with_node t k new) d ≡ names_of t d
   names_of-rewritten d =
       let f : ℕ × Node → ℕ = λ e. names_for d e.1.body in
@@ -47,7 +47,7 @@ parent-with_node (e ∷ t) k new m d same =
     go Equal c x at same ih = ap (λ q. if nat_lt 0 q then e.0 else parent t d) same
     go Greater c x at same ih = ap (λ p. if nat_lt 0 (names_for d e.1.body) then e.0 else p) (ih (same ∙ ap (λ o. leading d (names_or o)) (sym at)))
 
-pub parent-rewritten : (t : Tree) (k : ℕ) (old new : Node) → IsMap nat_cmp t → node_at t k ≡ Some old → names_in new.body ≡ names_in old.body → (d : ℕ) → parent (with_node t k new) d ≡ parent t d
+pub parent-rewritten : (t : Tree) (k : ℕ) (old new : Node) → IsMap nat_cmp t → node_at t k ≡ Some old → names_of_body new.body ≡ names_of_body old.body → (d : ℕ) → parent (with_node t k new) d ≡ parent t d
 parent-rewritten t k old new m was names d =
     parent-with_node t k new m d (ap (leading d) names ∙ sym (ap (λ o. leading d (names_or o)) was))
 
@@ -61,7 +61,7 @@ fits_moves room n b names names' e h = subst (NamesFit room n b) (sym e) h
 
 -- what a rewritten object has to be
 pub record MayStandFor (room : Room) (t : Tree) (k : ℕ) (old new : Node) : Type 0 where
-  pub names : names_in new.body ≡ names_in old.body
+  pub names : names_of_body new.body ≡ names_of_body old.body
   pub kind : is_directory new.body ≡ is_directory old.body
   pub owner : new.owner < 2 ^ 32
   pub group : new.group < 2 ^ 32

@@ -131,7 +131,7 @@ a_link = refl
 abbrev holding : ℕ → List ℕ → State
 holding mode bytes = record fresh {
   tree = (1, directory 0o755 ((codes "f", 2) ∷ [])) ∷ (2, file mode bytes) ∷ [];
-  desks = (1, stranger) ∷ (2, with_descriptor owner 0 (to_read 2)) ∷ [];
+  processes = (1, stranger) ∷ (2, with_descriptor owner 0 (to_read 2)) ∷ [];
   free = 877;
 }
 

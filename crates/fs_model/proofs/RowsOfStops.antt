@@ -13,7 +13,7 @@ use Rattle.fs_model.specs.declared.reply.Reply.TheVariants.{Pid, Fd, Data, Space
 use Rattle.fs_model.specs.declared.event.Event.{Event}
 use Rattle.fs_model.specs.declared.event.Event.TheVariants.{Call as Calls, Fsync, Sync, Statfs}
 use Rattle.fs_model.specs.Limits.{root}
-use Rattle.fs_model.specs.Nodes.{names_in, shown_mode}
+use Rattle.fs_model.specs.Nodes.{names_of_body, shown_mode}
 use Rattle.fs_model.specs.Trees.{Tree}
 use Rattle.fs_model.specs.Births.{the_node}
 use Rattle.fs_model.specs.TreeChanges.{pruned}
@@ -44,7 +44,7 @@ left m = map pruned m.trees
 
 -- the names in the root, and its mode
 abbrev root_names : Tree → List (List ℕ × ℕ)
-root_names t = names_in (the_node t root).body
+root_names t = names_of_body (the_node t root).body
 
 abbrev root_mode : Tree → ℕ
 root_mode t = shown_mode (the_node t root).body

@@ -9,7 +9,7 @@ use Rattle.std.specs.Ordering.{nat_cmp, is_eq}
 use Rattle.std.specs.FinMap.Entries.{by_order}
 use Rattle.fs_model.specs.Nodes.{Node, Body, File, Dir, Link}
 use Rattle.fs_model.specs.Trees.{Tree, node_at, with_node, names_of}
-use Rattle.fs_model.specs.Processes.{Process, Desks}
+use Rattle.fs_model.specs.Processes.{Process, ProcessTable}
 use Rattle.fs_model.specs.Births.{the_node, no_node}
 use Rattle.fs_model.specs.TreeChanges.{swept, lives_nameless}
 use Rattle.fs_model.specs.Alike.{blotted, may_read, node_seen, tree_seen, sees_into}
@@ -33,22 +33,22 @@ filter-map f keeps keeps' same (e ∷ t) =
 names_of-seen : (p : Process) (t : Tree) (n : ℕ) → names_of (tree_seen p t) n ≡ names_of t n
 names_of-seen p t n = sym (names_of-veil (tree_seen p t) n) ∙ ap (λ u. names_of u n) (veil-seen p t) ∙ names_of-veil t n
 
-lives-seen : (p : Process) (desks : Desks) (n : ℕ) (node : Node) → lives_nameless desks n (node_seen p n node).body ≡ lives_nameless desks n node.body
-lives-seen p desks n node = go (sees_into p n node) node.body
+lives-seen : (p : Process) (processes : ProcessTable) (n : ℕ) (node : Node) → lives_nameless processes n (node_seen p n node).body ≡ lives_nameless processes n node.body
+lives-seen p processes n node = go (sees_into p n node) node.body
   where
-    go : (b : Bool) (body : Body) → lives_nameless desks n (cond b (record node { body = body }) (record node { body = blotted body })).body ≡ lives_nameless desks n body
+    go : (b : Bool) (body : Body) → lives_nameless processes n (cond b (record node { body = body }) (record node { body = blotted body })).body ≡ lives_nameless processes n body
     go true body = refl
     go false (File a bytes) = refl
     go false (Dir a d) = refl
     go false (Link target) = refl
 
-pub swept-seen : (p : Process) (t : Tree) (desks : Desks) → swept (tree_seen p t) desks ≡ tree_seen p (swept t desks)
-swept-seen p t desks =
+pub swept-seen : (p : Process) (t : Tree) (processes : ProcessTable) → swept (tree_seen p t) processes ≡ tree_seen p (swept t processes)
+swept-seen p t processes =
     filter-map (λ e. (e.0, node_seen p e.0 e.1))
-    (λ e. not (names_of t e.0 == 0) || lives_nameless desks e.0 e.1.body)
-    (λ e. not (names_of (tree_seen p t) e.0 == 0) || lives_nameless desks e.0 e.1.body)
-    (λ e. ap (λ k. not (k == 0) || lives_nameless desks e.0 (node_seen p e.0 e.1).body) (names_of-seen p t e.0)
-    ∙ ap (λ b. not (names_of t e.0 == 0) || b) (lives-seen p desks e.0 e.1)) t
+    (λ e. not (names_of t e.0 == 0) || lives_nameless processes e.0 e.1.body)
+    (λ e. not (names_of (tree_seen p t) e.0 == 0) || lives_nameless processes e.0 e.1.body)
+    (λ e. ap (λ k. not (k == 0) || lives_nameless processes e.0 (node_seen p e.0 e.1).body) (names_of-seen p t e.0)
+    ∙ ap (λ b. not (names_of t e.0 == 0) || b) (lives-seen p processes e.0 e.1)) t
 
 -- ---- nodes
 

@@ -7,7 +7,7 @@ use Rattle.fs_layout.specs.Bytes.{IsBytes}
 use Rattle.fs_layout.specs.Directories.{IsName}
 use Rattle.fs_model.specs.Limits.{root}
 use Rattle.fs_layout.specs.Maps.{get, name_cmp, with_entry, IsMap}
-use Rattle.fs_model.specs.Nodes.{Node, Body, File, Dir, Link, is_directory, names_in, with_names}
+use Rattle.fs_model.specs.Nodes.{Node, Body, File, Dir, Link, is_directory, names_of_body, with_names}
 use Rattle.fs_model.specs.Trees.{Tree, Room, node_at, names_of, parent, NamesFit, IsEntry, IsUnderRoot, is_in, IsNode, IsDirectoryAt, IsTree}
 use Rattle.fs_model.proofs.Finds.{IsThere}
 use Rattle.fs_layout.proofs.MapLaws.{with_entry-IsMap}
@@ -22,15 +22,15 @@ use Rattle.fs_model.proofs.StepsParents.{names_at, parent_is, parent_kept, under
 pub record TakesNewName (room : Room) (t : Tree) (dir : ℕ) (directory : Node) (name : List ℕ) : Type 0 where
   pub stands : node_at t dir ≡ Some directory
   pub is_dir : IsTrue (is_directory directory.body)
-  pub is_new : get name_cmp (names_in directory.body) name ≡ None
-  pub has_room : length (names_in directory.body) < room.entries_limit
+  pub is_new : get name_cmp (names_of_body directory.body) name ≡ None
+  pub has_room : length (names_of_body directory.body) < room.entries_limit
   pub is_name : IsName name
   pub short : length name ≤ room.name_limit
   pub bytes : IsBytes name
 
 -- as it does where no entry of it has the name
 pub takes_new : {room : Room} {t : Tree} {dir : ℕ} {name : List ℕ} (x : IsNameAt room t dir name None)
-    → length (names_in x.node.body) < room.entries_limit → TakesNewName room t dir x.node name
+    → length (names_of_body x.node.body) < room.entries_limit → TakesNewName room t dir x.node name
 takes_new x few = record { stands = x.stands; is_dir = x.directory; is_new = x.leads; has_room = few; is_name = x.is_name; short = x.short; bytes = x.bytes }
 
 -- From t, or from t with a new node in it, which is w: a name is added in a directory.
@@ -50,10 +50,10 @@ pub record AddsName (room : Room) (t w : Tree) (dir : ℕ) (directory : Node) (n
 
 module _ (room : Room) (t w : Tree) (dir : ℕ) (directory : Node) (name : List ℕ) (n : ℕ) (target : Node) (is : IsTree room t) (adds : AddsName room t w dir directory name n target) where
   abbrev new : Names
-  new = with_entry name_cmp (names_in directory.body) name n
+  new = with_entry name_cmp (names_of_body directory.body) name n
 
   abbrev u : Tree
-  u = renamed w dir directory (with_entry name_cmp (names_in directory.body) name n)
+  u = renamed w dir directory (with_entry name_cmp (names_of_body directory.body) name n)
 
   pub dir_apart : dir ≢ n
   dir_apart = adds.apart dir (record { node = directory; is_there = adds.takes.stands; directory = adds.takes.is_dir })
@@ -61,8 +61,8 @@ module _ (room : Room) (t w : Tree) (dir : ℕ) (directory : Node) (name : List 
   pub stands_then : node_at w dir ≡ Some directory
   stands_then = adds.others dir dir_apart ∙ adds.takes.stands
 
-  pub more : (x : ℕ) → leading x new ≡ leading x (names_in directory.body) + once_if n x
-  more x = leading-with_name (names_in directory.body) name n x adds.takes.is_new
+  pub more : (x : ℕ) → leading x new ≡ leading x (names_of_body directory.body) + once_if n x
+  more x = leading-with_name (names_of_body directory.body) name n x adds.takes.is_new
 
   pub count : (x : ℕ) → names_of u x ≡ names_of t x + once_if n x
   count x =
@@ -91,9 +91,9 @@ module _ (room : Room) (t w : Tree) (dir : ℕ) (directory : Node) (name : List 
   ]
 
   entry_is : (q : List ℕ) (k : ℕ) → get name_cmp new q ≡ Some k → IsEntry room u q k
-  entry_is q k e = go (eq_by_cmp name_cmp q name) refl (sym (get-with_name (names_in directory.body) name n q) ∙ e)
+  entry_is q k e = go (eq_by_cmp name_cmp q name) refl (sym (get-with_name (names_of_body directory.body) name n q) ∙ e)
     where
-      go : (b : Bool) → eq_by_cmp name_cmp q name ≡ b → cond b (Some n) (get name_cmp (names_in directory.body) q) ≡ Some k → IsEntry room u q k
+      go : (b : Bool) → eq_by_cmp name_cmp q name ≡ b → cond b (Some n) (get name_cmp (names_of_body directory.body) q) ≡ Some k → IsEntry room u q k
       go true t i =
           let same : q ≡ name = tied_names q name t in
           let it : n ≡ k = cc in
@@ -113,9 +113,9 @@ module _ (room : Room) (t w : Tree) (dir : ℕ) (directory : Node) (name : List 
   are_new =
       let were = are_names room t directory.body (is.each dir directory adds.takes.stands).body in
       record {
-        rising = with_name-IsMap (names_in directory.body) name n were.rising;
+        rising = with_name-IsMap (names_of_body directory.body) name n were.rising;
         few =
-            let len = length-with_name (names_in directory.body) name n were.rising adds.takes.is_new in
+            let len = length-with_name (names_of_body directory.body) name n were.rising adds.takes.is_new in
             let free = adds.takes.has_room in
             omega (arith, len, free);
         each = entry_is;

@@ -11,7 +11,7 @@ use Rattle.fs_layout.specs.Bytes.{IsBytes, resized, overwritten}
 use Rattle.fs_layout.proofs.Sectors.{IsBytes-append, IsBytes-take, IsBytes-drop}
 use Rattle.fs_model.specs.declared.call.AclType.{AclType}
 use Rattle.fs_model.specs.declared.call.AclType.TheVariants.{Access, Default}
-use Rattle.fs_model.specs.Nodes.{Node, Body, File, Dir, Link, Directory, names_in, bytes_in, type_of, with_bytes}
+use Rattle.fs_model.specs.Nodes.{Node, Body, File, Dir, Link, Directory, names_of_body, bytes_in, type_of, with_bytes}
 use Rattle.fs_model.specs.Trees.{Tree, Room, IsBody, IsDirectory, IsNode}
 use Rattle.fs_model.specs.AttributeCalls.{with_mode, moded, owned, with_set_acl}
 use Rattle.fs_model.specs.Ranges.{IsSomeId}
@@ -72,7 +72,7 @@ type_with_bytes bytes (File a s) = refl
 type_with_bytes bytes (Dir a d) = refl
 type_with_bytes bytes (Link target) = refl
 
-names_with_bytes : (bytes : List ℕ) (b : Body) → names_in (with_bytes bytes b) ≡ names_in b
+names_with_bytes : (bytes : List ℕ) (b : Body) → names_of_body (with_bytes bytes b) ≡ names_of_body b
 names_with_bytes bytes (File a s) = refl
 names_with_bytes bytes (Dir a d) = refl
 names_with_bytes bytes (Link target) = refl
@@ -88,7 +88,7 @@ type_with_mode cred group mode (File a s) = refl
 type_with_mode cred group mode (Dir a d) = refl
 type_with_mode cred group mode (Link target) = refl
 
-names_with_mode : (cred : Credential) (group mode : ℕ) (b : Body) → names_in (with_mode cred group mode b) ≡ names_in b
+names_with_mode : (cred : Credential) (group mode : ℕ) (b : Body) → names_of_body (with_mode cred group mode b) ≡ names_of_body b
 names_with_mode cred group mode (File a s) = refl
 names_with_mode cred group mode (Dir a d) = refl
 names_with_mode cred group mode (Link target) = refl
@@ -111,7 +111,7 @@ body_with_mode room t cred group mode (Dir a d) is = (IsAcl-with_mode_bits a mod
 body_with_mode room t cred group mode (Link target) is = is
 
 acl_keeps : (which : AclType) (acl : Option AccessList) (b : Body)
-    → (type_of (with_set_acl which acl b) ≡ type_of b) × (names_in (with_set_acl which acl b) ≡ names_in b)
+    → (type_of (with_set_acl which acl b) ≡ type_of b) × (names_of_body (with_set_acl which acl b) ≡ names_of_body b)
 acl_keeps Default acl (File a s) = (refl, refl)
 acl_keeps Default acl (Dir a d) = (refl, refl)
 acl_keeps Default acl (Link target) = (refl, refl)

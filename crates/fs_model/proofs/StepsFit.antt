@@ -52,10 +52,10 @@ module _ (room : Room) (t : Tree) (is : IsTree room t) (cwd : ℕ) (there : IsTh
   second_is_there [] n e = absurd cc
   second_is_there (walk ∷ walks) n e = first_is_there walks n e
 
-pub scene_is : (s : State) (pid : ℕ) (p : Process) (row : Row) → IsState s → IsFalse s.halted → get nat_cmp s.desks pid ≡ Some p
+pub scene_is : (s : State) (pid : ℕ) (p : Process) (row : Row) → IsState s → IsFalse s.halted → get nat_cmp s.processes pid ≡ Some p
     → IsScene (scene_of s p row)
 scene_is s pid p row is runs here =
-    let fits = (is.desks runs).processes pid p here in
+    let fits = (is.processes runs).each_process pid p here in
     let there : IsThere s.tree p.cwd = ap is_some fits.cwd.is_there in
     let second : IsThere s.tree p.second_cwd = ap is_some fits.second_cwd.is_there in
     record {
@@ -94,11 +94,11 @@ pub length-replaced : {X : Type 0} (m : List (ℕ × X)) (k : ℕ) (x y : X) →
     → length (with_entry nat_cmp m k y) ≡ length m
 length-replaced m k x y h here = length-with_entry m k y h ∙ ap (λ o. cond (is_some o) (length m) (length m + 1)) here
 
-pub effect_leaves : (s : State) (pid : ℕ) (p : Process) (effect : Effect) → IsState s → IsFalse s.halted → get nat_cmp s.desks pid ≡ Some p
-    → EffectFits s effect → MayBeLeft s.room (changed s.tree effect.change) (with_entry nat_cmp s.desks pid effect.process)
+pub effect_leaves : (s : State) (pid : ℕ) (p : Process) (effect : Effect) → IsState s → IsFalse s.halted → get nat_cmp s.processes pid ≡ Some p
+    → EffectFits s effect → MayBeLeft s.room (changed s.tree effect.change) (with_entry nat_cmp s.processes pid effect.process)
 effect_leaves s pid p effect is runs here fits =
-    tree_may_be_left s.room (changed s.tree effect.change) (with_entry nat_cmp s.desks pid effect.process) fits.tree
-    (with_entry-IsMap s.desks pid effect.process is.pids)
-    (let same = length-replaced s.desks pid p effect.process is.pids here in let few = is.few in omega (arith, same, few))
-    (in_with_entry (λ q r. IsProcess (changed s.tree effect.change) r) s.desks pid effect.process fits.process
-    (λ q r at. process_moves s.tree (changed s.tree effect.change) fits.types r ((is.desks runs).processes q r at)))
+    tree_may_be_left s.room (changed s.tree effect.change) (with_entry nat_cmp s.processes pid effect.process) fits.tree
+    (with_entry-IsMap s.processes pid effect.process is.pids)
+    (let same = length-replaced s.processes pid p effect.process is.pids here in let few = is.few in omega (arith, same, few))
+    (in_with_entry (λ q r. IsProcess (changed s.tree effect.change) r) s.processes pid effect.process fits.process
+    (λ q r at. process_moves s.tree (changed s.tree effect.change) fits.types r ((is.processes runs).each_process q r at)))

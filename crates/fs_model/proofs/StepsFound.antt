@@ -7,7 +7,7 @@ use Rattle.fs_layout.specs.declared.slot.TheConstants.{MAX_NAME}
 use Rattle.fs_layout.specs.Bytes.{IsBytes}
 use Rattle.fs_layout.specs.Directories.{IsName}
 use Rattle.fs_layout.specs.Maps.{get, name_cmp}
-use Rattle.fs_model.specs.Nodes.{Node, is_directory, names_in}
+use Rattle.fs_model.specs.Nodes.{Node, is_directory, names_of_body}
 use Rattle.fs_model.specs.Trees.{Tree, Room, node_at, parent, IsTree}
 use Rattle.fs_model.specs.Parts.{parts_of, start_of, is_empty}
 use Rattle.fs_model.specs.declared.walk.Form.{Form}
@@ -30,7 +30,7 @@ pub record IsNameAt (room : Room) (t : Tree) (dir : ℕ) (name : List ℕ) (o : 
   pub is_name : IsName name
   pub short : length name ≤ room.name_limit
   pub bytes : IsBytes name
-  pub leads : get name_cmp (names_in node.body) name ≡ o
+  pub leads : get name_cmp (names_of_body node.body) name ≡ o
 
 -- a name that isn't there is new; and the last name of a walk that ends before it leads to what was found
 pub record IsWalked (room : Room) (t : Tree) (form : Form) (f : Found) : Type 0 where
@@ -88,7 +88,7 @@ module _ (room : Room) (limit : room.name_limit ≤ MAX_NAME) (t : Tree) (is : I
     is_name = component_is_name l.name component (let few = was.short in omega (arith, few, limit)) dots.0 dots.1;
     short = was.short;
     bytes = component.bytes;
-    leads = other_number t l.dir (names_in was.node.body) l.name o dots.0 dots.1 was.leads;
+    leads = other_number t l.dir (names_of_body was.node.body) l.name o dots.0 dots.1 was.leads;
   }
 
   new_at_end : (lookups : List Lookup) (found : Option ℕ) → EndsIn room t is follow lookups found → found ≡ None
@@ -98,7 +98,7 @@ module _ (room : Room) (limit : room.name_limit ≤ MAX_NAME) (t : Tree) (is : I
       let end = last_absent lookups found ends none in
       let absent : end.led ≡ None = end.absent none in
       let was : WasLookedUp room t l.dir l.name None = subst (WasLookedUp room t l.dir l.name) absent end.was in
-      name_at l None end.name was (absent_dots t l.dir (names_in was.node.body) l.name was.leads)
+      name_at l None end.name was (absent_dots t l.dir (names_of_body was.node.body) l.name was.leads)
 
   old_at_end : (lookups : List Lookup) (found : Option ℕ) → EndsIn room t is follow lookups found → follow ≡ false
       → (is_top (cond (is_empty lookups) Top (last_of_name (last_lookup start lookups).name))

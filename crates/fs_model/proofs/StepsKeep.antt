@@ -16,7 +16,7 @@ use Rattle.fs_model.specs.declared.event.Event.TheVariants.{Spawn, Exit, Call as
 use Rattle.fs_model.specs.declared.reply.Reply.{Reply}
 use Rattle.fs_model.specs.Limits.{processes_limit}
 use Rattle.fs_layout.specs.Maps.{get, with_entry, without, IsMap}
-use Rattle.fs_model.specs.Processes.{Process, Desks, new_process, standing_at}
+use Rattle.fs_model.specs.Processes.{Process, ProcessTable, new_process, standing_at}
 use Rattle.fs_model.specs.Trees.{Tree, node_at, with_node, IsDirectoryAt, IsTree}
 use Rattle.fs_model.specs.TreeChanges.{changed, swept, touches, touched}
 use Rattle.fs_model.specs.Walks.{is_nondirectory, is_nondirectory_node}
@@ -25,7 +25,7 @@ use Rattle.fs_model.specs.States.{State, MayBeFree, IsProcess, IsState}
 use Rattle.fs_model.specs.Demands.{refuse, first_of}
 use Rattle.fs_model.specs.Scenes.{Row, with_process}
 use Rattle.fs_model.specs.Rows.{row_of}
-use Rattle.fs_model.specs.Steps.{Choice, After, kept_stamps, with_stamps, after_stamp, after, after_call, after_enter, enter_demands, demand_of, early_refusal, late_refusal, firm_refusal, other_refusal, scene_of, Acts, HasNewNumber, tree_after, state_after, HaltedDesks, Answers, is_halted, refuses_early, refuses_late, acts, lacks_memory, read_fails, write_fails, Step}
+use Rattle.fs_model.specs.Steps.{Choice, After, kept_stamps, with_stamps, after_stamp, after, after_call, after_enter, enter_demands, demand_of, early_refusal, late_refusal, firm_refusal, other_refusal, scene_of, Acts, HasNewNumber, tree_after, state_after, HaltedProcesses, Answers, is_halted, refuses_early, refuses_late, acts, lacks_memory, read_fails, write_fails, Step}
 use Rattle.fs_model.specs.Ranges.{IsEvent, IsCall, IsSomeCount}
 use Rattle.fs_layout.proofs.MapLaws.{with_entry-IsMap, length-with_entry}
 use Rattle.fs_model.proofs.StepsDemands.{unrefused, all_met}
@@ -37,54 +37,54 @@ use Rattle.fs_model.proofs.StepsSwept.{MayBeLeft, left_is_state, tree_may_be_lef
 
 -- ---- the desks after an event
 
-abbrev AreDesks : Desks → Type 0
-AreDesks desks = IsMap nat_cmp desks × (length desks ≤ processes_limit)
+abbrev IsProcessTable : ProcessTable → Type 0
+IsProcessTable processes = IsMap nat_cmp processes × (length processes ≤ processes_limit)
 
-room_for_one : (desks : Desks) → refuse EAGAIN (nat_le processes_limit (length desks)) ≡ None → length desks + 1 ≤ processes_limit
-room_for_one desks h = let e : nat_le processes_limit (length desks) ≡ false = unrefused EAGAIN _ h in grind (arith, nat_tests)
+room_for_one : (processes : ProcessTable) → refuse EAGAIN (nat_le processes_limit (length processes)) ≡ None → length processes + 1 ≤ processes_limit
+room_for_one processes h = let e : nat_le processes_limit (length processes) ≡ false = unrefused EAGAIN _ h in grind (arith, nat_tests)
 
-length-new : (desks : Desks) (pid : ℕ) (p : Process) → IsMap nat_cmp desks → length (with_entry nat_cmp desks pid p) ≤ length desks + 1
-length-new desks pid p m = go (is_some (get nat_cmp desks pid)) (length-with_entry desks pid p m)
+length-new : (processes : ProcessTable) (pid : ℕ) (p : Process) → IsMap nat_cmp processes → length (with_entry nat_cmp processes pid p) ≤ length processes + 1
+length-new processes pid p m = go (is_some (get nat_cmp processes pid)) (length-with_entry processes pid p m)
   where
-    go : (b : Bool) → length (with_entry nat_cmp desks pid p) ≡ cond b (length desks) (length desks + 1) → length (with_entry nat_cmp desks pid p) ≤ length desks + 1
+    go : (b : Bool) → length (with_entry nat_cmp processes pid p) ≡ cond b (length processes) (length processes + 1) → length (with_entry nat_cmp processes pid p) ≤ length processes + 1
     go true e = omega arith
     go false e = omega arith
 
-desks_after_call : (s : State) (pid number : ℕ) (row : Row) (o : Option Process) → get nat_cmp s.desks pid ≡ o → AreDesks s.desks
-    → AreDesks (after_call s pid row number o).desks
-desks_after_call s pid number row None here are = are
-desks_after_call s pid number row (Some p) here are =
+processes_after_call : (s : State) (pid number : ℕ) (row : Row) (o : Option Process) → get nat_cmp s.processes pid ≡ o → IsProcessTable s.processes
+    → IsProcessTable (after_call s pid row number o).processes
+processes_after_call s pid number row None here are = are
+processes_after_call s pid number row (Some p) here are =
     let q = (row.effect (scene_of s p row) number).process in (
-      with_entry-IsMap s.desks pid q are.0,
-      (let same = length-replaced s.desks pid p q are.0 here in let few = are.1 in omega (arith, same, few)),
+      with_entry-IsMap s.processes pid q are.0,
+      (let same = length-replaced s.processes pid p q are.0 here in let few = are.1 in omega (arith, same, few)),
     )
 
-desks_after_enter : (s : State) (pid directory second : ℕ) (o : Option Process) → get nat_cmp s.desks pid ≡ o → AreDesks s.desks
-    → AreDesks (after_enter s pid directory second o).desks
-desks_after_enter s pid directory second None here are = are
-desks_after_enter s pid directory second (Some p) here are =
+processes_after_enter : (s : State) (pid directory second : ℕ) (o : Option Process) → get nat_cmp s.processes pid ≡ o → IsProcessTable s.processes
+    → IsProcessTable (after_enter s pid directory second o).processes
+processes_after_enter s pid directory second None here are = are
+processes_after_enter s pid directory second (Some p) here are =
     let q = standing_at directory second p in (
-      with_entry-IsMap s.desks pid q are.0,
-      (let same = length-replaced s.desks pid p q are.0 here in let few = are.1 in omega (arith, same, few)),
+      with_entry-IsMap s.processes pid q are.0,
+      (let same = length-replaced s.processes pid p q are.0 here in let few = are.1 in omega (arith, same, few)),
     )
 
-desks_after : (s : State) (e : Event) (choice : Choice) → AreDesks s.desks → firm_refusal s e ≡ None → AreDesks (after s e choice).desks
+processes_after : (s : State) (e : Event) (choice : Choice) → IsProcessTable s.processes → firm_refusal s e ≡ None → IsProcessTable (after s e choice).processes
 unfolding after firm_refusal
-desks_after s (Calls pid call) choice are firm = desks_after_call s pid choice.number (row_of call) (get nat_cmp s.desks pid) refl are
-desks_after s (Spawn cred) choice are firm = (
-  with_entry-IsMap s.desks choice.pid (new_process cred) are.0,
-  (let more = length-new s.desks choice.pid (new_process cred) are.0 in let room = room_for_one s.desks firm in omega (arith, more, room)),
+processes_after s (Calls pid call) choice are firm = processes_after_call s pid choice.number (row_of call) (get nat_cmp s.processes pid) refl are
+processes_after s (Spawn cred) choice are firm = (
+  with_entry-IsMap s.processes choice.pid (new_process cred) are.0,
+  (let more = length-new s.processes choice.pid (new_process cred) are.0 in let room = room_for_one s.processes firm in omega (arith, more, room)),
 )
-desks_after s (Exit pid) choice are firm =
-    (without-IsMap s.desks pid are.0, (let less = length-without s.desks pid in let few = are.1 in omega (arith, less, few)))
-desks_after s (Enter pid directory second) choice are firm = desks_after_enter s pid directory second (get nat_cmp s.desks pid) refl are
-desks_after s (Stamp n atime mtime ctime) choice are firm = are
-desks_after s (Clock time) choice are firm = are
-desks_after s (Fsync pid fd) choice are firm = are
-desks_after s Sync choice are firm = are
-desks_after s Statfs choice are firm = are
-desks_after s (Arm k) choice are firm = are
-desks_after s (Restart bytes arm) choice are firm = are
+processes_after s (Exit pid) choice are firm =
+    (without-IsMap s.processes pid are.0, (let less = length-without s.processes pid in let few = are.1 in omega (arith, less, few)))
+processes_after s (Enter pid directory second) choice are firm = processes_after_enter s pid directory second (get nat_cmp s.processes pid) refl are
+processes_after s (Stamp n atime mtime ctime) choice are firm = are
+processes_after s (Clock time) choice are firm = are
+processes_after s (Fsync pid fd) choice are firm = are
+processes_after s Sync choice are firm = are
+processes_after s Statfs choice are firm = are
+processes_after s (Arm k) choice are firm = are
+processes_after s (Restart bytes arm) choice are firm = are
 
 -- what entering asks of a number
 directory_met : (t : Tree) (n : ℕ) → refuse ENOENT (not (is_some (node_at t n))) ≡ None → refuse ENOTDIR (is_nondirectory t (Some n)) ≡ None
@@ -100,25 +100,25 @@ directory_met t n there directory =
 
 module _ (s : State) (is : IsState s) (runs : IsFalse s.halted) where
   abbrev Leaves : After → Type 0
-  Leaves a = MayBeLeft s.room (changed s.tree a.change) a.desks
+  Leaves a = MayBeLeft s.room (changed s.tree a.change) a.processes
 
-  same_left : MayBeLeft s.room s.tree s.desks
-  same_left = tree_may_be_left s.room s.tree s.desks is.tree is.pids is.few (is.desks runs).processes
+  same_left : MayBeLeft s.room s.tree s.processes
+  same_left = tree_may_be_left s.room s.tree s.processes is.tree is.pids is.few (is.processes runs).each_process
 
-  call_leaves : (pid number : ℕ) (call : Call) (o : Option Process) → get nat_cmp s.desks pid ≡ o → IsCall call
+  call_leaves : (pid number : ℕ) (call : Call) (o : Option Process) → get nat_cmp s.processes pid ≡ o → IsCall call
       → demand_of (λ p. early_refusal p (row_of call)) o ≡ None → demand_of (λ p. late_refusal s p (row_of call)) o ≡ None
       → HasNewNumber s (after_call s pid (row_of call) number o).change → Leaves (after_call s pid (row_of call) number o)
   call_leaves pid number call None here in_range early late fresh = absurd cc
   call_leaves pid number call (Some p) here in_range early late fresh = process_leaves s pid p call number is runs here in_range early late fresh
 
-  enter_leaves : (pid directory second : ℕ) (o : Option Process) → get nat_cmp s.desks pid ≡ o
+  enter_leaves : (pid directory second : ℕ) (o : Option Process) → get nat_cmp s.processes pid ≡ o
       → first_of (enter_demands s.tree directory second) ≡ None → Leaves (after_enter s pid directory second o)
   enter_leaves pid directory second None here met = same_left
   enter_leaves pid directory second (Some p) here met =
       let are = all_met (enter_demands s.tree directory second) met in
       effect_leaves s pid p (with_process (standing_at directory second p) Done) is runs here
       (no_change_fits s (standing_at directory second p) Done is
-      (standing_at_fits s.tree p ((is.desks runs).processes pid p here) directory second
+      (standing_at_fits s.tree p ((is.processes runs).each_process pid p here) directory second
       (directory_met s.tree directory are.0 are.1.1.0) (directory_met s.tree second are.1.0 are.1.1.1.0)))
 
   stamp_leaves : (n : ℕ) (atime mtime ctime : Option ℕ) → IsSomeCount atime → IsSomeCount mtime → IsSomeCount ctime
@@ -137,26 +137,26 @@ module _ (s : State) (is : IsState s) (runs : IsFalse s.halted) where
         stamps = stamped_fit s.room.keeps_times atime mtime ctime node.stamps a m c was.stamps;
       } in
       let u = with_node s.tree n (with_stamps x node) in
-      tree_may_be_left s.room u s.desks (replaced_is_tree s.room s.tree n node (with_stamps x node) is.tree there may) is.pids is.few
-      (λ pid p at. process_moves s.tree u (replaced_keeps_types s.tree n node (with_stamps x node) there refl) p ((is.desks runs).processes pid p at))
+      tree_may_be_left s.room u s.processes (replaced_is_tree s.room s.tree n node (with_stamps x node) is.tree there may) is.pids is.few
+      (λ pid p at. process_moves s.tree u (replaced_keeps_types s.tree n node (with_stamps x node) there refl) p ((is.processes runs).each_process pid p at))
 
   event_leaves : (e : Event) (choice : Choice) → IsEvent e → firm_refusal s e ≡ None → other_refusal s e ≡ None
       → HasNewNumber s (after s e choice).change → Leaves (after s e choice)
   unfolding after firm_refusal other_refusal
   event_leaves (Calls pid call) choice in_range firm other fresh =
-      call_leaves pid choice.number call (get nat_cmp s.desks pid) refl in_range.1 firm other fresh
+      call_leaves pid choice.number call (get nat_cmp s.processes pid) refl in_range.1 firm other fresh
   event_leaves (Spawn cred) choice in_range firm other fresh =
-      tree_may_be_left s.room s.tree (with_entry nat_cmp s.desks choice.pid (new_process cred)) is.tree
-      (with_entry-IsMap s.desks choice.pid (new_process cred) is.pids)
-      (let more = length-new s.desks choice.pid (new_process cred) is.pids in let room = room_for_one s.desks firm in omega (arith, more, room))
-      (in_with_entry (λ q p. IsProcess s.tree p) s.desks choice.pid (new_process cred) (new_process_fits s.room s.tree cred is.tree in_range)
-      (is.desks runs).processes)
+      tree_may_be_left s.room s.tree (with_entry nat_cmp s.processes choice.pid (new_process cred)) is.tree
+      (with_entry-IsMap s.processes choice.pid (new_process cred) is.pids)
+      (let more = length-new s.processes choice.pid (new_process cred) is.pids in let room = room_for_one s.processes firm in omega (arith, more, room))
+      (in_with_entry (λ q p. IsProcess s.tree p) s.processes choice.pid (new_process cred) (new_process_fits s.room s.tree cred is.tree in_range)
+      (is.processes runs).each_process)
   event_leaves (Exit pid) choice in_range firm other fresh =
-      tree_may_be_left s.room s.tree (without nat_cmp s.desks pid) is.tree (without-IsMap s.desks pid is.pids)
-      (let less = length-without s.desks pid in let few = is.few in omega (arith, less, few))
-      (λ q p at. (is.desks runs).processes q p (in_without s.desks pid q p is.pids at))
+      tree_may_be_left s.room s.tree (without nat_cmp s.processes pid) is.tree (without-IsMap s.processes pid is.pids)
+      (let less = length-without s.processes pid in let few = is.few in omega (arith, less, few))
+      (λ q p at. (is.processes runs).each_process q p (in_without s.processes pid q p is.pids at))
   event_leaves (Enter pid directory second) choice in_range firm other fresh =
-      enter_leaves pid directory second (get nat_cmp s.desks pid) refl other
+      enter_leaves pid directory second (get nat_cmp s.processes pid) refl other
   event_leaves (Stamp n atime mtime ctime) choice in_range firm other fresh =
       stamp_leaves n atime mtime ctime in_range.1 in_range.2 in_range.3 other
   event_leaves (Clock time) choice in_range firm other fresh = same_left
@@ -169,33 +169,33 @@ module _ (s : State) (is : IsState s) (runs : IsFalse s.halted) where
 -- ---- steps
 
 -- the machine halts with its tree as it was
-halted_is_state : (s : State) (desks : Desks) → IsState s → AreDesks desks → IsState (record s { desks = desks; halted = true })
-halted_is_state s desks is are = record {
+halted_is_state : (s : State) (processes : ProcessTable) → IsState s → IsProcessTable processes → IsState (record s { processes = processes; halted = true })
+halted_is_state s processes is are = record {
   room = is.room;
   tree = is.tree;
   pids = are.0;
   few = are.1;
   free = is.free;
   now = is.now;
-  desks = λ runs. absurd cc;
+  processes = λ runs. absurd cc;
 }
 
-halted_desks : (s : State) (e : Event) (choice : Choice) (desks : Desks) → IsState s → firm_refusal s e ≡ None → HaltedDesks s e choice desks
-    → AreDesks desks
-halted_desks s e choice desks is firm which = elim which [
-  | inl same ↦ subst AreDesks (sym same) (is.pids, is.few)
-  | inr then ↦ subst AreDesks (sym then) (desks_after s e choice (is.pids, is.few) firm)
+halted_processes : (s : State) (e : Event) (choice : Choice) (processes : ProcessTable) → IsState s → firm_refusal s e ≡ None → HaltedProcesses s e choice processes
+    → IsProcessTable processes
+halted_processes s e choice processes is firm which = elim which [
+  | inl same ↦ subst IsProcessTable (sym same) (is.pids, is.few)
+  | inr then ↦ subst IsProcessTable (sym then) (processes_after s e choice (is.pids, is.few) firm)
 ]
 
 -- the time is one that was told
 now_after : (s : State) (e : Event) (choice : Choice) → IsState s → IsEvent e → (after s e choice).now < 2 ^ 64
 unfolding after
-now_after s (Calls pid call) choice is fits = go (get nat_cmp s.desks pid)
+now_after s (Calls pid call) choice is fits = go (get nat_cmp s.processes pid)
   where
     go : (o : Option Process) → (after_call s pid (row_of call) choice.number o).now < 2 ^ 64
     go None = is.now
     go (Some p) = is.now
-now_after s (Enter pid directory second) choice is fits = go (get nat_cmp s.desks pid)
+now_after s (Enter pid directory second) choice is fits = go (get nat_cmp s.processes pid)
   where
     go : (o : Option Process) → (after_enter s pid directory second o).now < 2 ^ 64
     go None = is.now
@@ -211,40 +211,40 @@ now_after s (Arm k) choice is fits = is.now
 now_after s (Restart bytes arm) choice is fits = is.now
 
 -- the change, the sweep, and the times that move
-pub acted_is_tree : (s : State) (a : After) → IsState s → MayBeLeft s.room (changed s.tree a.change) a.desks → IsTree s.room (tree_after s a)
+pub acted_is_tree : (s : State) (a : After) → IsState s → MayBeLeft s.room (changed s.tree a.change) a.processes → IsTree s.room (tree_after s a)
 acted_is_tree s a is left = go s.room.keeps_times refl
   where
     go : (b : Bool) → s.room.keeps_times ≡ b → IsTree s.room (tree_after s a)
     go true keeps =
-        touched_is_tree s.room (swept (changed s.tree a.change) a.desks) s.now (touches s.room s.tree a.change) keeps is.now
-        (swept_is_tree s.room (changed s.tree a.change) a.desks left.tree)
+        touched_is_tree s.room (swept (changed s.tree a.change) a.processes) s.now (touches s.room s.tree a.change) keeps is.now
+        (swept_is_tree s.room (changed s.tree a.change) a.processes left.tree)
     go false none =
-        subst (λ es. IsTree s.room (touched s.now es (swept (changed s.tree a.change) a.desks)))
-        (sym (none_touched s.room s.tree a.change none)) (swept_is_tree s.room (changed s.tree a.change) a.desks left.tree)
+        subst (λ es. IsTree s.room (touched s.now es (swept (changed s.tree a.change) a.processes)))
+        (sym (none_touched s.room s.tree a.change none)) (swept_is_tree s.room (changed s.tree a.change) a.processes left.tree)
 
-pub acted_is_state : (s : State) (a : After) (free : ℕ) → IsState s → MayBeLeft s.room (changed s.tree a.change) a.desks → a.now < 2 ^ 64
+pub acted_is_state : (s : State) (a : After) (free : ℕ) → IsState s → MayBeLeft s.room (changed s.tree a.change) a.processes → a.now < 2 ^ 64
     → MayBeFree s.room (tree_after s a) free → IsState (state_after s a free)
 acted_is_state s a free is left small may = go s.room.keeps_times refl
   where
     u : Tree
-    u = swept (changed s.tree a.change) a.desks
+    u = swept (changed s.tree a.change) a.processes
 
-    left_is : IsState (record s { tree = u; desks = a.desks; free = free; now = a.now })
+    left_is : IsState (record s { tree = u; processes = a.processes; free = free; now = a.now })
     left_is =
-        left_is_state (record s { now = a.now }) (changed s.tree a.change) a.desks free is.room small left
-        (free-touched s.now (touches s.room s.tree a.change) s.room (swept (changed s.tree a.change) a.desks) free may)
+        left_is_state (record s { now = a.now }) (changed s.tree a.change) a.processes free is.room small left
+        (free-touched s.now (touches s.room s.tree a.change) s.room (swept (changed s.tree a.change) a.processes) free may)
 
     go : (b : Bool) → s.room.keeps_times ≡ b → IsState (state_after s a free)
     go true keeps =
-        touched_is_state (record s { tree = swept (changed s.tree a.change) a.desks; desks = a.desks; free = free; now = a.now })
+        touched_is_state (record s { tree = swept (changed s.tree a.change) a.processes; processes = a.processes; free = free; now = a.now })
         s.now (touches s.room s.tree a.change) keeps is.now left_is
     go false none =
-        subst (λ es. IsState (record s { tree = touched s.now es (swept (changed s.tree a.change) a.desks); desks = a.desks; free = free; now = a.now }))
+        subst (λ es. IsState (record s { tree = touched s.now es (swept (changed s.tree a.change) a.processes); processes = a.processes; free = free; now = a.now }))
         (sym (none_touched s.room s.tree a.change none)) left_is
 
 -- what a step leaves where each effect leaves what may be left
 answered_is_state : (old new : State) (e : Event) (reply : Reply) → IsState old → IsEvent e → Answers old e reply new
-    → ((choice : Choice) → Acts old e choice → MayBeLeft old.room (changed old.tree (after old e choice).change) (after old e choice).desks)
+    → ((choice : Choice) → Acts old e choice → MayBeLeft old.room (changed old.tree (after old e choice).change) (after old e choice).processes)
     → IsState new
 answered_is_state old new e reply is fits (is_halted h answered same) leaves = subst IsState (sym same) is
 answered_is_state old new e reply is fits (refuses_early runs r firm answered same) leaves = subst IsState (sym same) is
@@ -253,8 +253,8 @@ answered_is_state old new e reply is fits (acts choice does answered now) leaves
     subst IsState (sym now) (acted_is_state old (after old e choice) choice.free is (leaves choice does) (now_after old e choice is fits) does.allowed.free)
 answered_is_state old new e reply is fits (lacks_memory runs firm asks answered same) leaves = subst IsState (sym same) is
 answered_is_state old new e reply is fits (read_fails runs firm answered same) leaves = subst IsState (sym same) is
-answered_is_state old new e reply is fits (write_fails choice does answered desks which now) leaves =
-    subst IsState (sym now) (halted_is_state old desks is (halted_desks old e choice desks is does.early which))
+answered_is_state old new e reply is fits (write_fails choice does answered processes which now) leaves =
+    subst IsState (sym now) (halted_is_state old processes is (halted_processes old e choice processes is does.early which))
 
 pub steps_keep : (old new : State) (e : Event) (reply : Reply) → IsState old → IsEvent e → Step old e reply new → IsState new
 steps_keep old new e reply is in_range step =

@@ -2,7 +2,7 @@
 use Rattle.std.specs.Prelude.{◌≡◌, ℕ, ◌^◌, ◌<◌, Bool, true, false, cond, Some}
 use Rattle.std.proofs.Common.{refl, sym, ap, ◌∙◌}
 use Rattle.std.specs.Ordering.{nat_cmp, is_eq}
-use Rattle.fs_model.specs.Nodes.{Node, Body, File, Dir, Link, is_directory, is_link, names_in, type_of}
+use Rattle.fs_model.specs.Nodes.{Node, Body, File, Dir, Link, is_directory, is_link, names_of_body, type_of}
 use Rattle.fs_model.specs.Trees.{Tree, Room, node_at, with_node, names_of, NamesFit, IsBody, IsTree, IsDirectoryAt, AreStamps}
 use Rattle.fs_model.specs.Processes.{Process, Descriptor}
 use Rattle.fs_model.specs.States.{IsDescriptor, IsProcess}
@@ -96,7 +96,7 @@ module _ (t u : Tree) (keeps : KeepsTypes t u) where
 -- what a node has to be to stand where another stood
 pub record MayReplace (room : Room) (t : Tree) (old new : Node) : Type 0 where
   pub same : type_of new.body ≡ type_of old.body
-  pub names : names_in new.body ≡ names_in old.body
+  pub names : names_of_body new.body ≡ names_of_body old.body
   pub owner : new.owner < 2 ^ 32
   pub group : new.group < 2 ^ 32
   pub body : IsBody room t new.body

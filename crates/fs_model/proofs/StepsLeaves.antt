@@ -97,9 +97,9 @@ unrefused_call s p call is fits bytes early late =
 
 -- ---- what it leaves
 
-module _ (c : Scene) (is : IsScene c) (pid : ℕ) (here : get nat_cmp c.state.desks pid ≡ Some c.process) where
+module _ (c : Scene) (is : IsScene c) (pid : ℕ) (here : get nat_cmp c.state.processes pid ≡ Some c.process) where
   abbrev pub Leaves : Effect → Type 0
-  Leaves e = MayBeLeft c.state.room (changed c.state.tree e.change) (with_entry nat_cmp c.state.desks pid e.process)
+  Leaves e = MayBeLeft c.state.room (changed c.state.tree e.change) (with_entry nat_cmp c.state.processes pid e.process)
 
   pub fits_leave : (e : Effect) → EffectFits c.state e → Leaves e
   fits_leave e fits = effect_leaves c.state pid c.process e is.state is.running here fits

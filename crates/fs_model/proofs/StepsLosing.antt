@@ -7,9 +7,9 @@ use Rattle.std.proofs.lemmas.Bool.Decides.{nat_tests}
 use Rattle.std.specs.Ordering.{nat_cmp}
 use Rattle.fs_model.specs.Limits.{root, processes_limit}
 use Rattle.fs_layout.specs.Maps.{get, IsMap}
-use Rattle.fs_model.specs.Nodes.{Node, Body, File, Dir, Link, is_directory, names_in, type_of}
+use Rattle.fs_model.specs.Nodes.{Node, Body, File, Dir, Link, is_directory, names_of_body, type_of}
 use Rattle.fs_model.specs.Trees.{Tree, Room, node_at, names_of, NamesFit, IsBody, IsUnderRoot, IsNode, IsDirectoryAt, IsTree}
-use Rattle.fs_model.specs.Processes.{Desks, Process, is_in_use}
+use Rattle.fs_model.specs.Processes.{ProcessTable, Process, is_in_use}
 use Rattle.fs_model.specs.TreeChanges.{lives_nameless}
 use Rattle.fs_model.specs.States.{IsProcess}
 use Rattle.fs_model.proofs.StepsKinds.{KeepsTypes, same_directory, same_fit, directory_moves, process_moves}
@@ -29,29 +29,29 @@ pub record Stood (room : Room) (t u : Tree) (n : ℕ) (node : Node) : Type 0 whe
   pub body : IsBody room u node.body
 
 -- u is t after its nodes lost so many names
-pub record LosesNames (room : Room) (t u : Tree) (desks : Desks) (lost : ℕ → ℕ) : Type 0 where
+pub record LosesNames (room : Room) (t u : Tree) (processes : ProcessTable) (lost : ℕ → ℕ) : Type 0 where
   pub numbers : IsMap nat_cmp u
   pub types : KeepsTypes t u
   pub each : (n : ℕ) (node : Node) → node_at u n ≡ Some node → Stood room t u n node
   pub counts : (n : ℕ) → names_of u n + lost n ≡ names_of t n
   pub not_root : (n : ℕ) → 1 ≤ lost n → n ≢ root
   pub empty : (n : ℕ) → IsDirectoryAt t n → 1 ≤ lost n → names_at u n ≡ []
-  pub unused : (n : ℕ) → IsDirectoryAt t n → 1 ≤ lost n → is_in_use desks n ≡ false
+  pub unused : (n : ℕ) → IsDirectoryAt t n → 1 ≤ lost n → is_in_use processes n ≡ false
   pub under : (n : ℕ) → IsDirectoryAt t n → lost n ≡ 0 → IsUnderRoot u n
 
 -- a file may lose names, and a link that has one left
-fewer_fit : (room : Room) (desks : Desks) (n : ℕ) (b : Body) (had lost names : ℕ) → names + lost ≡ had → NamesFit room n b had
-    → (IsTrue (is_directory b) → lost ≡ 0) → n ≢ root → (not (names == 0) || lives_nameless desks n b) ≡ true → NamesFit room n b names
-fewer_fit room desks n (File a bytes) had lost names e fits keeps ne stay = omega (arith, e, fits)
-fewer_fit room desks n (Dir a d) had lost names e fits keeps ne stay =
+fewer_fit : (room : Room) (processes : ProcessTable) (n : ℕ) (b : Body) (had lost names : ℕ) → names + lost ≡ had → NamesFit room n b had
+    → (IsTrue (is_directory b) → lost ≡ 0) → n ≢ root → (not (names == 0) || lives_nameless processes n b) ≡ true → NamesFit room n b names
+fewer_fit room processes n (File a bytes) had lost names e fits keeps ne stay = omega (arith, e, fits)
+fewer_fit room processes n (Dir a d) had lost names e fits keeps ne stay =
     let none = keeps refl in let same : had ≡ names = omega (arith, e, none) in subst (NamesFit room n (Dir a d)) same fits
-fewer_fit room desks n (Link target) had lost names e fits keeps ne stay = (some (names == 0) refl stay, (let most = fits.1 in omega (arith, e, most)))
+fewer_fit room processes n (Link target) had lost names e fits keeps ne stay = (some (names == 0) refl stay, (let most = fits.1 in omega (arith, e, most)))
   where
     some : (b : Bool) → (names == 0) ≡ b → (not b || n == root) ≡ true → 1 ≤ names
     some true z stay = absurd (let other : (n == root) ≡ false = grind (arith, nat_tests) in cc)
     some false z stay = grind (arith, nat_tests)
 
-module _ (room : Room) (t u : Tree) (desks : Desks) (lost : ℕ → ℕ) (is : IsTree room t) (h : LosesNames room t u desks lost) where
+module _ (room : Room) (t u : Tree) (processes : ProcessTable) (lost : ℕ → ℕ) (is : IsTree room t) (h : LosesNames room t u processes lost) where
   was_directory : (n : ℕ) (node : Node) (s : Stood room t u n node) → IsTrue (is_directory node.body) → IsDirectoryAt t n
   was_directory n node s d = record { node = s.old; is_there = s.was; directory = sym (same_directory node.body s.old.body s.same) ∙ d }
 
@@ -62,7 +62,7 @@ module _ (room : Room) (t u : Tree) (desks : Desks) (lost : ℕ → ℕ) (is : I
       let all = h.counts n in
       omega (arith, one, all, some)
 
-  goes : (n : ℕ) (b : Body) (names : ℕ) → IsTrue (is_directory b) → n ≢ root → names ≡ 0 → (not (names == 0) || lives_nameless desks n b) ≡ false
+  goes : (n : ℕ) (b : Body) (names : ℕ) → IsTrue (is_directory b) → n ≢ root → names ≡ 0 → (not (names == 0) || lives_nameless processes n b) ≡ false
   goes n (File a bytes) names d ne none = absurd cc
   goes n (Dir a dir) names d ne none =
       let z : (names == 0) ≡ true = grind (arith, nat_tests) in
@@ -71,7 +71,7 @@ module _ (room : Room) (t u : Tree) (desks : Desks) (lost : ℕ → ℕ) (is : I
   goes n (Link target) names d ne none = absurd cc
 
   -- and one that didn't has one, or is the root, whoever uses it
-  lives : (left : Desks) (n : ℕ) (b : Body) (names : ℕ) → IsTrue (is_directory b) → (n ≢ root → names ≡ 1)
+  lives : (left : ProcessTable) (n : ℕ) (b : Body) (names : ℕ) → IsTrue (is_directory b) → (n ≢ root → names ≡ 1)
       → (not (names == 0) || lives_nameless left n b) ≡ true
   lives left n (File a bytes) names d one = absurd cc
   lives left n (Dir a dir) names d one = elim (cases_eq n root) [
@@ -87,13 +87,13 @@ module _ (room : Room) (t u : Tree) (desks : Desks) (lost : ℕ → ℕ) (is : I
       omega (arith, one, all, none)
 
   -- a directory that stays lost none
-  lost_none : (n : ℕ) (node : Node) → IsDirectoryAt t n → IsTrue (is_directory node.body) → stays u desks (n, node) ≡ true → lost n ≡ 0
+  lost_none : (n : ℕ) (node : Node) → IsDirectoryAt t n → IsTrue (is_directory node.body) → stays u processes (n, node) ≡ true → lost n ≡ 0
   lost_none n node d directory stay = elim (cases_lt 0 (lost n)) [
     | inl some ↦ absurd (let gone = goes n node.body (names_of u n) directory (h.not_root n some) (nameless_then n d some) in cc)
     | inr none ↦ omega (arith, none)
   ]
 
-  node_is : (n : ℕ) (node : Node) → node_at u n ≡ Some node → stays u desks (n, node) ≡ true → IsNode room u n node
+  node_is : (n : ℕ) (node : Node) → node_at u n ≡ Some node → stays u processes (n, node) ≡ true → IsNode room u n node
   node_is n node at stay =
       let s = h.each n node at in
       let old = is.each n s.old s.was in
@@ -112,29 +112,29 @@ module _ (room : Room) (t u : Tree) (desks : Desks) (lost : ℕ → ℕ) (is : I
             let same : names_of t n ≡ names_of u n = omega (arith, all, none) in
             subst (NamesFit room n node.body) same fit
         | inr ne ↦
-            fewer_fit room desks n node.body (names_of t n) (lost n) (names_of u n) (h.counts n) fit
+            fewer_fit room processes n node.body (names_of t n) (lost n) (names_of u n) (h.counts n) fit
             (λ d. lost_none n node (was_directory n node s d) d stay) ne stay
       ]
 
-  pub gone_empty : (left : Desks) (n : ℕ) (node : Node) → node_at u n ≡ Some node → stays u left (n, node) ≡ false → names_in node.body ≡ []
+  pub gone_empty : (left : ProcessTable) (n : ℕ) (node : Node) → node_at u n ≡ Some node → stays u left (n, node) ≡ false → names_of_body node.body ≡ []
   gone_empty left n node at gone = go node.body refl
     where
-      go : (b : Body) → node.body ≡ b → names_in b ≡ []
+      go : (b : Body) → node.body ≡ b → names_of_body b ≡ []
       go (File a bytes) e = refl
       go (Link target) e = refl
       go (Dir a d) e =
           let directory : IsTrue (is_directory node.body) = ap is_directory e in
           let was = was_directory n node (h.each n node at) directory in
           elim (cases_lt 0 (lost n)) [
-            | inl some ↦ ap names_in (sym e) ∙ ap names_or (sym at) ∙ h.empty n was some
+            | inl some ↦ ap names_of_body (sym e) ∙ ap names_or (sym at) ∙ h.empty n was some
             | inr none ↦ absurd (let stay = lives left n node.body (names_of u n) directory (λ ne. keeps_name n was (omega (arith, none)) ne) in cc)
           ]
 
-  used_stays : (n : ℕ) (node : Node) → node_at u n ≡ Some node → IsTrue (is_directory node.body) → IsTrue (is_in_use desks n)
-      → stays u desks (n, node) ≡ true
+  used_stays : (n : ℕ) (node : Node) → node_at u n ≡ Some node → IsTrue (is_directory node.body) → IsTrue (is_in_use processes n)
+      → stays u processes (n, node) ≡ true
   used_stays n node at directory used =
       let was = was_directory n node (h.each n node at) directory in
-      lives desks n node.body (names_of u n) directory (λ ne. keeps_name n was (kept was) ne)
+      lives processes n node.body (names_of u n) directory (λ ne. keeps_name n was (kept was) ne)
     where
       kept : IsDirectoryAt t n → lost n ≡ 0
       kept was = elim (cases_lt 0 (lost n)) [
@@ -142,17 +142,17 @@ module _ (room : Room) (t u : Tree) (desks : Desks) (lost : ℕ → ℕ) (is : I
         | inr none ↦ omega (arith, none)
       ]
 
-  pub loses_may_be_left : IsMap nat_cmp desks → length desks ≤ processes_limit
-      → ((pid : ℕ) (p : Process) → get nat_cmp desks pid ≡ Some p → IsProcess t p) → MayBeLeft room u desks
-  loses_may_be_left pids few processes = record {
+  pub loses_may_be_left : IsMap nat_cmp processes → length processes ≤ processes_limit
+      → ((pid : ℕ) (p : Process) → get nat_cmp processes pid ≡ Some p → IsProcess t p) → MayBeLeft room u processes
+  loses_may_be_left pids few each_process = record {
     tree = record {
       numbers = h.numbers;
       root_is_there = directory_moves t u h.types root is.root_is_there;
       each = node_is;
-      gone = gone_empty desks;
+      gone = gone_empty processes;
     };
     pids = pids;
     few = few;
-    processes = λ pid p at. process_moves t u h.types p (processes pid p at);
+    each_process = λ pid p at. process_moves t u h.types p (each_process pid p at);
     used = used_stays;
   }

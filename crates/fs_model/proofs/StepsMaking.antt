@@ -11,7 +11,7 @@ use Rattle.posix_acl.proofs.Classes.{IsAcl-with_classes}
 use Rattle.fs_cred.specs.Credentials.{Credential, IsCredential}
 use Rattle.fs_model.specs.Limits.{root}
 use Rattle.fs_layout.specs.Maps.{get}
-use Rattle.fs_model.specs.Nodes.{Node, Body, File, Dir, Link, names_in, directory_in}
+use Rattle.fs_model.specs.Nodes.{Node, Body, File, Dir, Link, names_of_body, directory_in}
 use Rattle.fs_model.specs.Trees.{Tree, Room, node_at, with_node, names_for, names_of, parent, NamesFit, IsBody, IsTarget, IsDirectoryAt, IsTree, AreStamps}
 use Rattle.fs_model.specs.Births.{the_directory, no_directory, masked_acl, born_acl, born, born_file, born_directory, born_link}
 use Rattle.fs_model.proofs.Finds.{IsThere}
@@ -45,10 +45,10 @@ pub record IsNewborn (room : Room) (t : Tree) (node : Node) : Type 0 where
   pub group : node.group < 2 ^ 32
   pub body : IsBody room t node.body
   pub stamps : AreStamps room.keeps_times node.stamps
-  pub no_names : names_in node.body ≡ []
+  pub no_names : names_of_body node.body ≡ []
 
 module _ (room : Room) (t : Tree) (cred : Credential) (valid : IsCredential cred) (directory : Node) (small : directory.group < 2 ^ 32) where
-  born_is : (body : Body) → IsBody room t body → names_in body ≡ [] → IsNewborn room t (born cred directory body)
+  born_is : (body : Body) → IsBody room t body → names_of_body body ≡ [] → IsNewborn room t (born cred directory body)
   born_is body is none = record {
     owner = valid.uid;
     group = go (the_directory directory).set_group_id;
@@ -96,7 +96,7 @@ nothing_leads room t n is none = elim (cases_lt (names_of t n) 1) [
     led None at h = omega (arith, h)
     led (Some v) at h =
         let names = are_names room t v.body (is.each (parent t n) v at).body in
-        let it = name_if (names_in v.body) n names.rising h in
+        let it = name_if (names_of_body v.body) n names.rising h in
         let there : IsThere t n = (names.each it.name n it.leads).leads.1 in
         let absent : is_some (node_at t n) ≡ false = ap is_some none in
         cc

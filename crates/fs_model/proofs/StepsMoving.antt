@@ -7,9 +7,9 @@ use Rattle.fs_layout.specs.Bytes.{IsBytes}
 use Rattle.fs_layout.specs.Directories.{IsName}
 use Rattle.fs_model.specs.Limits.{root}
 use Rattle.fs_layout.specs.Maps.{get, name_cmp, with_entry, without, IsMap}
-use Rattle.fs_model.specs.Nodes.{Node, is_directory, names_in, with_names}
+use Rattle.fs_model.specs.Nodes.{Node, is_directory, names_of_body, with_names}
 use Rattle.fs_model.specs.Trees.{Tree, Room, node_at, names_of, parent, lookup, lookup_in, IsEntry, IsUnderRoot, is_in, IsDirectoryAt, IsTree}
-use Rattle.fs_model.specs.Processes.{Desks, is_in_use}
+use Rattle.fs_model.specs.Processes.{ProcessTable, is_in_use}
 use Rattle.fs_model.specs.TreeChanges.{MoveName, with_names_at, named, unnamed, changed}
 use Rattle.fs_model.proofs.Finds.{IsThere}
 use Rattle.fs_layout.proofs.MapLaws.{with_entry-IsMap}
@@ -23,20 +23,20 @@ use Rattle.fs_model.proofs.StepsTaking.{once_is, are_names_without}
 use Rattle.fs_model.proofs.StepsUp.{IsOutside, outside_differs, outside_above}
 
 -- from a directory a name that leads to n goes to another directory, or another name
-pub record MovesName (room : Room) (t : Tree) (desks : Desks) (dir : ℕ) (directory : Node) (name : List ℕ) (n : ℕ) (to_dir : ℕ) (to_directory : Node) (to_name : List ℕ) (o : Option ℕ) : Type 0 where
+pub record MovesName (room : Room) (t : Tree) (processes : ProcessTable) (dir : ℕ) (directory : Node) (name : List ℕ) (n : ℕ) (to_dir : ℕ) (to_directory : Node) (to_name : List ℕ) (o : Option ℕ) : Type 0 where
   pub stands : node_at t dir ≡ Some directory
   pub is_dir : IsTrue (is_directory directory.body)
-  pub leads : get name_cmp (names_in directory.body) name ≡ Some n
+  pub leads : get name_cmp (names_of_body directory.body) name ≡ Some n
   pub to_stands : node_at t to_dir ≡ Some to_directory
   pub is_to_dir : IsTrue (is_directory to_directory.body)
-  pub to_leads : get name_cmp (names_in to_directory.body) to_name ≡ o
+  pub to_leads : get name_cmp (names_of_body to_directory.body) to_name ≡ o
   pub is_name : IsName to_name
   pub short : length to_name ≤ room.name_limit
   pub bytes : IsBytes to_name
   pub other : (m : ℕ) → o ≡ Some m → m ≢ n
-  pub has_room : o ≡ None → dir ≢ to_dir → length (names_in to_directory.body) < room.entries_limit
+  pub has_room : o ≡ None → dir ≢ to_dir → length (names_of_body to_directory.body) < room.entries_limit
   pub empty : (m : ℕ) → o ≡ Some m → IsDirectoryAt t m → names_at t m ≡ []
-  pub unused : (m : ℕ) → o ≡ Some m → IsDirectoryAt t m → is_in_use desks m ≡ false
+  pub unused : (m : ℕ) → o ≡ Some m → IsDirectoryAt t m → is_in_use processes m ≡ false
   pub outside : IsDirectoryAt t n → IsOutside t n to_dir
 
 -- the directory to which it goes, once the name is taken: as it was, or without the name
@@ -45,18 +45,18 @@ pub record Between (room : Room) (t v : Tree) (to_dir : ℕ) (to_name : List ℕ
   pub here : node_at v to_dir ≡ Some node
   pub directory : IsTrue (is_directory node.body)
   pub stood : Stood room t t to_dir node
-  pub leads : get name_cmp (names_in node.body) to_name ≡ o
-  pub short : o ≡ None → length (names_in node.body) + 1 ≤ room.entries_limit
+  pub leads : get name_cmp (names_of_body node.body) to_name ≡ o
+  pub short : o ≡ None → length (names_of_body node.body) + 1 ≤ room.entries_limit
 
-module _ (room : Room) (t : Tree) (desks : Desks) (dir : ℕ) (directory : Node) (name : List ℕ) (n : ℕ) (to_dir : ℕ) (to_directory : Node) (to_name : List ℕ) (o : Option ℕ)
-    (is : IsTree room t) (moves : MovesName room t desks dir directory name n to_dir to_directory to_name o) where
+module _ (room : Room) (t : Tree) (processes : ProcessTable) (dir : ℕ) (directory : Node) (name : List ℕ) (n : ℕ) (to_dir : ℕ) (to_directory : Node) (to_name : List ℕ) (o : Option ℕ)
+    (is : IsTree room t) (moves : MovesName room t processes dir directory name n to_dir to_directory to_name o) where
   abbrev less : Names
-  less = without name_cmp (names_in directory.body) name
+  less = without name_cmp (names_of_body directory.body) name
 
   abbrev v : Tree
-  v = renamed t dir directory (without name_cmp (names_in directory.body) name)
+  v = renamed t dir directory (without name_cmp (names_of_body directory.body) name)
 
-  pub were : AreNames room t (names_in directory.body)
+  pub were : AreNames room t (names_of_body directory.body)
   were = are_names room t directory.body (is.each dir directory moves.stands).body
 
   v_there : (q : ℕ) → IsThere t q → IsThere v q
@@ -75,7 +75,7 @@ module _ (room : Room) (t : Tree) (desks : Desks) (dir : ℕ) (directory : Node)
     group = refl;
     stamps = refl;
     body =
-        body_renamed room t t directory.body less moves.is_dir (are_names_without room t (names_in directory.body) name n were moves.leads)
+        body_renamed room t t directory.body less moves.is_dir (are_names_without room t (names_of_body directory.body) name n were moves.leads)
         (is.each dir directory moves.stands).body;
   }
 
@@ -91,28 +91,28 @@ module _ (room : Room) (t : Tree) (desks : Desks) (dir : ℕ) (directory : Node)
     | inr ne ↦ stood_itself q node (sym (at_others t dir (renamed_node directory less) q ne) ∙ at)
   ]
 
-  names_less : names_in (with_names less directory.body) ≡ less
+  names_less : names_of_body (with_names less directory.body) ≡ less
   names_less = sym (ap names_or (at_it t dir (renamed_node directory less))) ∙ names_there t dir directory less moves.is_dir
 
   -- in the same directory the name isn't the one that goes
   other_name : dir ≡ to_dir → get name_cmp less to_name ≡ o
-  other_name e = get-without_name (names_in directory.body) name to_name ∙ go (eq_by_cmp name_cmp name to_name) refl
+  other_name e = get-without_name (names_of_body directory.body) name to_name ∙ go (eq_by_cmp name_cmp name to_name) refl
     where
       both : node_at t dir ≡ Some to_directory
       both = ap (node_at t) e ∙ moves.to_stands
 
-      leads_there : get name_cmp (names_in directory.body) to_name ≡ o
+      leads_there : get name_cmp (names_of_body directory.body) to_name ≡ o
       leads_there =
           let stands = moves.stands in
           let also = both in
           let same : directory ≡ to_directory = cc in
-          ap (λ d. get name_cmp (names_in d.body) to_name) same ∙ moves.to_leads
+          ap (λ d. get name_cmp (names_of_body d.body) to_name) same ∙ moves.to_leads
 
-      go : (b : Bool) → eq_by_cmp name_cmp name to_name ≡ b → cond (not b) (get name_cmp (names_in directory.body) to_name) None ≡ o
+      go : (b : Bool) → eq_by_cmp name_cmp name to_name ≡ b → cond (not b) (get name_cmp (names_of_body directory.body) to_name) None ≡ o
       go false f = leads_there
       go true t =
           let same : name ≡ to_name = tied_names name to_name t in
-          let it : o ≡ Some n = sym leads_there ∙ ap (get name_cmp (names_in directory.body)) (sym same) ∙ moves.leads in
+          let it : o ≡ Some n = sym leads_there ∙ ap (get name_cmp (names_of_body directory.body)) (sym same) ∙ moves.leads in
           absurd (moves.other n it refl)
 
   pub between : Between room t v to_dir to_name o
@@ -124,9 +124,9 @@ module _ (room : Room) (t : Tree) (desks : Desks) (dir : ℕ) (directory : Node)
       stood = subst (λ k. Stood room t t k (renamed_node directory less)) e stood_less;
       leads = ap (λ ns. get name_cmp ns to_name) names_less ∙ other_name e;
       short = λ none.
-          let len = length-without_name (names_in directory.body) name n were.rising moves.leads in
+          let len = length-without_name (names_of_body directory.body) name n were.rising moves.leads in
           let few = were.few in
-          let same : length (names_in (with_names less directory.body)) ≡ length less = ap length names_less in
+          let same : length (names_of_body (with_names less directory.body)) ≡ length less = ap length names_less in
           omega (arith, len, few, same);
     }
     | inr ne ↦ record {
@@ -140,24 +140,24 @@ module _ (room : Room) (t : Tree) (desks : Desks) (dir : ℕ) (directory : Node)
   ]
 
   abbrev new : Names
-  new = with_entry name_cmp (names_in between.node.body) to_name n
+  new = with_entry name_cmp (names_of_body between.node.body) to_name n
 
   abbrev pub moved : Tree
-  moved = renamed v to_dir between.node (with_entry name_cmp (names_in between.node.body) to_name n)
+  moved = renamed v to_dir between.node (with_entry name_cmp (names_of_body between.node.body) to_name n)
 
   there : (q : ℕ) → IsThere t q → IsThere moved q
   there q h = still_there v to_dir (renamed_node between.node new) q (v_there q h)
 
-  between_are : AreNames room t (names_in between.node.body)
+  between_are : AreNames room t (names_of_body between.node.body)
   between_are = are_names room t between.node.body between.stood.body
 
   -- ---- counts
 
-  pub set : (x : ℕ) → leading x new + lost_of o x ≡ leading x (names_in between.node.body) + once_if n x
-  set x = leading-set_name (names_in between.node.body) to_name n x o between_are.rising between.leads
+  pub set : (x : ℕ) → leading x new + lost_of o x ≡ leading x (names_of_body between.node.body) + once_if n x
+  set x = leading-set_name (names_of_body between.node.body) to_name n x o between_are.rising between.leads
 
-  pub fewer : (x : ℕ) → leading x less + once_if n x ≡ leading x (names_in directory.body)
-  fewer x = leading-without_name (names_in directory.body) name n x were.rising moves.leads
+  pub fewer : (x : ℕ) → leading x less + once_if n x ≡ leading x (names_of_body directory.body)
+  fewer x = leading-without_name (names_of_body directory.body) name n x were.rising moves.leads
 
   count : (x : ℕ) → names_of moved x + lost_of o x ≡ names_of t x
   count x =
@@ -170,9 +170,9 @@ module _ (room : Room) (t : Tree) (desks : Desks) (dir : ℕ) (directory : Node)
   -- ---- nodes
 
   entry_is : (q : List ℕ) (k : ℕ) → get name_cmp new q ≡ Some k → IsEntry room moved q k
-  entry_is q k e = go (eq_by_cmp name_cmp q to_name) refl (sym (get-with_name (names_in between.node.body) to_name n q) ∙ e)
+  entry_is q k e = go (eq_by_cmp name_cmp q to_name) refl (sym (get-with_name (names_of_body between.node.body) to_name n q) ∙ e)
     where
-      go : (b : Bool) → eq_by_cmp name_cmp q to_name ≡ b → cond b (Some n) (get name_cmp (names_in between.node.body) q) ≡ Some k → IsEntry room moved q k
+      go : (b : Bool) → eq_by_cmp name_cmp q to_name ≡ b → cond b (Some n) (get name_cmp (names_of_body between.node.body) q) ≡ Some k → IsEntry room moved q k
       go true t i =
           let same : q ≡ to_name = tied_names q to_name t in
           let it : n ≡ k = cc in
@@ -182,17 +182,17 @@ module _ (room : Room) (t : Tree) (desks : Desks) (dir : ℕ) (directory : Node)
 
   new_few : (p : Option ℕ) → o ≡ p → length new ≤ room.entries_limit
   new_few None e =
-      let len = length-with_name (names_in between.node.body) to_name n between_are.rising (between.leads ∙ e) in
+      let len = length-with_name (names_of_body between.node.body) to_name n between_are.rising (between.leads ∙ e) in
       let free = between.short e in
       omega (arith, len, free)
   new_few (Some k) e =
-      let len = length-set_name (names_in between.node.body) to_name n k between_are.rising (between.leads ∙ e) in
+      let len = length-set_name (names_of_body between.node.body) to_name n k between_are.rising (between.leads ∙ e) in
       let few = between_are.few in
       omega (arith, len, few)
 
   are_new : AreNames room moved new
   are_new = record {
-    rising = with_name-IsMap (names_in between.node.body) to_name n between_are.rising;
+    rising = with_name-IsMap (names_of_body between.node.body) to_name n between_are.rising;
     few = new_few o refl;
     each = entry_is;
   }
@@ -261,14 +261,14 @@ module _ (room : Room) (t : Tree) (desks : Desks) (dir : ℕ) (directory : Node)
   to_dir_kept None e = refl
   to_dir_kept (Some m) e =
       let are = are_names room t to_directory.body (is.each to_dir to_directory moves.to_stands).body in
-      let some : 1 ≤ leading m (names_in to_directory.body) = leading_if (names_in to_directory.body) to_name m are.rising (moves.to_leads ∙ e) in
-      let at : names_at t to_dir ≡ names_in to_directory.body = ap names_or moves.to_stands in
+      let some : 1 ≤ leading m (names_of_body to_directory.body) = leading_if (names_of_body to_directory.body) to_name m are.rising (moves.to_leads ∙ e) in
+      let at : names_at t to_dir ≡ names_of_body to_directory.body = ap names_or moves.to_stands in
       keeps_if (Some m) e m to_dir to_dir_at (subst (λ q. 1 ≤ leading m q) (sym at) some)
 
   pub dir_kept : (p : Option ℕ) → o ≡ p → lost_of p dir ≡ 0
   dir_kept p e =
-      let some : 1 ≤ leading n (names_in directory.body) = leading_if (names_in directory.body) name n were.rising moves.leads in
-      let at : names_at t dir ≡ names_in directory.body = ap names_or moves.stands in
+      let some : 1 ≤ leading n (names_of_body directory.body) = leading_if (names_of_body directory.body) name n were.rising moves.leads in
+      let at : names_at t dir ≡ names_of_body directory.body = ap names_or moves.stands in
       keeps_if p e n dir (record { node = directory; is_there = moves.stands; directory = moves.is_dir }) (subst (λ q. 1 ≤ leading n q) (sym at) some)
 
   pub n_kept : (p : Option ℕ) → o ≡ p → lost_of p n ≡ 0
@@ -341,13 +341,13 @@ module _ (room : Room) (t : Tree) (desks : Desks) (dir : ℕ) (directory : Node)
       ap (names_at moved) here ∙ names_elsewhere v to_dir between.node new between.directory m not_to
       ∙ names_elsewhere t dir directory less moves.is_dir m not_from ∙ moves.empty m e at_m
 
-  unused_then : (p : Option ℕ) → o ≡ p → (x : ℕ) → IsDirectoryAt t x → 1 ≤ lost_of p x → is_in_use desks x ≡ false
+  unused_then : (p : Option ℕ) → o ≡ p → (x : ℕ) → IsDirectoryAt t x → 1 ≤ lost_of p x → is_in_use processes x ≡ false
   unused_then None e x d some = absurd (omega (arith, some))
   unused_then (Some m) e x d some =
       let here = once_is m x some in
-      ap (is_in_use desks) here ∙ moves.unused m e (subst (IsDirectoryAt t) here d)
+      ap (is_in_use processes) here ∙ moves.unused m e (subst (IsDirectoryAt t) here d)
 
-  pub moves_loses : LosesNames room t moved desks (lost_of o)
+  pub moves_loses : LosesNames room t moved processes (lost_of o)
   moves_loses = record {
     numbers = with_entry-IsMap v to_dir (renamed_node between.node new) v_numbers;
     types =

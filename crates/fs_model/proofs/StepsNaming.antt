@@ -4,7 +4,7 @@ use Rattle.std.proofs.Common.{refl, sym, ap, subst, arith, ◌∙◌, inl, inr}
 use Rattle.std.proofs.lemmas.Bool.{cases_eq}
 use Rattle.std.specs.Ordering.{nat_cmp}
 use Rattle.fs_layout.specs.Maps.{get, name_cmp, IsMap}
-use Rattle.fs_model.specs.Nodes.{Node, Body, File, Dir, Link, is_directory, names_in, with_names, type_of}
+use Rattle.fs_model.specs.Nodes.{Node, Body, File, Dir, Link, is_directory, names_of_body, with_names, type_of}
 use Rattle.fs_model.specs.Trees.{Tree, Room, node_at, with_node, names_for, names_of, NamesFit, IsEntry, IsBody, IsUnderRoot, IsNode, AreStamps}
 use Rattle.fs_layout.proofs.FirstEntries.{ties, apart}
 use Rattle.fs_model.proofs.Finds.{IsThere}
@@ -24,7 +24,7 @@ type_with_names names (File a s) = refl
 type_with_names names (Dir a d) = refl
 type_with_names names (Link target) = refl
 
-pub names_with_names : (names : Names) (b : Body) → IsTrue (is_directory b) → names_in (with_names names b) ≡ names
+pub names_with_names : (names : Names) (b : Body) → IsTrue (is_directory b) → names_of_body (with_names names b) ≡ names
 names_with_names names (File a s) d = absurd cc
 names_with_names names (Dir a dir) d = refl
 names_with_names names (Link target) d = absurd cc
@@ -52,20 +52,20 @@ module _ (t : Tree) (dir : ℕ) (node : Node) (names : Names) (directory : IsTru
   names_elsewhere k ne = ap names_or (at_others t dir (renamed_node node names) k ne)
 
   -- a node that those of a directory led to, which has other names now
-  pub leading_stays : (was : Tree) (x k : ℕ) → k ≡ dir → node_at was dir ≡ Some node → (1 ≤ leading x (names_in node.body) → 1 ≤ leading x names)
+  pub leading_stays : (was : Tree) (x k : ℕ) → k ≡ dir → node_at was dir ≡ Some node → (1 ≤ leading x (names_of_body node.body) → 1 ≤ leading x names)
       → 1 ≤ leading x (names_at was k) → 1 ≤ leading x (names_at (renamed t dir node names) k)
   leading_stays was x k e stands more some =
-      let before : leading x (names_at was k) ≡ leading x (names_in node.body) = ap (leading x) (ap (names_at was) e ∙ ap names_or stands) in
+      let before : leading x (names_at was k) ≡ leading x (names_of_body node.body) = ap (leading x) (ap (names_at was) e ∙ ap names_or stands) in
       let after : leading x (names_at (renamed t dir node names) k) ≡ leading x names = ap (leading x) (ap (names_at (renamed t dir node names)) e ∙ names_there) in
       subst (λ q. 1 ≤ q) (sym after) (more (subst (λ q. 1 ≤ q) before some))
 
   -- how many names lead to a node
   pub names_of-renamed : IsMap nat_cmp t → node_at t dir ≡ Some node → (x : ℕ)
-      → names_of (renamed t dir node names) x + leading x (names_in node.body) ≡ names_of t x + leading x names
+      → names_of (renamed t dir node names) x + leading x (names_of_body node.body) ≡ names_of t x + leading x names
   names_of-renamed m at x =
       let f : ℕ × Node → ℕ = λ e. names_for x e.1.body in
       let new : f (dir, renamed_node node names) ≡ leading x names = ap (leading x) (names_with_names names node.body directory) in
-      let old : summand f dir (get nat_cmp t dir) ≡ leading x (names_in node.body) = ap (summand f dir) at in
+      let old : summand f dir (get nat_cmp t dir) ≡ leading x (names_of_body node.body) = ap (summand f dir) at in
       omega (arith, sum-with_entry f t dir (renamed_node node names) m, new, old)
 
 pub renamed_keeps_types : (t : Tree) (dir : ℕ) (node : Node) (names : Names) → node_at t dir ≡ Some node
@@ -115,7 +115,7 @@ body_renamed room t u (Dir a dir) names d are is = (is.0, is.1, record { names =
 body_renamed room t u (Link target) names d are is = absurd cc
 
 -- the names of a directory in a tree
-pub are_names : (room : Room) (t : Tree) (b : Body) → IsBody room t b → AreNames room t (names_in b)
+pub are_names : (room : Room) (t : Tree) (b : Body) → IsBody room t b → AreNames room t (names_of_body b)
 are_names room t (File a s) is = record { rising = refl; few = omega arith; each = λ name n e. absurd cc }
 are_names room t (Dir a d) is = record { rising = is.2.names; few = is.2.few; each = is.2.each }
 are_names room t (Link target) is = record { rising = refl; few = omega arith; each = λ name n e. absurd cc }

@@ -14,11 +14,11 @@ use Rattle.fs_model.proofs.StepsSwept.{MayBeLeft}
 use Rattle.fs_model.proofs.StepsLeaves.{unrefused_call}
 use Rattle.fs_model.proofs.EachCall.{each_call}
 
-pub process_leaves : (s : State) (pid : ℕ) (p : Process) (call : Call) (new : ℕ) → IsState s → IsFalse s.halted → get nat_cmp s.desks pid ≡ Some p
+pub process_leaves : (s : State) (pid : ℕ) (p : Process) (call : Call) (new : ℕ) → IsState s → IsFalse s.halted → get nat_cmp s.processes pid ≡ Some p
     → IsCall call → early_refusal p (row_of call) ≡ None → late_refusal s p (row_of call) ≡ None
     → HasNewNumber s ((row_of call).effect (scene_of s p (row_of call)) new).change
     → MayBeLeft s.room (changed s.tree ((row_of call).effect (scene_of s p (row_of call)) new).change)
-    (with_entry nat_cmp s.desks pid ((row_of call).effect (scene_of s p (row_of call)) new).process)
+    (with_entry nat_cmp s.processes pid ((row_of call).effect (scene_of s p (row_of call)) new).process)
 process_leaves s pid p call new is runs here fits early late fresh =
     let row = row_of call in
     let of = each_call call in

@@ -12,7 +12,7 @@ use Rattle.fs_model.specs.declared.reply.Reply.{Reply}
 use Rattle.fs_model.specs.declared.reply.Reply.TheVariants.{Done, Fd}
 use Rattle.fs_model.specs.Limits.{descriptors_limit, target_limit}
 use Rattle.fs_layout.specs.Maps.{get, name_cmp, with_entry}
-use Rattle.fs_model.specs.Nodes.{Node, is_directory, names_in, with_bytes}
+use Rattle.fs_model.specs.Nodes.{Node, is_directory, names_of_body, with_bytes}
 use Rattle.fs_model.specs.Trees.{Tree, Room, node_at, with_node, names_of, IsTarget, IsTree}
 use Rattle.fs_model.specs.Births.{the_node, born_file, born_directory, born_link}
 use Rattle.fs_model.specs.Processes.{least_unused}
@@ -39,14 +39,14 @@ use Rattle.fs_model.proofs.StepsProcesses.{with_descriptor_fits, least_is_low}
 
 -- the directory is what stands at the number
 pub dir_is_there : {room : Room} (t : Tree) (dir : ℕ) (name : List ℕ) (o : Option ℕ) → IsNameAt room t dir name o
-    → (node_at t dir ≡ Some (the_node t dir)) × IsTrue (is_directory (the_node t dir).body) × (get name_cmp (names_in (the_node t dir).body) name ≡ o)
+    → (node_at t dir ≡ Some (the_node t dir)) × IsTrue (is_directory (the_node t dir).body) × (get name_cmp (names_of_body (the_node t dir).body) name ≡ o)
 dir_is_there t dir name o x =
     let at = node_is_there t dir (ap is_some x.stands) in
     let same : x.node ≡ the_node t dir = cc in
-    (at, subst (λ v. IsTrue (is_directory v.body)) same x.directory, subst (λ v. get name_cmp (names_in v.body) name ≡ o) same x.leads)
+    (at, subst (λ v. IsTrue (is_directory v.body)) same x.directory, subst (λ v. get name_cmp (names_of_body v.body) name ≡ o) same x.leads)
 
 pub named_is : (t : Tree) (dir : ℕ) (directory : Node) (name : List ℕ) (n : ℕ) → node_at t dir ≡ Some directory
-    → named t dir name n ≡ renamed t dir directory (with_entry name_cmp (names_in directory.body) name n)
+    → named t dir name n ≡ renamed t dir directory (with_entry name_cmp (names_of_body directory.body) name n)
 named_is t dir directory name n at = ap (with_names_at t dir (λ names. with_entry name_cmp names name n)) at
 
 pub no_find : (o : Option ℕ) → is_some o ≡ false → o ≡ None
@@ -60,15 +60,15 @@ is_new_if f met = no_find f.ino (or_parts (is_found f) (is_special f) (unrefused
 
 module _ (c : Scene) (is : IsScene c) (name : IsNameAt c.state.room c.state.tree c.first.dir c.first.name None) (met : no_names c c.first ≡ None)
     (n : ℕ) (positive : 1 ≤ n) (below : n < c.state.room.inodes) (none : node_at c.state.tree n ≡ None) where
-  abbrev Place : Node
-  Place = dir_node c c.first
+  abbrev Geometry : Node
+  Geometry = dir_node c c.first
 
   pub dir_at : node_at c.state.tree c.first.dir ≡ Some (dir_node c c.first)
   dir_at = (dir_is_there c.state.tree c.first.dir c.first.name None name).0
 
-  has_room : length (names_in (dir_node c c.first).body) < c.state.room.entries_limit
+  has_room : length (names_of_body (dir_node c c.first).body) < c.state.room.entries_limit
   has_room =
-      let full : nat_le c.state.room.entries_limit (length (names_in (dir_node c c.first).body)) ≡ false = unrefused ENOSPC _ met in
+      let full : nat_le c.state.room.entries_limit (length (names_of_body (dir_node c c.first).body)) ≡ false = unrefused ENOSPC _ met in
       grind (arith, nat_tests)
 
   pub adds : (new : Node) → IsNewborn c.state.room c.state.tree new
@@ -83,7 +83,7 @@ module _ (c : Scene) (is : IsScene c) (name : IsNameAt c.state.room c.state.tree
   made new = changed c.state.tree (Make c.first.dir c.first.name n new)
 
   pub made_is : (new : Node) → IsNewborn c.state.room c.state.tree new
-      → made new ≡ renamed (with_node c.state.tree n new) c.first.dir (dir_node c c.first) (with_entry name_cmp (names_in (dir_node c c.first).body) c.first.name n)
+      → made new ≡ renamed (with_node c.state.tree n new) c.first.dir (dir_node c c.first) (with_entry name_cmp (names_of_body (dir_node c c.first).body) c.first.name n)
   made_is new newborn =
       let a = adds new newborn in
       let ne : c.first.dir ≢ n = a.apart c.first.dir (record { node = dir_node c c.first; is_there = a.takes.stands; directory = a.takes.is_dir }) in
@@ -105,7 +105,7 @@ module _ (c : Scene) (is : IsScene c) (name : IsNameAt c.state.room c.state.tree
       let a = adds new newborn in
       let ne : n ≢ c.first.dir = (λ e. a.apart c.first.dir (record { node = dir_node c c.first; is_there = a.takes.stands; directory = a.takes.is_dir }) (sym e)) in
       ap (λ t. node_at t n) (made_is new newborn)
-      ∙ at_others (with_node c.state.tree n new) c.first.dir (renamed_node (dir_node c c.first) (with_entry name_cmp (names_in (dir_node c c.first).body) c.first.name n)) n ne
+      ∙ at_others (with_node c.state.tree n new) c.first.dir (renamed_node (dir_node c c.first) (with_entry name_cmp (names_of_body (dir_node c c.first).body) c.first.name n)) n ne
       ∙ at_it c.state.tree n new
 
   made_fits : (new : Node) (reply : Reply) → IsNewborn c.state.room c.state.tree new
@@ -202,8 +202,8 @@ link_fits c is name met =
     let no_directory : is_directory target.body ≡ false = and_false (is_found c.first) (is_directory target.body) (unrefused EPERM (is_directory_found c c.first) met.1.1.1.0) found in
     let many : nat_le c.state.room.names_limit (names_of t n) ≡ false = unrefused EMLINK _ met.1.1.1.1.1.1.1.0 in
     let few : names_of t n < c.state.room.names_limit = grind (arith, nat_tests) in
-    let full : nat_le c.state.room.entries_limit (length (names_in directory.body)) ≡ false = unrefused ENOSPC _ met.1.1.1.1.1.1.1.1.1.0 in
-    let free : length (names_in directory.body) < c.state.room.entries_limit = grind (arith, nat_tests) in
+    let full : nat_le c.state.room.entries_limit (length (names_of_body directory.body)) ≡ false = unrefused ENOSPC _ met.1.1.1.1.1.1.1.1.1.0 in
+    let free : length (names_of_body directory.body) < c.state.room.entries_limit = grind (arith, nat_tests) in
     let adds =
     gives_name c.state.room t dir directory c.second.name n target is.state.tree (record {
       takes = record { stands = x.0; is_dir = x.1; is_new = x.2; has_room = free; is_name = name.is_name; short = name.short; bytes = name.bytes };
@@ -211,7 +211,7 @@ link_fits c is name met =
       no_directory = no_directory;
       few = few;
     }) in
-    let u : changed t (AddName dir c.second.name n) ≡ renamed t dir directory (with_entry name_cmp (names_in directory.body) c.second.name n) =
+    let u : changed t (AddName dir c.second.name n) ≡ renamed t dir directory (with_entry name_cmp (names_of_body directory.body) c.second.name n) =
     named_is t dir directory c.second.name n x.0 in
     let tree : IsTree c.state.room (changed t (AddName dir c.second.name n)) =
     subst (IsTree c.state.room) (sym u) (added_is_tree c.state.room t t dir directory c.second.name n target is.state.tree adds) in

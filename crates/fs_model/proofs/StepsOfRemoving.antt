@@ -5,7 +5,7 @@ use Rattle.std.proofs.lemmas.Bool.{or_from}
 use Rattle.std.specs.Ordering.{nat_cmp}
 use Rattle.fs_cred.specs.declared.errno.Errno.TheVariants.{EBUSY, EISDIR, EINVAL, ENOTEMPTY}
 use Rattle.fs_layout.specs.Maps.{get, name_cmp, with_entry, without}
-use Rattle.fs_model.specs.Nodes.{is_directory, names_in}
+use Rattle.fs_model.specs.Nodes.{is_directory, names_of_body}
 use Rattle.fs_model.specs.Trees.{IsDirectoryAt}
 use Rattle.fs_model.specs.Processes.{is_in_use}
 use Rattle.fs_model.specs.TreeChanges.{Change, TakeName, with_names_at, changed}
@@ -43,32 +43,32 @@ found_directory c is found d =
 
 -- ---- the process stays
 
-module _ (c : Scene) (is : IsScene c) (pid : ℕ) (here : get nat_cmp c.state.desks pid ≡ Some c.process) where
-  desks_stay : with_entry nat_cmp c.state.desks pid c.process ≡ c.state.desks
-  desks_stay = same_process_stays c.state.desks pid c.process is.state.pids here
+module _ (c : Scene) (is : IsScene c) (pid : ℕ) (here : get nat_cmp c.state.processes pid ≡ Some c.process) where
+  processes_stay : with_entry nat_cmp c.state.processes pid c.process ≡ c.state.processes
+  processes_stay = same_process_stays c.state.processes pid c.process is.state.pids here
 
-  pub loses_leaves : (change : Change) (lost : ℕ → ℕ) → LosesNames c.state.room c.state.tree (changed c.state.tree change) c.state.desks lost
-      → MayBeLeft c.state.room (changed c.state.tree change) (with_entry nat_cmp c.state.desks pid c.process)
+  pub loses_leaves : (change : Change) (lost : ℕ → ℕ) → LosesNames c.state.room c.state.tree (changed c.state.tree change) c.state.processes lost
+      → MayBeLeft c.state.room (changed c.state.tree change) (with_entry nat_cmp c.state.processes pid c.process)
   loses_leaves change lost h =
-      subst (MayBeLeft c.state.room (changed c.state.tree change)) (sym desks_stay)
-      (loses_may_be_left c.state.room c.state.tree (changed c.state.tree change) c.state.desks lost is.state.tree h is.state.pids is.state.few
-      (is.state.desks is.running).processes)
+      subst (MayBeLeft c.state.room (changed c.state.tree change)) (sym processes_stay)
+      (loses_may_be_left c.state.room c.state.tree (changed c.state.tree change) c.state.processes lost is.state.tree h is.state.pids is.state.few
+      (is.state.processes is.running).each_process)
 
   -- ---- unlink and rmdir
 
   taken_leaves : IsNameAt c.state.room c.state.tree c.first.dir c.first.name c.first.ino → is_found c.first ≡ true
       → (IsDirectoryAt c.state.tree (number c.first) → names_at c.state.tree (number c.first) ≡ [])
-      → (IsDirectoryAt c.state.tree (number c.first) → is_in_use c.state.desks (number c.first) ≡ false)
-      → MayBeLeft c.state.room (changed c.state.tree (TakeName c.first.dir c.first.name)) (with_entry nat_cmp c.state.desks pid c.process)
+      → (IsDirectoryAt c.state.tree (number c.first) → is_in_use c.state.processes (number c.first) ≡ false)
+      → MayBeLeft c.state.room (changed c.state.tree (TakeName c.first.dir c.first.name)) (with_entry nat_cmp c.state.processes pid c.process)
   taken_leaves name found empty unused =
       let t = c.state.tree in
       let x = dir_is_there t c.first.dir c.first.name c.first.ino name in
       let directory = dir_node c c.first in
-      let u : changed t (TakeName c.first.dir c.first.name) ≡ renamed t c.first.dir directory (without name_cmp (names_in directory.body) c.first.name) =
+      let u : changed t (TakeName c.first.dir c.first.name) ≡ renamed t c.first.dir directory (without name_cmp (names_of_body directory.body) c.first.name) =
       ap (with_names_at t c.first.dir (λ names. without name_cmp names c.first.name)) x.0 in
       loses_leaves (TakeName c.first.dir c.first.name) (once_if (number c.first))
-      (subst (λ w. LosesNames c.state.room t w c.state.desks (once_if (number c.first))) (sym u)
-      (takes_loses c.state.room t c.state.desks c.first.dir directory c.first.name (number c.first) is.state.tree (record {
+      (subst (λ w. LosesNames c.state.room t w c.state.processes (once_if (number c.first))) (sym u)
+      (takes_loses c.state.room t c.state.processes c.first.dir directory c.first.name (number c.first) is.state.tree (record {
         stands = x.0;
         is_dir = x.1;
         leads = x.2 ∙ found_number c.first.ino found;
@@ -77,7 +77,7 @@ module _ (c : Scene) (is : IsScene c) (pid : ℕ) (here : get nat_cmp c.state.de
       })))
 
   pub unlink_leaves : IsWalked c.state.room c.state.tree Parent c.first → AreMet (unlink_demands c)
-      → MayBeLeft c.state.room (changed c.state.tree (TakeName c.first.dir c.first.name)) (with_entry nat_cmp c.state.desks pid c.process)
+      → MayBeLeft c.state.room (changed c.state.tree (TakeName c.first.dir c.first.name)) (with_entry nat_cmp c.state.processes pid c.process)
   unlink_leaves walked met =
       let special : is_special c.first ≡ false = unrefused EISDIR (is_special c.first) met.0 in
       let found = is_found_if c.first met.1.0 in
@@ -87,14 +87,14 @@ module _ (c : Scene) (is : IsScene c) (pid : ℕ) (here : get nat_cmp c.state.de
       (λ d. absurd (let yes = found_directory c is found d in cc))
 
   pub rmdir_leaves : IsWalked c.state.room c.state.tree Parent c.first → AreMet (rmdir_demands c)
-      → MayBeLeft c.state.room (changed c.state.tree (TakeName c.first.dir c.first.name)) (with_entry nat_cmp c.state.desks pid c.process)
+      → MayBeLeft c.state.room (changed c.state.tree (TakeName c.first.dir c.first.name)) (with_entry nat_cmp c.state.processes pid c.process)
   rmdir_leaves walked met =
       let top : ends_top c.first ≡ false = unrefused EBUSY (ends_top c.first) met.0 in
       let dot : ends_dot c.first ≡ false = unrefused EINVAL (ends_dot c.first) met.1.0 in
       let dots : ends_dot_dot c.first ≡ false = unrefused ENOTEMPTY (ends_dot_dot c.first) met.1.1.0 in
       let found = is_found_if c.first met.1.1.1.0 in
-      let used : is_in_use c.state.desks (number c.first) ≡ false = unrefused EBUSY (is_in_use c.state.desks (number c.first)) met.1.1.1.1.1.1.1.1.0 in
+      let used : is_in_use c.state.processes (number c.first) ≡ false = unrefused EBUSY (is_in_use c.state.processes (number c.first)) met.1.1.1.1.1.1.1.1.0 in
       let has : has_names c c.first ≡ false = unrefused ENOTEMPTY (has_names c c.first) met.1.1.1.1.1.1.1.1.1.0 in
       taken_leaves (walked.old refl (or_from (ends_top c.first || ends_dot c.first) (ends_dot_dot c.first) (or_from (ends_top c.first) (ends_dot c.first) top dot) dots)) found
-      (λ d. ap names_or (first_at c is found) ∙ empty_if (names_in (body_found c c.first)) has)
+      (λ d. ap names_or (first_at c is found) ∙ empty_if (names_of_body (body_found c c.first)) has)
       (λ d. used)

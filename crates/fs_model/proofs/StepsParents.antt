@@ -7,7 +7,7 @@ use Rattle.std.proofs.lemmas.List.Sums.{sum_by-cons}
 use Rattle.std.specs.Ordering.{nat_cmp}
 use Rattle.fs_model.specs.Limits.{root}
 use Rattle.fs_layout.specs.Maps.{IsMap}
-use Rattle.fs_model.specs.Nodes.{Node, Body, File, Dir, Link, is_directory, names_in}
+use Rattle.fs_model.specs.Nodes.{Node, Body, File, Dir, Link, is_directory, names_of_body}
 use Rattle.fs_model.specs.Trees.{Tree, Room, node_at, names_for, names_of, parent, NamesFit, IsUnderRoot, is_root, is_in, IsDirectoryAt, IsTree}
 use Rattle.fs_layout.proofs.FirstEntries.{in_rest, at_same, at_other, above, left, right}
 use Rattle.fs_layout.proofs.NameMaps.{Names, leading}
@@ -15,7 +15,7 @@ use Rattle.fs_layout.proofs.NameMaps.{Names, leading}
 -- the names in what stands at a number
 abbrev pub names_or : Option Node → Names
 names_or None = []
-names_or (Some node) = names_in node.body
+names_or (Some node) = names_of_body node.body
 
 abbrev pub names_at : Tree → ℕ → Names
 names_at t k = names_or (node_at t k)

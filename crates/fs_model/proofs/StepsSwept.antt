@@ -7,22 +7,22 @@ use Rattle.std.specs.List.{list_any}
 use Rattle.std.specs.Ordering.{nat_cmp}
 use Rattle.fs_model.specs.Limits.{root, processes_limit}
 use Rattle.fs_layout.specs.Maps.{get, IsMap}
-use Rattle.fs_model.specs.Nodes.{Node, Body, File, Dir, Link, is_directory, is_link, names_in}
+use Rattle.fs_model.specs.Nodes.{Node, Body, File, Dir, Link, is_directory, is_link, names_of_body}
 use Rattle.fs_model.specs.Trees.{Tree, Room, node_at, names_of, NamesFit, IsTree, IsDirectoryAt}
-use Rattle.fs_model.specs.Processes.{Desks, Process, Descriptor, is_open, starts_at, is_in_use}
+use Rattle.fs_model.specs.Processes.{ProcessTable, Process, Descriptor, is_open, starts_at, is_in_use}
 use Rattle.fs_model.specs.TreeChanges.{swept, lives_nameless}
 use Rattle.fs_model.specs.States.{State, IsRoom, MayBeFree, IsDescriptor, IsProcess, FitsTree, IsState}
 use Rattle.fs_layout.proofs.FirstEntries.{in_rest}
 use Rattle.fs_model.proofs.Swept.{kept, get-filter, names_of-filter, stays, MayBeSwept, at-swept, kept_from, swept_is_tree}
 
 -- what a step leaves before what nobody can reach leaves the tree: a directory in use stays
-pub record MayBeLeft (room : Room) (u : Tree) (desks : Desks) : Type 0 where
-  pub tree : MayBeSwept room u desks
-  pub pids : IsMap nat_cmp desks
-  pub few : length desks ≤ processes_limit
-  pub processes : (pid : ℕ) (p : Process) → get nat_cmp desks pid ≡ Some p → IsProcess u p
-  pub used : (n : ℕ) (node : Node) → node_at u n ≡ Some node → IsTrue (is_directory node.body) → IsTrue (is_in_use desks n)
-      → stays u desks (n, node) ≡ true
+pub record MayBeLeft (room : Room) (u : Tree) (processes : ProcessTable) : Type 0 where
+  pub tree : MayBeSwept room u processes
+  pub pids : IsMap nat_cmp processes
+  pub few : length processes ≤ processes_limit
+  pub each_process : (pid : ℕ) (p : Process) → get nat_cmp processes pid ≡ Some p → IsProcess u p
+  pub used : (n : ℕ) (node : Node) → node_at u n ≡ Some node → IsTrue (is_directory node.body) → IsTrue (is_in_use processes n)
+      → stays u processes (n, node) ≡ true
 
 -- ---- tests on maps
 
@@ -42,40 +42,40 @@ same_is n = grind (arith, nat_tests)
 
 -- ---- what is open or in use
 
-open_by : (desks : Desks) (pid : ℕ) (p : Process) (fd : ℕ) (d : Descriptor) → get nat_cmp desks pid ≡ Some p
-    → get nat_cmp p.descriptors fd ≡ Some d → is_open desks d.number ≡ true
-open_by desks pid p fd d here there =
-    any_entry (λ q. list_any (λ e. e.1.number == d.number) q.1.descriptors) desks pid p here
+open_by : (processes : ProcessTable) (pid : ℕ) (p : Process) (fd : ℕ) (d : Descriptor) → get nat_cmp processes pid ≡ Some p
+    → get nat_cmp p.descriptors fd ≡ Some d → is_open processes d.number ≡ true
+open_by processes pid p fd d here there =
+    any_entry (λ q. list_any (λ e. e.1.number == d.number) q.1.descriptors) processes pid p here
     (any_entry (λ e. e.1.number == d.number) p.descriptors fd d there (same_is d.number))
 
-used_if_open : (desks : Desks) (n : ℕ) → is_open desks n ≡ true → is_in_use desks n ≡ true
-used_if_open desks n h = or_right (n == root || list_any (λ q. starts_at n q.1) desks) (is_open desks n) h
+used_if_open : (processes : ProcessTable) (n : ℕ) → is_open processes n ≡ true → is_in_use processes n ≡ true
+used_if_open processes n h = or_right (n == root || list_any (λ q. starts_at n q.1) processes) (is_open processes n) h
 
-used_if_started : (desks : Desks) (pid n : ℕ) (p : Process) → get nat_cmp desks pid ≡ Some p → starts_at n p ≡ true
-    → is_in_use desks n ≡ true
-used_if_started desks pid n p here starts =
-    or_left (n == root || list_any (λ q. starts_at n q.1) desks) (is_open desks n)
-    (or_right (n == root) (list_any (λ q. starts_at n q.1) desks) (any_entry (λ q. starts_at n q.1) desks pid p here starts))
+used_if_started : (processes : ProcessTable) (pid n : ℕ) (p : Process) → get nat_cmp processes pid ≡ Some p → starts_at n p ≡ true
+    → is_in_use processes n ≡ true
+used_if_started processes pid n p here starts =
+    or_left (n == root || list_any (λ q. starts_at n q.1) processes) (is_open processes n)
+    (or_right (n == root) (list_any (λ q. starts_at n q.1) processes) (any_entry (λ q. starts_at n q.1) processes pid p here starts))
 
-used_by : (desks : Desks) (pid : ℕ) (p : Process) → get nat_cmp desks pid ≡ Some p → is_in_use desks p.cwd ≡ true
-used_by desks pid p here =
-    used_if_started desks pid p.cwd p here (or_left (p.cwd == p.cwd) (p.second_cwd == p.cwd) (same_is p.cwd))
+used_by : (processes : ProcessTable) (pid : ℕ) (p : Process) → get nat_cmp processes pid ≡ Some p → is_in_use processes p.cwd ≡ true
+used_by processes pid p here =
+    used_if_started processes pid p.cwd p here (or_left (p.cwd == p.cwd) (p.second_cwd == p.cwd) (same_is p.cwd))
 
-used_by_second : (desks : Desks) (pid : ℕ) (p : Process) → get nat_cmp desks pid ≡ Some p → is_in_use desks p.second_cwd ≡ true
-used_by_second desks pid p here =
-    used_if_started desks pid p.second_cwd p here (or_right (p.cwd == p.second_cwd) (p.second_cwd == p.second_cwd) (same_is p.second_cwd))
+used_by_second : (processes : ProcessTable) (pid : ℕ) (p : Process) → get nat_cmp processes pid ≡ Some p → is_in_use processes p.second_cwd ≡ true
+used_by_second processes pid p here =
+    used_if_started processes pid p.second_cwd p here (or_right (p.cwd == p.second_cwd) (p.second_cwd == p.second_cwd) (same_is p.second_cwd))
 
 -- ---- the swept tree
 
-module _ (room : Room) (u : Tree) (desks : Desks) (h : MayBeLeft room u desks) where
-  stays_there : (n : ℕ) (node : Node) → node_at u n ≡ Some node → stays u desks (n, node) ≡ true → node_at (swept u desks) n ≡ Some node
-  stays_there = at-swept room u desks h.tree
+module _ (room : Room) (u : Tree) (processes : ProcessTable) (h : MayBeLeft room u processes) where
+  stays_there : (n : ℕ) (node : Node) → node_at u n ≡ Some node → stays u processes (n, node) ≡ true → node_at (swept u processes) n ≡ Some node
+  stays_there = at-swept room u processes h.tree
 
-  was_there : (n : ℕ) (node : Node) (o : Option Node) → node_at u n ≡ o → kept (stays u desks) n o ≡ Some node
-      → stays u desks (n, node) ≡ true
-  was_there n node o e k = (kept_from room u desks h.tree n node o e k).1
+  was_there : (n : ℕ) (node : Node) (o : Option Node) → node_at u n ≡ o → kept (stays u processes) n o ≡ Some node
+      → stays u processes (n, node) ≡ true
+  was_there n node o e k = (kept_from room u processes h.tree n node o e k).1
 
-  directory_stays : (n : ℕ) → IsDirectoryAt u n → IsTrue (is_in_use desks n) → IsDirectoryAt (swept u desks) n
+  directory_stays : (n : ℕ) → IsDirectoryAt u n → IsTrue (is_in_use processes n) → IsDirectoryAt (swept u processes) n
   directory_stays n d used = record {
     node = d.node;
     is_there = stays_there n d.node d.is_there (h.used n d.node d.is_there d.directory used);
@@ -83,14 +83,14 @@ module _ (room : Room) (u : Tree) (desks : Desks) (h : MayBeLeft room u desks) w
   }
 
   -- a file that is open lives; a directory that is open is in use
-  open_stays : (n : ℕ) (node : Node) (b : Body) → node.body ≡ b → node_at u n ≡ Some node → is_open desks n ≡ true → IsFalse (is_link b)
-      → stays u desks (n, node) ≡ true
+  open_stays : (n : ℕ) (node : Node) (b : Body) → node.body ≡ b → node_at u n ≡ Some node → is_open processes n ≡ true → IsFalse (is_link b)
+      → stays u processes (n, node) ≡ true
   open_stays n node (File a bytes) is at opened no_link =
-      or_right (not (names_of u n == 0)) (lives_nameless desks n node.body) (ap (lives_nameless desks n) is ∙ opened)
-  open_stays n node (Dir a d) is at opened no_link = h.used n node at (ap is_directory is) (used_if_open desks n opened)
+      or_right (not (names_of u n == 0)) (lives_nameless processes n node.body) (ap (lives_nameless processes n) is ∙ opened)
+  open_stays n node (Dir a d) is at opened no_link = h.used n node at (ap is_directory is) (used_if_open processes n opened)
   open_stays n node (Link target) is at opened no_link = absurd cc
 
-  descriptor_stays : (fd : ℕ) (d : Descriptor) → IsDescriptor u fd d → is_open desks d.number ≡ true → IsDescriptor (swept u desks) fd d
+  descriptor_stays : (fd : ℕ) (d : Descriptor) → IsDescriptor u fd d → is_open processes d.number ≡ true → IsDescriptor (swept u processes) fd d
   descriptor_stays fd d x opened = record {
     below = x.below;
     offset = x.offset;
@@ -100,61 +100,61 @@ module _ (room : Room) (u : Tree) (desks : Desks) (h : MayBeLeft room u desks) w
     no_writes = x.no_writes;
   }
 
-  process_stays : (pid : ℕ) (p : Process) → get nat_cmp desks pid ≡ Some p → IsProcess (swept u desks) p
+  process_stays : (pid : ℕ) (p : Process) → get nat_cmp processes pid ≡ Some p → IsProcess (swept u processes) p
   process_stays pid p here =
-      let x = h.processes pid p here in
+      let x = h.each_process pid p here in
       record {
         cred = x.cred;
         umask = x.umask;
-        cwd = directory_stays p.cwd x.cwd (used_by desks pid p here);
-        second_cwd = directory_stays p.second_cwd x.second_cwd (used_by_second desks pid p here);
+        cwd = directory_stays p.cwd x.cwd (used_by processes pid p here);
+        second_cwd = directory_stays p.second_cwd x.second_cwd (used_by_second processes pid p here);
         descriptors = x.descriptors;
-        each = λ fd d there. descriptor_stays fd d (x.each fd d there) (open_by desks pid p fd d here there);
+        each = λ fd d there. descriptor_stays fd d (x.each fd d there) (open_by processes pid p fd d here there);
       }
 
-  nameless_lives : (n : ℕ) (b : Body) (names : ℕ) → names ≡ 0 → n ≢ root → (not (names == 0) || lives_nameless desks n b) ≡ true
-      → IsTrue (is_open desks n)
+  nameless_lives : (n : ℕ) (b : Body) (names : ℕ) → names ≡ 0 → n ≢ root → (not (names == 0) || lives_nameless processes n b) ≡ true
+      → IsTrue (is_open processes n)
   nameless_lives n b names none ne k =
       let zero : (names == 0) ≡ true = grind (arith, nat_tests) in
       let other : (n == root) ≡ false = grind (arith, nat_tests) in
-      let lives : lives_nameless desks n b ≡ true = sym (ap (λ z. not z || lives_nameless desks n b) zero) ∙ k in
+      let lives : lives_nameless processes n b ≡ true = sym (ap (λ z. not z || lives_nameless processes n b) zero) ∙ k in
       go b other lives
     where
-      go : (b : Body) → (n == root) ≡ false → lives_nameless desks n b ≡ true → IsTrue (is_open desks n)
+      go : (b : Body) → (n == root) ≡ false → lives_nameless processes n b ≡ true → IsTrue (is_open processes n)
       go (File a bytes) other lives = lives
       go (Dir a d) other lives = absurd cc
       go (Link target) other lives = absurd cc
 
-  swept_fits : FitsTree (swept u desks) desks
+  swept_fits : FitsTree (swept u processes) processes
   swept_fits = record {
-    processes = process_stays;
+    each_process = process_stays;
     nameless = λ n node at none ne.
-        let stood = was_there n node (node_at u n) refl (sym (get-filter (stays u desks) u h.tree.numbers n) ∙ at) in
-        let names : names_of u n ≡ 0 = sym (names_of-filter (stays u desks) u h.tree.numbers h.tree.gone n) ∙ none in
+        let stood = was_there n node (node_at u n) refl (sym (get-filter (stays u processes) u h.tree.numbers n) ∙ at) in
+        let names : names_of u n ≡ 0 = sym (names_of-filter (stays u processes) u h.tree.numbers h.tree.gone n) ∙ none in
         nameless_lives n node.body (names_of u n) names ne stood;
   }
 
 -- the state that is left
-pub left_is_state : (s : State) (u : Tree) (desks : Desks) (free : ℕ) → IsRoom s.room → s.now < 2 ^ 64 → MayBeLeft s.room u desks
-    → MayBeFree s.room (swept u desks) free → IsState (record s { tree = swept u desks; desks = desks; free = free })
-left_is_state s u desks free room small h may = record {
+pub left_is_state : (s : State) (u : Tree) (processes : ProcessTable) (free : ℕ) → IsRoom s.room → s.now < 2 ^ 64 → MayBeLeft s.room u processes
+    → MayBeFree s.room (swept u processes) free → IsState (record s { tree = swept u processes; processes = processes; free = free })
+left_is_state s u processes free room small h may = record {
   room = room;
-  tree = swept_is_tree s.room u desks h.tree;
+  tree = swept_is_tree s.room u processes h.tree;
   pids = h.pids;
   few = h.few;
   free = may;
   now = small;
-  desks = λ runs. swept_fits s.room u desks h;
+  processes = λ runs. swept_fits s.room u processes h;
 }
 
 -- ---- where the tree is one before the sweep
 
 -- a directory has a name, or is the root
-directory_lives : (room : Room) (desks : Desks) (n : ℕ) (b : Body) (names : ℕ) → NamesFit room n b names → IsTrue (is_directory b)
-    → (not (names == 0) || lives_nameless desks n b) ≡ true
-directory_lives room desks n (File a bytes) names fits d = absurd cc
-directory_lives room desks n (Link target) names fits d = absurd cc
-directory_lives room desks n (Dir a dir) names fits d = elim (cases_eq n root) [
+directory_lives : (room : Room) (processes : ProcessTable) (n : ℕ) (b : Body) (names : ℕ) → NamesFit room n b names → IsTrue (is_directory b)
+    → (not (names == 0) || lives_nameless processes n b) ≡ true
+directory_lives room processes n (File a bytes) names fits d = absurd cc
+directory_lives room processes n (Link target) names fits d = absurd cc
+directory_lives room processes n (Dir a dir) names fits d = elim (cases_eq n root) [
   | inl e ↦ or_right (not (names == 0)) (n == root) (let k : (n == root) ≡ true = grind (arith, nat_tests) in k)
   | inr ne ↦
       let other : (n == root) ≡ false = grind (arith, nat_tests) in
@@ -164,27 +164,27 @@ directory_lives room desks n (Dir a dir) names fits d = elim (cases_eq n root) [
 ]
 
 -- what goes has no names in it
-goes_empty : (room : Room) (desks : Desks) (n : ℕ) (b : Body) (names : ℕ) → NamesFit room n b names → (not (names == 0) || lives_nameless desks n b) ≡ false
-    → names_in b ≡ []
-goes_empty room desks n (File a bytes) names fits gone = refl
-goes_empty room desks n (Link target) names fits gone = refl
-goes_empty room desks n (Dir a d) names fits gone =
-    absurd (let lives : (not (names == 0) || n == root) ≡ true = directory_lives room desks n (Dir a d) names fits refl in cc)
+goes_empty : (room : Room) (processes : ProcessTable) (n : ℕ) (b : Body) (names : ℕ) → NamesFit room n b names → (not (names == 0) || lives_nameless processes n b) ≡ false
+    → names_of_body b ≡ []
+goes_empty room processes n (File a bytes) names fits gone = refl
+goes_empty room processes n (Link target) names fits gone = refl
+goes_empty room processes n (Dir a d) names fits gone =
+    absurd (let lives : (not (names == 0) || n == root) ≡ true = directory_lives room processes n (Dir a d) names fits refl in cc)
 
-pub tree_may_be_swept : (room : Room) (t : Tree) (desks : Desks) → IsTree room t → MayBeSwept room t desks
-tree_may_be_swept room t desks is = record {
+pub tree_may_be_swept : (room : Room) (t : Tree) (processes : ProcessTable) → IsTree room t → MayBeSwept room t processes
+tree_may_be_swept room t processes is = record {
   numbers = is.numbers;
   root_is_there = is.root_is_there;
   each = λ n node e _. is.each n node e;
-  gone = λ n node e k. goes_empty room desks n node.body (names_of t n) (is.each n node e).names k;
+  gone = λ n node e k. goes_empty room processes n node.body (names_of t n) (is.each n node e).names k;
 }
 
-pub tree_may_be_left : (room : Room) (u : Tree) (desks : Desks) → IsTree room u → IsMap nat_cmp desks → length desks ≤ processes_limit
-    → ((pid : ℕ) (p : Process) → get nat_cmp desks pid ≡ Some p → IsProcess u p) → MayBeLeft room u desks
-tree_may_be_left room u desks is pids few processes = record {
-  tree = tree_may_be_swept room u desks is;
+pub tree_may_be_left : (room : Room) (u : Tree) (processes : ProcessTable) → IsTree room u → IsMap nat_cmp processes → length processes ≤ processes_limit
+    → ((pid : ℕ) (p : Process) → get nat_cmp processes pid ≡ Some p → IsProcess u p) → MayBeLeft room u processes
+tree_may_be_left room u processes is pids few each_process = record {
+  tree = tree_may_be_swept room u processes is;
   pids = pids;
   few = few;
-  processes = processes;
-  used = λ n node at d _. directory_lives room desks n node.body (names_of u n) (is.each n node at).names d;
+  each_process = each_process;
+  used = λ n node at d _. directory_lives room processes n node.body (names_of u n) (is.each n node at).names d;
 }

@@ -5,9 +5,9 @@ use Rattle.std.proofs.lemmas.Bool.{cases_eq}
 use Rattle.std.specs.Ordering.{eq_by_cmp}
 use Rattle.fs_model.specs.Limits.{root}
 use Rattle.fs_layout.specs.Maps.{get, name_cmp, without}
-use Rattle.fs_model.specs.Nodes.{Node, is_directory, names_in}
+use Rattle.fs_model.specs.Nodes.{Node, is_directory, names_of_body}
 use Rattle.fs_model.specs.Trees.{Tree, Room, node_at, names_of, parent, IsUnderRoot, IsDirectoryAt, IsTree}
-use Rattle.fs_model.specs.Processes.{Desks, is_in_use}
+use Rattle.fs_model.specs.Processes.{ProcessTable, is_in_use}
 use Rattle.fs_model.proofs.Finds.{IsThere}
 use Rattle.fs_layout.proofs.MapLaws.{with_entry-IsMap}
 use Rattle.fs_layout.proofs.NameMaps.{Names, leading, once_if, once_other, get-without_name, without_name-IsMap, length-without_name, leading-without_name}
@@ -44,25 +44,25 @@ names_move room t u names still are = record {
 }
 
 -- a name that leads to m is taken
-pub record TakesName (t : Tree) (desks : Desks) (dir : ℕ) (directory : Node) (name : List ℕ) (m : ℕ) : Type 0 where
+pub record TakesName (t : Tree) (processes : ProcessTable) (dir : ℕ) (directory : Node) (name : List ℕ) (m : ℕ) : Type 0 where
   pub stands : node_at t dir ≡ Some directory
   pub is_dir : IsTrue (is_directory directory.body)
-  pub leads : get name_cmp (names_in directory.body) name ≡ Some m
+  pub leads : get name_cmp (names_of_body directory.body) name ≡ Some m
   pub empty : IsDirectoryAt t m → names_at t m ≡ []
-  pub unused : IsDirectoryAt t m → is_in_use desks m ≡ false
+  pub unused : IsDirectoryAt t m → is_in_use processes m ≡ false
 
-module _ (room : Room) (t : Tree) (desks : Desks) (dir : ℕ) (directory : Node) (name : List ℕ) (m : ℕ) (is : IsTree room t) (takes : TakesName t desks dir directory name m) where
+module _ (room : Room) (t : Tree) (processes : ProcessTable) (dir : ℕ) (directory : Node) (name : List ℕ) (m : ℕ) (is : IsTree room t) (takes : TakesName t processes dir directory name m) where
   abbrev new : Names
-  new = without name_cmp (names_in directory.body) name
+  new = without name_cmp (names_of_body directory.body) name
 
   abbrev u : Tree
-  u = renamed t dir directory (without name_cmp (names_in directory.body) name)
+  u = renamed t dir directory (without name_cmp (names_of_body directory.body) name)
 
-  were : AreNames room t (names_in directory.body)
+  were : AreNames room t (names_of_body directory.body)
   were = are_names room t directory.body (is.each dir directory takes.stands).body
 
-  pub fewer : (x : ℕ) → leading x new + once_if m x ≡ leading x (names_in directory.body)
-  fewer x = leading-without_name (names_in directory.body) name m x were.rising takes.leads
+  pub fewer : (x : ℕ) → leading x new + once_if m x ≡ leading x (names_of_body directory.body)
+  fewer x = leading-without_name (names_of_body directory.body) name m x were.rising takes.leads
 
   pub count : (x : ℕ) → names_of u x + once_if m x ≡ names_of t x
   count x =
@@ -87,7 +87,7 @@ module _ (room : Room) (t : Tree) (desks : Desks) (dir : ℕ) (directory : Node)
           stamps = refl;
           body =
               body_renamed room t u directory.body new takes.is_dir
-              (names_move room t u new there (are_names_without room t (names_in directory.body) name m were takes.leads))
+              (names_move room t u new there (are_names_without room t (names_of_body directory.body) name m were takes.leads))
               (is.each dir directory takes.stands).body;
         })
     | inr ne ↦
@@ -110,9 +110,9 @@ module _ (room : Room) (t : Tree) (desks : Desks) (dir : ℕ) (directory : Node)
   -- and is not the directory
   pub not_dir : IsDirectoryAt t m → m ≢ dir
   not_dir d e =
-      let names : names_at t m ≡ names_in directory.body = ap (names_at t) e ∙ ap names_or takes.stands in
-      let none : names_in directory.body ≡ [] = sym names ∙ takes.empty d in
-      let gone : get name_cmp (names_in directory.body) name ≡ None = ap (λ ns. get name_cmp ns name) none in
+      let names : names_at t m ≡ names_of_body directory.body = ap (names_at t) e ∙ ap names_or takes.stands in
+      let none : names_of_body directory.body ≡ [] = sym names ∙ takes.empty d in
+      let gone : get name_cmp (names_of_body directory.body) name ≡ None = ap (λ ns. get name_cmp ns name) none in
       let both : None ≡ Some m = sym gone ∙ takes.leads in
       cc
 
@@ -141,7 +141,7 @@ module _ (room : Room) (t : Tree) (desks : Desks) (dir : ℕ) (directory : Node)
         ),
       )
 
-  pub takes_loses : LosesNames room t u desks (once_if m)
+  pub takes_loses : LosesNames room t u processes (once_if m)
   takes_loses = record {
     numbers = with_entry-IsMap t dir (renamed_node directory new) is.numbers;
     types = renamed_keeps_types t dir directory new takes.stands;
@@ -154,6 +154,6 @@ module _ (room : Room) (t : Tree) (desks : Desks) (dir : ℕ) (directory : Node)
         ap (names_at u) here ∙ names_elsewhere t dir directory new takes.is_dir m (not_dir at_m) ∙ takes.empty at_m;
     unused = λ n d some.
         let here = once_is m n some in
-        ap (is_in_use desks) here ∙ takes.unused (subst (IsDirectoryAt t) here d);
+        ap (is_in_use processes) here ∙ takes.unused (subst (IsDirectoryAt t) here d);
     under = λ n d none. under_all t u (λ x. IsDirectoryAt t x × (once_if m x ≡ 0)) step (d, none) (under_root room t is n d);
   }

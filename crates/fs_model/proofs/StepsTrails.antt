@@ -7,7 +7,7 @@ use Rattle.fs_cred.specs.Credentials.{Credential}
 use Rattle.fs_cred.specs.declared.errno.Errno.{Errno}
 use Rattle.fs_cred.specs.declared.errno.Errno.TheVariants.{ENOTDIR, ENAMETOOLONG}
 use Rattle.fs_model.specs.Limits.{links_limit}
-use Rattle.fs_model.specs.Nodes.{Node, Body, File, Dir, Link, is_directory, names_in}
+use Rattle.fs_model.specs.Nodes.{Node, Body, File, Dir, Link, is_directory, names_of_body}
 use Rattle.fs_model.specs.Trees.{Tree, Room, node_at, IsTree, IsTarget, IsBody}
 use Rattle.fs_model.specs.Demands.{failed_with, search_on}
 use Rattle.fs_model.specs.Parts.{parts_of, start_of, is_empty}
@@ -42,7 +42,7 @@ pub record WasLookedUp (room : Room) (t : Tree) (dir : ℕ) (name : List ℕ) (o
   pub stands : node_at t dir ≡ Some node
   pub directory : IsTrue (is_directory node.body)
   pub short : length name ≤ room.name_limit
-  pub leads : named_inode t dir (names_in node.body) name ≡ o
+  pub leads : named_inode t dir (names_of_body node.body) name ≡ o
 
 module _ (room : Room) (t : Tree) (is : IsTree room t) (follow : Bool) where
   abbrev LooksUp : Bool → ℕ → List ℕ → Outcome → Type 0
@@ -78,11 +78,11 @@ module _ (room : Room) (t : Tree) (is : IsTree room t) (follow : Bool) where
   looks_up is_last dir name (Some node) at = go (is_directory node.body) refl (nat_lt room.name_limit (length name)) refl
     where
       go : (directory : Bool) → is_directory node.body ≡ directory → (long : Bool) → nat_lt room.name_limit (length name) ≡ long
-          → LooksUp is_last dir name (cond (not directory) (Faulty ENOTDIR) (cond long (Faulty ENAMETOOLONG) (arrival t is_last follow (named_inode t dir (names_in node.body) name))))
+          → LooksUp is_last dir name (cond (not directory) (Faulty ENOTDIR) (cond long (Faulty ENAMETOOLONG) (arrival t is_last follow (named_inode t dir (names_of_body node.body) name))))
       go false d long l = tt
       go true d true l = tt
       go true d false l =
-          arrives is_last dir name (named_inode t dir (names_in node.body) name)
+          arrives is_last dir name (named_inode t dir (names_of_body node.body) name)
           (record { node = node; stands = at; directory = d; short = grind (arith, nat_tests); leads = refl })
 
   -- ---- the last lookup

@@ -7,7 +7,7 @@ use Rattle.std.specs.Ordering.{nat_cmp}
 use Rattle.std.proofs.lemmas.List.Sums.{sum_by-cons}
 use Rattle.fs_layout.specs.declared.inode.Inode.{Inode}
 use Rattle.fs_layout.specs.declared.version.Version.{Version}
-use Rattle.fs_layout.specs.declared.place.Place.{Place}
+use Rattle.fs_layout.specs.declared.geometry.Geometry.{Geometry}
 use Rattle.fs_layout.specs.Bytes.{SectorMap}
 use Rattle.fs_layout.specs.Inode.{free_inode}
 use Rattle.fs_layout.specs.Images.{inode_at}
@@ -66,7 +66,7 @@ file_names version m v x none h = go x.node.body h.body h.names
     go (Dir a d) h e = sym (ap (λ k. is_file_kind k && none (v.names == 0)) h.names.kind)
     go (Link target) h e = sym (ap (λ k. is_file_kind k && none (v.names == 0)) h.kind)
 
-module _ (p : Place) (m : SectorMap) (t : Tree) (held : HoldsAll p m (placed t)) (is : IsTree (room_of p) t) where
+module _ (p : Geometry) (m : SectorMap) (t : Tree) (held : HoldsAll p m (placed t)) (is : IsTree (room_of p) t) where
   all : Stores p m t
   all = stores p m t held is
 

@@ -9,9 +9,9 @@ use Rattle.std.specs.FinMap.{is_sorted}
 use Rattle.std.specs.FinMap.Entries.{below_all}
 use Rattle.fs_model.specs.Limits.{root}
 use Rattle.fs_layout.specs.Maps.{get, name_cmp, IsMap}
-use Rattle.fs_model.specs.Nodes.{Node, Body, File, Dir, Link, names_in, is_directory}
+use Rattle.fs_model.specs.Nodes.{Node, Body, File, Dir, Link, names_of_body, is_directory}
 use Rattle.fs_model.specs.Trees.{Tree, Room, node_at, names_for, names_of, parent, NamesFit, IsNode, IsTree, IsBody, IsDirectoryAt}
-use Rattle.fs_model.specs.Processes.{Desks}
+use Rattle.fs_model.specs.Processes.{ProcessTable}
 use Rattle.fs_model.specs.TreeChanges.{swept, pruned, lives_nameless}
 use Rattle.fs_layout.proofs.FirstEntries.{above, left, right, tied, at_other, at_same, in_rest}
 use Rattle.fs_model.proofs.Rewrites.{under}
@@ -79,7 +79,7 @@ module _ {X : Type 0} (keeps : ℕ × X → Bool) where
 -- trees whose dropped objects have no names in them
 module _ (keeps : ℕ × Node → Bool) (t : Tree) where
   abbrev pub DropsNoNames : Tree → Type 0
-  DropsNoNames u = (n : ℕ) (node : Node) → node_at u n ≡ Some node → keeps (n, node) ≡ false → names_in node.body ≡ []
+  DropsNoNames u = (n : ℕ) (node : Node) → node_at u n ≡ Some node → keeps (n, node) ≡ false → names_of_body node.body ≡ []
 
   pub names_of-filter : IsMap nat_cmp t → DropsNoNames t → (d : ℕ) → names_of (filter keeps t) d ≡ names_of t d
   names_of-filter m none d =
@@ -88,12 +88,12 @@ module _ (keeps : ℕ × Node → Bool) (t : Tree) where
 pub parent-filter : (keeps : ℕ × Node → Bool) (t : Tree) → IsMap nat_cmp t → DropsNoNames keeps t t → (d : ℕ) → parent (filter keeps t) d ≡ parent t d
 parent-filter keeps [] m none d = refl
 parent-filter keeps (e ∷ t) m none d =
-    go (keeps e) refl (parent-filter keeps t (right _ _ m) (at_rest keeps (λ n node. keeps (n, node) ≡ false → names_in node.body ≡ []) e t m none) d)
+    go (keeps e) refl (parent-filter keeps t (right _ _ m) (at_rest keeps (λ n node. keeps (n, node) ≡ false → names_of_body node.body ≡ []) e t m none) d)
   where
     go : (k : Bool) → keeps e ≡ k → parent (filter keeps t) d ≡ parent t d → parent (cond k (e ∷ filter keeps t) (filter keeps t)) d ≡ parent (e ∷ t) d
     go true k ih = ap (λ p. if nat_lt 0 (names_for d e.1.body) then e.0 else p) ih
     go false k ih =
-        let empty : names_in e.1.body ≡ [] = at_first keeps (λ n node. keeps (n, node) ≡ false → names_in node.body ≡ []) e t none k in
+        let empty : names_of_body e.1.body ≡ [] = at_first keeps (λ n node. keeps (n, node) ≡ false → names_of_body node.body ≡ []) e t none k in
         ih ∙ ap (λ ns. if nat_lt 0 (count_by (λ q. q.1 == d) ns) then e.0 else parent t d) (sym empty)
 
 -- a name counts
@@ -120,31 +120,31 @@ among (e ∷ t) d node n h =
     ]
 
 -- what a sweep keeps
-abbrev pub stays : Tree → Desks → ℕ × Node → Bool
-stays t desks e = not (names_of t e.0 == 0) || lives_nameless desks e.0 e.1.body
+abbrev pub stays : Tree → ProcessTable → ℕ × Node → Bool
+stays t processes e = not (names_of t e.0 == 0) || lives_nameless processes e.0 e.1.body
 
 -- all that a sweep asks of a tree: what stays is right, and what goes has no names in it
-pub record MayBeSwept (room : Room) (t : Tree) (desks : Desks) : Type 0 where
+pub record MayBeSwept (room : Room) (t : Tree) (processes : ProcessTable) : Type 0 where
   pub numbers : IsMap nat_cmp t
   pub root_is_there : IsDirectoryAt t root
-  pub each : (n : ℕ) (node : Node) → node_at t n ≡ Some node → stays t desks (n, node) ≡ true → IsNode room t n node
-  pub gone : DropsNoNames (stays t desks) t t
+  pub each : (n : ℕ) (node : Node) → node_at t n ≡ Some node → stays t processes (n, node) ≡ true → IsNode room t n node
+  pub gone : DropsNoNames (stays t processes) t t
 
-module _ (room : Room) (t : Tree) (desks : Desks) (h : MayBeSwept room t desks) where
-  pub at-swept : (n : ℕ) (node : Node) → node_at t n ≡ Some node → stays t desks (n, node) ≡ true → node_at (swept t desks) n ≡ Some node
-  at-swept n node e k = get-filter (stays t desks) t h.numbers n ∙ ap (kept (stays t desks) n) e ∙ ap (λ b. cond b (Some node) None) k
+module _ (room : Room) (t : Tree) (processes : ProcessTable) (h : MayBeSwept room t processes) where
+  pub at-swept : (n : ℕ) (node : Node) → node_at t n ≡ Some node → stays t processes (n, node) ≡ true → node_at (swept t processes) n ≡ Some node
+  at-swept n node e k = get-filter (stays t processes) t h.numbers n ∙ ap (kept (stays t processes) n) e ∙ ap (λ b. cond b (Some node) None) k
 
-  pub named_stays : (n : ℕ) (node : Node) → 1 ≤ names_of t n → stays t desks (n, node) ≡ true
-  named_stays n node some = let b : (names_of t n == 0) ≡ false = grind (arith, nat_tests) in ap (λ b. not b || lives_nameless desks n node.body) b
+  pub named_stays : (n : ℕ) (node : Node) → 1 ≤ names_of t n → stays t processes (n, node) ≡ true
+  named_stays n node some = let b : (names_of t n == 0) ≡ false = grind (arith, nat_tests) in ap (λ b. not b || lives_nameless processes n node.body) b
 
   there : (o : Option Node) → is_some o ≡ true → (node : Node) × (o ≡ Some node)
   there None e = absurd (cc)
   there (Some node) e = (node, refl)
 
-  still_there : (n : ℕ) → is_some (node_at t n) ≡ true → 1 ≤ names_of t n → is_some (node_at (swept t desks) n) ≡ true
+  still_there : (n : ℕ) → is_some (node_at t n) ≡ true → 1 ≤ names_of t n → is_some (node_at (swept t processes) n) ≡ true
   still_there n e some = let found = there (node_at t n) e in ap is_some (at-swept n found.0 found.1 (named_stays n found.0 some))
 
-  body-swept : (d : ℕ) (node : Node) → node_at t d ≡ Some node → (b : Body) → node.body ≡ b → IsBody room t b → IsBody room (swept t desks) b
+  body-swept : (d : ℕ) (node : Node) → node_at t d ≡ Some node → (b : Body) → node.body ≡ b → IsBody room t b → IsBody room (swept t processes) b
   body-swept d node e (File a bytes) is w = w
   body-swept d node e (Dir a dir) is w = (
     w.0,
@@ -163,36 +163,36 @@ module _ (room : Room) (t : Tree) (desks : Desks) (h : MayBeSwept room t desks) 
   )
   body-swept d node e (Link target) is w = w
 
-  root_stays : (b : Body) → IsTrue (is_directory b) → (names_of t root == 0) ≡ true → lives_nameless desks root b ≡ true
+  root_stays : (b : Body) → IsTrue (is_directory b) → (names_of t root == 0) ≡ true → lives_nameless processes root b ≡ true
   root_stays (File a bytes) d z = absurd (cc)
   root_stays (Dir a dir) d z = refl
   root_stays (Link target) d z = absurd (cc)
 
-  stays-root : stays t desks (root, h.root_is_there.node) ≡ true
+  stays-root : stays t processes (root, h.root_is_there.node) ≡ true
   stays-root = go (names_of t root == 0) refl
     where
-      go : (b : Bool) → (names_of t root == 0) ≡ b → (not b || lives_nameless desks root h.root_is_there.node.body) ≡ true
+      go : (b : Bool) → (names_of t root == 0) ≡ b → (not b || lives_nameless processes root h.root_is_there.node.body) ≡ true
       go true z = root_stays h.root_is_there.node.body h.root_is_there.directory z
       go false z = refl
 
-  pub kept_from : (n : ℕ) (node : Node) (o : Option Node) → node_at t n ≡ o → kept (stays t desks) n o ≡ Some node → (o ≡ Some node) × (stays t desks (n, node) ≡ true)
+  pub kept_from : (n : ℕ) (node : Node) (o : Option Node) → node_at t n ≡ o → kept (stays t processes) n o ≡ Some node → (o ≡ Some node) × (stays t processes (n, node) ≡ true)
   kept_from n node None e k = absurd (cc)
-  kept_from n node (Some v) e k = go (stays t desks (n, v)) refl k
+  kept_from n node (Some v) e k = go (stays t processes (n, v)) refl k
     where
-      go : (b : Bool) → stays t desks (n, v) ≡ b → cond b (Some v) None ≡ Some node → (Some v ≡ Some node) × (stays t desks (n, node) ≡ true)
-      go true s i = (i, (let same : v ≡ node = cc in ap (λ w. stays t desks (n, w)) (sym same) ∙ s))
+      go : (b : Bool) → stays t processes (n, v) ≡ b → cond b (Some v) None ≡ Some node → (Some v ≡ Some node) × (stays t processes (n, node) ≡ true)
+      go true s i = (i, (let same : v ≡ node = cc in ap (λ w. stays t processes (n, w)) (sym same) ∙ s))
       go false s i = absurd (cc)
 
-  pub swept_is_tree : IsTree room (swept t desks)
+  pub swept_is_tree : IsTree room (swept t processes)
   swept_is_tree = record {
-    numbers = filter-IsMap (stays t desks) t h.numbers;
+    numbers = filter-IsMap (stays t processes) t h.numbers;
     root_is_there = record {
       node = h.root_is_there.node;
       is_there = at-swept root h.root_is_there.node h.root_is_there.is_there stays-root;
       directory = h.root_is_there.directory;
     };
     each = λ n node e.
-        let was = kept_from n node (node_at t n) refl (sym (get-filter (stays t desks) t h.numbers n) ∙ e) in
+        let was = kept_from n node (node_at t n) refl (sym (get-filter (stays t processes) t h.numbers n) ∙ e) in
         let old = h.each n node was.0 was.1 in
         record {
           positive = old.positive;
@@ -201,30 +201,30 @@ module _ (room : Room) (t : Tree) (desks : Desks) (h : MayBeSwept room t desks) 
           group = old.group;
           stamps = old.stamps;
           body = body-swept n node was.0 node.body refl old.body;
-          names = subst (NamesFit room n node.body) (sym (names_of-filter (stays t desks) t h.numbers h.gone n)) old.names;
-          under_root = λ d. under t (swept t desks) (parent-filter (stays t desks) t h.numbers h.gone) (old.under_root d);
+          names = subst (NamesFit room n node.body) (sym (names_of-filter (stays t processes) t h.numbers h.gone n)) old.names;
+          under_root = λ d. under t (swept t processes) (parent-filter (stays t processes) t h.numbers h.gone) (old.under_root d);
         };
   }
 
 -- nothing that is nameless in a tree, but for the root, has names in it
-nameless : (room : Room) (desks : Desks) (n : ℕ) (b : Body) (names : ℕ) → NamesFit room n b names
-    → (not (names == 0) || lives_nameless desks n b) ≡ false → names_in b ≡ []
-nameless room desks n (File a bytes) names fits gone = refl
-nameless room desks n (Link target) names fits gone = refl
-nameless room desks n (Dir a d) names fits gone = go (n == root) refl fits gone
+nameless : (room : Room) (processes : ProcessTable) (n : ℕ) (b : Body) (names : ℕ) → NamesFit room n b names
+    → (not (names == 0) || lives_nameless processes n b) ≡ false → names_of_body b ≡ []
+nameless room processes n (File a bytes) names fits gone = refl
+nameless room processes n (Link target) names fits gone = refl
+nameless room processes n (Dir a d) names fits gone = go (n == root) refl fits gone
   where
     go : (b : Bool) → (n == root) ≡ b → names ≡ (if b then 0 else 1) → (not (names == 0) || b) ≡ false → d.names ≡ []
     go true e f g = absurd (let z : (names == 0) ≡ true = grind (arith, nat_tests) in let no : (not (names == 0) || true) ≡ true = ap (λ z. not z || true) z in cc)
     go false e f g = absurd (let z : (names == 0) ≡ false = grind (arith, nat_tests) in let no : (not (names == 0) || false) ≡ true = ap (λ z. not z || false) z in cc)
 
 -- a sweep of a tree, whoever has what open, leaves a tree
-pub sweep_keeps : (room : Room) (t : Tree) (desks : Desks) → IsTree room t → IsTree room (swept t desks)
-sweep_keeps room t desks h =
-    swept_is_tree room t desks (record {
+pub sweep_keeps : (room : Room) (t : Tree) (processes : ProcessTable) → IsTree room t → IsTree room (swept t processes)
+sweep_keeps room t processes h =
+    swept_is_tree room t processes (record {
       numbers = h.numbers;
       root_is_there = h.root_is_there;
       each = λ n node e _. h.each n node e;
-      gone = λ n node e k. nameless room desks n node.body (names_of t n) (h.each n node e).names k;
+      gone = λ n node e k. nameless room processes n node.body (names_of t n) (h.each n node e).names k;
     })
 
 -- a tree without its nameless files is a tree

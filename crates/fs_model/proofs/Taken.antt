@@ -10,7 +10,7 @@ use Rattle.std.proofs.lemmas.List.FromFn.{length-range_with_len}
 use Rattle.posix_acl.specs.AccessList.{AccessList, is_extended}
 use Rattle.fs_layout.specs.declared.inode.Inode.{Inode}
 use Rattle.fs_layout.specs.declared.version.Version.{Version}
-use Rattle.fs_layout.specs.declared.place.Place.{Place}
+use Rattle.fs_layout.specs.declared.geometry.Geometry.{Geometry}
 use Rattle.fs_layout.specs.Bytes.{SectorMap}
 use Rattle.fs_layout.specs.Version.{slot_size}
 use Rattle.fs_layout.specs.Inode.{free_inode}
@@ -196,7 +196,7 @@ module _ (image : SectorMap) (v : Inode) where
 
 -- ---- what all inodes own
 
-module _ (p : Place) (image : SectorMap) where
+module _ (p : Geometry) (image : SectorMap) where
   abbrev all_taken : Tree → List ℕ
   all_taken [] = []
   all_taken (e ∷ t) = taken (slot_size p.version) image (inode_at p image e.0) e.1.body ++ all_taken t
@@ -240,7 +240,7 @@ module _ (p : Place) (image : SectorMap) where
       → (not (bit image p.block_bitmap s) ≡ true) ⊎ Names (all_taken t) s
   free_or_needed room t is h s at = elim (set_or_clear (bit image p.block_bitmap s)) [
     | inr clear ↦ inl (ap not clear)
-    | inl set ↦ elim ((h.consistent.block_bits s (has_bit h.consistent.place s at.1)).0 set) [
+    | inl set ↦ elim ((h.consistent.block_bits s (has_bit h.consistent.geometry s at.1)).0 set) [
       | inl low ↦ absurd (let from = at.0 in omega (arith, from, low))
       | inr (inl past) ↦ absurd (let to = at.1 in omega (arith, to, past))
       | inr (inr o) ↦ inr (owned_is_needed room t is h s o)
@@ -263,5 +263,5 @@ module _ (p : Place) (image : SectorMap) where
 pub free_within_bounds : (sectors : ℕ) (image : SectorMap) (room : Room) (t : Tree) (free : ℕ) → Stands sectors image room t free → MayBeFree room t free
 free_within_bounds sectors image room t free h =
     let now : SectorMap = recovered sectors image in
-    let size : room.sectors ≡ h.place.sectors - h.place.first_data = ap (λ r. r.sectors) h.room_is in
-    subst (MayBeFree room t) (sym h.free_is) (count_may_be_free h.place now room t size (ap (λ r. r.slot_size) h.room_is) h.tree_is h.holds)
+    let size : room.sectors ≡ h.geometry.sectors - h.geometry.first_data = ap (λ r. r.sectors) h.room_is in
+    subst (MayBeFree room t) (sym h.free_is) (count_may_be_free h.geometry now room t size (ap (λ r. r.slot_size) h.room_is) h.tree_is h.holds)

@@ -7,9 +7,9 @@ use Rattle.std.specs.List.{filter}
 use Rattle.std.specs.Ordering.{nat_cmp, is_eq}
 use Rattle.fs_model.specs.Limits.{root}
 use Rattle.fs_layout.specs.Maps.{get, with_entry, IsMap}
-use Rattle.fs_model.specs.Nodes.{Node, Body, File, Dir, Link, names_in, sectors_of, is_directory}
+use Rattle.fs_model.specs.Nodes.{Node, Body, File, Dir, Link, names_of_body, sectors_of, is_directory}
 use Rattle.fs_model.specs.Trees.{Tree, Room, node_at, with_node, names_of, NamesFit, IsTree}
-use Rattle.fs_model.specs.Processes.{Process, Desks, is_open}
+use Rattle.fs_model.specs.Processes.{Process, ProcessTable, is_open}
 use Rattle.fs_model.specs.TreeChanges.{swept, lives_nameless}
 use Rattle.fs_model.specs.States.{FitsTree}
 use Rattle.fs_model.specs.Laws.{IsRewritten}
@@ -29,13 +29,13 @@ all_stay keeps (e ∷ t) m h =
     ∙ ap (λ r. e ∷ r) (all_stay keeps t (right _ _ m) (at_rest keeps (λ n node. keeps (n, node) ≡ true) e t m h))
 
 -- a node that fits stays: by its names, as the root, or by who has it open
-pub fitting_stays : (room : Room) (desks : Desks) (n : ℕ) (b : Body) (names : ℕ) → NamesFit room n b names
-    → (names ≡ 0 → n ≢ root → IsTrue (is_open desks n)) → (n ≡ root → IsTrue (is_directory b))
-    → (not (names == 0) || lives_nameless desks n b) ≡ true
-fitting_stays room desks n b names fits opened rooted = go (names == 0) refl b fits rooted
+pub fitting_stays : (room : Room) (processes : ProcessTable) (n : ℕ) (b : Body) (names : ℕ) → NamesFit room n b names
+    → (names ≡ 0 → n ≢ root → IsTrue (is_open processes n)) → (n ≡ root → IsTrue (is_directory b))
+    → (not (names == 0) || lives_nameless processes n b) ≡ true
+fitting_stays room processes n b names fits opened rooted = go (names == 0) refl b fits rooted
   where
     go : (zero : Bool) → (names == 0) ≡ zero → (b : Body) → NamesFit room n b names → (n ≡ root → IsTrue (is_directory b))
-        → (not zero || lives_nameless desks n b) ≡ true
+        → (not zero || lives_nameless processes n b) ≡ true
     go false z b fits rooted = refl
     go true z (File a bytes) fits rooted = elim (cases_eq n root) [
       | inl e ↦ absurd (let c = rooted e in cc)
@@ -62,29 +62,29 @@ root_directory room t n node is e at =
     ap (λ k. is_directory k.body) (sym same) ∙ is.root_is_there.directory
 
 -- where what is open stays open
-pub open_stays : (room : Room) (t : Tree) (old new : Desks) → IsTree room t → FitsTree t old
+pub open_stays : (room : Room) (t : Tree) (old new : ProcessTable) → IsTree room t → FitsTree t old
     → ((n : ℕ) → IsTrue (is_open old n) → IsTrue (is_open new n)) → swept t new ≡ t
 open_stays room t old new is fits still =
     all_stay (stays t new) t is.numbers
     (λ n node e. fitting_stays room new n node.body (names_of t n) (is.each n node e).names (λ none ne. still n (fits.nameless n node e none ne)) (root_directory room t n node is e))
 
-pub nothing_to_drop : (room : Room) (t : Tree) (desks : Desks) → IsTree room t → FitsTree t desks → swept t desks ≡ t
-nothing_to_drop room t desks is fits = open_stays room t desks desks is fits (λ n still. still)
+pub nothing_to_drop : (room : Room) (t : Tree) (processes : ProcessTable) → IsTree room t → FitsTree t processes → swept t processes ≡ t
+nothing_to_drop room t processes is fits = open_stays room t processes processes is fits (λ n still. still)
 
 -- ---- processes
 
-pub same_process_stays : (desks : Desks) (pid : ℕ) (p : Process) → IsMap nat_cmp desks → get nat_cmp desks pid ≡ Some p
-    → with_entry nat_cmp desks pid p ≡ desks
-same_process_stays desks pid p m there = same_map (with_entry nat_cmp desks pid p) desks (with_entry-IsMap desks pid p m) m
-    (λ q. get-with_entry desks pid p q ∙ at q (is_eq (nat_cmp q pid)) refl)
+pub same_process_stays : (processes : ProcessTable) (pid : ℕ) (p : Process) → IsMap nat_cmp processes → get nat_cmp processes pid ≡ Some p
+    → with_entry nat_cmp processes pid p ≡ processes
+same_process_stays processes pid p m there = same_map (with_entry nat_cmp processes pid p) processes (with_entry-IsMap processes pid p m) m
+    (λ q. get-with_entry processes pid p q ∙ at q (is_eq (nat_cmp q pid)) refl)
   where
-    at : (q : ℕ) (b : Bool) → is_eq (nat_cmp q pid) ≡ b → cond b (Some p) (get nat_cmp desks q) ≡ get nat_cmp desks q
-    at q true t = sym (ap (get nat_cmp desks) (tied q pid t) ∙ there)
+    at : (q : ℕ) (b : Bool) → is_eq (nat_cmp q pid) ≡ b → cond b (Some p) (get nat_cmp processes q) ≡ get nat_cmp processes q
+    at q true t = sym (ap (get nat_cmp processes) (tied q pid t) ∙ there)
     at q false f = refl
 
 -- ---- one node
 
-pub rewriting_keeps : (t : Tree) (n : ℕ) (old new : Node) → IsMap nat_cmp t → node_at t n ≡ Some old → names_in new.body ≡ names_in old.body
+pub rewriting_keeps : (t : Tree) (n : ℕ) (old new : Node) → IsMap nat_cmp t → node_at t n ≡ Some old → names_of_body new.body ≡ names_of_body old.body
     → IsRewritten t (with_node t n new) old new
 rewriting_keeps t n old new m was names = record {
   count = length-with_entry t n new m ∙ ap (λ o. cond (is_some o) (length t) (length t + 1)) was;

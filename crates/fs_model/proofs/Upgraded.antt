@@ -2,8 +2,8 @@
 use Rattle.std.specs.Prelude.{◌≡◌, ℕ, ◌<◌, ◌≤◌, ◌*◌, Bool, true, false, not, ◌&&◌, nat_le, nat_lt, List, length, get_or, Option, None, Some, if◌then◌else◌}
 use Rattle.std.proofs.Common.{◌+◌, ◌⊎◌, refl, sym, ap, subst, arith, inl, inr, ◌∙◌}
 use Rattle.fs_layout.specs.declared.superblock.Super.{Super}
-use Rattle.fs_layout.specs.declared.place.Place.{Place}
-use Rattle.fs_layout.specs.declared.place.TheConstants.{COMMIT_SECTOR}
+use Rattle.fs_layout.specs.declared.geometry.Geometry.{Geometry}
+use Rattle.fs_layout.specs.declared.geometry.TheConstants.{COMMIT_SECTOR}
 use Rattle.fs_layout.specs.declared.version.Version.{Version}
 use Rattle.fs_layout.specs.Commit.{named_area, named_start, targets_in}
 use Rattle.fs_layout.specs.Header.{header_of, log_end}
@@ -12,7 +12,7 @@ use Rattle.fs_layout.specs.Directories.{HasNames}
 use Rattle.fs_layout.specs.declared.inode.Inode.{Inode}
 use Rattle.fs_layout.specs.Images.{inode_at, stored, Owns, Holds}
 use Rattle.fs_layout.specs.Ownership.{IsOwned, IsConsistent, Agrees}
-use Rattle.fs_layout.specs.Place.{IsPlace, are_in_range, allows_header, place_in, laid_out_in}
+use Rattle.fs_layout.specs.Geometry.{IsGeometry, are_in_range, allows_header, geometry_in, laid_out_in}
 use Rattle.fs_layout.specs.Recovered.{recovered}
 use Rattle.fs_layout.specs.Superblock.{super_bytes, super_of, FitsSuper, with_version}
 use Rattle.fs_layout.specs.Version.{max_sectors, max_inodes, max_file_size, max_name, max_names, max_inode_names, slot_size, keeps_times}
@@ -20,7 +20,7 @@ use Rattle.fs_layout.proofs.Codecs.{same_spelling}
 use Rattle.fs_layout.proofs.SuperLaw.{super_codec}
 use Rattle.fs_layout.proofs.Agree.{same_agrees, agree_free_sectors}
 use Rattle.fs_layout.proofs.Targets.{area_room, targets_in-valid}
-use Rattle.fs_layout.proofs.Places.{after_map, before_data, place_is_laid_out, place_is_place}
+use Rattle.fs_layout.proofs.Places.{after_map, before_data, geometry_is_laid_out, is_a_geometry}
 use Rattle.fs_layout.proofs.RecoveryLaw.{header_of-super_bytes, log_start, log_there, recovered-alike, valid_alike}
 use Rattle.fs_model.specs.Nodes.{Node, Body, File, Dir, Link, Directory}
 use Rattle.fs_model.specs.Stands.{HoldsPlaced, HoldsAll, placed, room_of, room_in, Stands}
@@ -33,7 +33,7 @@ use Rattle.fs_model.proofs.VersionLimits.{HasSameNames, HasSameRange, same_names
 
 -- ---- the place
 
-abbrev in_version : Version → Place → Place
+abbrev in_version : Version → Geometry → Geometry
 in_version version p =
     record {
       version = version;
@@ -46,20 +46,20 @@ in_version version p =
       first_data = p.first_data;
     }
 
-abbrev some_unless : Bool → Bool → Bool → Place → Option Place
+abbrev some_unless : Bool → Bool → Bool → Geometry → Option Geometry
 some_unless a b c p = if a then None else (if b then None else (if c then None else Some p))
 
-placed_in : (a b c : Bool) (x y p : Place) → some_unless a b c x ≡ Some p → some_unless a b c y ≡ Some y
+placed_in : (a b c : Bool) (x y p : Geometry) → some_unless a b c x ≡ Some p → some_unless a b c y ≡ Some y
 placed_in true b c x y p is = absurd (cc)
 placed_in false true c x y p is = absurd (cc)
 placed_in false false true x y p is = absurd (cc)
 placed_in false false false x y p is = refl
 
 -- a disk with these numbers has a place in each version with the same range
-place_in_version : (old new : Version) (header sectors inodes : ℕ) (p : Place) → HasSameRange old new → place_in old header sectors inodes ≡ Some p
-    → place_in new header sectors inodes ≡ Some (laid_out_in new header sectors inodes)
-unfolding place_in
-place_in_version old new header sectors inodes p same is =
+geometry_in_version : (old new : Version) (header sectors inodes : ℕ) (p : Geometry) → HasSameRange old new → geometry_in old header sectors inodes ≡ Some p
+    → geometry_in new header sectors inodes ≡ Some (laid_out_in new header sectors inodes)
+unfolding geometry_in
+geometry_in_version old new header sectors inodes p same is =
     let in_range : are_in_range old sectors inodes ≡ are_in_range new sectors inodes =
     ap (λ n. (nat_le 1024 sectors && nat_le sectors n) && (nat_le 16 inodes && nat_le inodes (max_inodes old))) same.sectors
     ∙ ap (λ n. (nat_le 1024 sectors && nat_le sectors (max_sectors new)) && (nat_le 16 inodes && nat_le inodes n)) same.inodes in
@@ -71,7 +71,7 @@ place_in_version old new header sectors inodes p same is =
 
 -- ---- what is held doesn't rest on the version
 
-module _ (version : Version) (p : Place) (image : SectorMap) where
+module _ (version : Version) (p : Geometry) (image : SectorMap) where
   same_inode : (n : ℕ) → inode_at (in_version version p) image n ≡ inode_at p image n
   unfolding inode_at stored
   same_inode n = refl
@@ -80,8 +80,8 @@ module _ (version : Version) (p : Place) (image : SectorMap) where
   unfolding stored
   same_bytes n = refl
 
-  place_is_place_in : HasSameRange p.version version → IsPlace p → IsPlace (in_version version p)
-  place_is_place_in same is = record {
+  geometry_is_geometry_in : HasSameRange p.version version → IsGeometry p → IsGeometry (in_version version p)
+  geometry_is_geometry_in same is = record {
     least_sectors = is.least_sectors;
     most_sectors = subst (λ n. p.sectors ≤ n) same.sectors is.most_sectors;
     least_inodes = is.least_inodes;
@@ -110,7 +110,7 @@ module _ (version : Version) (p : Place) (image : SectorMap) where
   consistent_in : HasSameRange p.version version → IsConsistent p image → IsConsistent (in_version version p) image
   unfolding inode_at stored
   consistent_in same c = record {
-    place = place_is_place_in same c.place;
+    geometry = geometry_is_geometry_in same c.geometry;
     sectors = c.sectors;
     owned_sectors = c.owned_sectors;
     valid = c.valid;
@@ -218,7 +218,7 @@ module _ (old new : Room) (larger : HasRoomFor old new) (t : Tree) where
   tree_fits is = record { numbers = is.numbers; root_is_there = is.root_is_there; each = λ n node at. node_fits n node (is.each n node at) }
 
 -- the room of a disk in a version with the same limits of names, and files as large, which keeps times if the other does
-has_room : (version : Version) (p : Place) {room : Room} → room ≡ room_of p → max_file_size p.version ≤ max_file_size version
+has_room : (version : Version) (p : Geometry) {room : Room} → room ≡ room_of p → max_file_size p.version ≤ max_file_size version
     → HasSameNames p.version version → keeps_times p.version ≡ keeps_times version → HasRoomFor room (room_in version room)
 has_room version p {room = room} is larger same keeps =
     let files : room.file_limit ≡ max_file_size p.version = ap (λ (r : Room). r.file_limit) is in
@@ -251,14 +251,14 @@ super_in_version version super slots fits = record {
 
 module _ (version : Version) (sectors : ℕ) (old new : SectorMap) (super : Super) (room : Room) (t : Tree) (free : ℕ)
     (x : Stands sectors old room t free) (is : IsInVersion version sectors old new super) where
-  there : x.place ≡ laid_out_in x.super.version x.super.header sectors x.super.inodes
-  there = place_is_laid_out sectors x.super.inodes x.has_place
+  there : x.geometry ≡ laid_out_in x.super.version x.super.header sectors x.super.inodes
+  there = geometry_is_laid_out sectors x.super.inodes x.has_geometry
 
-  place : IsPlace x.place
-  place = place_is_place x.super.version x.super.header sectors x.super.inodes x.has_place
+  geometry : IsGeometry x.geometry
+  geometry = is_a_geometry x.super.version x.super.header sectors x.super.inodes x.has_geometry
 
-  size : x.place.sectors ≡ sectors
-  size = ap (λ (q : Place). q.sectors) there
+  size : x.geometry.sectors ≡ sectors
+  size = ap (λ (q : Geometry). q.sectors) there
 
   same_super : super ≡ x.super
   same_super = same_spelling 512 FitsSuper super_bytes super_of super_codec super x.super is.fits x.super_fits (sym is.was ∙ x.super_is)
@@ -266,10 +266,10 @@ module _ (version : Version) (sectors : ℕ) (old new : SectorMap) (super : Supe
   same_slot_size : slot_size x.super.version ≡ slot_size version
   same_slot_size = ap (λ (v : Super). slot_size v.version) (sym same_super) ∙ is.slots
 
-  own_version : x.place.version ≡ x.super.version
-  own_version = ap (λ (q : Place). q.version) there
+  own_version : x.geometry.version ≡ x.super.version
+  own_version = ap (λ (q : Geometry). q.version) there
 
-  own_slot_size : slot_size x.place.version ≡ slot_size version
+  own_slot_size : slot_size x.geometry.version ≡ slot_size version
   own_slot_size = ap slot_size own_version ∙ same_slot_size
 
   -- ---- superblock, commit sector and log
@@ -280,16 +280,16 @@ module _ (version : Version) (sectors : ℕ) (old new : SectorMap) (super : Supe
       ∙ sym (ap header_of is.was ∙ header_of-super_bytes super is.fits)
 
   commit : new COMMIT_SECTOR ≡ old COMMIT_SECTOR
-  commit = is.others COMMIT_SECTOR (omega arith) (let least = place.least_sectors in omega (arith, least, size))
+  commit = is.others COMMIT_SECTOR (omega arith) (let least = geometry.least_sectors in omega (arith, least, size))
 
   log_area : (k : ℕ) → k < 126 + 129 * header_of (old 0) → new (named_start old + k) ≡ old (named_start old + k)
   log_area k lt =
       let between : (2 ≤ named_start old) × (named_start old + 126 + 129 * header_of (old 0) ≤ log_end (header_of (old 0))) =
       area_room (header_of (old 0)) (named_area old) in
-      let log : log_end (header_of (old 0)) ≡ x.place.inode_bitmap = log_there x.super (old 0) sectors x.super_fits x.super_is x.has_place in
-      let order = after_map place in
-      let table = before_data place in
-      let room_behind = place.data_sectors in
+      let log : log_end (header_of (old 0)) ≡ x.geometry.inode_bitmap = log_there x.super (old 0) sectors x.super_fits x.super_is x.has_geometry in
+      let order = after_map geometry in
+      let table = before_data geometry in
+      let room_behind = geometry.data_sectors in
       is.others (named_start old + k) (omega (arith, between.0)) (omega (arith, lt, between.1, log, order.1, order.2, table, room_behind, size))
 
   header : (k : ℕ) → k < header_of (old 0) → new (named_start old + k) ≡ old (named_start old + k)
@@ -302,32 +302,32 @@ module _ (version : Version) (sectors : ℕ) (old new : SectorMap) (super : Supe
 
   -- ---- what is read after recovery
 
-  alike : Agrees x.place (recovered sectors old) (recovered sectors new)
+  alike : Agrees x.geometry (recovered sectors old) (recovered sectors new)
   alike =
-      same_agrees place (λ s past lt.
+      same_agrees geometry (λ s past lt.
       recovered-alike sectors old new s headers commit header contents
-      (is.others s (let order = after_map place in omega (arith, past, order.0)) (omega (arith, lt, size))))
+      (is.others s (let order = after_map geometry in omega (arith, past, order.0)) (omega (arith, lt, size))))
 
-  held : HoldsAll x.place (recovered sectors new) (placed t)
-  held = agreed x.place (recovered sectors old) (recovered sectors new) (placed t) x.holds alike
+  held : HoldsAll x.geometry (recovered sectors new) (placed t)
+  held = agreed x.geometry (recovered sectors old) (recovered sectors new) (placed t) x.holds alike
 
   pub stands_in_version : Stands sectors new (room_in version room) t free
   stands_in_version =
-      let names : HasSameNames x.place.version version = same_names x.place.version version own_slot_size in
-      let larger : max_file_size x.place.version ≤ max_file_size version =
+      let names : HasSameNames x.geometry.version version = same_names x.geometry.version version own_slot_size in
+      let larger : max_file_size x.geometry.version ≤ max_file_size version =
       subst (λ v. max_file_size v ≤ max_file_size version) (ap (λ (v : Super). v.version) same_super ∙ sym own_version) is.larger in
       record {
         super = with_version version x.super;
-        place = in_version version x.place;
+        geometry = in_version version x.geometry;
         super_is = is.says ∙ ap (λ (v : Super). super_bytes (with_version version v)) same_super;
         super_fits = super_in_version version x.super same_slot_size x.super_fits;
         same_size = x.same_size;
-        has_place =
-            place_in_version x.super.version version x.super.header sectors x.super.inodes x.place (same_range x.super.version version same_slot_size) x.has_place
-            ∙ ap (λ (q : Place). Some (in_version version q)) (sym there);
+        has_geometry =
+            geometry_in_version x.super.version version x.super.header sectors x.super.inodes x.geometry (same_range x.super.version version same_slot_size) x.has_geometry
+            ∙ ap (λ (q : Geometry). Some (in_version version q)) (sym there);
         commit_is = valid_alike sectors old new headers commit header x.commit_is;
         room_is = ap (room_in version) x.room_is;
-        holds = all_held_in version x.place (recovered sectors new) (placed t) names (same_range x.place.version version own_slot_size) held;
-        tree_is = tree_fits room (room_in version room) (has_room version x.place x.room_is larger names (same_times x.place.version version own_slot_size)) t x.tree_is;
+        holds = all_held_in version x.geometry (recovered sectors new) (placed t) names (same_range x.geometry.version version own_slot_size) held;
+        tree_is = tree_fits room (room_in version room) (has_room version x.geometry x.room_is larger names (same_times x.geometry.version version own_slot_size)) t x.tree_is;
         free_is = x.free_is ∙ sym (agree_free_sectors x.holds.consistent alike);
       }

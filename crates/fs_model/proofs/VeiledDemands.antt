@@ -8,7 +8,7 @@ use Rattle.fs_model.specs.declared.call.Whence.{Whence}
 use Rattle.fs_model.specs.declared.call.Whence.TheVariants.{Set, Cur, End}
 use Rattle.fs_model.specs.declared.call.AclType.{AclType}
 use Rattle.fs_model.specs.declared.call.Flags.{Flags}
-use Rattle.fs_model.specs.Nodes.{directory_in, is_directory, is_link, names_in, bytes_in}
+use Rattle.fs_model.specs.Nodes.{directory_in, is_directory, is_link, names_of_body, bytes_in}
 use Rattle.fs_model.specs.Trees.{is_within}
 use Rattle.fs_model.specs.Processes.{the_descriptor}
 use Rattle.fs_model.specs.Births.{the_node}
@@ -39,8 +39,8 @@ module _ (c : Scene) where
     link_at : is_link (the_node v.state.tree n).body ≡ is_link (the_node c.state.tree n).body
     link_at = ap (λ node. is_link node.body) (the_node-veil c.state.tree n) ∙ is_link-blotted (the_node c.state.tree n).body
 
-    names_at : names_in (the_node v.state.tree n).body ≡ names_in (the_node c.state.tree n).body
-    names_at = ap (λ node. names_in node.body) (the_node-veil c.state.tree n) ∙ names_in-blotted (the_node c.state.tree n).body
+    names_at : names_of_body (the_node v.state.tree n).body ≡ names_of_body (the_node c.state.tree n).body
+    names_at = ap (λ node. names_of_body node.body) (the_node-veil c.state.tree n) ∙ names_in-blotted (the_node c.state.tree n).body
 
     size_at : length (bytes_in (the_node v.state.tree n).body) ≡ length (bytes_in (the_node c.state.tree n).body)
     size_at = ap (λ node. length (bytes_in node.body)) (the_node-veil c.state.tree n) ∙ size-blotted (the_node c.state.tree n).body

@@ -61,7 +61,7 @@ firm_refusal-veil s (Restart choice arm) = refl
 
 pub other_refusal-veil : (s : State) (e : Event) → other_refusal (veiled_state s) e ≡ other_refusal s e
 unfolding other_refusal
-other_refusal-veil s (Calls pid call) = go (get nat_cmp s.desks pid)
+other_refusal-veil s (Calls pid call) = go (get nat_cmp s.processes pid)
   where
     go : (o : Option Process) → demand_of (λ p. late_refusal (veiled_state s) p (row_of call)) o ≡ demand_of (λ p. late_refusal s p (row_of call)) o
     go None = refl

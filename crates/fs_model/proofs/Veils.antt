@@ -4,7 +4,7 @@ use Rattle.std.proofs.Common.{refl, ap, ◌∙◌}
 use Rattle.std.specs.Option.{option_map}
 use Rattle.std.specs.Ordering.{nat_cmp, eq_by_cmp}
 use Rattle.fs_layout.specs.Maps.{get, name_cmp}
-use Rattle.fs_model.specs.Nodes.{Node, Body, File, Dir, Link, directory_in, is_directory, is_link, names_in, target_in, accessed_body, accessed}
+use Rattle.fs_model.specs.Nodes.{Node, Body, File, Dir, Link, directory_in, is_directory, is_link, names_of_body, target_in, accessed_body, accessed}
 use Rattle.fs_model.specs.Trees.{Tree, Room, node_at, names_for, parent}
 use Rattle.fs_model.specs.Alike.{blotted}
 use Rattle.fs_model.specs.Limits.{links_limit}
@@ -35,8 +35,8 @@ same-blotted f file (File a bytes) = file a bytes
 same-blotted f file (Dir a d) = refl
 same-blotted f file (Link target) = refl
 
-pub names_in-blotted : (b : Body) → names_in (blotted b) ≡ names_in b
-names_in-blotted = same-blotted names_in (λ a bytes. refl)
+pub names_in-blotted : (b : Body) → names_of_body (blotted b) ≡ names_of_body b
+names_in-blotted = same-blotted names_of_body (λ a bytes. refl)
 
 pub directory_in-blotted : (b : Body) → directory_in (blotted b) ≡ directory_in b
 directory_in-blotted = same-blotted directory_in (λ a bytes. refl)
@@ -94,10 +94,10 @@ looked_up-veiled : (room : Room) (t : Tree) (is_last follow : Bool) (dir : ℕ) 
     → looked_up room (veil t) is_last follow dir name (option_map veiled o) ≡ looked_up room t is_last follow dir name o
 looked_up-veiled room t is_last follow dir name None = refl
 looked_up-veiled room t is_last follow dir name (Some node) =
-    ap (λ o. look (is_some o) (arrival (veil t) is_last follow (named_inode (veil t) dir (names_in (blotted node.body)) name))) (directory_in-blotted node.body)
+    ap (λ o. look (is_some o) (arrival (veil t) is_last follow (named_inode (veil t) dir (names_of_body (blotted node.body)) name))) (directory_in-blotted node.body)
     ∙ ap (λ ns. look (is_directory node.body) (arrival (veil t) is_last follow (named_inode (veil t) dir ns name))) (names_in-blotted node.body)
-    ∙ ap (λ o. look (is_directory node.body) (arrival (veil t) is_last follow o)) (named_inode-veil t dir (names_in node.body) name)
-    ∙ ap (look (is_directory node.body)) (arrival-veil t is_last follow (named_inode t dir (names_in node.body) name))
+    ∙ ap (λ o. look (is_directory node.body) (arrival (veil t) is_last follow o)) (named_inode-veil t dir (names_of_body node.body) name)
+    ∙ ap (look (is_directory node.body)) (arrival-veil t is_last follow (named_inode t dir (names_of_body node.body) name))
   where
     look : Bool → Outcome → Outcome
     look b o = if not b then Faulty ENOTDIR else (if nat_lt room.name_limit (length name) then Faulty ENAMETOOLONG else o)

@@ -4,7 +4,7 @@ use Rattle.std.proofs.Common.{◌≡◌, ℕ, ◌*◌, ◌/◌, ◌%◌, ◌≤�
 use Rattle.std.specs.List.{flat_map}
 use Rattle.fs_layout.specs.declared.version.Version.{Version}
 use Rattle.fs_layout.specs.declared.version.Version.TheVariants.{One, Two, Three}
-use Rattle.fs_layout.specs.Place.{allows_header}
+use Rattle.fs_layout.specs.Geometry.{allows_header}
 use Rattle.fs_layout.specs.Superblock.{numbers_end}
 use Rattle.fs_layout.specs.Version.{max_sectors, max_inodes, max_name, max_names, max_inode_names, slot_size, max_directory_size, keeps_times}
 use Rattle.fs_layout.specs.Bytes.{le32, zeros}

@@ -45,4 +45,4 @@ seen_by (Some p) s = record s { tree = tree_seen p s.tree }
 pub record AreAlike (pid : ℕ) (s t : State) : Type 0 where
   pub first_runs : IsFalse s.halted
   pub second_runs : IsFalse t.halted
-  pub same : seen_by (get nat_cmp s.desks pid) s ≡ seen_by (get nat_cmp t.desks pid) t
+  pub same : seen_by (get nat_cmp s.processes pid) s ≡ seen_by (get nat_cmp t.processes pid) t

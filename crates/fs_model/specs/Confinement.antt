@@ -77,19 +77,19 @@ AreOf pid events = All (λ e. IsOf pid e.0 × IsEvent e.0) events
 -- The same replies. The process is the same in both states, or gone from both; and while it is there they are alike to it.
 pub record AnswerAlike {X : Type 0} (pid : ℕ) (answer answer' : X) (s t : State) : Type 0 where
   pub replies : answer ≡ answer'
-  pub process : get nat_cmp s.desks pid ≡ get nat_cmp t.desks pid
-  pub alike : IsTrue (is_some (get nat_cmp s.desks pid)) → AreAlike pid s t
+  pub process : get nat_cmp s.processes pid ≡ get nat_cmp t.processes pid
+  pub alike : IsTrue (is_some (get nat_cmp s.processes pid)) → AreAlike pid s t
 
 -- From states that are alike to a process, the same events of it with the same free choices.
 abbrev pub Confinement : Type 0
 Confinement =
     (pid : ℕ) (p : Process) (s t s' t' : State) (events : List (Event × Choice)) (replies replies' : List Reply)
-    → IsState s → IsState t → get nat_cmp s.desks pid ≡ Some p → IsConfined p.cred → AreOf pid events → AreAlike pid s t
+    → IsState s → IsState t → get nat_cmp s.processes pid ≡ Some p → IsConfined p.cred → AreOf pid events → AreAlike pid s t
     → RunBy s events replies s' → RunBy t events replies' t' → AnswerAlike pid replies replies' s' t'
 
 -- Once it is gone, each event of it is ESRCH.
 abbrev pub GoneIsRefused : Type 0
 GoneIsRefused =
     (pid : ℕ) (s s' : State) (events : List (Event × Choice)) (replies : List Reply)
-    → get nat_cmp s.desks pid ≡ None → AreOf pid events → RunBy s events replies s'
+    → get nat_cmp s.processes pid ≡ None → AreOf pid events → RunBy s events replies s'
     → (replies ≡ map (λ _. Refused (Failed ESRCH)) events) × (s' ≡ s)

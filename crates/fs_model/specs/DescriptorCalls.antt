@@ -12,7 +12,7 @@ use Rattle.fs_model.specs.declared.reply.Status.{Status}
 use Rattle.fs_model.specs.declared.reply.Reply.TheVariants.{Done, Data, Wrote, At, Shown, Names}
 use Rattle.fs_model.specs.Limits.{move_limit}
 use Rattle.fs_layout.specs.Maps.{without}
-use Rattle.fs_model.specs.Nodes.{Node, is_directory, names_in, bytes_in, with_bytes, type_of, shown_mode, shown_size}
+use Rattle.fs_model.specs.Nodes.{Node, is_directory, names_of_body, bytes_in, with_bytes, type_of, shown_mode, shown_size}
 use Rattle.fs_model.specs.Trees.{Tree, parent, names_of}
 use Rattle.fs_model.specs.Processes.{the_descriptor, with_offset}
 use Rattle.fs_model.specs.Births.{the_node}
@@ -149,7 +149,7 @@ readdir_demands fd s = refuse ENOTDIR (not (is_directory (node_open s fd).body))
 abbrev pub readdir_effect : ℕ → Scene → Effect
 readdir_effect fd s =
     let n = (the_descriptor s.process fd).number in
-    answers s (Names ((46 ∷ [], n) ∷ (46 ∷ 46 ∷ [], parent s.state.tree n) ∷ names_in (node_open s fd).body))
+    answers s (Names ((46 ∷ [], n) ∷ (46 ∷ 46 ∷ [], parent s.state.tree n) ∷ names_of_body (node_open s fd).body))
 
 abbrev pub readdir_row : ℕ → Row
 readdir_row fd = by_descriptor (is_bad_to_read fd) (readdir_demands fd) (readdir_effect fd)

@@ -7,13 +7,13 @@ use Rattle.fs_cred.specs.declared.refusal.Refusal.{Refusal}
 use Rattle.fs_cred.specs.declared.refusal.Refusal.TheVariants.{Failed}
 use Rattle.fs_cred.specs.Credentials.{Credential}
 use Rattle.fs_layout.specs.declared.inode.Inode.{Inode}
-use Rattle.fs_layout.specs.declared.place.Place.{Place}
-use Rattle.fs_layout.specs.declared.place.TheConstants.{COMMIT_SECTOR}
+use Rattle.fs_layout.specs.declared.geometry.Geometry.{Geometry}
+use Rattle.fs_layout.specs.declared.geometry.TheConstants.{COMMIT_SECTOR}
 use Rattle.fs_layout.specs.declared.superblock.Super.{Super}
 use Rattle.fs_layout.specs.declared.version.Version.{Version}
 use Rattle.fs_layout.specs.Bytes.{SectorMap}
 use Rattle.fs_layout.specs.Commit.{named_start, IsValidCommit, targets_in}
-use Rattle.fs_layout.specs.Place.{the_place}
+use Rattle.fs_layout.specs.Geometry.{the_geometry}
 use Rattle.fs_layout.specs.Superblock.{super_bytes, FitsSuper, with_version}
 use Rattle.fs_layout.specs.Version.{max_file_size, slot_size}
 use Rattle.fs_layout.specs.Images.{bit, inode_at}
@@ -27,10 +27,10 @@ use Rattle.fs_model.specs.declared.reply.Reply.TheVariants.{Done, Refused}
 use Rattle.fs_model.specs.declared.reply.Reply.{Reply}
 use Rattle.fs_model.specs.declared.reply.FileType.{FileType}
 use Rattle.fs_layout.specs.Maps.{get, with_entry, IsMap}
-use Rattle.fs_model.specs.Nodes.{Node, is_link, names_in, sectors_of, type_of, accessed}
+use Rattle.fs_model.specs.Nodes.{Node, is_link, names_of_body, sectors_of, type_of, accessed}
 use Rattle.fs_model.specs.Kinds.{kind_of_type, type_of_kind, access_kind}
 use Rattle.fs_model.specs.Trees.{Tree, Room, node_at, with_node, names_of, parent, sectors_needed, free_inodes, IsTree, IsDirectoryAt}
-use Rattle.fs_model.specs.Processes.{Process, Desks, is_open}
+use Rattle.fs_model.specs.Processes.{Process, ProcessTable, is_open}
 use Rattle.fs_model.specs.TreeChanges.{pruned, swept}
 use Rattle.fs_model.specs.States.{State, MayBeFree, FitsTree, IsState}
 use Rattle.fs_model.specs.declared.walk.Form.{Form}
@@ -86,19 +86,19 @@ StepsKeep = (old new : State) (e : Event) (reply : Reply) → IsState old → Is
 
 -- A state whose processes fit its tree has nothing to be dropped.
 abbrev pub NothingToDrop : Type 0
-NothingToDrop = (room : Room) (t : Tree) (desks : Desks) → IsTree room t → FitsTree t desks → swept t desks ≡ t
+NothingToDrop = (room : Room) (t : Tree) (processes : ProcessTable) → IsTree room t → FitsTree t processes → swept t processes ≡ t
 
 -- Nor is anything where the processes change and each node that was open is still open.
 abbrev pub OpenStays : Type 0
 OpenStays =
-    (room : Room) (t : Tree) (old new : Desks) → IsTree room t → FitsTree t old
+    (room : Room) (t : Tree) (old new : ProcessTable) → IsTree room t → FitsTree t old
     → ((n : ℕ) → IsTrue (is_open old n) → IsTrue (is_open new n)) → swept t new ≡ t
 
 -- A process that is written back as it is leaves the table of processes as it is.
 abbrev pub SameProcessStays : Type 0
 SameProcessStays =
-    (desks : Desks) (pid : ℕ) (p : Process) → IsMap nat_cmp desks → get nat_cmp desks pid ≡ Some p
-    → with_entry nat_cmp desks pid p ≡ desks
+    (processes : ProcessTable) (pid : ℕ) (p : Process) → IsMap nat_cmp processes → get nat_cmp processes pid ≡ Some p
+    → with_entry nat_cmp processes pid p ≡ processes
 
 -- A node that is rewritten with the names that it had: a tree has as many nodes as before, each with as many names, in the
 -- same directories, and needs more or fewer sectors by those of the node.
@@ -111,7 +111,7 @@ pub record IsRewritten (t u : Tree) (old new : Node) : Type 0 where
 
 abbrev pub RewritingKeeps : Type 0
 RewritingKeeps =
-    (t : Tree) (n : ℕ) (old new : Node) → IsMap nat_cmp t → node_at t n ≡ Some old → names_in new.body ≡ names_in old.body
+    (t : Tree) (n : ℕ) (old new : Node) → IsMap nat_cmp t → node_at t n ≡ Some old → names_of_body new.body ≡ names_of_body old.body
     → IsRewritten t (with_node t n new) old new
 
 -- Where fsync or sync answers ok, a stop right after it leaves the present tree, pruned.
@@ -168,7 +168,7 @@ StandingRests =
 
 -- On a disk of so many sectors, whose parts lie so, the commit sector is valid, and after recovery two images read alike:
 -- the superblock, the tables, and the data sectors that are used.
-pub record ReadsAlike (sectors : ℕ) (p : Place) (old new : SectorMap) : Type 0 where
+pub record ReadsAlike (sectors : ℕ) (p : Geometry) (old new : SectorMap) : Type 0 where
   pub commit : IsValidCommit sectors new
   pub super : recovered sectors new 0 ≡ recovered sectors old 0
   pub rest : Agrees p (recovered sectors old) (recovered sectors new)
@@ -177,7 +177,7 @@ pub record ReadsAlike (sectors : ℕ) (p : Place) (old new : SectorMap) : Type 0
 abbrev pub StandingRestsOnReading : Type 0
 StandingRestsOnReading =
     (sectors : ℕ) (old new : SectorMap) (room : Room) (t : Tree) (free : ℕ) → (stands : Stands sectors old room t free)
-    → ReadsAlike sectors stands.place old new → Stands sectors new room t free
+    → ReadsAlike sectors stands.geometry old new → Stands sectors new room t free
 
 -- The superblock of the new image says another version, whose files may be as large, and whose slots take as many bytes; else the
 -- two are alike. Versions with such slots have names as long, and as many of them, the same disks, and both keep times or neither does.
@@ -208,7 +208,7 @@ FollowedAreNoLinks =
     → (trail_of room t cwd Follow path).found ≡ Some n → node_at t n ≡ Some node → IsFalse (is_link node.body)
 
 -- One inode changes with what it owns, and holds what it is to hold then; all others are to hold what they held.
-pub record OneIsPlaced (p : Place) (n : ℕ) (new : SectorMap) (what then : ℕ → Option Placed) : Type 0 where
+pub record OneIsPlaced (p : Geometry) (n : ℕ) (new : SectorMap) (what then : ℕ → Option Placed) : Type 0 where
   pub below : n < p.inodes
   pub here : HoldsPlaced p new n (then n)
   pub marked : bit new p.inode_bitmap n ≡ (nat_eq n 0 || nat_le p.inodes n || is_some (then n))
@@ -217,18 +217,18 @@ pub record OneIsPlaced (p : Place) (n : ℕ) (new : SectorMap) (what then : ℕ 
 -- Then all hold what they are to hold.
 abbrev pub OneNodeChanges : Type 0
 OneNodeChanges =
-    (p : Place) (n : ℕ) (old new : SectorMap) (what then : ℕ → Option Placed) → HoldsAll p old what
+    (p : Geometry) (n : ℕ) (old new : SectorMap) (what then : ℕ → Option Placed) → HoldsAll p old what
     → ChangesInode p n old new → OneIsPlaced p n new what then → HoldsAll p new then
 
 -- A new disk stands for the tree of an empty root, and all its data sectors are free.
 abbrev pub NewDiskStands : Type 0
 NewDiskStands =
-    (p : Place) (image : SectorMap) → IsNewImage p image
+    (p : Geometry) (image : SectorMap) → IsNewImage p image
     → Stands p.sectors image (room_of p) empty_tree (p.sectors - p.first_data)
 
 -- Each disk that has a place has such an image,
 abbrev pub NewImagesExist : Type 0
-NewImagesExist = (p : Place) → the_place p.version p.sectors p.inodes ≡ Some p → (image : SectorMap) × IsNewImage p image
+NewImagesExist = (p : Geometry) → the_geometry p.version p.sectors p.inodes ≡ Some p → (image : SectorMap) × IsNewImage p image
 
 -- and so there is an image that stands for a tree.
 abbrev pub SomeImageStands : Type 0
@@ -258,7 +258,7 @@ FindingRefuses =
 
 -- The numbers of a tree that a disk with this place holds: its named and nameless files, directories, links, and all its
 -- nodes, as counts over the inodes.
-pub record CountsInodes (p : Place) (image : SectorMap) (t : Tree) : Type 0 where
+pub record CountsInodes (p : Geometry) (image : SectorMap) (t : Tree) : Type 0 where
   pub files : named_files t ≡ count_by (λ n. is_file_kind (inode_at p image n).kind && not ((inode_at p image n).names == 0)) (range_with_len 0 p.inodes)
   pub nameless : nameless_files t ≡ count_by (λ n. is_file_kind (inode_at p image n).kind && (inode_at p image n).names == 0) (range_with_len 0 p.inodes)
   pub directories : directories t ≡ count_by (λ n. is_directory_kind (inode_at p image n).kind) (range_with_len 0 p.inodes)
@@ -266,10 +266,10 @@ pub record CountsInodes (p : Place) (image : SectorMap) (t : Tree) : Type 0 wher
   pub nodes : length t ≡ count_by (λ n. is_used (inode_at p image n).kind) (range_with_len 0 p.inodes)
 
 abbrev pub NumbersAreCounts : Type 0
-NumbersAreCounts = (p : Place) (image : SectorMap) (t : Tree) → HoldsAll p image (placed t) → IsTree (room_of p) t → CountsInodes p image t
+NumbersAreCounts = (p : Geometry) (image : SectorMap) (t : Tree) → HoldsAll p image (placed t) → IsTree (room_of p) t → CountsInodes p image t
 
 -- The inodes that are free are the clear bits of the inode bitmap, below the number of inodes.
 abbrev pub FreeAreClear : Type 0
 FreeAreClear =
-    (p : Place) (image : SectorMap) (t : Tree) → HoldsAll p image (placed t) → IsTree (room_of p) t
+    (p : Geometry) (image : SectorMap) (t : Tree) → HoldsAll p image (placed t) → IsTree (room_of p) t
     → free_inodes (room_of p) t ≡ count_by (λ n. not (bit image p.inode_bitmap n)) (range_with_len 0 p.inodes)

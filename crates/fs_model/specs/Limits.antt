@@ -7,7 +7,7 @@
 --     root        the number of the root's inode
 use Rattle.std.specs.Prelude.{ℕ}
 use Rattle.fs_layout.specs.declared.inode.TheConstants.{MAX_LINK_SIZE}
-use Rattle.fs_layout.specs.declared.place.TheConstants.{ROOT}
+use Rattle.fs_layout.specs.declared.geometry.TheConstants.{ROOT}
 
 abbrev pub path_limit : ℕ
 path_limit = 1023

@@ -40,7 +40,7 @@ rmdir_demands s =
     ∷ permission_at_dir s s.first 1
     ∷ sticky_at_dir s s.first 1
     ∷ refuse ENOTDIR (is_nondirectory_found s s.first)
-    ∷ refuse EBUSY (is_in_use s.state.desks (number s.first))
+    ∷ refuse EBUSY (is_in_use s.state.processes (number s.first))
     ∷ refuse ENOTEMPTY (has_names s s.first)
     ∷ []
 

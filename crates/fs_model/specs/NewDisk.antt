@@ -6,12 +6,12 @@ use Rattle.std.specs.Prelude.{◌≡◌, ◌≢◌, ℕ, ◌<◌, ◌≤◌, ◌
 use Rattle.posix_acl.specs.AccessList.{minimal}
 use Rattle.fs_layout.specs.declared.inode.Kind.TheVariants as kinds
 use Rattle.fs_layout.specs.declared.inode.Inode.{Inode}
-use Rattle.fs_layout.specs.declared.place.Place.{Place}
+use Rattle.fs_layout.specs.declared.geometry.Geometry.{Geometry}
 use Rattle.fs_layout.specs.Bytes.{SectorMap}
 use Rattle.fs_layout.specs.Superblock.{super_bytes}
 use Rattle.fs_layout.specs.Commit.{commit_bytes}
 use Rattle.fs_layout.specs.Inode.{inode_bytes, free_inode}
-use Rattle.fs_layout.specs.Place.{the_place, super_for}
+use Rattle.fs_layout.specs.Geometry.{the_geometry, super_for}
 use Rattle.fs_layout.specs.Images.{HasWholeTables, inode_map_bits, map_bits, bit, stored}
 use Rattle.fs_model.specs.Limits.{root}
 use Rattle.fs_model.specs.Nodes.{no_stamps, Dir}
@@ -34,8 +34,8 @@ root_inode = record free_inode { kind = kinds.Directory; mode = 0o755; names = 1
 
 -- The commit sector is idle. All inodes but the root's are free. Of the block bitmap the bits below the data and past the
 -- end are set.
-pub record IsNewImage (p : Place) (image : SectorMap) : Type 0 where
-  pub has_place : the_place p.version p.sectors p.inodes ≡ Some p
+pub record IsNewImage (p : Geometry) (image : SectorMap) : Type 0 where
+  pub has_geometry : the_geometry p.version p.sectors p.inodes ≡ Some p
   pub super : image 0 ≡ super_bytes (super_for p)
   pub commit : image 1 ≡ commit_bytes []
   pub tables : HasWholeTables p image

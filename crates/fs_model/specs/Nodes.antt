@@ -2,7 +2,7 @@
 -- and acl(5).
 --     Directory, Body, Node        an object
 --     no_stamps, stamped        times that aren't known; times of which some are set
---     is_directory, is_link, acl_in, names_in, bytes_in, ..        what a body has
+--     is_directory, is_link, acl_in, names_of_body, bytes_in, ..        what a body has
 --     with_acl, with_names, with_bytes, ..        a body with something else in it
 --     accessed        what an access decision reads of it
 --     type_of, shown_mode, shown_size        what stat(2) shows of it
@@ -65,9 +65,9 @@ abbrev pub default_in : Body → Option AccessList
 default_in (Dir _ d) = d.default
 default_in _ = None
 
-abbrev pub names_in : Body → List (List ℕ × ℕ)
-names_in (Dir _ d) = d.names
-names_in _ = []
+abbrev pub names_of_body : Body → List (List ℕ × ℕ)
+names_of_body (Dir _ d) = d.names
+names_of_body _ = []
 
 abbrev pub bytes_in : Body → List ℕ
 bytes_in (File _ bytes) = bytes

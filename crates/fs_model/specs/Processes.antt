@@ -29,8 +29,8 @@ pub record Process : Type 0 where
   pub descriptors : List (ℕ × Descriptor)
 
 -- the processes by their numbers
-abbrev pub Desks : Type 0
-Desks = List (ℕ × Process)
+abbrev pub ProcessTable : Type 0
+ProcessTable = List (ℕ × Process)
 
 -- our own rule: at the root, with umask 022 and nothing open
 abbrev pub new_process : Credential → Process
@@ -66,13 +66,13 @@ least_unused k [] = k
 least_unused k (e ∷ es) = if e.0 == k then least_unused (k + 1) es else k
 
 -- some descriptor is for n
-abbrev pub is_open : Desks → ℕ → Bool
-is_open desks n = list_any (λ p. list_any (λ d. d.1.number == n) p.1.descriptors) desks
+abbrev pub is_open : ProcessTable → ℕ → Bool
+is_open processes n = list_any (λ p. list_any (λ d. d.1.number == n) p.1.descriptors) processes
 
 -- one of its walks starts at n
 abbrev pub starts_at : ℕ → Process → Bool
 starts_at n p = p.cwd == n || p.second_cwd == n
 
 -- our own rule: the directory n is the root, where walks of a process start, or open
-abbrev pub is_in_use : Desks → ℕ → Bool
-is_in_use desks n = n == root || list_any (λ p. starts_at n p.1) desks || is_open desks n
+abbrev pub is_in_use : ProcessTable → ℕ → Bool
+is_in_use processes n = n == root || list_any (λ p. starts_at n p.1) processes || is_open processes n

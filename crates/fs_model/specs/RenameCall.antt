@@ -44,7 +44,7 @@ rename_kinds s =
 abbrev pub rename_directories : Scene → List Demand
 rename_directories s =
     refuse EINVAL (is_directory_found s s.first && is_within (length s.state.tree) s.state.tree (number s.first) s.second.dir)
-    ∷ refuse EBUSY (is_directory_found s s.second && is_in_use s.state.desks (number s.second))
+    ∷ refuse EBUSY (is_directory_found s s.second && is_in_use s.state.processes (number s.second))
     ∷ refuse ENOTEMPTY (is_found s.second && has_names s s.second)
     ∷ []
 

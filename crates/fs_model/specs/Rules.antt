@@ -14,14 +14,14 @@ use Rattle.fs_layout.specs.declared.inode.Kind.{Kind}
 use Rattle.fs_layout.specs.declared.inode.Kind.TheVariants as kinds
 use Rattle.fs_layout.specs.declared.version.Version.{Version}
 use Rattle.fs_layout.specs.declared.inode.Inode.{Inode}
-use Rattle.fs_layout.specs.declared.place.Place.{Place}
+use Rattle.fs_layout.specs.declared.geometry.Geometry.{Geometry}
 use Rattle.fs_layout.specs.Bytes.{SectorMap, IsSector, u16_of}
 use Rattle.fs_layout.specs.Superblock.{super_of}
 use Rattle.fs_layout.specs.Commit.{IsValidCommit}
 use Rattle.fs_layout.specs.Inode.{inode_of}
 use Rattle.fs_layout.specs.AclSector.{acl_sector_of}
 use Rattle.fs_layout.specs.Directories.{slot_count, stored_slot, slot_at, slot_of}
-use Rattle.fs_layout.specs.Place.{place_in}
+use Rattle.fs_layout.specs.Geometry.{geometry_in}
 use Rattle.fs_layout.specs.Version.{max_file_size, max_inode_names, max_directory_size, slot_size, keeps_times}
 use Rattle.fs_layout.specs.Images.{bit, inode_map_bits, map_bits, IsData, stored, inode_at, Owns, byte_at, first_block, IsTrimmed, HasNoHole}
 use Rattle.fs_layout.specs.Ownership.{IsOwned}
@@ -33,15 +33,15 @@ use Rattle.fs_model.specs.StoredStamps.{stamps_in}
 -- ---- the superblock and the commit sector
 
 -- Rule 1. The superblock is valid, it says that the disk has the sectors that it has, and gives it this place.
-pub record IsPlaceOf (sectors : ℕ) (image : SectorMap) (p : Place) : Type 0 where
+pub record IsGeometryOf (sectors : ℕ) (image : SectorMap) (p : Geometry) : Type 0 where
   pub super : Super
   pub super_is : super_of (image 0) ≡ Ok super
   pub same_size : super.sectors ≡ sectors
-  pub has_place : place_in super.version super.header sectors super.inodes ≡ Some p
+  pub has_geometry : geometry_in super.version super.header sectors super.inodes ≡ Some p
 
-pub record HasPlace (sectors : ℕ) (image : SectorMap) : Type 0 where
-  pub place : Place
-  pub is : IsPlaceOf sectors image place
+pub record HasGeometry (sectors : ℕ) (image : SectorMap) : Type 0 where
+  pub geometry : Geometry
+  pub is : IsGeometryOf sectors image geometry
 
 -- ---- names
 
@@ -57,13 +57,13 @@ namings_in version m v n =
     if is_directory_kind v.kind then count_by (λ k. (slot_at version m v k).inode == n) (range_with_len 0 (slot_count version v)) else 0
 
 -- how many slots of the disk name n
-abbrev pub namings : Place → SectorMap → ℕ → ℕ
+abbrev pub namings : Geometry → SectorMap → ℕ → ℕ
 namings p m n = sum_by (λ d. namings_in p.version m (inode_at p m d) n) (range_with_len 0 p.inodes)
 
 -- ---- what single rules ask
 
 -- Rule 3. The bits of 0, of 1 and from the inode count on are set, any other exactly where the kind isn't 0.
-abbrev pub IsBit : Place → SectorMap → ℕ → Type 0
+abbrev pub IsBit : Geometry → SectorMap → ℕ → Type 0
 IsBit p m n = bit m p.inode_bitmap n ≡ (nat_lt n 2 || nat_le p.inodes n || not (nat_eq (u16_of (stored p m n) 0) 0))
 
 -- A file and a directory have at most the bytes that the version allows, a directory those of whole slots, and no inode names a sector
@@ -77,23 +77,23 @@ pub record IsAllowed (version : Version) (v : Inode) : Type 0 where
 
 -- Rule 4. The bytes are an inode: a free one, all zero, or one with a valid kind, mode and size, as the version allows it, and
 -- zeros where nothing is kept; 0 is free, and 1 a directory.
-pub record IsGoodInode (p : Place) (m : SectorMap) (n : ℕ) : Type 0 where
+pub record IsGoodInode (p : Geometry) (m : SectorMap) (n : ℕ) : Type 0 where
   pub is : inode_of (stored p m n) ≡ Ok (inode_at p m n)
   pub allowed : IsAllowed p.version (inode_at p m n)
   pub none : n ≡ 0 → (inode_at p m n).kind ≡ kinds.Free
   pub top : n ≡ root → (inode_at p m n).kind ≡ kinds.Directory
 
 -- Rule 5. Each number of a block or of an ACL's sector is in the data area.
-abbrev pub IsInData : Place → SectorMap → ℕ → Type 0
+abbrev pub IsInData : Geometry → SectorMap → ℕ → Type 0
 IsInData p m n = (s : ℕ) → Owns m (inode_at p m n) s → IsData p s
 
 -- Rule 6. No sector is owned twice, by two inodes or by one for two things.
-abbrev pub IsOwnedOnce : Place → SectorMap → ℕ → Type 0
+abbrev pub IsOwnedOnce : Geometry → SectorMap → ℕ → Type 0
 IsOwnedOnce p m s =
     (j k : ℕ) → j < p.inodes → k < p.inodes → (a : Owns m (inode_at p m j) s) → (b : Owns m (inode_at p m k) s) → (j ≡ k) × (a.at ≡ b.at)
 
 -- Rule 7. The bit is set exactly for a sector that is owned, below the data or past the end.
-abbrev pub IsBlockBit : Place → SectorMap → ℕ → Type 0
+abbrev pub IsBlockBit : Geometry → SectorMap → ℕ → Type 0
 IsBlockBit p m s = IsTrue (bit m p.block_bitmap s) ↔ ((s < p.first_data) ⊎ ((p.sectors ≤ s) ⊎ IsOwned p m s))
 
 -- Rule 8. Past the size there is no block, no sector of pointers by which only such blocks are found, and no byte but zeros;
@@ -128,7 +128,7 @@ pub record HasAcls (m : SectorMap) (v : Inode) : Type 0 where
   pub only_directory : v.kind ≢ kinds.Directory → v.default_acl ≡ 0
 
 -- Rule 10, of one slot. It is valid, and its inode is in use and isn't the root.
-pub record IsGoodSlot (p : Place) (m : SectorMap) (v : Inode) (k : ℕ) : Type 0 where
+pub record IsGoodSlot (p : Geometry) (m : SectorMap) (v : Inode) (k : ℕ) : Type 0 where
   pub is : slot_of p.version (stored_slot p.version m v k) ≡ Ok (slot_at p.version m v k)
   pub below : (slot_at p.version m v k).inode < p.inodes
   pub used : (inode_at p m (slot_at p.version m v k).inode).kind ≢ kinds.Free
@@ -148,14 +148,14 @@ HasNameCount version kinds.Directory n field count = (field ≡ 1) × (count ≡
 HasNameCount version kinds.Link n field count = (field ≡ count) × (1 ≤ count) × (count ≤ max_inode_names version)
 
 -- Rule 13. The parent field of a directory is the one that names it, of the root it is the root, of any other inode 0.
-pub record HasParent (p : Place) (m : SectorMap) (n : ℕ) : Type 0 where
+pub record HasParent (p : Geometry) (m : SectorMap) (n : ℕ) : Type 0 where
   pub named : (inode_at p m n).kind ≡ kinds.Directory → n ≢ root → (inode_at p m n).parent < p.inodes
       × (1 ≤ namings_in p.version m (inode_at p m (inode_at p m n).parent) n)
   pub top : n ≡ root → (inode_at p m n).parent ≡ root
   pub none : (inode_at p m n).kind ≢ kinds.Directory → (inode_at p m n).parent ≡ 0
 
 -- Rule 14. Going up by the parent fields reaches the root.
-pub data GoesUp (p : Place) (m : SectorMap) : ℕ → Type 0 where
+pub data GoesUp (p : Geometry) (m : SectorMap) : ℕ → Type 0 where
   at_root : GoesUp p m root
   above : (d : ℕ) → GoesUp p m (inode_at p m d).parent → GoesUp p m d
 
@@ -181,7 +181,7 @@ rule_number Ways = 14
 
 -- The recovered image m of a disk with this place obeys the rule at a number: that of an inode, but for rule 3 of a bit,
 -- for 6 of a sector and for 7 of a bit. Numbers out of range obey.
-abbrev pub Obeys : Place → SectorMap → ImageRule → ℕ → Type 0
+abbrev pub Obeys : Geometry → SectorMap → ImageRule → ℕ → Type 0
 Obeys p m InodeBits n = n < inode_map_bits p → IsBit p m n
 Obeys p m Inodes n = n < p.inodes → IsGoodInode p m n
 Obeys p m InData n = n < p.inodes → IsInData p m n
@@ -197,30 +197,30 @@ Obeys p m Parents n = n < p.inodes → HasParent p m n
 Obeys p m Ways d = d < p.inodes → (inode_at p m d).kind ≡ kinds.Directory → GoesUp p m d
 
 -- it obeys the rule at each number
-abbrev pub ObeysEach : Place → SectorMap → ImageRule → Type 0
+abbrev pub ObeysEach : Geometry → SectorMap → ImageRule → Type 0
 ObeysEach p m r = (n : ℕ) → Obeys p m r n
 
 -- it obeys each rule below number k
-abbrev pub ObeysBefore : Place → SectorMap → ℕ → Type 0
+abbrev pub ObeysBefore : Geometry → SectorMap → ℕ → Type 0
 ObeysBefore p m k = (r : ImageRule) → rule_number r < k → ObeysEach p m r
 
 -- the image of a disk of so many sectors obeys all rules
 pub record ObeysAll (sectors : ℕ) (image : SectorMap) : Type 0 where
-  pub place : Place
-  pub is_place : IsPlaceOf sectors image place
+  pub geometry : Geometry
+  pub is_geometry : IsGeometryOf sectors image geometry
   pub commit : IsValidCommit sectors image
-  pub rules : (r : ImageRule) → ObeysEach place (recovered sectors image) r
+  pub rules : (r : ImageRule) → ObeysEach geometry (recovered sectors image) r
 
 -- at this number m fails the rule, at none before it
-pub record IsLeastFailure (p : Place) (m : SectorMap) (r : ImageRule) (at : ℕ) : Type 0 where
+pub record IsLeastFailure (p : Geometry) (m : SectorMap) (r : ImageRule) (at : ℕ) : Type 0 where
   pub fails : Obeys p m r at → ⊥
   pub least : (n : ℕ) → n < at → Obeys p m r n
 
 -- The first rule that fails, and the least number at which it does.
 pub data IsFinding (sectors : ℕ) (image : SectorMap) : ℕ → ℕ → Type 0 where
-  no_place : (HasPlace sectors image → ⊥) → IsFinding sectors image 1 0
-  no_commit : HasPlace sectors image → (IsValidCommit sectors image → ⊥) → IsFinding sectors image 2 1
-  fails : (p : Place) (r : ImageRule) (at : ℕ) → IsPlaceOf sectors image p → IsValidCommit sectors image
+  no_geometry : (HasGeometry sectors image → ⊥) → IsFinding sectors image 1 0
+  no_commit : HasGeometry sectors image → (IsValidCommit sectors image → ⊥) → IsFinding sectors image 2 1
+  fails : (p : Geometry) (r : ImageRule) (at : ℕ) → IsGeometryOf sectors image p → IsValidCommit sectors image
       → ObeysBefore p (recovered sectors image) (rule_number r) → IsLeastFailure p (recovered sectors image) r at
       → IsFinding sectors image (rule_number r) at
 

@@ -13,7 +13,7 @@ use Rattle.fs_cred.specs.Ownership.{may_own, sticky_allows}
 use Rattle.fs_model.specs.declared.reply.Reply.{Reply}
 use Rattle.fs_model.specs.declared.reply.Reply.TheVariants.{Done}
 use Rattle.fs_model.specs.Limits.{least_free}
-use Rattle.fs_model.specs.Nodes.{Node, Body, is_directory, names_in}
+use Rattle.fs_model.specs.Nodes.{Node, Body, is_directory, names_of_body}
 use Rattle.fs_model.specs.Trees.{free_inodes}
 use Rattle.fs_model.specs.Processes.{Process, descriptor, the_descriptor}
 use Rattle.fs_model.specs.Births.{the_node, the_directory}
@@ -104,7 +104,7 @@ abbrev pub is_nondirectory_found : Scene → Found → Bool
 is_nondirectory_found s f = is_found f && not (is_directory (body_found s f))
 
 abbrev pub has_names : Scene → Found → Bool
-has_names s f = not (is_empty (names_in (body_found s f)))
+has_names s f = not (is_empty (names_of_body (body_found s f)))
 
 -- what a descriptor is for
 abbrev pub node_open : Scene → ℕ → Node
@@ -139,7 +139,7 @@ abbrev pub no_inodes : Scene → Demand
 no_inodes s = refuse ENOSPC (free_inodes s.state.room s.state.tree == 0)
 
 abbrev pub no_names : Scene → Found → Demand
-no_names s f = refuse ENOSPC (nat_le s.state.room.entries_limit (length (names_in (dir_node s f).body)))
+no_names s f = refuse ENOSPC (nat_le s.state.room.entries_limit (length (names_of_body (dir_node s f).body)))
 
 -- space for a new node under the first path
 abbrev pub space_to_make : Scene → List Demand

@@ -13,12 +13,12 @@ use Rattle.fs_layout.specs.declared.slot.TheConstants.{MAX_NAME}
 use Rattle.fs_layout.specs.Maps.{get, IsMap}
 use Rattle.fs_model.specs.Nodes.{Node, is_link, is_directory}
 use Rattle.fs_model.specs.Trees.{Tree, Room, node_at, names_of, sectors_needed, IsTree, IsDirectoryAt}
-use Rattle.fs_model.specs.Processes.{Desks, Process, Descriptor, is_open}
+use Rattle.fs_model.specs.Processes.{ProcessTable, Process, Descriptor, is_open}
 
 pub record State : Type 0 where
   pub room : Room
   pub tree : Tree
-  pub desks : Desks
+  pub processes : ProcessTable
   pub free : ℕ
   -- the time as it was told last
   pub now : ℕ
@@ -57,15 +57,15 @@ pub record IsProcess (t : Tree) (p : Process) : Type 0 where
   pub each : (fd : ℕ) (d : Descriptor) → get nat_cmp p.descriptors fd ≡ Some d → IsDescriptor t fd d
 
 -- processes fit the tree, and what has no name is the root or is open
-pub record FitsTree (t : Tree) (desks : Desks) : Type 0 where
-  pub processes : (pid : ℕ) (p : Process) → get nat_cmp desks pid ≡ Some p → IsProcess t p
-  pub nameless : (n : ℕ) (node : Node) → node_at t n ≡ Some node → names_of t n ≡ 0 → n ≢ root → IsTrue (is_open desks n)
+pub record FitsTree (t : Tree) (processes : ProcessTable) : Type 0 where
+  pub each_process : (pid : ℕ) (p : Process) → get nat_cmp processes pid ≡ Some p → IsProcess t p
+  pub nameless : (n : ℕ) (node : Node) → node_at t n ≡ Some node → names_of t n ≡ 0 → n ≢ root → IsTrue (is_open processes n)
 
 pub record IsState (s : State) : Type 0 where
   pub room : IsRoom s.room
   pub tree : IsTree s.room s.tree
-  pub pids : IsMap nat_cmp s.desks
-  pub few : length s.desks ≤ processes_limit
+  pub pids : IsMap nat_cmp s.processes
+  pub few : length s.processes ≤ processes_limit
   pub free : MayBeFree s.room s.tree s.free
   pub now : s.now < 2 ^ 64
-  pub desks : IsFalse s.halted → FitsTree s.tree s.desks
+  pub processes : IsFalse s.halted → FitsTree s.tree s.processes

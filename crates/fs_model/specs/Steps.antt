@@ -24,7 +24,7 @@ use Rattle.fs_model.specs.declared.touch.Touch.TheVariants.{Untouched}
 use Rattle.fs_model.specs.Nodes.{Node, stamped}
 use Rattle.fs_model.specs.Births.{the_node}
 use Rattle.fs_model.specs.Trees.{Tree, Room, node_at, free_inodes}
-use Rattle.fs_model.specs.Processes.{Process, Desks, new_process, cwd_of, standing_at}
+use Rattle.fs_model.specs.Processes.{Process, ProcessTable, new_process, cwd_of, standing_at}
 use Rattle.fs_model.specs.TreeChanges.{Change, Same, Rewrite, Make, changed, touches, touched, swept}
 use Rattle.fs_model.specs.States.{State, MayBeFree}
 use Rattle.fs_model.specs.Demands.{Demand, refuse, first_of}
@@ -86,7 +86,7 @@ demand_of f None = Some (Failed ESRCH)
 demand_of f (Some p) = f p
 
 abbrev pub of_process : State → ℕ → (Process → Demand) → Demand
-of_process s pid f = demand_of f (get nat_cmp s.desks pid)
+of_process s pid f = demand_of f (get nat_cmp s.processes pid)
 
 -- the first of the refusals for which nothing stands in
 unfoldable pub firm_refusal : State → Event → Demand
@@ -94,7 +94,7 @@ firm_refusal s (Calls pid call) = of_process s pid (λ p. early_refusal p (row_o
 firm_refusal s (Fsync pid fd) = of_process s pid (λ p. is_bad fd p)
 firm_refusal s (Exit pid) = of_process s pid (λ p. None)
 firm_refusal s (Enter pid directory second) = of_process s pid (λ p. None)
-firm_refusal s (Spawn cred) = refuse EAGAIN (nat_le processes_limit (length s.desks))
+firm_refusal s (Spawn cred) = refuse EAGAIN (nat_le processes_limit (length s.processes))
 firm_refusal s _ = None
 
 -- ENOENT where either node isn't there, ENOTDIR where either is no directory: our own rule. No permission is asked.
@@ -124,16 +124,16 @@ pub record Choice : Type 0 where
 -- where nothing refuses
 pub record After : Type 0 where
   pub change : Change
-  pub desks : Desks
+  pub processes : ProcessTable
   pub reply : Reply
   pub now : ℕ
 
 abbrev pub unchanged : State → Reply → After
-unchanged s reply = record { change = Same; desks = s.desks; reply = reply; now = s.now }
+unchanged s reply = record { change = Same; processes = s.processes; reply = reply; now = s.now }
 
 abbrev pub after_effect : State → ℕ → Effect → After
 after_effect s pid effect =
-    record { change = effect.change; desks = with_entry nat_cmp s.desks pid effect.process; reply = effect.reply; now = s.now }
+    record { change = effect.change; processes = with_entry nat_cmp s.processes pid effect.process; reply = effect.reply; now = s.now }
 
 abbrev pub after_call : State → ℕ → Row → ℕ → Option Process → After
 after_call s pid row number None = unchanged s Done
@@ -142,7 +142,7 @@ after_call s pid row number (Some p) = after_effect s pid (row.effect (scene_of 
 abbrev pub after_enter : State → ℕ → ℕ → ℕ → Option Process → After
 after_enter s pid directory second None = unchanged s Done
 after_enter s pid directory second (Some p) =
-    record { change = Same; desks = with_entry nat_cmp s.desks pid (standing_at directory second p); reply = Done; now = s.now }
+    record { change = Same; processes = with_entry nat_cmp s.processes pid (standing_at directory second p); reply = Done; now = s.now }
 
 -- a disk that keeps no times leaves a node its own
 abbrev pub kept_stamps : Room → Stamps → Stamps → Stamps
@@ -155,25 +155,25 @@ abbrev pub after_stamp : State → ℕ → (Stamps → Stamps) → After
 after_stamp s n f =
     let node = the_node s.tree n in
     let x = kept_stamps s.room node.stamps (f node.stamps) in
-    record { change = Rewrite Untouched n (with_stamps x node); desks = s.desks; reply = Stamped x; now = s.now }
+    record { change = Rewrite Untouched n (with_stamps x node); processes = s.processes; reply = Stamped x; now = s.now }
 
 unfoldable pub after : State → Event → Choice → After
-after s (Calls pid call) choice = after_call s pid (row_of call) choice.number (get nat_cmp s.desks pid)
-after s (Exit pid) choice = record { change = Same; desks = without nat_cmp s.desks pid; reply = Done; now = s.now }
+after s (Calls pid call) choice = after_call s pid (row_of call) choice.number (get nat_cmp s.processes pid)
+after s (Exit pid) choice = record { change = Same; processes = without nat_cmp s.processes pid; reply = Done; now = s.now }
 after s (Spawn cred) choice =
-    record { change = Same; desks = with_entry nat_cmp s.desks choice.pid (new_process cred); reply = Pid choice.pid; now = s.now }
-after s (Enter pid directory second) choice = after_enter s pid directory second (get nat_cmp s.desks pid)
+    record { change = Same; processes = with_entry nat_cmp s.processes choice.pid (new_process cred); reply = Pid choice.pid; now = s.now }
+after s (Enter pid directory second) choice = after_enter s pid directory second (get nat_cmp s.processes pid)
 after s (Stamp n atime mtime ctime) choice = after_stamp s n (stamped atime mtime ctime)
-after s (Clock now) choice = record { change = Same; desks = s.desks; reply = Done; now = now }
+after s (Clock now) choice = record { change = Same; processes = s.processes; reply = Done; now = now }
 after s Statfs choice = unchanged s (Space s.free (free_inodes s.room s.tree))
 after s _ choice = unchanged s Done
 
 -- the change, what is dropped then, and the times that it moves
 abbrev pub tree_after : State → After → Tree
-tree_after s a = touched s.now (touches s.room s.tree a.change) (swept (changed s.tree a.change) a.desks)
+tree_after s a = touched s.now (touches s.room s.tree a.change) (swept (changed s.tree a.change) a.processes)
 
 abbrev pub state_after : State → After → ℕ → State
-state_after s a free = record s { tree = tree_after s a; desks = a.desks; free = free; now = a.now }
+state_after s a free = record s { tree = tree_after s a; processes = a.processes; free = free; now = a.now }
 
 -- a new node gets a number that the tree lacks
 abbrev pub HasNewNumber : State → Change → Type 0
@@ -182,10 +182,10 @@ HasNewNumber s _ = Unit {0}
 
 -- a new process gets an unused number
 abbrev pub HasNewPid : State → Event → ℕ → Type 0
-HasNewPid s (Spawn cred) pid = get nat_cmp s.desks pid ≡ None
+HasNewPid s (Spawn cred) pid = get nat_cmp s.processes pid ≡ None
 HasNewPid s _ pid = Unit {0}
 
-pub record IsAllowed (s : State) (e : Event) (choice : Choice) : Type 0 where
+pub record IsAllowedChoice (s : State) (e : Event) (choice : Choice) : Type 0 where
   pub number : HasNewNumber s (after s e choice).change
   pub pid : HasNewPid s e choice.pid
   pub free : MayBeFree s.room (tree_after s (after s e choice)) choice.free
@@ -218,11 +218,11 @@ pub record Acts (s : State) (e : Event) (choice : Choice) : Type 0 where
   pub running : IsFalse s.halted
   pub early : firm_refusal s e ≡ None
   pub late : other_refusal s e ≡ None
-  pub allowed : IsAllowed s e choice
+  pub allowed : IsAllowedChoice s e choice
 
 -- the desks as they were, or as the event leaves them; no later reply shows which
-abbrev pub HaltedDesks : State → Event → Choice → Desks → Type 0
-HaltedDesks s e choice desks = (desks ≡ s.desks) ⊎ (desks ≡ (after s e choice).desks)
+abbrev pub HaltedProcesses : State → Event → Choice → ProcessTable → Type 0
+HaltedProcesses s e choice processes = (processes ≡ s.processes) ⊎ (processes ≡ (after s e choice).processes)
 
 -- From old, the machine may give this reply to an event and go on to new.
 pub data Answers (old : State) (e : Event) (reply : Reply) (new : State) : Type 0 where
@@ -243,8 +243,8 @@ pub data Answers (old : State) (e : Event) (reply : Reply) (new : State) : Type 
       → reply ≡ Refused (Failed EIO) → new ≡ old → Answers old e reply new
   -- a write or a sync fails, and the machine halts with its tree as it was
   write_fails : (choice : Choice) → Acts old e choice → reply ≡ Refused (Failed EIO)
-      → (desks : Desks) → HaltedDesks old e choice desks
-      → new ≡ record old { desks = desks; halted = true } → Answers old e reply new
+      → (processes : ProcessTable) → HaltedProcesses old e choice processes
+      → new ≡ record old { processes = processes; halted = true } → Answers old e reply new
 
 -- one step of the machine
 abbrev pub Step : State → Event → Reply → State → Type 0

@@ -62,7 +62,7 @@ pub record Halts (old : State) (e : Event) (new : State) (choice : Choice) : Typ
 
 -- what a stop leaves: one of the trees, pruned, and no process
 abbrev pub stopped : State → Tree → ℕ → State
-stopped s t free = record { room = s.room; tree = pruned t; desks = []; free = free; now = 0; halted = false }
+stopped s t free = record { room = s.room; tree = pruned t; processes = []; free = free; now = 0; halted = false }
 
 pub record Stops (m : Machine) (s : State) : Type 0 where
   pub tree : Tree

@@ -9,7 +9,7 @@ use Rattle.fs_model.specs.declared.walk.Form.{Form}
 use Rattle.fs_model.specs.declared.walk.Form.TheVariants.{Follow, NoFollow, Parent}
 use Rattle.fs_model.specs.Limits.{links_limit}
 use Rattle.fs_layout.specs.Maps.{name_cmp, get}
-use Rattle.fs_model.specs.Nodes.{Node, Body, Link, is_directory, names_in}
+use Rattle.fs_model.specs.Nodes.{Node, Body, Link, is_directory, names_of_body}
 use Rattle.fs_model.specs.Trees.{Tree, Room, node_at, parent}
 use Rattle.fs_model.specs.Parts.{Parts, parts_of, start_of, is_empty}
 
@@ -70,7 +70,7 @@ looked_up room t is_last follow dir name None = Faulty ENOTDIR
 looked_up room t is_last follow dir name (Some node) =
     if not (is_directory node.body) then Faulty ENOTDIR
     else (if nat_lt room.name_limit (length name) then Faulty ENAMETOOLONG
-    else arrival t is_last follow (named_inode t dir (names_in node.body) name))
+    else arrival t is_last follow (named_inode t dir (names_of_body node.body) name))
 
 abbrev pub after_lookup : ℕ → List ℕ → Trail → Trail
 after_lookup dir name trail =

@@ -11,9 +11,9 @@ use Rattle.fs_layout.specs.Maps.{name_cmp, with_entry, without}
 use Rattle.fs_model.specs.declared.reply.Stamps.{Stamps}
 use Rattle.fs_model.specs.declared.touch.Touch.{Touch}
 use Rattle.fs_model.specs.declared.touch.Touch.TheVariants.{Untouched, Changed, Modified, Born}
-use Rattle.fs_model.specs.Nodes.{Node, Body, File, names_in, with_names}
+use Rattle.fs_model.specs.Nodes.{Node, Body, File, names_of_body, with_names}
 use Rattle.fs_model.specs.Trees.{Tree, Room, node_at, with_node, names_of, lookup}
-use Rattle.fs_model.specs.Processes.{Desks, is_open}
+use Rattle.fs_model.specs.Processes.{ProcessTable, is_open}
 
 -- what becomes of a node's times
 abbrev pub touch_at : ℕ → Touch → Stamps → Stamps
@@ -40,7 +40,7 @@ pub data Change : Type 0 where
 -- the tree in which the names of a directory are changed so
 abbrev pub with_names_at : Tree → ℕ → (List (List ℕ × ℕ) → List (List ℕ × ℕ)) → Option Node → Tree
 with_names_at t dir f None = t
-with_names_at t dir f (Some node) = with_node t dir (record node { body = with_names (f (names_in node.body)) node.body })
+with_names_at t dir f (Some node) = with_node t dir (record node { body = with_names (f (names_of_body node.body)) node.body })
 
 abbrev pub named : Tree → ℕ → List ℕ → ℕ → Tree
 named t dir name n = with_names_at t dir (λ names. with_entry name_cmp names name n) (node_at t dir)
@@ -98,13 +98,13 @@ touched now (e ∷ es) t = touched now es (restamped (touch_one now e) t)
 -- ---- what is dropped
 
 -- a file lives as long as it is open; nothing else but the root lives without a name
-abbrev pub lives_nameless : Desks → ℕ → Body → Bool
-lives_nameless desks n (File _ _) = is_open desks n
-lives_nameless desks n _ = n == root
+abbrev pub lives_nameless : ProcessTable → ℕ → Body → Bool
+lives_nameless processes n (File _ _) = is_open processes n
+lives_nameless processes n _ = n == root
 
 -- what has no name and doesn't live without one leaves the tree
-abbrev pub swept : Tree → Desks → Tree
-swept t desks = filter (λ e. not (names_of t e.0 == 0) || lives_nameless desks e.0 e.1.body) t
+abbrev pub swept : Tree → ProcessTable → Tree
+swept t processes = filter (λ e. not (names_of t e.0 == 0) || lives_nameless processes e.0 e.1.body) t
 
 -- without its nameless files: what is left where nobody has anything open
 abbrev pub pruned : Tree → Tree

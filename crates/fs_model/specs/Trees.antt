@@ -13,7 +13,7 @@ use Rattle.fs_layout.specs.Directories.{IsName}
 use Rattle.fs_model.specs.Limits.{root, target_limit}
 use Rattle.fs_layout.specs.Maps.{name_cmp, get, with_entry, IsMap}
 use Rattle.fs_model.specs.declared.reply.Stamps.{Stamps}
-use Rattle.fs_model.specs.Nodes.{no_stamps, Node, Body, File, Dir, Link, Directory, is_directory, names_in, sectors_of}
+use Rattle.fs_model.specs.Nodes.{no_stamps, Node, Body, File, Dir, Link, Directory, is_directory, names_of_body, sectors_of}
 
 abbrev pub Tree : Type 0
 Tree = List (ℕ × Node)
@@ -26,7 +26,7 @@ with_node t n node = with_entry nat_cmp t n node
 
 -- the names in one directory, and in the whole tree, that lead to n
 abbrev pub names_for : ℕ → Body → ℕ
-names_for n b = count_by (λ e. e.1 == n) (names_in b)
+names_for n b = count_by (λ e. e.1 == n) (names_of_body b)
 
 abbrev pub names_of : Tree → ℕ → ℕ
 names_of t n = sum_by (λ e. names_for n e.1.body) t
@@ -39,7 +39,7 @@ parent (e ∷ t) d = if nat_lt 0 (names_for d e.1.body) then e.0 else parent t d
 -- what a name in a directory leads to
 abbrev pub lookup_in : Option Node → List ℕ → Option ℕ
 lookup_in None name = None
-lookup_in (Some node) name = get name_cmp (names_in node.body) name
+lookup_in (Some node) name = get name_cmp (names_of_body node.body) name
 
 abbrev pub lookup : Tree → ℕ → List ℕ → Option ℕ
 lookup t dir name = lookup_in (node_at t dir) name

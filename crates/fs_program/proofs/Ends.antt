@@ -3,10 +3,10 @@ use Rattle.std.proofs.Common.{◌≡◌, inl, inr, ℕ, List, None, Some, Result
 use Rattle.std.specs.Prelude.{OnOk, IsTrue, is_ok, if◌then◌else◌}
 use Rattle.std.specs.Io.KnownBytes.{Appends}
 use Rattle.sector_disk.specs.Disk.{DiskState}
-use Rattle.fs_layout.specs.declared.place.Place.{Place}
+use Rattle.fs_layout.specs.declared.geometry.Geometry.{Geometry}
 use Rattle.fs_layout.specs.declared.version.Version.{Version}
-use Rattle.fs_layout.specs.Place.{IsPlace, laid_out, new_header, the_place}
-use Rattle.fs_layout.proofs.Places.{place_is_laid_out, place_is_place}
+use Rattle.fs_layout.specs.Geometry.{IsGeometry, laid_out, new_header, the_geometry}
+use Rattle.fs_layout.proofs.Places.{geometry_is_laid_out, is_a_geometry}
 use Rattle.fs_model.specs.States.{State}
 use Rattle.fs_model.specs.declared.event.Event.TheVariants.{Sync}
 use Rattle.fs_model.specs.declared.reply.Reply.{Reply}
@@ -16,7 +16,7 @@ use Rattle.fs_system.specs.Playing.{HasDisk, IsConfig}
 use Rattle.fs_system.specs.Histories.{Config, Up, Off}
 use Rattle.fs_system.specs.Mounts.{Mounts}
 use Rattle.fs_system.specs.Seen.{System, disk_in, IsIn}
-use Rattle.fs_images.proofs.MakingRefusals.{place_or_too_small}
+use Rattle.fs_images.proofs.MakingRefusals.{geometry_or_too_small}
 use Rattle.fs_system.proofs.Played.{seen_in, the_disk}
 use Rattle.fs_shell.specs.Runs.{Ran}
 use Rattle.fs_shell.specs.declared.answer.Count.{Count}
@@ -37,24 +37,24 @@ tells w line (Err e) status told wrote is = inr (ap Ok is)
 -- ---- a layout
 
 -- a disk of so many sectors has it
-pub placed : (version : Version) (sectors inodes size : ℕ) (place : Place) → the_place version sectors inodes ≡ Some place → size ≡ place.sectors
-    → the_place place.version size place.inodes ≡ Some place
-placed version sectors inodes size place has same =
-    let is = place_is_laid_out sectors inodes has in
-    ap (λ (p : Place). the_place p.version size p.inodes) is
-    ∙ ap (λ (n : ℕ). the_place version n inodes) (same ∙ ap (λ (p : Place). p.sectors) is) ∙ has
+pub placed : (version : Version) (sectors inodes size : ℕ) (geometry : Geometry) → the_geometry version sectors inodes ≡ Some geometry → size ≡ geometry.sectors
+    → the_geometry geometry.version size geometry.inodes ≡ Some geometry
+placed version sectors inodes size geometry has same =
+    let is = geometry_is_laid_out sectors inodes has in
+    ap (λ (p : Geometry). the_geometry p.version size p.inodes) is
+    ∙ ap (λ (n : ℕ). the_geometry version n inodes) (same ∙ ap (λ (p : Geometry). p.sectors) is) ∙ has
 
 -- where there is one, mkfs refuses nothing
-pub refuses_nothing : (version : Version) (sectors inodes : ℕ) (place : Place) → the_place version sectors inodes ≡ Some place
+pub refuses_nothing : (version : Version) (sectors inodes : ℕ) (geometry : Geometry) → the_geometry version sectors inodes ≡ Some geometry
     → mkfs_refusal version sectors inodes ≡ None
-refuses_nothing version sectors inodes place has =
-    let is : IsPlace (laid_out version sectors inodes) =
-    subst IsPlace (place_is_laid_out sectors inodes has) (place_is_place version (new_header version sectors inodes) sectors inodes has) in
-    (place_or_too_small version sectors inodes (record {
+refuses_nothing version sectors inodes geometry has =
+    let is : IsGeometry (laid_out version sectors inodes) =
+    subst IsGeometry (geometry_is_laid_out sectors inodes has) (is_a_geometry version (new_header version sectors inodes) sectors inodes has) in
+    (geometry_or_too_small version sectors inodes (record {
       size = record { least = is.least_sectors; most = is.most_sectors };
       least = is.least_inodes;
       most = is.most_inodes;
-    }) (Some place) (sym has)).0
+    }) (Some geometry) (sym has)).0
 
 -- ---- runs
 

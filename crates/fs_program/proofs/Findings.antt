@@ -2,7 +2,7 @@
 use Rattle.std.proofs.Common.{ℕ, arith}
 use Rattle.std.specs.Prelude.{◌≤◌}
 use Rattle.fs_layout.specs.Bytes.{SectorMap}
-use Rattle.fs_model.specs.Rules.{ImageRule, InodeBits, Inodes, InData, OwnedOnce, BlockBits, LaidOut, Acls, Slots, NamesApart, Names, Parents, Ways, rule_number, IsFinding, no_place, no_commit, fails}
+use Rattle.fs_model.specs.Rules.{ImageRule, InodeBits, Inodes, InData, OwnedOnce, BlockBits, LaidOut, Acls, Slots, NamesApart, Names, Parents, Ways, rule_number, IsFinding, no_geometry, no_commit, fails}
 
 numbered : (r : ImageRule) → (1 ≤ rule_number r) × (rule_number r ≤ 14)
 numbered InodeBits = (omega arith, omega arith)
@@ -19,6 +19,6 @@ numbered Parents = (omega arith, omega arith)
 numbered Ways = (omega arith, omega arith)
 
 pub rule_in_range : {sectors : ℕ} {image : SectorMap} {rule at : ℕ} → IsFinding sectors image rule at → (1 ≤ rule) × (rule ≤ 14)
-rule_in_range (no_place none) = (omega arith, omega arith)
-rule_in_range (no_commit place none) = (omega arith, omega arith)
-rule_in_range (fails p r at place commit before least) = numbered r
+rule_in_range (no_geometry none) = (omega arith, omega arith)
+rule_in_range (no_commit geometry none) = (omega arith, omega arith)
+rule_in_range (fails p r at geometry commit before least) = numbered r

@@ -2,10 +2,10 @@
 use Rattle.std.specs.Prelude.{◌≡◌, ℕ, ◌+◌, ◌*◌, length, Ok}
 use Rattle.std.proofs.Common.{refl, ap, ◌∙◌, arith}
 use Rattle.sector_disk.specs.Disk.{DiskState, IsStable}
-use Rattle.fs_layout.specs.declared.place.Place.{Place}
+use Rattle.fs_layout.specs.declared.geometry.Geometry.{Geometry}
 use Rattle.fs_layout.specs.declared.version.Version.{Version}
-use Rattle.fs_layout.specs.Place.{laid_out}
-use Rattle.fs_layout.proofs.Places.{place_is_laid_out}
+use Rattle.fs_layout.specs.Geometry.{laid_out}
+use Rattle.fs_layout.proofs.Places.{geometry_is_laid_out}
 use Rattle.fs_model.specs.Nodes.{sectors_for}
 use Rattle.fs_model.specs.Trees.{Room, sectors_needed}
 use Rattle.fs_model.specs.TreeChanges.{pruned}
@@ -29,18 +29,18 @@ none_needed room = ap (λ (k : ℕ). 0 + ((sectors_for k + 0) + 0)) (none_of roo
 mounted_is_new : (before now : DiskState) (version : Version) (sectors inodes : ℕ) (s : State) → length before.seen ≡ sectors
     → IsNewDisk version inodes before.seen → Mounts before now s → IsNew version sectors inodes s
 mounted_is_new before now version sectors inodes s size new mounts =
-    let found = mounts.each (room_of new.place) empty_tree _ new.stands in
+    let found = mounts.each (room_of new.geometry) empty_tree _ new.stands in
     let is = found.is_mounted in
-    let place : new.place ≡ laid_out version sectors inodes =
-    place_is_laid_out (length before.seen) inodes new.has_place ∙ ap (λ (n : ℕ). laid_out version n inodes) size in
-    let room : s.room ≡ room_of new.place = ap (λ x. x.room) is in
+    let geometry : new.geometry ≡ laid_out version sectors inodes =
+    geometry_is_laid_out (length before.seen) inodes new.has_geometry ∙ ap (λ (n : ℕ). laid_out version n inodes) size in
+    let room : s.room ≡ room_of new.geometry = ap (λ x. x.room) is in
     let least = found.free.least in
     let most = found.free.most in
-    let same : s.room.sectors ≡ (room_of new.place).sectors = ap (λ r. r.sectors) room in
+    let same : s.room.sectors ≡ (room_of new.geometry).sectors = ap (λ r. r.sectors) room in
     record {
-      room = room ∙ ap (λ (p : Place). room_of p) place;
+      room = room ∙ ap (λ (p : Geometry). room_of p) geometry;
       tree = ap (λ x. x.tree) is;
-      desks = ap (λ x. x.desks) is;
+      processes = ap (λ x. x.processes) is;
       free = omega (arith, least, most, none_needed s.room, same);
       running = ap (λ x. x.halted) is;
     }

@@ -88,7 +88,7 @@ module _ {K : Type 0} (Does : K → Exchange → K → Type 0) where
       is_first = s.is_first;
       mounts = s.mounts;
       last = s.last;
-      serves = serves_anyhow (settings_of s.first.place own_rules s.start) s.first s.last s.begun after served s.serves;
+      serves = serves_anyhow (settings_of s.first.geometry own_rules s.start) s.first s.last s.begun after served s.serves;
       left = s.left;
       unmounts = s.unmounts;
     }) is
@@ -97,7 +97,7 @@ module _ {K : Type 0} (Does : K → Exchange → K → Type 0) where
 pub serves_on : {D K : Type 0} (state : D → DiskState) (Does : K → Exchange → K → Type 0) (disk left : D) (first last : System D) (own_rules : Bool)
     (before begun after : K) (start : Time) (settings : Settings) (served : Result (Unit {0}) ServeFault) (reply : Reply)
     → Does before (SeesTime start) begun → (m : (s : State) × IsIn state first s × Mounts (state disk) (disk_in state first.base) s)
-    → settings ≡ settings_of first.place own_rules start → ServingEnds state Does settings first last begun after served
+    → settings ≡ settings_of first.geometry own_rules start → ServingEnds state Does settings first last begun after served
     → HappensLast state last left Sync reply → ServesOn state Does disk own_rules before after served reply
 serves_on state Does disk left first last own_rules before begun after start settings served reply sees m is serves unmounts = record {
   start = start;

@@ -6,9 +6,9 @@
 --     ImagePackEnds, ImageUnpackEnds        the same of images
 use Rattle.std.specs.Prelude.{◌≡◌, ℕ, List, map, None, Some, Result, Ok, Err}
 use Rattle.sector_disk.specs.Disk.{DiskState, IsFresh, IsStable}
-use Rattle.fs_layout.specs.declared.place.Place.{Place}
+use Rattle.fs_layout.specs.declared.geometry.Geometry.{Geometry}
 use Rattle.fs_layout.specs.declared.version.Version.TheVariants.{Three}
-use Rattle.fs_layout.specs.Place.{the_place}
+use Rattle.fs_layout.specs.Geometry.{the_geometry}
 use Rattle.fs_model.specs.States.{State}
 use Rattle.fs_model.specs.declared.event.Event.TheVariants.{Sync}
 use Rattle.fs_model.specs.declared.event.EventReply.TheVariants.{Reply as Replies}
@@ -74,14 +74,14 @@ pub record CopiesOn {D : Type 0} (state : D → DiskState) (disk : D) (Are : Lis
   pub unmounts : Does (state last) (state left) t Sync reply u
 
 -- A disk is to be made a file system with the tree of a directory: all of the tree is there, and stable, where that is done.
-pub data PackEnds {D : Type 0} (state : D → DiskState) (old : D) (place : Place) (result : Result Status Failure) : Type 0 where
+pub data PackEnds {D : Type 0} (state : D → DiskState) (old : D) (geometry : Geometry) (result : Result Status Failure) : Type 0 where
   cannot_make : (now : D) (fault : MkfsFault) → IsDeviceFault (state old) (state now) fault → result ≡ Err (failures.Mkfs fault)
-      → PackEnds state old place result
-  cannot_mount : (made now : D) (fault : MountFault) → IsNewDisk place.version place.inodes (state made).seen → IsStable (state made)
-      → IsNotMounted (state made) (state now) fault → result ≡ Err (failures.Mount fault) → PackEnds state old place result
-  has_packed : (made : D) (packed : Result Copied CopyFault) (reply : Reply) → IsNewDisk place.version place.inodes (state made).seen
+      → PackEnds state old geometry result
+  cannot_mount : (made now : D) (fault : MountFault) → IsNewDisk geometry.version geometry.inodes (state made).seen → IsStable (state made)
+      → IsNotMounted (state made) (state now) fault → result ≡ Err (failures.Mount fault) → PackEnds state old geometry result
+  has_packed : (made : D) (packed : Result Copied CopyFault) (reply : Reply) → IsNewDisk geometry.version geometry.inodes (state made).seen
       → IsStable (state made) → CopiesOn state made (λ asked. ArePacking asked packed) reply → result ≡ copy_end failures.Pack packed reply
-      → PackEnds state old place result
+      → PackEnds state old geometry result
 
 -- The tree of a disk is to be copied to a new directory.
 pub data UnpackEnds {D : Type 0} (state : D → DiskState) (old : D) (result : Result Status Failure) : Type 0 where
@@ -92,12 +92,12 @@ pub data UnpackEnds {D : Type 0} (state : D → DiskState) (old : D) (result : R
 
 -- An image of the third layout is to be made with the tree of a directory. Where that can't be, no file is made but in the last case.
 pub data ImagePackEnds {D : Type 0} (state : D → DiskState) (sectors inodes : ℕ) (result : Result Status Failure) : Type 0 where
-  has_no_place : the_place Three sectors inodes ≡ None → result ≡ Err (failures.Mkfs TooSmall) → ImagePackEnds state sectors inodes result
+  has_no_geometry : the_geometry Three sectors inodes ≡ None → result ≡ Err (failures.Mkfs TooSmall) → ImagePackEnds state sectors inodes result
   has_no_directory : result ≡ Err (failures.Pack NoDirectory) → ImagePackEnds state sectors inodes result
   is_there : result ≡ Err failures.Exists → ImagePackEnds state sectors inodes result
   cannot_create : result ≡ Err failures.NotCreated → ImagePackEnds state sectors inodes result
-  packs : (disk : D) (place : Place) → the_place Three sectors inodes ≡ Some place → (state disk).size ≡ sectors
-      → PackEnds state disk place result → ImagePackEnds state sectors inodes result
+  packs : (disk : D) (geometry : Geometry) → the_geometry Three sectors inodes ≡ Some geometry → (state disk).size ≡ sectors
+      → PackEnds state disk geometry result → ImagePackEnds state sectors inodes result
 
 -- The tree of an image is to be copied to a new directory.
 pub data ImageUnpackEnds {D : Type 0} (state : D → DiskState) (result : Result Status Failure) : Type 0 where

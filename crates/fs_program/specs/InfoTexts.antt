@@ -17,10 +17,10 @@ pub data Value : Type 0 where
 -- the version and the size
 abbrev pub size_fields : Info → List (List ℕ × Value)
 size_fields i =
-    (codes "version", Number (version_number i.place.version))
-    ∷ (codes "sectors", Number i.place.sectors)
-    ∷ (codes "bytes", Number (512 * i.place.sectors))
-    ∷ (codes "inodes", Number i.place.inodes)
+    (codes "version", Number (version_number i.geometry.version))
+    ∷ (codes "sectors", Number i.geometry.sectors)
+    ∷ (codes "bytes", Number (512 * i.geometry.sectors))
+    ∷ (codes "inodes", Number i.geometry.inodes)
     ∷ []
 
 -- what is free
@@ -30,15 +30,15 @@ free_fields i = (codes "free_sectors", Number i.free_sectors) ∷ (codes "free_i
 -- the limits of the version
 abbrev pub limit_fields : Info → List (List ℕ × Value)
 limit_fields i =
-    (codes "max_name", Number (max_name i.place.version))
-    ∷ (codes "max_directory_names", Number (max_names i.place.version))
-    ∷ (codes "max_links", Number (max_inode_names i.place.version))
-    ∷ (codes "max_file_size", Number (max_file_size i.place.version))
+    (codes "max_name", Number (max_name i.geometry.version))
+    ∷ (codes "max_directory_names", Number (max_names i.geometry.version))
+    ∷ (codes "max_links", Number (max_inode_names i.geometry.version))
+    ∷ (codes "max_file_size", Number (max_file_size i.geometry.version))
     ∷ []
 
 -- whether times are kept, and a commit waits
 abbrev pub state_fields : Info → List (List ℕ × Value)
-state_fields i = (codes "keeps_times", Truth (keeps_times i.place.version)) ∷ (codes "pending", Truth i.pending) ∷ []
+state_fields i = (codes "keeps_times", Truth (keeps_times i.geometry.version)) ∷ (codes "pending", Truth i.pending) ∷ []
 
 -- ---- for people
 
@@ -46,12 +46,12 @@ abbrev pub plain_text : Value → List ℕ
 plain_text (Number n) = decimal n
 plain_text (Truth b) = yes_text b
 
-abbrev pub lines_of : List (List ℕ × Value) → List ℕ
-lines_of [] = []
-lines_of (f ∷ fs) = f.0 ++ (codes " " ++ (plain_text f.1 ++ (codes "\n" ++ lines_of fs)))
+abbrev pub info_lines : List (List ℕ × Value) → List ℕ
+info_lines [] = []
+info_lines (f ∷ fs) = f.0 ++ (codes " " ++ (plain_text f.1 ++ (codes "\n" ++ info_lines fs)))
 
 abbrev pub lines_text : Info → List ℕ
-lines_text i = lines_of (size_fields i) ++ lines_of (free_fields i) ++ lines_of (limit_fields i) ++ lines_of (state_fields i)
+lines_text i = info_lines (size_fields i) ++ info_lines (free_fields i) ++ info_lines (limit_fields i) ++ info_lines (state_fields i)
 
 -- ---- for programs
 

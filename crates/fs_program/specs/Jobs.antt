@@ -12,7 +12,7 @@ use Rattle.std.specs.Io.KnownBytes.{Appends}
 use Rattle.sector_disk.specs.Disk.{DiskState, IsFresh, IsStable, LeavesOnly, OnlyReads}
 use Rattle.fs_layout.specs.declared.version.Version.{Version}
 use Rattle.fs_layout.specs.declared.version.Version.TheVariants.{Two, Three}
-use Rattle.fs_layout.specs.Place.{laid_out, the_place}
+use Rattle.fs_layout.specs.Geometry.{laid_out, the_geometry}
 use Rattle.fs_model.specs.States.{State}
 use Rattle.fs_model.specs.declared.event.Event.TheVariants.{Sync}
 use Rattle.fs_model.specs.declared.reply.Reply.{Reply}
@@ -21,7 +21,7 @@ use Rattle.fs_check.specs.Checks.{IsClean, IsFirst, IsReason, IsNone}
 use Rattle.fs_check.specs.declared.faults.CheckFault.{CheckFault}
 use Rattle.fs_check.specs.declared.faults.Finding.{Finding}
 use Rattle.fs_check.specs.declared.faults.Summary.{Summary}
-use Rattle.fs_info.specs.Infos.{IsInfo, IsReason as IsInfoReason}
+use Rattle.fs_info.specs.Infos.{IsInfo, IsWhyNoInfo as IsInfoReason}
 use Rattle.fs_info.specs.declared.faults.InfoFault.{InfoFault}
 use Rattle.fs_info.specs.declared.info.Info.{Info}
 use Rattle.fs_system.specs.Doing.{Does}
@@ -155,7 +155,7 @@ pub record MemoryEnds {D : Type 0} (state : D → DiskState) (r : Reading) (w : 
 
 -- An image of this version is to be made.
 pub data ImageMkfsEnds {D : Type 0} (state : D → DiskState) (version : Version) (sectors inodes : ℕ) (w : Writing) (result : Result Status Failure) : Type 0 where
-  has_no_place : the_place version sectors inodes ≡ None → IsUndone w (failures.Mkfs TooSmall) result → ImageMkfsEnds state version sectors inodes w result
+  has_no_geometry : the_geometry version sectors inodes ≡ None → IsUndone w (failures.Mkfs TooSmall) result → ImageMkfsEnds state version sectors inodes w result
   exists : IsUndone w failures.Exists result → ImageMkfsEnds state version sectors inodes w result
   is_not_created : IsUndone w failures.NotCreated result → ImageMkfsEnds state version sectors inodes w result
   is_created : (old now : D) → (state old).size ≡ sectors → MkfsEnds (state old) (state now) version inodes w result

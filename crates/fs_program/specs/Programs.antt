@@ -5,7 +5,7 @@
 use Rattle.std.specs.Prelude.{◌≡◌, ℕ, List, [], Option, Result, Ok, Err, IsFalse, MatchResult}
 use Rattle.sector_disk.specs.Disk.{DiskState, IsStable}
 use Rattle.fs_layout.specs.declared.version.Version.{Version}
-use Rattle.fs_layout.specs.Place.{laid_out}
+use Rattle.fs_layout.specs.Geometry.{laid_out}
 use Rattle.fs_model.specs.Stands.{room_of}
 use Rattle.fs_model.specs.States.{State}
 use Rattle.fs_model.specs.NewDisk.{empty_tree}
@@ -25,7 +25,7 @@ use Rattle.fs_command.specs.declared.failure.Failure.TheVariants.{Exists, NotCre
 pub record IsNew (version : Version) (sectors inodes : ℕ) (s : State) : Type 0 where
   pub room : s.room ≡ room_of (laid_out version sectors inodes)
   pub tree : s.tree ≡ empty_tree
-  pub desks : s.desks ≡ []
+  pub processes : s.processes ≡ []
   pub free : s.free ≡ s.room.sectors
   pub running : IsFalse s.halted
 

@@ -5,7 +5,7 @@
 --     ImageFuseEnds        the job
 use Rattle.std.specs.Prelude.{◌≡◌, ◌-◌, Bool, not, List, ℕ, Option, IsSome, Result, Ok, Err}
 use Rattle.sector_disk.specs.Disk.{DiskState, IsFresh}
-use Rattle.fs_layout.specs.declared.place.Place.{Place}
+use Rattle.fs_layout.specs.declared.geometry.Geometry.{Geometry}
 use Rattle.fs_layout.specs.Version.{max_name, keeps_times}
 use Rattle.fs_model.specs.States.{State}
 use Rattle.fs_model.specs.declared.event.Event.TheVariants.{Sync}
@@ -28,15 +28,15 @@ use Rattle.fs_command.specs.declared.status.Status.TheVariants.{Done, Failed}
 
 -- Writes have up to 1 MiB. With its own rules the kernel judges no ACLs. All data sectors and all inodes are shown, and how long a
 -- name may be. The disk keeps times where its version does.
-abbrev pub settings_of : Place → Bool → Time → Settings
-settings_of place own_rules start = record {
+abbrev pub settings_of : Geometry → Bool → Time → Settings
+settings_of geometry own_rules start = record {
   max_write = 1048576;
   posix_acl = not own_rules;
   keeping = usually_kept;
-  sectors = place.sectors - place.first_data;
-  inodes = place.inodes;
-  max_name = max_name place.version;
-  keeps_times = keeps_times place.version;
+  sectors = geometry.sectors - geometry.first_data;
+  inodes = geometry.inodes;
+  max_name = max_name geometry.version;
+  keeps_times = keeps_times geometry.version;
   start = start;
 }
 
@@ -61,7 +61,7 @@ pub record ServesOn {D K : Type 0} (state : D → DiskState) (Does : K → Excha
   pub is_first : IsIn state first s
   pub mounts : Mounts (state disk) (disk_in state first.base) s
   pub last : System D
-  pub serves : ServingEnds state Does (settings_of first.place own_rules start) first last begun after served
+  pub serves : ServingEnds state Does (settings_of first.geometry own_rules start) first last begun after served
   pub left : D
   pub unmounts : HappensLast state last left Sync reply
 

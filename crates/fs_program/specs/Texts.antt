@@ -5,17 +5,17 @@
 --     version_text        which version it has
 use Rattle.std.specs.Prelude.{ℕ, ◌-◌, Bool, List, [], ◌++◌, codes, if◌then◌else◌}
 use Rattle.std.specs.Fmt.{decimal}
-use Rattle.fs_layout.specs.declared.place.Place.{Place}
+use Rattle.fs_layout.specs.declared.geometry.Geometry.{Geometry}
 use Rattle.fs_layout.specs.declared.version.Version.{Version}
 use Rattle.fs_layout.specs.Version.{version_number}
 use Rattle.fs_check.specs.declared.faults.Finding.{Finding}
 use Rattle.fs_check.specs.declared.faults.Summary.{Summary}
 use Rattle.fs_program.specs.Explanations.{explanation_text}
 
-abbrev pub made_text : Place → List ℕ
-made_text place =
-    codes "made " ++ decimal place.sectors ++ codes " sectors " ++ decimal place.inodes ++ codes " inodes "
-    ++ decimal (place.sectors - place.first_data) ++ codes " free\n"
+abbrev pub made_text : Geometry → List ℕ
+made_text geometry =
+    codes "made " ++ decimal geometry.sectors ++ codes " sectors " ++ decimal geometry.inodes ++ codes " inodes "
+    ++ decimal (geometry.sectors - geometry.first_data) ++ codes " free\n"
 
 abbrev pub kinds_text : Summary → List ℕ
 kinds_text s = codes "clean files " ++ decimal s.files ++ codes " dirs " ++ decimal s.dirs ++ codes " links " ++ decimal s.links

@@ -1,7 +1,7 @@
 //! Copies trees of the host to disks and from them.
 
 ghost use Rattle.std.specs.Prelude.{◌≡◌, Some};
-ghost use Rattle.fs_layout.specs.Place.{the_place};
+ghost use Rattle.fs_layout.specs.Geometry.{the_geometry};
 ghost use Rattle.fs_system.specs.Replies.{unmounted};
 ghost use Rattle.host_trees.specs.Copies.{ArePacking, AreUnpacking};
 ghost use Rattle.fs_command.specs.declared.failure.Failure.TheVariants.{Pack, Unpack};
@@ -10,7 +10,7 @@ ghost use Rattle.fs_program.specs.Copying.{MountedEnds, PackEnds, UnpackEnds, co
 use fs_command::{Failure, Status};
 use fs_cred::Errno;
 use fs_images::mkfs;
-use fs_layout::Place;
+use fs_layout::Geometry;
 use fs_model::{Event, Reply};
 use fs_system::Fs;
 use host_trees::{Copied, CopyFault, FileSystem, Given, pack, unpack};
@@ -65,16 +65,16 @@ impl<D: Disk + Drop> FileSystem for Copying<D> {
 pub(crate) fn pack_on_disk<R: Files + AllocGlobal, D: Disk + Drop, E: Write>(
     rt: &R,
     disk: D,
-    place: Place,
+    geometry: Geometry,
     from: &str,
     given: Given,
     err: &mut E,
 ) -> Result<Status, Failure>
-    requires { the_place place.version (D.state disk).size place.inodes ≡ Some place }
-    ensures { PackEnds D.state disk place result }
+    requires { the_geometry geometry.version (D.state disk).size geometry.inodes ≡ Some geometry }
+    ensures { PackEnds D.state disk geometry result }
 {
     let mut disk = disk;
-    if let Err(fault) = mkfs(&mut disk, place.version, place.inodes) {
+    if let Err(fault) = mkfs(&mut disk, geometry.version, geometry.inodes) {
         return Err(Failure::Mkfs(fault));
     }
     match Fs::mount(rt.alloc(), disk) {

@@ -8,7 +8,7 @@ ghost use Rattle.fs_program.specs.Denials.{request_name, name_asked, name_text, 
 use fs_cred::{Denial, Refusal};
 use fs_lines::{reply_text, word_text};
 use fs_model::Reply;
-use fuse_plans::{Response, Stop};
+use fuse_plans::{RequestError, Response};
 use fuse_protocol::{Operation, Request, Time};
 use fuse_serving::Witness;
 use std::alloc::{AllocError, Global};
@@ -36,7 +36,7 @@ impl<W> DenialList<W> {
 
 impl<W: Write> Witness for DenialList<W> {
     fn see(&mut self, request: &Request<'_>, response: &Response, now: Time) {
-        if let Response::Fails(Stop::Refuses(Refusal::Denied(denial))) = response {
+        if let Response::Fails(RequestError::Refuses(Refusal::Denied(denial))) = response {
             if let Some(out) = &mut self.out {
                 if let Ok(line) = denial_line(self.alloc, request, *denial, now) {
                     self.is_cut = write_line(out, self.is_cut, &line).is_err();

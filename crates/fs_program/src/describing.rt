@@ -3,7 +3,7 @@
 ghost use Rattle.std.specs.Prelude.{◌≡◌, OnOk, codes};
 ghost use Rattle.std.specs.Io.KnownBytes.{Appends};
 ghost use Rattle.sector_disk.specs.Disk.{OnlyReads};
-ghost use Rattle.fs_program.specs.InfoTexts.{size_fields, free_fields, limit_fields, state_fields, lines_of, lines_text, members_of, truth_text, json_text, info_text};
+ghost use Rattle.fs_program.specs.InfoTexts.{size_fields, free_fields, limit_fields, state_fields, info_lines, lines_text, members_of, truth_text, json_text, info_text};
 ghost use Rattle.fs_program.specs.Jobs.{InfoEnds};
 ghost use Rattle.fs_program.specs.Streams.{writing};
 
@@ -53,20 +53,20 @@ fn print_lines<O: Write>(info: &Info, out: &mut O) -> io::Result<()>
 }
 
 fn print_size_lines<O: Write>(info: &Info, out: &mut O) -> io::Result<()>
-    ensures { OnOk result (Appends (O.contents out.old) (O.contents out.new) (lines_of (size_fields info.now))) }
+    ensures { OnOk result (Appends (O.contents out.old) (O.contents out.new) (info_lines (size_fields info.now))) }
 {
     write!(
         out,
         "version {}\nsectors {}\nbytes {}\ninodes {}\n",
-        info.place.version.number(),
-        info.place.sectors,
-        SECTOR_BYTES * info.place.sectors as u64,
-        info.place.inodes
+        info.geometry.version.number(),
+        info.geometry.sectors,
+        SECTOR_BYTES * info.geometry.sectors as u64,
+        info.geometry.inodes
     )
 }
 
 fn print_free_lines<O: Write>(info: &Info, out: &mut O) -> io::Result<()>
-    ensures { OnOk result (Appends (O.contents out.old) (O.contents out.new) (lines_of (free_fields info.now))) }
+    ensures { OnOk result (Appends (O.contents out.old) (O.contents out.new) (info_lines (free_fields info.now))) }
 {
     write!(
         out,
@@ -76,25 +76,25 @@ fn print_free_lines<O: Write>(info: &Info, out: &mut O) -> io::Result<()>
 }
 
 fn print_limit_lines<O: Write>(info: &Info, out: &mut O) -> io::Result<()>
-    ensures { OnOk result (Appends (O.contents out.old) (O.contents out.new) (lines_of (limit_fields info.now))) }
+    ensures { OnOk result (Appends (O.contents out.old) (O.contents out.new) (info_lines (limit_fields info.now))) }
 {
     write!(
         out,
         "max_name {}\nmax_directory_names {}\nmax_links {}\nmax_file_size {}\n",
-        info.place.version.max_name(),
-        info.place.version.max_names(),
-        info.place.version.max_inode_names(),
-        info.place.version.max_file_size()
+        info.geometry.version.max_name(),
+        info.geometry.version.max_names(),
+        info.geometry.version.max_inode_names(),
+        info.geometry.version.max_file_size()
     )
 }
 
 fn print_state_lines<O: Write>(info: &Info, out: &mut O) -> io::Result<()>
-    ensures { OnOk result (Appends (O.contents out.old) (O.contents out.new) (lines_of (state_fields info.now))) }
+    ensures { OnOk result (Appends (O.contents out.old) (O.contents out.new) (info_lines (state_fields info.now))) }
 {
     write!(
         out,
         "keeps_times {}\npending {}\n",
-        yes_or_no(info.place.version.keeps_times()),
+        yes_or_no(info.geometry.version.keeps_times()),
         yes_or_no(info.pending)
     )
 }
@@ -118,10 +118,10 @@ fn print_size_members<O: Write>(info: &Info, out: &mut O) -> io::Result<()>
     write!(
         out,
         "{{\"version\":{},\"sectors\":{},\"bytes\":{},\"inodes\":{}",
-        info.place.version.number(),
-        info.place.sectors,
-        SECTOR_BYTES * info.place.sectors as u64,
-        info.place.inodes
+        info.geometry.version.number(),
+        info.geometry.sectors,
+        SECTOR_BYTES * info.geometry.sectors as u64,
+        info.geometry.inodes
     )
 }
 
@@ -141,10 +141,10 @@ fn print_limit_members<O: Write>(info: &Info, out: &mut O) -> io::Result<()>
     write!(
         out,
         ",\"max_name\":{},\"max_directory_names\":{},\"max_links\":{},\"max_file_size\":{}",
-        info.place.version.max_name(),
-        info.place.version.max_names(),
-        info.place.version.max_inode_names(),
-        info.place.version.max_file_size()
+        info.geometry.version.max_name(),
+        info.geometry.version.max_names(),
+        info.geometry.version.max_inode_names(),
+        info.geometry.version.max_file_size()
     )
 }
 
@@ -154,7 +154,7 @@ fn print_state_members<O: Write>(info: &Info, out: &mut O) -> io::Result<()>
     write!(
         out,
         ",\"keeps_times\":{},\"pending\":{}",
-        true_or_false(info.place.version.keeps_times()),
+        true_or_false(info.geometry.version.keeps_times()),
         true_or_false(info.pending)
     )
 }

@@ -3,7 +3,7 @@
 ghost use Rattle.std.specs.Prelude.{◌≡◌, ◌≤◌, OnOk, is_ok, if◌then◌else◌, Some, Ok};
 ghost use Rattle.std.specs.Io.KnownBytes.{Appends};
 ghost use Rattle.sector_disk.specs.Disk.{LeavesOnly, OnlyReads};
-ghost use Rattle.fs_layout.specs.Place.{IsPlace, the_place};
+ghost use Rattle.fs_layout.specs.Geometry.{IsGeometry, the_geometry};
 ghost use Rattle.fs_images.specs.Upgrading.{IsHalfUpgraded};
 ghost use Rattle.fs_program.specs.Jobs.{MkfsEnds, RunEnds, CheckEnds, UpgradeEnds, ended, run_status};
 ghost use Rattle.fs_program.specs.Streams.{reading, writing};
@@ -13,7 +13,7 @@ use crate::explaining::print_explanation;
 use fs_check::{CheckFault, Finding, Summary, check};
 use fs_command::{Failure, Status};
 use fs_images::{mkfs, upgrade};
-use fs_layout::{Place, Version};
+use fs_layout::{Geometry, Version};
 use fs_shell::{Count, RunFault, Watched, run};
 use fs_system::Fs;
 use sector_disk::Disk;
@@ -53,28 +53,28 @@ pub(crate) fn written(outcome: io::Result<()>, status: Status) -> Status
 /// Makes a file system on a disk that has the size of the layout.
 pub(crate) fn make_on_disk<D: Disk, O: Write>(
     disk: &mut D,
-    place: Place,
+    geometry: Geometry,
     out: &mut Watched<O>,
 ) -> Result<Status, Failure>
-    requires { the_place place.version (D.state disk.old).size place.inodes ≡ Some place }
-    ensures { MkfsEnds (D.state disk.old) (D.state disk.new) place.version place.inodes (writing O.contents out.old out.new) result }
+    requires { the_geometry geometry.version (D.state disk.old).size geometry.inodes ≡ Some geometry }
+    ensures { MkfsEnds (D.state disk.old) (D.state disk.new) geometry.version geometry.inodes (writing O.contents out.old out.new) result }
 {
-    if let Err(fault) = mkfs(disk, place.version, place.inodes) {
+    if let Err(fault) = mkfs(disk, geometry.version, geometry.inodes) {
         return Err(Failure::Mkfs(fault));
     }
-    Ok(written(print_made(place, out), Status::Done))
+    Ok(written(print_made(geometry, out), Status::Done))
 }
 
-fn print_made<O: Write>(place: Place, out: &mut O) -> io::Result<()>
-    requires { IsPlace place }
-    ensures { OnOk result (Appends (O.contents out.old) (O.contents out.new) (made_text place)) }
+fn print_made<O: Write>(geometry: Geometry, out: &mut O) -> io::Result<()>
+    requires { IsGeometry geometry }
+    ensures { OnOk result (Appends (O.contents out.old) (O.contents out.new) (made_text geometry)) }
 {
-    let Place {
+    let Geometry {
         sectors,
         inodes,
         first_data,
         ..
-    } = place;
+    } = geometry;
     let free = sectors - first_data;
     writeln!(out, "made {sectors} sectors {inodes} inodes {free} free")
 }

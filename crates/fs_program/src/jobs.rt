@@ -17,7 +17,7 @@ use crate::memory::run_in_memory;
 use crate::served::serve_on_disk;
 use fs_command::{Failure, Job, Status, Text, WordsFault, parse_words};
 use fs_images::MkfsFault;
-use fs_layout::{Version, place_of};
+use fs_layout::{Version, geometry_of};
 use fs_shell::Watched;
 use fuse_serving::Standard;
 use host_trees::{CopyFault, Given};
@@ -125,15 +125,15 @@ fn make_image<R: Files<File: DiskFile> + AllocGlobal, O: Write>(
 ) -> Result<Status, Failure>
     ensures { ImageMkfsEnds ⟦<FileDisk<R::File> as Disk>⟧.state version sectors inodes (writing O.contents out.old out.new) result }
 {
-    let Some(place) = place_of(version, sectors, inodes) else {
+    let Some(geometry) = geometry_of(version, sectors, inodes) else {
         return Err(Failure::Mkfs(MkfsFault::TooSmall));
     };
-    let mut disk = match FileDisk::create(rt, rt.alloc(), image.as_str(), place.sectors) {
+    let mut disk = match FileDisk::create(rt, rt.alloc(), image.as_str(), geometry.sectors) {
         Ok(disk) => disk,
         Err(FileFault::Exists) => return Err(Failure::Exists),
         Err(FileFault::Failed | FileFault::OutOfMemory) => return Err(Failure::NotCreated),
     };
-    make_on_disk(&mut disk, place, out)
+    make_on_disk(&mut disk, geometry, out)
 }
 
 // Makes an image of the third layout with the tree of a directory. Where that is none no file is made.
@@ -148,14 +148,14 @@ fn pack_image<R: Files<File: DiskFile> + AllocGlobal, E: Write>(
 ) -> Result<Status, Failure>
     ensures { ImagePackEnds ⟦<FileDisk<R::File> as Disk>⟧.state sectors inodes result }
 {
-    let Some(place) = place_of(Version::Three, sectors, inodes) else {
+    let Some(geometry) = geometry_of(Version::Three, sectors, inodes) else {
         return Err(Failure::Mkfs(MkfsFault::TooSmall));
     };
     if !is_directory(rt, from.as_str()) {
         return Err(Failure::Pack(CopyFault::NoDirectory));
     }
-    match create_image(rt, image, place.sectors) {
-        Ok(disk) => pack_on_disk(rt, disk, place, from.as_str(), given, err),
+    match create_image(rt, image, geometry.sectors) {
+        Ok(disk) => pack_on_disk(rt, disk, geometry, from.as_str(), given, err),
         Err(failure) => Err(failure),
     }
 }

@@ -6,7 +6,7 @@ ghost use Rattle.fs_program.specs.Serving.{FuseEnds, served_status, settings_of}
 use crate::disks::tell;
 use fs_command::{Failure, Status};
 use fs_fuse::serve_requests;
-use fs_layout::Place;
+use fs_layout::Geometry;
 use fs_system::Fs;
 use fuse_protocol::Time;
 use fuse_serving::{Kernel, ReplyRoom, ServeFault, Witness};
@@ -38,17 +38,17 @@ impl Rooms {
 }
 
 // What is agreed on with the kernel, and what is shown of the whole file system.
-fn settings_of(place: Place, own_rules: bool, start: Time) -> Settings
-    ensures { result ≡ settings_of place own_rules start }
+fn settings_of(geometry: Geometry, own_rules: bool, start: Time) -> Settings
+    ensures { result ≡ settings_of geometry own_rules start }
 {
     Settings {
         max_write: MAX_WRITE,
         posix_acl: !own_rules,
         keeping: Keeping::usual(),
-        sectors: place.sectors.saturating_sub(place.first_data),
-        inodes: place.inodes,
-        max_name: place.version.max_name() as u32,
-        keeps_times: place.version.keeps_times(),
+        sectors: geometry.sectors.saturating_sub(geometry.first_data),
+        inodes: geometry.inodes,
+        max_name: geometry.version.max_name() as u32,
+        keeps_times: geometry.version.keeps_times(),
         start,
     }
 }
@@ -75,7 +75,7 @@ pub(crate) fn serve_on_disk<D: Disk + Drop, K: Kernel, W: Witness, E: Write>(
         Ok(fs) => fs,
         Err((fault, _)) => return Err(Failure::Mount(fault)),
     };
-    let settings = settings_of(fs.place(), own_rules, start);
+    let settings = settings_of(fs.geometry(), own_rules, start);
     let Rooms { request, reply } = &mut rooms;
     let (served, fs) = serve_requests(alloc, fs, settings, kernel, witness, request, reply);
     let (_, errno) = fs.unmount();

@@ -12,7 +12,7 @@ use Rattle.fs_model.specs.declared.reply.Reply.TheVariants.{Done, Pid, Space, Re
 use Rattle.fs_model.specs.declared.event.Event.{Event}
 use Rattle.fs_model.specs.declared.event.Event.TheVariants.{Call as Calls, Spawn, Exit, Enter, Stamp, Clock, Fsync, Sync, Statfs, Arm, Restart}
 use Rattle.fs_model.specs.Trees.{Tree, free_inodes}
-use Rattle.fs_model.specs.Processes.{Process, Desks, new_process, descriptor, is_open}
+use Rattle.fs_model.specs.Processes.{Process, ProcessTable, new_process, descriptor, is_open}
 use Rattle.fs_model.specs.TreeChanges.{Same, swept}
 use Rattle.fs_model.specs.States.{State, IsState, MayBeFree}
 use Rattle.fs_model.specs.Steps.{Step, Choice, After, HasNewNumber, HasNewPid, Acts, is_of_machine, firm_refusal, other_refusal, after, tree_after}
@@ -30,22 +30,22 @@ halted_answers s e machine halted = (machine, step.is_halted halted refl refl)
 -- ---- where nothing refuses, and no node changes
 
 -- what was open is still open
-abbrev pub StaysOpen : Desks → Desks → Type 0
+abbrev pub StaysOpen : ProcessTable → ProcessTable → Type 0
 StaysOpen old new = (n : ℕ) → IsTrue (is_open old n) → IsTrue (is_open new n)
 
 module _ (s : State) (is : IsState s) (up : IsFalse s.halted) where
   -- what has no name is open, so that none is dropped
-  none_dropped : (desks : Desks) → StaysOpen s.desks desks → swept s.tree desks ≡ s.tree
-  none_dropped desks still = open_stays s.room s.tree s.desks desks is.tree (is.desks up) still
+  none_dropped : (processes : ProcessTable) → StaysOpen s.processes processes → swept s.tree processes ≡ s.tree
+  none_dropped processes still = open_stays s.room s.tree s.processes processes is.tree (is.processes up) still
 
   abbrev pub choice_of : ℕ → Choice
   choice_of pid = record { number = 0; pid = pid; free = s.free }
 
-  module _ (e : Event) (pid : ℕ) (reply : Reply) (desks : Desks) (time : ℕ) (still : StaysOpen s.desks desks) (machine : IsTrue (is_of_machine e))
+  module _ (e : Event) (pid : ℕ) (reply : Reply) (processes : ProcessTable) (time : ℕ) (still : StaysOpen s.processes processes) (machine : IsTrue (is_of_machine e))
       (firm : firm_refusal s e ≡ None) (other : other_refusal s e ≡ None)
-      (does : after s e (record { number = 0; pid = pid; free = s.free }) ≡ record { change = Same; desks = desks; reply = reply; now = time }) (new : HasNewPid s e pid) where
+      (does : after s e (record { number = 0; pid = pid; free = s.free }) ≡ record { change = Same; processes = processes; reply = reply; now = time }) (new : HasNewPid s e pid) where
     same_tree : tree_after s (after s e (choice_of pid)) ≡ s.tree
-    same_tree = ap (tree_after s) does ∙ none_dropped desks still
+    same_tree = ap (tree_after s) does ∙ none_dropped processes still
 
     acting : Acts s e (choice_of pid)
     acting = record {
@@ -59,55 +59,55 @@ module _ (s : State) (is : IsState s) (up : IsFalse s.halted) where
       };
     }
 
-    pub acts_alone : Step s e reply (record s { desks = desks; now = time })
+    pub acts_alone : Step s e reply (record s { processes = processes; now = time })
     acts_alone = (
       machine,
       step.acts (choice_of pid) acting
           (sym (ap (λ (a : After). a.reply) does))
-          (sym (ap (λ (t : Tree). record s { tree = t; desks = (after s e (choice_of pid)).desks; free = s.free; now = (after s e (choice_of pid)).now }) same_tree
-          ∙ ap (λ (a : After). record s { desks = a.desks; now = a.now }) does)),
+          (sym (ap (λ (t : Tree). record s { tree = t; processes = (after s e (choice_of pid)).processes; free = s.free; now = (after s e (choice_of pid)).now }) same_tree
+          ∙ ap (λ (a : After). record s { processes = a.processes; now = a.now }) does)),
     )
 
     -- a write or a sync fails
     pub halts_alone : Step s e (Refused (Failed EIO)) (record s { halted = true })
-    halts_alone = (machine, step.write_fails (choice_of pid) acting refl s.desks (inl refl) refl)
+    halts_alone = (machine, step.write_fails (choice_of pid) acting refl s.processes (inl refl) refl)
 
 -- ---- spawn
 
 module _ (s : State) (up : IsFalse s.halted) (cred : Credential) where
-  spawn_firm : length s.desks < 64 → firm_refusal s (Spawn cred) ≡ None
+  spawn_firm : length s.processes < 64 → firm_refusal s (Spawn cred) ≡ None
   unfolding firm_refusal
-  spawn_firm few = let t : nat_le 64 (length s.desks) ≡ false = grind (arith, nat_tests) in rw t refl
+  spawn_firm few = let t : nat_le 64 (length s.processes) ≡ false = grind (arith, nat_tests) in rw t refl
 
   spawn_other : other_refusal s (Spawn cred) ≡ None
   unfolding other_refusal
   spawn_other = refl
 
   spawn_after : (pid : ℕ) → after s (Spawn cred) (record { number = 0; pid = pid; free = s.free })
-      ≡ record { change = Same; desks = with_entry nat_cmp s.desks pid (new_process cred); reply = Pid pid; now = s.now }
+      ≡ record { change = Same; processes = with_entry nat_cmp s.processes pid (new_process cred); reply = Pid pid; now = s.now }
   unfolding after
   spawn_after pid = refl
 
   -- a new process has nothing open
-  spawn_stays : IsState s → (pid : ℕ) → get nat_cmp s.desks pid ≡ None → StaysOpen s.desks (with_entry nat_cmp s.desks pid (new_process cred))
+  spawn_stays : IsState s → (pid : ℕ) → get nat_cmp s.processes pid ≡ None → StaysOpen s.processes (with_entry nat_cmp s.processes pid (new_process cred))
   spawn_stays is pid new n was =
-      any_with_entry (has_open n) s.desks pid (new_process cred) is.pids
-      ∙ sym (ap (λ (d : Desks). is_open d n) (absent s.desks pid is.pids new)) ∙ was
+      any_with_entry (has_open n) s.processes pid (new_process cred) is.pids
+      ∙ sym (ap (λ (d : ProcessTable). is_open d n) (absent s.processes pid is.pids new)) ∙ was
 
-  pub spawns : (is : IsState s) (pid : ℕ) → get nat_cmp s.desks pid ≡ None → length s.desks < 64
-      → Step s (Spawn cred) (Pid pid) (record s { desks = with_entry nat_cmp s.desks pid (new_process cred) })
+  pub spawns : (is : IsState s) (pid : ℕ) → get nat_cmp s.processes pid ≡ None → length s.processes < 64
+      → Step s (Spawn cred) (Pid pid) (record s { processes = with_entry nat_cmp s.processes pid (new_process cred) })
   spawns is pid new few =
-      acts_alone s is up (Spawn cred) pid (Pid pid) (with_entry nat_cmp s.desks pid (new_process cred)) s.now (spawn_stays is pid new) refl
+      acts_alone s is up (Spawn cred) pid (Pid pid) (with_entry nat_cmp s.processes pid (new_process cred)) s.now (spawn_stays is pid new) refl
       (spawn_firm few) spawn_other (spawn_after pid) new
 
-  full : 64 ≤ length s.desks → firm_refusal s (Spawn cred) ≡ Some (Failed EAGAIN)
+  full : 64 ≤ length s.processes → firm_refusal s (Spawn cred) ≡ Some (Failed EAGAIN)
   unfolding firm_refusal
-  full many = let t : nat_le 64 (length s.desks) ≡ true = grind (arith, nat_tests) in rw t refl
+  full many = let t : nat_le 64 (length s.processes) ≡ true = grind (arith, nat_tests) in rw t refl
 
-  pub spawn_full : 64 ≤ length s.desks → Step s (Spawn cred) (Refused (Failed EAGAIN)) s
+  pub spawn_full : 64 ≤ length s.processes → Step s (Spawn cred) (Refused (Failed EAGAIN)) s
   spawn_full many = (refl, step.refuses_early up (Failed EAGAIN) (full many) refl refl)
 
-  pub spawn_unmade : length s.desks < 64 → Step s (Spawn cred) (Refused (Failed ENOMEM)) s
+  pub spawn_unmade : length s.processes < 64 → Step s (Spawn cred) (Refused (Failed ENOMEM)) s
   spawn_unmade few = (refl, step.lacks_memory up (spawn_firm few) refl refl refl)
 
 -- ---- sync and fsync
@@ -134,26 +134,26 @@ module _ (s : State) where
   unfolding other_refusal
   flush_other = flush_case (λ e. other_refusal s e ≡ None) (λ pid fd. refl) refl
 
-  flush_after : (e : Event) → IsTrue (asks_stable e) → after s e (record { number = 0; pid = 0; free = s.free }) ≡ record { change = Same; desks = s.desks; reply = Done; now = s.now }
+  flush_after : (e : Event) → IsTrue (asks_stable e) → after s e (record { number = 0; pid = 0; free = s.free }) ≡ record { change = Same; processes = s.processes; reply = Done; now = s.now }
   unfolding after
   flush_after =
-      flush_case (λ e. after s e (record { number = 0; pid = 0; free = s.free }) ≡ record { change = Same; desks = s.desks; reply = Done; now = s.now }) (λ pid fd. refl) refl
+      flush_case (λ e. after s e (record { number = 0; pid = 0; free = s.free }) ≡ record { change = Same; processes = s.processes; reply = Done; now = s.now }) (λ pid fd. refl) refl
 
   flush_pid : (e : Event) → IsTrue (asks_stable e) → HasNewPid s e 0
   flush_pid = flush_case (λ e. HasNewPid s e 0) (λ pid fd. tt) tt
 
   module _ (is : IsState s) (up : IsFalse s.halted) (e : Event) (asks : IsTrue (asks_stable e)) (firm : firm_refusal s e ≡ None) where
     pub flushes : Step s e Done s
-    flushes = acts_alone s is up e 0 Done s.desks s.now (λ n still. still) (flush_machine e asks) firm (flush_other e asks) (flush_after e asks) (flush_pid e asks)
+    flushes = acts_alone s is up e 0 Done s.processes s.now (λ n still. still) (flush_machine e asks) firm (flush_other e asks) (flush_after e asks) (flush_pid e asks)
 
     pub flush_halts : Step s e (Refused (Failed EIO)) (record s { halted = true })
-    flush_halts = halts_alone s is up e 0 Done s.desks s.now (λ n still. still) (flush_machine e asks) firm (flush_other e asks) (flush_after e asks) (flush_pid e asks)
+    flush_halts = halts_alone s is up e 0 Done s.processes s.now (λ n still. still) (flush_machine e asks) firm (flush_other e asks) (flush_after e asks) (flush_pid e asks)
 
   pub sync_firm : firm_refusal s Sync ≡ None
   unfolding firm_refusal
   sync_firm = refl
 
-  module _ (pid fd : ℕ) (p : Process) (there : get nat_cmp s.desks pid ≡ Some p) where
+  module _ (pid fd : ℕ) (p : Process) (there : get nat_cmp s.processes pid ≡ Some p) where
     pub fsync_firm : IsTrue (is_some (descriptor p fd)) → firm_refusal s (Fsync pid fd) ≡ None
     unfolding firm_refusal
     fsync_firm opened = rw there (rw opened refl)
@@ -165,7 +165,7 @@ module _ (s : State) where
     pub fsync_closed : IsFalse s.halted → IsFalse (is_some (descriptor p fd)) → Step s (Fsync pid fd) (Refused (Failed EBADF)) s
     fsync_closed up closed = (refl, step.refuses_early up (Failed EBADF) (fsync_bad closed) refl refl)
 
-  module _ (pid fd : ℕ) (none : get nat_cmp s.desks pid ≡ None) where
+  module _ (pid fd : ℕ) (none : get nat_cmp s.processes pid ≡ None) where
     fsync_gone : firm_refusal s (Fsync pid fd) ≡ Some (Failed ESRCH)
     unfolding firm_refusal
     fsync_gone = rw none refl
@@ -184,12 +184,12 @@ module _ (s : State) (up : IsFalse s.halted) (time : ℕ) where
   unfolding other_refusal
   time_other = refl
 
-  time_after : after s (Clock time) (record { number = 0; pid = 0; free = s.free }) ≡ record { change = Same; desks = s.desks; reply = Done; now = time }
+  time_after : after s (Clock time) (record { number = 0; pid = 0; free = s.free }) ≡ record { change = Same; processes = s.processes; reply = Done; now = time }
   unfolding after
   time_after = refl
 
   pub tells_time : IsState s → Step s (Clock time) Done (record s { now = time })
-  tells_time is = acts_alone s is up (Clock time) 0 Done s.desks time (λ n still. still) refl time_firm time_other time_after tt
+  tells_time is = acts_alone s is up (Clock time) 0 Done s.processes time (λ n still. still) refl time_firm time_other time_after tt
 
 -- ---- statfs
 
@@ -203,13 +203,13 @@ module _ (s : State) (up : IsFalse s.halted) where
   space_other = refl
 
   space_after : after s Statfs (record { number = 0; pid = 0; free = s.free })
-      ≡ record { change = Same; desks = s.desks; reply = Space s.free (free_inodes s.room s.tree); now = s.now }
+      ≡ record { change = Same; processes = s.processes; reply = Space s.free (free_inodes s.room s.tree); now = s.now }
   unfolding after
   space_after = refl
 
   pub tells_space : IsState s → Step s Statfs (Space s.free (free_inodes s.room s.tree)) s
   tells_space is =
-      acts_alone s is up Statfs 0 (Space s.free (free_inodes s.room s.tree)) s.desks s.now (λ n still. still) refl space_firm space_other space_after tt
+      acts_alone s is up Statfs 0 (Space s.free (free_inodes s.room s.tree)) s.processes s.now (λ n still. still) refl space_firm space_other space_after tt
 
   pub space_unread : Step s Statfs (Refused (Failed EIO)) s
   space_unread = (refl, step.read_fails up space_firm refl refl)

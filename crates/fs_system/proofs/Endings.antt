@@ -13,7 +13,7 @@ use Rattle.fs_cred.specs.declared.errno.Errno.{Errno}
 use Rattle.fs_cred.specs.declared.errno.Errno.TheVariants.{EIO, ESRCH}
 use Rattle.fs_cred.specs.declared.refusal.Refusal.{Refusal}
 use Rattle.fs_cred.specs.declared.refusal.Refusal.TheVariants.{Failed}
-use Rattle.fs_layout.specs.declared.place.Place.{Place}
+use Rattle.fs_layout.specs.declared.geometry.Geometry.{Geometry}
 use Rattle.fs_layout.specs.Bytes.{SectorMap}
 use Rattle.fs_layout.specs.Images.{free_sectors}
 use Rattle.fs_layout.specs.Maps.{get, without}
@@ -23,7 +23,7 @@ use Rattle.fs_model.specs.declared.reply.Reply.TheVariants.{Done, Refused}
 use Rattle.fs_model.specs.declared.event.Event.{Event}
 use Rattle.fs_model.specs.declared.event.Event.TheVariants.{Call as Calls, Exit}
 use Rattle.fs_model.specs.Trees.{Tree, Room, IsTree}
-use Rattle.fs_model.specs.Processes.{Process, Desks}
+use Rattle.fs_model.specs.Processes.{Process, ProcessTable}
 use Rattle.fs_model.specs.TreeChanges.{Change, Same, changed, touches, touched, swept}
 use Rattle.fs_model.specs.States.{State, MayBeFree}
 use Rattle.fs_model.specs.Stands.{HoldsAll, placed}
@@ -47,7 +47,7 @@ use Rattle.fs_system.proofs.Joining.{HoldsCounted}
 
 -- ---- a call in a state
 
-module _ (s : State) (pid : ℕ) (q : Process) (call : Call) (there : get nat_cmp s.desks pid ≡ Some q) where
+module _ (s : State) (pid : ℕ) (q : Process) (call : Call) (there : get nat_cmp s.processes pid ≡ Some q) where
   early_is : firm_refusal s (Calls pid call) ≡ early_refusal q (row_of call)
   unfolding firm_refusal
   early_is = rw there refl
@@ -61,37 +61,37 @@ module _ (s : State) (pid : ℕ) (q : Process) (call : Call) (there : get nat_cm
   after_is choice = rw there refl
 
 -- a call that nothing refuses early has its process
-has_process : (s : State) (pid : ℕ) (call : Call) → firm_refusal s (Calls pid call) ≡ None → (q : Process) × (get nat_cmp s.desks pid ≡ Some q)
+has_process : (s : State) (pid : ℕ) (call : Call) → firm_refusal s (Calls pid call) ≡ None → (q : Process) × (get nat_cmp s.processes pid ≡ Some q)
 unfolding firm_refusal
-has_process s pid call firm = go (get nat_cmp s.desks pid) refl firm
+has_process s pid call firm = go (get nat_cmp s.processes pid) refl firm
   where
-    go : (o : Option Process) → get nat_cmp s.desks pid ≡ o → demand_of (λ p. early_refusal p (row_of call)) o ≡ None
-        → (q : Process) × (get nat_cmp s.desks pid ≡ Some q)
+    go : (o : Option Process) → get nat_cmp s.processes pid ≡ o → demand_of (λ p. early_refusal p (row_of call)) o ≡ None
+        → (q : Process) × (get nat_cmp s.processes pid ≡ Some q)
     go None e none = absurd cc
     go (Some q) e none = (q, e)
 
 -- ---- where nothing refused it
 
 -- the tree after a change, in which times have moved to the present
-abbrev pub tree_then : State → Change → Desks → Tree
-tree_then s change desks = touched s.now (touches s.room s.tree change) (swept (changed s.tree change) desks)
+abbrev pub tree_then : State → Change → ProcessTable → Tree
+tree_then s change processes = touched s.now (touches s.room s.tree change) (swept (changed s.tree change) processes)
 
 -- Nothing refuses the event, which makes nothing stable. It gives this reply and leaves these processes and the time, and the map
 -- holds the tree after it.
-pub record IsPerformed (p : Place) (map : SectorMap) (now : Desks) (s : State) (e : Event) (reply : Reply) : Type 0 where
+pub record IsPerformed (p : Geometry) (map : SectorMap) (now : ProcessTable) (s : State) (e : Event) (reply : Reply) : Type 0 where
   pub machine : IsTrue (is_of_machine e)
   pub unstable : IsFalse (asks_stable e)
   pub early : firm_refusal s e ≡ None
   pub late : other_refusal s e ≡ None
   pub number : ℕ
   pub change : Change
-  pub effect : (free : ℕ) → after s e (chosen number free) ≡ record { change = change; desks = now; reply = reply; now = s.now }
+  pub effect : (free : ℕ) → after s e (chosen number free) ≡ record { change = change; processes = now; reply = reply; now = s.now }
   pub new_number : HasNewNumber s change
   pub new_pid : HasNewPid s e 0
   pub left : MayBeLeft s.room (changed s.tree change) now
   pub holds : HoldsAll p map (placed (tree_then s change now))
 
-pub call_performed : {p : Place} {time : ℕ} {map old_map : SectorMap} {now before : Desks} {s : State} {pid : ℕ} {call : Call} {reply : Reply}
+pub call_performed : {p : Geometry} {time : ℕ} {map old_map : SectorMap} {now before : ProcessTable} {s : State} {pid : ℕ} {call : Call} {reply : Reply}
     → IsStateOf p old_map before s → s.now ≡ time → IsCall call → IsDone p time map now s pid call reply → IsPerformed p map now s (Calls pid call) reply
 call_performed {p} {time} {map} {old_map} {now} {before} {s} {pid} {call} {reply} at told is_call d = record {
   machine = refl;
@@ -103,7 +103,7 @@ call_performed {p} {time} {map} {old_map} {now} {before} {s} {pid} {call} {reply
   effect = λ free. after_is s pid q call there (chosen d.number free) ∙ by_row;
   new_number = d.new_number;
   new_pid = tt;
-  left = subst (λ (a : After). MayBeLeft s.room (changed s.tree a.change) a.desks) by_row
+  left = subst (λ (a : After). MayBeLeft s.room (changed s.tree a.change) a.processes) by_row
       (process_leaves s pid q call d.number at.is_state at.up there is_call (sym (early_is s pid q call there) ∙ d.early)
       (sym (late_is s pid q call there) ∙ d.late) (subst (λ (a : After). HasNewNumber s a.change) (sym by_row) d.new_number));
   holds = subst (λ k. HoldsAll p map (placed (touched k (touches s.room s.tree d.change) (swept (changed s.tree d.change) now)))) (sym told) d.holds;
@@ -112,13 +112,13 @@ call_performed {p} {time} {map} {old_map} {now} {before} {s} {pid} {call} {reply
     q : Process
     q = (has_process s pid call d.early).0
 
-    there : get nat_cmp s.desks pid ≡ Some q
+    there : get nat_cmp s.processes pid ≡ Some q
     there = (has_process s pid call d.early).1
 
-    by_row : after_call s pid (row_of call) d.number (Some q) ≡ record { change = d.change; desks = now; reply = reply; now = s.now }
+    by_row : after_call s pid (row_of call) d.number (Some q) ≡ record { change = d.change; processes = now; reply = reply; now = s.now }
     by_row = sym (after_is s pid q call there (chosen d.number 0)) ∙ d.effect
 
-pub exit_performed : {p : Place} {map old_map : SectorMap} {now before : Desks} {s : State} {pid : ℕ}
+pub exit_performed : {p : Geometry} {map old_map : SectorMap} {now before : ProcessTable} {s : State} {pid : ℕ}
     → IsStateOf p old_map before s → IsExited p map now s pid → IsPerformed p map now s (Exit pid) Done
 exit_performed {p} {map} {old_map} {now} {before} {s} {pid} at d = record {
   machine = refl;
@@ -127,23 +127,23 @@ exit_performed {p} {map} {old_map} {now} {before} {s} {pid} at d = record {
   late = d.late;
   number = 0;
   change = Same;
-  effect = λ free. exit_after s pid free ∙ ap (λ (x : Desks). record { change = Same; desks = x; reply = Done; now = s.now }) is_now;
+  effect = λ free. exit_after s pid free ∙ ap (λ (x : ProcessTable). record { change = Same; processes = x; reply = Done; now = s.now }) is_now;
   new_number = tt;
   new_pid = tt;
-  left = subst (λ (x : Desks). MayBeLeft s.room s.tree x) is_now
-      (tree_may_be_left s.room s.tree (without nat_cmp s.desks pid) at.is_state.tree (without-IsMap s.desks pid at.is_state.pids)
-      (let less = length-without s.desks pid in let few = at.is_state.few in omega (arith, less, few))
-      (λ k q here. (at.is_state.desks at.up).processes k q (in_without s.desks pid k q at.is_state.pids here)));
+  left = subst (λ (x : ProcessTable). MayBeLeft s.room s.tree x) is_now
+      (tree_may_be_left s.room s.tree (without nat_cmp s.processes pid) at.is_state.tree (without-IsMap s.processes pid at.is_state.pids)
+      (let less = length-without s.processes pid in let few = at.is_state.few in omega (arith, less, few))
+      (λ k q here. (at.is_state.processes at.up).each_process k q (in_without s.processes pid k q at.is_state.pids here)));
   holds = d.holds;
 }
   where
-    is_now : without nat_cmp s.desks pid ≡ now
-    is_now = ap (λ (a : After). a.desks) (sym (exit_after s pid 0) ∙ d.effect)
+    is_now : without nat_cmp s.processes pid ≡ now
+    is_now = ap (λ (a : After). a.processes) (sym (exit_after s pid 0) ∙ d.effect)
 
-module _ {p : Place} {map old_map : SectorMap} {now before : Desks} {s : State} {e : Event} {reply : Reply}
+module _ {p : Geometry} {map old_map : SectorMap} {now before : ProcessTable} {s : State} {e : Event} {reply : Reply}
     (at : IsStateOf p old_map before s) (d : IsPerformed p map now s e reply) where
   abbrev pub done_state : State
-  done_state = record s { tree = tree_then s d.change now; desks = now; free = free_sectors p map }
+  done_state = record s { tree = tree_then s d.change now; processes = now; free = free_sectors p map }
 
   pub done_no_fault : is_io_error reply ≡ false
   done_no_fault = ap (λ (a : After). is_io_error a.reply) (sym (d.effect 0)) ∙ event_answers s e (chosen d.number 0)
@@ -152,7 +152,7 @@ module _ {p : Place} {map old_map : SectorMap} {now before : Desks} {s : State} 
   done_unstable r = ap (λ b. b && is_ok r) d.unstable
 
   abbrev done_after : After
-  done_after = record { change = d.change; desks = now; reply = reply; now = s.now }
+  done_after = record { change = d.change; processes = now; reply = reply; now = s.now }
 
   tree_is : IsTree s.room (tree_then s d.change now)
   tree_is = acted_is_tree s done_after at.is_state d.left
@@ -166,7 +166,7 @@ module _ {p : Place} {map old_map : SectorMap} {now before : Desks} {s : State} 
   done_state_of = record {
     is_state = acted_is_state s done_after (free_sectors p map) at.is_state d.left at.is_state.now may_be_free;
     up = at.up;
-    same_desks = refl;
+    same_processes = refl;
     same_room = at.same_room;
     holds = d.holds;
     free_is = refl;
@@ -191,18 +191,18 @@ module _ {p : Place} {map old_map : SectorMap} {now before : Desks} {s : State} 
   done_steps = (
     d.machine,
     step.acts (chosen d.number (free_sectors p map)) done_acts (sym (ap (λ (a : After). a.reply) (d.effect (free_sectors p map))))
-        (sym (ap (λ (a : After). record s { tree = tree_after s a; desks = a.desks; free = free_sectors p map; now = a.now }) (d.effect (free_sectors p map)))),
+        (sym (ap (λ (a : After). record s { tree = tree_after s a; processes = a.processes; free = free_sectors p map; now = a.now }) (d.effect (free_sectors p map)))),
   )
 
   -- the commit fails, and what would have been may be found
-  pub done_halts : Step s e (Refused (Failed EIO)) (record s { desks = now; halted = true })
+  pub done_halts : Step s e (Refused (Failed EIO)) (record s { processes = now; halted = true })
   done_halts = (
     d.machine,
     step.write_fails (chosen d.number (free_sectors p map)) done_acts refl now
-        (inr (sym (ap (λ (a : After). a.desks) (d.effect (free_sectors p map))))) refl,
+        (inr (sym (ap (λ (a : After). a.processes) (d.effect (free_sectors p map))))) refl,
   )
 
-  pub halts : Halts s e (record s { desks = now; halted = true }) (chosen d.number (free_sectors p map))
+  pub halts : Halts s e (record s { processes = now; halted = true }) (chosen d.number (free_sectors p map))
   halts = record { halted = refl; acts = done_acts }
 
   pub done_holds : HoldsCounted p map (tree_then s d.change now) (free_sectors p map)
@@ -238,7 +238,7 @@ why_exit_failed old new s pid r (ending.read_fails none failed is) io = failed
 
 absent_is : (s : State) (pid : ℕ) (r : Refusal) → firm_refusal s (Exit pid) ≡ Some r → Failed ESRCH ≡ r
 unfolding firm_refusal
-absent_is s pid r is = go (get nat_cmp s.desks pid) is
+absent_is s pid r is = go (get nat_cmp s.processes pid) is
   where
     go : (o : Option Process) → demand_of (λ q. None) o ≡ Some r → Failed ESRCH ≡ r
     go None e = cc

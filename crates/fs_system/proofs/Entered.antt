@@ -8,14 +8,14 @@ use Rattle.sector_disk.specs.Disk.{DiskState, Image, IsImage, OnlyReads, HasFail
 use Rattle.fs_cred.specs.declared.errno.Errno.{Errno}
 use Rattle.fs_cred.specs.declared.errno.Errno.TheVariants.{ESRCH}
 use Rattle.fs_cred.specs.declared.refusal.Refusal.TheVariants.{Failed}
-use Rattle.fs_layout.specs.declared.place.Place.{Place}
+use Rattle.fs_layout.specs.declared.geometry.Geometry.{Geometry}
 use Rattle.fs_layout.specs.Bytes.{SectorMap}
 use Rattle.fs_layout.specs.Maps.{get, with_entry}
 use Rattle.fs_model.specs.declared.reply.Reply.TheVariants.{Done, Refused}
 use Rattle.fs_model.specs.declared.event.Event.{Event}
 use Rattle.fs_model.specs.declared.event.Event.TheVariants.{Enter}
 use Rattle.fs_model.specs.Demands.{first_of}
-use Rattle.fs_model.specs.Processes.{Process, Desks, standing_at, is_open}
+use Rattle.fs_model.specs.Processes.{Process, ProcessTable, standing_at, is_open}
 use Rattle.fs_model.specs.Ranges.{IsEvent}
 use Rattle.fs_model.specs.States.{State, IsState}
 use Rattle.fs_model.specs.Steps.{Step, Choice, enter_demands, firm_refusal, other_refusal, after}
@@ -36,11 +36,11 @@ module _ (s : State) (up : IsFalse s.halted) (pid directory second : ℕ) where
   abbrev entering : Event
   entering = Enter pid directory second
 
-  enter_firm : (p : Process) → get nat_cmp s.desks pid ≡ Some p → firm_refusal s entering ≡ None
+  enter_firm : (p : Process) → get nat_cmp s.processes pid ≡ Some p → firm_refusal s entering ≡ None
   unfolding firm_refusal
   enter_firm p there = rw there refl
 
-  enter_absent : get nat_cmp s.desks pid ≡ None → firm_refusal s entering ≡ Some (Failed ESRCH)
+  enter_absent : get nat_cmp s.processes pid ≡ None → firm_refusal s entering ≡ Some (Failed ESRCH)
   unfolding firm_refusal
   enter_absent none = rw none refl
 
@@ -48,21 +48,21 @@ module _ (s : State) (up : IsFalse s.halted) (pid directory second : ℕ) where
   unfolding other_refusal
   enter_other = refl
 
-  enter_after : (p : Process) → get nat_cmp s.desks pid ≡ Some p → (choice : Choice)
-      → after s entering choice ≡ record { change = Same; desks = with_entry nat_cmp s.desks pid (standing_at directory second p); reply = Done; now = s.now }
+  enter_after : (p : Process) → get nat_cmp s.processes pid ≡ Some p → (choice : Choice)
+      → after s entering choice ≡ record { change = Same; processes = with_entry nat_cmp s.processes pid (standing_at directory second p); reply = Done; now = s.now }
   unfolding after
   enter_after p there choice = rw there refl
 
   -- what it has open stays open
-  enter_stays : IsState s → (now : Desks) → IsEntered s pid directory second now → StaysOpen s.desks now
+  enter_stays : IsState s → (now : ProcessTable) → IsEntered s pid directory second now → StaysOpen s.processes now
   enter_stays is now i n was =
-      ap (λ (d : Desks). is_open d n) i.entered
-      ∙ still_open s.desks pid i.process (standing_at directory second i.process) is.pids i.is_there n refl ∙ was
+      ap (λ (d : ProcessTable). is_open d n) i.entered
+      ∙ still_open s.processes pid i.process (standing_at directory second i.process) is.pids i.is_there n refl ∙ was
 
-  pub enters : IsState s → (now : Desks) → IsEntered s pid directory second now → Step s entering Done (record s { desks = now })
+  pub enters : IsState s → (now : ProcessTable) → IsEntered s pid directory second now → Step s entering Done (record s { processes = now })
   enters is now i =
       acts_alone s is up entering 0 Done now s.now (enter_stays is now i) refl (enter_firm i.process i.is_there) (enter_other ∙ i.asked)
-      (enter_after i.process i.is_there (choice_of s is up 0) ∙ ap (λ (d : Desks). record { change = Same; desks = d; reply = Done; now = s.now }) (sym i.entered)) tt
+      (enter_after i.process i.is_there (choice_of s is up 0) ∙ ap (λ (d : ProcessTable). record { change = Same; processes = d; reply = Done; now = s.now }) (sym i.entered)) tt
 
   pub enter_refuses : (old new : DiskState) (e : Errno) → IsNotEntered old new s pid directory second e → Step s entering (Refused (Failed e)) s
   enter_refuses old new e (absent none is) =
@@ -80,23 +80,23 @@ module _ (s : State) (up : IsFalse s.halted) (pid directory second : ℕ) where
 -- ---- on a disk
 
 module _ (old new : DiskState) (only_now : (image : Image) → old.left_since old.moment image → IsImage old image) (reads : OnlyReads old new)
-    (size : ℕ) (p : Place) (map : SectorMap) (desks now : Desks) (s : State) (pid directory second : ℕ) where
-  pub enter_does : (result : Result (Unit {0}) Errno) → IsEvent (Enter pid directory second) → IsRunning size p map desks s → OnErr result (now ≡ desks)
+    (size : ℕ) (p : Geometry) (map : SectorMap) (processes now : ProcessTable) (s : State) (pid directory second : ℕ) where
+  pub enter_does : (result : Result (Unit {0}) Errno) → IsEvent (Enter pid directory second) → IsRunning size p map processes s → OnErr result (now ≡ processes)
       → MatchResult result (λ done. IsEntered s pid directory second now) (λ e. IsNotEntered old new s pid directory second e)
       → (t : State) × (IsRunning size p map now t × (t.now ≡ s.now)) × Does old new s (Enter pid directory second) (finished result) t
   enter_does (Ok done) in_range r same i =
       let up = r.state_of.up in
       let goes = enters s up pid directory second r.state_of.is_state now i in
-      let t : State = record s { desks = now } in
+      let t : State = record s { processes = now } in
       let t_is : IsState t = steps_keep s t (Enter pid directory second) Done r.state_of.is_state in_range goes in (
         t,
-        (running_with size p map desks now s t_is r, refl),
+        (running_with size p map processes now s t_is r, refl),
         does_reading old new only_now reads s t (Enter pid directory second) Done up up goes refl (λ io. absurd cc),
       )
   enter_does (Err e) in_range r same why =
       let up = r.state_of.up in (
         s,
-        (running_same size size p map map desks now s refl (λ n part. refl) same r, refl),
+        (running_same size size p map map processes now s refl (λ n part. refl) same r, refl),
         does_reading old new only_now reads s s (Enter pid directory second) (Refused (Failed e)) up up (enter_refuses s up pid directory second old new e why)
             refl (why_refused s up pid directory second old new e why),
       )

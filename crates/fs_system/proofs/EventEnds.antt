@@ -2,7 +2,7 @@
 use Rattle.std.proofs.Common.{◌≡◌, ◌≤◌, ℕ, true, refl, sym, ap, ◌∙◌, arith, inl, inr, ⊎_elim}
 use Rattle.sector_disk.specs.Disk.{DiskState, Image, IsImage, LeavesOnly, OnlyReads, HasFailed, HasFailedToWrite}
 use Rattle.sector_disk.proofs.Moments.{failed_later}
-use Rattle.fs_layout.specs.declared.place.Place.{Place}
+use Rattle.fs_layout.specs.declared.geometry.Geometry.{Geometry}
 use Rattle.fs_layout.specs.Bytes.{SectorMap}
 use Rattle.fs_cred.specs.declared.errno.Errno.TheVariants.{EIO}
 use Rattle.fs_cred.specs.declared.refusal.Refusal.TheVariants.{Failed}
@@ -14,14 +14,14 @@ use Rattle.sector_txn.specs.Sectors.{TxnState}
 use Rattle.sector_txn.proofs.Images.{maps_same, after_reads}
 use Rattle.bit_alloc.specs.Inodes.{IsSound}
 use Rattle.bit_alloc.proofs.Soundness.{spare_first, sound_from}
-use Rattle.fs_layout.proofs.Places.{place_is_laid_out}
+use Rattle.fs_layout.proofs.Places.{geometry_is_laid_out}
 use Rattle.fs_model.specs.declared.event.Event.{Event}
 use Rattle.fs_model.specs.declared.reply.Reply.{Reply}
 use Rattle.fs_model.specs.declared.reply.Reply.TheVariants.{Refused}
-use Rattle.fs_model.specs.Processes.{Desks}
+use Rattle.fs_model.specs.Processes.{ProcessTable}
 use Rattle.fs_model.specs.Stands.{placed}
 use Rattle.fs_model.specs.States.{State}
-use Rattle.call_parts.specs.Performing.{IsReady, IsStateOf}
+use Rattle.call_parts.specs.Performing.{MayPerform, IsStateOf}
 use Rattle.fs_system.specs.Doing.{Does, IsFound}
 use Rattle.fs_system.specs.Layouts.{IsDiskOf}
 use Rattle.fs_system.specs.Seen.{IsRunning}
@@ -32,25 +32,25 @@ use Rattle.fs_system.proofs.Soundness.{outside_set}
 
 -- ---- a transaction that has put nothing is ready
 
-pub begins_ready : (p : Place) (txn : TxnState) (desks : Desks) (s : State) → txn.header ≡ header_of (txn.sectors 0) → txn.room ≡ max_delta txn.header → IsRunning txn.disk.size p txn.sectors desks s
-    → IsReady p txn desks
-begins_ready p txn desks s header room r =
-    let sectors : p.sectors ≡ txn.disk.size = ap (λ (q : Place). q.sectors) (place_is_laid_out txn.disk.size r.disk_is.super.inodes r.disk_is.has_place) in
-    let there = header ∙ header_there r.disk_is.super (txn.sectors 0) txn.disk.size r.disk_is.super_fits r.disk_is.super_is r.disk_is.has_place in
-    let ends = ap log_end header ∙ log_there r.disk_is.super (txn.sectors 0) txn.disk.size r.disk_is.super_fits r.disk_is.super_is r.disk_is.has_place in
+pub begins_ready : (p : Geometry) (txn : TxnState) (processes : ProcessTable) (s : State) → txn.header ≡ header_of (txn.sectors 0) → txn.room ≡ max_delta txn.header → IsRunning txn.disk.size p txn.sectors processes s
+    → MayPerform p txn processes
+begins_ready p txn processes s header room r =
+    let sectors : p.sectors ≡ txn.disk.size = ap (λ (q : Geometry). q.sectors) (geometry_is_laid_out txn.disk.size r.disk_is.super.inodes r.disk_is.has_geometry) in
+    let there = header ∙ header_there r.disk_is.super (txn.sectors 0) txn.disk.size r.disk_is.super_fits r.disk_is.super_is r.disk_is.has_geometry in
+    let ends = ap log_end header ∙ log_there r.disk_is.super (txn.sectors 0) txn.disk.size r.disk_is.super_fits r.disk_is.super_is r.disk_is.has_geometry in
     let sound : IsSound p txn =
     sound_from p txn r.state_of.holds.consistent (omega (arith, sectors)) (omega (arith, ends)) (outside_set p txn.sectors (placed s.tree) r.state_of.holds) in
     record {
       sound = sound;
-      spare = spare_first p txn r.state_of.holds.consistent.place (room ∙ ap max_delta there);
+      spare = spare_first p txn r.state_of.holds.consistent.geometry (room ∙ ap max_delta there);
       state = s;
       is_state = r.state_of;
     }
 
 -- ---- a layout that stays
 
-pub disk_kept : (size : ℕ) (p : Place) (old new : SectorMap) → new 0 ≡ old 0 → IsDiskOf size p old → IsDiskOf size p new
-disk_kept size p old new same d = record { super = d.super; super_is = same ∙ d.super_is; super_fits = d.super_fits; same_size = d.same_size; has_place = d.has_place }
+pub disk_kept : (size : ℕ) (p : Geometry) (old new : SectorMap) → new 0 ≡ old 0 → IsDiskOf size p old → IsDiskOf size p new
+disk_kept size p old new same d = record { super = d.super; super_is = same ∙ d.super_is; super_fits = d.super_fits; same_size = d.same_size; has_geometry = d.has_geometry }
 
 -- ---- faults after reads
 
@@ -60,18 +60,18 @@ write_failed_later old mid new none failed = ⊎_elim (λ more. inl (omega (arit
 -- ---- one event, from a store whose map is `map` on the disk `old`
 
 module _ (old : DiskState) (only_now : (image : Image) → old.left_since old.moment image → IsImage old image)
-    (p : Place) (map : SectorMap) (desks : Desks) (s : State) (r : IsRunning old.size p map desks s) (e : Event) where
+    (p : Geometry) (map : SectorMap) (processes : ProcessTable) (s : State) (r : IsRunning old.size p map processes s) (e : Event) where
   -- it acts, on a map with the same data, and the commit leaves `new`
   module _ (before now_map : SectorMap) (same : SameMap before map) (super : now_map 0 ≡ before 0)
       (mid new : DiskState) (reads : OnlyReads old mid) (run : LeavesOneOf before now_map mid new) (later : mid.failures ≤ new.failures)
-      (now : Desks) (reply : Reply) (at : IsStateOf p before desks s) (d : IsPerformed p now_map now s e reply) where
+      (now : ProcessTable) (reply : Reply) (at : IsStateOf p before processes s) (d : IsPerformed p now_map now s e reply) where
     now_disk : IsDiskOf old.size p now_map
     now_disk = disk_kept old.size p before now_map super (disk_same old.size p map before same r.disk_is)
 
     images : LeavesOnly old new (IsFound old s (tree_then s d.change now))
     images =
         leaves_found p map now_map s (tree_then s d.change now) _ old new r.state_of.same_room r.state_of.up
-        r.disk_is (tree_held p map desks s r.state_of) now_disk (done_holds at d) (after_reads only_now reads (maps_same same (λ n part. refl) run))
+        r.disk_is (tree_held p map processes s r.state_of) now_disk (done_holds at d) (after_reads only_now reads (maps_same same (λ n part. refl) run))
 
     pub event_runs : (size : ℕ) (map' : SectorMap) → size ≡ old.size → SameMap map' now_map → IsRunning size p map' now (done_state at d)
     event_runs size map' sized alike =
@@ -92,7 +92,7 @@ module _ (old : DiskState) (only_now : (image : Image) → old.left_since old.mo
       still = λ halted. absurd (let c = sym r.state_of.up ∙ halted in cc);
     }
 
-    pub does_halt : HasFailed mid new → HasFailedToWrite mid new → Does old new s e (Refused (Failed EIO)) (record s { desks = now; halted = true })
+    pub does_halt : HasFailed mid new → HasFailedToWrite mid new → Does old new s e (Refused (Failed EIO)) (record s { processes = now; halted = true })
     does_halt failed unwritten = record {
       serves = done_halts at d;
       added = tree_then s d.change now;

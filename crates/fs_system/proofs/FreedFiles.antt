@@ -8,7 +8,7 @@ use Rattle.std.proofs.lemmas.Bool.{cases_eq, eq-eqb, ne_eqb, or_right}
 use Rattle.std.specs.List.{filter, list_any}
 use Rattle.posix_acl.specs.AccessList.{AccessList}
 use Rattle.fs_layout.specs.declared.inode.Inode.{Inode}
-use Rattle.fs_layout.specs.declared.place.Place.{Place}
+use Rattle.fs_layout.specs.declared.geometry.Geometry.{Geometry}
 use Rattle.fs_layout.specs.Bytes.{SectorMap}
 use Rattle.fs_layout.specs.Images.{inode_at}
 use Rattle.fs_layout.specs.Inode.{free_inode}
@@ -17,7 +17,7 @@ use Rattle.fs_cred.specs.Credentials.{usual_credential}
 use Rattle.fs_model.specs.TreeChanges.{pruned, swept, lives_nameless}
 use Rattle.fs_model.specs.Limits.{root}
 use Rattle.fs_model.specs.Nodes.{Node, Body, File, Dir, Link}
-use Rattle.fs_model.specs.Processes.{Descriptor, Desks, new_process, is_open}
+use Rattle.fs_model.specs.Processes.{Descriptor, ProcessTable, new_process, is_open}
 use Rattle.fs_model.specs.Stands.{HoldsPlaced, HoldsAll, placed, room_of}
 use Rattle.fs_model.specs.StoredNodes.{names_field}
 use Rattle.fs_model.specs.Trees.{Tree, Room, node_at, names_of, parent, NamesFit, IsTree}
@@ -48,18 +48,18 @@ filter_within f g h same within (e ∷ t) = go (g e) refl (h e) refl (filter_wit
     go false k false l ih = ih
 
 -- what lives without a name where nothing is open lives whatever is open
-lives_still : (desks : Desks) (n : ℕ) (b : Body) (named : Bool) → (named || lives_nameless [] n b) ≡ true → (named || lives_nameless desks n b) ≡ true
-lives_still desks n b true stay = refl
-lives_still desks n (File a bytes) false stay = absurd cc
-lives_still desks n (Dir a d) false stay = stay
-lives_still desks n (Link target) false stay = stay
+lives_still : (processes : ProcessTable) (n : ℕ) (b : Body) (named : Bool) → (named || lives_nameless [] n b) ≡ true → (named || lives_nameless processes n b) ≡ true
+lives_still processes n b true stay = refl
+lives_still processes n (File a bytes) false stay = absurd cc
+lives_still processes n (Dir a d) false stay = stay
+lives_still processes n (Link target) false stay = stay
 
-pub pruned_of_swept : (room : Room) (t : Tree) (desks : Desks) → IsTree room t → pruned (swept t desks) ≡ pruned t
-pruned_of_swept room t desks is =
-    filter_within (stays (swept t desks) []) (stays t desks) (stays t [])
+pub pruned_of_swept : (room : Room) (t : Tree) (processes : ProcessTable) → IsTree room t → pruned (swept t processes) ≡ pruned t
+pruned_of_swept room t processes is =
+    filter_within (stays (swept t processes) []) (stays t processes) (stays t [])
     (λ e. ap (λ k. not (k == 0) || lives_nameless [] e.0 e.1.body)
-    (names_of-filter (stays t desks) t is.numbers (tree_may_be_swept room t desks is).gone e.0))
-    (λ e stay. lives_still desks e.0 e.1.body (not (names_of t e.0 == 0)) stay) t
+    (names_of-filter (stays t processes) t is.numbers (tree_may_be_swept room t processes is).gone e.0))
+    (λ e stay. lives_still processes e.0 e.1.body (not (names_of t e.0 == 0)) stay) t
 
 -- ---- the first number and the last
 
@@ -68,7 +68,7 @@ named_first room t is n node at none ne = let positive = (is.each n node at).pos
 
 pub named_all : (room : Room) (t : Tree) (k : ℕ) → IsTree room t → room.inodes ≤ k → IsNamedBelow k t → pruned t ≡ t
 named_all room t k is all named = nothing_to_drop room t [] is (record {
-  processes = λ pid q there. absurd cc;
+  each_process = λ pid q there. absurd cc;
   nameless = λ n node at none ne.
       let low = (is.each n node at).below in
       let high = named n node at none ne in
@@ -112,23 +112,23 @@ has_not (suc k) n = go (k == n) refl (has_not k n)
     go false e ih = ap (λ b. b || has n (files_but k n)) e ∙ ih
 
 -- one process has them open
-abbrev table_of : List (ℕ × Descriptor) → Desks
+abbrev table_of : List (ℕ × Descriptor) → ProcessTable
 table_of ds = (1, record (new_process (usual_credential 0 0 [])) { descriptors = ds }) ∷ []
 
 -- the numbers below k without n, and with it
-abbrev all_but : ℕ → ℕ → Desks
+abbrev all_but : ℕ → ℕ → ProcessTable
 all_but k n = table_of (files_but k n)
 
-abbrev all_with : ℕ → ℕ → Desks
+abbrev all_with : ℕ → ℕ → ProcessTable
 all_with k n = table_of (file_of n ∷ files_but k n)
 
 -- ---- one file goes
 
 module _ (room : Room) (t : Tree) (is : IsTree room t) (n : ℕ) where
-  abbrev now : Desks
+  abbrev now : ProcessTable
   now = all_but room.inodes n
 
-  abbrev was : Desks
+  abbrev was : ProcessTable
   was = all_with room.inodes n
 
   closed : is_open now n ≡ false
@@ -148,7 +148,7 @@ module _ (room : Room) (t : Tree) (is : IsTree room t) (n : ℕ) where
       let fits = is.each m node at in
       fitting_stays room was m node.body (names_of t m) fits.names (λ none ne. opened m fits.below) (root_directory room t m node is at)
 
-  was_held : (p : Place) (map : SectorMap) → HoldsAll p map (placed t) → HoldsAll p map (placed (swept t was))
+  was_held : (p : Geometry) (map : SectorMap) → HoldsAll p map (placed t) → HoldsAll p map (placed (swept t was))
   was_held p map held = same_placed p map (placed t) (placed (swept t was)) held (λ m. go m (node_at t m) refl)
     where
       gone : DropsNoNames (stays t was) t t
@@ -181,13 +181,13 @@ module _ (room : Room) (t : Tree) (is : IsTree room t) (n : ℕ) where
 -- ---- one number
 
 -- The new map holds what is left of the tree, in which what stands up to this number has names if what stands below had.
-pub record IsFreed (p : Place) (n : ℕ) (map : SectorMap) (t : Tree) : Type 0 where
+pub record IsFreed (p : Geometry) (n : ℕ) (map : SectorMap) (t : Tree) : Type 0 where
   pub tree : Tree
   pub holds : HoldsTree p map tree
   pub same : pruned tree ≡ pruned t
   pub named : IsNamedBelow n t → IsNamedBelow (n + 1) tree
 
-module _ (p : Place) (n : ℕ) (old new : TxnState) (t : Tree) (h : HoldsTree p old.sectors t) (below : n < p.inodes) where
+module _ (p : Geometry) (n : ℕ) (old new : TxnState) (t : Tree) (h : HoldsTree p old.sectors t) (below : n < p.inodes) where
   -- nothing changes, where it isn't a file without a name
   unchanged : IsUnchanged old new → ((node : Node) → node_at t n ≡ Some node → names_of t n ≡ 0 → n ≢ root → ⊥) → IsFreed p n new.sectors t
   unchanged same but = record {

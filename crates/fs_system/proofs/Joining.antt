@@ -3,7 +3,7 @@ use Rattle.std.proofs.Common.{◌≡◌, ℕ, length, refl, sym, subst, ◌∙�
 use Rattle.std.specs.Prelude.{IsFalse}
 use Rattle.sector_disk.specs.Disk.{DiskState, Image, sector, LeavesOnly}
 use Rattle.sector_disk.proofs.Moments.{weaker}
-use Rattle.fs_layout.specs.declared.place.Place.{Place}
+use Rattle.fs_layout.specs.declared.geometry.Geometry.{Geometry}
 use Rattle.fs_layout.specs.Bytes.{SectorMap}
 use Rattle.fs_layout.specs.Images.{free_sectors}
 use Rattle.fs_layout.specs.Recovered.{recovered}
@@ -21,44 +21,44 @@ use Rattle.fs_system.specs.Doing.{IsFound}
 use Rattle.fs_system.specs.Layouts.{IsDiskOf}
 
 -- a map holds the tree, and so many data sectors are free
-pub record HoldsCounted (p : Place) (map : SectorMap) (t : Tree) (free : ℕ) : Type 0 where
+pub record HoldsCounted (p : Geometry) (map : SectorMap) (t : Tree) (free : ℕ) : Type 0 where
   pub holds : HoldsAll p map (placed t)
   pub tree_is : IsTree (room_of p) t
   pub free_is : free ≡ free_sectors p map
 
 -- a map with the same data holds the same tree
-pub holds_same : (size : ℕ) (p : Place) (old new : SectorMap) (t : Tree) (free : ℕ) → SameMap new old → IsDiskOf size p old → HoldsCounted p old t free
+pub holds_same : (size : ℕ) (p : Geometry) (old new : SectorMap) (t : Tree) (free : ℕ) → SameMap new old → IsDiskOf size p old → HoldsCounted p old t free
     → HoldsCounted p new t free
 holds_same size p old new t free same disk h =
-    let log = log_there disk.super (old 0) size disk.super_fits disk.super_is disk.has_place in
-    let agrees : Agrees p old new = same_agrees h.holds.consistent.place (λ s past low. same s (inr (omega (arith, log, past)))) in
+    let log = log_there disk.super (old 0) size disk.super_fits disk.super_is disk.has_geometry in
+    let agrees : Agrees p old new = same_agrees h.holds.consistent.geometry (λ s past low. same s (inr (omega (arith, log, past)))) in
     record {
       holds = agreed p old new (placed t) h.holds agrees;
       tree_is = h.tree_is;
       free_is = h.free_is ∙ sym (agree_free_sectors h.holds.consistent agrees);
     }
 
-pub disk_same : (size : ℕ) (p : Place) (old new : SectorMap) → SameMap new old → IsDiskOf size p old → IsDiskOf size p new
+pub disk_same : (size : ℕ) (p : Geometry) (old new : SectorMap) → SameMap new old → IsDiskOf size p old → IsDiskOf size p new
 disk_same size p old new same d = record {
   super = d.super;
   super_is = same 0 (inl refl) ∙ d.super_is;
   super_fits = d.super_fits;
   same_size = d.same_size;
-  has_place = d.has_place;
+  has_geometry = d.has_geometry;
 }
 
 -- The image reads as a map that holds the tree, so it stands for the tree.
-pub stands_for : (size : ℕ) (p : Place) (map : SectorMap) (t : Tree) (free : ℕ) (image : Image) → IsDiskOf size p map → HoldsCounted p map t free
+pub stands_for : (size : ℕ) (p : Geometry) (map : SectorMap) (t : Tree) (free : ℕ) (image : Image) → IsDiskOf size p map → HoldsCounted p map t free
     → ReadsAs size map image → StandsFor (room_of p) image t free
 stands_for size p map t free image disk h reads =
     let held = holds_same size p map (recovered size (sector image)) t free reads.reads disk h in
     subst (λ n. Stands n (sector image) (room_of p) t free) (sym reads.whole) (record {
       super = disk.super;
-      place = p;
+      geometry = p;
       super_is = sym (recovered-super size (sector image)) ∙ reads.reads 0 (inl refl) ∙ disk.super_is;
       super_fits = disk.super_fits;
       same_size = disk.same_size;
-      has_place = disk.has_place;
+      has_geometry = disk.has_geometry;
       commit_is = reads.commit;
       room_is = refl;
       holds = held.holds;
@@ -68,23 +68,23 @@ stands_for size p map t free image disk h reads =
 
 -- And the other way round: the map that a disk reads as holds the tree for which it stands.
 module _ (size : ℕ) (image : SectorMap) (room : Room) (t : Tree) (free : ℕ) (st : Stands size image room t free) where
-  pub disk_of_standing : IsDiskOf size st.place (recovered size image)
+  pub disk_of_standing : IsDiskOf size st.geometry (recovered size image)
   disk_of_standing = record {
     super = st.super;
     super_is = recovered-super size image ∙ st.super_is;
     super_fits = st.super_fits;
     same_size = st.same_size;
-    has_place = st.has_place;
+    has_geometry = st.has_geometry;
   }
 
-  pub holds_of_standing : HoldsCounted st.place (recovered size image) t free
+  pub holds_of_standing : HoldsCounted st.geometry (recovered size image) t free
   holds_of_standing = record { holds = st.holds; tree_is = subst (λ (r : Room). IsTree r t) st.room_is st.tree_is; free_is = st.free_is }
 
 -- What means the same stands for the same.
 pub stands_as : (size : ℕ) (from image : Image) → length from ≡ size → MeansAs size from image → StandsAs from image
 stands_as size from image whole means = λ room t free stands.
     let st = subst (λ n. Stands n (sector from) room t free) whole stands in
-    let here = stands_for size st.place (recovered size (sector from)) t free image (disk_of_standing size (sector from) room t free st)
+    let here = stands_for size st.geometry (recovered size (sector from)) t free image (disk_of_standing size (sector from) room t free st)
     (holds_of_standing size (sector from) room t free st)
     (record { whole = means.whole; commit = means.commit.0 st.commit_is; reads = means.reads }) in
     subst (λ (r : Room). StandsFor r image t free) (sym st.room_is) here
@@ -92,12 +92,12 @@ stands_as size from image whole means = λ room t free stands.
 -- ---- from the store's clauses to those of the file system
 
 -- Each image that a stop may leave reads as the map, so it stands for the tree.
-pub each_stands : (p : Place) (map : SectorMap) (t : Tree) (free : ℕ) (disk : DiskState) → IsDiskOf disk.size p map → HoldsCounted p map t free
+pub each_stands : (p : Geometry) (map : SectorMap) (t : Tree) (free : ℕ) (disk : DiskState) → IsDiskOf disk.size p map → HoldsCounted p map t free
     → EachReadsAs map disk → EachStandsFor (room_of p) disk t
 each_stands p map t free disk is h each = λ image left. (free, stands_for disk.size p map t free image is h (each image left))
 
 -- A stop leaves what means as before, or reads as the map before or after.
-pub found_of_one : (p : Place) (before after : SectorMap) (s : State) (added : Tree) (free : ℕ) (old : DiskState)
+pub found_of_one : (p : Geometry) (before after : SectorMap) (s : State) (added : Tree) (free : ℕ) (old : DiskState)
     → s.room ≡ room_of p → IsFalse s.halted
     → IsDiskOf old.size p before → HoldsCounted p before s.tree s.free → IsDiskOf old.size p after → HoldsCounted p after added free
     → (image : Image) → IsOneOf old before after image → IsFound old s added image
@@ -108,7 +108,7 @@ found_of_one p before after s added free old room up disk h disk' h' image (inr 
 found_of_one p before after s added free old room up disk h disk' h' image (inr (inr reads)) =
     inr (inr (free, subst (λ (r : Room). StandsFor r image added free) (sym room) (stands_for old.size p after added free image disk' h' reads)))
 
-pub leaves_found : (p : Place) (before after : SectorMap) (s : State) (added : Tree) (free : ℕ) (old new : DiskState)
+pub leaves_found : (p : Geometry) (before after : SectorMap) (s : State) (added : Tree) (free : ℕ) (old new : DiskState)
     → s.room ≡ room_of p → IsFalse s.halted
     → IsDiskOf old.size p before → HoldsCounted p before s.tree s.free → IsDiskOf old.size p after → HoldsCounted p after added free
     → LeavesOneOf before after old new → LeavesOnly old new (IsFound old s added)

@@ -1,7 +1,7 @@
 -- One event in a transaction that is begun on a store: its changes are kept, or dropped.
 use Rattle.std.proofs.Common.{◌≡◌, ◌≤◌, true, Some, Result, Ok, Err, inl, inr, refl, sym, ap, subst, ◌∙◌, arith}
 use Rattle.sector_disk.specs.Disk.{DiskState, Image, IsImage, OnlyReads, HasCause, HasFailed, HasFailedToWrite}
-use Rattle.fs_layout.specs.declared.place.Place.{Place}
+use Rattle.fs_layout.specs.declared.geometry.Geometry.{Geometry}
 use Rattle.fs_cred.specs.declared.errno.Errno.TheVariants.{EIO}
 use Rattle.fs_cred.specs.declared.refusal.Refusal.TheVariants.{Failed}
 use Rattle.redo_journal.specs.Meaning.{SameMap}
@@ -14,9 +14,9 @@ use Rattle.sector_txn.proofs.Images.{maps_same}
 use Rattle.fs_model.specs.declared.event.Event.{Event}
 use Rattle.fs_model.specs.declared.reply.Reply.{Reply}
 use Rattle.fs_model.specs.declared.reply.Reply.TheVariants.{Refused}
-use Rattle.fs_model.specs.Processes.{Desks}
+use Rattle.fs_model.specs.Processes.{ProcessTable}
 use Rattle.fs_model.specs.States.{State}
-use Rattle.call_parts.specs.Performing.{IsReady, IsStateOf}
+use Rattle.call_parts.specs.Performing.{MayPerform, IsStateOf}
 use Rattle.fs_system.specs.Doing.{Does}
 use Rattle.fs_system.specs.Seen.{IsRunning, IsOn}
 use Rattle.fs_system.proofs.Endings.{IsPerformed, done_state}
@@ -58,20 +58,20 @@ cause_from (Err e) reads cause =
 
 -- ---- events
 
-module _ {D : Type 0} (state : D → DiskState) (p : Place) (store : StoreView D) (desks : Desks) (begun : TxnView D) (disk : begun.disk ≡ store.disk)
+module _ {D : Type 0} (state : D → DiskState) (p : Geometry) (store : StoreView D) (processes : ProcessTable) (begun : TxnView D) (disk : begun.disk ≡ store.disk)
     (map : SameMap (map_now state begun) (present state store)) (before : SameMap (map_before state begun) (present state store)) where
   -- the event may be performed
-  pub begins : (s : State) → IsRunning (state store.disk).size p (present state store) desks s
+  pub begins : (s : State) → IsRunning (state store.disk).size p (present state store) processes s
       → (txn_state state begun).header ≡ header_of ((txn_state state begun).sectors 0) → (txn_state state begun).room ≡ max_delta (txn_state state begun).header
-      → IsReady p (txn_state state begun) desks
+      → MayPerform p (txn_state state begun) processes
   begins s r header room =
-      begins_ready p (txn_state state begun) desks s header room
-      (running_same (state store.disk).size (state begun.disk).size p (present state store) (map_now state begun) desks desks s (ap (λ d. (state d).size) disk) map refl r)
+      begins_ready p (txn_state state begun) processes s header room
+      (running_same (state store.disk).size (state begun.disk).size p (present state store) (map_now state begun) processes processes s (ap (λ d. (state d).size) disk) map refl r)
 
   -- the map is of the state that the store was in
-  pub state_begun : (s : State) → IsRunning (state store.disk).size p (present state store) desks s → IsStateOf p (map_now state begun) desks s
+  pub state_begun : (s : State) → IsRunning (state store.disk).size p (present state store) processes s → IsStateOf p (map_now state begun) processes s
   state_begun s r =
-      (running_same (state store.disk).size (state store.disk).size p (present state store) (map_now state begun) desks desks s refl map refl r).state_of
+      (running_same (state store.disk).size (state store.disk).size p (present state store) (map_now state begun) processes processes s refl map refl r).state_of
 
   module _ (last : TxnView D) (same : SameStore (txn_state state begun) (txn_state state last)) where
     -- it began with the store's map
@@ -82,9 +82,9 @@ module _ {D : Type 0} (state : D → DiskState) (p : Place) (store : StoreView D
     before_is_begun = same_chain (map_before state last) (present state store) (map_now state begun) before_is_store (same_back (map_now state begun) (present state store) map)
 
     -- one was performed
-    module _ (s : State) (r : IsRunning (state store.disk).size p (present state store) desks s)
+    module _ (s : State) (r : IsRunning (state store.disk).size p (present state store) processes s)
         (only_now : (image : Image) → (state store.disk).left_since (state store.disk).moment image → IsImage (state store.disk) image)
-        (super : map_now state last 0 ≡ map_now state begun 0) (now : Desks) (e : Event) (reply : Reply)
+        (super : map_now state last 0 ≡ map_now state begun 0) (now : ProcessTable) (e : Event) (reply : Reply)
         (d : IsPerformed p (map_now state last) now s e reply) where
       reads : OnlyReads (state store.disk) (state last.disk)
       reads = only_read state store begun disk before last same
@@ -101,12 +101,12 @@ module _ {D : Type 0} (state : D → DiskState) (p : Place) (store : StoreView D
       kept_does after alike images later quiet = (
         done_state (state_begun s r) d,
         (
-          event_runs (state store.disk) only_now p (present state store) desks s r e (map_now state begun) (map_now state last) map super
+          event_runs (state store.disk) only_now p (present state store) processes s r e (map_now state begun) (map_now state last) map super
               (state last.disk) (state after.disk) reads (run (state after.disk) images) later now reply (state_begun s r) d
               (state after.disk).size (present state after) (images.size ∙ reads.narrowed.size) alike,
           refl,
         ),
-        does_event (state store.disk) only_now p (present state store) desks s r e (map_now state begun) (map_now state last) map super
+        does_event (state store.disk) only_now p (present state store) processes s r e (map_now state begun) (map_now state last) map super
             (state last.disk) (state after.disk) reads (run (state after.disk) images) later now reply (state_begun s r) d quiet,
       )
 
@@ -116,19 +116,19 @@ module _ {D : Type 0} (state : D → DiskState) (p : Place) (store : StoreView D
           → HasFailedToWrite (state last.disk) (state broken) → (told : Reply) → told ≡ Refused (Failed EIO)
           → (t : State) × IsOn state p s.now now (Some (Err broken)) t × Does (state store.disk) (state broken) s e told t
       broken_does broken images later failed unwritten told is = (
-        record s { desks = now; halted = true },
+        record s { processes = now; halted = true },
         refl,
-        subst (λ (q : Reply). Does (state store.disk) (state broken) s e q (record s { desks = now; halted = true })) (sym is)
-            (does_halt (state store.disk) only_now p (present state store) desks s r e (map_now state begun) (map_now state last) map super
+        subst (λ (q : Reply). Does (state store.disk) (state broken) s e q (record s { processes = now; halted = true })) (sym is)
+            (does_halt (state store.disk) only_now p (present state store) processes s r e (map_now state begun) (map_now state last) map super
             (state last.disk) (state broken) reads (run (state broken) images) later now reply (state_begun s r) d failed unwritten),
       )
 
     -- nothing was kept: it goes on in its state
     pub runs_on : (after : StoreView D) → after.disk ≡ last.disk → SameMap (present state after) (map_before state last) → (s : State)
-        → IsRunning (state store.disk).size p (present state store) desks s → (now : Desks) → now ≡ desks
+        → IsRunning (state store.disk).size p (present state store) processes s → (now : ProcessTable) → now ≡ processes
         → IsRunning (state after.disk).size p (present state after) now s
     runs_on after dropped back s r now tabled =
-        running_same (state store.disk).size (state after.disk).size p (present state store) (present state after) desks now s
+        running_same (state store.disk).size (state after.disk).size p (present state store) (present state after) processes now s
         (reads_alone state store begun disk before last same after.disk dropped).narrowed.size (same_chain (present state after) (map_before state last) (present state store) back before_is_store) tabled r
 
     -- and its map is that with which the transaction began

@@ -5,7 +5,7 @@ use Rattle.std.specs.Option.{ok_or}
 use Rattle.std.specs.Ordering.{nat_cmp}
 use Rattle.std.proofs.lemmas.Bool.{cases_lt}
 use Rattle.sector_disk.specs.Disk.{DiskState, Image, IsImage, HasFailed, HasFailedToWrite}
-use Rattle.fs_layout.specs.declared.place.Place.{Place}
+use Rattle.fs_layout.specs.declared.geometry.Geometry.{Geometry}
 use Rattle.fs_layout.specs.Bytes.{SectorMap}
 use Rattle.fs_layout.specs.Maps.{get, with_entry}
 use Rattle.fs_cred.specs.Credentials.{Credential, IsCredential}
@@ -20,7 +20,7 @@ use Rattle.fs_model.specs.declared.reply.Reply.{Reply}
 use Rattle.fs_model.specs.declared.reply.Reply.TheVariants.{Done, Refused}
 use Rattle.fs_model.specs.declared.event.Event.{Event}
 use Rattle.fs_model.specs.declared.event.Event.TheVariants.{Spawn, Clock, Fsync, Sync}
-use Rattle.fs_model.specs.Processes.{Process, Desks, Descriptor, new_process, descriptor}
+use Rattle.fs_model.specs.Processes.{Process, ProcessTable, Descriptor, new_process, descriptor}
 use Rattle.fs_model.specs.States.{State, IsState}
 use Rattle.fs_model.specs.Steps.{Step, is_of_machine, firm_refusal}
 use Rattle.fs_model.specs.Stops.{is_io_error}
@@ -50,17 +50,17 @@ module _ {D : Type 0} (state : D → DiskState) where
       record { in_some = (next.0, next.1); mountable = may }
 
   -- what is so of what an event leaves is so of what stands in its place
-  module _ (place : Place) (desks : Desks) (time : ℕ) {put left : Base D} (is : put ≡ left) where
-    pub system_put : IsSystem state (record { base = left; place = place; desks = desks; time = time }) → IsSystem state (record { base = put; place = place; desks = desks; time = time })
-    system_put was = subst (λ (b : Base D). IsSystem state (record { base = b; place = place; desks = desks; time = time })) (sym is) was
+  module _ (geometry : Geometry) (processes : ProcessTable) (time : ℕ) {put left : Base D} (is : put ≡ left) where
+    pub system_put : IsSystem state (record { base = left; geometry = geometry; processes = processes; time = time }) → IsSystem state (record { base = put; geometry = geometry; processes = processes; time = time })
+    system_put was = subst (λ (b : Base D). IsSystem state (record { base = b; geometry = geometry; processes = processes; time = time })) (sym is) was
 
-    pub happens_put : (old : System D) (e : Event) (reply : Reply) → Happens state old (record { base = left; place = place; desks = desks; time = time }) e reply
-        → Happens state old (record { base = put; place = place; desks = desks; time = time }) e reply
-    happens_put old e reply was = subst (λ (b : Base D). Happens state old (record { base = b; place = place; desks = desks; time = time }) e reply) (sym is) was
+    pub happens_put : (old : System D) (e : Event) (reply : Reply) → Happens state old (record { base = left; geometry = geometry; processes = processes; time = time }) e reply
+        → Happens state old (record { base = put; geometry = geometry; processes = processes; time = time }) e reply
+    happens_put old e reply was = subst (λ (b : Base D). Happens state old (record { base = b; geometry = geometry; processes = processes; time = time }) e reply) (sym is) was
 
-    pub flushes_put : (old : System D) (e : Event) (reply : Reply) → FlushesFor state old (record { base = left; place = place; desks = desks; time = time }) e reply
-        → FlushesFor state old (record { base = put; place = place; desks = desks; time = time }) e reply
-    flushes_put old e reply was = subst (λ (b : Base D). FlushesFor state old (record { base = b; place = place; desks = desks; time = time }) e reply) (sym is) was
+    pub flushes_put : (old : System D) (e : Event) (reply : Reply) → FlushesFor state old (record { base = left; geometry = geometry; processes = processes; time = time }) e reply
+        → FlushesFor state old (record { base = put; geometry = geometry; processes = processes; time = time }) e reply
+    flushes_put old e reply was = subst (λ (b : Base D). FlushesFor state old (record { base = b; geometry = geometry; processes = processes; time = time }) e reply) (sym is) was
 
   module _ (only_now : (disk : D) (image : Image) → (state disk).left_since (state disk).moment image → IsImage (state disk) image) where
     -- ---- a halted one
@@ -68,8 +68,8 @@ module _ {D : Type 0} (state : D → DiskState) where
     pub halted_happens : (fs : System D) (e : Event) → is_halted fs.base ≡ true → IsTrue (is_of_machine e) → Happens state fs fs e (Refused (Failed EIO))
     halted_happens fs e halted machine s here = go fs.base halted here
       where
-        go : (b : Base D) → is_halted b ≡ true → IsOn state fs.place fs.time fs.desks b s
-            → (t : State) × IsOn state fs.place fs.time fs.desks b t × Does (disk_in state b) (disk_in state b) s e (Refused (Failed EIO)) t
+        go : (b : Base D) → is_halted b ≡ true → IsOn state fs.geometry fs.time fs.processes b s
+            → (t : State) × IsOn state fs.geometry fs.time fs.processes b t × Does (disk_in state b) (disk_in state b) s e (Refused (Failed EIO)) t
         go None is on = absurd cc
         go (Some (Ok store)) is on = absurd cc
         go (Some (Err broken)) is on = (s, on, does_halted (state broken) (only_now broken) s e machine on)
@@ -83,83 +83,83 @@ module _ {D : Type 0} (state : D → DiskState) where
 
     -- ---- events that change the processes alone, or the time
 
-    module _ (fs : System D) (up : is_halted fs.base ≡ false) (desks : Desks) (time : ℕ) (e : Event) (reply : Reply) where
+    module _ (fs : System D) (up : is_halted fs.base ≡ false) (processes : ProcessTable) (time : ℕ) (e : Event) (reply : Reply) where
       -- a step of the running state is one of the file system
-      pub moves : ((s : State) → IsState s → IsFalse s.halted → s.desks ≡ fs.desks → s.now ≡ fs.time → (size : ℕ) (map : SectorMap) → IsRunning size fs.place map fs.desks s
-          → (t : State) × (IsRunning size fs.place map desks t × (t.now ≡ time)) × ((disk : D) → Does (state disk) (state disk) s e reply t))
-          → Happens state fs (record fs { desks = desks; time = time }) e reply
+      pub moves : ((s : State) → IsState s → IsFalse s.halted → s.processes ≡ fs.processes → s.now ≡ fs.time → (size : ℕ) (map : SectorMap) → IsRunning size fs.geometry map fs.processes s
+          → (t : State) × (IsRunning size fs.geometry map processes t × (t.now ≡ time)) × ((disk : D) → Does (state disk) (state disk) s e reply t))
+          → Happens state fs (record fs { processes = processes; time = time }) e reply
       moves does s here = go fs.base up here
         where
-          go : (b : Base D) → is_halted b ≡ false → IsOn state fs.place fs.time fs.desks b s
-              → (t : State) × IsOn state fs.place time desks b t × Does (disk_in state b) (disk_in state b) s e reply t
+          go : (b : Base D) → is_halted b ≡ false → IsOn state fs.geometry fs.time fs.processes b s
+              → (t : State) × IsOn state fs.geometry time processes b t × Does (disk_in state b) (disk_in state b) s e reply t
           go None is on = absurd on
           go (Some (Err broken)) is on = absurd cc
           go (Some (Ok store)) is on =
-              let next = does s on.0.state_of.is_state on.0.state_of.up on.0.state_of.same_desks on.1 (state store.disk).size (present state store) on.0 in
+              let next = does s on.0.state_of.is_state on.0.state_of.up on.0.state_of.same_processes on.1 (state store.disk).size (present state store) on.0 in
               (next.0, next.1, next.2 store.disk)
 
     -- ---- spawn
 
-    module _ (fs : System D) (up : is_halted fs.base ≡ false) (cred : Credential) (valid : IsCredential cred) (desks : Desks) (few : length fs.desks < 64) where
-      pub spawn_made : (pid : ℕ) → get nat_cmp fs.desks pid ≡ None → desks ≡ with_entry nat_cmp fs.desks pid (new_process cred)
-          → Happens state fs (record fs { desks = desks }) (Spawn cred) (spawned (Ok pid))
+    module _ (fs : System D) (up : is_halted fs.base ≡ false) (cred : Credential) (valid : IsCredential cred) (processes : ProcessTable) (few : length fs.processes < 64) where
+      pub spawn_made : (pid : ℕ) → get nat_cmp fs.processes pid ≡ None → processes ≡ with_entry nat_cmp fs.processes pid (new_process cred)
+          → Happens state fs (record fs { processes = processes }) (Spawn cred) (spawned (Ok pid))
       spawn_made pid new is =
-          moves fs up desks fs.time (Spawn cred) (spawned (Ok pid))
+          moves fs up processes fs.time (Spawn cred) (spawned (Ok pid))
           (λ s is_state runs same told size map on.
-          let none : get nat_cmp s.desks pid ≡ None = ap (λ d. get nat_cmp d pid) same ∙ new in
-          let less : length s.desks < 64 = (let count : length s.desks ≡ length fs.desks = ap length same in omega (arith, count, few)) in
+          let none : get nat_cmp s.processes pid ≡ None = ap (λ d. get nat_cmp d pid) same ∙ new in
+          let less : length s.processes < 64 = (let count : length s.processes ≡ length fs.processes = ap length same in omega (arith, count, few)) in
           let step = spawns s runs cred is_state pid none less in
-          let t : State = record s { desks = with_entry nat_cmp s.desks pid (new_process cred) } in
+          let t : State = record s { processes = with_entry nat_cmp s.processes pid (new_process cred) } in
           let t_is : IsState t = steps_keep s t (Spawn cred) (spawned (Ok pid)) is_state valid step in (
             t,
             (
-              running_same size size fs.place map map (with_entry nat_cmp s.desks pid (new_process cred)) desks t refl (λ n part. refl)
+              running_same size size fs.geometry map map (with_entry nat_cmp s.processes pid (new_process cred)) processes t refl (λ n part. refl)
                   (is ∙ sym (ap (λ d. with_entry nat_cmp d pid (new_process cred)) same))
-                  (running_with size fs.place map fs.desks (with_entry nat_cmp s.desks pid (new_process cred)) s t_is on),
+                  (running_with size fs.geometry map fs.processes (with_entry nat_cmp s.processes pid (new_process cred)) s t_is on),
               told,
             ),
             λ disk. does_nothing (state disk) (only_now disk) s t (Spawn cred) (spawned (Ok pid)) runs runs step refl refl,
           ))
 
-      pub spawn_lacks : desks ≡ fs.desks → Happens state fs (record fs { desks = desks }) (Spawn cred) (spawned (Err ENOMEM))
-      spawn_lacks same_desks =
-          moves fs up desks fs.time (Spawn cred) (spawned (Err ENOMEM))
+      pub spawn_lacks : processes ≡ fs.processes → Happens state fs (record fs { processes = processes }) (Spawn cred) (spawned (Err ENOMEM))
+      spawn_lacks same_processes =
+          moves fs up processes fs.time (Spawn cred) (spawned (Err ENOMEM))
           (λ s is_state runs same told size map on.
-          let less : length s.desks < 64 = (let count : length s.desks ≡ length fs.desks = ap length same in omega (arith, count, few)) in (
+          let less : length s.processes < 64 = (let count : length s.processes ≡ length fs.processes = ap length same in omega (arith, count, few)) in (
             s,
-            (running_same size size fs.place map map fs.desks desks s refl (λ n part. refl) same_desks on, told),
+            (running_same size size fs.geometry map map fs.processes processes s refl (λ n part. refl) same_processes on, told),
             λ disk. does_nothing (state disk) (only_now disk) s s (Spawn cred) (spawned (Err ENOMEM)) runs runs (spawn_unmade s runs cred less) refl refl,
           ))
 
-    pub spawn_refused : (fs : System D) (up : is_halted fs.base ≡ false) (cred : Credential) (desks : Desks) → 64 ≤ length fs.desks → desks ≡ fs.desks
-        → Happens state fs (record fs { desks = desks }) (Spawn cred) (spawned (Err EAGAIN))
-    spawn_refused fs up cred desks many same_desks =
-        moves fs up desks fs.time (Spawn cred) (spawned (Err EAGAIN))
+    pub spawn_refused : (fs : System D) (up : is_halted fs.base ≡ false) (cred : Credential) (processes : ProcessTable) → 64 ≤ length fs.processes → processes ≡ fs.processes
+        → Happens state fs (record fs { processes = processes }) (Spawn cred) (spawned (Err EAGAIN))
+    spawn_refused fs up cred processes many same_processes =
+        moves fs up processes fs.time (Spawn cred) (spawned (Err EAGAIN))
         (λ s is_state runs same told size map on.
-        let more : 64 ≤ length s.desks = (let count : length s.desks ≡ length fs.desks = ap length same in omega (arith, count, many)) in (
+        let more : 64 ≤ length s.processes = (let count : length s.processes ≡ length fs.processes = ap length same in omega (arith, count, many)) in (
           s,
-          (running_same size size fs.place map map fs.desks desks s refl (λ n part. refl) same_desks on, told),
+          (running_same size size fs.geometry map map fs.processes processes s refl (λ n part. refl) same_processes on, told),
           λ disk. does_nothing (state disk) (only_now disk) s s (Spawn cred) (spawned (Err EAGAIN)) runs runs (spawn_full s runs cred more) refl refl,
         ))
 
     -- whatever the table of processes answers
-    pub spawn_happens : (fs : System D) → is_halted fs.base ≡ false → (cred : Credential) → IsCredential cred → (desks : Desks) (result : Result ℕ Errno)
-        → IfOk result (λ pid. get nat_cmp fs.desks pid ≡ None)
-        → IfOk result (λ pid. desks ≡ with_entry nat_cmp fs.desks pid (new_process cred))
-        → (result ≡ Err EAGAIN) ↔ (64 ≤ length fs.desks)
+    pub spawn_happens : (fs : System D) → is_halted fs.base ≡ false → (cred : Credential) → IsCredential cred → (processes : ProcessTable) (result : Result ℕ Errno)
+        → IfOk result (λ pid. get nat_cmp fs.processes pid ≡ None)
+        → IfOk result (λ pid. processes ≡ with_entry nat_cmp fs.processes pid (new_process cred))
+        → (result ≡ Err EAGAIN) ↔ (64 ≤ length fs.processes)
         → IfErr result (λ errno. (errno ≡ EAGAIN) ⊎ (errno ≡ ENOMEM))
-        → OnErr result (desks ≡ fs.desks) → Happens state fs (record fs { desks = desks }) (Spawn cred) (spawned result)
-    spawn_happens fs up cred valid desks (Ok pid) unused added full refused same = elim (cases_lt (length fs.desks) 64) [
-      | inl few ↦ spawn_made fs up cred valid desks few pid unused added
+        → OnErr result (processes ≡ fs.processes) → Happens state fs (record fs { processes = processes }) (Spawn cred) (spawned result)
+    spawn_happens fs up cred valid processes (Ok pid) unused added full refused same = elim (cases_lt (length fs.processes) 64) [
+      | inl few ↦ spawn_made fs up cred valid processes few pid unused added
       | inr many ↦ absurd (let c = full.1 many in cc)
     ]
-    spawn_happens fs up cred valid desks (Err errno) unused added full refused same = elim refused [
+    spawn_happens fs up cred valid processes (Err errno) unused added full refused same = elim refused [
       | inl again ↦
-          let many : 64 ≤ length fs.desks = full.0 (ap (λ (x : Errno). Err x) again) in
-          subst (λ (x : Errno). Happens state fs (record fs { desks = desks }) (Spawn cred) (spawned (Err x))) (sym again) (spawn_refused fs up cred desks many same)
-      | inr memory ↦ elim (cases_lt (length fs.desks) 64) [
+          let many : 64 ≤ length fs.processes = full.0 (ap (λ (x : Errno). Err x) again) in
+          subst (λ (x : Errno). Happens state fs (record fs { processes = processes }) (Spawn cred) (spawned (Err x))) (sym again) (spawn_refused fs up cred processes many same)
+      | inr memory ↦ elim (cases_lt (length fs.processes) 64) [
         | inl few ↦
-            subst (λ (x : Errno). Happens state fs (record fs { desks = desks }) (Spawn cred) (spawned (Err x))) (sym memory) (spawn_lacks fs up cred valid desks few same)
+            subst (λ (x : Errno). Happens state fs (record fs { processes = processes }) (Spawn cred) (spawned (Err x))) (sym memory) (spawn_lacks fs up cred valid processes few same)
         | inr many ↦ absurd (let c = full.1 many in let d : ENOMEM ≡ EAGAIN = sym memory ∙ ap err_of c in cc)
       ]
     ]
@@ -168,35 +168,35 @@ module _ {D : Type 0} (state : D → DiskState) where
 
     pub time_told : (fs : System D) → is_halted fs.base ≡ false → (time : ℕ) → time < 2 ^ 64 → Happens state fs (record fs { time = time }) (Clock time) Done
     time_told fs up time small =
-        moves fs up fs.desks time (Clock time) Done
+        moves fs up fs.processes time (Clock time) Done
         (λ s is_state runs same told size map on.
         let step = tells_time s runs time is_state in
         let t : State = record s { now = time } in
         let t_is : IsState t = steps_keep s t (Clock time) Done is_state small step in (
           t,
-          (running_at size fs.place map fs.desks time s t_is on, refl),
+          (running_at size fs.geometry map fs.processes time s t_is on, refl),
           λ disk. does_nothing (state disk) (only_now disk) s t (Clock time) Done runs runs step refl refl,
         ))
 
     -- ---- fsync, where nothing is open there
 
-    pub fsync_refused : (fs : System D) → is_halted fs.base ≡ false → (pid fd : ℕ) (errno : Errno) → open_in fs.desks pid fd ≡ Err errno
+    pub fsync_refused : (fs : System D) → is_halted fs.base ≡ false → (pid fd : ℕ) (errno : Errno) → open_in fs.processes pid fd ≡ Err errno
         → Happens state fs fs (Fsync pid fd) (finished (Err errno))
     fsync_refused fs up pid fd errno closed =
-        moves fs up fs.desks fs.time (Fsync pid fd) (Refused (Failed errno))
+        moves fs up fs.processes fs.time (Fsync pid fd) (Refused (Failed errno))
         (λ s is_state runs same told size map on. (
           s,
           (on, told),
           λ disk. does_nothing (state disk) (only_now disk) s s (Fsync pid fd) (Refused (Failed errno)) runs runs
-              (go s runs (get nat_cmp s.desks pid) refl (ap (λ d. open_in d pid fd) same ∙ closed)) refl (no_fault s (get nat_cmp s.desks pid) (ap (λ d. open_in d pid fd) same ∙ closed)),
+              (go s runs (get nat_cmp s.processes pid) refl (ap (λ d. open_in d pid fd) same ∙ closed)) refl (no_fault s (get nat_cmp s.processes pid) (ap (λ d. open_in d pid fd) same ∙ closed)),
         ))
       where
-        bad : (s : State) (p : Process) → get nat_cmp s.desks pid ≡ Some p → IsFalse s.halted → (o : Option Descriptor) → descriptor p fd ≡ o
+        bad : (s : State) (p : Process) → get nat_cmp s.processes pid ≡ Some p → IsFalse s.halted → (o : Option Descriptor) → descriptor p fd ≡ o
             → ok_or o EBADF ≡ Err errno → Step s (Fsync pid fd) (Refused (Failed errno)) s
         bad s p there runs None e is = subst (λ (x : Errno). Step s (Fsync pid fd) (Refused (Failed x)) s) (let same : EBADF ≡ errno = cc in same) (fsync_closed s pid fd p there runs (ap is_some e))
         bad s p there runs (Some d) e is = absurd cc
 
-        go : (s : State) → IsFalse s.halted → (o : Option Process) → get nat_cmp s.desks pid ≡ o → answer_of_found (open_at fd) o ≡ Err errno
+        go : (s : State) → IsFalse s.halted → (o : Option Process) → get nat_cmp s.processes pid ≡ o → answer_of_found (open_at fd) o ≡ Err errno
             → Step s (Fsync pid fd) (Refused (Failed errno)) s
         go s runs None e is = subst (λ (x : Errno). Step s (Fsync pid fd) (Refused (Failed x)) s) (let same : ESRCH ≡ errno = cc in same) (fsync_absent s pid fd e runs)
         go s runs (Some p) e is = bad s p e runs (descriptor p fd) refl is
@@ -210,45 +210,45 @@ module _ {D : Type 0} (state : D → DiskState) where
         no_fault s (Some p) is = spared (descriptor p fd) is
 
     -- what is open there
-    pub open_firm : (s : State) (desks : Desks) (pid fd : ℕ) (d : Descriptor) → s.desks ≡ desks → open_in desks pid fd ≡ Ok d → firm_refusal s (Fsync pid fd) ≡ None
-    open_firm s desks pid fd d same opened = go (get nat_cmp s.desks pid) refl (ap (λ t. open_in t pid fd) same ∙ opened)
+    pub open_firm : (s : State) (processes : ProcessTable) (pid fd : ℕ) (d : Descriptor) → s.processes ≡ processes → open_in processes pid fd ≡ Ok d → firm_refusal s (Fsync pid fd) ≡ None
+    open_firm s processes pid fd d same opened = go (get nat_cmp s.processes pid) refl (ap (λ t. open_in t pid fd) same ∙ opened)
       where
-        found : (p : Process) → get nat_cmp s.desks pid ≡ Some p → (o : Option Descriptor) → descriptor p fd ≡ o → ok_or o EBADF ≡ Ok d → firm_refusal s (Fsync pid fd) ≡ None
+        found : (p : Process) → get nat_cmp s.processes pid ≡ Some p → (o : Option Descriptor) → descriptor p fd ≡ o → ok_or o EBADF ≡ Ok d → firm_refusal s (Fsync pid fd) ≡ None
         found p there None e is = absurd cc
         found p there (Some x) e is = fsync_firm s pid fd p there (ap is_some e)
 
-        go : (o : Option Process) → get nat_cmp s.desks pid ≡ o → answer_of_found (open_at fd) o ≡ Ok d → firm_refusal s (Fsync pid fd) ≡ None
+        go : (o : Option Process) → get nat_cmp s.processes pid ≡ o → answer_of_found (open_at fd) o ≡ Ok d → firm_refusal s (Fsync pid fd) ≡ None
         go None e is = absurd cc
         go (Some p) e is = found p e (descriptor p fd) refl is
 
     -- ---- sync and fsync
 
-    module _ (place : Place) (desks : Desks) (time : ℕ) (e : Event) where
+    module _ (geometry : Geometry) (processes : ProcessTable) (time : ℕ) (e : Event) where
       pub flush_done : (before after : StoreView D) → SameMap (present state after) (present state before)
           → LeavesOldOr (present state before) (state before.disk) (state after.disk) → EachReadsAs (present state before) (state after.disk)
           → (state before.disk).failures ≤ (state after.disk).failures → (state after.disk).failed_writes ≡ (state before.disk).failed_writes
-          → FlushesFor state (record { base = Some (Ok before); place = place; desks = desks; time = time }) (record { base = Some (Ok after); place = place; desks = desks; time = time }) e Done
+          → FlushesFor state (record { base = Some (Ok before); geometry = geometry; processes = processes; time = time }) (record { base = Some (Ok after); geometry = geometry; processes = processes; time = time }) e Done
       flush_done before after same run lasting later quiet asks s on firm = (
         s,
-        (running_same (state before.disk).size (state after.disk).size place (present state before) (present state after) desks desks s run.size same refl on.0, on.1),
-        does_flush (state before.disk) (state after.disk) place (present state before) desks s on.0 run later e asks firm lasting quiet,
+        (running_same (state before.disk).size (state after.disk).size geometry (present state before) (present state after) processes processes s run.size same refl on.0, on.1),
+        does_flush (state before.disk) (state after.disk) geometry (present state before) processes s on.0 run later e asks firm lasting quiet,
       )
 
       pub flush_broke : (before : StoreView D) (broken : D) → LeavesOldOr (present state before) (state before.disk) (state broken)
           → (state before.disk).failures ≤ (state broken).failures → HasFailed (state before.disk) (state broken) → HasFailedToWrite (state before.disk) (state broken)
-          → FlushesFor state (record { base = Some (Ok before); place = place; desks = desks; time = time }) (record { base = Some (Err broken); place = place; desks = desks; time = time }) e
+          → FlushesFor state (record { base = Some (Ok before); geometry = geometry; processes = processes; time = time }) (record { base = Some (Err broken); geometry = geometry; processes = processes; time = time }) e
           (Refused (Failed EIO))
       flush_broke before broken run later failed unwritten asks s on firm = (
         record s { halted = true },
         refl,
-        does_flush_halt (state before.disk) (state broken) place (present state before) desks s on.0 run later e asks firm failed unwritten,
+        does_flush_halt (state before.disk) (state broken) geometry (present state before) processes s on.0 run later e asks firm failed unwritten,
       )
 
     -- ---- as methods do it: of the parts of a file system, which is seen so
 
-    module _ (base : Base D) (place : Place) (procs : Desks) (time : ℕ) (fs : System D) (view_is : record { base = base; place = place; desks = procs; time = time } ≡ fs) where
+    module _ (base : Base D) (geometry : Geometry) (procs : ProcessTable) (time : ℕ) (fs : System D) (view_is : record { base = base; geometry = geometry; processes = procs; time = time } ≡ fs) where
       abbrev inside : System D
-      inside = record { base = base; place = place; desks = procs; time = time }
+      inside = record { base = base; geometry = geometry; processes = procs; time = time }
 
       module _ (up : is_halted fs.base ≡ false) where
         up_inside : is_halted base ≡ false
@@ -258,7 +258,7 @@ module _ {D : Type 0} (state : D → DiskState) where
         pub store_there : IsSystem state inside → (store : StoreView D) × base ≡ Some (Ok store)
         store_there was = go base up_inside was.in_some.0 was.in_some.1
           where
-            go : (b : Base D) → is_halted b ≡ false → (s : State) → IsOn state place time procs b s → (store : StoreView D) × b ≡ Some (Ok store)
+            go : (b : Base D) → is_halted b ≡ false → (s : State) → IsOn state geometry time procs b s → (store : StoreView D) × b ≡ Some (Ok store)
             go None running s on = absurd on
             go (Some (Ok store)) running s on = (store, refl)
             go (Some (Err broken)) running s on = absurd cc
@@ -272,79 +272,79 @@ module _ {D : Type 0} (state : D → DiskState) where
             → FlushesFor state fs new (Fsync pid fd) reply → Happens state fs new (Fsync pid fd) reply
         fsync_flushed pid fd d opened new reply flushes =
             λ s on. flushes refl s on
-            (open_firm s fs.desks pid fd d (go fs.base up s on) (ap (λ (x : System D). open_in x.desks pid fd) (sym view_is) ∙ opened))
+            (open_firm s fs.processes pid fd d (go fs.base up s on) (ap (λ (x : System D). open_in x.processes pid fd) (sym view_is) ∙ opened))
           where
-            go : (b : Base D) → is_halted b ≡ false → (s : State) → IsOn state fs.place fs.time fs.desks b s → s.desks ≡ fs.desks
+            go : (b : Base D) → is_halted b ≡ false → (s : State) → IsOn state fs.geometry fs.time fs.processes b s → s.processes ≡ fs.processes
             go None running s on = absurd on
-            go (Some (Ok store)) running s on = on.0.state_of.same_desks
+            go (Some (Ok store)) running s on = on.0.state_of.same_processes
             go (Some (Err broken)) running s on = absurd cc
 
         -- the time
-        pub time_returns : (now : ℕ) → now < 2 ^ 64 → Happens state fs (record { base = base; place = place; desks = procs; time = now }) (Clock now) Done
+        pub time_returns : (now : ℕ) → now < 2 ^ 64 → Happens state fs (record { base = base; geometry = geometry; processes = procs; time = now }) (Clock now) Done
         time_returns now small =
-            subst (λ (x : System D). Happens state x (record { base = base; place = place; desks = procs; time = now }) (Clock now) Done) view_is
+            subst (λ (x : System D). Happens state x (record { base = base; geometry = geometry; processes = procs; time = now }) (Clock now) Done) view_is
             (time_told inside up_inside now small)
 
-        pub time_system : (now : ℕ) → now < 2 ^ 64 → IsSystem state (record { base = base; place = place; desks = procs; time = time })
-            → IsSystem state (record { base = base; place = place; desks = procs; time = now })
+        pub time_system : (now : ℕ) → now < 2 ^ 64 → IsSystem state (record { base = base; geometry = geometry; processes = procs; time = time })
+            → IsSystem state (record { base = base; geometry = geometry; processes = procs; time = now })
         time_system now small was =
-            system_then inside (record { base = base; place = place; desks = procs; time = now }) (Clock now) Done (time_told inside up_inside now small)
+            system_then inside (record { base = base; geometry = geometry; processes = procs; time = now }) (Clock now) Done (time_told inside up_inside now small)
             was was.mountable
 
         -- spawn
-        module _ (cred : Credential) (valid : IsCredential cred) (desks : Desks) (result : Result ℕ Errno)
+        module _ (cred : Credential) (valid : IsCredential cred) (processes : ProcessTable) (result : Result ℕ Errno)
             (unused : IfOk result (λ pid. get nat_cmp procs pid ≡ None))
-            (added : IfOk result (λ pid. desks ≡ with_entry nat_cmp procs pid (new_process cred)))
+            (added : IfOk result (λ pid. processes ≡ with_entry nat_cmp procs pid (new_process cred)))
             (full : (result ≡ Err EAGAIN) ↔ (64 ≤ length procs))
             (refused : IfErr result (λ errno. (errno ≡ EAGAIN) ⊎ (errno ≡ ENOMEM)))
-            (same : OnErr result (desks ≡ procs)) where
-          pub spawn_returns : Happens state fs (record { base = base; place = place; desks = desks; time = time }) (Spawn cred) (spawned result)
+            (same : OnErr result (processes ≡ procs)) where
+          pub spawn_returns : Happens state fs (record { base = base; geometry = geometry; processes = processes; time = time }) (Spawn cred) (spawned result)
           spawn_returns =
-              subst (λ (x : System D). Happens state x (record { base = base; place = place; desks = desks; time = time }) (Spawn cred) (spawned result)) view_is
-              (spawn_happens inside up_inside cred valid desks result unused added full refused same)
+              subst (λ (x : System D). Happens state x (record { base = base; geometry = geometry; processes = processes; time = time }) (Spawn cred) (spawned result)) view_is
+              (spawn_happens inside up_inside cred valid processes result unused added full refused same)
 
-          pub spawn_system : IsSystem state (record { base = base; place = place; desks = procs; time = time }) → IsSystem state (record { base = base; place = place; desks = desks; time = time })
+          pub spawn_system : IsSystem state (record { base = base; geometry = geometry; processes = procs; time = time }) → IsSystem state (record { base = base; geometry = geometry; processes = processes; time = time })
           spawn_system was =
-              system_then inside (record { base = base; place = place; desks = desks; time = time }) (Spawn cred) (spawned result)
-              (spawn_happens inside up_inside cred valid desks result unused added full refused same) was was.mountable
+              system_then inside (record { base = base; geometry = geometry; processes = processes; time = time }) (Spawn cred) (spawned result)
+              (spawn_happens inside up_inside cred valid processes result unused added full refused same) was was.mountable
 
       -- where a commit has failed
       pub last_halted : (broken : D) → base ≡ Some (Err broken) → (disk : D) → disk ≡ broken → HappensLast state fs disk Sync (Refused (Failed EIO))
       last_halted broken is disk here =
           subst (λ (d : D). HappensLast state fs d Sync (Refused (Failed EIO))) (sym here)
           (subst (λ (x : System D). HappensLast state x broken Sync (Refused (Failed EIO)))
-          (ap (λ (b : Base D). record { base = b; place = place; desks = procs; time = time }) (sym is) ∙ view_is)
+          (ap (λ (b : Base D). record { base = b; geometry = geometry; processes = procs; time = time }) (sym is) ∙ view_is)
           (λ s r. (s, does_halted (state broken) (only_now broken) s Sync refl r)))
 
       -- with a store
       module _ (before : StoreView D) (is : base ≡ Some (Ok before)) where
-        seen_so : record { base = Some (Ok before); place = place; desks = procs; time = time } ≡ fs
-        seen_so = ap (λ (b : Base D). record { base = b; place = place; desks = procs; time = time }) (sym is) ∙ view_is
+        seen_so : record { base = Some (Ok before); geometry = geometry; processes = procs; time = time } ≡ fs
+        seen_so = ap (λ (b : Base D). record { base = b; geometry = geometry; processes = procs; time = time }) (sym is) ∙ view_is
 
         -- it goes on in some state
-        pub store_runs : IsSystem state (record { base = base; place = place; desks = procs; time = time })
-            → (s : State) × IsRunning (state before.disk).size place (present state before) procs s
+        pub store_runs : IsSystem state (record { base = base; geometry = geometry; processes = procs; time = time })
+            → (s : State) × IsRunning (state before.disk).size geometry (present state before) procs s
         store_runs was =
-            let here = (subst (λ (b : Base D). IsSystem state (record { base = b; place = place; desks = procs; time = time })) is was).in_some in
+            let here = (subst (λ (b : Base D). IsSystem state (record { base = b; geometry = geometry; processes = procs; time = time })) is was).in_some in
             (here.0, here.1.0)
 
         -- an event that was performed
-        module _ (now : Result (StoreView D) D) (desks : Desks) (e : Event) (reply : Reply)
-            (does : (s : State) → IsRunning (state before.disk).size place (present state before) procs s → s.now ≡ time
-            → (t : State) × IsOn state place s.now desks (Some now) t × Does (state before.disk) (state (disk_after now)) s e reply t) where
-          at_time : (s : State) → IsOn state place time procs (Some (Ok before)) s
-              → (t : State) × IsOn state place time desks (Some now) t × Does (state before.disk) (state (disk_after now)) s e reply t
+        module _ (now : Result (StoreView D) D) (processes : ProcessTable) (e : Event) (reply : Reply)
+            (does : (s : State) → IsRunning (state before.disk).size geometry (present state before) procs s → s.now ≡ time
+            → (t : State) × IsOn state geometry s.now processes (Some now) t × Does (state before.disk) (state (disk_after now)) s e reply t) where
+          at_time : (s : State) → IsOn state geometry time procs (Some (Ok before)) s
+              → (t : State) × IsOn state geometry time processes (Some now) t × Does (state before.disk) (state (disk_after now)) s e reply t
           at_time s on =
               let next = does s on.0 on.1 in
-              (next.0, subst (λ (k : ℕ). IsOn state place k desks (Some now) next.0) on.1 next.1, next.2)
+              (next.0, subst (λ (k : ℕ). IsOn state geometry k processes (Some now) next.0) on.1 next.1, next.2)
 
-          pub kept_returns : Happens state fs (record { base = Some now; place = place; desks = desks; time = time }) e reply
-          kept_returns = subst (λ (x : System D). Happens state x (record { base = Some now; place = place; desks = desks; time = time }) e reply) seen_so at_time
+          pub kept_returns : Happens state fs (record { base = Some now; geometry = geometry; processes = processes; time = time }) e reply
+          kept_returns = subst (λ (x : System D). Happens state x (record { base = Some now; geometry = geometry; processes = processes; time = time }) e reply) seen_so at_time
 
           pub kept_system : ((t : ℕ) (image : Image) → t ≤ (state (disk_after now)).moment → IsImage (state (disk_after now)) image → (state (disk_after now)).left_since t image)
-              → IsSystem state (record { base = base; place = place; desks = procs; time = time }) → IsSystem state (record { base = Some now; place = place; desks = desks; time = time })
+              → IsSystem state (record { base = base; geometry = geometry; processes = procs; time = time }) → IsSystem state (record { base = Some now; geometry = geometry; processes = processes; time = time })
           kept_system counts_now was =
-              let here = subst (λ (b : Base D). IsSystem state (record { base = b; place = place; desks = procs; time = time })) is was in
+              let here = subst (λ (b : Base D). IsSystem state (record { base = b; geometry = geometry; processes = procs; time = time })) is was in
               let next = at_time here.in_some.0 here.in_some.1 in
               record {
                 in_some = (next.0, next.1);
@@ -353,61 +353,61 @@ module _ {D : Type 0} (state : D → DiskState) where
 
         -- one that leaves the state as it was
         module _ (after : StoreView D) (e : Event) (reply : Reply)
-            (does : (s : State) → IsRunning (state before.disk).size place (present state before) procs s
-            → IsRunning (state after.disk).size place (present state after) procs s × Does (state before.disk) (state after.disk) s e reply s) where
-          pub same_returns : Happens state fs (record { base = Some (Ok after); place = place; desks = procs; time = time }) e reply
+            (does : (s : State) → IsRunning (state before.disk).size geometry (present state before) procs s
+            → IsRunning (state after.disk).size geometry (present state after) procs s × Does (state before.disk) (state after.disk) s e reply s) where
+          pub same_returns : Happens state fs (record { base = Some (Ok after); geometry = geometry; processes = procs; time = time }) e reply
           same_returns = kept_returns (Ok after) procs e reply (λ s r told. let done = does s r in (s, (done.0, refl), done.1))
 
           pub same_system : ((t : ℕ) (image : Image) → t ≤ (state after.disk).moment → IsImage (state after.disk) image → (state after.disk).left_since t image)
-              → IsSystem state (record { base = base; place = place; desks = procs; time = time }) → IsSystem state (record { base = Some (Ok after); place = place; desks = procs; time = time })
+              → IsSystem state (record { base = base; geometry = geometry; processes = procs; time = time }) → IsSystem state (record { base = Some (Ok after); geometry = geometry; processes = procs; time = time })
           same_system counts_now was = kept_system (Ok after) procs e reply (λ s r told. let done = does s r in (s, (done.0, refl), done.1)) counts_now was
 
         module _ (after : StoreView D) (same : SameMap (present state after) (present state before))
             (run : LeavesOldOr (present state before) (state before.disk) (state after.disk)) (lasting : EachReadsAs (present state before) (state after.disk))
             (later : (state before.disk).failures ≤ (state after.disk).failures) (quiet : (state after.disk).failed_writes ≡ (state before.disk).failed_writes) where
-          pub flush_returns : (e : Event) → FlushesFor state fs (record { base = Some (Ok after); place = place; desks = procs; time = time }) e Done
+          pub flush_returns : (e : Event) → FlushesFor state fs (record { base = Some (Ok after); geometry = geometry; processes = procs; time = time }) e Done
           flush_returns e =
-              subst (λ (x : System D). FlushesFor state x (record { base = Some (Ok after); place = place; desks = procs; time = time }) e Done) seen_so
-              (flush_done place procs time e before after same run lasting later quiet)
+              subst (λ (x : System D). FlushesFor state x (record { base = Some (Ok after); geometry = geometry; processes = procs; time = time }) e Done) seen_so
+              (flush_done geometry procs time e before after same run lasting later quiet)
 
         -- the disk is handed back
         pub last_closed : (disk : D) → LeavesOldOr (present state before) (state before.disk) (state disk) → EachReadsAs (present state before) (state disk)
             → (state before.disk).failures ≤ (state disk).failures → (state disk).failed_writes ≡ (state before.disk).failed_writes → HappensLast state fs disk Sync Done
         last_closed disk run lasting later quiet =
             subst (λ (x : System D). HappensLast state x disk Sync Done) seen_so
-            (λ s on. (s, does_flush (state before.disk) (state disk) place (present state before) procs s on.0 run later Sync refl (sync_firm s) lasting quiet))
+            (λ s on. (s, does_flush (state before.disk) (state disk) geometry (present state before) procs s on.0 run later Sync refl (sync_firm s) lasting quiet))
 
         module _ (broken : D) (run : LeavesOldOr (present state before) (state before.disk) (state broken)) (later : (state before.disk).failures ≤ (state broken).failures)
             (failed : HasFailed (state before.disk) (state broken)) (unwritten : HasFailedToWrite (state before.disk) (state broken)) where
-          pub break_returns : (e : Event) → FlushesFor state fs (record { base = Some (Err broken); place = place; desks = procs; time = time }) e (Refused (Failed EIO))
+          pub break_returns : (e : Event) → FlushesFor state fs (record { base = Some (Err broken); geometry = geometry; processes = procs; time = time }) e (Refused (Failed EIO))
           break_returns e =
-              subst (λ (x : System D). FlushesFor state x (record { base = Some (Err broken); place = place; desks = procs; time = time }) e (Refused (Failed EIO))) seen_so
-              (flush_broke place procs time e before broken run later failed unwritten)
+              subst (λ (x : System D). FlushesFor state x (record { base = Some (Err broken); geometry = geometry; processes = procs; time = time }) e (Refused (Failed EIO))) seen_so
+              (flush_broke geometry procs time e before broken run later failed unwritten)
 
           pub last_broken : (disk : D) → disk ≡ broken → HappensLast state fs disk Sync (Refused (Failed EIO))
           last_broken disk here =
               subst (λ (d : D). HappensLast state fs d Sync (Refused (Failed EIO))) (sym here)
               (subst (λ (x : System D). HappensLast state x broken Sync (Refused (Failed EIO))) seen_so
-              (λ s on. let done = flush_broke place procs time Sync before broken run later failed unwritten refl s on (sync_firm s) in (done.0, done.2)))
+              (λ s on. let done = flush_broke geometry procs time Sync before broken run later failed unwritten refl s on (sync_firm s) in (done.0, done.2)))
 
         -- what is left may be mounted
         pub flush_leaves : (disk : D) → ((t : ℕ) (image : Image) → t ≤ (state disk).moment → IsImage (state disk) image → (state disk).left_since t image)
-            → LeavesOldOr (present state before) (state before.disk) (state disk) → IsSystem state (record { base = base; place = place; desks = procs; time = time })
+            → LeavesOldOr (present state before) (state before.disk) (state disk) → IsSystem state (record { base = base; geometry = geometry; processes = procs; time = time })
             → EachStandsForSome (state disk)
         flush_leaves disk counts_now run was =
-            let here = subst (λ (b : Base D). IsSystem state (record { base = b; place = place; desks = procs; time = time })) is was in
-            flush_mountable (state before.disk) (state disk) place (present state before) procs here.in_some.0 here.in_some.1.0 run counts_now here.mountable
+            let here = subst (λ (b : Base D). IsSystem state (record { base = b; geometry = geometry; processes = procs; time = time })) is was in
+            flush_mountable (state before.disk) (state disk) geometry (present state before) procs here.in_some.0 here.in_some.1.0 run counts_now here.mountable
 
         pub flush_system : (after : StoreView D) → ((t : ℕ) (image : Image) → t ≤ (state after.disk).moment → IsImage (state after.disk) image → (state after.disk).left_since t image)
             → SameMap (present state after) (present state before) → LeavesOldOr (present state before) (state before.disk) (state after.disk)
-            → IsSystem state (record { base = base; place = place; desks = procs; time = time }) → IsSystem state (record { base = Some (Ok after); place = place; desks = procs; time = time })
+            → IsSystem state (record { base = base; geometry = geometry; processes = procs; time = time }) → IsSystem state (record { base = Some (Ok after); geometry = geometry; processes = procs; time = time })
         flush_system after counts_now same run was =
-            let here = subst (λ (b : Base D). IsSystem state (record { base = b; place = place; desks = procs; time = time })) is was in
+            let here = subst (λ (b : Base D). IsSystem state (record { base = b; geometry = geometry; processes = procs; time = time })) is was in
             record {
               in_some = (
                 here.in_some.0,
                 (
-                  running_same (state before.disk).size (state after.disk).size place (present state before) (present state after) procs procs here.in_some.0 run.size
+                  running_same (state before.disk).size (state after.disk).size geometry (present state before) (present state after) procs procs here.in_some.0 run.size
                       same refl here.in_some.1.0,
                   here.in_some.1.1,
                 ),
@@ -417,7 +417,7 @@ module _ {D : Type 0} (state : D → DiskState) where
 
         pub break_system : (broken : D) → ((t : ℕ) (image : Image) → t ≤ (state broken).moment → IsImage (state broken) image → (state broken).left_since t image)
             → LeavesOldOr (present state before) (state before.disk) (state broken)
-            → IsSystem state (record { base = base; place = place; desks = procs; time = time }) → IsSystem state (record { base = Some (Err broken); place = place; desks = procs; time = time })
+            → IsSystem state (record { base = base; geometry = geometry; processes = procs; time = time }) → IsSystem state (record { base = Some (Err broken); geometry = geometry; processes = procs; time = time })
         break_system broken counts_now run was =
-            let here = subst (λ (b : Base D). IsSystem state (record { base = b; place = place; desks = procs; time = time })) is was in
+            let here = subst (λ (b : Base D). IsSystem state (record { base = b; geometry = geometry; processes = procs; time = time })) is was in
             record { in_some = (record here.in_some.0 { halted = true }, refl); mountable = flush_leaves broken counts_now run was }

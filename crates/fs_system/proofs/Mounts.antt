@@ -2,7 +2,7 @@
 use Rattle.std.proofs.Common.{◌≡◌, ◌≤◌, ℕ, [], Some, Ok, length, refl, sym, ap, subst, ◌∙◌, arith, false}
 use Rattle.sector_disk.specs.Disk.{DiskState, Image, sector, IsImage, IsSame, Elapses, LeavesOnly, HasFailed}
 use Rattle.sector_disk.proofs.Moments.{failed_later, holds_now, joined, one_call, unchanged, weaker}
-use Rattle.fs_layout.specs.declared.place.Place.{Place}
+use Rattle.fs_layout.specs.declared.geometry.Geometry.{Geometry}
 use Rattle.fs_layout.specs.Bytes.{SectorMap}
 use Rattle.fs_layout.specs.Images.{free_sectors}
 use Rattle.fs_layout.specs.Recovered.{recovered}
@@ -11,7 +11,7 @@ use Rattle.fs_model.specs.declared.event.RestartFault.{RestartFault}
 use Rattle.fs_model.specs.declared.event.RestartFault.TheVariants.{DiskFault}
 use Rattle.fs_model.specs.Trees.{Tree, Room}
 use Rattle.fs_model.specs.TreeChanges.{pruned}
-use Rattle.fs_model.specs.Processes.{Desks}
+use Rattle.fs_model.specs.Processes.{ProcessTable}
 use Rattle.fs_model.specs.States.{State, IsState, MayBeFree}
 use Rattle.fs_model.specs.Stands.{room_of}
 use Rattle.fs_model.proofs.OneTree.{one_tree}
@@ -50,16 +50,16 @@ opened_stands old mid new only_now same time run =
     (weaker (λ image means. let was = means_stands mid image means in (was.0, unchanged same was.1, was.2)) run)
 
 -- and then what a stop leaves stands for the tree for which the disk stood, but for files without names
-pub swept_stands : (old mid new : DiskState) (room : Room) (t : Tree) (free : ℕ) (place : Place) → IsImage old old.seen
-    → (stands : StandsFor room old.seen t free) → stands.place ≡ place → LeavesOnly old mid (StandsAsBefore old)
-    → LeavesOnly mid new (StandsPruned (room_of place) t) → LeavesOnly old new (StandsAsBefore old)
-swept_stands old mid new room t free place seen stands found first then =
+pub swept_stands : (old mid new : DiskState) (room : Room) (t : Tree) (free : ℕ) (geometry : Geometry) → IsImage old old.seen
+    → (stands : StandsFor room old.seen t free) → stands.geometry ≡ geometry → LeavesOnly old mid (StandsAsBefore old)
+    → LeavesOnly mid new (StandsPruned (room_of geometry) t) → LeavesOnly old new (StandsAsBefore old)
+swept_stands old mid new room t free geometry seen stands found first then =
     joined first (weaker (λ image left. (
       old.seen,
       seen,
       λ room' t' free' stands'.
           let one = one_tree (length old.seen) (sector old.seen) room room' t t' free free' stands stands' in
-          let same : room_of place ≡ room' = sym (stands.room_is ∙ ap room_of found) ∙ one.rooms in
+          let same : room_of geometry ≡ room' = sym (stands.room_is ∙ ap room_of found) ∙ one.rooms in
           (left.0, left.1, subst (λ (r : Room). StandsFor r image left.0 left.1) same left.2, left.3 ∙ ap pruned one.trees),
     )) then)
 
@@ -75,48 +75,48 @@ fails_to_mount old new fault counts_now run later cause = record {
 
 module _ (old : DiskState) (size : length old.seen ≡ old.size) (room : Room) (t : Tree) (free : ℕ) (stands : StandsFor room old.seen t free) where
   module _ (new : DiskState) (sized : new.size ≡ old.size) (map : SectorMap) (same : SameMap map (data_of old)) (lasting : EachReadsAs map new) where
-    old_disk : IsDiskOf old.size stands.place (data_of old)
-    old_disk = subst (λ n. IsDiskOf n stands.place (recovered n (sector old.seen))) size (disk_of_standing (length old.seen) (sector old.seen) room t free stands)
+    old_disk : IsDiskOf old.size stands.geometry (data_of old)
+    old_disk = subst (λ n. IsDiskOf n stands.geometry (recovered n (sector old.seen))) size (disk_of_standing (length old.seen) (sector old.seen) room t free stands)
 
-    old_holds : HoldsCounted stands.place (data_of old) t free
-    old_holds = subst (λ n. HoldsCounted stands.place (recovered n (sector old.seen)) t free) size (holds_of_standing (length old.seen) (sector old.seen) room t free stands)
+    old_holds : HoldsCounted stands.geometry (data_of old) t free
+    old_holds = subst (λ n. HoldsCounted stands.geometry (recovered n (sector old.seen)) t free) size (holds_of_standing (length old.seen) (sector old.seen) room t free stands)
 
-    map_disk : IsDiskOf new.size stands.place map
-    map_disk = subst (λ n. IsDiskOf n stands.place map) (sym sized) (disk_same old.size stands.place (data_of old) map same old_disk)
+    map_disk : IsDiskOf new.size stands.geometry map
+    map_disk = subst (λ n. IsDiskOf n stands.geometry map) (sym sized) (disk_same old.size stands.geometry (data_of old) map same old_disk)
 
-    map_holds : HoldsCounted stands.place map t free
-    map_holds = holds_same old.size stands.place (data_of old) map t free same old_disk old_holds
+    map_holds : HoldsCounted stands.geometry map t free
+    map_holds = holds_same old.size stands.geometry (data_of old) map t free same old_disk old_holds
 
-    pub has_tree : (place : Place) → stands.place ≡ place → HasTree place map new t
-    has_tree place found = subst (λ (q : Place). HasTree q map new t) found (record {
+    pub has_tree : (geometry : Geometry) → stands.geometry ≡ geometry → HasTree geometry map new t
+    has_tree geometry found = subst (λ (q : Geometry). HasTree q map new t) found (record {
       stored = record { disk_is = map_disk; holds = record { holds = map_holds.holds; tree = map_holds.tree_is } };
-      images = λ image is. let here = each_stands stands.place map t free new map_disk map_holds lasting image is in (t, here.0, here.1, refl);
+      images = λ image is. let here = each_stands stands.geometry map t free new map_disk map_holds lasting image is in (t, here.0, here.1, refl);
     })
 
   -- and that holds the tree then, without files that have no name
-  module _ (new : DiskState) (map : SectorMap) (place : Place) (found : stands.place ≡ place) (stored : IsStored new.size place map (pruned t))
-      (images : EachStandsFor (room_of place) new (pruned t)) (later : old.failures ≤ new.failures) (quiet : new.failed_writes ≡ old.failed_writes) where
+  module _ (new : DiskState) (map : SectorMap) (geometry : Geometry) (found : stands.geometry ≡ geometry) (stored : IsStored new.size geometry map (pruned t))
+      (images : EachStandsFor (room_of geometry) new (pruned t)) (later : old.failures ≤ new.failures) (quiet : new.failed_writes ≡ old.failed_writes) where
     abbrev pub state_found : State
-    state_found = record { room = room; tree = pruned t; desks = []; free = free_sectors place map; now = 0; halted = false }
+    state_found = record { room = room; tree = pruned t; processes = []; free = free_sectors geometry map; now = 0; halted = false }
 
-    room_is : room ≡ room_of place
+    room_is : room ≡ room_of geometry
     room_is = stands.room_is ∙ ap room_of found
 
-    may_be_free : MayBeFree room (pruned t) (free_sectors place map)
+    may_be_free : MayBeFree room (pruned t) (free_sectors geometry map)
     may_be_free =
-        count_may_be_free place map room (pruned t) (ap (λ (r : Room). r.sectors) room_is) (ap (λ (r : Room). r.slot_size) room_is)
+        count_may_be_free geometry map room (pruned t) (ap (λ (r : Room). r.sectors) room_is) (ap (λ (r : Room). r.slot_size) room_is)
         (pruned_is_tree room t stands.tree_is) stored.holds.holds
 
     found_state : IsState state_found
     found_state =
-        left_is_state (record { room = room; tree = t; desks = []; free = free; now = 0; halted = false }) t [] (free_sectors place map) (is_room old.seen room t free stands) (omega arith)
+        left_is_state (record { room = room; tree = t; processes = []; free = free; now = 0; halted = false }) t [] (free_sectors geometry map) (is_room old.seen room t free stands) (omega arith)
         (tree_may_be_left room t [] stands.tree_is refl (omega arith) (λ pid p e. absurd cc)) may_be_free
 
     mounted_here : IsMounted new room t state_found
     mounted_here = record { is_mounted = refl; free = may_be_free; images = subst (λ (q : Room). EachStandsFor q new (pruned t)) (sym room_is) images }
 
-    pub ends_mounted : (desks : Desks) → desks ≡ [] → (s : State) × (IsRunning new.size place map desks s × (s.now ≡ 0)) × Mounts old new s
-    ends_mounted desks none = (
+    pub ends_mounted : (processes : ProcessTable) → processes ≡ [] → (s : State) × (IsRunning new.size geometry map processes s × (s.now ≡ 0)) × Mounts old new s
+    ends_mounted processes none = (
       state_found,
       (
         record {
@@ -124,7 +124,7 @@ module _ (old : DiskState) (size : length old.seen ≡ old.size) (room : Room) (
           state_of = record {
             is_state = found_state;
             up = refl;
-            same_desks = sym none;
+            same_processes = sym none;
             same_room = room_is;
             holds = stored.holds.holds;
             free_is = refl;
@@ -151,33 +151,33 @@ device_failed old mid new fault later cause is = failed_later old mid new later 
 module _ {D : Type 0} (state : D → DiskState) (disk read : D) (store : StoreView D) (seen : IsImage (state disk) (state disk).seen) (was : StandsForSome (state disk).seen)
     (same : IsSame (state disk) (state read)) (size : (state store.disk).size ≡ (state read).size)
     (map : SameMap (present state store) (data_of (state read))) (lasting : EachReadsAs (present state store) (state store.disk))
-    (place : Place) (found : HasPartsAt (state disk).seen place) where
-  abbrev at : was.3.place ≡ place
+    (geometry : Geometry) (found : HasPartsAt (state disk).seen geometry) where
+  abbrev at : was.3.geometry ≡ geometry
   at = found was.0 was.1 was.2 was.3
 
-  pub opened_tree : HasTree place (present state store) (state store.disk) was.1
+  pub opened_tree : HasTree geometry (present state store) (state store.disk) was.1
   opened_tree =
       has_tree (state disk) seen.size was.0 was.1 was.2 was.3 (state store.disk) (size ∙ same.narrowed.size) (present state store)
       (same_chain (present state store) (data_of (state read)) (data_of (state disk)) map (λ n part. data_stays (state disk) (state read) same.narrowed n))
-      lasting place at
+      lasting geometry at
 
   -- at any moment
   pub swept_moments : (new : DiskState) → LeavesOnly (state disk) (state store.disk) (StandsAsBefore (state disk))
-      → KeepsTree place (present state store) (state store.disk) new → LeavesOnly (state disk) new (StandsAsBefore (state disk))
-  swept_moments new first keeps = swept_stands (state disk) (state store.disk) new was.0 was.1 was.2 place seen was.3 at first (keeps was.1 opened_tree)
+      → KeepsTree geometry (present state store) (state store.disk) new → LeavesOnly (state disk) new (StandsAsBefore (state disk))
+  swept_moments new first keeps = swept_stands (state disk) (state store.disk) new was.0 was.1 was.2 geometry seen was.3 at first (keeps was.1 opened_tree)
 
   module _ (then : StoreView D)
-      (swept : (t : Tree) → HasTree place (present state store) (state store.disk) t → IsStored (state then.disk).size place (present state then) (pruned t))
-      (stable : (t : Tree) → HasTree place (present state store) (state store.disk) t → EachStandsFor (room_of place) (state then.disk) (pruned t))
+      (swept : (t : Tree) → HasTree geometry (present state store) (state store.disk) t → IsStored (state then.disk).size geometry (present state then) (pruned t))
+      (stable : (t : Tree) → HasTree geometry (present state store) (state store.disk) t → EachStandsFor (room_of geometry) (state then.disk) (pruned t))
       (later : (state disk).failures ≤ (state then.disk).failures) (quiet : (state then.disk).failed_writes ≡ (state disk).failed_writes)
-      (desks : Desks) (none : desks ≡ []) where
-    pub mounts_found : (s : State) × (IsRunning (state then.disk).size place (present state then) desks s × (s.now ≡ 0)) × Mounts (state disk) (state then.disk) s
+      (processes : ProcessTable) (none : processes ≡ []) where
+    pub mounts_found : (s : State) × (IsRunning (state then.disk).size geometry (present state then) processes s × (s.now ≡ 0)) × Mounts (state disk) (state then.disk) s
     mounts_found =
-        ends_mounted (state disk) seen.size was.0 was.1 was.2 was.3 (state then.disk) (present state then) place at (swept was.1 opened_tree)
-        (stable was.1 opened_tree) later quiet desks none
+        ends_mounted (state disk) seen.size was.0 was.1 was.2 was.3 (state then.disk) (present state then) geometry at (swept was.1 opened_tree)
+        (stable was.1 opened_tree) later quiet processes none
 
-    pub mounted_system : IsSystem state (record { base = Some (Ok then); place = place; desks = desks; time = 0 })
+    pub mounted_system : IsSystem state (record { base = Some (Ok then); geometry = geometry; processes = processes; time = 0 })
     mounted_system =
         let is = mounts_found in
         let each = stable was.1 opened_tree in
-        record { in_some = (is.0, is.1); mountable = λ image left. let one = each image left in (room_of place, pruned was.1, one.0, one.1) }
+        record { in_some = (is.0, is.1); mountable = λ image left. let one = each image left in (room_of geometry, pruned was.1, one.0, one.1) }

@@ -5,9 +5,9 @@ use Rattle.std.proofs.lemmas.Bool.{cases_lt}
 use Rattle.std.proofs.lemmas.List.{take_more}
 use Rattle.sector_disk.specs.Disk.{DiskState, Image, IsImage, IsSame, IsStable, sector}
 use Rattle.sector_disk.proofs.Moments.{narrowed, stable_image}
-use Rattle.fs_layout.specs.declared.place.Place.{Place}
+use Rattle.fs_layout.specs.declared.geometry.Geometry.{Geometry}
 use Rattle.sector_txn.specs.Stores.{StoreView, disk_after}
-use Rattle.fs_model.specs.Processes.{Desks}
+use Rattle.fs_model.specs.Processes.{ProcessTable}
 use Rattle.fs_model.specs.declared.reply.Reply.{Reply}
 use Rattle.fs_model.specs.declared.event.Event.{Event}
 use Rattle.fs_model.specs.declared.event.Event.TheVariants.{Arm, Restart}
@@ -36,10 +36,10 @@ use Rattle.fs_images.specs.Standing.{StandsForSome, EachStandsForSome, Covers, H
 use Rattle.fs_system.proofs.Runs.{only_here, histories_are_runs}
 
 -- there is room where the table isn't full
-pub still_room : (desks desks' : Desks) (full : Bool) → desks ≡ desks' → IsTrue full ↔ (64 ≤ length desks) → full ≡ false → length desks' < 64
-still_room desks desks' full same is not_full = elim (cases_lt (length desks') 64) [
+pub still_room : (processes processes' : ProcessTable) (full : Bool) → processes ≡ processes' → IsTrue full ↔ (64 ≤ length processes) → full ≡ false → length processes' < 64
+still_room processes processes' full same is not_full = elim (cases_lt (length processes') 64) [
   | inl less ↦ less
-  | inr many ↦ absurd (let yes = is.1 (subst (λ (d : Desks). 64 ≤ length d) (sym same) many) in cc)
+  | inr many ↦ absurd (let yes = is.1 (subst (λ (d : ProcessTable). 64 ≤ length d) (sym same) many) in cc)
 ]
 
 module _ {D : Type 0} (state : D → DiskState) where
@@ -84,7 +84,7 @@ module _ {D : Type 0} (state : D → DiskState) where
   pub the_disk : (fs : System D) (s : State) → IsIn state fs s → (disk : D) × HasDisk fs.base disk
   the_disk fs s here = go fs.base here
     where
-      go : (b : Base D) → IsOn state fs.place fs.time fs.desks b s → (disk : D) × HasDisk b disk
+      go : (b : Base D) → IsOn state fs.geometry fs.time fs.processes b s → (disk : D) × HasDisk b disk
       go None on = absurd on
       go (Some k) on = (disk_after k, refl)
 
@@ -99,14 +99,14 @@ module _ {D : Type 0} (state : D → DiskState) where
   device_is (Err alone) (Off d) disk is has = sym is ∙ has
 
   -- as a file system gives its disk away
-  module _ (base : Base D) (place : Place) (procs : Desks) (time : ℕ) where
-    pub disk_given : (fs : System D) → record { base = base; place = place; desks = procs; time = time } ≡ fs → (held : Result (StoreView D) D) → base ≡ Some held
+  module _ (base : Base D) (geometry : Geometry) (procs : ProcessTable) (time : ℕ) where
+    pub disk_given : (fs : System D) → record { base = base; geometry = geometry; processes = procs; time = time } ≡ fs → (held : Result (StoreView D) D) → base ≡ Some held
         → (disk : D) → disk ≡ disk_after held → HasDisk fs.base disk
     disk_given fs view_is held is disk given =
         subst (λ (x : System D). HasDisk x.base disk) view_is (subst (λ (b : Base D). HasDisk b disk) (sym is) (sym given))
 
     pub disk_mounts : (held : Result (StoreView D) D) → base ≡ Some held → (disk : D) → disk ≡ disk_after held
-        → IsSystem state (record { base = base; place = place; desks = procs; time = time }) → EachStandsForSome (state disk)
+        → IsSystem state (record { base = base; geometry = geometry; processes = procs; time = time }) → EachStandsForSome (state disk)
     disk_mounts held is disk given was =
         subst (λ (d : D). EachStandsForSome (state d)) (sym given) (subst (λ (b : Base D). EachStandsForSome (disk_in state b)) is was.mountable)
 

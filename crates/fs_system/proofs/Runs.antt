@@ -200,9 +200,9 @@ module _ {D : Type 0} (state : D → DiskState) (counts_now : (disk : D) (t : �
       let u = found.3 in
       let as_mounted = d.each room t found.1 found.2 in
       let tree : s.tree ≡ pruned t = ap (λ q. q.tree) as_mounted.is_mounted in
-      let is : s ≡ record { room = m.state.room; tree = pruned u; desks = []; free = s.free; now = 0; halted = false } =
-      as_mounted.is_mounted ∙ ap (λ (q : Room). record { room = q; tree = pruned t; desks = []; free = s.free; now = 0; halted = false }) (sym fs.same_room)
-      ∙ ap (λ (q : Tree). record { room = m.state.room; tree = q; desks = []; free = s.free; now = 0; halted = false }) found.5 in
+      let is : s ≡ record { room = m.state.room; tree = pruned u; processes = []; free = s.free; now = 0; halted = false } =
+      as_mounted.is_mounted ∙ ap (λ (q : Room). record { room = q; tree = pruned t; processes = []; free = s.free; now = 0; halted = false }) (sym fs.same_room)
+      ∙ ap (λ (q : Tree). record { room = m.state.room; tree = q; processes = []; free = s.free; now = 0; halted = false }) found.5 in
       let free : MayBeFree m.state.room (pruned u) s.free =
       subst (λ (q : Tree). MayBeFree m.state.room q s.free) found.5 (subst (λ (q : Room). MayBeFree q (pruned t) s.free) (sym fs.same_room) as_mounted.free) in (
         restarted m s true 0,
@@ -231,7 +231,7 @@ module _ {D : Type 0} (state : D → DiskState) (counts_now : (disk : D) (t : �
       let found = fs.covers (state mid).seen stop.image in
       let t = found.0 in
       let u = found.3 in
-      let s : State = record { room = m.state.room; tree = pruned u; desks = []; free = m.state.room.sectors; now = 0; halted = false } in (
+      let s : State = record { room = m.state.room; tree = pruned u; processes = []; free = m.state.room.sectors; now = 0; halted = false } in (
         restarted m s false (mount_faults fault),
         machine.mount_fails bytes arm refl fault refl s
             (record { tree = u; is_one = found.4; free = m.state.room.sectors; may_be_free = record { least = omega arith; most = omega arith }; is = refl }) refl,

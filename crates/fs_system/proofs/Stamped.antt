@@ -13,7 +13,7 @@ use Rattle.fs_cred.specs.declared.errno.Errno.TheVariants.{ENOENT}
 use Rattle.fs_cred.specs.declared.refusal.Refusal.TheVariants.{Failed}
 use Rattle.fs_layout.specs.declared.inode.Inode.{Inode}
 use Rattle.fs_layout.specs.declared.inode.Kind.TheVariants as kinds
-use Rattle.fs_layout.specs.declared.place.Place.{Place}
+use Rattle.fs_layout.specs.declared.geometry.Geometry.{Geometry}
 use Rattle.fs_layout.specs.Bytes.{SectorMap}
 use Rattle.fs_layout.specs.Images.{inode_at}
 use Rattle.fs_layout.specs.Inode.{free_inode}
@@ -31,7 +31,7 @@ use Rattle.fs_model.specs.declared.touch.Touch.TheVariants.{Untouched}
 use Rattle.fs_model.specs.Births.{the_node}
 use Rattle.fs_model.specs.Demands.{refuse}
 use Rattle.fs_model.specs.Nodes.{Node, stamped}
-use Rattle.fs_model.specs.Processes.{Desks}
+use Rattle.fs_model.specs.Processes.{ProcessTable}
 use Rattle.fs_model.specs.Ranges.{IsSomeCount}
 use Rattle.fs_model.specs.Stands.{HoldsPlaced, HoldsAll, placed}
 use Rattle.fs_model.specs.States.{State, IsState}
@@ -83,7 +83,7 @@ none_moves room t time n node u = go room.keeps_times
 
 -- ---- in a state
 
-module _ {p : Place} {map : SectorMap} {desks : Desks} {s : State} (at : IsStateOf p map desks s) (n : ℕ) (atime mtime ctime : Option ℕ) where
+module _ {p : Geometry} {map : SectorMap} {processes : ProcessTable} {s : State} (at : IsStateOf p map processes s) (n : ℕ) (atime mtime ctime : Option ℕ) where
   abbrev event : Event
   event = Stamp n atime mtime ctime
 
@@ -134,21 +134,21 @@ module _ {p : Place} {map : SectorMap} {desks : Desks} {s : State} (at : IsState
     unfolding other_refusal
     met = ap (λ (o : Option Node). refuse ENOENT (not (is_some o))) h.there
 
-    after_is : after s event (chosen 0 0) ≡ record { change = put; desks = s.desks; reply = Stamped then; now = s.now }
+    after_is : after s event (chosen 0 0) ≡ record { change = put; processes = s.processes; reply = Stamped then; now = s.now }
     unfolding after
     after_is = ap after_node (the_node_is s.tree n h.node h.there)
       where
         after_node : Node → After
         after_node node =
             let x = kept_stamps s.room node.stamps (stamped atime mtime ctime node.stamps) in
-            record { change = Rewrite Untouched n (with_stamps x node); desks = s.desks; reply = Stamped x; now = s.now }
+            record { change = Rewrite Untouched n (with_stamps x node); processes = s.processes; reply = Stamped x; now = s.now }
 
-    is_stamped : {new : SectorMap} (y : Stamps) → then ≡ y → HoldsAll p new (placed (swept (changed s.tree put) s.desks)) → IsStamped p new s n atime mtime ctime y
+    is_stamped : {new : SectorMap} (y : Stamps) → then ≡ y → HoldsAll p new (placed (swept (changed s.tree put) s.processes)) → IsStamped p new s n atime mtime ctime y
     is_stamped {new} y is held = record {
       late = met;
       reply = ap (λ (a : After). a.reply) after_is ∙ ap (λ (z : Stamps). Stamped z) is;
       holds = subst (λ (t : Tree). HoldsAll p new (placed t))
-          (sym (ap (tree_after s) after_is ∙ none_moves s.room s.tree s.now n (with_stamps then h.node) (swept (changed s.tree put) s.desks))) held;
+          (sym (ap (tree_after s) after_is ∙ none_moves s.room s.tree s.now n (with_stamps then h.node) (swept (changed s.tree put) s.processes))) held;
     }
 
     -- nothing was put: the disk keeps no times, or none is given
@@ -156,9 +156,9 @@ module _ {p : Place} {map : SectorMap} {desks : Desks} {s : State} (at : IsState
     same_stamped same y is =
         is_stamped y (same ∙ sym h.held.stamps ∙ sym is)
         (subst (λ (t : Tree). HoldsAll p map (placed t))
-        (sym (ap (λ (x : Stamps). swept (with_node s.tree n (with_stamps x h.node)) s.desks) same
-        ∙ ap (λ (t : Tree). swept t s.desks) (same_node_stays s.tree n h.node at.is_state.tree.numbers h.there)
-        ∙ nothing_to_drop s.room s.tree s.desks at.is_state.tree (at.is_state.desks at.up))) at.holds)
+        (sym (ap (λ (x : Stamps). swept (with_node s.tree n (with_stamps x h.node)) s.processes) same
+        ∙ ap (λ (t : Tree). swept t s.processes) (same_node_stays s.tree n h.node at.is_state.tree.numbers h.there)
+        ∙ nothing_to_drop s.room s.tree s.processes at.is_state.tree (at.is_state.processes at.up))) at.holds)
 
     pub no_times : keeps_times p.version ≡ false → then ≡ h.node.stamps
     no_times none =
@@ -201,7 +201,7 @@ module _ {p : Place} {map : SectorMap} {desks : Desks} {s : State} (at : IsState
       pub saved_stamped : (y : Stamps) → y ≡ stamped atime mtime ctime (stamps_in (inode_at p map n)) → IsStamped p new s n atime mtime ctime y
       saved_stamped y is =
           is_stamped y (sym (is ∙ then_is))
-          (subst (λ (d : Desks). HoldsAll p new (placed (swept (changed s.tree put) d))) (sym at.same_desks)
+          (subst (λ (d : ProcessTable). HoldsAll p new (placed (swept (changed s.tree put) d))) (sym at.same_processes)
           (rewritten at new Untouched n h.node (with_stamps then h.node) h.there may one held_then))
 
 -- ---- where nothing refuses it
@@ -212,7 +212,7 @@ stamp_firm s n atime mtime ctime = refl
 
 -- what it may leave
 stamp_leaves : (s : State) (n : ℕ) (atime mtime ctime : Option ℕ) → IsState s → IsFalse s.halted → IsSomeCount atime → IsSomeCount mtime → IsSomeCount ctime
-    → other_refusal s (Stamp n atime mtime ctime) ≡ None → MayBeLeft s.room (changed s.tree (after_stamp s n (stamped atime mtime ctime)).change) s.desks
+    → other_refusal s (Stamp n atime mtime ctime) ≡ None → MayBeLeft s.room (changed s.tree (after_stamp s n (stamped atime mtime ctime)).change) s.processes
 unfolding other_refusal
 stamp_leaves s n atime mtime ctime is up a m c met =
     let node = the_node s.tree n in
@@ -228,17 +228,17 @@ stamp_leaves s n atime mtime ctime is up a m c met =
       stamps = stamps_fit atime mtime ctime s.room.keeps_times node.stamps a m c was.stamps;
     } in
     let u = with_node s.tree n (with_stamps x node) in
-    tree_may_be_left s.room u s.desks (replaced_is_tree s.room s.tree n node (with_stamps x node) is.tree there may) is.pids is.few
-    (λ pid p at. process_moves s.tree u (replaced_keeps_types s.tree n node (with_stamps x node) there refl) p ((is.desks up).processes pid p at))
+    tree_may_be_left s.room u s.processes (replaced_is_tree s.room s.tree n node (with_stamps x node) is.tree there may) is.pids is.few
+    (λ pid p at. process_moves s.tree u (replaced_keeps_types s.tree n node (with_stamps x node) there refl) p ((is.processes up).each_process pid p at))
 
 abbrev put_after : State → ℕ → Option ℕ → Option ℕ → Option ℕ → After
 put_after s n atime mtime ctime = after_stamp s n (stamped atime mtime ctime)
 
-pub stamp_performed : {p : Place} {map old_map : SectorMap} {desks : Desks} {s : State} {n : ℕ} {atime mtime ctime : Option ℕ} {x : Stamps}
-    → IsStateOf p old_map desks s → IsSomeCount atime → IsSomeCount mtime → IsSomeCount ctime → IsStamped p map s n atime mtime ctime x
-    → IsPerformed p map desks s (Stamp n atime mtime ctime) (Stamped x)
+pub stamp_performed : {p : Geometry} {map old_map : SectorMap} {processes : ProcessTable} {s : State} {n : ℕ} {atime mtime ctime : Option ℕ} {x : Stamps}
+    → IsStateOf p old_map processes s → IsSomeCount atime → IsSomeCount mtime → IsSomeCount ctime → IsStamped p map s n atime mtime ctime x
+    → IsPerformed p map processes s (Stamp n atime mtime ctime) (Stamped x)
 unfolding after
-stamp_performed {p} {map} {old_map} {desks} {s} {n} {atime} {mtime} {ctime} {x} at a m c d = record {
+stamp_performed {p} {map} {old_map} {processes} {s} {n} {atime} {mtime} {ctime} {x} at a m c d = record {
   machine = refl;
   unstable = refl;
   early = stamp_firm s n atime mtime ctime;
@@ -246,13 +246,13 @@ stamp_performed {p} {map} {old_map} {desks} {s} {n} {atime} {mtime} {ctime} {x} 
   number = 0;
   change = (put_after s n atime mtime ctime).change;
   effect = λ free.
-      ap (λ (t : Desks). record { change = (put_after s n atime mtime ctime).change; desks = t; reply = (put_after s n atime mtime ctime).reply; now = s.now }) at.same_desks
-      ∙ ap (λ (r : Reply). record { change = (put_after s n atime mtime ctime).change; desks = desks; reply = r; now = s.now }) d.reply;
+      ap (λ (t : ProcessTable). record { change = (put_after s n atime mtime ctime).change; processes = t; reply = (put_after s n atime mtime ctime).reply; now = s.now }) at.same_processes
+      ∙ ap (λ (r : Reply). record { change = (put_after s n atime mtime ctime).change; processes = processes; reply = r; now = s.now }) d.reply;
   new_number = tt;
   new_pid = tt;
-  left = subst (λ (t : Desks). MayBeLeft s.room (changed s.tree (put_after s n atime mtime ctime).change) t) at.same_desks
+  left = subst (λ (t : ProcessTable). MayBeLeft s.room (changed s.tree (put_after s n atime mtime ctime).change) t) at.same_processes
       (stamp_leaves s n atime mtime ctime at.is_state at.up a m c d.late);
-  holds = subst (λ (t : Desks). HoldsAll p map (placed (touched s.now (touches s.room s.tree (put_after s n atime mtime ctime).change) (swept (changed s.tree (put_after s n atime mtime ctime).change) t)))) at.same_desks
+  holds = subst (λ (t : ProcessTable). HoldsAll p map (placed (touched s.now (touches s.room s.tree (put_after s n atime mtime ctime).change) (swept (changed s.tree (put_after s n atime mtime ctime).change) t)))) at.same_processes
       d.holds;
 }
 

@@ -10,11 +10,11 @@ use Rattle.std.specs.Prelude.{◌≡◌, ℕ, ◌+◌, ◌<◌, ◌≤◌, false
 use Rattle.std.proofs.Common.{refl, sym, ap, subst, arith, ◌∙◌, inl, inr}
 use Rattle.sector_disk.specs.Disk.{DiskState, Image, IsImage, sector, LeavesOnly, OnlyReads, HasCause}
 use Rattle.sector_disk.proofs.Moments.{failed_later, joined, weaker, holds_now, started}
-use Rattle.fs_layout.specs.declared.place.Place.{Place}
+use Rattle.fs_layout.specs.declared.geometry.Geometry.{Geometry}
 use Rattle.fs_layout.specs.Bytes.{SectorMap}
 use Rattle.fs_layout.specs.Images.{free_sectors}
 use Rattle.fs_layout.specs.Recovered.{recovered}
-use Rattle.fs_layout.proofs.Places.{place_is_laid_out}
+use Rattle.fs_layout.proofs.Places.{geometry_is_laid_out}
 use Rattle.redo_journal.specs.Meaning.{SameMap, EachReadsAs, data_of}
 use Rattle.fs_layout.specs.Header.{header_of, log_end, max_delta}
 use Rattle.fs_layout.proofs.RecoveryLaw.{header_there, log_there}
@@ -42,10 +42,10 @@ use Rattle.fs_system.proofs.Soundness.{outside_set}
 
 -- ---- maps with the same data
 
-pub counted : {p : Place} {map : SectorMap} {t : Tree} → HoldsTree p map t → HoldsCounted p map t (free_sectors p map)
+pub counted : {p : Geometry} {map : SectorMap} {t : Tree} → HoldsTree p map t → HoldsCounted p map t (free_sectors p map)
 counted h = record { holds = h.holds; tree_is = h.tree; free_is = refl }
 
-pub stored_same : {size size' : ℕ} {p : Place} {old new : SectorMap} {t : Tree} → size' ≡ size → SameMap new old → IsStored size p old t → IsStored size' p new t
+pub stored_same : {size size' : ℕ} {p : Geometry} {old new : SectorMap} {t : Tree} → size' ≡ size → SameMap new old → IsStored size p old t → IsStored size' p new t
 stored_same {size} {size'} {p} {old} {new} {t} sized same is =
     let held = holds_same size p old new t (free_sectors p old) same is.disk_is (counted is.holds) in
     record {
@@ -55,45 +55,45 @@ stored_same {size} {size'} {p} {old} {new} {t} sized same is =
 
 -- a transaction that begins
 
-pub begins_sound : (p : Place) (txn : TxnState) (t : Tree) → txn.header ≡ header_of (txn.sectors 0) → IsStored txn.disk.size p txn.sectors t → IsSound p txn
+pub begins_sound : (p : Geometry) (txn : TxnState) (t : Tree) → txn.header ≡ header_of (txn.sectors 0) → IsStored txn.disk.size p txn.sectors t → IsSound p txn
 begins_sound p txn t header is =
-    let sectors : p.sectors ≡ txn.disk.size = ap (λ (q : Place). q.sectors) (place_is_laid_out txn.disk.size is.disk_is.super.inodes is.disk_is.has_place) in
-    let ends = ap log_end header ∙ log_there is.disk_is.super (txn.sectors 0) txn.disk.size is.disk_is.super_fits is.disk_is.super_is is.disk_is.has_place in
+    let sectors : p.sectors ≡ txn.disk.size = ap (λ (q : Geometry). q.sectors) (geometry_is_laid_out txn.disk.size is.disk_is.super.inodes is.disk_is.has_geometry) in
+    let ends = ap log_end header ∙ log_there is.disk_is.super (txn.sectors 0) txn.disk.size is.disk_is.super_fits is.disk_is.super_is is.disk_is.has_geometry in
     sound_from p txn is.holds.holds.consistent (omega (arith, sectors)) (omega (arith, ends)) (outside_set p txn.sectors (placed t) is.holds.holds)
 
-pub begins_spare : (p : Place) (txn : TxnState) (t : Tree) → txn.header ≡ header_of (txn.sectors 0) → txn.room ≡ max_delta txn.header
+pub begins_spare : (p : Geometry) (txn : TxnState) (t : Tree) → txn.header ≡ header_of (txn.sectors 0) → txn.room ≡ max_delta txn.header
     → IsStored txn.disk.size p txn.sectors t → HasSpare p 1 txn
 begins_spare p txn t header room is =
-    let there = header ∙ header_there is.disk_is.super (txn.sectors 0) txn.disk.size is.disk_is.super_fits is.disk_is.super_is is.disk_is.has_place in
-    let spare = spare_first p txn is.holds.holds.consistent.place (room ∙ ap max_delta there) in omega (arith, spare)
+    let there = header ∙ header_there is.disk_is.super (txn.sectors 0) txn.disk.size is.disk_is.super_fits is.disk_is.super_is is.disk_is.has_geometry in
+    let spare = spare_first p txn is.holds.holds.consistent.geometry (room ∙ ap max_delta there) in omega (arith, spare)
 
 -- a store that was opened on a disk which stands for a tree
 pub opened_tree : (old new : DiskState) (map : SectorMap) (room : Room) (t : Tree) (free : ℕ) → length old.seen ≡ old.size → new.size ≡ old.size
-    → SameMap map (data_of old) → EachReadsAs map new → (stands : StandsFor room old.seen t free) → HasTree stands.place map new t
+    → SameMap map (data_of old) → EachReadsAs map new → (stands : StandsFor room old.seen t free) → HasTree stands.geometry map new t
 opened_tree old new map room t free whole sized same lasting stands =
-    let disk : IsDiskOf old.size stands.place (data_of old) =
-    subst (λ n. IsDiskOf n stands.place (recovered n (sector old.seen))) whole (disk_of_standing (length old.seen) (sector old.seen) room t free stands) in
-    let held : HoldsCounted stands.place (data_of old) t free =
-    subst (λ n. HoldsCounted stands.place (recovered n (sector old.seen)) t free) whole (holds_of_standing (length old.seen) (sector old.seen) room t free stands) in
-    let stored : IsStored new.size stands.place map t =
+    let disk : IsDiskOf old.size stands.geometry (data_of old) =
+    subst (λ n. IsDiskOf n stands.geometry (recovered n (sector old.seen))) whole (disk_of_standing (length old.seen) (sector old.seen) room t free stands) in
+    let held : HoldsCounted stands.geometry (data_of old) t free =
+    subst (λ n. HoldsCounted stands.geometry (recovered n (sector old.seen)) t free) whole (holds_of_standing (length old.seen) (sector old.seen) room t free stands) in
+    let stored : IsStored new.size stands.geometry map t =
     stored_same sized same (record { disk_is = disk; holds = record { holds = held.holds; tree = held.tree_is } }) in
     record {
       stored = stored;
       images = λ image is.
-          (t, free_sectors stands.place map, stands_for new.size stands.place map t (free_sectors stands.place map) image stored.disk_is (counted stored.holds) (lasting image is), refl);
+          (t, free_sectors stands.geometry map, stands_for new.size stands.geometry map t (free_sectors stands.geometry map) image stored.disk_is (counted stored.holds) (lasting image is), refl);
     }
 
 -- ---- one number
 
 -- what the map holds once the number is done with
-pub freed_stored : {size : ℕ} {p : Place} {n : ℕ} {old new : TxnState} {t : Tree} → n < p.inodes → (is : IsStored size p old.sectors t)
+pub freed_stored : {size : ℕ} {p : Geometry} {n : ℕ} {old new : TxnState} {t : Tree} → n < p.inodes → (is : IsStored size p old.sectors t)
     → LeavesInode p n false old new → (f : IsFreed p n new.sectors t) × IsStored size p new.sectors f.tree
 freed_stored {size} {p} {n} {old} {new} {t} below is leaves =
     let f = freed p n old new t is.holds below leaves in
     (f, record { disk_is = disk_kept size p old.sectors new.sectors (left_super leaves) is.disk_is; holds = f.holds })
 
 -- a delta is kept
-module _ (old mid new : DiskState) (only_now : (image : Image) → old.left_since old.moment image → IsImage old image) (p : Place) (map now : SectorMap)
+module _ (old mid new : DiskState) (only_now : (image : Image) → old.left_since old.moment image → IsImage old image) (p : Geometry) (map now : SectorMap)
     (reads : OnlyReads old mid) (run : LeavesOneOf map now mid new) (t u : Tree) (h : HasTree p map old t) (stored : IsStored old.size p now u) (same : pruned u ≡ pruned t) where
   one_of : (image : Image) → IsOneOf old map now image → StandsPruned (room_of p) t image
   one_of image (inl (from, is, means)) =
@@ -115,7 +115,7 @@ module _ (old mid new : DiskState) (only_now : (image : Image) → old.left_sinc
   }
 
 -- a transaction frees the inode where it is a file without a name, and is kept
-module _ (old mid new : DiskState) (only_now : (image : Image) → old.left_since old.moment image → IsImage old image) (p : Place) (n : ℕ) (below : n < p.inodes) (map : SectorMap)
+module _ (old mid new : DiskState) (only_now : (image : Image) → old.left_since old.moment image → IsImage old image) (p : Geometry) (n : ℕ) (below : n < p.inodes) (map : SectorMap)
     (first last : TxnState) (began : SameMap first.sectors map) (leaves : LeavesInode p n false first last) (reads : OnlyReads old mid)
     (run : LeavesOneOf map last.sectors mid new) (t : Tree) (h : HasTree p map old t) where
   after : (f : IsFreed p n last.sectors t) × IsStored old.size p last.sectors f.tree
@@ -135,7 +135,7 @@ module _ (old mid new : DiskState) (only_now : (image : Image) → old.left_sinc
 
 -- or it is dropped
 pub dropped_images : (old new : DiskState) → ((image : Image) → old.left_since old.moment image → IsImage old image) → OnlyReads old new
-    → (p : Place) (map : SectorMap) → KeepsTree p map old new
+    → (p : Geometry) (map : SectorMap) → KeepsTree p map old new
 dropped_images old new only_now reads p map t h = record {
   later = reads.later;
   each = λ image left. h.images image (only_now image (reads.since old.moment image (omega arith) left));
@@ -144,7 +144,7 @@ dropped_images old new only_now reads p map t h = record {
 
 -- ---- what is kept is made stable
 
-pub flushed_images : (old new : DiskState) (p : Place) (map : SectorMap) → LeavesOldOr map old new → KeepsTree p map old new
+pub flushed_images : (old new : DiskState) (p : Geometry) (map : SectorMap) → LeavesOldOr map old new → KeepsTree p map old new
 flushed_images old new p map run t h = weaker each run.any_moment
   where
     each : (image : Image) → IsOneOf old map map image → StandsPruned (room_of p) t image
@@ -156,12 +156,12 @@ flushed_images old new p map run t h = weaker each run.any_moment
     each image (inr (inr reads)) =
         (t, free_sectors p map, stands_for old.size p map t (free_sectors p map) image h.stored.disk_is (counted h.stored.holds) reads, refl)
 
-pub flushed_stable : (old new : DiskState) (p : Place) (map : SectorMap) (t : Tree) → new.size ≡ old.size → EachReadsAs map new → HasTree p map old t
+pub flushed_stable : (old new : DiskState) (p : Geometry) (map : SectorMap) (t : Tree) → new.size ≡ old.size → EachReadsAs map new → HasTree p map old t
     → EachStandsFor (room_of p) new t
 flushed_stable old new p map t sized lasting h =
     each_stands p map t (free_sectors p map) new (subst (λ n. IsDiskOf n p map) (sym sized) h.stored.disk_is) (counted h.stored.holds) lasting
 
-pub flushed_tree : (old new : DiskState) (p : Place) (map map' : SectorMap) (t : Tree) → new.size ≡ old.size → SameMap map' map → EachReadsAs map new → HasTree p map old t
+pub flushed_tree : (old new : DiskState) (p : Geometry) (map map' : SectorMap) (t : Tree) → new.size ≡ old.size → SameMap map' map → EachReadsAs map new → HasTree p map old t
     → HasTree p map' new t
 flushed_tree old new p map map' t sized same lasting h = record {
   stored = stored_same sized same h.stored;
@@ -171,14 +171,14 @@ flushed_tree old new p map map' t sized same lasting h = record {
 -- ---- all numbers
 
 -- The numbers below k are done with.
-pub record IsSweeping (p : Place) (map : SectorMap) (old : DiskState) (now : SectorMap) (new : DiskState) (k : ℕ) : Type 0 where
+pub record IsSweeping (p : Geometry) (map : SectorMap) (old : DiskState) (now : SectorMap) (new : DiskState) (k : ℕ) : Type 0 where
   pub each : (t : Tree) → HasTree p map old t → (u : Tree) × HasTree p now new u × (pruned u ≡ pruned t) × IsNamedBelow k u
   pub keeps : KeepsTree p map old new
   pub size : new.size ≡ old.size
   pub later : old.failures ≤ new.failures
   pub quiet : new.failed_writes ≡ old.failed_writes
 
-pub sweeping_begun : (p : Place) (map : SectorMap) (old : DiskState) → ((image : Image) → old.left_since old.moment image → IsImage old image)
+pub sweeping_begun : (p : Geometry) (map : SectorMap) (old : DiskState) → ((image : Image) → old.left_since old.moment image → IsImage old image)
     → IsSweeping p map old map old 2
 sweeping_begun p map old only_now = record {
   each = λ t h. (t, h, refl, named_first (room_of p) t h.stored.holds.tree);
@@ -192,12 +192,12 @@ sweeping_begun p map old only_now = record {
 pub pruned_same : (room : Room) (t u : Tree) → pruned u ≡ pruned t → (image : Image) → StandsPruned room u image → StandsPruned room t image
 pruned_same room t u same image (v, free, stands, is) = (v, free, stands, is ∙ same)
 
-pub keeps_on : {p : Place} {map now : SectorMap} {old mid new : DiskState} {k : ℕ} → IsSweeping p map old now mid k → KeepsTree p now mid new → KeepsTree p map old new
+pub keeps_on : {p : Geometry} {map now : SectorMap} {old mid new : DiskState} {k : ℕ} → IsSweeping p map old now mid k → KeepsTree p now mid new → KeepsTree p map old new
 keeps_on {p} {map} {now} {old} {mid} {new} {k} so_far keeps t h =
     let left = so_far.each t h in
     joined (so_far.keeps t h) (weaker (pruned_same (room_of p) t left.0 left.2) (keeps left.0 left.1))
 
-pub sweeping_on : {p : Place} {map now next : SectorMap} {old mid new : DiskState} {k : ℕ} → IsSweeping p map old now mid k
+pub sweeping_on : {p : Geometry} {map now next : SectorMap} {old mid new : DiskState} {k : ℕ} → IsSweeping p map old now mid k
     → FreesNameless p k now mid next new → KeepsTree p now mid new → new.size ≡ mid.size → mid.failures ≤ new.failures
     → new.failed_writes ≡ mid.failed_writes → IsSweeping p map old next new (k + 1)
 sweeping_on {p} {map} {now} {next} {old} {mid} {new} {k} so_far frees keeps size later quiet = record {
@@ -212,7 +212,7 @@ sweeping_on {p} {map} {now} {next} {old} {mid} {new} {k} so_far frees keeps size
 }
 
 -- what was done is made stable
-pub sweeping_stable : {p : Place} {map now next : SectorMap} {old mid new : DiskState} {k : ℕ} → IsSweeping p map old now mid k
+pub sweeping_stable : {p : Geometry} {map now next : SectorMap} {old mid new : DiskState} {k : ℕ} → IsSweeping p map old now mid k
     → ((t : Tree) → HasTree p now mid t → HasTree p next new t) → KeepsTree p now mid new → new.size ≡ mid.size → mid.failures ≤ new.failures
     → new.failed_writes ≡ mid.failed_writes → IsSweeping p map old next new k
 sweeping_stable so_far kept keeps size later quiet = record {
@@ -224,7 +224,7 @@ sweeping_stable so_far kept keeps size later quiet = record {
 }
 
 -- all of them
-pub sweeping_ends : {p : Place} {map now : SectorMap} {old new : DiskState} {k : ℕ} → p.inodes ≤ k → IsSweeping p map old now new k
+pub sweeping_ends : {p : Geometry} {map now : SectorMap} {old new : DiskState} {k : ℕ} → p.inodes ≤ k → IsSweeping p map old now new k
     → (t : Tree) → HasTree p map old t → HasTree p now new (pruned t)
 sweeping_ends {p} {map} {now} {old} {new} {k} all done t h =
     let left = done.each t h in
@@ -232,7 +232,7 @@ sweeping_ends {p} {map} {now} {old} {new} {k} all done t h =
     subst (HasTree p now new) (sym named ∙ left.2) left.1
 
 -- after the sweep of all numbers
-pub keeps_both : {p : Place} {map now : SectorMap} {old mid new : DiskState} → ((t : Tree) → HasTree p map old t → HasTree p now mid (pruned t))
+pub keeps_both : {p : Geometry} {map now : SectorMap} {old mid new : DiskState} → ((t : Tree) → HasTree p map old t → HasTree p now mid (pruned t))
     → KeepsTree p map old mid → KeepsTree p now mid new → KeepsTree p map old new
 keeps_both {p} {map} {now} {old} {mid} {new} swept first second t h =
     joined (first t h) (weaker (pruned_same (room_of p) t (pruned t) (pruned_twice (room_of p) t h.stored.holds.tree)) (second (pruned t) (swept t h)))

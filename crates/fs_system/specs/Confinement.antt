@@ -2,7 +2,7 @@
 -- answered.
 --     IsServed        an answer that tells of no failure
 --     MayBeChosenAlike        states that the same free choices may have led to
---     Answered, UnreadableBytesDoNotShow        what two file systems answer, and the law
+--     BothAnswered, UnreadableBytesDoNotShow        what two file systems answer, and the law
 --     IsInOneState        one that runs is in one state only
 use Rattle.std.specs.Prelude.{◌≡◌, ◌≢◌, ℕ, Some, IsFalse, is_some}
 use Rattle.std.specs.Ordering.{nat_cmp}
@@ -34,21 +34,21 @@ pub record MayBeChosenAlike (s t : State) : Type 0 where
 
 -- States in which the two file systems are after one event of the process each. Where the same free choices may have led to them,
 -- the process got equal replies, and they are alike to it while it is there; and it is confined as before, for its next event.
-pub record Answered {D E : Type 0} (state : D → DiskState) (other : E → DiskState) (pid : ℕ) (new : System D) (new' : System E) (reply reply' : Reply) : Type 0 where
+pub record BothAnswered {D E : Type 0} (state : D → DiskState) (other : E → DiskState) (pid : ℕ) (new : System D) (new' : System E) (reply reply' : Reply) : Type 0 where
   pub first : State
   pub second : State
   pub is_first : IsIn state new first
   pub is_second : IsIn other new' second
   pub alike : MayBeChosenAlike first second → AnswerAlike pid reply reply' first second
-  pub confined : (q : Process) → get nat_cmp first.desks pid ≡ Some q → IsConfined q.cred
+  pub confined : (q : Process) → get nat_cmp first.processes pid ≡ Some q → IsConfined q.cred
 
 -- The same call, fsync or exit of a process happens on two file systems that are alike to it, and neither fails.
 abbrev pub UnreadableBytesDoNotShow : {D E : Type 0} → (D → DiskState) → (E → DiskState) → Type 0
 UnreadableBytesDoNotShow {D} {E} state other =
     (pid : ℕ) (p : Process) (s t : State) (old new : System D) (old' new' : System E) (e : Event) (reply reply' : Reply)
-    → IsIn state old s → IsIn other old' t → get nat_cmp s.desks pid ≡ Some p → IsConfined p.cred → IsOf pid e → IsEvent e → AreAlike pid s t
+    → IsIn state old s → IsIn other old' t → get nat_cmp s.processes pid ≡ Some p → IsConfined p.cred → IsOf pid e → IsEvent e → AreAlike pid s t
     → Happens state old new e reply → Happens other old' new' e reply' → IsServed reply → IsServed reply'
-    → Answered state other pid new new' reply reply'
+    → BothAnswered state other pid new new' reply reply'
 
 -- In whatever states a file system is, one of them not halted, they are one.
 abbrev pub IsInOneState : {D : Type 0} → (D → DiskState) → Type 0

@@ -4,10 +4,10 @@
 --     IsIn, IsInSomeState        the file system is in this state, or in some
 use Rattle.std.specs.Prelude.{◌≡◌, ℕ, [], Option, None, Some, Result, Ok, Err, IsTrue}
 use Rattle.sector_disk.specs.Disk.{DiskState}
-use Rattle.fs_layout.specs.declared.place.Place.{Place}
+use Rattle.fs_layout.specs.declared.geometry.Geometry.{Geometry}
 use Rattle.fs_layout.specs.Bytes.{SectorMap}
 use Rattle.sector_txn.specs.Stores.{StoreView, present, disk_after}
-use Rattle.fs_model.specs.Processes.{Desks}
+use Rattle.fs_model.specs.Processes.{ProcessTable}
 use Rattle.fs_model.specs.States.{State}
 use Rattle.call_parts.specs.Performing.{IsStateOf}
 use Rattle.fs_system.specs.Layouts.{IsDiskOf}
@@ -19,8 +19,8 @@ Base D = Option (Result (StoreView D) D)
 -- that, where the parts of its disk lie, its processes, and the time as it was told last
 pub record System (D : Type 0) : Type 0 where
   pub base : Base D
-  pub place : Place
-  pub desks : Desks
+  pub geometry : Geometry
+  pub processes : ProcessTable
   pub time : ℕ
 
 -- no sectors
@@ -41,19 +41,19 @@ disk_in state None = no_disk
 disk_in state (Some base) = state (disk_after base)
 
 -- On a disk of so many sectors the map is laid out so, and holds the state's tree.
-pub record IsRunning (size : ℕ) (p : Place) (map : SectorMap) (desks : Desks) (s : State) : Type 0 where
+pub record IsRunning (size : ℕ) (p : Geometry) (map : SectorMap) (processes : ProcessTable) (s : State) : Type 0 where
   pub disk_is : IsDiskOf size p map
-  pub state_of : IsStateOf p map desks s
+  pub state_of : IsStateOf p map processes s
 
 -- It goes on in this state, at this time, or is halted. Of a halted one nothing more is known.
-abbrev pub IsOn : {D : Type 0} → (D → DiskState) → Place → ℕ → Desks → Base D → State → Type 0
-IsOn state p time desks None s = ⊥
-IsOn state p time desks (Some (Ok store)) s = IsRunning (state store.disk).size p (present state store) desks s × (s.now ≡ time)
-IsOn state p time desks (Some (Err broken)) s = IsTrue s.halted
+abbrev pub IsOn : {D : Type 0} → (D → DiskState) → Geometry → ℕ → ProcessTable → Base D → State → Type 0
+IsOn state p time processes None s = ⊥
+IsOn state p time processes (Some (Ok store)) s = IsRunning (state store.disk).size p (present state store) processes s × (s.now ≡ time)
+IsOn state p time processes (Some (Err broken)) s = IsTrue s.halted
 
 -- the file system is in this state
 abbrev pub IsIn : {D : Type 0} → (D → DiskState) → System D → State → Type 0
-IsIn state fs s = IsOn state fs.place fs.time fs.desks fs.base s
+IsIn state fs s = IsOn state fs.geometry fs.time fs.processes fs.base s
 
 -- it is in some state
 abbrev pub IsInSomeState : {D : Type 0} → (D → DiskState) → System D → Type 0

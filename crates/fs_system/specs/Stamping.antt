@@ -7,7 +7,7 @@ use Rattle.sector_disk.specs.Disk.{DiskState, HasFailed}
 use Rattle.fs_cred.specs.declared.errno.Errno.{Errno}
 use Rattle.fs_cred.specs.declared.errno.Errno.TheVariants.{EIO}
 use Rattle.fs_cred.specs.declared.refusal.Refusal.TheVariants.{Failed}
-use Rattle.fs_layout.specs.declared.place.Place.{Place}
+use Rattle.fs_layout.specs.declared.geometry.Geometry.{Geometry}
 use Rattle.fs_layout.specs.Bytes.{SectorMap}
 use Rattle.fs_model.specs.declared.event.Event.TheVariants.{Stamp}
 use Rattle.fs_model.specs.declared.reply.Reply.TheVariants.{Stamped}
@@ -22,7 +22,7 @@ abbrev pub AreCounts : Option ℕ → Option ℕ → Option ℕ → Type 0
 AreCounts atime mtime ctime = IsSomeCount atime × IsSomeCount mtime × IsSomeCount ctime
 
 -- Nothing refuses it. It answers these times, and the map holds the tree after it.
-pub record IsStamped (p : Place) (map : SectorMap) (s : State) (n : ℕ) (atime mtime ctime : Option ℕ) (stamps : Stamps) : Type 0 where
+pub record IsStamped (p : Geometry) (map : SectorMap) (s : State) (n : ℕ) (atime mtime ctime : Option ℕ) (stamps : Stamps) : Type 0 where
   pub late : other_refusal s (Stamp n atime mtime ctime) ≡ None
   pub reply : (after s (Stamp n atime mtime ctime) (chosen 0 0)).reply ≡ Stamped stamps
   pub holds : HoldsAll p map (placed (tree_after s (after s (Stamp n atime mtime ctime) (chosen 0 0))))

@@ -1,9 +1,9 @@
 //! The calls of processes, each of them performed in a transaction.
 
-ghost use Rattle.call_parts.specs.Performing.{IsReady, Performs};
+ghost use Rattle.call_parts.specs.Performing.{MayPerform, Performs};
 
 use fs_cred::Refusal;
-use fs_layout::Place;
+use fs_layout::Geometry;
 use fs_model::{Call, Reply};
 use open_files::Procs;
 use sector_txn::Sectors;
@@ -13,17 +13,17 @@ use std::alloc::Global;
 pub(crate) fn perform<S: Sectors>(
     alloc: Global,
     s: &mut S,
-    place: Place,
+    geometry: Geometry,
     now: u64,
     procs: &mut Procs,
     pid: usize,
     call: &Call,
 ) -> Result<Reply, Refusal>
-    requires ready { IsReady place (S.state s.old) procs.old }
-    ensures { Performs place now pid call.now (S.state s.old) (S.state s.new) procs.old procs.new result }
+    requires ready { MayPerform geometry (S.state s.old) procs.old }
+    ensures { Performs geometry now pid call.now (S.state s.old) (S.state s.new) procs.old procs.new result }
 {
-    match file_calls::perform(alloc, s, place, now, procs, pid, call) {
+    match file_calls::perform(alloc, s, geometry, now, procs, pid, call) {
         Some(result) => result,
-        None => name_calls::perform(alloc, s, place, now, procs, pid, call).unwrap(),
+        None => name_calls::perform(alloc, s, geometry, now, procs, pid, call).unwrap(),
     }
 }

@@ -5,7 +5,7 @@ ghost use Rattle.sector_disk.specs.Disk.{IsSame, ForgetsPast, Elapses, HasCause,
 ghost use Rattle.redo_journal.specs.Meaning.{SameMap, EachReadsAs, MeansAsBefore, data_of};
 ghost use Rattle.redo_journal.specs.States.{IsIdle};
 ghost use Rattle.sector_txn.specs.Stores.{StoreView, present, disk_after};
-ghost use Rattle.fs_model.specs.Processes.{Desks};
+ghost use Rattle.fs_model.specs.Processes.{ProcessTable};
 ghost use Rattle.fs_model.specs.States.{State};
 ghost use Rattle.fs_model.specs.declared.event.Event.{Event};
 ghost use Rattle.fs_model.specs.declared.event.Event.TheVariants.{Spawn, Exit, Call as Calls, Enter, Stamp, Clock, Fsync, Sync, Statfs};
@@ -24,7 +24,7 @@ use crate::stored::{count_space, enter_kept, exit_kept, failed, perform_kept, st
 use crate::sweeping::sweep;
 use fs_check::check;
 use fs_cred::{Cred, Errno};
-use fs_layout::{Place, Super};
+use fs_layout::{Geometry, Super};
 use fs_model::{Call, Reply, RestartFault, Stamps};
 use open_files::Procs;
 use redo_journal::{Broken, Journal, OpenFault};
@@ -41,7 +41,7 @@ use std::marker::Model;
 pub struct Fs<D: Disk> {
     // A store, or what a commit that failed has left. It is away only while an event happens to the store.
     base: Option<Result<CountedStore<D>, Broken<D>>>,
-    place: Place,
+    geometry: Geometry,
     procs: Procs,
     // In nanoseconds since 1970; 0 until it is told.
     time: u64,
@@ -54,14 +54,14 @@ impl<D: Disk> Model for Fs<D> {
 
     ghost Value = { System D };
 
-    ghost view = { λ fs. record { base = fs.base; place = fs.place; desks = fs.procs; time = fs.time } };
+    ghost view = { λ fs. record { base = fs.base; geometry = fs.geometry; processes = fs.procs; time = fs.time } };
 
     // It is in some state, and a stop leaves what may be mounted.
-    ghost invariant = { λ fs. IsSystem D.state (record { base = fs.base; place = fs.place; desks = fs.procs; time = fs.time }) };
+    ghost invariant = { λ fs. IsSystem D.state (record { base = fs.base; geometry = fs.geometry; processes = fs.procs; time = fs.time }) };
 }
 
 // Reads where the parts of the disk lie.
-pub(crate) fn read_place<D: Disk>(disk: &mut D) -> Result<Place, DiskFault>
+pub(crate) fn read_geometry<D: Disk>(disk: &mut D) -> Result<Geometry, DiskFault>
     requires { StandsForSome (D.state disk.old).seen }
     ensures found { IfOk result (HasPartsAt (D.state disk.old).seen) }
     ensures same { IsSame (D.state disk.old) (D.state disk.new) }
@@ -74,10 +74,10 @@ pub(crate) fn read_place<D: Disk>(disk: &mut D) -> Result<Place, DiskFault>
     let Ok(superblock) = Super::read_from(&sector, 0) else {
         unreachable!()
     };
-    let Some(place) = superblock.place() else {
+    let Some(geometry) = superblock.geometry() else {
         unreachable!()
     };
-    Ok(place)
+    Ok(geometry)
 }
 
 // Settles what a stop has left, and reserves the memory of all transactions.
@@ -126,8 +126,8 @@ fn put_base<D: Disk + Drop>(
 
 // Lets this many writes and syncs of the disk pass, and fails all later ones.
 fn arm_disk<D: CrashDisk>(base: &mut Result<CountedStore<D>, Broken<D>>, passes: u64)
-    ensures stays { (p : Place) (time : ℕ) (desks : Desks) (s : State)
-        → IsOn D.state p time desks (Some base.old) s → IsOn D.state p time desks (Some base.new) s }
+    ensures stays { (p : Geometry) (time : ℕ) (processes : ProcessTable) (s : State)
+        → IsOn D.state p time processes (Some base.old) s → IsOn D.state p time processes (Some base.new) s }
     ensures same { IsSame (D.state (disk_after base.old)) (D.state (disk_after base.new)) }
     ensures failures { (D.state (disk_after base.new)).failures ≡ (D.state (disk_after base.old)).failures }
     ensures armed { D.armed (disk_after base.new) ≡ Some passes }
@@ -140,8 +140,8 @@ fn arm_disk<D: CrashDisk>(base: &mut Result<CountedStore<D>, Broken<D>>, passes:
 
 // The disk of a store, or of what a commit that failed has left, lets go of its past.
 fn forget_past<D: Disk>(base: &mut Result<CountedStore<D>, Broken<D>>)
-    ensures stays { (p : Place) (time : ℕ) (desks : Desks) (s : State)
-        → IsOn D.state p time desks (Some base.old) s → IsOn D.state p time desks (Some base.new) s }
+    ensures stays { (p : Geometry) (time : ℕ) (processes : ProcessTable) (s : State)
+        → IsOn D.state p time processes (Some base.old) s → IsOn D.state p time processes (Some base.new) s }
     ensures past { ForgetsPast (D.state (disk_after base.old)) (D.state (disk_after base.new)) }
 {
     match base {
@@ -159,14 +159,14 @@ impl<D: Disk + Drop> Fs<D> {
         ensures any_moment { LeavesOnly (D.state disk) (disk_mounted D.state result) (StandsAsBefore (D.state disk)) }
     {
         let mut disk = disk;
-        let Ok(place) = read_place(&mut disk) else {
+        let Ok(geometry) = read_geometry(&mut disk) else {
             return Err((RestartFault::DiskFault, disk));
         };
         match open_store(alloc, disk) {
-            Ok(store) => match sweep(store, place) {
+            Ok(store) => match sweep(store, geometry) {
                 Ok(store) => Ok(Fs {
                     base: Some(Ok(CountedStore::uncounted(store))),
-                    place,
+                    geometry,
                     procs: Procs::new(alloc),
                     time: 0,
                     alloc,
@@ -206,10 +206,10 @@ impl<D: Disk + Drop> Fs<D> {
     }
 
     /// Where the parts of its disk lie.
-    pub fn place(&self) -> Place
-        ensures { result ≡ self.now.place }
+    pub fn geometry(&self) -> Geometry
+        ensures { result ≡ self.now.geometry }
     {
-        self.place
+        self.geometry
     }
 
     // Whether a commit has failed.
@@ -268,7 +268,7 @@ impl<D: Disk + Drop> Fs<D> {
             return Err(Errno::EIO);
         }
         let store = take_store(&mut self.base);
-        let (done, base) = exit_kept(store, self.place, &mut self.procs, pid);
+        let (done, base) = exit_kept(store, self.geometry, &mut self.procs, pid);
         put_base(&mut self.base, base);
         done
     }
@@ -290,7 +290,14 @@ impl<D: Disk + Drop> Fs<D> {
             return Err(Errno::EIO);
         }
         let store = take_store(&mut self.base);
-        let (done, store) = enter_kept(store, self.place, &mut self.procs, pid, directory, second);
+        let (done, store) = enter_kept(
+            store,
+            self.geometry,
+            &mut self.procs,
+            pid,
+            directory,
+            second,
+        );
         put_base(&mut self.base, Ok(store));
         done
     }
@@ -335,7 +342,15 @@ impl<D: Disk + Drop> Fs<D> {
             return Err(Errno::EIO);
         }
         let store = take_store(&mut self.base);
-        let (stamps, base) = stamp_kept(store, self.place, &self.procs, inode, atime, mtime, ctime);
+        let (stamps, base) = stamp_kept(
+            store,
+            self.geometry,
+            &self.procs,
+            inode,
+            atime,
+            mtime,
+            ctime,
+        );
         put_base(&mut self.base, base);
         stamps
     }
@@ -354,7 +369,7 @@ impl<D: Disk + Drop> Fs<D> {
         let (reply, base) = perform_kept(
             self.alloc,
             store,
-            self.place,
+            self.geometry,
             self.time,
             &mut self.procs,
             pid,
@@ -428,7 +443,7 @@ impl<D: Disk + Drop> Fs<D> {
             return Err(Errno::EIO);
         }
         let store = take_store(&mut self.base);
-        let (free, store) = count_space(store, self.place, &self.procs);
+        let (free, store) = count_space(store, self.geometry, &self.procs);
         put_base(&mut self.base, Ok(store));
         free
     }
@@ -438,9 +453,9 @@ impl<D: Disk + Drop> Fs<D> {
     /// The disk of a halted file system is let go of its past too: it is told so, and nothing it holds or counts changes.
     pub fn forget(&mut self)
         ensures state { (s : State) → IsIn D.state self.old s → IsIn D.state self.new s }
-        ensures place { self.new.place ≡ self.old.place }
+        ensures geometry { self.new.geometry ≡ self.old.geometry }
         ensures time { self.new.time ≡ self.old.time }
-        ensures desks { self.new.desks ≡ self.old.desks }
+        ensures processes { self.new.processes ≡ self.old.processes }
         ensures past { ForgetsPast (disk_in D.state self.old.base) (disk_in D.state self.new.base) }
     {
         let Some(base) = &mut self.base else {

@@ -5,7 +5,7 @@ ghost use Rattle.sector_txn.specs.Sectors.{SameStore};
 ghost use Rattle.bit_alloc.specs.Inodes.{IsSound};
 ghost use Rattle.bit_alloc.specs.Room.{HasSpare};
 ghost use Rattle.fs_model.specs.Nodes.{stamped};
-ghost use Rattle.fs_model.specs.Processes.{Desks};
+ghost use Rattle.fs_model.specs.Processes.{ProcessTable};
 ghost use Rattle.fs_model.specs.Ranges.{IsSomeCount};
 ghost use Rattle.fs_model.specs.States.{State};
 ghost use Rattle.fs_model.specs.StoredStamps.{stamps_in};
@@ -15,7 +15,7 @@ ghost use Rattle.call_parts.specs.Times.{with_times};
 ghost use Rattle.fs_system.specs.Stamping.{AreCounts, IsStamped, IsNotStamped};
 
 use fs_cred::Errno;
-use fs_layout::{Inode, Kind, Place};
+use fs_layout::{Geometry, Inode, Kind};
 use fs_model::Stamps;
 use inode_table::{load, save};
 use sector_txn::Sectors;
@@ -74,35 +74,35 @@ fn with_given(inode: &Inode, atime: Option<u64>, mtime: Option<u64>, ctime: Opti
 /// Sets times of an inode that is used, where the disk keeps any, and answers all three. Where none is given nothing is put.
 pub(crate) fn stamp<S: Sectors>(
     s: &mut S,
-    place: Place,
+    geometry: Geometry,
     n: u32,
     atime: Option<u64>,
     mtime: Option<u64>,
     ctime: Option<u64>,
 ) -> Result<Stamps, Errno>
-    requires sound { IsSound place (S.state s.old) }
+    requires sound { IsSound geometry (S.state s.old) }
     requires counts { AreCounts atime mtime ctime }
-    requires spare { HasSpare place 1 (S.state s.old) }
+    requires spare { HasSpare geometry 1 (S.state s.old) }
     ensures store { SameStore (S.state s.old) (S.state s.new) }
     ensures superblock { OnOk result ((S.state s.new).sectors 0 ≡ (S.state s.old).sectors 0) }
-    ensures each { (desks : Desks) (t : State) → IsStateOf place (S.state s.old).sectors desks t
-        → MatchResult result (λ stamps. IsStamped place (S.state s.new).sectors t n atime mtime ctime stamps)
+    ensures each { (processes : ProcessTable) (t : State) → IsStateOf geometry (S.state s.old).sectors processes t
+        → MatchResult result (λ stamps. IsStamped geometry (S.state s.new).sectors t n atime mtime ctime stamps)
         (λ errno. IsNotStamped (S.state s.old).disk (S.state s.new).disk t n atime mtime ctime errno) }
 {
-    if n >= place.inodes {
+    if n >= geometry.inodes {
         return Err(Errno::ENOENT);
     }
-    let Ok(inode) = load(s, place, n) else {
+    let Ok(inode) = load(s, geometry, n) else {
         return Err(Errno::EIO);
     };
     if inode.kind == Kind::Free {
         return Err(Errno::ENOENT);
     }
-    if !place.version.keeps_times() || gives_none(atime, mtime, ctime) {
+    if !geometry.version.keeps_times() || gives_none(atime, mtime, ctime) {
         return Ok(stamps_in(&inode));
     }
     let given = with_given(&inode, atime, mtime, ctime);
-    let Ok(()) = save(s, place, n, &given) else {
+    let Ok(()) = save(s, geometry, n, &given) else {
         return Err(Errno::EIO);
     };
     Ok(stamps_in(&given))

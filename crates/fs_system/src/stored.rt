@@ -20,7 +20,7 @@ use crate::stamping::{stamp, times_are_in_range};
 use bit_alloc::{Bitmap, count_free};
 use file_calls::exit;
 use fs_cred::{Errno, Refusal};
-use fs_layout::Place;
+use fs_layout::Geometry;
 use fs_model::{Call, Reply, Stamps, call_is_in_range};
 use name_calls::enter;
 use open_files::Procs;
@@ -40,20 +40,20 @@ pub(crate) fn failed(errno: Errno) -> Reply
 pub(crate) fn perform_kept<D: Disk>(
     alloc: Global,
     store: CountedStore<D>,
-    place: Place,
+    geometry: Geometry,
     now: u64,
     procs: &mut Procs,
     pid: usize,
     call: &Call,
 ) -> (Reply, Result<CountedStore<D>, Broken<D>>)
-    requires running { (s : State) × IsRunning (D.state store.disk).size place (present D.state store) procs.old s }
-    ensures does { (s : State) → IsRunning (D.state store.disk).size place (present D.state store) procs.old s → s.now ≡ now
-        → (t : State) × IsOn D.state place s.now procs.new (Some result.1) t
+    requires running { (s : State) × IsRunning (D.state store.disk).size geometry (present D.state store) procs.old s }
+    ensures does { (s : State) → IsRunning (D.state store.disk).size geometry (present D.state store) procs.old s → s.now ≡ now
+        → (t : State) × IsOn D.state geometry s.now procs.new (Some result.1) t
         × Does (D.state store.disk) (D.state (disk_after result.1)) s (Calls pid call.now) result.0 t }
 {
     call_is_in_range(call);
     let mut txn = store.begin();
-    match perform(alloc, &mut txn, place, now, procs, pid, call) {
+    match perform(alloc, &mut txn, geometry, now, procs, pid, call) {
         Ok(reply) => match txn.keep() {
             Ok(store) => (reply, Ok(store)),
             Err(broken) => (failed(Errno::EIO), Err(broken)),
@@ -66,17 +66,17 @@ pub(crate) fn perform_kept<D: Disk>(
 /// commit has failed.
 pub(crate) fn exit_kept<D: Disk>(
     store: CountedStore<D>,
-    place: Place,
+    geometry: Geometry,
     procs: &mut Procs,
     pid: usize,
 ) -> (Result<(), Errno>, Result<CountedStore<D>, Broken<D>>)
-    requires running { (s : State) × IsRunning (D.state store.disk).size place (present D.state store) procs.old s }
-    ensures does { (s : State) → IsRunning (D.state store.disk).size place (present D.state store) procs.old s
-        → (t : State) × IsOn D.state place s.now procs.new (Some result.1) t
+    requires running { (s : State) × IsRunning (D.state store.disk).size geometry (present D.state store) procs.old s }
+    ensures does { (s : State) → IsRunning (D.state store.disk).size geometry (present D.state store) procs.old s
+        → (t : State) × IsOn D.state geometry s.now procs.new (Some result.1) t
         × Does (D.state store.disk) (D.state (disk_after result.1)) s (Exit pid) (finished result.0) t }
 {
     let mut txn = store.begin();
-    match exit(&mut txn, place, procs, pid) {
+    match exit(&mut txn, geometry, procs, pid) {
         Ok(()) => match txn.keep() {
             Ok(store) => (Ok(()), Ok(store)),
             Err(broken) => (Err(Errno::EIO), Err(broken)),
@@ -89,41 +89,41 @@ pub(crate) fn exit_kept<D: Disk>(
 /// Puts a process into a directory, and lets its second paths start at another.
 pub(crate) fn enter_kept<D: Disk>(
     store: CountedStore<D>,
-    place: Place,
+    geometry: Geometry,
     procs: &mut Procs,
     pid: usize,
     directory: u32,
     second: u32,
 ) -> (Result<(), Errno>, CountedStore<D>)
-    requires running { (s : State) × IsRunning (D.state store.disk).size place (present D.state store) procs.old s }
-    ensures does { (s : State) → IsRunning (D.state store.disk).size place (present D.state store) procs.old s
-        → (t : State) × IsOn D.state place s.now procs.new (Some (Ok result.1)) t
+    requires running { (s : State) × IsRunning (D.state store.disk).size geometry (present D.state store) procs.old s }
+    ensures does { (s : State) → IsRunning (D.state store.disk).size geometry (present D.state store) procs.old s
+        → (t : State) × IsOn D.state geometry s.now procs.new (Some (Ok result.1)) t
         × Does (D.state store.disk) (D.state result.1.disk) s (Enter pid directory second) (finished result.0) t }
 {
     let mut txn = store.begin();
-    let done = enter(&mut txn, place, procs, pid, directory, second);
+    let done = enter(&mut txn, geometry, procs, pid, directory, second);
     (done, txn.drop_delta())
 }
 
 /// Sets the times of an inode that are given, and answers all three. At `Err` a commit has failed.
 pub(crate) fn stamp_kept<D: Disk>(
     store: CountedStore<D>,
-    place: Place,
+    geometry: Geometry,
     procs: &Procs,
     inode: u32,
     atime: Option<u64>,
     mtime: Option<u64>,
     ctime: Option<u64>,
 ) -> (Result<Stamps, Errno>, Result<CountedStore<D>, Broken<D>>)
-    requires running { (s : State) × IsRunning (D.state store.disk).size place (present D.state store) procs.now s }
-    ensures does { (s : State) → IsRunning (D.state store.disk).size place (present D.state store) procs.now s
-        → (t : State) × IsOn D.state place s.now procs.now (Some result.1) t
+    requires running { (s : State) × IsRunning (D.state store.disk).size geometry (present D.state store) procs.now s }
+    ensures does { (s : State) → IsRunning (D.state store.disk).size geometry (present D.state store) procs.now s
+        → (t : State) × IsOn D.state geometry s.now procs.now (Some result.1) t
         × Does (D.state store.disk) (D.state (disk_after result.1)) s (Stamp inode atime mtime ctime) (stamped_reply result.0) t }
 {
     let _processes = procs;
     times_are_in_range(atime, mtime, ctime);
     let mut txn = store.begin();
-    match stamp(&mut txn, place, inode, atime, mtime, ctime) {
+    match stamp(&mut txn, geometry, inode, atime, mtime, ctime) {
         Ok(stamps) => match txn.keep() {
             Ok(store) => (Ok(stamps), Ok(store)),
             Err(broken) => (Err(Errno::EIO), Err(broken)),
@@ -133,32 +133,32 @@ pub(crate) fn stamp_kept<D: Disk>(
 }
 
 // How many data sectors and inodes are free.
-fn count_both<S: Sectors>(s: &mut S, place: Place) -> Result<FreeSpace, DiskFault>
-    requires { HasBitmaps place (S.state s.old) }
-    ensures sectors { IfOk result (λ free. free.sectors ≡ free_numbers place Blocks (S.state s.old).sectors) }
-    ensures inodes { IfOk result (λ free. free.inodes ≡ free_numbers place Inodes (S.state s.old).sectors) }
+fn count_both<S: Sectors>(s: &mut S, geometry: Geometry) -> Result<FreeSpace, DiskFault>
+    requires { HasBitmaps geometry (S.state s.old) }
+    ensures sectors { IfOk result (λ free. free.sectors ≡ free_numbers geometry Blocks (S.state s.old).sectors) }
+    ensures inodes { IfOk result (λ free. free.inodes ≡ free_numbers geometry Inodes (S.state s.old).sectors) }
     ensures same { IsUnchanged (S.state s.old) (S.state s.new) }
     ensures cause { HasCause (S.state s.old).disk (S.state s.new).disk result }
 {
-    let sectors = count_free(s, place, Bitmap::Blocks)?;
-    let inodes = count_free(s, place, Bitmap::Inodes)?;
+    let sectors = count_free(s, geometry, Bitmap::Blocks)?;
+    let inodes = count_free(s, geometry, Bitmap::Inodes)?;
     Ok(FreeSpace { sectors, inodes })
 }
 
 // Counts how much is free. The store remembers it.
 fn count_anew<D: Disk>(
     store: CountedStore<D>,
-    place: Place,
+    geometry: Geometry,
     procs: &Procs,
 ) -> (Result<(u32, u32), Errno>, CountedStore<D>)
-    requires running { (s : State) × IsRunning (D.state store.disk).size place (present D.state store) procs.now s }
-    ensures does { (s : State) → IsRunning (D.state store.disk).size place (present D.state store) procs.now s
-        → IsRunning (D.state result.1.disk).size place (present D.state result.1) procs.now s
+    requires running { (s : State) × IsRunning (D.state store.disk).size geometry (present D.state store) procs.now s }
+    ensures does { (s : State) → IsRunning (D.state store.disk).size geometry (present D.state store) procs.now s
+        → IsRunning (D.state result.1.disk).size geometry (present D.state result.1) procs.now s
         × Does (D.state store.disk) (D.state result.1.disk) s Statfs (counted result.0) s }
 {
     let _processes = procs;
     let mut txn = store.begin();
-    match count_both(&mut txn, place) {
+    match count_both(&mut txn, geometry) {
         Ok(free) => {
             let mut store = txn.drop_delta();
             store.remember(free);
@@ -171,16 +171,16 @@ fn count_anew<D: Disk>(
 /// How many data sectors and inodes are free, as the store remembers it, or counted anew.
 pub(crate) fn count_space<D: Disk>(
     store: CountedStore<D>,
-    place: Place,
+    geometry: Geometry,
     procs: &Procs,
 ) -> (Result<(u32, u32), Errno>, CountedStore<D>)
-    requires running { (s : State) × IsRunning (D.state store.disk).size place (present D.state store) procs.now s }
-    ensures does { (s : State) → IsRunning (D.state store.disk).size place (present D.state store) procs.now s
-        → IsRunning (D.state result.1.disk).size place (present D.state result.1) procs.now s
+    requires running { (s : State) × IsRunning (D.state store.disk).size geometry (present D.state store) procs.now s }
+    ensures does { (s : State) → IsRunning (D.state store.disk).size geometry (present D.state store) procs.now s
+        → IsRunning (D.state result.1.disk).size geometry (present D.state result.1) procs.now s
         × Does (D.state store.disk) (D.state result.1.disk) s Statfs (counted result.0) s }
 {
     if let Some(free) = store.free() {
         return (Ok((free.sectors, free.inodes)), store);
     }
-    count_anew(store, place, procs)
+    count_anew(store, geometry, procs)
 }

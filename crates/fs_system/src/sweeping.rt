@@ -1,7 +1,7 @@
 //! What a mount does to files that a stop has left without a name.
 
 ghost use Rattle.std.specs.Prelude.{◌≡◌, IfOk};
-ghost use Rattle.fs_layout.specs.declared.place.Place.{Place as Parts};
+ghost use Rattle.fs_layout.specs.declared.geometry.Geometry.{Geometry as Parts};
 ghost use Rattle.sector_disk.specs.Disk.{HasCause};
 ghost use Rattle.sector_txn.specs.Stores.{present, disk_after};
 ghost use Rattle.bit_alloc.specs.declared.bitmap.Bitmap.TheVariants.{Inodes};
@@ -13,23 +13,23 @@ ghost use Rattle.fs_images.specs.Standing.{EachStandsFor};
 ghost use Rattle.fs_system.specs.Sweeping.{IsStored, HasTree, FreesNameless, KeepsTree};
 
 use call_parts::leave;
-use fs_layout::{Place, ROOT};
+use fs_layout::{Geometry, ROOT};
 use sector_disk::Disk;
 use sector_txn::Store;
 
 // Frees inode n where it is that of a file without a name. At `Err` a read or a commit has failed.
-fn free_nameless<D: Disk>(store: Store<D>, place: Place, n: u32) -> Result<Store<D>, D>
-    requires number { IsNumber place Inodes n }
-    requires tree { (t : Tree) × HasTree place (present D.state store) (D.state store.disk) t }
+fn free_nameless<D: Disk>(store: Store<D>, geometry: Geometry, n: u32) -> Result<Store<D>, D>
+    requires number { IsNumber geometry Inodes n }
+    requires tree { (t : Tree) × HasTree geometry (present D.state store) (D.state store.disk) t }
     ensures frees { IfOk result (λ after.
-        FreesNameless place n (present D.state store) (D.state store.disk) (present D.state after) (D.state after.disk)) }
-    ensures any_moment { KeepsTree place (present D.state store) (D.state store.disk) (D.state (disk_after result)) }
+        FreesNameless geometry n (present D.state store) (D.state store.disk) (present D.state after) (D.state after.disk)) }
+    ensures any_moment { KeepsTree geometry (present D.state store) (D.state store.disk) (D.state (disk_after result)) }
     ensures size { (D.state (disk_after result)).size ≡ (D.state store.disk).size }
     ensures cause { HasCause (D.state store.disk) (D.state (disk_after result)) result }
     ensures quiet { IfOk result (λ after. (D.state after.disk).failed_writes ≡ (D.state store.disk).failed_writes) }
 {
     let mut txn = store.begin();
-    match leave(&mut txn, place, n, false) {
+    match leave(&mut txn, geometry, n, false) {
         Ok(()) => match txn.keep() {
             Ok(store) => Ok(store),
             Err(broken) => Err(broken.into_disk()),
@@ -56,43 +56,43 @@ fn make_stable<D: Disk>(store: Store<D>) -> Result<Store<D>, D>
 }
 
 // Frees each inode but the root that is that of a file without a name, each in a commit of its own.
-fn free_all_nameless<D: Disk>(store: Store<D>, place: Place) -> Result<Store<D>, D>
-    requires tree { (t : Tree) × HasTree place (present D.state store) (D.state store.disk) t }
-    ensures swept { IfOk result (λ after. (t : Tree) → HasTree place (present D.state store) (D.state store.disk) t
-        → HasTree place (present D.state after) (D.state after.disk) (pruned t)) }
-    ensures any_moment { KeepsTree place (present D.state store) (D.state store.disk) (D.state (disk_after result)) }
+fn free_all_nameless<D: Disk>(store: Store<D>, geometry: Geometry) -> Result<Store<D>, D>
+    requires tree { (t : Tree) × HasTree geometry (present D.state store) (D.state store.disk) t }
+    ensures swept { IfOk result (λ after. (t : Tree) → HasTree geometry (present D.state store) (D.state store.disk) t
+        → HasTree geometry (present D.state after) (D.state after.disk) (pruned t)) }
+    ensures any_moment { KeepsTree geometry (present D.state store) (D.state store.disk) (D.state (disk_after result)) }
     ensures size { (D.state (disk_after result)).size ≡ (D.state store.disk).size }
     ensures cause { HasCause (D.state store.disk) (D.state (disk_after result)) result }
     ensures quiet { IfOk result (λ after. (D.state after.disk).failed_writes ≡ (D.state store.disk).failed_writes) }
 {
     let mut store = store;
-    for n in ROOT + 1..place.inodes {
-        let freed = free_nameless(store, place, n)?;
+    for n in ROOT + 1..geometry.inodes {
+        let freed = free_nameless(store, geometry, n)?;
         store = make_stable(freed)?;
     }
     Ok(store)
 }
 
 /// Frees each file without a name, in a commit of its own, and makes all stable. At `Err` a read or a commit has failed.
-pub(crate) fn sweep<D: Disk>(store: Store<D>, place: Place) -> Result<Store<D>, D>
-    requires tree { (t : Tree) × HasTree place (present D.state store) (D.state store.disk) t }
+pub(crate) fn sweep<D: Disk>(store: Store<D>, geometry: Geometry) -> Result<Store<D>, D>
+    requires tree { (t : Tree) × HasTree geometry (present D.state store) (D.state store.disk) t }
 
     // The tree is there without them.
-    ensures swept { IfOk result (λ after. (t : Tree) → HasTree place (present D.state store) (D.state store.disk) t
-        → IsStored (D.state after.disk).size place (present D.state after) (pruned t)) }
+    ensures swept { IfOk result (λ after. (t : Tree) → HasTree geometry (present D.state store) (D.state store.disk) t
+        → IsStored (D.state after.disk).size geometry (present D.state after) (pruned t)) }
 
     // From `Ok` on a stop leaves what stands for it.
-    ensures lasting { IfOk result (λ after. (t : Tree) → HasTree place (present D.state store) (D.state store.disk) t
-        → EachStandsFor (room_of place) (D.state after.disk) (pruned t)) }
+    ensures lasting { IfOk result (λ after. (t : Tree) → HasTree geometry (present D.state store) (D.state store.disk) t
+        → EachStandsFor (room_of geometry) (D.state after.disk) (pruned t)) }
 
     // A stop at any moment of the call leaves what stands for the tree, but for files without names.
-    ensures any_moment { KeepsTree place (present D.state store) (D.state store.disk) (D.state (disk_after result)) }
+    ensures any_moment { KeepsTree geometry (present D.state store) (D.state store.disk) (D.state (disk_after result)) }
 
     ensures size { (D.state (disk_after result)).size ≡ (D.state store.disk).size }
     ensures cause { HasCause (D.state store.disk) (D.state (disk_after result)) result }
     ensures quiet { IfOk result (λ after. (D.state after.disk).failed_writes ≡ (D.state store.disk).failed_writes) }
 {
-    let freed = free_all_nameless(store, place)?;
+    let freed = free_all_nameless(store, geometry)?;
     let stable = make_stable(freed)?;
     Ok(stable)
 }

@@ -14,16 +14,16 @@ use Rattle.fs_model.specs.declared.reply.Reply.{Reply}
 use Rattle.fuse_protocol.specs.declared.operation.Operation.{Operation}
 use Rattle.fuse_protocol.specs.declared.operation.Operation.TheVariants.{Unlink, RmDir, Rename, SetXAttr, RemoveXAttr}
 use Rattle.fuse_protocol.specs.declared.reply.Time.{Time}
-use Rattle.fuse_state.specs.declared.place.Place.{Place}
+use Rattle.fuse_state.specs.declared.dentry.Dentry.{Dentry}
 use Rattle.fuse_state.specs.Servers.{Server}
 use Rattle.fuse_plans.specs.declared.reply.ReplyBody.{ReplyBody}
 use Rattle.fuse_plans.specs.declared.reply.Response.{Response}
 use Rattle.fuse_plans.specs.declared.reply.Response.TheVariants.{Silence, Says, Fails}
 use Rattle.fuse_plans.specs.declared.request.Asked.{Asked}
-use Rattle.fuse_plans.specs.declared.stop.Stop.{Stop}
+use Rattle.fuse_plans.specs.declared.request_error.RequestError.{RequestError}
 use Rattle.fuse_plans.specs.Plans.{Plan, Finish, Ask, followed_by, IsRunOf, IsAsked, at_once, later}
 use Rattle.fuse_plans.specs.Requests.{asked_of}
-use Rattle.fuse_plans.specs.Works.{Work, give, stop, keep, goes_on, ◌>>=◌, attempt, ask, give_unless, refusal_in, unless_refused, obtain}
+use Rattle.fuse_plans.specs.Works.{Work, give, fail, keep, goes_on, ◌>>=◌, attempt, ask, give_unless, refusal_in, unless_refused, obtain}
 use Rattle.fuse_plans.specs.Callers.{between, done_between, standing_refusal, by_places, on}
 use Rattle.fuse_plans.specs.NamePlans.{removal, remove, move_name}
 use Rattle.fuse_plans.specs.AclPlans.{set_acl, set_xattr, remove_xattr}
@@ -89,17 +89,17 @@ spares-followed_by F G (Ask e next) f spares sure rest =
 
 -- ---- work
 
-abbrev IsStopped : {X : Type 0} → Result X Stop × Server → Type 0
-IsStopped (Ok x, s) = ⊥
-IsStopped (Err e, s) = Unit {0}
+abbrev IsFailure : {X : Type 0} → Result X RequestError × Server → Type 0
+IsFailure (Ok x, s) = ⊥
+IsFailure (Err e, s) = Unit {0}
 
 -- where it fails nothing has changed
 record Clean {X : Type 0} (w : Work X) : Type 0 where
-  at : (s : Server) → SparesFailures IsStopped (w s)
+  at : (s : Server) → SparesFailures IsFailure (w s)
 
 -- it doesn't fail
 record Sure {X : Type 0} (w : Work X) : Type 0 where
-  at : (s : Server) → AllEnd (λ r. IsStopped r → ⊥) (w s)
+  at : (s : Server) → AllEnd (λ r. IsFailure r → ⊥) (w s)
 
 sure-give : {X : Type 0} (x : X) → Sure (give x)
 unfolding give
@@ -110,9 +110,9 @@ sure-keep : {X : Type 0} (f : Server → Server) (x : X) → Sure (keep f >>= (�
 unfolding give keep ◌>>=◌
 sure-keep f x = record { at = λ s stopped. stopped }
 
-clean-stop : {X : Type 0} (e : Stop) → Clean {X = X} (stop e)
-unfolding stop
-clean-stop e = record { at = λ s. tt }
+clean-fail : {X : Type 0} (e : RequestError) → Clean {X = X} (fail e)
+unfolding fail
+clean-fail e = record { at = λ s. tt }
 
 clean-if : {X : Type 0} (b : Bool) (w v : Work X) → Clean w → Clean v → Clean (if b then w else v)
 clean-if true w v first second = first
@@ -120,62 +120,62 @@ clean-if false w v first second = second
 
 quiet->>= : {X Y : Type 0} {w : Work X} {f : X → Work Y} → Asks None w → ((x : X) → Clean (f x)) → Clean (w >>= f)
 unfolding ◌>>=◌
-quiet->>= {X} {Y} {w} {f} quiet rest = record { at = λ s. spares-quiet IsStopped (w s) (goes_on f) (quiet.at s) next }
+quiet->>= {X} {Y} {w} {f} quiet rest = record { at = λ s. spares-quiet IsFailure (w s) (goes_on f) (quiet.at s) next }
   where
-    next : (r : Result X Stop × Server) → SparesFailures IsStopped (goes_on f r)
+    next : (r : Result X RequestError × Server) → SparesFailures IsFailure (goes_on f r)
     next (Ok x, t) = (rest x).at t
     next (Err e, t) = tt
 
 clean->>= : {X Y : Type 0} {w : Work X} {f : X → Work Y} → Clean w → ((x : X) → Sure (f x)) → Clean (w >>= f)
 unfolding ◌>>=◌
-clean->>= {X} {Y} {w} {f} first rest = record { at = λ s. spares-followed_by IsStopped IsStopped (w s) (goes_on f) (first.at s) sure next }
+clean->>= {X} {Y} {w} {f} first rest = record { at = λ s. spares-followed_by IsFailure IsFailure (w s) (goes_on f) (first.at s) sure next }
   where
-    sure : (r : Result X Stop × Server) → (IsStopped r → ⊥) → AllEnd (λ q. IsStopped q → ⊥) (goes_on f r)
+    sure : (r : Result X RequestError × Server) → (IsFailure r → ⊥) → AllEnd (λ q. IsFailure q → ⊥) (goes_on f r)
     sure (Ok x, t) went = (rest x).at t
     sure (Err e, t) went = absurd (went tt)
 
-    next : (r : Result X Stop × Server) → SparesFailures IsStopped (goes_on f r)
-    next (Ok x, t) = spares-never IsStopped (f x t) ((rest x).at t)
+    next : (r : Result X RequestError × Server) → SparesFailures IsFailure (goes_on f r)
+    next (Ok x, t) = spares-never IsFailure (f x t) ((rest x).at t)
     next (Err e, t) = tt
 
-clean-attempt : {X Y : Type 0} {w : Work X} (f : Result X Stop → Work Y) → Clean w → ((x : X) → Sure (f (Ok x))) → ((e : Stop) → Clean (f (Err e)))
+clean-attempt : {X Y : Type 0} {w : Work X} (f : Result X RequestError → Work Y) → Clean w → ((x : X) → Sure (f (Ok x))) → ((e : RequestError) → Clean (f (Err e)))
     → Clean (attempt w >>= f)
 unfolding attempt ◌>>=◌
 clean-attempt {X} {Y} {w} f first ok err = record {
   at = λ s.
-      spares-followed_by told IsStopped (followed_by (w s) (λ r. Finish (Ok r.0, r.1))) (goes_on f)
-      (spares-followed_by IsStopped told (w s) (λ r. Finish (Ok r.0, r.1)) (first.at s) went (λ r. tt)) sure next;
+      spares-followed_by told IsFailure (followed_by (w s) (λ r. Finish (Ok r.0, r.1))) (goes_on f)
+      (spares-followed_by IsFailure told (w s) (λ r. Finish (Ok r.0, r.1)) (first.at s) went (λ r. tt)) sure next;
 }
   where
-    told : Result (Result X Stop) Stop × Server → Type 0
+    told : Result (Result X RequestError) RequestError × Server → Type 0
     told (Ok (Ok x), t) = ⊥
     told (Ok (Err e), t) = Unit {0}
     told (Err e, t) = Unit {0}
 
-    went : (r : Result X Stop × Server) → (IsStopped r → ⊥) → told (Ok r.0, r.1) → ⊥
+    went : (r : Result X RequestError × Server) → (IsFailure r → ⊥) → told (Ok r.0, r.1) → ⊥
     went (Ok x, t) is stopped = stopped
     went (Err e, t) is stopped = is tt
 
-    sure : (r : Result (Result X Stop) Stop × Server) → (told r → ⊥) → AllEnd (λ q. IsStopped q → ⊥) (goes_on f r)
+    sure : (r : Result (Result X RequestError) RequestError × Server) → (told r → ⊥) → AllEnd (λ q. IsFailure q → ⊥) (goes_on f r)
     sure (Ok (Ok x), t) is = (ok x).at t
     sure (Ok (Err e), t) is = absurd (is tt)
     sure (Err e, t) is = absurd (is tt)
 
-    next : (r : Result (Result X Stop) Stop × Server) → SparesFailures IsStopped (goes_on f r)
-    next (Ok (Ok x), t) = spares-never IsStopped (f (Ok x) t) ((ok x).at t)
+    next : (r : Result (Result X RequestError) RequestError × Server) → SparesFailures IsFailure (goes_on f r)
+    next (Ok (Ok x), t) = spares-never IsFailure (f (Ok x) t) ((ok x).at t)
     next (Ok (Err e), t) = (err e).at t
     next (Err e, t) = tt
 
 -- ---- one call
 
-spares-unless : (reply : Reply) (o : Option Refusal) (s : Server) → SparesFailures IsStopped (give_unless reply o s)
-unfolding give stop
+spares-unless : (reply : Reply) (o : Option Refusal) (s : Server) → SparesFailures IsFailure (give_unless reply o s)
+unfolding give fail
 spares-unless reply None s = tt
 spares-unless reply (Some r) s = tt
 
-sure-granted : (reply : Reply) (s : Server) → refusal_in reply ≡ None → AllEnd (λ r. IsStopped r → ⊥) (unless_refused reply s)
+sure-granted : (reply : Reply) (s : Server) → refusal_in reply ≡ None → AllEnd (λ r. IsFailure r → ⊥) (unless_refused reply s)
 unfolding give
-sure-granted reply s granted = subst (λ o. AllEnd (λ r. IsStopped r → ⊥) (give_unless reply o s)) (sym granted) (λ stopped. stopped)
+sure-granted reply s granted = subst (λ o. AllEnd (λ r. IsFailure r → ⊥) (give_unless reply o s)) (sym granted) (λ stopped. stopped)
 
 clean-obtain : (e : Event) → Clean (obtain e)
 unfolding ask ◌>>=◌
@@ -197,12 +197,12 @@ clean-between pid directory second call = quiet->>= (search pieces) (λ entered.
 clean-done_between : (pid directory second : ℕ) (call : Call) → Clean (done_between pid directory second call)
 clean-done_between pid directory second call = clean->>= (clean-between pid directory second call) (λ reply. sure-give tt)
 
-clean-by_places : (pid : ℕ) (second : Option ℕ) (call : List ℕ → Call) (before : Stop) (places : List Place) → Clean (by_places pid second call before places)
+clean-by_places : (pid : ℕ) (second : Option ℕ) (call : List ℕ → Call) (before : RequestError) (places : List Dentry) → Clean (by_places pid second call before places)
 unfolding by_places
-clean-by_places pid second call before [] = clean-stop before
+clean-by_places pid second call before [] = clean-fail before
 clean-by_places pid second call before (p ∷ others) =
     clean-attempt _ (clean-between pid p.directory _ (call p.name)) (λ reply. sure-give reply)
-    (λ e. clean-if _ _ _ (clean-by_places pid second call (standing_refusal before e) others) (clean-stop e))
+    (λ e. clean-if _ _ _ (clean-by_places pid second call (standing_refusal before e) others) (clean-fail e))
 
 clean-on : (pid n : ℕ) (call : List ℕ → Call) → Clean (on pid n call)
 unfolding on
@@ -211,7 +211,7 @@ clean-on pid n call =
     (quiet->>= (search pieces) (λ kind.
     quiet->>= (search pieces) (λ places.
     clean-attempt _ (clean-by_places pid None call _ places) (λ reply. sure-give reply)
-    (λ e. clean-if _ _ _ (clean-between pid n n _) (clean-stop e)))))
+    (λ e. clean-if _ _ _ (clean-between pid n n _) (clean-fail e)))))
 
 -- ---- requests
 
@@ -272,7 +272,7 @@ HasFailed (Fails e, s) = Unit {0}
 HasFailed (Says body, s) = ⊥
 HasFailed (Silence, s) = ⊥
 
-sure-answer : (r : Result ReplyBody Stop × Server) → (IsStopped r → ⊥) → HasFailed (response_of r.0, r.1) → ⊥
+sure-answer : (r : Result ReplyBody RequestError × Server) → (IsFailure r → ⊥) → HasFailed (response_of r.0, r.1) → ⊥
 sure-answer (Ok body, t) went failed = failed
 sure-answer (Err e, t) went failed = went tt
 
@@ -280,7 +280,7 @@ spares-answered : (memory : Bool) (work : Task) (s : Server) → CleanIfAny work
 spares-answered true (Silently f) s clean = tt
 spares-answered false (Silently f) s clean = tt
 spares-answered true (Replying w) s clean =
-    spares-followed_by IsStopped HasFailed (w s) (λ r. Finish (response_of r.0, r.1)) (clean.at s) sure-answer (λ r. tt)
+    spares-followed_by IsFailure HasFailed (w s) (λ r. Finish (response_of r.0, r.1)) (clean.at s) sure-answer (λ r. tt)
 spares-answered false (Replying w) s clean = tt
 
 -- where the plan ended so, what may have changed something was refused

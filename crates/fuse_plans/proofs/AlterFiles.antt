@@ -9,14 +9,14 @@ use Rattle.fuse_protocol.specs.declared.operation.Operation.{Operation}
 use Rattle.fuse_state.specs.Servers.{owner_of, descriptor_of}
 use Rattle.fuse_plans.specs.declared.mode.Mode.{Mode}
 use Rattle.fuse_plans.specs.declared.request.Asked.{Asked}
-use Rattle.fuse_plans.specs.declared.stop.Stop.{Stop}
+use Rattle.fuse_plans.specs.declared.request_error.RequestError.{RequestError}
 use Rattle.fuse_plans.specs.Callers.{on}
 use Rattle.fs_model.specs.declared.event.Event.TheVariants.{Call as Calls}
 use Rattle.fuse_plans.specs.Works.{obtain}
 use Rattle.fuse_plans.specs.Flags.{is_trunc}
 use Rattle.fuse_plans.specs.FilePlans.{done, when, reads_alone, show_open, confirm_shown, confirm_open, cuts_open, open_file, or_opened, open_or_make, look_open, tell_created, create_file, the_open, call_open, seek, seek_open, read_piece, read_pieces, read_file, or_done, write_piece, write_pieces, pieces_in, write_file, close_file, sync_file}
 use Rattle.fuse_plans.specs.Alterations.{resizes, resizes_open, writes_open, adds_name, IsToldIn}
-use Rattle.fuse_plans.proofs.AlterPieces.{pieces, told-where_so, Asks, IsTold, asks-give, asks-stop, asks->>=, asks-attempt, asks-if, asks-when_so, asks-done, asks-obtain, asks-or_closed, asks-on}
+use Rattle.fuse_plans.proofs.AlterPieces.{pieces, told-where_so, Asks, IsTold, asks-give, asks-fail, asks->>=, asks-attempt, asks-if, asks-when_so, asks-done, asks-obtain, asks-or_closed, asks-on}
 use Rattle.fuse_plans.proofs.AlterMasks.{asks-new_valid}
 use Rattle.fuse_plans.proofs.AlterNames.{asks-plain_name}
 use Rattle.fs_layout.proofs.FirstEntries.{left, right}
@@ -34,12 +34,12 @@ module _ {o : Option Operation} where
   asks-confirm_open pid fd n cuts told =
       asks->>= (asks-attempt
       (asks->>= (asks-show_open pid fd) (λ status.
-      asks->>= (asks-if _ _ _ (asks-give tt) (asks-stop _)) (λ same.
+      asks->>= (asks-if _ _ _ (asks-give tt) (asks-fail _)) (λ same.
       asks-when_so cuts (done (obtain (Calls pid (Ftruncate fd 0)))) (λ is. asks-done (asks-obtain _ (told is, tt))))))) (λ confirmed.
       asks-or_closed pid fd confirmed)
 
 module _ {o : Option Operation} (flags : ℕ) (told : is_trunc flags ≡ true → IsToldIn o (resizes 0)) where
-  asks-or_opened : (pid d : ℕ) (name : List ℕ) (mode : Mode) (r : Result Reply Stop) → Asks o (or_opened pid d name mode flags r)
+  asks-or_opened : (pid d : ℕ) (name : List ℕ) (mode : Mode) (r : Result Reply RequestError) → Asks o (or_opened pid d name mode flags r)
   asks-or_opened pid d name mode (Ok reply) = asks-give _
   asks-or_opened pid d name mode (Err e) =
       let empties = told-where_so o (is_trunc flags) (resizes 0) told in
@@ -84,9 +84,9 @@ module _ {o : Option Operation} where
   pub asks-read_file : (extent : Extent) → Asks o (read_file extent)
   asks-read_file extent = search (pieces, asks-seek_open, asks-read_pieces) depth 12
 
-  asks-or_done : (done : ℕ) (wrote : Result ℕ Stop) → Asks o (or_done done wrote)
+  asks-or_done : (done : ℕ) (wrote : Result ℕ RequestError) → Asks o (or_done done wrote)
   asks-or_done done (Ok count) = asks-give count
-  asks-or_done zero (Err e) = asks-stop e
+  asks-or_done zero (Err e) = asks-fail e
   asks-or_done (suc done) (Err e) = asks-give 0
 
   asks-write_piece : (pid : ℕ) (call : Call) → IsTold o pid call → Asks o (write_piece pid call)

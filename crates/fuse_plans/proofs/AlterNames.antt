@@ -6,12 +6,12 @@ use Rattle.fs_model.specs.declared.reply.Status.{Status}
 use Rattle.fuse_protocol.specs.declared.operation.Operation.{Operation}
 use Rattle.fuse_protocol.specs.declared.reply.Time.{Time}
 use Rattle.fuse_plans.specs.declared.request.Asked.{Asked}
-use Rattle.fuse_plans.specs.declared.stop.Stop.{Stop}
-use Rattle.fuse_plans.specs.declared.stop.Stop.TheVariants.{Refuses, Lacks}
-use Rattle.fuse_plans.specs.declared.stop.OtherErrno.TheVariants.{ENFILE, ERANGE, ENOSYS, ENODATA, EPROTO, EOPNOTSUPP, ESTALE}
+use Rattle.fuse_plans.specs.declared.request_error.RequestError.{RequestError}
+use Rattle.fuse_plans.specs.declared.request_error.RequestError.TheVariants.{Refuses, Lacks}
+use Rattle.fuse_plans.specs.declared.request_error.OtherErrno.TheVariants.{ENFILE, ERANGE, ENOSYS, ENODATA, EPROTO, EOPNOTSUPP, ESTALE}
 use Rattle.fuse_plans.specs.NamePlans.{plain_name, or_absent, found_or_absent, find_name, made, open_and_close, directory_and_caller, make_link, make_directory, make_file, remove, none_there, move_name, link_by_place, add_link}
 use Rattle.fuse_plans.specs.Alterations.{adds_name, moves_name, IsToldIn}
-use Rattle.fuse_plans.proofs.AlterPieces.{pieces, Asks, IsTold, asks-give, asks-stop}
+use Rattle.fuse_plans.proofs.AlterPieces.{pieces, Asks, IsTold, asks-give, asks-fail}
 use Rattle.fuse_plans.proofs.AlterMasks.{asks-new_valid}
 
 module _ {o : Option Operation} where
@@ -28,18 +28,18 @@ module _ {o : Option Operation} where
   asks-open_and_close : (pid d : ℕ) (call : Call) → IsTold o pid call → Asks o (open_and_close pid d call)
   asks-open_and_close pid d call told = search (pieces, told) depth 12
 
-  asks-or_absent : (known : Result ℕ Stop) → Asks o (or_absent known)
+  asks-or_absent : (known : Result ℕ RequestError) → Asks o (or_absent known)
   asks-or_absent (Ok n) = asks-give n
-  asks-or_absent (Err (Refuses r)) = asks-stop _
-  asks-or_absent (Err (Lacks ESTALE)) = asks-stop _
-  asks-or_absent (Err (Lacks ENFILE)) = asks-stop _
-  asks-or_absent (Err (Lacks ERANGE)) = asks-stop _
-  asks-or_absent (Err (Lacks ENOSYS)) = asks-stop _
-  asks-or_absent (Err (Lacks ENODATA)) = asks-stop _
-  asks-or_absent (Err (Lacks EPROTO)) = asks-stop _
-  asks-or_absent (Err (Lacks EOPNOTSUPP)) = asks-stop _
+  asks-or_absent (Err (Refuses r)) = asks-fail _
+  asks-or_absent (Err (Lacks ESTALE)) = asks-fail _
+  asks-or_absent (Err (Lacks ENFILE)) = asks-fail _
+  asks-or_absent (Err (Lacks ERANGE)) = asks-fail _
+  asks-or_absent (Err (Lacks ENOSYS)) = asks-fail _
+  asks-or_absent (Err (Lacks ENODATA)) = asks-fail _
+  asks-or_absent (Err (Lacks EPROTO)) = asks-fail _
+  asks-or_absent (Err (Lacks EOPNOTSUPP)) = asks-fail _
 
-  asks-found_or_absent : (nobody : Bool) (d : ℕ) (name : List ℕ) (seen : Result Status Stop) → Asks o (found_or_absent nobody d name seen)
+  asks-found_or_absent : (nobody : Bool) (d : ℕ) (name : List ℕ) (seen : Result Status RequestError) → Asks o (found_or_absent nobody d name seen)
   asks-found_or_absent nobody d name (Ok status) = search pieces depth 12
   asks-found_or_absent nobody d name (Err e) = search pieces depth 12
 
@@ -58,7 +58,7 @@ module _ {o : Option Operation} where
   pub asks-remove : (r : Asked) (call : List ℕ → Call) (name : List ℕ) → ((pid : ℕ) → IsTold o pid (call name)) → Asks o (remove r call name)
   asks-remove r call name told = search (pieces, asks-directory_and_caller, told) depth 12
 
-  pub asks-none_there : (there : Result Reply Stop) → Asks o (none_there there)
+  pub asks-none_there : (there : Result Reply RequestError) → Asks o (none_there there)
   asks-none_there (Ok reply) = search pieces
   asks-none_there (Err e) = search pieces
 

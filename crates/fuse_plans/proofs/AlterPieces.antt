@@ -20,12 +20,12 @@ use Rattle.fs_model.specs.declared.reply.FileType.{FileType}
 use Rattle.fs_model.specs.declared.reply.Reply.{Reply}
 use Rattle.fuse_protocol.specs.declared.operation.Operation.{Operation}
 use Rattle.fuse_protocol.specs.declared.reply.Time.{Time}
-use Rattle.fuse_state.specs.declared.place.Place.{Place}
+use Rattle.fuse_state.specs.declared.dentry.Dentry.{Dentry}
 use Rattle.fuse_state.specs.Servers.{Server}
-use Rattle.fuse_plans.specs.declared.stop.Stop.{Stop}
+use Rattle.fuse_plans.specs.declared.request_error.RequestError.{RequestError}
 use Rattle.fuse_plans.specs.Plans.{Plan, Finish, Ask, followed_by}
-use Rattle.fuse_plans.specs.Works.{Work, give, stop, kept, keep, goes_on, ◌>>=◌, attempt, needed, ask, give_unless, refusal_in, unless_refused, obtain, or_closed}
-use Rattle.fuse_plans.specs.Callers.{settle_new, settle, retire_next, retire, settle_first, begin_process, or_spawned, caller, unused_of, or_unused, caller_with_room, the_looker, between, done_between, look_inside, or_inside, standing_refusal, or_next, by_places, by_place, on, by_looker, look_at, look, is_known_directory, the_number, directory_number, standing_directory}
+use Rattle.fuse_plans.specs.Works.{Work, give, fail, kept, keep, goes_on, ◌>>=◌, attempt, needed, ask, give_unless, refusal_in, unless_refused, obtain, or_closed}
+use Rattle.fuse_plans.specs.Callers.{settle_new, settle, retire_next, retire, settle_first, begin_process, or_spawned, caller, unused_of, or_unused, caller_with_room, the_server_process, between, done_between, look_inside, or_inside, standing_refusal, or_next, by_places, by_place, on, by_server_process, look_at, look, is_known_directory, the_number, directory_number, standing_directory}
 use Rattle.fuse_plans.specs.FilePlans.{when, done}
 use Rattle.fuse_plans.specs.Times.{tell_time_if, tell_time, told_stamps_if, told_stamps}
 use Rattle.fuse_plans.proofs.AllEnds.{AllEnd, all-followed_by}
@@ -61,9 +61,9 @@ module _ {o : Option Operation} where
   unfolding give
   asks-give x = record { at = λ s. tt }
 
-  pub asks-stop : {X : Type 0} (e : Stop) → Asks o {X = X} (stop e)
-  unfolding stop
-  asks-stop e = record { at = λ s. tt }
+  pub asks-fail : {X : Type 0} (e : RequestError) → Asks o {X = X} (fail e)
+  unfolding fail
+  asks-fail e = record { at = λ s. tt }
 
   pub asks-kept : {X : Type 0} (f : Server → X) → Asks o (kept f)
   unfolding kept
@@ -77,7 +77,7 @@ module _ {o : Option Operation} where
   unfolding ◌>>=◌
   asks->>= {X} {Y} {w} {f} first rest = record { at = λ s. asks-followed_by (MayBeAsked o) (w s) (goes_on f) (first.at s) next }
     where
-      next : (r : Result X Stop × Server) → AsksOnly (MayBeAsked o) (goes_on f r)
+      next : (r : Result X RequestError × Server) → AsksOnly (MayBeAsked o) (goes_on f r)
       next (Ok x, t) = (rest x).at t
       next (Err e, t) = tt
 
@@ -101,13 +101,13 @@ module _ {o : Option Operation} where
   pub asks-done : {X : Type 0} {w : Work X} → Asks o w → Asks o (done w)
   asks-done first = asks->>= first (λ x. asks-give tt)
 
-  pub asks-needed : {X : Type 0} (e : Stop) (found : Option X) → Asks o (needed e found)
-  asks-needed e None = asks-stop e
+  pub asks-needed : {X : Type 0} (e : RequestError) (found : Option X) → Asks o (needed e found)
+  asks-needed e None = asks-fail e
   asks-needed e (Some x) = asks-give x
 
   -- where it is there
-  pub asks-needed_then : {X Y : Type 0} {f : X → Work Y} (e : Stop) (found : Option X) → ((x : X) → found ≡ Some x → Asks o (f x)) → Asks o (needed e found >>= f)
-  unfolding give stop ◌>>=◌
+  pub asks-needed_then : {X Y : Type 0} {f : X → Work Y} (e : RequestError) (found : Option X) → ((x : X) → found ≡ Some x → Asks o (f x)) → Asks o (needed e found >>= f)
+  unfolding give fail ◌>>=◌
   asks-needed_then e None rest = record { at = λ s. tt }
   asks-needed_then e (Some x) rest = record { at = (rest x refl).at }
 
@@ -122,24 +122,24 @@ module _ {o : Option Operation} where
     where
       choose : (refusal : Option Refusal) → Asks o (give_unless reply refusal)
       choose None = asks-give reply
-      choose (Some r) = asks-stop _
+      choose (Some r) = asks-fail _
 
   pub asks-obtain : (e : Event) → MayBeAsked o e → Asks o (obtain e)
   asks-obtain e may = asks->>= (asks-ask e may) asks-unless_refused
 
-  pub asks-or_closed : {X : Type 0} (pid fd : ℕ) (r : Result X Stop) → Asks o (or_closed pid fd r)
+  pub asks-or_closed : {X : Type 0} (pid fd : ℕ) (r : Result X RequestError) → Asks o (or_closed pid fd r)
   asks-or_closed pid fd (Ok x) = asks-give x
-  asks-or_closed pid fd (Err e) = asks->>= (asks-ask _ tt) (λ reply. asks-stop e)
+  asks-or_closed pid fd (Err e) = asks->>= (asks-ask _ tt) (λ reply. asks-fail e)
 
   -- ---- processes
 
   asks-settle_new : (cred : Credential) (pid : ℕ) (taken : Bool) → Asks o (settle_new cred pid taken)
-  asks-settle_new cred pid true = asks-stop _
+  asks-settle_new cred pid true = asks-fail _
   asks-settle_new cred pid false = asks->>= (asks-keep _) (λ kept. asks-give pid)
 
   asks-settle : (cred : Credential) (reply : Reply) → Asks o (settle cred reply)
   asks-settle cred reply =
-      asks-if _ _ _ (asks-stop _)
+      asks-if _ _ _ (asks-fail _)
       (asks->>= (asks-unless_refused reply) (λ done.
       asks->>= (asks-needed _ _) (λ pid.
       asks->>= (asks-kept _) (λ taken. asks-settle_new cred pid taken))))
@@ -169,7 +169,7 @@ module _ {o : Option Operation} where
   asks-caller who = asks->>= (asks-needed _ who) (λ cred. asks->>= (asks-kept _) (asks-or_spawned cred))
 
   asks-unused_of : (cred : Credential) (may : Bool) → Asks o (unused_of cred may)
-  asks-unused_of cred false = asks-stop _
+  asks-unused_of cred false = asks-fail _
   asks-unused_of cred true = asks->>= (asks-kept _) (asks-or_spawned cred)
 
   asks-or_unused : (cred : Credential) (pid : Option ℕ) → Asks o (or_unused cred pid)
@@ -180,9 +180,9 @@ module _ {o : Option Operation} where
   unfolding caller_with_room
   asks-caller_with_room who = asks->>= (asks-needed _ who) (λ cred. asks->>= (asks-kept _) (asks-or_unused cred))
 
-  pub asks-the_looker : Asks o the_looker
-  unfolding the_looker
-  asks-the_looker = asks->>= (asks-kept _) (asks-needed _)
+  pub asks-the_server_process : Asks o the_server_process
+  unfolding the_server_process
+  asks-the_server_process = asks->>= (asks-kept _) (asks-needed _)
 
   -- ---- calls
 
@@ -200,19 +200,19 @@ module _ {o : Option Operation} where
   unfolding look_inside
   asks-look_inside pid directory name = asks->>= (asks-between pid directory directory (Lstat name) tt) (λ reply. asks-needed _ _)
 
-  asks-or_inside : (pid n : ℕ) (call : List ℕ → Call) (kind : Option FileType) (r : Result Reply Stop) → ((path : List ℕ) → IsTold o pid (call path))
+  asks-or_inside : (pid n : ℕ) (call : List ℕ → Call) (kind : Option FileType) (r : Result Reply RequestError) → ((path : List ℕ) → IsTold o pid (call path))
       → Asks o (or_inside pid n call kind r)
   asks-or_inside pid n call kind (Ok reply) told = asks-give reply
-  asks-or_inside pid n call kind (Err e) told = asks-if _ _ _ (asks-between pid n n (call (codes ".")) (told (codes "."))) (asks-stop e)
+  asks-or_inside pid n call kind (Err e) told = asks-if _ _ _ (asks-between pid n n (call (codes ".")) (told (codes "."))) (asks-fail e)
 
-  asks-or_next : {next : Stop → Work Reply} → ((e : Stop) → Asks o (next e)) → (r : Result Reply Stop) → Asks o (or_next next r)
+  asks-or_next : {next : RequestError → Work Reply} → ((e : RequestError) → Asks o (next e)) → (r : Result Reply RequestError) → Asks o (or_next next r)
   asks-or_next rest (Ok reply) = asks-give reply
-  asks-or_next rest (Err e) = asks-if _ _ _ (rest e) (asks-stop e)
+  asks-or_next rest (Err e) = asks-if _ _ _ (rest e) (asks-fail e)
 
-  pub asks-by_places : (pid : ℕ) (second : Option ℕ) (call : List ℕ → Call) (before : Stop) (places : List Place) → ((path : List ℕ) → IsTold o pid (call path))
+  pub asks-by_places : (pid : ℕ) (second : Option ℕ) (call : List ℕ → Call) (before : RequestError) (places : List Dentry) → ((path : List ℕ) → IsTold o pid (call path))
       → Asks o (by_places pid second call before places)
   unfolding by_places
-  asks-by_places pid second call before [] told = asks-stop before
+  asks-by_places pid second call before [] told = asks-fail before
   asks-by_places pid second call before (p ∷ others) told =
       asks->>= (asks-attempt (asks-between pid p.directory _ (call p.name) (told p.name)))
       (asks-or_next (λ e. asks-by_places pid second call (standing_refusal before e) others told))
@@ -227,11 +227,11 @@ module _ {o : Option Operation} where
   unfolding on
   asks-on pid n call told = asks-if (n == root) _ _ (asks-obtain (Calls pid (call (codes "/"))) (told (codes "/"))) (asks-by_place pid n call told)
 
-  pub asks-by_looker : (n : ℕ) (call : List ℕ → Call) → ((pid : ℕ) (path : List ℕ) → IsTold o pid (call path)) → Asks o (by_looker n call)
-  asks-by_looker n call told = asks->>= asks-the_looker (λ pid. asks-on pid n call (told pid))
+  pub asks-by_server_process : (n : ℕ) (call : List ℕ → Call) → ((pid : ℕ) (path : List ℕ) → IsTold o pid (call path)) → Asks o (by_server_process n call)
+  asks-by_server_process n call told = asks->>= asks-the_server_process (λ pid. asks-on pid n call (told pid))
 
   asks-look_at : (n : ℕ) (placed : Bool) → Asks o (look_at n placed)
-  asks-look_at n true = asks-by_looker n Lstat (λ pid path. tt)
+  asks-look_at n true = asks-by_server_process n Lstat (λ pid path. tt)
   asks-look_at n false = asks->>= (asks-kept _) (λ found. asks->>= (asks-needed _ found) (λ handle. asks-obtain _ tt))
 
   pub asks-look : (n : ℕ) → Asks o (look n)
@@ -247,12 +247,12 @@ module _ {o : Option Operation} where
   pub asks-directory_number : (node : ℕ) → Asks o (directory_number node)
   unfolding directory_number
   asks-directory_number node =
-      asks->>= (asks-the_number node) (λ n. asks->>= (asks-kept _) (λ kind. asks-if (is_known_directory kind) _ _ (asks-give n) (asks-stop _)))
+      asks->>= (asks-the_number node) (λ n. asks->>= (asks-kept _) (λ kind. asks-if (is_known_directory kind) _ _ (asks-give n) (asks-fail _)))
 
   pub asks-standing_directory : (node : ℕ) → Asks o (standing_directory node)
   unfolding standing_directory
   asks-standing_directory node =
-      asks->>= (asks-directory_number node) (λ n. asks->>= (asks-kept _) (λ placed. asks-if placed _ _ (asks-give n) (asks-stop _)))
+      asks->>= (asks-directory_number node) (λ n. asks->>= (asks-kept _) (λ placed. asks-if placed _ _ (asks-give n) (asks-fail _)))
 
   -- ---- times
 
@@ -273,12 +273,12 @@ module _ {o : Option Operation} where
   asks-told_stamps n = asks->>= (asks-kept _) (λ keeps. asks-told_stamps_if keeps n)
 
 -- each piece, for a search
-pub ruleset pieces = (asks->>=, asks-give, asks-stop, asks-kept, asks-keep, asks-attempt, asks-if, asks-when, asks-done, asks-needed, asks-ask, asks-obtain, asks-or_closed, asks-caller, asks-caller_with_room, asks-the_looker, asks-between, asks-done_between, asks-look_inside, asks-by_places, asks-on, asks-by_looker, asks-look, asks-the_number, asks-directory_number, asks-standing_directory, asks-told_stamps)
+pub ruleset pieces = (asks->>=, asks-give, asks-fail, asks-kept, asks-keep, asks-attempt, asks-if, asks-when, asks-done, asks-needed, asks-ask, asks-obtain, asks-or_closed, asks-caller, asks-caller_with_room, asks-the_server_process, asks-between, asks-done_between, asks-look_inside, asks-by_places, asks-on, asks-by_server_process, asks-look, asks-the_number, asks-directory_number, asks-standing_directory, asks-told_stamps)
 
 -- ---- what is known of a value
 
 -- what a work gives is so
-abbrev OkIs : {X : Type 0} → (X → Type 0) → Result X Stop × Server → Type 0
+abbrev OkIs : {X : Type 0} → (X → Type 0) → Result X RequestError × Server → Type 0
 OkIs F (Ok x, s) = F x
 OkIs F (Err e, s) = Unit {0}
 
@@ -294,9 +294,9 @@ module _ {X : Type 0} {F : X → Type 0} where
   unfolding give
   gives-give x is = record { at = λ s. is }
 
-  pub gives-stop : (e : Stop) → Gives F (stop e)
-  unfolding stop
-  gives-stop e = record { at = λ s. tt }
+  pub gives-fail : (e : RequestError) → Gives F (fail e)
+  unfolding fail
+  gives-fail e = record { at = λ s. tt }
 
   pub gives-if : (b : Bool) (w v : Work X) → Gives F w → Gives F v → Gives F (if b then w else v)
   gives-if true w v first second = first
@@ -307,7 +307,7 @@ module _ {X : Type 0} {F : X → Type 0} where
   unfolding ◌>>=◌
   gives->>= {Y} w f rest = record { at = λ s. all-followed_by (λ r. Unit {0}) (OkIs F) (w s) (goes_on f) (all-any (w s)) (λ r any. next r) }
     where
-      next : (r : Result Y Stop × Server) → AllEnd (OkIs F) (goes_on f r)
+      next : (r : Result Y RequestError × Server) → AllEnd (OkIs F) (goes_on f r)
       next (Ok y, t) = (rest y).at t
       next (Err e, t) = tt
 
@@ -321,6 +321,6 @@ pub asks-then : {o : Option Operation} {X Y : Type 0} {F : X → Type 0} {w : Wo
 unfolding ◌>>=◌
 asks-then {o} {X} {Y} {F} {w} {f} first gives rest = record { at = λ s. asks-followed_by_so (MayBeAsked o) (OkIs F) (w s) (goes_on f) (first.at s) (gives.at s) next }
   where
-    next : (r : Result X Stop × Server) → OkIs F r → AsksOnly (MayBeAsked o) (goes_on f r)
+    next : (r : Result X RequestError × Server) → OkIs F r → AsksOnly (MayBeAsked o) (goes_on f r)
     next (Ok x, t) is = (rest x is).at t
     next (Err e, t) is = tt

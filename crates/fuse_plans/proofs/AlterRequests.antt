@@ -29,10 +29,10 @@ use Rattle.fuse_plans.specs.DirectoryPlans.{take_directory_if, take_directory, o
 use Rattle.fuse_plans.specs.AclPlans.{acl_named, an_object, sized, get_xattr, attribute_names, list_xattrs, set_acl, set_xattr, remove_xattr}
 use Rattle.fuse_plans.specs.Nobody.{is_judged, needs_nobody, needs_nobody_in, unless_masked}
 use Rattle.fuse_plans.specs.Masks.{is_masked}
-use Rattle.fuse_plans.specs.Serving.{Task, Replying, Silently, or_looker, begin, count_space, end, plan_of, told_first, asked_for, response_of, answered, answered_as, request_plan}
+use Rattle.fuse_plans.specs.Serving.{Task, Replying, Silently, or_server_process, begin, count_space, end, plan_of, told_first, asked_for, response_of, answered, answered_as, request_plan}
 use Rattle.fuse_plans.specs.Alterations.{says_change, sets_times, sets_list, IsToldIn, MayBeAsked, AsksOnly}
 use Rattle.fuse_plans.specs.Laws.{RequestsChangeWhatTheySay, RunsChangeWhatRequestsSay}
-use Rattle.fuse_plans.proofs.AlterPieces.{pieces, Gives, gives-give, gives-stop, gives-if, gives->>=, asks-then, told-where_so, told-two, asks-followed_by, Asks, asks-give, asks-stop, asks-kept, asks-keep, asks->>=, asks-if, asks-when, asks-when_so, asks-needed, asks-ask, asks-needed_then, asks-on, asks-tell_time}
+use Rattle.fuse_plans.proofs.AlterPieces.{pieces, Gives, gives-give, gives-fail, gives-if, gives->>=, asks-then, told-where_so, told-two, asks-followed_by, Asks, asks-give, asks-fail, asks-kept, asks-keep, asks->>=, asks-if, asks-when, asks-when_so, asks-needed, asks-ask, asks-needed_then, asks-on, asks-tell_time}
 use Rattle.fuse_plans.proofs.AlterMasks.{asks-acl_of, asks-is_masked}
 use Rattle.fuse_plans.proofs.AlterNames.{asks-find_name, asks-make_link, asks-make_directory, asks-make_file, asks-remove, asks-move_name, asks-add_link}
 use Rattle.fuse_plans.proofs.AlterFiles.{asks-call_open, asks-open_file, asks-create_file, asks-read_file, asks-write_file, asks-close_file, asks-sync_file}
@@ -88,7 +88,7 @@ module _ (r : Asked) (c : AttrChanges) where
       → Asks Setting (set_stamps_if keeps now n status c)
   asks-set_stamps_if false now n status told = asks-keep _
   asks-set_stamps_if true now n status told =
-      asks->>= (asks-if _ _ _ (asks-give tt) (asks-stop _)) (λ same.
+      asks->>= (asks-if _ _ _ (asks-give tt) (asks-fail _)) (λ same.
       asks->>= (asks-ask _ (told-where_so Setting _ sets_times (λ is. told))) (λ reply.
       asks->>= (asks-needed _ _) (λ stamps. asks-give tt)))
 
@@ -106,8 +106,8 @@ module _ (r : Asked) (c : AttrChanges) where
   gives-new_owners : (n : ℕ) (link : Bool) → Gives (AreGiven c) (new_owners c n link)
   gives-new_owners n false = gives-give _ (record { owner = λ is. is; group = λ is. is })
   gives-new_owners n true =
-      gives-if _ _ _ (gives-stop _)
-      (gives->>= (look n) _ (λ status. gives-if _ _ _ (gives-stop _) (gives-give no_owners none_given)))
+      gives-if _ _ _ (gives-fail _)
+      (gives->>= (look n) _ (λ status. gives-if _ _ _ (gives-fail _) (gives-give no_owners none_given)))
 
   asks-new_owners : (n : ℕ) (link : Bool) → Asks Setting (new_owners c n link)
   asks-new_owners n false = asks-give _
@@ -155,7 +155,7 @@ asks-remove_xattr r name = asks-needed_then _ (acl_named name) (λ which is. ask
 
 module _ {o : Option Operation} where
   asks-take_directory_if : (uid n : ℕ) (may : Bool) → Asks o (take_directory_if uid n may)
-  asks-take_directory_if uid n false = asks-stop _
+  asks-take_directory_if uid n false = asks-fail _
   asks-take_directory_if uid n true = search pieces depth 12
 
   asks-open_directory : (r : Asked) → Asks o (open_directory r)
@@ -195,13 +195,13 @@ module _ {o : Option Operation} where
   unfolding count_space
   asks-count_space = search pieces depth 12
 
-  asks-or_looker : (looker : Option ℕ) → Asks o (or_looker looker)
-  asks-or_looker (Some pid) = asks-give tt
-  asks-or_looker None = search pieces depth 12
+  asks-or_server_process : (server_process : Option ℕ) → Asks o (or_server_process server_process)
+  asks-or_server_process (Some pid) = asks-give tt
+  asks-or_server_process None = search pieces depth 12
 
   asks-begin : (offer : Offer) → Asks o (begin offer)
   unfolding begin
-  asks-begin offer = search (pieces, asks-or_looker) depth 16
+  asks-begin offer = search (pieces, asks-or_server_process) depth 16
 
 -- ---- requests
 
@@ -244,7 +244,7 @@ asks-plan r value Interrupt = tt
 asks-plan r value Destroy = asks-end
 asks-plan r value (BatchForget batch) = tt
 asks-plan r value SyncFs = asks-sync_all
-asks-plan r value Unknown = asks-stop _
+asks-plan r value Unknown = asks-fail _
 
 asks-told_first : (o : Option Operation) (says : Bool) (now : Time) (work : Task) → AsksIfAny o work → AsksIfAny o (told_first says now work)
 asks-told_first o false now work asks = asks
@@ -252,7 +252,7 @@ asks-told_first o true now (Silently f) asks = tt
 asks-told_first o true now (Replying w) asks = asks->>= (asks-tell_time now) (λ told. asks)
 
 asks-asked_for : (r : Asked) (value : Option (Option AccessList)) (operation : Option Operation) → AsksIfAny operation (asked_for r value operation)
-asks-asked_for r value None = asks-stop _
+asks-asked_for r value None = asks-fail _
 asks-asked_for r value (Some operation) = asks-told_first _ (says_change operation) r.now (plan_of r value operation) (asks-plan r value operation)
 
 asks-answered : (o : Option Operation) (memory : Bool) (work : Task) (s : Server) → AsksIfAny o work → AsksOnly (MayBeAsked o) (answered memory work s)

@@ -29,7 +29,7 @@ use Rattle.fs_model.specs.Steps.{Choice, with_stamps, scene_of, late_refusal, de
 use Rattle.fs_model.specs.TreeChanges.{Same, Rewrite, Make, MoveName, changed, swept, touches, touched}
 use Rattle.fs_model.proofs.StepsDemands.{AreMet, demands_met, unrefused}
 use Rattle.fuse_plans.specs.Alterations.{Alteration, resizes, adds_name, sets_owner, sets_group, sets_times, where_so, alterations_by, alterations_in}
-use Rattle.fuse_plans.specs.AlteredTrees.{is_of_bytes, is_of_mode, is_of_default, is_added, Says, KeepsUnsaid, IsSaid, LeavesUnsaid, stays, alters, StepsChangeWhatIsSaid}
+use Rattle.fuse_plans.specs.AlteredTrees.{is_of_bytes, is_of_mode, sets_default_list, is_added, SaysOne, KeepsUnsaid, AltersOnly, LeavesUnsaid, stays, alters, StepsChangeWhatIsSaid}
 
 -- what is said may change
 said_so : {A : Type 0} (b : Bool) → b ≡ true → b ≡ false → A
@@ -65,7 +65,7 @@ module _ (list : List Alteration) (owner group : ℕ) (stamps : Stamps) where
       record { bytes = λ u. refl; mode = said_so _ said; access = said_so _ said; default = λ u. refl; owner = λ u. refl; group = λ u. refl; times = λ u. refl; kind = refl; names = refl; target = refl }
   keeps_access (Some acl) (Link target) said = all_kept list _
 
-  keeps_default : (acl : Option AccessList) (body : Body) → list_any is_of_default list ≡ true → KeepsUnsaid list (node_of body) (node_of (with_set_acl Default acl body))
+  keeps_default : (acl : Option AccessList) (body : Body) → list_any sets_default_list list ≡ true → KeepsUnsaid list (node_of body) (node_of (with_set_acl Default acl body))
   keeps_default acl (File a old) said = all_kept list _
   keeps_default acl (Dir a d) said =
       record { bytes = λ u. refl; mode = λ u. refl; access = λ u. refl; default = said_so _ said; owner = λ u. refl; group = λ u. refl; times = λ u. refl; kind = refl; names = refl; target = refl }
@@ -104,7 +104,7 @@ keeps_times n keeps atime mtime ctime node = keeps_unless _ keeps (stamped atime
 abbrev of_open : Flags → List ℕ → List Alteration
 of_open f path = where_so f.create (adds_name path) ++ where_so f.trunc (resizes 0)
 
-says_added : (create trunc : Bool) (path : List ℕ) → create ≡ true → Says is_added (where_so create (adds_name path) ++ where_so trunc (resizes 0))
+says_added : (create trunc : Bool) (path : List ℕ) → create ≡ true → SaysOne is_added (where_so create (adds_name path) ++ where_so trunc (resizes 0))
 says_added true trunc path is = refl
 says_added false trunc path is = absurd (let no : false ≡ true = is in cc)
 
@@ -117,12 +117,12 @@ made_by_flag : (create slash : Bool) → (not create || slash) ≡ false → cre
 made_by_flag true slash is = refl
 made_by_flag false slash is = absurd (let no : true ≡ false = is in cc)
 
-opens : (f : Flags) (mode : ℕ) (path : List ℕ) (s : Scene) (number : ℕ) → AreMet (open_demands f s) → IsSaid (of_open f path) s.state.tree (open_change f mode s number)
+opens : (f : Flags) (mode : ℕ) (path : List ℕ) (s : Scene) (number : ℕ) → AreMet (open_demands f s) → AltersOnly (of_open f path) s.state.tree (open_change f mode s number)
 opens f mode path s number met = choose (is_found s.first) (f.trunc && f.write) refl _ _ number _ met
   where
     choose : (found cuts : Bool) → (f.trunc && f.write) ≡ cuts → (directory : ℕ) (name : List ℕ) (n : ℕ) (node : Node)
         → AreMet (if found then open_found_demands f s else open_new_demands f s)
-        → IsSaid (of_open f path) s.state.tree
+        → AltersOnly (of_open f path) s.state.tree
         (if not found then Make directory name n node
         else (if cuts then Rewrite Modified (number_found s.first) (record (node_found s s.first) { body = with_bytes [] (body_found s s.first) }) else Same))
     choose false cuts is directory name n node asked = says_added f.create f.trunc path (made_by_flag f.create s.first.slash (unrefused _ _ asked.0))
@@ -132,7 +132,7 @@ opens f mode path s number met = choose (is_found s.first) (f.trunc && f.write) 
 -- ---- each call
 
 says : (s : State) (p : Process) (pid : ℕ) (call : Call) (number : ℕ) → late_refusal s p (row_of call) ≡ None
-    → IsSaid (alterations_by pid call) s.tree ((row_of call).effect (scene_of s p (row_of call)) number).change
+    → AltersOnly (alterations_by pid call) s.tree ((row_of call).effect (scene_of s p (row_of call)) number).change
 unfolding row_of
 says s p pid (Open path flags mode) number none = opens flags mode path (scene_of s p (row_of (Open path flags mode))) number (demands_met s p (row_of (Open path flags mode)) none)
 says s p pid (Read fd len) number none = tt
@@ -161,7 +161,7 @@ says s p pid (Unlink path) number none = refl
 says s p pid (Rename old new) number none = moves (is_same (scene_of s p (row_of (Rename old new)))) _ _ _ _
   where
     moves : (same : Bool) (directory : ℕ) (name : List ℕ) (to_directory : ℕ) (to_name : List ℕ)
-        → IsSaid (alterations_by pid (Rename old new)) s.tree (if same then Same else MoveName directory name to_directory to_name)
+        → AltersOnly (alterations_by pid (Rename old new)) s.tree (if same then Same else MoveName directory name to_directory to_name)
     moves true directory name to_directory to_name = tt
     moves false directory name to_directory to_name = refl
 says s p pid (Chdir path) number none = tt
@@ -170,20 +170,20 @@ says s p pid (Umask mask) number none = tt
 -- ---- each event
 
 says_call : (s : State) (pid : ℕ) (call : Call) (number : ℕ) (p : Option Process) → demand_of (λ q. late_refusal s q (row_of call)) p ≡ None
-    → IsSaid (alterations_by pid call) s.tree (after_call s pid (row_of call) number p).change
+    → AltersOnly (alterations_by pid call) s.tree (after_call s pid (row_of call) number p).change
 says_call s pid call number None none = tt
 says_call s pid call number (Some p) none = says s p pid call number none
 
-says_enter : (s : State) (pid directory second : ℕ) (p : Option Process) → IsSaid [] s.tree (after_enter s pid directory second p).change
+says_enter : (s : State) (pid directory second : ℕ) (p : Option Process) → AltersOnly [] s.tree (after_enter s pid directory second p).change
 says_enter s pid directory second None = tt
 says_enter s pid directory second (Some p) = tt
 
-says_event : (s : State) (e : Event) (choice : Choice) → other_refusal s e ≡ None → IsSaid (alterations_in e) s.tree (after s e choice).change
+says_event : (s : State) (e : Event) (choice : Choice) → other_refusal s e ≡ None → AltersOnly (alterations_in e) s.tree (after s e choice).change
 unfolding other_refusal after
 says_event s (Spawn cred) choice none = tt
 says_event s (Exit pid) choice none = tt
-says_event s (Calls pid call) choice none = says_call s pid call choice.number (get nat_cmp s.desks pid) none
-says_event s (Enter pid directory second) choice none = says_enter s pid directory second (get nat_cmp s.desks pid)
+says_event s (Calls pid call) choice none = says_call s pid call choice.number (get nat_cmp s.processes pid) none
+says_event s (Enter pid directory second) choice none = says_enter s pid directory second (get nat_cmp s.processes pid)
 says_event s (Stamp n atime mtime ctime) choice none = keeps_times n s.room.keeps_times atime mtime ctime (the_node s.tree n)
 says_event s (Clock now) choice none = tt
 says_event s (Fsync pid fd) choice none = tt
@@ -199,10 +199,10 @@ answered_so old new e reply (refuses_late halted r early is said same) = stays (
 answered_so old new e reply (acts choice does said is) =
     let change = (after old e choice).change in
     alters change (says_event old e choice does.late)
-    (subst (λ s. s.tree ≡ touched old.now (touches old.room old.tree change) (swept (changed old.tree change) s.desks)) (sym is) refl)
+    (subst (λ s. s.tree ≡ touched old.now (touches old.room old.tree change) (swept (changed old.tree change) s.processes)) (sym is) refl)
 answered_so old new e reply (lacks_memory halted early asks said same) = stays (ap (λ s. s.tree) same)
 answered_so old new e reply (read_fails halted early said same) = stays (ap (λ s. s.tree) same)
-answered_so old new e reply (write_fails choice does said desks halted same) = stays (ap (λ s. s.tree) same)
+answered_so old new e reply (write_fails choice does said processes halted same) = stays (ap (λ s. s.tree) same)
 
 pub steps_change_what_is_said : StepsChangeWhatIsSaid
 steps_change_what_is_said old new e reply step = answered_so old new e reply step.1

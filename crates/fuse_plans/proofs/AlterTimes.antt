@@ -20,18 +20,18 @@ use Rattle.fuse_protocol.specs.declared.operation.Operation.{Operation}
 use Rattle.fuse_protocol.specs.declared.operation.Operation.TheVariants.{Lookup, Forget, GetAttr, SetAttr, ReadLink, SymLink, MkNod, MkDir, Unlink, RmDir, Rename, Link, Open, Read, Write, StatFs, Release, FSync, SetXAttr, GetXAttr, ListXAttr, RemoveXAttr, Init, OpenDir, ReadDir, ReleaseDir, FSyncDir, Access, Create, Interrupt, Destroy, BatchForget, SyncFs, Unknown}
 use Rattle.fuse_protocol.specs.declared.reply.Time.{Time}
 use Rattle.fuse_state.specs.declared.directory.OpenDirectory.{OpenDirectory}
-use Rattle.fuse_state.specs.declared.place.Place.{Place}
-use Rattle.fuse_state.specs.Changes.{is_gone, found}
-use Rattle.fuse_state.specs.Servers.{Server, forgotten, all_forgotten, times_of, with_listing, with_listing_of, with_name, once_more, with_generation, directory_of, with_handle, without_handle, opened, without_directory, with_end, with_the_looker, with_acls_offered}
+use Rattle.fuse_state.specs.declared.dentry.Dentry.{Dentry}
+use Rattle.fuse_state.specs.Changes.{is_gone, with_found}
+use Rattle.fuse_state.specs.Servers.{Server, forgotten, all_forgotten, times_of, with_listing, with_listing_of, with_dentry, once_more, with_generation, directory_of, with_handle, without_handle, with_opened, without_directory, with_end, with_the_server_process, with_acls_offered}
 use Rattle.fuse_state.proofs.Forgotten.{forgotten_keeps, all_forgotten_keep}
 use Rattle.fuse_plans.specs.declared.request.Asked.{Asked}
-use Rattle.fuse_plans.specs.declared.stop.Stop.{Stop}
-use Rattle.fuse_plans.specs.declared.stop.Stop.TheVariants.{Refuses, Lacks}
-use Rattle.fuse_plans.specs.declared.stop.OtherErrno.TheVariants.{ENFILE, ERANGE, ENOSYS, ENODATA, EPROTO, EOPNOTSUPP, ESTALE}
+use Rattle.fuse_plans.specs.declared.request_error.RequestError.{RequestError}
+use Rattle.fuse_plans.specs.declared.request_error.RequestError.TheVariants.{Refuses, Lacks}
+use Rattle.fuse_plans.specs.declared.request_error.OtherErrno.TheVariants.{ENFILE, ERANGE, ENOSYS, ENODATA, EPROTO, EOPNOTSUPP, ESTALE}
 use Rattle.fuse_plans.specs.Plans.{Finish}
 use Rattle.fuse_plans.specs.Requests.{asked_of}
-use Rattle.fuse_plans.specs.Works.{Work, give, stop, kept, keep, goes_on, ◌>>=◌, attempt, needed, ask, give_unless, refusal_in, unless_refused, or_closed}
-use Rattle.fuse_plans.specs.Callers.{settle_new, settle, retire_next, retire, settle_first, begin_process, or_spawned, caller, unused_of, or_unused, caller_with_room, the_looker, between, look_inside, or_inside, standing_refusal, or_next, by_places, on, look_at, look, the_number, directory_number, standing_directory}
+use Rattle.fuse_plans.specs.Works.{Work, give, fail, kept, keep, goes_on, ◌>>=◌, attempt, needed, ask, give_unless, refusal_in, unless_refused, or_closed}
+use Rattle.fuse_plans.specs.Callers.{settle_new, settle, retire_next, retire, settle_first, begin_process, or_spawned, caller, unused_of, or_unused, caller_with_room, the_server_process, between, look_inside, or_inside, standing_refusal, or_next, by_places, on, look_at, look, the_number, directory_number, standing_directory}
 use Rattle.fuse_plans.specs.Flags.{is_trunc}
 use Rattle.fuse_plans.specs.NamePlans.{or_absent, found_or_absent, find_name}
 use Rattle.fuse_plans.specs.FilePlans.{when, touched_if, show_open, confirm_shown, confirm_open, open_file, the_open, seek, read_piece, read_pieces, read_file, close_file, sync_file}
@@ -41,7 +41,7 @@ use Rattle.fuse_plans.specs.Times.{told_stamps_if, told_stamps}
 use Rattle.fuse_plans.specs.AclPlans.{an_object, get_xattr, attribute_names, list_xattrs}
 use Rattle.fuse_plans.specs.Masks.{acl_of}
 use Rattle.fuse_plans.specs.Nobody.{needs_nobody_in}
-use Rattle.fuse_plans.specs.Serving.{Task, Replying, Silently, or_looker, begin, count_space, end, plan_of, told_first, asked_for, response_of, answered, answered_as, request_plan}
+use Rattle.fuse_plans.specs.Serving.{Task, Replying, Silently, or_server_process, begin, count_space, end, plan_of, told_first, asked_for, response_of, answered, answered_as, request_plan}
 use Rattle.fuse_plans.specs.Alterations.{Alteration, resizes, resizes_open, says_change, says_change_in, IsToldIn}
 use Rattle.fuse_plans.specs.Laws.{OthersChangeNothing, OthersKeepTimes}
 use Rattle.fuse_plans.proofs.AllEnds.{AllEnd, all-weaker, all-followed_by, all-run}
@@ -72,9 +72,9 @@ keeps-give : {X : Type 0} (x : X) → Timeless (give x)
 unfolding give
 keeps-give x = record { at = times-self }
 
-keeps-stop : {X : Type 0} (e : Stop) → Timeless {X = X} (stop e)
-unfolding stop
-keeps-stop e = record { at = times-self }
+keeps-fail : {X : Type 0} (e : RequestError) → Timeless {X = X} (fail e)
+unfolding fail
+keeps-fail e = record { at = times-self }
 
 keeps-kept : {X : Type 0} (f : Server → X) → Timeless (kept f)
 unfolding kept
@@ -92,7 +92,7 @@ keeps->>= : {X Y : Type 0} {w : Work X} {f : X → Work Y} → Timeless w → ((
 unfolding ◌>>=◌
 keeps->>= {X} {Y} {w} {f} first rest = record { at = λ s. all-followed_by (λ r. SameTimes s r.1) (λ r. SameTimes s r.1) (w s) (goes_on f) (first.at s) (after s) }
   where
-    after : (s : Server) (r : Result X Stop × Server) → SameTimes s r.1 → AllEnd (λ (q : Result Y Stop × Server). SameTimes s q.1) (goes_on f r)
+    after : (s : Server) (r : Result X RequestError × Server) → SameTimes s r.1 → AllEnd (λ (q : Result Y RequestError × Server). SameTimes s q.1) (goes_on f r)
     after s (Ok x, t) same = all-weaker (λ q. SameTimes t q.1) (λ q. SameTimes s q.1) (f x t) ((rest x).at t) (λ q later. times-then same later)
     after s (Err e, t) same = same
 
@@ -110,8 +110,8 @@ keeps-when : (b : Bool) (w : Work (Unit {0})) → Timeless w → Timeless (when 
 keeps-when true w first = first
 keeps-when false w first = keeps-give tt
 
-keeps-needed : {X : Type 0} (e : Stop) (o : Option X) → Timeless (needed e o)
-keeps-needed e None = keeps-stop e
+keeps-needed : {X : Type 0} (e : RequestError) (o : Option X) → Timeless (needed e o)
+keeps-needed e None = keeps-fail e
 keeps-needed e (Some x) = keeps-give x
 
 keeps-unless_refused : (reply : Reply) → Timeless (unless_refused reply)
@@ -119,18 +119,18 @@ keeps-unless_refused reply = go (refusal_in reply)
   where
     go : (o : Option Refusal) → Timeless (give_unless reply o)
     go None = keeps-give reply
-    go (Some r) = keeps-stop _
+    go (Some r) = keeps-fail _
 
-keeps-or_closed : {X : Type 0} (pid fd : ℕ) (r : Result X Stop) → Timeless (or_closed pid fd r)
+keeps-or_closed : {X : Type 0} (pid fd : ℕ) (r : Result X RequestError) → Timeless (or_closed pid fd r)
 keeps-or_closed pid fd (Ok x) = keeps-give x
-keeps-or_closed pid fd (Err e) = keeps->>= (keeps-ask _) (λ reply. keeps-stop e)
+keeps-or_closed pid fd (Err e) = keeps->>= (keeps-ask _) (λ reply. keeps-fail e)
 
-ruleset basics = (keeps->>=, keeps-give, keeps-stop, keeps-kept, keeps-keep, keeps-attempt, keeps-if, keeps-when, keeps-needed, keeps-ask, keeps-unless_refused, keeps-or_closed)
+ruleset basics = (keeps->>=, keeps-give, keeps-fail, keeps-kept, keeps-keep, keeps-attempt, keeps-if, keeps-when, keeps-needed, keeps-ask, keeps-unless_refused, keeps-or_closed)
 
 -- ---- processes and calls
 
 keeps-settle_new : (cred : Credential) (pid : ℕ) (taken : Bool) → Timeless (settle_new cred pid taken)
-keeps-settle_new cred pid true = keeps-stop _
+keeps-settle_new cred pid true = keeps-fail _
 keeps-settle_new cred pid false = keeps->>= (keeps-keep _ (λ s. record { times = refl; start = refl })) (λ added. keeps-give pid)
 
 keeps-settle : (cred : Credential) (reply : Reply) → Timeless (settle cred reply)
@@ -159,7 +159,7 @@ unfolding caller
 keeps-caller who = search (basics, keeps-or_spawned) depth 12
 
 keeps-unused_of : (cred : Credential) (may : Bool) → Timeless (unused_of cred may)
-keeps-unused_of cred false = keeps-stop _
+keeps-unused_of cred false = keeps-fail _
 keeps-unused_of cred true = search (basics, keeps-or_spawned) depth 12
 
 keeps-or_unused : (cred : Credential) (pid : Option ℕ) → Timeless (or_unused cred pid)
@@ -170,9 +170,9 @@ keeps-caller_with_room : (who : Option Credential) → Timeless (caller_with_roo
 unfolding caller_with_room
 keeps-caller_with_room who = search (basics, keeps-or_unused) depth 12
 
-keeps-the_looker : Timeless the_looker
-unfolding the_looker
-keeps-the_looker = search basics depth 12
+keeps-the_server_process : Timeless the_server_process
+unfolding the_server_process
+keeps-the_server_process = search basics depth 12
 
 keeps-between : (pid directory second : ℕ) (call : Call) → Timeless (between pid directory second call)
 unfolding between
@@ -182,17 +182,17 @@ keeps-look_inside : (pid directory : ℕ) (name : List ℕ) → Timeless (look_i
 unfolding look_inside
 keeps-look_inside pid directory name = search (basics, keeps-between) depth 12
 
-keeps-or_inside : (pid n : ℕ) (call : List ℕ → Call) (kind : Option FileType) (r : Result Reply Stop) → Timeless (or_inside pid n call kind r)
+keeps-or_inside : (pid n : ℕ) (call : List ℕ → Call) (kind : Option FileType) (r : Result Reply RequestError) → Timeless (or_inside pid n call kind r)
 keeps-or_inside pid n call kind (Ok reply) = keeps-give reply
 keeps-or_inside pid n call kind (Err e) = search (basics, keeps-between) depth 12
 
-keeps-or_next : {next : Stop → Work Reply} → ((e : Stop) → Timeless (next e)) → (r : Result Reply Stop) → Timeless (or_next next r)
+keeps-or_next : {next : RequestError → Work Reply} → ((e : RequestError) → Timeless (next e)) → (r : Result Reply RequestError) → Timeless (or_next next r)
 keeps-or_next rest (Ok reply) = keeps-give reply
-keeps-or_next rest (Err e) = keeps-if _ _ _ (rest e) (keeps-stop e)
+keeps-or_next rest (Err e) = keeps-if _ _ _ (rest e) (keeps-fail e)
 
-keeps-by_places : (pid : ℕ) (second : Option ℕ) (call : List ℕ → Call) (before : Stop) (places : List Place) → Timeless (by_places pid second call before places)
+keeps-by_places : (pid : ℕ) (second : Option ℕ) (call : List ℕ → Call) (before : RequestError) (places : List Dentry) → Timeless (by_places pid second call before places)
 unfolding by_places
-keeps-by_places pid second call before [] = keeps-stop before
+keeps-by_places pid second call before [] = keeps-fail before
 keeps-by_places pid second call before (p ∷ others) =
     keeps->>= (keeps-attempt (keeps-between pid p.directory _ (call p.name)))
     (keeps-or_next (λ e. keeps-by_places pid second call (standing_refusal before e) others))
@@ -202,7 +202,7 @@ unfolding on
 keeps-on pid n call = search (basics, keeps-by_places, keeps-or_inside) depth 16
 
 keeps-look_at : (n : ℕ) (placed : Bool) → Timeless (look_at n placed)
-keeps-look_at n true = search (basics, keeps-the_looker, keeps-on) depth 12
+keeps-look_at n true = search (basics, keeps-the_server_process, keeps-on) depth 12
 keeps-look_at n false = search basics depth 12
 
 keeps-look : (n : ℕ) → Timeless (look n)
@@ -229,14 +229,14 @@ keeps-told_stamps : (n : ℕ) → Timeless (told_stamps n)
 unfolding told_stamps
 keeps-told_stamps n = search (basics, keeps-told_stamps_if) depth 12
 
-ruleset pieces = (basics, keeps-caller, keeps-caller_with_room, keeps-the_looker, keeps-between, keeps-look_inside, keeps-on, keeps-look, keeps-the_number, keeps-directory_number, keeps-standing_directory, keeps-told_stamps)
+ruleset pieces = (basics, keeps-caller, keeps-caller_with_room, keeps-the_server_process, keeps-between, keeps-look_inside, keeps-on, keeps-look, keeps-the_number, keeps-directory_number, keeps-standing_directory, keeps-told_stamps)
 
 -- ---- requests
 
-found-keeps : (p : Place) (n : ℕ) (kind : FileType) → KeepsTimes (found p n kind)
+found-keeps : (p : Dentry) (n : ℕ) (kind : FileType) → KeepsTimes (with_found p n kind)
 found-keeps p n kind s = choose (is_gone s n)
   where
-    choose : (b : Bool) → SameTimes s (once_more n (with_name p n kind (if b then with_generation n s else s)))
+    choose : (b : Bool) → SameTimes s (once_more n (with_dentry p n kind (if b then with_generation n s else s)))
     choose true = record { times = refl; start = refl }
     choose false = record { times = refl; start = refl }
 
@@ -247,18 +247,18 @@ listing-keeps handle names s = choose (directory_of s handle)
     choose None = times-self s
     choose (Some d) = record { times = refl; start = refl }
 
-keeps-or_absent : (known : Result ℕ Stop) → Timeless (or_absent known)
+keeps-or_absent : (known : Result ℕ RequestError) → Timeless (or_absent known)
 keeps-or_absent (Ok n) = keeps-give n
-keeps-or_absent (Err (Refuses r)) = keeps-stop _
-keeps-or_absent (Err (Lacks ESTALE)) = keeps-stop _
-keeps-or_absent (Err (Lacks ENFILE)) = keeps-stop _
-keeps-or_absent (Err (Lacks ERANGE)) = keeps-stop _
-keeps-or_absent (Err (Lacks ENOSYS)) = keeps-stop _
-keeps-or_absent (Err (Lacks ENODATA)) = keeps-stop _
-keeps-or_absent (Err (Lacks EPROTO)) = keeps-stop _
-keeps-or_absent (Err (Lacks EOPNOTSUPP)) = keeps-stop _
+keeps-or_absent (Err (Refuses r)) = keeps-fail _
+keeps-or_absent (Err (Lacks ESTALE)) = keeps-fail _
+keeps-or_absent (Err (Lacks ENFILE)) = keeps-fail _
+keeps-or_absent (Err (Lacks ERANGE)) = keeps-fail _
+keeps-or_absent (Err (Lacks ENOSYS)) = keeps-fail _
+keeps-or_absent (Err (Lacks ENODATA)) = keeps-fail _
+keeps-or_absent (Err (Lacks EPROTO)) = keeps-fail _
+keeps-or_absent (Err (Lacks EOPNOTSUPP)) = keeps-fail _
 
-keeps-found_or_absent : (nobody : Bool) (d : ℕ) (name : List ℕ) (seen : Result Status Stop) → Timeless (found_or_absent nobody d name seen)
+keeps-found_or_absent : (nobody : Bool) (d : ℕ) (name : List ℕ) (seen : Result Status RequestError) → Timeless (found_or_absent nobody d name seen)
 keeps-found_or_absent nobody d name (Ok status) = search (pieces, found-keeps) depth 12
 keeps-found_or_absent nobody d name (Err e) = search pieces depth 12
 
@@ -329,11 +329,11 @@ keeps-attribute_names n true = search (pieces, keeps-acl_of) depth 12
 keeps-list_xattrs : (r : Asked) (size : ℕ) → Timeless (list_xattrs r size)
 keeps-list_xattrs r size = search (pieces, keeps-attribute_names) depth 16
 
-opened-keeps : (uid n : ℕ) → KeepsTimes (opened uid n)
+opened-keeps : (uid n : ℕ) → KeepsTimes (with_opened uid n)
 opened-keeps uid n s = record { times = refl; start = refl }
 
 keeps-take_directory_if : (uid n : ℕ) (may : Bool) → Timeless (take_directory_if uid n may)
-keeps-take_directory_if uid n false = keeps-stop _
+keeps-take_directory_if uid n false = keeps-fail _
 keeps-take_directory_if uid n true = search (pieces, opened-keeps) depth 12
 
 keeps-open_directory : (r : Asked) → Timeless (open_directory r)
@@ -379,19 +379,19 @@ keeps-count_space : Timeless count_space
 unfolding count_space
 keeps-count_space = search pieces depth 12
 
-looker-keeps : (pid : ℕ) → KeepsTimes (with_the_looker pid)
-looker-keeps pid s = record { times = refl; start = refl }
+server_process-keeps : (pid : ℕ) → KeepsTimes (with_the_server_process pid)
+server_process-keeps pid s = record { times = refl; start = refl }
 
 acls-keep : (offered : Bool) → KeepsTimes (with_acls_offered offered)
 acls-keep offered s = record { times = refl; start = refl }
 
-keeps-or_looker : (looker : Option ℕ) → Timeless (or_looker looker)
-keeps-or_looker (Some pid) = keeps-give tt
-keeps-or_looker None = search (pieces, looker-keeps) depth 16
+keeps-or_server_process : (server_process : Option ℕ) → Timeless (or_server_process server_process)
+keeps-or_server_process (Some pid) = keeps-give tt
+keeps-or_server_process None = search (pieces, server_process-keeps) depth 16
 
 keeps-begin : (offer : Offer) → Timeless (begin offer)
 unfolding begin
-keeps-begin offer = search (pieces, keeps-or_looker, acls-keep) depth 20
+keeps-begin offer = search (pieces, keeps-or_server_process, acls-keep) depth 20
 
 -- ---- those that say no change
 
@@ -436,11 +436,11 @@ keeps-plan r value Interrupt none = times-self
 keeps-plan r value Destroy none = keeps-end
 keeps-plan r value (BatchForget batch) none = all_forgotten-keep batch
 keeps-plan r value SyncFs none = keeps-sync_all
-keeps-plan r value Unknown none = keeps-stop _
+keeps-plan r value Unknown none = keeps-fail _
 keeps-plan r value _ none = absurd (said-so none)
 
 keeps-asked_for : (r : Asked) (value : Option (Option AccessList)) (operation : Option Operation) → says_change_in operation ≡ false → KeepsIfAny (asked_for r value operation)
-keeps-asked_for r value None none = keeps-stop _
+keeps-asked_for r value None none = keeps-fail _
 keeps-asked_for r value (Some operation) none =
     subst (λ says. KeepsIfAny (told_first says r.now (plan_of r value operation))) (sym none) (keeps-plan r value operation none)
 

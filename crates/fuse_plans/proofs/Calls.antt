@@ -12,18 +12,18 @@ use Rattle.fs_model.specs.declared.reply.FileType.{FileType}
 use Rattle.fs_model.specs.declared.reply.Reply.{Reply}
 use Rattle.fs_model.specs.declared.reply.Reply.TheVariants.{Done, Pid, Fd, Data, Wrote, At, Target, Mask, Shown, Granted, Acl, Names, Space, Stamped, Refused}
 use Rattle.fuse_plans.specs.Plans.{followed_by, KeepsTo}
-use Rattle.fuse_plans.specs.declared.stop.Stop.{Stop}
-use Rattle.fuse_plans.specs.declared.stop.Stop.TheVariants.{Lacks}
-use Rattle.fuse_plans.specs.declared.stop.OtherErrno.TheVariants.{ESTALE}
-use Rattle.fuse_plans.specs.Stops.{failed, is_for}
-use Rattle.fuse_state.specs.declared.place.Place.{Place}
-use Rattle.fuse_state.specs.Servers.{Server, number_of, kind_of, places_of, first_of, WithinShares}
-use Rattle.fuse_plans.specs.Works.{Work, give, stop, kept, goes_on, ◌>>=◌, ◌>>◌, attempt, needed, ask, refusal_in, unless_refused, obtain, or_closed, replied_status, unexpected}
-use Rattle.fuse_plans.specs.Callers.{between, inside, done_between, look_inside, on, or_inside, standing_refusal, or_next, by_places, by_place, the_looker, by_looker, look, look_at, is_known_directory, the_number, directory_number, only_directory, standing_directory, has_place}
+use Rattle.fuse_plans.specs.declared.request_error.RequestError.{RequestError}
+use Rattle.fuse_plans.specs.declared.request_error.RequestError.TheVariants.{Lacks}
+use Rattle.fuse_plans.specs.declared.request_error.OtherErrno.TheVariants.{ESTALE}
+use Rattle.fuse_plans.specs.RequestErrors.{failed, is_for}
+use Rattle.fuse_state.specs.declared.dentry.Dentry.{Dentry}
+use Rattle.fuse_state.specs.Servers.{Server, number_of_node, kind_known, places_of, head_of, WithinShares}
+use Rattle.fuse_plans.specs.Works.{Work, give, fail, kept, goes_on, ◌>>=◌, ◌>>◌, attempt, needed, ask, refusal_in, unless_refused, obtain, or_closed, replied_status, unexpected}
+use Rattle.fuse_plans.specs.Callers.{between, inside, done_between, look_inside, on, or_inside, standing_refusal, or_next, by_places, by_place, the_server_process, by_server_process, look, look_at, is_known_directory, the_number, directory_number, only_directory, standing_directory, has_place}
 use Rattle.fuse_plans.specs.Acts.{Subject, Away, gone_to, node_of_object, own_directory, second_directory, IsStandingDirectory, IsObject, IsKnownPlace, IsOfRequest, is_known, is_itself, named_in, path_kept, ActsWithin, on_one, Concerns, acts, on_root, without_path}
 use Rattle.fuse_plans.specs.Conduct
-use Rattle.fuse_plans.specs.Conduct.{Known, Rights, MayCall, as_caller, as_looker, shows, MayAsk, conduct, known_after, away_after, Fits, IsNobodyElse, MayEnter, IsCaller, only_looks}
-use Rattle.fuse_plans.proofs.Conducts.{Any, Still, still-number, still-places, Left, LeftTo, Does, Lasts, Gives, then-does_to, does-does_to, gives-give, gives-stop, does-give, does-stop, does-kept, does->>=, does-attempt, does-needed, does-unless_refused, fits-any}
+use Rattle.fuse_plans.specs.Conduct.{Known, Rights, MayCall, as_caller, as_server_process, shows, MayAsk, conduct, known_after, away_after, Fits, IsNobodyElse, MayEnter, IsCaller, only_looks}
+use Rattle.fuse_plans.proofs.Conducts.{Any, Still, still-number, still-places, Left, LeftTo, Does, Lasts, Gives, then-does_to, does-does_to, gives-give, gives-fail, does-give, does-fail, does-kept, does->>=, does-attempt, does-needed, does-unless_refused, fits-any}
 
 -- where P holds, the process may make the call
 abbrev pub CanCall : Rights → (Server → Type 0) → ℕ → Call → Type 0
@@ -39,14 +39,14 @@ pub record About (rights : Rights) (P : Server → Type 0) (n : ℕ) : Type 0 wh
   pub places : (s : Server) → P s → All (IsOfRequest rights.subject) (places_of s n)
 
 -- by this place, what is acted on is of the request
-abbrev pub ActsAt : Subject → Option ℕ → (List ℕ → Call) → Place → Type 0
+abbrev pub ActsAt : Subject → Option ℕ → (List ℕ → Call) → Dentry → Type 0
 ActsAt r second call p = ActsWithin r p.directory (unwrap_or second p.directory) (call p.name)
 
 -- what is known while the process is away
 record Out (rights : Rights) (P : Server → Type 0) (pid : ℕ) (known : Known) (s : Server) : Type 0 where
   free : IsNobodyElse known.away pid
   processes : known.processes ≡ s.processes
-  looker : s.looker ≡ rights.looker
+  server_process : s.server_process ≡ rights.server_process
   shares : WithinShares rights.subject.start → WithinShares s
   holds : P s
 
@@ -117,9 +117,9 @@ module _ {rights : Rights} {P : Server → Type 0} where
   pub does-obtain : (pid : ℕ) (call : Call) → CanCall rights P pid call → Concerns rights.subject None call → Does rights P (obtain (Calls pid call))
   does-obtain pid call may concerns = does->>= (does-call pid call may concerns) does-unless_refused
 
-  pub does-or_closed : {X : Type 0} (pid fd : ℕ) (r : Result X Stop) → CanCall rights P pid (Close fd) → Does rights P (or_closed pid fd r)
+  pub does-or_closed : {X : Type 0} (pid fd : ℕ) (r : Result X RequestError) → CanCall rights P pid (Close fd) → Does rights P (or_closed pid fd r)
   does-or_closed pid fd (Ok x) may = does-give x
-  does-or_closed pid fd (Err e) may = does->>= (does-call pid (Close fd) may (without_path refl refl refl)) (λ reply. does-stop e)
+  does-or_closed pid fd (Err e) may = does->>= (does-call pid (Close fd) may (without_path refl refl refl)) (λ reply. does-fail e)
 
   goes_back : (pid : ℕ) (call : Call) (known : Known) (s : Server) → MayCall rights known pid call → Concerns rights.subject known.away call → Out rights P pid known s
       → KeepsTo (conduct rights) (Left rights P) known (back pid call s)
@@ -129,14 +129,14 @@ module _ {rights : Rights} {P : Server → Type 0} where
     λ reply. (
       may-come_back known.away pid out.free,
       λ again. (does-unless_refused reply).goes (known_after known (Enter pid root root) again) s
-          (record { home = refl; processes = out.processes; looker = out.looker; shares = out.shares; holds = out.holds }),
+          (record { home = refl; processes = out.processes; server_process = out.server_process; shares = out.shares; holds = out.holds }),
     ),
   )
 
   -- in a directory or in two
   pub does-between : (pid directory second : ℕ) (call : Call) → CanCall rights P pid call → ActsWithin rights.subject directory second call
       → Does rights P (between pid directory second call)
-  unfolding between ask stop give ◌>>=◌
+  unfolding between ask fail give ◌>>=◌
   does-between pid directory second call may act = record {
     goes = λ known s fits. (
       subst (λ a. MayEnter a pid directory second) (sym fits.home) tt,
@@ -151,13 +151,13 @@ module _ {rights : Rights} {P : Server → Type 0} where
       out known s reply fine fits = record {
         free = (there known reply fine).free;
         processes = fits.processes;
-        looker = fits.looker;
+        server_process = fits.server_process;
         shares = fits.shares;
         holds = fits.holds;
       }
 
       may_then : (known : Known) (s : Server) (reply : Reply) → Fits rights P known s → MayCall rights (known_after known (Enter pid directory second) reply) pid call
-      may_then known s reply fits = elim (may known s fits) [ as_caller h i ↦ as_caller h i | Conduct.by_handle h ↦ Conduct.by_handle h | as_looker h i ↦ as_looker h i | shows h ↦ shows h ]
+      may_then known s reply fits = elim (may known s fits) [ as_caller h i ↦ as_caller h i | Conduct.by_handle h ↦ Conduct.by_handle h | as_server_process h i ↦ as_server_process h i | shows h ↦ shows h ]
 
       goes : (known : Known) (s : Server) (reply : Reply) → refusal_in reply ≡ None → Fits rights P known s
           → KeepsTo (conduct rights) (Left rights P) (known_after known (Enter pid directory second) reply) (back pid call s)
@@ -171,7 +171,7 @@ module _ {rights : Rights} {P : Server → Type 0} where
       entered known s fits (Refused r) = record {
         home = still-home known.away (gone_to pid directory second) (directory == root && second == root) r fits.home;
         processes = fits.processes;
-        looker = fits.looker;
+        server_process = fits.server_process;
         shares = fits.shares;
         holds = fits.holds;
       }
@@ -196,27 +196,27 @@ module _ {rights : Rights} {P : Server → Type 0} where
 
   -- ---- on objects
 
-  does-or_inside : (pid n : ℕ) (call : List ℕ → Call) (kind : Option FileType) (r : Result Reply Stop) → ((path : List ℕ) → CanCall rights P pid (call path)) → IsPathOf call
+  does-or_inside : (pid n : ℕ) (call : List ℕ → Call) (kind : Option FileType) (r : Result Reply RequestError) → ((path : List ℕ) → CanCall rights P pid (call path)) → IsPathOf call
       → IsObject rights.subject n → Does rights P (or_inside pid n call kind r)
   does-or_inside pid n call kind (Ok reply) may takes object = does-give reply
   does-or_inside pid n call kind (Err e) may takes object = choose (is_for EACCES e && is_known_directory kind)
     where
-      choose : (b : Bool) → Does rights P (if b then inside pid n (call (codes ".")) else stop e)
+      choose : (b : Bool) → Does rights P (if b then inside pid n (call (codes ".")) else fail e)
       choose true = does-between pid n n (call (codes ".")) (may (codes ".")) (on_one (codes ".") refl (takes (codes ".")) (is_itself object refl))
-      choose false = does-stop e
+      choose false = does-fail e
 
-  does-or_next : {next : Stop → Work Reply} → ((e : Stop) → Does rights P (next e)) → (r : Result Reply Stop) → Does rights P (or_next next r)
+  does-or_next : {next : RequestError → Work Reply} → ((e : RequestError) → Does rights P (next e)) → (r : Result Reply RequestError) → Does rights P (or_next next r)
   does-or_next rest (Ok reply) = does-give reply
   does-or_next {next} rest (Err e) = choose (is_for EACCES e)
     where
-      choose : (b : Bool) → Does rights P (if b then next e else stop e)
+      choose : (b : Bool) → Does rights P (if b then next e else fail e)
       choose true = rest e
-      choose false = does-stop e
+      choose false = does-fail e
 
-  pub does-by_places : (pid : ℕ) (second : Option ℕ) (call : List ℕ → Call) (before : Stop) (places : List Place) → ((path : List ℕ) → CanCall rights P pid (call path))
+  pub does-by_places : (pid : ℕ) (second : Option ℕ) (call : List ℕ → Call) (before : RequestError) (places : List Dentry) → ((path : List ℕ) → CanCall rights P pid (call path))
       → All (ActsAt rights.subject second call) places → Does rights P (by_places pid second call before places)
   unfolding by_places
-  does-by_places pid second call before [] may act = does-stop before
+  does-by_places pid second call before [] may act = does-fail before
   does-by_places pid second call before (p ∷ others) may act =
       does->>= (does-attempt (does-between pid p.directory _ (call p.name) (may p.name) (All-head (ActsAt rights.subject second call) p others act)))
       (does-or_next (λ e. does-by_places pid second call (standing_refusal before e) others may (All-tail (ActsAt rights.subject second call) p others act)))
@@ -226,10 +226,10 @@ module _ {rights : Rights} {P : Server → Type 0} where
   unfolding kept ◌>>=◌
   does-by_place pid n call may takes about = record { goes = λ known s fits. (by s fits.holds).goes known s fits }
     where
-      by : (s : Server) → P s → Does rights P (attempt (by_places pid None call (Lacks ESTALE) (places_of s n)) >>= or_inside pid n call (kind_of s n))
+      by : (s : Server) → P s → Does rights P (attempt (by_places pid None call (Lacks ESTALE) (places_of s n)) >>= or_inside pid n call (kind_known s n))
       by s holds =
           let act = All-weaker (IsOfRequest rights.subject) (ActsAt rights.subject None call) (λ p is. on_one p.name refl (takes p.name) is) (places_of s n) (about.places s holds) in
-          does->>= (does-attempt (does-by_places pid None call (Lacks ESTALE) (places_of s n) may act)) (λ r. does-or_inside pid n call (kind_of s n) r may takes about.object)
+          does->>= (does-attempt (does-by_places pid None call (Lacks ESTALE) (places_of s n) may act)) (λ r. does-or_inside pid n call (kind_known s n) r may takes about.object)
 
   pub does-on : (pid n : ℕ) (call : List ℕ → Call) → ((path : List ℕ) → CanCall rights P pid (call path)) → IsPathOf call → About rights P n
       → Does rights P (on pid n call)
@@ -244,27 +244,27 @@ module _ {rights : Rights} {P : Server → Type 0} where
 
   -- ---- the server's own process
 
-  pub does-with_looker : {X : Type 0} {f : ℕ → Work X} → ((pid : ℕ) → rights.looker ≡ Some pid → Does rights P (f pid)) → Does rights P (the_looker >>= f)
-  unfolding the_looker kept give stop ◌>>=◌
-  does-with_looker {X} {f} rest = record { goes = λ known s fits. found known s fits s.looker refl }
+  pub does-with_server_process : {X : Type 0} {f : ℕ → Work X} → ((pid : ℕ) → rights.server_process ≡ Some pid → Does rights P (f pid)) → Does rights P (the_server_process >>= f)
+  unfolding the_server_process kept give fail ◌>>=◌
+  does-with_server_process {X} {f} rest = record { goes = λ known s fits. found known s fits s.server_process refl }
     where
-      found : (known : Known) (s : Server) → Fits rights P known s → (o : Option ℕ) → s.looker ≡ o
+      found : (known : Known) (s : Server) → Fits rights P known s → (o : Option ℕ) → s.server_process ≡ o
           → KeepsTo (conduct rights) (Left rights P) known (followed_by (needed unexpected o s) (goes_on f))
       found known s fits None is = fits
-      found known s fits (Some pid) is = (rest pid (sym fits.looker ∙ is)).goes known s fits
+      found known s fits (Some pid) is = (rest pid (sym fits.server_process ∙ is)).goes known s fits
 
-  pub lasts-with_looker : {X : Type 0} {f : ℕ → Work X} → ((pid : ℕ) → rights.looker ≡ Some pid → Lasts rights P (f pid)) → Lasts rights P (the_looker >>= f)
-  unfolding the_looker kept give stop ◌>>=◌
-  lasts-with_looker {X} {f} rest = record { goes = λ known s fits. found known s fits s.looker refl }
+  pub lasts-with_server_process : {X : Type 0} {f : ℕ → Work X} → ((pid : ℕ) → rights.server_process ≡ Some pid → Lasts rights P (f pid)) → Lasts rights P (the_server_process >>= f)
+  unfolding the_server_process kept give fail ◌>>=◌
+  lasts-with_server_process {X} {f} rest = record { goes = λ known s fits. found known s fits s.server_process refl }
     where
-      found : (known : Known) (s : Server) → Fits rights P known s → (o : Option ℕ) → s.looker ≡ o
+      found : (known : Known) (s : Server) → Fits rights P known s → (o : Option ℕ) → s.server_process ≡ o
           → KeepsTo (conduct rights) (Left rights Any) known (followed_by (needed unexpected o s) (goes_on f))
       found known s fits None is = fits-any fits
-      found known s fits (Some pid) is = (rest pid (sym fits.looker ∙ is)).goes known s fits
+      found known s fits (Some pid) is = (rest pid (sym fits.server_process ∙ is)).goes known s fits
 
   -- it may look
-  pub looks : (pid : ℕ) → rights.looker ≡ Some pid → (call : Call) → IsTrue (only_looks call) → CanCall rights P pid call
-  looks pid is call only known s fits = as_looker is only
+  pub looks : (pid : ℕ) → rights.server_process ≡ Some pid → (call : Call) → IsTrue (only_looks call) → CanCall rights P pid call
+  looks pid is call only known s fits = as_server_process is only
 
   pub does-replied_status : (reply : Reply) → Does rights P (replied_status reply)
   does-replied_status reply = does-needed _ _
@@ -273,12 +273,12 @@ module _ {rights : Rights} {P : Server → Type 0} where
   unfolding look_inside
   does-look_inside pid d name may is = does->>= (does-between pid d d (Lstat name) may (on_one name refl refl is)) does-replied_status
 
-  pub does-by_looker : (n : ℕ) (call : List ℕ → Call) → ((path : List ℕ) → IsTrue (only_looks (call path))) → IsPathOf call → About rights P n
-      → Does rights P (by_looker n call)
-  does-by_looker n call only takes about = does-with_looker (λ pid is. does-on pid n call (λ path. looks pid is (call path) (only path)) takes about)
+  pub does-by_server_process : (n : ℕ) (call : List ℕ → Call) → ((path : List ℕ) → IsTrue (only_looks (call path))) → IsPathOf call → About rights P n
+      → Does rights P (by_server_process n call)
+  does-by_server_process n call only takes about = does-with_server_process (λ pid is. does-on pid n call (λ path. looks pid is (call path) (only path)) takes about)
 
   does-look_at : (n : ℕ) (placed : Bool) → About rights P n → Does rights P (look_at n placed)
-  does-look_at n true about = does-by_looker n Lstat (λ path. refl) (λ path. refl) about
+  does-look_at n true about = does-by_server_process n Lstat (λ path. refl) (λ path. refl) about
   does-look_at n false about =
       does->>= (does-kept _) (λ found.
       does->>= (does-needed _ found) (λ handle. does-obtain _ _ (λ known s fits. shows refl) (without_path refl refl refl)))
@@ -291,14 +291,14 @@ module _ {rights : Rights} {P : Server → Type 0} where
 
 -- a node led to the number when the request began
 abbrev pub WasNumber : Rights → ℕ → ℕ → Type 0
-WasNumber rights node n = number_of rights.subject.start node ≡ Some n
+WasNumber rights node n = number_of_node rights.subject.start node ≡ Some n
 
 -- the object of the request is that of the node
 abbrev pub AsksOf : Rights → ℕ → Type 0
 AsksOf rights node = node_of_object rights.subject.operation rights.subject.node ≡ node
 
 pub is-object : (rights : Rights) (node : ℕ) → AsksOf rights node → (n : ℕ) → WasNumber rights node n → IsObject rights.subject n
-is-object rights node asks n was = subst (λ k. number_of rights.subject.start k ≡ Some n) (sym asks) was
+is-object rights node asks n was = subst (λ k. number_of_node rights.subject.start k ≡ Some n) (sym asks) was
 
 module _ {rights : Rights} where
   -- where names are as they were, each place is a known one
@@ -316,10 +316,10 @@ module _ {rights : Rights} where
   }
 
   pub gives-number : {F : ℕ → Type 0} (node : ℕ) → ((n : ℕ) → WasNumber rights node n → F n) → Gives rights F (the_number node)
-  unfolding the_number kept give stop ◌>>=◌
-  gives-number {F} node says = record { goes = λ known s fits. found known s fits (number_of s node) refl }
+  unfolding the_number kept give fail ◌>>=◌
+  gives-number {F} node says = record { goes = λ known s fits. found known s fits (number_of_node s node) refl }
     where
-      found : (known : Known) (s : Server) → Fits rights (Still rights) known s → (o : Option ℕ) → number_of s node ≡ o
+      found : (known : Known) (s : Server) → Fits rights (Still rights) known s → (o : Option ℕ) → number_of_node s node ≡ o
           → KeepsTo (conduct rights) (LeftTo rights (λ n. Still rights) F) known (needed (Lacks ESTALE) o s)
       found known s fits None is = fits-any fits
       found known s fits (Some n) is = (fits, says n (sym (still-number fits.holds node) ∙ is))
@@ -327,9 +327,9 @@ module _ {rights : Rights} where
   gives-only_directory : {F : ℕ → Type 0} (n : ℕ) (kind : Option FileType) → F n → Gives rights F (only_directory n kind)
   gives-only_directory {F} n kind is = choose (is_known_directory kind)
     where
-      choose : (b : Bool) → Gives rights F (if b then give n else stop (failed ENOTDIR))
+      choose : (b : Bool) → Gives rights F (if b then give n else fail (failed ENOTDIR))
       choose true = gives-give n is
-      choose false = gives-stop _
+      choose false = gives-fail _
 
   pub gives-directory_number : {F : ℕ → Type 0} (node : ℕ) → ((n : ℕ) → WasNumber rights node n → F n) → Gives rights F (directory_number node)
   unfolding directory_number
@@ -337,11 +337,11 @@ module _ {rights : Rights} where
 
   -- the node led to the number, and that had a name
   pub gives-standing_directory : {F : ℕ → Type 0} (node : ℕ) → ((n : ℕ) → IsStandingDirectory rights.subject.start node n → F n) → Gives rights F (standing_directory node)
-  unfolding standing_directory kept give stop ◌>>=◌
+  unfolding standing_directory kept give fail ◌>>=◌
   gives-standing_directory {F} node says = then-does_to (gives-directory_number node (λ n was. was)) (λ n was. record { goes = λ known s fits. placed n was known s fits (has_place s n) refl })
     where
       placed : (n : ℕ) → WasNumber rights node n → (known : Known) (s : Server) → Fits rights (Still rights) known s → (b : Bool) → has_place s n ≡ b
-          → KeepsTo (conduct rights) (LeftTo rights (λ n. Still rights) F) known ((if b then give n else stop (Lacks ESTALE)) s)
+          → KeepsTo (conduct rights) (LeftTo rights (λ n. Still rights) F) known ((if b then give n else fail (Lacks ESTALE)) s)
       placed n was known s fits true is =
-          (fits, says n (record { of_node = was; has_place = ap (λ l. n == root || is_some (first_of l)) (sym (still-places fits.holds n)) ∙ is }))
+          (fits, says n (record { of_node = was; has_place = ap (λ l. n == root || is_some (head_of l)) (sym (still-places fits.holds n)) ∙ is }))
       placed n was known s fits false is = fits-any fits

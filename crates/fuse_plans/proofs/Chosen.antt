@@ -15,14 +15,14 @@ use Rattle.fs_model.specs.declared.event.Event.TheVariants.{Spawn}
 use Rattle.fs_model.specs.declared.reply.Reply.{Reply}
 use Rattle.fs_model.specs.declared.reply.Reply.TheVariants.{Done, Pid, Fd, Data, Wrote, At, Target, Mask, Shown, Granted, Acl, Names, Space, Stamped, Refused}
 use Rattle.fuse_plans.specs.Plans.{KeepsTo}
-use Rattle.fuse_plans.specs.declared.stop.Stop.{Stop}
-use Rattle.fuse_plans.specs.declared.stop.Stop.TheVariants.{Refuses, Lacks}
-use Rattle.fuse_plans.specs.declared.stop.OtherErrno.TheVariants.{ENFILE}
-use Rattle.fuse_plans.specs.Stops.{failed, is_for}
-use Rattle.fuse_state.specs.Servers.{Server, is_process_of, has_credential, is_same_credential, all_processes, processes_of, first_of, partly_used, is_process, may_take_process, next_idle, idle, holds_some, has_room, process_holders, without_process, WithinShares}
+use Rattle.fuse_plans.specs.declared.request_error.RequestError.{RequestError}
+use Rattle.fuse_plans.specs.declared.request_error.RequestError.TheVariants.{Refuses, Lacks}
+use Rattle.fuse_plans.specs.declared.request_error.OtherErrno.TheVariants.{ENFILE}
+use Rattle.fuse_plans.specs.RequestErrors.{failed, is_for}
+use Rattle.fuse_state.specs.Servers.{Server, is_process_of, has_credential, is_same_credential, all_processes, processes_of, head_of, partly_used, is_process, may_take_process, next_idle, idle, holds_some, has_room, process_holders, without_process, WithinShares}
 use Rattle.fuse_state.specs.Shares.{process_shares, may_hold}
 use Rattle.fuse_state.proofs.Holders.{begun_holders, begun_within, ended_holders, ended_within}
-use Rattle.fuse_plans.specs.Works.{Work, give, stop, kept, keep, ◌>>=◌, needed, ask}
+use Rattle.fuse_plans.specs.Works.{Work, give, fail, kept, keep, ◌>>=◌, needed, ask}
 use Rattle.fuse_plans.specs.Callers.{settle_new, settled, settle, retire_next, retire, retire_idle, spawn_again, settle_first, begin_process, or_spawned, caller, unused_of, or_unused, caller_with_room}
 use Rattle.fuse_plans.specs.Conduct.{Known, Rights, conduct, after_begin, after_spawn, after_exit, Fits, IsHome, IsCaller}
 use Rattle.fuse_plans.specs.Acts.{IsObject}
@@ -31,27 +31,27 @@ use Rattle.fuse_plans.proofs.Calls.{About, about-still}
 
 -- ---- what is chosen
 
-chosen_one : {X : Type 0} (test : X → Bool) (y x : X) (rest : List X) (b : Bool) → test y ≡ b → first_of (cond b (y ∷ rest) rest) ≡ Some x
-    → (first_of rest ≡ Some x → test x ≡ true) → test x ≡ true
+chosen_one : {X : Type 0} (test : X → Bool) (y x : X) (rest : List X) (b : Bool) → test y ≡ b → head_of (cond b (y ∷ rest) rest) ≡ Some x
+    → (head_of rest ≡ Some x → test x ≡ true) → test x ≡ true
 chosen_one test y x rest true passes is later = let same : Some y ≡ Some x = is in let one : y ≡ x = cc in subst (λ z. test z ≡ true) one passes
 chosen_one test y x rest false fails is later = later is
 
-first-passes : {X : Type 0} (test : X → Bool) (xs : List X) (x : X) → first_of (filter test xs) ≡ Some x → test x ≡ true
+first-passes : {X : Type 0} (test : X → Bool) (xs : List X) (x : X) → head_of (filter test xs) ≡ Some x → test x ≡ true
 first-passes test [] x is = absurd (let none : None ≡ Some x = is in cc)
 first-passes test (y ∷ ys) x is = chosen_one test y x (filter test ys) (test y) refl is (first-passes test ys x)
 
-first_of_either : {X : Type 0} (test : X → Bool) (y x : X) (rest : List X) (b : Bool) → test y ≡ true → first_of (cond b (y ∷ rest) rest) ≡ Some x
-    → (first_of rest ≡ Some x → test x ≡ true) → test x ≡ true
+first_of_either : {X : Type 0} (test : X → Bool) (y x : X) (rest : List X) (b : Bool) → test y ≡ true → head_of (cond b (y ∷ rest) rest) ≡ Some x
+    → (head_of rest ≡ Some x → test x ≡ true) → test x ≡ true
 first_of_either test y x rest true passes is later = let same : Some y ≡ Some x = is in let one : y ≡ x = cc in subst (λ z. test z ≡ true) one passes
 first_of_either test y x rest false passes is later = later is
 
-twice_chosen : {X : Type 0} (test other : X → Bool) (y x : X) (rest : List X) (b : Bool) → test y ≡ b → first_of (filter other (cond b (y ∷ rest) rest)) ≡ Some x
-    → (first_of (filter other rest) ≡ Some x → test x ≡ true) → test x ≡ true
+twice_chosen : {X : Type 0} (test other : X → Bool) (y x : X) (rest : List X) (b : Bool) → test y ≡ b → head_of (filter other (cond b (y ∷ rest) rest)) ≡ Some x
+    → (head_of (filter other rest) ≡ Some x → test x ≡ true) → test x ≡ true
 twice_chosen test other y x rest true passes is later = first_of_either test y x (filter other rest) (other y) passes is later
 twice_chosen test other y x rest false fails is later = later is
 
 -- the same where others are left out before
-twice-passes : {X : Type 0} (test other : X → Bool) (xs : List X) (x : X) → first_of (filter other (filter test xs)) ≡ Some x → test x ≡ true
+twice-passes : {X : Type 0} (test other : X → Bool) (xs : List X) (x : X) → head_of (filter other (filter test xs)) ≡ Some x → test x ≡ true
 twice-passes test other [] x is = absurd (let none : None ≡ Some x = is in cc)
 twice-passes test other (y ∷ ys) x is = twice_chosen test other y x (filter test ys) (test y) refl is (twice-passes test other ys x)
 
@@ -103,7 +103,7 @@ record Finds (rights : Rights) (T : List ℕ → Type 0) (pid : ℕ) (s : Server
   caller : OfCaller rights pid s
   allows : WithinShares rights.subject.start → T (process_holders s)
 
-abbrev ChosenLeft : Rights → (List ℕ → Type 0) → Known → Result ℕ Stop × Server → Type 0
+abbrev ChosenLeft : Rights → (List ℕ → Type 0) → Known → Result ℕ RequestError × Server → Type 0
 ChosenLeft rights T = LeftTo rights (Finds rights T) NoMore
 
 -- what is found has the user
@@ -132,10 +132,10 @@ opener_of {rights} cred pid s is of room =
       may = record { cred = found.other; there = found.there; room = λ start idle. subst (λ uid. may_take_process s uid ≡ true) found.user (room start idle) };
     }
 
-weaker_chosen : (rights : Rights) {Q R : ℕ → Server → Type 0} → ((pid : ℕ) (s : Server) → Q pid s → R pid s) → (known : Known) (r : Result ℕ Stop × Server)
+weaker_chosen : (rights : Rights) {Q R : ℕ → Server → Type 0} → ((pid : ℕ) (s : Server) → Q pid s → R pid s) → (known : Known) (r : Result ℕ RequestError × Server)
     → LeftTo rights Q NoMore known r → LeftTo rights R NoMore known r
 weaker_chosen rights weaker known (Ok pid, s) is =
-    (record { home = is.0.home; processes = is.0.processes; looker = is.0.looker; shares = is.0.shares; holds = weaker pid s is.0.holds }, tt)
+    (record { home = is.0.home; processes = is.0.processes; server_process = is.0.server_process; shares = is.0.shares; holds = weaker pid s is.0.holds }, tt)
 weaker_chosen rights weaker known (Err e, s) is = is
 
 -- ---- a new process
@@ -155,21 +155,21 @@ module _ {rights : Rights} where
 
 module _ {rights : Rights} (T : List ℕ → Type 0) where
   settles_refused : (cred : Credential) (r : Refusal) (known : Known) (s : Server) → Fits rights (Looks rights T) known s → (b : Bool)
-      → KeepsTo (conduct rights) (ChosenLeft rights T) known ((if b then stop (Lacks ENFILE) else settled cred (Refused r)) s)
-  unfolding stop ◌>>=◌
+      → KeepsTo (conduct rights) (ChosenLeft rights T) known ((if b then fail (Lacks ENFILE) else settled cred (Refused r)) s)
+  unfolding fail ◌>>=◌
   settles_refused cred r known s fits true = fits-any fits
   settles_refused cred r known s fits false = fits-any fits
 
   -- no other has its number
   settles_new : (cred : Credential) → rights.cred ≡ Some cred → (known : Known) (s : Server) → Fits rights (Looks rights T) known s → (pid : ℕ) (o : Option Credential)
       → get nat_cmp s.processes pid ≡ o → KeepsTo (conduct rights) (ChosenLeft rights T) (after_begin known cred pid (is_some o)) (settle_new cred pid (is_some o) s)
-  unfolding keep give stop ◌>>=◌
+  unfolding keep give fail ◌>>=◌
   settles_new cred is known s fits pid (Some other) there = fits-any fits
   settles_new cred is known s fits pid None none = (
     record {
       home = fits.home;
       processes = ap (λ m. with_entry nat_cmp m pid cred) fits.processes;
-      looker = fits.looker;
+      server_process = fits.server_process;
       shares = λ start. begun_within s pid cred none (fits.shares start);
       holds = record {
         caller = record {
@@ -190,7 +190,7 @@ module _ {rights : Rights} (T : List ℕ → Type 0) where
 
   settles : (cred : Credential) → rights.cred ≡ Some cred → (known : Known) (s : Server) → Fits rights (Looks rights T) known s → (reply : Reply)
       → KeepsTo (conduct rights) (ChosenLeft rights T) (after_spawn known cred reply) (settle cred reply s)
-  unfolding kept give stop ◌>>=◌
+  unfolding kept give fail ◌>>=◌
   settles cred is known s fits (Pid pid) = settles_pid cred is known s fits pid
   settles cred is known s fits (Refused r) = settles_refused cred r known s fits (is_for EAGAIN (Refuses r))
   settles cred is known s fits Done = fits-any fits
@@ -219,7 +219,7 @@ module _ {rights : Rights} (T : List ℕ → Type 0) where
       ended known s pid idle fits = record {
         home = fits.home;
         processes = ap (λ m. without nat_cmp m pid) fits.processes;
-        looker = fits.looker;
+        server_process = fits.server_process;
         shares = λ start. ended_within s pid idle (fits.shares start);
         holds = record {
           still = still-as refl refl refl fits.holds.still;
@@ -298,7 +298,7 @@ module _ {rights : Rights} where
     record {
       home = fits.home;
       processes = fits.processes;
-      looker = fits.looker;
+      server_process = fits.server_process;
       shares = fits.shares;
       holds = finds pid s (found pid refl) (record {
         caller = record { still = fits.holds.still; is = subst (λ o. IsCaller o s.processes pid) (sym is) (found pid refl) };
@@ -313,22 +313,22 @@ module _ {rights : Rights} where
   looks_with known s allows fits = record {
     home = fits.home;
     processes = fits.processes;
-    looker = fits.looker;
+    server_process = fits.server_process;
     shares = fits.shares;
     holds = record { still = fits.holds; allows = allows };
   }
 
   with-credential : {Q : ℕ → Server → Type 0} {f : Credential → Work ℕ} (o : Option Credential) → rights.cred ≡ o
       → ((cred : Credential) → rights.cred ≡ Some cred → DoesTo rights Q NoMore (f cred)) → DoesTo rights Q NoMore (needed (failed EACCES) o >>= f)
-  unfolding ◌>>=◌ give stop
+  unfolding ◌>>=◌ give fail
   with-credential None is rest = record { goes = λ known s fits. fits-any fits }
   with-credential (Some cred) is rest = record { goes = λ known s fits. (rest cred is).goes known s fits }
 
-  chooses : (cred : Credential) → rights.cred ≡ Some cred → DoesTo rights (OfCaller rights) NoMore (kept (λ s. first_of (processes_of s cred)) >>= or_spawned cred)
+  chooses : (cred : Credential) → rights.cred ≡ Some cred → DoesTo rights (OfCaller rights) NoMore (kept (λ s. head_of (processes_of s cred)) >>= or_spawned cred)
   unfolding kept ◌>>=◌
   chooses cred same = record {
     goes = λ known s fits.
-        or-begins (λ holders. Unit {0}) cred same (λ pid t is f. f.caller) (first_of (processes_of s cred)) known s (looks_with known s (λ start. tt) fits)
+        or-begins (λ holders. Unit {0}) cred same (λ pid t is f. f.caller) (head_of (processes_of s cred)) known s (looks_with known s (λ start. tt) fits)
         (λ pid chosen. first-passes (is_process_of s.processes cred) (all_processes s) pid chosen);
   }
 
@@ -340,11 +340,11 @@ module _ {rights : Rights} where
 
   unused : (cred : Credential) → rights.cred ≡ Some cred → (known : Known) (s : Server) → Fits rights (Still rights) known s → (b : Bool) → may_take_process s cred.uid ≡ b
       → KeepsTo (conduct rights) (LeftTo rights (OfOpener rights) NoMore) known (unused_of cred b s)
-  unfolding stop kept ◌>>=◌
+  unfolding fail kept ◌>>=◌
   unused cred is known s fits false may = fits-any fits
   unused cred is known s fits true may =
       or-begins (λ holders. may_hold process_shares holders cred.uid ≡ true) cred is (λ pid t of f. opener_of cred pid t of f.caller (λ start idle. f.allows start))
-      (first_of (idle s (processes_of s cred))) known s (looks_with known s (λ start. may) fits)
+      (head_of (idle s (processes_of s cred))) known s (looks_with known s (λ start. may) fits)
       (λ pid chosen. twice-passes (is_process_of s.processes cred) (λ p. not (holds_some s p)) (all_processes s) pid chosen)
 
   or-unused : (cred : Credential) → rights.cred ≡ Some cred → (o : Option ℕ) (known : Known) (s : Server) → Fits rights (Still rights) known s → partly_used s cred ≡ o
@@ -354,7 +354,7 @@ module _ {rights : Rights} where
     record {
       home = fits.home;
       processes = fits.processes;
-      looker = fits.looker;
+      server_process = fits.server_process;
       shares = fits.shares;
       holds =
           let of_cred : is_process_of s.processes cred pid ≡ true = twice-passes (is_process_of s.processes cred) (has_room s) (all_processes s) pid chosen in

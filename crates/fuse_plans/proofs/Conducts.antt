@@ -5,12 +5,12 @@ use Rattle.fs_model.specs.declared.event.Event.TheVariants.{Stamp, Clock}
 use Rattle.fs_model.specs.declared.reply.Reply.{Reply}
 use Rattle.fs_model.specs.declared.reply.Reply.TheVariants.{Done, Pid, Fd, Data, Wrote, At, Target, Mask, Shown, Granted, Acl, Names, Space, Stamped, Refused}
 use Rattle.fuse_plans.specs.Plans.{Plan, Finish, Ask, followed_by, Restraint, KeepsTo}
-use Rattle.fuse_plans.specs.declared.stop.Stop.{Stop}
+use Rattle.fuse_plans.specs.declared.request_error.RequestError.{RequestError}
 use Rattle.fuse_protocol.specs.declared.reply.Time.{Time}
 use Rattle.fuse_state.specs.Stamps.{stamp_of}
-use Rattle.fuse_state.specs.Servers.{Server, number_of, places_in, places_of, WithinShares}
+use Rattle.fuse_state.specs.Servers.{Server, number_of_node, places_in, places_of, WithinShares}
 use Rattle.fuse_state.proofs.Holders.{holding_of, same_within}
-use Rattle.fuse_plans.specs.Works.{Work, give, stop, kept, keep, goes_on, ◌>>=◌, attempt, of_result, needed, ask, unless_refused}
+use Rattle.fuse_plans.specs.Works.{Work, give, fail, kept, keep, goes_on, ◌>>=◌, attempt, of_result, needed, ask, unless_refused}
 use Rattle.fuse_plans.specs.Conduct.{Known, Rights, MayStamp, asks, conduct, Fits, IsHome}
 use Rattle.fuse_plans.specs.Times.{tell_time_if, tell_time, told_stamps_if, told_stamps}
 
@@ -33,15 +33,15 @@ keeps-weaker rule E F (Ask e next) m first weaker = (
 )
 
 -- one piece after another, where what the first leaves is enough for the second
-pub keeps->>= : {X Y : Type 0} (rights : Rights) (E : Known → Result X Stop × Server → Type 0) (F : Known → Result Y Stop × Server → Type 0)
+pub keeps->>= : {X Y : Type 0} (rights : Rights) (E : Known → Result X RequestError × Server → Type 0) (F : Known → Result Y RequestError × Server → Type 0)
     (w : Work X) (f : X → Work Y) (known : Known) (s : Server)
     → KeepsTo (conduct rights) E known (w s)
     → ((n : Known) (x : X) (t : Server) → E n (Ok x, t) → KeepsTo (conduct rights) F n (f x t))
-    → ((n : Known) (e : Stop) (t : Server) → E n (Err e, t) → F n (Err e, t)) → KeepsTo (conduct rights) F known ((w >>= f) s)
+    → ((n : Known) (e : RequestError) (t : Server) → E n (Err e, t) → F n (Err e, t)) → KeepsTo (conduct rights) F known ((w >>= f) s)
 unfolding ◌>>=◌
 keeps->>= {X} {Y} rights E F w f known s first ok err = keeps-followed_by (conduct rights) E F (w s) (goes_on f) known first after
   where
-    after : (n : Known) (r : Result X Stop × Server) → E n r → KeepsTo (conduct rights) F n (goes_on f r)
+    after : (n : Known) (r : Result X RequestError × Server) → E n r → KeepsTo (conduct rights) F n (goes_on f r)
     after n (Ok x, t) left = ok n x t left
     after n (Err e, t) left = err n e t left
 
@@ -59,13 +59,13 @@ pub record Still (rights : Rights) (s : Server) : Type 0 where
 
 -- the server's processes stay, and what is held
 abbrev pub SameOwn : (Server → Server) → Type 0
-SameOwn f = (s : Server) → (holding_of (f s) ≡ holding_of s) × ((f s).looker ≡ s.looker)
+SameOwn f = (s : Server) → (holding_of (f s) ≡ holding_of s) × ((f s).server_process ≡ s.server_process)
 
 -- and so do nodes and names
 abbrev pub SameAll : (Server → Server) → Type 0
 SameAll f =
     (s : Server)
-    → (holding_of (f s) ≡ holding_of s) × ((f s).looker ≡ s.looker) × ((f s).kinds ≡ s.kinds) × ((f s).generations ≡ s.generations) × ((f s).names ≡ s.names)
+    → (holding_of (f s) ≡ holding_of s) × ((f s).server_process ≡ s.server_process) × ((f s).kinds ≡ s.kinds) × ((f s).generations ≡ s.generations) × ((f s).names ≡ s.names)
 
 pub still-as : {rights : Rights} {s t : Server} → t.kinds ≡ s.kinds → t.generations ≡ s.generations → t.names ≡ s.names → Still rights s → Still rights t
 still-as kinds generations names still = record {
@@ -78,11 +78,11 @@ pub still-kept : {rights : Rights} (f : Server → Server) → SameAll f → (s 
 still-kept f same s still = still-as (same s).2 (same s).3 (same s).4 still
 
 -- a node leads where it did
-pub still-number : {rights : Rights} {s : Server} → Still rights s → (node : ℕ) → number_of s node ≡ number_of rights.subject.start node
+pub still-number : {rights : Rights} {s : Server} → Still rights s → (node : ℕ) → number_of_node s node ≡ number_of_node rights.subject.start node
 still-number {rights} {s} still node =
     let t = rights.subject.start in
-    ap (λ k. number_of (record s { kinds = k }) node) still.kinds
-    ∙ ap (λ g. number_of (record s { kinds = t.kinds; generations = g }) node) still.generations
+    ap (λ k. number_of_node (record s { kinds = k }) node) still.kinds
+    ∙ ap (λ g. number_of_node (record s { kinds = t.kinds; generations = g }) node) still.generations
 
 -- and an object has the places that it had
 pub still-places : {rights : Rights} {s : Server} → Still rights s → (n : ℕ) → places_of s n ≡ places_of rights.subject.start n
@@ -90,7 +90,7 @@ still-places {rights} {s} still n = ap (λ l. places_in l n) still.names
 
 -- ---- pieces
 
-abbrev pub Left : Rights → (Server → Type 0) → {X : Type 0} → Known → Result X Stop × Server → Type 0
+abbrev pub Left : Rights → (Server → Type 0) → {X : Type 0} → Known → Result X RequestError × Server → Type 0
 Left rights P known r = Fits rights P known r.1
 
 -- Where P holds of what the server knows, the work behaves, and P holds then.
@@ -101,7 +101,7 @@ pub record Does (rights : Rights) (P : Server → Type 0) {X : Type 0} (w : Work
 pub record Lasts (rights : Rights) (P : Server → Type 0) {X : Type 0} (w : Work X) : Type 0 where
   pub goes : (known : Known) (s : Server) → Fits rights P known s → KeepsTo (conduct rights) (Left rights Any) known (w s)
 
-abbrev pub LeftTo : Rights → {X : Type 0} → (X → Server → Type 0) → (X → Type 0) → Known → Result X Stop × Server → Type 0
+abbrev pub LeftTo : Rights → {X : Type 0} → (X → Server → Type 0) → (X → Type 0) → Known → Result X RequestError × Server → Type 0
 LeftTo rights Q F known (Ok x, s) = Fits rights (Q x) known s × F x
 LeftTo rights Q F known (Err e, s) = Fits rights Any known s
 
@@ -115,16 +115,16 @@ abbrev pub Gives : (rights : Rights) {X : Type 0} → (X → Type 0) → Work X 
 Gives rights F w = DoesTo rights (λ x. Still rights) F w
 
 pub fits-any : {rights : Rights} {P : Server → Type 0} {known : Known} {s : Server} → Fits rights P known s → Fits rights Any known s
-fits-any fits = record { home = fits.home; processes = fits.processes; looker = fits.looker; shares = fits.shares; holds = tt }
+fits-any fits = record { home = fits.home; processes = fits.processes; server_process = fits.server_process; shares = fits.shares; holds = tt }
 
 module _ {rights : Rights} {P : Server → Type 0} where
   pub does-give : {X : Type 0} (x : X) → Does rights P (give x)
   unfolding give
   does-give x = record { goes = λ known s fits. fits }
 
-  pub does-stop : {X : Type 0} (e : Stop) → Does rights P {X = X} (stop e)
-  unfolding stop
-  does-stop e = record { goes = λ known s fits. fits }
+  pub does-fail : {X : Type 0} (e : RequestError) → Does rights P {X = X} (fail e)
+  unfolding fail
+  does-fail e = record { goes = λ known s fits. fits }
 
   pub does-kept : {X : Type 0} (f : Server → X) → Does rights P (kept f)
   unfolding kept
@@ -136,14 +136,14 @@ module _ {rights : Rights} {P : Server → Type 0} where
     goes = λ known s fits. record {
       home = fits.home;
       processes = fits.processes ∙ sym (ap (λ k. k.0) (same s).0);
-      looker = (same s).1 ∙ fits.looker;
+      server_process = (same s).1 ∙ fits.server_process;
       shares = λ within. same_within s (f s) (same s).0 (fits.shares within);
       holds = stays s fits.holds;
     };
   }
 
   -- where processes stay, and none holds more than it may
-  pub does-keep_within : (f : Server → Server) → ((s : Server) → ((f s).processes ≡ s.processes) × ((f s).looker ≡ s.looker))
+  pub does-keep_within : (f : Server → Server) → ((s : Server) → ((f s).processes ≡ s.processes) × ((f s).server_process ≡ s.server_process))
       → ((s : Server) → P s → (WithinShares rights.subject.start → WithinShares s) → WithinShares rights.subject.start → WithinShares (f s))
       → ((s : Server) → P s → P (f s)) → Does rights P (keep f)
   unfolding keep
@@ -151,7 +151,7 @@ module _ {rights : Rights} {P : Server → Type 0} where
     goes = λ known s fits. record {
       home = fits.home;
       processes = fits.processes ∙ sym (same s).0;
-      looker = (same s).1 ∙ fits.looker;
+      server_process = (same s).1 ∙ fits.server_process;
       shares = within s fits.holds fits.shares;
       holds = stays s fits.holds;
     };
@@ -203,7 +203,7 @@ module _ {rights : Rights} {P : Server → Type 0} where
         (record {
           home = fits.home;
           processes = fits.processes ∙ sym (ap (λ k. k.0) (same s).0);
-          looker = (same s).1 ∙ fits.looker;
+          server_process = (same s).1 ∙ fits.server_process;
           shares = λ within. same_within s (f s) (same s).0 (fits.shares within);
           holds = after s fits.holds;
         });
@@ -211,16 +211,16 @@ module _ {rights : Rights} {P : Server → Type 0} where
 
   -- ---- values
 
-  pub does-of_result : {X : Type 0} (r : Result X Stop) → Does rights P (of_result r)
+  pub does-of_result : {X : Type 0} (r : Result X RequestError) → Does rights P (of_result r)
   does-of_result (Ok x) = does-give x
-  does-of_result (Err e) = does-stop e
+  does-of_result (Err e) = does-fail e
 
-  pub does-needed : {X : Type 0} (e : Stop) (o : Option X) → Does rights P (needed e o)
-  does-needed e None = does-stop e
+  pub does-needed : {X : Type 0} (e : RequestError) (o : Option X) → Does rights P (needed e o)
+  does-needed e None = does-fail e
   does-needed e (Some x) = does-give x
 
   pub does-unless_refused : (reply : Reply) → Does rights P (unless_refused reply)
-  does-unless_refused (Refused r) = does-stop _
+  does-unless_refused (Refused r) = does-fail _
   does-unless_refused Done = does-give _
   does-unless_refused (Pid k) = does-give _
   does-unless_refused (Fd k) = does-give _
@@ -299,14 +299,14 @@ module _ {rights : Rights} where
   unfolding give
   gives-give x is = record { goes = λ known s fits. (fits, is) }
 
-  pub gives-stop : {X : Type 0} {Q : X → Server → Type 0} {F : X → Type 0} (e : Stop) → DoesTo rights Q F (stop e)
-  unfolding stop
-  gives-stop e = record { goes = λ known s fits. fits-any fits }
+  pub gives-fail : {X : Type 0} {Q : X → Server → Type 0} {F : X → Type 0} (e : RequestError) → DoesTo rights Q F (fail e)
+  unfolding fail
+  gives-fail e = record { goes = λ known s fits. fits-any fits }
 
   -- where it is told whether the first stopped
-  pub attempt-does_to : {X Y : Type 0} {F : X → Type 0} {R : Y → Server → Type 0} {G : Y → Type 0} {w : Work X} (f : Result X Stop → Work Y)
+  pub attempt-does_to : {X Y : Type 0} {F : X → Type 0} {R : Y → Server → Type 0} {G : Y → Type 0} {w : Work X} (f : Result X RequestError → Work Y)
       → Gives rights F w → ((x : X) → F x → DoesTo rights R G (f (Ok x)))
-      → ((e : Stop) (known : Known) (s : Server) → Fits rights Any known s → KeepsTo (conduct rights) (LeftTo rights R G) known (f (Err e) s))
+      → ((e : RequestError) (known : Known) (s : Server) → Fits rights Any known s → KeepsTo (conduct rights) (LeftTo rights R G) known (f (Err e) s))
       → DoesTo rights R G (attempt w >>= f)
   unfolding attempt ◌>>=◌
   attempt-does_to {X} {Y} {F} {R} {G} {w} f first ok err = record {
@@ -316,16 +316,16 @@ module _ {rights : Rights} where
         goes;
   }
     where
-      told : Known → Result (Result X Stop) Stop × Server → Type 0
+      told : Known → Result (Result X RequestError) RequestError × Server → Type 0
       told n (Ok (Ok x), t) = Fits rights (Still rights) n t × F x
       told n (Ok (Err e), t) = Fits rights Any n t
       told n (Err e, t) = ⊥
 
-      tells : (n : Known) (r : Result X Stop × Server) → LeftTo rights (λ x. Still rights) F n r → told n (Ok r.0, r.1)
+      tells : (n : Known) (r : Result X RequestError × Server) → LeftTo rights (λ x. Still rights) F n r → told n (Ok r.0, r.1)
       tells n (Ok x, t) left = left
       tells n (Err e, t) left = left
 
-      goes : (n : Known) (r : Result (Result X Stop) Stop × Server) → told n r → KeepsTo (conduct rights) (LeftTo rights R G) n (goes_on f r)
+      goes : (n : Known) (r : Result (Result X RequestError) RequestError × Server) → told n r → KeepsTo (conduct rights) (LeftTo rights R G) n (goes_on f r)
       goes n (Ok (Ok x), t) left = (ok x left.1).goes n t left.0
       goes n (Ok (Err e), t) left = err e n t left
       goes n (Err e, t) left = elim left [ ]

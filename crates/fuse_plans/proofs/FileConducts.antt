@@ -10,19 +10,19 @@ use Rattle.fs_model.specs.declared.reply.Stamps.{Stamps}
 use Rattle.fs_model.specs.declared.reply.Status.{Status}
 use Rattle.fs_model.specs.Limits.{move_limit}
 use Rattle.fuse_plans.specs.declared.mode.Mode.{Mode}
-use Rattle.fuse_plans.specs.declared.stop.Stop.{Stop}
+use Rattle.fuse_plans.specs.declared.request_error.RequestError.{RequestError}
 use Rattle.fuse_plans.specs.declared.request.Asked.{Asked}
 use Rattle.fuse_protocol.specs.declared.operation.Extent.{Extent}
 use Rattle.fuse_protocol.specs.declared.reply.Time.{Time}
 use Rattle.fuse_state.specs.Changes.{told}
 use Rattle.fuse_state.proofs.Holders.{closed_within}
 use Rattle.fuse_state.specs.Servers.{Server, owner_of, descriptor_of}
-use Rattle.fuse_state.specs.declared.place.Place.{Place}
+use Rattle.fuse_state.specs.declared.dentry.Dentry.{Dentry}
 use Rattle.fuse_plans.specs.Acts.{given_name, IsObject, IsStandingDirectory, IsOfRequest, is_given, named_in, on_one, Concerns, without_path, IsGivenName, changes}
 use Rattle.fuse_plans.specs.Conduct.{Rights, stays, by_handle, is_on, IsByHandle}
 use Rattle.fuse_plans.specs.FilePlans.{touched_if, ask_first, open_object, open_file, or_opened, open_or_make, show_open, confirm_shown, confirm_open, look_open, tell_created, create_file, the_open, call_open, seek, seek_open, read_piece, read_pieces, read_file, or_done, write_piece, write_pieces, pieces_in, write_file, close_file}
 use Rattle.fuse_plans.specs.Flags.{is_trunc}
-use Rattle.fuse_plans.proofs.Conducts.{Still, still-as, SameOwn, SameAll, Does, Lasts, does-give, does-stop, does-kept, does-keep_within, does-told_stamps, does->>=, does-attempt, does-needed, does-lasts, lasts->>=, keep-lasts, then-lasts, then-does}
+use Rattle.fuse_plans.proofs.Conducts.{Still, still-as, SameOwn, SameAll, Does, Lasts, does-give, does-fail, does-kept, does-keep_within, does-told_stamps, does->>=, does-attempt, does-needed, does-lasts, lasts->>=, keep-lasts, then-lasts, then-does}
 use Rattle.fuse_plans.proofs.Calls.{CanCall, AsksOf, is-object, does-obtain, does-or_closed, does-between, does-on, does-replied_status, gives-number, gives-standing_directory}
 use Rattle.fuse_plans.proofs.Chosen.{OfOpener, does-opener}
 use Rattle.fuse_plans.proofs.Openers.{opener-can, about-opener, may_open-as, does-keep_opener, does-keep_handle, does-keep_opened, does-with_handle, lasts-with_handle}
@@ -30,7 +30,7 @@ use Rattle.fuse_plans.proofs.Forms.{does-if, does-when, does-done, does-keep_sti
 use Rattle.fuse_plans.proofs.MaskConducts.{does-new_valid_of}
 use Rattle.fuse_plans.proofs.NameConducts.{found-same, does-plain_name, given-in}
 
-told-same : (now : Time) (p : Place) (n : ℕ) (kind : FileType) (is_new is_cut : Bool) → SameOwn (told now p n kind is_new is_cut)
+told-same : (now : Time) (p : Dentry) (n : ℕ) (kind : FileType) (is_new is_cut : Bool) → SameOwn (told now p n kind is_new is_cut)
 told-same now p n kind true is_cut s = (refl, refl)
 told-same now p n kind false true s = found-same p n kind s
 told-same now p n kind false false s = found-same p n kind s
@@ -53,7 +53,7 @@ module _ {rights : Rights} (r : Asked) (is : rights.cred ≡ r.cred) (asks : Ask
   does-confirm_open pid fd n cuts =
       does->>= (does-attempt
       (does->>= (does->>= (does-obtain pid _ (opener-can pid _ refl) (without_path refl refl refl)) does-replied_status) (λ status.
-      does->>= (does-if _ _ _ (does-give tt) (does-stop _)) (λ same.
+      does->>= (does-if _ _ _ (does-give tt) (does-fail _)) (λ same.
       does-when cuts _ (does-done (does-obtain pid _ (opener-can pid _ refl) (without_path refl refl refl))))))) (λ confirmed.
       does-or_closed pid fd confirmed (opener-can pid _ refl))
 
@@ -76,11 +76,11 @@ module _ {rights : Rights} (r : Asked) (is : rights.cred ≡ r.cred) (asks : Ask
 -- ---- to create
 
 module _ {rights : Rights} (r : Asked) (is : rights.cred ≡ r.cred) (node : rights.subject.node ≡ r.node) where
-  does-or_opened : {P : Server → Type 0} (pid d : ℕ) (name : List ℕ) (mode : Mode) (flags : ℕ) (first : Result Reply Stop)
+  does-or_opened : {P : Server → Type 0} (pid d : ℕ) (name : List ℕ) (mode : Mode) (flags : ℕ) (first : Result Reply RequestError)
       → ((call : Call) → IsTrue (stays call) → CanCall rights P pid call) → IsOfRequest rights.subject (named_in d name) → Does rights P (or_opened pid d name mode flags first)
   does-or_opened pid d name mode flags (Ok reply) can of = does-give _
   does-or_opened pid d name mode flags (Err e) can of =
-      does-if _ _ _ (does->>= (does-between pid d d _ (can _ refl) (on_one name refl refl of)) (λ reply. does-give _)) (does-stop e)
+      does-if _ _ _ (does->>= (does-between pid d d _ (can _ refl) (on_one name refl refl of)) (λ reply. does-give _)) (does-fail e)
 
   does-open_or_make : (pid d : ℕ) (name : List ℕ) (mode : Mode) (flags file_mode : ℕ) → IsGivenName rights.subject (named_in d name)
       → Does rights (OfOpener rights pid) (open_or_make pid d name mode flags file_mode)
@@ -97,7 +97,7 @@ module _ {rights : Rights} (r : Asked) (is : rights.cred ≡ r.cred) (node : rig
       does->>= (does-told_stamps _) (λ stamps. does-give _)))) (λ seen.
       does-or_closed pid fd seen (opener-can pid _ refl))
 
-  lasts-tell_created : (now : Time) (name_valid : ℕ) (p : Place) (is_new is_cut : Bool) (pid handle : ℕ) (seen : Status × Option Stamps) → owner_of handle ≡ pid
+  lasts-tell_created : (now : Time) (name_valid : ℕ) (p : Dentry) (is_new is_cut : Bool) (pid handle : ℕ) (seen : Status × Option Stamps) → owner_of handle ≡ pid
       → Lasts rights (OfOpener rights pid) (tell_created now name_valid p is_new is_cut handle seen)
   unfolding tell_created
   lasts-tell_created now name_valid p is_new is_cut pid handle seen owner =
@@ -135,7 +135,7 @@ module _ {rights : Rights} {P : Server → Type 0} where
 
   does-seek : (handle : ℕ) → rights.handle ≡ Some handle → (offset : ℕ) → Does rights P (seek (owner_of handle) (descriptor_of handle) offset)
   unfolding seek
-  does-seek handle given offset = does-if _ _ _ (does-obtain _ _ (handle-can handle given _ (itself _)) (without_path refl refl refl)) (does-stop _)
+  does-seek handle given offset = does-if _ _ _ (does-obtain _ _ (handle-can handle given _ (itself _)) (without_path refl refl refl)) (does-fail _)
 
   does-seek_open : (handle : ℕ) → rights.handle ≡ Some handle → (offset : ℕ) → Does rights P (seek_open handle offset)
   does-seek_open handle given offset = does->>= (does-the_open handle) (λ n. does->>= (does-seek handle given offset) (λ at. does-give n))
@@ -162,9 +162,9 @@ module _ {rights : Rights} {P : Server → Type 0} where
       does->>= (does-seek_open extent.handle given _) (λ n.
       does->>= (does-read_pieces extent.handle given _ _ _) (λ bytes. does-give _))
 
-  does-or_done : (done : ℕ) (wrote : Result ℕ Stop) → Does rights P (or_done done wrote)
+  does-or_done : (done : ℕ) (wrote : Result ℕ RequestError) → Does rights P (or_done done wrote)
   does-or_done done (Ok count) = does-give count
-  does-or_done zero (Err e) = does-stop e
+  does-or_done zero (Err e) = does-fail e
   does-or_done (suc done) (Err e) = does-give 0
 
   does-write_piece : (pid : ℕ) (call : Call) → CanCall rights P pid call → Concerns rights.subject None call → Does rights P (write_piece pid call)

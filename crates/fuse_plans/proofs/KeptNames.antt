@@ -19,20 +19,20 @@ use Rattle.fs_model.specs.declared.reply.Status.{Status}
 use Rattle.fuse_protocol.specs.declared.operation.Operation.{Operation}
 use Rattle.fuse_protocol.specs.declared.operation.Operation.TheVariants.{Lookup, Forget, GetAttr, SetAttr, ReadLink, SymLink, MkNod, MkDir, Unlink, RmDir, Rename, Link, Open, Read, Write, StatFs, Release, FSync, SetXAttr, GetXAttr, ListXAttr, RemoveXAttr, Init, OpenDir, ReadDir, ReleaseDir, FSyncDir, Access, Create, Interrupt, Destroy, BatchForget, SyncFs, Unknown}
 use Rattle.fuse_protocol.specs.declared.reply.Time.{Time}
-use Rattle.fuse_state.specs.Servers.{Server, number_of}
+use Rattle.fuse_state.specs.Servers.{Server, number_of_node}
 use Rattle.fuse_plans.specs.declared.mode.Mode.{Mode}
 use Rattle.fuse_plans.specs.declared.request.Asked.{Asked}
 use Rattle.fuse_plans.specs.declared.reply.ReplyBody.{ReplyBody}
 use Rattle.fuse_plans.specs.declared.reply.ReplyBody.TheVariants.{Absent}
 use Rattle.fuse_plans.specs.declared.reply.Response.{Response}
 use Rattle.fuse_plans.specs.declared.reply.Response.TheVariants.{Silence, Says, Fails}
-use Rattle.fuse_plans.specs.declared.stop.Stop.{Stop}
-use Rattle.fuse_plans.specs.declared.stop.Stop.TheVariants.{Refuses, Lacks}
-use Rattle.fuse_plans.specs.declared.stop.OtherErrno.TheVariants.{ENFILE, ERANGE, ENOSYS, ENODATA, EPROTO, EOPNOTSUPP, ESTALE}
-use Rattle.fuse_plans.specs.Stops.{failed, is_for}
+use Rattle.fuse_plans.specs.declared.request_error.RequestError.{RequestError}
+use Rattle.fuse_plans.specs.declared.request_error.RequestError.TheVariants.{Refuses, Lacks}
+use Rattle.fuse_plans.specs.declared.request_error.OtherErrno.TheVariants.{ENFILE, ERANGE, ENOSYS, ENODATA, EPROTO, EOPNOTSUPP, ESTALE}
+use Rattle.fuse_plans.specs.RequestErrors.{failed, is_for}
 use Rattle.fuse_plans.specs.Plans.{Plan, Finish, Ask, followed_by, IsRunOf, IsAsked, at_once, later}
-use Rattle.fuse_plans.specs.Works.{Work, give, stop, kept, goes_on, ◌>>=◌, ◌>>◌, attempt, needed, ask, give_unless, refusal_in, unless_refused, unexpected, status_of_reply, replied_status}
-use Rattle.fuse_plans.specs.Callers.{caller, caller_with_room, the_looker, between, look_inside, the_number, is_known_directory, directory_number, standing_directory, has_place}
+use Rattle.fuse_plans.specs.Works.{Work, give, fail, kept, goes_on, ◌>>=◌, ◌>>◌, attempt, needed, ask, give_unless, refusal_in, unless_refused, unexpected, status_of_reply, replied_status}
+use Rattle.fuse_plans.specs.Callers.{caller, caller_with_room, the_server_process, between, look_inside, the_number, is_known_directory, directory_number, standing_directory, has_place}
 use Rattle.fuse_plans.specs.Flags.{mode_in, making}
 use Rattle.fuse_plans.specs.Masks.{list_hides}
 use Rattle.fuse_plans.specs.Times.{tell_time}
@@ -49,7 +49,7 @@ use Rattle.fuse_plans.specs.Laws.{names_an_object, IsDoneBy}
 use Rattle.fuse_plans.specs.KeepingLaws.{name_valid_in, MayKeepName, is_looked_up, is_new, NamesAreKeptWhereJudged, IsMissing, OnlyMissingNamesAreAbsent}
 use Rattle.fuse_plans.proofs.PlanLaws.{run-followed_by, run-parts}
 use Rattle.fuse_plans.proofs.AllEnds.{AllEnd, all-weaker, all-followed_by, all-run}
-use Rattle.fuse_plans.proofs.OpenedObjects.{EndsWell, finished, ok_is, stops_not_well, run-told, was_told, before}
+use Rattle.fuse_plans.proofs.OpenedObjects.{EndsWell, finished, ok_is, fails_not_well, run-told, was_told, before}
 
 -- ---- what is told
 
@@ -57,7 +57,7 @@ abbrev is_absent : ReplyBody → Bool
 is_absent (Absent valid) = true
 is_absent _ = false
 
-abbrev EndsSo : (ReplyBody → Type 0) → Result ReplyBody Stop × Server → Type 0
+abbrev EndsSo : (ReplyBody → Type 0) → Result ReplyBody RequestError × Server → Type 0
 EndsSo P (Ok body, t) = P body
 EndsSo P (Err e, t) = Unit {0}
 
@@ -74,7 +74,7 @@ module _ {P : ReplyBody → Type 0} where
   unfolding ◌>>=◌
   so-then {X} w f rest = record { at = λ s. all-followed_by (λ r. Unit {0}) (EndsSo P) (w s) (goes_on f) (all-anyhow (w s)) after }
     where
-      after : (r : Result X Stop × Server) → Unit {0} → AllEnd (EndsSo P) (goes_on f r)
+      after : (r : Result X RequestError × Server) → Unit {0} → AllEnd (EndsSo P) (goes_on f r)
       after (Ok x, t) any = (rest x).at t
       after (Err e, t) any = tt
 
@@ -89,9 +89,9 @@ module _ {P : ReplyBody → Type 0} where
   unfolding kept
   so-kept f is = record { at = λ s. is s }
 
-  so-stop : (e : Stop) → TellsSo P (stop e)
-  unfolding stop
-  so-stop e = record { at = λ s. tt }
+  so-fail : (e : RequestError) → TellsSo P (fail e)
+  unfolding fail
+  so-fail e = record { at = λ s. tt }
 
   so-if : (b : Bool) (w v : Work ReplyBody) → TellsSo P w → TellsSo P v → TellsSo P (if b then w else v)
   so-if true w v first second = first
@@ -100,7 +100,7 @@ module _ {P : ReplyBody → Type 0} where
 so-weaker : {P Q : ReplyBody → Type 0} {w : Work ReplyBody} → ((body : ReplyBody) → P body → Q body) → TellsSo P w → TellsSo Q w
 so-weaker {P} {Q} {w} weaker so = record { at = λ s. all-weaker (EndsSo P) (EndsSo Q) (w s) (so.at s) ends }
   where
-    ends : (r : Result ReplyBody Stop × Server) → EndsSo P r → EndsSo Q r
+    ends : (r : Result ReplyBody RequestError × Server) → EndsSo P r → EndsSo Q r
     ends (Ok body, t) is = weaker body is
     ends (Err e, t) any = tt
 
@@ -164,10 +164,10 @@ abbrev IfTellsNone : Task → Type 0
 IfTellsNone task = IfTellsSo (IsFor 0) task
 
 for-sized : (size has : ℕ) (body : ReplyBody) → IsFor 0 body → TellsFor 0 (sized size has body)
-for-sized size has body is = so-if _ _ _ (so-give _ (refl, refl)) (so-if _ _ _ (so-stop _) (so-give body is))
+for-sized size has body is = so-if _ _ _ (so-give _ (refl, refl)) (so-if _ _ _ (so-fail _) (so-give body is))
 
 for-take_directory_if : (uid n : ℕ) (may : Bool) → TellsFor 0 (take_directory_if uid n may)
-for-take_directory_if uid n false = so-stop _
+for-take_directory_if uid n false = so-fail _
 for-take_directory_if uid n true = so-after _ (λ handle. so-after _ (λ opened. so-kept _ (λ s. (refl, refl))))
 
 for-take_directory : (uid n : ℕ) → TellsFor 0 (take_directory uid n)
@@ -197,8 +197,8 @@ for-count_space = so-after _ (λ reply. so-after _ (λ free. so-kept _ (λ s. (r
 for-begin : (offer : _) → TellsFor 0 (begin offer)
 unfolding begin
 for-begin offer =
-    so-if _ _ _ (so-stop _) (so-if _ _ _ (so-give _ (refl, refl))
-    (so-after _ (λ looker. so-after _ (λ begun. so-after _ (λ agreed. so-kept _ (λ s. (refl, refl)))))))
+    so-if _ _ _ (so-fail _) (so-if _ _ _ (so-give _ (refl, refl))
+    (so-after _ (λ server_process. so-after _ (λ begun. so-after _ (λ agreed. so-kept _ (λ s. (refl, refl)))))))
 
 for-set_acl : (r : Asked) (which : _) (acl : Option AccessList) → TellsFor 0 (set_acl r which acl)
 for-set_acl r which acl =
@@ -246,12 +246,12 @@ plain-plan r value Interrupt is = tt
 plain-plan r value Destroy is = for-end
 plain-plan r value (BatchForget batch) is = tt
 plain-plan r value SyncFs is = for-sync_all
-plain-plan r value Unknown is = so-stop _
+plain-plan r value Unknown is = so-fail _
 
 -- ---- work that asks nothing
 
 -- it changes nothing, and F holds of its value
-abbrev OnceAt : {X : Type 0} → (X → Type 0) → Server → Plan (Result X Stop × Server) → Type 0
+abbrev OnceAt : {X : Type 0} → (X → Type 0) → Server → Plan (Result X RequestError × Server) → Type 0
 OnceAt F s (Finish (Ok x, t)) = F x × (t ≡ s)
 OnceAt F s (Finish (Err e, t)) = t ≡ s
 OnceAt F s (Ask e next) = ⊥
@@ -261,21 +261,21 @@ record GivenOnce {X Y : Type 0} (F : X → Type 0) (f : X → Work Y) (s t : Ser
   holds : F value
   runs : EndsWell (f value s) es replies y t
 
-once-given : {X Y : Type 0} (F : X → Type 0) (p : Plan (Result X Stop × Server)) (f : X → Work Y) (s t : Server) (es : List Event) (replies : List Reply) (y : Y)
+once-given : {X Y : Type 0} (F : X → Type 0) (p : Plan (Result X RequestError × Server)) (f : X → Work Y) (s t : Server) (es : List Event) (replies : List Reply) (y : Y)
     → OnceAt F s p → EndsWell (followed_by p (goes_on f)) es replies y t → GivenOnce F f s t es replies y
 once-given F (Finish (Ok x, u)) f s t es replies y once runs =
     record { value = x; holds = once.0; runs = subst (λ v. EndsWell (f x v) es replies y t) once.1 runs }
-once-given F (Finish (Err e, u)) f s t es replies y once runs = absurd (stops_not_well e y u t es replies runs)
+once-given F (Finish (Err e, u)) f s t es replies y once runs = absurd (fails_not_well e y u t es replies runs)
 once-given F (Ask e next) f s t es replies y once runs = elim once [ ]
 
-once-then : {X Y : Type 0} (F : X → Type 0) (G : Y → Type 0) (p : Plan (Result X Stop × Server)) (f : X → Work Y) (s : Server) → OnceAt F s p
+once-then : {X Y : Type 0} (F : X → Type 0) (G : Y → Type 0) (p : Plan (Result X RequestError × Server)) (f : X → Work Y) (s : Server) → OnceAt F s p
     → ((x : X) → F x → OnceAt G s (f x s)) → OnceAt G s (followed_by p (goes_on f))
 once-then F G (Finish (Ok x, u)) f s once rest = subst (λ v. OnceAt G s (f x v)) (sym once.1) (rest x once.0)
 once-then F G (Finish (Err e, u)) f s once rest = once
 once-then F G (Ask e next) f s once rest = elim once [ ]
 
-once-tried : {X Y : Type 0} (F : X → Type 0) (G : Y → Type 0) (p : Plan (Result X Stop × Server)) (f : Result X Stop → Work Y) (s : Server) → OnceAt F s p
-    → ((x : X) → F x → OnceAt G s (f (Ok x) s)) → ((e : Stop) → OnceAt G s (f (Err e) s))
+once-tried : {X Y : Type 0} (F : X → Type 0) (G : Y → Type 0) (p : Plan (Result X RequestError × Server)) (f : Result X RequestError → Work Y) (s : Server) → OnceAt F s p
+    → ((x : X) → F x → OnceAt G s (f (Ok x) s)) → ((e : RequestError) → OnceAt G s (f (Err e) s))
     → OnceAt G s (followed_by (followed_by p (λ r. Finish (Ok r.0, r.1))) (goes_on f))
 once-tried F G (Finish (Ok x, u)) f s once ok err = subst (λ v. OnceAt G s (f (Ok x) v)) (sym once.1) (ok x once.0)
 once-tried F G (Finish (Err e, u)) f s once ok err = subst (λ v. OnceAt G s (f (Err e) v)) (sym once) (err e)
@@ -284,28 +284,28 @@ once-tried F G (Ask e next) f s once ok err = elim once [ ]
 abbrev Anyhow : {X : Type 0} → X → Type 0
 Anyhow x = Unit {0}
 
-once-needed : {X : Type 0} (e : Stop) (o : Option X) (s : Server) → OnceAt (λ x. o ≡ Some x) s (needed e o s)
-unfolding give stop
+once-needed : {X : Type 0} (e : RequestError) (o : Option X) (s : Server) → OnceAt (λ x. o ≡ Some x) s (needed e o s)
+unfolding give fail
 once-needed e None s = refl
 once-needed e (Some x) s = (refl, refl)
 
 once-plain_name : (name : List ℕ) (s : Server) → OnceAt (Anyhow {X = Unit {0}}) s (plain_name name s)
-unfolding give stop
+unfolding give fail
 once-plain_name name s = choose _
   where
-    choose : (b : Bool) → OnceAt (Anyhow {X = Unit {0}}) s ((if b then stop (failed EINVAL) else give tt) s)
+    choose : (b : Bool) → OnceAt (Anyhow {X = Unit {0}}) s ((if b then fail (failed EINVAL) else give tt) s)
     choose true = refl
     choose false = (tt, refl)
 
 abbrev IsOfNode : ℕ → Server → ℕ → Type 0
-IsOfNode node s n = number_of s node ≡ Some n
+IsOfNode node s n = number_of_node s node ≡ Some n
 
 once-the_number : (node : ℕ) (s : Server) → OnceAt (IsOfNode node s) s (the_number node s)
 unfolding the_number kept ◌>>=◌
-once-the_number node s = once-needed (Lacks ESTALE) (number_of s node) s
+once-the_number node s = once-needed (Lacks ESTALE) (number_of_node s node) s
 
-once-or : (b : Bool) (n : ℕ) (e : Stop) (F : ℕ → Type 0) (s : Server) → F n → OnceAt F s ((if b then give n else stop e) s)
-unfolding give stop
+once-or : (b : Bool) (n : ℕ) (e : RequestError) (F : ℕ → Type 0) (s : Server) → F n → OnceAt F s ((if b then give n else fail e) s)
+unfolding give fail
 once-or true n e F s is = (is, refl)
 once-or false n e F s is = refl
 
@@ -324,8 +324,8 @@ unfolding ◌>>=◌
 once-directory_for node name s =
     once-then (Anyhow {X = Unit {0}}) (IsOfNode node s) (plain_name name s) _ s (once-plain_name name s) (λ plain any. once-standing_directory node s)
 
-once-or_absent : (known : Result ℕ Stop) (s : Server) → OnceAt (Anyhow {X = ℕ}) s (or_absent known s)
-unfolding give stop
+once-or_absent : (known : Result ℕ RequestError) (s : Server) → OnceAt (Anyhow {X = ℕ}) s (or_absent known s)
+unfolding give fail
 once-or_absent (Ok n) s = (tt, refl)
 once-or_absent (Err (Lacks ESTALE)) s = refl
 once-or_absent (Err (Lacks ENFILE)) s = refl
@@ -342,9 +342,9 @@ once-searched_directory node name s =
     once-then (Anyhow {X = Unit {0}}) (Anyhow {X = ℕ}) (plain_name name s) _ s (once-plain_name name s) (λ plain any.
     once-tried (IsOfNode node s) (Anyhow {X = ℕ}) (standing_directory node s) or_absent s (once-standing_directory node s) (λ n is. once-or_absent (Ok n) s) (λ e. once-or_absent (Err e) s))
 
-once-the_looker : (s : Server) → OnceAt (λ pid. s.looker ≡ Some pid) s (the_looker s)
-unfolding the_looker kept ◌>>=◌
-once-the_looker s = once-needed unexpected s.looker s
+once-the_server_process : (s : Server) → OnceAt (λ pid. s.server_process ≡ Some pid) s (the_server_process s)
+unfolding the_server_process kept ◌>>=◌
+once-the_server_process s = once-needed unexpected s.server_process s
 
 -- ---- a new name
 
@@ -357,7 +357,7 @@ positive : (n : ℕ) → 0 < n → n ≡ 0 → ⊥
 positive n lt is = omega (arith, lt, is)
 
 -- what it was said of the list
-said_followed : (names valid : ℕ) (t : Server) (p : Plan (Result Bool Stop × Server)) (es : List Event) (replies : List Reply) → 0 < valid
+said_followed : (names valid : ℕ) (t : Server) (p : Plan (Result Bool RequestError × Server)) (es : List Event) (replies : List Reply) → 0 < valid
     → EndsWell (followed_by (followed_by p (λ r. Finish (Ok r.0, r.1))) (goes_on (λ hides. give (unless_hidden names hides)))) es replies valid t
     → (u : Server) × IsRunOf p es replies (Ok false, u)
 unfolding give
@@ -394,11 +394,11 @@ seen_followed d valid s t es replies lt runs = choose (keeps_names s.settings) r
 
 -- with the first replies the list was seen
 data SeesList (r : Request) (s : Server) : List Event → List Reply → Type 0 where
-  sees : (d : ℕ) (t : Server) (first after : List Event) (replied rest : List Reply) → s.settings.posix_acl ≡ true → number_of s r.node ≡ Some d
+  sees : (d : ℕ) (t : Server) (first after : List Event) (replied rest : List Reply) → s.settings.posix_acl ≡ true → number_of_node s r.node ≡ Some d
       → IsRunOf (list_hides d s) first replied (Ok false, t) → SeesList r s (first ++ after) (replied ++ rest)
 
 new_kept : (r : Request) (d : ℕ) (rest : ℕ → Work ReplyBody) (s t : Server) (es : List Event) (replies : List Reply) (body : ReplyBody)
-    → ((valid : ℕ) → TellsFor valid (rest valid)) → number_of s r.node ≡ Some d → 0 < name_valid_in body
+    → ((valid : ℕ) → TellsFor valid (rest valid)) → number_of_node s r.node ≡ Some d → 0 < name_valid_in body
     → EndsWell ((new_valid d >>= rest) s) es replies body t → SeesList r s es replies
 unfolding ◌>>=◌
 new_kept r d rest s t es replies body tells of_node lt runs =
@@ -407,13 +407,13 @@ new_kept r d rest s t es replies body tells of_node lt runs =
     (subst (λ l. SeesList r s (parts.first_events ++ parts.later_events) l) (sym parts.all_replies)
     (ended parts.middle parts.first_events parts.later_events parts.first_replies parts.later_replies parts.first parts.later))
   where
-    ended : (m : Result ℕ Stop × Server) (first after : List Event) (replied others : List Reply) → IsRunOf (new_valid d s) first replied m
+    ended : (m : Result ℕ RequestError × Server) (first after : List Event) (replied others : List Reply) → IsRunOf (new_valid d s) first replied m
         → EndsWell (goes_on rest m) after others body t → SeesList r s (first ++ after) (replied ++ others)
     ended (Ok valid, u) first after replied others ran goes =
         let is = so-run (rest valid) u t after others body (tells valid) goes in
         let seen = seen_followed d valid s u first replied (subst (λ n. 0 < n) is.0 lt) ran in
         sees d seen.afterwards first after replied others seen.judges of_node seen.runs
-    ended (Err e, u) first after replied others ran goes = absurd (stops_not_well e body u t after others goes)
+    ended (Err e, u) first after replied others ran goes = absurd (fails_not_well e body u t after others goes)
 
 -- in the directory of the node
 in_directory : (r : Request) (name : List ℕ) (rest : ℕ → ℕ → Work ReplyBody) (s t : Server) (es : List Event) (replies : List Reply) (body : ReplyBody)
@@ -436,15 +436,15 @@ create_kept r nobody name flags file_mode umask s t es replies body lt runs =
 
 file_kept : (r : Request) (nobody : Bool) (name : List ℕ) (mode umask : ℕ) (s t : Server) (es : List Event) (replies : List Reply) (body : ReplyBody)
     → 0 < name_valid_in body → EndsWell (make_file (asked_of r nobody) name mode umask s) es replies body t → SeesList r s es replies
-unfolding give stop ◌>>=◌
+unfolding give fail ◌>>=◌
 file_kept r nobody name mode umask s t es replies body lt runs = choose (is_of_file mode) runs
   where
     choose : (b : Bool)
-        → EndsWell (((if b then give {X = Unit {0}} tt else stop (failed EPERM)) >>= (λ _. directory_for r.node name >>= (λ d. new_valid d >>= file_in (asked_of r nobody) name mode umask d))) s) es replies body t
+        → EndsWell (((if b then give {X = Unit {0}} tt else fail (failed EPERM)) >>= (λ _. directory_for r.node name >>= (λ d. new_valid d >>= file_in (asked_of r nobody) name mode umask d))) s) es replies body t
         → SeesList r s es replies
     choose true ran =
         in_directory r name (file_in (asked_of r nobody) name mode umask) s t es replies body (for-file_in (asked_of r nobody) name mode umask) lt ran
-    choose false ran = absurd (stops_not_well (failed EPERM) body s t es replies ran)
+    choose false ran = absurd (fails_not_well (failed EPERM) body s t es replies ran)
 
 abbrev Kept : Request → Server → List Event → List Reply → Type 0
 Kept r s es replies = (s.settings.posix_acl ≡ true) × MayKeepName r s es replies
@@ -469,32 +469,32 @@ told_kept r w s t es replies body sees_list runs =
 
 -- ---- a name that is looked up
 
-unjudged : (d : ℕ) (name : List ℕ) (seen : Result Status Stop) → TellsFor 0 (found_or_absent false d name seen)
+unjudged : (d : ℕ) (name : List ℕ) (seen : Result Status RequestError) → TellsFor 0 (found_or_absent false d name seen)
 unjudged d name (Ok status) = so-after _ (λ stamps. so-after _ (λ noted. so-kept _ (λ s. (refl, refl))))
-unjudged d name (Err e) = so-after _ (λ settings. so-stop e)
+unjudged d name (Err e) = so-after _ (λ settings. so-fail e)
 
 for-unjudged : (r : Asked) (name : List ℕ) → r.needs_nobody ≡ false → TellsFor 0 (find_name r name)
 for-unjudged r name is =
-    subst (λ b. TellsFor 0 (searched_directory r.node name >>= (λ d. (if r.needs_nobody then the_looker else caller r.cred) >>= (λ pid. find_inside b pid d name)))) (sym is)
+    subst (λ b. TellsFor 0 (searched_directory r.node name >>= (λ d. (if r.needs_nobody then the_server_process else caller r.cred) >>= (λ pid. find_inside b pid d name)))) (sym is)
     (so-after _ (λ d. so-after _ (λ pid. so-after _ (unjudged d name))))
 
 there-found : (d : ℕ) (name : List ℕ) (status : Status) → TellsSo IsThere (found_or_absent true d name (Ok status))
 there-found d name status = so-after _ (λ stamps. so-after _ (λ noted. so-kept _ (λ s. refl)))
 
-record SeenAbsent (p : Plan (Result Status Stop × Server)) (es : List Event) (replies : List Reply) : Type 0 where
-  stopped : Stop
+record SeenAbsent (p : Plan (Result Status RequestError × Server)) (es : List Event) (replies : List Reply) : Type 0 where
+  stopped : RequestError
   afterwards : Server
   for_absence : is_for ENOENT stopped ≡ true
   runs : IsRunOf p es replies (Err stopped, afterwards)
 
-seen_absent : (d valid : ℕ) (name : List ℕ) (t : Server) (p : Plan (Result Status Stop × Server)) (es : List Event) (replies : List Reply)
+seen_absent : (d valid : ℕ) (name : List ℕ) (t : Server) (p : Plan (Result Status RequestError × Server)) (es : List Event) (replies : List Reply)
     → EndsWell (followed_by (followed_by p (λ r. Finish (Ok r.0, r.1))) (goes_on (found_or_absent true d name))) es replies (Absent valid) t → SeenAbsent p es replies
-unfolding kept give stop ◌>>=◌
+unfolding kept give fail ◌>>=◌
 seen_absent d valid name t (Finish (Ok status, u)) es replies runs =
     absurd (let no : true ≡ false = so-run (found_or_absent true d name (Ok status)) u t es replies (Absent valid) (there-found d name status) runs in cc)
 seen_absent d valid name t (Finish (Err e, u)) es replies runs = choose (keeps_absent true u.settings e) refl runs
   where
-    choose : (b : Bool) → keeps_absent true u.settings e ≡ b → EndsWell ((if b then give (Absent u.settings.keeping.absent) else stop e) u) es replies (Absent valid) t
+    choose : (b : Bool) → keeps_absent true u.settings e ≡ b → EndsWell ((if b then give (Absent u.settings.keeping.absent) else fail e) u) es replies (Absent valid) t
         → SeenAbsent (Finish (Err e, u)) es replies
     choose true is ran =
         let ends = finished (Ok (Absent u.settings.keeping.absent), u) (Ok (Absent valid), t) es replies ran in
@@ -502,10 +502,10 @@ seen_absent d valid name t (Finish (Err e, u)) es replies runs = choose (keeps_a
           stopped = e;
           afterwards = u;
           for_absence = first_true _ _ is;
-          runs = subst (λ l. IsRunOf {X = Result Status Stop × Server} (Finish (Err e, u)) l replies (Err e, u)) (sym ends.0)
-              (subst (λ l. IsRunOf {X = Result Status Stop × Server} (Finish (Err e, u)) [] l (Err e, u)) (sym ends.1) refl);
+          runs = subst (λ l. IsRunOf {X = Result Status RequestError × Server} (Finish (Err e, u)) l replies (Err e, u)) (sym ends.0)
+              (subst (λ l. IsRunOf {X = Result Status RequestError × Server} (Finish (Err e, u)) [] l (Err e, u)) (sym ends.1) refl);
         }
-    choose false is ran = absurd (stops_not_well e (Absent valid) u t es replies ran)
+    choose false is ran = absurd (fails_not_well e (Absent valid) u t es replies ran)
 seen_absent d valid name t (Ask e next) [] replies runs = elim runs [ ]
 seen_absent d valid name t (Ask e next) (g ∷ es) [] runs = elim runs [ ]
 seen_absent d valid name t (Ask e next) (g ∷ es) (reply ∷ replies) runs =
@@ -525,11 +525,11 @@ refused_reply : (reply : Reply) (r : Refusal) → refusal_in reply ≡ Some r �
 refused_reply (Refused q) r is = ap (λ (o : Option Refusal). Refused (unwrap_or o q)) is
 refused_reply _ r is = absurd (cc)
 
-abbrev stop_in : {X : Type 0} → Result X Stop → Stop
-stop_in (Ok x) = unexpected
-stop_in (Err e) = e
+abbrev error_in : {X : Type 0} → Result X RequestError → RequestError
+error_in (Ok x) = unexpected
+error_in (Err e) = e
 
-refused_at_once : (pid : ℕ) (e : Event) (g : Event) (es : List Event) (reply : Reply) (replies : List Reply) (r : Refusal) (stopped : Stop) → IsDoneBy pid e → g ≡ e
+refused_at_once : (pid : ℕ) (e : Event) (g : Event) (es : List Event) (reply : Reply) (replies : List Reply) (r : Refusal) (stopped : RequestError) → IsDoneBy pid e → g ≡ e
     → refusal_in reply ≡ Some r → stopped ≡ Refuses r → is_for ENOENT stopped ≡ true → RefusedFor pid (g ∷ es) (reply ∷ replies)
 refused_at_once pid e g es reply replies r stopped by same is stops for = record {
   event = e;
@@ -541,26 +541,26 @@ refused_at_once pid e g es reply replies r stopped by same is stops for = record
   for_absence = subst (λ x. is_for ENOENT x ≡ true) stops for;
 }
 
-shown_absent : (reply : Reply) (s t : Server) (es : List Event) (replies : List Reply) (e : Stop) → is_for ENOENT e ≡ true
+shown_absent : (reply : Reply) (s t : Server) (es : List Event) (replies : List Reply) (e : RequestError) → is_for ENOENT e ≡ true
     → IsRunOf (replied_status reply s) es replies (Err e, t) → ⊥
-unfolding give stop
+unfolding give fail
 shown_absent reply s t es replies e for runs = choose (status_of_reply reply) runs
   where
     choose : (o : Option Status) → IsRunOf (needed unexpected o s) es replies (Err e, t) → ⊥
     choose None ran =
         let ends = finished (Err unexpected, s) (Err e, t) es replies ran in
-        let no : false ≡ true = subst (λ x. is_for ENOENT x ≡ true) (ap (λ r. stop_in r.0) ends.2) for in
+        let no : false ≡ true = subst (λ x. is_for ENOENT x ≡ true) (ap (λ r. error_in r.0) ends.2) for in
         absurd (cc)
     choose (Some status) ran =
         let ends = finished (Ok status, s) (Err e, t) es replies ran in
-        absurd (let no : ◌≡◌ {A = Result Status Stop} (Err e) (Ok status) = ap (λ r. r.0) ends.2 in cc)
+        absurd (let no : ◌≡◌ {A = Result Status RequestError} (Err e) (Ok status) = ap (λ r. r.0) ends.2 in cc)
 
 abbrev look_and_back : ℕ → List ℕ → Work Reply
 look_and_back pid name = ask (Calls pid (Lstat name)) >>= (λ reply. ask (Enter pid root root) >>= (λ _. unless_refused reply))
 
-looked_refused : (pid : ℕ) (name : List ℕ) (s t : Server) (es : List Event) (replies : List Reply) (e : Stop) → is_for ENOENT e ≡ true
+looked_refused : (pid : ℕ) (name : List ℕ) (s t : Server) (es : List Event) (replies : List Reply) (e : RequestError) → is_for ENOENT e ≡ true
     → IsRunOf (followed_by (look_and_back pid name s) (goes_on replied_status)) es replies (Err e, t) → RefusedFor pid es replies
-unfolding ask give stop ◌>>=◌
+unfolding ask give fail ◌>>=◌
 looked_refused pid name s t [] replies e for runs = elim runs [ ]
 looked_refused pid name s t (g ∷ es) [] e for runs = elim runs [ ]
 looked_refused pid name s t (g ∷ []) (reply ∷ replies) e for runs = elim runs.1 [ ]
@@ -572,11 +572,11 @@ looked_refused pid name s t (g ∷ h ∷ es) (reply ∷ back ∷ replies) e for 
     choose None is ran = absurd (shown_absent reply s t es replies e for ran)
     choose (Some r) is ran =
         let ends = finished (Err (Refuses r), s) (Err e, t) es replies ran in
-        refused_at_once pid (Calls pid (Lstat name)) g (h ∷ es) reply (back ∷ replies) r e refl runs.0 is (ap (λ q. stop_in q.0) ends.2) for
+        refused_at_once pid (Calls pid (Lstat name)) g (h ∷ es) reply (back ∷ replies) r e refl runs.0 is (ap (λ q. error_in q.0) ends.2) for
 
-look_refused : (pid d : ℕ) (name : List ℕ) (s t : Server) (es : List Event) (replies : List Reply) (e : Stop) → is_for ENOENT e ≡ true
+look_refused : (pid d : ℕ) (name : List ℕ) (s t : Server) (es : List Event) (replies : List Reply) (e : RequestError) → is_for ENOENT e ≡ true
     → IsRunOf (look_inside pid d name s) es replies (Err e, t) → RefusedFor pid es replies
-unfolding look_inside between ask give stop ◌>>=◌
+unfolding look_inside between ask give fail ◌>>=◌
 look_refused pid d name s t [] replies e for runs = elim runs [ ]
 look_refused pid d name s t (g ∷ es) [] e for runs = elim runs [ ]
 look_refused pid d name s t (g ∷ es) (first ∷ replies) e for runs = choose (refusal_in first) refl runs.1
@@ -596,18 +596,18 @@ look_refused pid d name s t (g ∷ es) (first ∷ replies) e for runs = choose (
         }
     choose (Some r) is ran =
         let ends = finished (Err (Refuses r), s) (Err e, t) es replies ran in
-        refused_at_once pid (Enter pid d d) g es first replies r e refl runs.0 is (ap (λ q. stop_in q.0) ends.2) for
+        refused_at_once pid (Enter pid d d) g es first replies r e refl runs.0 is (ap (λ q. error_in q.0) ends.2) for
 
 find_missing : (r : Asked) (name : List ℕ) (s t : Server) (valid : ℕ) (es : List Event) (replies : List Reply) → r.needs_nobody ≡ true
-    → EndsWell (find_name r name s) es replies (Absent valid) t → IsMissing s.looker es replies
+    → EndsWell (find_name r name s) es replies (Absent valid) t → IsMissing s.server_process es replies
 unfolding attempt ◌>>=◌
 find_missing r name s t valid es replies nobody runs =
     let ran =
-    subst (λ b. EndsWell ((searched_directory r.node name >>= (λ d. (if b then the_looker else caller r.cred) >>= (λ pid. find_inside b pid d name))) s) es replies (Absent valid) t)
+    subst (λ b. EndsWell ((searched_directory r.node name >>= (λ d. (if b then the_server_process else caller r.cred) >>= (λ pid. find_inside b pid d name))) s) es replies (Absent valid) t)
     nobody runs in
-    let found = once-given (Anyhow {X = ℕ}) (searched_directory r.node name s) (λ d. the_looker >>= (λ pid. find_inside true pid d name)) s t es replies (Absent valid)
+    let found = once-given (Anyhow {X = ℕ}) (searched_directory r.node name s) (λ d. the_server_process >>= (λ pid. find_inside true pid d name)) s t es replies (Absent valid)
     (once-searched_directory r.node name s) ran in
-    let by = once-given (λ pid. s.looker ≡ Some pid) (the_looker s) (λ pid. find_inside true pid found.value name) s t es replies (Absent valid) (once-the_looker s) found.runs in
+    let by = once-given (λ pid. s.server_process ≡ Some pid) (the_server_process s) (λ pid. find_inside true pid found.value name) s t es replies (Absent valid) (once-the_server_process s) found.runs in
     let seen = seen_absent found.value valid name t (look_inside by.value found.value name s) es replies by.runs in
     let refused = look_refused by.value found.value name s seen.afterwards es replies seen.stopped seen.for_absence seen.runs in
     record {
@@ -705,7 +705,7 @@ module _ (r : Request) (s t : Server) (body : ReplyBody) (lt : 0 < name_valid_in
       → IsRunOf (needs_nobody_in r.node operation s) first replied nobody → Worked (asked_for (asked_of r nobody) r.value operation) s t after rest body
       → Kept r s (first ++ after) (replied ++ rest)
   operation_kept None asks nobody first after replied rest found done =
-      absurd (positive _ lt (told_so (IsFor 0) (Replying (stop (failed EINVAL))) s t after rest body (so-stop _) done).0)
+      absurd (positive _ lt (told_so (IsFor 0) (Replying (fail (failed EINVAL))) s t after rest body (so-fail _) done).0)
   operation_kept (Some operation) asks nobody first after replied rest found done = choose (names_an_object operation) refl
     where
       choose : (b : Bool) → names_an_object operation ≡ b → Kept r s (first ++ after) (replied ++ rest)
@@ -740,9 +740,9 @@ there-named r value (Create name flags mode umask) is other =
     so-weaker (λ body is_for. is_for.1) (for-create_in r name way flags.0 mode umask d valid)))))
 there-named r value _ is other = absurd (cc)
 
-missing_later : (looker : Option ℕ) (p : Plan Bool) (first after : List Event) (replied rest : List Reply) (nobody : Bool) → IsRunOf p first replied nobody
-    → IsMissing looker after rest → IsMissing looker (first ++ after) (replied ++ rest)
-missing_later looker p first after replied rest nobody ran m = record {
+missing_later : (server_process : Option ℕ) (p : Plan Bool) (first after : List Event) (replied rest : List Reply) (nobody : Bool) → IsRunOf p first replied nobody
+    → IsMissing server_process after rest → IsMissing server_process (first ++ after) (replied ++ rest)
+missing_later server_process p first after replied rest nobody ran m = record {
   pid = m.pid;
   own = m.own;
   event = m.event;
@@ -758,24 +758,24 @@ module _ (r : Request) (s t : Server) (valid : ℕ) where
   never is = absurd (let no : true ≡ false = is in cc)
 
   look_up_missing : (name : List ℕ) (nobody : Bool) (after : List Event) (rest : List Reply)
-      → EndsWell (find_name (asked_of r nobody) name s) after rest (Absent valid) t → IsMissing s.looker after rest
+      → EndsWell (find_name (asked_of r nobody) name s) after rest (Absent valid) t → IsMissing s.server_process after rest
   look_up_missing name true after rest ran = find_missing (asked_of r true) name s t valid after rest refl ran
   look_up_missing name false after rest ran =
       absurd (never (so-run (find_name (asked_of r false) name) s t after rest (Absent valid) (for-unjudged (asked_of r false) name refl) ran).1)
 
   named_missing : (operation : Operation) → names_an_object operation ≡ true → (nobody : Bool) (after : List Event) (rest : List Reply)
-      → Worked (told_first (says_change operation) r.now (plan_of (asked_of r nobody) r.value operation)) s t after rest (Absent valid) → IsMissing s.looker after rest
+      → Worked (told_first (says_change operation) r.now (plan_of (asked_of r nobody) r.value operation)) s t after rest (Absent valid) → IsMissing s.server_process after rest
   named_missing (Lookup name) is nobody after rest done = look_up_missing name nobody after rest (work_is _ _ s t after rest (Absent valid) done.is done.runs)
   named_missing operation is nobody after rest done =
       absurd (never (told_so IsThere (told_first (says_change operation) r.now (plan_of (asked_of r nobody) r.value operation)) s t after rest (Absent valid)
       (so-told_first IsThere (says_change operation) r.now (plan_of (asked_of r nobody) r.value operation) (there-named (asked_of r nobody) r.value operation is (λ name same. cc))) done))
 
   operation_missing : (operation : Option Operation) (nobody : Bool) (after : List Event) (rest : List Reply)
-      → Worked (asked_for (asked_of r nobody) r.value operation) s t after rest (Absent valid) → IsMissing s.looker after rest
-  operation_missing None nobody after rest done = absurd (never (told_so (IsFor 0) (Replying (stop (failed EINVAL))) s t after rest (Absent valid) (so-stop _) done).1)
+      → Worked (asked_for (asked_of r nobody) r.value operation) s t after rest (Absent valid) → IsMissing s.server_process after rest
+  operation_missing None nobody after rest done = absurd (never (told_so (IsFor 0) (Replying (fail (failed EINVAL))) s t after rest (Absent valid) (so-fail _) done).1)
   operation_missing (Some operation) nobody after rest done = choose (names_an_object operation) refl
     where
-      choose : (b : Bool) → names_an_object operation ≡ b → IsMissing s.looker after rest
+      choose : (b : Bool) → names_an_object operation ≡ b → IsMissing s.server_process after rest
       choose true is = named_missing operation is nobody after rest done
       choose false is =
           absurd (never (told_so (IsFor 0) _ s t after rest (Absent valid)
@@ -785,8 +785,8 @@ pub only_missing_names_are_absent : OnlyMissingNamesAreAbsent
 unfolding request_plan
 only_missing_names_are_absent r s t valid es replies runs =
     let parts = run-parts (needs_nobody_in r.node r.operation s) (λ nobody. answered_as nobody r s) es replies (Says (Absent valid), t) runs in
-    subst (λ l. IsMissing s.looker l replies) (sym parts.all_events)
-    (subst (λ l. IsMissing s.looker (parts.first_events ++ parts.later_events) l) (sym parts.all_replies)
-    (missing_later s.looker (needs_nobody_in r.node r.operation s) parts.first_events parts.later_events parts.first_replies parts.later_replies parts.middle parts.first
+    subst (λ l. IsMissing s.server_process l replies) (sym parts.all_events)
+    (subst (λ l. IsMissing s.server_process (parts.first_events ++ parts.later_events) l) (sym parts.all_replies)
+    (missing_later s.server_process (needs_nobody_in r.node r.operation s) parts.first_events parts.later_events parts.first_replies parts.later_replies parts.middle parts.first
     (operation_missing r s t valid r.operation parts.middle parts.later_events parts.later_replies
     (worked r.memory _ s t parts.later_events parts.later_replies (Absent valid) parts.later))))

@@ -10,25 +10,25 @@ use Rattle.fs_model.specs.declared.reply.Reply.{Reply}
 use Rattle.fs_model.specs.declared.reply.Stamps.{Stamps}
 use Rattle.fs_model.specs.declared.reply.Status.{Status}
 use Rattle.fuse_plans.specs.Plans.{KeepsTo}
-use Rattle.fuse_plans.specs.declared.stop.Stop.{Stop}
-use Rattle.fuse_plans.specs.declared.stop.Stop.TheVariants.{Refuses, Lacks}
-use Rattle.fuse_plans.specs.declared.stop.OtherErrno.TheVariants.{ENFILE, ERANGE, ENOSYS, ENODATA, EPROTO, EOPNOTSUPP, ESTALE}
-use Rattle.fuse_plans.specs.Stops.{failed}
+use Rattle.fuse_plans.specs.declared.request_error.RequestError.{RequestError}
+use Rattle.fuse_plans.specs.declared.request_error.RequestError.TheVariants.{Refuses, Lacks}
+use Rattle.fuse_plans.specs.declared.request_error.OtherErrno.TheVariants.{ENFILE, ERANGE, ENOSYS, ENODATA, EPROTO, EOPNOTSUPP, ESTALE}
+use Rattle.fuse_plans.specs.RequestErrors.{failed}
 use Rattle.fuse_plans.specs.declared.request.Asked.{Asked}
 use Rattle.fuse_plans.specs.declared.reply.ReplyBody.{ReplyBody}
 use Rattle.fuse_protocol.specs.declared.operation.Operation.TheVariants.{Rename, Link}
 use Rattle.fuse_protocol.specs.declared.reply.Time.{Time}
-use Rattle.fuse_state.specs.declared.place.Place.{Place}
-use Rattle.fuse_state.specs.Servers.{once_more, Server, places_of, named, kind_of, with_generation, with_name, without_name}
-use Rattle.fuse_state.specs.Changes.{is_gone, found, changed_if, removed, named_if, moved_to, moved, linked}
+use Rattle.fuse_state.specs.declared.dentry.Dentry.{Dentry}
+use Rattle.fuse_state.specs.Servers.{once_more, Server, places_of, number_named, kind_known, with_generation, with_dentry, without_name}
+use Rattle.fuse_state.specs.Changes.{is_gone, with_found, changed_if, removed, named_if, moved_to, moved, linked}
 use Rattle.fuse_state.proofs.StateLaws.{all_places_then}
 use Rattle.fuse_plans.specs.Acts.{Subject, given_name, node_of_object, IsGivenName, IsNewName, is_new, IsStandingDirectory, IsObject, IsKnownPlace, IsOfRequest, is_given, is_new_name, named_in, path_changed, ActsWithin, on_one, changes, moves, links, without_path}
 use Rattle.fuse_plans.specs.Conduct.{Known, Rights, conduct, Fits, stays}
-use Rattle.fuse_plans.specs.Works.{give, stop, kept, keep, ◌>>=◌, ◌>>◌}
-use Rattle.fuse_plans.specs.Callers.{caller, the_looker, by_places}
-use Rattle.fuse_plans.specs.NamePlans.{place, plain_name, directory_for, tell_entry, found_or_absent, or_absent, new_valid, searched_directory, find_inside, find_name, made, directory_and_caller, make_link, make_directory, open_and_close, make_file, remove, none_there, may_move, rename, move_name, link_by_place, add_link}
-use Rattle.fuse_plans.proofs.Conducts.{Any, Still, SameOwn, LeftTo, Does, Lasts, DoesTo, Gives, does-give, does-stop, does-kept, does-keep, does-told_stamps, does->>=, does-attempt, does-lasts, lasts->>=, ends->>=, keep-lasts, then-lasts, then-does_to, does-does_to, attempt-does_to, gives-give}
-use Rattle.fuse_plans.proofs.Calls.{AsksOf, CanCall, ActsAt, does-obtain, does-between, does-done_between, does-by_places, known-places, does-look_inside, lasts-with_looker, looks, does-look, is-object, gives-number, gives-standing_directory}
+use Rattle.fuse_plans.specs.Works.{give, fail, kept, keep, ◌>>=◌, ◌>>◌}
+use Rattle.fuse_plans.specs.Callers.{caller, the_server_process, by_places}
+use Rattle.fuse_plans.specs.NamePlans.{dentry, plain_name, directory_for, tell_entry, found_or_absent, or_absent, new_valid, searched_directory, find_inside, find_name, made, directory_and_caller, make_link, make_directory, open_and_close, make_file, remove, none_there, may_move, rename, move_name, link_by_place, add_link}
+use Rattle.fuse_plans.proofs.Conducts.{Any, Still, SameOwn, LeftTo, Does, Lasts, DoesTo, Gives, does-give, does-fail, does-kept, does-keep, does-told_stamps, does->>=, does-attempt, does-lasts, lasts->>=, ends->>=, keep-lasts, then-lasts, then-does_to, does-does_to, attempt-does_to, gives-give}
+use Rattle.fuse_plans.proofs.Calls.{AsksOf, CanCall, ActsAt, does-obtain, does-between, does-done_between, does-by_places, known-places, does-look_inside, lasts-with_server_process, looks, does-look, is-object, gives-number, gives-standing_directory}
 use Rattle.fuse_plans.proofs.MaskConducts.{does-new_valid_of}
 use Rattle.fuse_plans.proofs.Chosen.{OfCaller, about-caller, gives-with, does-caller, does-caller_with_room}
 use Rattle.fuse_state.proofs.Holders.{holding_of}
@@ -36,10 +36,10 @@ use Rattle.fuse_plans.proofs.Forms.{caller-can, does-if, does-replied_fd, ends-k
 
 -- ---- what the server keeps
 
-pub found-same : (p : Place) (n : ℕ) (kind : FileType) → SameOwn (found p n kind)
+pub found-same : (p : Dentry) (n : ℕ) (kind : FileType) → SameOwn (with_found p n kind)
 found-same p n kind s = go (is_gone s n)
   where
-    go : (b : Bool) → let t : Server = with_name p n kind (if b then with_generation n s else s) in (holding_of t ≡ holding_of s) × (t.looker ≡ s.looker)
+    go : (b : Bool) → let t : Server = with_dentry p n kind (if b then with_generation n s else s) in (holding_of t ≡ holding_of s) × (t.server_process ≡ s.server_process)
     go true = (refl, refl)
     go false = (refl, refl)
 
@@ -47,42 +47,42 @@ changed_if-same : (now : Time) (o : Option ℕ) → SameOwn (changed_if now o)
 changed_if-same now None s = (refl, refl)
 changed_if-same now (Some n) s = (refl, refl)
 
-removed-same : (now : Time) (p : Place) → SameOwn (removed now p)
-removed-same now p s = changed_if-same now (named s p) (without_name p s)
+removed-same : (now : Time) (p : Dentry) → SameOwn (removed now p)
+removed-same now p s = changed_if-same now (number_named s p) (without_name p s)
 
-named_if-same : (p : Place) (n : ℕ) (kind : Option FileType) → SameOwn (named_if p n kind)
+named_if-same : (p : Dentry) (n : ℕ) (kind : Option FileType) → SameOwn (named_if p n kind)
 named_if-same p n None s = (refl, refl)
 named_if-same p n (Some kind) s = (refl, refl)
 
-moved_to-same : (now : Time) (new : Place) (o : Option ℕ) → SameOwn (moved_to now new o)
+moved_to-same : (now : Time) (new : Dentry) (o : Option ℕ) → SameOwn (moved_to now new o)
 moved_to-same now new None s = (refl, refl)
-moved_to-same now new (Some n) s = named_if-same new n (kind_of s n) s
+moved_to-same now new (Some n) s = named_if-same new n (kind_known s n) s
 
-moved-same : (now : Time) (old new : Place) → SameOwn (moved now old new)
+moved-same : (now : Time) (old new : Dentry) → SameOwn (moved now old new)
 moved-same now old new s =
-    let replaced = changed_if now (named s new) (without_name new s) in
-    let first = changed_if-same now (named s new) (without_name new s) in
-    let second = moved_to-same now new (named replaced old) (without_name old replaced) in
+    let replaced = changed_if now (number_named s new) (without_name new s) in
+    let first = changed_if-same now (number_named s new) (without_name new s) in
+    let second = moved_to-same now new (number_named replaced old) (without_name old replaced) in
     (second.0 ∙ first.0, second.1 ∙ first.1)
 
-linked-same : (now : Time) (p : Place) (n : ℕ) (kind : Option FileType) → SameOwn (linked now p n kind)
+linked-same : (now : Time) (p : Dentry) (n : ℕ) (kind : Option FileType) → SameOwn (linked now p n kind)
 linked-same now p n kind s = named_if-same p n kind s
 
 module _ {rights : Rights} {P : Server → Type 0} where
   pub does-plain_name : (name : List ℕ) → Does rights P (plain_name name)
-  does-plain_name name = does-if _ _ _ (does-stop _) (does-give tt)
+  does-plain_name name = does-if _ _ _ (does-fail _) (does-give tt)
 
   does-tell_entry : (name_valid : ℕ) (status : Status) (stamps : Option Stamps) → Does rights P (tell_entry name_valid status stamps)
   does-tell_entry name_valid status stamps = does-kept _
 
-  -- what was found, made or opened is told, and no more is asked
+  -- what was with_found, made or opened is told, and no more is asked
   tells-entry : (f : Server → Server) → SameOwn f → (body : Server → ReplyBody) → Lasts rights P (keep f >> kept body)
   tells-entry f same body = ends->>= (ends-keep f same) (λ done. does-kept _)
 
-  lasts-found_or_absent : (nobody : Bool) (d : ℕ) (name : List ℕ) (seen : Result Status Stop) → Lasts rights P (found_or_absent nobody d name seen)
+  lasts-found_or_absent : (nobody : Bool) (d : ℕ) (name : List ℕ) (seen : Result Status RequestError) → Lasts rights P (found_or_absent nobody d name seen)
   lasts-found_or_absent nobody d name (Ok status) =
-      lasts->>= (does-told_stamps _) (λ stamps. tells-entry _ (found-same (place d name) status.inode status.kind) _)
-  lasts-found_or_absent nobody d name (Err e) = does-lasts (does->>= (does-kept _) (λ settings. does-if _ _ _ (does-give _) (does-stop _)))
+      lasts->>= (does-told_stamps _) (λ stamps. tells-entry _ (found-same (dentry d name) status.inode status.kind) _)
+  lasts-found_or_absent nobody d name (Err e) = does-lasts (does->>= (does-kept _) (λ settings. does-if _ _ _ (does-give _) (does-fail _)))
 
   pub lasts-find_inside : (nobody : Bool) (pid d : ℕ) (name : List ℕ) → CanCall rights P pid (Lstat name) → IsOfRequest rights.subject (named_in d name)
       → Lasts rights P (find_inside nobody pid d name)
@@ -91,8 +91,8 @@ module _ {rights : Rights} {P : Server → Type 0} where
   pub lasts-made : (now : Time) (name_valid d : ℕ) (name : List ℕ) → IsOfRequest rights.subject (named_in d name) → Lasts rights P (made now name_valid d name)
   unfolding made
   lasts-made now name_valid d name is =
-      lasts-with_looker (λ pid looker.
-      lasts->>= (does-look_inside pid d name (looks pid looker (Lstat name) refl) is) (λ status.
+      lasts-with_server_process (λ pid server_process.
+      lasts->>= (does-look_inside pid d name (looks pid server_process (Lstat name) refl) is) (λ status.
       lasts->>= (does-told_stamps _) (λ stamps. tells-entry _ (λ s. (refl, refl)) _)))
 
   does-open_and_close : (pid d : ℕ) (call : Call) → ((any : Call) → IsTrue (stays any) → CanCall rights P pid any) → IsTrue (stays call) → ActsWithin rights.subject d d call
@@ -104,14 +104,14 @@ module _ {rights : Rights} {P : Server → Type 0} where
 
   does-may_move : (name new_name : List ℕ) (flags : ℕ) → Does rights P (may_move name new_name flags)
   does-may_move name new_name flags =
-      does->>= (does-if _ _ _ (does-stop _) (does-give tt)) (λ known.
+      does->>= (does-if _ _ _ (does-fail _) (does-give tt)) (λ known.
       does->>= (does-plain_name name) (λ plain. does-plain_name new_name))
 
-  does-none_there : (there : Result Reply Stop) → Does rights P (none_there there)
-  does-none_there (Ok reply) = does-stop _
-  does-none_there (Err e) = does-if _ _ _ (does-give tt) (does-stop e)
+  does-none_there : (there : Result Reply RequestError) → Does rights P (none_there there)
+  does-none_there (Ok reply) = does-fail _
+  does-none_there (Err e) = does-if _ _ _ (does-give tt) (does-fail e)
 
-  lasts-rename : (now : Time) (pid : ℕ) (old new : Place) → ((call : Call) → IsTrue (stays call) → CanCall rights P pid call)
+  lasts-rename : (now : Time) (pid : ℕ) (old new : Dentry) → ((call : Call) → IsTrue (stays call) → CanCall rights P pid call)
       → IsGivenName rights.subject old → IsNewName rights.subject new → Lasts rights P (rename now pid old new)
   lasts-rename now pid old new can given renamed =
       lasts->>= (does-done_between pid _ _ _ (can _ refl) (moves old.name new.name refl given renamed)) (λ done.
@@ -134,9 +134,9 @@ new-in rights name new_node new_name flags asks d stands = is_new name new_node 
 
 module _ {rights : Rights} (r : Asked) (node : rights.subject.node ≡ r.node) where
   -- a directory that was removed has no names
-  stays-absent : (F : ℕ → Type 0) (e : Stop) (known : Known) (s : Server) → Fits rights Any known s
+  stays-absent : (F : ℕ → Type 0) (e : RequestError) (known : Known) (s : Server) → Fits rights Any known s
       → KeepsTo (conduct rights) (LeftTo rights (λ n. Still rights) F) known (or_absent (Err e) s)
-  unfolding stop
+  unfolding fail
   stays-absent F (Lacks ESTALE) known s fits = fits
   stays-absent F (Lacks ENFILE) known s fits = fits
   stays-absent F (Lacks ERANGE) known s fits = fits
@@ -160,9 +160,9 @@ Leads rights n s = All (IsOfRequest rights.subject) (places_of s n)
 
 module _ {rights : Rights} (r : Asked) (is : rights.cred ≡ r.cred) (node : rights.subject.node ≡ r.node) where
   lasts-search : (judged nobody : Bool) (d : ℕ) (name : List ℕ) → IsNameIn rights.subject name d
-      → Lasts rights (Still rights) ((if nobody then the_looker else caller r.cred) >>= (λ pid. find_inside judged pid d name))
+      → Lasts rights (Still rights) ((if nobody then the_server_process else caller r.cred) >>= (λ pid. find_inside judged pid d name))
   lasts-search judged true d name in_it =
-      lasts-with_looker (λ pid looker. lasts-find_inside judged pid d name (looks pid looker (Lstat name) refl) (is_given in_it))
+      lasts-with_server_process (λ pid server_process. lasts-find_inside judged pid d name (looks pid server_process (Lstat name) refl) (is_given in_it))
   lasts-search judged false d name in_it =
       then-lasts (does-caller _ is) (λ pid more. lasts-find_inside judged pid d name (caller-can pid _ refl) (is_given in_it))
 
@@ -200,7 +200,7 @@ module _ {rights : Rights} (r : Asked) (is : rights.cred ≡ r.cred) (node : rig
   pub lasts-make_file : AsksOf rights r.node → (name : List ℕ) (mode umask : ℕ) → given_name rights.subject.operation ≡ Some name
       → Lasts rights (Still rights) (make_file r name mode umask)
   lasts-make_file asks name mode umask given =
-      lasts->>= (does-if _ _ _ (does-give tt) (does-stop _)) (λ file.
+      lasts->>= (does-if _ _ _ (does-give tt) (does-fail _)) (λ file.
       then-lasts (gives-directory_for r node name given) (λ d in_it.
       lasts->>= (does-new_valid_in asks name d in_it) (λ name_valid.
       then-lasts (does-caller_with_room _ is) (λ pid more.

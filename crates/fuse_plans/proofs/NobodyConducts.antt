@@ -90,7 +90,7 @@ decided_at_once {M} {Serves} node operation s m other =
     subst (λ p. CarriesOut Serves p m m (not (needs_caller operation))) (sym (at_once node operation s (is_lookup_alone operation other)))
     (finishes (not (needs_caller operation)) m)
 
-module _ (rights : Rights) (node : ℕ) (same : rights.subject.node ≡ node) (s : Server) (start : rights.subject.start ≡ s) (own : rights.looker ≡ s.looker) where
+module _ (rights : Rights) (node : ℕ) (same : rights.subject.node ≡ node) (s : Server) (start : rights.subject.start ≡ s) (own : rights.server_process ≡ s.server_process) where
   lasts-is_masked : AsksOf rights node → Lasts rights (Still rights) (is_masked node)
   unfolding is_masked
   lasts-is_masked asks =
@@ -104,7 +104,7 @@ module _ (rights : Rights) (node : ℕ) (same : rights.subject.node ≡ node) (s
   keeps-is_judged asks true =
       keeps-followed_by (conduct rights) (λ known r. Left rights Any known r × (r.1 ≡ s)) (AtHome s) (is_masked node s) (λ r. Finish (unless_masked r.0)) (known_in s)
       (keeps-both (conduct rights) (Left rights Any) (λ r. r.1 ≡ s) (is_masked node s) (known_in s)
-      ((lasts-is_masked asks).goes (known_in s) s (record { home = refl; processes = refl; looker = sym own; shares = λ within. subst WithinShares start within; holds = begins_still })) ((stays-is_masked node).at s))
+      ((lasts-is_masked asks).goes (known_in s) s (record { home = refl; processes = refl; server_process = sym own; shares = λ within. subst WithinShares start within; holds = begins_still })) ((stays-is_masked node).at s))
       (λ known r left. record { home = left.0.home; processes = left.0.processes ∙ ap (λ t. t.processes) left.1 })
 
   keeps-needs_nobody : (operation : Operation) → rights.subject.operation ≡ Some operation → (b : Bool) → is_lookup operation ≡ b

@@ -20,12 +20,12 @@ use Rattle.fs_model.specs.declared.reply.Reply.TheVariants.{Done, Pid, Fd, Data,
 use Rattle.fs_model.specs.declared.reply.Status.{Status}
 use Rattle.fs_model.specs.Limits.{descriptors_limit, processes_limit}
 use Rattle.fuse_protocol.specs.declared.reply.Time.{Time}
-use Rattle.fuse_state.specs.Servers.{Server, number_of, owner_of, descriptor_of, handle_of, object_of, with_handle}
+use Rattle.fuse_state.specs.Servers.{Server, number_of_node, owner_of, descriptor_of, handle_of, object_of, with_handle}
 use Rattle.fuse_state.proofs.StateLaws.{handles_tell}
-use Rattle.fuse_plans.specs.declared.stop.Stop.{Stop}
-use Rattle.fuse_plans.specs.declared.stop.Stop.TheVariants.{Lacks}
-use Rattle.fuse_plans.specs.declared.stop.OtherErrno.TheVariants.{ESTALE}
-use Rattle.fuse_plans.specs.Stops.{failed}
+use Rattle.fuse_plans.specs.declared.request_error.RequestError.{RequestError}
+use Rattle.fuse_plans.specs.declared.request_error.RequestError.TheVariants.{Lacks}
+use Rattle.fuse_plans.specs.declared.request_error.OtherErrno.TheVariants.{ESTALE}
+use Rattle.fuse_plans.specs.RequestErrors.{failed}
 use Rattle.fuse_protocol.specs.declared.flags.OpenedFlags.{OpenedFlags}
 use Rattle.fuse_plans.specs.declared.mode.Mode.{Mode}
 use Rattle.fuse_plans.specs.declared.request.Asked.{Asked}
@@ -34,7 +34,7 @@ use Rattle.fuse_plans.specs.declared.reply.ReplyBody.TheVariants.{Opened}
 use Rattle.fuse_plans.specs.declared.reply.Response.{Response}
 use Rattle.fuse_plans.specs.declared.reply.Response.TheVariants.{Says, Fails}
 use Rattle.fuse_plans.specs.Plans.{Plan, Finish, Ask, followed_by, IsRunOf, IsAsked, at_once, later}
-use Rattle.fuse_plans.specs.Works.{Work, give, stop, kept, keep, goes_on, ◌>>=◌, ◌>>◌, attempt, needed, ask, unless_refused, obtain, or_closed, handle_within, replied_handle}
+use Rattle.fuse_plans.specs.Works.{Work, give, fail, kept, keep, goes_on, ◌>>=◌, ◌>>◌, attempt, needed, ask, unless_refused, obtain, or_closed, handle_within, replied_handle}
 use Rattle.fuse_plans.specs.Callers.{the_number, caller_with_room}
 use Rattle.fuse_plans.specs.FilePlans.{when, done, touched_if, show_open, confirm_shown, confirm_open, cuts_open, ask_first, open_object, file_flags, opened_body, open_granted, open_file}
 use Rattle.fuse_plans.specs.Flags.{mode_in, is_trunc}
@@ -48,7 +48,7 @@ use Rattle.fuse_plans.proofs.PlanLaws.{run-parts}
 -- ---- what is asked
 
 -- the plan asks these events, and is well done with the value
-abbrev pub EndsWell : {X : Type 0} → Plan (Result X Stop × Server) → List Event → List Reply → X → Server → Type 0
+abbrev pub EndsWell : {X : Type 0} → Plan (Result X RequestError × Server) → List Event → List Reply → X → Server → Type 0
 EndsWell p es replies x t = IsRunOf p es replies (Ok x, t)
 
 -- nothing more
@@ -57,15 +57,15 @@ finished x y [] [] ends = (refl, refl, ends)
 finished x y [] (reply ∷ replies) ends = elim ends [ ]
 finished x y (e ∷ es) replies ends = elim ends [ ]
 
-pub ok_is : {X : Type 0} (x y : X) → ◌≡◌ {A = Result X Stop} (Ok x) (Ok y) → x ≡ y
+pub ok_is : {X : Type 0} (x y : X) → ◌≡◌ {A = Result X RequestError} (Ok x) (Ok y) → x ≡ y
 ok_is {X} x y is = ap value is
   where
-    value : Result X Stop → X
+    value : Result X RequestError → X
     value (Ok z) = z
     value (Err e) = x
 
-pub stops_not_well : {X : Type 0} (e : Stop) (x : X) (s t : Server) (es : List Event) (replies : List Reply) → EndsWell (Finish (Err e, s)) es replies x t → ⊥
-stops_not_well e x s t es replies runs =
+pub fails_not_well : {X : Type 0} (e : RequestError) (x : X) (s t : Server) (es : List Event) (replies : List Reply) → EndsWell (Finish (Err e, s)) es replies x t → ⊥
+fails_not_well e x s t es replies runs =
     let ends = finished (Err e, s) (Ok x, t) es replies runs in
     let no : Ok x ≡ Err e = ap (λ r. r.0) ends.2 in cc
 
@@ -95,13 +95,13 @@ run->>= {X} {Y} G grows w f s t es replies y runs goes =
     let parts = run-parts (w s) (goes_on f) es replies (Ok y, t) runs in
     subst (λ l. G l replies) (sym parts.all_events)
     (subst (λ l. G (parts.first_events ++ parts.later_events) l) (sym parts.all_replies)
-    (grows (Result X Stop × Server) (w s) parts.first_events parts.later_events parts.first_replies parts.later_replies parts.middle parts.first
+    (grows (Result X RequestError × Server) (w s) parts.first_events parts.later_events parts.first_replies parts.later_replies parts.middle parts.first
     (ended parts.middle parts.first_events parts.later_events parts.first_replies parts.later_replies parts.first parts.later)))
   where
-    ended : (m : Result X Stop × Server) (first after : List Event) (replied rest : List Reply) → IsRunOf (w s) first replied m
+    ended : (m : Result X RequestError × Server) (first after : List Event) (replied rest : List Reply) → IsRunOf (w s) first replied m
         → EndsWell (goes_on f m) after rest y t → G after rest
     ended (Ok x, u) first after replied rest ran go = goes x u first replied after rest ran go
-    ended (Err e, u) first after replied rest ran go = absurd (stops_not_well e y u t after rest go)
+    ended (Err e, u) first after replied rest ran go = absurd (fails_not_well e y u t after rest go)
 
 -- It is told the time, or not; and the rest goes on from what the server kept.
 pub run-told : {X : Type 0} (G : List Event → List Reply → Type 0) (now : Time) (w : Work X) (s t : Server) (es : List Event) (replies : List Reply) (x : X)
@@ -121,22 +121,22 @@ run-told {X} G now w s t es replies x runs goes = choose s.settings.keeps_times 
     choose true (e ∷ fs) [] ran rest = elim ran [ ]
     choose true (e ∷ fs) (reply ∷ others) ran rest = rest (e ∷ []) (reply ∷ []) fs others (ran.0, refl) ran.1
 
-needed_is : {X : Type 0} (e : Stop) (o : Option X) (x : X) (s t : Server) (es : List Event) (replies : List Reply) → EndsWell (needed e o s) es replies x t
+needed_is : {X : Type 0} (e : RequestError) (o : Option X) (x : X) (s t : Server) (es : List Event) (replies : List Reply) → EndsWell (needed e o s) es replies x t
     → o ≡ Some x
-unfolding give stop
-needed_is e None x s t es replies runs = absurd (stops_not_well e x s t es replies runs)
+unfolding give fail
+needed_is e None x s t es replies runs = absurd (fails_not_well e x s t es replies runs)
 needed_is e (Some z) x s t es replies runs =
     let ends = finished (Ok z, s) (Ok x, t) es replies runs in
     ap Some (sym (ok_is x z (ap (λ r. r.0) ends.2)))
 
 -- ---- what is compared
 
-closed_not_well : {X : Type 0} (pid fd : ℕ) (e : Stop) (x : X) (s t : Server) (es : List Event) (replies : List Reply)
+closed_not_well : {X : Type 0} (pid fd : ℕ) (e : RequestError) (x : X) (s t : Server) (es : List Event) (replies : List Reply)
     → EndsWell (or_closed pid fd (Err e) s) es replies x t → ⊥
-unfolding ask stop ◌>>=◌
+unfolding ask fail ◌>>=◌
 closed_not_well pid fd e x s t [] replies runs = elim runs [ ]
 closed_not_well pid fd e x s t (f ∷ es) [] runs = elim runs [ ]
-closed_not_well pid fd e x s t (f ∷ es) (reply ∷ replies) runs = stops_not_well e x s t es replies runs.1
+closed_not_well pid fd e x s t (f ∷ es) (reply ∷ replies) runs = fails_not_well e x s t es replies runs.1
 
 abbrev cut : ℕ → ℕ → Event
 cut pid fd = Calls pid (Ftruncate fd 0)
@@ -149,7 +149,7 @@ record Emptied (pid fd : ℕ) (s t : Server) (es : List Event) : Type 0 where
 -- once it is asked to lose its bytes
 cuts_end : (pid fd : ℕ) (x : Unit {0}) (s t : Server) (reply : Reply) (es : List Event) (replies : List Reply)
     → EndsWell ((attempt (unless_refused reply >>= (λ _. give {X = Unit {0}} tt)) >>= or_closed pid fd) s) es replies x t → (es ≡ []) × (t ≡ s)
-unfolding ask give stop ◌>>=◌ attempt
+unfolding ask give fail ◌>>=◌ attempt
 cuts_end pid fd x s t Done es replies runs = let ends = finished (Ok tt, s) (Ok x, t) es replies runs in (ends.0, ap (λ r. r.1) ends.2)
 cuts_end pid fd x s t (Pid k) es replies runs = let ends = finished (Ok tt, s) (Ok x, t) es replies runs in (ends.0, ap (λ r. r.1) ends.2)
 cuts_end pid fd x s t (Fd k) es replies runs = let ends = finished (Ok tt, s) (Ok x, t) es replies runs in (ends.0, ap (λ r. r.1) ends.2)
@@ -168,7 +168,7 @@ cuts_end pid fd x s t (Refused k) es replies runs = absurd (closed_not_well pid 
 
 empties : (pid fd : ℕ) (cuts : Bool) (x : Unit {0}) (s t : Server) (es : List Event) (replies : List Reply)
     → EndsWell ((attempt (when cuts (done (obtain (cut pid fd)))) >>= or_closed pid fd) s) es replies x t → Emptied pid fd s t es
-unfolding ask give stop ◌>>=◌ attempt
+unfolding ask give fail ◌>>=◌ attempt
 empties pid fd false x s t es replies runs =
     let ends = finished (Ok tt, s) (Ok x, t) es replies runs in
     record { alone = subst (All (λ e. e ≡ cut pid fd)) (sym ends.0) (All-nil (λ e. e ≡ cut pid fd)); stays = ap (λ r. r.1) ends.2 }
@@ -188,13 +188,13 @@ record Confirmed (pid fd n : ℕ) (s t : Server) (es : List Event) (replies : Li
 
 confirms : (pid fd n : ℕ) (cuts : Bool) (x : Unit {0}) (s t : Server) (es : List Event) (replies : List Reply)
     → EndsWell (confirm_open pid fd n cuts s) es replies x t → Confirmed pid fd n s t es replies
-unfolding ask give stop ◌>>=◌ attempt show_open confirm_shown confirm_open
+unfolding ask give fail ◌>>=◌ attempt show_open confirm_shown confirm_open
 confirms pid fd n cuts x s t [] replies runs = elim runs [ ]
 confirms pid fd n cuts x s t (e ∷ es) [] runs = elim runs [ ]
 confirms pid fd n cuts x s t (e ∷ es) ((Shown status) ∷ replies) runs = choose (status.inode == n) refl runs.1
   where
     choose : (b : Bool) → (status.inode == n) ≡ b
-        → EndsWell ((attempt ((if b then give {X = Unit {0}} tt else stop (Lacks ESTALE)) >>= (λ _. when cuts (done (obtain (cut pid fd))))) >>= or_closed pid fd) s) es replies x t
+        → EndsWell ((attempt ((if b then give {X = Unit {0}} tt else fail (Lacks ESTALE)) >>= (λ _. when cuts (done (obtain (cut pid fd))))) >>= or_closed pid fd) s) es replies x t
         → Confirmed pid fd n s t (e ∷ es) ((Shown status) ∷ replies)
     choose true is ran = record {
       status = status;
@@ -298,13 +298,13 @@ ends_held now pid n cuts touches h handle is v t es replies runs =
     rest_of : Unit {0} → Work ℕ
     rest_of _ = keep (touched_if touches now n) >>= (λ _. keep (with_handle h n) >>= (λ _. give h))
 
-    ended : (m : Result (Unit {0}) Stop × Server) (first after : List Event) (replied rest : List Reply)
+    ended : (m : Result (Unit {0}) RequestError × Server) (first after : List Event) (replied rest : List Reply)
         → IsRunOf (confirm_open pid (descriptor_of h) n cuts v) first replied m → EndsWell (goes_on rest_of m) after rest handle t
         → Held n handle t (first ++ after) (replied ++ rest)
     ended (Ok x, u) first after replied rest ran goes =
         let ends = keeps_handle now touches n h handle u t after rest goes in
         is_held pid n h handle v u t first after replied rest is (confirms pid (descriptor_of h) n cuts x v u first replied ran) ends.0 ends.1 ends.2 ends.3
-    ended (Err e, u) first after replied rest ran goes = absurd (stops_not_well e handle u t after rest goes)
+    ended (Err e, u) first after replied rest ran goes = absurd (fails_not_well e handle u t after rest goes)
 
 opens_held : (now : Time) (pid n flags : ℕ) (mode : Mode) (s t : Server) (es : List Event) (replies : List Reply) (handle : ℕ)
     → EndsWell (open_object now pid n flags mode s) es replies handle t → Held n handle t es replies
@@ -314,20 +314,20 @@ opens_held now pid n flags mode s t es replies handle runs =
     ends_held now pid n (cuts_open flags mode) (is_trunc flags) h handle (owner_is pid _ h (needed_is _ _ h u v more again found)) v t last rests ends))
 
 -- what is told of a value that was given
-record Told {X Y : Type 0} (p : Plan (Result X Stop × Server)) (f : X → Server → Y) (y : Y) (t : Server) (es : List Event) (replies : List Reply) : Type 0 where
+record Told {X Y : Type 0} (p : Plan (Result X RequestError × Server)) (f : X → Server → Y) (y : Y) (t : Server) (es : List Event) (replies : List Reply) : Type 0 where
   value : X
   runs : EndsWell p es replies value t
   kept_then : Server
   is : y ≡ f value kept_then
 
-tells : {X Y : Type 0} (p : Plan (Result X Stop × Server)) (f : X → Server → Y) (y : Y) (t : Server) (es : List Event) (replies : List Reply)
+tells : {X Y : Type 0} (p : Plan (Result X RequestError × Server)) (f : X → Server → Y) (y : Y) (t : Server) (es : List Event) (replies : List Reply)
     → EndsWell (followed_by p (goes_on (λ x. kept (f x)))) es replies y t → Told p f y t es replies
 unfolding kept
 tells (Finish (Ok z, u)) f y t [] [] runs =
     record { value = z; runs = ap (λ r. (Ok z, r.1)) runs; kept_then = u; is = ok_is y (f z u) (ap (λ r. r.0) runs) }
 tells (Finish (Ok z, u)) f y t [] (reply ∷ replies) runs = elim runs [ ]
 tells (Finish (Ok z, u)) f y t (g ∷ es) replies runs = elim runs [ ]
-tells (Finish (Err e, u)) f y t es replies runs = absurd (stops_not_well e y u t es replies runs)
+tells (Finish (Err e, u)) f y t es replies runs = absurd (fails_not_well e y u t es replies runs)
 tells (Ask e next) f y t [] replies runs = elim runs [ ]
 tells (Ask e next) f y t (g ∷ es) [] runs = elim runs [ ]
 tells (Ask e next) f y t (g ∷ es) (reply ∷ replies) runs =
@@ -359,20 +359,20 @@ granted_held now pid n flags mode s t es replies handle keeping runs =
 
 record OfNode (r : Asked) (s t : Server) (es : List Event) (replies : List Reply) (handle : ℕ) : Type 0 where
   number : ℕ
-  of_node : number_of s r.node ≡ Some number
+  of_node : number_of_node s r.node ≡ Some number
   held : Held number handle t es replies
 
 file_held : (r : Asked) (flags : ℕ) (s t : Server) (es : List Event) (replies : List Reply) (handle : ℕ) (keeping : OpenedFlags)
     → EndsWell (open_file r flags s) es replies (Opened handle keeping) t → OfNode r s t es replies handle
-unfolding the_number kept give stop ◌>>=◌
-file_held r flags s t es replies handle keeping runs = choose (number_of s r.node) refl runs
+unfolding the_number kept give fail ◌>>=◌
+file_held r flags s t es replies handle keeping runs = choose (number_of_node s r.node) refl runs
   where
     then_opens : ℕ → Work ReplyBody
     then_opens n = needed (failed EINVAL) (mode_in flags) >>= (λ mode. caller_with_room r.cred >>= (λ pid. open_granted r.now pid n flags mode))
 
-    choose : (o : Option ℕ) → number_of s r.node ≡ o → EndsWell ((needed (Lacks ESTALE) o >>= then_opens) s) es replies (Opened handle keeping) t
+    choose : (o : Option ℕ) → number_of_node s r.node ≡ o → EndsWell ((needed (Lacks ESTALE) o >>= then_opens) s) es replies (Opened handle keeping) t
         → OfNode r s t es replies handle
-    choose None is ran = absurd (stops_not_well (Lacks ESTALE) (Opened handle keeping) s t es replies ran)
+    choose None is ran = absurd (fails_not_well (Lacks ESTALE) (Opened handle keeping) s t es replies ran)
     choose (Some n) is ran = record {
       number = n;
       of_node = is;
@@ -383,11 +383,11 @@ file_held r flags s t es replies handle keeping runs = choose (number_of s r.nod
     }
 
 -- what is answered was the end of the work
-pub was_told : (p : Plan (Result ReplyBody Stop × Server)) (body : ReplyBody) (t : Server) (es : List Event) (replies : List Reply)
+pub was_told : (p : Plan (Result ReplyBody RequestError × Server)) (body : ReplyBody) (t : Server) (es : List Event) (replies : List Reply)
     → IsRunOf {X = Response × Server} (followed_by p (λ r. Finish (response_of r.0, r.1))) es replies (Says body, t) → EndsWell p es replies body t
 was_told (Finish (Ok z, u)) body t [] [] runs = ap (λ r. (result_of r.0, r.1)) runs
   where
-    result_of : Response → Result ReplyBody Stop
+    result_of : Response → Result ReplyBody RequestError
     result_of (Says b) = Ok b
     result_of _ = Ok body
 was_told (Finish (Err e, u)) body t [] [] runs = absurd (let no : Says body ≡ Fails e = ap (λ r. r.0) runs in cc)

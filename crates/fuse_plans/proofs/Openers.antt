@@ -12,7 +12,7 @@ use Rattle.fuse_state.specs.Servers.{Server, owner_of, holds_some, may_take_proc
 use Rattle.fuse_state.proofs.Holders.{holding_of, with_holding, holds_then, handle_within}
 use Rattle.fuse_plans.specs.Acts.{IsObject}
 use Rattle.fuse_plans.specs.Conduct.{Rights, as_caller, IsCaller, stays}
-use Rattle.fuse_plans.specs.Works.{Work, give, stop, keep, ◌>>=◌, needed, unexpected, fd_of_reply, handle_within as handle_in_reply, replied_handle}
+use Rattle.fuse_plans.specs.Works.{Work, give, fail, keep, ◌>>=◌, needed, unexpected, fd_of_reply, handle_within as handle_in_reply, replied_handle}
 use Rattle.fuse_plans.proofs.Conducts.{SameAll, still-as, still-kept, Does, Lasts, does-keep, does-keep_within, fits-any}
 use Rattle.fuse_plans.proofs.Calls.{CanCall, About, about-still}
 use Rattle.fuse_plans.proofs.Chosen.{MayOpen, OfOpener}
@@ -72,7 +72,7 @@ module _ {rights : Rights} where
   -- what is opened has a handle of the process
   pub does-with_handle : {X : Type 0} {P : Server → Type 0} (pid : ℕ) (reply : Reply) {f : ℕ → Work X}
       → ((handle : ℕ) → owner_of handle ≡ pid → Does rights P (f handle)) → Does rights P (replied_handle pid reply >>= f)
-  unfolding give stop ◌>>=◌
+  unfolding give fail ◌>>=◌
   does-with_handle {X} {P} pid reply {f} rest = go (handle_in_reply pid (fd_of_reply reply)) refl
     where
       go : (o : Option ℕ) → handle_in_reply pid (fd_of_reply reply) ≡ o → Does rights P (needed unexpected o >>= f)
@@ -81,7 +81,7 @@ module _ {rights : Rights} where
 
   pub lasts-with_handle : {X : Type 0} {P : Server → Type 0} (pid : ℕ) (reply : Reply) {f : ℕ → Work X}
       → ((handle : ℕ) → owner_of handle ≡ pid → Lasts rights P (f handle)) → Lasts rights P (replied_handle pid reply >>= f)
-  unfolding give stop ◌>>=◌
+  unfolding give fail ◌>>=◌
   lasts-with_handle {X} {P} pid reply {f} rest = go (handle_in_reply pid (fd_of_reply reply)) refl
     where
       go : (o : Option ℕ) → handle_in_reply pid (fd_of_reply reply) ≡ o → Lasts rights P (needed unexpected o >>= f)

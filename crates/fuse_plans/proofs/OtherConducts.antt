@@ -16,9 +16,9 @@ use Rattle.fuse_plans.specs.declared.reply.ReplyBody.{ReplyBody}
 use Rattle.fuse_state.specs.declared.directory.OpenDirectory.{OpenDirectory}
 use Rattle.fuse_state.specs.Servers.{Server, owner_of, descriptor_of, directory_of, may_open_directory, with_listing, with_listing_of}
 use Rattle.fuse_state.proofs.Holders.{opened_within, listed_within, released_within}
-use Rattle.fuse_plans.specs.declared.stop.Stop.TheVariants.{Lacks}
-use Rattle.fuse_plans.specs.declared.stop.OtherErrno.TheVariants.{EOPNOTSUPP}
-use Rattle.fuse_plans.specs.Works.{give, stop, kept, keep, ◌>>=◌, ask}
+use Rattle.fuse_plans.specs.declared.request_error.RequestError.TheVariants.{Lacks}
+use Rattle.fuse_plans.specs.declared.request_error.OtherErrno.TheVariants.{EOPNOTSUPP}
+use Rattle.fuse_plans.specs.Works.{give, fail, kept, keep, ◌>>=◌, ask}
 use Rattle.fuse_plans.specs.Acts.{IsObject, without_path}
 use Rattle.fuse_plans.specs.Plans.{KeepsTo}
 use Rattle.fuse_plans.specs.Conduct.{Known, Rights, sets, conduct, Fits, IsHome, IsOfHandle}
@@ -27,8 +27,8 @@ use Rattle.fuse_plans.specs.AttributePlans.{tell_attributes, get_attributes, new
 use Rattle.fuse_plans.specs.DirectoryPlans.{open_directory, take_directory, take_directory_if, tell_names, list_open, list_all, list_now, listed, read_directory, close_directory, sync_all}
 use Rattle.fuse_plans.specs.AclPlans.{an_object, sized, get_xattr, attribute_names, list_xattrs, acl_set, set_acl, set_xattr, remove_xattr}
 use Rattle.fuse_plans.specs.Serving.{count_space, end}
-use Rattle.fuse_plans.proofs.Conducts.{Any, Still, still-as, Left, does-keep_within, Does, Lasts, Gives, does-give, does-stop, does-kept, does-stamp, does-told_stamps, does->>=, does-attempt, does-needed, does-unless_refused, does-lasts, lasts->>=, ends->>=, then-lasts, then-does, then-does_to, does-does_to, gives-give, gives-stop}
-use Rattle.fuse_plans.proofs.Calls.{About, AsksOf, about-still, is-object, does-obtain, does-or_closed, does-on, does-by_looker, does-with_looker, looks, does-look, gives-number, gives-directory_number}
+use Rattle.fuse_plans.proofs.Conducts.{Any, Still, still-as, Left, does-keep_within, Does, Lasts, Gives, does-give, does-fail, does-kept, does-stamp, does-told_stamps, does->>=, does-attempt, does-needed, does-unless_refused, does-lasts, lasts->>=, ends->>=, then-lasts, then-does, then-does_to, does-does_to, gives-give, gives-fail}
+use Rattle.fuse_plans.proofs.Calls.{About, AsksOf, about-still, is-object, does-obtain, does-or_closed, does-on, does-by_server_process, does-with_server_process, looks, does-look, gives-number, gives-directory_number}
 use Rattle.fuse_plans.proofs.Chosen.{OfCaller, about-caller, does-caller}
 use Rattle.fuse_plans.proofs.Forms.{caller-can, does-if, does-when, does-when_so, lasts-when, does-done, does-keep_still, does-keep_caller, does-replied_fd, does-replied_target, does-replied_names, does-replied_space}
 use Rattle.fuse_plans.proofs.MaskConducts.{does-acl_of}
@@ -43,7 +43,7 @@ module _ {rights : Rights} {P : Server → Type 0} where
   does-new_owners : (c : AttrChanges) (n : ℕ) (link : Bool) → About rights P n → Does rights P (new_owners c n link)
   does-new_owners c n false about = does-give _
   does-new_owners c n true about =
-      does-if _ _ _ (does-stop _) (does->>= (does-look n about) (λ status. does-if _ _ _ (does-stop _) (does-give _)))
+      does-if _ _ _ (does-fail _) (does->>= (does-look n about) (λ status. does-if _ _ _ (does-fail _) (does-give _)))
 
 -- the handle that a change of the size is asked by is the one of the request
 abbrev pub HandleIs : Rights → Option ℕ → Type 0
@@ -51,10 +51,10 @@ HandleIs rights None = Unit {0}
 HandleIs rights (Some handle) = rights.handle ≡ Some handle
 
 listing-same : (handle : ℕ) (names : List (List ℕ × ℕ)) (s : Server)
-    → ((with_listing handle names s).processes ≡ s.processes) × ((with_listing handle names s).looker ≡ s.looker)
+    → ((with_listing handle names s).processes ≡ s.processes) × ((with_listing handle names s).server_process ≡ s.server_process)
 listing-same handle names s = choose (directory_of s handle)
   where
-    choose : (o : Option OpenDirectory) → ((with_listing_of handle names o s).processes ≡ s.processes) × ((with_listing_of handle names o s).looker ≡ s.looker)
+    choose : (o : Option OpenDirectory) → ((with_listing_of handle names o s).processes ≡ s.processes) × ((with_listing_of handle names o s).server_process ≡ s.server_process)
     choose None = (refl, refl)
     choose (Some d) = (refl, refl)
 
@@ -83,7 +83,7 @@ module _ {rights : Rights} (r : Asked) (is : rights.cred ≡ r.cred) (asks : Ask
       → Does rights (OfCaller rights pid) (may_set_times pid n link owner c)
   does-may_set_times pid n link true c object = does-give tt
   does-may_set_times pid n link false c object =
-      does-if _ _ _ (does-stop _) (does-done (does-on pid n _ (λ path. caller-can pid _ refl) (λ path. refl) (about-caller pid n object)))
+      does-if _ _ _ (does-fail _) (does-done (does-on pid n _ (λ path. caller-can pid _ refl) (λ path. refl) (about-caller pid n object)))
 
   -- the machine has the times, or the server
   does-set_stamps : (now : Time) (pid n : ℕ) (status : Status) (c : AttrChanges) → rights.subject.operation ≡ Some (SetAttr c)
@@ -94,7 +94,7 @@ module _ {rights : Rights} (r : Asked) (is : rights.cred ≡ r.cred) (asks : Ask
       set : (keeps : Bool) → Does rights (OfCaller rights pid) (set_stamps_if keeps now n status c)
       set false = does-keep_caller _ (λ s. (refl, refl, refl, refl, refl))
       set true =
-          does->>= (does-if _ _ _ (does-give tt) (does-stop _)) (λ same.
+          does->>= (does-if _ _ _ (does-give tt) (does-fail _)) (λ same.
           does->>= (does-stamp n _ _ _ (sets c _ _ _ asked some object)) (λ reply.
           does->>= (does-needed _ _) (λ stamps. does-give tt)))
 
@@ -134,15 +134,15 @@ module _ {rights : Rights} (r : Asked) (is : rights.cred ≡ r.cred) (asks : Ask
       then-does_to (gives-number _ (is-object rights _ asks)) (λ n object.
       does-does_to (does-kept _) (λ has. choose n object has))
     where
-      choose : (n : ℕ) → IsObject rights.subject n → (has : Bool) → Gives rights (IsObject rights.subject) (if has then give n else stop (Lacks EOPNOTSUPP))
+      choose : (n : ℕ) → IsObject rights.subject n → (has : Bool) → Gives rights (IsObject rights.subject) (if has then give n else fail (Lacks EOPNOTSUPP))
       choose n object true = gives-give n object
-      choose n object false = gives-stop _
+      choose n object false = gives-fail _
 
   lasts-set_acl : (which : AclType) (wanted : Option AccessList) → Lasts rights (Still rights) (set_acl r which wanted)
   lasts-set_acl which wanted =
       then-lasts gives-an_object (λ n object.
       lasts->>= (does-kept _) (λ kind.
-      lasts->>= (does-when _ _ (does-stop _)) (λ allowed.
+      lasts->>= (does-when _ _ (does-fail _)) (λ allowed.
       then-does (does-caller _ is) (λ pid more.
       does->>= (does-acl_set n which wanted (about-caller pid n object)) (λ acl.
       does->>= (does-on pid n _ (λ path. caller-can pid _ refl) (λ path. refl) (about-caller pid n object)) (λ reply.
@@ -170,7 +170,7 @@ module _ {rights : Rights} (r : Asked) (is : rights.cred ≡ r.cred) (asks : Ask
   -- ---- directories
 
   does-take_directory : (uid n : ℕ) → Does rights Any (take_directory uid n)
-  unfolding take_directory kept keep give stop ◌>>=◌
+  unfolding take_directory kept keep give fail ◌>>=◌
   does-take_directory uid n = record { goes = λ known s fits. takes known s fits (may_open_directory s uid) refl }
     where
       takes : (known : Known) (s : Server) → Fits rights Any known s → (b : Bool) → may_open_directory s uid ≡ b
@@ -179,7 +179,7 @@ module _ {rights : Rights} (r : Asked) (is : rights.cred ≡ r.cred) (asks : Ask
       takes known s fits true is = record {
         home = fits.home;
         processes = fits.processes;
-        looker = fits.looker;
+        server_process = fits.server_process;
         shares = λ start. opened_within s uid n is (fits.shares start);
         holds = tt;
       }
@@ -194,23 +194,23 @@ module _ {rights : Rights} (r : Asked) (is : rights.cred ≡ r.cred) (asks : Ask
   pub lasts-read_link : Lasts rights (Still rights) (read_link r)
   lasts-read_link =
       then-does (gives-number _ (is-object rights _ asks)) (λ n object.
-      does->>= (does-by_looker n _ (λ path. refl) (λ path. refl) (about-still n object)) (λ reply.
+      does->>= (does-by_server_process n _ (λ path. refl) (λ path. refl) (about-still n object)) (λ reply.
       does->>= (does-replied_target reply) (λ target. does-give _)))
 
-  does-list_open : {P : Server → Type 0} (pid fd : ℕ) → rights.looker ≡ Some pid → Does rights P (list_open pid fd)
+  does-list_open : {P : Server → Type 0} (pid fd : ℕ) → rights.server_process ≡ Some pid → Does rights P (list_open pid fd)
   unfolding tell_names list_open
-  does-list_open pid fd looker =
-      does->>= (does-attempt (does->>= (does-obtain pid _ (looks pid looker _ refl) (without_path refl refl refl)) does-replied_names)) (λ seen.
-      does-or_closed pid fd seen (looks pid looker _ refl))
+  does-list_open pid fd server_process =
+      does->>= (does-attempt (does->>= (does-obtain pid _ (looks pid server_process _ refl) (without_path refl refl refl)) does-replied_names)) (λ seen.
+      does-or_closed pid fd seen (looks pid server_process _ refl))
 
   does-list_all : (n : ℕ) (placed : Bool) → IsObject rights.subject n → Does rights (Still rights) (list_all n placed)
   does-list_all n false object = does-give []
   does-list_all n true object =
-      does-with_looker (λ pid looker.
-      does->>= (does-on pid n _ (λ path. looks pid looker _ refl) (λ path. refl) (about-still n object)) (λ opened.
+      does-with_server_process (λ pid server_process.
+      does->>= (does-on pid n _ (λ path. looks pid server_process _ refl) (λ path. refl) (about-still n object)) (λ opened.
       does->>= (does-replied_fd opened) (λ fd.
-      does->>= (does-list_open pid fd looker) (λ names.
-      does->>= (does-obtain pid _ (looks pid looker _ refl) (without_path refl refl refl)) (λ closed. does-give names)))))
+      does->>= (does-list_open pid fd server_process) (λ names.
+      does->>= (does-obtain pid _ (looks pid server_process _ refl) (without_path refl refl refl)) (λ closed. does-give names)))))
 
   listing-still : (handle : ℕ) (names : List (List ℕ × ℕ)) (s : Server) → Still rights s → Still rights (with_listing handle names s)
   listing-still handle names s still = choose (directory_of s handle)
@@ -222,7 +222,7 @@ module _ {rights : Rights} (r : Asked) (is : rights.cred ≡ r.cred) (asks : Ask
   lasts-list_now : (handle number : ℕ) → Lasts rights (Still rights) (list_now r.node handle number)
   lasts-list_now handle number =
       then-does (gives-number _ (is-object rights _ asks)) (λ n object.
-      does->>= (does-if _ _ _ (does-give tt) (does-stop _)) (λ same.
+      does->>= (does-if _ _ _ (does-give tt) (does-fail _)) (λ same.
       does->>= (does-kept _) (λ placed.
       does->>= (does-list_all n placed object) (λ names.
       does->>= (does-keep_within _ (listing-same handle names) (λ s still within start. listed_within s handle names (within start)) (λ s still. listing-still handle names s still)) (λ done. does-give names)))))
@@ -242,7 +242,7 @@ module _ {rights : Rights} (r : Asked) (is : rights.cred ≡ r.cred) (asks : Ask
   -- ---- ACLs that are told
 
   does-sized : {P : Server → Type 0} (size has : ℕ) (body : ReplyBody) → Does rights P (sized size has body)
-  does-sized size has body = does-if _ _ _ (does-give _) (does-if _ _ _ (does-stop _) (does-give body))
+  does-sized size has body = does-if _ _ _ (does-give _) (does-if _ _ _ (does-fail _) (does-give body))
 
   pub lasts-get_xattr : (name : List ℕ) (size : ℕ) → Lasts rights (Still rights) (get_xattr r name size)
   lasts-get_xattr name size =

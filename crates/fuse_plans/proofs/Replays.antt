@@ -23,7 +23,7 @@ use Rattle.fuse_protocol.specs.declared.entry.DirectoryEntry.{DirectoryEntry}
 use Rattle.fuse_protocol.specs.declared.request.Request.{Request as WireRequest}
 use Rattle.fuse_protocol.specs.declared.request.RequestFault.{RequestFault}
 use Rattle.fuse_protocol.specs.declared.request.RequestFault.TheVariants as faults
-use Rattle.fuse_protocol.specs.Bytes.{u16_of, u32_of, u64_of, le16s, le32s, le64s}
+use Rattle.fuse_protocol.specs.Bytes.{short_at, word_at, long_at, bytes_of_u16s, bytes_of_u32s, bytes_of_u64s}
 use Rattle.fuse_protocol.specs.Names.{text_of, name_from}
 use Rattle.fuse_protocol.specs.Operations.{attr_changes, operation_of, object_operation, handle_operation, other_operation}
 use Rattle.fuse_protocol.specs.Requests.{request_of}
@@ -32,7 +32,7 @@ use Rattle.fuse_protocol.specs.Entries.{directory_entry_bytes}
 use Rattle.fuse_protocol.specs.AclValues.{acl_value_bytes}
 use Rattle.fuse_plans.specs.Protocol.{request_from, malformed, response_bytes}
 use Rattle.fuse_plans.specs.Plans.{Plan, Finish, Ask}
-use Rattle.fuse_plans.specs.Stops.{stop_number}
+use Rattle.fuse_plans.specs.RequestErrors.{error_number}
 use Rattle.fuse_protocol.specs.declared.reply.Time.{Time}
 use Rattle.fuse_plans.specs.Requests.{Outside, credential_for, Request}
 use Rattle.fuse_protocol.specs.declared.operation.Operation.{Operation}
@@ -44,8 +44,8 @@ use Rattle.fuse_plans.specs.declared.reply.Response.{Response}
 use Rattle.fuse_plans.specs.declared.reply.Response.TheVariants.{Silence, Says, Fails}
 use Rattle.fuse_state.specs.Keepings.{nothing_kept}
 use Rattle.fuse_state.specs.Servers.{Server, new_server}
-use Rattle.fuse_plans.specs.Works.{give, stop, kept, keep, ◌>>=◌, attempt, ask}
-use Rattle.fuse_plans.specs.Callers.{retire, begin_process, caller, caller_with_room, the_looker, between, look_inside, by_places, on, look, the_number, directory_number, standing_directory}
+use Rattle.fuse_plans.specs.Works.{give, fail, kept, keep, ◌>>=◌, attempt, ask}
+use Rattle.fuse_plans.specs.Callers.{retire, begin_process, caller, caller_with_room, the_server_process, between, look_inside, by_places, on, look, the_number, directory_number, standing_directory}
 use Rattle.fuse_plans.specs.declared.mode.Mode.{Mode}
 use Rattle.fuse_plans.specs.Flags.{only}
 use Rattle.fuse_plans.specs.NamePlans.{new_valid, made, link_by_place}
@@ -77,7 +77,7 @@ pub data Heard : Type 0 where
 abbrev heard : Response → Heard
 heard Silence = Silent
 heard (Says body) = Told body
-heard (Fails e) = Error (stop_number e)
+heard (Fails e) = Error (error_number e)
 
 abbrev heard_of : Option (Response × Server) → Heard
 heard_of None = Undone
@@ -95,7 +95,7 @@ played s (step ∷ steps) =
 
 -- all that a plan computes with
 unfoldable pub all_plans : Unit {0}
-unfolding give stop kept keep ◌>>=◌ attempt ask retire begin_process caller caller_with_room the_looker between look_inside by_places on look the_number directory_number standing_directory new_valid made is_masked link_by_place open_or_make show_open confirm_shown confirm_open look_open tell_created the_open seek read_piece read_pieces write_piece write_pieces tell_names list_open read_directory close_directory sync_all begin count_space end request_plan take_directory tell_time told_stamps set_stamps
+unfolding give fail kept keep ◌>>=◌ attempt ask retire begin_process caller caller_with_room the_server_process between look_inside by_places on look the_number directory_number standing_directory new_valid made is_masked link_by_place open_or_make show_open confirm_shown confirm_open look_open tell_created the_open seek read_piece read_pieces write_piece write_pieces tell_names list_open read_directory close_directory sync_all begin count_space end request_plan take_directory tell_time told_stamps set_stamps
 all_plans = tt
 
 -- ---- words
@@ -197,5 +197,5 @@ served s (step ∷ steps) =
 
 -- all that bytes compute with
 unfoldable pub all_bytes : Unit {0}
-unfolding all_plans request_of operation_of object_operation handle_operation other_operation attr_changes text_of name_from u16_of u32_of u64_of le16s le32s le64s reply_bytes directory_entry_bytes acl_value_bytes
+unfolding all_plans request_of operation_of object_operation handle_operation other_operation attr_changes text_of name_from short_at word_at long_at bytes_of_u16s bytes_of_u32s bytes_of_u64s reply_bytes directory_entry_bytes acl_value_bytes
 all_bytes = tt

@@ -8,29 +8,29 @@ use Rattle.fs_cred.specs.Credentials.{Credential, usual_credential}
 use Rattle.fs_model.specs.declared.reply.Reply.{Reply}
 use Rattle.fs_model.specs.declared.reply.Reply.TheVariants.{Done, Pid, Fd, Data, Wrote, At, Target, Mask, Shown, Granted, Acl, Names, Space as SpaceIs, Stamped, Refused}
 use Rattle.fuse_plans.specs.Plans.{Finish, followed_by, KeepsTo}
-use Rattle.fuse_plans.specs.declared.stop.Stop.{Stop}
-use Rattle.fuse_plans.specs.declared.stop.Stop.TheVariants.{Lacks}
-use Rattle.fuse_plans.specs.declared.stop.OtherErrno.TheVariants.{EPROTO}
+use Rattle.fuse_plans.specs.declared.request_error.RequestError.{RequestError}
+use Rattle.fuse_plans.specs.declared.request_error.RequestError.TheVariants.{Lacks}
+use Rattle.fuse_plans.specs.declared.request_error.OtherErrno.TheVariants.{EPROTO}
 use Rattle.fuse_plans.specs.declared.request.Asked.{Asked}
 use Rattle.fuse_protocol.specs.declared.operation.Offer.{Offer}
 use Rattle.fuse_protocol.specs.declared.operation.Operation.{Operation}
 use Rattle.fuse_protocol.specs.declared.operation.Operation.TheVariants.{Lookup, Forget, GetAttr, SetAttr, ReadLink, SymLink, MkNod, MkDir, Unlink, RmDir, Rename, Link, Open, Read, Write, StatFs, Release, FSync, SetXAttr, GetXAttr, ListXAttr, RemoveXAttr, Init, OpenDir, ReadDir, ReleaseDir, FSyncDir, Access, Create, Interrupt, Destroy, BatchForget, SyncFs, Unknown}
 use Rattle.fuse_protocol.specs.declared.reply.Time.{Time}
 use Rattle.fuse_plans.specs.declared.reply.ReplyBody.{ReplyBody}
-use Rattle.fuse_state.specs.Servers.{Server, with_the_looker, with_acls_offered, WithinShares, forgotten, all_forgotten}
+use Rattle.fuse_state.specs.Servers.{Server, with_the_server_process, with_acls_offered, WithinShares, forgotten, all_forgotten}
 use Rattle.fuse_state.proofs.Forgotten.{forgotten_keeps, all_forgotten_keep}
 use Rattle.fuse_state.proofs.Holders.{holding_of, same_within}
-use Rattle.fuse_plans.specs.Works.{Work, give, stop, kept, keep, goes_on, ◌>>=◌, ◌>>◌, ask, unless_refused, replied_pid}
+use Rattle.fuse_plans.specs.Works.{Work, give, fail, kept, keep, goes_on, ◌>>=◌, ◌>>◌, ask, unless_refused, replied_pid}
 use Rattle.fuse_plans.specs.Requests.{Request, asked_of}
 use Rattle.fuse_plans.specs.Alterations.{says_change}
 use Rattle.fuse_plans.specs.Nobody.{needs_nobody_in}
 use Rattle.fuse_plans.specs.Acts.{name_of_operation, given_name, node_asked, node_of_object}
 use Rattle.fuse_plans.specs.Conduct.{Known, Rights, conduct, after_begin, after_spawn}
 use Rattle.fuse_plans.specs.NamePlans.{removal}
-use Rattle.fuse_plans.specs.Serving.{Task, Replying, Silently, agreed, later_version, or_looker, offers_acls, begin, plan_of, told_first, asked_for, response_of, answered, answered_as, request_plan}
+use Rattle.fuse_plans.specs.Serving.{Task, Replying, Silently, agreed, later_version, or_server_process, offers_acls, begin, plan_of, told_first, asked_for, response_of, answered, answered_as, request_plan}
 use Rattle.fuse_plans.specs.Laws.{RunsBehave, server_rights, Begun, BeginningBehaves, handle_of_operation, handle_in, is_beginning, is_init, rights_of, known_in, Ends, RequestsBehave}
 use Rattle.fuse_plans.proofs.PlanLaws.{keeps-follows}
-use Rattle.fuse_plans.proofs.Conducts.{Any, Still, SameOwn, Left, Lasts, does-stop, does-lasts, lasts->>=, does-tell_time, keeps-followed_by}
+use Rattle.fuse_plans.proofs.Conducts.{Any, Still, SameOwn, Left, Lasts, does-fail, does-lasts, lasts->>=, does-tell_time, keeps-followed_by}
 use Rattle.fuse_plans.proofs.Calls.{AsksOf}
 use Rattle.fuse_plans.proofs.NobodyConducts.{AtHome, keeps-needs_nobody_in}
 use Rattle.fuse_plans.proofs.NameConducts.{lasts-find_name, lasts-make_link, lasts-make_directory, lasts-make_file, lasts-remove, lasts-move_name, lasts-add_link}
@@ -44,11 +44,11 @@ LastsIfAny rights (Replying w) = Lasts rights (Still rights) w
 
 forgotten-same : (node count : ℕ) → SameOwn (forgotten node count)
 forgotten-same node count s =
-    (forgotten_keeps holding_of (λ l t. refl) (λ k m t. refl) node count s, forgotten_keeps (λ t. t.looker) (λ l t. refl) (λ k m t. refl) node count s)
+    (forgotten_keeps holding_of (λ l t. refl) (λ k m t. refl) node count s, forgotten_keeps (λ t. t.server_process) (λ l t. refl) (λ k m t. refl) node count s)
 
 all_forgotten-same : (batch : List (ℕ × ℕ)) → SameOwn (all_forgotten batch)
 all_forgotten-same batch s =
-    (all_forgotten_keep holding_of (λ l t. refl) (λ k m t. refl) batch s, all_forgotten_keep (λ t. t.looker) (λ l t. refl) (λ k m t. refl) batch s)
+    (all_forgotten_keep holding_of (λ l t. refl) (λ k m t. refl) batch s, all_forgotten_keep (λ t. t.server_process) (λ l t. refl) (λ k m t. refl) batch s)
 
 handle_is : (rights : Rights) (o : Option ℕ) → rights.handle ≡ o → HandleIs rights o
 handle_is rights None is = tt
@@ -99,7 +99,7 @@ module _ (rights : Rights) (r : Asked) (is : rights.cred ≡ r.cred) (node : rig
   does-plan value Destroy asks other given = does-lasts does-end
   does-plan value (BatchForget batch) asks other given = all_forgotten-same batch
   does-plan value SyncFs asks other given = does-lasts does-sync_all
-  does-plan value Unknown asks other given = does-lasts (does-stop _)
+  does-plan value Unknown asks other given = does-lasts (does-fail _)
 
   lasts-told_first : (tells : Bool) (now : Time) (task : Task) → LastsIfAny rights task → LastsIfAny rights (told_first tells now task)
   lasts-told_first false now task lasts = lasts
@@ -108,36 +108,36 @@ module _ (rights : Rights) (r : Asked) (is : rights.cred ≡ r.cred) (node : rig
 
   does-asked_for : (value : Option (Option AccessList)) (operation : Option Operation) → rights.subject.operation ≡ operation → IsFalse (is_init operation)
       → rights.handle ≡ handle_in operation → LastsIfAny rights (asked_for r value operation)
-  does-asked_for value None asks other given = does-lasts (does-stop _)
+  does-asked_for value None asks other given = does-lasts (does-fail _)
   does-asked_for value (Some operation) asks other given = lasts-told_first (says_change operation) r.now (plan_of r value operation) (does-plan value operation asks other given)
 
-answers_end : (rights : Rights) (s : Server) → rights.looker ≡ s.looker → rights.subject.start ≡ s → (known : Known) (r : Result ReplyBody Stop × Server) → Left rights Any known r → Ends s known (response_of r.0, r.1)
+answers_end : (rights : Rights) (s : Server) → rights.server_process ≡ s.server_process → rights.subject.start ≡ s → (known : Known) (r : Result ReplyBody RequestError × Server) → Left rights Any known r → Ends s known (response_of r.0, r.1)
 answers_end rights s same start known r left = record {
   home = left.home;
   processes = left.processes;
-  looker = left.looker ∙ same;
+  server_process = left.server_process ∙ same;
   shares = λ within. left.shares (subst WithinShares (sym start) within);
 }
 
-answers : (rights : Rights) (s : Server) → rights.looker ≡ s.looker → rights.subject.start ≡ s → (memory : Bool) (work : Task) → LastsIfAny rights work
+answers : (rights : Rights) (s : Server) → rights.server_process ≡ s.server_process → rights.subject.start ≡ s → (memory : Bool) (work : Task) → LastsIfAny rights work
     → (known : Known) → known.away ≡ None → known.processes ≡ s.processes → KeepsTo (conduct rights) (Ends s) known (answered memory work s)
 answers rights s same start true (Silently f) holds known home processes = record {
   home = home;
   processes = processes ∙ ap (λ h. h.0) (sym (holds s).0);
-  looker = (holds s).1;
+  server_process = (holds s).1;
   shares = λ within. same_within s (f s) (holds s).0 within;
 }
 answers rights s same start false (Silently f) holds known home processes =
-    record { home = home; processes = processes; looker = refl; shares = λ within. within }
+    record { home = home; processes = processes; server_process = refl; shares = λ within. within }
 answers rights s same start true (Replying w) lasts known home processes =
     keeps-followed_by (conduct rights) (Left rights Any) (Ends s) (w s) (λ r. Finish (response_of r.0, r.1)) known
-    (lasts.goes known s (record { home = home; processes = processes; looker = sym same; shares = λ within. subst WithinShares start within; holds = begins_still }))
+    (lasts.goes known s (record { home = home; processes = processes; server_process = sym same; shares = λ within. subst WithinShares start within; holds = begins_still }))
     (λ n r left. answers_end rights s same start n r left)
   where
     begins_still : Still rights s
     begins_still = record { kinds = ap (λ t. t.kinds) (sym start); generations = ap (λ t. t.generations) (sym start); names = ap (λ t. t.names) (sym start) }
 answers rights s same start false (Replying w) lasts known home processes =
-    record { home = home; processes = processes; looker = refl; shares = λ within. within }
+    record { home = home; processes = processes; server_process = refl; shares = λ within. within }
 
 pub requests_behave : RequestsBehave
 unfolding request_plan
@@ -150,19 +150,19 @@ requests_behave r s other =
 
 -- ---- the first request
 
-abbrev Alone : Server → Known → Result ReplyBody Stop × Server → Type 0
+abbrev Alone : Server → Known → Result ReplyBody RequestError × Server → Type 0
 Alone s known r = (known.away ≡ None) × (holding_of r.1 ≡ holding_of s)
 
 -- what is done once the server's own process is looked for
 abbrev welcome : Offer → Option ℕ → Work ReplyBody
-welcome offer looker = do
-  or_looker looker
+welcome offer server_process = do
+  or_server_process server_process
   keep (with_acls_offered (offers_acls offer))
   kept (λ t. agreed offer t.settings)
 
 spawned_then : (r : Request) (s : Server) (offer : Offer) (known : Known) → known.away ≡ None → (reply : Reply)
-    → KeepsTo (conduct (server_rights r s)) (Alone s) known (followed_by (followed_by (unless_refused reply s) (goes_on (λ done. replied_pid done >>= (λ pid. keep (with_the_looker pid))))) (goes_on (λ _. keep (with_acls_offered (offers_acls offer)) >>= (λ _. kept (λ t. agreed offer t.settings)))))
-unfolding kept keep give stop ◌>>=◌
+    → KeepsTo (conduct (server_rights r s)) (Alone s) known (followed_by (followed_by (unless_refused reply s) (goes_on (λ done. replied_pid done >>= (λ pid. keep (with_the_server_process pid))))) (goes_on (λ _. keep (with_acls_offered (offers_acls offer)) >>= (λ _. kept (λ t. agreed offer t.settings)))))
+unfolding kept keep give fail ◌>>=◌
 spawned_then r s offer known home (Pid k) = (home, refl)
 spawned_then r s offer known home Done = (home, refl)
 spawned_then r s offer known home (Fd k) = (home, refl)
@@ -200,8 +200,8 @@ home_still known cred (SpaceIs j k) = refl
 home_still known cred (Stamped k) = refl
 home_still known cred (Refused k) = refl
 
-welcomes : (r : Request) (s : Server) (offer : Offer) (looker : Option ℕ) → KeepsTo (conduct (server_rights r s)) (Alone s) (known_in s) (welcome offer looker s)
-unfolding ask kept keep give stop ◌>>=◌
+welcomes : (r : Request) (s : Server) (offer : Offer) (server_process : Option ℕ) → KeepsTo (conduct (server_rights r s)) (Alone s) (known_in s) (welcome offer server_process s)
+unfolding ask kept keep give fail ◌>>=◌
 welcomes r s offer (Some pid) = (refl, refl)
 welcomes r s offer None = (
   (tt, refl),
@@ -209,14 +209,14 @@ welcomes r s offer None = (
 )
 
 begins_alone : (r : Request) (s : Server) (offer : Offer) → KeepsTo (conduct (server_rights r s)) (Alone s) (known_in s) (begin offer s)
-unfolding begin kept give stop ◌>>=◌
+unfolding begin kept give fail ◌>>=◌
 begins_alone r s offer = choose (nat_lt offer.major 7) (nat_lt 7 offer.major)
   where
     choose : (old later : Bool) → KeepsTo (conduct (server_rights r s)) (Alone s) (known_in s)
-        ((if old then stop (Lacks EPROTO) else if later then give later_version else (kept (λ t. t.looker) >>= welcome offer)) s)
+        ((if old then fail (Lacks EPROTO) else if later then give later_version else (kept (λ t. t.server_process) >>= welcome offer)) s)
     choose true later = (refl, refl)
     choose false true = (refl, refl)
-    choose false false = welcomes r s offer s.looker
+    choose false false = welcomes r s offer s.server_process
 
 begins : (r : Request) (s : Server) (memory : Bool) (offer : Offer) → KeepsTo (conduct (server_rights r s)) (Begun s) (known_in s) (answered memory (Replying (begin offer)) s)
 begins r s true offer =

@@ -22,16 +22,16 @@ use Rattle.fuse_protocol.specs.declared.operation.Operation.{Operation}
 use Rattle.fuse_protocol.specs.declared.operation.Operation.TheVariants.{Init}
 use Rattle.fuse_state.specs.declared.shares.Shares.{Shares}
 use Rattle.fuse_state.specs.Shares.{process_shares, directory_shares, may_hold, KeepsShares}
-use Rattle.fuse_state.specs.Servers.{Server, first_of, first_process, partly_used, idle_process, is_process, next_idle, holds_some, process_holders, directory_holders, may_take_process, without_process, WithinShares}
+use Rattle.fuse_state.specs.Servers.{Server, head_of, first_process, partly_used, idle_process, is_process, next_idle, holds_some, process_holders, directory_holders, may_take_process, without_process, WithinShares}
 use Rattle.fuse_state.proofs.KeptShares.{further_may, root_may}
 use Rattle.fuse_state.proofs.Holders.{ended_within, holders_few}
-use Rattle.fuse_plans.specs.declared.stop.Stop.{Stop}
-use Rattle.fuse_plans.specs.declared.stop.Stop.TheVariants.{Refuses, Lacks}
-use Rattle.fuse_plans.specs.declared.stop.OtherErrno.TheVariants.{ENFILE}
+use Rattle.fuse_plans.specs.declared.request_error.RequestError.{RequestError}
+use Rattle.fuse_plans.specs.declared.request_error.RequestError.TheVariants.{Refuses, Lacks}
+use Rattle.fuse_plans.specs.declared.request_error.OtherErrno.TheVariants.{ENFILE}
 use Rattle.fuse_plans.specs.declared.reply.Response.{Response}
 use Rattle.fuse_plans.specs.Plans.{Plan, Finish, followed_by, IsRunOf}
 use Rattle.fuse_plans.specs.Requests.{Request}
-use Rattle.fuse_plans.specs.Works.{Work, give, stop, kept, keep, goes_on, ◌>>=◌, ask, is_refused_for}
+use Rattle.fuse_plans.specs.Works.{Work, give, fail, kept, keep, goes_on, ◌>>=◌, ask, is_refused_for}
 use Rattle.fuse_plans.specs.Callers.{settle_new, settled, settle, retire_next, retire, spawn_again, begin_process, or_spawned, caller, unused_of, or_unused, caller_with_room}
 use Rattle.fuse_plans.specs.Conduct.{Known, conduct, after_spawn, after_exit, known_after}
 use Rattle.fuse_plans.specs.DirectoryPlans.{take_directory, take_directory_if}
@@ -109,7 +109,7 @@ module _ (m : List (ℕ × Credential)) where
           choose false le = omega (arith, le)
 
 -- one that is chosen goes
-goes_away : (test low : ℕ → Bool) (m : List (ℕ × Credential)) (pid : ℕ) → first_of (filter test (filter low (map (λ e. e.0) m))) ≡ Some pid
+goes_away : (test low : ℕ → Bool) (m : List (ℕ × Credential)) (pid : ℕ) → head_of (filter test (filter low (map (λ e. e.0) m))) ≡ Some pid
     → length (without nat_cmp m pid) < length m
 goes_away test low [] pid is = absurd (let none : None ≡ Some pid = is in cc)
 goes_away test low (e ∷ m) pid is = choose (is_eq (nat_cmp pid e.0)) refl (goes_away test low m pid)
@@ -117,15 +117,15 @@ goes_away test low (e ∷ m) pid is = choose (is_eq (nat_cmp pid e.0)) refl (goe
     keys : List ℕ
     keys = filter low (map (λ f. f.0) m)
 
-    tested : (b : Bool) → first_of (cond b (e.0 ∷ filter test keys) (filter test keys)) ≡ Some pid → pid ≢ e.0 → first_of (filter test keys) ≡ Some pid
+    tested : (b : Bool) → head_of (cond b (e.0 ∷ filter test keys) (filter test keys)) ≡ Some pid → pid ≢ e.0 → head_of (filter test keys) ≡ Some pid
     tested true found other = absurd (other (let same : Some e.0 ≡ Some pid = found in let one : e.0 ≡ pid = cc in sym one))
     tested false found other = found
 
-    later : (b : Bool) → first_of (filter test (cond b (e.0 ∷ keys) keys)) ≡ Some pid → pid ≢ e.0 → first_of (filter test keys) ≡ Some pid
+    later : (b : Bool) → head_of (filter test (cond b (e.0 ∷ keys) keys)) ≡ Some pid → pid ≢ e.0 → head_of (filter test keys) ≡ Some pid
     later true found other = tested (test e.0) found other
     later false found other = found
 
-    choose : (b : Bool) → is_eq (nat_cmp pid e.0) ≡ b → (first_of (filter test keys) ≡ Some pid → length (without nat_cmp m pid) < length m)
+    choose : (b : Bool) → is_eq (nat_cmp pid e.0) ≡ b → (head_of (filter test keys) ≡ Some pid → length (without nat_cmp m pid) < length m)
         → length (cond (not b) (e ∷ without nat_cmp m pid) (without nat_cmp m pid)) < suc (length m)
     choose true same rest = omega (arith, fewer m pid)
     choose false differs rest =
@@ -133,7 +133,7 @@ goes_away test low (e ∷ m) pid is = choose (is_eq (nat_cmp pid e.0)) refl (goe
         omega (arith, rest (later (low e.0) is other))
 
 -- where none is chosen all hold some
-all_hold : (busy low : ℕ → Bool) → ((n : ℕ) → low n ≡ true) → (m : List (ℕ × Credential)) → first_of (filter (λ p. not (busy p)) (filter low (map (λ e. e.0) m))) ≡ None
+all_hold : (busy low : ℕ → Bool) → ((n : ℕ) → low n ≡ true) → (m : List (ℕ × Credential)) → head_of (filter (λ p. not (busy p)) (filter low (map (λ e. e.0) m))) ≡ None
     → length (filter (λ e. busy e.0) m) ≡ length m
 all_hold busy low all [] is = refl
 all_hold busy low all (e ∷ m) is = choose (low e.0) (all e.0) (busy e.0) refl is (all_hold busy low all m)
@@ -144,14 +144,14 @@ all_hold busy low all (e ∷ m) is = choose (low e.0) (all e.0) (busy e.0) refl 
     idle : List ℕ
     idle = filter (λ p. not (busy p)) keys
 
-    choose : (b : Bool) → b ≡ true → (c : Bool) → busy e.0 ≡ c → first_of (filter (λ p. not (busy p)) (cond b (e.0 ∷ keys) keys)) ≡ None
-        → (first_of idle ≡ None → length (filter (λ f. busy f.0) m) ≡ length m)
+    choose : (b : Bool) → b ≡ true → (c : Bool) → busy e.0 ≡ c → head_of (filter (λ p. not (busy p)) (cond b (e.0 ∷ keys) keys)) ≡ None
+        → (head_of idle ≡ None → length (filter (λ f. busy f.0) m) ≡ length m)
         → length (cond c (e ∷ filter (λ f. busy f.0) m) (filter (λ f. busy f.0) m)) ≡ suc (length m)
     choose false passes c holds none rest = absurd (let never : false ≡ true = passes in cc)
     choose true passes true holds none rest =
-        ap suc (rest (sym (ap (λ d. first_of (cond (not d) (e.0 ∷ idle) idle)) holds) ∙ none))
+        ap suc (rest (sym (ap (λ d. head_of (cond (not d) (e.0 ∷ idle) idle)) holds) ∙ none))
     choose true passes false holds none rest =
-        absurd (let some : Some e.0 ≡ None = sym (ap (λ d. first_of (cond (not d) (e.0 ∷ idle) idle)) holds) ∙ none in cc)
+        absurd (let some : Some e.0 ≡ None = sym (ap (λ d. head_of (cond (not d) (e.0 ∷ idle) idle)) holds) ∙ none in cc)
 
 lowest : (n : ℕ) → nat_le 0 n ≡ true
 lowest n = grind (arith, nat_tests)
@@ -165,28 +165,28 @@ none_idle s within is =
 -- ---- a new process is found
 
 -- the plan ends for want of one
-abbrev EndsFull : {X : Type 0} → Plan (Result X Stop × Server) → List Event → List Reply → Server → Type 0
+abbrev EndsFull : {X : Type 0} → Plan (Result X RequestError × Server) → List Event → List Reply → Server → Type 0
 EndsFull p es replies t = IsRunOf p es replies (Err (Lacks ENFILE), t)
 
 gives_no : (x : ℕ) (s t : Server) (es : List Event) (replies : List Reply) → EndsFull (Finish (Ok x, s)) es replies t → ⊥
 gives_no x s t es replies runs =
     let ends = finished (Ok x, s) (Err (Lacks ENFILE), t) es replies runs in
-    let never : ◌≡◌ {A = Result ℕ Stop} (Err (Lacks ENFILE)) (Ok x) = ap (λ q. q.0) ends.2 in
+    let never : ◌≡◌ {A = Result ℕ RequestError} (Err (Lacks ENFILE)) (Ok x) = ap (λ q. q.0) ends.2 in
     absurd (cc)
 
 refuses_otherwise : (r : Refusal) (s t : Server) (es : List Event) (replies : List Reply) → EndsFull {X = ℕ} (Finish (Err (Refuses r), s)) es replies t → ⊥
 refuses_otherwise r s t es replies runs =
     let ends = finished (Err (Refuses r), s) (Err (Lacks ENFILE), t) es replies runs in
-    let never : ◌≡◌ {A = Result ℕ Stop} (Err (Lacks ENFILE)) (Err (Refuses r)) = ap (λ q. q.0) ends.2 in
+    let never : ◌≡◌ {A = Result ℕ RequestError} (Err (Lacks ENFILE)) (Err (Refuses r)) = ap (λ q. q.0) ends.2 in
     absurd (cc)
 
 new_not_full : (cred : Credential) (pid : ℕ) (taken : Bool) (s t : Server) (es : List Event) (replies : List Reply) → EndsFull (settle_new cred pid taken s) es replies t → ⊥
-unfolding keep give stop ◌>>=◌
+unfolding keep give fail ◌>>=◌
 new_not_full cred pid true s t es replies runs = refuses_otherwise (Failed EIO) s t es replies runs
 new_not_full cred pid false s t es replies runs = gives_no pid _ t es replies runs
 
 settled_not_full : (cred : Credential) (reply : Reply) (s t : Server) (es : List Event) (replies : List Reply) → EndsFull (settled cred reply s) es replies t → ⊥
-unfolding kept keep give stop ◌>>=◌
+unfolding kept keep give fail ◌>>=◌
 settled_not_full cred (Pid pid) s t es replies runs = new_not_full cred pid (is_process s pid) s t es replies runs
 settled_not_full cred (Refused r) s t es replies runs = refuses_otherwise r s t es replies runs
 settled_not_full cred Done s t es replies runs = refuses_otherwise (Failed EIO) s t es replies runs
@@ -208,7 +208,7 @@ settle_not_full : (cred : Credential) (reply : Reply) (s t : Server) (es : List 
     → EndsFull (settle cred reply s) es replies t → ⊥
 settle_not_full cred reply s t es replies fine runs = choose (is_refused_for EAGAIN reply) refl runs
   where
-    choose : (b : Bool) → is_refused_for EAGAIN reply ≡ b → EndsFull ((if b then stop (Lacks ENFILE) else settled cred reply) s) es replies t → ⊥
+    choose : (b : Bool) → is_refused_for EAGAIN reply ≡ b → EndsFull ((if b then fail (Lacks ENFILE) else settled cred reply) s) es replies t → ⊥
     choose true is ran = fine is
     choose false is ran = settled_not_full cred reply s t es replies ran
 

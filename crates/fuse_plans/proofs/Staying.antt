@@ -12,13 +12,13 @@ use Rattle.fs_model.specs.declared.event.Event.{Event}
 use Rattle.fs_model.specs.declared.reply.FileType.{FileType}
 use Rattle.fs_model.specs.declared.reply.Reply.{Reply}
 use Rattle.fs_model.specs.declared.reply.Status.{Status}
-use Rattle.fuse_state.specs.declared.place.Place.{Place}
+use Rattle.fuse_state.specs.declared.dentry.Dentry.{Dentry}
 use Rattle.fuse_state.specs.Servers.{Server}
-use Rattle.fuse_plans.specs.declared.stop.Stop.{Stop}
-use Rattle.fuse_plans.specs.Stops.{is_for}
+use Rattle.fuse_plans.specs.declared.request_error.RequestError.{RequestError}
+use Rattle.fuse_plans.specs.RequestErrors.{is_for}
 use Rattle.fuse_plans.specs.Plans.{Finish}
-use Rattle.fuse_plans.specs.Works.{Work, give, stop, kept, goes_on, ◌>>=◌, attempt, needed, ask, give_unless, refusal_in, unless_refused, obtain}
-use Rattle.fuse_plans.specs.Callers.{the_looker, between, or_inside, standing_refusal, or_next, by_places, on, by_looker, is_known_directory, the_number, directory_number}
+use Rattle.fuse_plans.specs.Works.{Work, give, fail, kept, goes_on, ◌>>=◌, attempt, needed, ask, give_unless, refusal_in, unless_refused, obtain}
+use Rattle.fuse_plans.specs.Callers.{the_server_process, between, or_inside, standing_refusal, or_next, by_places, on, by_server_process, is_known_directory, the_number, directory_number}
 use Rattle.fuse_plans.specs.NamePlans.{new_valid_if, new_valid}
 use Rattle.fuse_plans.specs.Masks.{may_hide, asks_list, list_hides, is_masked}
 use Rattle.fuse_plans.proofs.AllEnds.{AllEnd, all-followed_by}
@@ -31,9 +31,9 @@ stays-give : {X : Type 0} (x : X) → Stays (give x)
 unfolding give
 stays-give x = record { at = λ s. refl }
 
-stays-stop : {X : Type 0} (e : Stop) → Stays {X = X} (stop e)
-unfolding stop
-stays-stop e = record { at = λ s. refl }
+stays-fail : {X : Type 0} (e : RequestError) → Stays {X = X} (fail e)
+unfolding fail
+stays-fail e = record { at = λ s. refl }
 
 stays-kept : {X : Type 0} (f : Server → X) → Stays (kept f)
 unfolding kept
@@ -43,7 +43,7 @@ stays->>= : {X Y : Type 0} {w : Work X} {f : X → Work Y} → Stays w → ((x :
 unfolding ◌>>=◌
 stays->>= {X} {Y} {w} {f} first rest = record { at = λ s. all-followed_by (λ r. r.1 ≡ s) (λ r. r.1 ≡ s) (w s) (goes_on f) (first.at s) (next s) }
   where
-    next : (s : Server) (r : Result X Stop × Server) → r.1 ≡ s → AllEnd (λ q. q.1 ≡ s) (goes_on f r)
+    next : (s : Server) (r : Result X RequestError × Server) → r.1 ≡ s → AllEnd (λ q. q.1 ≡ s) (goes_on f r)
     next s (Ok x, t) is = subst (λ u. AllEnd (λ q. q.1 ≡ u) (f x t)) is ((rest x).at t)
     next s (Err e, t) is = is
 
@@ -57,8 +57,8 @@ stays-if : {X : Type 0} (b : Bool) (w v : Work X) → Stays w → Stays v → St
 stays-if true w v first second = first
 stays-if false w v first second = second
 
-stays-needed : {X : Type 0} (e : Stop) (o : Option X) → Stays (needed e o)
-stays-needed e None = stays-stop e
+stays-needed : {X : Type 0} (e : RequestError) (o : Option X) → Stays (needed e o)
+stays-needed e None = stays-fail e
 stays-needed e (Some x) = stays-give x
 
 stays-ask : (e : Event) → Stays (ask e)
@@ -70,7 +70,7 @@ stays-unless_refused reply = choose (refusal_in reply)
   where
     choose : (o : Option Refusal) → Stays (give_unless reply o)
     choose None = stays-give reply
-    choose (Some r) = stays-stop _
+    choose (Some r) = stays-fail _
 
 stays-obtain : (e : Event) → Stays (obtain e)
 stays-obtain e = stays->>= (stays-ask e) stays-unless_refused
@@ -81,17 +81,17 @@ stays-between pid d second call =
     stays->>= (stays-obtain _) (λ entered.
     stays->>= (stays-ask _) (λ reply. stays->>= (stays-ask _) (λ back. stays-unless_refused reply)))
 
-stays-or_inside : (pid n : ℕ) (call : List ℕ → Call) (kind : Option FileType) (r : Result Reply Stop) → Stays (or_inside pid n call kind r)
+stays-or_inside : (pid n : ℕ) (call : List ℕ → Call) (kind : Option FileType) (r : Result Reply RequestError) → Stays (or_inside pid n call kind r)
 stays-or_inside pid n call kind (Ok reply) = stays-give reply
-stays-or_inside pid n call kind (Err e) = stays-if (is_for EACCES e && is_known_directory kind) _ _ (stays-between pid n n _) (stays-stop e)
+stays-or_inside pid n call kind (Err e) = stays-if (is_for EACCES e && is_known_directory kind) _ _ (stays-between pid n n _) (stays-fail e)
 
-stays-or_next : (next : Stop → Work Reply) → ((e : Stop) → Stays (next e)) → (r : Result Reply Stop) → Stays (or_next next r)
+stays-or_next : (next : RequestError → Work Reply) → ((e : RequestError) → Stays (next e)) → (r : Result Reply RequestError) → Stays (or_next next r)
 stays-or_next next rest (Ok reply) = stays-give reply
-stays-or_next next rest (Err e) = stays-if (is_for EACCES e) _ _ (rest e) (stays-stop e)
+stays-or_next next rest (Err e) = stays-if (is_for EACCES e) _ _ (rest e) (stays-fail e)
 
-stays-by_places : (pid : ℕ) (second : Option ℕ) (call : List ℕ → Call) (before : Stop) (places : List Place) → Stays (by_places pid second call before places)
+stays-by_places : (pid : ℕ) (second : Option ℕ) (call : List ℕ → Call) (before : RequestError) (places : List Dentry) → Stays (by_places pid second call before places)
 unfolding by_places
-stays-by_places pid second call before [] = stays-stop before
+stays-by_places pid second call before [] = stays-fail before
 stays-by_places pid second call before (p ∷ others) =
     stays->>= (stays-attempt (stays-between pid p.directory _ (call p.name)))
     (stays-or_next _ (λ e. stays-by_places pid second call (standing_refusal before e) others))
@@ -104,23 +104,23 @@ stays-on pid n call =
     stays->>= (stays-kept _) (λ places.
     stays->>= (stays-attempt (stays-by_places pid None call _ places)) (stays-or_inside pid n call kind))))
 
-stays-by_looker : (n : ℕ) (call : List ℕ → Call) → Stays (by_looker n call)
-unfolding the_looker
-stays-by_looker n call = stays->>= (stays->>= (stays-kept _) (stays-needed _)) (λ pid. stays-on pid n call)
+stays-by_server_process : (n : ℕ) (call : List ℕ → Call) → Stays (by_server_process n call)
+unfolding the_server_process
+stays-by_server_process n call = stays->>= (stays->>= (stays-kept _) (stays-needed _)) (λ pid. stays-on pid n call)
 
 stays-asks_list : (n : ℕ) (status : Status) → Stays (asks_list n status)
 stays-asks_list n status =
     stays-if (may_hide status.mode) _ _
-    (stays->>= (stays->>= (stays-by_looker n _) (λ reply. stays->>= (stays-needed _ _) (λ acl. stays-give _))) (λ acl. stays-give _))
+    (stays->>= (stays->>= (stays-by_server_process n _) (λ reply. stays->>= (stays-needed _ _) (λ acl. stays-give _))) (λ acl. stays-give _))
     (stays-give false)
 
 stays-list_hides : (n : ℕ) → Stays (list_hides n)
-stays-list_hides n = stays->>= (stays->>= (stays-by_looker n Lstat) (λ reply. stays-needed _ _)) (λ status. stays-asks_list n status)
+stays-list_hides n = stays->>= (stays->>= (stays-by_server_process n Lstat) (λ reply. stays-needed _ _)) (λ status. stays-asks_list n status)
 
 pub stays-is_masked : (node : ℕ) → Stays (is_masked node)
 unfolding is_masked directory_number the_number
 stays-is_masked node =
-    stays->>= (stays->>= (stays->>= (stays-kept _) (stays-needed _)) (λ n. stays->>= (stays-kept _) (λ kind. stays-if (is_known_directory kind) _ _ (stays-give n) (stays-stop _))))
+    stays->>= (stays->>= (stays->>= (stays-kept _) (stays-needed _)) (λ n. stays->>= (stays-kept _) (λ kind. stays-if (is_known_directory kind) _ _ (stays-give n) (stays-fail _))))
     stays-list_hides
 
 stays-new_valid_if : (d name_valid : ℕ) (b : Bool) → Stays (new_valid_if d name_valid b)

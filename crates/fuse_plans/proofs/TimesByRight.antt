@@ -27,18 +27,18 @@ use Rattle.fuse_protocol.specs.declared.operation.NewTime.TheVariants.{Now, At}
 use Rattle.fuse_protocol.specs.declared.operation.Operation.{Operation}
 use Rattle.fuse_protocol.specs.declared.operation.Operation.TheVariants.{SetAttr}
 use Rattle.fuse_protocol.specs.declared.reply.Time.{Time}
-use Rattle.fuse_state.specs.declared.place.Place.{Place}
+use Rattle.fuse_state.specs.declared.dentry.Dentry.{Dentry}
 use Rattle.fuse_state.specs.Servers.{Server, first_process}
 use Rattle.fuse_state.specs.Stamps.{stamp_of}
 use Rattle.fuse_plans.specs.declared.reply.ReplyBody.{ReplyBody}
 use Rattle.fuse_plans.specs.declared.reply.Response.{Response}
-use Rattle.fuse_plans.specs.declared.stop.Stop.{Stop}
-use Rattle.fuse_plans.specs.declared.stop.Stop.TheVariants.{Lacks}
-use Rattle.fuse_plans.specs.declared.stop.OtherErrno.TheVariants.{ESTALE}
-use Rattle.fuse_plans.specs.Stops.{failed, is_for}
+use Rattle.fuse_plans.specs.declared.request_error.RequestError.{RequestError}
+use Rattle.fuse_plans.specs.declared.request_error.RequestError.TheVariants.{Lacks}
+use Rattle.fuse_plans.specs.declared.request_error.OtherErrno.TheVariants.{ESTALE}
+use Rattle.fuse_plans.specs.RequestErrors.{failed, is_for}
 use Rattle.fuse_plans.specs.Plans.{Plan, Finish, Ask, followed_by, IsRunOf, IsAsked, at_once, later, Restraint, KeepsTo, after_all, MayAskAll}
 use Rattle.fuse_plans.specs.Requests.{Request, asked_of}
-use Rattle.fuse_plans.specs.Works.{Work, give, stop, kept, keep, goes_on, ◌>>=◌, ◌>>◌, attempt, needed, ask, give_unless, refusal_in, is_refused_for, unless_refused, obtain, pid_of_reply, status_of_reply}
+use Rattle.fuse_plans.specs.Works.{Work, give, fail, kept, keep, goes_on, ◌>>=◌, ◌>>◌, attempt, needed, ask, give_unless, refusal_in, is_refused_for, unless_refused, obtain, pid_of_reply, status_of_reply}
 use Rattle.fuse_plans.specs.Callers.{settle_new, settled, settle, retire_idle, settle_first, begin_process, or_spawned, caller, between, or_inside, standing_refusal, or_next, by_places, on, look_at, look, is_known_directory, the_number}
 use Rattle.fuse_plans.specs.AttributePlans.{is_now, stamp_set, may_set_times, set_stamps_if, set_stamps, set_times, change_attributes, tell_times, set_attributes}
 use Rattle.fuse_plans.specs.Alterations.{sets_times, sets_some, where_so, IsToldIn, AreTold, MayBeAsked, AsksOnly}
@@ -49,7 +49,7 @@ use Rattle.fuse_plans.specs.Serving.{Replying, answered, asked_for, response_of,
 use Rattle.fuse_plans.specs.TimeLaws.{IsPresent, IsOfWhoAsks, was_there, has_begun, MaySet, owns, may_write, MaySetTimes, TimesAreSetByRight}
 use Rattle.fuse_plans.proofs.PlanLaws.{keeps-follows}
 use Rattle.fuse_plans.proofs.Conducts.{keeps-followed_by, keeps-weaker}
-use Rattle.fuse_plans.proofs.AlterPieces.{Asks, asks-kept, asks->>=, asks-retire, asks-the_looker, asks-told_stamps}
+use Rattle.fuse_plans.proofs.AlterPieces.{Asks, asks-kept, asks->>=, asks-retire, asks-the_server_process, asks-told_stamps}
 use Rattle.fuse_plans.proofs.AlterRequests.{asks-change_attributes, requests_change_what_they_say}
 
 -- ---- what was asked
@@ -107,7 +107,7 @@ module _ (r : Request) (s : Server) where
   recording = record { after = and_then; may_ask = IsByRight }
 
   -- what is known of a value
-  abbrev Knows : {X : Type 0} → (X → History → Server → Type 0) → History → Result X Stop × Server → Type 0
+  abbrev Knows : {X : Type 0} → (X → History → Server → Type 0) → History → Result X RequestError × Server → Type 0
   Knows T m (Ok x, t) = T x m t
   Knows T m (Err e, t) = Unit {0}
 
@@ -125,9 +125,9 @@ module _ (r : Request) (s : Server) where
   unfolding give
   leads-give x tells = record { at = tells }
 
-  leads-stop : {X : Type 0} {P : History → Server → Type 0} {T : X → History → Server → Type 0} (e : Stop) → Leads P T (stop e)
-  unfolding stop
-  leads-stop e = record { at = λ m t holds. tt }
+  leads-fail : {X : Type 0} {P : History → Server → Type 0} {T : X → History → Server → Type 0} (e : RequestError) → Leads P T (fail e)
+  unfolding fail
+  leads-fail e = record { at = λ m t holds. tt }
 
   leads-kept : {X : Type 0} {P : History → Server → Type 0} (f : Server → X) → Leads P (λ x m t. P m t × (f t ≡ x)) (kept f)
   unfolding kept
@@ -140,7 +140,7 @@ module _ (r : Request) (s : Server) where
     at = λ m t holds. keeps-followed_by recording (Knows T) (Knows U) (w t) (goes_on f) m (first.at m t holds) next;
   }
     where
-      next : (m : History) (q : Result X Stop × Server) → Knows T m q → KeepsTo recording (Knows U) m (goes_on f q)
+      next : (m : History) (q : Result X RequestError × Server) → Knows T m q → KeepsTo recording (Knows U) m (goes_on f q)
       next m (Ok x, t) known = (rest x).at m t known
       next m (Err e, t) known = tt
 
@@ -152,7 +152,7 @@ module _ (r : Request) (s : Server) where
       → ((x : X) (m : History) (t : Server) → T x m t → U x m t) → Leads P T w → Leads P U w
   leads-to {X} {P} {T} {U} {w} weaker first = record { at = λ m t holds. keeps-weaker recording (Knows T) (Knows U) (w t) m (first.at m t holds) each }
     where
-      each : (m : History) (q : Result X Stop × Server) → Knows T m q → Knows U m q
+      each : (m : History) (q : Result X RequestError × Server) → Knows T m q → Knows U m q
       each m (Ok x, t) known = weaker x m t known
       each m (Err e, t) known = tt
 
@@ -169,7 +169,7 @@ module _ (r : Request) (s : Server) where
     at = λ m t holds. keeps-weaker recording (λ k q. Knows T k q × Q k) _ (w t) m (keeps-too (Knows T) Q lasts (w t) m (first.at m t holds.0) holds.1) each;
   }
     where
-      each : (m : History) (q : Result X Stop × Server) → Knows T m q × Q m → Knows (λ x k t. T x k t × Q k) m q
+      each : (m : History) (q : Result X RequestError × Server) → Knows T m q × Q m → Knows (λ x k t. T x k t × Q k) m q
       each m (Ok x, t) known = known
       each m (Err e, t) known = tt
 
@@ -183,11 +183,11 @@ module _ (r : Request) (s : Server) where
   leads-if true w v first second = first
   leads-if false w v first second = second
 
-  leads-needed : {X : Type 0} {P : History → Server → Type 0} (e : Stop) (o : Option X) → Leads P (λ x m t. P m t × (o ≡ Some x)) (needed e o)
-  leads-needed e None = leads-stop e
+  leads-needed : {X : Type 0} {P : History → Server → Type 0} (e : RequestError) (o : Option X) → Leads P (λ x m t. P m t × (o ≡ Some x)) (needed e o)
+  leads-needed e None = leads-fail e
   leads-needed e (Some x) = leads-give x (λ m t holds. (holds, refl))
 
-  abbrev Known : {X : Type 0} → (X → History → Server → Type 0) → Result X Stop → History → Server → Type 0
+  abbrev Known : {X : Type 0} → (X → History → Server → Type 0) → Result X RequestError → History → Server → Type 0
   Known T (Ok x) m t = T x m t
   Known T (Err e) m t = Unit {0}
 
@@ -197,7 +197,7 @@ module _ (r : Request) (s : Server) where
     at = λ m t holds. keeps-followed_by recording (Knows T) (Knows (Known T)) (w t) (λ q. Finish (Ok q.0, q.1)) m (first.at m t holds) each;
   }
     where
-      each : (m : History) (q : Result X Stop × Server) → Knows T m q → Knows (Known T) m (Ok q.0, q.1)
+      each : (m : History) (q : Result X RequestError × Server) → Knows T m q → Knows (Known T) m (Ok q.0, q.1)
       each m (Ok x, t) known = known
       each m (Err e, t) known = tt
 
@@ -211,7 +211,7 @@ module _ (r : Request) (s : Server) where
   by_right o never m (Stamp n atime mtime ctime) may = λ sets. absurd (none-set o never (sets_some atime mtime ctime) may sets)
   by_right o never m _ may = tt
 
-  keeps-quiet : {X : Type 0} (o : Option Operation) → (IsToldIn o sets_times → ⊥) → (p : Plan (Result X Stop × Server)) (m : History) → AsksOnly (MayBeAsked o) p
+  keeps-quiet : {X : Type 0} (o : Option Operation) → (IsToldIn o sets_times → ⊥) → (p : Plan (Result X RequestError × Server)) (m : History) → AsksOnly (MayBeAsked o) p
       → KeepsTo recording (Knows Anything) m p
   keeps-quiet o never (Finish (Ok x, t)) m asks = tt
   keeps-quiet o never (Finish (Err e, t)) m asks = tt
@@ -245,7 +245,7 @@ module _ (r : Request) (s : Server) where
     where
       choose : (o : Option Refusal) → refusal_in reply ≡ o → Leads (λ m t. WasAsked e reply m) (λ given m t. Answered e given m) (give_unless reply o)
       choose None granted = leads-give reply (λ m t was. record { was = was; granted = granted })
-      choose (Some refusal) refused = leads-stop _
+      choose (Some refusal) refused = leads-fail _
 
   leads-obtain : (e : Event) → ((m : History) → IsByRight m e) → Leads Anyhow (λ reply m t. Answered e reply m) (obtain e)
   leads-obtain e may = leads->>= (leads-ask e may) (leads-unless_refused e)
@@ -267,24 +267,24 @@ module _ (r : Request) (s : Server) where
       → Leads Anyhow (λ reply m t. ByName pid call reply m) w
   leads-named pid call path first = leads-to (λ reply m t known. record { path = path; answered = known }) first
 
-  leads-or_next : (pid : ℕ) (call : List ℕ → Call) (next : Stop → Work Reply) → ((e : Stop) → Leads Anyhow (λ reply m t. ByName pid call reply m) (next e))
-      → (q : Result Reply Stop) → Leads (Known (λ reply m t. ByName pid call reply m) q) (λ reply m t. ByName pid call reply m) (or_next next q)
+  leads-or_next : (pid : ℕ) (call : List ℕ → Call) (next : RequestError → Work Reply) → ((e : RequestError) → Leads Anyhow (λ reply m t. ByName pid call reply m) (next e))
+      → (q : Result Reply RequestError) → Leads (Known (λ reply m t. ByName pid call reply m) q) (λ reply m t. ByName pid call reply m) (or_next next q)
   leads-or_next pid call next rest (Ok reply) = leads-give reply (λ m t known. known)
-  leads-or_next pid call next rest (Err e) = leads-if (is_for EACCES e) _ _ (rest e) (leads-stop e)
+  leads-or_next pid call next rest (Err e) = leads-if (is_for EACCES e) _ _ (rest e) (leads-fail e)
 
-  leads-by_places : (pid : ℕ) (second : Option ℕ) (call : List ℕ → Call) (first : Stop) (places : List Place)
+  leads-by_places : (pid : ℕ) (second : Option ℕ) (call : List ℕ → Call) (first : RequestError) (places : List Dentry)
       → Leads Anyhow (λ reply m t. ByName pid call reply m) (by_places pid second call first places)
   unfolding by_places
-  leads-by_places pid second call first [] = leads-stop first
+  leads-by_places pid second call first [] = leads-fail first
   leads-by_places pid second call first (p ∷ others) =
       leads->>= (leads-attempt (leads-named pid call p.name (leads-between pid p.directory _ (call p.name))))
       (leads-or_next pid call _ (λ e. leads-by_places pid second call (standing_refusal first e) others))
 
-  leads-or_inside : (pid n : ℕ) (call : List ℕ → Call) (kind : Option FileType) (q : Result Reply Stop)
+  leads-or_inside : (pid n : ℕ) (call : List ℕ → Call) (kind : Option FileType) (q : Result Reply RequestError)
       → Leads (Known (λ reply m t. ByName pid call reply m) q) (λ reply m t. ByName pid call reply m) (or_inside pid n call kind q)
   leads-or_inside pid n call kind (Ok reply) = leads-give reply (λ m t known. known)
   leads-or_inside pid n call kind (Err e) =
-      leads-if (is_for EACCES e && is_known_directory kind) _ _ (leads-named pid call (codes ".") (leads-between pid n n _)) (leads-stop e)
+      leads-if (is_for EACCES e && is_known_directory kind) _ _ (leads-named pid call (codes ".") (leads-between pid n n _)) (leads-fail e)
 
   leads-on : (pid n : ℕ) (call : List ℕ → Call) → Leads Anyhow (λ reply m t. ByName pid call reply m) (on pid n call)
   unfolding on
@@ -305,7 +305,7 @@ module _ (r : Request) (s : Server) where
 
   leads-look_at : (n : ℕ) (placed : Bool) → Leads Anyhow (λ reply m t. WasReplied reply m) (look_at n placed)
   leads-look_at n true =
-      leads->>= (leads-quiet {o = None} (λ told. told) asks-the_looker) (λ pid.
+      leads->>= (leads-quiet {o = None} (λ told. told) asks-the_server_process) (λ pid.
       leads-to (λ reply m t known. record { event = _; was = known.answered.was }) (leads-on pid n Lstat))
   leads-look_at n false =
       leads->>= (leads-kept _) (λ o.
@@ -340,7 +340,7 @@ module _ (r : Request) (s : Server) where
   module _ (cred : Credential) (is : r.cred ≡ Some cred) where
     leads-settle_new : (pid : ℕ) (taken : Bool) → Leads (λ m t. Own pid m) (λ given m t. Own given m) (settle_new cred pid taken)
     unfolding keep give ◌>>=◌
-    leads-settle_new pid true = leads-stop _
+    leads-settle_new pid true = leads-fail _
     leads-settle_new pid false = record { at = λ m t own. own }
 
     leads-settled : (reply : Reply) → Leads (λ m t. WasAsked (Spawn cred) reply m) (λ pid m t. Own pid m) (settled cred reply)
@@ -355,7 +355,7 @@ module _ (r : Request) (s : Server) where
             let was = subst (λ q. WasAsked (Spawn cred) q m) (pid_is given pid given_is) answered.was in has_begun cred was.after is was.asked
 
     leads-settle : (reply : Reply) → Leads (λ m t. WasAsked (Spawn cred) reply m) (λ pid m t. Own pid m) (settle cred reply)
-    leads-settle reply = leads-if (is_refused_for EAGAIN reply) _ _ (leads-stop _) (leads-settled reply)
+    leads-settle reply = leads-if (is_refused_for EAGAIN reply) _ _ (leads-fail _) (leads-settled reply)
 
     retires : Leads Anyhow Anything retire_idle
     retires = leads-quiet {o = None} (λ told. told) (asks->>= (asks-kept _) asks-retire)
@@ -397,16 +397,16 @@ module _ (r : Request) (s : Server) where
 
     leads-may_set_times : (pid n : ℕ) (link owner : Bool) → Leads Anyhow (λ done m t. May pid owner m) (may_set_times pid n link owner c)
     leads-may_set_times pid n link true = leads-give tt (λ m t any. is_owner refl)
-    leads-may_set_times pid n true false = leads-stop _
+    leads-may_set_times pid n true false = leads-fail _
     leads-may_set_times pid n false false = choose (is_now c.atime) (is_now c.mtime) refl refl
       where
         choose : (a b : Bool) → is_now c.atime ≡ a → is_now c.mtime ≡ b
-            → Leads Anyhow (λ done m t. May pid false m) (if not (a && b) then stop (failed EPERM) else (on pid n Writing >>= (λ reply. give {X = Unit {0}} tt)))
+            → Leads Anyhow (λ done m t. May pid false m) (if not (a && b) then fail (failed EPERM) else (on pid n Writing >>= (λ reply. give {X = Unit {0}} tt)))
         choose true true atime mtime =
             leads->>= (leads-on pid n Writing) (λ reply.
             leads-give tt (λ m t known. is_writer (record { reply = reply; atime = atime; mtime = mtime; by_name = known })))
-        choose true false atime mtime = leads-stop _
-        choose false b atime mtime = leads-stop _
+        choose true false atime mtime = leads-fail _
+        choose false b atime mtime = leads-fail _
 
     is_present : (now : Time) (new : Option NewTime) → is_now new ≡ true → stamp_set now new ≡ Some (stamp_of now)
     is_present now None is = absurd (let no : false ≡ true = is in cc)
@@ -453,9 +453,9 @@ module _ (r : Request) (s : Server) where
         leads->>= (leads-needed _ _) (λ told. leads-give tt (λ m t known. tt))))
       where
         only : (b : Bool) → (status.inode == n) ≡ b
-            → Leads (λ m t. Seen pid cred status m) (λ done m t. Seen pid cred status m × (status.inode ≡ n)) (if b then give {X = Unit {0}} tt else stop (Lacks ESTALE))
+            → Leads (λ m t. Seen pid cred status m) (λ done m t. Seen pid cred status m × (status.inode ≡ n)) (if b then give {X = Unit {0}} tt else fail (Lacks ESTALE))
         only true same = leads-give tt (λ m t seen. (seen, grind (arith, nat_tests)))
-        only false differs = leads-stop _
+        only false differs = leads-fail _
 
     leads-set_stamps : (pid n : ℕ) (cred : Credential) (status : Status) → r.cred ≡ Some cred
         → Leads (λ m t. Seen pid cred status m) Anything (set_stamps r.now n status c)

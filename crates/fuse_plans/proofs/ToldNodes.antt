@@ -1,4 +1,4 @@
--- What is told of a name that was found or made leads to the object.
+-- What is told of a name that was with_found or made leads to the object.
 --     Same, Leaves        nodes, names and handles of files are as they were; work that changes none of them
 --     Tells        work that ends with what it tells of a name
 --     told_nodes_lead_to_objects
@@ -16,9 +16,9 @@ use Rattle.fs_model.specs.declared.reply.Status.{Status}
 use Rattle.fuse_protocol.specs.declared.operation.Operation.{Operation}
 use Rattle.fuse_protocol.specs.declared.operation.Operation.TheVariants.{Lookup, SymLink, MkNod, MkDir, Create}
 use Rattle.fuse_protocol.specs.declared.reply.Time.{Time}
-use Rattle.fuse_state.specs.declared.place.Place.{Place}
-use Rattle.fuse_state.specs.Servers.{Server, number_of, node_of, with_process, without_process, with_handle, born, descriptor_of}
-use Rattle.fuse_state.specs.Changes.{is_gone, found, told}
+use Rattle.fuse_state.specs.declared.dentry.Dentry.{Dentry}
+use Rattle.fuse_state.specs.Servers.{Server, number_of_node, node_of, with_known_process, without_process, with_handle, with_new_object, descriptor_of}
+use Rattle.fuse_state.specs.Changes.{is_gone, with_found, told}
 use Rattle.fuse_state.proofs.StateLaws.{kind_then, lead_back, found_leads_back, found_led_nowhere, born_led_nowhere}
 use Rattle.fuse_plans.specs.declared.mode.Mode.{Mode}
 use Rattle.fuse_plans.specs.declared.request.Asked.{Asked}
@@ -27,14 +27,14 @@ use Rattle.fuse_plans.specs.declared.reply.ReplyBody.{ReplyBody}
 use Rattle.fuse_plans.specs.declared.reply.ReplyBody.TheVariants.{Absent}
 use Rattle.fuse_plans.specs.declared.reply.Response.{Response}
 use Rattle.fuse_plans.specs.declared.reply.Response.TheVariants.{Says}
-use Rattle.fuse_plans.specs.declared.stop.Stop.{Stop}
-use Rattle.fuse_plans.specs.declared.stop.Stop.TheVariants.{Refuses, Lacks}
-use Rattle.fuse_plans.specs.declared.stop.OtherErrno.TheVariants.{ENFILE, ERANGE, ENOSYS, ENODATA, EPROTO, EOPNOTSUPP, ESTALE}
+use Rattle.fuse_plans.specs.declared.request_error.RequestError.{RequestError}
+use Rattle.fuse_plans.specs.declared.request_error.RequestError.TheVariants.{Refuses, Lacks}
+use Rattle.fuse_plans.specs.declared.request_error.OtherErrno.TheVariants.{ENFILE, ERANGE, ENOSYS, ENODATA, EPROTO, EOPNOTSUPP, ESTALE}
 use Rattle.fuse_plans.specs.Plans.{Finish}
 use Rattle.fuse_plans.specs.Flags.{mode_in, is_trunc, making}
-use Rattle.fuse_plans.specs.Works.{Work, give, stop, kept, keep, goes_on, ◌>>=◌, ◌>>◌, attempt, needed, ask, give_unless, refusal_in, unless_refused, obtain, or_closed}
-use Rattle.fuse_plans.specs.Callers.{settle_new, settled, settle, retire_next, retire, settle_first, begin_process, or_spawned, caller, unused_of, or_unused, caller_with_room, the_looker, between, done_between, look_inside, the_number, is_known_directory, directory_number, standing_directory}
-use Rattle.fuse_plans.specs.NamePlans.{place, plain_name, directory_for, tell_entry, or_absent, searched_directory, keeps_absent, or_keep_absent, looked_up_body, found_or_absent, find_inside, new_valid, find_name, made, close, done_closed, make_by, make_masked, is_of_file, make_file}
+use Rattle.fuse_plans.specs.Works.{Work, give, fail, kept, keep, goes_on, ◌>>=◌, ◌>>◌, attempt, needed, ask, give_unless, refusal_in, unless_refused, obtain, or_closed}
+use Rattle.fuse_plans.specs.Callers.{settle_new, settled, settle, retire_next, retire, settle_first, begin_process, or_spawned, caller, unused_of, or_unused, caller_with_room, the_server_process, between, done_between, look_inside, the_number, is_known_directory, directory_number, standing_directory}
+use Rattle.fuse_plans.specs.NamePlans.{dentry, plain_name, directory_for, tell_entry, or_absent, searched_directory, keeps_absent, or_keep_absent, looked_up_body, found_or_absent, find_inside, new_valid, find_name, made, close, done_closed, make_by, make_masked, is_of_file, make_file}
 use Rattle.fuse_plans.specs.FilePlans.{or_opened, open_or_make, show_open, show_timed, look_open, tell_created, create_file}
 use Rattle.fuse_plans.specs.Times.{tell_time_if, tell_time, told_stamps_if, told_stamps}
 use Rattle.fuse_plans.specs.Alterations.{says_change}
@@ -66,10 +66,10 @@ same-then first later = record {
   handles = later.handles ∙ first.handles;
 }
 
-same-number : {s t : Server} → Same s t → (node : ℕ) → number_of t node ≡ number_of s node
+same-number : {s t : Server} → Same s t → (node : ℕ) → number_of_node t node ≡ number_of_node s node
 same-number {s} {t} same node =
-    ap (λ k. number_of (record t { kinds = k }) node) same.kinds
-    ∙ ap (λ g. number_of (record t { kinds = s.kinds; generations = g }) node) same.generations
+    ap (λ k. number_of_node (record t { kinds = k }) node) same.kinds
+    ∙ ap (λ g. number_of_node (record t { kinds = s.kinds; generations = g }) node) same.generations
 
 same-gone : {s t : Server} → Same s t → (n : ℕ) → is_gone t n ≡ is_gone s n
 same-gone {s} {t} same n =
@@ -90,9 +90,9 @@ leaves-give : {X : Type 0} (x : X) → Leaves (give x)
 unfolding give
 leaves-give x = record { at = same-self }
 
-leaves-stop : {X : Type 0} (e : Stop) → Leaves {X = X} (stop e)
-unfolding stop
-leaves-stop e = record { at = same-self }
+leaves-fail : {X : Type 0} (e : RequestError) → Leaves {X = X} (fail e)
+unfolding fail
+leaves-fail e = record { at = same-self }
 
 leaves-kept : {X : Type 0} (f : Server → X) → Leaves (kept f)
 unfolding kept
@@ -110,7 +110,7 @@ leaves->>= : {X Y : Type 0} {w : Work X} {f : X → Work Y} → Leaves w → ((x
 unfolding ◌>>=◌
 leaves->>= {X} {Y} {w} {f} first rest = record { at = λ s. all-followed_by (λ r. Same s r.1) (λ r. Same s r.1) (w s) (goes_on f) (first.at s) (after s) }
   where
-    after : (s : Server) (r : Result X Stop × Server) → Same s r.1 → AllEnd (λ (q : Result Y Stop × Server). Same s q.1) (goes_on f r)
+    after : (s : Server) (r : Result X RequestError × Server) → Same s r.1 → AllEnd (λ (q : Result Y RequestError × Server). Same s q.1) (goes_on f r)
     after s (Ok x, t) same = all-weaker (λ q. Same t q.1) (λ q. Same s q.1) (f x t) ((rest x).at t) (λ q later. same-then same later)
     after s (Err e, t) same = same
 
@@ -124,8 +124,8 @@ leaves-if : {X : Type 0} (b : Bool) (w v : Work X) → Leaves w → Leaves v →
 leaves-if true w v first second = first
 leaves-if false w v first second = second
 
-leaves-needed : {X : Type 0} (e : Stop) (o : Option X) → Leaves (needed e o)
-leaves-needed e None = leaves-stop e
+leaves-needed : {X : Type 0} (e : RequestError) (o : Option X) → Leaves (needed e o)
+leaves-needed e None = leaves-fail e
 leaves-needed e (Some x) = leaves-give x
 
 leaves-unless_refused : (reply : Reply) → Leaves (unless_refused reply)
@@ -133,21 +133,21 @@ leaves-unless_refused reply = go (refusal_in reply)
   where
     go : (o : _) → Leaves (give_unless reply o)
     go None = leaves-give reply
-    go (Some r) = leaves-stop _
+    go (Some r) = leaves-fail _
 
 leaves-obtain : (e : Event) → Leaves (obtain e)
 leaves-obtain e = leaves->>= (leaves-ask e) leaves-unless_refused
 
-leaves-or_closed : {X : Type 0} (pid fd : ℕ) (r : Result X Stop) → Leaves (or_closed pid fd r)
+leaves-or_closed : {X : Type 0} (pid fd : ℕ) (r : Result X RequestError) → Leaves (or_closed pid fd r)
 leaves-or_closed pid fd (Ok x) = leaves-give x
-leaves-or_closed pid fd (Err e) = leaves->>= (leaves-ask _) (λ reply. leaves-stop e)
+leaves-or_closed pid fd (Err e) = leaves->>= (leaves-ask _) (λ reply. leaves-fail e)
 
 -- ---- who calls
 
 leaves-settle_new : (cred : Credential) (pid : ℕ) (taken : Bool) → Leaves (settle_new cred pid taken)
-leaves-settle_new cred pid true = leaves-stop _
+leaves-settle_new cred pid true = leaves-fail _
 leaves-settle_new cred pid false =
-    leaves->>= (leaves-keep (with_process pid cred) (λ s. record { generations = refl; kinds = refl; names = refl; handles = refl })) (λ added. leaves-give pid)
+    leaves->>= (leaves-keep (with_known_process pid cred) (λ s. record { generations = refl; kinds = refl; names = refl; handles = refl })) (λ added. leaves-give pid)
 
 leaves-settled : (cred : Credential) (reply : Reply) → Leaves (settled cred reply)
 leaves-settled cred reply =
@@ -156,7 +156,7 @@ leaves-settled cred reply =
     leaves->>= (leaves-kept _) (leaves-settle_new cred pid)))
 
 leaves-settle : (cred : Credential) (reply : Reply) → Leaves (settle cred reply)
-leaves-settle cred reply = leaves-if _ _ _ (leaves-stop _) (leaves-settled cred reply)
+leaves-settle cred reply = leaves-if _ _ _ (leaves-fail _) (leaves-settled cred reply)
 
 leaves-retire_next : {rest : Work (Unit {0})} → Leaves rest → (o : Option ℕ) → Leaves (retire_next rest o)
 leaves-retire_next after None = leaves-give tt
@@ -186,7 +186,7 @@ unfolding caller
 leaves-caller who = leaves->>= (leaves-needed _ who) (λ cred. leaves->>= (leaves-kept _) (leaves-or_spawned cred))
 
 leaves-unused_of : (cred : Credential) (may : Bool) → Leaves (unused_of cred may)
-leaves-unused_of cred false = leaves-stop _
+leaves-unused_of cred false = leaves-fail _
 leaves-unused_of cred true = leaves->>= (leaves-kept _) (leaves-or_spawned cred)
 
 leaves-or_unused : (cred : Credential) (o : Option ℕ) → Leaves (or_unused cred o)
@@ -197,9 +197,9 @@ leaves-caller_with_room : (who : Option Credential) → Leaves (caller_with_room
 unfolding caller_with_room
 leaves-caller_with_room who = leaves->>= (leaves-needed _ who) (λ cred. leaves->>= (leaves-kept _) (leaves-or_unused cred))
 
-leaves-the_looker : Leaves the_looker
-unfolding the_looker
-leaves-the_looker = leaves->>= (leaves-kept _) (leaves-needed _)
+leaves-the_server_process : Leaves the_server_process
+unfolding the_server_process
+leaves-the_server_process = leaves->>= (leaves-kept _) (leaves-needed _)
 
 -- ---- calls
 
@@ -253,9 +253,9 @@ leaves-look_open : (pid fd : ℕ) → Leaves (look_open pid fd)
 unfolding look_open
 leaves-look_open pid fd = leaves->>= (leaves-attempt (leaves-show_timed pid fd)) (leaves-or_closed pid fd)
 
-leaves-or_opened : (pid d : ℕ) (name : List ℕ) (mode : Mode) (flags : ℕ) (first : Result Reply Stop) → Leaves (or_opened pid d name mode flags first)
+leaves-or_opened : (pid d : ℕ) (name : List ℕ) (mode : Mode) (flags : ℕ) (first : Result Reply RequestError) → Leaves (or_opened pid d name mode flags first)
 leaves-or_opened pid d name mode flags (Ok reply) = leaves-give _
-leaves-or_opened pid d name mode flags (Err e) = leaves-if _ _ _ (leaves->>= (leaves-between pid d d _) (λ reply. leaves-give _)) (leaves-stop e)
+leaves-or_opened pid d name mode flags (Err e) = leaves-if _ _ _ (leaves->>= (leaves-between pid d d _) (λ reply. leaves-give _)) (leaves-fail e)
 
 leaves-open_or_make : (pid d : ℕ) (name : List ℕ) (mode : Mode) (flags file_mode : ℕ) → Leaves (open_or_make pid d name mode flags file_mode)
 unfolding open_or_make
@@ -264,30 +264,30 @@ leaves-open_or_make pid d name mode flags file_mode = leaves->>= (leaves-attempt
 -- ---- directories of names
 
 leaves-plain_name : (name : List ℕ) → Leaves (plain_name name)
-leaves-plain_name name = leaves-if _ _ _ (leaves-stop _) (leaves-give tt)
+leaves-plain_name name = leaves-if _ _ _ (leaves-fail _) (leaves-give tt)
 
 leaves-directory_number : (node : ℕ) → Leaves (directory_number node)
 unfolding directory_number the_number
 leaves-directory_number node =
     leaves->>= (leaves->>= (leaves-kept _) (leaves-needed _)) (λ n.
-    leaves->>= (leaves-kept _) (λ kind. leaves-if (is_known_directory kind) _ _ (leaves-give n) (leaves-stop _)))
+    leaves->>= (leaves-kept _) (λ kind. leaves-if (is_known_directory kind) _ _ (leaves-give n) (leaves-fail _)))
 
 leaves-standing_directory : (node : ℕ) → Leaves (standing_directory node)
 unfolding standing_directory
 leaves-standing_directory node =
     leaves->>= (leaves-directory_number node) (λ n.
-    leaves->>= (leaves-kept _) (λ placed. leaves-if placed _ _ (leaves-give n) (leaves-stop _)))
+    leaves->>= (leaves-kept _) (λ placed. leaves-if placed _ _ (leaves-give n) (leaves-fail _)))
 
-leaves-or_absent : (r : Result ℕ Stop) → Leaves (or_absent r)
+leaves-or_absent : (r : Result ℕ RequestError) → Leaves (or_absent r)
 leaves-or_absent (Ok n) = leaves-give n
-leaves-or_absent (Err (Lacks ESTALE)) = leaves-stop _
-leaves-or_absent (Err (Lacks ENFILE)) = leaves-stop _
-leaves-or_absent (Err (Lacks ERANGE)) = leaves-stop _
-leaves-or_absent (Err (Lacks ENOSYS)) = leaves-stop _
-leaves-or_absent (Err (Lacks ENODATA)) = leaves-stop _
-leaves-or_absent (Err (Lacks EPROTO)) = leaves-stop _
-leaves-or_absent (Err (Lacks EOPNOTSUPP)) = leaves-stop _
-leaves-or_absent (Err (Refuses r)) = leaves-stop _
+leaves-or_absent (Err (Lacks ESTALE)) = leaves-fail _
+leaves-or_absent (Err (Lacks ENFILE)) = leaves-fail _
+leaves-or_absent (Err (Lacks ERANGE)) = leaves-fail _
+leaves-or_absent (Err (Lacks ENOSYS)) = leaves-fail _
+leaves-or_absent (Err (Lacks ENODATA)) = leaves-fail _
+leaves-or_absent (Err (Lacks EPROTO)) = leaves-fail _
+leaves-or_absent (Err (Lacks EOPNOTSUPP)) = leaves-fail _
+leaves-or_absent (Err (Refuses r)) = leaves-fail _
 
 leaves-searched_directory : (node : ℕ) (name : List ℕ) → Leaves (searched_directory node name)
 leaves-searched_directory node name = leaves->>= (leaves-plain_name name) (λ plain. leaves->>= (leaves-attempt (leaves-standing_directory node)) leaves-or_absent)
@@ -297,7 +297,7 @@ leaves-directory_for node name = leaves->>= (leaves-plain_name name) (λ plain. 
 
 -- ---- what is told
 
-abbrev ToldOf : Server → Result ReplyBody Stop × Server → Type 0
+abbrev ToldOf : Server → Result ReplyBody RequestError × Server → Type 0
 ToldOf s (Ok body, t) = (node : ℕ) (shown : Attributes) → told_entry body ≡ Some (node, shown) → shown.status.inode < 2 ^ 32 → LeadsToShown s t node shown.status.inode
 ToldOf s (Err e, t) = Unit {0}
 
@@ -305,7 +305,7 @@ ToldOf s (Err e, t) = Unit {0}
 record Tells (w : Work ReplyBody) : Type 0 where
   at : (s : Server) → AllEnd (ToldOf s) (w s)
 
-told-before : {s t : Server} → Same s t → (r : Result ReplyBody Stop × Server) → ToldOf t r → ToldOf s r
+told-before : {s t : Server} → Same s t → (r : Result ReplyBody RequestError × Server) → ToldOf t r → ToldOf s r
 told-before {s} {t} same (Ok body, u) of_body = λ node shown is lt.
     let leads = of_body node shown is lt in
     record { leads = leads.leads; fresh = λ gone. sym (same-number same node) ∙ leads.fresh (same-gone same shown.status.inode ∙ gone) }
@@ -315,7 +315,7 @@ tells-after : {X : Type 0} {w : Work X} {f : X → Work ReplyBody} → Leaves w 
 unfolding ◌>>=◌
 tells-after {X} {w} {f} first rest = record { at = λ s. all-followed_by (λ r. Same s r.1) (ToldOf s) (w s) (goes_on f) (first.at s) (after s) }
   where
-    after : (s : Server) (r : Result X Stop × Server) → Same s r.1 → AllEnd (ToldOf s) (goes_on f r)
+    after : (s : Server) (r : Result X RequestError × Server) → Same s r.1 → AllEnd (ToldOf s) (goes_on f r)
     after s (Ok x, t) same = all-weaker (ToldOf t) (ToldOf s) (f x t) ((rest x).at t) (told-before same)
     after s (Err e, t) same = tt
 
@@ -327,16 +327,16 @@ entry-is s t told_node node told_shown shown is lt leads =
     subst (λ (e : ℕ × Attributes). e.1.status.inode < 2 ^ 32 → LeadsToShown s t e.0 e.1.status.inode)
     (ap (λ (o : Option (ℕ × Attributes)). unwrap_or o (node, shown)) is) leads lt
 
-found-leads : (s : Server) (p : Place) (n : ℕ) (kind : FileType) → n < 2 ^ 32 → LeadsToShown s (found p n kind s) (node_of (found p n kind s) n) n
+found-leads : (s : Server) (p : Dentry) (n : ℕ) (kind : FileType) → n < 2 ^ 32 → LeadsToShown s (with_found p n kind s) (node_of (with_found p n kind s) n) n
 found-leads s p n kind lt = record { leads = found_leads_back s p n kind lt; fresh = λ gone. found_led_nowhere s p n kind lt gone }
 
-born-leads : (s : Server) (now : Time) (p : Place) (n : ℕ) (kind : FileType) → n < 2 ^ 32 → LeadsToShown s (born now p n kind s) (node_of (born now p n kind s) n) n
+born-leads : (s : Server) (now : Time) (p : Dentry) (n : ℕ) (kind : FileType) → n < 2 ^ 32 → LeadsToShown s (with_new_object now p n kind s) (node_of (with_new_object now p n kind s) n) n
 born-leads s now p n kind lt = record {
-  leads = lead_back (born now p n kind s) n lt (kind_then s p n kind s);
+  leads = lead_back (with_new_object now p n kind s) n lt (kind_then s p n kind s);
   fresh = λ gone. born_led_nowhere s now p n kind lt;
 }
 
-told-leads : (s : Server) (now : Time) (p : Place) (n : ℕ) (kind : FileType) (is_new is_cut : Bool) (handle : ℕ) → n < 2 ^ 32
+told-leads : (s : Server) (now : Time) (p : Dentry) (n : ℕ) (kind : FileType) (is_new is_cut : Bool) (handle : ℕ) → n < 2 ^ 32
     → let t : Server = with_handle handle n (told now p n kind is_new is_cut s) in LeadsToShown s t (node_of t n) n
 told-leads s now p n kind true is_cut handle lt = let l = born-leads s now p n kind lt in record { leads = l.leads; fresh = l.fresh }
 told-leads s now p n kind false true handle lt = let l = found-leads s p n kind lt in record { leads = l.leads; fresh = l.fresh }
@@ -349,27 +349,27 @@ tells-none : (body : ReplyBody) → told_entry body ≡ None → Tells (give bod
 unfolding give
 tells-none body none = record { at = λ s node shown is lt. absurd (let no : None ≡ Some (node, shown) = sym none ∙ is in cc) }
 
-tells-stop : (e : Stop) → Tells (stop e)
-unfolding stop
-tells-stop e = record { at = λ s. tt }
+tells-fail : (e : RequestError) → Tells (fail e)
+unfolding fail
+tells-fail e = record { at = λ s. tt }
 
 tells-if : (b : Bool) (w v : Work ReplyBody) → Tells w → Tells v → Tells (if b then w else v)
 tells-if true w v first second = first
 tells-if false w v first second = second
 
-tells-unless_absent : (nobody : Bool) (e : Stop) → Tells (kept (λ s. s.settings) >>= (λ settings. or_keep_absent nobody settings e))
+tells-unless_absent : (nobody : Bool) (e : RequestError) → Tells (kept (λ s. s.settings) >>= (λ settings. or_keep_absent nobody settings e))
 tells-unless_absent nobody e =
-    tells-after (leaves-kept (λ s. s.settings)) (λ settings. tells-if (keeps_absent nobody settings e) _ _ (tells-none (Absent settings.keeping.absent) refl) (tells-stop e))
+    tells-after (leaves-kept (λ s. s.settings)) (λ settings. tells-if (keeps_absent nobody settings e) _ _ (tells-none (Absent settings.keeping.absent) refl) (tells-fail e))
 
-tells-found : (nobody : Bool) (p : Place) (status : Status) (stamps : Option Stamps)
-    → Tells (keep (found p status.inode status.kind) >> kept (looked_up_body nobody status stamps))
+tells-found : (nobody : Bool) (p : Dentry) (status : Status) (stamps : Option Stamps)
+    → Tells (keep (with_found p status.inode status.kind) >> kept (looked_up_body nobody status stamps))
 unfolding kept keep ◌>>=◌
 tells-found nobody p status stamps = record {
   at = λ s node shown is lt. entry-is s _ _ node _ shown is lt (λ low. found-leads s _ status.inode status.kind low);
 }
 
-tells-found_or_absent : (nobody : Bool) (d : ℕ) (name : List ℕ) (seen : Result Status Stop) → Tells (found_or_absent nobody d name seen)
-tells-found_or_absent nobody d name (Ok status) = tells-after (leaves-told_stamps status.inode) (tells-found nobody (place d name) status)
+tells-found_or_absent : (nobody : Bool) (d : ℕ) (name : List ℕ) (seen : Result Status RequestError) → Tells (found_or_absent nobody d name seen)
+tells-found_or_absent nobody d name (Ok status) = tells-after (leaves-told_stamps status.inode) (tells-found nobody (dentry d name) status)
 tells-found_or_absent nobody d name (Err e) = tells-unless_absent nobody e
 
 tells-find_inside : (nobody : Bool) (pid d : ℕ) (name : List ℕ) → Tells (find_inside nobody pid d name)
@@ -378,10 +378,10 @@ tells-find_inside nobody pid d name = tells-after (leaves-attempt (leaves-look_i
 tells-find_name : (r : Asked) (name : List ℕ) → Tells (find_name r name)
 tells-find_name r name =
     tells-after (leaves-searched_directory r.node name) (λ d.
-    tells-after (leaves-if r.needs_nobody _ _ leaves-the_looker (leaves-caller r.cred)) (λ pid. tells-find_inside r.needs_nobody pid d name))
+    tells-after (leaves-if r.needs_nobody _ _ leaves-the_server_process (leaves-caller r.cred)) (λ pid. tells-find_inside r.needs_nobody pid d name))
 
-tells-born : (now : Time) (name_valid : ℕ) (p : Place) (status : Status) (stamps : Option Stamps)
-    → Tells (keep (born now p status.inode status.kind) >> tell_entry name_valid status stamps)
+tells-born : (now : Time) (name_valid : ℕ) (p : Dentry) (status : Status) (stamps : Option Stamps)
+    → Tells (keep (with_new_object now p status.inode status.kind) >> tell_entry name_valid status stamps)
 unfolding kept keep ◌>>=◌
 tells-born now name_valid p status stamps = record {
   at = λ s node shown is lt. entry-is s _ _ node _ shown is lt (λ low. born-leads s now _ status.inode status.kind low);
@@ -390,9 +390,9 @@ tells-born now name_valid p status stamps = record {
 tells-made : (now : Time) (name_valid d : ℕ) (name : List ℕ) → Tells (made now name_valid d name)
 unfolding made
 tells-made now name_valid d name =
-    tells-after leaves-the_looker (λ pid.
+    tells-after leaves-the_server_process (λ pid.
     tells-after (leaves-look_inside pid d name) (λ status.
-    tells-after (leaves-told_stamps status.inode) (tells-born now name_valid (place d name) status)))
+    tells-after (leaves-told_stamps status.inode) (tells-born now name_valid (dentry d name) status)))
 
 tells-make_by : (now : Time) (name_valid pid d : ℕ) (call : Call) (name : List ℕ) → Tells (make_by now name_valid pid d call name)
 tells-make_by now name_valid pid d call name = tells-after (leaves-done_closed pid d call) (λ done. tells-made now name_valid d name)
@@ -405,7 +405,7 @@ leaves-new_valid d = leaves-stays (stays-new_valid d)
 
 tells-make_file : (r : Asked) (name : List ℕ) (mode umask : ℕ) → Tells (make_file r name mode umask)
 tells-make_file r name mode umask =
-    tells-after (leaves-if (is_of_file mode) _ _ (leaves-give tt) (leaves-stop _)) (λ file.
+    tells-after (leaves-if (is_of_file mode) _ _ (leaves-give tt) (leaves-fail _)) (λ file.
     tells-after (leaves-directory_for r.node name) (λ d.
     tells-after (leaves-new_valid d) (λ name_valid.
     tells-after (leaves-caller_with_room r.cred) (λ pid. tells-make_masked r.now name_valid umask pid d (OpenCall name making (bit_and mode 0o777)) name))))
@@ -462,7 +462,7 @@ tells-answer s true (Silently f) tells = absurd tells
 tells-answer s false (Silently f) tells = absurd tells
 tells-answer s true (Replying w) tells = all-followed_by (ToldOf s) (AnswerOf s) (w s) (λ r. Finish (response_of r.0, r.1)) (tells.at s) answer
   where
-    answer : (r : Result ReplyBody Stop × Server) → ToldOf s r → AnswerOf s (response_of r.0, r.1)
+    answer : (r : Result ReplyBody RequestError × Server) → ToldOf s r → AnswerOf s (response_of r.0, r.1)
     answer (Ok body, t) of_body = of_body
     answer (Err e, t) nothing = tt
 tells-answer s false (Replying w) tells = tt

@@ -7,15 +7,15 @@ use Rattle.fs_cred.specs.declared.errno.Errno.TheVariants.{EACCES, EINVAL}
 use Rattle.fs_model.specs.declared.call.AclType.{AclType}
 use Rattle.fs_model.specs.declared.call.AclType.TheVariants.{Access, Default}
 use Rattle.fs_model.specs.declared.call.Call.TheVariants.{SetAcl}
-use Rattle.fuse_plans.specs.declared.stop.Stop.TheVariants.{Lacks}
-use Rattle.fuse_plans.specs.Stops.{failed}
-use Rattle.fuse_plans.specs.declared.stop.OtherErrno.TheVariants.{EOPNOTSUPP, ENODATA, ERANGE}
+use Rattle.fuse_plans.specs.declared.request_error.RequestError.TheVariants.{Lacks}
+use Rattle.fuse_plans.specs.RequestErrors.{failed}
+use Rattle.fuse_plans.specs.declared.request_error.OtherErrno.TheVariants.{EOPNOTSUPP, ENODATA, ERANGE}
 use Rattle.fuse_plans.specs.declared.request.Asked.{Asked}
 use Rattle.fuse_protocol.specs.declared.reply.Time.{Time}
 use Rattle.fuse_plans.specs.declared.reply.ReplyBody.{ReplyBody}
 use Rattle.fuse_plans.specs.declared.reply.ReplyBody.TheVariants.{Nothing, Bytes, Acl, Size}
-use Rattle.fuse_state.specs.Servers.{Server, kind_of, changed}
-use Rattle.fuse_plans.specs.Works.{Work, give, stop, kept, keep, ◌>>=◌, ◌>>◌, needed}
+use Rattle.fuse_state.specs.Servers.{Server, kind_known, with_change_time}
+use Rattle.fuse_plans.specs.Works.{Work, give, fail, kept, keep, ◌>>=◌, ◌>>◌, needed}
 use Rattle.fuse_plans.specs.Callers.{caller, is_known_directory, has_place, on, look, the_number}
 use Rattle.fuse_plans.specs.Masks.{acl_of}
 use Rattle.fuse_plans.specs.AttributePlans.{is_known_link}
@@ -36,13 +36,13 @@ the_acl name = needed (Lacks EOPNOTSUPP) (acl_named name)
 
 -- it is no link, and has a name
 abbrev pub has_acls : Server → ℕ → Bool
-has_acls s n = not (is_known_link (kind_of s n)) && has_place s n
+has_acls s n = not (is_known_link (kind_known s n)) && has_place s n
 
 abbrev pub an_object : Asked → Work ℕ
 an_object r = do
   n ← the_number r.node
   has ← kept (λ s. has_acls s n)
-  if has then give n else stop (Lacks EOPNOTSUPP)
+  if has then give n else fail (Lacks EOPNOTSUPP)
 
 -- ---- what is there
 
@@ -51,7 +51,7 @@ acl_size a = 4 + 8 * entry_count a
 
 -- for a size of 0 how many bytes it has
 abbrev pub sized : ℕ → ℕ → ReplyBody → Work ReplyBody
-sized size has body = if size == 0 then give (Size has) else if nat_lt size has then stop (Lacks ERANGE) else give body
+sized size has body = if size == 0 then give (Size has) else if nat_lt size has then fail (Lacks ERANGE) else give body
 
 -- an ACL that is there, or how many bytes it has
 abbrev pub tell_acl : ℕ → AclType → ℕ → Work ReplyBody
@@ -95,12 +95,12 @@ is_of_default Default = true
 is_of_default Access = false
 
 -- no access ACL: the three entries of the present mode
-abbrev pub is_plain : AclType → Option AccessList → Bool
-is_plain Access None = true
-is_plain _ _ = false
+abbrev pub is_of_mode_alone : AclType → Option AccessList → Bool
+is_of_mode_alone Access None = true
+is_of_mode_alone _ _ = false
 
 abbrev pub acl_set : ℕ → AclType → Option AccessList → Work (Option AccessList)
-acl_set n which acl = if is_plain which acl then (do
+acl_set n which acl = if is_of_mode_alone which acl then (do
   status ← look n
   give (Some (minimal status.mode))) else give acl
 
@@ -109,14 +109,14 @@ abbrev pub set_by : Time → ℕ → ℕ → AclType → Option AccessList → W
 set_by now pid n which wanted = do
   acl ← acl_set n which wanted
   on pid n (λ path. SetAcl path which acl)
-  keep (changed now n)
+  keep (with_change_time now n)
   give Nothing
 
 abbrev pub set_acl : Asked → AclType → Option AccessList → Work ReplyBody
 set_acl r which wanted = do
   n ← an_object r
-  kind ← kept (λ s. kind_of s n)
-  when (is_of_default which && not (is_known_directory kind)) (stop (failed EACCES))
+  kind ← kept (λ s. kind_known s n)
+  when (is_of_default which && not (is_known_directory kind)) (fail (failed EACCES))
   pid ← caller r.cred
   set_by r.now pid n which wanted
 

@@ -11,8 +11,8 @@ use Rattle.fs_model.specs.declared.call.Call.{Call}
 use Rattle.fs_model.specs.declared.call.Call.TheVariants.{Link as LinkCall, Rename as RenameCall}
 use Rattle.fuse_protocol.specs.declared.operation.Operation.{Operation}
 use Rattle.fuse_protocol.specs.declared.operation.Operation.TheVariants.{Lookup, SymLink, MkNod, MkDir, Unlink, RmDir, Rename, Link, Create}
-use Rattle.fuse_state.specs.declared.place.Place.{Place}
-use Rattle.fuse_state.specs.Servers.{Server, number_of, places_of}
+use Rattle.fuse_state.specs.declared.dentry.Dentry.{Dentry}
+use Rattle.fuse_state.specs.Servers.{Server, number_of_node, places_of}
 use Rattle.fuse_plans.specs.Callers.{has_place}
 use Rattle.fuse_plans.specs.Paths.{only_path, names_in, changes_name}
 
@@ -43,16 +43,16 @@ given_name (Some operation) = name_of_operation operation
 
 -- a directory that stands: it is the root, or a name leads to it
 pub record IsStandingDirectory (s : Server) (node directory : ℕ) : Type 0 where
-  pub of_node : number_of s node ≡ Some directory
+  pub of_node : number_of_node s node ≡ Some directory
   pub has_place : IsTrue (has_place s directory)
 
 -- the name that is given, in the directory of the node
-pub record IsGivenName (r : Subject) (p : Place) : Type 0 where
+pub record IsGivenName (r : Subject) (p : Dentry) : Type 0 where
   pub name : given_name r.operation ≡ Some p.name
   pub directory : IsStandingDirectory r.start r.node p.directory
 
 -- the new name of a rename, in the directory of its other node
-pub data IsNewName (r : Subject) (p : Place) : Type 0 where
+pub data IsNewName (r : Subject) (p : Dentry) : Type 0 where
   is_new : (name : List ℕ) (new_node flags : ℕ) → r.operation ≡ Some (Rename name new_node p.name flags)
       → IsStandingDirectory r.start new_node p.directory → IsNewName r p
 
@@ -69,22 +69,22 @@ node_of_object (Some operation) node = node_asked operation node
 
 -- the object that a request is about has this number
 abbrev pub IsObject : Subject → ℕ → Type 0
-IsObject r n = number_of r.start (node_of_object r.operation r.node) ≡ Some n
+IsObject r n = number_of_node r.start (node_of_object r.operation r.node) ≡ Some n
 
 -- where the server knows an object: one of its names
-abbrev pub IsKnownPlace : Server → ℕ → Place → Type 0
+abbrev pub IsKnownPlace : Server → ℕ → Dentry → Type 0
 IsKnownPlace s n p = Contains (places_of s n) p
 
 -- ---- what is acted on
 
 -- A name that is given, or one by which the object is known; or the object itself, by who stands in it.
-pub data IsOfRequest (r : Subject) (p : Place) : Type 0 where
+pub data IsOfRequest (r : Subject) (p : Dentry) : Type 0 where
   is_given : IsGivenName r p → IsOfRequest r p
   is_new_name : IsNewName r p → IsOfRequest r p
   is_known : (n : ℕ) → IsObject r n → IsKnownPlace r.start n p → IsOfRequest r p
   is_itself : IsObject r p.directory → p.name ≡ codes "." → IsOfRequest r p
 
-abbrev pub named_in : ℕ → List ℕ → Place
+abbrev pub named_in : ℕ → List ℕ → Dentry
 named_in directory name = record { directory = directory; name = name }
 
 -- The path of a call on what has the name, which that keeps; or of one that adds or takes the name.

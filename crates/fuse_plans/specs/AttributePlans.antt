@@ -13,9 +13,9 @@ use Rattle.fs_model.specs.declared.reply.FileType.{FileType}
 use Rattle.fs_model.specs.declared.reply.FileType.TheVariants.{Link}
 use Rattle.fs_model.specs.declared.reply.Reply.{Reply}
 use Rattle.fs_model.specs.declared.reply.Status.{Status}
-use Rattle.fuse_plans.specs.declared.stop.Stop.TheVariants.{Lacks}
-use Rattle.fuse_plans.specs.Stops.{failed}
-use Rattle.fuse_plans.specs.declared.stop.OtherErrno.TheVariants.{EOPNOTSUPP}
+use Rattle.fuse_plans.specs.declared.request_error.RequestError.TheVariants.{Lacks}
+use Rattle.fuse_plans.specs.RequestErrors.{failed}
+use Rattle.fuse_plans.specs.declared.request_error.OtherErrno.TheVariants.{EOPNOTSUPP}
 use Rattle.fuse_plans.specs.declared.request.Asked.{Asked}
 use Rattle.fuse_protocol.specs.declared.reply.Time.{Time}
 use Rattle.fuse_protocol.specs.declared.operation.NewTime.{NewTime}
@@ -23,10 +23,10 @@ use Rattle.fuse_protocol.specs.declared.operation.NewTime.TheVariants.{Now, At}
 use Rattle.fuse_protocol.specs.declared.operation.AttrChanges.{AttrChanges}
 use Rattle.fuse_plans.specs.declared.reply.ReplyBody.{ReplyBody}
 use Rattle.fuse_plans.specs.declared.reply.ReplyBody.TheVariants.{Nothing, Shown, Bytes}
-use Rattle.fuse_state.specs.Servers.{Server, kind_of, times_of, with_times, touched, changed, descriptor_of}
+use Rattle.fuse_state.specs.Servers.{Server, kind_known, times_of, with_times_of, with_new_contents, with_change_time, descriptor_of}
 use Rattle.fuse_state.specs.Stamps.{stamp_of}
-use Rattle.fuse_plans.specs.Works.{Work, give, stop, kept, keep, ◌>>=◌, ◌>>◌, ask, needed, replied_stamps, replied_target}
-use Rattle.fuse_plans.specs.Callers.{caller, on, by_looker, look, the_number}
+use Rattle.fuse_plans.specs.Works.{Work, give, fail, kept, keep, ◌>>=◌, ◌>>◌, ask, needed, replied_stamps, replied_target}
+use Rattle.fuse_plans.specs.Callers.{caller, on, by_server_process, look, the_number}
 use Rattle.fuse_plans.specs.NamePlans.{attributes}
 use Rattle.fuse_plans.specs.FilePlans.{when, done, only_inode, call_open}
 use Rattle.fuse_plans.specs.Times.{disk_keeps_times, told_stamps}
@@ -58,12 +58,12 @@ no_owners = (None, None)
 
 abbrev pub owners_stay : AttrChanges → Status → Work (Option ℕ × Option ℕ)
 owners_stay c status =
-    if differs c.uid status.owner || differs c.gid status.group then stop (Lacks EOPNOTSUPP) else give no_owners
+    if differs c.uid status.owner || differs c.gid status.group then fail (Lacks EOPNOTSUPP) else give no_owners
 
 -- of a link nothing changes but its times
 abbrev pub new_owners : AttrChanges → ℕ → Bool → Work (Option ℕ × Option ℕ)
 new_owners c n false = give (c.uid, c.gid)
-new_owners c n true = if is_some c.mode || is_some c.size then stop (Lacks EOPNOTSUPP) else do
+new_owners c n true = if is_some c.mode || is_some c.size then fail (Lacks EOPNOTSUPP) else do
   status ← look n
   owners_stay c status
 
@@ -76,18 +76,18 @@ abbrev pub set_size : Time → ℕ → ℕ → Option ℕ → Option ℕ → Wor
 set_size now pid n handle None = give tt
 set_size now pid n handle (Some size) = do
   resize_object pid n size handle
-  keep (touched now n)
+  keep (with_new_contents now n)
 
 abbrev pub set_owners : Time → ℕ → ℕ → Option ℕ × Option ℕ → Work (Unit {0})
 set_owners now pid n owners = when (is_some owners.0 || is_some owners.1) (do
   on pid n (λ path. Chown path owners.0 owners.1)
-  keep (changed now n))
+  keep (with_change_time now n))
 
 abbrev pub set_mode : Time → ℕ → ℕ → Option ℕ → Work (Unit {0})
 set_mode now pid n None = give tt
 set_mode now pid n (Some mode) = do
   on pid n (λ path. Chmod path (bit_and mode 0o7777))
-  keep (changed now n)
+  keep (with_change_time now n)
 
 -- it is set to the present
 abbrev pub is_now : Option NewTime → Bool
@@ -98,7 +98,7 @@ is_now new = false
 abbrev pub may_set_times : ℕ → ℕ → Bool → Bool → AttrChanges → Work (Unit {0})
 may_set_times pid n link true c = give tt
 may_set_times pid n link false c =
-    if link || not (is_now c.atime && is_now c.mtime) then stop (failed EPERM) else done (on pid n (λ path. Access path (perms_of 2)))
+    if link || not (is_now c.atime && is_now c.mtime) then fail (failed EPERM) else done (on pid n (λ path. Access path (perms_of 2)))
 
 abbrev pub time_after : Time → Time → Option NewTime → Time
 time_after now old None = old
@@ -108,7 +108,7 @@ time_after now old (Some (At seconds nanoseconds)) = record { seconds = seconds;
 abbrev pub timed : Time → ℕ → AttrChanges → Server → Server
 timed now n c s =
     let old = times_of s n in
-    with_times n (record { atime = time_after now old.atime c.atime; mtime = time_after now old.mtime c.mtime; ctime = now }) s
+    with_times_of n (record { atime = time_after now old.atime c.atime; mtime = time_after now old.mtime c.mtime; ctime = now }) s
 
 -- what the machine is to have
 abbrev pub stamp_set : Time → Option NewTime → Option ℕ
@@ -155,7 +155,7 @@ abbrev pub set_attributes : Asked → AttrChanges → Work ReplyBody
 set_attributes r c = do
   n ← the_number r.node
   pid ← caller r.cred
-  kind ← kept (λ s. kind_of s n)
+  kind ← kept (λ s. kind_known s n)
   change_attributes r.now pid n (is_known_link kind) c
   tell_times r pid n (is_known_link kind) c
 
@@ -163,7 +163,7 @@ set_attributes r c = do
 
 abbrev pub tell_target : ℕ → Work ReplyBody
 tell_target n = do
-  reply ← by_looker n Readlink
+  reply ← by_server_process n Readlink
   target ← replied_target reply
   give (Bytes target)
 
@@ -182,6 +182,6 @@ access_as who n perms = do
 abbrev pub ask_access : Asked → ℕ → Work ReplyBody
 ask_access r mask = do
   n ← the_number r.node
-  kind ← kept (λ s. kind_of s n)
+  kind ← kept (λ s. kind_known s n)
   when (not (is_known_link kind)) (access_as r.cred n (perms_of (bit_and mask 7)))
   give Nothing

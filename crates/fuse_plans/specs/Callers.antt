@@ -14,21 +14,21 @@ use Rattle.fs_model.specs.declared.reply.FileType.TheVariants.{Directory}
 use Rattle.fs_model.specs.declared.reply.Reply.{Reply}
 use Rattle.fs_model.specs.declared.reply.Status.{Status}
 use Rattle.fs_model.specs.Limits.{root}
-use Rattle.fuse_plans.specs.declared.stop.Stop.{Stop}
-use Rattle.fuse_plans.specs.declared.stop.Stop.TheVariants.{Lacks}
-use Rattle.fuse_plans.specs.Stops.{failed, is_for}
-use Rattle.fuse_plans.specs.declared.stop.OtherErrno.TheVariants.{ENFILE, ESTALE}
-use Rattle.fuse_state.specs.Servers.{Server, number_of, kind_of, places_of, place_of, first_process, partly_used, idle_process, is_process, may_take_process, next_idle, with_process, without_process, owner_of, descriptor_of, handle_for}
-use Rattle.fuse_state.specs.declared.place.Place.{Place}
-use Rattle.fuse_plans.specs.Works.{Work, give, stop, kept, keep, ◌>>=◌, ◌>>◌, attempt, needed, ask, is_refused_for, unless_refused, obtain, unexpected, replied_pid, replied_status}
+use Rattle.fuse_plans.specs.declared.request_error.RequestError.{RequestError}
+use Rattle.fuse_plans.specs.declared.request_error.RequestError.TheVariants.{Lacks}
+use Rattle.fuse_plans.specs.RequestErrors.{failed, is_for}
+use Rattle.fuse_plans.specs.declared.request_error.OtherErrno.TheVariants.{ENFILE, ESTALE}
+use Rattle.fuse_state.specs.Servers.{Server, number_of_node, kind_known, places_of, place_of, first_process, partly_used, idle_process, is_process, may_take_process, next_idle, with_known_process, without_process, owner_of, descriptor_of, handle_for}
+use Rattle.fuse_state.specs.declared.dentry.Dentry.{Dentry}
+use Rattle.fuse_plans.specs.Works.{Work, give, fail, kept, keep, ◌>>=◌, ◌>>◌, attempt, needed, ask, is_refused_for, unless_refused, obtain, unexpected, replied_pid, replied_status}
 
 -- ---- a process of it
 
 -- No two processes have one number.
 abbrev pub settle_new : Credential → ℕ → Bool → Work ℕ
-settle_new cred pid true = stop unexpected
+settle_new cred pid true = fail unexpected
 settle_new cred pid false = do
-  keep (with_process pid cred)
+  keep (with_known_process pid cred)
   give pid
 
 abbrev pub settled : Credential → Reply → Work ℕ
@@ -39,7 +39,7 @@ settled cred reply = do
   settle_new cred pid taken
 
 abbrev pub settle : Credential → Reply → Work ℕ
-settle cred reply = if is_refused_for EAGAIN reply then stop (Lacks ENFILE) else settled cred reply
+settle cred reply = if is_refused_for EAGAIN reply then fail (Lacks ENFILE) else settled cred reply
 
 -- A process ends, and then the rest. Whatever is replied, it is no more one of those that are known.
 abbrev pub retire_next : Work (Unit {0}) → Option ℕ → Work (Unit {0})
@@ -88,7 +88,7 @@ caller who = do
 
 -- one that holds no descriptor, where one more of the user may hold some
 abbrev pub unused_of : Credential → Bool → Work ℕ
-unused_of cred false = stop (Lacks ENFILE)
+unused_of cred false = fail (Lacks ENFILE)
 unused_of cred true = do
   pid ← kept (λ s. idle_process s cred)
   or_spawned cred pid
@@ -105,9 +105,9 @@ caller_with_room who = do
   pid ← kept (λ s. partly_used s cred)
   or_unused cred pid
 
-unfoldable pub the_looker : Work ℕ
-the_looker = do
-  pid ← kept (λ s. s.looker)
+unfoldable pub the_server_process : Work ℕ
+the_server_process = do
+  pid ← kept (λ s. s.server_process)
   needed unexpected pid
 
 -- ---- calls
@@ -140,32 +140,32 @@ is_known_directory (Some Directory) = true
 is_known_directory _ = false
 
 -- In a directory that the caller may not search it may stand all the same.
-abbrev pub or_inside : ℕ → ℕ → (List ℕ → Call) → Option FileType → Result Reply Stop → Work Reply
+abbrev pub or_inside : ℕ → ℕ → (List ℕ → Call) → Option FileType → Result Reply RequestError → Work Reply
 or_inside pid n call kind (Ok reply) = give reply
-or_inside pid n call kind (Err e) = if is_for EACCES e && is_known_directory kind then inside pid n (call (codes ".")) else stop e
+or_inside pid n call kind (Err e) = if is_for EACCES e && is_known_directory kind then inside pid n (call (codes ".")) else fail e
 
 -- a call with this name; a second name of the call may be one of another directory
-abbrev pub at_place : ℕ → Option ℕ → (List ℕ → Call) → Place → Work Reply
+abbrev pub at_place : ℕ → Option ℕ → (List ℕ → Call) → Dentry → Work Reply
 at_place pid second call p = between pid p.directory (unwrap_or second p.directory) (call p.name)
 
 -- the refusal that stands where each place is refused for permission: the first
-abbrev pub standing_refusal : Stop → Stop → Stop
+abbrev pub standing_refusal : RequestError → RequestError → RequestError
 standing_refusal before e = if is_for EACCES before then before else e
 
 -- Who is refused by one place goes on to the next.
-abbrev pub or_next : (Stop → Work Reply) → Result Reply Stop → Work Reply
+abbrev pub or_next : (RequestError → Work Reply) → Result Reply RequestError → Work Reply
 or_next next (Ok reply) = give reply
-or_next next (Err e) = if is_for EACCES e then next e else stop e
+or_next next (Err e) = if is_for EACCES e then next e else fail e
 
 -- By one place after another, until the call isn't refused for permission. Where no place is left it stops, as it would have before.
-unfoldable pub by_places : ℕ → Option ℕ → (List ℕ → Call) → Stop → List Place → Work Reply
-by_places pid second call before [] = stop before
+unfoldable pub by_places : ℕ → Option ℕ → (List ℕ → Call) → RequestError → List Dentry → Work Reply
+by_places pid second call before [] = fail before
 by_places pid second call before (p ∷ others) =
     attempt (at_place pid second call p) >>= or_next (λ e. by_places pid second call (standing_refusal before e) others)
 
 abbrev pub by_place : ℕ → ℕ → (List ℕ → Call) → Work Reply
 by_place pid n call = do
-  kind ← kept (λ s. kind_of s n)
+  kind ← kept (λ s. kind_known s n)
   places ← kept (λ s. places_of s n)
   reply ← attempt (by_places pid None call (Lacks ESTALE) places)
   or_inside pid n call kind reply
@@ -184,13 +184,13 @@ by_handle n = do
   obtain (Calls (owner_of handle) (Fstat (descriptor_of handle)))
 
 -- a call on an object by the server's own process
-abbrev pub by_looker : ℕ → (List ℕ → Call) → Work Reply
-by_looker n call = do
-  pid ← the_looker
+abbrev pub by_server_process : ℕ → (List ℕ → Call) → Work Reply
+by_server_process n call = do
+  pid ← the_server_process
   on pid n call
 
 abbrev pub look_at : ℕ → Bool → Work Reply
-look_at n true = by_looker n Lstat
+look_at n true = by_server_process n Lstat
 look_at n false = by_handle n
 
 -- No permission is asked: the kernel holds the object.
@@ -204,16 +204,16 @@ look n = do
 
 unfoldable pub the_number : ℕ → Work ℕ
 the_number node = do
-  n ← kept (λ s. number_of s node)
+  n ← kept (λ s. number_of_node s node)
   needed (Lacks ESTALE) n
 
 abbrev pub only_directory : ℕ → Option FileType → Work ℕ
-only_directory n kind = if is_known_directory kind then give n else stop (failed ENOTDIR)
+only_directory n kind = if is_known_directory kind then give n else fail (failed ENOTDIR)
 
 unfoldable pub directory_number : ℕ → Work ℕ
 directory_number node = do
   n ← the_number node
-  kind ← kept (λ s. kind_of s n)
+  kind ← kept (λ s. kind_known s n)
   only_directory n kind
 
 -- A directory that has no name was removed, so it holds none; and another may have its number.
@@ -221,4 +221,4 @@ unfoldable pub standing_directory : ℕ → Work ℕ
 standing_directory node = do
   n ← directory_number node
   placed ← kept (λ s. has_place s n)
-  if placed then give n else stop (Lacks ESTALE)
+  if placed then give n else fail (Lacks ESTALE)

@@ -29,7 +29,7 @@ pub record Known : Type 0 where
 -- about
 pub record Rights : Type 0 where
   pub cred : Option Credential
-  pub looker : Option ℕ
+  pub server_process : Option ℕ
   pub handle : Option ℕ
   pub subject : Subject
 
@@ -78,7 +78,7 @@ stays _ = true
 pub data MayCall (rights : Rights) (known : Known) (pid : ℕ) (call : Call) : Type 0 where
   as_caller : IsCaller rights.cred known.processes pid → IsTrue (stays call) → MayCall rights known pid call
   by_handle : IsByHandle rights.handle pid call → MayCall rights known pid call
-  as_looker : rights.looker ≡ Some pid → IsTrue (only_looks call) → MayCall rights known pid call
+  as_server_process : rights.server_process ≡ Some pid → IsTrue (only_looks call) → MayCall rights known pid call
   -- what is open is shown to all: the kernel holds it
   shows : IsTrue (shows_open call) → MayCall rights known pid call
 
@@ -160,6 +160,6 @@ conduct rights = record { after = known_after; may_ask = MayAsk rights }
 pub record Fits (rights : Rights) (P : Server → Type 0) (known : Known) (s : Server) : Type 0 where
   pub home : known.away ≡ None
   pub processes : known.processes ≡ s.processes
-  pub looker : s.looker ≡ rights.looker
+  pub server_process : s.server_process ≡ rights.server_process
   pub shares : WithinShares rights.subject.start → WithinShares s
   pub holds : P s

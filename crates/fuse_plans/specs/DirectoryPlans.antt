@@ -6,9 +6,9 @@ use Rattle.posix_acl.specs.Entries.{perms_of}
 use Rattle.fs_cred.specs.declared.errno.Errno.TheVariants.{EACCES, EBADF}
 use Rattle.fs_model.specs.declared.call.Call.TheVariants.{Open as OpenCall, Close, Readdir}
 use Rattle.fs_model.specs.declared.event.Event.TheVariants.{Call as Calls, Sync}
-use Rattle.fuse_plans.specs.declared.stop.Stop.TheVariants.{Lacks}
-use Rattle.fuse_plans.specs.Stops.{failed}
-use Rattle.fuse_plans.specs.declared.stop.OtherErrno.TheVariants.{ENFILE, ESTALE}
+use Rattle.fuse_plans.specs.declared.request_error.RequestError.TheVariants.{Lacks}
+use Rattle.fuse_plans.specs.RequestErrors.{failed}
+use Rattle.fuse_plans.specs.declared.request_error.OtherErrno.TheVariants.{ENFILE, ESTALE}
 use Rattle.fuse_plans.specs.declared.request.Asked.{Asked}
 use Rattle.fuse_protocol.specs.declared.entry.DirectoryEntry.{DirectoryEntry}
 use Rattle.fuse_protocol.specs.declared.entry.EntryKind.{EntryKind}
@@ -19,10 +19,10 @@ use Rattle.fuse_protocol.specs.Entries.{directory_entry_bytes, entry_size}
 use Rattle.fuse_plans.specs.declared.reply.ReplyBody.{ReplyBody}
 use Rattle.fuse_plans.specs.declared.reply.ReplyBody.TheVariants.{Nothing, Opened, Bytes}
 use Rattle.fuse_state.specs.declared.settings.Settings.{Settings}
-use Rattle.fuse_state.specs.Servers.{Server, may_open_directory, directory_of, opened, with_listing, without_directory}
+use Rattle.fuse_state.specs.Servers.{Server, may_open_directory, directory_of, with_opened, with_listing, without_directory}
 use Rattle.fuse_state.specs.declared.directory.OpenDirectory.{OpenDirectory}
-use Rattle.fuse_plans.specs.Works.{Work, give, stop, kept, keep, ◌>>=◌, ◌>>◌, attempt, needed, obtain, or_closed, replied_fd, replied_names}
-use Rattle.fuse_plans.specs.Callers.{the_looker, has_place, on, the_number, directory_number}
+use Rattle.fuse_plans.specs.Works.{Work, give, fail, kept, keep, ◌>>=◌, ◌>>◌, attempt, needed, obtain, or_closed, replied_fd, replied_names}
+use Rattle.fuse_plans.specs.Callers.{the_server_process, has_place, on, the_number, directory_number}
 use Rattle.fuse_plans.specs.Flags.{listing}
 use Rattle.fuse_plans.specs.FilePlans.{when}
 use Rattle.fuse_plans.specs.AttributePlans.{access_as}
@@ -35,10 +35,10 @@ abbrev pub opened_directory_body : ℕ → Server → ReplyBody
 opened_directory_body handle s = Opened handle (directory_flags s.settings)
 
 abbrev pub take_directory_if : ℕ → ℕ → Bool → Work ReplyBody
-take_directory_if uid n false = stop (Lacks ENFILE)
+take_directory_if uid n false = fail (Lacks ENFILE)
 take_directory_if uid n true = do
   handle ← kept (λ s. s.next_directory)
-  keep (opened uid n)
+  keep (with_opened uid n)
   kept (opened_directory_body handle)
 
 -- where the user may open one more
@@ -98,14 +98,14 @@ list_and_close pid fd = do
 abbrev pub list_all : ℕ → Bool → Work (List (List ℕ × ℕ))
 list_all n false = give []
 list_all n true = do
-  pid ← the_looker
-  opened ← on pid n (λ path. OpenCall path listing 0)
-  fd ← replied_fd opened
+  pid ← the_server_process
+  with_opened ← on pid n (λ path. OpenCall path listing 0)
+  fd ← replied_fd with_opened
   list_and_close pid fd
 
 -- once the directory is gone another may have its number
 abbrev pub only_number : ℕ → ℕ → Work (Unit {0})
-only_number number n = if n == number then give tt else stop (Lacks ESTALE)
+only_number number n = if n == number then give tt else fail (Lacks ESTALE)
 
 -- the names that are there now, in the directory of the node, if that is the one that is open
 abbrev pub list_now : ℕ → ℕ → ℕ → Work (List (List ℕ × ℕ))

@@ -14,24 +14,24 @@ use Rattle.fs_model.specs.declared.reply.Status.{Status}
 use Rattle.fuse_protocol.specs.declared.flags.OpenedFlags.{OpenedFlags}
 use Rattle.fuse_protocol.specs.declared.reply.Time.{Time}
 use Rattle.fs_model.specs.Limits.{move_limit}
-use Rattle.fuse_plans.specs.declared.stop.Stop.{Stop}
-use Rattle.fuse_plans.specs.declared.stop.Stop.TheVariants.{Lacks}
-use Rattle.fuse_plans.specs.Stops.{failed, is_for}
-use Rattle.fuse_plans.specs.declared.stop.OtherErrno.TheVariants.{ESTALE}
+use Rattle.fuse_plans.specs.declared.request_error.RequestError.{RequestError}
+use Rattle.fuse_plans.specs.declared.request_error.RequestError.TheVariants.{Lacks}
+use Rattle.fuse_plans.specs.RequestErrors.{failed, is_for}
+use Rattle.fuse_plans.specs.declared.request_error.OtherErrno.TheVariants.{ESTALE}
 use Rattle.fuse_plans.specs.declared.request.Asked.{Asked}
 use Rattle.fuse_protocol.specs.declared.operation.Extent.{Extent}
 use Rattle.fuse_plans.specs.declared.reply.ReplyBody.{ReplyBody}
 use Rattle.fuse_plans.specs.declared.reply.ReplyBody.TheVariants.{Nothing, Created, Opened, Bytes, Wrote}
-use Rattle.fuse_state.specs.Servers.{Server, node_of, touched, owner_of, descriptor_of, object_of, with_handle, without_handle}
+use Rattle.fuse_state.specs.Servers.{Server, node_of, with_new_contents, owner_of, descriptor_of, object_of, with_handle, without_handle}
 use Rattle.fuse_state.specs.Changes.{told}
-use Rattle.fuse_state.specs.declared.place.Place.{Place}
+use Rattle.fuse_state.specs.declared.dentry.Dentry.{Dentry}
 use Rattle.fuse_state.specs.declared.settings.Settings.{Settings}
-use Rattle.fuse_plans.specs.Works.{Work, give, stop, kept, keep, ◌>>=◌, ◌>>◌, attempt, needed, obtain, or_closed, replied_status, replied_handle, replied_data, replied_count}
+use Rattle.fuse_plans.specs.Works.{Work, give, fail, kept, keep, ◌>>=◌, ◌>>◌, attempt, needed, obtain, or_closed, replied_status, replied_handle, replied_data, replied_count}
 use Rattle.fuse_plans.specs.Callers.{caller_with_room, inside, on, the_number, standing_directory}
 use Rattle.fuse_plans.specs.declared.mode.Mode.{Mode}
 use Rattle.fuse_plans.specs.declared.mode.Mode.TheVariants.{Reads}
 use Rattle.fuse_plans.specs.Flags.{mode_in, is_exec, is_excl, is_trunc, opening, creating}
-use Rattle.fuse_plans.specs.NamePlans.{place, plain_name, attributes, new_valid, set_umask}
+use Rattle.fuse_plans.specs.NamePlans.{dentry, plain_name, attributes, new_valid, set_umask}
 use Rattle.fuse_plans.specs.Times.{told_stamps}
 
 -- where it is so
@@ -57,7 +57,7 @@ ask_first pid n flags mode = do
   when (is_trunc flags && reads_alone mode) (done (on pid n (λ path. Truncate path 0)))
 
 abbrev pub touched_if : Bool → Time → ℕ → Server → Server
-touched_if true now n s = touched now n s
+touched_if true now n s = with_new_contents now n s
 touched_if false now n s = s
 
 unfoldable pub show_open : ℕ → ℕ → Work Status
@@ -67,7 +67,7 @@ show_open pid fd = do
 
 -- a name may lead to another object by now
 abbrev pub only_inode : ℕ → Status → Work (Unit {0})
-only_inode n status = if status.inode == n then give tt else stop (Lacks ESTALE)
+only_inode n status = if status.inode == n then give tt else fail (Lacks ESTALE)
 
 -- What is open is this object, and loses its bytes, if it is to.
 unfoldable pub confirm_shown : ℕ → ℕ → ℕ → Bool → Work (Unit {0})
@@ -118,11 +118,11 @@ open_file r flags = do
   open_granted r.now pid n flags mode
 
 -- what was opened, and whether it is new
-abbrev pub or_opened : ℕ → ℕ → List ℕ → Mode → ℕ → Result Reply Stop → Work (Reply × Bool)
+abbrev pub or_opened : ℕ → ℕ → List ℕ → Mode → ℕ → Result Reply RequestError → Work (Reply × Bool)
 or_opened pid d name mode flags (Ok reply) = give (reply, true)
 or_opened pid d name mode flags (Err e) = if is_for EEXIST e && not (is_excl flags) then (do
   reply ← inside pid d (OpenCall name (opening mode (is_trunc flags)) 0)
-  give (reply, false)) else stop e
+  give (reply, false)) else fail e
 
 -- makes a file, or opens what has the name
 unfoldable pub open_or_make : ℕ → ℕ → List ℕ → Mode → ℕ → ℕ → Work (Reply × Bool)
@@ -148,7 +148,7 @@ created_body name_valid handle status stamps s =
     Created (node_of s status.inode) name_valid (attributes s status stamps) handle (file_flags s.settings)
 
 -- it is new, or it was found, with its bytes or without them
-unfoldable pub tell_created : Time → ℕ → Place → Bool → Bool → ℕ → Status × Option Stamps → Work ReplyBody
+unfoldable pub tell_created : Time → ℕ → Dentry → Bool → Bool → ℕ → Status × Option Stamps → Work ReplyBody
 tell_created now name_valid p is_new is_cut handle seen = do
   keep (told now p seen.0.inode seen.0.kind is_new is_cut)
   keep (with_handle handle seen.0.inode)
@@ -160,7 +160,7 @@ create_by now name_valid pid d name mode flags file_mode = do
   opened ← open_or_make pid d name mode flags file_mode
   handle ← replied_handle pid opened.0
   seen ← look_open pid (descriptor_of handle)
-  tell_created now name_valid (place d name) opened.1 (is_trunc flags) handle seen
+  tell_created now name_valid (dentry d name) opened.1 (is_trunc flags) handle seen
 
 abbrev pub create_file : Asked → List ℕ → ℕ → ℕ → ℕ → Work ReplyBody
 create_file r name flags file_mode umask = do
@@ -188,7 +188,7 @@ call_open handle call = do
 
 -- offsets are numbers of 63 bits
 unfoldable pub seek : ℕ → ℕ → ℕ → Work Reply
-seek pid fd offset = if nat_lt offset (2 ^ 63) then obtain (Calls pid (Lseek fd Set (pos offset))) else stop (failed EINVAL)
+seek pid fd offset = if nat_lt offset (2 ^ 63) then obtain (Calls pid (Lseek fd Set (pos offset))) else fail (failed EINVAL)
 
 -- by a handle, what is open there
 abbrev pub seek_open : ℕ → ℕ → Work ℕ
@@ -233,9 +233,9 @@ write_piece pid call = do
   replied_count (length_written call) reply
 
 -- what was written before a refusal counts
-abbrev pub or_done : ℕ → Result ℕ Stop → Work ℕ
+abbrev pub or_done : ℕ → Result ℕ RequestError → Work ℕ
 or_done done (Ok count) = give count
-or_done zero (Err e) = stop e
+or_done zero (Err e) = fail e
 or_done (suc done) (Err e) = give 0
 
 -- One call after another, until one is short or refused.
@@ -259,7 +259,7 @@ abbrev pub write_by : Time → ℕ → ℕ → List Call → Work ReplyBody
 write_by now handle offset calls = do
   n ← seek_open handle offset
   count ← write_pieces (owner_of handle) 0 calls
-  keep (touched now n)
+  keep (with_new_contents now n)
   give (Wrote count)
 
 abbrev pub write_file : Asked → ℕ → ℕ → List ℕ → Work ReplyBody

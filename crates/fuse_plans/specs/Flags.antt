@@ -41,8 +41,8 @@ only Reads = reading
 only Writes = record reading { read = false; write = true; opens = refl }
 only Both = record reading { write = true; opens = refl }
 
-abbrev pub flags_with : Mode → Bool → Bool → Bool → Bool → Flags
-flags_with mode is_new trunc nofollow directory = record (only mode) {
+abbrev pub flags_of_mode : Mode → Bool → Bool → Bool → Bool → Flags
+flags_of_mode mode is_new trunc nofollow directory = record (only mode) {
   create = is_new;
   excl = is_new;
   trunc = trunc;
@@ -52,14 +52,14 @@ flags_with mode is_new trunc nofollow directory = record (only mode) {
 
 -- what is there, and no link; append isn't passed on, since the kernel gives each write its place
 abbrev pub opening : Mode → Bool → Flags
-opening mode trunc = flags_with mode false trunc true false
+opening mode trunc = flags_of_mode mode false trunc true false
 
 -- a file that isn't there yet
 abbrev pub creating : Mode → Flags
-creating mode = flags_with mode true false false false
+creating mode = flags_of_mode mode true false false false
 
 abbrev pub making : Flags
 making = creating Writes
 
 abbrev pub listing : Flags
-listing = flags_with Reads false false false true
+listing = flags_of_mode Reads false false false true

@@ -9,12 +9,12 @@ use Rattle.fs_model.specs.declared.event.Event.{Event}
 use Rattle.fs_model.specs.declared.reply.Reply.{Reply}
 use Rattle.fs_model.specs.declared.reply.Reply.TheVariants.{Refused}
 use Rattle.fuse_protocol.specs.declared.operation.Operation.TheVariants.{Lookup}
-use Rattle.fuse_state.specs.Servers.{Server, number_of}
+use Rattle.fuse_state.specs.Servers.{Server, number_of_node}
 use Rattle.fuse_plans.specs.declared.reply.ReplyBody.{ReplyBody}
 use Rattle.fuse_plans.specs.declared.reply.ReplyBody.TheVariants.{Found, Absent, Created}
 use Rattle.fuse_plans.specs.declared.reply.Response.TheVariants.{Says}
-use Rattle.fuse_plans.specs.declared.stop.Stop.TheVariants.{Refuses}
-use Rattle.fuse_plans.specs.Stops.{is_for}
+use Rattle.fuse_plans.specs.declared.request_error.RequestError.TheVariants.{Refuses}
+use Rattle.fuse_plans.specs.RequestErrors.{is_for}
 use Rattle.fuse_plans.specs.Plans.{IsRunOf, IsAsked}
 use Rattle.fuse_plans.specs.Works.{◌>>◌}
 use Rattle.fuse_plans.specs.Requests.{Request}
@@ -38,7 +38,7 @@ pub data MayKeepName (r : Request) (s : Server) : List Event → List Reply → 
   is_looked_up : (name : List ℕ) (first after : List Event) (replied rest : List Reply) → r.operation ≡ Some (Lookup name)
       → IsRunOf (is_judged r.node true s) first replied true → MayKeepName r s (first ++ after) (replied ++ rest)
   -- what has the name is new, and the server's own process has seen the directory before
-  is_new : (d : ℕ) (t : Server) (first after : List Event) (replied rest : List Reply) → number_of s r.node ≡ Some d
+  is_new : (d : ℕ) (t : Server) (first after : List Event) (replied rest : List Reply) → number_of_node s r.node ≡ Some d
       → IsRunOf ((tell_time r.now >> list_hides d) s) first replied (Ok false, t) → MayKeepName r s (first ++ after) (replied ++ rest)
 
 -- Whatever was replied: what is told of a name may be kept only where the kernel judges before it asks, and by a list that it follows.
@@ -48,9 +48,9 @@ NamesAreKeptWhereJudged =
     → IsRunOf (request_plan r s) es replies (Says body, t) → IsTrue s.settings.posix_acl × MayKeepName r s es replies
 
 -- The server's own process was refused, since nothing has the name.
-pub record IsMissing (looker : Option ℕ) (es : List Event) (replies : List Reply) : Type 0 where
+pub record IsMissing (server_process : Option ℕ) (es : List Event) (replies : List Reply) : Type 0 where
   pub pid : ℕ
-  pub own : looker ≡ Some pid
+  pub own : server_process ≡ Some pid
   pub event : Event
   pub is_by : IsDoneBy pid event
   pub refusal : Refusal
@@ -62,4 +62,4 @@ pub record IsMissing (looker : Option ℕ) (es : List Event) (replies : List Rep
 abbrev pub OnlyMissingNamesAreAbsent : Type 0
 OnlyMissingNamesAreAbsent =
     (r : Request) (s t : Server) (valid : ℕ) (es : List Event) (replies : List Reply)
-    → IsRunOf (request_plan r s) es replies (Says (Absent valid), t) → IsMissing s.looker es replies
+    → IsRunOf (request_plan r s) es replies (Says (Absent valid), t) → IsMissing s.server_process es replies

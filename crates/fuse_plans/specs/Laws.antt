@@ -35,15 +35,15 @@ use Rattle.fuse_plans.specs.declared.reply.ReplyBody.{ReplyBody}
 use Rattle.fuse_plans.specs.declared.reply.ReplyBody.TheVariants.{Found, Opened, Created}
 use Rattle.fuse_plans.specs.declared.reply.Response.{Response}
 use Rattle.fuse_plans.specs.declared.reply.Response.TheVariants.{Says, Fails}
-use Rattle.fuse_state.specs.Servers.{Server, number_of, times_of, owner_of, descriptor_of, object_of, WithinShares}
+use Rattle.fuse_state.specs.Servers.{Server, number_of_node, times_of, owner_of, descriptor_of, object_of, WithinShares}
 use Rattle.fuse_state.specs.Changes.{is_gone}
 use Rattle.fuse_plans.specs.Acts.{Subject}
 use Rattle.fuse_plans.specs.Conduct.{Known, Rights, conduct}
 use Rattle.fuse_plans.specs.Alterations.{Alteration, IsToldIn, says_change_in, changes_at_once, alterations_in, MayBeAsked, AsksOnly}
 use Rattle.fuse_plans.specs.Works.{refusal_in}
-use Rattle.fuse_plans.specs.declared.stop.Stop.{Stop}
-use Rattle.fuse_plans.specs.declared.stop.Stop.TheVariants.{Refuses}
-use Rattle.fuse_plans.specs.Stops.{is_for}
+use Rattle.fuse_plans.specs.declared.request_error.RequestError.{RequestError}
+use Rattle.fuse_plans.specs.declared.request_error.RequestError.TheVariants.{Refuses}
+use Rattle.fuse_plans.specs.RequestErrors.{is_for}
 use Rattle.fuse_plans.specs.Masks.{may_hide, hides}
 use Rattle.fuse_plans.specs.Nobody.{needs_nobody_in}
 use Rattle.fuse_plans.specs.Serving.{answered_as, request_plan}
@@ -74,7 +74,7 @@ subject_of r s = record { node = r.node; operation = r.operation; start = s }
 
 abbrev pub rights_of : Request → Server → Rights
 rights_of r s =
-    record { cred = r.cred; looker = s.looker; handle = handle_in r.operation; subject = subject_of r s }
+    record { cred = r.cred; server_process = s.server_process; handle = handle_in r.operation; subject = subject_of r s }
 
 -- nobody is away
 abbrev pub known_in : Server → Known
@@ -84,7 +84,7 @@ known_in s = record { away = None; processes = s.processes }
 pub record Ends (s : Server) (known : Known) (r : Response × Server) : Type 0 where
   pub home : known.away ≡ None
   pub processes : known.processes ≡ r.1.processes
-  pub looker : r.1.looker ≡ s.looker
+  pub server_process : r.1.server_process ≡ s.server_process
   pub shares : WithinShares s → WithinShares r.1
 
 -- Each request but the first: who calls, and on what; and in the end all stand at the root.
@@ -96,7 +96,7 @@ RequestsBehave =
 -- the server's own process has all rights
 abbrev pub server_rights : Request → Server → Rights
 server_rights r s =
-    record { cred = Some (usual_credential 0 0 []); looker = None; handle = None; subject = subject_of r s }
+    record { cred = Some (usual_credential 0 0 []); server_process = None; handle = None; subject = subject_of r s }
 
 pub record Begun (s : Server) (known : Known) (r : Response × Server) : Type 0 where
   pub home : known.away ≡ None
@@ -143,7 +143,7 @@ OthersKeepTimes =
 -- Where one call changes all, and the request fails, that call was refused, each time that it was made.
 abbrev pub FailuresChangeNothing : Type 0
 FailuresChangeNothing =
-    (r : Request) (s t : Server) (operation : Operation) (e : Stop) (es : List Event) (replies : List Reply)
+    (r : Request) (s t : Server) (operation : Operation) (e : RequestError) (es : List Event) (replies : List Reply)
     (asked : Event) (reply : Reply) (after : List Event) → r.operation ≡ Some operation → IsTrue (changes_at_once operation)
     → IsRunOf (request_plan r s) es replies (Fails e, t) → IsAsked asked reply after es replies → alterations_in asked ≢ []
     → IsTrue (is_some (refusal_in reply))
@@ -153,7 +153,7 @@ FailuresChangeNothing =
 -- What is open under the handle has been shown to be the object of the request's node. After that it has lost its bytes at most.
 pub record OpenedObject (r : Request) (s t : Server) (es : List Event) (replies : List Reply) (handle : ℕ) : Type 0 where
   pub number : ℕ
-  pub of_node : number_of s r.node ≡ Some number
+  pub of_node : number_of_node s r.node ≡ Some number
   pub status : Status
   pub is_object : status.inode ≡ number
   pub after : List Event
@@ -186,8 +186,8 @@ told_entry _ = None
 
 -- The node leads to the inode that was shown. Where the object that had its number may have been no more, it led nowhere before.
 pub record LeadsToShown (s t : Server) (node inode : ℕ) : Type 0 where
-  pub leads : number_of t node ≡ Some inode
-  pub fresh : IsTrue (is_gone s inode) → number_of s node ≡ None
+  pub leads : number_of_node t node ≡ Some inode
+  pub fresh : IsTrue (is_gone s inode) → number_of_node s node ≡ None
 
 -- Whatever was replied, and whatever was answered before.
 abbrev pub ToldNodesLeadToObjects : Type 0
@@ -214,17 +214,17 @@ IsDoneBy pid _ = ⊥
 
 -- Why a look-up is refused all the same: the server's own process was shown a directory whose access list has the mask `---` while
 -- others may search, or the machine refused that process itself.
-pub data MayBeRefused (looker : Option ℕ) (es : List Event) (replies : List Reply) : Type 0 where
-  is_masked : (pid : ℕ) (path acl_path : List ℕ) (status : Status) (acl : AccessList) (after acl_after : List Event) → looker ≡ Some pid
+pub data MayBeRefused (server_process : Option ℕ) (es : List Event) (replies : List Reply) : Type 0 where
+  is_masked : (pid : ℕ) (path acl_path : List ℕ) (status : Status) (acl : AccessList) (after acl_after : List Event) → server_process ≡ Some pid
       → IsAsked (Calls pid (Lstat path)) (Shown status) after es replies → IsTrue (may_hide status.mode)
       → IsAsked (Calls pid (GetAcl acl_path AccessAcl)) (Acl (Some acl)) acl_after es replies → IsTrue (hides (Some acl))
-      → MayBeRefused looker es replies
-  looker_refused : (pid : ℕ) (e : Event) (refusal : Refusal) (after : List Event) → looker ≡ Some pid → IsDoneBy pid e
-      → IsAsked e (Refused refusal) after es replies → IsTrue (is_for EACCES (Refuses refusal)) → MayBeRefused looker es replies
+      → MayBeRefused server_process es replies
+  server_process_refused : (pid : ℕ) (e : Event) (refusal : Refusal) (after : List Event) → server_process ≡ Some pid → IsDoneBy pid e
+      → IsAsked e (Refused refusal) after es replies → IsTrue (is_for EACCES (Refuses refusal)) → MayBeRefused server_process es replies
 
 -- Whatever was replied: where the kernel judges before it asks, no look-up is answered EACCES for who asks, but in such a directory.
 abbrev pub JudgedLookupsAreGranted : Type 0
 JudgedLookupsAreGranted =
-    (r : Request) (s t : Server) (name : List ℕ) (es : List Event) (replies : List Reply) (e : Stop) → r.operation ≡ Some (Lookup name)
+    (r : Request) (s t : Server) (name : List ℕ) (es : List Event) (replies : List Reply) (e : RequestError) → r.operation ≡ Some (Lookup name)
     → IsTrue s.settings.posix_acl → IsTrue (is_for EACCES e) → IsRunOf (request_plan r s) es replies (Fails e, t)
-    → MayBeRefused s.looker es replies
+    → MayBeRefused s.server_process es replies

@@ -1,5 +1,5 @@
 pub mod Plans
-pub mod Stops
+pub mod RequestErrors
 pub mod Requests
 pub mod Works
 pub mod Times

@@ -12,7 +12,7 @@ use Rattle.fs_model.specs.declared.call.AclType.TheVariants.{Access, Default}
 use Rattle.fs_model.specs.declared.call.Call.TheVariants.{Lstat, GetAcl}
 use Rattle.fs_model.specs.declared.reply.Status.{Status}
 use Rattle.fuse_plans.specs.Works.{Work, give, ◌>>=◌, replied_status, replied_acl}
-use Rattle.fuse_plans.specs.Callers.{by_looker, directory_number}
+use Rattle.fuse_plans.specs.Callers.{by_server_process, directory_number}
 
 -- an access ACL with three entries says no more than the mode
 abbrev pub told_acl : AclType → Option AccessList → Option AccessList
@@ -22,7 +22,7 @@ told_acl Access None = None
 
 abbrev pub acl_of : ℕ → AclType → Work (Option AccessList)
 acl_of n which = do
-  reply ← by_looker n (λ path. GetAcl path which)
+  reply ← by_server_process n (λ path. GetAcl path which)
   acl ← replied_acl reply
   give (told_acl which acl)
 
@@ -40,9 +40,9 @@ hides None = false
 hides (Some acl) = grants_nothing acl.mask && acl.other.execute
 
 -- what stat(2) shows the server's own process
-abbrev pub seen_by_looker : ℕ → Work Status
-seen_by_looker n = do
-  reply ← by_looker n Lstat
+abbrev pub seen_by_server_process : ℕ → Work Status
+seen_by_server_process n = do
+  reply ← by_server_process n Lstat
   replied_status reply
 
 -- only where there may be such a list it is asked for
@@ -53,7 +53,7 @@ asks_list n status = if may_hide status.mode then (do
 
 abbrev pub list_hides : ℕ → Work Bool
 list_hides n = do
-  status ← seen_by_looker n
+  status ← seen_by_server_process n
   asks_list n status
 
 unfoldable pub is_masked : ℕ → Work Bool

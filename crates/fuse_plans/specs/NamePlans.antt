@@ -8,32 +8,32 @@ use Rattle.fs_model.specs.declared.event.Event.TheVariants.{Call as Calls}
 use Rattle.fs_model.specs.declared.reply.Reply.{Reply}
 use Rattle.fs_model.specs.declared.reply.Stamps.{Stamps}
 use Rattle.fs_model.specs.declared.reply.Status.{Status}
-use Rattle.fuse_plans.specs.declared.stop.Stop.{Stop}
-use Rattle.fuse_plans.specs.declared.stop.Stop.TheVariants.{Lacks}
-use Rattle.fuse_plans.specs.Stops.{failed, is_for}
-use Rattle.fuse_plans.specs.declared.stop.OtherErrno.TheVariants.{ESTALE}
+use Rattle.fuse_plans.specs.declared.request_error.RequestError.{RequestError}
+use Rattle.fuse_plans.specs.declared.request_error.RequestError.TheVariants.{Lacks}
+use Rattle.fuse_plans.specs.RequestErrors.{failed, is_for}
+use Rattle.fuse_plans.specs.declared.request_error.OtherErrno.TheVariants.{ESTALE}
 use Rattle.fuse_plans.specs.declared.request.Asked.{Asked}
 use Rattle.fuse_protocol.specs.declared.reply.Time.{Time}
 use Rattle.fuse_plans.specs.declared.reply.ReplyBody.{ReplyBody}
 use Rattle.fuse_plans.specs.declared.reply.ReplyBody.TheVariants.{Nothing, Found, Absent}
 use Rattle.fuse_plans.specs.declared.reply.Attributes.{Attributes}
-use Rattle.fuse_state.specs.Servers.{Server, node_of, kind_of, places_of, once_more, born}
-use Rattle.fuse_state.specs.Changes.{found, removed, moved, linked}
-use Rattle.fuse_state.specs.declared.place.Place.{Place}
+use Rattle.fuse_state.specs.Servers.{Server, node_of, kind_known, places_of, once_more, with_new_object}
+use Rattle.fuse_state.specs.Changes.{with_found, removed, moved, linked}
+use Rattle.fuse_state.specs.declared.dentry.Dentry.{Dentry}
 use Rattle.fuse_state.specs.declared.settings.Settings.{Settings}
-use Rattle.fuse_plans.specs.Works.{Work, give, stop, kept, keep, ◌>>=◌, ◌>>◌, attempt, obtain, replied_fd}
-use Rattle.fuse_plans.specs.Callers.{caller, caller_with_room, the_looker, inside, done_between, by_places, look_inside, look, the_number, standing_directory}
+use Rattle.fuse_plans.specs.Works.{Work, give, fail, kept, keep, ◌>>=◌, ◌>>◌, attempt, obtain, replied_fd}
+use Rattle.fuse_plans.specs.Callers.{caller, caller_with_room, the_server_process, inside, done_between, by_places, look_inside, look, the_number, standing_directory}
 use Rattle.fuse_plans.specs.Flags.{making}
 use Rattle.fuse_plans.specs.Times.{told_stamps, times_in}
 use Rattle.fuse_plans.specs.Masks.{list_hides}
 
 -- the directory and a name in it
-abbrev pub place : ℕ → List ℕ → Place
-place directory name = record { directory = directory; name = name }
+abbrev pub dentry : ℕ → List ℕ → Dentry
+dentry directory name = record { directory = directory; name = name }
 
 -- Nobody asks for `.` or `..` by name.
 abbrev pub plain_name : List ℕ → Work (Unit {0})
-plain_name name = if bytes_eq name (codes ".") || bytes_eq name (codes "..") then stop (failed EINVAL) else give tt
+plain_name name = if bytes_eq name (codes ".") || bytes_eq name (codes "..") then fail (failed EINVAL) else give tt
 
 -- the directory of a name that is asked for
 abbrev pub directory_for : ℕ → List ℕ → Work ℕ
@@ -55,10 +55,10 @@ tell_entry name_valid status stamps = kept (found_body name_valid status stamps)
 -- ---- look-ups
 
 -- a directory that was removed has no names
-abbrev pub or_absent : Result ℕ Stop → Work ℕ
+abbrev pub or_absent : Result ℕ RequestError → Work ℕ
 or_absent (Ok n) = give n
-or_absent (Err (Lacks ESTALE)) = stop (failed ENOENT)
-or_absent (Err e) = stop e
+or_absent (Err (Lacks ESTALE)) = fail (failed ENOENT)
+or_absent (Err e) = fail e
 
 -- the directory in which a name is looked for
 abbrev pub searched_directory : ℕ → List ℕ → Work ℕ
@@ -75,16 +75,16 @@ abbrev pub looked_up_body : Bool → Status → Option Stamps → Server → Rep
 looked_up_body nobody status stamps s = found_body (judged_valid nobody s.settings) status stamps s
 
 -- nothing has the name, and the kernel has judged and keeps that
-abbrev pub keeps_absent : Bool → Settings → Stop → Bool
+abbrev pub keeps_absent : Bool → Settings → RequestError → Bool
 keeps_absent nobody settings e = nobody && (is_for ENOENT e && not (settings.keeping.absent == 0))
 
-abbrev pub or_keep_absent : Bool → Settings → Stop → Work ReplyBody
-or_keep_absent nobody settings e = if keeps_absent nobody settings e then give (Absent settings.keeping.absent) else stop e
+abbrev pub or_keep_absent : Bool → Settings → RequestError → Work ReplyBody
+or_keep_absent nobody settings e = if keeps_absent nobody settings e then give (Absent settings.keeping.absent) else fail e
 
-abbrev pub found_or_absent : Bool → ℕ → List ℕ → Result Status Stop → Work ReplyBody
+abbrev pub found_or_absent : Bool → ℕ → List ℕ → Result Status RequestError → Work ReplyBody
 found_or_absent nobody d name (Ok status) = do
   stamps ← told_stamps status.inode
-  keep (found (place d name) status.inode status.kind)
+  keep (with_found (dentry d name) status.inode status.kind)
   kept (looked_up_body nobody status stamps)
 found_or_absent nobody d name (Err e) = do
   settings ← kept (λ s. s.settings)
@@ -98,7 +98,7 @@ find_inside nobody pid d name = do
 
 -- where the kernel has judged, the server's own process looks
 abbrev pub searcher : Asked → Work ℕ
-searcher r = if r.needs_nobody then the_looker else caller r.cred
+searcher r = if r.needs_nobody then the_server_process else caller r.cred
 
 abbrev pub find_name : Asked → List ℕ → Work ReplyBody
 find_name r name = do
@@ -113,7 +113,7 @@ abbrev pub keeps_names : Settings → Bool
 keeps_names settings = settings.posix_acl && not (settings.keeping.names == 0)
 
 -- where it wasn't seen that the kernel follows the list it asks for each name
-abbrev pub unless_hidden : ℕ → Result Bool Stop → ℕ
+abbrev pub unless_hidden : ℕ → Result Bool RequestError → ℕ
 unless_hidden name_valid (Ok hides) = if hides then 0 else name_valid
 unless_hidden name_valid (Err e) = 0
 
@@ -132,10 +132,10 @@ new_valid d = do
 -- what has just been made, as the server's own process sees it
 unfoldable pub made : Time → ℕ → ℕ → List ℕ → Work ReplyBody
 made now name_valid d name = do
-  pid ← the_looker
+  pid ← the_server_process
   status ← look_inside pid d name
   stamps ← told_stamps status.inode
-  keep (born now (place d name) status.inode status.kind)
+  keep (with_new_object now (dentry d name) status.inode status.kind)
   tell_entry name_valid status stamps
 
 abbrev pub close : ℕ → ℕ → Work (Unit {0})
@@ -200,7 +200,7 @@ abbrev pub is_of_file : ℕ → Bool
 is_of_file mode = bit_and mode 0o170000 == 0 || bit_and mode 0o170000 == 0o100000
 
 abbrev pub only_file : ℕ → Work (Unit {0})
-only_file mode = if is_of_file mode then give tt else stop (failed EPERM)
+only_file mode = if is_of_file mode then give tt else fail (failed EPERM)
 
 abbrev pub make_file : Asked → List ℕ → ℕ → ℕ → Work ReplyBody
 make_file r name mode umask = do
@@ -222,16 +222,16 @@ abbrev pub remove : Asked → (List ℕ → Call) → List ℕ → Work ReplyBod
 remove r call name = do
   who ← directory_and_caller r name
   done_between who.1 who.0 who.0 (call name)
-  keep (removed r.now (place who.0 name))
+  keep (removed r.now (dentry who.0 name))
   give Nothing
 
 -- the one flag is that nothing may be replaced
 abbrev pub only_no_replace : ℕ → Work (Unit {0})
-only_no_replace flags = if nat_lt 1 flags then stop (failed EINVAL) else give tt
+only_no_replace flags = if nat_lt 1 flags then fail (failed EINVAL) else give tt
 
-abbrev pub none_there : Result Reply Stop → Work (Unit {0})
-none_there (Ok reply) = stop (failed EEXIST)
-none_there (Err e) = if is_for ENOENT e then give tt else stop e
+abbrev pub none_there : Result Reply RequestError → Work (Unit {0})
+none_there (Ok reply) = fail (failed EEXIST)
+none_there (Err e) = if is_for ENOENT e then give tt else fail e
 
 abbrev pub nothing_to_replace : ℕ → ℕ → ℕ → List ℕ → Work (Unit {0})
 nothing_to_replace flags pid d name = if flags == 0 then give tt else do
@@ -246,17 +246,17 @@ may_move name new_name flags = do
   plain_name new_name
 
 -- what has the one place gets the other
-abbrev pub rename : Time → ℕ → Place → Place → Work ReplyBody
+abbrev pub rename : Time → ℕ → Dentry → Dentry → Work ReplyBody
 rename now pid old new = do
   done_between pid old.directory new.directory (RenameCall old.name new.name)
   keep (moved now old new)
   give Nothing
 
 -- the same, if it may replace what is there
-abbrev pub move_to : Time → ℕ → ℕ → Place → ℕ → List ℕ → Work ReplyBody
+abbrev pub move_to : Time → ℕ → ℕ → Dentry → ℕ → List ℕ → Work ReplyBody
 move_to now flags pid old new new_name = do
   nothing_to_replace flags pid new new_name
-  rename now pid old (place new new_name)
+  rename now pid old (dentry new new_name)
 
 abbrev pub move_name : Asked → List ℕ → ℕ → List ℕ → ℕ → Work ReplyBody
 move_name r name new_node new_name flags = do
@@ -264,7 +264,7 @@ move_name r name new_node new_name flags = do
   d ← standing_directory r.node
   new ← standing_directory new_node
   pid ← caller r.cred
-  move_to r.now flags pid (place d name) new new_name
+  move_to r.now flags pid (dentry d name) new new_name
 
 -- an object gets one more name, by one of those that are known
 unfoldable pub link_by_place : ℕ → ℕ → ℕ → List ℕ → Work (Unit {0})
@@ -274,9 +274,9 @@ link_by_place pid n d name = do
   give tt
 
 -- Once the object has the name too. The kernel may not keep that: of the directory nothing was seen.
-abbrev pub tell_linked : Time → Place → ℕ → Work ReplyBody
+abbrev pub tell_linked : Time → Dentry → ℕ → Work ReplyBody
 tell_linked now p n = do
-  kind ← kept (λ s. kind_of s n)
+  kind ← kept (λ s. kind_known s n)
   keep (linked now p n kind)
   status ← look n
   stamps ← told_stamps status.inode
@@ -288,7 +288,7 @@ abbrev pub link_as : Asked → ℕ → ℕ → List ℕ → Work ReplyBody
 link_as r n d name = do
   pid ← caller r.cred
   link_by_place pid n d name
-  tell_linked r.now (place d name) n
+  tell_linked r.now (dentry d name) n
 
 abbrev pub add_link : Asked → ℕ → List ℕ → Work ReplyBody
 add_link r old_node name = do

@@ -6,7 +6,7 @@ use Rattle.std.specs.Prelude.{ℕ, Bool, true, false, not, Option, None, Some, R
 use Rattle.fuse_protocol.specs.declared.operation.Operation.{Operation}
 use Rattle.fuse_protocol.specs.declared.operation.Operation.TheVariants.{Lookup, SetAttr, SymLink, MkNod, MkDir, Unlink, RmDir, Rename, Link, Open, SetXAttr, RemoveXAttr, OpenDir, Access, Create}
 use Rattle.fuse_state.specs.Servers.{Server}
-use Rattle.fuse_plans.specs.declared.stop.Stop.{Stop}
+use Rattle.fuse_plans.specs.declared.request_error.RequestError.{RequestError}
 use Rattle.fuse_plans.specs.Plans.{Plan, Finish, followed_by}
 use Rattle.fuse_plans.specs.Masks.{is_masked}
 
@@ -32,7 +32,7 @@ needs_caller _ = false
 -- ---- whether who asks doesn't count
 
 -- of what can't be seen the request's own plan says what is wrong
-abbrev pub unless_masked : Result Bool Stop → Bool
+abbrev pub unless_masked : Result Bool RequestError → Bool
 unless_masked (Ok masked) = not masked
 unless_masked (Err e) = true
 

@@ -25,7 +25,7 @@ use Rattle.fuse_plans.specs.declared.reply.ReplyBody.TheVariants.{Nothing, Found
 use Rattle.fuse_plans.specs.declared.reply.Response.{Response}
 use Rattle.fuse_plans.specs.declared.reply.Response.TheVariants.{Silence, Says, Fails}
 use Rattle.fuse_plans.specs.Requests.{Outside, credential_for, Request}
-use Rattle.fuse_plans.specs.Stops.{stop_number}
+use Rattle.fuse_plans.specs.RequestErrors.{error_number}
 
 -- ---- requests
 
@@ -118,7 +118,7 @@ reply_of_body (Agreed terms) = replies.Init terms
 abbrev pub response_bytes : ℕ → Response → List ℕ
 response_bytes unique Silence = []
 response_bytes unique (Says body) = reply_bytes unique (reply_of_body body)
-response_bytes unique (Fails e) = reply_bytes unique (replies.Error (stop_number e))
+response_bytes unique (Fails e) = reply_bytes unique (replies.Error (error_number e))
 
 -- ---- sessions
 

@@ -9,10 +9,10 @@ use Rattle.fs_cred.specs.Credentials.{usual_credential}
 use Rattle.fs_cred.specs.declared.errno.Errno.TheVariants.{EINVAL, ENOMEM}
 use Rattle.fs_model.specs.declared.event.Event.TheVariants.{Spawn, Statfs}
 use Rattle.fuse_plans.specs.Plans.{Plan, Finish, followed_by}
-use Rattle.fuse_plans.specs.declared.stop.Stop.{Stop}
-use Rattle.fuse_plans.specs.declared.stop.Stop.TheVariants.{Lacks}
-use Rattle.fuse_plans.specs.Stops.{failed}
-use Rattle.fuse_plans.specs.declared.stop.OtherErrno.TheVariants.{ENOSYS, EPROTO}
+use Rattle.fuse_plans.specs.declared.request_error.RequestError.{RequestError}
+use Rattle.fuse_plans.specs.declared.request_error.RequestError.TheVariants.{Lacks}
+use Rattle.fuse_plans.specs.RequestErrors.{failed}
+use Rattle.fuse_plans.specs.declared.request_error.OtherErrno.TheVariants.{ENOSYS, EPROTO}
 use Rattle.fuse_plans.specs.declared.request.Asked.{Asked}
 use Rattle.fuse_plans.specs.Requests.{Request, asked_of}
 use Rattle.fuse_protocol.specs.declared.operation.Offer.{Offer}
@@ -23,9 +23,9 @@ use Rattle.fuse_plans.specs.declared.reply.ReplyBody.{ReplyBody}
 use Rattle.fuse_plans.specs.declared.reply.ReplyBody.TheVariants.{Space, Agreed}
 use Rattle.fuse_plans.specs.declared.reply.Response.{Response}
 use Rattle.fuse_plans.specs.declared.reply.Response.TheVariants.{Silence, Says, Fails}
-use Rattle.fuse_state.specs.Servers.{Server, forgotten, all_forgotten, with_the_looker, with_acls_offered, with_end}
+use Rattle.fuse_state.specs.Servers.{Server, forgotten, all_forgotten, with_the_server_process, with_acls_offered, with_end}
 use Rattle.fuse_state.specs.declared.settings.Settings.{Settings}
-use Rattle.fuse_plans.specs.Works.{Work, give, stop, kept, keep, ◌>>=◌, ◌>>◌, obtain, replied_pid, replied_space}
+use Rattle.fuse_plans.specs.Works.{Work, give, fail, kept, keep, ◌>>=◌, ◌>>◌, obtain, replied_pid, replied_space}
 use Rattle.fuse_plans.specs.Alterations.{says_change}
 use Rattle.fuse_plans.specs.Nobody.{needs_nobody_in}
 use Rattle.fuse_plans.specs.Times.{tell_time}
@@ -68,20 +68,20 @@ agreed offer settings = terms offer.max_readahead (bit_and offer.flags.0 (wanted
 abbrev pub later_version : ReplyBody
 later_version = terms 0 0 0 0
 
-abbrev pub or_looker : Option ℕ → Work (Unit {0})
-or_looker (Some pid) = give tt
-or_looker None = do
+abbrev pub or_server_process : Option ℕ → Work (Unit {0})
+or_server_process (Some pid) = give tt
+or_server_process None = do
   reply ← obtain (Spawn (usual_credential 0 0 []))
   pid ← replied_pid reply
-  keep (with_the_looker pid)
+  keep (with_the_server_process pid)
 
 abbrev pub offers_acls : Offer → Bool
 offers_acls offer = not (bit_and offer.flags.0 0x100000 == 0)
 
 unfoldable pub begin : Offer → Work ReplyBody
-begin offer = if nat_lt offer.major 7 then stop (Lacks EPROTO) else if nat_lt 7 offer.major then give later_version else do
-  looker ← kept (λ s. s.looker)
-  or_looker looker
+begin offer = if nat_lt offer.major 7 then fail (Lacks EPROTO) else if nat_lt 7 offer.major then give later_version else do
+  server_process ← kept (λ s. s.server_process)
+  or_server_process server_process
   keep (with_acls_offered (offers_acls offer))
   kept (λ s. agreed offer s.settings)
 
@@ -138,7 +138,7 @@ plan_of r value Interrupt = Silently (λ s. s)
 plan_of r value Destroy = Replying end
 plan_of r value (BatchForget batch) = Silently (all_forgotten batch)
 plan_of r value SyncFs = Replying sync_all
-plan_of r value Unknown = Replying (stop (Lacks ENOSYS))
+plan_of r value Unknown = Replying (fail (Lacks ENOSYS))
 
 -- the machine is told the time before what says a change
 abbrev pub told_first : Bool → Time → Task → Task
@@ -148,12 +148,12 @@ told_first true now (Silently f) = Silently f
 
 -- of a request whose body may not be of its form
 abbrev pub asked_for : Asked → Option (Option AccessList) → Option Operation → Task
-asked_for r value None = Replying (stop (failed EINVAL))
+asked_for r value None = Replying (fail (failed EINVAL))
 asked_for r value (Some operation) = told_first (says_change operation) r.now (plan_of r value operation)
 
 -- ---- requests
 
-abbrev pub response_of : Result ReplyBody Stop → Response
+abbrev pub response_of : Result ReplyBody RequestError → Response
 response_of (Ok body) = Says body
 response_of (Err e) = Fails e
 

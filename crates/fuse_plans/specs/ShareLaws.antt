@@ -12,10 +12,10 @@ use Rattle.fs_model.specs.declared.event.Event.TheVariants.{Spawn}
 use Rattle.fs_model.specs.declared.reply.Reply.{Reply}
 use Rattle.fuse_state.specs.declared.shares.Shares.{Shares}
 use Rattle.fuse_state.specs.Shares.{process_shares, directory_shares, count_of, HasEach}
-use Rattle.fuse_state.specs.Servers.{Server, process_holders, directory_holders, opened, WithinShares}
+use Rattle.fuse_state.specs.Servers.{Server, process_holders, directory_holders, with_opened, WithinShares}
 use Rattle.fuse_plans.specs.declared.reply.Response.{Response}
-use Rattle.fuse_plans.specs.declared.stop.Stop.TheVariants.{Lacks}
-use Rattle.fuse_plans.specs.declared.stop.OtherErrno.TheVariants.{ENFILE}
+use Rattle.fuse_plans.specs.declared.request_error.RequestError.TheVariants.{Lacks}
+use Rattle.fuse_plans.specs.declared.request_error.OtherErrno.TheVariants.{ENFILE}
 use Rattle.fuse_plans.specs.Plans.{Finish, IsRunOf}
 use Rattle.fuse_plans.specs.Requests.{Request}
 use Rattle.fuse_plans.specs.Works.{is_refused_for}
@@ -56,4 +56,4 @@ pub record ProcessesAreFound : Type 0 where
 abbrev pub DirectoriesAreFound : Type 0
 DirectoriesAreFound =
     (s : Server) (uid n : ℕ) → WithinShares s → HasShare directory_shares (directory_holders s) uid
-    → take_directory uid n s ≡ Finish (Ok (opened_directory_body s.next_directory s), opened uid n s)
+    → take_directory uid n s ≡ Finish (Ok (opened_directory_body s.next_directory s), with_opened uid n s)

@@ -18,20 +18,20 @@ use Rattle.fs_model.specs.declared.reply.Stamps.{Stamps}
 use Rattle.fs_model.specs.declared.reply.Status.{Status}
 use Rattle.fs_model.specs.Limits.{descriptors_limit, processes_limit}
 use Rattle.fuse_plans.specs.Plans.{Plan, Finish, Ask, followed_by}
-use Rattle.fuse_plans.specs.declared.stop.Stop.{Stop}
-use Rattle.fuse_plans.specs.declared.stop.Stop.TheVariants.{Refuses}
-use Rattle.fuse_plans.specs.Stops.{failed, is_for}
+use Rattle.fuse_plans.specs.declared.request_error.RequestError.{RequestError}
+use Rattle.fuse_plans.specs.declared.request_error.RequestError.TheVariants.{Refuses}
+use Rattle.fuse_plans.specs.RequestErrors.{failed, is_for}
 use Rattle.fuse_state.specs.Servers.{Server, handle_of}
 
 -- What was done before a stop stays.
 abbrev pub Work : Type 0 → Type 0
-Work X = Server → Plan (Result X Stop × Server)
+Work X = Server → Plan (Result X RequestError × Server)
 
 unfoldable pub give : {X : Type 0} → X → Work X
 give x s = Finish (Ok x, s)
 
-unfoldable pub stop : {X : Type 0} → Stop → Work X
-stop e s = Finish (Err e, s)
+unfoldable pub fail : {X : Type 0} → RequestError → Work X
+fail e s = Finish (Err e, s)
 
 -- what is read of what the server keeps
 unfoldable pub kept : {X : Type 0} → (Server → X) → Work X
@@ -41,7 +41,7 @@ kept f s = Finish (Ok (f s), s)
 unfoldable pub keep : (Server → Server) → Work (Unit {0})
 keep f s = Finish (Ok tt, f s)
 
-abbrev pub goes_on : {X Y : Type 0} → (X → Work Y) → Result X Stop × Server → Plan (Result Y Stop × Server)
+abbrev pub goes_on : {X Y : Type 0} → (X → Work Y) → Result X RequestError × Server → Plan (Result Y RequestError × Server)
 goes_on f (Ok x, s) = f x s
 goes_on f (Err e, s) = Finish (Err e, s)
 
@@ -54,16 +54,16 @@ abbrev pub ◌>>◌ : {X Y : Type 0} → Work X → Work Y → Work Y
 v >> w = v >>= (λ _. w)
 
 -- the work, and whether it stopped
-unfoldable pub attempt : {X : Type 0} → Work X → Work (Result X Stop)
+unfoldable pub attempt : {X : Type 0} → Work X → Work (Result X RequestError)
 attempt w s = followed_by (w s) (λ r. Finish (Ok r.0, r.1))
 
-abbrev pub of_result : {X : Type 0} → Result X Stop → Work X
+abbrev pub of_result : {X : Type 0} → Result X RequestError → Work X
 of_result (Ok x) = give x
-of_result (Err e) = stop e
+of_result (Err e) = fail e
 
 -- a value that must be there
-abbrev pub needed : {X : Type 0} → Stop → Option X → Work X
-needed e None = stop e
+abbrev pub needed : {X : Type 0} → RequestError → Option X → Work X
+needed e None = fail e
 needed e (Some x) = give x
 
 -- ---- events
@@ -82,7 +82,7 @@ is_refused_for e _ = false
 
 abbrev pub give_unless : Reply → Option Refusal → Work Reply
 give_unless reply None = give reply
-give_unless reply (Some r) = stop (Refuses r)
+give_unless reply (Some r) = fail (Refuses r)
 
 abbrev pub unless_refused : Reply → Work Reply
 unless_refused reply = give_unless reply (refusal_in reply)
@@ -91,12 +91,12 @@ abbrev pub obtain : Event → Work Reply
 obtain e = ask e >>= unless_refused
 
 -- Where the work stopped the process closes what it has opened.
-abbrev pub or_closed : {X : Type 0} → ℕ → ℕ → Result X Stop → Work X
+abbrev pub or_closed : {X : Type 0} → ℕ → ℕ → Result X RequestError → Work X
 or_closed pid fd (Ok x) = give x
-or_closed pid fd (Err e) = ask (Calls pid (Close fd)) >> stop e
+or_closed pid fd (Err e) = ask (Calls pid (Close fd)) >> fail e
 
 -- Replies of another form never come.
-abbrev pub unexpected : Stop
+abbrev pub unexpected : RequestError
 unexpected = failed EIO
 
 abbrev pub pid_of_reply : Reply → Option ℕ

@@ -7,7 +7,7 @@ mod laws;
 mod mode;
 mod reply;
 mod request;
-mod stop;
+mod request_error;
 
 pub use laws::{
     beginning_behaves, failures_change_nothing, judged_lookups_are_granted,
@@ -19,4 +19,4 @@ pub use laws::{
 pub use mode::Mode;
 pub use reply::{Attributes, ReplyBody, Response};
 pub use request::{Asked, needs_caller};
-pub use stop::{OtherErrno, Stop};
+pub use request_error::{OtherErrno, RequestError};

@@ -1,6 +1,6 @@
 //! What is replied.
 
-use crate::stop::Stop;
+use crate::request_error::RequestError;
 use fs_model::{Bytes, Status};
 use fuse_protocol::{OpenedFlags, Terms};
 use fuse_state::Times;
@@ -62,5 +62,5 @@ pub enum Response {
     /// There is no reply.
     Silence,
     Says(ReplyBody),
-    Fails(Stop),
+    Fails(RequestError),
 }

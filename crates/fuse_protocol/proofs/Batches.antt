@@ -2,7 +2,7 @@
 use Rattle.std.proofs.Common.{◌≡◌, ℕ, zero, suc, ◌*◌, ◌<◌, List, length, drop, slice_get, Some, None, refl, ap, ◌∙◌, arith}
 use Rattle.std.proofs.lemmas.List.{drop-drop}
 use Rattle.std.proofs.lemmas.Option.{slice_get_past}
-use Rattle.fuse_protocol.specs.Bytes.{u64_of}
+use Rattle.fuse_protocol.specs.Bytes.{long_at}
 use Rattle.fuse_protocol.specs.Forgets.{forgets_in}
 
 pub length_forgets : (k : ℕ) (s : List ℕ) → length (forgets_in k s) ≡ k
@@ -10,7 +10,7 @@ length_forgets zero s = refl
 length_forgets (suc k) s = ap suc (length_forgets k (drop 16 s))
 
 abbrev forget_at : List ℕ → ℕ × ℕ
-forget_at s = (u64_of s 0, u64_of s 8)
+forget_at s = (long_at s 0, long_at s 8)
 
 pub nth_forget : (k at : ℕ) (s : List ℕ) → at < k → slice_get (forgets_in k s) at ≡ Some (forget_at (drop (16 * at) s))
 nth_forget zero at s lt = absurd (omega (arith, lt))

@@ -3,7 +3,7 @@ use Rattle.std.specs.Prelude.{ℕ, ◌+◌, ◌-◌, ◌%◌, List, [], ◌∷�
 use Rattle.fuse_protocol.specs.declared.entry.DirectoryEntry.{DirectoryEntry}
 use Rattle.fuse_protocol.specs.declared.entry.EntryKind.{EntryKind}
 use Rattle.fuse_protocol.specs.declared.entry.EntryKind.TheVariants as kinds
-use Rattle.fuse_protocol.specs.Bytes.{le32s, le64s, zeros}
+use Rattle.fuse_protocol.specs.Bytes.{bytes_of_u32s, bytes_of_u64s, zeros_of}
 
 -- as readdir(3) numbers kinds
 abbrev pub entry_kind_number : EntryKind → ℕ
@@ -17,8 +17,8 @@ padding name = (8 - name % 8) % 8
 abbrev pub entry_size : ℕ → ℕ
 entry_size name = 24 + name + padding name
 
--- inode, offset of the next, length of the name, kind, name, zeros
+-- inode, offset of the next, length of the name, kind, name, zeros_of
 unfoldable pub directory_entry_bytes : DirectoryEntry → List ℕ
 directory_entry_bytes e =
-    le64s (e.inode ∷ e.next ∷ [])
-    ++ (le32s (length e.name ∷ entry_kind_number e.kind ∷ []) ++ (e.name ++ zeros (padding (length e.name))))
+    bytes_of_u64s (e.inode ∷ e.next ∷ [])
+    ++ (bytes_of_u32s (length e.name ∷ entry_kind_number e.kind ∷ []) ++ (e.name ++ zeros_of (padding (length e.name))))

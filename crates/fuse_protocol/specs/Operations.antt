@@ -13,7 +13,7 @@ use Rattle.fuse_protocol.specs.declared.operation.NewTime.{NewTime}
 use Rattle.fuse_protocol.specs.declared.operation.NewTime.TheVariants.{Now, At}
 use Rattle.fuse_protocol.specs.declared.operation.Operation.{Operation}
 use Rattle.fuse_protocol.specs.declared.operation.Operation.TheVariants.{Lookup, Forget, GetAttr, SetAttr, ReadLink, SymLink, MkNod, MkDir, Unlink, RmDir, Rename, Link, Open, Read, Write, StatFs, Release, FSync, SetXAttr, GetXAttr, ListXAttr, RemoveXAttr, Init, OpenDir, ReadDir, ReleaseDir, FSyncDir, Access, Create, Interrupt, Destroy, BatchForget, SyncFs, Unknown}
-use Rattle.fuse_protocol.specs.Bytes.{u32_of, u64_of}
+use Rattle.fuse_protocol.specs.Bytes.{word_at, long_at}
 use Rattle.fuse_protocol.specs.Forgets.{forget_count, batch_of}
 use Rattle.fuse_protocol.specs.Names.{text_of, name_from}
 
@@ -22,10 +22,10 @@ abbrev pub where_long : {X : Type 0} → List ℕ → ℕ → X → Option X
 where_long s size x = if nat_le size (length s) then Some x else None
 
 abbrev pub first_number : List ℕ → ℕ → Option ℕ
-first_number s size = where_long s size (u32_of s 0)
+first_number s size = where_long s size (word_at s 0)
 
 abbrev pub first_handle : List ℕ → ℕ → Option ℕ
-first_handle s size = where_long s size (u64_of s 0)
+first_handle s size = where_long s size (long_at s 0)
 
 -- ---- names
 
@@ -42,27 +42,27 @@ symlink_of s = option_and_then (λ name. option_map (SymLink name) (text_of s (l
 
 -- mode, device, umask
 abbrev pub make_node_of : List ℕ → Option Operation
-make_node_of s = with_name s 16 (λ name. MkNod name (u32_of s 0) (u32_of s 8))
+make_node_of s = with_name s 16 (λ name. MkNod name (word_at s 0) (word_at s 8))
 
 -- mode, umask
 abbrev pub make_directory_of : List ℕ → Option Operation
-make_directory_of s = with_name s 8 (λ name. MkDir name (u32_of s 0) (u32_of s 4))
+make_directory_of s = with_name s 8 (λ name. MkDir name (word_at s 0) (word_at s 4))
 
 -- the new directory
 abbrev pub rename_of : List ℕ → Option Operation
-rename_of s = with_two_names s 8 (λ name new_name. Rename name (u64_of s 0) new_name 0)
+rename_of s = with_two_names s 8 (λ name new_name. Rename name (long_at s 0) new_name 0)
 
 -- the new directory, flags
-abbrev pub rename2_of : List ℕ → Option Operation
-rename2_of s = with_two_names s 16 (λ name new_name. Rename name (u64_of s 0) new_name (u32_of s 8))
+abbrev pub rename_with_flags_of : List ℕ → Option Operation
+rename_with_flags_of s = with_two_names s 16 (λ name new_name. Rename name (long_at s 0) new_name (word_at s 8))
 
 -- the node that gets the name
 abbrev pub link_of : List ℕ → Option Operation
-link_of s = with_name s 8 (λ name. Link (u64_of s 0) name)
+link_of s = with_name s 8 (λ name. Link (long_at s 0) name)
 
 -- flags, mode, umask
 abbrev pub create_of : List ℕ → Option Operation
-create_of s = with_name s 16 (λ name. Create name (record { 0 = u32_of s 0 }) (u32_of s 4) (u32_of s 8))
+create_of s = with_name s 16 (λ name. Create name (record { 0 = word_at s 0 }) (word_at s 4) (word_at s 8))
 
 -- ---- attributes
 
@@ -72,17 +72,17 @@ where_set valid flag x = if bit_and valid flag == 0 then None else Some x
 
 -- the present time where the flag is set, or the one whose parts stand at these offsets
 abbrev pub new_time : List ℕ → ℕ → ℕ → ℕ → NewTime
-new_time s now seconds nanoseconds = if bit_and (u32_of s 0) now == 0 then At (u64_of s seconds) (u32_of s nanoseconds) else Now
+new_time s now seconds nanoseconds = if bit_and (word_at s 0) now == 0 then At (long_at s seconds) (word_at s nanoseconds) else Now
 
 unfoldable pub attr_changes : List ℕ → AttrChanges
 attr_changes s = record {
-  mode = where_set (u32_of s 0) FATTR_MODE (u32_of s 68);
-  uid = where_set (u32_of s 0) FATTR_UID (u32_of s 76);
-  gid = where_set (u32_of s 0) FATTR_GID (u32_of s 80);
-  size = where_set (u32_of s 0) FATTR_SIZE (u64_of s 16);
-  atime = where_set (u32_of s 0) FATTR_ATIME (new_time s FATTR_ATIME_NOW 32 56);
-  mtime = where_set (u32_of s 0) FATTR_MTIME (new_time s FATTR_MTIME_NOW 40 60);
-  handle = where_set (u32_of s 0) FATTR_FH (u64_of s 8);
+  mode = where_set (word_at s 0) FATTR_MODE (word_at s 68);
+  uid = where_set (word_at s 0) FATTR_UID (word_at s 76);
+  gid = where_set (word_at s 0) FATTR_GID (word_at s 80);
+  size = where_set (word_at s 0) FATTR_SIZE (long_at s 16);
+  atime = where_set (word_at s 0) FATTR_ATIME (new_time s FATTR_ATIME_NOW 32 56);
+  mtime = where_set (word_at s 0) FATTR_MTIME (new_time s FATTR_MTIME_NOW 40 60);
+  handle = where_set (word_at s 0) FATTR_FH (long_at s 8);
 }
 
 abbrev pub set_attr_of : List ℕ → Option Operation
@@ -90,18 +90,18 @@ set_attr_of s = where_long s 88 (SetAttr (attr_changes s))
 
 -- the value's size, then the name; the value is the rest
 abbrev pub with_value : List ℕ → List ℕ → List ℕ → Option Operation
-with_value s name value = if length value == u32_of s 0 then Some (SetXAttr name value) else None
+with_value s name value = if length value == word_at s 0 then Some (SetXAttr name value) else None
 
 abbrev pub set_xattr_of : List ℕ → Option Operation
 set_xattr_of s = option_and_then (λ name. with_value s name (drop (8 + length name + 1) s)) (text_of s 8)
 
 abbrev pub get_xattr_of : List ℕ → Option Operation
-get_xattr_of s = option_map (λ name. GetXAttr name (u32_of s 0)) (text_of s 8)
+get_xattr_of s = option_map (λ name. GetXAttr name (word_at s 0)) (text_of s 8)
 
 -- ---- what is open
 
 abbrev pub extent_of : List ℕ → Option Extent
-extent_of s = where_long s 40 (record { handle = u64_of s 0; offset = u64_of s 8; size = u32_of s 16 })
+extent_of s = where_long s 40 (record { handle = long_at s 0; offset = long_at s 8; size = word_at s 16 })
 
 -- what is written is the rest, and has the size
 abbrev pub write_with : Extent → List ℕ → Option Operation
@@ -114,7 +114,7 @@ write_of s = option_and_then (λ x. write_with x (drop 40 s)) (extent_of s)
 
 -- the version, the most that is read ahead, flags
 abbrev pub init_of : List ℕ → Option Operation
-init_of s = where_long s 16 (Init (record { major = u32_of s 0; minor = u32_of s 4; max_readahead = u32_of s 8; flags = record { 0 = u32_of s 12 } }))
+init_of s = where_long s 16 (Init (record { major = word_at s 0; minor = word_at s 4; max_readahead = word_at s 8; flags = record { 0 = word_at s 12 } }))
 
 -- ---- the table
 
@@ -165,7 +165,7 @@ operation_of code s =
     (if code == UNLINK then with_name s 0 Unlink else
     (if code == RMDIR then with_name s 0 RmDir else
     (if code == RENAME then rename_of s else
-    (if code == RENAME2 then rename2_of s else
+    (if code == RENAME2 then rename_with_flags_of s else
     (if code == LINK then link_of s else
     (if code == CREATE then create_of s else
     object_operation code s)))))))))

@@ -10,50 +10,50 @@ use Rattle.fuse_protocol.specs.declared.reply.Room.{Room}
 use Rattle.fuse_protocol.specs.declared.reply.Reply.{Reply}
 use Rattle.fuse_protocol.specs.declared.reply.Reply.TheVariants as replies
 use Rattle.fuse_protocol.specs.declared.reply.TheConstants.{MAJOR, MINOR, TIME_GRANULARITY, REPLY_HEADER_SIZE}
-use Rattle.fuse_protocol.specs.Bytes.{le16s, le32s, le64s}
+use Rattle.fuse_protocol.specs.Bytes.{bytes_of_u16s, bytes_of_u32s, bytes_of_u64s}
 
 -- 88 bytes: the device and the flags are 0
 abbrev pub attr_bytes : Attr → List ℕ
 attr_bytes a =
-    le64s (a.inode ∷ a.size ∷ a.blocks ∷ a.atime.seconds ∷ a.mtime.seconds ∷ a.ctime.seconds ∷ [])
-    ++ le32s (a.atime.nanoseconds ∷ a.mtime.nanoseconds ∷ a.ctime.nanoseconds ∷ a.mode ∷ a.links ∷ a.uid ∷ a.gid ∷ 0 ∷ a.block_size ∷ 0 ∷ [])
+    bytes_of_u64s (a.inode ∷ a.size ∷ a.blocks ∷ a.atime.seconds ∷ a.mtime.seconds ∷ a.ctime.seconds ∷ [])
+    ++ bytes_of_u32s (a.atime.nanoseconds ∷ a.mtime.nanoseconds ∷ a.ctime.nanoseconds ∷ a.mode ∷ a.links ∷ a.uid ∷ a.gid ∷ 0 ∷ a.block_size ∷ 0 ∷ [])
 
 -- 128 bytes: the node, its generation, for how many seconds name and attributes are valid, and the attributes
 abbrev pub entry_reply_bytes : ℕ → ℕ → ℕ → Attr → List ℕ
-entry_reply_bytes node name_valid valid a = le64s (node ∷ 0 ∷ name_valid ∷ valid ∷ 0 ∷ []) ++ attr_bytes a
+entry_reply_bytes node name_valid valid a = bytes_of_u64s (node ∷ 0 ∷ name_valid ∷ valid ∷ 0 ∷ []) ++ attr_bytes a
 
 -- 128 bytes: no node has the name, and that is valid for so many seconds
 abbrev pub absent_bytes : ℕ → List ℕ
-absent_bytes valid = le64s (0 ∷ 0 ∷ valid ∷ 0 ∷ 0 ∷ 0 ∷ 0 ∷ 0 ∷ 0 ∷ 0 ∷ 0 ∷ 0 ∷ 0 ∷ 0 ∷ 0 ∷ 0 ∷ [])
+absent_bytes valid = bytes_of_u64s (0 ∷ 0 ∷ valid ∷ 0 ∷ 0 ∷ 0 ∷ 0 ∷ 0 ∷ 0 ∷ 0 ∷ 0 ∷ 0 ∷ 0 ∷ 0 ∷ 0 ∷ 0 ∷ [])
 
 -- 16 bytes: the handle, and flags
 abbrev pub open_bytes : ℕ → OpenedFlags → List ℕ
-open_bytes handle flags = le64s (handle ∷ flags.0 ∷ [])
+open_bytes handle flags = bytes_of_u64s (handle ∷ flags.0 ∷ [])
 
 -- 64 bytes: nothing is mapped, and of the second flags none is taken
 abbrev pub terms_bytes : Terms → List ℕ
 terms_bytes t =
-    le32s (MAJOR ∷ MINOR ∷ t.max_readahead ∷ t.flags.0 ∷ [])
-    ++ (le16s (t.max_background ∷ t.congestion_threshold ∷ [])
-    ++ (le32s (t.max_write ∷ TIME_GRANULARITY ∷ [])
-    ++ (le16s (t.max_pages ∷ 0 ∷ []) ++ le64s (0 ∷ 0 ∷ 0 ∷ 0 ∷ []))))
+    bytes_of_u32s (MAJOR ∷ MINOR ∷ t.max_readahead ∷ t.flags.0 ∷ [])
+    ++ (bytes_of_u16s (t.max_background ∷ t.congestion_threshold ∷ [])
+    ++ (bytes_of_u32s (t.max_write ∷ TIME_GRANULARITY ∷ [])
+    ++ (bytes_of_u16s (t.max_pages ∷ 0 ∷ []) ++ bytes_of_u64s (0 ∷ 0 ∷ 0 ∷ 0 ∷ []))))
 
 -- 80 bytes: all free blocks are there for everybody
 abbrev pub room_bytes : Room → List ℕ
 room_bytes r =
-    le64s (r.blocks ∷ r.free_blocks ∷ r.free_blocks ∷ r.inodes ∷ r.free_inodes ∷ [])
-    ++ (le32s (r.block_size ∷ r.max_name ∷ r.block_size ∷ []) ++ le32s (0 ∷ 0 ∷ 0 ∷ 0 ∷ 0 ∷ 0 ∷ 0 ∷ []))
+    bytes_of_u64s (r.blocks ∷ r.free_blocks ∷ r.free_blocks ∷ r.inodes ∷ r.free_inodes ∷ [])
+    ++ (bytes_of_u32s (r.block_size ∷ r.max_name ∷ r.block_size ∷ []) ++ bytes_of_u32s (0 ∷ 0 ∷ 0 ∷ 0 ∷ 0 ∷ 0 ∷ 0 ∷ []))
 
 abbrev pub body_bytes : Reply → List ℕ
 body_bytes (replies.Error number) = []
 body_bytes replies.Done = []
-body_bytes (replies.Attr valid a) = le64s (valid ∷ 0 ∷ []) ++ attr_bytes a
+body_bytes (replies.Attr valid a) = bytes_of_u64s (valid ∷ 0 ∷ []) ++ attr_bytes a
 body_bytes (replies.Entry node name_valid valid a) = entry_reply_bytes node name_valid valid a
 body_bytes (replies.Absent valid) = absent_bytes valid
 body_bytes (replies.Created node name_valid valid a handle flags) = entry_reply_bytes node name_valid valid a ++ open_bytes handle flags
 body_bytes (replies.Open handle flags) = open_bytes handle flags
 body_bytes (replies.Init terms) = terms_bytes terms
-body_bytes (replies.Count count) = le32s (count ∷ 0 ∷ [])
+body_bytes (replies.Count count) = bytes_of_u32s (count ∷ 0 ∷ [])
 body_bytes (replies.StatFs room) = room_bytes room
 body_bytes (replies.Bytes bytes) = bytes
 
@@ -70,4 +70,4 @@ IsReply _ = Unit {0}
 
 -- the length, the outcome, the number of the request, and the body
 unfoldable pub reply_bytes : ℕ → Reply → List ℕ
-reply_bytes unique r = le32s ((REPLY_HEADER_SIZE + length (body_bytes r)) ∷ error_field r ∷ []) ++ (le64s (unique ∷ []) ++ body_bytes r)
+reply_bytes unique r = bytes_of_u32s ((REPLY_HEADER_SIZE + length (body_bytes r)) ∷ error_field r ∷ []) ++ (bytes_of_u64s (unique ∷ []) ++ body_bytes r)

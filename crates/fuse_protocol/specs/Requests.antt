@@ -5,30 +5,30 @@ use Rattle.fuse_protocol.specs.declared.request.TheConstants.{HEADER_SIZE}
 use Rattle.fuse_protocol.specs.declared.request.Request.{Request}
 use Rattle.fuse_protocol.specs.declared.request.RequestFault.{RequestFault}
 use Rattle.fuse_protocol.specs.declared.request.RequestFault.TheVariants.{NotWhole, Malformed}
-use Rattle.fuse_protocol.specs.Bytes.{u16_of, u32_of, u64_of}
+use Rattle.fuse_protocol.specs.Bytes.{short_at, word_at, long_at}
 use Rattle.fuse_protocol.specs.Operations.{operation_of}
 
 -- The header: length, opcode, number of the request, node, who asks, the length of extensions in units of 8.
 abbrev pub request_with : List ℕ → Option Operation → Result Request RequestFault
-request_with s None = Err (Malformed (u64_of s 8))
+request_with s None = Err (Malformed (long_at s 8))
 request_with s (Some operation) = Ok (record {
-  unique = u64_of s 8;
-  node = u64_of s 16;
-  uid = u32_of s 24;
-  gid = u32_of s 28;
-  pid = u32_of s 32;
+  unique = long_at s 8;
+  node = long_at s 16;
+  uid = word_at s 24;
+  gid = word_at s 28;
+  pid = word_at s 32;
   operation = operation;
 })
 
 -- the bytes between the header and the extensions
 abbrev pub body_of : List ℕ → List ℕ
-body_of s = take (length s - HEADER_SIZE - 8 * u16_of s 36) (drop HEADER_SIZE s)
+body_of s = take (length s - HEADER_SIZE - 8 * short_at s 36) (drop HEADER_SIZE s)
 
 -- where the extensions fit
 abbrev pub operation_in : List ℕ → Option Operation
-operation_in s = if nat_lt (length s) (HEADER_SIZE + 8 * u16_of s 36) then None else operation_of (u32_of s 4) (body_of s)
+operation_in s = if nat_lt (length s) (HEADER_SIZE + 8 * short_at s 36) then None else operation_of (word_at s 4) (body_of s)
 
 unfoldable pub request_of : List ℕ → Result Request RequestFault
 request_of s =
     if nat_lt (length s) HEADER_SIZE then Err NotWhole else
-    (if u32_of s 0 == length s then request_with s (operation_in s) else Err NotWhole)
+    (if word_at s 0 == length s then request_with s (operation_in s) else Err NotWhole)

@@ -8,7 +8,7 @@ use Rattle.fuse_protocol.specs.declared.request.Request.{Request}
 use Rattle.fuse_protocol.specs.declared.request.RequestFault.{RequestFault}
 use Rattle.fuse_protocol.specs.declared.request.RequestFault.TheVariants.{Malformed}
 use Rattle.fuse_protocol.specs.declared.request.TheConstants.{HEADER_SIZE}
-use Rattle.fuse_protocol.specs.Bytes.{le16s, le32s, le64s}
+use Rattle.fuse_protocol.specs.Bytes.{bytes_of_u16s, bytes_of_u32s, bytes_of_u64s}
 use Rattle.fuse_protocol.specs.Names.{IsFileName, name_from}
 use Rattle.fuse_protocol.specs.Operations.{operation_of}
 use Rattle.fuse_protocol.specs.Requests.{request_of}
@@ -43,8 +43,8 @@ pub record FitsHeader (h : Header) (body extensions : List ℕ) : Type 0 where
 
 abbrev pub header_bytes : Header → ℕ → List ℕ
 header_bytes h size =
-    le32s (size ∷ h.opcode ∷ [])
-    ++ (le64s (h.unique ∷ h.node ∷ []) ++ (le32s (h.uid ∷ h.gid ∷ h.pid ∷ []) ++ le16s (h.units ∷ 0 ∷ [])))
+    bytes_of_u32s (size ∷ h.opcode ∷ [])
+    ++ (bytes_of_u64s (h.unique ∷ h.node ∷ []) ++ (bytes_of_u32s (h.uid ∷ h.gid ∷ h.pid ∷ []) ++ bytes_of_u16s (h.units ∷ 0 ∷ [])))
 
 unfoldable pub request_bytes : Header → List ℕ → List ℕ → List ℕ
 request_bytes h body extensions = header_bytes h (HEADER_SIZE + length body + length extensions) ++ (body ++ extensions)

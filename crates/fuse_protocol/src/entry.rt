@@ -1,7 +1,7 @@
 //! The entries of a directory, as READDIR tells them.
 
 ghost use Rattle.std.specs.Prelude.{◌≡◌, ◌<◌, ◌+◌, ◌^◌, ◌++◌, ◌≤◌, length, vec_len, vec_capacity, nat_le, [], if◌then◌else◌, IsOk, IfOk, OnOk};
-ghost use Rattle.fuse_protocol.specs.Bytes.{zeros};
+ghost use Rattle.fuse_protocol.specs.Bytes.{zeros_of};
 ghost use Rattle.fuse_protocol.specs.Entries.{directory_entry_bytes, entry_size, entry_kind_number};
 
 use crate::bytes::{push_u32s, push_u64s};
@@ -36,7 +36,7 @@ fn entry_size(name: usize) -> usize
 
 fn push_zeros(to: &mut Vec<u8>, count: usize) -> Result<(), AllocError>
     requires { count ≤ 8 }
-    ensures items { OnOk result (to.new.items ≡ to.old.items ++ zeros count) }
+    ensures items { OnOk result (to.new.items ≡ to.old.items ++ zeros_of count) }
     ensures capacity { vec_capacity to.old ≤ vec_capacity to.new }
     ensures succeeds { vec_len to.old + count ≤ vec_capacity to.old → IsOk result }
 {

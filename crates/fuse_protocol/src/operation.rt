@@ -2,7 +2,7 @@
 
 ghost use Rattle.std.specs.Prelude.{◌≡◌, ◌≤◌, ◌+◌, length};
 ghost use Rattle.fuse_protocol.specs.Forgets.{forget_count};
-ghost use Rattle.fuse_protocol.specs.Operations.{where_long, where_set, new_time, attr_changes, operation_of, object_operation, handle_operation, other_operation, symlink_of, make_node_of, make_directory_of, rename_of, rename2_of, link_of, create_of, set_xattr_of, get_xattr_of, set_attr_of, init_of, write_of, extent_of, first_number, first_handle};
+ghost use Rattle.fuse_protocol.specs.Operations.{where_long, where_set, new_time, attr_changes, operation_of, object_operation, handle_operation, other_operation, symlink_of, make_node_of, make_directory_of, rename_of, rename_with_flags_of, link_of, create_of, set_xattr_of, get_xattr_of, set_attr_of, init_of, write_of, extent_of, first_number, first_handle};
 
 use crate::batch::{Batch, parse_batch};
 use crate::bytes::{u32_at, u64_at};
@@ -335,7 +335,7 @@ fn parse_rename(body: &[u8]) -> Option<Operation<'_>>
 }
 
 fn parse_rename2(body: &[u8]) -> Option<Operation<'_>>
-    ensures { result ≡ rename2_of body.now }
+    ensures { result ≡ rename_with_flags_of body.now }
 {
     let name = name_at(body, 16)?;
     let new_name = name_at(body, 16 + name.bytes().len() + 1)?;

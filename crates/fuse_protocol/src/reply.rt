@@ -245,7 +245,7 @@ fn push_body(to: &mut Vec<u8>, reply: &Reply<'_>) -> Result<(), AllocError>
 }
 
 // How many bytes the body has.
-#[tactic(auto, unfolding(crate::specs::Bytes::le16s, crate::specs::Bytes::le32s, crate::specs::Bytes::le64s))]
+#[tactic(auto, unfolding(crate::specs::Bytes::bytes_of_u16s, crate::specs::Bytes::bytes_of_u32s, crate::specs::Bytes::bytes_of_u64s))]
 fn body_size(reply: &Reply<'_>) -> usize
     requires { IsReply reply.now }
     ensures size { result ≡ length (body_bytes reply.now) }

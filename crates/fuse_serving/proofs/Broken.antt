@@ -14,11 +14,11 @@ use Rattle.fuse_plans.specs.declared.reply.Response.TheVariants.{Fails}
 use Rattle.fuse_plans.specs.Plans.{finishes}
 use Rattle.fuse_plans.specs.Protocol.{HasValue, Hears, says, says_badly, no_more, one_more, request_from, malformed}
 use Rattle.fuse_plans.specs.Requests.{Outside}
-use Rattle.fuse_plans.specs.Stops.{failed}
-use Rattle.fuse_plans.specs.Works.{stop}
+use Rattle.fuse_plans.specs.RequestErrors.{failed}
+use Rattle.fuse_plans.specs.Works.{fail}
 use Rattle.fuse_serving.specs.declared.fault.ServeFault.{ServeFault}
 use Rattle.fuse_serving.specs.Exchanges.{Exchange, Reads, Passes, passes_none, passes_more}
-use Rattle.fuse_serving.specs.Rounds.{Round, Scene, IsAnsweredSo, Rounds, no_round, one_round, IsDecided, ArePerformed, Breaks, IsOfRead, IsOfClock, IsOfReply, no_request, no_time, no_reply, heard_in, learns}
+use Rattle.fuse_serving.specs.Rounds.{Round, Parties, IsAnsweredSo, Rounds, no_round, one_round, IsDecided, ArePerformed, Breaks, IsOfRead, IsOfClock, IsOfReply, no_request, no_time, no_reply, heard_in, learns}
 use Rattle.fuse_serving.specs.Pieces.{ReadBreaks}
 use Rattle.fuse_serving.proofs.Carried.{whole, carried_on, carried_none}
 use Rattle.fuse_serving.proofs.ReadRounds.{any_outside}
@@ -30,13 +30,13 @@ passed_on P (Ok x) fault err is holds = tt
 passed_on P (Err e) fault err is holds = subst P (sym is) holds
 
 module _ {M K : Type 0} (Serves : M → Event → Reply → M → Type 0) (Does : K → Exchange → K → Type 0) where
-  abbrev at : M → Server → K → Scene M K
+  abbrev at : M → Server → K → Parties M K
   at m s k = record { machine = m; server = s; kernel = k }
 
   none_performed : (m : M) (s : Server) (before after : K) → ArePerformed Serves (at m s before) [] (at m s after)
   none_performed m s before after = record { hears = no_more; performs = carried_none Serves s m }
 
-  one_performed : (round : Round) (old new : Scene M K) → Hears round.bytes round.outside round.request
+  one_performed : (round : Round) (old new : Parties M K) → Hears round.bytes round.outside round.request
       → IsAnsweredSo Serves round.request round.nobody round.response old.server new.server old.machine new.machine
       → ArePerformed Serves old (round ∷ []) new
   one_performed round old new hears performs = record {
@@ -46,7 +46,7 @@ module _ {M K : Type 0} (Serves : M → Event → Reply → M → Type 0) (Does 
   }
 
   -- after the rounds, more requests
-  pub all_performed : (rounds more : List Round) (old mid new : Scene M K) → Rounds Serves Does old rounds mid → ArePerformed Serves mid more new
+  pub all_performed : (rounds more : List Round) (old mid new : Parties M K) → Rounds Serves Does old rounds mid → ArePerformed Serves mid more new
       → ArePerformed Serves old (rounds ++ more) new
   all_performed [] more old mid new (no_round _) performed = performed
   all_performed (round ∷ rounds) more old mid new (one_round _ _ _ next _ is rest) performed =
@@ -68,7 +68,7 @@ module _ {M K : Type 0} (Serves : M → Event → Reply → M → Type 0) (Does 
   found_from m s before after [] found = tt
   found_from m s before after (round ∷ rounds) found = found
 
-  pub broken_from_read : (fault : ServeFault) (m : M) (s : Server) (k after : K) (bytes : List ℕ) (new : Scene M K) → s.ended ≡ false
+  pub broken_from_read : (fault : ServeFault) (m : M) (s : Server) (k after : K) (bytes : List ℕ) (new : Parties M K) → s.ended ≡ false
       → Does k (Reads bytes) after → ReadBreaks Serves Does bytes fault (at m s after) new → Breaks Serves Does fault (at m s k) new
   broken_from_read fault m s k after bytes new on does r = record {
     goes_on = on;
@@ -87,7 +87,7 @@ module _ {M K : Type 0} (Serves : M → Event → Reply → M → Type 0) (Does 
     performed = none_performed m s before after;
   }
 
-  unanswered : (round : Round) (fault : ServeFault) (old new : Scene M K) (reached : K) → IsOfReply fault → Hears round.bytes round.outside round.request
+  unanswered : (round : Round) (fault : ServeFault) (old new : Parties M K) (reached : K) → IsOfReply fault → Hears round.bytes round.outside round.request
       → IsAnsweredSo Serves round.request round.nobody round.response old.server new.server old.machine new.machine
       → Passes Does old.kernel (learns round.nobody (request_of round.bytes) round.outside) reached → ReadBreaks Serves Does round.bytes fault old new
   unanswered round fault old new reached is hears performs passes = record {
@@ -98,7 +98,7 @@ module _ {M K : Type 0} (Serves : M → Event → Reply → M → Type 0) (Does 
   }
 
   pub unanswered_spoken : (bytes : List ℕ) (spoken : WireRequest) (outside : Outside) (acl : Option (Option AccessList)) (nobody : Bool) (response : Response)
-      (fault : ServeFault) (old new : Scene M K) (reached : K) → request_of bytes ≡ Ok spoken → IsOfReply fault
+      (fault : ServeFault) (old new : Parties M K) (reached : K) → request_of bytes ≡ Ok spoken → IsOfReply fault
       → (outside.memory ≡ true → HasValue spoken.operation acl)
       → IsAnsweredSo Serves (request_from outside acl spoken) nobody response old.server new.server old.machine new.machine
       → Passes Does old.kernel (learns nobody (Ok spoken) outside) reached → ReadBreaks Serves Does bytes fault old new
@@ -109,7 +109,7 @@ module _ {M K : Type 0} (Serves : M → Event → Reply → M → Type 0) (Does 
 
   pub unanswered_badly : (bytes : List ℕ) (unique : ℕ) (fault : ServeFault) (m : M) (s : Server) (before after : K)
       → request_of bytes ≡ Err (Malformed unique) → IsOfReply fault → ReadBreaks Serves Does bytes fault (at m s before) (at m s after)
-  unfolding stop
+  unfolding fail
   unanswered_badly bytes unique fault m s before after spoke is =
       unanswered (record { bytes = bytes; outside = any_outside; request = malformed any_outside unique; nobody = true; response = Fails (failed EINVAL); taken = false })
       fault (at m s before) (at m s after) before is (says_badly unique spoke)

@@ -13,10 +13,10 @@ use Rattle.fuse_plans.specs.declared.reply.Response.TheVariants.{Fails}
 use Rattle.fuse_plans.specs.Plans.{finishes}
 use Rattle.fuse_plans.specs.Protocol.{Hears, says, says_badly, request_from, malformed}
 use Rattle.fuse_plans.specs.Requests.{Outside}
-use Rattle.fuse_plans.specs.Stops.{failed}
-use Rattle.fuse_plans.specs.Works.{stop}
+use Rattle.fuse_plans.specs.RequestErrors.{failed}
+use Rattle.fuse_plans.specs.Works.{fail}
 use Rattle.fuse_serving.specs.Exchanges.{Exchange, Reads, Passes, passes_more}
-use Rattle.fuse_serving.specs.Rounds.{Scene, learns, tells, later_exchanges, not_whole}
+use Rattle.fuse_serving.specs.Rounds.{Parties, learns, tells, later_exchanges, not_whole}
 use Rattle.fuse_serving.specs.Pieces.{SpokenServed, ReadServed, ReadComesTo, ComesTo}
 
 -- nothing counts
@@ -24,10 +24,10 @@ abbrev pub any_outside : Outside
 any_outside = record { groups = None; caps = no_caps; now = record { seconds = 0; nanoseconds = 0 }; memory = true }
 
 module _ {M K : Type 0} (Serves : M → Event → Reply → M → Type 0) (Does : K → Exchange → K → Type 0) where
-  abbrev pub at : M → Server → K → Scene M K
+  abbrev pub at : M → Server → K → Parties M K
   at m s k = record { machine = m; server = s; kernel = k }
 
-  pub from_read : (m : M) (s : Server) (k after : K) (bytes : List ℕ) (new : Scene M K) (goes_on : Bool) → s.ended ≡ false
+  pub from_read : (m : M) (s : Server) (k after : K) (bytes : List ℕ) (new : Parties M K) (goes_on : Bool) → s.ended ≡ false
       → Does k (Reads bytes) after → ReadComesTo Serves Does bytes (at m s after) new goes_on → ComesTo Serves Does (at m s k) new goes_on
   from_read m s k after bytes new true on does r = (
     r.round,
@@ -45,7 +45,7 @@ module _ {M K : Type 0} (Serves : M → Event → Reply → M → Type 0) (Does 
     is_end = not_whole bytes r.not_whole (subst (λ (l : K). Does k (Reads bytes) l) (sym r.kernel) does);
   }
 
-  pub read_spoken : (bytes : List ℕ) (spoken : WireRequest) (old new : Scene M K) → request_of bytes ≡ Ok spoken
+  pub read_spoken : (bytes : List ℕ) (spoken : WireRequest) (old new : Parties M K) → request_of bytes ≡ Ok spoken
       → SpokenServed Serves Does spoken old new → ReadServed Serves Does bytes old new
   read_spoken bytes spoken old new is s = record {
     round = record { bytes = bytes; outside = s.outside; request = request_from s.outside s.acl spoken; nobody = s.nobody; response = s.response; taken = s.taken };
@@ -58,7 +58,7 @@ module _ {M K : Type 0} (Serves : M → Event → Reply → M → Type 0) (Does 
 
   pub read_badly : (bytes : List ℕ) (unique : ℕ) (m : M) (s : Server) (k after : K) (taken : Bool) → request_of bytes ≡ Err (Malformed unique)
       → Passes Does k (tells unique (Fails (failed EINVAL)) taken) after → ReadServed Serves Does bytes (at m s k) (at m s after)
-  unfolding stop
+  unfolding fail
   read_badly bytes unique m s k after taken is told = record {
     round = record { bytes = bytes; outside = any_outside; request = malformed any_outside unique; nobody = true; response = Fails (failed EINVAL); taken = taken };
     is_read = refl;

@@ -15,16 +15,16 @@ use Rattle.fuse_plans.specs.Requests.{Outside, Request}
 use Rattle.fuse_plans.specs.Protocol.{no_more, one_more, response_bytes}
 use Rattle.fuse_serving.specs.declared.caller.Caller.{Caller}
 use Rattle.fuse_serving.specs.Exchanges.{Exchange, Learns, SeesTime, Passes, passes_none}
-use Rattle.fuse_serving.specs.Rounds.{Round, Scene, IsRound, Rounds, no_round, one_round, AreServed, caller_in, learns, tells, exchanges, heard_in, taken_bytes, written}
+use Rattle.fuse_serving.specs.Rounds.{Round, Parties, IsRound, Rounds, no_round, one_round, AreServed, caller_in, learns, tells, exchanges, heard_in, taken_bytes, bytes_sent}
 use Rattle.fuse_serving.proofs.Carried.{whole, carried_on, carried_none}
 use Rattle.fuse_serving.proofs.Passing.{passes_joined}
 
--- of what was written, what was taken
+-- of what was bytes_sent, what was taken
 abbrev answer_taken : ℕ → Response → Bool → List ℕ
 answer_taken unique response taken = if taken then response_bytes unique response else []
 
 abbrev written_of : List Exchange → List ℕ
-written_of = flat_map written
+written_of = flat_map bytes_sent
 
 told_bytes : (unique : ℕ) (response : Response) (taken : Bool) → written_of (tells unique response taken) ≡ answer_taken unique response taken
 told_bytes unique Silence true = refl
@@ -45,7 +45,7 @@ learnt_bytes nobody (Err e) outside = refl
 
 round_bytes : (r : Round) → written_of (exchanges r) ≡ taken_bytes r
 round_bytes r =
-    flat_map-append written (learns r.nobody (request_of r.bytes) r.outside) (tells r.request.unique r.response r.taken)
+    flat_map-append bytes_sent (learns r.nobody (request_of r.bytes) r.outside) (tells r.request.unique r.response r.taken)
     ∙ ap (λ (s : List ℕ). s ++ written_of (tells r.request.unique r.response r.taken)) (learnt_bytes r.nobody (request_of r.bytes) r.outside)
     ∙ told_bytes r.request.unique r.response r.taken
 
@@ -56,7 +56,7 @@ module _ {M K : Type 0} (Serves : M → Event → Reply → M → Type 0) (Does 
   abbrev responses_in : List Round → List Response
   responses_in = map (λ r. r.response)
 
-  pub are_served : (rounds : List Round) (old new : Scene M K) → Rounds Serves Does old rounds new → AreServed Serves Does old rounds new
+  pub are_served : (rounds : List Round) (old new : Parties M K) → Rounds Serves Does old rounds new → AreServed Serves Does old rounds new
   are_served [] old new (no_round _) =
       record { hears = no_more; performs = carried_none Serves old.server old.machine; passes = passes_none old.kernel; is_written = refl }
   are_served (round ∷ rounds) old new (one_round _ _ _ mid _ is rest) =
@@ -68,12 +68,12 @@ module _ {M K : Type 0} (Serves : M → Event → Reply → M → Type 0) (Does 
         passes = subst (λ (xs : List Exchange). Passes Does old.kernel xs new.kernel) (sym (flat_map-cons exchanges round rounds))
             (passes_joined Does (exchanges round) (flat_map exchanges rounds) old.kernel mid.kernel new.kernel is.passes more.passes);
         is_written =
-            ap written_of (flat_map-cons exchanges round rounds) ∙ flat_map-append written (exchanges round) (flat_map exchanges rounds)
+            ap written_of (flat_map-cons exchanges round rounds) ∙ flat_map-append bytes_sent (exchanges round) (flat_map exchanges rounds)
             ∙ ap (λ (s : List ℕ). s ++ written_of (flat_map exchanges rounds)) (round_bytes round)
             ∙ ap (λ (s : List ℕ). taken_bytes round ++ s) more.is_written ∙ sym (flat_map-cons taken_bytes round rounds);
       }
 
-  pub one_round_more : (rounds : List Round) (round : Round) (old mid new : Scene M K) → Rounds Serves Does old rounds mid
+  pub one_round_more : (rounds : List Round) (round : Round) (old mid new : Parties M K) → Rounds Serves Does old rounds mid
       → IsRound Serves Does mid round new → Rounds Serves Does old (rounds ++ round ∷ []) new
   one_round_more [] round old mid new (no_round _) is = one_round round [] old new new is (no_round new)
   one_round_more (first ∷ rounds) round old mid new (one_round _ _ _ after _ before rest) is =

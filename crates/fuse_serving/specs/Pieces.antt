@@ -1,5 +1,5 @@
 -- What the pieces of a round come to.
---     Answers, AnswersWithMemory        a request that was spoken is answered, once it is known whether who asks counts
+--     AnswersOne, AnswersWithMemory        a request that was spoken is answered, once it is known whether who asks counts
 --     scene        of a performer and the kernel
 --     SpokenServed        the same, and its answer is told
 --     ReadComesTo        a read, by whether the server goes on
@@ -22,13 +22,13 @@ use Rattle.fuse_plans.specs.Serving.{answered_as}
 use Rattle.fuse_serving.specs.declared.caller.Caller.{Caller}
 use Rattle.fuse_serving.specs.declared.fault.ServeFault.{ServeFault}
 use Rattle.fuse_serving.specs.Exchanges.{Exchange, Reads, Passes}
-use Rattle.fuse_serving.specs.Rounds.{Round, Scene, IsAnsweredSo, IsRound, Ends, IsBreak, IsDecided, ArePerformed, learns, tells, later_exchanges}
+use Rattle.fuse_serving.specs.Rounds.{Round, Parties, IsAnsweredSo, IsRound, HasEnded, IsBreak, IsDecided, ArePerformed, learns, tells, later_exchanges}
 
 -- with memory for what is added, or without
 abbrev pub known : Caller → Time → Bool → Outside
 known caller now memory = record { groups = caller.groups; caps = caller.caps; now = now; memory = memory }
 
-pub record Answers {M : Type 0} (Serves : M → Event → Reply → M → Type 0) (spoken : WireRequest) (caller : Caller) (nobody : Bool)
+pub record AnswersOne {M : Type 0} (Serves : M → Event → Reply → M → Type 0) (spoken : WireRequest) (caller : Caller) (nobody : Bool)
     (now : Time) (old new : M) (before after : Server) (response : Response) : Type 0 where
   pub memory : Bool
   pub acl : Option (Option AccessList)
@@ -43,12 +43,12 @@ pub record AnswersWithMemory {M : Type 0} (Serves : M → Event → Reply → M 
   pub performs : CarriesOut Serves (answered_as nobody (request_from (known caller now true) acl spoken) before) old new (response, after)
 
 -- a performer and the kernel
-abbrev pub scene : {P M K : Type 0} → (P → M) → (P → Server) → P → K → Scene M K
+abbrev pub scene : {P M K : Type 0} → (P → M) → (P → Server) → P → K → Parties M K
 scene machine server p kernel = record { machine = machine p; server = server p; kernel = kernel }
 
 -- A request that was spoken is served: its plan is performed, and the answer is told.
 pub record SpokenServed {M K : Type 0} (Serves : M → Event → Reply → M → Type 0) (Does : K → Exchange → K → Type 0)
-    (spoken : WireRequest) (old new : Scene M K) : Type 0 where
+    (spoken : WireRequest) (old new : Parties M K) : Type 0 where
   pub outside : Outside
   pub acl : Option (Option AccessList)
   pub has_value : outside.memory ≡ true → HasValue spoken.operation acl
@@ -60,7 +60,7 @@ pub record SpokenServed {M K : Type 0} (Serves : M → Event → Reply → M →
 
 -- The request that was read is served.
 pub record ReadServed {M K : Type 0} (Serves : M → Event → Reply → M → Type 0) (Does : K → Exchange → K → Type 0)
-    (bytes : List ℕ) (old new : Scene M K) : Type 0 where
+    (bytes : List ℕ) (old new : Parties M K) : Type 0 where
   pub round : Round
   pub is_read : round.bytes ≡ bytes
   pub hears : Hears bytes round.outside round.request
@@ -68,25 +68,25 @@ pub record ReadServed {M K : Type 0} (Serves : M → Event → Reply → M → T
   pub performs : IsAnsweredSo Serves round.request round.nobody round.response old.server new.server old.machine new.machine
 
 -- A read that isn't whole changes nothing.
-pub record IsNotWhole {M K : Type 0} (bytes : List ℕ) (old new : Scene M K) : Type 0 where
+pub record IsNotWhole {M K : Type 0} (bytes : List ℕ) (old new : Parties M K) : Type 0 where
   pub not_whole : request_of bytes ≡ Err NotWhole
   pub machine : new.machine ≡ old.machine
   pub server : new.server ≡ old.server
   pub kernel : new.kernel ≡ old.kernel
 
 abbrev pub ReadComesTo : {M K : Type 0} → (M → Event → Reply → M → Type 0) → (K → Exchange → K → Type 0)
-    → List ℕ → Scene M K → Scene M K → Bool → Type 0
+    → List ℕ → Parties M K → Parties M K → Bool → Type 0
 ReadComesTo Serves Does bytes old new true = ReadServed Serves Does bytes old new
 ReadComesTo Serves Does bytes old new false = IsNotWhole bytes old new
 
 abbrev pub ComesTo : {M K : Type 0} → (M → Event → Reply → M → Type 0) → (K → Exchange → K → Type 0)
-    → Scene M K → Scene M K → Bool → Type 0
+    → Parties M K → Parties M K → Bool → Type 0
 ComesTo Serves Does old new true = (round : Round) × IsRound Serves Does old round new
-ComesTo Serves Does old new false = Ends Does old new
+ComesTo Serves Does old new false = HasEnded Does old new
 
 -- A request was read, and its round breaks off.
 pub record ReadBreaks {M K : Type 0} (Serves : M → Event → Reply → M → Type 0) (Does : K → Exchange → K → Type 0) (bytes : List ℕ)
-    (fault : ServeFault) (old new : Scene M K) : Type 0 where
+    (fault : ServeFault) (old new : Parties M K) : Type 0 where
   pub untold : List Round
   pub is_break : (before : K) → Does before (Reads bytes) old.kernel → IsBreak Does fault before untold
   pub found : IsDecided Serves old untold

@@ -39,7 +39,7 @@ pub record Round : Type 0 where
   pub taken : Bool
 
 -- the machine that is asked, what the server keeps, and the kernel
-pub record Scene (M K : Type 0) : Type 0 where
+pub record Parties (M K : Type 0) : Type 0 where
   pub machine : M
   pub server : Server
   pub kernel : K
@@ -84,7 +84,7 @@ pub record IsAnsweredSo {M : Type 0} (Serves : M → Event → Reply → M → T
 
 -- The request is read, its plan is performed, and the answer is told.
 pub record IsRound {M K : Type 0} (Serves : M → Event → Reply → M → Type 0) (Does : K → Exchange → K → Type 0)
-    (old : Scene M K) (round : Round) (new : Scene M K) : Type 0 where
+    (old : Parties M K) (round : Round) (new : Parties M K) : Type 0 where
   pub goes_on : old.server.ended ≡ false
   pub hears : Hears round.bytes round.outside round.request
   pub passes : Passes Does old.kernel (exchanges round) new.kernel
@@ -93,9 +93,9 @@ pub record IsRound {M K : Type 0} (Serves : M → Event → Reply → M → Type
 -- ---- several
 
 pub data Rounds {M K : Type 0} (Serves : M → Event → Reply → M → Type 0) (Does : K → Exchange → K → Type 0)
-    : Scene M K → List Round → Scene M K → Type 0 where
-  no_round : (s : Scene M K) → Rounds Serves Does s [] s
-  one_round : (round : Round) (rounds : List Round) (old mid new : Scene M K)
+    : Parties M K → List Round → Parties M K → Type 0 where
+  no_round : (s : Parties M K) → Rounds Serves Does s [] s
+  one_round : (round : Round) (rounds : List Round) (old mid new : Parties M K)
       → IsRound Serves Does old round mid → Rounds Serves Does mid rounds new → Rounds Serves Does old (round ∷ rounds) new
 
 -- It was told to end, or no more requests come, or a read isn't whole.
@@ -105,7 +105,7 @@ pub data IsEnd {K : Type 0} (Does : K → Exchange → K → Type 0) (server : S
   not_whole : (bytes : List ℕ) → request_of bytes ≡ Err NotWhole → Does old (Reads bytes) new → IsEnd Does server old new
 
 -- Nothing is asked any more.
-pub record Ends {M K : Type 0} (Does : K → Exchange → K → Type 0) (old new : Scene M K) : Type 0 where
+pub record HasEnded {M K : Type 0} (Does : K → Exchange → K → Type 0) (old new : Parties M K) : Type 0 where
   pub machine : new.machine ≡ old.machine
   pub server : new.server ≡ old.server
   pub is_end : IsEnd Does old.server old.kernel new.kernel
@@ -121,27 +121,27 @@ heard_in r = (r.bytes, r.outside)
 abbrev pub taken_bytes : Round → List ℕ
 taken_bytes r = if r.taken then response_bytes r.request.unique r.response else []
 
-abbrev pub written : Exchange → List ℕ
-written (Writes bytes true) = bytes
-written _ = []
+abbrev pub bytes_sent : Exchange → List ℕ
+bytes_sent (Writes bytes true) = bytes
+bytes_sent _ = []
 
 -- The requests of the rounds are those that the reads say. Their plans, run one after another, give the answers; and what was
--- written and taken is these answers.
+-- bytes_sent and taken is these answers.
 pub record AreServed {M K : Type 0} (Serves : M → Event → Reply → M → Type 0) (Does : K → Exchange → K → Type 0)
-    (old : Scene M K) (rounds : List Round) (new : Scene M K) : Type 0 where
+    (old : Parties M K) (rounds : List Round) (new : Parties M K) : Type 0 where
   pub hears : HearsAll (map heard_in rounds) (map (λ r. r.request) rounds)
   pub performs : CarriesOut Serves (requests_plan (map (λ r. r.request) rounds) old.server) old.machine new.machine (map (λ r. r.response) rounds, new.server)
   pub passes : Passes Does old.kernel (flat_map exchanges rounds) new.kernel
-  pub is_written : flat_map written (flat_map exchanges rounds) ≡ flat_map taken_bytes rounds
+  pub is_written : flat_map bytes_sent (flat_map exchanges rounds) ≡ flat_map taken_bytes rounds
 
 -- Requests were served until the end.
 pub record ServedAll {M K : Type 0} (Serves : M → Event → Reply → M → Type 0) (Does : K → Exchange → K → Type 0)
-    (old new : Scene M K) : Type 0 where
+    (old new : Parties M K) : Type 0 where
   pub rounds : List Round
-  pub last : Scene M K
+  pub last : Parties M K
   pub in_order : Rounds Serves Does old rounds last
   pub served : AreServed Serves Does old rounds last
-  pub end : Ends Does last new ⊎ ((length rounds ≡ rounds_limit) × (new ≡ last))
+  pub end : HasEnded Does last new ⊎ ((length rounds ≡ rounds_limit) × (new ≡ last))
 
 -- ---- until a fault
 
@@ -155,7 +155,7 @@ abbrev pub IsOfClock : ServeFault → Type 0
 IsOfClock (faults.Clock error) = Unit {0}
 IsOfClock _ = ⊥
 
--- The reply could not be made, or not be written.
+-- The reply could not be made, or not be bytes_sent.
 abbrev pub IsOfReply : ServeFault → Type 0
 IsOfReply (faults.Reply fault) = Unit {0}
 IsOfReply (faults.Write error) = Unit {0}
@@ -171,19 +171,19 @@ pub data IsBreak {K : Type 0} (Does : K → Exchange → K → Type 0) (fault : 
       → Passes Does old (Reads untold.bytes ∷ learns untold.nobody (request_of untold.bytes) untold.outside) reached → IsBreak Does fault old (untold ∷ [])
 
 -- The requests of rounds are those that the reads say. Their plans, run one after another, give the answers, told or untold.
-pub record ArePerformed {M K : Type 0} (Serves : M → Event → Reply → M → Type 0) (old : Scene M K) (rounds : List Round) (new : Scene M K) : Type 0 where
+pub record ArePerformed {M K : Type 0} (Serves : M → Event → Reply → M → Type 0) (old : Parties M K) (rounds : List Round) (new : Parties M K) : Type 0 where
   pub hears : HearsAll (map heard_in rounds) (map (λ r. r.request) rounds)
   pub performs : CarriesOut Serves (requests_plan (map (λ r. r.request) rounds) old.server) old.machine new.machine (map (λ r. r.response) rounds, new.server)
 
 -- of the first of these it was found whether who asks counts
-abbrev pub IsDecided : {M K : Type 0} → (M → Event → Reply → M → Type 0) → Scene M K → List Round → Type 0
+abbrev pub IsDecided : {M K : Type 0} → (M → Event → Reply → M → Type 0) → Parties M K → List Round → Type 0
 IsDecided Serves old [] = Unit {0}
 IsDecided {M} Serves old (round ∷ rounds) =
     (mid : M) × CarriesOut Serves (needs_nobody_in round.request.node round.request.operation old.server) old.machine mid round.nobody
 
 -- No more is asked than the plan of the request that is untold, if one is.
 pub record Breaks {M K : Type 0} (Serves : M → Event → Reply → M → Type 0) (Does : K → Exchange → K → Type 0) (fault : ServeFault)
-    (old new : Scene M K) : Type 0 where
+    (old new : Parties M K) : Type 0 where
   pub goes_on : old.server.ended ≡ false
   pub untold : List Round
   pub is_break : IsBreak Does fault old.kernel untold
@@ -192,9 +192,9 @@ pub record Breaks {M K : Type 0} (Serves : M → Event → Reply → M → Type 
 
 -- Requests were served until a fault. All that was asked is their plans, and that of the request that is untold, one after another.
 pub record BrokenOff {M K : Type 0} (Serves : M → Event → Reply → M → Type 0) (Does : K → Exchange → K → Type 0) (fault : ServeFault)
-    (old new : Scene M K) : Type 0 where
+    (old new : Parties M K) : Type 0 where
   pub rounds : List Round
-  pub last : Scene M K
+  pub last : Parties M K
   pub in_order : Rounds Serves Does old rounds last
   pub served : AreServed Serves Does old rounds last
   pub break : Breaks Serves Does fault last new

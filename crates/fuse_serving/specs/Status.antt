@@ -9,15 +9,15 @@ use Rattle.std.specs.Str.Parse.{IsNumeral, digits_value, without_leading_plus}
 use Rattle.fs_cred.specs.declared.caps.Caps.{Caps}
 use Rattle.fs_cred.specs.Capabilities.{all_caps}
 
-abbrev pub is_newline : ℕ → Bool
-is_newline byte = byte == 10
+abbrev pub ends_line : ℕ → Bool
+ends_line byte = byte == 10
 
-abbrev pub is_space : ℕ → Bool
-is_space byte = byte == 32
+abbrev pub is_blank_byte : ℕ → Bool
+is_blank_byte byte = byte == 32
 
 -- the name of the line, and what follows it
 abbrev pub HasLine : List ℕ → List ℕ → List ℕ → Type 0
-HasLine text name rest = Contains (slice_split is_newline text) (name ++ rest)
+HasLine text name rest = Contains (slice_split ends_line text) (name ++ rest)
 
 -- A plus may stand first.
 pub record SaysNumber (bits radix : ℕ) (word : List ℕ) (n : ℕ) : Type 0 where
@@ -38,7 +38,7 @@ groups_name = codes "Groups:\t"
 pub record SaysGroups (text groups : List ℕ) : Type 0 where
   pub rest : List ℕ
   pub line : HasLine text groups_name rest
-  pub ids : SaysIds (slice_split is_space rest) groups
+  pub ids : SaysIds (slice_split is_blank_byte rest) groups
 
 abbrev pub tab : ℕ
 tab = 9

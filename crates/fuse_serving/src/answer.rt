@@ -5,13 +5,13 @@ ghost use Rattle.fuse_state.specs.Servers.{Server};
 ghost use Rattle.fuse_plans.specs.declared.request.Asked.{Asked as AskedBy};
 ghost use Rattle.fuse_plans.specs.Plans.{Finish, CarriesOut};
 ghost use Rattle.fuse_plans.specs.Serving.{answered, asked_for};
-ghost use Rattle.fuse_serving.specs.Pieces.{Answers, AnswersWithMemory};
+ghost use Rattle.fuse_serving.specs.Pieces.{AnswersOne, AnswersWithMemory};
 
 use crate::caller::Caller;
 use crate::performer::Performer;
 use crate::question::{credential_of, value_in};
 use crate::room::MAX_READ;
-use fuse_plans::{Asked, Response, Stop};
+use fuse_plans::{Asked, RequestError, Response};
 use fuse_protocol::{Operation, Request, Time};
 use std::alloc::{AllocError, Global};
 
@@ -23,7 +23,7 @@ fn refused(operation: &Operation<'_>) -> Response
     match operation {
         Operation::Forget(_) | Operation::Interrupt | Operation::BatchForget(_) =>
             Response::Silence,
-        _ => Response::Fails(Stop::ENOMEM),
+        _ => Response::Fails(RequestError::ENOMEM),
     }
 }
 
@@ -73,7 +73,7 @@ pub(crate) fn answer<P: Performer>(
     needs_nobody: bool,
     now: Time,
 ) -> Response
-    ensures { Answers P.Serves spoken.now caller.now needs_nobody now
+    ensures { AnswersOne P.Serves spoken.now caller.now needs_nobody now
         (P.machine performer.old) (P.machine performer.new) (P.server performer.old) (P.server performer.new) result }
 {
     match ask(alloc, performer, spoken, caller, needs_nobody, now) {

@@ -5,13 +5,13 @@ ghost use Rattle.fuse_protocol.specs.AclValues.{acl_value_bytes};
 ghost use Rattle.fuse_protocol.specs.Replies.{IsReply, reply_bytes};
 ghost use Rattle.fuse_protocol.specs.declared.reply.Reply.TheVariants.{Bytes as BytesReply, Count as CountReply, Error as ErrorReply};
 ghost use Rattle.fuse_plans.specs.Protocol.{type_bits, attr_of, reply_of_body, response_bytes};
-ghost use Rattle.fuse_plans.specs.Stops.{stop_number};
+ghost use Rattle.fuse_plans.specs.RequestErrors.{error_number};
 ghost use Rattle.fuse_plans.specs.declared.reply.ReplyBody.TheVariants.{Found, Shown, Created};
 ghost use Rattle.fuse_serving.specs.Rounds.{has_reply};
 
 use crate::room::ReplyRoom;
 use fs_model::FileType;
-use fuse_plans::{Attributes, ReplyBody, Response, Stop};
+use fuse_plans::{Attributes, ReplyBody, RequestError, Response};
 use fuse_protocol::{Attr, OpenedFlags, Piece, Reply, Room, push_acl_value, push_reply};
 use posix_acl::Acl;
 use std::alloc::AllocError;
@@ -219,10 +219,10 @@ fn write_body(room: &mut ReplyRoom, unique: u64, body: &ReplyBody) -> Result<(),
 }
 
 // The reply to a request that failed.
-fn write_failure(to: &mut Vec<u8>, unique: u64, stop: Stop) -> Result<(), AllocError>
-    ensures { OnOk result (to.new.items ≡ reply_bytes unique (ErrorReply (stop_number stop))) }
+fn write_failure(to: &mut Vec<u8>, unique: u64, error: RequestError) -> Result<(), AllocError>
+    ensures { OnOk result (to.new.items ≡ reply_bytes unique (ErrorReply (error_number error))) }
 {
-    write_one(to, unique, &Reply::Error(u16::from(stop.number())))?;
+    write_one(to, unique, &Reply::Error(u16::from(error.number())))?;
     Ok(())
 }
 
@@ -241,8 +241,8 @@ pub(crate) fn write_response(
             write_body(room, unique, body)?;
             Ok(true)
         }
-        Response::Fails(stop) => {
-            write_failure(&mut room.reply, unique, *stop)?;
+        Response::Fails(error) => {
+            write_failure(&mut room.reply, unique, *error)?;
             Ok(true)
         }
     }

@@ -13,7 +13,7 @@ use crate::performer::Performer;
 use crate::reply::write_response;
 use crate::room::ReplyRoom;
 use crate::witness::Witness;
-use fuse_plans::{Response, Stop};
+use fuse_plans::{RequestError, Response};
 use fuse_protocol::{Request, RequestFault, parse_request};
 use std::alloc::Global;
 
@@ -93,7 +93,7 @@ fn serve_read<P: Performer, K: Kernel, W: Witness>(
             Ok(true)
         }
         Err(RequestFault::Malformed(unique)) => {
-            let _taken = tell(kernel, room, unique, &Response::Fails(Stop::EINVAL))?;
+            let _taken = tell(kernel, room, unique, &Response::Fails(RequestError::EINVAL))?;
             Ok(true)
         }
         Err(RequestFault::NotWhole) => Ok(false),

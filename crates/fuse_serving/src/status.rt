@@ -2,7 +2,7 @@
 ghost use Rattle.std.specs.Prelude.{◌≡◌, ◌≤◌, ◌⊎◌, List, Some, IfOk, IfSome, IsTrue};
 ghost use Rattle.std.specs.List.{slice_split};
 ghost use Rattle.fs_cred.specs.Capabilities.{no_caps};
-ghost use Rattle.fuse_serving.specs.Status.{is_space, HasLine, SaysNumber, SaysIds, SaysGroups, SaysLastId, ActsAs, SaysCaps};
+ghost use Rattle.fuse_serving.specs.Status.{is_blank_byte, HasLine, SaysNumber, SaysIds, SaysGroups, SaysLastId, ActsAs, SaysCaps};
 
 use crate::caller::{Caller, Groups};
 use bitflags::Flags;
@@ -43,7 +43,7 @@ fn bits_of(word: &[u8]) -> Option<u64>
 
 // Numbers with spaces between them, and perhaps behind them.
 fn ids_of(alloc: Global, text: &[u8]) -> Result<Option<Groups>, AllocError>
-    ensures { IfOk result (λ groups. IfSome groups (SaysIds (slice_split is_space text.now))) }
+    ensures { IfOk result (λ groups. IfSome groups (SaysIds (slice_split is_blank_byte text.now))) }
 {
     let mut groups = Groups::new(alloc);
     for word in text.split(|byte| *byte == b' ') {

@@ -14,12 +14,12 @@ use Rattle.fuse_plans.specs.declared.reply.ReplyBody.{ReplyBody}
 use Rattle.fuse_plans.specs.declared.reply.Response.{Response}
 use Rattle.fuse_plans.specs.declared.reply.Response.TheVariants.{Silence, Fails}
 use Rattle.fuse_sessions.specs.declared.session.Session.{Session}
-use Rattle.fuse_plans.specs.declared.stop.Stop.{Stop}
+use Rattle.fuse_plans.specs.declared.request_error.RequestError.{RequestError}
 use Rattle.fuse_plans.specs.Plans.{Finish, CarriesOut, finishes}
 use Rattle.fuse_protocol.specs.declared.reply.Time.{Time}
 use Rattle.fuse_plans.specs.FilePlans.{when}
 use Rattle.fuse_plans.specs.Times.{tell_time}
-use Rattle.fuse_plans.specs.Works.{Work, give, stop, ◌>>=◌, ◌>>◌}
+use Rattle.fuse_plans.specs.Works.{Work, give, fail, ◌>>=◌, ◌>>◌}
 use Rattle.fuse_plans.specs.Serving.{Task, Replying, Silently, told_first, answered, response_of}
 use Rattle.fuse_sessions.specs.Performing.{Did, Answered}
 use Rattle.fuse_steps.proofs.Steps.{carries-followed_by}
@@ -31,7 +31,7 @@ told-when true now w = refl
 told-when false now w = refl
 
 module _ {M : Type 0} {Serves : M → Event → Reply → M → Type 0} where
-  did-answers : {w : Work ReplyBody} {old new : Session M} {r : Result ReplyBody Stop} → Did Serves w old new r
+  did-answers : {w : Work ReplyBody} {old new : Session M} {r : Result ReplyBody RequestError} → Did Serves w old new r
       → Answered Serves (Replying w) old new (response_of r)
   did-answers {w} {old} {new} {r} did = record {
     performs = carries-followed_by (w old.server.server) (λ q. Finish (response_of q.0, q.1)) old.machine new.machine new.machine
@@ -44,29 +44,29 @@ module _ {M : Type 0} {Serves : M → Event → Reply → M → Type 0} where
   same-plan {plan} {other} {old} {new} {response} is did =
       subst (λ (p : Task). Answered Serves p old new response) (sym is) did
 
-  pub answers : {plan : Task} {w : Work ReplyBody} {old new : Session M} {done : Result ReplyBody Stop}
+  pub answers : {plan : Task} {w : Work ReplyBody} {old new : Session M} {done : Result ReplyBody RequestError}
       {response : Response}
       → plan ≡ Replying w → Did Serves w old new done → response ≡ response_of done → Answered Serves plan old new response
   answers {plan} {w} {old} {new} {done} {response} is did says =
       same-plan is (subst (λ (r : Response). Answered Serves (Replying w) old new r) (sym says) (did-answers did))
 
-  pub told : {v : Work (Unit {0})} {w : Work ReplyBody} {old mid new : Session M} {done : Result ReplyBody Stop}
+  pub told : {v : Work (Unit {0})} {w : Work ReplyBody} {old mid new : Session M} {done : Result ReplyBody RequestError}
       → Did Serves v old mid (Ok tt) → Did Serves w mid new done → Did Serves (v >> w) old new done
   told {v} {w} first rest = then-ok (λ _. w) first rest
 
-  pub told-answers : {plan : Task} {v : Work (Unit {0})} {w : Work ReplyBody} {old mid new : Session M} {done : Result ReplyBody Stop}
+  pub told-answers : {plan : Task} {v : Work (Unit {0})} {w : Work ReplyBody} {old mid new : Session M} {done : Result ReplyBody RequestError}
       {response : Response}
       → plan ≡ Replying (v >> w) → Did Serves v old mid (Ok tt) → Did Serves w mid new done → response ≡ response_of done
       → Answered Serves plan old new response
   told-answers is first rest says = answers is (told first rest) says
 
-  pub told-if : {plan : Task} (b : Bool) (now : Time) {w : Work ReplyBody} {old mid new : Session M} {done : Result ReplyBody Stop}
+  pub told-if : {plan : Task} (b : Bool) (now : Time) {w : Work ReplyBody} {old mid new : Session M} {done : Result ReplyBody RequestError}
       {response : Response}
       → plan ≡ told_first b now (Replying w) → Did Serves (when b (tell_time now)) old mid (Ok tt) → Did Serves w mid new done
       → response ≡ response_of done → Answered Serves plan old new response
   told-if b now {w} is first rest says = answers (is ∙ told-when b now w) (told first rest) says
 
-  pub refuses : {plan : Task} {s : Session M} (e : Stop) → plan ≡ Replying (stop e) → Answered Serves plan s s (Fails e)
+  pub refuses : {plan : Task} {s : Session M} (e : RequestError) → plan ≡ Replying (fail e) → Answered Serves plan s s (Fails e)
   refuses {plan} {s} e is = same-plan is (did-answers {r = Err e} (stops e s))
 
   -- the server keeps what it is to keep then, and nothing is asked
@@ -79,12 +79,12 @@ module _ {M : Type 0} {Serves : M → Event → Reply → M → Type 0} where
             (finishes (Silence, f old.server.server) old.machine));
       })
 
-  pub with-name : {X : Type 0} (f : List ℕ → Work X) {given copied : List ℕ} {old new : Session M} {r : Result X Stop} → copied ≡ given
+  pub with-name : {X : Type 0} (f : List ℕ → Work X) {given copied : List ℕ} {old new : Session M} {r : Result X RequestError} → copied ≡ given
       → Did Serves (f copied) old new r → Did Serves (f given) old new r
   with-name {X} f {given} {copied} {old} {new} {r} is did = subst (λ (n : List ℕ). Did Serves (f n) old new r) is did
 
   pub with-two : {X : Type 0} (f : List ℕ → List ℕ → Work X) {given copied second copied_second : List ℕ} {old new : Session M}
-      {r : Result X Stop}
+      {r : Result X RequestError}
       → copied ≡ given → copied_second ≡ second → Did Serves (f copied copied_second) old new r → Did Serves (f given second) old new r
   with-two {X} f {given} {copied} {second} {copied_second} {old} {new} {r} is and did =
       with-name (λ n. f given n) and (with-name (λ n. f n copied_second) is did)

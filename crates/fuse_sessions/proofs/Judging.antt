@@ -4,7 +4,7 @@ use Rattle.std.proofs.Common.{refl, sym, subst}
 use Rattle.fs_model.specs.declared.event.Event.{Event}
 use Rattle.fs_model.specs.declared.reply.Reply.{Reply}
 use Rattle.fuse_sessions.specs.declared.session.Session.{Session}
-use Rattle.fuse_plans.specs.declared.stop.Stop.{Stop}
+use Rattle.fuse_plans.specs.declared.request_error.RequestError.{RequestError}
 use Rattle.fuse_plans.specs.Plans.{Finish, CarriesOut, finishes}
 use Rattle.fuse_plans.specs.Masks.{is_masked}
 use Rattle.fuse_plans.specs.Nobody.{unless_masked, is_judged}
@@ -20,7 +20,7 @@ unless-not true is = refl
 unless-not false is = absurd (cc)
 
 module _ {M : Type 0} {Serves : M → Event → Reply → M → Type 0} where
-  pub judges : (node : ℕ) {old new : Session M} {r : Result Bool Stop} (nobody : Bool) → old.server.server.settings.posix_acl ≡ true
+  pub judges : (node : ℕ) {old new : Session M} {r : Result Bool RequestError} (nobody : Bool) → old.server.server.settings.posix_acl ≡ true
       → Did Serves (is_masked node) old new r → nobody ≡ unless_masked r
       → CarriesOut Serves (is_judged node old.server.server.settings.posix_acl old.server.server) old.machine new.machine nobody
   judges node {old} {new} {r} nobody judged did says =

@@ -11,7 +11,7 @@ use Rattle.fs_model.specs.declared.call.Call.TheVariants.{Write}
 use Rattle.fs_model.specs.declared.event.Event.{Event}
 use Rattle.fs_model.specs.declared.reply.Reply.{Reply}
 use Rattle.fs_model.specs.Limits.{move_limit}
-use Rattle.fuse_plans.specs.declared.stop.Stop.{Stop}
+use Rattle.fuse_plans.specs.declared.request_error.RequestError.{RequestError}
 use Rattle.fuse_plans.specs.Works.{of_result}
 use Rattle.fuse_plans.specs.FilePlans.{read_piece, read_pieces, write_piece, write_pieces, or_done, length_written, pieces_in}
 use Rattle.fuse_steps.specs.Performing.{DidByMachine}
@@ -33,7 +33,7 @@ module _ {M : Type 0} {Serves : M → Event → Reply → M → Type 0} (pid : �
   unfolding read_pieces
   read-done fd size bytes m all = machine-gives-as all
 
-  pub read-more : (k fd size most : ℕ) (bytes piece : List ℕ) {old mid new : M} {r : Result (List ℕ) Stop}
+  pub read-more : (k fd size most : ℕ) (bytes piece : List ℕ) {old mid new : M} {r : Result (List ℕ) RequestError}
       → most ≡ min move_limit size → (size == 0) ≡ false → DidByMachine Serves (read_piece pid fd most) old mid (Ok piece)
       → nat_lt (length piece) most ≡ false → DidByMachine Serves (read_pieces k pid fd (size - most) (bytes ++ piece)) mid new r
       → DidByMachine Serves (read_pieces (suc k) pid fd size bytes) old new r
@@ -54,7 +54,7 @@ module _ {M : Type 0} {Serves : M → Event → Reply → M → Type 0} (pid : �
       (machine-ok _ (subst (λ (n : ℕ). DidByMachine Serves (read_piece pid fd n) old new (Ok piece)) is first)
       (machine-true _ _ (subst (λ (n : ℕ). nat_lt (length piece) n ≡ true) is short) (machine-gives-as all)))
 
-  pub read-refused : (k fd size most : ℕ) (bytes : List ℕ) {old new : M} {e : Stop}
+  pub read-refused : (k fd size most : ℕ) (bytes : List ℕ) {old new : M} {e : RequestError}
       → most ≡ min move_limit size → (size == 0) ≡ false → DidByMachine Serves (read_piece pid fd most) old new (Err e)
       → DidByMachine Serves (read_pieces (suc k) pid fd size bytes) old new (Err e)
   unfolding read_pieces
@@ -63,7 +63,7 @@ module _ {M : Type 0} {Serves : M → Event → Reply → M → Type 0} (pid : �
 
   -- ---- writing
 
-  pub write-more : (done count : ℕ) (call : Call) (calls : List Call) {wrote : Result ℕ Stop} {old mid new : M} {r : Result ℕ Stop}
+  pub write-more : (done count : ℕ) (call : Call) (calls : List Call) {wrote : Result ℕ RequestError} {old mid new : M} {r : Result ℕ RequestError}
       → DidByMachine Serves (write_piece pid call) old mid wrote → or_done done wrote ≡ of_result (Ok count)
       → nat_lt count (length_written call) ≡ false → DidByMachine Serves (write_pieces pid (done + count) calls) mid new r
       → DidByMachine Serves (write_pieces pid done (call ∷ calls)) old new r
@@ -71,14 +71,14 @@ module _ {M : Type 0} {Serves : M → Event → Reply → M → Type 0} (pid : �
   write-more done count call calls first kept full rest =
       machine-ok _ (machine-attempts _ first) (machine-ok _ (machine-result kept) (machine-false _ _ full rest))
 
-  pub write-short : (done count : ℕ) (call : Call) (calls : List Call) {wrote : Result ℕ Stop} {old new : M}
+  pub write-short : (done count : ℕ) (call : Call) (calls : List Call) {wrote : Result ℕ RequestError} {old new : M}
       → DidByMachine Serves (write_piece pid call) old new wrote → or_done done wrote ≡ of_result (Ok count)
       → nat_lt count (length_written call) ≡ true → DidByMachine Serves (write_pieces pid done (call ∷ calls)) old new (Ok (done + count))
   unfolding write_pieces
   write-short done count call calls {wrote} {old} {new} first kept short =
       machine-ok _ (machine-attempts _ first) (machine-ok _ (machine-result kept) (machine-true _ _ short (machine-gives (done + count) new)))
 
-  pub write-refused : (done : ℕ) (call : Call) (calls : List Call) {wrote : Result ℕ Stop} {old new : M} {e : Stop}
+  pub write-refused : (done : ℕ) (call : Call) (calls : List Call) {wrote : Result ℕ RequestError} {old new : M} {e : RequestError}
       → DidByMachine Serves (write_piece pid call) old new wrote → or_done done wrote ≡ of_result (Err e)
       → DidByMachine Serves (write_pieces pid done (call ∷ calls)) old new (Err e)
   unfolding write_pieces

@@ -9,7 +9,7 @@ ghost use Rattle.fs_cred.specs.Ownership.{counts_as_owner};
 use crate::session::Session;
 use fs_cred::{Cred, may_own};
 use fs_model::{Bytes, Call, FileType, Reply, Status};
-use fuse_plans::{Asked, ReplyBody, Stop};
+use fuse_plans::{Asked, ReplyBody, RequestError};
 use fuse_protocol::{AttrChanges, NewTime, Time};
 use fuse_state::descriptor_of;
 use fuse_steps::Machine;
@@ -35,11 +35,14 @@ fn differs(wanted: Option<u32>, present: u32) -> bool
 }
 
 // Neither the owner nor the group are to be others.
-fn owners_stay(changes: &AttrChanges, status: Status) -> Result<(Option<u32>, Option<u32>), Stop>
+fn owners_stay(
+    changes: &AttrChanges,
+    status: Status,
+) -> Result<(Option<u32>, Option<u32>), RequestError>
     ensures { owners_stay changes.now status ≡ of_result result }
 {
     if differs(changes.uid, status.owner) || differs(changes.gid, status.group) {
-        Err(Stop::EOPNOTSUPP)
+        Err(RequestError::EOPNOTSUPP)
     } else {
         Ok((None, None))
     }
@@ -89,7 +92,7 @@ fn needs_owner(link: bool, changes: &AttrChanges) -> bool
 
 impl<M: Machine> Session<M> {
     // What is told of an object that was shown.
-    fn tell_attributes(&mut self, status: Status) -> Result<ReplyBody, Stop>
+    fn tell_attributes(&mut self, status: Status) -> Result<ReplyBody, RequestError>
         ensures { Did M.Serves (tell_attributes status) self.old self.new result }
     {
         let stamps = self.told_stamps(status.inode)?;
@@ -97,7 +100,7 @@ impl<M: Machine> Session<M> {
     }
 
     /// What is told of an object.
-    pub(crate) fn get_attributes(&mut self, asked: &Asked) -> Result<ReplyBody, Stop>
+    pub(crate) fn get_attributes(&mut self, asked: &Asked) -> Result<ReplyBody, RequestError>
         ensures { Did M.Serves (get_attributes asked.entry.now) self.old self.new result }
     {
         let inode = self.the_number(asked.node)?;
@@ -111,7 +114,7 @@ impl<M: Machine> Session<M> {
         changes: &AttrChanges,
         inode: u32,
         link: bool,
-    ) -> Result<(Option<u32>, Option<u32>), Stop>
+    ) -> Result<(Option<u32>, Option<u32>), RequestError>
         ensures did { Did M.Serves (new_owners changes.now inode link) self.old self.new result }
         ensures kept { self.new.server ≡ self.old.server }
     {
@@ -119,7 +122,7 @@ impl<M: Machine> Session<M> {
             return Ok((changes.uid, changes.gid));
         }
         if changes_more(changes) {
-            return Err(Stop::EOPNOTSUPP);
+            return Err(RequestError::EOPNOTSUPP);
         }
         let status = self.look(inode)?;
         owners_stay(changes, status)
@@ -132,7 +135,7 @@ impl<M: Machine> Session<M> {
         inode: u32,
         size: u64,
         handle: Option<u64>,
-    ) -> Result<Reply, Stop>
+    ) -> Result<Reply, RequestError>
         ensures did { Did M.Serves (resize_object pid inode size handle) self.old self.new result }
         ensures kept { self.new.server ≡ self.old.server }
     {
@@ -150,7 +153,7 @@ impl<M: Machine> Session<M> {
         inode: u32,
         handle: Option<u64>,
         size: Option<u64>,
-    ) -> Result<(), Stop>
+    ) -> Result<(), RequestError>
         requires { 1 ≤ self.old.server.room }
         ensures did { Did M.Serves (set_size now pid inode handle size) self.old self.new result }
         ensures room { self.old.server.room ≤ self.new.server.room + 1 }
@@ -169,7 +172,7 @@ impl<M: Machine> Session<M> {
         pid: usize,
         inode: u32,
         owners: (Option<u32>, Option<u32>),
-    ) -> Result<(), Stop>
+    ) -> Result<(), RequestError>
         requires { 1 ≤ self.old.server.room }
         ensures did { Did M.Serves (set_owners now pid inode owners) self.old self.new result }
         ensures room { self.old.server.room ≤ self.new.server.room + 1 }
@@ -185,7 +188,13 @@ impl<M: Machine> Session<M> {
         Ok(())
     }
 
-    fn set_mode(&mut self, now: Time, pid: usize, inode: u32, mode: Option<u32>) -> Result<(), Stop>
+    fn set_mode(
+        &mut self,
+        now: Time,
+        pid: usize,
+        inode: u32,
+        mode: Option<u32>,
+    ) -> Result<(), RequestError>
         requires { 1 ≤ self.old.server.room }
         ensures did { Did M.Serves (set_mode now pid inode mode) self.old self.new result }
         ensures room { self.old.server.room ≤ self.new.server.room + 1 }
@@ -207,7 +216,7 @@ impl<M: Machine> Session<M> {
         inode: u32,
         link: bool,
         changes: &AttrChanges,
-    ) -> Result<(), Stop>
+    ) -> Result<(), RequestError>
         requires { 3 ≤ self.old.server.room }
         ensures did { Did M.Serves (change_attributes now pid inode link changes.now) self.old self.new result }
         ensures room { self.old.server.room ≤ self.new.server.room + 3 }
@@ -226,7 +235,7 @@ impl<M: Machine> Session<M> {
         link: bool,
         is_owner: bool,
         changes: &AttrChanges,
-    ) -> Result<(), Stop>
+    ) -> Result<(), RequestError>
         ensures did { Did M.Serves (may_set_times pid inode link is_owner changes.now) self.old self.new result }
         ensures kept { self.new.server ≡ self.old.server }
     {
@@ -234,7 +243,7 @@ impl<M: Machine> Session<M> {
             return Ok(());
         }
         if needs_owner(link, changes) {
-            return Err(Stop::EPERM);
+            return Err(RequestError::EPERM);
         }
         let call = Call::Access(self.blank_path(), Perms::from_digit(2));
         self.on_once(pid, inode, call)?.discard();
@@ -249,7 +258,7 @@ impl<M: Machine> Session<M> {
         link: bool,
         status: Status,
         changes: &AttrChanges,
-    ) -> Result<(), Stop>
+    ) -> Result<(), RequestError>
         requires { 1 ≤ self.old.server.room }
         ensures { Did M.Serves (set_times asked.entry.now pid inode link status changes.now) self.old self.new result }
     {
@@ -257,7 +266,7 @@ impl<M: Machine> Session<M> {
             return Ok(());
         }
         let Some(cred) = &asked.cred else {
-            return Err(Stop::EACCES);
+            return Err(RequestError::EACCES);
         };
         let is_owner = counts_as_owner(cred, status.owner);
         self.may_set_times(pid, inode, link, is_owner, changes)?;
@@ -270,7 +279,7 @@ impl<M: Machine> Session<M> {
         asked: &Asked,
         copy: Option<Cred>,
         changes: &AttrChanges,
-    ) -> Result<ReplyBody, Stop>
+    ) -> Result<ReplyBody, RequestError>
         requires copy { copy ≡ asked.now.cred }
         requires room { 5 ≤ self.old.server.room }
         ensures { Did M.Serves (set_attributes asked.entry.now changes.now) self.old self.new result }
@@ -290,7 +299,7 @@ impl<M: Machine> Session<M> {
         inode: u32,
         link: bool,
         changes: &AttrChanges,
-    ) -> Result<ReplyBody, Stop>
+    ) -> Result<ReplyBody, RequestError>
         requires { 1 ≤ self.old.server.room }
         ensures { Did M.Serves (tell_times asked.entry.now pid inode link changes.now) self.old self.new result }
     {
@@ -300,26 +309,26 @@ impl<M: Machine> Session<M> {
     }
 
     /// The target of a link.
-    pub(crate) fn read_link(&mut self, asked: &Asked) -> Result<ReplyBody, Stop>
+    pub(crate) fn read_link(&mut self, asked: &Asked) -> Result<ReplyBody, RequestError>
         ensures { Did M.Serves (read_link asked.entry.now) self.old self.new result }
     {
         let inode = self.the_number(asked.node)?;
         self.tell_target(inode)
     }
 
-    fn tell_target(&mut self, inode: u32) -> Result<ReplyBody, Stop>
+    fn tell_target(&mut self, inode: u32) -> Result<ReplyBody, RequestError>
         ensures { Did M.Serves (tell_target inode) self.old self.new result }
     {
         let call = Call::Readlink(self.blank_path());
-        let reply = self.by_looker(inode, call)?;
+        let reply = self.by_server_process(inode, call)?;
         let Some(target) = target_of_reply(reply) else {
-            return Err(Stop::EIO);
+            return Err(RequestError::EIO);
         };
         Ok(ReplyBody::Bytes(Bytes::new(target.into_bytes())))
     }
 
     // A process of who asks may do so much.
-    fn access_as(&mut self, who: Option<Cred>, inode: u32, perms: Perms) -> Result<(), Stop>
+    fn access_as(&mut self, who: Option<Cred>, inode: u32, perms: Perms) -> Result<(), RequestError>
         requires { 1 ≤ self.old.server.room }
         ensures did { Did M.Serves (access_as who inode perms) self.old self.new result }
         ensures room { self.old.server.room ≤ self.new.server.room + 1 }
@@ -337,7 +346,7 @@ impl<M: Machine> Session<M> {
         who: Option<Cred>,
         inode: u32,
         perms: Perms,
-    ) -> Result<(), Stop>
+    ) -> Result<(), RequestError>
         requires { 1 ≤ self.old.server.room }
         ensures did { Did M.Serves (when condition (access_as who inode perms)) self.old self.new result }
         ensures room { self.old.server.room ≤ self.new.server.room + 1 }
@@ -354,7 +363,7 @@ impl<M: Machine> Session<M> {
         asked: &Asked,
         copy: Option<Cred>,
         mask: u32,
-    ) -> Result<ReplyBody, Stop>
+    ) -> Result<ReplyBody, RequestError>
         requires copy { copy ≡ asked.now.cred }
         requires room { 1 ≤ self.old.server.room }
         ensures { Did M.Serves (ask_access asked.entry.now mask) self.old self.new result }

@@ -1,14 +1,14 @@
 //! The first request: what is agreed on with the kernel.
 ghost use Rattle.std.specs.Prelude.{◌≡◌, ◌≤◌, [], None};
 ghost use Rattle.fs_cred.specs.Credentials.{usual_credential};
-ghost use Rattle.fuse_plans.specs.Serving.{keeping_flags, wanted_flags, pages, terms, agreed, offers_acls, or_looker, begin};
+ghost use Rattle.fuse_plans.specs.Serving.{keeping_flags, wanted_flags, pages, terms, agreed, offers_acls, or_server_process, begin};
 ghost use Rattle.fuse_sessions.specs.Performing.{Did};
 
 use crate::caller::ask_spawn;
 use crate::session::Session;
 use bitflags::Flags as _;
 use fs_cred::Cred;
-use fuse_plans::{ReplyBody, Stop};
+use fuse_plans::{ReplyBody, RequestError};
 use fuse_protocol::{InitFlags, Offer, Terms};
 use fuse_state::Settings;
 use fuse_steps::Machine;
@@ -105,45 +105,45 @@ fn offers_acls(offer: &Offer) -> bool
 
 impl<M: Machine> Session<M> {
     // The server's own process begins, unless it has.
-    fn or_looker(&mut self, own: Cred) -> Result<(), Stop>
+    fn or_server_process(&mut self, own: Cred) -> Result<(), RequestError>
         requires { own ≡ usual_credential 0 0 [] }
-        ensures did { Did M.Serves (or_looker self.old.server.server.looker) self.old self.new result }
+        ensures did { Did M.Serves (or_server_process self.old.server.server.server_process) self.old self.new result }
         ensures room { self.old.server.room ≤ self.new.server.room }
     {
-        match self.server.looker() {
+        match self.server.server_process() {
             Some(_pid) => Ok(()),
-            None => self.begin_looker(own),
+            None => self.begin_server_process(own),
         }
     }
 
     // The server's own process begins.
-    fn begin_looker(&mut self, own: Cred) -> Result<(), Stop>
+    fn begin_server_process(&mut self, own: Cred) -> Result<(), RequestError>
         requires { own ≡ usual_credential 0 0 [] }
-        ensures did { Did M.Serves (or_looker None) self.old self.new result }
+        ensures did { Did M.Serves (or_server_process None) self.old self.new result }
         ensures room { self.old.server.room ≤ self.new.server.room }
     {
         let reply = unless_refused(ask_spawn(&mut self.machine, &own))?;
         let pid = pid_of_reply(&reply);
         reply.discard();
         let Some(pid) = pid else {
-            return Err(Stop::EIO);
+            return Err(RequestError::EIO);
         };
-        self.server.set_looker(pid);
+        self.server.set_server_process(pid);
         Ok(())
     }
 
     /// The first request. The credential is that of the server's own process.
-    pub(crate) fn begin(&mut self, offer: &Offer, own: Cred) -> Result<ReplyBody, Stop>
+    pub(crate) fn begin(&mut self, offer: &Offer, own: Cred) -> Result<ReplyBody, RequestError>
         requires { own ≡ usual_credential 0 0 [] }
         ensures { Did M.Serves (begin offer.now) self.old self.new result }
     {
         if offer.major < VERSION {
-            return Err(Stop::EPROTO);
+            return Err(RequestError::EPROTO);
         }
         if offer.major > VERSION {
             return Ok(terms(0, 0, 0, 0));
         }
-        self.or_looker(own)?;
+        self.or_server_process(own)?;
         self.server.agree_on_acls(offers_acls(offer));
         Ok(agreed(offer, self.server.settings()))
     }

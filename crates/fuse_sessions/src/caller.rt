@@ -1,7 +1,7 @@
 //! Processes of who asks.
 ghost use Rattle.std.specs.Prelude.{◌≡◌, ◌+◌, ◌≤◌, None, Ok};
 ghost use Rattle.fs_model.specs.declared.event.Event.TheVariants.{Spawn};
-ghost use Rattle.fuse_plans.specs.Callers.{settle, retire_idle, spawn_again, begin_process, caller, or_spawned, or_unused, caller_with_room, the_looker};
+ghost use Rattle.fuse_plans.specs.Callers.{settle, retire_idle, spawn_again, begin_process, caller, or_spawned, or_unused, caller_with_room, the_server_process};
 ghost use Rattle.fuse_sessions.specs.Performing.{Did};
 ghost use Rattle.fuse_steps.specs.Performing.{DidByMachine};
 ghost use Rattle.fuse_plans.specs.Works.{ask, is_refused_for};
@@ -9,7 +9,7 @@ ghost use Rattle.fuse_plans.specs.Works.{ask, is_refused_for};
 use crate::session::Session;
 use fs_cred::{Cred, Errno};
 use fs_model::{Event, Reply};
-use fuse_plans::Stop;
+use fuse_plans::RequestError;
 use fuse_steps::Machine;
 use fuse_steps::asker::{ask, unless_refused};
 use fuse_steps::replies::pid_of_reply;
@@ -19,7 +19,7 @@ fn is_refused_for(errno: Errno, reply: &Reply) -> bool
     ensures { result ≡ is_refused_for errno reply.now }
 {
     match reply {
-        Reply::Refused(refusal) => Stop::Refuses(*refusal).is_for(errno),
+        Reply::Refused(refusal) => RequestError::Refuses(*refusal).is_for(errno),
         _ => false,
     }
 }
@@ -33,23 +33,23 @@ pub(crate) fn ask_spawn<M: Machine>(machine: &mut M, cred: &Cred) -> Reply
 
 impl<M: Machine> Session<M> {
     // The process that a reply tells of.
-    fn settle(&mut self, cred: Cred, reply: Reply) -> Result<usize, Stop>
+    fn settle(&mut self, cred: Cred, reply: Reply) -> Result<usize, RequestError>
         requires { 1 ≤ self.old.server.room }
         ensures did { Did M.Serves (settle cred reply) self.old self.new result }
         ensures room { self.old.server.room ≤ self.new.server.room + 1 }
     {
         if is_refused_for(Errno::EAGAIN, &reply) {
             reply.discard();
-            return Err(Stop::ENFILE);
+            return Err(RequestError::ENFILE);
         }
         let done = unless_refused(reply)?;
         let pid = pid_of_reply(&done);
         done.discard();
         let Some(pid) = pid else {
-            return Err(Stop::EIO);
+            return Err(RequestError::EIO);
         };
         if self.server.is_process(pid) {
-            return Err(Stop::EIO);
+            return Err(RequestError::EIO);
         }
         self.server.add_process(pid, cred);
         Ok(pid)
@@ -74,7 +74,7 @@ impl<M: Machine> Session<M> {
     }
 
     // A new process, once those without descriptors have ended.
-    fn spawn_again(&mut self, cred: Cred) -> Result<usize, Stop>
+    fn spawn_again(&mut self, cred: Cred) -> Result<usize, RequestError>
         requires { 1 ≤ self.old.server.room }
         ensures did { Did M.Serves (spawn_again cred) self.old self.new result }
         ensures room { self.old.server.room ≤ self.new.server.room + 1 }
@@ -85,7 +85,7 @@ impl<M: Machine> Session<M> {
     }
 
     // A new process.
-    fn begin_process(&mut self, cred: Cred) -> Result<usize, Stop>
+    fn begin_process(&mut self, cred: Cred) -> Result<usize, RequestError>
         requires { 1 ≤ self.old.server.room }
         ensures did { Did M.Serves (begin_process cred) self.old self.new result }
         ensures room { self.old.server.room ≤ self.new.server.room + 1 }
@@ -100,7 +100,7 @@ impl<M: Machine> Session<M> {
     }
 
     // The process that was found, or a new one.
-    fn or_spawned(&mut self, cred: Cred, pid: Option<usize>) -> Result<usize, Stop>
+    fn or_spawned(&mut self, cred: Cred, pid: Option<usize>) -> Result<usize, RequestError>
         requires { 1 ≤ self.old.server.room }
         ensures did { Did M.Serves (or_spawned cred pid) self.old self.new result }
         ensures room { self.old.server.room ≤ self.new.server.room + 1 }
@@ -112,36 +112,36 @@ impl<M: Machine> Session<M> {
     }
 
     /// A process of who asks; the credential is a copy of theirs.
-    pub(crate) fn caller(&mut self, who: Option<Cred>) -> Result<usize, Stop>
+    pub(crate) fn caller(&mut self, who: Option<Cred>) -> Result<usize, RequestError>
         requires { 1 ≤ self.old.server.room }
         ensures did { Did M.Serves (caller who) self.old self.new result }
         ensures room { self.old.server.room ≤ self.new.server.room + 1 }
     {
-        let cred = who.ok_or(Stop::EACCES)?;
+        let cred = who.ok_or(RequestError::EACCES)?;
         let pid = self.server.first_process(&cred);
         self.or_spawned(cred, pid)
     }
 
     // A process that holds no descriptor, where one more of its user may hold some.
-    fn unused(&mut self, cred: Cred) -> Result<usize, Stop>
+    fn unused(&mut self, cred: Cred) -> Result<usize, RequestError>
         requires { 1 ≤ self.old.server.room }
         ensures did { Did M.Serves (or_unused cred None) self.old self.new result }
         ensures room { self.old.server.room ≤ self.new.server.room + 1 }
     {
         if !self.server.may_take_process(cred.uid()) {
-            return Err(Stop::ENFILE);
+            return Err(RequestError::ENFILE);
         }
         let pid = self.server.idle_process(&cred);
         self.or_spawned(cred, pid)
     }
 
     /// A process of who asks that can hold one more descriptor; the credential is a copy of theirs.
-    pub(crate) fn caller_with_room(&mut self, who: Option<Cred>) -> Result<usize, Stop>
+    pub(crate) fn caller_with_room(&mut self, who: Option<Cred>) -> Result<usize, RequestError>
         requires { 1 ≤ self.old.server.room }
         ensures did { Did M.Serves (caller_with_room who) self.old self.new result }
         ensures room { self.old.server.room ≤ self.new.server.room + 1 }
     {
-        let cred = who.ok_or(Stop::EACCES)?;
+        let cred = who.ok_or(RequestError::EACCES)?;
         match self.server.partly_used(&cred) {
             Some(pid) => Ok(pid),
             None => self.unused(cred),
@@ -149,9 +149,9 @@ impl<M: Machine> Session<M> {
     }
 
     /// The server's own process.
-    pub(crate) fn the_looker(&self) -> Result<usize, Stop>
-        ensures { Did M.Serves the_looker self.now self.now result }
+    pub(crate) fn the_server_process(&self) -> Result<usize, RequestError>
+        ensures { Did M.Serves the_server_process self.now self.now result }
     {
-        self.server.looker().ok_or(Stop::EIO)
+        self.server.server_process().ok_or(RequestError::EIO)
     }
 }

@@ -10,7 +10,7 @@ use crate::session::Session;
 use bitflags::Flags as _;
 use fs_cred::Cred;
 use fs_model::{Call, Listing};
-use fuse_plans::{Asked, ReplyBody, Stop};
+use fuse_plans::{Asked, ReplyBody, RequestError};
 use fuse_protocol::{Extent, OpenedFlags};
 use fuse_state::{Server, Settings};
 use fuse_steps::Machine;
@@ -40,15 +40,15 @@ fn opened_body(server: &Server, handle: u64) -> ReplyBody
 }
 
 // The names in what is open.
-fn tell_names<M: Machine>(machine: &mut M, pid: usize, fd: usize) -> Result<Listing, Stop>
+fn tell_names<M: Machine>(machine: &mut M, pid: usize, fd: usize) -> Result<Listing, RequestError>
     ensures { DidByMachine M.Serves (tell_names pid fd) machine.old machine.new result }
 {
     let reply = obtain_once(machine, pid, Call::Readdir(fd))?;
-    names_of_reply(reply).ok_or(Stop::EIO)
+    names_of_reply(reply).ok_or(RequestError::EIO)
 }
 
 // The names in what was opened; where it tells none that is closed.
-fn list_open<M: Machine>(machine: &mut M, pid: usize, fd: usize) -> Result<Listing, Stop>
+fn list_open<M: Machine>(machine: &mut M, pid: usize, fd: usize) -> Result<Listing, RequestError>
     ensures { DidByMachine M.Serves (list_open pid fd) machine.old machine.new result }
 {
     let seen = tell_names(machine, pid, fd);
@@ -56,7 +56,11 @@ fn list_open<M: Machine>(machine: &mut M, pid: usize, fd: usize) -> Result<Listi
 }
 
 // The same, and then it is closed.
-fn list_and_close<M: Machine>(machine: &mut M, pid: usize, fd: usize) -> Result<Listing, Stop>
+fn list_and_close<M: Machine>(
+    machine: &mut M,
+    pid: usize,
+    fd: usize,
+) -> Result<Listing, RequestError>
     ensures { DidByMachine M.Serves (list_and_close pid fd) machine.old machine.new result }
 {
     let names = list_open(machine, pid, fd)?;
@@ -70,14 +74,14 @@ impl<M: Machine> Session<M> {
         &mut self,
         asked: &Asked,
         copy: Option<Cred>,
-    ) -> Result<ReplyBody, Stop>
+    ) -> Result<ReplyBody, RequestError>
         requires copy { copy ≡ asked.now.cred }
         requires room { 2 ≤ self.old.server.room }
         ensures { Did M.Serves (open_directory asked.entry.now) self.old self.new result }
     {
         let inode = self.directory_number(asked.node)?;
         let Some(cred) = &copy else {
-            return Err(Stop::EACCES);
+            return Err(RequestError::EACCES);
         };
         let owner = cred.uid();
         let is_placed = has_place(&self.server, inode);
@@ -86,12 +90,12 @@ impl<M: Machine> Session<M> {
     }
 
     // Where the user may open one more.
-    fn take_directory(&mut self, owner: u32, inode: u32) -> Result<ReplyBody, Stop>
+    fn take_directory(&mut self, owner: u32, inode: u32) -> Result<ReplyBody, RequestError>
         requires { 1 ≤ self.old.server.room }
         ensures { Did M.Serves (take_directory owner inode) self.old self.new result }
     {
         if !self.server.may_open_directory(owner) {
-            return Err(Stop::ENFILE);
+            return Err(RequestError::ENFILE);
         }
         let handle = self.server.next_directory();
         self.server.add_directory(owner, inode);
@@ -99,23 +103,23 @@ impl<M: Machine> Session<M> {
     }
 
     // The names in a directory, as the server's own process sees them.
-    fn list_all(&mut self, inode: u32) -> Result<Listing, Stop>
+    fn list_all(&mut self, inode: u32) -> Result<Listing, RequestError>
         ensures did { Did M.Serves (list_all inode true) self.old self.new result }
         ensures kept { self.new.server ≡ self.old.server }
     {
-        let pid = self.the_looker()?;
+        let pid = self.the_server_process()?;
         let call = Call::Open(self.blank_path(), listing(), 0);
         let opened = self.on_once(pid, inode, call)?;
         let fd = fd_of_reply(&opened);
         opened.discard();
         let Some(fd) = fd else {
-            return Err(Stop::EIO);
+            return Err(RequestError::EIO);
         };
         list_and_close(&mut self.machine, pid, fd)
     }
 
     // A directory that was removed has no names.
-    fn list_placed(&mut self, inode: u32) -> Result<Listing, Stop>
+    fn list_placed(&mut self, inode: u32) -> Result<Listing, RequestError>
         ensures did { Did M.Serves (list_all inode (has_place self.old.server.server inode)) self.old self.new result }
         ensures kept { self.new.server ≡ self.old.server }
     {
@@ -132,14 +136,14 @@ impl<M: Machine> Session<M> {
         node: u64,
         extent: Extent,
         room: Vec<u8>,
-    ) -> Result<ReplyBody, Stop>
+    ) -> Result<ReplyBody, RequestError>
         requires empty { room.items ≡ [] }
         requires capacity { extent.size ≤ vec_capacity room }
         requires room { 1 ≤ self.old.server.room }
         ensures { Did M.Serves (read_directory node extent) self.old self.new result }
     {
         let Some(open) = self.server.directory_of(extent.handle) else {
-            return Err(Stop::EBADF);
+            return Err(RequestError::EBADF);
         };
         if extent.offset != 0 {
             if let Some(names) = &open.listing {
@@ -158,7 +162,7 @@ impl<M: Machine> Session<M> {
         extent: Extent,
         number: u32,
         room: Vec<u8>,
-    ) -> Result<ReplyBody, Stop>
+    ) -> Result<ReplyBody, RequestError>
         requires empty { room.items ≡ [] }
         requires capacity { extent.size ≤ vec_capacity room }
         requires room { 1 ≤ self.old.server.room }
@@ -166,7 +170,7 @@ impl<M: Machine> Session<M> {
     {
         let inode = self.the_number(node)?;
         if inode != number {
-            return Err(Stop::ESTALE);
+            return Err(RequestError::ESTALE);
         }
         let names = self.list_placed(inode)?;
         let bytes = listing_bytes(extent, &names, room);
@@ -175,7 +179,7 @@ impl<M: Machine> Session<M> {
     }
 
     /// A directory is closed.
-    pub(crate) fn close_directory(&mut self, handle: u64) -> Result<ReplyBody, Stop>
+    pub(crate) fn close_directory(&mut self, handle: u64) -> Result<ReplyBody, RequestError>
         ensures { Did M.Serves (close_directory handle) self.old self.new result }
     {
         self.server.remove_directory(handle);

@@ -16,7 +16,7 @@ use crate::session::Session;
 use crate::xattrs::AclNames;
 use fs_cred::Cred;
 use fs_model::Path;
-use fuse_plans::{Asked, ReplyBody, Response, Stop};
+use fuse_plans::{Asked, ReplyBody, RequestError, Response};
 use fuse_protocol::{Operation, Piece};
 use fuse_steps::Machine;
 use fuse_steps::flags::is_trunc;
@@ -24,12 +24,12 @@ use posix_acl::Acl;
 use std::alloc::AllocError;
 
 // The answer to a request.
-fn response_of(done: Result<ReplyBody, Stop>) -> Response
+fn response_of(done: Result<ReplyBody, RequestError>) -> Response
     ensures { result ≡ response_of done }
 {
     match done {
         Ok(body) => Response::Says(body),
-        Err(stop) => Response::Fails(stop),
+        Err(error) => Response::Fails(error),
     }
 }
 
@@ -433,7 +433,7 @@ impl<M: Machine> Session<M> {
             }
             Operation::FSyncDir | Operation::SyncFs => Ok(response_of(self.sync_all())),
             Operation::Destroy => Ok(response_of(self.end())),
-            Operation::Unknown => Ok(Response::Fails(Stop::ENOSYS)),
+            Operation::Unknown => Ok(Response::Fails(RequestError::ENOSYS)),
             _ => unreachable!(),
         }
     }

@@ -3,7 +3,7 @@ ghost use Rattle.std.specs.Prelude.{◌≡◌, ◌+◌, ◌≤◌, ◌&&◌, not
 ghost use Rattle.fuse_plans.specs.FilePlans.{reads_alone, ask_first, touched_if, cuts_open, confirm_shown, confirm_open, open_object, open_granted, open_file, or_opened, open_or_make, show_open, show_timed, look_open, file_flags, opened_body, created_body, tell_created, create_by, create_file};
 ghost use Rattle.fs_cred.specs.declared.errno.Errno.TheVariants.{EEXIST};
 ghost use Rattle.fuse_plans.specs.Flags.{is_trunc, is_excl};
-ghost use Rattle.fuse_plans.specs.Stops.{is_for};
+ghost use Rattle.fuse_plans.specs.RequestErrors.{is_for};
 ghost use Rattle.fuse_sessions.specs.Performing.{Did};
 ghost use Rattle.fuse_steps.specs.Performing.{DidByMachine};
 
@@ -13,13 +13,13 @@ use crate::session::Session;
 use bitflags::Flags as _;
 use fs_cred::{Cred, Errno};
 use fs_model::{Call, Path, Reply, Stamps, Status};
-use fuse_plans::{Asked, Mode, ReplyBody, Stop};
+use fuse_plans::{Asked, Mode, ReplyBody, RequestError};
 use fuse_protocol::{OpenFlags, OpenedFlags, Time};
-use fuse_state::{Place, Server, Settings, descriptor_of};
+use fuse_state::{Dentry, Server, Settings, descriptor_of};
 use fuse_steps::Machine;
 use fuse_steps::asker::{done, inside, obtain_once, or_closed};
 use fuse_steps::flags::{creating, is_excl, is_exec, is_trunc, opening};
-use fuse_steps::name::{attributes, only_inode, place, plain_name};
+use fuse_steps::name::{attributes, dentry, only_inode, plain_name};
 use fuse_steps::replies::{fd_of_reply, handle_within};
 use posix_acl::Perms;
 
@@ -92,10 +92,10 @@ fn created_body(
 }
 
 // Whether what has the name is opened where no file was made.
-fn may_be_found(stop: Stop, flags: OpenFlags) -> bool
-    ensures { result ≡ (is_for EEXIST stop && not (is_excl flags.0)) }
+fn may_be_found(error: RequestError, flags: OpenFlags) -> bool
+    ensures { result ≡ (is_for EEXIST error && not (is_excl flags.0)) }
 {
-    stop.is_for(Errno::EEXIST) && !is_excl(flags)
+    error.is_for(Errno::EEXIST) && !is_excl(flags)
 }
 
 // Where a file wasn't made, what has the name is opened. The name comes back.
@@ -106,19 +106,19 @@ fn or_opened<M: Machine>(
     name: Path,
     mode: Mode,
     flags: OpenFlags,
-    stop: Stop,
-) -> (Result<(Reply, bool), Stop>, Path)
-    ensures did { DidByMachine M.Serves (or_opened pid directory name mode flags.0 (Err stop)) machine.old machine.new result.0 }
+    error: RequestError,
+) -> (Result<(Reply, bool), RequestError>, Path)
+    ensures did { DidByMachine M.Serves (or_opened pid directory name mode flags.0 (Err error)) machine.old machine.new result.0 }
     ensures name { result.1 ≡ name }
 {
-    if !may_be_found(stop, flags) {
-        return (Err(stop), name);
+    if !may_be_found(error, flags) {
+        return (Err(error), name);
     }
     let call = Call::Open(name, opening(mode, is_trunc(flags)), 0);
     let (opened, name) = inside(machine, pid, directory, call);
     match opened {
         Ok(reply) => (Ok((reply, false)), name),
-        Err(stop) => (Err(stop), name),
+        Err(error) => (Err(error), name),
     }
 }
 
@@ -131,7 +131,7 @@ fn open_or_make<M: Machine>(
     mode: Mode,
     flags: OpenFlags,
     file_mode: u32,
-) -> (Result<(Reply, bool), Stop>, Path)
+) -> (Result<(Reply, bool), RequestError>, Path)
     ensures did { DidByMachine M.Serves (open_or_make pid directory name mode flags.0 file_mode) machine.old machine.new result.0 }
     ensures name { result.1 ≡ name }
 {
@@ -139,12 +139,12 @@ fn open_or_make<M: Machine>(
     let (first, name) = inside(machine, pid, directory, call);
     match first {
         Ok(reply) => (Ok((reply, true)), name),
-        Err(stop) => or_opened(machine, pid, directory, name, mode, flags, stop),
+        Err(error) => or_opened(machine, pid, directory, name, mode, flags, error),
     }
 }
 
 // What stat(2) shows of what is open.
-fn show_open<M: Machine>(machine: &mut M, pid: usize, fd: usize) -> Result<Status, Stop>
+fn show_open<M: Machine>(machine: &mut M, pid: usize, fd: usize) -> Result<Status, RequestError>
     ensures { DidByMachine M.Serves (show_open pid fd) machine.old machine.new result }
 {
     shown(obtain_once(machine, pid, Call::Fstat(fd)))
@@ -157,7 +157,7 @@ fn confirm_shown<M: Machine>(
     fd: usize,
     inode: u32,
     is_cut: bool,
-) -> Result<(), Stop>
+) -> Result<(), RequestError>
     ensures { DidByMachine M.Serves (confirm_shown pid fd inode is_cut) machine.old machine.new result }
 {
     let status = show_open(machine, pid, fd)?;
@@ -175,7 +175,7 @@ fn confirm_open<M: Machine>(
     fd: usize,
     inode: u32,
     is_cut: bool,
-) -> Result<(), Stop>
+) -> Result<(), RequestError>
     ensures { DidByMachine M.Serves (confirm_open pid fd inode is_cut) machine.old machine.new result }
 {
     let confirmed = confirm_shown(machine, pid, fd, inode, is_cut);
@@ -190,7 +190,7 @@ impl<M: Machine> Session<M> {
         inode: u32,
         flags: OpenFlags,
         mode: Mode,
-    ) -> Result<(), Stop>
+    ) -> Result<(), RequestError>
         ensures did { Did M.Serves (ask_first pid inode flags.0 mode) self.old self.new result }
         ensures kept { self.new.server ≡ self.old.server }
     {
@@ -208,7 +208,7 @@ impl<M: Machine> Session<M> {
         inode: u32,
         flags: OpenFlags,
         mode: Mode,
-    ) -> Result<u64, Stop>
+    ) -> Result<u64, RequestError>
         requires { 2 ≤ self.old.server.room }
         ensures { Did M.Serves (open_object now pid inode flags.0 mode) self.old self.new result }
     {
@@ -217,7 +217,7 @@ impl<M: Machine> Session<M> {
         let fd = fd_of_reply(&reply);
         reply.discard();
         let Some(handle) = handle_within(pid, fd) else {
-            return Err(Stop::EIO);
+            return Err(RequestError::EIO);
         };
         let (fd, is_cut) = (descriptor_of(handle), cuts_open(flags, mode));
         confirm_open(&mut self.machine, pid, fd, inode, is_cut)?;
@@ -232,14 +232,14 @@ impl<M: Machine> Session<M> {
         asked: &Asked,
         copy: Option<Cred>,
         flags: OpenFlags,
-    ) -> Result<ReplyBody, Stop>
+    ) -> Result<ReplyBody, RequestError>
         requires copy { copy ≡ asked.now.cred }
         requires room { 3 ≤ self.old.server.room }
         ensures { Did M.Serves (open_file asked.entry.now flags.0) self.old self.new result }
     {
         let inode = self.the_number(asked.node)?;
         let Some(mode) = Mode::of_flags(flags) else {
-            return Err(Stop::EINVAL);
+            return Err(RequestError::EINVAL);
         };
         let pid = self.caller_with_room(copy)?;
         self.open_granted(asked.now, pid, inode, flags, mode)
@@ -253,7 +253,7 @@ impl<M: Machine> Session<M> {
         inode: u32,
         flags: OpenFlags,
         mode: Mode,
-    ) -> Result<ReplyBody, Stop>
+    ) -> Result<ReplyBody, RequestError>
         requires { 2 ≤ self.old.server.room }
         ensures { Did M.Serves (open_granted now pid inode flags.0 mode) self.old self.new result }
     {
@@ -263,7 +263,11 @@ impl<M: Machine> Session<M> {
     }
 
     // What stat(2) shows of what is open, and its times.
-    fn show_timed(&mut self, pid: usize, fd: usize) -> Result<(Status, Option<Stamps>), Stop>
+    fn show_timed(
+        &mut self,
+        pid: usize,
+        fd: usize,
+    ) -> Result<(Status, Option<Stamps>), RequestError>
         ensures did { Did M.Serves (show_timed pid fd) self.old self.new result }
         ensures kept { self.new.server ≡ self.old.server }
     {
@@ -273,7 +277,7 @@ impl<M: Machine> Session<M> {
     }
 
     // The same; where nothing is shown that is closed.
-    fn look_open(&mut self, pid: usize, fd: usize) -> Result<(Status, Option<Stamps>), Stop>
+    fn look_open(&mut self, pid: usize, fd: usize) -> Result<(Status, Option<Stamps>), RequestError>
         ensures did { Did M.Serves (look_open pid fd) self.old self.new result }
         ensures kept { self.new.server ≡ self.old.server }
     {
@@ -286,18 +290,18 @@ impl<M: Machine> Session<M> {
         &mut self,
         now: Time,
         name_valid: u64,
-        place: Place,
+        dentry: Dentry,
         is_new: bool,
         is_cut: bool,
         handle: u64,
         seen: (Status, Option<Stamps>),
-    ) -> Result<ReplyBody, Stop>
+    ) -> Result<ReplyBody, RequestError>
         requires { 5 ≤ self.old.server.room }
-        ensures { Did M.Serves (tell_created now name_valid place is_new is_cut handle seen) self.old self.new result }
+        ensures { Did M.Serves (tell_created now name_valid dentry is_new is_cut handle seen) self.old self.new result }
     {
         let (status, stamps) = seen;
         self.server
-            .note_opened(now, place, status.inode, status.kind, is_new, is_cut);
+            .note_opened(now, dentry, status.inode, status.kind, is_new, is_cut);
         self.server.add_handle(handle, status.inode);
         Ok(created_body(&self.server, name_valid, handle, status, stamps))
     }
@@ -311,14 +315,14 @@ impl<M: Machine> Session<M> {
         flags: OpenFlags,
         file_mode: u32,
         umask: u32,
-    ) -> Result<ReplyBody, Stop>
+    ) -> Result<ReplyBody, RequestError>
         requires copy { copy ≡ asked.now.cred }
         requires room { 6 ≤ self.old.server.room }
         ensures { Did M.Serves (create_file asked.entry.now name flags.0 file_mode umask) self.old self.new result }
     {
         plain_name(&name)?;
         let Some(mode) = Mode::of_flags(flags) else {
-            return Err(Stop::EINVAL);
+            return Err(RequestError::EINVAL);
         };
         let directory = self.standing_directory(asked.node)?;
         let name_valid = self.new_valid(directory);
@@ -341,7 +345,7 @@ impl<M: Machine> Session<M> {
         mode: Mode,
         flags: OpenFlags,
         file_mode: u32,
-    ) -> Result<ReplyBody, Stop>
+    ) -> Result<ReplyBody, RequestError>
         requires { 5 ≤ self.old.server.room }
         ensures { Did M.Serves (create_by now name_valid pid directory name mode flags.0 file_mode) self.old self.new result }
     {
@@ -358,11 +362,11 @@ impl<M: Machine> Session<M> {
         let fd = fd_of_reply(&reply);
         reply.discard();
         let Some(handle) = handle_within(pid, fd) else {
-            return Err(Stop::EIO);
+            return Err(RequestError::EIO);
         };
         let seen = self.look_open(pid, descriptor_of(handle))?;
-        let place = place(directory, name);
+        let dentry = dentry(directory, name);
         let is_cut = is_trunc(flags);
-        self.tell_created(now, name_valid, place, is_new, is_cut, handle, seen)
+        self.tell_created(now, name_valid, dentry, is_new, is_cut, handle, seen)
     }
 }

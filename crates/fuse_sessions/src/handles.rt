@@ -10,7 +10,7 @@ ghost use Rattle.fuse_plans.specs.Works.{of_result};
 
 use crate::session::Session;
 use fs_model::{Bytes, Call, Event, Reply, Whence};
-use fuse_plans::{ReplyBody, Stop};
+use fuse_plans::{ReplyBody, RequestError};
 use fuse_protocol::{Extent, Time};
 use fuse_state::{descriptor_of, owner_of};
 use fuse_steps::Machine;
@@ -25,11 +25,16 @@ const MOVE: usize = 4096;
 const OFFSETS: u64 = 9_223_372_036_854_775_808;
 
 // The next bytes that are moved are those behind this offset.
-fn seek<M: Machine>(machine: &mut M, pid: usize, fd: usize, offset: u64) -> Result<Reply, Stop>
+fn seek<M: Machine>(
+    machine: &mut M,
+    pid: usize,
+    fd: usize,
+    offset: u64,
+) -> Result<Reply, RequestError>
     ensures { DidByMachine M.Serves (seek pid fd offset) machine.old machine.new result }
 {
     if offset >= OFFSETS {
-        return Err(Stop::EINVAL);
+        return Err(RequestError::EINVAL);
     }
     obtain_once(machine, pid, Call::Lseek(fd, Whence::Set, offset as i64))
 }
@@ -40,14 +45,14 @@ fn read_piece<M: Machine>(
     pid: usize,
     fd: usize,
     most: usize,
-) -> Result<Bytes, Stop>
+) -> Result<Bytes, RequestError>
     ensures did { DidByMachine M.Serves (read_piece pid fd most) machine.old machine.new result }
     ensures most { IfOk result (λ piece. length piece ≤ most) }
 {
     let reply = obtain_once(machine, pid, Call::Read { fd, len: most })?;
     match within(most, data_of_reply(reply)) {
         Some(piece) => Ok(piece),
-        None => Err(Stop::EIO),
+        None => Err(RequestError::EIO),
     }
 }
 
@@ -58,7 +63,7 @@ fn read_pieces<M: Machine>(
     fd: usize,
     size: usize,
     room: Vec<u8>,
-) -> Result<Bytes, Stop>
+) -> Result<Bytes, RequestError>
     requires empty { room.items ≡ [] }
     requires capacity { size ≤ vec_capacity room }
     ensures { DidByMachine M.Serves (read_pieces (pieces_of size) pid fd size []) machine.old machine.new result }
@@ -73,7 +78,7 @@ fn read_pieces<M: Machine>(
         let piece = read_piece(machine, pid, fd, most)?;
         let piece = piece.bytes();
         let Ok(()) = bytes.extend_from_slice(piece) else {
-            return Err(Stop::ENOMEM);
+            return Err(RequestError::ENOMEM);
         };
         if piece.len() < most {
             return Ok(Bytes::new(bytes));
@@ -94,7 +99,7 @@ fn length_written(call: &Call) -> usize
 }
 
 // How many bytes were written of a piece.
-fn write_piece<M: Machine>(machine: &mut M, pid: usize, call: &Call) -> Result<usize, Stop>
+fn write_piece<M: Machine>(machine: &mut M, pid: usize, call: &Call) -> Result<usize, RequestError>
     ensures did { DidByMachine M.Serves (write_piece pid call.now) machine.old machine.new result }
     ensures most { IfOk result (λ count. count ≤ length_written call.now) }
 {
@@ -103,18 +108,18 @@ fn write_piece<M: Machine>(machine: &mut M, pid: usize, call: &Call) -> Result<u
     reply.discard();
     match count_within(length_written(call), count) {
         Some(count) => Ok(count),
-        None => Err(Stop::EIO),
+        None => Err(RequestError::EIO),
     }
 }
 
 // What was written before a refusal counts.
-fn or_done(done: usize, wrote: Result<usize, Stop>) -> Result<usize, Stop>
+fn or_done(done: usize, wrote: Result<usize, RequestError>) -> Result<usize, RequestError>
     ensures done { or_done done wrote ≡ of_result result }
     ensures most { (most : ℕ) → IfOk wrote (λ count. count ≤ most) → IfOk result (λ count. count ≤ most) }
 {
     match wrote {
         Ok(count) => Ok(count),
-        Err(stop) => { if done == 0 { Err(stop) } else { Ok(0) } }
+        Err(error) => { if done == 0 { Err(error) } else { Ok(0) } }
     }
 }
 
@@ -137,7 +142,7 @@ fn write_bytes<M: Machine>(
     pid: usize,
     fd: usize,
     piece: Bytes,
-) -> (Result<usize, Stop>, Bytes)
+) -> (Result<usize, RequestError>, Bytes)
     ensures did { DidByMachine M.Serves (write_piece pid (Write fd piece)) machine.old machine.new result.0 }
     ensures most { IfOk result.0 (λ count. count ≤ length piece) }
     ensures piece { result.1 ≡ piece }
@@ -176,7 +181,7 @@ fn write_pieces<M: Machine>(
     fd: usize,
     bytes: &[u8],
     room: Bytes,
-) -> Result<usize, Stop>
+) -> Result<usize, RequestError>
     requires { min (length bytes.now) move_limit ≤ length room }
     ensures { DidByMachine M.Serves (write_pieces pid 0 (writes_of fd bytes.now)) machine.old machine.new result }
 {
@@ -202,7 +207,7 @@ fn write_pieces<M: Machine>(
 
 impl<M: Machine> Session<M> {
     /// A call of the process that opened it.
-    pub(crate) fn call_open(&mut self, handle: u64, call: Call) -> Result<Reply, Stop>
+    pub(crate) fn call_open(&mut self, handle: u64, call: Call) -> Result<Reply, RequestError>
         ensures did { Did M.Serves (call_open handle call) self.old self.new result }
         ensures kept { self.new.server ≡ self.old.server }
     {
@@ -211,7 +216,7 @@ impl<M: Machine> Session<M> {
     }
 
     // The same by a handle: the inode that is open there.
-    fn seek_open(&mut self, handle: u64, offset: u64) -> Result<u32, Stop>
+    fn seek_open(&mut self, handle: u64, offset: u64) -> Result<u32, RequestError>
         ensures did { Did M.Serves (seek_open handle offset) self.old self.new result }
         ensures kept { self.new.server ≡ self.old.server }
     {
@@ -227,7 +232,11 @@ impl<M: Machine> Session<M> {
     }
 
     /// Reads what is open, with room for so many bytes.
-    pub(crate) fn read_file(&mut self, extent: Extent, room: Vec<u8>) -> Result<ReplyBody, Stop>
+    pub(crate) fn read_file(
+        &mut self,
+        extent: Extent,
+        room: Vec<u8>,
+    ) -> Result<ReplyBody, RequestError>
         requires empty { room.items ≡ [] }
         requires capacity { extent.size ≤ vec_capacity room }
         ensures { Did M.Serves (read_file extent) self.old self.new result }
@@ -247,7 +256,7 @@ impl<M: Machine> Session<M> {
         offset: u64,
         bytes: &[u8],
         room: Bytes,
-    ) -> Result<ReplyBody, Stop>
+    ) -> Result<ReplyBody, RequestError>
         requires room { 1 ≤ self.old.server.room }
         requires pieces { min (length bytes.now) move_limit ≤ length room }
         ensures { Did M.Serves (write_by now handle offset (writes_of (descriptor_of handle) bytes.now)) self.old self.new result }
@@ -261,7 +270,7 @@ impl<M: Machine> Session<M> {
     }
 
     /// A handle is closed.
-    pub(crate) fn close_file(&mut self, handle: u64) -> Result<ReplyBody, Stop>
+    pub(crate) fn close_file(&mut self, handle: u64) -> Result<ReplyBody, RequestError>
         ensures { Did M.Serves (close_file handle) self.old self.new result }
     {
         let call = Call::Close(descriptor_of(handle));
@@ -271,7 +280,7 @@ impl<M: Machine> Session<M> {
     }
 
     /// What was written by a handle is to last.
-    pub(crate) fn sync_file(&mut self, handle: u64) -> Result<ReplyBody, Stop>
+    pub(crate) fn sync_file(&mut self, handle: u64) -> Result<ReplyBody, RequestError>
         ensures { Did M.Serves (sync_file handle) self.old self.new result }
     {
         let _inode = self.the_open(handle)?;

@@ -8,12 +8,12 @@ ghost use Rattle.fuse_steps.specs.Performing.{DidByMachine};
 use crate::session::Session;
 use fs_cred::Cred;
 use fs_model::{Call, Path};
-use fuse_plans::{Asked, ReplyBody, Stop};
+use fuse_plans::{Asked, ReplyBody, RequestError};
 use fuse_protocol::Time;
-use fuse_state::Place;
+use fuse_state::Dentry;
 use fuse_steps::Machine;
 use fuse_steps::asker::{done, done_between, inside};
-use fuse_steps::name::{found_body, none_there, only_no_replace, place, plain_name};
+use fuse_steps::name::{dentry, found_body, none_there, only_no_replace, plain_name};
 use fuse_steps::path::names_in;
 
 // Removes a name: of a directory, or of something else.
@@ -34,7 +34,7 @@ fn remove_inside<M: Machine>(
     directory: u32,
     of_directory: bool,
     name: Path,
-) -> (Result<(), Stop>, Path)
+) -> (Result<(), RequestError>, Path)
     ensures did { let call = removal of_directory name in
         DidByMachine M.Serves (done_between pid directory directory call) machine.old machine.new result.0 }
     ensures name { result.1 ≡ name }
@@ -51,7 +51,7 @@ fn nothing_to_replace<M: Machine>(
     pid: usize,
     directory: u32,
     name: Path,
-) -> (Result<(), Stop>, Path)
+) -> (Result<(), RequestError>, Path)
     ensures did { DidByMachine M.Serves (nothing_to_replace flags pid directory name) machine.old machine.new result.0 }
     ensures name { result.1 ≡ name }
 {
@@ -70,7 +70,7 @@ impl<M: Machine> Session<M> {
         copy: Option<Cred>,
         name: Path,
         of_directory: bool,
-    ) -> Result<ReplyBody, Stop>
+    ) -> Result<ReplyBody, RequestError>
         requires copy { copy ≡ asked.now.cred }
         requires room { 3 ≤ self.old.server.room }
         ensures { Did M.Serves (remove asked.entry.now (removal of_directory) name) self.old self.new result }
@@ -78,12 +78,13 @@ impl<M: Machine> Session<M> {
         let (directory, pid) = self.directory_and_caller(asked, copy, &name)?;
         let (tried, name) = remove_inside(&mut self.machine, pid, directory, of_directory, name);
         tried?;
-        self.server.note_removed(asked.now, &place(directory, name));
+        self.server
+            .note_removed(asked.now, &dentry(directory, name));
         Ok(ReplyBody::Nothing)
     }
 
     // The names may be asked for, and the flags.
-    fn may_move(&self, name: &Path, new_name: &Path, flags: u32) -> Result<(), Stop>
+    fn may_move(&self, name: &Path, new_name: &Path, flags: u32) -> Result<(), RequestError>
         ensures { Did M.Serves (may_move name.now new_name.now flags) self.now self.now result }
     {
         only_no_replace(flags)?;
@@ -92,12 +93,18 @@ impl<M: Machine> Session<M> {
     }
 
     // What has the one place gets the other.
-    fn rename(&mut self, now: Time, pid: usize, old: Place, new: Place) -> Result<ReplyBody, Stop>
+    fn rename(
+        &mut self,
+        now: Time,
+        pid: usize,
+        old: Dentry,
+        new: Dentry,
+    ) -> Result<ReplyBody, RequestError>
         requires { 5 ≤ self.old.server.room }
         ensures { Did M.Serves (rename now pid old new) self.old self.new result }
     {
-        let Place { directory, name } = old;
-        let Place {
+        let Dentry { directory, name } = old;
+        let Dentry {
             directory: new_directory,
             name: new_name,
         } = new;
@@ -110,7 +117,11 @@ impl<M: Machine> Session<M> {
             unreachable!()
         };
         tried?;
-        self.server.note_moved(now, &place(directory, name), place(new_directory, new_name));
+        self.server.note_moved(
+            now,
+            &dentry(directory, name),
+            dentry(new_directory, new_name),
+        );
         Ok(ReplyBody::Nothing)
     }
 
@@ -123,7 +134,7 @@ impl<M: Machine> Session<M> {
         new_node: u64,
         new_name: Path,
         flags: u32,
-    ) -> Result<ReplyBody, Stop>
+    ) -> Result<ReplyBody, RequestError>
         requires copy { copy ≡ asked.now.cred }
         requires room { 6 ≤ self.old.server.room }
         ensures { Did M.Serves (move_name asked.entry.now name new_node new_name flags) self.old self.new result }
@@ -132,7 +143,14 @@ impl<M: Machine> Session<M> {
         let directory = self.standing_directory(asked.node)?;
         let new = self.standing_directory(new_node)?;
         let pid = self.caller(copy)?;
-        self.move_to(asked.now, flags, pid, place(directory, name), new, new_name)
+        self.move_to(
+            asked.now,
+            flags,
+            pid,
+            dentry(directory, name),
+            new,
+            new_name,
+        )
     }
 
     // The same, if it may replace what is there.
@@ -141,16 +159,16 @@ impl<M: Machine> Session<M> {
         now: Time,
         flags: u32,
         pid: usize,
-        old: Place,
+        old: Dentry,
         new: u32,
         new_name: Path,
-    ) -> Result<ReplyBody, Stop>
+    ) -> Result<ReplyBody, RequestError>
         requires { 5 ≤ self.old.server.room }
         ensures { Did M.Serves (move_to now flags pid old new new_name) self.old self.new result }
     {
         let (free, new_name) = nothing_to_replace(&mut self.machine, flags, pid, new, new_name);
         free?;
-        self.rename(now, pid, old, place(new, new_name))
+        self.rename(now, pid, old, dentry(new, new_name))
     }
 
     // An object gets one more name, by one of those that are known. The new one comes back.
@@ -160,14 +178,14 @@ impl<M: Machine> Session<M> {
         inode: u32,
         directory: u32,
         name: Path,
-    ) -> (Result<(), Stop>, Path)
+    ) -> (Result<(), RequestError>, Path)
         ensures did { Did M.Serves (link_by_place pid inode directory name) self.old self.new result.0 }
         ensures name { result.1 ≡ name }
         ensures kept { self.new.server ≡ self.old.server }
     {
         let old = self.blank_path();
         let mut call = Call::Link { old, new: name };
-        let tried = self.by_places(pid, inode, Some(directory), Stop::ENOENT, &mut call);
+        let tried = self.by_places(pid, inode, Some(directory), RequestError::ENOENT, &mut call);
         let Some((_blank, name)) = names_in(call) else {
             unreachable!()
         };
@@ -175,12 +193,17 @@ impl<M: Machine> Session<M> {
     }
 
     // The object has the name too.
-    fn tell_linked(&mut self, now: Time, place: Place, inode: u32) -> Result<ReplyBody, Stop>
+    fn tell_linked(
+        &mut self,
+        now: Time,
+        dentry: Dentry,
+        inode: u32,
+    ) -> Result<ReplyBody, RequestError>
         requires { 4 ≤ self.old.server.room }
-        ensures { Did M.Serves (tell_linked now place inode) self.old self.new result }
+        ensures { Did M.Serves (tell_linked now dentry inode) self.old self.new result }
     {
         let kind = self.server.kind_of(inode);
-        self.server.note_linked(now, place, inode, kind);
+        self.server.note_linked(now, dentry, inode, kind);
         let status = self.look(inode)?;
         let stamps = self.told_stamps(status.inode)?;
         self.server.note_told(status.inode);
@@ -194,7 +217,7 @@ impl<M: Machine> Session<M> {
         copy: Option<Cred>,
         old_node: u64,
         name: Path,
-    ) -> Result<ReplyBody, Stop>
+    ) -> Result<ReplyBody, RequestError>
         requires copy { copy ≡ asked.now.cred }
         requires room { 5 ≤ self.old.server.room }
         ensures { Did M.Serves (add_link asked.entry.now old_node name) self.old self.new result }
@@ -212,7 +235,7 @@ impl<M: Machine> Session<M> {
         inode: u32,
         directory: u32,
         name: Path,
-    ) -> Result<ReplyBody, Stop>
+    ) -> Result<ReplyBody, RequestError>
         requires copy { copy ≡ asked.now.cred }
         requires room { 5 ≤ self.old.server.room }
         ensures { Did M.Serves (link_as asked.entry.now inode directory name) self.old self.new result }
@@ -220,6 +243,6 @@ impl<M: Machine> Session<M> {
         let pid = self.caller(copy)?;
         let (tried, name) = self.link_by_place(pid, inode, directory, name);
         tried?;
-        self.tell_linked(asked.now, place(directory, name), inode)
+        self.tell_linked(asked.now, dentry(directory, name), inode)
     }
 }

@@ -10,27 +10,31 @@ use crate::object::look_inside;
 use crate::session::Session;
 use fs_cred::Cred;
 use fs_model::{Call, Path, Reply, Status};
-use fuse_plans::{Asked, ReplyBody, Stop};
+use fuse_plans::{Asked, ReplyBody, RequestError};
 use fuse_protocol::Time;
 use fuse_steps::Machine;
 use fuse_steps::asker::{between, done, done_between, obtain_once};
 use fuse_steps::flags::making;
 use fuse_steps::name::{
-    found_body, keeps_names, looked_up_body, only_file, or_absent, or_keep_absent, place,
+    dentry, found_body, keeps_names, looked_up_body, only_file, or_absent, or_keep_absent,
     plain_name, unless_hidden,
 };
 use fuse_steps::path::name_in;
 use fuse_steps::replies::fd_of_reply;
 
 /// New objects of the process are made with this mask from now on.
-pub(crate) fn set_umask<M: Machine>(machine: &mut M, pid: usize, umask: u32) -> Result<Reply, Stop>
+pub(crate) fn set_umask<M: Machine>(
+    machine: &mut M,
+    pid: usize,
+    umask: u32,
+) -> Result<Reply, RequestError>
     ensures { DidByMachine M.Serves (set_umask pid umask) machine.old machine.new result }
 {
     obtain_once(machine, pid, Call::Umask((umask & 0o777) as u16))
 }
 
 // Closes a descriptor.
-fn close<M: Machine>(machine: &mut M, pid: usize, fd: usize) -> Result<(), Stop>
+fn close<M: Machine>(machine: &mut M, pid: usize, fd: usize) -> Result<(), RequestError>
     ensures { DidByMachine M.Serves (close pid fd) machine.old machine.new result }
 {
     done(obtain_once(machine, pid, Call::Close(fd)))
@@ -42,14 +46,14 @@ fn open_and_close<M: Machine>(
     pid: usize,
     directory: u32,
     call: &Call,
-) -> Result<(), Stop>
+) -> Result<(), RequestError>
     ensures { DidByMachine M.Serves (open_and_close pid directory call.now) machine.old machine.new result }
 {
     let reply = between(machine, pid, directory, directory, call)?;
     let fd = fd_of_reply(&reply);
     reply.discard();
     let Some(fd) = fd else {
-        return Err(Stop::EIO);
+        return Err(RequestError::EIO);
     };
     close(machine, pid, fd)
 }
@@ -67,7 +71,7 @@ fn done_closed<M: Machine>(
     pid: usize,
     directory: u32,
     call: &Call,
-) -> Result<(), Stop>
+) -> Result<(), RequestError>
     ensures { DidByMachine M.Serves (done_closed pid directory call.now) machine.old machine.new result }
 {
     if opens(call) {
@@ -84,7 +88,7 @@ impl<M: Machine> Session<M> {
         asked: &Asked,
         copy: Option<Cred>,
         name: Path,
-    ) -> Result<ReplyBody, Stop>
+    ) -> Result<ReplyBody, RequestError>
         requires copy { copy ≡ asked.now.cred }
         requires room { 3 ≤ self.old.server.room }
         ensures { Did M.Serves (find_name asked.entry.now name) self.old self.new result }
@@ -95,20 +99,20 @@ impl<M: Machine> Session<M> {
     }
 
     // By whom a name is looked up: by the server's own process where nobody is needed.
-    fn searcher(&mut self, asked: &Asked, copy: Option<Cred>) -> Result<usize, Stop>
+    fn searcher(&mut self, asked: &Asked, copy: Option<Cred>) -> Result<usize, RequestError>
         requires copy { copy ≡ asked.now.cred }
         requires room { 1 ≤ self.old.server.room }
         ensures did { Did M.Serves (searcher asked.entry.now) self.old self.new result }
         ensures room { self.old.server.room ≤ self.new.server.room + 1 }
     {
         if asked.needs_nobody {
-            return self.the_looker();
+            return self.the_server_process();
         }
         self.caller(copy)
     }
 
     // The directory in which a name is looked for.
-    fn searched_directory(&self, node: u64, name: &Path) -> Result<u32, Stop>
+    fn searched_directory(&self, node: u64, name: &Path) -> Result<u32, RequestError>
         ensures { Did M.Serves (searched_directory node name.now) self.now self.now result }
     {
         plain_name(name)?;
@@ -122,14 +126,14 @@ impl<M: Machine> Session<M> {
         pid: usize,
         directory: u32,
         name: Path,
-    ) -> Result<ReplyBody, Stop>
+    ) -> Result<ReplyBody, RequestError>
         requires { 2 ≤ self.old.server.room }
         ensures { Did M.Serves (find_inside needs_nobody pid directory name) self.old self.new result }
     {
         let (seen, name) = look_inside(&mut self.machine, pid, directory, name);
         match seen {
             Ok(status) => self.tell_found(needs_nobody, directory, name, status),
-            Err(stop) => or_keep_absent(self.server.settings(), needs_nobody, stop),
+            Err(error) => or_keep_absent(self.server.settings(), needs_nobody, error),
         }
     }
 
@@ -140,13 +144,13 @@ impl<M: Machine> Session<M> {
         directory: u32,
         name: Path,
         status: Status,
-    ) -> Result<ReplyBody, Stop>
+    ) -> Result<ReplyBody, RequestError>
         requires { 2 ≤ self.old.server.room }
         ensures { Did M.Serves (found_or_absent needs_nobody directory name (Ok status)) self.old self.new result }
     {
         let stamps = self.told_stamps(status.inode)?;
         self.server
-            .note_found(place(directory, name), status.inode, status.kind);
+            .note_found(dentry(directory, name), status.inode, status.kind);
         Ok(looked_up_body(&self.server, needs_nobody, status, stamps))
     }
 
@@ -164,7 +168,7 @@ impl<M: Machine> Session<M> {
     }
 
     /// The directory of a name that is asked for.
-    pub(crate) fn directory_for(&self, node: u64, name: &Path) -> Result<u32, Stop>
+    pub(crate) fn directory_for(&self, node: u64, name: &Path) -> Result<u32, RequestError>
         ensures { Did M.Serves (directory_for node name.now) self.now self.now result }
     {
         plain_name(name)?;
@@ -177,7 +181,7 @@ impl<M: Machine> Session<M> {
         asked: &Asked,
         copy: Option<Cred>,
         name: &Path,
-    ) -> Result<(u32, usize), Stop>
+    ) -> Result<(u32, usize), RequestError>
         requires copy { copy ≡ asked.now.cred }
         requires room { 1 ≤ self.old.server.room }
         ensures did { Did M.Serves (directory_and_caller asked.entry.now name.now) self.old self.new result }
@@ -195,16 +199,16 @@ impl<M: Machine> Session<M> {
         name_valid: u64,
         directory: u32,
         name: Path,
-    ) -> Result<ReplyBody, Stop>
+    ) -> Result<ReplyBody, RequestError>
         requires { 4 ≤ self.old.server.room }
         ensures { Did M.Serves (made now name_valid directory name) self.old self.new result }
     {
-        let pid = self.the_looker()?;
+        let pid = self.the_server_process()?;
         let (shown, name) = look_inside(&mut self.machine, pid, directory, name);
         let status = shown?;
         let stamps = self.told_stamps(status.inode)?;
         self.server
-            .add_object(now, place(directory, name), status.inode, status.kind);
+            .add_object(now, dentry(directory, name), status.inode, status.kind);
         Ok(found_body(&self.server, name_valid, status, stamps))
     }
 
@@ -216,7 +220,7 @@ impl<M: Machine> Session<M> {
         pid: usize,
         directory: u32,
         call: Call,
-    ) -> Result<ReplyBody, Stop>
+    ) -> Result<ReplyBody, RequestError>
         requires name { IsSome (name_in call) }
         requires room { 4 ≤ self.old.server.room }
         ensures { (name : List ℕ) → name_in call ≡ Some name →
@@ -239,7 +243,7 @@ impl<M: Machine> Session<M> {
         pid: usize,
         directory: u32,
         call: Call,
-    ) -> Result<ReplyBody, Stop>
+    ) -> Result<ReplyBody, RequestError>
         requires name { IsSome (name_in call) }
         requires room { 4 ≤ self.old.server.room }
         ensures { (name : List ℕ) → name_in call ≡ Some name →
@@ -256,7 +260,7 @@ impl<M: Machine> Session<M> {
         copy: Option<Cred>,
         name: Path,
         target: Path,
-    ) -> Result<ReplyBody, Stop>
+    ) -> Result<ReplyBody, RequestError>
         requires copy { copy ≡ asked.now.cred }
         requires room { 5 ≤ self.old.server.room }
         ensures { Did M.Serves (make_link asked.entry.now name target) self.old self.new result }
@@ -276,7 +280,7 @@ impl<M: Machine> Session<M> {
         name: Path,
         mode: u32,
         umask: u32,
-    ) -> Result<ReplyBody, Stop>
+    ) -> Result<ReplyBody, RequestError>
         requires copy { copy ≡ asked.now.cred }
         requires room { 5 ≤ self.old.server.room }
         ensures { Did M.Serves (make_directory asked.entry.now name mode umask) self.old self.new result }
@@ -296,7 +300,7 @@ impl<M: Machine> Session<M> {
         name: Path,
         mode: u32,
         umask: u32,
-    ) -> Result<ReplyBody, Stop>
+    ) -> Result<ReplyBody, RequestError>
         requires copy { copy ≡ asked.now.cred }
         requires room { 5 ≤ self.old.server.room }
         ensures { Did M.Serves (make_file asked.entry.now name mode umask) self.old self.new result }

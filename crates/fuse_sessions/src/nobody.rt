@@ -1,6 +1,6 @@
 //! Whether it counts who asks: where it doesn't, that isn't even learnt.
 ghost use Rattle.std.specs.Prelude.{◌≡◌};
-ghost use Rattle.fuse_plans.specs.Masks.{may_hide, grants_nothing, hides, seen_by_looker, asks_list, list_hides, is_masked};
+ghost use Rattle.fuse_plans.specs.Masks.{may_hide, grants_nothing, hides, seen_by_server_process, asks_list, list_hides, is_masked};
 ghost use Rattle.fuse_plans.specs.Nobody.{is_judged, needs_nobody};
 ghost use Rattle.fuse_plans.specs.Plans.{CarriesOut};
 ghost use Rattle.fuse_sessions.specs.Performing.{Did};
@@ -8,7 +8,7 @@ ghost use Rattle.fuse_sessions.specs.Performing.{Did};
 use crate::object::shown;
 use crate::session::Session;
 use fs_model::{AclType, Call, Status};
-use fuse_plans::{Stop, needs_caller};
+use fuse_plans::{RequestError, needs_caller};
 use fuse_protocol::Operation;
 use fuse_steps::Machine;
 use posix_acl::{Acl, Perms};
@@ -74,7 +74,7 @@ impl<M: Machine> Session<M> {
     }
 
     // Whether Linux doesn't follow the access list of the directory of a node.
-    fn is_masked(&mut self, node: u64) -> Result<bool, Stop>
+    fn is_masked(&mut self, node: u64) -> Result<bool, RequestError>
         ensures did { Did M.Serves (is_masked node) self.old self.new result }
         ensures kept { self.new.server ≡ self.old.server }
     {
@@ -83,25 +83,25 @@ impl<M: Machine> Session<M> {
     }
 
     /// The same of a directory.
-    pub(crate) fn list_hides(&mut self, inode: u32) -> Result<bool, Stop>
+    pub(crate) fn list_hides(&mut self, inode: u32) -> Result<bool, RequestError>
         ensures did { Did M.Serves (list_hides inode) self.old self.new result }
         ensures kept { self.new.server ≡ self.old.server }
     {
-        let status = self.seen_by_looker(inode)?;
+        let status = self.seen_by_server_process(inode)?;
         self.asks_list(inode, status)
     }
 
     // What stat(2) shows the server's own process.
-    fn seen_by_looker(&mut self, inode: u32) -> Result<Status, Stop>
-        ensures did { Did M.Serves (seen_by_looker inode) self.old self.new result }
+    fn seen_by_server_process(&mut self, inode: u32) -> Result<Status, RequestError>
+        ensures did { Did M.Serves (seen_by_server_process inode) self.old self.new result }
         ensures kept { self.new.server ≡ self.old.server }
     {
-        let reply = self.by_looker(inode, Call::Lstat(self.blank_path()));
+        let reply = self.by_server_process(inode, Call::Lstat(self.blank_path()));
         shown(reply)
     }
 
     // The list is asked for only where the mode may come from such a one.
-    fn asks_list(&mut self, inode: u32, status: Status) -> Result<bool, Stop>
+    fn asks_list(&mut self, inode: u32, status: Status) -> Result<bool, RequestError>
         ensures did { Did M.Serves (asks_list inode status) self.old self.new result }
         ensures kept { self.new.server ≡ self.old.server }
     {

@@ -7,7 +7,7 @@ ghost use Rattle.fuse_sessions.specs.Performing.{Did};
 use crate::object::has_place;
 use crate::session::Session;
 use fs_model::FileType;
-use fuse_plans::Stop;
+use fuse_plans::RequestError;
 use fuse_steps::Machine;
 
 /// Whether it is known to be a directory.
@@ -19,40 +19,40 @@ pub(crate) fn is_known_directory(kind: Option<FileType>) -> bool
 
 impl<M: Machine> Session<M> {
     /// The inode of a node.
-    pub(crate) fn the_number(&self, node: u64) -> Result<u32, Stop>
+    pub(crate) fn the_number(&self, node: u64) -> Result<u32, RequestError>
         ensures { Did M.Serves (the_number node) self.now self.now result }
     {
-        self.server.number_of(node).ok_or(Stop::ESTALE)
+        self.server.number_of(node).ok_or(RequestError::ESTALE)
     }
 
     /// The inode of a node that is a directory.
-    pub(crate) fn directory_number(&self, node: u64) -> Result<u32, Stop>
+    pub(crate) fn directory_number(&self, node: u64) -> Result<u32, RequestError>
         ensures { Did M.Serves (directory_number node) self.now self.now result }
     {
         let inode = self.the_number(node)?;
         if is_known_directory(self.server.kind_of(inode)) {
             Ok(inode)
         } else {
-            Err(Stop::ENOTDIR)
+            Err(RequestError::ENOTDIR)
         }
     }
 
     /// The inode of a node that is a directory and has a name: one that was removed holds no names.
-    pub(crate) fn standing_directory(&self, node: u64) -> Result<u32, Stop>
+    pub(crate) fn standing_directory(&self, node: u64) -> Result<u32, RequestError>
         ensures { Did M.Serves (standing_directory node) self.now self.now result }
     {
         let inode = self.directory_number(node)?;
         if has_place(&self.server, inode) {
             Ok(inode)
         } else {
-            Err(Stop::ESTALE)
+            Err(RequestError::ESTALE)
         }
     }
 
     /// The inode that is open at a handle.
-    pub(crate) fn the_open(&self, handle: u64) -> Result<u32, Stop>
+    pub(crate) fn the_open(&self, handle: u64) -> Result<u32, RequestError>
         ensures { Did M.Serves (the_open handle) self.now self.now result }
     {
-        self.server.object_of(handle).ok_or(Stop::EBADF)
+        self.server.object_of(handle).ok_or(RequestError::EBADF)
     }
 }

@@ -1,8 +1,8 @@
 //! Calls on objects, by the names under which they were found.
 ghost use Rattle.std.specs.Prelude.{◌≡◌, ◌+◌, ◌^◌, ◌<◌, Err, None, Some, IsNone, IsSome, IfSome, IsTrue, MatchResult, slice_get};
-ghost use Rattle.fuse_state.specs.declared.place.Place.{Place as PlaceOf};
-ghost use Rattle.fuse_state.specs.Servers.{kind_of, places_of};
-ghost use Rattle.fuse_plans.specs.Callers.{inside, at_place, standing_refusal, by_places, or_inside, on, by_looker, has_place, by_handle, look_at, look, look_inside};
+ghost use Rattle.fuse_state.specs.declared.dentry.Dentry.{Dentry as PlaceOf};
+ghost use Rattle.fuse_state.specs.Servers.{kind_known, places_of};
+ghost use Rattle.fuse_plans.specs.Callers.{inside, at_place, standing_refusal, by_places, or_inside, on, by_server_process, has_place, by_handle, look_at, look, look_inside};
 ghost use Rattle.fuse_plans.specs.FilePlans.{when, done};
 ghost use Rattle.fuse_plans.specs.Paths.{at_path, takes_path};
 ghost use Rattle.fuse_sessions.specs.Performing.{Did};
@@ -14,14 +14,14 @@ use crate::session::Session;
 use fs_cred::Errno;
 use fs_layout::ROOT;
 use fs_model::{Call, Name, Path, Reply, Status};
-use fuse_plans::Stop;
+use fuse_plans::RequestError;
 use fuse_state::{Server, descriptor_of, owner_of};
 use fuse_steps::Machine;
 use fuse_steps::asker::{done, inside, obtain_once};
 use fuse_steps::replies::status_of_reply;
 
 // The refusal that stands where each place is refused for permission.
-fn standing_refusal(before: Stop, refusal: Stop) -> Stop
+fn standing_refusal(before: RequestError, refusal: RequestError) -> RequestError
     ensures { result ≡ standing_refusal before refusal }
 {
     if before.is_for(Errno::EACCES) {
@@ -32,15 +32,15 @@ fn standing_refusal(before: Stop, refusal: Stop) -> Stop
 }
 
 /// What stat(2) shows, in a reply that may be a refusal.
-pub(crate) fn shown(reply: Result<Reply, Stop>) -> Result<Status, Stop>
-    ensures { MatchResult reply (λ shown. replied_status shown ≡ of_result result) (λ stop. result ≡ Err stop) }
+pub(crate) fn shown(reply: Result<Reply, RequestError>) -> Result<Status, RequestError>
+    ensures { MatchResult reply (λ shown. replied_status shown ≡ of_result result) (λ error. result ≡ Err error) }
 {
     let reply = reply?;
     let status = status_of_reply(&reply);
     reply.discard();
     match status {
         Some(status) => Ok(status),
-        None => Err(Stop::EIO),
+        None => Err(RequestError::EIO),
     }
 }
 
@@ -50,7 +50,7 @@ pub(crate) fn look_inside<M: Machine>(
     pid: usize,
     directory: u32,
     name: Path,
-) -> (Result<Status, Stop>, Path)
+) -> (Result<Status, RequestError>, Path)
     ensures did { DidByMachine M.Serves (look_inside pid directory name) machine.old machine.new result.0 }
     ensures name { result.1 ≡ name }
 {
@@ -78,7 +78,7 @@ impl<M: Machine> Session<M> {
         pid: usize,
         inode: u32,
         call: Call,
-    ) -> Result<(), Stop>
+    ) -> Result<(), RequestError>
         requires { IsTrue (takes_path call) }
         ensures did { Did M.Serves (when condition (done (on pid inode (at_path call)))) self.old self.new result }
         ensures kept { self.new.server ≡ self.old.server }
@@ -98,7 +98,7 @@ impl<M: Machine> Session<M> {
         call: &mut Call,
         inode: u32,
         at: usize,
-    ) -> Option<Result<Reply, Stop>>
+    ) -> Option<Result<Reply, RequestError>>
         requires { IsTrue (takes_path call.old) }
         ensures made { IfSome result (λ tried. (p : PlaceOf) × (slice_get (places_of self.old.server.server inode) at ≡ Some p)
             × Did M.Serves (at_place pid second (at_path call.old) p) self.old self.new tried) }
@@ -121,16 +121,16 @@ impl<M: Machine> Session<M> {
         pid: usize,
         inode: u32,
         second: Option<u32>,
-        unplaced: Stop,
+        unplaced: RequestError,
         call: &mut Call,
-    ) -> Result<Reply, Stop>
+    ) -> Result<Reply, RequestError>
         requires { IsTrue (takes_path call.old) }
         ensures did { let places = places_of self.old.server.server inode in
             Did M.Serves (by_places pid second (at_path call.old) unplaced places) self.old self.new result }
         ensures kept { self.new.server ≡ self.old.server }
         ensures call { call.new ≡ call.old }
     {
-        let mut stop = unplaced;
+        let mut error = unplaced;
         let mut at = 0;
         while let Some(tried) = self.call_at(pid, second, call, inode, at) {
             at += 1;
@@ -140,15 +140,20 @@ impl<M: Machine> Session<M> {
                     if !refusal.is_for(Errno::EACCES) {
                         return Err(refusal);
                     }
-                    stop = standing_refusal(stop, refusal);
+                    error = standing_refusal(error, refusal);
                 }
             }
         }
-        Err(stop)
+        Err(error)
     }
 
     /// A call on an object, by where it is known; the root needs no name. The path of the call isn't looked at, and stays.
-    pub(crate) fn on(&mut self, pid: usize, inode: u32, call: &mut Call) -> Result<Reply, Stop>
+    pub(crate) fn on(
+        &mut self,
+        pid: usize,
+        inode: u32,
+        call: &mut Call,
+    ) -> Result<Reply, RequestError>
         requires { IsTrue (takes_path call.old) }
         ensures did { Did M.Serves (on pid inode (at_path call.old)) self.old self.new result }
         ensures kept { self.new.server ≡ self.old.server }
@@ -157,14 +162,19 @@ impl<M: Machine> Session<M> {
         if inode == ROOT {
             return self.machine.obtain_at_root(pid, call);
         }
-        match self.by_places(pid, inode, None, Stop::ESTALE, call) {
+        match self.by_places(pid, inode, None, RequestError::ESTALE, call) {
             Ok(reply) => Ok(reply),
-            Err(stop) => self.or_inside(pid, inode, call, stop),
+            Err(error) => self.or_inside(pid, inode, call, error),
         }
     }
 
     /// The same of a call that is made once.
-    pub(crate) fn on_once(&mut self, pid: usize, inode: u32, call: Call) -> Result<Reply, Stop>
+    pub(crate) fn on_once(
+        &mut self,
+        pid: usize,
+        inode: u32,
+        call: Call,
+    ) -> Result<Reply, RequestError>
         requires { IsTrue (takes_path call) }
         ensures did { Did M.Serves (on pid inode (at_path call)) self.old self.new result }
         ensures kept { self.new.server ≡ self.old.server }
@@ -176,12 +186,16 @@ impl<M: Machine> Session<M> {
     }
 
     /// The same by the server's own process.
-    pub(crate) fn by_looker(&mut self, inode: u32, call: Call) -> Result<Reply, Stop>
+    pub(crate) fn by_server_process(
+        &mut self,
+        inode: u32,
+        call: Call,
+    ) -> Result<Reply, RequestError>
         requires { IsTrue (takes_path call) }
-        ensures did { Did M.Serves (by_looker inode (at_path call)) self.old self.new result }
+        ensures did { Did M.Serves (by_server_process inode (at_path call)) self.old self.new result }
         ensures kept { self.new.server ≡ self.old.server }
     {
-        let pid = self.the_looker()?;
+        let pid = self.the_server_process()?;
         self.on_once(pid, inode, call)
     }
 
@@ -191,25 +205,25 @@ impl<M: Machine> Session<M> {
         pid: usize,
         inode: u32,
         call: &mut Call,
-        stop: Stop,
-    ) -> Result<Reply, Stop>
+        error: RequestError,
+    ) -> Result<Reply, RequestError>
         requires { IsTrue (takes_path call.old) }
-        ensures did { let kind = kind_of self.old.server.server inode in
-            Did M.Serves (or_inside pid inode (at_path call.old) kind (Err stop)) self.old self.new result }
+        ensures did { let kind = kind_known self.old.server.server inode in
+            Did M.Serves (or_inside pid inode (at_path call.old) kind (Err error)) self.old self.new result }
         ensures kept { self.new.server ≡ self.old.server }
         ensures call { call.new ≡ call.old }
     {
-        if !stop.is_for(Errno::EACCES) {
-            return Err(stop);
+        if !error.is_for(Errno::EACCES) {
+            return Err(error);
         }
         if !is_known_directory(self.server.kind_of(inode)) {
-            return Err(stop);
+            return Err(error);
         }
         self.machine.obtain_inside(pid, inode, call)
     }
 
     /// What stat(2) shows of an object. No permission is asked: the kernel holds it.
-    pub(crate) fn look(&mut self, inode: u32) -> Result<Status, Stop>
+    pub(crate) fn look(&mut self, inode: u32) -> Result<Status, RequestError>
         ensures did { Did M.Serves (look inode) self.old self.new result }
         ensures kept { self.new.server ≡ self.old.server }
     {
@@ -218,23 +232,23 @@ impl<M: Machine> Session<M> {
     }
 
     // By the server's own process where the object has a place, else by a handle.
-    fn look_at(&mut self, inode: u32) -> Result<Reply, Stop>
+    fn look_at(&mut self, inode: u32) -> Result<Reply, RequestError>
         ensures did { Did M.Serves (look_at inode (has_place self.old.server.server inode)) self.old self.new result }
         ensures kept { self.new.server ≡ self.old.server }
     {
         if has_place(&self.server, inode) {
-            self.by_looker(inode, Call::Lstat(self.blank_path()))
+            self.by_server_process(inode, Call::Lstat(self.blank_path()))
         } else {
             self.by_handle(inode)
         }
     }
 
-    fn by_handle(&mut self, inode: u32) -> Result<Reply, Stop>
+    fn by_handle(&mut self, inode: u32) -> Result<Reply, RequestError>
         ensures did { Did M.Serves (by_handle inode) self.old self.new result }
         ensures kept { self.new.server ≡ self.old.server }
     {
         let Some(handle) = self.server.handle_for(inode) else {
-            return Err(Stop::ESTALE);
+            return Err(RequestError::ESTALE);
         };
         let call = Call::Fstat(descriptor_of(handle));
         obtain_once(&mut self.machine, owner_of(handle), call)

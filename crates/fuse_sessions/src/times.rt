@@ -7,7 +7,7 @@ ghost use Rattle.fuse_sessions.specs.Performing.{Did};
 
 use crate::session::Session;
 use fs_model::{Stamps, Status};
-use fuse_plans::Stop;
+use fuse_plans::RequestError;
 use fuse_protocol::{AttrChanges, NewTime, Time};
 use fuse_state::{Server, Times, stamp_of};
 use fuse_steps::Machine;
@@ -78,7 +78,7 @@ impl<M: Machine> Session<M> {
     }
 
     /// The times that the machine has for an object, where the disk keeps times.
-    pub(crate) fn told_stamps(&mut self, inode: u32) -> Result<Option<Stamps>, Stop>
+    pub(crate) fn told_stamps(&mut self, inode: u32) -> Result<Option<Stamps>, RequestError>
         ensures did { Did M.Serves (told_stamps inode) self.old self.new result }
         ensures kept { self.new.server ≡ self.old.server }
     {
@@ -93,7 +93,7 @@ impl<M: Machine> Session<M> {
         inode: u32,
         status: Status,
         changes: &AttrChanges,
-    ) -> Result<(), Stop>
+    ) -> Result<(), RequestError>
         requires { 1 ≤ self.old.server.room }
         ensures { Did M.Serves (set_stamps now inode status changes.now) self.old self.new result }
     {

@@ -6,14 +6,14 @@ ghost use Rattle.fuse_sessions.specs.Performing.{Did};
 
 use crate::session::Session;
 use fs_model::Event;
-use fuse_plans::{ReplyBody, Stop};
+use fuse_plans::{ReplyBody, RequestError};
 use fuse_steps::Machine;
 use fuse_steps::asker::obtain;
 use fuse_steps::replies::space_of_reply;
 
 impl<M: Machine> Session<M> {
     /// How much room there is.
-    pub(crate) fn count_space(&mut self) -> Result<ReplyBody, Stop>
+    pub(crate) fn count_space(&mut self) -> Result<ReplyBody, RequestError>
         ensures did { Did M.Serves count_space self.old self.new result }
         ensures room { self.old.server.room ≤ self.new.server.room }
     {
@@ -21,7 +21,7 @@ impl<M: Machine> Session<M> {
         let space = space_of_reply(&reply);
         reply.discard();
         let Some((free_sectors, free_inodes)) = space else {
-            return Err(Stop::EIO);
+            return Err(RequestError::EIO);
         };
         let settings = self.server.settings();
         Ok(ReplyBody::Space {
@@ -34,7 +34,7 @@ impl<M: Machine> Session<M> {
     }
 
     /// What was done before is to last.
-    pub(crate) fn sync_all(&mut self) -> Result<ReplyBody, Stop>
+    pub(crate) fn sync_all(&mut self) -> Result<ReplyBody, RequestError>
         ensures did { Did M.Serves sync_all self.old self.new result }
         ensures room { self.old.server.room ≤ self.new.server.room }
     {
@@ -43,7 +43,7 @@ impl<M: Machine> Session<M> {
     }
 
     /// The last request.
-    pub(crate) fn end(&mut self) -> Result<ReplyBody, Stop>
+    pub(crate) fn end(&mut self) -> Result<ReplyBody, RequestError>
         ensures did { Did M.Serves end self.old self.new result }
         ensures room { self.old.server.room ≤ self.new.server.room }
     {

@@ -2,7 +2,7 @@
 ghost use Rattle.std.specs.Prelude.{◌≡◌, ◌≤◌, not, ◌&&◌, true, false};
 ghost use Rattle.posix_acl.specs.AccessList.{minimal};
 ghost use Rattle.fuse_plans.specs.Masks.{told_acl, acl_of};
-ghost use Rattle.fuse_plans.specs.AclPlans.{the_acl, acl_names, attribute_names, list_xattrs, has_acls, an_object, acl_size, sized, tell_acl, get_xattr, is_of_default, is_plain, acl_set, set_by, set_acl, set_xattr, remove_xattr};
+ghost use Rattle.fuse_plans.specs.AclPlans.{the_acl, acl_names, attribute_names, list_xattrs, has_acls, an_object, acl_size, sized, tell_acl, get_xattr, is_of_default, is_of_mode_alone, acl_set, set_by, set_acl, set_xattr, remove_xattr};
 ghost use Rattle.fuse_plans.specs.Callers.{is_known_directory};
 ghost use Rattle.fuse_sessions.specs.Performing.{Did};
 ghost use Rattle.fuse_plans.specs.Works.{of_result};
@@ -13,7 +13,7 @@ use crate::object::has_place;
 use crate::session::Session;
 use fs_cred::Cred;
 use fs_model::{AclType, Bytes, Call, FileType};
-use fuse_plans::{Asked, ReplyBody, Stop};
+use fuse_plans::{Asked, ReplyBody, RequestError};
 use fuse_protocol::Time;
 use fuse_state::Server;
 use fuse_steps::Machine;
@@ -22,7 +22,7 @@ use posix_acl::Acl;
 use std::alloc::{AllocError, Global};
 
 // The ACL that an attribute is.
-fn the_acl(name: &[u8]) -> Result<AclType, Stop>
+fn the_acl(name: &[u8]) -> Result<AclType, RequestError>
     ensures { the_acl name.now ≡ of_result result }
 {
     if name == b"system.posix_acl_access".as_slice() {
@@ -30,7 +30,7 @@ fn the_acl(name: &[u8]) -> Result<AclType, Stop>
     } else if name == b"system.posix_acl_default".as_slice() {
         Ok(AclType::Default)
     } else {
-        Err(Stop::EOPNOTSUPP)
+        Err(RequestError::EOPNOTSUPP)
     }
 }
 
@@ -52,13 +52,13 @@ fn told_acl(which: AclType, acl: Option<Acl>) -> Option<Acl>
 }
 
 // For a size of 0 how many bytes there are.
-fn sized(size: u32, has: usize, body: ReplyBody) -> Result<ReplyBody, Stop>
+fn sized(size: u32, has: usize, body: ReplyBody) -> Result<ReplyBody, RequestError>
     ensures { sized size has body ≡ of_result result }
 {
     if size == 0 {
         Ok(ReplyBody::Size(has))
     } else if (size as usize) < has {
-        Err(Stop::ERANGE)
+        Err(RequestError::ERANGE)
     } else {
         Ok(body)
     }
@@ -66,7 +66,7 @@ fn sized(size: u32, has: usize, body: ReplyBody) -> Result<ReplyBody, Stop>
 
 // Whether an access ACL is set that says no more than the mode.
 fn is_plain(which: AclType, wanted: &Option<Acl>) -> bool
-    ensures { result ≡ is_plain which wanted.now }
+    ensures { result ≡ is_of_mode_alone which wanted.now }
 {
     match which {
         AclType::Access => wanted.is_none(),
@@ -131,27 +131,27 @@ impl AclNames {
 
 impl<M: Machine> Session<M> {
     // An object that may have ACLs.
-    fn an_object(&self, asked: &Asked) -> Result<u32, Stop>
+    fn an_object(&self, asked: &Asked) -> Result<u32, RequestError>
         ensures { Did M.Serves (an_object asked.entry.now) self.now self.now result }
     {
         let inode = self.the_number(asked.node)?;
         if has_acls(&self.server, inode) {
             Ok(inode)
         } else {
-            Err(Stop::EOPNOTSUPP)
+            Err(RequestError::EOPNOTSUPP)
         }
     }
 
     /// An ACL, where it says more than the mode.
-    pub(crate) fn acl_of(&mut self, inode: u32, which: AclType) -> Result<Option<Acl>, Stop>
+    pub(crate) fn acl_of(&mut self, inode: u32, which: AclType) -> Result<Option<Acl>, RequestError>
         ensures did { Did M.Serves (acl_of inode which) self.old self.new result }
         ensures kept { self.new.server ≡ self.old.server }
     {
         let call = Call::GetAcl(self.blank_path(), which);
-        let reply = self.by_looker(inode, call)?;
+        let reply = self.by_server_process(inode, call)?;
         match acl_of_reply(reply) {
             Some(acl) => Ok(told_acl(which, acl)),
-            None => Err(Stop::EIO),
+            None => Err(RequestError::EIO),
         }
     }
 
@@ -161,7 +161,7 @@ impl<M: Machine> Session<M> {
         asked: &Asked,
         name: &[u8],
         size: u32,
-    ) -> Result<ReplyBody, Stop>
+    ) -> Result<ReplyBody, RequestError>
         ensures { Did M.Serves (get_xattr asked.entry.now name.now size) self.old self.new result }
     {
         let which = the_acl(name)?;
@@ -170,19 +170,24 @@ impl<M: Machine> Session<M> {
     }
 
     // An ACL that is there, or how many bytes it has.
-    fn tell_acl(&mut self, inode: u32, which: AclType, size: u32) -> Result<ReplyBody, Stop>
+    fn tell_acl(&mut self, inode: u32, which: AclType, size: u32) -> Result<ReplyBody, RequestError>
         ensures { Did M.Serves (tell_acl inode which size) self.old self.new result }
     {
         let found = self.acl_of(inode, which)?;
         let Some(acl) = found else {
-            return Err(Stop::ENODATA);
+            return Err(RequestError::ENODATA);
         };
         let has = acl_size(&acl);
         sized(size, has, ReplyBody::Acl(acl))
     }
 
     // The names of an object's ACLs.
-    fn attribute_names(&mut self, inode: u32, has: bool, names: AclNames) -> Result<Bytes, Stop>
+    fn attribute_names(
+        &mut self,
+        inode: u32,
+        has: bool,
+        names: AclNames,
+    ) -> Result<Bytes, RequestError>
         ensures did { Did M.Serves (attribute_names inode has) self.old self.new result }
         ensures kept { self.new.server ≡ self.old.server }
     {
@@ -202,7 +207,7 @@ impl<M: Machine> Session<M> {
         asked: &Asked,
         size: u32,
         names: AclNames,
-    ) -> Result<ReplyBody, Stop>
+    ) -> Result<ReplyBody, RequestError>
         ensures { Did M.Serves (list_xattrs asked.entry.now size) self.old self.new result }
     {
         let inode = self.the_number(asked.node)?;
@@ -219,7 +224,7 @@ impl<M: Machine> Session<M> {
         which: AclType,
         wanted: Option<Acl>,
         spare: Acl,
-    ) -> Result<Option<Acl>, Stop>
+    ) -> Result<Option<Acl>, RequestError>
         requires { spare ≡ minimal 0 }
         ensures did { Did M.Serves (acl_set inode which wanted) self.old self.new result }
         ensures kept { self.new.server ≡ self.old.server }
@@ -239,7 +244,7 @@ impl<M: Machine> Session<M> {
         which: AclType,
         wanted: Option<Acl>,
         spare: Acl,
-    ) -> Result<ReplyBody, Stop>
+    ) -> Result<ReplyBody, RequestError>
         requires copy { copy ≡ asked.now.cred }
         requires spare { spare ≡ minimal 0 }
         requires room { 2 ≤ self.old.server.room }
@@ -247,7 +252,7 @@ impl<M: Machine> Session<M> {
     {
         let inode = self.an_object(asked)?;
         if is_misplaced(which, self.server.kind_of(inode)) {
-            return Err(Stop::EACCES);
+            return Err(RequestError::EACCES);
         }
         let pid = self.caller(copy)?;
         self.set_by(asked.now, pid, inode, which, wanted, spare)
@@ -262,7 +267,7 @@ impl<M: Machine> Session<M> {
         which: AclType,
         wanted: Option<Acl>,
         spare: Acl,
-    ) -> Result<ReplyBody, Stop>
+    ) -> Result<ReplyBody, RequestError>
         requires spare { spare ≡ minimal 0 }
         requires room { 1 ≤ self.old.server.room }
         ensures { Did M.Serves (set_by now pid inode which wanted) self.old self.new result }
@@ -282,7 +287,7 @@ impl<M: Machine> Session<M> {
         name: &[u8],
         value: Option<Option<Acl>>,
         spare: Acl,
-    ) -> Result<ReplyBody, Stop>
+    ) -> Result<ReplyBody, RequestError>
         requires copy { copy ≡ asked.now.cred }
         requires spare { spare ≡ minimal 0 }
         requires room { 2 ≤ self.old.server.room }
@@ -290,7 +295,7 @@ impl<M: Machine> Session<M> {
     {
         let which = the_acl(name)?;
         let Some(acl) = value else {
-            return Err(Stop::EINVAL);
+            return Err(RequestError::EINVAL);
         };
         self.set_acl(asked, copy, which, acl, spare)
     }
@@ -302,7 +307,7 @@ impl<M: Machine> Session<M> {
         copy: Option<Cred>,
         name: &[u8],
         spare: Acl,
-    ) -> Result<ReplyBody, Stop>
+    ) -> Result<ReplyBody, RequestError>
         requires copy { copy ≡ asked.now.cred }
         requires spare { spare ≡ minimal 0 }
         requires room { 2 ≤ self.old.server.room }

@@ -6,7 +6,7 @@ use Rattle.std.specs.Ordering.{nat_cmp}
 use Rattle.std.specs.List.{filter, find}
 use Rattle.fs_cred.specs.Credentials.{Credential}
 use Rattle.fs_layout.specs.Maps.{get, IsMap}
-use Rattle.fuse_state.specs.Servers.{Server, first_of, has_credential, is_same_credential, processes_of, first_process, next_idle, holds_some, handle_for}
+use Rattle.fuse_state.specs.Servers.{Server, head_of, has_credential, is_same_credential, processes_of, first_process, next_idle, holds_some, handle_for}
 use Rattle.fuse_state.specs.Shares.{count_of}
 use Rattle.fuse_state.proofs.KeptShares.{count_cons}
 use Rattle.fuse_state.proofs.Searched.{found_each}
@@ -19,12 +19,12 @@ mapped v h P (Some x) None says is = absurd is
 mapped v h P (Some x) (Some y) says is = ap Some (says x y is)
 
 -- the first of what is made of those that pass
-pub first-of_mapped : {X Y : Type 0} (f : X → Y) (test : X → Bool) (xs : List X) → first_of (map f (filter test xs)) ≡ option_map f (find test xs)
+pub first-of_mapped : {X Y : Type 0} (f : X → Y) (test : X → Bool) (xs : List X) → head_of (map f (filter test xs)) ≡ option_map f (find test xs)
 first-of_mapped f test [] = refl
 first-of_mapped {X} {Y} f test (x ∷ xs) = go (test x) (first-of_mapped f test xs)
   where
-    go : (b : Bool) → first_of (map f (filter test xs)) ≡ option_map f (find test xs)
-        → first_of (map f (cond b (x ∷ filter test xs) (filter test xs))) ≡ option_map f (cond b (Some x) (find test xs))
+    go : (b : Bool) → head_of (map f (filter test xs)) ≡ option_map f (find test xs)
+        → head_of (map f (cond b (x ∷ filter test xs) (filter test xs))) ≡ option_map f (cond b (Some x) (find test xs))
     go true rest = refl
     go false rest = rest
 
@@ -61,7 +61,7 @@ module _ {X : Type 0} where
       go true rest = one_more (test e.0) e _ _ rest
       go false rest = rest
 
-  pub first-chosen : (chosen : ℕ × X → Bool) (m : List (ℕ × X)) → first_of (keys (filter chosen m)) ≡ option_map (λ e. e.0) (find chosen m)
+  pub first-chosen : (chosen : ℕ × X → Bool) (m : List (ℕ × X)) → head_of (keys (filter chosen m)) ≡ option_map (λ e. e.0) (find chosen m)
   first-chosen chosen m = first-of_mapped (λ (e : ℕ × X). e.0) chosen m
 
   -- a test of what a function has at the keys, where that is what stands there
@@ -89,11 +89,11 @@ module _ (s : Server) (cred : Credential) (h : IsMap nat_cmp s.processes) where
   passing test = ap (filter test) processes-chosen ∙ filter-chosen test (λ e. is_same_credential cred e.1) s.processes
 
   pub first_found : option_map (λ e. e.0) (find (λ e. is_same_credential cred e.1) s.processes) ≡ first_process s cred
-  first_found = sym (ap first_of processes-chosen ∙ first-chosen (λ e. is_same_credential cred e.1) s.processes)
+  first_found = sym (ap head_of processes-chosen ∙ first-chosen (λ e. is_same_credential cred e.1) s.processes)
 
   pub passing_found : (test : ℕ → Bool)
-      → option_map (λ e. e.0) (find (λ e. is_same_credential cred e.1 && test e.0) s.processes) ≡ first_of (filter test (processes_of s cred))
-  passing_found test = sym (ap first_of (passing test) ∙ first-chosen (λ e. is_same_credential cred e.1 && test e.0) s.processes)
+      → option_map (λ e. e.0) (find (λ e. is_same_credential cred e.1 && test e.0) s.processes) ≡ head_of (filter test (processes_of s cred))
+  passing_found test = sym (ap head_of (passing test) ∙ first-chosen (λ e. is_same_credential cred e.1 && test e.0) s.processes)
 
 module _ (s : Server) where
   pub handle_found : (n : ℕ) → option_map (λ e. e.0) (find (λ e. e.1 == n) s.handles) ≡ handle_for s n
@@ -102,8 +102,8 @@ module _ (s : Server) where
   pub next_found : (least : ℕ) → option_map (λ e. e.0) (find (λ e. nat_le least e.0 && not (holds_some s e.0)) s.processes) ≡ next_idle s least
   next_found least =
       let idle_test = λ (pid : ℕ). not (holds_some s pid) in
-      sym (ap (λ pids. first_of (filter idle_test pids)) (filter-keys (nat_le least) s.processes)
-      ∙ ap first_of (filter-chosen idle_test (λ e. nat_le least e.0) s.processes)
+      sym (ap (λ pids. head_of (filter idle_test pids)) (filter-keys (nat_le least) s.processes)
+      ∙ ap head_of (filter-chosen idle_test (λ e. nat_le least e.0) s.processes)
       ∙ first-chosen (λ e. nat_le least e.0 && not (holds_some s e.0)) s.processes)
 
 -- ---- users

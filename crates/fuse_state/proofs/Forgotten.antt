@@ -12,10 +12,10 @@ use Rattle.fs_layout.specs.Maps.{get, without}
 use Rattle.fs_layout.proofs.FirstEntries.{apart}
 use Rattle.fs_model.specs.Limits.{root}
 use Rattle.fs_model.specs.declared.reply.FileType.{FileType}
-use Rattle.fuse_state.specs.declared.place.Place.{Place}
-use Rattle.fuse_state.specs.Servers.{Server, generation_of, with_generation, kind_of, node_of, number_of, with_name, with_times, once_more, place_cmp, places_in, names_elsewhere, lookups_of, most_lookups, with_lookups, without_object, without_object_of, without_node, left_of, forgotten, all_forgotten}
+use Rattle.fuse_state.specs.declared.dentry.Dentry.{Dentry}
+use Rattle.fuse_state.specs.Servers.{Server, generation_of, with_generation, kind_known, node_of, number_of_node, with_dentry, with_times_of, once_more, dentry_cmp, places_in, names_elsewhere, lookups_of, most_lookups, with_lookups, without_object, without_object_of, without_node, left_of, forgotten, all_forgotten}
 use Rattle.fuse_state.specs.Changes.{is_gone, renewed}
-use Rattle.fuse_state.specs.Laws.{CountsOnce, ToldNodesAreCounted, StaysKnown, NodesStayUntilForgotten, IsFree, ForgottenNodesAreFree, Spares, ForgettingSparesOthers}
+use Rattle.fuse_state.specs.Laws.{CountsOnce, ToldNodesAreCounted, StaysKnown, NodesStayUntilForgotten, IsForgotten, ForgottenNodesAreFree, Spares, ForgettingSparesOthers}
 use Rattle.fuse_state.proofs.Keyed.{get-without, get-gone}
 use Rattle.fuse_state.proofs.StateLaws.{not_chosen, equal as equal_numbers, unequal, set_same, set_other}
 
@@ -23,7 +23,7 @@ use Rattle.fuse_state.proofs.StateLaws.{not_chosen, equal as equal_numbers, uneq
 
 module _ {X : Type 0} (f : Server → X)
     (lookups : (l : List (ℕ × ℕ)) (s : Server) → f (record s { lookups = l }) ≡ f s)
-    (names : (k : List (ℕ × FileType)) (m : List (Place × ℕ)) (s : Server) → f (record s { kinds = k; names = m }) ≡ f s) where
+    (names : (k : List (ℕ × FileType)) (m : List (Dentry × ℕ)) (s : Server) → f (record s { kinds = k; names = m }) ≡ f s) where
   object_keeps : (o : Option ℕ) (s : Server) → f (without_object_of o s) ≡ f s
   object_keeps None s = refl
   object_keeps (Some n) s = go (n == root)
@@ -36,7 +36,7 @@ module _ {X : Type 0} (f : Server → X)
   forgotten_keeps node count s = go (left_of (lookups_of s node) count == 0)
     where
       go : (b : Bool) → f (if b then without_node node s else with_lookups node (left_of (lookups_of s node) count) s) ≡ f s
-      go true = object_keeps (number_of s node) (record s { lookups = without nat_cmp s.lookups node }) ∙ lookups _ s
+      go true = object_keeps (number_of_node s node) (record s { lookups = without nat_cmp s.lookups node }) ∙ lookups _ s
       go false = lookups _ s
 
   pub all_forgotten_keep : (batch : List (ℕ × ℕ)) (s : Server) → f (all_forgotten batch s) ≡ f s
@@ -54,10 +54,10 @@ once_counts v s n same = record {
 
 pub told_counted : ToldNodesAreCounted
 told_counted s now p n kind =
-    let u = with_times n (record { atime = now; mtime = now; ctime = now }) (with_generation n s) in
-    let born = once_counts (with_name p n kind u) s n refl in
+    let u = with_times_of n (record { atime = now; mtime = now; ctime = now }) (with_generation n s) in
+    let born = once_counts (with_dentry p n kind u) s n refl in
     record {
-      by_found = once_counts (with_name p n kind (renewed n s)) s n (renewed_counts (is_gone s n));
+      by_found = once_counts (with_dentry p n kind (renewed n s)) s n (renewed_counts (is_gone s n));
       by_born = record { counted = born.counted; besides = born.besides };
       by_told = once_counts s s n refl;
     }
@@ -92,22 +92,22 @@ left_none : (told most count : ℕ) → told ≤ count → told < most → ((if 
 left_none told most count le lt =
     ap (λ b. (if b then told else told - count) == 0) (unequal told most (λ is. omega (arith, is, lt))) ∙ equal_numbers (told - count) 0 (omega (arith, le))
 
-none_elsewhere : (m : List (Place × ℕ)) (n : ℕ) → places_in (names_elsewhere m n) n ≡ []
+none_elsewhere : (m : List (Dentry × ℕ)) (n : ℕ) → places_in (names_elsewhere m n) n ≡ []
 none_elsewhere [] n = refl
 none_elsewhere (e ∷ m) n = go (e.1 == n) refl (none_elsewhere m n)
   where
     go : (b : Bool) → (e.1 == n) ≡ b → places_in (names_elsewhere m n) n ≡ []
         → places_in (cond (not b) (e ∷ names_elsewhere m n) (names_elsewhere m n)) n ≡ []
     go true is rest = rest
-    go false is rest = ap (λ b. map (λ (f : Place × ℕ). f.0) (cond b (e ∷ filter (λ f. f.1 == n) (names_elsewhere m n)) (filter (λ f. f.1 == n) (names_elsewhere m n)))) is ∙ rest
+    go false is rest = ap (λ b. map (λ (f : Dentry × ℕ). f.0) (cond b (e ∷ filter (λ f. f.1 == n) (names_elsewhere m n)) (filter (λ f. f.1 == n) (names_elsewhere m n)))) is ∙ rest
 
 not_known : (b c : Bool) (m : ℕ) → b ≡ false → (if b && c then Some m else None) ≡ None
 not_known true c m is = absurd (cc)
 not_known false c m is = refl
 
 -- a node that leads somewhere
-number_is : (s : Server) (node n : ℕ) → number_of s node ≡ Some n → (node % 2 ^ 32 ≡ n) × (generation_of s (node % 2 ^ 32) ≡ node / 2 ^ 32)
-number_is s node n is = go (is_some (kind_of s (node % 2 ^ 32))) (generation_of s (node % 2 ^ 32) == node / 2 ^ 32) refl is
+number_is : (s : Server) (node n : ℕ) → number_of_node s node ≡ Some n → (node % 2 ^ 32 ≡ n) × (generation_of s (node % 2 ^ 32) ≡ node / 2 ^ 32)
+number_is s node n is = go (is_some (kind_known s (node % 2 ^ 32))) (generation_of s (node % 2 ^ 32) == node / 2 ^ 32) refl is
   where
     go : (b c : Bool) → (generation_of s (node % 2 ^ 32) == node / 2 ^ 32) ≡ c → (if b && c then Some (node % 2 ^ 32) else None) ≡ Some n
         → (node % 2 ^ 32 ≡ n) × (generation_of s (node % 2 ^ 32) ≡ node / 2 ^ 32)
@@ -124,7 +124,7 @@ forgotten_are_free s node n count leads other le lt =
     ∙ ap (λ o. without_object_of o rest) leads
     ∙ ap (λ b. if b then rest else without_object n rest) (unequal n root other) in
     let no_kind = get-gone nat_cmp_total nat_cmp-IsAntisymmetric s.kinds n in
-    subst (λ t. IsFree t node n) (sym gone)
+    subst (λ t. IsForgotten t node n) (sym gone)
     (record {
       node_leads = not_known _ _ _ (ap (λ m. is_some (get nat_cmp (without nat_cmp s.kinds n) m)) (number_is s node n leads).0 ∙ ap is_some no_kind);
       kind = no_kind;
@@ -134,20 +134,20 @@ forgotten_are_free s node n count leads other le lt =
 
 -- ---- all others
 
-get-elsewhere : (m : List (Place × ℕ)) (p : Place) (n : ℕ) (r : Option ℕ) → (r ≡ Some n → ⊥) → get place_cmp m p ≡ r
-    → get place_cmp (names_elsewhere m n) p ≡ r
+get-elsewhere : (m : List (Dentry × ℕ)) (p : Dentry) (n : ℕ) (r : Option ℕ) → (r ≡ Some n → ⊥) → get dentry_cmp m p ≡ r
+    → get dentry_cmp (names_elsewhere m n) p ≡ r
 get-elsewhere [] p n r other is = is
-get-elsewhere (e ∷ m) p n r other is = go (eq_by_cmp place_cmp p e.0) refl (e.1 == n) refl is (get-elsewhere m p n r other)
+get-elsewhere (e ∷ m) p n r other is = go (eq_by_cmp dentry_cmp p e.0) refl (e.1 == n) refl is (get-elsewhere m p n r other)
   where
-    rest : List (Place × ℕ)
+    rest : List (Dentry × ℕ)
     rest = names_elsewhere m n
 
-    go : (t : Bool) → eq_by_cmp place_cmp p e.0 ≡ t → (b : Bool) → (e.1 == n) ≡ b → cond t (Some e.1) (get place_cmp m p) ≡ r
-        → (get place_cmp m p ≡ r → get place_cmp rest p ≡ r) → get place_cmp (cond (not b) (e ∷ rest) rest) p ≡ r
+    go : (t : Bool) → eq_by_cmp dentry_cmp p e.0 ≡ t → (b : Bool) → (e.1 == n) ≡ b → cond t (Some e.1) (get dentry_cmp m p) ≡ r
+        → (get dentry_cmp m p ≡ r → get dentry_cmp rest p ≡ r) → get dentry_cmp (cond (not b) (e ∷ rest) rest) p ≡ r
     go true tie true same leads later = absurd (other (sym leads ∙ ap Some (same_numbers _ _ same)))
-    go true tie false same leads later = ap (λ x. cond x (Some e.1) (get place_cmp rest p)) tie ∙ leads
+    go true tie false same leads later = ap (λ x. cond x (Some e.1) (get dentry_cmp rest p)) tie ∙ leads
     go false tie true same leads later = later leads
-    go false tie false same leads later = ap (λ x. cond x (Some e.1) (get place_cmp rest p)) tie ∙ later leads
+    go false tie false same leads later = ap (λ x. cond x (Some e.1) (get dentry_cmp rest p)) tie ∙ later leads
 
 -- what is at another key stays
 get-other : {X : Type 0} (m : List (ℕ × X)) (k q : ℕ) → q ≢ k → get nat_cmp (without nat_cmp m k) q ≡ get nat_cmp m q
@@ -175,14 +175,14 @@ module _ (s : Server) (node : ℕ) where
   }
 
   -- another node of the number
-  leads_not : (n other : ℕ) → number_of s node ≡ Some n → other % 2 ^ 32 ≡ n → other ≢ node → number_of s other ≡ None
+  leads_not : (n other : ℕ) → number_of_node s node ≡ Some n → other % 2 ^ 32 ≡ n → other ≢ node → number_of_node s other ≡ None
   leads_not n other leads same ne =
       let is = number_is s node n leads in
-      not_chosen (is_some (kind_of s (other % 2 ^ 32))) _ _
+      not_chosen (is_some (kind_known s (other % 2 ^ 32))) _ _
       (unequal _ _ (λ alike. let high : other / 2 ^ 32 ≡ node / 2 ^ 32 = sym alike ∙ ap (generation_of s) (same ∙ sym is.0) ∙ is.1 in
       ne (omega (arith, high, same, is.0))))
 
-  spares_object : (n : ℕ) → number_of s node ≡ Some n → n ≢ root → Spares s (without_object n rest) node
+  spares_object : (n : ℕ) → number_of_node s node ≡ Some n → n ≢ root → Spares s (without_object n rest) node
   spares_object n leads not_root = record {
     nodes = λ other ne. go other ne (other % 2 ^ 32 == n) refl;
     names = λ p k is ne. get-elsewhere s.names p n (Some k) (λ same. ne (leads ∙ sym same)) is;
@@ -195,7 +195,7 @@ module _ (s : Server) (node : ℕ) where
     generations = refl;
   }
     where
-      go : (other : ℕ) → other ≢ node → (b : Bool) → (other % 2 ^ 32 == n) ≡ b → number_of (without_object n rest) other ≡ number_of s other
+      go : (other : ℕ) → other ≢ node → (b : Bool) → (other % 2 ^ 32 == n) ≡ b → number_of_node (without_object n rest) other ≡ number_of_node s other
       go other ne true is =
           let same = same_numbers _ _ is in
           not_known _ _ _ (ap (λ m. is_some (get nat_cmp (without nat_cmp s.kinds n) m)) same ∙ ap is_some (get-gone nat_cmp_total nat_cmp-IsAntisymmetric s.kinds n))
@@ -204,7 +204,7 @@ module _ (s : Server) (node : ℕ) where
           ap (λ o. if is_some o && generation_of s (other % 2 ^ 32) == other / 2 ^ 32 then Some (other % 2 ^ 32) else None)
           (get-other s.kinds n (other % 2 ^ 32) (λ same. let no : true ≡ false = sym (equal_numbers _ _ same) ∙ is in cc))
 
-  spares_node : (o : Option ℕ) → number_of s node ≡ o → Spares s (without_object_of o rest) node
+  spares_node : (o : Option ℕ) → number_of_node s node ≡ o → Spares s (without_object_of o rest) node
   spares_node None is = spares_rest
   spares_node (Some n) is = go (n == root) refl
     where
@@ -216,7 +216,7 @@ pub others_spared : ForgettingSparesOthers
 others_spared s node count = go (left_of (lookups_of s node) count == 0)
   where
     go : (b : Bool) → Spares s (if b then without_node node s else with_lookups node (left_of (lookups_of s node) count) s) node
-    go true = spares_node s node (number_of s node) refl
+    go true = spares_node s node (number_of_node s node) refl
     go false = record {
       nodes = λ other ne. refl;
       names = λ p k is ne. is;

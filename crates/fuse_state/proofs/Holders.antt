@@ -17,7 +17,7 @@ use Rattle.fs_layout.specs.Maps.{get, with_entry, without, IsMap}
 use Rattle.fs_layout.proofs.FirstEntries.{above, apart, left, right, lower, tied, ties}
 use Rattle.fs_layout.proofs.MapLaws.{get-with_entry, with_entry-IsMap}
 use Rattle.fuse_state.specs.Shares.{count_of, process_shares, directory_shares, KeepsShares, OneMore}
-use Rattle.fuse_state.specs.Servers.{Server, holds_some, owner_of, process_holders, may_take_process, with_process, without_process, with_handle, without_handle, directory_of, directory_holders, may_open_directory, opened, with_listing, with_listing_of, without_directory, new_server, WithinShares}
+use Rattle.fuse_state.specs.Servers.{Server, holds_some, owner_of, process_holders, may_take_process, with_known_process, without_process, with_handle, without_handle, directory_of, directory_holders, may_open_directory, with_opened, with_listing, with_listing_of, without_directory, new_server, WithinShares}
 use Rattle.fuse_state.specs.declared.directory.OpenDirectory.{OpenDirectory}
 use Rattle.fuse_state.specs.declared.settings.Settings.{Settings}
 use Rattle.fuse_state.proofs.Edited.{without-IsMap}
@@ -326,11 +326,11 @@ get_before {X} m k x q none = go (is_eq (nat_cmp q k)) (sym (get-with_entry m k 
     go true is = absurd (let no : Some x ≡ None = is in cc)
     go false is = is
 
-pub begun_holders : (s : Server) (pid : ℕ) (cred : Credential) → holds_some s pid ≡ false → process_holders (with_process pid cred s) ≡ process_holders s
+pub begun_holders : (s : Server) (pid : ℕ) (cred : Credential) → holds_some s pid ≡ false → process_holders (with_known_process pid cred s) ≡ process_holders s
 begun_holders s pid cred idle = ap (map (λ e. e.1.uid)) (skip_put (holds_some s) pid idle cred s.processes)
 
 -- a new process
-pub begun_within : (s : Server) (pid : ℕ) (cred : Credential) → get nat_cmp s.processes pid ≡ None → WithinShares s → WithinShares (with_process pid cred s)
+pub begun_within : (s : Server) (pid : ℕ) (cred : Credential) → get nat_cmp s.processes pid ≡ None → WithinShares s → WithinShares (with_known_process pid cred s)
 begun_within s pid cred new w = record {
   rising = with_entry-IsMap s.processes pid cred w.rising;
   known = λ q none. w.known q (get_before s.processes pid cred q none);
@@ -437,7 +437,7 @@ closed_within s handle w = record {
 -- ---- directories
 
 -- a user opens one
-pub opened_within : (s : Server) (uid n : ℕ) → may_open_directory s uid ≡ true → WithinShares s → WithinShares (opened uid n s)
+pub opened_within : (s : Server) (uid n : ℕ) → may_open_directory s uid ≡ true → WithinShares s → WithinShares (with_opened uid n s)
 opened_within s uid n may w = record {
   rising = w.rising;
   known = w.known;
@@ -448,7 +448,7 @@ opened_within s uid n may w = record {
       ∙ ap (λ b. cond b (Some new) (get nat_cmp s.directories handle)) (apart handle s.next_directory (λ same. omega (arith, le, same)))
       ∙ w.behind handle (omega (arith, le));
   directories =
-      more_keep directory_shares uid (directory_holders s) (directory_holders (opened uid n s))
+      more_keep directory_shares uid (directory_holders s) (directory_holders (with_opened uid n s))
       (one_put (λ d. d.owner) s.next_directory new s.directories (w.behind s.next_directory (omega arith)))
       w.directories may;
 }

@@ -8,216 +8,216 @@ use Rattle.std.specs.Ordering.{eq_by_cmp}
 use Rattle.std.specs.List.{insert, remove}
 use Rattle.std.proofs.lemmas.List.{length-map, get_or-map}
 use Rattle.fs_layout.specs.Maps.{get, with_entry, without, IsMap}
-use Rattle.fuse_state.specs.declared.place.Found.{Found}
-use Rattle.fuse_state.specs.declared.place.Place.{Place}
-use Rattle.fuse_state.specs.Servers.{place_cmp}
-use Rattle.fuse_state.specs.Names.{found, found_at, found_cmp, by_places, by_inodes, names_under, Stand, IsIndexed}
+use Rattle.fuse_state.specs.declared.dentry.Found.{Found}
+use Rattle.fuse_state.specs.declared.dentry.Dentry.{Dentry}
+use Rattle.fuse_state.specs.Servers.{dentry_cmp}
+use Rattle.fuse_state.specs.Names.{found_entry, found_under, found_cmp, by_keys, by_inodes, names_under, Stand, IsIndexed}
 use Rattle.fuse_state.specs.Tables.{IsAt, IsGap}
 use Rattle.fuse_state.proofs.Searched.{ties, get_at, get_lacking, lacks_in_gap}
 use Rattle.fuse_state.proofs.Edited.{put_in_gap, remove_at, without_lacking, without-IsMap}
 use Rattle.fuse_state.proofs.Keyed.{equal, get-put, put-IsMap, get-without, values_put, values_without, get-valued, valued, valued-IsMap, map-insert, map-remove, same_map, key_is, each_keyed, same_keyed}
 use Rattle.fuse_state.proofs.Orders.{place_total, place_anti, found_total, found_anti}
 
-abbrev place_at : List (Option Found) → ℕ → Place
-place_at s k = (found_at s k).place
+abbrev place_at : List (Option Found) → ℕ → Dentry
+place_at s k = (found_under s k).dentry
 
 abbrev inode_at : List (Option Found) → ℕ → ℕ
-inode_at s k = (found_at s k).inode
+inode_at s k = (found_under s k).inode
 
 -- the names are the places with other values
-pub names_valued : (s : List (Option Found)) (keys : List ℕ) → names_under s keys ≡ valued place_cmp (inode_at s) (by_places s keys)
+pub names_valued : (s : List (Option Found)) (keys : List ℕ) → names_under s keys ≡ valued dentry_cmp (inode_at s) (by_keys s keys)
 names_valued s [] = refl
 names_valued s (k ∷ keys) = ap (λ rest. (place_at s k, inode_at s k) ∷ rest) (names_valued s keys)
 
 module _ (s : List (Option Found)) (placed held : List ℕ) (indexed : IsIndexed s placed held) where
-  abbrev places : List (Place × ℕ)
-  places = by_places s placed
+  abbrev places : List (Dentry × ℕ)
+  places = by_keys s placed
 
   abbrev inodes : List (Found × ℕ)
   inodes = by_inodes s held
 
-  pub place_is : (p : Place) (k : ℕ) → get place_cmp places p ≡ Some k → p ≡ place_at s k
+  pub place_is : (p : Dentry) (k : ℕ) → get dentry_cmp places p ≡ Some k → p ≡ place_at s k
   place_is p k is = key_is place_total place_anti (place_at s) placed p k is
 
-  pub found_is : (f : Found) (k : ℕ) → get found_cmp inodes f ≡ Some k → f ≡ found_at s k
-  found_is f k is = key_is found_total found_anti (found_at s) held f k is
+  pub found_is : (f : Found) (k : ℕ) → get found_cmp inodes f ≡ Some k → f ≡ found_under s k
+  found_is f k is = key_is found_total found_anti (found_under s) held f k is
 
   pub places_stand : Stand s placed
   places_stand j d lt = indexed.stands _ _ (each_keyed place_total place_anti (place_at s) placed indexed.places_rise j d lt)
 
   pub inodes_stand : Stand s held
   inodes_stand j d lt =
-      indexed.stands _ _ (indexed.has_place _ _ (each_keyed found_total found_anti (found_at s) held indexed.inodes_rise j d lt))
+      indexed.stands _ _ (indexed.has_place _ _ (each_keyed found_total found_anti (found_under s) held indexed.inodes_rise j d lt))
 
   -- what the names say of a place
-  pub name_found : (p : Place) → get place_cmp (names_under s placed) p ≡ get place_cmp (valued place_cmp (inode_at s) places) p
-  name_found p = ap (λ m. get place_cmp m p) (names_valued s placed)
+  pub name_found : (p : Dentry) → get dentry_cmp (names_under s placed) p ≡ get dentry_cmp (valued dentry_cmp (inode_at s) places) p
+  name_found p = ap (λ m. get dentry_cmp m p) (names_valued s placed)
 
-  pub names_rise : IsMap place_cmp (names_under s placed)
-  names_rise = subst (IsMap place_cmp) (sym (names_valued s placed)) (valued-IsMap place_cmp (inode_at s) places indexed.places_rise)
+  pub names_rise : IsMap dentry_cmp (names_under s placed)
+  names_rise = subst (IsMap dentry_cmp) (sym (names_valued s placed)) (valued-IsMap dentry_cmp (inode_at s) places indexed.places_rise)
 
-  pub name_missing : (p : Place) (i : ℕ) → IsGap place_cmp places p i → get place_cmp (names_under s placed) p ≡ None
+  pub name_missing : (p : Dentry) (i : ℕ) → IsGap dentry_cmp places p i → get dentry_cmp (names_under s placed) p ≡ None
   name_missing p i gap =
-      name_found p ∙ get-valued place_cmp (inode_at s) places p
+      name_found p ∙ get-valued dentry_cmp (inode_at s) places p
       ∙ ap (option_map (inode_at s)) (get_lacking place_total places p (lacks_in_gap place_total places p i gap))
 
-  pub none_removed : (p : Place) (i : ℕ) → IsGap place_cmp places p i → names_under s placed ≡ without place_cmp (names_under s placed) p
+  pub none_removed : (p : Dentry) (i : ℕ) → IsGap dentry_cmp places p i → names_under s placed ≡ without dentry_cmp (names_under s placed) p
   none_removed p i gap =
       names_valued s placed
-      ∙ ap (valued place_cmp (inode_at s)) (without_lacking place_total places p (lacks_in_gap place_total places p i gap))
-      ∙ values_without place_cmp (inode_at s) places p
-      ∙ ap (λ m. without place_cmp m p) (sym (names_valued s placed))
+      ∙ ap (valued dentry_cmp (inode_at s)) (without_lacking place_total places p (lacks_in_gap place_total places p i gap))
+      ∙ values_without dentry_cmp (inode_at s) places p
+      ∙ ap (λ m. without dentry_cmp m p) (sym (names_valued s placed))
 
-  pub name_inode : (p : Place) (k : ℕ) → get place_cmp places p ≡ Some k → get place_cmp (names_under s placed) p ≡ Some (inode_at s k)
-  name_inode p k is = name_found p ∙ get-valued place_cmp (inode_at s) places p ∙ ap (option_map (inode_at s)) is
+  pub name_inode : (p : Dentry) (k : ℕ) → get dentry_cmp places p ≡ Some k → get dentry_cmp (names_under s placed) p ≡ Some (inode_at s k)
+  name_inode p k is = name_found p ∙ get-valued dentry_cmp (inode_at s) places p ∙ ap (option_map (inode_at s)) is
 
-  pub key_there : (p : Place) (i d : ℕ) → IsAt places p i → get place_cmp places p ≡ Some (get_or placed i d)
+  pub key_there : (p : Dentry) (i d : ℕ) → IsAt places p i → get dentry_cmp places p ≡ Some (get_or placed i d)
   key_there p i d at =
-      let entry : ℕ → Place × ℕ = λ k. (place_at s k, k) in
+      let entry : ℕ → Dentry × ℕ = λ k. (place_at s k, k) in
       get_at place_total places p i (entry d) indexed.places_rise at
-      ∙ ap (λ (e : Place × ℕ). Some e.1) (get_or-map entry placed i d (entry d) (omega (arith, length-map placed entry, at.within)))
+      ∙ ap (λ (e : Dentry × ℕ). Some e.1) (get_or-map entry placed i d (entry d) (omega (arith, length-map placed entry, at.within)))
 
   -- what stands under the key of a place
-  pub found_there : (p : Place) (k : ℕ) (f : Found) → get place_cmp places p ≡ Some k → get_or s k None ≡ Some f → found p f.inode ≡ found_at s k
+  pub found_there : (p : Dentry) (k : ℕ) (f : Found) → get dentry_cmp places p ≡ Some k → get_or s k None ≡ Some f → found_entry p f.inode ≡ found_under s k
   found_there p k f is there =
-      let same : Some f ≡ Some (found_at s k) = sym there ∙ indexed.stands p k is in
-      let one : f ≡ found_at s k = cc in
-      ap (λ n. found p n) (ap (λ g. g.inode) one) ∙ ap (λ q. found q (inode_at s k)) (place_is p k is)
+      let same : Some f ≡ Some (found_under s k) = sym there ∙ indexed.stands p k is in
+      let one : f ≡ found_under s k = cc in
+      ap (λ n. found_entry p n) (ap (λ g. g.inode) one) ∙ ap (λ q. found_entry q (inode_at s k)) (place_is p k is)
 
   -- where nothing has the place
-  pub place_missing : (p : Place) → get place_cmp (names_under s placed) p ≡ None → get place_cmp places p ≡ None
-  place_missing p none = go (get place_cmp places p) refl
+  pub place_missing : (p : Dentry) → get dentry_cmp (names_under s placed) p ≡ None → get dentry_cmp places p ≡ None
+  place_missing p none = go (get dentry_cmp places p) refl
     where
-      go : (r : Option ℕ) → get place_cmp places p ≡ r → r ≡ None
+      go : (r : Option ℕ) → get dentry_cmp places p ≡ r → r ≡ None
       go None is = refl
       go (Some k) is = absurd (let no : None ≡ Some (inode_at s k) = sym none ∙ name_inode p k is in cc)
 
-  pub not_there : (p : Place) (i : ℕ) → get place_cmp (names_under s placed) p ≡ None → IsAt places p i → ⊥
+  pub not_there : (p : Dentry) (i : ℕ) → get dentry_cmp (names_under s placed) p ≡ None → IsAt places p i → ⊥
   not_there p i none at = let no : None ≡ Some (get_or placed i 0) = sym (place_missing p none) ∙ key_there p i 0 at in cc
 
-  pub not_behind : (f : Found) (j : ℕ) → get place_cmp (names_under s placed) f.place ≡ None → IsAt inodes f j → ⊥
+  pub not_behind : (f : Found) (j : ℕ) → get dentry_cmp (names_under s placed) f.dentry ≡ None → IsAt inodes f j → ⊥
   not_behind f j none at =
-      let entry : ℕ → Found × ℕ = λ k. (found_at s k, k) in
+      let entry : ℕ → Found × ℕ = λ k. (found_under s k, k) in
       let is = get_at found_total inodes f j (entry 0) indexed.inodes_rise at in
-      let no : None ≡ Some (get_or inodes j (entry 0)).1 = sym (place_missing f.place none) ∙ indexed.has_place f _ is in cc
+      let no : None ≡ Some (get_or inodes j (entry 0)).1 = sym (place_missing f.dentry none) ∙ indexed.has_place f _ is in cc
 
-  pub no_gap : (p : Place) (k j : ℕ) → get place_cmp places p ≡ Some k → IsGap found_cmp inodes (found_at s k) j → ⊥
+  pub no_gap : (p : Dentry) (k j : ℕ) → get dentry_cmp places p ≡ Some k → IsGap found_cmp inodes (found_under s k) j → ⊥
   no_gap p k j is gap =
-      let no : None ≡ Some k = sym (get_lacking found_total inodes (found_at s k) (lacks_in_gap found_total inodes (found_at s k) j gap)) ∙ indexed.has_inode p k is in cc
+      let no : None ≡ Some k = sym (get_lacking found_total inodes (found_under s k) (lacks_in_gap found_total inodes (found_under s k) j gap)) ∙ indexed.has_inode p k is in cc
 
   module _ (t : List (Option Found)) (key : ℕ) (others : (k : ℕ) → k ≢ key → get_or t k None ≡ get_or s k None) where
-    same_found : (k : ℕ) → k ≢ key → found_at t k ≡ found_at s k
-    same_found k other = ap (λ o. unwrap_or o (record { place = record { directory = 0; name = [] }; inode = 0 })) (others k other)
+    same_found : (k : ℕ) → k ≢ key → found_under t k ≡ found_under s k
+    same_found k other = ap (λ o. unwrap_or o (record { dentry = record { directory = 0; name = [] }; inode = 0 })) (others k other)
 
     -- ---- a name is added
 
-    module _ (x : Found) (vacant : get_or s key None ≡ None) (there : get_or t key None ≡ Some x) (new : get place_cmp places x.place ≡ None) where
-      other_key : (p : Place) (k : ℕ) → get place_cmp places p ≡ Some k → k ≢ key
-      other_key p k is same = let stands : None ≡ Some (found_at s k) = sym vacant ∙ ap (λ n. get_or s n None) (sym same) ∙ indexed.stands p k is in cc
+    module _ (x : Found) (vacant : get_or s key None ≡ None) (there : get_or t key None ≡ Some x) (new : get dentry_cmp places x.dentry ≡ None) where
+      other_key : (p : Dentry) (k : ℕ) → get dentry_cmp places p ≡ Some k → k ≢ key
+      other_key p k is same = let stands : None ≡ Some (found_under s k) = sym vacant ∙ ap (λ n. get_or s n None) (sym same) ∙ indexed.stands p k is in cc
 
-      is_new : found_at t key ≡ x
-      is_new = ap (λ o. unwrap_or o (record { place = record { directory = 0; name = [] }; inode = 0 })) there
+      is_new : found_under t key ≡ x
+      is_new = ap (λ o. unwrap_or o (record { dentry = record { directory = 0; name = [] }; inode = 0 })) there
 
-      same_places : by_places t placed ≡ places
-      same_places = same_keyed place_total place_anti (place_at s) (place_at t) placed indexed.places_rise (λ p k is. ap (λ f. f.place) (same_found k (other_key p k is)))
+      same_places : by_keys t placed ≡ places
+      same_places = same_keyed place_total place_anti (place_at s) (place_at t) placed indexed.places_rise (λ p k is. ap (λ f. f.dentry) (same_found k (other_key p k is)))
 
       same_inodes : by_inodes t held ≡ inodes
-      same_inodes = same_keyed found_total found_anti (found_at s) (found_at t) held indexed.inodes_rise (λ f k is. same_found k (other_key f.place k (indexed.has_place f k is)))
+      same_inodes = same_keyed found_total found_anti (found_under s) (found_under t) held indexed.inodes_rise (λ f k is. same_found k (other_key f.dentry k (indexed.has_place f k is)))
 
-      module _ (i j : ℕ) (gap : IsGap place_cmp places x.place i) (behind : IsGap found_cmp inodes x j) where
-        places_then : by_places t (insert placed i key) ≡ with_entry place_cmp places x.place key
+      module _ (i j : ℕ) (gap : IsGap dentry_cmp places x.dentry i) (behind : IsGap found_cmp inodes x j) where
+        places_then : by_keys t (insert placed i key) ≡ with_entry dentry_cmp places x.dentry key
         places_then =
             map-insert (λ k. (place_at t k, k)) placed i key
             ∙ ap (λ m. insert m i (place_at t key, key)) same_places
-            ∙ ap (λ p. insert places i (p, key)) (ap (λ f. f.place) is_new)
-            ∙ put_in_gap place_total places x.place i key gap
+            ∙ ap (λ p. insert places i (p, key)) (ap (λ f. f.dentry) is_new)
+            ∙ put_in_gap place_total places x.dentry i key gap
 
         inodes_then : by_inodes t (insert held j key) ≡ with_entry found_cmp inodes x key
         inodes_then =
-            map-insert (λ k. (found_at t k, k)) held j key
-            ∙ ap (λ m. insert m j (found_at t key, key)) same_inodes
+            map-insert (λ k. (found_under t k, k)) held j key
+            ∙ ap (λ m. insert m j (found_under t key, key)) same_inodes
             ∙ ap (λ f. insert inodes j (f, key)) is_new
             ∙ put_in_gap found_total inodes x j key behind
 
-        same_values : valued place_cmp (inode_at t) places ≡ valued place_cmp (inode_at s) places
-        same_values = sym (ap (valued place_cmp (inode_at t)) same_places) ∙ sym (names_valued t placed)
+        same_values : valued dentry_cmp (inode_at t) places ≡ valued dentry_cmp (inode_at s) places
+        same_values = sym (ap (valued dentry_cmp (inode_at t)) same_places) ∙ sym (names_valued t placed)
             ∙ same_map (λ k. (place_at t k, inode_at t k)) (λ k. (place_at s k, inode_at s k)) placed
-            (λ n d lt. let f = same_found (get_or placed n d) (other_key _ _ (each_keyed place_total place_anti (place_at s) placed indexed.places_rise n d lt)) in ap (λ g. (g.place, g.inode)) f)
+            (λ n d lt. let f = same_found (get_or placed n d) (other_key _ _ (each_keyed place_total place_anti (place_at s) placed indexed.places_rise n d lt)) in ap (λ g. (g.dentry, g.inode)) f)
             ∙ names_valued s placed
 
-        pub added_names : names_under t (insert placed i key) ≡ with_entry place_cmp (names_under s placed) x.place x.inode
+        pub added_names : names_under t (insert placed i key) ≡ with_entry dentry_cmp (names_under s placed) x.dentry x.inode
         added_names =
             names_valued t (insert placed i key)
-            ∙ ap (valued place_cmp (inode_at t)) places_then
-            ∙ values_put place_cmp (inode_at t) places x.place key
-            ∙ ap (λ m. with_entry place_cmp m x.place (inode_at t key)) same_values
-            ∙ ap (λ m. with_entry place_cmp m x.place (inode_at t key)) (sym (names_valued s placed))
-            ∙ ap (λ f. with_entry place_cmp (names_under s placed) x.place f.inode) is_new
+            ∙ ap (valued dentry_cmp (inode_at t)) places_then
+            ∙ values_put dentry_cmp (inode_at t) places x.dentry key
+            ∙ ap (λ m. with_entry dentry_cmp m x.dentry (inode_at t key)) same_values
+            ∙ ap (λ m. with_entry dentry_cmp m x.dentry (inode_at t key)) (sym (names_valued s placed))
+            ∙ ap (λ f. with_entry dentry_cmp (names_under s placed) x.dentry f.inode) is_new
 
-        now_stands : (p : Place) (k : ℕ) (b : Bool) → cond b (Some key) (get place_cmp places p) ≡ Some k → get_or t k None ≡ Some (found_at t k)
-        now_stands p k true is = let one : key ≡ k = cc in subst (λ n. get_or t n None ≡ Some (found_at t n)) one (there ∙ ap Some (sym is_new))
+        now_stands : (p : Dentry) (k : ℕ) (b : Bool) → cond b (Some key) (get dentry_cmp places p) ≡ Some k → get_or t k None ≡ Some (found_under t k)
+        now_stands p k true is = let one : key ≡ k = cc in subst (λ n. get_or t n None ≡ Some (found_under t n)) one (there ∙ ap Some (sym is_new))
         now_stands p k false is = others k (other_key p k is) ∙ indexed.stands p k is ∙ ap Some (sym (same_found k (other_key p k is)))
 
-        now_inode : (p : Place) (k : ℕ) (b : Bool) → eq_by_cmp place_cmp p x.place ≡ b → cond b (Some key) (get place_cmp places p) ≡ Some k
-            → cond (eq_by_cmp found_cmp (found_at t k) x) (Some key) (get found_cmp inodes (found_at t k)) ≡ Some k
+        now_inode : (p : Dentry) (k : ℕ) (b : Bool) → eq_by_cmp dentry_cmp p x.dentry ≡ b → cond b (Some key) (get dentry_cmp places p) ≡ Some k
+            → cond (eq_by_cmp found_cmp (found_under t k) x) (Some key) (get found_cmp inodes (found_under t k)) ≡ Some k
         now_inode p k true tie is =
             let one : key ≡ k = cc in
-            subst (λ n. cond (eq_by_cmp found_cmp (found_at t n) x) (Some key) (get found_cmp inodes (found_at t n)) ≡ Some n) one
-            (ap (λ b. cond b (Some key) (get found_cmp inodes (found_at t key))) (ties found_total (found_at t key) x is_new))
+            subst (λ n. cond (eq_by_cmp found_cmp (found_under t n) x) (Some key) (get found_cmp inodes (found_under t n)) ≡ Some n) one
+            (ap (λ b. cond b (Some key) (get found_cmp inodes (found_under t key))) (ties found_total (found_under t key) x is_new))
         now_inode p k false tie is =
             let same = same_found k (other_key p k is) in
-            subst (λ f. cond (eq_by_cmp found_cmp f x) (Some key) (get found_cmp inodes f) ≡ Some k) (sym same) (go (eq_by_cmp found_cmp (found_at s k) x) refl)
+            subst (λ f. cond (eq_by_cmp found_cmp f x) (Some key) (get found_cmp inodes f) ≡ Some k) (sym same) (go (eq_by_cmp found_cmp (found_under s k) x) refl)
           where
-            go : (b : Bool) → eq_by_cmp found_cmp (found_at s k) x ≡ b → cond b (Some key) (get found_cmp inodes (found_at s k)) ≡ Some k
+            go : (b : Bool) → eq_by_cmp found_cmp (found_under s k) x ≡ b → cond b (Some key) (get found_cmp inodes (found_under s k)) ≡ Some k
             go true also =
-                let one : p ≡ x.place = place_is p k is ∙ ap (λ f. f.place) (found_anti (found_at s k) x (equal _ also)) in
-                absurd (let no : true ≡ false = sym (ties place_total p x.place one) ∙ tie in cc)
+                let one : p ≡ x.dentry = place_is p k is ∙ ap (λ f. f.dentry) (found_anti (found_under s k) x (equal _ also)) in
+                absurd (let no : true ≡ false = sym (ties place_total p x.dentry one) ∙ tie in cc)
             go false also = indexed.has_inode p k is
 
         now_place : (f : Found) (k : ℕ) (b : Bool) → eq_by_cmp found_cmp f x ≡ b → cond b (Some key) (get found_cmp inodes f) ≡ Some k
-            → cond (eq_by_cmp place_cmp f.place x.place) (Some key) (get place_cmp places f.place) ≡ Some k
+            → cond (eq_by_cmp dentry_cmp f.dentry x.dentry) (Some key) (get dentry_cmp places f.dentry) ≡ Some k
         now_place f k true tie is =
-            let one = ap (λ g. g.place) (found_anti f x (equal _ tie)) in
-            ap (λ b. cond b (Some key) (get place_cmp places f.place)) (ties place_total f.place x.place one) ∙ is
-        now_place f k false tie is = go (eq_by_cmp place_cmp f.place x.place) refl
+            let one = ap (λ g. g.dentry) (found_anti f x (equal _ tie)) in
+            ap (λ b. cond b (Some key) (get dentry_cmp places f.dentry)) (ties place_total f.dentry x.dentry one) ∙ is
+        now_place f k false tie is = go (eq_by_cmp dentry_cmp f.dentry x.dentry) refl
           where
-            go : (b : Bool) → eq_by_cmp place_cmp f.place x.place ≡ b → cond b (Some key) (get place_cmp places f.place) ≡ Some k
+            go : (b : Bool) → eq_by_cmp dentry_cmp f.dentry x.dentry ≡ b → cond b (Some key) (get dentry_cmp places f.dentry) ≡ Some k
             go true also =
-                absurd (let no : None ≡ Some k = sym new ∙ ap (get place_cmp places) (sym (place_anti _ _ (equal _ also))) ∙ indexed.has_place f k is in cc)
+                absurd (let no : None ≡ Some k = sym new ∙ ap (get dentry_cmp places) (sym (place_anti _ _ (equal _ also))) ∙ indexed.has_place f k is in cc)
             go false also = indexed.has_place f k is
 
         pub added_indexed : IsIndexed t (insert placed i key) (insert held j key)
         added_indexed = record {
-          places_rise = subst (IsMap place_cmp) (sym places_then) (put-IsMap place_total place_anti places x.place key indexed.places_rise);
+          places_rise = subst (IsMap dentry_cmp) (sym places_then) (put-IsMap place_total place_anti places x.dentry key indexed.places_rise);
           inodes_rise = subst (IsMap found_cmp) (sym inodes_then) (put-IsMap found_total found_anti inodes x key indexed.inodes_rise);
           stands = λ p k is.
-              now_stands p k (eq_by_cmp place_cmp p x.place)
-              (sym (get-put place_total place_anti places x.place key p) ∙ ap (λ m. get place_cmp m p) (sym places_then) ∙ is);
+              now_stands p k (eq_by_cmp dentry_cmp p x.dentry)
+              (sym (get-put place_total place_anti places x.dentry key p) ∙ ap (λ m. get dentry_cmp m p) (sym places_then) ∙ is);
           has_inode = λ p k is.
-              ap (λ m. get found_cmp m (found_at t k)) inodes_then ∙ get-put found_total found_anti inodes x key (found_at t k)
-              ∙ now_inode p k (eq_by_cmp place_cmp p x.place) refl
-              (sym (get-put place_total place_anti places x.place key p) ∙ ap (λ m. get place_cmp m p) (sym places_then) ∙ is);
+              ap (λ m. get found_cmp m (found_under t k)) inodes_then ∙ get-put found_total found_anti inodes x key (found_under t k)
+              ∙ now_inode p k (eq_by_cmp dentry_cmp p x.dentry) refl
+              (sym (get-put place_total place_anti places x.dentry key p) ∙ ap (λ m. get dentry_cmp m p) (sym places_then) ∙ is);
           has_place = λ f k is.
-              ap (λ m. get place_cmp m f.place) places_then ∙ get-put place_total place_anti places x.place key f.place
+              ap (λ m. get dentry_cmp m f.dentry) places_then ∙ get-put place_total place_anti places x.dentry key f.dentry
               ∙ now_place f k (eq_by_cmp found_cmp f x) refl
               (sym (get-put found_total found_anti inodes x key f) ∙ ap (λ m. get found_cmp m f) (sym inodes_then) ∙ is);
         }
 
     -- ---- a name is removed
 
-    module _ (here : get place_cmp places (place_at s key) ≡ Some key) (i j : ℕ) (at : IsAt places (place_at s key) i) (behind : IsAt inodes (found_at s key) j) where
+    module _ (here : get dentry_cmp places (place_at s key) ≡ Some key) (i j : ℕ) (at : IsAt places (place_at s key) i) (behind : IsAt inodes (found_under s key) j) where
       abbrev x : Found
-      x = found_at s key
+      x = found_under s key
 
-      fewer_places : by_places s (remove placed i) ≡ without place_cmp places x.place
-      fewer_places = map-remove (λ k. (place_at s k, k)) placed i ∙ remove_at place_total places x.place i indexed.places_rise at
+      fewer_places : by_keys s (remove placed i) ≡ without dentry_cmp places x.dentry
+      fewer_places = map-remove (λ k. (place_at s k, k)) placed i ∙ remove_at place_total places x.dentry i indexed.places_rise at
 
       fewer_inodes : by_inodes s (remove held j) ≡ without found_cmp inodes x
-      fewer_inodes = map-remove (λ k. (found_at s k, k)) held j ∙ remove_at found_total inodes x j indexed.inodes_rise behind
+      fewer_inodes = map-remove (λ k. (found_under s k, k)) held j ∙ remove_at found_total inodes x j indexed.inodes_rise behind
 
       -- what is left
-      left_place : (p : Place) (k : ℕ) (b : Bool) → eq_by_cmp place_cmp x.place p ≡ b → cond b None (get place_cmp places p) ≡ Some k
-          → (eq_by_cmp place_cmp x.place p ≡ false) × (get place_cmp places p ≡ Some k)
+      left_place : (p : Dentry) (k : ℕ) (b : Bool) → eq_by_cmp dentry_cmp x.dentry p ≡ b → cond b None (get dentry_cmp places p) ≡ Some k
+          → (eq_by_cmp dentry_cmp x.dentry p ≡ false) × (get dentry_cmp places p ≡ Some k)
       left_place p k true tie is = absurd (cc)
       left_place p k false tie is = (tie, is)
 
@@ -226,106 +226,106 @@ module _ (s : List (Option Found)) (placed held : List ℕ) (indexed : IsIndexed
       left_found f k true tie is = absurd (cc)
       left_found f k false tie is = (tie, is)
 
-      was_place : (p : Place) (k : ℕ) → get place_cmp (without place_cmp places x.place) p ≡ Some k → (eq_by_cmp place_cmp x.place p ≡ false) × (get place_cmp places p ≡ Some k)
-      was_place p k is = left_place p k (eq_by_cmp place_cmp x.place p) refl (sym (get-without place_total place_anti places x.place p) ∙ is)
+      was_place : (p : Dentry) (k : ℕ) → get dentry_cmp (without dentry_cmp places x.dentry) p ≡ Some k → (eq_by_cmp dentry_cmp x.dentry p ≡ false) × (get dentry_cmp places p ≡ Some k)
+      was_place p k is = left_place p k (eq_by_cmp dentry_cmp x.dentry p) refl (sym (get-without place_total place_anti places x.dentry p) ∙ is)
 
       was_found : (f : Found) (k : ℕ) → get found_cmp (without found_cmp inodes x) f ≡ Some k → (eq_by_cmp found_cmp x f ≡ false) × (get found_cmp inodes f ≡ Some k)
       was_found f k is = left_found f k (eq_by_cmp found_cmp x f) refl (sym (get-without found_total found_anti inodes x f) ∙ is)
 
-      place_stays : (p : Place) (k : ℕ) → get place_cmp (without place_cmp places x.place) p ≡ Some k → k ≢ key
+      place_stays : (p : Dentry) (k : ℕ) → get dentry_cmp (without dentry_cmp places x.dentry) p ≡ Some k → k ≢ key
       place_stays p k is same =
           let was = was_place p k is in
-          let one : x.place ≡ p = ap (place_at s) (sym same) ∙ sym (place_is p k was.1) in
-          let no : true ≡ false = sym (ties place_total x.place p one) ∙ was.0 in cc
+          let one : x.dentry ≡ p = ap (place_at s) (sym same) ∙ sym (place_is p k was.1) in
+          let no : true ≡ false = sym (ties place_total x.dentry p one) ∙ was.0 in cc
 
       found_stays : (f : Found) (k : ℕ) → get found_cmp (without found_cmp inodes x) f ≡ Some k → k ≢ key
       found_stays f k is same =
           let was = was_found f k is in
-          let one : x ≡ f = ap (found_at s) (sym same) ∙ sym (found_is f k was.1) in
+          let one : x ≡ f = ap (found_under s) (sym same) ∙ sym (found_is f k was.1) in
           let no : true ≡ false = sym (ties found_total x f one) ∙ was.0 in cc
 
-      fewer_rise : IsMap place_cmp (by_places s (remove placed i))
-      fewer_rise = subst (IsMap place_cmp) (sym fewer_places) (without-IsMap place_total places x.place indexed.places_rise)
+      fewer_rise : IsMap dentry_cmp (by_keys s (remove placed i))
+      fewer_rise = subst (IsMap dentry_cmp) (sym fewer_places) (without-IsMap place_total places x.dentry indexed.places_rise)
 
       fewer_inodes_rise : IsMap found_cmp (by_inodes s (remove held j))
       fewer_inodes_rise = subst (IsMap found_cmp) (sym fewer_inodes) (without-IsMap found_total inodes x indexed.inodes_rise)
 
-      places_left : by_places t (remove placed i) ≡ without place_cmp places x.place
+      places_left : by_keys t (remove placed i) ≡ without dentry_cmp places x.dentry
       places_left =
           same_keyed place_total place_anti (place_at s) (place_at t) (remove placed i) fewer_rise
-          (λ p k is. ap (λ f. f.place) (same_found k (place_stays p k (ap (λ m. get place_cmp m p) (sym fewer_places) ∙ is))))
+          (λ p k is. ap (λ f. f.dentry) (same_found k (place_stays p k (ap (λ m. get dentry_cmp m p) (sym fewer_places) ∙ is))))
           ∙ fewer_places
 
       inodes_left : by_inodes t (remove held j) ≡ without found_cmp inodes x
       inodes_left =
-          same_keyed found_total found_anti (found_at s) (found_at t) (remove held j) fewer_inodes_rise
+          same_keyed found_total found_anti (found_under s) (found_under t) (remove held j) fewer_inodes_rise
           (λ f k is. same_found k (found_stays f k (ap (λ m. get found_cmp m f) (sym fewer_inodes) ∙ is)))
           ∙ fewer_inodes
 
-      pub removed_names : names_under t (remove placed i) ≡ without place_cmp (names_under s placed) x.place
+      pub removed_names : names_under t (remove placed i) ≡ without dentry_cmp (names_under s placed) x.dentry
       removed_names =
           same_map (λ k. (place_at t k, inode_at t k)) (λ k. (place_at s k, inode_at s k)) (remove placed i)
           (λ n d lt.
           let f = same_found (get_or (remove placed i) n d)
-          (place_stays _ _ (ap (λ m. get place_cmp m (place_at s (get_or (remove placed i) n d))) (sym fewer_places) ∙ each_keyed place_total place_anti (place_at s) (remove placed i) fewer_rise n d lt)) in
-          ap (λ g. (g.place, g.inode)) f)
+          (place_stays _ _ (ap (λ m. get dentry_cmp m (place_at s (get_or (remove placed i) n d))) (sym fewer_places) ∙ each_keyed place_total place_anti (place_at s) (remove placed i) fewer_rise n d lt)) in
+          ap (λ g. (g.dentry, g.inode)) f)
           ∙ names_valued s (remove placed i)
-          ∙ ap (valued place_cmp (inode_at s)) fewer_places
-          ∙ values_without place_cmp (inode_at s) places x.place
-          ∙ ap (λ m. without place_cmp m x.place) (sym (names_valued s placed))
+          ∙ ap (valued dentry_cmp (inode_at s)) fewer_places
+          ∙ values_without dentry_cmp (inode_at s) places x.dentry
+          ∙ ap (λ m. without dentry_cmp m x.dentry) (sym (names_valued s placed))
 
-      inode_left : (p : Place) (k : ℕ) → get place_cmp (without place_cmp places x.place) p ≡ Some k → get found_cmp (without found_cmp inodes x) (found_at t k) ≡ Some k
+      inode_left : (p : Dentry) (k : ℕ) → get dentry_cmp (without dentry_cmp places x.dentry) p ≡ Some k → get found_cmp (without found_cmp inodes x) (found_under t k) ≡ Some k
       inode_left p k is =
           let was = was_place p k is in
           subst (λ f. get found_cmp (without found_cmp inodes x) f ≡ Some k) (sym (same_found k (place_stays p k is)))
-          (get-without found_total found_anti inodes x (found_at s k) ∙ go was (eq_by_cmp found_cmp x (found_at s k)) refl)
+          (get-without found_total found_anti inodes x (found_under s k) ∙ go was (eq_by_cmp found_cmp x (found_under s k)) refl)
         where
-          go : (eq_by_cmp place_cmp x.place p ≡ false) × (get place_cmp places p ≡ Some k) → (b : Bool) → eq_by_cmp found_cmp x (found_at s k) ≡ b
-              → cond b None (get found_cmp inodes (found_at s k)) ≡ Some k
+          go : (eq_by_cmp dentry_cmp x.dentry p ≡ false) × (get dentry_cmp places p ≡ Some k) → (b : Bool) → eq_by_cmp found_cmp x (found_under s k) ≡ b
+              → cond b None (get found_cmp inodes (found_under s k)) ≡ Some k
           go was true tie =
-              let one : x.place ≡ p = ap (λ f. f.place) (found_anti x (found_at s k) (equal _ tie)) ∙ sym (place_is p k was.1) in
-              absurd (let no : true ≡ false = sym (ties place_total x.place p one) ∙ was.0 in cc)
+              let one : x.dentry ≡ p = ap (λ f. f.dentry) (found_anti x (found_under s k) (equal _ tie)) ∙ sym (place_is p k was.1) in
+              absurd (let no : true ≡ false = sym (ties place_total x.dentry p one) ∙ was.0 in cc)
           go was false tie = indexed.has_inode p k was.1
 
-      place_left : (f : Found) (k : ℕ) → get found_cmp (without found_cmp inodes x) f ≡ Some k → get place_cmp (without place_cmp places x.place) f.place ≡ Some k
-      place_left f k is = get-without place_total place_anti places x.place f.place ∙ go (was_found f k is) (eq_by_cmp place_cmp x.place f.place) refl
+      place_left : (f : Found) (k : ℕ) → get found_cmp (without found_cmp inodes x) f ≡ Some k → get dentry_cmp (without dentry_cmp places x.dentry) f.dentry ≡ Some k
+      place_left f k is = get-without place_total place_anti places x.dentry f.dentry ∙ go (was_found f k is) (eq_by_cmp dentry_cmp x.dentry f.dentry) refl
         where
-          go : (eq_by_cmp found_cmp x f ≡ false) × (get found_cmp inodes f ≡ Some k) → (b : Bool) → eq_by_cmp place_cmp x.place f.place ≡ b
-              → cond b None (get place_cmp places f.place) ≡ Some k
+          go : (eq_by_cmp found_cmp x f ≡ false) × (get found_cmp inodes f ≡ Some k) → (b : Bool) → eq_by_cmp dentry_cmp x.dentry f.dentry ≡ b
+              → cond b None (get dentry_cmp places f.dentry) ≡ Some k
           go was true tie =
-              let same : Some key ≡ Some k = sym here ∙ ap (get place_cmp places) (place_anti _ _ (equal _ tie)) ∙ indexed.has_place f k was.1 in
+              let same : Some key ≡ Some k = sym here ∙ ap (get dentry_cmp places) (place_anti _ _ (equal _ tie)) ∙ indexed.has_place f k was.1 in
               let one : k ≡ key = cc in
               absurd (found_stays f k is one)
           go was false tie = indexed.has_place f k was.1
 
       pub removed_indexed : IsIndexed t (remove placed i) (remove held j)
       removed_indexed = record {
-        places_rise = subst (IsMap place_cmp) (sym places_left) (without-IsMap place_total places x.place indexed.places_rise);
+        places_rise = subst (IsMap dentry_cmp) (sym places_left) (without-IsMap place_total places x.dentry indexed.places_rise);
         inodes_rise = subst (IsMap found_cmp) (sym inodes_left) (without-IsMap found_total inodes x indexed.inodes_rise);
         stands = λ p k is.
-            let left = ap (λ m. get place_cmp m p) (sym places_left) ∙ is in
+            let left = ap (λ m. get dentry_cmp m p) (sym places_left) ∙ is in
             let other = place_stays p k left in
             others k other ∙ indexed.stands p k (was_place p k left).1 ∙ ap Some (sym (same_found k other));
         has_inode = λ p k is.
-            ap (λ m. get found_cmp m (found_at t k)) inodes_left ∙ inode_left p k (ap (λ m. get place_cmp m p) (sym places_left) ∙ is);
+            ap (λ m. get found_cmp m (found_under t k)) inodes_left ∙ inode_left p k (ap (λ m. get dentry_cmp m p) (sym places_left) ∙ is);
         has_place = λ f k is.
-            ap (λ m. get place_cmp m f.place) places_left ∙ place_left f k (ap (λ m. get found_cmp m f) (sym inodes_left) ∙ is);
+            ap (λ m. get dentry_cmp m f.dentry) places_left ∙ place_left f k (ap (λ m. get found_cmp m f) (sym inodes_left) ∙ is);
       }
 
-  -- by the place, and by what was found to have it
-  module _ (t : List (Option Found)) (key : ℕ) (others : (k : ℕ) → k ≢ key → get_or t k None ≡ get_or s k None) (p : Place) (f : Found) (here : get place_cmp places p ≡ Some key)
-      (there : get_or s key None ≡ Some f) (i j : ℕ) (at : IsAt places p i) (behind : IsAt inodes (found p f.inode) j) where
+  -- by the place, and by what was found_entry to have it
+  module _ (t : List (Option Found)) (key : ℕ) (others : (k : ℕ) → k ≢ key → get_or t k None ≡ get_or s k None) (p : Dentry) (f : Found) (here : get dentry_cmp places p ≡ Some key)
+      (there : get_or s key None ≡ Some f) (i j : ℕ) (at : IsAt places p i) (behind : IsAt inodes (found_entry p f.inode) j) where
     at_its_place : IsAt places (place_at s key) i
     at_its_place = subst (λ q. IsAt places q i) (place_is p key here) at
 
-    found_here : get place_cmp places (place_at s key) ≡ Some key
-    found_here = ap (get place_cmp places) (sym (place_is p key here)) ∙ here
+    found_here : get dentry_cmp places (place_at s key) ≡ Some key
+    found_here = ap (get dentry_cmp places) (sym (place_is p key here)) ∙ here
 
-    at_its_inode : IsAt inodes (found_at s key) j
+    at_its_inode : IsAt inodes (found_under s key) j
     at_its_inode = subst (λ g. IsAt inodes g j) (found_there p key f here there) behind
 
     pub gone_indexed : IsIndexed t (remove placed i) (remove held j)
     gone_indexed = removed_indexed t key others found_here i j at_its_place at_its_inode
 
-    pub gone_names : names_under t (remove placed i) ≡ without place_cmp (names_under s placed) p
-    gone_names = removed_names t key others found_here i j at_its_place at_its_inode ∙ ap (without place_cmp (names_under s placed)) (sym (place_is p key here))
+    pub gone_names : names_under t (remove placed i) ≡ without dentry_cmp (names_under s placed) p
+    gone_names = removed_names t key others found_here i j at_its_place at_its_inode ∙ ap (without dentry_cmp (names_under s placed)) (sym (place_is p key here))

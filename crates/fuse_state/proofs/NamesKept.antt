@@ -3,8 +3,8 @@ use Rattle.std.specs.Prelude.{◌≡◌, ℕ, ◌+◌, Bool, true, cond, if◌th
 use Rattle.std.proofs.Common.{sym, ap, subst, set, ◌∙◌}
 use Rattle.std.proofs.lemmas.List.{set-get_or}
 use Rattle.std.specs.List.{insert}
-use Rattle.fuse_state.specs.declared.place.Found.{Found}
-use Rattle.fuse_state.specs.declared.place.Place.{Place}
+use Rattle.fuse_state.specs.declared.dentry.Found.{Found}
+use Rattle.fuse_state.specs.declared.dentry.Dentry.{Dentry}
 use Rattle.fuse_state.specs.Names.{IsIndexed}
 
 -- nothing has moved
@@ -22,7 +22,7 @@ pub longer : (m now : ℕ) (b : Bool) → b ≡ true → now ≡ (if b then m + 
 longer m now b succeeds is = is ∙ ap (λ t. cond t (m + 1) m) succeeds
 
 -- a name that was lent is given back
-pub given_back : (s : List (Option Found)) (k : ℕ) (f : Found) (p : Place) → p ≡ f.place → get_or s k None ≡ Some f
-    → set s k (Some (record { place = p; inode = f.inode })) ≡ s
+pub given_back : (s : List (Option Found)) (k : ℕ) (f : Found) (p : Dentry) → p ≡ f.dentry → get_or s k None ≡ Some f
+    → set s k (Some (record { dentry = p; inode = f.inode })) ≡ s
 given_back s k f p same there =
-    ap (λ q. set s k (Some (record { place = q; inode = f.inode }))) same ∙ ap (set s k) (sym there) ∙ set-get_or s k None
+    ap (λ q. set s k (Some (record { dentry = q; inode = f.inode }))) same ∙ ap (set s k) (sym there) ∙ set-get_or s k None

@@ -3,7 +3,7 @@ use Rattle.std.specs.Prelude.{◌≡◌, ℕ, ◌+◌, zero, suc, Bool, true, fa
 use Rattle.fs_cred.specs.Credentials.{usual_credential}
 use Rattle.fuse_state.specs.declared.settings.Settings.{Settings}
 use Rattle.fuse_state.specs.Keepings.{usually_kept}
-use Rattle.fuse_state.specs.Servers.{Server, new_server, handle_of, with_process, with_handle, opened, may_take_process, may_open_directory}
+use Rattle.fuse_state.specs.Servers.{Server, new_server, handle_of, with_known_process, with_handle, with_opened, may_take_process, may_open_directory}
 
 abbrev settings : Settings
 settings = record { sectors = 1024; inodes = 64; max_name = 120; keeps_times = false; max_write = 4096; posix_acl = true; keeping = usually_kept; start = record { seconds = 0; nanoseconds = 0 } }
@@ -11,12 +11,12 @@ settings = record { sectors = 1024; inodes = 64; max_name = 120; keeps_times = f
 -- So many processes of a user begin, from a number on, each under another group, and each opens a file.
 abbrev crowd : ℕ → ℕ → ℕ → Server → Server
 crowd zero first uid s = s
-crowd (suc n) first uid s = crowd n (first + 1) uid (with_handle (handle_of first 0) 9 (with_process first (usual_credential uid first []) s))
+crowd (suc n) first uid s = crowd n (first + 1) uid (with_handle (handle_of first 0) 9 (with_known_process first (usual_credential uid first []) s))
 
 -- A user opens so many directories.
 abbrev opens : ℕ → ℕ → Server → Server
 opens zero uid s = s
-opens (suc n) uid s = opens n uid (opened uid 5 s)
+opens (suc n) uid s = opens n uid (with_opened uid 5 s)
 
 -- of users 1000, 1001, 1002 and 0
 abbrev may_take : Server → List Bool

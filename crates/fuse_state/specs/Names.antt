@@ -1,9 +1,9 @@
 -- Names that stand under keys, in slots, and two lists of these keys: one in the order of places, one by the inodes that they lead to.
---     found, found_at        a name and its inode; what stands under a key
+--     found_entry, found_under        a name and its inode; what stands under a key
 --     found_cmp        the order of names by inodes, and for each inode by places
---     compare_place, compare_found, is_below, leads_to        what a search compares
+--     compare_place, compare_found, is_lower, leads_to        what a search compares
 --     Stand, keys_of, BeginsAt        under each key stands a name; the keys of an inode's names, and where these begin
---     by_places, by_inodes        the keys as the values of two maps
+--     by_keys, by_inodes        the keys as the values of two maps
 --     names_under        the names, in the order of places
 --     IsIndexed        each name stands in both
 --     HasNameRoom        so many more have room
@@ -14,67 +14,67 @@ use Rattle.std.specs.Ordering.{nat_cmp, ordering_then}
 use Rattle.std.specs.List.{filter}
 use Rattle.slab.specs.Slab.{Slab, slab_len}
 use Rattle.fs_layout.specs.Maps.{get, IsMap}
-use Rattle.fuse_state.specs.declared.place.Found.{Found}
-use Rattle.fuse_state.specs.declared.place.Place.{Place}
-use Rattle.fuse_state.specs.Servers.{place_cmp}
+use Rattle.fuse_state.specs.declared.dentry.Found.{Found}
+use Rattle.fuse_state.specs.declared.dentry.Dentry.{Dentry}
+use Rattle.fuse_state.specs.Servers.{dentry_cmp}
 
 -- nothing is asked of a key under which nothing stands
-abbrev pub found_at : List (Option Found) → ℕ → Found
-found_at s k = unwrap_or (slice_index_or s k None) (record { place = record { directory = 0; name = [] }; inode = 0 })
+abbrev pub found_under : List (Option Found) → ℕ → Found
+found_under s k = unwrap_or (slice_index_or s k None) (record { dentry = record { directory = 0; name = [] }; inode = 0 })
 
 -- under each of the keys stands a name
 abbrev pub Stand : List (Option Found) → List ℕ → Type 0
-Stand s keys = (j d : ℕ) → j < length keys → slice_index_or s (slice_index_or keys j d) None ≡ Some (found_at s (slice_index_or keys j d))
+Stand s keys = (j d : ℕ) → j < length keys → slice_index_or s (slice_index_or keys j d) None ≡ Some (found_under s (slice_index_or keys j d))
 
-abbrev pub found : Place → ℕ → Found
-found p n = record { place = p; inode = n }
+abbrev pub found_entry : Dentry → ℕ → Found
+found_entry p n = record { dentry = p; inode = n }
 
 abbrev pub found_cmp : Found → Found → Ordering
-found_cmp f g = ordering_then (nat_cmp f.inode g.inode) (place_cmp f.place g.place)
+found_cmp f g = ordering_then (nat_cmp f.inode g.inode) (dentry_cmp f.dentry g.dentry)
 
 -- what a search compares
-abbrev pub compare_place : Place → Option Found → Ordering
+abbrev pub compare_place : Dentry → Option Found → Ordering
 compare_place p None = Less
-compare_place p (Some f) = place_cmp f.place p
+compare_place p (Some f) = dentry_cmp f.dentry p
 
 abbrev pub compare_found : Found → Option Found → Ordering
 compare_found g None = Less
 compare_found g (Some f) = found_cmp f g
 
-abbrev pub is_below : ℕ → Option Found → Bool
-is_below n None = false
-is_below n (Some f) = nat_lt f.inode n
+abbrev pub is_lower : ℕ → Option Found → Bool
+is_lower n None = false
+is_lower n (Some f) = nat_lt f.inode n
 
 abbrev pub leads_to : ℕ → Option Found → Bool
 leads_to n None = false
 leads_to n (Some f) = f.inode == n
 
-abbrev pub by_places : List (Option Found) → List ℕ → List (Place × ℕ)
-by_places s keys = map (λ k. ((found_at s k).place, k)) keys
+abbrev pub by_keys : List (Option Found) → List ℕ → List (Dentry × ℕ)
+by_keys s keys = map (λ k. ((found_under s k).dentry, k)) keys
 
 abbrev pub by_inodes : List (Option Found) → List ℕ → List (Found × ℕ)
-by_inodes s keys = map (λ k. (found_at s k, k)) keys
+by_inodes s keys = map (λ k. (found_under s k, k)) keys
 
-abbrev pub names_under : List (Option Found) → List ℕ → List (Place × ℕ)
-names_under s keys = map (λ k. ((found_at s k).place, (found_at s k).inode)) keys
+abbrev pub names_under : List (Option Found) → List ℕ → List (Dentry × ℕ)
+names_under s keys = map (λ k. ((found_under s k).dentry, (found_under s k).inode)) keys
 
 -- those of the names that lead to an inode
 abbrev pub keys_of : List (Option Found) → List ℕ → ℕ → List ℕ
-keys_of s keys n = filter (λ k. (found_at s k).inode == n) keys
+keys_of s keys n = filter (λ k. (found_under s k).inode == n) keys
 
 -- where they begin among keys by inodes
 pub record BeginsAt (s : List (Option Found)) (keys : List ℕ) (n i : ℕ) : Type 0 where
-  pub before : (j d : ℕ) → j < i → (found_at s (slice_index_or keys j d)).inode < n
-  pub behind : (j d : ℕ) → i ≤ j → j < length keys → n ≤ (found_at s (slice_index_or keys j d)).inode
+  pub before : (j d : ℕ) → j < i → (found_under s (slice_index_or keys j d)).inode < n
+  pub behind : (j d : ℕ) → i ≤ j → j < length keys → n ≤ (found_under s (slice_index_or keys j d)).inode
 
 pub record IsIndexed (s : List (Option Found)) (placed held : List ℕ) : Type 0 where
-  pub places_rise : IsMap place_cmp (by_places s placed)
+  pub places_rise : IsMap dentry_cmp (by_keys s placed)
   pub inodes_rise : IsMap found_cmp (by_inodes s held)
   -- under each key one stands
-  pub stands : (p : Place) (k : ℕ) → get place_cmp (by_places s placed) p ≡ Some k → slice_index_or s k None ≡ Some (found_at s k)
-  -- what has a place is found by its inode, and the other way round
-  pub has_inode : (p : Place) (k : ℕ) → get place_cmp (by_places s placed) p ≡ Some k → get found_cmp (by_inodes s held) (found_at s k) ≡ Some k
-  pub has_place : (f : Found) (k : ℕ) → get found_cmp (by_inodes s held) f ≡ Some k → get place_cmp (by_places s placed) f.place ≡ Some k
+  pub stands : (p : Dentry) (k : ℕ) → get dentry_cmp (by_keys s placed) p ≡ Some k → slice_index_or s k None ≡ Some (found_under s k)
+  -- what has a place is found_entry by its inode, and the other way round
+  pub has_inode : (p : Dentry) (k : ℕ) → get dentry_cmp (by_keys s placed) p ≡ Some k → get found_cmp (by_inodes s held) (found_under s k) ≡ Some k
+  pub has_place : (f : Found) (k : ℕ) → get found_cmp (by_inodes s held) f ≡ Some k → get dentry_cmp (by_keys s placed) f.dentry ≡ Some k
 
 -- in the slab, and in each list
 pub record HasNameRoom (room : ℕ) (s : Slab Found) (placed placed_capacity held held_capacity : ℕ) : Type 0 where

@@ -1,6 +1,6 @@
 -- Room that is reserved for what a server keeps.
 --     Kept        what it keeps, and for how many more things it has memory
---     HasRoom        what it takes that there is so much room
+--     HasTableRoom        what it takes that there is so much room
 use Rattle.std.specs.Prelude.{ℕ, ◌+◌, ◌<◌, ◌≤◌, ◌^◌}
 use Rattle.fuse_state.specs.Servers.{Server}
 
@@ -10,7 +10,7 @@ pub record Kept : Type 0 where
   pub room : ℕ
 
 -- each table has the room, and the handles of so many directories are numbers of 64 bits
-pub record HasRoom (room generations kinds lookups names times processes handles directories next_directory : ℕ) : Type 0 where
+pub record HasTableRoom (room generations kinds lookups names times processes handles directories next_directory : ℕ) : Type 0 where
   pub for_generations : room ≤ generations
   pub for_kinds : room ≤ kinds
   pub for_lookups : room ≤ lookups

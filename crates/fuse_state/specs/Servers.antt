@@ -1,16 +1,16 @@
 -- What a server keeps between requests. Its maps are lists of entries with rising keys.
 --     Server, new_server        the whole
---     node_of, number_of        nodes, by which the kernel names objects, and the numbers of their inodes
+--     node_of, number_of_node        nodes, by which the kernel names objects, and the numbers of their inodes
 --     lookups_of, once_more        how often the kernel was told a node, and hasn't forgotten it since
 --     forgotten, all_forgotten        it forgets nodes
---     named, with_name, without_name, born        names, all that were found and still stand
+--     number_named, with_dentry, without_name, with_new_object        names, all that were found and still stand
 --     place_cmp, places_of, place_of        the order of places, and where an object is known
---     times_of, touched, changed        times of objects, where the disk keeps none
+--     times_of, with_new_contents, with_change_time        times of objects, where the disk keeps none
 --     processes_of, held_by, ..        processes, and the descriptors that they hold
 --     owner_of, descriptor_of, handle_of        a handle is a process and one of its descriptors
---     process_holders, directory_holders        whose processes hold descriptors, and who has opened directories
+--     process_holders, directory_holders        whose processes hold descriptors, and who has with_opened directories
 --     may_take_process, may_open_directory        whether a user may hold one more
---     opened, with_listing, without_directory        open directories
+--     with_opened, with_listing, without_directory        open directories
 --     WithinShares        none holds more than it may
 use Rattle.std.specs.Prelude.{◌≡◌, ℕ, ◌+◌, ◌-◌, ◌*◌, min, ◌/◌, ◌%◌, ◌^◌, ◌==◌, ◌≤◌, nat_eq, nat_lt, nat_le, Bool, true, false, not, ◌&&◌, List, [], ◌∷◌, length, map, Option, None, Some, is_some, unwrap_or, if◌then◌else◌}
 use Rattle.std.specs.declared.cmp.Ordering.{Ordering}
@@ -25,7 +25,7 @@ use Rattle.fs_model.specs.declared.reply.FileType.TheVariants.{Directory}
 use Rattle.fuse_protocol.specs.declared.reply.Time.{Time}
 use Rattle.fuse_state.specs.Shares.{process_shares, directory_shares, may_hold, KeepsShares}
 use Rattle.fuse_state.specs.declared.directory.OpenDirectory.{OpenDirectory}
-use Rattle.fuse_state.specs.declared.place.Place.{Place}
+use Rattle.fuse_state.specs.declared.dentry.Dentry.{Dentry}
 use Rattle.fuse_state.specs.declared.settings.Settings.{Settings}
 use Rattle.fuse_state.specs.declared.times.Times.{Times}
 
@@ -38,12 +38,12 @@ pub record Server : Type 0 where
   -- how often it was told each node, and hasn't forgotten it since
   pub lookups : List (ℕ × ℕ)
   -- the names that were found and still stand, and which inodes they lead to: those of objects that it hasn't forgotten
-  pub names : List (Place × ℕ)
+  pub names : List (Dentry × ℕ)
   -- of objects, where the disk keeps none
   pub times : List (ℕ × Times)
   -- the processes of callers, and the server's own
   pub processes : List (ℕ × Credential)
-  pub looker : Option ℕ
+  pub server_process : Option ℕ
   -- open files, and open directories
   pub handles : List (ℕ × ℕ)
   pub directories : List (ℕ × OpenDirectory)
@@ -64,7 +64,7 @@ new_server settings = record {
   names = [];
   times = [];
   processes = [];
-  looker = None;
+  server_process = None;
   handles = [];
   directories = [];
   next_directory = first_directory;
@@ -84,14 +84,14 @@ node_of s n = 2 ^ 32 * generation_of s n + n
 abbrev pub with_generation : ℕ → Server → Server
 with_generation n s = record s { generations = with_entry nat_cmp s.generations n ((generation_of s n + 1) % 2 ^ 32) }
 
-abbrev pub kind_of : Server → ℕ → Option FileType
-kind_of s n = get nat_cmp s.kinds n
+abbrev pub kind_known : Server → ℕ → Option FileType
+kind_known s n = get nat_cmp s.kinds n
 
 -- the number of a node, unless that is stale
-abbrev pub number_of : Server → ℕ → Option ℕ
-number_of s node =
+abbrev pub number_of_node : Server → ℕ → Option ℕ
+number_of_node s node =
     let n = node % 2 ^ 32 in
-    if is_some (kind_of s n) && generation_of s n == node / 2 ^ 32 then Some n else None
+    if is_some (kind_known s n) && generation_of s n == node / 2 ^ 32 then Some n else None
 
 -- ---- how often the kernel was told a node
 
@@ -112,40 +112,40 @@ once_more n s = with_lookups (node_of s n) (min most_lookups (lookups_of s (node
 -- ---- names
 
 -- the order of places: by directories, and in each by names
-abbrev pub place_cmp : Place → Place → Ordering
-place_cmp p q = ordering_then (nat_cmp p.directory q.directory) (name_cmp p.name q.name)
+abbrev pub dentry_cmp : Dentry → Dentry → Ordering
+dentry_cmp p q = ordering_then (nat_cmp p.directory q.directory) (name_cmp p.name q.name)
 
 -- the number that a name leads to
-abbrev pub named : Server → Place → Option ℕ
-named s p = get place_cmp s.names p
+abbrev pub number_named : Server → Dentry → Option ℕ
+number_named s p = get dentry_cmp s.names p
 
 -- where an object is known by these names, in the order of places
-abbrev pub places_in : List (Place × ℕ) → ℕ → List Place
+abbrev pub places_in : List (Dentry × ℕ) → ℕ → List Dentry
 places_in names n = map (λ e. e.0) (filter (λ e. e.1 == n) names)
 
 -- the names that lead to others
-abbrev pub names_elsewhere : List (Place × ℕ) → ℕ → List (Place × ℕ)
+abbrev pub names_elsewhere : List (Dentry × ℕ) → ℕ → List (Dentry × ℕ)
 names_elsewhere names n = filter (λ e. not (e.1 == n)) names
 
-abbrev pub places_of : Server → ℕ → List Place
+abbrev pub places_of : Server → ℕ → List Dentry
 places_of s n = places_in s.names n
 
-abbrev pub first_of : {X : Type 0} → List X → Option X
-first_of [] = None
-first_of (x ∷ xs) = Some x
+abbrev pub head_of : {X : Type 0} → List X → Option X
+head_of [] = None
+head_of (x ∷ xs) = Some x
 
 -- the first of them
-abbrev pub place_of : Server → ℕ → Option Place
-place_of s n = first_of (places_of s n)
+abbrev pub place_of : Server → ℕ → Option Dentry
+place_of s n = head_of (places_of s n)
 
-abbrev pub without_name : Place → Server → Server
-without_name p s = record s { names = without place_cmp s.names p }
+abbrev pub without_name : Dentry → Server → Server
+without_name p s = record s { names = without dentry_cmp s.names p }
 
 -- the name leads to the object, and to no other
-abbrev pub with_name : Place → ℕ → FileType → Server → Server
-with_name p n kind s = record s {
+abbrev pub with_dentry : Dentry → ℕ → FileType → Server → Server
+with_dentry p n kind s = record s {
   kinds = with_entry nat_cmp s.kinds n kind;
-  names = with_entry place_cmp s.names p n;
+  names = with_entry dentry_cmp s.names p n;
 }
 
 -- ---- times
@@ -160,22 +160,22 @@ abbrev pub times_with : Bool → ℕ → Times → List (ℕ × Times) → List 
 times_with true n times old = old
 times_with false n times old = with_entry nat_cmp old n times
 
-abbrev pub with_times : ℕ → Times → Server → Server
-with_times n times s = record s { times = times_with s.settings.keeps_times n times s.times }
+abbrev pub with_times_of : ℕ → Times → Server → Server
+with_times_of n times s = record s { times = times_with s.settings.keeps_times n times s.times }
 
--- its contents have changed
-abbrev pub touched : Time → ℕ → Server → Server
-touched now n s = with_times n (record (times_of s n) { mtime = now; ctime = now }) s
+-- its contents have with_change_time
+abbrev pub with_new_contents : Time → ℕ → Server → Server
+with_new_contents now n s = with_times_of n (record (times_of s n) { mtime = now; ctime = now }) s
 
 -- something else of it has
-abbrev pub changed : Time → ℕ → Server → Server
-changed now n s = with_times n (record (times_of s n) { ctime = now }) s
+abbrev pub with_change_time : Time → ℕ → Server → Server
+with_change_time now n s = with_times_of n (record (times_of s n) { ctime = now }) s
 
 -- a new object has the number
-abbrev pub born : Time → Place → ℕ → FileType → Server → Server
-born now p n kind s =
-    let u = with_times n (record { atime = now; mtime = now; ctime = now }) (with_generation n s) in
-    touched now p.directory (once_more n (with_name p n kind u))
+abbrev pub with_new_object : Time → Dentry → ℕ → FileType → Server → Server
+with_new_object now p n kind s =
+    let u = with_times_of n (record { atime = now; mtime = now; ctime = now }) (with_generation n s) in
+    with_new_contents now p.directory (once_more n (with_dentry p n kind u))
 
 -- ---- what the kernel forgets
 
@@ -190,7 +190,7 @@ without_object_of None s = s
 without_object_of (Some n) s = if n == root then s else without_object n s
 
 abbrev pub without_node : ℕ → Server → Server
-without_node node s = without_object_of (number_of s node) (record s { lookups = without nat_cmp s.lookups node })
+without_node node s = without_object_of (number_of_node s node) (record s { lookups = without nat_cmp s.lookups node })
 
 -- how often a node is still known: one that was told too often to be counted is known for good
 abbrev pub left_of : ℕ → ℕ → ℕ
@@ -230,14 +230,14 @@ all_processes s = map (λ e. e.0) s.processes
 abbrev pub processes_of : Server → Credential → List ℕ
 processes_of s cred = filter (is_process_of s.processes cred) (all_processes s)
 
-abbrev pub with_process : ℕ → Credential → Server → Server
-with_process pid cred s = record s { processes = with_entry nat_cmp s.processes pid cred }
+abbrev pub with_known_process : ℕ → Credential → Server → Server
+with_known_process pid cred s = record s { processes = with_entry nat_cmp s.processes pid cred }
 
 abbrev pub without_process : ℕ → Server → Server
 without_process pid s = record s { processes = without nat_cmp s.processes pid }
 
-abbrev pub with_the_looker : ℕ → Server → Server
-with_the_looker pid s = record s { looker = Some pid }
+abbrev pub with_the_server_process : ℕ → Server → Server
+with_the_server_process pid s = record s { server_process = Some pid }
 
 -- the kernel judges by ACLs only where it offers that
 abbrev pub with_acls_offered : Bool → Server → Server
@@ -267,18 +267,18 @@ abbrev pub idle : Server → List ℕ → List ℕ
 idle s pids = filter (λ pid. not (holds_some s pid)) pids
 
 abbrev pub first_process : Server → Credential → Option ℕ
-first_process s cred = first_of (processes_of s cred)
+first_process s cred = head_of (processes_of s cred)
 
 -- one that holds some descriptors already and has room for more
 abbrev pub partly_used : Server → Credential → Option ℕ
-partly_used s cred = first_of (filter (has_room s) (processes_of s cred))
+partly_used s cred = head_of (filter (has_room s) (processes_of s cred))
 
 abbrev pub idle_process : Server → Credential → Option ℕ
-idle_process s cred = first_of (idle s (processes_of s cred))
+idle_process s cred = head_of (idle s (processes_of s cred))
 
 -- the first idle one from a number on
 abbrev pub next_idle : Server → ℕ → Option ℕ
-next_idle s least = first_of (idle s (filter (nat_le least) (all_processes s)))
+next_idle s least = head_of (idle s (filter (nat_le least) (all_processes s)))
 
 -- the users of the processes that hold some, with an entry for each process
 abbrev pub process_holders : Server → List ℕ
@@ -294,7 +294,7 @@ object_of s handle = get nat_cmp s.handles handle
 
 -- a handle of the object
 abbrev pub handle_for : Server → ℕ → Option ℕ
-handle_for s n = first_of (map (λ e. e.0) (filter (λ e. e.1 == n) s.handles))
+handle_for s n = head_of (map (λ e. e.0) (filter (λ e. e.1 == n) s.handles))
 
 abbrev pub with_handle : ℕ → ℕ → Server → Server
 with_handle handle n s = record s { handles = with_entry nat_cmp s.handles handle n }
@@ -304,7 +304,7 @@ without_handle handle s = record s { handles = without nat_cmp s.handles handle 
 
 -- ---- open directories
 
--- the users who opened them, with an entry for each directory
+-- the users who with_opened them, with an entry for each directory
 abbrev pub directory_holders : Server → List ℕ
 directory_holders s = map (λ e. e.1.owner) s.directories
 
@@ -319,8 +319,8 @@ abbrev pub with_directory : ℕ → OpenDirectory → Server → Server
 with_directory handle d s = record s { directories = with_entry nat_cmp s.directories handle d }
 
 -- a user opens it
-abbrev pub opened : ℕ → ℕ → Server → Server
-opened uid n s =
+abbrev pub with_opened : ℕ → ℕ → Server → Server
+with_opened uid n s =
     record (with_directory s.next_directory (record { number = n; owner = uid; listing = None }) s) { next_directory = s.next_directory + 1 }
 
 abbrev pub with_listing_of : ℕ → List (List ℕ × ℕ) → Option OpenDirectory → Server → Server

@@ -1,20 +1,20 @@
 //! Calls by names that are lent.
 ghost use Rattle.std.specs.Prelude.{◌≡◌};
 
-use crate::place::Place;
+use crate::dentry::Dentry;
 use fs_model::Call;
 
 /// Who makes calls by names that a server lends: so no call needs a copy.
 pub trait Borrower<Reply> {
     ghost use Rattle.std.specs.Prelude.{ℕ, Option};
     ghost use Rattle.fs_model.specs.declared.call.Call.{Call};
-    ghost use Rattle.fuse_state.specs.declared.place.Place.{Place};
+    ghost use Rattle.fuse_state.specs.declared.dentry.Dentry.{Dentry};
 
     /// Whether a call can be made by a lent name.
     ghost Takes: { Call → Type 0 };
 
     /// A call of a process by a name comes to a reply; its second name may be one of another directory.
-    ghost Calls: { Self → ℕ → Option ℕ → Call → Place → Reply → Self → Type 0 };
+    ghost Calls: { Self → ℕ → Option ℕ → Call → Dentry → Reply → Self → Type 0 };
 
     /// Makes the call, and gives the name back.
     fn call_at(
@@ -22,10 +22,10 @@ pub trait Borrower<Reply> {
         pid: usize,
         second: Option<u32>,
         call: &mut Call,
-        place: Place,
-    ) -> (Reply, Place)
+        dentry: Dentry,
+    ) -> (Reply, Dentry)
         requires { Takes call.old }
-        ensures did { Calls self.old pid second call.old place result.0 self.new }
+        ensures did { Calls self.old pid second call.old dentry result.0 self.new }
         ensures call { call.new ≡ call.old }
-        ensures place { result.1 ≡ place };
+        ensures dentry { result.1 ≡ dentry };
 }

@@ -32,7 +32,7 @@ pub fn found_nodes_lead_to_objects()
 /// did.
 pub fn names_are_kept()
     ensures names { NamesAreKept }
-    ensures place { AddedNamesArePlaces }
+    ensures dentry { AddedNamesArePlaces }
 {}
 
 /// Each time that a node is told - its object is found, is new, or got one more name - it is counted once more, and no other is.

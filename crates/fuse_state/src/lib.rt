@@ -6,12 +6,12 @@
 #![tactic(auto)]
 
 mod borrower;
+mod dentry;
 mod directory;
 mod handle;
 mod keeping;
 mod laws;
 mod names;
-mod place;
 mod server;
 mod settings;
 mod shares;
@@ -19,6 +19,7 @@ mod table;
 mod times;
 
 pub use borrower::Borrower;
+pub use dentry::Dentry;
 pub use directory::OpenDirectory;
 pub use handle::{descriptor_of, handle_of, owner_of};
 pub use keeping::Keeping;
@@ -26,7 +27,6 @@ pub use laws::{
     forgotten_nodes_are_free, found_nodes_lead_to_objects, handles_tell_descriptors,
     names_are_kept, nodes_lead_to_objects, shares_are_kept, told_nodes_are_counted,
 };
-pub use place::Place;
 pub use server::{REQUEST_ROOM, Server};
 pub use settings::Settings;
 pub use shares::Shares;

@@ -3,13 +3,13 @@
 //! A map that hashes would put names in no order, and `BTreeMap` reserves no room.
 ghost use Rattle.std.specs.Prelude.{◌≡◌, ◌+◌, ◌^◌, ◌<◌, ◌≤◌, [], length, drop, slice_get, slice_index_or, None, Some, option_copied, OnOk, IsSome, IfSome, IsNone, IsTrue, IsFalse, MatchResult};
 ghost use Rattle.fs_layout.specs.Maps.{get, with_entry, without, IsMap};
-ghost use Rattle.fuse_state.specs.Names.{by_places, by_inodes, found, compare_place, compare_found, is_below, leads_to, found_at, found_cmp, keys_of, Stand, BeginsAt};
-ghost use Rattle.fuse_state.specs.declared.place.Place.{Place as PlaceOf};
-ghost use Rattle.fuse_state.specs.Servers.{place_cmp, places_in, names_elsewhere};
+ghost use Rattle.fuse_state.specs.Names.{by_keys, by_inodes, found_entry, compare_place, compare_found, is_lower, leads_to, found_under, found_cmp, keys_of, Stand, BeginsAt};
+ghost use Rattle.fuse_state.specs.declared.dentry.Dentry.{Dentry as PlaceOf};
+ghost use Rattle.fuse_state.specs.Servers.{dentry_cmp, places_in, names_elsewhere};
 ghost use Rattle.fuse_state.specs.Tables.{IsAt, IsGap};
 
 use crate::borrower::Borrower;
-use crate::place::{Found, Place};
+use crate::dentry::{Dentry, Found};
 use fs_model::{Call, Name};
 use slab::Slab;
 use std::alloc::{AllocError, Global};
@@ -29,10 +29,10 @@ pub(crate) struct Names {
 
 impl Model for Names {
     ghost use Rattle.std.specs.Prelude.{ℕ, List, vec_len, vec_capacity};
-    ghost use Rattle.fuse_state.specs.declared.place.Place.{Place};
+    ghost use Rattle.fuse_state.specs.declared.dentry.Dentry.{Dentry};
     ghost use Rattle.fuse_state.specs.Names.{names_under, IsIndexed, HasNameRoom};
 
-    ghost Value = { List (Place × ℕ) × ℕ };
+    ghost Value = { List (Dentry × ℕ) × ℕ };
 
     ghost view = { λ names. (names_under names.found.slots names.by_place.items, names.room) };
 
@@ -71,42 +71,42 @@ impl Names {
 
 impl Names {
     /// The inode that a name leads to.
-    pub(crate) fn get(&self, place: &Place) -> Option<u32>
-        ensures found { result ≡ get place_cmp self.now.0 place.now }
-        ensures rising { IsMap place_cmp self.now.0 }
+    pub(crate) fn get(&self, dentry: &Dentry) -> Option<u32>
+        ensures found { result ≡ get dentry_cmp self.now.0 dentry.now }
+        ensures rising { IsMap dentry_cmp self.now.0 }
     {
-        let Ok(at) = search_places(&self.found, &self.by_place, place) else {
+        let Ok(at) = search_places(&self.found, &self.by_place, dentry) else {
             return None;
         };
         self.found.get(self.by_place[at]).map(|found| found.inode)
     }
 
     /// A name leads to an inode, and to no other. Where it leads there already nothing moves.
-    pub(crate) fn put(&mut self, place: Place, inode: u32)
+    pub(crate) fn put(&mut self, dentry: Dentry, inode: u32)
         requires { 0 < self.old.1 }
-        ensures put { self.new.0 ≡ with_entry place_cmp self.old.0 place inode }
+        ensures put { self.new.0 ≡ with_entry dentry_cmp self.old.0 dentry inode }
         ensures room { self.old.1 ≤ self.new.1 + 1 }
     {
-        match self.get(&place) {
+        match self.get(&dentry) {
             Some(known) if known == inode => return,
-            Some(_) => self.remove(&place),
+            Some(_) => self.remove(&dentry),
             None => {}
         }
-        self.add(place, inode);
+        self.add(dentry, inode);
     }
 
     // A name that leads nowhere yet.
-    fn add(&mut self, place: Place, inode: u32)
+    fn add(&mut self, dentry: Dentry, inode: u32)
         requires room { 0 < self.old.1 }
-        requires new { get place_cmp self.old.0 place ≡ None }
-        ensures put { self.new.0 ≡ with_entry place_cmp self.old.0 place inode }
+        requires new { get dentry_cmp self.old.0 dentry ≡ None }
+        ensures put { self.new.0 ≡ with_entry dentry_cmp self.old.0 dentry inode }
         ensures room { self.old.1 ≤ self.new.1 + 1 }
     {
-        let found = Found { place, inode };
-        let Err(at) = search_places(&self.found, &self.by_place, &found.place) else {
+        let found = Found { dentry, inode };
+        let Err(at) = search_places(&self.found, &self.by_place, &found.dentry) else {
             unreachable!()
         };
-        let Err(behind) = search_inodes(&self.found, &self.by_inode, inode, &found.place) else {
+        let Err(behind) = search_inodes(&self.found, &self.by_inode, inode, &found.dentry) else {
             unreachable!()
         };
         let key = self.found.insert_reserved(found);
@@ -116,18 +116,18 @@ impl Names {
     }
 
     /// A name leads nowhere.
-    pub(crate) fn remove(&mut self, place: &Place)
-        ensures removed { self.new.0 ≡ without place_cmp self.old.0 place.now }
+    pub(crate) fn remove(&mut self, dentry: &Dentry)
+        ensures removed { self.new.0 ≡ without dentry_cmp self.old.0 dentry.now }
         ensures room { self.new.1 ≡ self.old.1 }
     {
-        let Ok(at) = search_places(&self.found, &self.by_place, place) else {
+        let Ok(at) = search_places(&self.found, &self.by_place, dentry) else {
             return;
         };
         let key = self.by_place[at];
         let Some(found) = self.found.get(key) else {
             unreachable!()
         };
-        let Ok(behind) = search_inodes(&self.found, &self.by_inode, found.inode, place) else {
+        let Ok(behind) = search_inodes(&self.found, &self.by_inode, found.inode, dentry) else {
             unreachable!()
         };
         let _placed = self.by_place.remove(at);
@@ -148,10 +148,10 @@ impl Names {
         let Some(found) = self.found.get(key) else {
             unreachable!()
         };
-        let Ok(at) = search_places(&self.found, &self.by_place, &found.place) else {
+        let Ok(at) = search_places(&self.found, &self.by_place, &found.dentry) else {
             unreachable!()
         };
-        let Ok(behind) = search_inodes(&self.found, &self.by_inode, found.inode, &found.place)
+        let Ok(behind) = search_inodes(&self.found, &self.by_inode, found.inode, &found.dentry)
         else {
             unreachable!()
         };
@@ -170,11 +170,11 @@ impl Names {
     }
 
     /// One of the names that lead to an inode, in the order of their places.
-    pub(crate) fn place_of(&self, inode: u32, at: usize) -> Option<&Place>
+    pub(crate) fn place_of(&self, inode: u32, at: usize) -> Option<&Dentry>
         ensures { option_copied result ≡ slice_get (places_in self.now.0 inode) at }
     {
         let key = key_of(&self.found, &self.by_inode, inode, at)?;
-        self.found.get(key).map(|found| &found.place)
+        self.found.get(key).map(|found| &found.dentry)
     }
 
     /// A call by one of the names that lead to an inode, which is lent; an empty name stands for it meanwhile.
@@ -199,45 +199,45 @@ impl Names {
     {
         let key = key_of(&self.found, &self.by_inode, inode, at)?;
         let found = self.found.get_mut(key)?;
-        let directory = found.place.directory;
-        let name = mem::replace(&mut found.place.name, blank);
-        let (reply, place) = borrower.call_at(pid, second, call, Place { directory, name });
-        found.place = place;
+        let directory = found.dentry.directory;
+        let name = mem::replace(&mut found.dentry.name, blank);
+        let (reply, dentry) = borrower.call_at(pid, second, call, Dentry { directory, name });
+        found.dentry = dentry;
         Some(reply)
     }
 }
 
 // How what stands under a key compares with a place. Under each key that is asked for something stands.
-fn compare_place(names: &Slab<Found>, key: usize, place: &Place) -> Ordering
-    ensures { result ≡ compare_place place.now (slice_index_or names.now.slots key None) }
+fn compare_place(names: &Slab<Found>, key: usize, dentry: &Dentry) -> Ordering
+    ensures { result ≡ compare_place dentry.now (slice_index_or names.now.slots key None) }
 {
     match names.get(key) {
-        Some(found) => found.place.compare(place),
+        Some(found) => found.dentry.compare(dentry),
         None => Ordering::Less,
     }
 }
 
 // The same by inodes first.
-fn compare_found(names: &Slab<Found>, key: usize, inode: u32, place: &Place) -> Ordering
-    ensures { result ≡ compare_found (found place.now inode) (slice_index_or names.now.slots key None) }
+fn compare_found(names: &Slab<Found>, key: usize, inode: u32, dentry: &Dentry) -> Ordering
+    ensures { result ≡ compare_found (found_entry dentry.now inode) (slice_index_or names.now.slots key None) }
 {
     match names.get(key) {
         Some(found) => found
             .inode
             .cmp(&inode)
-            .then_with(|| found.place.compare(place)),
+            .then_with(|| found.dentry.compare(dentry)),
         None => Ordering::Less,
     }
 }
 
 // Where the key of a place stands among the keys in the order of places, or where it would stand.
-fn search_places(names: &Slab<Found>, keys: &[usize], place: &Place) -> Result<usize, usize>
-    requires rising { IsMap place_cmp (by_places names.now.slots keys.now) }
+fn search_places(names: &Slab<Found>, keys: &[usize], dentry: &Dentry) -> Result<usize, usize>
+    requires rising { IsMap dentry_cmp (by_keys names.now.slots keys.now) }
     requires stand { Stand names.now.slots keys.now }
-    ensures { MatchResult result (IsAt (by_places names.now.slots keys.now) place.now)
-        (IsGap place_cmp (by_places names.now.slots keys.now) place.now) }
+    ensures { MatchResult result (IsAt (by_keys names.now.slots keys.now) dentry.now)
+        (IsGap dentry_cmp (by_keys names.now.slots keys.now) dentry.now) }
 {
-    keys.binary_search_by(|key| compare_place(names, *key, place))
+    keys.binary_search_by(|key| compare_place(names, *key, dentry))
 }
 
 // The same among the keys by inodes.
@@ -245,19 +245,19 @@ fn search_inodes(
     names: &Slab<Found>,
     keys: &[usize],
     inode: u32,
-    place: &Place,
+    dentry: &Dentry,
 ) -> Result<usize, usize>
     requires rising { IsMap found_cmp (by_inodes names.now.slots keys.now) }
     requires stand { Stand names.now.slots keys.now }
-    ensures { MatchResult result (IsAt (by_inodes names.now.slots keys.now) (found place.now inode))
-        (IsGap found_cmp (by_inodes names.now.slots keys.now) (found place.now inode)) }
+    ensures { MatchResult result (IsAt (by_inodes names.now.slots keys.now) (found_entry dentry.now inode))
+        (IsGap found_cmp (by_inodes names.now.slots keys.now) (found_entry dentry.now inode)) }
 {
-    keys.binary_search_by(|key| compare_found(names, *key, inode, place))
+    keys.binary_search_by(|key| compare_found(names, *key, inode, dentry))
 }
 
 // Whether what stands under a key leads to a lower inode.
 fn is_below(names: &Slab<Found>, key: usize, inode: u32) -> bool
-    ensures { result ≡ is_below inode (slice_index_or names.now.slots key None) }
+    ensures { result ≡ is_lower inode (slice_index_or names.now.slots key None) }
 {
     match names.get(key) {
         Some(found) => found.inode < inode,
@@ -299,7 +299,7 @@ fn key_of(names: &Slab<Found>, keys: &[usize], inode: u32, at: usize) -> Option<
     requires stand { Stand names.now.slots keys.now }
     ensures key { result ≡ slice_get (keys_of names.now.slots keys.now inode) at }
     ensures within { IsSome result → at < length keys.now }
-    ensures stands { IfSome result (λ key. slice_index_or names.now.slots key None ≡ Some (found_at names.now.slots key)) }
+    ensures stands { IfSome result (λ key. slice_index_or names.now.slots key None ≡ Some (found_under names.now.slots key)) }
 {
     let first = first_of(names, keys, inode);
     let key = key_behind(keys, first, at)?;

@@ -1,6 +1,6 @@
 //! A server's state.
 ghost use Rattle.std.specs.Prelude.{◌≡◌, IfOk, OnOk, OnErr};
-ghost use Rattle.fuse_state.specs.Servers.{new_server, with_the_looker, with_acls_offered, with_end};
+ghost use Rattle.fuse_state.specs.Servers.{new_server, with_the_server_process, with_acls_offered, with_end};
 
 mod changes;
 mod directories;
@@ -38,7 +38,7 @@ pub struct Server {
     names: Names,
     times: Table<Times>,
     processes: Table<Cred>,
-    looker: Option<usize>,
+    server_process: Option<usize>,
     handles: Table<u32>,
     directories: Table<OpenDirectory>,
     next_directory: u64,
@@ -47,7 +47,7 @@ pub struct Server {
 }
 
 impl Model for Server {
-    ghost use Rattle.fuse_state.specs.Rooms.{Kept, HasRoom};
+    ghost use Rattle.fuse_state.specs.Rooms.{Kept, HasTableRoom};
 
     ghost Value = { Kept };
 
@@ -60,7 +60,7 @@ impl Model for Server {
         names = s.names.0;
         times = s.times.0;
         processes = s.processes.0;
-        looker = s.looker;
+        server_process = s.server_process;
         handles = s.handles.0;
         directories = s.directories.0;
         next_directory = s.next_directory;
@@ -69,7 +69,7 @@ impl Model for Server {
       room = s.room;
     } };
 
-    ghost invariant = { λ s. HasRoom s.room s.generations.1 s.kinds.1 s.lookups.1 s.names.1 s.times.1 s.processes.1 s.handles.1 s.directories.1 s.next_directory };
+    ghost invariant = { λ s. HasTableRoom s.room s.generations.1 s.kinds.1 s.lookups.1 s.names.1 s.times.1 s.processes.1 s.handles.1 s.directories.1 s.next_directory };
 }
 
 impl Server {
@@ -88,7 +88,7 @@ impl Server {
             names: Names::new(alloc),
             times: Table::new(alloc),
             processes: Table::new(alloc),
-            looker: None,
+            server_process: None,
             handles: Table::new(alloc),
             directories: Table::new(alloc),
             next_directory: FIRST_DIRECTORY,
@@ -126,18 +126,18 @@ impl Server {
     }
 
     /// The server's own process, once it has begun.
-    pub fn looker(&self) -> Option<usize>
-        ensures { result ≡ self.now.server.looker }
+    pub fn server_process(&self) -> Option<usize>
+        ensures { result ≡ self.now.server.server_process }
     {
-        self.looker
+        self.server_process
     }
 
     /// The server's own process has begun.
-    pub fn set_looker(&mut self, pid: usize)
-        ensures kept { self.new.server ≡ with_the_looker pid self.old.server }
+    pub fn set_server_process(&mut self, pid: usize)
+        ensures kept { self.new.server ≡ with_the_server_process pid self.old.server }
         ensures room { self.new.room ≡ self.old.room }
     {
-        self.looker = Some(pid);
+        self.server_process = Some(pid);
     }
 
     /// Whether the kernel offers to judge by ACLs too. Where it doesn't, the server judges alone.

@@ -14,17 +14,17 @@ use Rattle.std.proofs.lemmas.List.{append-nil, get_or-map, length-append, length
 use Rattle.fs_model.specs.declared.listing.Named.{Named}
 use Rattle.fs_model.specs.Listings.{pairs}
 use Rattle.fuse_protocol.specs.declared.entry.DirectoryEntry.{DirectoryEntry}
-use Rattle.fuse_protocol.specs.Bytes.{le32s, le64s, zeros}
+use Rattle.fuse_protocol.specs.Bytes.{bytes_of_u32s, bytes_of_u64s, zeros_of}
 use Rattle.fuse_protocol.specs.Entries.{padding, entry_size, directory_entry_bytes}
 use Rattle.fuse_state.specs.declared.directory.OpenDirectory.{OpenDirectory}
 use Rattle.fuse_plans.specs.DirectoryPlans.{listed_entry, fitting, listing_bytes, list_now, listed}
 use Rattle.fuse_plans.specs.Works.{give}
 
 pub entry-length : (e : DirectoryEntry) → length (directory_entry_bytes e) ≡ entry_size (length e.name)
-unfolding directory_entry_bytes le32s le64s
+unfolding directory_entry_bytes bytes_of_u32s bytes_of_u64s
 entry-length e =
-    let zeroes : length (zeros (padding (length e.name))) ≡ padding (length e.name) = length-replicate {A = ℕ} (padding (length e.name)) 0 in
-    omega (arith, length-append e.name (zeros (padding (length e.name))), zeroes)
+    let zeroes : length (zeros_of (padding (length e.name))) ≡ padding (length e.name) = length-replicate {A = ℕ} (padding (length e.name)) 0 in
+    omega (arith, length-append e.name (zeros_of (padding (length e.name))), zeroes)
 
 pub next-name : {shown : List (List ℕ × ℕ)} (names : List Named) (i : ℕ) (n : Named) → pairs names ≡ shown → i < length names → n ≡ get_or names i n
     → drop i shown ≡ (n.name, n.inode) ∷ drop (i + 1) shown

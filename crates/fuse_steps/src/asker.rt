@@ -15,7 +15,7 @@ use crate::path::name_in;
 use fs_cred::Refusal;
 use fs_layout::ROOT;
 use fs_model::{Call, Event, Path, Reply};
-use fuse_plans::Stop;
+use fuse_plans::RequestError;
 
 // The refusal that a reply is.
 fn refusal_in(reply: &Reply) -> Option<Refusal>
@@ -28,11 +28,11 @@ fn refusal_in(reply: &Reply) -> Option<Refusal>
 }
 
 /// A refusal stops: the error is the refusal, with the denial that it may be.
-pub fn unless_refused(reply: Reply) -> Result<Reply, Stop>
+pub fn unless_refused(reply: Reply) -> Result<Reply, RequestError>
     ensures { unless_refused reply ≡ of_result result }
 {
     match refusal_in(&reply) {
-        Some(refusal) => Err(Stop::Refuses(refusal)),
+        Some(refusal) => Err(RequestError::Refuses(refusal)),
         None => Ok(reply),
     }
 }
@@ -53,7 +53,7 @@ pub fn ask_call<M: Machine>(machine: &mut M, pid: usize, call: &Call) -> Reply
 }
 
 /// The reply to an event, unless that is a refusal.
-pub fn obtain<M: Machine>(machine: &mut M, event: Event) -> Result<Reply, Stop>
+pub fn obtain<M: Machine>(machine: &mut M, event: Event) -> Result<Reply, RequestError>
     requires { IsTrue (is_of_machine event) }
     ensures { DidByMachine M.Serves (obtain event) machine.old machine.new result }
 {
@@ -63,7 +63,11 @@ pub fn obtain<M: Machine>(machine: &mut M, event: Event) -> Result<Reply, Stop>
 }
 
 /// The reply to a call of a process, unless that is a refusal.
-pub fn obtain_call<M: Machine>(machine: &mut M, pid: usize, call: &Call) -> Result<Reply, Stop>
+pub fn obtain_call<M: Machine>(
+    machine: &mut M,
+    pid: usize,
+    call: &Call,
+) -> Result<Reply, RequestError>
     ensures { DidByMachine M.Serves (obtain (Calls pid call.now)) machine.old machine.new result }
 {
     let reply = ask_call(machine, pid, call);
@@ -71,7 +75,11 @@ pub fn obtain_call<M: Machine>(machine: &mut M, pid: usize, call: &Call) -> Resu
 }
 
 /// The same of a call that is made once.
-pub fn obtain_once<M: Machine>(machine: &mut M, pid: usize, call: Call) -> Result<Reply, Stop>
+pub fn obtain_once<M: Machine>(
+    machine: &mut M,
+    pid: usize,
+    call: Call,
+) -> Result<Reply, RequestError>
     ensures { DidByMachine M.Serves (obtain (Calls pid call)) machine.old machine.new result }
 {
     let reply = obtain_call(machine, pid, &call);
@@ -102,7 +110,7 @@ pub fn between<M: Machine>(
     directory: u32,
     second: u32,
     call: &Call,
-) -> Result<Reply, Stop>
+) -> Result<Reply, RequestError>
     ensures { DidByMachine M.Serves (between pid directory second call.now) machine.old machine.new result }
 {
     unless_refused(enter(machine, pid, directory, second))?.discard();
@@ -118,7 +126,7 @@ pub fn inside<M: Machine>(
     pid: usize,
     directory: u32,
     call: Call,
-) -> (Result<Reply, Stop>, Path)
+) -> (Result<Reply, RequestError>, Path)
     requires { IsSome (name_in call) }
     ensures did { DidByMachine M.Serves (inside pid directory call) machine.old machine.new result.0 }
     ensures name { name_in call ≡ Some result.1 }
@@ -131,15 +139,15 @@ pub fn inside<M: Machine>(
 }
 
 /// The reply says no more than that it was done.
-pub fn done(tried: Result<Reply, Stop>) -> Result<(), Stop>
-    ensures { MatchResult tried (λ reply. give tt ≡ of_result result) (λ stop. result ≡ Err stop) }
+pub fn done(tried: Result<Reply, RequestError>) -> Result<(), RequestError>
+    ensures { MatchResult tried (λ reply. give tt ≡ of_result result) (λ error. result ≡ Err error) }
 {
     match tried {
         Ok(reply) => {
             reply.discard();
             Ok(())
         }
-        Err(stop) => Err(stop),
+        Err(error) => Err(error),
     }
 }
 
@@ -148,17 +156,17 @@ pub fn or_closed<M: Machine, T>(
     machine: &mut M,
     pid: usize,
     fd: usize,
-    tried: Result<T, Stop>,
-) -> Result<T, Stop>
+    tried: Result<T, RequestError>,
+) -> Result<T, RequestError>
     ensures { DidByMachine M.Serves (or_closed pid fd tried) machine.old machine.new result }
 {
     match tried {
         Ok(value) => Ok(value),
-        Err(stop) => {
+        Err(error) => {
             let call = Call::Close(fd);
             ask_call(machine, pid, &call).discard();
             call.discard();
-            Err(stop)
+            Err(error)
         }
     }
 }
@@ -170,7 +178,7 @@ pub fn done_between<M: Machine>(
     directory: u32,
     second: u32,
     call: &Call,
-) -> Result<(), Stop>
+) -> Result<(), RequestError>
     ensures { DidByMachine M.Serves (done_between pid directory second call.now) machine.old machine.new result }
 {
     done(between(machine, pid, directory, second, call))

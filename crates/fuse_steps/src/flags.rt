@@ -1,6 +1,6 @@
 //! How a request opens a file, and how the machine does.
 ghost use Rattle.std.specs.Prelude.{◌≡◌};
-ghost use Rattle.fuse_plans.specs.Flags.{is_exec, is_excl, is_trunc, flags_with, opening, creating, making, listing};
+ghost use Rattle.fuse_plans.specs.Flags.{is_exec, is_excl, is_trunc, flags_of_mode, opening, creating, making, listing};
 
 use bitflags::Flags as _;
 use fs_model::Flags;
@@ -30,7 +30,7 @@ pub fn is_trunc(flags: OpenFlags) -> bool
 
 // For what a file is opened, and how.
 fn flags_with(mode: Mode, is_new: bool, trunc: bool, nofollow: bool, directory: bool) -> Flags
-    ensures { result ≡ flags_with mode is_new trunc nofollow directory }
+    ensures { result ≡ flags_of_mode mode is_new trunc nofollow directory }
 {
     let (read, write) = match mode {
         Mode::Reads => (true, false),

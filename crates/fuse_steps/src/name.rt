@@ -1,45 +1,45 @@
 //! Names in requests, and what is told of what has one.
 ghost use Rattle.std.specs.Prelude.{◌≡◌};
 ghost use Rattle.fuse_plans.specs.FilePlans.{only_inode};
-ghost use Rattle.fuse_plans.specs.NamePlans.{place, plain_name, attributes, found_body, judged_valid, looked_up_body, keeps_absent, or_keep_absent, keeps_names, unless_hidden, or_absent, only_file, only_no_replace, none_there};
+ghost use Rattle.fuse_plans.specs.NamePlans.{dentry, plain_name, attributes, found_body, judged_valid, looked_up_body, keeps_absent, or_keep_absent, keeps_names, unless_hidden, or_absent, only_file, only_no_replace, none_there};
 ghost use Rattle.fuse_plans.specs.Works.{of_result};
 
 use crate::times::times_in;
 use fs_cred::Errno;
 use fs_model::{Name, Path, Reply, Stamps, Status};
-use fuse_plans::{Attributes, OtherErrno, ReplyBody, Stop};
-use fuse_state::{Place, Server, Settings};
+use fuse_plans::{Attributes, OtherErrno, ReplyBody, RequestError};
+use fuse_state::{Dentry, Server, Settings};
 
 /// The name of a path in a directory.
-pub fn place(directory: u32, path: Path) -> Place
-    ensures { result ≡ place directory path }
+pub fn dentry(directory: u32, path: Path) -> Dentry
+    ensures { result ≡ dentry directory path }
 {
-    Place {
+    Dentry {
         directory,
         name: Name::new(path.into_bytes()),
     }
 }
 
 /// Nobody asks for `.` or `..` by name: the kernel resolves these itself. EINVAL for them.
-pub fn plain_name(name: &Path) -> Result<(), Stop>
+pub fn plain_name(name: &Path) -> Result<(), RequestError>
     ensures { plain_name name.now ≡ of_result result }
 {
     let bytes = name.bytes();
     if bytes == b".".as_slice() || bytes == b"..".as_slice() {
-        Err(Stop::EINVAL)
+        Err(RequestError::EINVAL)
     } else {
         Ok(())
     }
 }
 
 /// What was shown is this object: a name may lead to another by now. ESTALE then.
-pub fn only_inode(inode: u32, status: Status) -> Result<(), Stop>
+pub fn only_inode(inode: u32, status: Status) -> Result<(), RequestError>
     ensures { only_inode inode status ≡ of_result result }
 {
     if status.inode == inode {
         Ok(())
     } else {
-        Err(Stop::ESTALE)
+        Err(RequestError::ESTALE)
     }
 }
 
@@ -95,20 +95,24 @@ pub fn looked_up_body(
 }
 
 // Whether nothing has the name, and the kernel, which has judged, may keep that.
-fn keeps_absent(needs_nobody: bool, settings: Settings, stop: Stop) -> bool
-    ensures { result ≡ keeps_absent needs_nobody settings stop }
+fn keeps_absent(needs_nobody: bool, settings: Settings, error: RequestError) -> bool
+    ensures { result ≡ keeps_absent needs_nobody settings error }
 {
-    needs_nobody && (stop.is_for(Errno::ENOENT) && settings.keeping.absent != 0)
+    needs_nobody && (error.is_for(Errno::ENOENT) && settings.keeping.absent != 0)
 }
 
 /// Where a name was looked up in vain: the error, or that nothing has it.
-pub fn or_keep_absent(settings: Settings, needs_nobody: bool, stop: Stop) -> Result<ReplyBody, Stop>
-    ensures { or_keep_absent needs_nobody settings stop ≡ of_result result }
+pub fn or_keep_absent(
+    settings: Settings,
+    needs_nobody: bool,
+    error: RequestError,
+) -> Result<ReplyBody, RequestError>
+    ensures { or_keep_absent needs_nobody settings error ≡ of_result result }
 {
-    if keeps_absent(needs_nobody, settings, stop) {
+    if keeps_absent(needs_nobody, settings, error) {
         Ok(ReplyBody::Absent(settings.keeping.absent))
     } else {
-        Err(stop)
+        Err(error)
     }
 }
 
@@ -120,7 +124,7 @@ pub fn keeps_names(settings: Settings) -> bool
 }
 
 /// For how many seconds the kernel may keep a new name: not at all where it wasn't seen that it follows the directory's list.
-pub fn unless_hidden(name_valid: u64, hides: Result<bool, Stop>) -> u64
+pub fn unless_hidden(name_valid: u64, hides: Result<bool, RequestError>) -> u64
     ensures { result ≡ unless_hidden name_valid hides }
 {
     match hides {
@@ -130,11 +134,11 @@ pub fn unless_hidden(name_valid: u64, hides: Result<bool, Stop>) -> u64
 }
 
 /// A directory that was removed has no names: ENOENT in place of ESTALE.
-pub fn or_absent(known: Result<u32, Stop>) -> Result<u32, Stop>
+pub fn or_absent(known: Result<u32, RequestError>) -> Result<u32, RequestError>
     ensures { or_absent known ≡ of_result result }
 {
     match known {
-        Err(Stop::Lacks(OtherErrno::ESTALE)) => Err(Stop::ENOENT),
+        Err(RequestError::Lacks(OtherErrno::ESTALE)) => Err(RequestError::ENOENT),
         known => known,
     }
 }
@@ -145,35 +149,39 @@ const TYPE_BITS: u32 = 0o170000;
 const FILE_TYPE: u32 = 0o100000;
 
 /// Other types than that of a file aren't made, as mknod(2) has it: EPERM. Without a type it is that of a file.
-pub fn only_file(mode: u32) -> Result<(), Stop>
+pub fn only_file(mode: u32) -> Result<(), RequestError>
     ensures { only_file mode ≡ of_result result }
 {
     let file_type = mode & TYPE_BITS;
     if file_type == 0 || file_type == FILE_TYPE {
         Ok(())
     } else {
-        Err(Stop::EPERM)
+        Err(RequestError::EPERM)
     }
 }
 
 /// The one flag is that nothing may be replaced, RENAME_NOREPLACE of renameat2(2): EINVAL for any other.
-pub fn only_no_replace(flags: u32) -> Result<(), Stop>
+pub fn only_no_replace(flags: u32) -> Result<(), RequestError>
     ensures { only_no_replace flags ≡ of_result result }
 {
-    if flags > 1 { Err(Stop::EINVAL) } else { Ok(()) }
+    if flags > 1 {
+        Err(RequestError::EINVAL)
+    } else {
+        Ok(())
+    }
 }
 
 /// The name leads nowhere: EEXIST where it leads to something. Other errors of the look at it stay.
-pub fn none_there(there: Result<Reply, Stop>) -> Result<(), Stop>
+pub fn none_there(there: Result<Reply, RequestError>) -> Result<(), RequestError>
     ensures { none_there there ≡ of_result result }
 {
     match there {
-        Ok(_found) => Err(Stop::EEXIST),
-        Err(stop) => {
-            if stop.is_for(Errno::ENOENT) {
+        Ok(_found) => Err(RequestError::EEXIST),
+        Err(error) => {
+            if error.is_for(Errno::ENOENT) {
                 Ok(())
             } else {
-                Err(stop)
+                Err(error)
             }
         }
     }

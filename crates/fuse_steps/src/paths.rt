@@ -14,8 +14,8 @@ use crate::machine::Machine;
 use crate::path::swap_path;
 use fs_cred::Cred;
 use fs_model::{Call, Event, Name, Path, Reply};
-use fuse_plans::Stop;
-use fuse_state::{Borrower, Place};
+use fuse_plans::RequestError;
+use fuse_state::{Borrower, Dentry};
 use std::alloc::Global;
 use std::marker::Model;
 
@@ -53,19 +53,19 @@ impl<M: Machine> Machine for WithPaths<M> {
     }
 }
 
-impl<M: Machine> Borrower<Result<Reply, Stop>> for WithPaths<M> {
+impl<M: Machine> Borrower<Result<Reply, RequestError>> for WithPaths<M> {
     ghost Takes = { λ call. IsTrue (takes_path call) };
 
-    ghost Calls = { λ old pid second call place reply new. DidByMachine M.Serves (at_place pid second (at_path call) place) old new reply };
+    ghost Calls = { λ old pid second call dentry reply new. DidByMachine M.Serves (at_place pid second (at_path call) dentry) old new reply };
 
     fn call_at(
         &mut self,
         pid: usize,
         second: Option<u32>,
         call: &mut Call,
-        place: Place,
-    ) -> (Result<Reply, Stop>, Place) {
-        let Place { directory, name } = place;
+        dentry: Dentry,
+    ) -> (Result<Reply, RequestError>, Dentry) {
+        let Dentry { directory, name } = dentry;
         let mut path = Path::new(name.into_bytes());
         swap_path(call, &mut path);
         let reply = between(
@@ -76,11 +76,11 @@ impl<M: Machine> Borrower<Result<Reply, Stop>> for WithPaths<M> {
             call,
         );
         swap_path(call, &mut path);
-        let place = Place {
+        let dentry = Dentry {
             directory,
             name: Name::new(path.into_bytes()),
         };
-        (reply, place)
+        (reply, dentry)
     }
 }
 
@@ -115,7 +115,7 @@ impl<M: Machine> WithPaths<M> {
     }
 
     /// The reply to a call on the root: its path is `/` meanwhile.
-    pub fn obtain_at_root(&mut self, pid: usize, call: &mut Call) -> Result<Reply, Stop>
+    pub fn obtain_at_root(&mut self, pid: usize, call: &mut Call) -> Result<Reply, RequestError>
         requires { IsTrue (takes_path call.old) }
         ensures did { DidByMachine M.Serves (obtain (Calls pid (at_path call.old (codes "/")))) self.old self.new result }
         ensures call { call.new ≡ call.old }
@@ -132,7 +132,7 @@ impl<M: Machine> WithPaths<M> {
         pid: usize,
         directory: u32,
         call: &mut Call,
-    ) -> Result<Reply, Stop>
+    ) -> Result<Reply, RequestError>
         requires { IsTrue (takes_path call.old) }
         ensures did { DidByMachine M.Serves (inside pid directory (at_path call.old (codes "."))) self.old self.new result }
         ensures call { call.new ≡ call.old }

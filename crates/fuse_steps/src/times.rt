@@ -9,7 +9,7 @@ use crate::asker::ask;
 use crate::machine::Machine;
 use crate::replies::stamps_of_reply;
 use fs_model::{Event, Reply, Stamps};
-use fuse_plans::Stop;
+use fuse_plans::RequestError;
 use fuse_protocol::Time;
 use fuse_state::{Server, Times, stamp_of, times_shown};
 
@@ -47,14 +47,14 @@ pub fn ask_stamp<M: Machine>(
 }
 
 /// The times in a reply. It is asked of no process: a refusal is a fault of the machine.
-pub fn replied_stamps(reply: Reply) -> Result<Stamps, Stop>
+pub fn replied_stamps(reply: Reply) -> Result<Stamps, RequestError>
     ensures { replied_stamps reply ≡ of_result result }
 {
     let stamps = stamps_of_reply(&reply);
     reply.discard();
     match stamps {
         Some(stamps) => Ok(stamps),
-        None => Err(Stop::EIO),
+        None => Err(RequestError::EIO),
     }
 }
 
@@ -63,7 +63,7 @@ pub fn told_stamps<M: Machine>(
     machine: &mut M,
     keeps_times: bool,
     inode: u32,
-) -> Result<Option<Stamps>, Stop>
+) -> Result<Option<Stamps>, RequestError>
     ensures { DidByMachine M.Serves (told_stamps_if keeps_times inode) machine.old machine.new result }
 {
     if !keeps_times {

@@ -2,7 +2,7 @@
 use Rattle.std.proofs.Common.{◌≡◌, ℕ, ◌+◌, ◌/◌, ◌%◌, ◌<◌, [], Option, refl, sym, ap, subst, ◌∙◌, arith}
 use Rattle.posix_acl.specs.AccessList.{AccessList, IsAcl, IsSomeAcl, mode_bits}
 use Rattle.fs_layout.specs.declared.inode.Inode.{Inode}
-use Rattle.fs_layout.specs.declared.place.Place.{Place}
+use Rattle.fs_layout.specs.declared.geometry.Geometry.{Geometry}
 use Rattle.fs_layout.specs.Inode.{FitsInode}
 use Rattle.fs_layout.specs.AclSector.{kept_acl}
 use Rattle.fs_layout.specs.Images.{levels, AccessAcl, DefaultAcl, part, bit, inode_at}
@@ -29,7 +29,7 @@ pub bits_shown : (mode : ℕ) (a : AccessList) → with_low_bits mode (mode_bits
 bits_shown mode a = let small = mode_small a in omega (arith, small)
 
 -- what saving either comes to: the sectors taken, where the inode names its ACL, and its fields
-pub record IsSavedWith (p : Place) (n : ℕ) (w : Inode) (sector : Inode → ℕ) (taken : ℕ) (old new : TxnState) : Type 0 where
+pub record IsSavedWith (p : Geometry) (n : ℕ) (w : Inode) (sector : Inode → ℕ) (taken : ℕ) (old new : TxnState) : Type 0 where
   pub sound : IsSound p new
   pub touches : Touches p n taken 2 old new
   pub puts : PutsOnly (IsForSaving p n (sector (inode_at p new.sectors n))) (bitmaps p) 2 old new
@@ -39,7 +39,7 @@ pub record IsSavedWith (p : Place) (n : ℕ) (w : Inode) (sector : Inode → ℕ
   pub used : bit new.sectors p.inode_bitmap n ≡ bit old.sectors p.inode_bitmap n
 
 -- it follows where the inode as it is saved, x, has sector y for the ACL, and the fields of w
-saved_with : {p : Place} {n y taken : ℕ} {w x : Inode} {t0 t1 t2 : TxnState} (sector : Inode → ℕ) → IsAclSaved p n (inode_at p t0.sectors n) x taken t0 t1 t2 → sector x ≡ y
+saved_with : {p : Geometry} {n y taken : ℕ} {w x : Inode} {t0 t1 t2 : TxnState} (sector : Inode → ℕ) → IsAclSaved p n (inode_at p t0.sectors n) x taken t0 t1 t2 → sector x ≡ y
     → KeepsFields w x → SameStore t0 t2 → PutsOnly (IsForAcl p y) (bitmaps p) 1 t0 t1 → (y ≡ 0 → TakesSpare p 0 t0 t1)
     → PutsOnly (λ t. t ≡ p.table + n / 4) [] 1 t1 t2 → IsSavedWith p n w sector taken t0 t2
 saved_with {p} {n} {y} {w = w} {t0 = t0} {t1} {t2} sector saved is fields store acl_put none inode_put =
@@ -54,18 +54,18 @@ saved_with {p} {n} {y} {w = w} {t0 = t0} {t1} {t2} sector saved is fields store 
       used = saved.bit_same;
     }
 
-pub record IsAccessSaved (p : Place) (n : ℕ) (inode : Inode) (a : AccessList) (old new : TxnState) : Type 0 where
+pub record IsAccessSaved (p : Geometry) (n : ℕ) (inode : Inode) (a : AccessList) (old new : TxnState) : Type 0 where
   pub saved : IsSavedWith p n (with_acl_bits inode a) (λ v. v.acl) (acl_takes inode.acl (kept_acl a)) old new
   pub access : HasAcl new.sectors (inode_at p new.sectors n) a
   pub default : KeepsDefault old.sectors new.sectors (inode_at p old.sectors n) (inode_at p new.sectors n)
 
-pub record IsDefaultSaved (p : Place) (n : ℕ) (inode : Inode) (a : Option AccessList) (old new : TxnState) : Type 0 where
+pub record IsDefaultSaved (p : Geometry) (n : ℕ) (inode : Inode) (a : Option AccessList) (old new : TxnState) : Type 0 where
   pub saved : IsSavedWith p n inode (λ v. v.default_acl) (acl_takes inode.default_acl a) old new
   pub default : HasDefaultAcl new.sectors (inode_at p new.sectors n) a
   pub access : KeepsAccess old.sectors new.sectors (inode_at p old.sectors n) (inode_at p new.sectors n)
 
 -- ---- the access ACL
-module _ (p : Place) (n : ℕ) (inode : Inode) (a : AccessList) (y : ℕ) (t0 t1 t2 : TxnState)
+module _ (p : Geometry) (n : ℕ) (inode : Inode) (a : AccessList) (y : ℕ) (t0 t1 t2 : TxnState)
     (sound : IsSound p t0) (lt : n < p.inodes) (attributes : DiffersInAttributes (inode_at p t0.sectors n) inode) (valid : IsAcl a)
     (way : Stores p inode.acl y (contents (kept_acl a)) t0.sectors t1.sectors)
     (fits : FitsInode (record inode { mode = with_low_bits inode.mode (mode_bits a); acl = y }))
@@ -78,7 +78,7 @@ module _ (p : Place) (n : ℕ) (inode : Inode) (a : AccessList) (y : ℕ) (t0 t1
   access_turned =
       let v = inode_at p t0.sectors n in
       subst (λ (k : ℕ). HasStored p v (record v { acl = y }) AccessAcl k t0.sectors t1.sectors) (takes_same inode.acl (kept_acl a))
-      (stored {x = inode.acl} sound.consistent.place sound.consistent.sectors (owned_is_apart sound.consistent n lt) (sym was) {y = y} (contents (kept_acl a)) (λ n i e. cc)
+      (stored {x = inode.acl} sound.consistent.geometry sound.consistent.sectors (owned_is_apart sound.consistent n lt) (sym was) {y = y} (contents (kept_acl a)) (λ n i e. cc)
       (contents_whole (kept_acl a) (kept_valid a valid)) way (λ keeps. turns_acl t0.sectors t1.sectors v inode.acl y (sym was) keeps))
 
   default_is : inode.default_acl ≡ (inode_at p t0.sectors n).default_acl
@@ -97,7 +97,7 @@ module _ (p : Place) (n : ℕ) (inode : Inode) (a : AccessList) (y : ℕ) (t0 t1
   access_has : HasAcl t2.sectors (inode_at p t2.sectors n) a
   access_has =
       let w : Inode = record inode { mode = with_low_bits inode.mode (mode_bits a); acl = y } in
-      let there = holds_acl t1.sectors y (kept_acl a) (content_there p inode.acl y t0.sectors t1.sectors sound.consistent.place (contents (kept_acl a)) way) in
+      let there = holds_acl t1.sectors y (kept_acl a) (content_there p inode.acl y t0.sectors t1.sectors sound.consistent.geometry (contents (kept_acl a)) way) in
       let has : HasAcl t2.sectors w a = record {
         valid = valid;
         stored = acl_stays t1.sectors t2.sectors y (kept_acl a) (λ some. access_saved.keeps y (owns_acl t1.sectors w some)) there;
@@ -125,7 +125,7 @@ module _ (p : Place) (n : ℕ) (inode : Inode) (a : AccessList) (y : ℕ) (t0 t1
   }
 
 -- ---- the default ACL
-module _ (p : Place) (n : ℕ) (inode : Inode) (a : Option AccessList) (y : ℕ) (t0 t1 t2 : TxnState)
+module _ (p : Geometry) (n : ℕ) (inode : Inode) (a : Option AccessList) (y : ℕ) (t0 t1 t2 : TxnState)
     (sound : IsSound p t0) (lt : n < p.inodes) (attributes : DiffersInAttributes (inode_at p t0.sectors n) inode) (valid : IsSomeAcl a)
     (way : Stores p inode.default_acl y (contents a) t0.sectors t1.sectors)
     (fits : FitsInode (record inode { default_acl = y })) (saves : Saves p n (record inode { default_acl = y }) t1.sectors t2.sectors) where
@@ -138,7 +138,7 @@ module _ (p : Place) (n : ℕ) (inode : Inode) (a : Option AccessList) (y : ℕ)
   default_turned =
       let v = inode_at p t0.sectors n in
       subst (λ (k : ℕ). HasStored p v (record v { default_acl = y }) DefaultAcl k t0.sectors t1.sectors) (takes_same inode.default_acl a)
-      (stored {x = inode.default_acl} sound.consistent.place sound.consistent.sectors (owned_is_apart sound.consistent n lt) (sym was_default) {y = y} (contents a)
+      (stored {x = inode.default_acl} sound.consistent.geometry sound.consistent.sectors (owned_is_apart sound.consistent n lt) (sym was_default) {y = y} (contents a)
       (λ n i e. cc) (contents_whole a valid) way (λ keeps. turns_default_acl t0.sectors t1.sectors v inode.default_acl y (sym was_default) keeps))
 
   access_is : inode.acl ≡ (inode_at p t0.sectors n).acl
@@ -154,7 +154,7 @@ module _ (p : Place) (n : ℕ) (inode : Inode) (a : Option AccessList) (y : ℕ)
   default_has : HasDefaultAcl t2.sectors (inode_at p t2.sectors n) a
   default_has =
       let w : Inode = record inode { default_acl = y } in
-      let there = holds_acl t1.sectors y a (content_there p inode.default_acl y t0.sectors t1.sectors sound.consistent.place (contents a) way) in
+      let there = holds_acl t1.sectors y a (content_there p inode.default_acl y t0.sectors t1.sectors sound.consistent.geometry (contents a) way) in
       let has : HasDefaultAcl t2.sectors w a = record {
         valid = valid;
         stored = acl_stays t1.sectors t2.sectors y a (λ some. default_saved.keeps y (owns_default_acl t1.sectors w some)) there;

@@ -4,7 +4,7 @@ use Rattle.std.proofs.lemmas.Bool.{cases_lt}
 use Rattle.std.proofs.lemmas.List.{get_or_past}
 use Rattle.fs_layout.specs.declared.inode.TheConstants.{DIRECT_BLOCKS}
 use Rattle.fs_layout.specs.declared.inode.Inode.{Inode}
-use Rattle.fs_layout.specs.declared.place.Place.{Place}
+use Rattle.fs_layout.specs.declared.geometry.Geometry.{Geometry}
 use Rattle.fs_layout.specs.Bytes.{SectorMap}
 use Rattle.fs_layout.specs.Inode.{FitsInode, free_inode}
 use Rattle.fs_layout.specs.Images.{AccessAcl, DefaultAcl, part, Holds, inode_map_bits, bit, free_sectors, inode_at}
@@ -33,7 +33,7 @@ without_acls image v fits h = record {
   indirect = λ level. trimmed_named image v fits.indirect_len h.trim level (let z = h.size in omega (arith, z));
 }
 
-module _ {p : Place} {n : ℕ} {m0 m1 m2 m3 m4 : SectorMap}
+module _ {p : Geometry} {n : ℕ} {m0 m1 m2 m3 m4 : SectorMap}
     (h : IsConsistent p m0) (lt : n < p.inodes) (empty : Holds m0 (inode_at p m0 n) [])
     (mark : MarksInode p n m0 m1) (access : GivesBack p (inode_at p m0 n).acl m1 m2) (default : GivesBack p (inode_at p m0 n).default_acl m2 m3)
     (saves : Saves p n free_inode m3 m4) where
@@ -50,23 +50,23 @@ module _ {p : Place} {n : ℕ} {m0 m1 m2 m3 m4 : SectorMap}
   unfolding part
   second =
       let v = inode_at p m0 n in
-      stored {x = v.acl} h.place now.sectors apart refl {y = 0} None (λ n i e. cc) (λ c e. cc) (refl, access) (λ keeps. turns_acl m1 m2 v v.acl 0 refl keeps)
+      stored {x = v.acl} h.geometry now.sectors apart refl {y = 0} None (λ n i e. cc) (λ c e. cc) (refl, access) (λ keeps. turns_acl m1 m2 v v.acl 0 refl keeps)
 
   third : HasStored p (record (inode_at p m0 n) { acl = 0 }) (record (inode_at p m0 n) { acl = 0; default_acl = 0 }) DefaultAcl 0 m2 m3
   unfolding part
   third =
       let v = inode_at p m0 n in
       let between : Inode = record v { acl = 0 } in
-      stored {x = v.default_acl} h.place second.changes.owned.sectors (apart_after h.place apart second.changes.owned) refl {y = 0} None (λ n i e. cc) (λ c e. cc)
+      stored {x = v.default_acl} h.geometry second.changes.owned.sectors (apart_after h.geometry apart second.changes.owned) refl {y = 0} None (λ n i e. cc) (λ c e. cc)
       (refl, default) (λ keeps. turns_default_acl m2 m3 between v.default_acl 0 refl keeps)
 
   -- then it owns nothing, and neither does a free inode
   changes : ChangesBlocks p (inode_at p m0 n) free_inode m1 m3
   changes =
       let v = inode_at p m0 n in
-      let both = both_changes h.place second.changes third.changes in
+      let both = both_changes h.geometry second.changes third.changes in
       let none = without_acls m0 v (inode_fits_there h n lt) empty in
-      both_changes h.place both (no_sector_changes h.place third.changes.owned.sectors (apart_after h.place apart both.owned) none free_has_no_sector)
+      both_changes h.geometry both (no_sector_changes h.geometry third.changes.owned.sectors (apart_after h.geometry apart both.owned) none free_has_no_sector)
 
   saved : IsConsistent p m4 × IsSaved p n free_inode m1 m3 m4
   saved = saved_stays_consistent now lt first.1 free_fits changes saves
@@ -75,7 +75,7 @@ module _ {p : Place} {n : ℕ} {m0 m1 m2 m3 m4 : SectorMap}
   freed_consistent = saved.0
 
   pub freed_changes : ChangesInode p n m0 m4
-  freed_changes = both_inodes h.place first.0 saved.1.changes
+  freed_changes = both_inodes h.geometry first.0 saved.1.changes
 
   pub freed_is : inode_at p m4 n ≡ free_inode
   freed_is = saved.1.is
@@ -91,6 +91,6 @@ module _ {p : Place} {n : ℕ} {m0 m1 m2 m3 m4 : SectorMap}
 
   pub freed_super : m4 0 ≡ m0 0
   freed_super =
-      let from = after_map h.place in
+      let from = after_map h.geometry in
       saves.others 0 (λ e. omega (arith, from, e)) ∙ third.low 0 (omega (arith, from)) ∙ second.low 0 (omega (arith, from))
       ∙ mark.others 0 (λ i. let past = i.0 in omega (arith, past, from))

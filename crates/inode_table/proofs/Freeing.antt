@@ -1,7 +1,7 @@
 -- The calls by which an inode is freed, one after the other.
 use Rattle.std.proofs.Common.{◌≡◌, ℕ, ◌+◌, ◌/◌, [], sym, subst, ◌∙◌, arith, false}
 use Rattle.fs_layout.specs.declared.inode.Inode.{Inode}
-use Rattle.fs_layout.specs.declared.place.Place.{Place}
+use Rattle.fs_layout.specs.declared.geometry.Geometry.{Geometry}
 use Rattle.fs_layout.specs.Inode.{free_inode}
 use Rattle.fs_layout.specs.Images.{Holds, bit, inode_at}
 use Rattle.fs_layout.specs.InodeChanges.{MarksInode, Saves}
@@ -19,7 +19,7 @@ use Rattle.bit_alloc.proofs.Soundness.{sound_after}
 use Rattle.inode_table.proofs.Sound.{puts_nothing, puts_saving, puts_saved, puts_inode_map}
 
 -- what has come of it
-pub record IsFreed (p : Place) (n : ℕ) (old new : TxnState) : Type 0 where
+pub record IsFreed (p : Geometry) (n : ℕ) (old new : TxnState) : Type 0 where
   pub sound : IsSound p new
   pub touches : Touches p n 0 1 old new
   pub puts : PutsOnly (IsForSaving p n 0) (bitmaps p) 1 old new
@@ -27,10 +27,10 @@ pub record IsFreed (p : Place) (n : ℕ) (old new : TxnState) : Type 0 where
   pub unused : bit new.sectors p.inode_bitmap n ≡ false
 
 -- ---- what has been put so far
-module _ (p : Place) (n : ℕ) (t0 t1 t2 : TxnState) (sound : IsSound p t0) (number : IsNumber p Inodes n)
+module _ (p : Geometry) (n : ℕ) (t0 t1 t2 : TxnState) (sound : IsSound p t0) (number : IsNumber p Inodes n)
     (read : IsUnchanged t0 t1) (bit_put : PutsOnly (λ t. t ≡ p.inode_bitmap + n / 4096) (bitmaps p) 0 t1 t2) where
   pub puts_2 : PutsOnly (IsForAcl p 0) (bitmaps p) 0 t0 t2
-  puts_2 = changes_joined (puts_nothing p read) (puts_inode_map n sound.consistent.place number.1 bit_put)
+  puts_2 = changes_joined (puts_nothing p read) (puts_inode_map n sound.consistent.geometry number.1 bit_put)
 
   module _ (t3 : TxnState) (access_put : PutsOnly (IsForAcl p 0) (bitmaps p) 0 t2 t3) where
     pub puts_3 : PutsOnly (IsForAcl p 0) (bitmaps p) 0 t0 t3
@@ -45,7 +45,7 @@ module _ (p : Place) (n : ℕ) (t0 t1 t2 : TxnState) (sound : IsSound p t0) (num
         puts_5 = puts_saving p n 0 puts_4 inode_put
 
 -- ---- what has come of it
-module _ (p : Place) (n : ℕ) (v : Inode) (t0 t1 t2 t3 t4 t5 : TxnState) (sound : IsSound p t0) (number : IsNumber p Inodes n)
+module _ (p : Geometry) (n : ℕ) (v : Inode) (t0 t1 t2 t3 t4 t5 : TxnState) (sound : IsSound p t0) (number : IsNumber p Inodes n)
     (empty : Holds t0.sectors (inode_at p t0.sectors n) []) (is : v ≡ inode_at p t0.sectors n) (read : IsUnchanged t0 t1)
     (given : GivesNumber p Inodes n t1.sectors t2.sectors) (access : GivesBack p v.acl t2.sectors t3.sectors)
     (default : GivesBack p v.default_acl t3.sectors t4.sectors) (saves : Saves p n free_inode t4.sectors t5.sectors)
@@ -64,7 +64,7 @@ module _ (p : Place) (n : ℕ) (v : Inode) (t0 t1 t2 t3 t4 t5 : TxnState) (sound
 
   free_unused : bit t5.sectors p.inode_bitmap n ≡ false
   free_unused =
-      freed_bits sound.consistent number.1 empty mark access_back default_back saves n (inode_has_bit sound.consistent.place n number.1) ∙ given.clear
+      freed_bits sound.consistent number.1 empty mark access_back default_back saves n (inode_has_bit sound.consistent.geometry n number.1) ∙ given.clear
 
   free_sound : IsSound p t5
   free_sound =

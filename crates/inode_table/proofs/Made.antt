@@ -4,7 +4,7 @@ use Rattle.std.specs.Prelude.{IsErrAnd}
 use Rattle.posix_acl.specs.AccessList.{AccessList, IsAcl, IsSomeAcl, mode_bits}
 use Rattle.fs_layout.specs.declared.inode.TheConstants.{DIRECT_BLOCKS, POINTER_LEVELS}
 use Rattle.fs_layout.specs.declared.inode.Inode.{Inode}
-use Rattle.fs_layout.specs.declared.place.Place.{Place}
+use Rattle.fs_layout.specs.declared.geometry.Geometry.{Geometry}
 use Rattle.fs_layout.specs.Bytes.{SectorMap, zeros}
 use Rattle.fs_layout.specs.Inode.{FitsInode, free_inode}
 use Rattle.fs_layout.specs.AclSector.{kept_acl}
@@ -52,7 +52,7 @@ blank_has_no_sector v blank = record {
 }
 
 -- what has come of it
-pub record IsMade (p : Place) (n : ℕ) (inode : Inode) (a : AccessList) (d : Option AccessList) (old new : TxnState) : Type 0 where
+pub record IsMade (p : Geometry) (n : ℕ) (inode : Inode) (a : AccessList) (d : Option AccessList) (old new : TxnState) : Type 0 where
   pub sound : IsSound p new
   pub used : IsTrue (bit new.sectors p.inode_bitmap n)
   pub touches : Touches p n (acls_take a d) 3 old new
@@ -68,7 +68,7 @@ through_try Q (Ok a) x e q = absurd e.1
 through_try Q (Err y) x e q = subst Q (sym e.1) q
 
 -- for the access ACL
-pub too_few_for_access : (p : Place) (n : ℕ) (old new : SectorMap) (a : AccessList) (d : Option AccessList) (content : Option (List ℕ)) → TakesNumber p Inodes n old new
+pub too_few_for_access : (p : Geometry) (n : ℕ) (old new : SectorMap) (a : AccessList) (d : Option AccessList) (content : Option (List ℕ)) → TakesNumber p Inodes n old new
     → content ≡ contents (kept_acl a) → free_sectors p new < takes_for 0 content → free_sectors p old < acls_take a d
 too_few_for_access p n old new a d content taken is few =
     let same = free_kept p n old new taken.mark in
@@ -76,7 +76,7 @@ too_few_for_access p n old new a d content taken is few =
     omega (arith, same, takes, few)
 
 -- and for the default ACL
-pub too_few_for_default : (p : Place) (old new : SectorMap) (a : AccessList) (d : Option AccessList) (content : Option (List ℕ))
+pub too_few_for_default : (p : Geometry) (old new : SectorMap) (a : AccessList) (d : Option AccessList) (content : Option (List ℕ))
     → free_sectors p old ≤ free_sectors p new + acl_takes 0 (kept_acl a) → content ≡ contents d → free_sectors p new < takes_for 0 content
     → free_sectors p old < acls_take a d
 too_few_for_default p old new a d content left is few =
@@ -84,10 +84,10 @@ too_few_for_default p old new a d content left is few =
     omega (arith, left, takes, few)
 
 -- ---- what has been put so far
-module _ (p : Place) (n : ℕ) (t0 t1 : TxnState) (sound : IsSound p t0) (lt : n < p.inodes)
+module _ (p : Geometry) (n : ℕ) (t0 t1 : TxnState) (sound : IsSound p t0) (lt : n < p.inodes)
     (bit_put : PutsOnly (λ t. t ≡ p.inode_bitmap + n / 4096) (bitmaps p) 0 t0 t1) where
   pub made_puts_1 : PutsOnly (IsSectorFor p n) (bitmaps p) 0 t0 t1
-  made_puts_1 = puts_inode_bit n n sound.consistent.place lt bit_put
+  made_puts_1 = puts_inode_bit n n sound.consistent.geometry lt bit_put
 
   module _ (t2 : TxnState) {y : ℕ} (access_put : PutsOnly (IsForAcl p y) (bitmaps p) 1 t1 t2) where
     pub made_puts_2 : PutsOnly (IsSectorFor p n) (bitmaps p) 1 t0 t2
@@ -102,7 +102,7 @@ module _ (p : Place) (n : ℕ) (t0 t1 : TxnState) (sound : IsSound p t0) (lt : n
         made_puts_4 = changes_joined made_puts_3 (puts_inode p n inode_put)
 
 -- ---- where the inode's bit is set
-module _ (p : Place) (n : ℕ) (inode : Inode) (a : AccessList) (y : ℕ) (t0 t1 t2 : TxnState)
+module _ (p : Geometry) (n : ℕ) (inode : Inode) (a : AccessList) (y : ℕ) (t0 t1 t2 : TxnState)
     (sound : IsSound p t0) (clear : ClearAreFree p t0.sectors) (taken : TakesNumber p Inodes n t0.sectors t1.sectors)
     (blank : IsBlank inode) (valid : IsAcl a) (access : Stores p 0 y (contents (kept_acl a)) t1.sectors t2.sectors) where
   first : ChangesInode p n t0.sectors t1.sectors × (inode_at p t1.sectors n ≡ inode_at p t0.sectors n)
@@ -117,17 +117,17 @@ module _ (p : Place) (n : ℕ) (inode : Inode) (a : AccessList) (y : ℕ) (t0 t1
   begun : ChangesBlocks p free_inode inode t1.sectors t1.sectors
   begun =
       let apart : IsOwnedApart p t1.sectors free_inode = subst (λ (u : Inode). IsOwnedApart p t1.sectors u) was_free (owned_is_apart now n taken.free.1) in
-      no_sector_changes now.place now.sectors apart free_has_no_sector (blank_has_no_sector inode blank)
+      no_sector_changes now.geometry now.sectors apart free_has_no_sector (blank_has_no_sector inode blank)
 
   apart : IsOwnedApart p t1.sectors inode
   apart =
-      apart_after now.place (subst (λ (u : Inode). IsOwnedApart p t1.sectors u) was_free (owned_is_apart now n taken.free.1)) begun.owned
+      apart_after now.geometry (subst (λ (u : Inode). IsOwnedApart p t1.sectors u) was_free (owned_is_apart now n taken.free.1)) begun.owned
 
   second : HasStored p inode (record inode { acl = y }) AccessAcl (acl_takes 0 (kept_acl a)) t1.sectors t2.sectors
   unfolding part
   second =
       subst (λ (k : ℕ). HasStored p inode (record inode { acl = y }) AccessAcl k t1.sectors t2.sectors) (takes_same 0 (kept_acl a))
-      (stored {x = 0} now.place now.sectors apart blank.acl {y = y} (contents (kept_acl a)) (λ n i e. cc) (contents_whole (kept_acl a) (kept_valid a valid)) access
+      (stored {x = 0} now.geometry now.sectors apart blank.acl {y = y} (contents (kept_acl a)) (λ n i e. cc) (contents_whole (kept_acl a) (kept_valid a valid)) access
       (λ keeps. turns_acl t1.sectors t2.sectors inode 0 y blank.acl keeps))
 
   -- as many sectors are free as before, less that of the access ACL
@@ -142,14 +142,14 @@ module _ (p : Place) (n : ℕ) (inode : Inode) (a : AccessList) (y : ℕ) (t0 t1
     third =
         let u : Inode = record inode { acl = y } in
         subst (λ (k : ℕ). HasStored p u (record u { default_acl = z }) DefaultAcl k t2.sectors t3.sectors) (takes_same 0 d)
-        (stored {x = 0} now.place second.changes.owned.sectors (apart_after now.place apart second.changes.owned) blank.default {y = z} (contents d) (λ n i e. cc)
+        (stored {x = 0} now.geometry second.changes.owned.sectors (apart_after now.geometry apart second.changes.owned) blank.default {y = z} (contents d) (λ n i e. cc)
         (contents_whole d valid_default) default (λ keeps. turns_default_acl t2.sectors t3.sectors u 0 z blank.default keeps))
 
     changes : ChangesBlocks p free_inode (record inode { mode = with_low_bits inode.mode (mode_bits a); acl = y; default_acl = z }) t1.sectors t3.sectors
     changes =
-        let both = both_changes now.place second.changes third.changes in
-        both_changes now.place (both_changes now.place begun both)
-        (fields_change now.place third.changes.owned.sectors (apart_after now.place apart both.owned) refl refl refl)
+        let both = both_changes now.geometry second.changes third.changes in
+        both_changes now.geometry (both_changes now.geometry begun both)
+        (fields_change now.geometry third.changes.owned.sectors (apart_after now.geometry apart both.owned) refl refl refl)
 
     saved : IsConsistent p t4.sectors
         × IsSaved p n (record inode { mode = with_low_bits inode.mode (mode_bits a); acl = y; default_acl = z }) t1.sectors t3.sectors t4.sectors
@@ -163,18 +163,18 @@ module _ (p : Place) (n : ℕ) (inode : Inode) (a : AccessList) (y : ℕ) (t0 t1
 
     made_used : IsTrue (bit t4.sectors p.inode_bitmap n)
     made_used =
-        saved.1.inode_bits n (inode_has_bit sound.consistent.place n taken.free.1) ∙ taken.set
+        saved.1.inode_bits n (inode_has_bit sound.consistent.geometry n taken.free.1) ∙ taken.set
 
     made_touches : PutsOnly (IsSectorFor p n) (bitmaps p) 3 t0 t4 → Touches p n (acls_take a d) 3 t0 t4
     made_touches puts =
-        let from = after_map now.place in
+        let from = after_map now.geometry in
         let f = left_free in
         let g = third.free in
         record {
           puts = puts;
           super = saves.others 0 (λ e. omega (arith, from, e)) ∙ third.low 0 (omega (arith, from)) ∙ second.low 0 (omega (arith, from))
               ∙ taken.mark.others 0 (λ i. let past = i.0 in omega (arith, past, from));
-          inode = both_inodes now.place first.0 saved.1.changes;
+          inode = both_inodes now.geometry first.0 saved.1.changes;
           free = omega (arith, f, g, saved.1.free);
         }
 
@@ -195,7 +195,7 @@ module _ (p : Place) (n : ℕ) (inode : Inode) (a : AccessList) (y : ℕ) (t0 t1
     unfolding part
     made_access =
         let w : Inode = record inode { mode = with_low_bits inode.mode (mode_bits a); acl = y; default_acl = z } in
-        let first_there = holds_acl t2.sectors y (kept_acl a) (content_there p 0 y t1.sectors t2.sectors now.place (contents (kept_acl a)) access) in
+        let first_there = holds_acl t2.sectors y (kept_acl a) (content_there p 0 y t1.sectors t2.sectors now.geometry (contents (kept_acl a)) access) in
         let there = acl_stays t2.sectors t3.sectors y (kept_acl a) (λ some. third.others y (record { at = AccessAcl; is = refl; some = some }) (λ e. cc)) first_there in
         let has : HasAcl t4.sectors w a = record {
           valid = valid;
@@ -207,7 +207,7 @@ module _ (p : Place) (n : ℕ) (inode : Inode) (a : AccessList) (y : ℕ) (t0 t1
     made_default : HasDefaultAcl t4.sectors (inode_at p t4.sectors n) d
     made_default =
         let w : Inode = record inode { mode = with_low_bits inode.mode (mode_bits a); acl = y; default_acl = z } in
-        let there = holds_acl t3.sectors z d (content_there p 0 z t2.sectors t3.sectors now.place (contents d) default) in
+        let there = holds_acl t3.sectors z d (content_there p 0 z t2.sectors t3.sectors now.geometry (contents d) default) in
         let has : HasDefaultAcl t4.sectors w d = record {
           valid = valid_default;
           stored = acl_stays t3.sectors t4.sectors z d (λ some. saved.1.keeps z (owns_default_acl t3.sectors w some)) there;

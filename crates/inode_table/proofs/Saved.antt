@@ -1,7 +1,7 @@
 -- What an inode has once it is saved, after what it owns has changed or not.
 use Rattle.std.proofs.Common.{◌≡◌, ℕ, suc, ◌+◌, ◌/◌, ◌<◌, [], refl, sym, ap, subst, ◌∙◌, arith}
 use Rattle.fs_layout.specs.declared.inode.Inode.{Inode}
-use Rattle.fs_layout.specs.declared.place.Place.{Place}
+use Rattle.fs_layout.specs.declared.geometry.Geometry.{Geometry}
 use Rattle.fs_layout.specs.Bytes.{SectorMap}
 use Rattle.fs_layout.specs.Inode.{FitsInode}
 use Rattle.fs_layout.specs.InodeTimes.{DiffersInTimes}
@@ -61,13 +61,13 @@ saved_keeps_default {mid = mid} {new} {w = w} a keeps = record {
 pub times_are_attributes : (v w : Inode) → DiffersInTimes v w → DiffersInAttributes v w
 times_are_attributes v w differs = subst (λ (u : Inode). DiffersInAttributes v u) (sym differs) refl
 
-module _ (p : Place) (n : ℕ) (w : Inode) (old new : TxnState)
+module _ (p : Geometry) (n : ℕ) (w : Inode) (old new : TxnState)
     (sound : IsSound p old) (lt : n < p.inodes) (attributes : DiffersInAttributes (inode_at p old.sectors n) w) (fits : FitsInode w)
     (saves : Saves p n w old.sectors new.sectors) where
   owns_same : ChangesBlocks p (inode_at p old.sectors n) w old.sectors old.sectors
   owns_same =
       let h : IsConsistent p old.sectors = sound.consistent in
-      fields_change h.place h.sectors (owned_is_apart h n lt)
+      fields_change h.geometry h.sectors (owned_is_apart h n lt)
       (ap (λ (u : Inode). u.acl) attributes) (ap (λ (u : Inode). u.default_acl) attributes)
       (ap levels attributes)
 
@@ -80,7 +80,7 @@ module _ (p : Place) (n : ℕ) (w : Inode) (old new : TxnState)
   pub attributes_touch : PutsOnly (λ t. t ≡ p.table + n / 4) [] 1 old new → Touches p n 0 1 old new
   attributes_touch puts = record {
     puts = puts_inode p n puts;
-    super = saves.others 0 (let a = after_map sound.consistent.place in λ e. omega (arith, a, e));
+    super = saves.others 0 (let a = after_map sound.consistent.geometry in λ e. omega (arith, a, e));
     inode = saved.1.changes;
     free = omega (arith, saved.1.free);
   }
@@ -103,4 +103,4 @@ module _ (p : Place) (n : ℕ) (w : Inode) (old new : TxnState)
       (record { access = saved_keeps_access access saved.1.keeps; default = saved_keeps_default default saved.1.keeps })
 
   pub attributes_keep_bit : bit new.sectors p.inode_bitmap n ≡ bit old.sectors p.inode_bitmap n
-  attributes_keep_bit = saved.1.inode_bits n (inode_has_bit sound.consistent.place n lt)
+  attributes_keep_bit = saved.1.inode_bits n (inode_has_bit sound.consistent.geometry n lt)

@@ -10,7 +10,7 @@ use Rattle.fs_layout.specs.Bytes.{SectorMap, IsSector}
 use Rattle.fs_layout.specs.AclSector.{acl_content, HoldsAcl, kept_acl}
 use Rattle.fs_layout.specs.Images.{IsData, inode_at}
 use Rattle.fs_layout.proofs.OneAcl.{sector_fits, access_same}
-use Rattle.fs_layout.specs.declared.place.Place.{Place}
+use Rattle.fs_layout.specs.declared.geometry.Geometry.{Geometry}
 use Rattle.fs_layout.proofs.Parts.{owns_acl, owns_default_acl}
 use Rattle.fs_layout.proofs.Places.{after_map, before_data}
 use Rattle.sector_txn.specs.Sectors.{TxnState}
@@ -54,19 +54,19 @@ takes_same (suc s) (Some a) = refl
 
 -- ---- where they stand
 -- an ACL's sector is one of the data
-pub acl_in_data : {p : Place} {n s : ℕ} {txn : TxnState} → IsSound p txn → n < p.inodes → s ≡ (inode_at p txn.sectors n).acl → s ≢ 0 → IsData p s
+pub acl_in_data : {p : Geometry} {n s : ℕ} {txn : TxnState} → IsSound p txn → n < p.inodes → s ≡ (inode_at p txn.sectors n).acl → s ≢ 0 → IsData p s
 acl_in_data {p} {n} {s} {txn} sound lt e some =
     subst (IsData p) (sym e) (sound.consistent.in_data n _ lt (owns_acl txn.sectors (inode_at p txn.sectors n) (λ z. some (e ∙ z))))
 
-pub default_acl_in_data : {p : Place} {n s : ℕ} {txn : TxnState} → IsSound p txn → n < p.inodes → s ≡ (inode_at p txn.sectors n).default_acl → s ≢ 0 → IsData p s
+pub default_acl_in_data : {p : Geometry} {n s : ℕ} {txn : TxnState} → IsSound p txn → n < p.inodes → s ≡ (inode_at p txn.sectors n).default_acl → s ≢ 0 → IsData p s
 default_acl_in_data {p} {n} {s} {txn} sound lt e some =
     subst (IsData p) (sym e) (sound.consistent.in_data n _ lt (owns_default_acl txn.sectors (inode_at p txn.sectors n) (λ z. some (e ∙ z))))
 
 -- so it is part of the map, and on the disk
-pub data_mapped : {p : Place} {s : ℕ} {txn : TxnState} → IsSound p txn → IsData p s → (log_end txn.header ≤ s) × (s < txn.disk.size)
+pub data_mapped : {p : Geometry} {s : ℕ} {txn : TxnState} → IsSound p txn → IsData p s → (log_end txn.header ≤ s) × (s < txn.disk.size)
 data_mapped sound d =
-    let from = after_map sound.consistent.place in
-    let to = before_data sound.consistent.place in
+    let from = after_map sound.consistent.geometry in
+    let to = before_data sound.consistent.geometry in
     let size = sound.bitmaps.disk in
     (omega (arith, from, to, d, sound.bitmaps.header), omega (arith, d, size))
 

@@ -1,9 +1,9 @@
 -- The sector that an inode has for an ACL comes, goes, is rewritten or stays: what the inode owns and holds then.
 use Rattle.std.proofs.Common.{◌≡◌, ◌≢◌, ℕ, suc, ◌+◌, ◌<◌, ◌≤◌, List, Option, Some, None, refl, sym, ap, subst, ◌∙◌, arith, inl, inr}
 use Rattle.fs_layout.specs.declared.inode.Inode.{Inode}
-use Rattle.fs_layout.specs.declared.place.Place.{Place}
+use Rattle.fs_layout.specs.declared.geometry.Geometry.{Geometry}
 use Rattle.fs_layout.specs.Bytes.{SectorMap, IsSector}
-use Rattle.fs_layout.specs.Place.{IsPlace}
+use Rattle.fs_layout.specs.Geometry.{IsGeometry}
 use Rattle.fs_layout.specs.Images.{HasWholeTables, number_on, Part, OnLevel, Block, part, Owns, free_sectors}
 use Rattle.fs_layout.specs.InodeChanges.{Puts, Turns, IsOwnedApart, Takes, ChangesBlocks}
 use Rattle.fs_layout.proofs.Parts.{KeepsPointers, HasNoPointers, pointers_kept, same_part_or_not}
@@ -26,7 +26,7 @@ parts_stay {old} {new} {v} {w} {at} t e a = elim (same_part_or_not a at) [
 ]
 
 -- what is true of each of the ways
-pub record HasStored (p : Place) (v w : Inode) (at : Part) (taken : ℕ) (old new : SectorMap) : Type 0 where
+pub record HasStored (p : Geometry) (v w : Inode) (at : Part) (taken : ℕ) (old new : SectorMap) : Type 0 where
   pub changes : ChangesBlocks p v w old new
   -- what the inode has for something else is the same
   pub others : (s : ℕ) → (o : Owns old v s) → o.at ≢ at → new s ≡ old s
@@ -34,15 +34,15 @@ pub record HasStored (p : Place) (v w : Inode) (at : Part) (taken : ℕ) (old ne
   pub low : (s : ℕ) → s < p.inode_bitmap → new s ≡ old s
   pub free : free_sectors p old ≤ free_sectors p new + taken
 
-module _ {p : Place} {v w : Inode} {at : Part} {x : ℕ} {old new : SectorMap}
-    (place : IsPlace p) (tables : HasWholeTables p old) (apart : IsOwnedApart p old v) (was : part old v at ≡ x) where
+module _ {p : Geometry} {v w : Inode} {at : Part} {x : ℕ} {old new : SectorMap}
+    (geometry : IsGeometry p) (tables : HasWholeTables p old) (apart : IsOwnedApart p old v) (was : part old v at ≡ x) where
   -- nothing changes
   stays : ((s : ℕ) → new s ≡ old s) → Turns old new v w at x x → HasStored p v w at 0 old new
   stays same t =
       let e : new ≡ old = λ i s. same s i in
       let r = λ (s : ℕ) (ban : Owns old v s → ⊥). same s in
       record {
-        changes = rewrites place tables apart (parts_stay t refl) (record { whole = λ s o. subst IsSector (sym (same s)) (apart.whole s o); others = r });
+        changes = rewrites geometry tables apart (parts_stay t refl) (record { whole = λ s o. subst IsSector (sym (same s)) (apart.whole s o); others = r });
         others = λ s o ne. same s;
         turns = t.others;
         low = λ s lt. same s;
@@ -54,11 +54,11 @@ module _ {p : Place} {v w : Inode} {at : Part} {x : ℕ} {old new : SectorMap}
   rewritten ne some whole put t =
       let r = put_rewrites (record { at = at; is = was; some = some }) apart.whole whole put in
       record {
-        changes = rewrites place tables apart (parts_stay t refl) r;
+        changes = rewrites geometry tables apart (parts_stay t refl) r;
         others = λ s o other. others_kept apart at was some put o other;
         turns = t.others;
-        low = λ s lt. put.others s (λ e. let d = (apart.each x (record { at = at; is = was; some = some })).0 in let a = after_map place in let b = before_data place in omega (arith, d, a, b, lt, e));
-        free = let f = rewrites_free_sectors place apart r in omega (arith, f);
+        low = λ s lt. put.others s (λ e. let d = (apart.each x (record { at = at; is = was; some = some })).0 in let a = after_map geometry in let b = before_data geometry in omega (arith, d, a, b, lt, e));
+        free = let f = rewrites_free_sectors geometry apart r in omega (arith, f);
       }
 
   -- the sector is given back
@@ -66,10 +66,10 @@ module _ {p : Place} {v w : Inode} {at : Part} {x : ℕ} {old new : SectorMap}
   given some g t =
       let owned : Owns old v x = record { at = at; is = was; some = some } in
       record {
-        changes = loses place apart some t (releases_alone place apart g.mark g.clear);
-        others = λ s o ne. marks_keeps place apart g.mark s o;
+        changes = loses geometry apart some t (releases_alone geometry apart g.mark g.clear);
+        others = λ s o ne. marks_keeps geometry apart g.mark s o;
         turns = t.others;
-        low = λ s lt. g.mark.others s (λ b. let l = b.0 in let a = after_map place in omega (arith, l, a, lt));
+        low = λ s lt. g.mark.others s (λ b. let l = b.0 in let a = after_map geometry in omega (arith, l, a, lt));
         free = let f = g.count (apart.each x owned).2 in omega (arith, f);
       }
 
@@ -77,17 +77,17 @@ module _ {p : Place} {v w : Inode} {at : Part} {x : ℕ} {old new : SectorMap}
   fresh : {y : ℕ} {mid : SectorMap} {content : List ℕ} → TakesNumber p Blocks y old mid → Puts y content mid new → IsSector content
       → Turns old new v w at 0 y → HasStored p v w at 1 old new
   fresh {y} k put whole t =
-      let a : Takes p v y old new = takes place apart k.free k.mark k.set put whole in
+      let a : Takes p v y old new = takes geometry apart k.free k.mark k.set put whole in
       record {
-        changes = gains place apart t a;
-        others = λ s o ne. takes_keeps place apart k.free k.mark put s o;
+        changes = gains geometry apart t a;
+        others = λ s o ne. takes_keeps geometry apart k.free k.mark put s o;
         turns = t.others;
         low = λ s lt.
-            let from = after_map place in
-            let to = before_data place in
+            let from = after_map geometry in
+            let to = before_data geometry in
             let d = k.free.0 in
             put.others s (λ e. omega (arith, d, from, to, lt, e)) ∙ k.mark.others s (λ b. let l = b.0 in omega (arith, l, from, lt));
-        free = let f = gains_free_sectors place a in omega (arith, f);
+        free = let f = gains_free_sectors geometry a in omega (arith, f);
       }
 
   more : {few most : ℕ} → few ≤ most → HasStored p v w at few old new → HasStored p v w at most old new
@@ -99,27 +99,27 @@ module _ {p : Place} {v w : Inode} {at : Part} {x : ℕ} {old new : SectorMap}
   stored {y} None ne whole (gone, inl (none, same)) turns =
       stays same (subst (λ (k : ℕ). Turns old new v w at x k) (gone ∙ sym none) (turns (λ n i some. same (number_on old v (suc n) i))))
   stored {y} None ne whole (gone, inr (some, g)) turns =
-      given some g (subst (λ (k : ℕ). Turns old new v w at x k) gone (turns (pointers_kept (marks_keeps place apart g.mark))))
+      given some g (subst (λ (k : ℕ). Turns old new v w at x k) gone (turns (pointers_kept (marks_keeps geometry apart g.mark))))
   stored {y} (Some content) ne whole (inl (some, is, put)) turns =
       more (omega arith) (rewritten ne some (whole content refl) put
       (subst (λ (k : ℕ). Turns old new v w at x k) is (turns (pointers_apart apart at ne was some put))))
   stored {y} (Some content) ne whole (inr (none, (mid, k, put))) turns =
-      let keeps = pointers_kept (takes_keeps place apart k.free k.mark put) in
+      let keeps = pointers_kept (takes_keeps geometry apart k.free k.mark put) in
       let one : takes_for x (Some content) ≡ 1 = ap (λ (s : ℕ). takes_for s (Some content)) none in
       more (omega (arith, one)) (fresh k put (whole content refl) (subst (λ (s : ℕ). Turns old new v w at s y) none (turns keeps)))
 
 -- the content stands there
-pub content_there : (p : Place) (x y : ℕ) (old new : SectorMap) → IsPlace p → (content : Option (List ℕ)) → Stores p x y content old new → HoldsContent new y content
-content_there p x y old new place None (gone, way) = gone
-content_there p x y old new place (Some content) (inl (some, is, put)) = (λ e. some (sym is ∙ e), ap new is ∙ put.here)
-content_there p x y old new place (Some content) (inr (none, (mid, k, put))) =
-    let from = after_map place in
-    let to = before_data place in
+pub content_there : (p : Geometry) (x y : ℕ) (old new : SectorMap) → IsGeometry p → (content : Option (List ℕ)) → Stores p x y content old new → HoldsContent new y content
+content_there p x y old new geometry None (gone, way) = gone
+content_there p x y old new geometry (Some content) (inl (some, is, put)) = (λ e. some (sym is ∙ e), ap new is ∙ put.here)
+content_there p x y old new geometry (Some content) (inr (none, (mid, k, put))) =
+    let from = after_map geometry in
+    let to = before_data geometry in
     let d = k.free.0 in
     (λ e. omega (arith, d, from, to, e), put.here)
 
 -- the inode holds what it held
-pub stored_keeps_bytes : {p : Place} {v w : Inode} {at : Part} {taken : ℕ} {old new : SectorMap} → HasStored p v w at taken old new
+pub stored_keeps_bytes : {p : Geometry} {v w : Inode} {at : Part} {taken : ℕ} {old new : SectorMap} → HasStored p v w at taken old new
     → HasNoPointers at → ((k : ℕ) → Block k ≢ at) → w.size ≡ v.size → KeepsBytes old new v w
 unfolding part
 stored_keeps_bytes {v = v} {old = old} h ne none size =

@@ -19,7 +19,7 @@ use crate::inodes::write_inode;
 use crate::sectors::{acl_of, content_of, kept_content, with_bits};
 use crate::stored::store;
 use bit_alloc::TakeFault;
-use fs_layout::{Inode, Kind, Place};
+use fs_layout::{Geometry, Inode, Kind};
 use posix_acl::Acl;
 use sector_txn::Sectors;
 use std::alloc::Global;
@@ -29,11 +29,11 @@ use std::alloc::Global;
 pub fn load_acl<S: Sectors>(
     alloc: Global,
     s: &mut S,
-    place: Place,
+    geometry: Geometry,
     inode: &Inode,
 ) -> Result<Acl, LoadAclFault>
-    requires sound { IsSound place (S.state s.old) }
-    requires there { IsInodeOf place (S.state s.old).sectors inode.now }
+    requires sound { IsSound geometry (S.state s.old) }
+    requires there { IsInodeOf geometry (S.state s.old).sectors inode.now }
     requires has { (a : AccessList) × HasAcl (S.state s.old).sectors inode.now a }
     ensures found { IfOk result (λ acl. (a : AccessList) → HasAcl (S.state s.old).sectors inode.now a → acl ≡ a) }
     ensures same { IsUnchanged (S.state s.old) (S.state s.new) }
@@ -54,11 +54,11 @@ pub fn load_acl<S: Sectors>(
 pub fn load_default_acl<S: Sectors>(
     alloc: Global,
     s: &mut S,
-    place: Place,
+    geometry: Geometry,
     inode: &Inode,
 ) -> Result<Option<Acl>, LoadAclFault>
-    requires sound { IsSound place (S.state s.old) }
-    requires there { IsInodeOf place (S.state s.old).sectors inode.now }
+    requires sound { IsSound geometry (S.state s.old) }
+    requires there { IsInodeOf geometry (S.state s.old).sectors inode.now }
     requires has { (a : Option AccessList) × HasDefaultAcl (S.state s.old).sectors inode.now a }
     ensures found { IfOk result (λ acl. (a : Option AccessList) → HasDefaultAcl (S.state s.old).sectors inode.now a → acl ≡ a) }
     ensures same { IsUnchanged (S.state s.old) (S.state s.new) }
@@ -77,42 +77,42 @@ pub fn load_default_acl<S: Sectors>(
 /// nine. An ACL that is no more than mode bits has no sector; another one has the sector that is there, or takes one.
 pub fn save_acl<S: Sectors>(
     s: &mut S,
-    place: Place,
+    geometry: Geometry,
     n: u32,
     inode: &Inode,
     acl: &Acl,
 ) -> Result<(), TakeFault>
-    requires sound { IsSound place (S.state s.old) }
-    requires below { n < place.inodes }
-    requires attributes { DiffersInAttributes (inode_at place (S.state s.old).sectors n) inode.now }
+    requires sound { IsSound geometry (S.state s.old) }
+    requires below { n < geometry.inodes }
+    requires attributes { DiffersInAttributes (inode_at geometry (S.state s.old).sectors n) inode.now }
     requires fits { FitsInode inode.now }
     requires used { inode.now.kind ≢ Kind.Free }
     requires no_link { inode.now.kind ≢ Kind.Link }
-    requires spare { HasSpare place 2 (S.state s.old) }
+    requires spare { HasSpare geometry 2 (S.state s.old) }
     ensures store { SameStore (S.state s.old) (S.state s.new) }
-    ensures sound { OnOk result (IsSound place (S.state s.new)) }
-    ensures touches { OnOk result (Touches place n (acl_takes inode.now.acl (kept_acl acl.now)) 2 (S.state s.old) (S.state s.new)) }
-    ensures puts { OnOk result (PutsOnly (IsForSaving place n (inode_at place (S.state s.new).sectors n).acl) (bitmaps place) 2
+    ensures sound { OnOk result (IsSound geometry (S.state s.new)) }
+    ensures touches { OnOk result (Touches geometry n (acl_takes inode.now.acl (kept_acl acl.now)) 2 (S.state s.old) (S.state s.new)) }
+    ensures puts { OnOk result (PutsOnly (IsForSaving geometry n (inode_at geometry (S.state s.new).sectors n).acl) (bitmaps geometry) 2
         (S.state s.old) (S.state s.new)) }
-    ensures none { OnOk result ((inode_at place (S.state s.new).sectors n).acl ≡ 0 → TakesSpare place 1 (S.state s.old) (S.state s.new)) }
-    ensures fields { OnOk result (KeepsFields (with_acl_bits inode.now acl.now) (inode_at place (S.state s.new).sectors n)) }
+    ensures none { OnOk result ((inode_at geometry (S.state s.new).sectors n).acl ≡ 0 → TakesSpare geometry 1 (S.state s.old) (S.state s.new)) }
+    ensures fields { OnOk result (KeepsFields (with_acl_bits inode.now acl.now) (inode_at geometry (S.state s.new).sectors n)) }
     ensures bytes { OnOk result (KeepsBytes (S.state s.old).sectors (S.state s.new).sectors
-        (inode_at place (S.state s.old).sectors n) (inode_at place (S.state s.new).sectors n)) }
-    ensures access { OnOk result (HasAcl (S.state s.new).sectors (inode_at place (S.state s.new).sectors n) acl.now) }
+        (inode_at geometry (S.state s.old).sectors n) (inode_at geometry (S.state s.new).sectors n)) }
+    ensures access { OnOk result (HasAcl (S.state s.new).sectors (inode_at geometry (S.state s.new).sectors n) acl.now) }
     ensures default { OnOk result (KeepsDefault (S.state s.old).sectors (S.state s.new).sectors
-        (inode_at place (S.state s.old).sectors n) (inode_at place (S.state s.new).sectors n)) }
-    ensures used { OnOk result (bit (S.state s.new).sectors place.inode_bitmap n ≡ bit (S.state s.old).sectors place.inode_bitmap n) }
+        (inode_at geometry (S.state s.old).sectors n) (inode_at geometry (S.state s.new).sectors n)) }
+    ensures used { OnOk result (bit (S.state s.new).sectors geometry.inode_bitmap n ≡ bit (S.state s.old).sectors geometry.inode_bitmap n) }
     ensures full { IfErr result (λ e. e ≡ TakeFault.Full
-        → free_sectors place (S.state s.old).sectors < acl_takes inode.now.acl (kept_acl acl.now)) }
+        → free_sectors geometry (S.state s.old).sectors < acl_takes inode.now.acl (kept_acl acl.now)) }
     ensures cause { HasCauseOf TakeFault.DiskFault (S.state s.old).disk (S.state s.new).disk result }
 {
-    let sector = store(s, place, inode.acl, kept_content(acl))?;
+    let sector = store(s, geometry, inode.acl, kept_content(acl))?;
     let saved = Inode {
         mode: with_bits(inode.mode, acl),
         acl: sector,
         ..*inode
     };
-    write_inode(s, place, n, &saved)?;
+    write_inode(s, geometry, n, &saved)?;
     Ok(())
 }
 
@@ -120,42 +120,42 @@ pub fn save_acl<S: Sectors>(
 /// without one the sector is given back.
 pub fn save_default_acl<S: Sectors>(
     s: &mut S,
-    place: Place,
+    geometry: Geometry,
     n: u32,
     inode: &Inode,
     acl: Option<&Acl>,
 ) -> Result<(), TakeFault>
-    requires sound { IsSound place (S.state s.old) }
-    requires below { n < place.inodes }
-    requires attributes { DiffersInAttributes (inode_at place (S.state s.old).sectors n) inode.now }
+    requires sound { IsSound geometry (S.state s.old) }
+    requires below { n < geometry.inodes }
+    requires attributes { DiffersInAttributes (inode_at geometry (S.state s.old).sectors n) inode.now }
     requires fits { FitsInode inode.now }
     requires used { inode.now.kind ≢ Kind.Free }
-    requires spare { HasSpare place 2 (S.state s.old) }
+    requires spare { HasSpare geometry 2 (S.state s.old) }
     ensures store { SameStore (S.state s.old) (S.state s.new) }
-    ensures sound { OnOk result (IsSound place (S.state s.new)) }
-    ensures touches { OnOk result (Touches place n (acl_takes inode.now.default_acl (option_copied acl.entry)) 2
+    ensures sound { OnOk result (IsSound geometry (S.state s.new)) }
+    ensures touches { OnOk result (Touches geometry n (acl_takes inode.now.default_acl (option_copied acl.entry)) 2
         (S.state s.old) (S.state s.new)) }
-    ensures puts { OnOk result (PutsOnly (IsForSaving place n (inode_at place (S.state s.new).sectors n).default_acl) (bitmaps place) 2
+    ensures puts { OnOk result (PutsOnly (IsForSaving geometry n (inode_at geometry (S.state s.new).sectors n).default_acl) (bitmaps geometry) 2
         (S.state s.old) (S.state s.new)) }
-    ensures none { OnOk result ((inode_at place (S.state s.new).sectors n).default_acl ≡ 0
-        → TakesSpare place 1 (S.state s.old) (S.state s.new)) }
-    ensures fields { OnOk result (KeepsFields inode.now (inode_at place (S.state s.new).sectors n)) }
+    ensures none { OnOk result ((inode_at geometry (S.state s.new).sectors n).default_acl ≡ 0
+        → TakesSpare geometry 1 (S.state s.old) (S.state s.new)) }
+    ensures fields { OnOk result (KeepsFields inode.now (inode_at geometry (S.state s.new).sectors n)) }
     ensures bytes { OnOk result (KeepsBytes (S.state s.old).sectors (S.state s.new).sectors
-        (inode_at place (S.state s.old).sectors n) (inode_at place (S.state s.new).sectors n)) }
+        (inode_at geometry (S.state s.old).sectors n) (inode_at geometry (S.state s.new).sectors n)) }
     ensures access { OnOk result (KeepsAccess (S.state s.old).sectors (S.state s.new).sectors
-        (inode_at place (S.state s.old).sectors n) (inode_at place (S.state s.new).sectors n)) }
-    ensures default { OnOk result (HasDefaultAcl (S.state s.new).sectors (inode_at place (S.state s.new).sectors n)
+        (inode_at geometry (S.state s.old).sectors n) (inode_at geometry (S.state s.new).sectors n)) }
+    ensures default { OnOk result (HasDefaultAcl (S.state s.new).sectors (inode_at geometry (S.state s.new).sectors n)
         (option_copied acl.entry)) }
-    ensures used { OnOk result (bit (S.state s.new).sectors place.inode_bitmap n ≡ bit (S.state s.old).sectors place.inode_bitmap n) }
+    ensures used { OnOk result (bit (S.state s.new).sectors geometry.inode_bitmap n ≡ bit (S.state s.old).sectors geometry.inode_bitmap n) }
     ensures full { IfErr result (λ e. e ≡ TakeFault.Full
-        → free_sectors place (S.state s.old).sectors < acl_takes inode.now.default_acl (option_copied acl.entry)) }
+        → free_sectors geometry (S.state s.old).sectors < acl_takes inode.now.default_acl (option_copied acl.entry)) }
     ensures cause { HasCauseOf TakeFault.DiskFault (S.state s.old).disk (S.state s.new).disk result }
 {
-    let sector = store(s, place, inode.default_acl, content_of(acl))?;
+    let sector = store(s, geometry, inode.default_acl, content_of(acl))?;
     let saved = Inode {
         default_acl: sector,
         ..*inode
     };
-    write_inode(s, place, n, &saved)?;
+    write_inode(s, geometry, n, &saved)?;
     Ok(())
 }

@@ -4,7 +4,7 @@ ghost use Rattle.std.specs.Prelude.{◌≡◌, ◌≢◌, ◌≤◌, ◌<◌, �
 ghost use Rattle.std.specs.Option.{option_copied};
 ghost use Rattle.sector_disk.specs.Disk.{HasCause};
 ghost use Rattle.fs_layout.specs.Header.{log_end};
-ghost use Rattle.fs_layout.specs.Place.{IsPlace};
+ghost use Rattle.fs_layout.specs.Geometry.{IsGeometry};
 ghost use Rattle.fs_layout.specs.Inode.{FitsInode, free_inode};
 ghost use Rattle.fs_layout.specs.InodeTimes.{DiffersInTimes};
 ghost use Rattle.fs_layout.specs.Images.{HasWholeTables, Holds, bit, free_sectors, inode_at};
@@ -22,23 +22,23 @@ ghost use Rattle.inode_table.specs.Storing.{IsForSaving};
 use crate::sectors::{content_of, kept_content, with_bits};
 use crate::stored::{give_sector, store};
 use bit_alloc::{Bitmap, TakeFault, give, take};
-use fs_layout::{Inode, Kind, Place};
+use fs_layout::{Geometry, Inode, Kind};
 use posix_acl::Acl;
 use sector_disk::DiskFault;
 use sector_txn::Sectors;
 
 /// Reads inode n.
-pub fn load<S: Sectors>(s: &mut S, place: Place, n: u32) -> Result<Inode, DiskFault>
-    requires sound { IsSound place (S.state s.old) }
-    requires below { n < place.inodes }
-    ensures found { IfOk result (λ v. v ≡ inode_at place (S.state s.old).sectors n) }
+pub fn load<S: Sectors>(s: &mut S, geometry: Geometry, n: u32) -> Result<Inode, DiskFault>
+    requires sound { IsSound geometry (S.state s.old) }
+    requires below { n < geometry.inodes }
+    ensures found { IfOk result (λ v. v ≡ inode_at geometry (S.state s.old).sectors n) }
     ensures fits { IfOk result FitsInode }
     ensures same { IsUnchanged (S.state s.old) (S.state s.new) }
     ensures cause { HasCause (S.state s.old).disk (S.state s.new).disk result }
 {
-    let at = place.inode_offset(n);
+    let at = geometry.inode_offset(n);
     let inode = s.read_with(
-        place.inode_sector(n),
+        geometry.inode_sector(n),
         |content| Inode::read_valid(content, at),
     )?;
     Ok(inode)
@@ -47,98 +47,103 @@ pub fn load<S: Sectors>(s: &mut S, place: Place, n: u32) -> Result<Inode, DiskFa
 /// Reads inode n, and the content of its sector.
 pub fn load_with_content<S: Sectors>(
     s: &mut S,
-    place: Place,
+    geometry: Geometry,
     n: u32,
     content: &mut [u8; 512],
 ) -> Result<Inode, DiskFault>
-    requires sound { IsSound place (S.state s.old) }
-    requires below { n < place.inodes }
-    ensures found { IfOk result (λ v. v ≡ inode_at place (S.state s.old).sectors n) }
+    requires sound { IsSound geometry (S.state s.old) }
+    requires below { n < geometry.inodes }
+    ensures found { IfOk result (λ v. v ≡ inode_at geometry (S.state s.old).sectors n) }
     ensures fits { IfOk result FitsInode }
-    ensures content { OnOk result (content.new ≡ (S.state s.old).sectors (place.table + n / 4)) }
+    ensures content { OnOk result (content.new ≡ (S.state s.old).sectors (geometry.table + n / 4)) }
     ensures same { IsUnchanged (S.state s.old) (S.state s.new) }
     ensures cause { HasCause (S.state s.old).disk (S.state s.new).disk result }
 {
-    s.get(place.inode_sector(n), content)?;
-    Ok(Inode::read_valid(content, place.inode_offset(n)))
+    s.get(geometry.inode_sector(n), content)?;
+    Ok(Inode::read_valid(content, geometry.inode_offset(n)))
 }
 
 /// Writes inode n into the table, whatever it was. The image need not be consistent, as where sectors of the inode have
 /// changed and the inode hasn't yet.
 pub fn write_inode<S: Sectors>(
     s: &mut S,
-    place: Place,
+    geometry: Geometry,
     n: u32,
     inode: &Inode,
 ) -> Result<(), DiskFault>
-    requires place { IsPlace place }
-    requires on_disk { place.sectors ≤ (S.state s.old).disk.size }
-    requires header { log_end (S.state s.old).header ≤ place.inode_bitmap }
-    requires tables { HasWholeTables place (S.state s.old).sectors }
-    requires below { n < place.inodes }
+    requires geometry { IsGeometry geometry }
+    requires on_disk { geometry.sectors ≤ (S.state s.old).disk.size }
+    requires header { log_end (S.state s.old).header ≤ geometry.inode_bitmap }
+    requires tables { HasWholeTables geometry (S.state s.old).sectors }
+    requires below { n < geometry.inodes }
     requires fits { FitsInode inode.now }
-    requires room { (S.state s.old).has_put (place.table + n / 4) ≡ false → 0 < (S.state s.old).room }
-    ensures saved { OnOk result (Saves place n inode.now (S.state s.old).sectors (S.state s.new).sectors) }
-    ensures puts { OnOk result (PutsOnly (λ t. t ≡ place.table + n / 4) [] 1 (S.state s.old) (S.state s.new)) }
+    requires room { (S.state s.old).has_put (geometry.table + n / 4) ≡ false → 0 < (S.state s.old).room }
+    ensures saved { OnOk result (Saves geometry n inode.now (S.state s.old).sectors (S.state s.new).sectors) }
+    ensures puts { OnOk result (PutsOnly (λ t. t ≡ geometry.table + n / 4) [] 1 (S.state s.old) (S.state s.new)) }
     ensures store { SameStore (S.state s.old) (S.state s.new) }
     ensures cause { HasCause (S.state s.old).disk (S.state s.new).disk result }
 {
-    let at = place.inode_sector(n);
+    let at = geometry.inode_sector(n);
     let mut content = [0; 512];
     s.get(at, &mut content)?;
-    inode.write_to(&mut content, place.inode_offset(n));
+    inode.write_to(&mut content, geometry.inode_offset(n));
     s.put(at, &content);
     Ok(())
 }
 
 /// Saves inode n with other attributes: mode, owner, group, count of names, parent.
-pub fn save<S: Sectors>(s: &mut S, place: Place, n: u32, inode: &Inode) -> Result<(), DiskFault>
-    requires sound { IsSound place (S.state s.old) }
-    requires below { n < place.inodes }
-    requires attributes { DiffersInAttributes (inode_at place (S.state s.old).sectors n) inode.now }
+pub fn save<S: Sectors>(
+    s: &mut S,
+    geometry: Geometry,
+    n: u32,
+    inode: &Inode,
+) -> Result<(), DiskFault>
+    requires sound { IsSound geometry (S.state s.old) }
+    requires below { n < geometry.inodes }
+    requires attributes { DiffersInAttributes (inode_at geometry (S.state s.old).sectors n) inode.now }
     requires fits { FitsInode inode.now }
-    requires spare { HasSpare place 1 (S.state s.old) }
+    requires spare { HasSpare geometry 1 (S.state s.old) }
     ensures store { SameStore (S.state s.old) (S.state s.new) }
-    ensures sound { OnOk result (IsSound place (S.state s.new)) }
-    ensures touches { OnOk result (Touches place n 0 1 (S.state s.old) (S.state s.new)) }
-    ensures saved { OnOk result (inode_at place (S.state s.new).sectors n ≡ inode.now) }
+    ensures sound { OnOk result (IsSound geometry (S.state s.new)) }
+    ensures touches { OnOk result (Touches geometry n 0 1 (S.state s.old) (S.state s.new)) }
+    ensures saved { OnOk result (inode_at geometry (S.state s.new).sectors n ≡ inode.now) }
     ensures bytes { OnOk result (KeepsBytes (S.state s.old).sectors (S.state s.new).sectors
-        (inode_at place (S.state s.old).sectors n) (inode_at place (S.state s.new).sectors n)) }
+        (inode_at geometry (S.state s.old).sectors n) (inode_at geometry (S.state s.new).sectors n)) }
     ensures acls { OnOk result (KeepsAcls (S.state s.old).sectors (S.state s.new).sectors
-        (inode_at place (S.state s.old).sectors n) (inode_at place (S.state s.new).sectors n)) }
-    ensures used { OnOk result (bit (S.state s.new).sectors place.inode_bitmap n ≡ bit (S.state s.old).sectors place.inode_bitmap n) }
+        (inode_at geometry (S.state s.old).sectors n) (inode_at geometry (S.state s.new).sectors n)) }
+    ensures used { OnOk result (bit (S.state s.new).sectors geometry.inode_bitmap n ≡ bit (S.state s.old).sectors geometry.inode_bitmap n) }
     ensures cause { HasCause (S.state s.old).disk (S.state s.new).disk result }
 {
-    write_inode(s, place, n, inode)?;
+    write_inode(s, geometry, n, inode)?;
     Ok(())
 }
 
 /// Saves inode n with other times. The content is that of its sector, and becomes what that has then.
 pub fn save_times<S: Sectors>(
     s: &mut S,
-    place: Place,
+    geometry: Geometry,
     n: u32,
     inode: &Inode,
     content: &mut [u8; 512],
 )
-    requires sound { IsSound place (S.state s.old) }
-    requires below { n < place.inodes }
-    requires times { DiffersInTimes (inode_at place (S.state s.old).sectors n) inode.now }
+    requires sound { IsSound geometry (S.state s.old) }
+    requires below { n < geometry.inodes }
+    requires times { DiffersInTimes (inode_at geometry (S.state s.old).sectors n) inode.now }
     requires fits { FitsInode inode.now }
-    requires spare { HasSpare place 1 (S.state s.old) }
-    requires content { content.old ≡ (S.state s.old).sectors (place.table + n / 4) }
+    requires spare { HasSpare geometry 1 (S.state s.old) }
+    requires content { content.old ≡ (S.state s.old).sectors (geometry.table + n / 4) }
     ensures store { SameStore (S.state s.old) (S.state s.new) }
-    ensures sound { IsSound place (S.state s.new) }
-    ensures touches { Touches place n 0 1 (S.state s.old) (S.state s.new) }
-    ensures saved { inode_at place (S.state s.new).sectors n ≡ inode.now }
+    ensures sound { IsSound geometry (S.state s.new) }
+    ensures touches { Touches geometry n 0 1 (S.state s.old) (S.state s.new) }
+    ensures saved { inode_at geometry (S.state s.new).sectors n ≡ inode.now }
     ensures bytes { KeepsBytes (S.state s.old).sectors (S.state s.new).sectors
-        (inode_at place (S.state s.old).sectors n) (inode_at place (S.state s.new).sectors n) }
+        (inode_at geometry (S.state s.old).sectors n) (inode_at geometry (S.state s.new).sectors n) }
     ensures acls { KeepsAcls (S.state s.old).sectors (S.state s.new).sectors
-        (inode_at place (S.state s.old).sectors n) (inode_at place (S.state s.new).sectors n) }
-    ensures used { bit (S.state s.new).sectors place.inode_bitmap n ≡ bit (S.state s.old).sectors place.inode_bitmap n }
+        (inode_at geometry (S.state s.old).sectors n) (inode_at geometry (S.state s.new).sectors n) }
+    ensures used { bit (S.state s.new).sectors geometry.inode_bitmap n ≡ bit (S.state s.old).sectors geometry.inode_bitmap n }
 {
-    inode.write_times(content, place.inode_offset(n));
-    s.put(place.inode_sector(n), content);
+    inode.write_times(content, geometry.inode_offset(n));
+    s.put(geometry.inode_sector(n), content);
 }
 
 /// Makes an inode, a file or a directory, which holds nothing: a free one gets the fields and takes the sectors that its
@@ -146,63 +151,63 @@ pub fn save_times<S: Sectors>(
 /// can't be made so, since it is never empty.
 pub fn new_inode<S: Sectors>(
     s: &mut S,
-    place: Place,
+    geometry: Geometry,
     inode: &Inode,
     access: &Acl,
     default: Option<&Acl>,
 ) -> Result<u32, TakeFault>
-    requires sound { IsSound place (S.state s.old) }
-    requires clear { ClearAreFree place (S.state s.old).sectors }
+    requires sound { IsSound geometry (S.state s.old) }
+    requires clear { ClearAreFree geometry (S.state s.old).sectors }
     requires blank { IsBlank inode.now }
     requires fits { FitsInode inode.now }
-    requires spare { HasSpare place 3 (S.state s.old) }
+    requires spare { HasSpare geometry 3 (S.state s.old) }
     ensures store { SameStore (S.state s.old) (S.state s.new) }
-    ensures sound { OnOk result (IsSound place (S.state s.new)) }
-    ensures free { IfOk result (IsFreeNumber place Inodes (S.state s.old).sectors) }
-    ensures used { IfOk result (λ n. IsTrue (bit (S.state s.new).sectors place.inode_bitmap n)) }
-    ensures touches { IfOk result (λ n. Touches place n (acls_take access.now (option_copied default.entry)) 3
+    ensures sound { OnOk result (IsSound geometry (S.state s.new)) }
+    ensures free { IfOk result (IsFreeNumber geometry Inodes (S.state s.old).sectors) }
+    ensures used { IfOk result (λ n. IsTrue (bit (S.state s.new).sectors geometry.inode_bitmap n)) }
+    ensures touches { IfOk result (λ n. Touches geometry n (acls_take access.now (option_copied default.entry)) 3
         (S.state s.old) (S.state s.new)) }
-    ensures fields { IfOk result (λ n. KeepsFields (with_acl_bits inode.now access.now) (inode_at place (S.state s.new).sectors n)) }
-    ensures empty { IfOk result (λ n. Holds (S.state s.new).sectors (inode_at place (S.state s.new).sectors n) []) }
-    ensures access { IfOk result (λ n. HasAcl (S.state s.new).sectors (inode_at place (S.state s.new).sectors n) access.now) }
-    ensures default { IfOk result (λ n. HasDefaultAcl (S.state s.new).sectors (inode_at place (S.state s.new).sectors n)
+    ensures fields { IfOk result (λ n. KeepsFields (with_acl_bits inode.now access.now) (inode_at geometry (S.state s.new).sectors n)) }
+    ensures empty { IfOk result (λ n. Holds (S.state s.new).sectors (inode_at geometry (S.state s.new).sectors n) []) }
+    ensures access { IfOk result (λ n. HasAcl (S.state s.new).sectors (inode_at geometry (S.state s.new).sectors n) access.now) }
+    ensures default { IfOk result (λ n. HasDefaultAcl (S.state s.new).sectors (inode_at geometry (S.state s.new).sectors n)
         (option_copied default.entry)) }
-    ensures full { IfErr result (λ e. e ≡ TakeFault.Full → (free_numbers place Inodes (S.state s.old).sectors ≡ 0)
-        ⊎ (free_sectors place (S.state s.old).sectors < acls_take access.now (option_copied default.entry))) }
+    ensures full { IfErr result (λ e. e ≡ TakeFault.Full → (free_numbers geometry Inodes (S.state s.old).sectors ≡ 0)
+        ⊎ (free_sectors geometry (S.state s.old).sectors < acls_take access.now (option_copied default.entry))) }
     ensures cause { HasCauseOf TakeFault.DiskFault (S.state s.old).disk (S.state s.new).disk result }
 {
-    let n = take(s, place, Bitmap::Inodes, 0)?;
-    let acl = store(s, place, 0, kept_content(access))?;
-    let default_acl = store(s, place, 0, content_of(default))?;
+    let n = take(s, geometry, Bitmap::Inodes, 0)?;
+    let acl = store(s, geometry, 0, kept_content(access))?;
+    let default_acl = store(s, geometry, 0, content_of(default))?;
     let made = Inode {
         mode: with_bits(inode.mode, access),
         acl,
         default_acl,
         ..*inode
     };
-    write_inode(s, place, n, &made)?;
+    write_inode(s, geometry, n, &made)?;
     Ok(n)
 }
 
 /// Frees inode n, which holds no bytes any more, with the sectors of its ACLs: its 128 bytes become zero, and its bit is
 /// cleared.
-pub fn free_inode<S: Sectors>(s: &mut S, place: Place, n: u32) -> Result<(), DiskFault>
-    requires sound { IsSound place (S.state s.old) }
-    requires number { IsNumber place Inodes n }
-    requires empty { Holds (S.state s.old).sectors (inode_at place (S.state s.old).sectors n) [] }
-    requires spare { HasSpare place 1 (S.state s.old) }
+pub fn free_inode<S: Sectors>(s: &mut S, geometry: Geometry, n: u32) -> Result<(), DiskFault>
+    requires sound { IsSound geometry (S.state s.old) }
+    requires number { IsNumber geometry Inodes n }
+    requires empty { Holds (S.state s.old).sectors (inode_at geometry (S.state s.old).sectors n) [] }
+    requires spare { HasSpare geometry 1 (S.state s.old) }
     ensures store { SameStore (S.state s.old) (S.state s.new) }
-    ensures sound { OnOk result (IsSound place (S.state s.new)) }
-    ensures touches { OnOk result (Touches place n 0 1 (S.state s.old) (S.state s.new)) }
-    ensures puts { OnOk result (PutsOnly (IsForSaving place n 0) (bitmaps place) 1 (S.state s.old) (S.state s.new)) }
-    ensures free { OnOk result (inode_at place (S.state s.new).sectors n ≡ free_inode) }
-    ensures unused { OnOk result (bit (S.state s.new).sectors place.inode_bitmap n ≡ false) }
+    ensures sound { OnOk result (IsSound geometry (S.state s.new)) }
+    ensures touches { OnOk result (Touches geometry n 0 1 (S.state s.old) (S.state s.new)) }
+    ensures puts { OnOk result (PutsOnly (IsForSaving geometry n 0) (bitmaps geometry) 1 (S.state s.old) (S.state s.new)) }
+    ensures free { OnOk result (inode_at geometry (S.state s.new).sectors n ≡ free_inode) }
+    ensures unused { OnOk result (bit (S.state s.new).sectors geometry.inode_bitmap n ≡ false) }
     ensures cause { HasCause (S.state s.old).disk (S.state s.new).disk result }
 {
-    let inode = load(s, place, n)?;
-    give(s, place, Bitmap::Inodes, n)?;
-    give_sector(s, place, inode.acl)?;
-    give_sector(s, place, inode.default_acl)?;
-    write_inode(s, place, n, &Inode::FREE)?;
+    let inode = load(s, geometry, n)?;
+    give(s, geometry, Bitmap::Inodes, n)?;
+    give_sector(s, geometry, inode.acl)?;
+    give_sector(s, geometry, inode.default_acl)?;
+    write_inode(s, geometry, n, &Inode::FREE)?;
     Ok(())
 }

@@ -10,25 +10,25 @@ ghost use Rattle.bit_alloc.specs.Room.{bitmaps, HasSpare, TakesSpare};
 ghost use Rattle.inode_table.specs.Storing.{IsForAcl, GivesBack, Stores, takes_for};
 
 use bit_alloc::{Bitmap, TakeFault, give, take};
-use fs_layout::Place;
+use fs_layout::Geometry;
 use sector_disk::DiskFault;
 use sector_txn::Sectors;
 
 /// Gives a sector of the data back, if there is one: 0 is none.
-pub fn give_sector<S: Sectors>(s: &mut S, place: Place, sector: u32) -> Result<(), DiskFault>
-    requires bitmaps { HasBitmaps place (S.state s.old) }
-    requires owned { sector ≢ 0 → IsData place sector }
-    requires room { HasSpare place 0 (S.state s.old) }
-    ensures given { OnOk result (GivesBack place sector (S.state s.old).sectors (S.state s.new).sectors) }
-    ensures puts { OnOk result (PutsOnly (IsForAcl place 0) (bitmaps place) 0 (S.state s.old) (S.state s.new)) }
-    ensures bitmaps { OnOk result (HasBitmaps place (S.state s.new)) }
+pub fn give_sector<S: Sectors>(s: &mut S, geometry: Geometry, sector: u32) -> Result<(), DiskFault>
+    requires bitmaps { HasBitmaps geometry (S.state s.old) }
+    requires owned { sector ≢ 0 → IsData geometry sector }
+    requires room { HasSpare geometry 0 (S.state s.old) }
+    ensures given { OnOk result (GivesBack geometry sector (S.state s.old).sectors (S.state s.new).sectors) }
+    ensures puts { OnOk result (PutsOnly (IsForAcl geometry 0) (bitmaps geometry) 0 (S.state s.old) (S.state s.new)) }
+    ensures bitmaps { OnOk result (HasBitmaps geometry (S.state s.new)) }
     ensures store { SameStore (S.state s.old) (S.state s.new) }
     ensures cause { HasCause (S.state s.old).disk (S.state s.new).disk result }
 {
     if sector == 0 {
         return Ok(());
     }
-    give(s, place, Bitmap::Blocks, sector)?;
+    give(s, geometry, Bitmap::Blocks, sector)?;
     Ok(())
 }
 
@@ -36,30 +36,30 @@ pub fn give_sector<S: Sectors>(s: &mut S, place: Place, sector: u32) -> Result<(
 // the sector back, and answers 0.
 pub(crate) fn store<S: Sectors>(
     s: &mut S,
-    place: Place,
+    geometry: Geometry,
     sector: u32,
     content: Option<[u8; 512]>,
 ) -> Result<u32, TakeFault>
-    requires bitmaps { HasBitmaps place (S.state s.old) }
-    requires owned { sector ≢ 0 → IsData place sector }
-    requires room { HasSpare place 1 (S.state s.old) }
-    ensures stored { IfOk result (λ to. Stores place sector to content (S.state s.old).sectors (S.state s.new).sectors) }
-    ensures puts { IfOk result (λ to. PutsOnly (IsForAcl place to) (bitmaps place) 1 (S.state s.old) (S.state s.new)) }
-    ensures none { IfOk result (λ to. to ≡ 0 → TakesSpare place 0 (S.state s.old) (S.state s.new)) }
-    ensures bitmaps { OnOk result (HasBitmaps place (S.state s.new)) }
+    requires bitmaps { HasBitmaps geometry (S.state s.old) }
+    requires owned { sector ≢ 0 → IsData geometry sector }
+    requires room { HasSpare geometry 1 (S.state s.old) }
+    ensures stored { IfOk result (λ to. Stores geometry sector to content (S.state s.old).sectors (S.state s.new).sectors) }
+    ensures puts { IfOk result (λ to. PutsOnly (IsForAcl geometry to) (bitmaps geometry) 1 (S.state s.old) (S.state s.new)) }
+    ensures none { IfOk result (λ to. to ≡ 0 → TakesSpare geometry 0 (S.state s.old) (S.state s.new)) }
+    ensures bitmaps { OnOk result (HasBitmaps geometry (S.state s.new)) }
     ensures store { SameStore (S.state s.old) (S.state s.new) }
-    ensures full { IfErr result (λ e. e ≡ TakeFault.Full → free_sectors place (S.state s.old).sectors < takes_for sector content) }
+    ensures full { IfErr result (λ e. e ≡ TakeFault.Full → free_sectors geometry (S.state s.old).sectors < takes_for sector content) }
     ensures cause { HasCauseOf TakeFault.DiskFault (S.state s.old).disk (S.state s.new).disk result }
 {
     let Some(content) = content else {
-        give_sector(s, place, sector)?;
+        give_sector(s, geometry, sector)?;
         return Ok(0);
     };
     if sector != 0 {
         s.put(sector, &content);
         return Ok(sector);
     }
-    let to = take(s, place, Bitmap::Blocks, 0)?;
+    let to = take(s, geometry, Bitmap::Blocks, 0)?;
     s.put(to, &content);
     Ok(to)
 }

@@ -10,7 +10,7 @@ use Rattle.fs_layout.specs.declared.slot.TheConstants.{SLOT_SIZE}
 use Rattle.fs_layout.specs.declared.inode.Inode.{Inode}
 use Rattle.fs_layout.specs.declared.inode.Kind.TheVariants as kinds
 use Rattle.fs_layout.specs.declared.inode.TheConstants.{MAX_DIRECTORY_SIZE, S_ISGID, S_ISVTX}
-use Rattle.fs_layout.specs.declared.place.Place.{Place}
+use Rattle.fs_layout.specs.declared.geometry.Geometry.{Geometry}
 use Rattle.fs_layout.specs.AclSector.{kept_acl}
 use Rattle.fs_layout.specs.Bytes.{SectorMap, IsBytes}
 use Rattle.fs_layout.specs.Inode.{FitsInode, free_inode}
@@ -29,7 +29,7 @@ use Rattle.fs_model.specs.declared.walk.Found.{Found}
 use Rattle.fs_model.specs.Births.{the_node, born_directory}
 use Rattle.fs_model.specs.Demands.{first_of}
 use Rattle.fs_model.specs.NameCalls.{mkdir_row, mkdir_demands, mkdir_effect}
-use Rattle.fs_model.specs.Processes.{Process, Desks}
+use Rattle.fs_model.specs.Processes.{Process, ProcessTable}
 use Rattle.fs_model.specs.Rows.{row_of}
 use Rattle.fs_model.specs.Scenes.{must_be_new, check_of_mode}
 use Rattle.fs_model.specs.States.{State}
@@ -68,7 +68,7 @@ both_bits bits few = go (bits / S_ISVTX % 2 == 1) (bits / S_ISGID % 2 == 1) refl
     go false true x y = let s : bits / S_ISVTX % 2 ≡ 0 = grind (arith, nat_tests) in let g : bits / S_ISGID % 2 ≡ 1 = grind (arith, nat_tests) in omega (arith, few, s, g)
     go false false x y = let s : bits / S_ISVTX % 2 ≡ 0 = grind (arith, nat_tests) in let g : bits / S_ISGID % 2 ≡ 0 = grind (arith, nat_tests) in omega (arith, few, s, g)
 
-module _ {p : Place} {n taken more : ℕ} {old new : TxnState} (free : IsFreeNumber p Inodes old.sectors n) (touches : Touches p n taken more old new)
+module _ {p : Geometry} {n taken more : ℕ} {old new : TxnState} (free : IsFreeNumber p Inodes old.sectors n) (touches : Touches p n taken more old new)
     (used : IsTrue (bit new.sectors p.inode_bitmap n)) where
   pub directory_taken : (dir uid gid bits : ℕ) → bits < 2048 → (a : AccessList) (default : Option AccessList)
       → KeepsFields (with_acl_bits (new_directory dir uid gid bits) a) (inode_at p new.sectors n) → Holds new.sectors (inode_at p new.sectors n) []
@@ -104,11 +104,11 @@ is_new_name f is =
     let met = (met_ok {A = Unit {0}} (must_be_new f) tt tt is).0 in
     (or_else-none (must_be_new f) ∙ met, is_new_if f met)
 
-module _ {p : Place} {map : SectorMap} {desks : Desks} {s : State} (at : IsStateOf p map desks s) (q : Process) (f : Found) {pid : ℕ} {path : List ℕ}
+module _ {p : Geometry} {map : SectorMap} {processes : ProcessTable} {s : State} (at : IsStateOf p map processes s) (q : Process) (f : Found) {pid : ℕ} {path : List ℕ}
     (has : HasFound s pid q Parent path f) (bytes : IsBytes path) (is : refused_or {A = Unit {0}} (must_be_new f) (Ok tt) ≡ Ok tt) where
   pub directory_changes : (mode : ℕ) (new : SectorMap) (n : ℕ) → first_of (make_asked p map q.cred s.tree f.dir (f.step - 1)) ≡ None
       → MakesNode p f.dir f.name n (born_directory q.cred q.umask mode (the_node s.tree f.dir)) map new
-      → IsChange p new desks s q (mkdir_demands (scene_at s q f)) (mkdir_effect mode (scene_at s q f)) Done ((f.dir, Modified) ∷ (n, Born) ∷ [])
+      → IsChange p new processes s q (mkdir_demands (scene_at s q f)) (mkdir_effect mode (scene_at s q f)) Done ((f.dir, Modified) ∷ (n, Born) ∷ [])
   directory_changes mode new n allows made =
       let x = is_new_name f is in
       let fits = parent_fits at q f has bytes x.1 in

@@ -11,7 +11,7 @@ use Rattle.fs_cred.specs.Credentials.{Credential}
 use Rattle.fs_layout.specs.declared.inode.TheConstants.{S_ISGID}
 use Rattle.fs_layout.specs.declared.inode.Inode.{Inode}
 use Rattle.fs_layout.specs.declared.inode.Kind.TheVariants.{Link}
-use Rattle.fs_layout.specs.declared.place.Place.{Place}
+use Rattle.fs_layout.specs.declared.geometry.Geometry.{Geometry}
 use Rattle.fs_layout.specs.Bytes.{SectorMap, IsBytes}
 use Rattle.fs_layout.specs.Images.{Holds, HasNoHole, bit, inode_at}
 use Rattle.sector_txn.specs.Sectors.{TxnState}
@@ -30,7 +30,7 @@ use Rattle.fs_model.specs.Demands.{refuse, first_of}
 use Rattle.fs_model.specs.Limits.{target_limit}
 use Rattle.fs_model.specs.NameCalls.{symlink_row, symlink_arguments, symlink_demands, symlink_effect}
 use Rattle.fs_model.specs.Parts.{is_empty}
-use Rattle.fs_model.specs.Processes.{Process, Desks}
+use Rattle.fs_model.specs.Processes.{Process, ProcessTable}
 use Rattle.fs_model.specs.Rows.{row_of}
 use Rattle.fs_model.specs.Scenes.{must_be_new}
 use Rattle.fs_model.specs.States.{State}
@@ -56,7 +56,7 @@ target_size target is = (is.some, is.short)
 pub none_free : {a : Type 0} {k : ℕ} → a ⊎ (k ≡ 0) → a ⊎ (k < 1)
 none_free why = elim why [ inl x ↦ inl x | inr none ↦ inr (omega (arith, none)) ]
 
-module _ {p : Place} {n taken more : ℕ} {old new : TxnState} (free : IsFreeNumber p Inodes old.sectors n) (touches : Touches p n taken more old new)
+module _ {p : Geometry} {n taken more : ℕ} {old new : TxnState} (free : IsFreeNumber p Inodes old.sectors n) (touches : Touches p n taken more old new)
     (used : IsTrue (bit new.sectors p.inode_bitmap n)) where
   pub link_taken : (dir uid gid : ℕ) (directory : Inode) (cred : Credential) (target : List ℕ) → uid ≡ cred.uid
       → gid ≡ (if directory.mode / S_ISGID % 2 == 1 then directory.gid else cred.gid) → IsNewLink uid gid (inode_at p new.sectors n)
@@ -102,11 +102,11 @@ is_link_name f is =
     let met = (met_ok {A = Unit {0}} (first_of (link_name_asked f)) tt tt is).0 in
     (met, is_new_if f (first_met (must_be_new f) (first_of (refuse ENOENT f.slash ∷ [])) met))
 
-module _ {p : Place} {map : SectorMap} {desks : Desks} {s : State} (at : IsStateOf p map desks s) (q : Process) (f : Found) {pid : ℕ} {path : List ℕ}
+module _ {p : Geometry} {map : SectorMap} {processes : ProcessTable} {s : State} (at : IsStateOf p map processes s) (q : Process) (f : Found) {pid : ℕ} {path : List ℕ}
     (has : HasFound s pid q Parent path f) (bytes : IsBytes path) (is : refused_or {A = Unit {0}} (first_of (link_name_asked f)) (Ok tt) ≡ Ok tt) where
   pub link_changes : (target : List ℕ) → IsTarget target → (new : SectorMap) (n : ℕ) → first_of (make_asked p map q.cred s.tree f.dir (f.step - 1)) ≡ None
       → MakesNode p f.dir f.name n (born_link q.cred target (the_node s.tree f.dir)) map new
-      → IsChange p new desks s q (symlink_demands (scene_at s q f)) (symlink_effect target (scene_at s q f)) Done ((f.dir, Modified) ∷ (n, Born) ∷ [])
+      → IsChange p new processes s q (symlink_demands (scene_at s q f)) (symlink_effect target (scene_at s q f)) Done ((f.dir, Modified) ∷ (n, Born) ∷ [])
   link_changes target valid new n allows made =
       let x = is_link_name f is in
       let fits = parent_fits at q f has bytes x.1 in

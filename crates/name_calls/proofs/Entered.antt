@@ -13,7 +13,7 @@ use Rattle.fs_cred.specs.Credentials.{Credential}
 use Rattle.fs_cred.specs.Decisions.{is_file}
 use Rattle.fs_cred.specs.Verdicts.{verdict}
 use Rattle.fs_layout.specs.declared.inode.Inode.{Inode}
-use Rattle.fs_layout.specs.declared.place.Place.{Place}
+use Rattle.fs_layout.specs.declared.geometry.Geometry.{Geometry}
 use Rattle.fs_layout.specs.Bytes.{SectorMap}
 use Rattle.fs_model.specs.declared.call.Call.TheVariants.{Chdir}
 use Rattle.fs_model.specs.declared.walk.Form.TheVariants.{Follow}
@@ -73,7 +73,7 @@ directory_access t n a d =
     let same : d.node ≡ a.node = (let e : Some d.node ≡ Some a.node = sym d.is_there ∙ a.at in cc) in
     no_file a.node.owner a.node.group a.node.body a.access (ap (λ (u : Node). is_directory u.body) (sym same) ∙ d.directory) a.is
 
-module _ {p : Place} {map : SectorMap} {t : Tree} (h : HoldsTree p map t) (f : Found) (n : ℕ) (v : Inode) (i : IsInodeFound p map f n v) (there : IsThere t n) (cred : Credential) where
+module _ {p : Geometry} {map : SectorMap} {t : Tree} (h : HoldsTree p map t) (f : Found) (n : ℕ) (v : Inode) (i : IsInodeFound p map f n v) (there : IsThere t n) (cred : Credential) where
   node : IsNode p.version map t f n v
   node = node_of h f n v i.number i.inode there
 
@@ -132,7 +132,7 @@ module _ {p : Place} {map : SectorMap} {t : Tree} (h : HoldsTree p map t) (f : F
         (or_else-none searched ∙ search_is ∙ (met_ok {A = Unit {0}} (decided 1 f.step Search (verdict cred access search_only)) tt tt asked).0))
 
 -- access to it, after reads
-pub searchable : {p : Place} {t : Tree} {old mid : TxnState} {f : Found} {n : ℕ} {v : Inode} → IsUnchanged old mid → (h : HoldsTree p old.sectors t)
+pub searchable : {p : Geometry} {t : Tree} {old mid : TxnState} {f : Found} {n : ℕ} {v : Inode} → IsUnchanged old mid → (h : HoldsTree p old.sectors t)
     (i : IsInodeFound p old.sectors f n v) (there : IsThere t n) (cred : Credential) (is : checked (refuse ENOTDIR (not (is_directory_kind v.kind))) ≡ Ok tt)
     → HasAccess mid.sectors v (access h f n v i there cred is)
 searchable {p} {t} {old} {mid} {f} {n} {v} same h i there cred is =

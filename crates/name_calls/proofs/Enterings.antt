@@ -12,14 +12,14 @@ use Rattle.fs_cred.specs.declared.errno.Errno.{Errno}
 use Rattle.fs_cred.specs.declared.errno.Errno.TheVariants.{ENOENT, ENOTDIR, ESRCH}
 use Rattle.fs_cred.specs.declared.refusal.Refusal.TheVariants.{Failed}
 use Rattle.fs_layout.specs.declared.inode.Inode.{Inode}
-use Rattle.fs_layout.specs.declared.place.Place.{Place}
+use Rattle.fs_layout.specs.declared.geometry.Geometry.{Geometry}
 use Rattle.fs_layout.specs.Bytes.{SectorMap}
 use Rattle.fs_layout.specs.Images.{inode_at}
 use Rattle.fs_layout.specs.Maps.{get, with_entry}
 use Rattle.fs_model.specs.Demands.{Demand, refuse, first_of}
 use Rattle.fs_model.specs.Kinds.{type_of_kind}
 use Rattle.fs_model.specs.Nodes.{Node, Body, File, Dir, Link, type_of}
-use Rattle.fs_model.specs.Processes.{Process, Desks, standing_at}
+use Rattle.fs_model.specs.Processes.{Process, ProcessTable, standing_at}
 use Rattle.fs_model.specs.Stands.{HoldsPlaced}
 use Rattle.fs_model.specs.States.{State}
 use Rattle.fs_model.specs.Steps.{enter_demands}
@@ -38,7 +38,7 @@ use Rattle.name_calls.specs.Enters as not_entered
 
 -- ---- one number
 
-module _ {p : Place} {map : SectorMap} {t : Tree} (h : HoldsTree p map t) (n : ℕ) where
+module _ {p : Geometry} {map : SectorMap} {t : Tree} (h : HoldsTree p map t) (n : ℕ) where
   -- of the table
   pub type_held : n < p.inodes → type_of_kind (inode_at p map n).kind ≡ type_in t n
   type_held below = go (node_at t n) refl
@@ -96,16 +96,16 @@ asked_of_both old new t directory second r is =
 
 -- ---- the process
 
-module _ {p : Place} {map : SectorMap} {desks : Desks} {s : State} (at : IsStateOf p map desks s) (pid : ℕ) (q : Process)
-    (there : get nat_cmp desks pid ≡ Some q) (directory second : ℕ) where
-  pub entered : (now : Desks) → now ≡ with_changed desks pid (standing_at directory second) → first_of (enter_demands s.tree directory second) ≡ None
+module _ {p : Geometry} {map : SectorMap} {processes : ProcessTable} {s : State} (at : IsStateOf p map processes s) (pid : ℕ) (q : Process)
+    (there : get nat_cmp processes pid ≡ Some q) (directory second : ℕ) where
+  pub entered : (now : ProcessTable) → now ≡ with_changed processes pid (standing_at directory second) → first_of (enter_demands s.tree directory second) ≡ None
       → IsEntered s pid directory second now
   entered now is_now met = record {
     process = q;
     is_there = same_process at pid q there;
     asked = met;
-    entered = is_now ∙ changed_there desks pid q (standing_at directory second) there
-        ∙ ap (λ (d : Desks). with_entry nat_cmp d pid (standing_at directory second q)) (sym at.same_desks);
+    entered = is_now ∙ changed_there processes pid q (standing_at directory second) there
+        ∙ ap (λ (d : ProcessTable). with_entry nat_cmp d pid (standing_at directory second q)) (sym at.same_processes);
   }
 
   pub entering_refused : (old new : DiskState) (e : Errno) → IsAskedOfBoth old new (first_of (enter_demands s.tree directory second)) (Err e)
@@ -117,16 +117,16 @@ is_err (Ok done) e err and = absurd (cc)
 is_err (Err x) e err and = ap (λ (y : Errno). Err y) and
 
 -- whatever refuses is passed on
-pub not_put : {p : Place} {pid directory second : ℕ} {old new : TxnState} {desks : Desks} (r : Result (Unit {0}) Errno) (e : Errno) → IsErr r
+pub not_put : {p : Geometry} {pid directory second : ℕ} {old new : TxnState} {processes : ProcessTable} (r : Result (Unit {0}) Errno) (e : Errno) → IsErr r
     → IsErrAnd r (λ y. y ≡ e) → IsUnchanged old new
-    → ((s : State) → IsStateOf p old.sectors desks s → IsNotEntered old.disk new.disk s pid directory second e)
-    → Enters p pid directory second old new desks desks r
-not_put {p} {pid} {directory} {second} {old} {new} {desks} r e err and same each =
-    subst (λ (q : Result (Unit {0}) Errno). Enters p pid directory second old new desks desks q) (sym (is_err r e err and))
+    → ((s : State) → IsStateOf p old.sectors processes s → IsNotEntered old.disk new.disk s pid directory second e)
+    → Enters p pid directory second old new processes processes r
+not_put {p} {pid} {directory} {second} {old} {new} {processes} r e err and same each =
+    subst (λ (q : Result (Unit {0}) Errno). Enters p pid directory second old new processes processes q) (sym (is_err r e err and))
     (record { same = same; table = refl; each = each })
 
 -- there is no such process
-pub absent_process : {p : Place} {map : SectorMap} {desks : Desks} {s : State} {pid directory second : ℕ} (old new : DiskState) (e : Errno)
-    → IsStateOf p map desks s → (e ≡ ESRCH) × (get nat_cmp desks pid ≡ None) → IsNotEntered old new s pid directory second e
-absent_process {p} {map} {desks} {s} {pid} old new e at none =
-    not_entered.absent (ap (λ (d : Desks). get nat_cmp d pid) at.same_desks ∙ none.1) none.0
+pub absent_process : {p : Geometry} {map : SectorMap} {processes : ProcessTable} {s : State} {pid directory second : ℕ} (old new : DiskState) (e : Errno)
+    → IsStateOf p map processes s → (e ≡ ESRCH) × (get nat_cmp processes pid ≡ None) → IsNotEntered old new s pid directory second e
+absent_process {p} {map} {processes} {s} {pid} old new e at none =
+    not_entered.absent (ap (λ (d : ProcessTable). get nat_cmp d pid) at.same_processes ∙ none.1) none.0

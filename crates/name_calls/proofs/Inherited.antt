@@ -9,7 +9,7 @@ use Rattle.posix_acl.specs.AccessList.{AccessList}
 use Rattle.fs_cred.specs.Credentials.{Credential}
 use Rattle.fs_layout.specs.declared.inode.TheConstants.{S_ISGID, S_ISVTX}
 use Rattle.fs_layout.specs.declared.inode.Inode.{Inode}
-use Rattle.fs_layout.specs.declared.place.Place.{Place}
+use Rattle.fs_layout.specs.declared.geometry.Geometry.{Geometry}
 use Rattle.fs_layout.specs.Bytes.{SectorMap}
 use Rattle.fs_layout.specs.Images.{inode_at}
 use Rattle.sector_txn.specs.Sectors.{TxnState, IsUnchanged}
@@ -47,7 +47,7 @@ bits_below true false = omega arith
 bits_below false true = omega arith
 bits_below false false = omega arith
 
-module _ {p : Place} {map : SectorMap} {t : Tree} (h : HoldsTree p map t) {dir : ℕ} {name : List ℕ} (i : IsNewIn p t dir name) (v : Inode) (is : v ≡ inode_at p map dir) where
+module _ {p : Geometry} {map : SectorMap} {t : Tree} (h : HoldsTree p map t) {dir : ℕ} {name : List ℕ} (i : IsNewIn p t dir name) (v : Inode) (is : v ≡ inode_at p map dir) where
   abbrev node : Node
   node = i.directory.node
 
@@ -112,7 +112,7 @@ module _ {p : Place} {map : SectorMap} {t : Tree} (h : HoldsTree p map t) {dir :
 
 -- ---- since before reads
 
-module _ (p : Place) {old mid : TxnState} {t : Tree} (h : HoldsTree p old.sectors t) (f : Found) (i : IsNewIn p t f.dir f.name) (same : IsUnchanged old mid)
+module _ (p : Geometry) {old mid : TxnState} {t : Tree} (h : HoldsTree p old.sectors t) (f : Found) (i : IsNewIn p t f.dir f.name) (same : IsUnchanged old mid)
     (name : List ℕ) (named : name ≡ f.name) where
   pub may_then : (cred : Credential) → first_of (make_asked p old.sectors cred t f.dir (f.step - 1)) ≡ None → (u : Tree) × CanMake p mid.sectors u f.dir name
   may_then cred met = (

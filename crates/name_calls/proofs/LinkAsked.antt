@@ -8,7 +8,7 @@ use Rattle.fs_cred.specs.declared.errno.Errno.TheVariants.{EPERM, ENOTDIR, EMLIN
 use Rattle.fs_cred.specs.declared.refusal.Refusal.{Refusal}
 use Rattle.fs_cred.specs.Credentials.{Credential}
 use Rattle.fs_layout.specs.declared.inode.Inode.{Inode}
-use Rattle.fs_layout.specs.declared.place.Place.{Place}
+use Rattle.fs_layout.specs.declared.geometry.Geometry.{Geometry}
 use Rattle.fs_layout.specs.Bytes.{SectorMap}
 use Rattle.fs_layout.specs.Images.{inode_at}
 use Rattle.fs_layout.specs.Version.{max_names, max_inode_names}
@@ -17,8 +17,8 @@ use Rattle.fs_model.specs.Births.{the_node}
 use Rattle.fs_model.specs.Demands.{Demand, refuse, first_of, permission_on, write_and_search}
 use Rattle.fs_model.specs.Limits.{least_free}
 use Rattle.fs_model.specs.NameCalls.{link_demands}
-use Rattle.fs_model.specs.Nodes.{Node, is_directory, names_in}
-use Rattle.fs_model.specs.Processes.{Process, Desks}
+use Rattle.fs_model.specs.Nodes.{Node, is_directory, names_of_body}
+use Rattle.fs_model.specs.Processes.{Process, ProcessTable}
 use Rattle.fs_model.specs.Rules.{is_directory_kind}
 use Rattle.fs_model.specs.Scenes.{is_found, is_special, number, must_be_there}
 use Rattle.fs_model.specs.States.{State}
@@ -41,7 +41,7 @@ use Rattle.call_parts.specs.Reaching.{checked, IsInodeFound}
 
 -- ---- all of the directory
 
-module _ (p : Place) (map : SectorMap) (cred : Credential) (t : Tree) (dir step names : ℕ) where
+module _ (p : Geometry) (map : SectorMap) (cred : Credential) (t : Tree) (dir step names : ℕ) where
   abbrev allowed : Demand
   allowed = permission_on cred t dir write_and_search 2 step
 
@@ -69,11 +69,11 @@ module _ (p : Place) (map : SectorMap) (cred : Credential) (t : Tree) (dir step 
 
 -- ---- what is to get the name
 
-pub node_found : {p : Place} {map : SectorMap} {t : Tree} {f : Found} {n : ℕ} {v : Inode} → HoldsTree p map t → IsInodeFound p map f n v
+pub node_found : {p : Geometry} {map : SectorMap} {t : Tree} {f : Found} {n : ℕ} {v : Inode} → HoldsTree p map t → IsInodeFound p map f n v
     → ((m : ℕ) → f.ino ≡ Some m → IsThere t m) → IsNode p.version map t f n v
 node_found {p} {map} {t} {f} {n} {v} h i there = node_of h f n v i.number i.inode (there n i.some)
 
-module _ {p : Place} {map : SectorMap} {t : Tree} {f : Found} {n : ℕ} {v : Inode} (k : IsInodeFound p map f n v) (node : IsNode p.version map t f n v) where
+module _ {p : Geometry} {map : SectorMap} {t : Tree} {f : Found} {n : ℕ} {v : Inode} (k : IsInodeFound p map f n v) (node : IsNode p.version map t f n v) where
   abbrev kinds_asked : Bool → List Demand
   kinds_asked b = refuse ENOTDIR (f.slash && not b) ∷ refuse EPERM b ∷ []
 
@@ -102,13 +102,13 @@ module _ (t : Tree) (f : Found) where
     pub source_absent : Refuses (must_be_there f) (first_of (source_asked t f))
     source_absent = refuses_others special (must_be_there f ∷ others) (demand_met (first_of special) plain) (refuses_first (must_be_there f) others)
 
-    pub source_other : {p : Place} {map : SectorMap} {n : ℕ} {v : Inode} → IsInodeFound p map f n v → IsNode p.version map t f n v
+    pub source_other : {p : Geometry} {map : SectorMap} {n : ℕ} {v : Inode} → IsInodeFound p map f n v → IsNode p.version map t f n v
         → Refuses (first_of (refuse ENOTDIR (f.slash && not (is_directory_kind v.kind)) ∷ refuse EPERM (is_directory_kind v.kind) ∷ [])) (first_of (source_asked t f))
     source_other k node =
         refuses_others special (must_be_there f ∷ others) (demand_met (first_of special) plain)
         (refuses_next (must_be_there f) others k.met (λ (e : Refusal) is. ap first_of (sym (kind_says k node)) ∙ is))
 
-  pub source_all_met : checked (first_of (refuse EPERM (is_special f) ∷ [])) ≡ Ok tt → {p : Place} {map : SectorMap} {n : ℕ} {v : Inode} → IsInodeFound p map f n v → IsNode p.version map t f n v
+  pub source_all_met : checked (first_of (refuse EPERM (is_special f) ∷ [])) ≡ Ok tt → {p : Geometry} {map : SectorMap} {n : ℕ} {v : Inode} → IsInodeFound p map f n v → IsNode p.version map t f n v
       → checked (first_of (refuse ENOTDIR (f.slash && not (is_directory_kind v.kind)) ∷ refuse EPERM (is_directory_kind v.kind) ∷ [])) ≡ Ok tt
       → first_of (source_asked t f) ≡ None
   source_all_met plain {p} {map} {n} {v} k node is =
@@ -117,7 +117,7 @@ module _ (t : Tree) (f : Found) where
       (met_ok {A = Unit {0}} (first_of others) tt tt (ap (λ (ds : List Demand). checked (first_of ds)) (sym (kind_says k node)) ∙ is)).0)
 
   -- where all is met, it is there
-  pub source_inode : (p : Place) (map : SectorMap) {n : ℕ} {v : Inode}
+  pub source_inode : (p : Geometry) (map : SectorMap) {n : ℕ} {v : Inode}
       → refused_or {A = ℕ × Inode} (first_of (source_asked t f)) (Ok (number f, inode_at p map (number f))) ≡ Ok (n, v) → (first_of (source_asked t f) ≡ None) × IsInodeFound p map f n v
   source_inode p map {n} {v} is =
       let both = met_ok {A = ℕ × Inode} (first_of (source_asked t f)) (number f, inode_at p map (number f)) (n, v) is in
@@ -129,7 +129,7 @@ module _ (t : Tree) (f : Found) where
 
 -- ---- the whole
 
-module _ {p : Place} {map : SectorMap} {desks : Desks} {q : Process} {f g : Found} {s : State} (i : FindsBoth p map desks q f g s) where
+module _ {p : Geometry} {map : SectorMap} {processes : ProcessTable} {q : Process} {f g : Found} {s : State} (i : FindsBoth p map processes q f g s) where
   abbrev source : List Demand
   source = source_asked s.tree f
 
@@ -141,7 +141,7 @@ module _ {p : Place} {map : SectorMap} {desks : Desks} {q : Process} {f g : Foun
       permission_on q.cred s.tree g.dir write_and_search 2 (g.step - 1)
       ∷ refuse EMLINK (nat_le s.room.names_limit (names_of s.tree (number f)))
       ∷ refuse ENOSPC (nat_lt s.free least_free)
-      ∷ refuse ENOSPC (nat_le s.room.entries_limit (length (names_in (the_node s.tree g.dir).body)))
+      ∷ refuse ENOSPC (nat_le s.room.entries_limit (length (names_of_body (the_node s.tree g.dir).body)))
       ∷ []
 
   pub source_refuses : Refuses (first_of (source_asked s.tree f)) (first_of (link_demands (scene_with s q f g)))
@@ -173,12 +173,12 @@ module _ {p : Place} {map : SectorMap} {desks : Desks} {q : Process} {f g : Foun
         ∙ ap (λ (c : ℕ). permission_on q.cred s.tree g.dir write_and_search 2 (g.step - 1)
         ∷ refuse EMLINK (nat_le (max_inode_names p.version) (names_of s.tree (number f)))
         ∷ refuse ENOSPC (nat_lt c least_free)
-        ∷ refuse ENOSPC (nat_le (max_names p.version) (length (names_in (the_node s.tree g.dir).body)))
+        ∷ refuse ENOSPC (nat_le (max_names p.version) (length (names_of_body (the_node s.tree g.dir).body)))
         ∷ []) (sym i.is_state.free_is)
         ∙ ap (λ (r : Room). permission_on q.cred s.tree g.dir write_and_search 2 (g.step - 1)
         ∷ refuse EMLINK (nat_le r.names_limit (names_of s.tree (number f)))
         ∷ refuse ENOSPC (nat_lt s.free least_free)
-        ∷ refuse ENOSPC (nat_le r.entries_limit (length (names_in (the_node s.tree g.dir).body)))
+        ∷ refuse ENOSPC (nat_le r.entries_limit (length (names_of_body (the_node s.tree g.dir).body)))
         ∷ []) (sym i.is_state.same_room)
 
     pub place_refuses : Refuses (first_of (place_asked p map q.cred s.tree g.dir (g.step - 1) v.names)) (first_of (link_demands (scene_with s q f g)))

@@ -11,7 +11,7 @@ use Rattle.std.proofs.lemmas.Bool.Decides.{nat_tests}
 use Rattle.fs_cred.specs.declared.errno.Errno.TheVariants.{EMLINK, ENOSPC}
 use Rattle.fs_layout.specs.declared.inode.Inode.{Inode}
 use Rattle.fs_layout.specs.declared.inode.Kind.TheVariants as kinds
-use Rattle.fs_layout.specs.declared.place.Place.{Place}
+use Rattle.fs_layout.specs.declared.geometry.Geometry.{Geometry}
 use Rattle.fs_layout.specs.Bytes.{SectorMap}
 use Rattle.fs_layout.specs.Directories.{HasNames}
 use Rattle.fs_layout.specs.Images.{inode_at}
@@ -28,8 +28,8 @@ use Rattle.fs_model.specs.TreeChanges.{AddName, changed, touches_of, swept}
 use Rattle.fs_model.specs.Demands.{Demand, refuse, first_of, permission_on, write_and_search}
 use Rattle.fs_model.specs.Limits.{least_free}
 use Rattle.fs_model.specs.NameCalls.{link_demands, link_effect}
-use Rattle.fs_model.specs.Nodes.{Node, is_directory, names_in}
-use Rattle.fs_model.specs.Processes.{Process, Desks, is_open}
+use Rattle.fs_model.specs.Nodes.{Node, is_directory, names_of_body}
+use Rattle.fs_model.specs.Processes.{Process, ProcessTable, is_open}
 use Rattle.fs_model.specs.Rows.{row_of}
 use Rattle.fs_model.specs.Scenes.{number}
 use Rattle.fs_model.specs.Stands.{HoldsAll, placed}
@@ -68,7 +68,7 @@ link_by_two old new = record { row = refl; asks = refl }
 
 -- ---- all is met
 
-pub record IsLinkable (p : Place) (map : SectorMap) (s : State) (q : Process) (f g : Found) (n : ℕ) (v d : Inode) : Type 0 where
+pub record IsLinkable (p : Geometry) (map : SectorMap) (s : State) (q : Process) (f g : Found) (n : ℕ) (v d : Inode) : Type 0 where
   pub met : first_of (link_demands (scene_with s q f g)) ≡ None
   pub source_met : first_of (source_asked s.tree f) ≡ None
   pub name_met : first_of (link_name_asked g) ≡ None
@@ -81,7 +81,7 @@ place_demands s q f g =
     permission_on q.cred s.tree g.dir write_and_search 2 (g.step - 1)
     ∷ refuse EMLINK (nat_le s.room.names_limit (names_of s.tree (number f)))
     ∷ refuse ENOSPC (nat_lt s.free least_free)
-    ∷ refuse ENOSPC (nat_le s.room.entries_limit (length (names_in (the_node s.tree g.dir).body)))
+    ∷ refuse ENOSPC (nat_le s.room.entries_limit (length (names_of_body (the_node s.tree g.dir).body)))
     ∷ []
 
 parts : (s : State) (q : Process) (f g : Found) → first_of (link_demands (scene_with s q f g)) ≡ None
@@ -95,7 +95,7 @@ parts s q f g met =
       then_met (first_of (link_name_asked g)) (first_of (place_demands s q f g)) two,
     )
 
-module _ {p : Place} {map : SectorMap} {q : Process} {f g : Found} (s : State) {n : ℕ} {v d : Inode} where
+module _ {p : Geometry} {map : SectorMap} {q : Process} {f g : Found} (s : State) {n : ℕ} {v d : Inode} where
   pub link_told : refused_or {A = ℕ × Inode × Inode} (first_of (link_demands (scene_with s q f g)))
       (Ok (number f, inode_at p map (number f), inode_at p map g.dir)) ≡ Ok (n, v, d) → IsLinkable p map s q f g n v d
   link_told is =
@@ -113,7 +113,7 @@ module _ {p : Place} {map : SectorMap} {q : Process} {f g : Found} (s : State) {
         directory = sym (ap (λ (x : ℕ × Inode × Inode). x.2) both.1);
       }
 
-module _ {p : Place} {map : SectorMap} {desks : Desks} {q : Process} {f g : Found} {s : State} (i : FindsBoth p map desks q f g s) where
+module _ {p : Geometry} {map : SectorMap} {processes : ProcessTable} {q : Process} {f g : Found} {s : State} (i : FindsBoth p map processes q f g s) where
   -- the name is new in a directory
   pub name_at : first_of (link_name_asked g) ≡ None → IsNameAt s.room s.tree g.dir g.name None
   name_at met = (second_walked i).new (is_link_name g (ap (λ (o : Demand). refused_or {A = Unit {0}} o (Ok tt)) met)).1
@@ -146,10 +146,10 @@ module _ {p : Place} {map : SectorMap} {desks : Desks} {q : Process} {f g : Foun
         let three = then_met (refuse EMLINK (nat_le s.room.names_limit (names_of s.tree (number f)))) _ two in
         let low : nat_lt s.free least_free ≡ false = unrefused ENOSPC (nat_lt s.free least_free) (first_met (refuse ENOSPC (nat_lt s.free least_free)) _ three) in
         let four = then_met (refuse ENOSPC (nat_lt s.free least_free)) _ three in
-        let full : nat_le s.room.entries_limit (length (names_in (the_node s.tree g.dir).body)) ≡ false =
-        unrefused ENOSPC (nat_le s.room.entries_limit (length (names_in (the_node s.tree g.dir).body)))
-        (first_met (refuse ENOSPC (nat_le s.room.entries_limit (length (names_in (the_node s.tree g.dir).body)))) None four) in
-        let some : length (names_in (the_node s.tree g.dir).body) < s.room.entries_limit = grind (arith, nat_tests) in
+        let full : nat_le s.room.entries_limit (length (names_of_body (the_node s.tree g.dir).body)) ≡ false =
+        unrefused ENOSPC (nat_le s.room.entries_limit (length (names_of_body (the_node s.tree g.dir).body)))
+        (first_met (refuse ENOSPC (nat_le s.room.entries_limit (length (names_of_body (the_node s.tree g.dir).body)))) None four) in
+        let some : length (names_of_body (the_node s.tree g.dir).body) < s.room.entries_limit = grind (arith, nat_tests) in
         let enough : least_free ≤ s.free = grind (arith, nat_tests) in
         record {
           directory = name_dir l.name_met;
@@ -157,8 +157,8 @@ module _ {p : Place} {map : SectorMap} {desks : Desks} {q : Process} {f g : Foun
           short = subst (λ (r : Room). length g.name ≤ r.name_limit) i.is_state.same_room x.short;
           bytes = x.bytes;
           is_new = x.leads;
-          has_room = subst (λ (r : Room). length (names_in x.node.body) < r.entries_limit) i.is_state.same_room
-              (subst (λ (u : Node). length (names_in u.body) < s.room.entries_limit) (the_node_is s.tree g.dir x.node x.stands) some);
+          has_room = subst (λ (r : Room). length (names_of_body x.node.body) < r.entries_limit) i.is_state.same_room
+              (subst (λ (u : Node). length (names_of_body u.body) < s.room.entries_limit) (the_node_is s.tree g.dir x.node x.stands) some);
           enough = subst (λ (k : ℕ). least_free ≤ k) i.is_state.free_is enough;
           target = node.node;
           there = node.at;
@@ -168,7 +168,7 @@ module _ {p : Place} {map : SectorMap} {desks : Desks} {q : Process} {f g : Foun
 
 -- ---- the name is given
 
-module _ {p : Place} (old : TxnState) {desks : Desks} {s : State} (at : IsStateOf p old.sectors desks s) {dir : ℕ} {name : List ℕ} {n : ℕ}
+module _ {p : Geometry} (old : TxnState) {processes : ProcessTable} {s : State} (at : IsStateOf p old.sectors processes s) {dir : ℕ} {name : List ℕ} {n : ℕ}
     (may : MayLink p old.sectors s.tree dir name n) where
   abbrev directory : Node
   directory = may.directory.node
@@ -205,7 +205,7 @@ module _ {p : Place} (old : TxnState) {desks : Desks} {s : State} (at : IsStateO
       stands = may.directory.is_there;
       is_dir = may.directory.directory;
       is_new = may.is_new;
-      has_room = subst (λ (r : Room). length (names_in directory.body) < r.entries_limit) (sym at.same_room) may.has_room;
+      has_room = subst (λ (r : Room). length (names_of_body directory.body) < r.entries_limit) (sym at.same_room) may.has_room;
       is_name = may.is_name;
       short = subst (λ (r : Room). length name ≤ r.name_limit) (sym at.same_room) may.short;
       bytes = may.bytes;
@@ -240,7 +240,7 @@ module _ {p : Place} (old : TxnState) {desks : Desks} {s : State} (at : IsStateO
         (placing_other n (Some (record { node = may.target; names = names_of s.tree n + 1; parent = 0 })) (placed s.tree) dir apart
         ∙ placed_from s.tree dir (Some directory) _ _ may.directory.is_there refl refl)
 
-    dir_names : HasNames p.version mid.sectors (inode_at p mid.sectors dir) (names_in directory.body)
+    dir_names : HasNames p.version mid.sectors (inode_at p mid.sectors dir) (names_of_body directory.body)
     dir_names = names_say p.version mid.sectors (inode_at p mid.sectors dir) directory.body may.directory.directory dir_held.body
 
     pub dir_room : MayBeNamed p mid.sectors dir name
@@ -251,7 +251,7 @@ module _ {p : Place} (old : TxnState) {desks : Desks} {s : State} (at : IsStateO
           below = dir_below;
           is_name = may.is_name;
           short = may.short;
-          names = names_in directory.body;
+          names = names_of_body directory.body;
           are = dir_names;
           is_new = may.is_new;
           few = may.has_room;
@@ -259,25 +259,25 @@ module _ {p : Place} (old : TxnState) {desks : Desks} {s : State} (at : IsStateO
         }
 
     module _ (new : SectorMap) (named : NamesInode p dir name n mid.sectors new) where
-      pub link_holds : HoldsAll p new (placed (swept (changed s.tree (AddName dir name n)) desks))
+      pub link_holds : HoldsAll p new (placed (swept (changed s.tree (AddName dir name n)) processes))
       link_holds =
-          add_held s at.is_state at.up desks (λ k is. subst (λ (d : Desks). IsTrue (is_open d k)) at.same_desks is) p old.sectors at.holds at.same_room
+          add_held s at.is_state at.up processes (λ k is. subst (λ (d : ProcessTable). IsTrue (is_open d k)) at.same_processes is) p old.sectors at.holds at.same_room
           mid.sectors new dir directory name n may.target gives counts.touches.inode counts.used (counted (parent (changed s.tree (AddName dir name n)) n))
           named.change named.used
-          (names_held mid.sectors new (inode_at p mid.sectors dir) (inode_at p new dir) is_dir dir_held (with_entry name_cmp (names_in directory.body) name n)
-          may.directory.directory named.kept named.acls (named.named (names_in directory.body) dir_names))
+          (names_held mid.sectors new (inode_at p mid.sectors dir) (inode_at p new dir) is_dir dir_held (with_entry name_cmp (names_of_body directory.body) name n)
+          may.directory.directory named.kept named.acls (named.named (names_of_body directory.body) dir_names))
 
 -- ---- the step
 
-pub link_changes : {p : Place} {new : SectorMap} {desks : Desks} (s : State) (q : Process) (f g : Found) (n : ℕ) → number f ≡ n
-    → first_of (link_demands (scene_with s q f g)) ≡ None → HoldsAll p new (placed (swept (changed s.tree (AddName g.dir g.name n)) desks))
-    → IsChange p new desks s q (link_demands (scene_with s q f g)) (λ k. link_effect (scene_with s q f g)) Done ((g.dir, Modified) ∷ (n, Changed) ∷ [])
-link_changes {p} {new} {desks} s q f g n is met holds = record {
+pub link_changes : {p : Geometry} {new : SectorMap} {processes : ProcessTable} (s : State) (q : Process) (f g : Found) (n : ℕ) → number f ≡ n
+    → first_of (link_demands (scene_with s q f g)) ≡ None → HoldsAll p new (placed (swept (changed s.tree (AddName g.dir g.name n)) processes))
+    → IsChange p new processes s q (link_demands (scene_with s q f g)) (λ k. link_effect (scene_with s q f g)) Done ((g.dir, Modified) ∷ (n, Changed) ∷ [])
+link_changes {p} {new} {processes} s q f g n is met holds = record {
   met = met;
   number = 0;
   change = AddName g.dir g.name (number f);
   is = refl;
   new_number = tt;
   times = ap (λ (k : ℕ). touches_of s.tree (AddName g.dir g.name k)) is;
-  holds = subst (λ (k : ℕ). HoldsAll p new (placed (swept (changed s.tree (AddName g.dir g.name k)) desks))) (sym is) holds;
+  holds = subst (λ (k : ℕ). HoldsAll p new (placed (swept (changed s.tree (AddName g.dir g.name k)) processes))) (sym is) holds;
 }

@@ -12,7 +12,7 @@ use Rattle.std.proofs.lemmas.Bool.{ne_eqb}
 use Rattle.fs_layout.specs.declared.inode.Inode.{Inode}
 use Rattle.fs_layout.specs.declared.inode.Kind.{Kind}
 use Rattle.fs_layout.specs.declared.inode.Kind.TheVariants as kinds
-use Rattle.fs_layout.specs.declared.place.Place.{Place}
+use Rattle.fs_layout.specs.declared.geometry.Geometry.{Geometry}
 use Rattle.fs_layout.specs.Bytes.{SectorMap}
 use Rattle.fs_layout.specs.Directories.{HasNames}
 use Rattle.fs_layout.specs.Images.{free_sectors, inode_at}
@@ -25,8 +25,8 @@ use Rattle.bit_alloc.specs.declared.bitmap.Bitmap.TheVariants.{Inodes}
 use Rattle.bit_alloc.specs.Bitmaps.{IsNumber}
 use Rattle.fs_model.specs.TreeChanges.{MoveName, changed, changed_at, swept, lives_nameless}
 use Rattle.fs_model.specs.Limits.{root}
-use Rattle.fs_model.specs.Nodes.{Node, is_directory, names_in}
-use Rattle.fs_model.specs.Processes.{Desks, is_open}
+use Rattle.fs_model.specs.Nodes.{Node, is_directory, names_of_body}
+use Rattle.fs_model.specs.Processes.{ProcessTable, is_open}
 use Rattle.fs_model.specs.Rules.{is_directory_kind}
 use Rattle.fs_model.specs.Stands.{HoldsAll, placed}
 use Rattle.fs_model.specs.States.{State}
@@ -63,20 +63,20 @@ other_kind_is kinds.File ne = refl
 other_kind_is kinds.Directory ne = absurd (ne refl)
 other_kind_is kinds.Link ne = refl
 
-pub follow_super : {p : Place} {n dir to_dir : ℕ} {old new : SectorMap} → ParentFollows p n dir to_dir old new → new 0 ≡ old 0
+pub follow_super : {p : Geometry} {n dir to_dir : ℕ} {old new : SectorMap} → ParentFollows p n dir to_dir old new → new 0 ≡ old 0
 follow_super (goes ne kind gets) = gets.super
 follow_super (stays why same) = ap (λ (m : SectorMap). m 0) same
 
 -- ---- what is replaced
 
-pub there_is : (p : Place) (map : SectorMap) (o : Option ℕ) (m : ℕ) (v : Inode) → Some (m, v) ≡ inode_there p map o → (o ≡ Some m) × (v ≡ inode_at p map m)
+pub there_is : (p : Geometry) (map : SectorMap) (o : Option ℕ) (m : ℕ) (v : Inode) → Some (m, v) ≡ inode_there p map o → (o ≡ Some m) × (v ≡ inode_at p map m)
 there_is p map None m v e = absurd (cc)
 there_is p map (Some k) m v e =
     let both : (m, v) ≡ (k, inode_at p map k) = cc in
     let same : m ≡ k = ap (λ (x : ℕ × Inode). x.0) both in
     (ap (λ (j : ℕ). Some j) (sym same), ap (λ (x : ℕ × Inode). x.1) both ∙ ap (inode_at p map) (sym same))
 
-pub nothing_there : (p : Place) (map : SectorMap) (o : Option ℕ) (there : Option (ℕ × Inode)) → there ≡ inode_there p map o
+pub nothing_there : (p : Geometry) (map : SectorMap) (o : Option ℕ) (there : Option (ℕ × Inode)) → there ≡ inode_there p map o
     → ((x : ℕ × Inode) → there ≡ Some x → ⊥) → o ≡ None
 nothing_there p map None there is none = refl
 nothing_there p map (Some m) there is none = absurd (none (m, inode_at p map m) is)
@@ -97,7 +97,7 @@ few_renamed dir to_dir n (Some m) = omega arith
 
 -- ---- a name that may move
 
-module _ {p : Place} (old : TxnState) {desks : Desks} {s : State} (at : IsStateOf p old.sectors desks s) {dir : ℕ} {name : List ℕ} {n to_dir : ℕ} {to_name : List ℕ}
+module _ {p : Geometry} (old : TxnState) {processes : ProcessTable} {s : State} (at : IsStateOf p old.sectors processes s) {dir : ℕ} {name : List ℕ} {n to_dir : ℕ} {to_name : List ℕ}
     {o : Option ℕ} (may : MayMove p old.sectors s dir name n to_dir to_name o) where
   abbrev directory : Node
   directory = may.directory.node
@@ -105,10 +105,10 @@ module _ {p : Place} (old : TxnState) {desks : Desks} {s : State} (at : IsStateO
   abbrev to_directory : Node
   to_directory = may.to_directory.node
 
-  still : (k : ℕ) → IsTrue (is_open s.desks k) → IsTrue (is_open desks k)
-  still k is = subst (λ (d : Desks). IsTrue (is_open d k)) at.same_desks is
+  still : (k : ℕ) → IsTrue (is_open s.processes k) → IsTrue (is_open processes k)
+  still k is = subst (λ (d : ProcessTable). IsTrue (is_open d k)) at.same_processes is
 
-  moves : MovesName s.room s.tree s.desks dir directory name n to_dir to_directory to_name o
+  moves : MovesName s.room s.tree s.processes dir directory name n to_dir to_directory to_name o
   moves = record {
     stands = may.directory.is_there;
     is_dir = may.directory.directory;
@@ -120,7 +120,7 @@ module _ {p : Place} (old : TxnState) {desks : Desks} {s : State} (at : IsStateO
     short = subst (λ (r : Room). length to_name ≤ r.name_limit) (sym at.same_room) may.short;
     bytes = may.bytes;
     other = may.other;
-    has_room = λ none ne. subst (λ (r : Room). length (names_in to_directory.body) < r.entries_limit) (sym at.same_room) (may.has_room none ne).0;
+    has_room = λ none ne. subst (λ (r : Room). length (names_of_body to_directory.body) < r.entries_limit) (sym at.same_room) (may.has_room none ne).0;
     empty = λ m led d. ap names_or d.is_there ∙ may.empty m led d;
     unused = may.unused;
     outside = λ d. is_outside s.room s.tree n to_dir at.is_state.tree may.to_directory (may.outside d);
@@ -137,17 +137,17 @@ module _ {p : Place} (old : TxnState) {desks : Desks} {s : State} (at : IsStateO
   abbrev is_target : Placed
   is_target = record { node = target.node; names = names_of s.tree n; parent = parent s.tree n }
 
-  abbrev between : Between s.room s.tree (renamed s.tree dir directory (without name_cmp (names_in directory.body) name)) to_dir to_name o
-  between = middle s at.is_state at.up desks still dir directory name n to_dir to_directory to_name o moves target.node target.at
+  abbrev between : Between s.room s.tree (renamed s.tree dir directory (without name_cmp (names_of_body directory.body) name)) to_dir to_name o
+  between = middle s at.is_state at.up processes still dir directory name n to_dir to_directory to_name o moves target.node target.at
 
   abbrev fewer : List (List ℕ × ℕ)
-  fewer = without name_cmp (names_in directory.body) name
+  fewer = without name_cmp (names_of_body directory.body) name
 
   abbrev then_begun : ℕ → Option Placed
-  then_begun = begun s at.is_state at.up desks still dir directory name n to_dir to_directory to_name o moves target.node target.at
+  then_begun = begun s at.is_state at.up processes still dir directory name n to_dir to_directory to_name o moves target.node target.at
 
   abbrev then_arrived : ℕ → Option Placed
-  then_arrived = arrived s at.is_state at.up desks still dir directory name n to_dir to_directory to_name o moves target.node target.at
+  then_arrived = arrived s at.is_state at.up processes still dir directory name n to_dir to_directory to_name o moves target.node target.at
 
   pub dir_below : dir < p.inodes
   dir_below = node_below s p at.is_state at.same_room dir directory may.directory.is_there
@@ -174,15 +174,15 @@ module _ {p : Place} (old : TxnState) {desks : Desks} {s : State} (at : IsStateO
   pub moved_used : (inode_at p old.sectors n).kind ≢ kinds.Free
   moved_used e = body_not_free p.version old.sectors (inode_at p old.sectors n) target.node.body (held_node (state_tree at) n target.node target.at).body e
 
-  dir_names : HasNames p.version old.sectors (inode_at p old.sectors dir) (names_in directory.body)
+  dir_names : HasNames p.version old.sectors (inode_at p old.sectors dir) (names_of_body directory.body)
   dir_names = held_names (state_tree at) dir may.directory
 
-  has_first : get name_cmp (names_in directory.body) name ≢ None
+  has_first : get name_cmp (names_of_body directory.body) name ≢ None
   has_first none = let both : None ≡ Some n = sym none ∙ may.leads in cc
 
   -- the directory has the name
   pub named_first : HasName p old.sectors dir name
-  named_first = (names_in directory.body, dir_names, has_first)
+  named_first = (names_of_body directory.body, dir_names, has_first)
 
   -- and not the other one, where nothing is to be replaced in it
   pub named_here : dir ≡ to_dir → o ≡ None
@@ -191,13 +191,13 @@ module _ {p : Place} (old : TxnState) {desks : Desks} {s : State} (at : IsStateO
       let stands = may.directory.is_there in
       let also = may.to_directory.is_there in
       let same : directory ≡ to_directory = cc in (
-        names_in directory.body,
+        names_of_body directory.body,
         dir_names,
         has_first,
-        ap (λ (u : Node). get name_cmp (names_in u.body) to_name) same ∙ may.to_leads ∙ none,
+        ap (λ (u : Node). get name_cmp (names_of_body u.body) to_name) same ∙ may.to_leads ∙ none,
       )
 
-  pub leads_first : HasNames p.version old.sectors (inode_at p old.sectors dir) (names_in directory.body) × (get name_cmp (names_in directory.body) name ≡ Some n)
+  pub leads_first : HasNames p.version old.sectors (inode_at p old.sectors dir) (names_of_body directory.body) × (get name_cmp (names_of_body directory.body) name ≡ Some n)
   leads_first = (dir_names, may.leads)
 
   -- ---- the name is gone from the directory
@@ -206,14 +206,14 @@ module _ {p : Place} (old : TxnState) {desks : Desks} {s : State} (at : IsStateO
     here : HoldsNode p.version mid (inode_at p mid dir) (record is_dir { node = renamed_node directory fewer })
     here =
         names_held old.sectors mid (inode_at p old.sectors dir) (inode_at p mid dir) is_dir dir_held fewer may.directory.directory
-        removes.kept removes.acls (removes.named (names_in directory.body) dir_names)
+        removes.kept removes.acls (removes.named (names_of_body directory.body) dir_names)
 
     to_held : HoldsNode p.version mid (inode_at p mid to_dir) (record { node = between.node; names = names_of s.tree to_dir; parent = parent s.tree to_dir })
     to_held =
-        middle_held s at.is_state at.up desks still dir directory name n to_dir to_directory to_name o moves target.node target.at p at.same_room
+        middle_held s at.is_state at.up processes still dir directory name n to_dir to_directory to_name o moves target.node target.at p at.same_room
         old.sectors mid at.holds removes.change removes.used here
 
-    to_names : HasNames p.version mid (inode_at p mid to_dir) (names_in between.node.body)
+    to_names : HasNames p.version mid (inode_at p mid to_dir) (names_of_body between.node.body)
     to_names = names_say p.version mid (inode_at p mid to_dir) between.node.body between.directory to_held.body
 
     -- the other name may lead to what it led to
@@ -229,28 +229,28 @@ module _ {p : Place} (old : TxnState) {desks : Desks} {s : State} (at : IsStateO
               below = to_below;
               is_name = may.is_name;
               short = may.short;
-              names = names_in between.node.body;
+              names = names_of_body between.node.body;
               are = to_names;
               is_new = between.leads ∙ e;
-              few = let free = subst (λ (r : Room). length (names_in between.node.body) + 1 ≤ r.entries_limit) at.same_room few in omega (arith, free);
+              few = let free = subst (λ (r : Room). length (names_of_body between.node.body) + 1 ≤ r.entries_limit) at.same_room few in omega (arith, free);
               enough = omega (arith, enough, left);
             }
         go (Some m) e =
-            (to_below, (names_in between.node.body, to_names, λ none. let both : None ≡ Some m = sym none ∙ between.leads ∙ e in cc))
+            (to_below, (names_of_body between.node.body, to_names, λ none. let both : None ≡ Some m = sym none ∙ between.leads ∙ e in cc))
 
   -- ---- both directories have their names
 
   entry_held : (new : SectorMap) → MovesEntry p dir name n to_dir to_name o old.sectors new → HoldsAll p new then_begun
   entry_held new (within one none c) =
-      begun_here s at.is_state at.up desks still dir directory name n to_dir to_directory to_name o moves target.node target.at p at.same_room
+      begun_here s at.is_state at.up processes still dir directory name n to_dir to_directory to_name o moves target.node target.at p at.same_room
       old.sectors new at.holds one c.change c.used
       (names_held old.sectors new (inode_at p old.sectors dir) (inode_at p new dir) is_dir dir_held (with_entry name_cmp fewer to_name n) may.directory.directory
-      c.kept c.acls (c.named (names_in directory.body) dir_names))
+      c.kept c.acls (c.named (names_of_body directory.body) dir_names))
   entry_held new (across mid removes leads) =
-      begun_held s at.is_state at.up desks still dir directory name n to_dir to_directory to_name o moves target.node target.at p at.same_room
+      begun_held s at.is_state at.up processes still dir directory name n to_dir to_directory to_name o moves target.node target.at p at.same_room
       old.sectors mid at.holds removes.change removes.used (here removes) new leads.change leads.used
-      (names_held mid new (inode_at p mid to_dir) (inode_at p new to_dir) _ (to_held removes) (with_entry name_cmp (names_in between.node.body) to_name n)
-      between.directory leads.kept leads.acls (leads.named (names_in between.node.body) (to_names removes)))
+      (names_held mid new (inode_at p mid to_dir) (inode_at p new to_dir) _ (to_held removes) (with_entry name_cmp (names_of_body between.node.body) to_name n)
+      between.directory leads.kept leads.acls (leads.named (names_of_body between.node.body) (to_names removes)))
 
   pub entry_super : {new : SectorMap} → MovesEntry p dir name n to_dir to_name o old.sectors new → new 0 ≡ old.sectors 0
   entry_super (within one none c) = c.super
@@ -268,13 +268,13 @@ module _ {p : Place} (old : TxnState) {desks : Desks} {s : State} (at : IsStateO
     pub moved_same : inode_at p mid n ≡ inode_at p old.sectors n
     moved_same =
         entry_same entry n moved_below
-        (apart_from s at.is_state at.up desks still dir directory name n to_dir to_directory to_name o moves target.node target.at)
-        (apart_to s at.is_state at.up desks still dir directory name n to_dir to_directory to_name o moves target.node target.at)
+        (apart_from s at.is_state at.up processes still dir directory name n to_dir to_directory to_name o moves target.node target.at)
+        (apart_to s at.is_state at.up processes still dir directory name n to_dir to_directory to_name o moves target.node target.at)
 
     target_held : HoldsNode p.version mid (inode_at p mid n) is_target
     target_held =
         held_at p mid then_begun (entry_held mid entry) n moved_below is_target
-        (begun_n s at.is_state at.up desks still dir directory name n to_dir to_directory to_name o moves target.node target.at p at.same_room)
+        (begun_n s at.is_state at.up processes still dir directory name n to_dir to_directory to_name o moves target.node target.at p at.same_room)
 
     target_kind : is_directory_kind (inode_at p mid n).kind ≡ is_directory target.node.body
     target_kind = ap (λ (v : Inode). is_directory_kind v.kind) moved_same ∙ held_kind (state_tree at) n target.node target.at
@@ -288,7 +288,7 @@ module _ {p : Place} (old : TxnState) {desks : Desks} {s : State} (at : IsStateO
           go : ParentFollows p n dir to_dir mid now → HoldsAll p now then_arrived
           go (goes ne kind gets) =
               let is : IsTrue (is_directory target.node.body) = sym target_kind ∙ ap is_directory_kind kind in
-              parent_held s at.is_state at.up desks still dir directory name n to_dir to_directory to_name o moves target.node target.at p at.same_room
+              parent_held s at.is_state at.up processes still dir directory name n to_dir to_directory to_name o moves target.node target.at p at.same_room
               mid now (entry_held mid entry) is gets.change gets.used
               (moved_held mid now (inode_at p mid n) (inode_at p now n) is_target target_held to_dir is gets.saved gets.bytes gets.acls)
           go (stays why same) =
@@ -297,7 +297,7 @@ module _ {p : Place} (old : TxnState) {desks : Desks} {s : State} (at : IsStateO
                 | inr one ↦ inr one
               ] in
               subst (λ (m : SectorMap). HoldsAll p m then_arrived) (sym same)
-              (no_parent_held s at.is_state at.up desks still dir directory name n to_dir to_directory to_name o moves target.node target.at p at.same_room
+              (no_parent_held s at.is_state at.up processes still dir directory name n to_dir to_directory to_name o moves target.node target.at p at.same_room
               mid (entry_held mid entry) none)
 
       follow_same : (x : ℕ) → x < p.inodes → x ≢ n → inode_at p now x ≡ inode_at p mid x
@@ -308,9 +308,9 @@ module _ {p : Place} (old : TxnState) {desks : Desks} {s : State} (at : IsStateO
           go (stays why same) = ap (λ (m : SectorMap). inode_at p m x) same
 
       -- nothing was replaced
-      pub moved_none : o ≡ None → HoldsAll p now (placed (swept (changed s.tree (MoveName dir name to_dir to_name)) desks))
+      pub moved_none : o ≡ None → HoldsAll p now (placed (swept (changed s.tree (MoveName dir name to_dir to_name)) processes))
       moved_none =
-          move_held s at.is_state at.up desks still dir directory name n to_dir to_directory to_name o moves target.node target.at p at.same_room now followed
+          move_held s at.is_state at.up processes still dir directory name n to_dir to_directory to_name o moves target.node target.at p at.same_room now followed
 
       -- ---- what was replaced
 
@@ -334,8 +334,8 @@ module _ {p : Place} (old : TxnState) {desks : Desks} {s : State} (at : IsStateO
         replaced_same =
             follow_same m replaced_number.1 (may.other m led)
             ∙ entry_same entry m replaced_number.1
-            (m_not_from s at.is_state at.up desks still dir directory name n to_dir to_directory to_name o moves target.node target.at p at.same_room m led replaced.node replaced.at)
-            (m_not_to s at.is_state at.up desks still dir directory name n to_dir to_directory to_name o moves target.node target.at p at.same_room m led replaced.node replaced.at)
+            (m_not_from s at.is_state at.up processes still dir directory name n to_dir to_directory to_name o moves target.node target.at p at.same_room m led replaced.node replaced.at)
+            (m_not_to s at.is_state at.up processes still dir directory name n to_dir to_directory to_name o moves target.node target.at p at.same_room m led replaced.node replaced.at)
 
         was_held : HoldsNode p.version old.sectors (inode_at p old.sectors m) is_replaced
         was_held = held_node (state_tree at) m replaced.node replaced.at
@@ -345,7 +345,7 @@ module _ {p : Place} (old : TxnState) {desks : Desks} {s : State} (at : IsStateO
 
         some_name : 1 ≤ names_of s.tree m
         some_name =
-            let all = (moves_loses s.room s.tree s.desks dir directory name n to_dir to_directory to_name o at.is_state.tree moves).counts m in
+            let all = (moves_loses s.room s.tree s.processes dir directory name n to_dir to_directory to_name o at.is_state.tree moves).counts m in
             let one : lost_of o m ≡ 1 = ap (λ q. lost_of q m) led ∙ once_same m m refl in
             omega (arith, all, one)
 
@@ -362,27 +362,27 @@ module _ {p : Place} (old : TxnState) {desks : Desks} {s : State} (at : IsStateO
         replaced_held : HoldsNode p.version now (inode_at p now m) is_replaced
         replaced_held =
             held_at p now then_arrived followed m replaced_number.1 is_replaced
-            (arrived_m s at.is_state at.up desks still dir directory name n to_dir to_directory to_name o moves target.node target.at p at.same_room m led replaced.node replaced.at)
+            (arrived_m s at.is_state at.up processes still dir directory name n to_dir to_directory to_name o moves target.node target.at p at.same_room m led replaced.node replaced.at)
 
   -- ---- and what was replaced loses its name
 
   module _ {mid : SectorMap} (entry : MovesEntry p dir name n to_dir to_name o old.sectors mid) {now : TxnState} (follows : ParentFollows p n dir to_dir mid now.sectors) {m : ℕ}
-      (led : o ≡ Some m) {new : TxnState} (opened : Bool) (is : opened ≡ is_open desks m) (loses : LosesName p m opened now new) where
+      (led : o ≡ Some m) {new : TxnState} (opened : Bool) (is : opened ≡ is_open processes m) (loses : LosesName p m opened now new) where
     abbrev node : Node
     node = (replaced entry follows led).node
 
-    pub replaced_holds : HoldsAll p new.sectors (placed (swept (changed s.tree (MoveName dir name to_dir to_name)) desks))
-    replaced_holds = go (not (names_of s.tree m - 1 == 0) || lives_nameless desks m node.body) refl
+    pub replaced_holds : HoldsAll p new.sectors (placed (swept (changed s.tree (MoveName dir name to_dir to_name)) processes))
+    replaced_holds = go (not (names_of s.tree m - 1 == 0) || lives_nameless processes m node.body) refl
       where
-        go : (b : Bool) → (not (names_of s.tree m - 1 == 0) || lives_nameless desks m node.body) ≡ b
-            → HoldsAll p new.sectors (placed (swept (changed s.tree (MoveName dir name to_dir to_name)) desks))
+        go : (b : Bool) → (not (names_of s.tree m - 1 == 0) || lives_nameless processes m node.body) ≡ b
+            → HoldsAll p new.sectors (placed (swept (changed s.tree (MoveName dir name to_dir to_name)) processes))
         go true stay =
-            let counts = left_counts desks (replaced_held entry follows led) (one_name entry follows led) (other entry follows led) opened is loses stay in
-            move_take_held s at.is_state at.up desks still dir directory name n to_dir to_directory to_name o moves target.node target.at p at.same_room
+            let counts = left_counts processes (replaced_held entry follows led) (one_name entry follows led) (other entry follows led) opened is loses stay in
+            move_take_held s at.is_state at.up processes still dir directory name n to_dir to_directory to_name o moves target.node target.at p at.same_room
             m led node (replaced entry follows led).at now.sectors new.sectors (followed entry follows) counts.touches.inode stay counts.used
-            (left_held desks (replaced_held entry follows led) (one_name entry follows led) (other entry follows led) opened is loses stay
+            (left_held processes (replaced_held entry follows led) (one_name entry follows led) (other entry follows led) opened is loses stay
             (parent (changed s.tree (MoveName dir name to_dir to_name)) m))
         go false gone =
-            let drops = left_drops desks (replaced_held entry follows led) (one_name entry follows led) (other entry follows led) opened is loses gone in
-            move_drop_held s at.is_state at.up desks still dir directory name n to_dir to_directory to_name o moves target.node target.at p at.same_room
+            let drops = left_drops processes (replaced_held entry follows led) (one_name entry follows led) (other entry follows led) opened is loses gone in
+            move_drop_held s at.is_state at.up processes still dir directory name n to_dir to_directory to_name o moves target.node target.at p at.same_room
             m led node (replaced entry follows led).at now.sectors new.sectors (followed entry follows) drops.touches.inode gone drops.clear drops.free

@@ -15,7 +15,7 @@ use Rattle.posix_acl.specs.AccessList.{mode_bits}
 use Rattle.fs_layout.specs.declared.inode.TheConstants.{S_ISGID, S_ISVTX}
 use Rattle.fs_layout.specs.declared.inode.Inode.{Inode}
 use Rattle.fs_layout.specs.declared.inode.Kind.TheVariants as kinds
-use Rattle.fs_layout.specs.declared.place.Place.{Place}
+use Rattle.fs_layout.specs.declared.geometry.Geometry.{Geometry}
 use Rattle.fs_layout.specs.declared.version.Version.{Version}
 use Rattle.fs_layout.specs.Bytes.{SectorMap}
 use Rattle.fs_layout.specs.Directories.{HasNames}
@@ -66,7 +66,7 @@ sticky_says owner group (Dir a d) stamps m is e = ap (λ (k : ℕ). k / S_ISVTX 
 sticky_says owner group (Link target) stamps m is e = absurd (cc)
 
 -- what S_ISVTX of a directory asks
-pub yields : {p : Place} {map : SectorMap} {t : Tree} (h : HoldsTree p map t) (cred : Credential) {f : Found} (directory : IsDirectoryAt t f.dir)
+pub yields : {p : Geometry} {map : SectorMap} {t : Tree} (h : HoldsTree p map t) (cred : Credential) {f : Found} (directory : IsDirectoryAt t f.dir)
     {n : ℕ} {v : Inode} (node : IsNode p.version map t f n v) {d : Inode} → d ≡ inode_at p map f.dir → (walk : ℕ)
     → allowed_by walk (f.step - 1) Remove (sticky_allows cred (the_directory (the_node t f.dir)).sticky (the_node t f.dir).owner (the_node t (number f)).owner)
     ≡ sticky_asked cred d v walk (f.step - 1)
@@ -86,7 +86,7 @@ yields {p} {map} {t} h cred {f} directory {n} {v} node {d} d_is walk =
 
 -- ---- what is asked
 
-module _ {p : Place} {map : SectorMap} {t : Tree} (h : HoldsTree p map t) {f : Found} (named : IsNamedThere t f) (cred : Credential) where
+module _ {p : Geometry} {map : SectorMap} {t : Tree} (h : HoldsTree p map t) {f : Found} (named : IsNamedThere t f) (cred : Credential) where
   abbrev absent : Demand
   absent = must_be_there f
 

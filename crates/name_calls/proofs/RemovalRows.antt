@@ -11,7 +11,7 @@ use Rattle.std.specs.List.{list_any}
 use Rattle.fs_cred.specs.declared.errno.Errno.TheVariants.{EBUSY, EINVAL, EISDIR, ENOENT, ENOTDIR, ENOTEMPTY}
 use Rattle.fs_cred.specs.declared.refusal.Refusal.{Refusal}
 use Rattle.fs_layout.specs.declared.inode.Inode.{Inode}
-use Rattle.fs_layout.specs.declared.place.Place.{Place}
+use Rattle.fs_layout.specs.declared.geometry.Geometry.{Geometry}
 use Rattle.fs_layout.specs.Bytes.{SectorMap, IsBytes}
 use Rattle.fs_layout.specs.Images.{inode_at}
 use Rattle.fs_model.specs.declared.walk.Form.TheVariants.{Parent}
@@ -23,9 +23,9 @@ use Rattle.fs_model.specs.declared.touch.Touch.TheVariants.{Changed, Modified}
 use Rattle.fs_model.specs.TreeChanges.{TakeName, changed, changed_at, swept}
 use Rattle.fs_model.specs.Demands.{Demand, refuse, first_of}
 use Rattle.fs_model.specs.NameCalls.{takes_name}
-use Rattle.fs_model.specs.Nodes.{Node, is_directory, names_in}
+use Rattle.fs_model.specs.Nodes.{Node, is_directory, names_of_body}
 use Rattle.fs_model.specs.Parts.{is_empty}
-use Rattle.fs_model.specs.Processes.{Process, Desks, is_in_use}
+use Rattle.fs_model.specs.Processes.{Process, ProcessTable, is_in_use}
 use Rattle.fs_model.specs.Rows.{row_of}
 use Rattle.fs_model.specs.Scenes.{is_found, is_special, ends_top, ends_dot, ends_dot_dot, number, must_be_there, by_path}
 use Rattle.fs_model.specs.Stands.{HoldsAll, placed}
@@ -73,9 +73,9 @@ parts_met a b c none =
 
 -- ---- what was found
 
-pub finds_name : {p : Place} {map : SectorMap} {desks : Desks} {s : State} {pid : ℕ} {q : Process} {path : List ℕ} {f : Found} → IsBytes path
-    → IsStateOf p map desks s → HasFound s pid q Parent path f → FindsName p map desks q f s
-finds_name {p} {map} {desks} {s} {pid} {q} {path} {f} bytes at has = record { pid = pid; path = path; bytes = bytes; is_state = at; found = has }
+pub finds_name : {p : Geometry} {map : SectorMap} {processes : ProcessTable} {s : State} {pid : ℕ} {q : Process} {path : List ℕ} {f : Found} → IsBytes path
+    → IsStateOf p map processes s → HasFound s pid q Parent path f → FindsName p map processes q f s
+finds_name {p} {map} {processes} {s} {pid} {q} {path} {f} bytes at has = record { pid = pid; path = path; bytes = bytes; is_state = at; found = has }
 
 -- where nothing more is asked of the last component, it is a name
 pub last_is_name : (what : Target) (f : Found) → first_of (last_asked what f) ≡ None → is_special f ≡ false
@@ -87,7 +87,7 @@ last_is_name targets.Directory f none =
     let dots = unrefused ENOTEMPTY (ends_dot_dot f) (first_met (refuse ENOTEMPTY (ends_dot_dot f)) None (then_met (refuse EINVAL (ends_dot f)) _ rest)) in
     ap (λ (b : Bool). b || ends_dot f || ends_dot_dot f) top ∙ ap (λ (b : Bool). b || ends_dot_dot f) dot ∙ dots
 
-module _ {p : Place} {map : SectorMap} {desks : Desks} {q : Process} {f : Found} {s : State} (i : FindsName p map desks q f s) where
+module _ {p : Geometry} {map : SectorMap} {processes : ProcessTable} {q : Process} {f : Found} {s : State} (i : FindsName p map processes q f s) where
   name_at : is_special f ≡ false → IsNameAt s.room s.tree f.dir f.name f.ino
   name_at special =
       let later = then_met (refuse ENOENT (is_empty i.path)) _ i.found.checked in
@@ -135,32 +135,32 @@ module _ {p : Place} {map : SectorMap} {desks : Desks} {q : Process} {f : Found}
     node_held = node.holds.body
 
     -- what is asked of it
-    pub target_told : (what : Target) → kind_asked what node.node.body (is_in_use desks n) ≡ target_asked what (scene_at s q f)
+    pub target_told : (what : Target) → kind_asked what node.node.body (is_in_use processes n) ≡ target_asked what (scene_at s q f)
     target_told targets.NoDirectory =
         ap (λ (u : Node). refuse EISDIR (is_directory u.body) ∷ []) (sym node.is)
         ∙ ap (λ (o : Option ℕ). refuse EISDIR (is_some o && is_directory (the_node s.tree (number f)).body) ∷ []) (sym k.some)
     target_told targets.Directory =
-        ap (λ (u : Node). directory_asked u.body (is_in_use desks n)) (sym node.is)
-        ∙ ap (λ (m : ℕ). directory_asked (the_node s.tree (number f)).body (is_in_use desks m)) (sym k.number)
-        ∙ ap (λ (d : Desks). directory_asked (the_node s.tree (number f)).body (is_in_use d (number f))) (sym i.is_state.same_desks)
-        ∙ ap (λ (o : Option ℕ). refuse ENOTDIR (is_some o && not (is_directory (the_node s.tree (number f)).body)) ∷ refuse EBUSY (is_in_use s.desks (number f))
-        ∷ refuse ENOTEMPTY (not (is_empty (names_in (the_node s.tree (number f)).body))) ∷ []) (sym k.some)
+        ap (λ (u : Node). directory_asked u.body (is_in_use processes n)) (sym node.is)
+        ∙ ap (λ (m : ℕ). directory_asked (the_node s.tree (number f)).body (is_in_use processes m)) (sym k.number)
+        ∙ ap (λ (d : ProcessTable). directory_asked (the_node s.tree (number f)).body (is_in_use d (number f))) (sym i.is_state.same_processes)
+        ∙ ap (λ (o : Option ℕ). refuse ENOTDIR (is_some o && not (is_directory (the_node s.tree (number f)).body)) ∷ refuse EBUSY (is_in_use s.processes (number f))
+        ∷ refuse ENOTEMPTY (not (is_empty (names_of_body (the_node s.tree (number f)).body))) ∷ []) (sym k.some)
 
     module _ (what : Target) (first : checked (first_of (last_asked what f)) ≡ Ok tt) (met : first_of (removal_asked q.cred s.tree f) ≡ None) where
-      pub target_refuses : Refuses (first_of (kind_asked what node.node.body (is_in_use desks n))) (first_of (removal_demands what (scene_at s q f)))
+      pub target_refuses : Refuses (first_of (kind_asked what node.node.body (is_in_use processes n))) (first_of (removal_demands what (scene_at s q f)))
       target_refuses =
           refuses_others (last what) (removal what ++ target what) (demand_met (first_of (last what)) first)
           (refuses_others (removal what) (target what) met (λ (e : Refusal) is. ap first_of (sym (target_told what)) ∙ is))
 
-      pub all_told : checked (first_of (kind_asked what node.node.body (is_in_use desks n))) ≡ Ok tt → first_of (removal_demands what (scene_at s q f)) ≡ None
+      pub all_told : checked (first_of (kind_asked what node.node.body (is_in_use processes n))) ≡ Ok tt → first_of (removal_demands what (scene_at s q f)) ≡ None
       all_told is =
           all_met (last what) (removal what ++ target what) (demand_met (first_of (last what)) first)
           (all_met (removal what) (target what) met
-          (ap first_of (sym (target_told what)) ∙ demand_met (first_of (kind_asked what node.node.body (is_in_use desks n))) is))
+          (ap first_of (sym (target_told what)) ∙ demand_met (first_of (kind_asked what node.node.body (is_in_use processes n))) is))
 
     -- an empty directory that isn't in use, if it is one
     free : (what : Target) → first_of (target_asked what (scene_at s q f)) ≡ None → IsTrue (is_directory node.node.body)
-        → (names_in node.node.body ≡ []) × (is_in_use s.desks n ≡ false)
+        → (names_of_body node.node.body ≡ []) × (is_in_use s.processes n ≡ false)
     free targets.NoDirectory none is_dir =
         let other = unrefused EISDIR (is_found f && is_directory (the_node s.tree (number f)).body)
         (first_met (refuse EISDIR (is_found f && is_directory (the_node s.tree (number f)).body)) None none) in
@@ -169,14 +169,14 @@ module _ {p : Place} {map : SectorMap} {desks : Desks} {q : Process} {f : Found}
         absurd (let both : true ≡ false = sym is_dir ∙ here in cc)
     free targets.Directory none is_dir =
         let rest = then_met (refuse ENOTDIR (is_found f && not (is_directory (the_node s.tree (number f)).body))) _ none in
-        let used = unrefused EBUSY (is_in_use s.desks (number f)) (first_met (refuse EBUSY (is_in_use s.desks (number f))) _ rest) in
-        let names = unrefused ENOTEMPTY (not (is_empty (names_in (the_node s.tree (number f)).body)))
-        (first_met (refuse ENOTEMPTY (not (is_empty (names_in (the_node s.tree (number f)).body)))) None (then_met (refuse EBUSY (is_in_use s.desks (number f))) _ rest)) in (
-          ap (λ (u : Node). names_in u.body) (sym node.is) ∙ empty_if (names_in (the_node s.tree (number f)).body) names,
-          ap (is_in_use s.desks) (sym k.number) ∙ used,
+        let used = unrefused EBUSY (is_in_use s.processes (number f)) (first_met (refuse EBUSY (is_in_use s.processes (number f))) _ rest) in
+        let names = unrefused ENOTEMPTY (not (is_empty (names_of_body (the_node s.tree (number f)).body)))
+        (first_met (refuse ENOTEMPTY (not (is_empty (names_of_body (the_node s.tree (number f)).body)))) None (then_met (refuse EBUSY (is_in_use s.processes (number f))) _ rest)) in (
+          ap (λ (u : Node). names_of_body u.body) (sym node.is) ∙ empty_if (names_of_body (the_node s.tree (number f)).body) names,
+          ap (is_in_use s.processes) (sym k.number) ∙ used,
         )
 
-    may_go : is_special f ≡ false → (IsTrue (is_directory node.node.body) → (names_in node.node.body ≡ []) × (is_in_use s.desks n ≡ false)) → MayGo s f.dir f.name n
+    may_go : is_special f ≡ false → (IsTrue (is_directory node.node.body) → (names_of_body node.node.body ≡ []) × (is_in_use s.processes n ≡ false)) → MayGo s f.dir f.name n
     may_go special free =
         let x = name_at special in
         record {
@@ -219,10 +219,10 @@ module _ {p : Place} {map : SectorMap} {desks : Desks} {q : Process} {f : Found}
 abbrev taken_touches : ℕ → Option ℕ → List (ℕ × Touch)
 taken_touches dir o = (dir, Modified) ∷ changed_at o
 
-pub name_gone : {p : Place} {new : SectorMap} {desks : Desks} (s : State) (q : Process) (f : Found) (n : ℕ) (asked : List Demand) → first_of asked ≡ None → MayGo s f.dir f.name n
-    → HoldsAll p new (placed (swept (changed s.tree (TakeName f.dir f.name)) desks))
-    → IsChange p new desks s q asked (takes_name (scene_at s q f)) Done ((f.dir, Modified) ∷ (n, Changed) ∷ [])
-name_gone {p} {new} {desks} s q f n asked met may holds = record {
+pub name_gone : {p : Geometry} {new : SectorMap} {processes : ProcessTable} (s : State) (q : Process) (f : Found) (n : ℕ) (asked : List Demand) → first_of asked ≡ None → MayGo s f.dir f.name n
+    → HoldsAll p new (placed (swept (changed s.tree (TakeName f.dir f.name)) processes))
+    → IsChange p new processes s q asked (takes_name (scene_at s q f)) Done ((f.dir, Modified) ∷ (n, Changed) ∷ [])
+name_gone {p} {new} {processes} s q f n asked met may holds = record {
   met = met;
   number = 0;
   change = TakeName f.dir f.name;

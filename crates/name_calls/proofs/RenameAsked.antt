@@ -7,7 +7,7 @@ use Rattle.std.specs.Prelude.{◌≡◌, ℕ, Bool, not, ◌&&◌, ◌||◌, [],
 use Rattle.std.proofs.Common.{refl, sym, ap, ◌∙◌}
 use Rattle.fs_cred.specs.declared.errno.Errno.TheVariants.{ENOTDIR, EISDIR}
 use Rattle.fs_layout.specs.declared.inode.Inode.{Inode}
-use Rattle.fs_layout.specs.declared.place.Place.{Place}
+use Rattle.fs_layout.specs.declared.geometry.Geometry.{Geometry}
 use Rattle.fs_layout.specs.Bytes.{SectorMap}
 use Rattle.fs_layout.specs.Images.{inode_at}
 use Rattle.fs_model.specs.declared.walk.Found.{Found}
@@ -28,7 +28,7 @@ use Rattle.call_parts.proofs.Ownership.{all_met}
 use Rattle.call_parts.proofs.Shown.{the_node_is}
 use Rattle.name_calls.specs.Renaming.{ends_asked, is_other, slash_asked, names_asked, kinds_asked, inode_there, other_kind, directory_kind, slash_told, replacing_asked}
 
-module _ {p : Place} {map : SectorMap} {t : Tree} (h : HoldsTree p map t) where
+module _ {p : Geometry} {map : SectorMap} {t : Tree} (h : HoldsTree p map t) where
   -- whether it is a directory
   pub kind_at : (m : ℕ) → IsThere t m → is_directory (the_node t m).body ≡ is_directory_kind (inode_at p map m).kind
   kind_at m there =
@@ -89,7 +89,7 @@ module _ {p : Place} {map : SectorMap} {t : Tree} (h : HoldsTree p map t) where
           (second_other g second ∙ ap other_kind (sym is))
 
 -- what is replaced, as it was before a read
-pub replaced_told : (p : Place) {old mid : TxnState} (o : Option ℕ) (there : Option (ℕ × Inode)) → IsUnchanged old mid
+pub replaced_told : (p : Geometry) {old mid : TxnState} (o : Option ℕ) (there : Option (ℕ × Inode)) → IsUnchanged old mid
     → answer (inode_there p mid.sectors o) ≡ answer there → there ≡ inode_there p old.sectors o
 replaced_told p {old} {mid} o there same is =
     kept_back (λ (m : SectorMap). there ≡ inode_there p m o) same (sym (same_ok (inode_there p mid.sectors o) there is))

@@ -11,7 +11,7 @@ use Rattle.std.proofs.lemmas.Bool.Decides.{nat_tests}
 use Rattle.fs_cred.specs.declared.errno.Errno.TheVariants.{ENOSPC}
 use Rattle.fs_cred.specs.declared.refusal.Refusal.{Refusal}
 use Rattle.fs_layout.specs.declared.inode.Inode.{Inode}
-use Rattle.fs_layout.specs.declared.place.Place.{Place}
+use Rattle.fs_layout.specs.declared.geometry.Geometry.{Geometry}
 use Rattle.fs_layout.specs.Bytes.{SectorMap}
 use Rattle.fs_layout.specs.Images.{inode_at, free_sectors}
 use Rattle.fs_model.specs.declared.call.Call.TheVariants.{Rename}
@@ -22,8 +22,8 @@ use Rattle.fs_model.specs.declared.touch.Touch.TheVariants.{Modified}
 use Rattle.fs_model.specs.TreeChanges.{Same, MoveName, changed, changed_at, swept}
 use Rattle.fs_model.specs.Demands.{Demand, first_of, only_if}
 use Rattle.fs_model.specs.Limits.{least_free}
-use Rattle.fs_model.specs.Nodes.{Node, names_in}
-use Rattle.fs_model.specs.Processes.{Process, Desks, is_open}
+use Rattle.fs_model.specs.Nodes.{Node, names_of_body}
+use Rattle.fs_model.specs.Processes.{Process, ProcessTable, is_open}
 use Rattle.fs_model.specs.RenameCall.{is_same, rename_demands, rename_effect}
 use Rattle.fs_model.specs.Rows.{row_of}
 use Rattle.fs_model.specs.Scenes.{Scene, is_found, number, changes}
@@ -93,15 +93,15 @@ Renamed = ℕ × Inode × Option (ℕ × Inode)
 named_there : (room : Room) (t : Tree) (x : Found) → IsNameAt room t x.dir x.name x.ino → ((m : ℕ) → x.ino ≡ Some m → IsThere t m) → IsNamedThere t x
 named_there room t x at there = record { directory = record { node = at.node; is_there = at.stands; directory = at.directory }; found = there }
 
-pub record IsRenamable (p : Place) (map : SectorMap) (desks : Desks) (q : Process) (f g : Found) (n : ℕ) (v : Inode) (there : Option (ℕ × Inode)) (s : State) : Type 0 where
+pub record IsRenamable (p : Geometry) (map : SectorMap) (processes : ProcessTable) (q : Process) (f g : Found) (n : ℕ) (v : Inode) (there : Option (ℕ × Inode)) (s : State) : Type 0 where
   pub met : first_of (rename_demands (scene_with s q f g)) ≡ None
-  pub found : IsToRename p map desks f g n v there s
+  pub found : IsToRename p map processes f g n v there s
 
-module _ {p : Place} {map : SectorMap} {desks : Desks} {q : Process} {f g : Found} {s : State} (i : FindsBoth p map desks q f g s) where
+module _ {p : Geometry} {map : SectorMap} {processes : ProcessTable} {q : Process} {f g : Found} {s : State} (i : FindsBoth p map processes q f g s) where
   module _ {n : ℕ} {v : Inode} {there : Option (ℕ × Inode)} where
     found_to_rename : first_of (names_asked s.tree f g) ≡ None
         → ◌≡◌ {A = Renamed} (number f, inode_at p map (number f), inode_there p map g.ino) (n, v, there)
-        → IsToRename p map desks f g n v there s
+        → IsToRename p map processes f g n v there s
     found_to_rename met is =
         let named = names_say (scene_with s q f g) (demands.all_met (names_asked s.tree f g) met) in
         let same : number f ≡ n = ap (λ (x : Renamed). x.0) is in
@@ -120,23 +120,23 @@ module _ {p : Place} {map : SectorMap} {desks : Desks} {q : Process} {f g : Foun
 
     -- the names ask nothing more
     pub to_rename : refused_or {A = Renamed} (first_of (names_asked s.tree f g)) (Ok (number f, inode_at p map (number f), inode_there p map g.ino)) ≡ Ok (n, v, there)
-        → (first_of (names_asked s.tree f g) ≡ None) × IsToRename p map desks f g n v there s
+        → (first_of (names_asked s.tree f g) ≡ None) × IsToRename p map processes f g n v there s
     to_rename told = (
       names_told told,
       found_to_rename (names_told told) (met_ok {A = Renamed} (first_of (names_asked s.tree f g)) (number f, inode_at p map (number f), inode_there p map g.ino) (n, v, there) told).1,
     )
 
     pub rename_told : refused_or {A = Renamed} (first_of (rename_demands (scene_with s q f g))) (Ok (number f, inode_at p map (number f), inode_there p map g.ino)) ≡ Ok (n, v, there)
-        → IsRenamable p map desks q f g n v there s
+        → IsRenamable p map processes q f g n v there s
     rename_told told =
         let both = met_ok {A = Renamed} (first_of (rename_demands (scene_with s q f g))) (number f, inode_at p map (number f), inode_there p map g.ino) (n, v, there) told in
         record { met = both.0; found = found_to_rename (names_of_all s q f g both.0) both.1 }
 
 -- ---- whether both are one object
 
-pub same_is : {p : Place} {map : SectorMap} {desks : Desks} (q : Process) {f g : Found} {n : ℕ} {v : Inode} {there : Option (ℕ × Inode)} {s : State}
-    → IsToRename p map desks f g n v there s → is_same (scene_with s q f g) ≡ same_number n there
-same_is {p} {map} {desks} q {f} {g} {n} {v} {there} {s} r = go g.ino refl
+pub same_is : {p : Geometry} {map : SectorMap} {processes : ProcessTable} (q : Process) {f g : Found} {n : ℕ} {v : Inode} {there : Option (ℕ × Inode)} {s : State}
+    → IsToRename p map processes f g n v there s → is_same (scene_with s q f g) ≡ same_number n there
+same_is {p} {map} {processes} q {f} {g} {n} {v} {there} {s} r = go g.ino refl
   where
     first : is_same (scene_with s q f g) ≡ (is_found g && n == number g)
     first = ap (λ (o : Option ℕ). is_some o && is_found g && unwrap_or o 0 == number g) r.leads
@@ -151,8 +151,8 @@ same_is {p} {map} {desks} q {f} {g} {n} {v} {there} {s} r = go g.ino refl
 
 -- ---- the name may go
 
-module _ {p : Place} {map : SectorMap} {desks : Desks} {q : Process} {f g : Found} {s : State} (i : FindsBoth p map desks q f g s)
-    {n : ℕ} {v : Inode} {there : Option (ℕ × Inode)} (r : IsRenamable p map desks q f g n v there s) (apart : same_number n there ≡ false) where
+module _ {p : Geometry} {map : SectorMap} {processes : ProcessTable} {q : Process} {f g : Found} {s : State} (i : FindsBoth p map processes q f g s)
+    {n : ℕ} {v : Inode} {there : Option (ℕ × Inode)} (r : IsRenamable p map processes q f g n v there s) (apart : same_number n there ≡ false) where
   abbrev scene : Scene
   scene = scene_with s q f g
 
@@ -189,8 +189,8 @@ module _ {p : Place} {map : SectorMap} {desks : Desks} {q : Process} {f g : Foun
     bytes = to.bytes;
     other = λ m some same. others scene (is_scene i) asks differ m some (same ∙ sym number_is);
     has_room = λ none ne. (
-      subst (λ (k : Room). length (names_in to.node.body) < k.entries_limit) i.is_state.same_room
-          (subst (λ (u : Node). length (names_in u.body) < s.room.entries_limit) (the_node_is s.tree g.dir to.node to.stands) (has_room scene (is_scene i) asks differ none ne)),
+      subst (λ (k : Room). length (names_of_body to.node.body) < k.entries_limit) i.is_state.same_room
+          (subst (λ (u : Node). length (names_of_body u.body) < s.room.entries_limit) (the_node_is s.tree g.dir to.node to.stands) (has_room scene (is_scene i) asks differ none ne)),
       enough none ne,
     );
     empty = λ m some d. sym (ap names_or d.is_there) ∙ replaced_empty scene (is_scene i) asks differ m some;
@@ -206,10 +206,10 @@ module _ {p : Place} {map : SectorMap} {desks : Desks} {q : Process} {f g : Foun
 abbrev both_touches : ℕ → ℕ → Option ℕ → Option ℕ → List (ℕ × Touch)
 both_touches dir to_dir o replaced = (dir, Modified) ∷ (to_dir, Modified) ∷ (changed_at o ++ changed_at replaced)
 
-module _ {p : Place} {new : SectorMap} {desks : Desks} (s : State) (q : Process) (f g : Found) (met : first_of (rename_demands (scene_with s q f g)) ≡ None) where
+module _ {p : Geometry} {new : SectorMap} {processes : ProcessTable} (s : State) (q : Process) (f g : Found) (met : first_of (rename_demands (scene_with s q f g)) ≡ None) where
   pub rename_changes : {map : SectorMap} (n : ℕ) → MayMove p map s f.dir f.name n g.dir g.name g.ino → is_same (scene_with s q f g) ≡ false
-      → HoldsAll p new (placed (swept (changed s.tree (MoveName f.dir f.name g.dir g.name)) desks))
-      → IsChange p new desks s q (rename_demands (scene_with s q f g)) (λ k. rename_effect (scene_with s q f g)) Done (renamed_touches f.dir g.dir n g.ino)
+      → HoldsAll p new (placed (swept (changed s.tree (MoveName f.dir f.name g.dir g.name)) processes))
+      → IsChange p new processes s q (rename_demands (scene_with s q f g)) (λ k. rename_effect (scene_with s q f g)) Done (renamed_touches f.dir g.dir n g.ino)
   rename_changes n may apart holds = record {
     met = met;
     number = 0;
@@ -223,8 +223,8 @@ module _ {p : Place} {new : SectorMap} {desks : Desks} (s : State) (q : Process)
   }
 
   -- both names are of one object
-  pub rename_stays : is_same (scene_with s q f g) ≡ true → IsStateOf p new desks s
-      → IsChange p new desks s q (rename_demands (scene_with s q f g)) (λ k. rename_effect (scene_with s q f g)) Done []
+  pub rename_stays : is_same (scene_with s q f g) ≡ true → IsStateOf p new processes s
+      → IsChange p new processes s q (rename_demands (scene_with s q f g)) (λ k. rename_effect (scene_with s q f g)) Done []
   rename_stays same at = record {
     met = met;
     number = 0;
@@ -232,5 +232,5 @@ module _ {p : Place} {new : SectorMap} {desks : Desks} (s : State) (q : Process)
     is = ap (λ (b : Bool). changes (scene_with s q f g) (if b then Same else MoveName f.dir f.name g.dir g.name)) same;
     new_number = tt;
     times = refl;
-    holds = same_held s at.is_state at.up desks (λ k is. subst (λ (d : Desks). IsTrue (is_open d k)) at.same_desks is) p new at.holds at.same_room;
+    holds = same_held s at.is_state at.up processes (λ k is. subst (λ (d : ProcessTable). IsTrue (is_open d k)) at.same_processes is) p new at.holds at.same_room;
   }

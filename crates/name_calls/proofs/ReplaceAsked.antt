@@ -26,7 +26,7 @@ use Rattle.posix_acl.specs.declared.entry.Perms.{Perms}
 use Rattle.fs_layout.specs.declared.inode.Inode.{Inode}
 use Rattle.fs_layout.specs.declared.inode.Kind.{Kind}
 use Rattle.fs_layout.specs.declared.inode.Kind.TheVariants as kinds
-use Rattle.fs_layout.specs.declared.place.Place.{Place}
+use Rattle.fs_layout.specs.declared.geometry.Geometry.{Geometry}
 use Rattle.fs_layout.specs.Bytes.{SectorMap}
 use Rattle.fs_layout.specs.Images.{free_sectors, inode_at}
 use Rattle.sector_txn.specs.Sectors.{TxnState, IsUnchanged}
@@ -34,9 +34,9 @@ use Rattle.fs_model.specs.declared.walk.Found.{Found}
 use Rattle.fs_model.specs.Births.{the_node, the_directory}
 use Rattle.fs_model.specs.Demands.{Demand, refuse, first_of, only_if, decided, allowed_by, permission_of, permission_on, perms, write_and_search}
 use Rattle.fs_model.specs.Limits.{least_free}
-use Rattle.fs_model.specs.Nodes.{Node, Body, File, Dir, Link, is_directory, names_in}
+use Rattle.fs_model.specs.Nodes.{Node, Body, File, Dir, Link, is_directory, names_of_body}
 use Rattle.fs_model.specs.Parts.{is_empty}
-use Rattle.fs_model.specs.Processes.{Process, Desks, is_in_use}
+use Rattle.fs_model.specs.Processes.{Process, ProcessTable, is_in_use}
 use Rattle.fs_model.specs.RenameCall.{rename_permissions, rename_kinds, rename_directories, rename_moved, rename_space}
 use Rattle.fs_model.specs.Rules.{is_directory_kind}
 use Rattle.fs_model.specs.Scenes.{Scene, is_found, number}
@@ -61,13 +61,13 @@ use Rattle.name_calls.proofs.RemovalAsked.{body_kind_is, yields}
 use Rattle.name_calls.proofs.RenameAsked.{kind_at, first_kind, kinds_are}
 
 -- both directories grant it, and these are their inodes
-pub record IsGranted (p : Place) (map : SectorMap) (t : Tree) (q : Process) (f g : Found) (d to : Inode) : Type 0 where
+pub record IsGranted (p : Geometry) (map : SectorMap) (t : Tree) (q : Process) (f g : Found) (d to : Inode) : Type 0 where
   pub first : permission_on q.cred t f.dir write_and_search 1 (f.step - 1) ≡ None
   pub second : permission_on q.cred t g.dir write_and_search 2 (g.step - 1) ≡ None
   pub from_is : d ≡ inode_at p map f.dir
   pub to_is : to ≡ inode_at p map g.dir
 
-pub both_grant : (p : Place) {old mid : TxnState} (t : Tree) (q : Process) (f g : Found) (d to : Inode) → IsUnchanged old mid
+pub both_grant : (p : Geometry) {old mid : TxnState} (t : Tree) (q : Process) (f g : Found) (d to : Inode) → IsUnchanged old mid
     → refused_or {A = Inode} (permission_on q.cred t f.dir write_and_search 1 (f.step - 1)) (Ok (inode_at p old.sectors f.dir)) ≡ Ok d
     → refused_or {A = Inode} (permission_on q.cred t g.dir write_and_search 2 (g.step - 1)) (Ok (inode_at p mid.sectors g.dir)) ≡ Ok to
     → IsGranted p old.sectors t q f g d to
@@ -145,7 +145,7 @@ other_number_is x y apart = grind (arith, nat_tests)
 
 -- ---- what is renamed
 
-module _ {p : Place} {map : SectorMap} {desks : Desks} {f g : Found} {n : ℕ} {v : Inode} {there : Option (ℕ × Inode)} {s : State} (r : IsToRename p map desks f g n v there s) where
+module _ {p : Geometry} {map : SectorMap} {processes : ProcessTable} {f g : Found} {n : ℕ} {v : Inode} {there : Option (ℕ × Inode)} {s : State} (r : IsToRename p map processes f g n v there s) where
   pub inode_of : IsInodeFound p map f n v
   inode_of = record {
     some = r.leads;
@@ -236,10 +236,10 @@ module _ {p : Place} {map : SectorMap} {desks : Desks} {f g : Found} {n : ℕ} {
         ap (λ (b : Bool). refuse EINVAL (b && is_within (length s.tree) s.tree (number f) g.dir)) (first_kind (state_tree r.is_state) inode_of r.first.found)
         ∙ ap (λ (m : ℕ). refuse EINVAL (is_directory_kind v.kind && is_within (length s.tree) s.tree m g.dir)) inode_of.number
 
-    pub directories_are : rename_directories (scene_with s q f g) ≡ below_asked s.tree v.kind n g.dir ∷ replaced_asked s.tree desks g
+    pub directories_are : rename_directories (scene_with s q f g) ≡ below_asked s.tree v.kind n g.dir ∷ replaced_asked s.tree processes g
     directories_are =
-        ap (λ (d : Demand). d ∷ replaced_asked s.tree s.desks g) below_is
-        ∙ ap (λ (d : Desks). below_asked s.tree v.kind n g.dir ∷ replaced_asked s.tree d g) r.is_state.same_desks
+        ap (λ (d : Demand). d ∷ replaced_asked s.tree s.processes g) below_is
+        ∙ ap (λ (d : ProcessTable). below_asked s.tree v.kind n g.dir ∷ replaced_asked s.tree d g) r.is_state.same_processes
 
     -- ---- the kinds of both
 
@@ -273,22 +273,22 @@ module _ {p : Place} {map : SectorMap} {desks : Desks} {f g : Found} {n : ℕ} {
         pub below_refuses : Refuses (below_asked s.tree v.kind n g.dir) (first_of (move_asked (scene_with s q f g)))
         below_refuses e is =
             third_part (rename_permissions sc) (rename_kinds sc) (rename_directories sc) (rename_moved sc) (rename_space sc) one_met two_met e
-            (ap first_of directories_are ∙ refuses_first (below_asked s.tree v.kind n g.dir) (replaced_asked s.tree desks g) e is)
+            (ap first_of directories_are ∙ refuses_first (below_asked s.tree v.kind n g.dir) (replaced_asked s.tree processes g) e is)
 
         module _ (apart : checked (below_asked s.tree v.kind n g.dir) ≡ Ok tt) where
-          pub replaced_refuses : Refuses (first_of (replaced_asked s.tree desks g)) (first_of (move_asked (scene_with s q f g)))
+          pub replaced_refuses : Refuses (first_of (replaced_asked s.tree processes g)) (first_of (move_asked (scene_with s q f g)))
           replaced_refuses e is =
               third_part (rename_permissions sc) (rename_kinds sc) (rename_directories sc) (rename_moved sc) (rename_space sc) one_met two_met e
               (ap first_of directories_are
-              ∙ refuses_next (below_asked s.tree v.kind n g.dir) (replaced_asked s.tree desks g) (demand_met (below_asked s.tree v.kind n g.dir) apart) (λ (k : Refusal) h. h) e is)
+              ∙ refuses_next (below_asked s.tree v.kind n g.dir) (replaced_asked s.tree processes g) (demand_met (below_asked s.tree v.kind n g.dir) apart) (λ (k : Refusal) h. h) e is)
 
-          pub three_parts : checked (first_of (replaced_asked s.tree desks g)) ≡ Ok tt → MeetsThree s q f g
+          pub three_parts : checked (first_of (replaced_asked s.tree processes g)) ≡ Ok tt → MeetsThree s q f g
           three_parts is = record {
             permissions = one_met;
             kinds = two_met;
             directories = ap first_of directories_are
-                ∙ both_met (below_asked s.tree v.kind n g.dir) (replaced_asked s.tree desks g) (demand_met (below_asked s.tree v.kind n g.dir) apart)
-                (demand_met (first_of (replaced_asked s.tree desks g)) is);
+                ∙ both_met (below_asked s.tree v.kind n g.dir) (replaced_asked s.tree processes g) (demand_met (below_asked s.tree v.kind n g.dir) apart)
+                (demand_met (first_of (replaced_asked s.tree processes g)) is);
           }
 
     -- ---- a directory that goes to another
@@ -345,19 +345,19 @@ module _ {p : Place} {map : SectorMap} {desks : Desks} {f g : Found} {n : ℕ} {
     -- ---- room for a name
 
     abbrev space : List Demand
-    space = refuse ENOSPC (nat_lt s.free least_free) ∷ refuse ENOSPC (nat_le s.room.entries_limit (length (names_in (the_node s.tree g.dir).body))) ∷ []
+    space = refuse ENOSPC (nat_lt s.free least_free) ∷ refuse ENOSPC (nat_le s.room.entries_limit (length (names_of_body (the_node s.tree g.dir).body))) ∷ []
 
     pub room_is : is_some g.ino ≡ false → f.dir ≢ g.dir → rename_space (scene_with s q f g) ≡ room_asked p map s.tree g.dir
     room_is none goes =
         ap (λ (b : Bool). only_if (not b && not (f.dir == g.dir)) space) none
         ∙ ap (λ (b : Bool). only_if (not b) space) (other_number_is f.dir g.dir goes)
-        ∙ ap (λ (c : ℕ). refuse ENOSPC (nat_lt c least_free) ∷ refuse ENOSPC (nat_le s.room.entries_limit (length (names_in (the_node s.tree g.dir).body))) ∷ []) r.is_state.free_is
-        ∙ ap (λ (k : Room). refuse ENOSPC (nat_lt (free_sectors p map) least_free) ∷ refuse ENOSPC (nat_le k.entries_limit (length (names_in (the_node s.tree g.dir).body))) ∷ []) r.is_state.same_room
+        ∙ ap (λ (c : ℕ). refuse ENOSPC (nat_lt c least_free) ∷ refuse ENOSPC (nat_le s.room.entries_limit (length (names_of_body (the_node s.tree g.dir).body))) ∷ []) r.is_state.free_is
+        ∙ ap (λ (k : Room). refuse ENOSPC (nat_lt (free_sectors p map) least_free) ∷ refuse ENOSPC (nat_le k.entries_limit (length (names_of_body (the_node s.tree g.dir).body))) ∷ []) r.is_state.same_room
 
 -- the same after reads
-pub to_rename_kept : {p : Place} {old new : TxnState} {desks : Desks} {f g : Found} {n : ℕ} {v : Inode} {there : Option (ℕ × Inode)} {s : State} → IsUnchanged old new
-    → IsToRename p old.sectors desks f g n v there s → IsToRename p new.sectors desks f g n v there s
-to_rename_kept {p} {old} {new} {desks} {f} {g} {n} {v} {there} {s} same r = kept (λ (m : SectorMap). IsToRename p m desks f g n v there s) same r
+pub to_rename_kept : {p : Geometry} {old new : TxnState} {processes : ProcessTable} {f g : Found} {n : ℕ} {v : Inode} {there : Option (ℕ × Inode)} {s : State} → IsUnchanged old new
+    → IsToRename p old.sectors processes f g n v there s → IsToRename p new.sectors processes f g n v there s
+to_rename_kept {p} {old} {new} {processes} {f} {g} {n} {v} {there} {s} same r = kept (λ (m : SectorMap). IsToRename p m processes f g n v there s) same r
 
 -- ---- below itself
 
@@ -366,7 +366,7 @@ below_told t kind n dir b is within = ap (λ (k : Kind). refuse EINVAL (is_direc
 
 -- ---- what is replaced
 
-pub there_some : (p : Place) (map : SectorMap) (o : Option ℕ) (m : ℕ) (v : Inode) → Some (m, v) ≡ inode_there p map o → (o ≡ Some m) × (v ≡ inode_at p map m)
+pub there_some : (p : Geometry) (map : SectorMap) (o : Option ℕ) (m : ℕ) (v : Inode) → Some (m, v) ≡ inode_there p map o → (o ≡ Some m) × (v ≡ inode_at p map m)
 there_some p map None m v e = absurd (cc)
 there_some p map (Some k) m v e =
     let pair : (m, v) ≡ (k, inode_at p map k) = some_is (m, v) (k, inode_at p map k) e in
@@ -376,12 +376,12 @@ there_some p map (Some k) m v e =
     some_is : (x y : ℕ × Inode) → Some x ≡ Some y → x ≡ y
     some_is x y h = cc
 
-no_names : (b : Body) → is_directory b ≡ false → names_in b ≡ []
+no_names : (b : Body) → is_directory b ≡ false → names_of_body b ≡ []
 no_names (File a bytes) e = refl
 no_names (Dir a d) e = absurd (cc)
 no_names (Link target) e = refl
 
-module _ {p : Place} {map : SectorMap} {t : Tree} (h : HoldsTree p map t) (g : Found) (there : (m : ℕ) → g.ino ≡ Some m → IsThere t m) (desks : Desks) where
+module _ {p : Geometry} {map : SectorMap} {t : Tree} (h : HoldsTree p map t) (g : Found) (there : (m : ℕ) → g.ino ≡ Some m → IsThere t m) (processes : ProcessTable) where
   abbrev body : Body
   body = (the_node t (number g)).body
 
@@ -389,17 +389,17 @@ module _ {p : Place} {map : SectorMap} {t : Tree} (h : HoldsTree p map t) (g : F
     kind_is : is_directory body ≡ is_directory_kind (inode_at p map m).kind
     kind_is = ap (λ (o : Option ℕ). is_directory (the_node t (unwrap_or o 0)).body) some ∙ kind_at h m (there m some)
 
-    here : (d : Bool) → is_directory body ≡ d → replaced_asked t desks g ≡ refuse EBUSY (d && is_in_use desks m) ∷ refuse ENOTEMPTY (not (is_empty (names_in body))) ∷ []
+    here : (d : Bool) → is_directory body ≡ d → replaced_asked t processes g ≡ refuse EBUSY (d && is_in_use processes m) ∷ refuse ENOTEMPTY (not (is_empty (names_of_body body))) ∷ []
     here d is =
-        ap (λ (o : Option ℕ). refuse EBUSY ((is_some o && is_directory body) && is_in_use desks (number g)) ∷ refuse ENOTEMPTY (is_some o && not (is_empty (names_in body))) ∷ []) some
-        ∙ ap (λ (b : Bool). refuse EBUSY (b && is_in_use desks (number g)) ∷ refuse ENOTEMPTY (not (is_empty (names_in body))) ∷ []) is
-        ∙ ap (λ (o : Option ℕ). refuse EBUSY (d && is_in_use desks (unwrap_or o 0)) ∷ refuse ENOTEMPTY (not (is_empty (names_in body))) ∷ []) some
+        ap (λ (o : Option ℕ). refuse EBUSY ((is_some o && is_directory body) && is_in_use processes (number g)) ∷ refuse ENOTEMPTY (is_some o && not (is_empty (names_of_body body))) ∷ []) some
+        ∙ ap (λ (b : Bool). refuse EBUSY (b && is_in_use processes (number g)) ∷ refuse ENOTEMPTY (not (is_empty (names_of_body body))) ∷ []) is
+        ∙ ap (λ (o : Option ℕ). refuse EBUSY (d && is_in_use processes (unwrap_or o 0)) ∷ refuse ENOTEMPTY (not (is_empty (names_of_body body))) ∷ []) some
 
     -- it is no directory
-    pub other_replaced : is_directory_kind (inode_at p map m).kind ≡ false → first_of (replaced_asked t desks g) ≡ None
+    pub other_replaced : is_directory_kind (inode_at p map m).kind ≡ false → first_of (replaced_asked t processes g) ≡ None
     other_replaced other =
         ap first_of (here false (kind_is ∙ other))
-        ∙ ap (λ (names : List (List ℕ × ℕ)). first_of (refuse EBUSY (false && is_in_use desks m) ∷ refuse ENOTEMPTY (not (is_empty names)) ∷ [])) (no_names body (kind_is ∙ other))
+        ∙ ap (λ (names : List (List ℕ × ℕ)). first_of (refuse EBUSY (false && is_in_use processes m) ∷ refuse ENOTEMPTY (not (is_empty names)) ∷ [])) (no_names body (kind_is ∙ other))
 
     -- what its inode holds
     pub there_body : (v : Inode) → v ≡ inode_at p map m → IsNode p.version map t g m v
@@ -407,10 +407,10 @@ module _ {p : Place} {map : SectorMap} {t : Tree} (h : HoldsTree p map t) (g : F
 
     -- it is one
     pub directory_replaced : (v : Inode) (is : v ≡ inode_at p map m) → v.kind ≡ kinds.Directory
-        → first_of (directory_asked (there_body v is).node.body (is_in_use desks m)) ≡ first_of (replaced_asked t desks g)
+        → first_of (directory_asked (there_body v is).node.body (is_in_use processes m)) ≡ first_of (replaced_asked t processes g)
     directory_replaced v is kind =
         let x = there_body v is in
         let dir : is_directory body ≡ true = kind_is ∙ ap (λ (w : Inode). is_directory_kind w.kind) (sym is) ∙ ap is_directory_kind kind in
-        ap (λ (u : Node). first_of (directory_asked u.body (is_in_use desks m))) (sym x.is)
-        ∙ ap (λ (b : Bool). first_of (refuse ENOTDIR (not b) ∷ refuse EBUSY (is_in_use desks m) ∷ refuse ENOTEMPTY (not (is_empty (names_in body))) ∷ [])) dir
+        ap (λ (u : Node). first_of (directory_asked u.body (is_in_use processes m))) (sym x.is)
+        ∙ ap (λ (b : Bool). first_of (refuse ENOTDIR (not b) ∷ refuse EBUSY (is_in_use processes m) ∷ refuse ENOTEMPTY (not (is_empty (names_of_body body))) ∷ [])) dir
         ∙ sym (ap first_of (here true dir))

@@ -10,7 +10,7 @@ use Rattle.std.proofs.lemmas.Bool.{ne_eqb}
 use Rattle.fs_layout.specs.declared.inode.Inode.{Inode}
 use Rattle.fs_layout.specs.declared.inode.Kind.{Kind}
 use Rattle.fs_layout.specs.declared.inode.Kind.TheVariants as kinds
-use Rattle.fs_layout.specs.declared.place.Place.{Place}
+use Rattle.fs_layout.specs.declared.geometry.Geometry.{Geometry}
 use Rattle.fs_layout.specs.declared.version.Version.{Version}
 use Rattle.fs_layout.specs.Bytes.{SectorMap}
 use Rattle.fs_layout.specs.Directories.{HasNames}
@@ -23,8 +23,8 @@ use Rattle.bit_alloc.specs.declared.bitmap.Bitmap.TheVariants.{Inodes}
 use Rattle.bit_alloc.specs.Bitmaps.{IsNumber}
 use Rattle.fs_model.specs.TreeChanges.{TakeName, changed, swept, lives_nameless}
 use Rattle.fs_model.specs.Limits.{root}
-use Rattle.fs_model.specs.Nodes.{Node, Body, File, Dir, Link, is_directory, names_in}
-use Rattle.fs_model.specs.Processes.{Desks, is_open}
+use Rattle.fs_model.specs.Nodes.{Node, Body, File, Dir, Link, is_directory, names_of_body}
+use Rattle.fs_model.specs.Processes.{ProcessTable, is_open}
 use Rattle.fs_model.specs.Stands.{HoldsAll, placed}
 use Rattle.fs_model.specs.States.{State}
 use Rattle.fs_model.specs.StoredNodes.{Placed, HoldsBody, HoldsNode, names_field}
@@ -57,31 +57,31 @@ field_is (File a bytes) names other = refl
 field_is (Dir a d) names other = absurd (cc)
 field_is (Link target) names other = refl
 
-stays_says : (version : Version) (image : SectorMap) (v : Inode) (b : Body) (names n : ℕ) (desks : Desks) (opened : Bool) → HoldsBody version image v b → v.names ≡ names_field b names
-    → (IsTrue (is_directory b) → names ≡ 1) → (n == root) ≡ false → opened ≡ is_open desks n
-    → stays_with v.kind (v.names - 1) opened ≡ (not (names - 1 == 0) || lives_nameless desks n b)
-stays_says version image v (File a bytes) names n desks opened h are one other is =
+stays_says : (version : Version) (image : SectorMap) (v : Inode) (b : Body) (names n : ℕ) (processes : ProcessTable) (opened : Bool) → HoldsBody version image v b → v.names ≡ names_field b names
+    → (IsTrue (is_directory b) → names ≡ 1) → (n == root) ≡ false → opened ≡ is_open processes n
+    → stays_with v.kind (v.names - 1) opened ≡ (not (names - 1 == 0) || lives_nameless processes n b)
+stays_says version image v (File a bytes) names n processes opened h are one other is =
     ap (λ (k : Kind). stays_with k (v.names - 1) opened) h.kind ∙ ap (λ m. stays_with kinds.File (m - 1) opened) are
     ∙ ap (λ o. not (names - 1 == 0) || o) is
-stays_says version image v (Dir a d) names n desks opened h are one other is =
+stays_says version image v (Dir a d) names n processes opened h are one other is =
     ap (λ (k : Kind). stays_with k (v.names - 1) opened) h.names.kind ∙ ap (λ m. stays_with kinds.Directory (m - 1) opened) are
     ∙ sym (ap (λ m. not (m - 1 == 0) || n == root) (one refl) ∙ other)
-stays_says version image v (Link target) names n desks opened h are one other is =
+stays_says version image v (Link target) names n processes opened h are one other is =
     ap (λ (k : Kind). stays_with k (v.names - 1) opened) h.kind ∙ ap (λ m. stays_with kinds.Link (m - 1) opened) are
     ∙ sym (ap (λ o. not (names - 1 == 0) || o) other)
 
 -- an inode of this node loses a name
-module _ {p : Place} {n : ℕ} (desks : Desks) {mid new : TxnState} {node : Node} {names up : ℕ}
+module _ {p : Geometry} {n : ℕ} (processes : ProcessTable) {mid new : TxnState} {node : Node} {names up : ℕ}
     (held : HoldsNode p.version mid.sectors (inode_at p mid.sectors n) (record { node = node; names = names; parent = up })) (one : IsTrue (is_directory node.body) → names ≡ 1)
-    (other : (n == root) ≡ false) (opened : Bool) (is : opened ≡ is_open desks n) (loses : LosesName p n opened mid new) where
+    (other : (n == root) ≡ false) (opened : Bool) (is : opened ≡ is_open processes n) (loses : LosesName p n opened mid new) where
   abbrev v : Inode
   v = inode_at p mid.sectors n
 
-  stays_is : stays_with v.kind (v.names - 1) opened ≡ (not (names - 1 == 0) || lives_nameless desks n node.body)
-  stays_is = stays_says p.version mid.sectors v node.body names n desks opened held.body held.names one other is
+  stays_is : stays_with v.kind (v.names - 1) opened ≡ (not (names - 1 == 0) || lives_nameless processes n node.body)
+  stays_is = stays_says p.version mid.sectors v node.body names n processes opened held.body held.names one other is
 
   -- no directory stays
-  no_directory : (not (names - 1 == 0) || lives_nameless desks n node.body) ≡ true → is_directory node.body ≡ false
+  no_directory : (not (names - 1 == 0) || lives_nameless processes n node.body) ≡ true → is_directory node.body ≡ false
   no_directory stay = go node.body refl
     where
       go : (b : Body) → node.body ≡ b → is_directory b ≡ false
@@ -89,14 +89,14 @@ module _ {p : Place} {n : ℕ} (desks : Desks) {mid new : TxnState} {node : Node
       go (Link target) e = refl
       go (Dir a d) e =
           let single = one (ap is_directory e) in
-          let goes : (not (names - 1 == 0) || lives_nameless desks n node.body) ≡ false =
-          ap (λ k. not (k - 1 == 0) || lives_nameless desks n node.body) single ∙ ap (lives_nameless desks n) e ∙ other in
+          let goes : (not (names - 1 == 0) || lives_nameless processes n node.body) ≡ false =
+          ap (λ k. not (k - 1 == 0) || lives_nameless processes n node.body) single ∙ ap (lives_nameless processes n) e ∙ other in
           absurd (let both : true ≡ false = sym stay ∙ goes in cc)
 
-  pub left_counts : (not (names - 1 == 0) || lives_nameless desks n node.body) ≡ true → Counts p n (v.names - 1) mid new
+  pub left_counts : (not (names - 1 == 0) || lives_nameless processes n node.body) ≡ true → Counts p n (v.names - 1) mid new
   left_counts stay = loses.stays (stays_is ∙ stay)
 
-  pub left_held : (not (names - 1 == 0) || lives_nameless desks n node.body) ≡ true → (above : ℕ)
+  pub left_held : (not (names - 1 == 0) || lives_nameless processes n node.body) ≡ true → (above : ℕ)
       → HoldsNode p.version new.sectors (inode_at p new.sectors n) (record { node = node; names = names - 1; parent = above })
   left_held stay above =
       let counts = left_counts stay in
@@ -104,10 +104,10 @@ module _ {p : Place} {n : ℕ} (desks : Desks) {mid new : TxnState} {node : Node
       counted_held mid.sectors new.sectors v (inode_at p new.sectors n) (record { node = node; names = names; parent = up }) held (names - 1) above file
       (counts.saved ∙ ap (λ (k : ℕ). record v { names = k - 1 }) (held.names ∙ field_is node.body names file)) counts.bytes counts.acls
 
-  pub left_drops : (not (names - 1 == 0) || lives_nameless desks n node.body) ≡ false → Drops p n mid new
+  pub left_drops : (not (names - 1 == 0) || lives_nameless processes n node.body) ≡ false → Drops p n mid new
   left_drops goes = loses.goes (stays_is ∙ goes)
 
-module _ {p : Place} (old : TxnState) {desks : Desks} {s : State} (at : IsStateOf p old.sectors desks s) {dir : ℕ} {name : List ℕ} {n : ℕ} (may : MayGo s dir name n) where
+module _ {p : Geometry} (old : TxnState) {processes : ProcessTable} {s : State} (at : IsStateOf p old.sectors processes s) {dir : ℕ} {name : List ℕ} {n : ℕ} (may : MayGo s dir name n) where
   abbrev directory : Node
   directory = may.directory.node
 
@@ -120,7 +120,7 @@ module _ {p : Place} (old : TxnState) {desks : Desks} {s : State} (at : IsStateO
       let same : d.node ≡ may.target = cc in
       ap (λ (u : Node). is_directory u.body) (sym same) ∙ d.directory
 
-  takes : TakesName s.tree s.desks dir directory name n
+  takes : TakesName s.tree s.processes dir directory name n
   takes = record {
     stands = may.directory.is_there;
     is_dir = may.directory.directory;
@@ -129,8 +129,8 @@ module _ {p : Place} (old : TxnState) {desks : Desks} {s : State} (at : IsStateO
     unused = λ d. may.unused (is_target d);
   }
 
-  still : (k : ℕ) → IsTrue (is_open s.desks k) → IsTrue (is_open desks k)
-  still k is = subst (λ (d : Desks). IsTrue (is_open d k)) at.same_desks is
+  still : (k : ℕ) → IsTrue (is_open s.processes k) → IsTrue (is_open processes k)
+  still k is = subst (λ (d : ProcessTable). IsTrue (is_open d k)) at.same_processes is
 
   pub dir_below : dir < p.inodes
   dir_below = node_below s p at.is_state at.same_room dir directory may.directory.is_there
@@ -139,17 +139,17 @@ module _ {p : Place} (old : TxnState) {desks : Desks} {s : State} (at : IsStateO
   is_number = ((at.is_state.tree.each n may.target may.there).positive, node_below s p at.is_state at.same_room n may.target may.there)
 
   apart : n ≢ dir
-  apart = taken_apart s at.is_state at.up desks still dir directory name n takes
+  apart = taken_apart s at.is_state at.up processes still dir directory name n takes
 
   dir_held : HoldsNode p.version old.sectors (inode_at p old.sectors dir) (record { node = directory; names = names_of s.tree dir; parent = parent s.tree dir })
   dir_held = held_node (state_tree at) dir directory may.directory.is_there
 
-  dir_names : HasNames p.version old.sectors (inode_at p old.sectors dir) (names_in directory.body)
+  dir_names : HasNames p.version old.sectors (inode_at p old.sectors dir) (names_of_body directory.body)
   dir_names = held_names (state_tree at) dir may.directory
 
   -- the directory has the name
   pub named_there : HasName p old.sectors dir name
-  named_there = (names_in directory.body, dir_names, λ none. let both : None ≡ Some n = sym none ∙ may.leads in cc)
+  named_there = (names_of_body directory.body, dir_names, λ none. let both : None ≡ Some n = sym none ∙ may.leads in cc)
 
   not_root : n ≢ root
   not_root = ((are_names s.room s.tree directory.body (at.is_state.tree.each dir directory may.directory.is_there).body).each name n may.leads).leads.0
@@ -162,7 +162,7 @@ module _ {p : Place} (old : TxnState) {desks : Desks} {s : State} (at : IsStateO
 
   some_name : 1 ≤ names_of s.tree n
   some_name =
-      let all = (takes_loses s.room s.tree s.desks dir directory name n at.is_state.tree takes).counts n in
+      let all = (takes_loses s.room s.tree s.processes dir directory name n at.is_state.tree takes).counts n in
       let one = once_same n n refl in
       omega (arith, all, one)
 
@@ -170,13 +170,13 @@ module _ {p : Place} (old : TxnState) {desks : Desks} {s : State} (at : IsStateO
 
   module _ {mid : TxnState} (removes : RemovesName p dir name old mid) where
     abbrev fewer : Placed
-    fewer = record { node = renamed_node directory (without name_cmp (names_in directory.body) name); names = names_of s.tree dir; parent = parent s.tree dir }
+    fewer = record { node = renamed_node directory (without name_cmp (names_of_body directory.body) name); names = names_of s.tree dir; parent = parent s.tree dir }
 
     here : HoldsNode p.version mid.sectors (inode_at p mid.sectors dir) fewer
     here =
         names_held old.sectors mid.sectors (inode_at p old.sectors dir) (inode_at p mid.sectors dir)
-        (record { node = directory; names = names_of s.tree dir; parent = parent s.tree dir }) dir_held (without name_cmp (names_in directory.body) name)
-        may.directory.directory removes.names.kept removes.names.acls (removes.names.named (names_in directory.body) dir_names)
+        (record { node = directory; names = names_of s.tree dir; parent = parent s.tree dir }) dir_held (without name_cmp (names_of_body directory.body) name)
+        may.directory.directory removes.names.kept removes.names.acls (removes.names.named (names_of_body directory.body) dir_names)
 
     -- what it led to stands as before
     pub target_same : inode_at p mid.sectors n ≡ inode_at p old.sectors n
@@ -195,18 +195,18 @@ module _ {p : Place} (old : TxnState) {desks : Desks} {s : State} (at : IsStateO
 
     -- ---- and it loses the name
 
-    module _ {new : TxnState} (opened : Bool) (is : opened ≡ is_open desks n) (loses : LosesName p n opened mid new) where
-      pub taken_holds : HoldsAll p new.sectors (placed (swept (changed s.tree (TakeName dir name)) desks))
-      taken_holds = go (not (names_of s.tree n - 1 == 0) || lives_nameless desks n may.target.body) refl
+    module _ {new : TxnState} (opened : Bool) (is : opened ≡ is_open processes n) (loses : LosesName p n opened mid new) where
+      pub taken_holds : HoldsAll p new.sectors (placed (swept (changed s.tree (TakeName dir name)) processes))
+      taken_holds = go (not (names_of s.tree n - 1 == 0) || lives_nameless processes n may.target.body) refl
         where
-          go : (b : Bool) → (not (names_of s.tree n - 1 == 0) || lives_nameless desks n may.target.body) ≡ b
-              → HoldsAll p new.sectors (placed (swept (changed s.tree (TakeName dir name)) desks))
+          go : (b : Bool) → (not (names_of s.tree n - 1 == 0) || lives_nameless processes n may.target.body) ≡ b
+              → HoldsAll p new.sectors (placed (swept (changed s.tree (TakeName dir name)) processes))
           go true stay =
-              let counts = left_counts desks target_held one_name other opened is loses stay in
-              take_held s at.is_state at.up desks still p old.sectors at.holds at.same_room mid.sectors new.sectors dir directory name n may.target takes may.there
+              let counts = left_counts processes target_held one_name other opened is loses stay in
+              take_held s at.is_state at.up processes still p old.sectors at.holds at.same_room mid.sectors new.sectors dir directory name n may.target takes may.there
               removes.touches.inode removes.names.used here counts.touches.inode stay counts.used
-              (left_held desks target_held one_name other opened is loses stay (parent (changed s.tree (TakeName dir name)) n))
+              (left_held processes target_held one_name other opened is loses stay (parent (changed s.tree (TakeName dir name)) n))
           go false goes =
-              let drops = left_drops desks target_held one_name other opened is loses goes in
-              drop_held s at.is_state at.up desks still p old.sectors at.holds at.same_room mid.sectors new.sectors dir directory name n may.target takes may.there
+              let drops = left_drops processes target_held one_name other opened is loses goes in
+              drop_held s at.is_state at.up processes still p old.sectors at.holds at.same_room mid.sectors new.sectors dir directory name n may.target takes may.there
               removes.touches.inode removes.names.used here drops.touches.inode goes drops.clear drops.free

@@ -12,7 +12,7 @@ use Rattle.std.proofs.lemmas.Bool.{cases_eq}
 use Rattle.std.proofs.lemmas.Bool.Decides.{nat_tests}
 use Rattle.std.proofs.lemmas.List.FromFn.{length-range_with_len}
 use Rattle.std.proofs.lemmas.List.Sums.{count_by-le-length}
-use Rattle.fs_layout.specs.declared.place.Place.{Place}
+use Rattle.fs_layout.specs.declared.geometry.Geometry.{Geometry}
 use Rattle.fs_layout.specs.Bytes.{SectorMap}
 use Rattle.fs_layout.specs.Images.{inode_at}
 use Rattle.fs_model.specs.Limits.{root}
@@ -97,7 +97,7 @@ module _ (room : Room) (t : Tree) (is : IsTree room t) (x : ℕ) (d : IsDirector
 
 -- ---- on a disk
 
-module _ (p : Place) (map : SectorMap) where
+module _ (p : Geometry) (map : SectorMap) where
   -- how far up the root is, where no more than `far` steps are taken
   abbrev pub height : ℕ → ℕ → ℕ
   height zero x = 0
@@ -114,7 +114,7 @@ module _ (p : Place) (map : SectorMap) where
       let on : (x == root) ≡ false = grind (arith, nat_tests) in
       ap (λ b. cond b 0 (1 + height far (inode_at p map x).parent)) on
 
-module _ {p : Place} {map : SectorMap} {t : Tree} (h : HoldsTree p map t) where
+module _ {p : Geometry} {map : SectorMap} {t : Tree} (h : HoldsTree p map t) where
   few_nodes : length t ≤ p.inodes
   few_nodes =
       let count = nodes_counted p map t h.holds h.tree in

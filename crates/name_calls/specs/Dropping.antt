@@ -2,7 +2,7 @@
 --     stays_with, LosesName        it has a name less, or is gone
 use Rattle.std.specs.Prelude.{◌≡◌, ℕ, ◌-◌, ◌==◌, Bool, true, false, not, ◌&&◌, ◌||◌}
 use Rattle.fs_layout.specs.declared.inode.Kind.{Kind}
-use Rattle.fs_layout.specs.declared.place.Place.{Place}
+use Rattle.fs_layout.specs.declared.geometry.Geometry.{Geometry}
 use Rattle.fs_layout.specs.Images.{inode_at}
 use Rattle.sector_txn.specs.Sectors.{TxnState}
 use Rattle.fs_model.specs.Summaries.{is_file_kind}
@@ -13,7 +13,7 @@ abbrev pub stays_with : Kind → ℕ → Bool → Bool
 stays_with kind names opened = not (names == 0) || (is_file_kind kind && opened)
 
 -- inode n has a name less, and is gone where it doesn't stay so
-pub record LosesName (p : Place) (n : ℕ) (opened : Bool) (old new : TxnState) : Type 0 where
+pub record LosesName (p : Geometry) (n : ℕ) (opened : Bool) (old new : TxnState) : Type 0 where
   pub stays : stays_with (inode_at p old.sectors n).kind ((inode_at p old.sectors n).names - 1) opened ≡ true
       → Counts p n ((inode_at p old.sectors n).names - 1) old new
   pub goes : stays_with (inode_at p old.sectors n).kind ((inode_at p old.sectors n).names - 1) opened ≡ false → Drops p n old new

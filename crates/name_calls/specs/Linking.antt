@@ -5,7 +5,7 @@
 use Rattle.std.specs.Prelude.{◌≡◌, ℕ, ◌<◌, ◌≤◌, nat_le, not, ◌&&◌, List, [], ◌∷◌, length, None, Some, IsFalse}
 use Rattle.fs_cred.specs.declared.errno.Errno.TheVariants.{EPERM, ENOTDIR, EMLINK}
 use Rattle.fs_cred.specs.Credentials.{Credential}
-use Rattle.fs_layout.specs.declared.place.Place.{Place}
+use Rattle.fs_layout.specs.declared.geometry.Geometry.{Geometry}
 use Rattle.fs_layout.specs.Bytes.{SectorMap, IsBytes}
 use Rattle.fs_layout.specs.Directories.{IsName}
 use Rattle.fs_layout.specs.Images.{free_sectors}
@@ -15,7 +15,7 @@ use Rattle.fs_model.specs.declared.walk.Found.{Found}
 use Rattle.fs_model.specs.Births.{the_node}
 use Rattle.fs_model.specs.Demands.{Demand, refuse, permission_on, write_and_search}
 use Rattle.fs_model.specs.Limits.{least_free}
-use Rattle.fs_model.specs.Nodes.{Node, is_directory, names_in}
+use Rattle.fs_model.specs.Nodes.{Node, is_directory, names_of_body}
 use Rattle.fs_model.specs.Scenes.{is_found, is_special, number, must_be_there}
 use Rattle.fs_model.specs.Trees.{Tree, node_at, names_of, IsDirectoryAt}
 use Rattle.call_parts.specs.Makings.{room_asked}
@@ -30,18 +30,18 @@ source_asked t f =
     ∷ []
 
 -- asked of the directory of the second path, for what has so many names
-abbrev pub place_asked : Place → SectorMap → Credential → Tree → ℕ → ℕ → ℕ → List Demand
+abbrev pub place_asked : Geometry → SectorMap → Credential → Tree → ℕ → ℕ → ℕ → List Demand
 place_asked p map cred t dir step names =
     permission_on cred t dir write_and_search 2 step ∷ refuse EMLINK (nat_le (max_inode_names p.version) names) ∷ room_asked p map t dir
 
 -- the name is new in directory dir, there is room for it, and n is no directory and has room for one more name
-pub record MayLink (p : Place) (map : SectorMap) (t : Tree) (dir : ℕ) (name : List ℕ) (n : ℕ) : Type 0 where
+pub record MayLink (p : Geometry) (map : SectorMap) (t : Tree) (dir : ℕ) (name : List ℕ) (n : ℕ) : Type 0 where
   pub directory : IsDirectoryAt t dir
   pub is_name : IsName name
   pub short : length name ≤ max_name p.version
   pub bytes : IsBytes name
-  pub is_new : get name_cmp (names_in directory.node.body) name ≡ None
-  pub has_room : length (names_in directory.node.body) < max_names p.version
+  pub is_new : get name_cmp (names_of_body directory.node.body) name ≡ None
+  pub has_room : length (names_of_body directory.node.body) < max_names p.version
   pub enough : least_free ≤ free_sectors p map
   pub target : Node
   pub there : node_at t n ≡ Some target

@@ -9,7 +9,7 @@ use Rattle.fs_cred.specs.declared.errno.Errno.TheVariants.{EBUSY, EINVAL, EISDIR
 use Rattle.fs_cred.specs.declared.refusal.Need.TheVariants.{Remove}
 use Rattle.fs_cred.specs.Credentials.{Credential}
 use Rattle.fs_cred.specs.Ownership.{sticky_allows}
-use Rattle.fs_layout.specs.declared.place.Place.{Place}
+use Rattle.fs_layout.specs.declared.geometry.Geometry.{Geometry}
 use Rattle.fs_layout.specs.Bytes.{SectorMap, IsBytes}
 use Rattle.fs_layout.specs.Maps.{name_cmp, get}
 use Rattle.fs_model.specs.declared.call.Call.{Call}
@@ -18,9 +18,9 @@ use Rattle.fs_model.specs.declared.walk.Form.TheVariants.{Parent}
 use Rattle.fs_model.specs.declared.walk.Found.{Found}
 use Rattle.fs_model.specs.Births.{the_node, the_directory}
 use Rattle.fs_model.specs.Demands.{Demand, refuse, permission_on, allowed_by, write_and_search}
-use Rattle.fs_model.specs.Nodes.{Node, Body, is_directory, names_in}
+use Rattle.fs_model.specs.Nodes.{Node, Body, is_directory, names_of_body}
 use Rattle.fs_model.specs.Parts.{is_empty}
-use Rattle.fs_model.specs.Processes.{Process, Desks, is_in_use}
+use Rattle.fs_model.specs.Processes.{Process, ProcessTable, is_in_use}
 use Rattle.fs_model.specs.Scenes.{Scene, is_found, is_special, is_directory_found, is_nondirectory_found, has_names, number, ends_top, ends_dot, ends_dot_dot, must_be_there}
 use Rattle.fs_model.specs.States.{State}
 use Rattle.fs_model.specs.Trees.{Tree, node_at, IsDirectoryAt}
@@ -31,11 +31,11 @@ use Rattle.name_calls.specs.declared.removal.Target.{Target}
 use Rattle.name_calls.specs.declared.removal.Target.TheVariants.{NoDirectory, Directory}
 
 -- in a state of this map and this table the process has found this, by a path that ends in a name
-pub record FindsName (p : Place) (map : SectorMap) (desks : Desks) (q : Process) (f : Found) (s : State) : Type 0 where
+pub record FindsName (p : Geometry) (map : SectorMap) (processes : ProcessTable) (q : Process) (f : Found) (s : State) : Type 0 where
   pub pid : ℕ
   pub path : List ℕ
   pub bytes : IsBytes path
-  pub is_state : IsStateOf p map desks s
+  pub is_state : IsStateOf p map processes s
   pub found : HasFound s pid q Parent path f
 
 -- the directory that names what was found is there, and so is what was found
@@ -60,7 +60,7 @@ last_asked Directory f = refuse EBUSY (ends_top f) ∷ refuse EINVAL (ends_dot f
 
 -- asked of the body of what is to go as a directory
 abbrev pub directory_asked : Body → Bool → List Demand
-directory_asked b used = refuse ENOTDIR (not (is_directory b)) ∷ refuse EBUSY used ∷ refuse ENOTEMPTY (not (is_empty (names_in b))) ∷ []
+directory_asked b used = refuse ENOTDIR (not (is_directory b)) ∷ refuse EBUSY used ∷ refuse ENOTEMPTY (not (is_empty (names_of_body b))) ∷ []
 
 -- asked of the body of what is to go
 abbrev pub kind_asked : Target → Body → Bool → List Demand
@@ -72,7 +72,7 @@ abbrev pub target_asked : Target → Scene → List Demand
 target_asked NoDirectory s = refuse EISDIR (is_directory_found s s.first) ∷ []
 target_asked Directory s =
     refuse ENOTDIR (is_nondirectory_found s s.first)
-    ∷ refuse EBUSY (is_in_use s.state.desks (number s.first))
+    ∷ refuse EBUSY (is_in_use s.state.processes (number s.first))
     ∷ refuse ENOTEMPTY (has_names s s.first)
     ∷ []
 
@@ -86,8 +86,8 @@ removal_call Directory path = Rmdir path
 -- the name leads from directory dir to n, which is no directory, or an empty one that isn't in use
 pub record MayGo (s : State) (dir : ℕ) (name : List ℕ) (n : ℕ) : Type 0 where
   pub directory : IsDirectoryAt s.tree dir
-  pub leads : get name_cmp (names_in directory.node.body) name ≡ Some n
+  pub leads : get name_cmp (names_of_body directory.node.body) name ≡ Some n
   pub target : Node
   pub there : node_at s.tree n ≡ Some target
-  pub empty : IsTrue (is_directory target.body) → names_in target.body ≡ []
-  pub unused : IsTrue (is_directory target.body) → IsFalse (is_in_use s.desks n)
+  pub empty : IsTrue (is_directory target.body) → names_of_body target.body ≡ []
+  pub unused : IsTrue (is_directory target.body) → IsFalse (is_in_use s.processes n)

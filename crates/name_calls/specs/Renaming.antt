@@ -7,7 +7,7 @@ use Rattle.std.specs.Prelude.{ℕ, Bool, false, not, ◌&&◌, ◌||◌, List, [
 use Rattle.fs_cred.specs.declared.errno.Errno.TheVariants.{EBUSY, EINVAL, EISDIR, ENOTDIR}
 use Rattle.fs_layout.specs.declared.inode.Inode.{Inode}
 use Rattle.fs_layout.specs.declared.inode.Kind.{Kind}
-use Rattle.fs_layout.specs.declared.place.Place.{Place}
+use Rattle.fs_layout.specs.declared.geometry.Geometry.{Geometry}
 use Rattle.fs_layout.specs.Bytes.{SectorMap}
 use Rattle.fs_layout.specs.Images.{inode_at}
 use Rattle.fs_model.specs.declared.walk.Found.{Found}
@@ -38,7 +38,7 @@ kinds_asked t f g =
     ∷ []
 
 -- what stands at a number, with its inode
-abbrev pub inode_there : Place → SectorMap → Option ℕ → Option (ℕ × Inode)
+abbrev pub inode_there : Geometry → SectorMap → Option ℕ → Option (ℕ × Inode)
 inode_there p map None = None
 inode_there p map (Some n) = Some (n, inode_at p map n)
 

@@ -9,15 +9,15 @@ use Rattle.fs_cred.specs.declared.errno.Errno.TheVariants.{EBUSY, EINVAL, ENOTEM
 use Rattle.fs_cred.specs.Credentials.{Credential}
 use Rattle.fs_layout.specs.declared.inode.Inode.{Inode}
 use Rattle.fs_layout.specs.declared.inode.Kind.{Kind}
-use Rattle.fs_layout.specs.declared.place.Place.{Place}
+use Rattle.fs_layout.specs.declared.geometry.Geometry.{Geometry}
 use Rattle.fs_layout.specs.Bytes.{SectorMap}
 use Rattle.fs_layout.specs.Images.{inode_at}
 use Rattle.fs_model.specs.declared.walk.Found.{Found}
 use Rattle.fs_model.specs.Births.{the_node}
 use Rattle.fs_model.specs.Demands.{Demand, refuse}
-use Rattle.fs_model.specs.Nodes.{is_directory, names_in}
+use Rattle.fs_model.specs.Nodes.{is_directory, names_of_body}
 use Rattle.fs_model.specs.Parts.{is_empty}
-use Rattle.fs_model.specs.Processes.{Desks, is_in_use}
+use Rattle.fs_model.specs.Processes.{ProcessTable, is_in_use}
 use Rattle.fs_model.specs.RenameCall.{rename_permissions, rename_kinds, rename_directories, rename_moved, rename_space}
 use Rattle.fs_model.specs.Rules.{is_directory_kind}
 use Rattle.fs_model.specs.Scenes.{Scene, is_found, number}
@@ -29,8 +29,8 @@ use Rattle.call_parts.specs.Asked.{sticky_asked}
 use Rattle.name_calls.specs.Renaming.{inode_there}
 
 -- in a state of this map and this table both names are in directories: the old one leads to n, with inode v, the new one to what is replaced
-pub record IsToRename (p : Place) (map : SectorMap) (desks : Desks) (f g : Found) (n : ℕ) (v : Inode) (replaced : Option (ℕ × Inode)) (s : State) : Type 0 where
-  pub is_state : IsStateOf p map desks s
+pub record IsToRename (p : Geometry) (map : SectorMap) (processes : ProcessTable) (f g : Found) (n : ℕ) (v : Inode) (replaced : Option (ℕ × Inode)) (s : State) : Type 0 where
+  pub is_state : IsStateOf p map processes s
   pub first : IsNamedThere s.tree f
   pub second : IsNamedThere s.tree g
   pub leads : f.ino ≡ Some n
@@ -52,10 +52,10 @@ abbrev pub below_asked : Tree → Kind → ℕ → ℕ → Demand
 below_asked t kind n dir = refuse EINVAL (is_directory_kind kind && is_within (length t) t n dir)
 
 -- a directory that is replaced is empty and not in use
-abbrev pub replaced_asked : Tree → Desks → Found → List Demand
-replaced_asked t desks g =
-    refuse EBUSY ((is_found g && is_directory (the_node t (number g)).body) && is_in_use desks (number g))
-    ∷ refuse ENOTEMPTY (is_found g && not (is_empty (names_in (the_node t (number g)).body)))
+abbrev pub replaced_asked : Tree → ProcessTable → Found → List Demand
+replaced_asked t processes g =
+    refuse EBUSY ((is_found g && is_directory (the_node t (number g)).body) && is_in_use processes (number g))
+    ∷ refuse ENOTEMPTY (is_found g && not (is_empty (names_of_body (the_node t (number g)).body)))
     ∷ []
 
 abbrev pub move_asked : Scene → List Demand

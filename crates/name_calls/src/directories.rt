@@ -3,9 +3,9 @@
 ghost use Rattle.std.specs.Prelude.{◌≡◌, ◌+◌, ◌/◌, ◌%◌, ◌<◌, ◌==◌, ℕ, cond, not, Some, Ok, option_copied, Err, OnOk, IfOk, IfErr, IsSome};
 ghost use Rattle.std.specs.Ordering.{nat_cmp};
 ghost use Rattle.call_parts.specs.DiskWords.{get, inode_at, SameStore, IsUnchanged, IsSound, HasSpare, TakesSpare};
-ghost use Rattle.call_parts.specs.ModelWords.{Done, Desks, with_changed, standing_at, born_directory, the_node, refuse, first_of, number, must_be_new, Tree, refused_or, FailsToRead, IsAnswered, HoldsTree, IsThere};
+ghost use Rattle.call_parts.specs.ModelWords.{Done, ProcessTable, with_changed, standing_at, born_directory, the_node, refuse, first_of, number, must_be_new, Tree, refused_or, FailsToRead, IsAnswered, HoldsTree, IsThere};
 ghost use Rattle.fs_model.specs.declared.call.Call.TheVariants.{Mkdir, Chdir};
-ghost use Rattle.call_parts.specs.Performing.{IsReady, Performs, IsReadyFor, PerformsFor};
+ghost use Rattle.call_parts.specs.Performing.{MayPerform, Performs, IsReadyFor, PerformsFor};
 ghost use Rattle.call_parts.specs.Makings.{CanMake};
 ghost use Rattle.name_calls.specs.Entering.{enter_asked};
 ghost use Rattle.call_parts.specs.NewNodes.{IsMade, IsNewIn, MakesNode, directory_made};
@@ -15,7 +15,7 @@ use call_parts::{
     inode_found, is_new, name_inode, new_group, touch, walk_path,
 };
 use fs_cred::{Cred, Errno, Refusal};
-use fs_layout::{Inode, Kind, Place, S_ISGID, S_ISVTX};
+use fs_layout::{Geometry, Inode, Kind, S_ISGID, S_ISVTX};
 use fs_model::{Form, Found, Path, Reply, Touch};
 use inode_table::new_inode;
 use open_files::Procs;
@@ -40,7 +40,7 @@ fn special_bits(directory: &Inode, mode: u16) -> u16
 // Makes a directory with this owner, group, ACLs and bits of the mode, and names it in directory dir. EIO: the disk has failed.
 fn place_directory<S: Sectors>(
     s: &mut S,
-    place: Place,
+    geometry: Geometry,
     dir: u32,
     directory: Inode,
     name: &[u8],
@@ -50,16 +50,16 @@ fn place_directory<S: Sectors>(
     access: &Acl,
     default: Option<&Acl>,
 ) -> Result<u32, Refusal>
-    requires sound { IsSound place (S.state s.old) }
-    requires directory { directory ≡ inode_at place (S.state s.old).sectors dir }
-    requires may { (t : Tree) × CanMake place (S.state s.old).sectors t dir name.now }
+    requires sound { IsSound geometry (S.state s.old) }
+    requires directory { directory ≡ inode_at geometry (S.state s.old).sectors dir }
+    requires may { (t : Tree) × CanMake geometry (S.state s.old).sectors t dir name.now }
     requires bits { bits < 2048 }
-    requires spare { HasSpare place 47 (S.state s.old) }
+    requires spare { HasSpare geometry 47 (S.state s.old) }
     ensures store { SameStore (S.state s.old) (S.state s.new) }
-    ensures made { IfOk result (λ n. MakesNode place dir name.now n
+    ensures made { IfOk result (λ n. MakesNode geometry dir name.now n
         (directory_made uid gid bits access.now (option_copied default.entry))
         (S.state s.old).sectors (S.state s.new).sectors) }
-    ensures taken { OnOk result (TakesSpare place 7 (S.state s.old) (S.state s.new)) }
+    ensures taken { OnOk result (TakesSpare geometry 7 (S.state s.old) (S.state s.new)) }
     ensures err { IfErr result (FailsToRead (S.state s.old).disk (S.state s.new).disk) }
 {
     let made = Inode {
@@ -71,10 +71,10 @@ fn place_directory<S: Sectors>(
         parent: dir,
         ..Inode::FREE
     };
-    let Ok(n) = new_inode(s, place, &made, access, default) else {
+    let Ok(n) = new_inode(s, geometry, &made, access, default) else {
         return Err(Refusal::Failed(Errno::EIO));
     };
-    name_inode(s, place, dir, directory, name, n)?;
+    name_inode(s, geometry, dir, directory, name, n)?;
     Ok(n)
 }
 
@@ -85,19 +85,19 @@ fn make_directory<S: Sectors>(
     walked: &Walked,
     mode: u16,
 ) -> Result<u32, Refusal>
-    requires sound { IsSound caller.now.place (S.state s.old) }
-    requires spare { HasSpare caller.now.place 47 (S.state s.old) }
-    requires name { (t : Tree) × HoldsTree caller.now.place (S.state s.old).sectors t
-        × IsNewIn caller.now.place t walked.now.found.dir walked.now.found.name }
+    requires sound { IsSound caller.now.geometry (S.state s.old) }
+    requires spare { HasSpare caller.now.geometry 47 (S.state s.old) }
+    requires name { (t : Tree) × HoldsTree caller.now.geometry (S.state s.old).sectors t
+        × IsNewIn caller.now.geometry t walked.now.found.dir walked.now.found.name }
     ensures store { SameStore (S.state s.old) (S.state s.new) }
-    ensures each { (t : Tree) → HoldsTree caller.now.place (S.state s.old).sectors t
-        → IsNewIn caller.now.place t walked.now.found.dir walked.now.found.name
-        → IsMade caller.now.place (S.state s.old) (S.state s.new) walked.now.process.now.cred t walked.now.found
+    ensures each { (t : Tree) → HoldsTree caller.now.geometry (S.state s.old).sectors t
+        → IsNewIn caller.now.geometry t walked.now.found.dir walked.now.found.name
+        → IsMade caller.now.geometry (S.state s.old) (S.state s.new) walked.now.process.now.cred t walked.now.found
         (born_directory walked.now.process.now.cred walked.now.process.now.umask mode
         (the_node t walked.now.found.dir)) result }
-    ensures taken { OnOk result (TakesSpare caller.now.place 7 (S.state s.old) (S.state s.new)) }
+    ensures taken { OnOk result (TakesSpare caller.now.geometry 7 (S.state s.old) (S.state s.new)) }
 {
-    let place = caller.place;
+    let geometry = caller.geometry;
     let process = walked.process;
     let found = &walked.found;
     let cred = process.cred();
@@ -111,7 +111,7 @@ fn make_directory<S: Sectors>(
     let name = found.name.bytes();
     let uid = cred.uid();
     let n = place_directory(
-        s, place, found.dir, directory, name, uid, gid, bits, &access, default,
+        s, geometry, found.dir, directory, name, uid, gid, bits, &access, default,
     )?;
     Ok(n)
 }
@@ -141,7 +141,7 @@ pub fn mkdir<S: Sectors>(s: &mut S, caller: &Caller, path: &Path, mode: u16) -> 
     let dir = walked.found.dir;
     touch(
         s,
-        caller.place,
+        caller.geometry,
         caller.time,
         &[(dir, Touch::Modified), (n, Touch::Born)],
     )?;
@@ -155,18 +155,26 @@ fn directory_found<S: Sectors>(
     cred: &Cred,
     found: &Found,
 ) -> Result<u32, Refusal>
-    requires sound { IsSound caller.now.place (S.state s.old) }
-    requires there { (t : Tree) × HoldsTree caller.now.place (S.state s.old).sectors t
+    requires sound { IsSound caller.now.geometry (S.state s.old) }
+    requires there { (t : Tree) × HoldsTree caller.now.geometry (S.state s.old).sectors t
         × ((n : ℕ) → found.now.ino ≡ Some n → IsThere t n) }
-    ensures each { (t : Tree) → HoldsTree caller.now.place (S.state s.old).sectors t
+    ensures each { (t : Tree) → HoldsTree caller.now.geometry (S.state s.old).sectors t
         → ((n : ℕ) → found.now.ino ≡ Some n → IsThere t n)
         → IsAnswered (S.state s.old).disk (S.state s.new).disk
         (refused_or (first_of (enter_asked cred.now t found.now)) (Ok (number found.now))) result }
     ensures same { IsUnchanged (S.state s.old) (S.state s.new) }
 {
-    let (n, inode) = inode_found(s, caller.place, found)?;
+    let (n, inode) = inode_found(s, caller.geometry, found)?;
     check_is_directory(inode.kind)?;
-    search(caller.alloc, s, caller.place, cred, &inode, 1, found.step)?;
+    search(
+        caller.alloc,
+        s,
+        caller.geometry,
+        cred,
+        &inode,
+        1,
+        found.step,
+    )?;
     Ok(n)
 }
 
@@ -176,9 +184,9 @@ fn directory_at<S: Sectors>(s: &mut S, caller: &Caller, path: &Path) -> Result<u
     requires ready { IsReadyFor caller.now (S.state s.old) }
     ensures refused { IfErr result (λ e. PerformsFor caller.now (Chdir path.now) (S.state s.old) (S.state s.new) (Err e)) }
     ensures there { IfOk result (λ n. IsSome (get nat_cmp caller.now.procs.now caller.now.pid)) }
-    ensures entered { IfOk result (λ n. (now : Desks)
+    ensures entered { IfOk result (λ n. (now : ProcessTable)
         → now ≡ with_changed caller.now.procs.now caller.now.pid (standing_at n n)
-        → Performs caller.now.place caller.now.time caller.now.pid (Chdir path.now) (S.state s.old) (S.state s.new)
+        → Performs caller.now.geometry caller.now.time caller.now.pid (Chdir path.now) (S.state s.old) (S.state s.new)
         caller.now.procs.now now (Ok Done)) }
     ensures same { IsUnchanged (S.state s.old) (S.state s.new) }
 {
@@ -193,19 +201,19 @@ fn directory_at<S: Sectors>(s: &mut S, caller: &Caller, path: &Path) -> Result<u
 pub fn chdir<S: Sectors>(
     alloc: Global,
     s: &mut S,
-    place: Place,
+    geometry: Geometry,
     now: u64,
     procs: &mut Procs,
     pid: usize,
     path: &Path,
 ) -> CallResult
-    requires ready { IsReady place (S.state s.old) procs.old }
-    ensures performs { Performs place now pid (Chdir path.now) (S.state s.old) (S.state s.new) procs.old procs.new result }
+    requires ready { MayPerform geometry (S.state s.old) procs.old }
+    ensures performs { Performs geometry now pid (Chdir path.now) (S.state s.old) (S.state s.new) procs.old procs.new result }
     ensures same { IsUnchanged (S.state s.old) (S.state s.new) }
 {
     let caller = Caller {
         alloc,
-        place,
+        geometry,
         time: now,
         procs,
         pid,

@@ -7,7 +7,7 @@ ghost use Rattle.name_calls.specs.Dropping.{LosesName, stays_with};
 
 use call_parts::{drop_node, set_names};
 use fs_cred::Refusal;
-use fs_layout::{Inode, Kind, Place};
+use fs_layout::{Geometry, Inode, Kind};
 use open_files::Procs;
 use sector_txn::Sectors;
 
@@ -22,27 +22,27 @@ fn stays(procs: &Procs, n: u32, kind: Kind, names: u32) -> bool
 /// the disk has failed.
 pub(crate) fn lose_name<S: Sectors>(
     s: &mut S,
-    place: Place,
+    geometry: Geometry,
     procs: &Procs,
     n: u32,
     inode: &Inode,
 ) -> Result<(), Refusal>
-    requires sound { IsSound place (S.state s.old) }
-    requires number { IsNumber place Inodes n }
-    requires inode { inode.now ≡ inode_at place (S.state s.old).sectors n }
+    requires sound { IsSound geometry (S.state s.old) }
+    requires number { IsNumber geometry Inodes n }
+    requires inode { inode.now ≡ inode_at geometry (S.state s.old).sectors n }
     requires used { inode.now.kind ≢ Kind.Free }
     requires named { 1 ≤ inode.now.names }
-    requires spare { HasSpare place 1 (S.state s.old) }
+    requires spare { HasSpare geometry 1 (S.state s.old) }
     ensures store { SameStore (S.state s.old) (S.state s.new) }
-    ensures loses { OnOk result (LosesName place n (is_open procs.now n) (S.state s.old) (S.state s.new)) }
+    ensures loses { OnOk result (LosesName geometry n (is_open procs.now n) (S.state s.old) (S.state s.new)) }
     ensures fault { IfErr result (FailsToRead (S.state s.old).disk (S.state s.new).disk) }
 {
     let names = inode.names - 1;
     let stays = stays(procs, n, inode.kind, names);
     if !stays {
-        drop_node(s, place, n)?;
+        drop_node(s, geometry, n)?;
         return Ok(());
     }
-    set_names(s, place, n, inode, names)?;
+    set_names(s, geometry, n, inode, names)?;
     Ok(())
 }

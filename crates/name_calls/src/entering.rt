@@ -6,27 +6,27 @@ ghost use Rattle.fs_cred.specs.declared.errno.Errno.TheVariants.{EIO};
 ghost use Rattle.fs_model.specs.Steps.{enter_demands};
 ghost use Rattle.call_parts.specs.DiskWords.{IsUnchanged, IsSound};
 ghost use Rattle.call_parts.specs.ModelWords.{first_of, Tree, HoldsTree};
-ghost use Rattle.call_parts.specs.Performing.{IsReady};
+ghost use Rattle.call_parts.specs.Performing.{MayPerform};
 ghost use Rattle.name_calls.specs.Enters.{type_in, both_directories, IsAskedOfBoth, Enters};
 
 use fs_cred::Errno;
-use fs_layout::Place;
+use fs_layout::Geometry;
 use fs_model::FileType;
 use inode_table::load;
 use open_files::Procs;
 use sector_txn::Sectors;
 
 // The type of what stands at a number; `None` where nothing does. EIO: the disk has failed.
-fn type_at<S: Sectors>(s: &mut S, place: Place, n: u32) -> Result<Option<FileType>, Errno>
-    requires { IsSound place (S.state s.old) }
-    ensures found { IfOk result (λ found. (t : Tree) → HoldsTree place (S.state s.old).sectors t → found ≡ type_in t n) }
+fn type_at<S: Sectors>(s: &mut S, geometry: Geometry, n: u32) -> Result<Option<FileType>, Errno>
+    requires { IsSound geometry (S.state s.old) }
+    ensures found { IfOk result (λ found. (t : Tree) → HoldsTree geometry (S.state s.old).sectors t → found ≡ type_in t n) }
     ensures fault { IfErr result (λ errno. (errno ≡ EIO) × HasFailed (S.state s.old).disk (S.state s.new).disk) }
     ensures same { IsUnchanged (S.state s.old) (S.state s.new) }
 {
-    if n >= place.inodes {
+    if n >= geometry.inodes {
         return Ok(None);
     }
-    match load(s, place, n) {
+    match load(s, geometry, n) {
         Ok(inode) => Ok(FileType::of_kind(inode.kind)),
         Err(_) => Err(Errno::EIO),
     }
@@ -46,17 +46,17 @@ fn both_directories(first: Option<FileType>, second: Option<FileType>) -> Result
 // Asks whether directories stand at both numbers. EIO: the disk has failed.
 fn ask_of_both<S: Sectors>(
     s: &mut S,
-    place: Place,
+    geometry: Geometry,
     directory: u32,
     second: u32,
 ) -> Result<(), Errno>
-    requires { IsSound place (S.state s.old) }
-    ensures each { (t : Tree) → HoldsTree place (S.state s.old).sectors t
+    requires { IsSound geometry (S.state s.old) }
+    ensures each { (t : Tree) → HoldsTree geometry (S.state s.old).sectors t
         → IsAskedOfBoth (S.state s.old).disk (S.state s.new).disk (first_of (enter_demands t directory second)) result }
     ensures same { IsUnchanged (S.state s.old) (S.state s.new) }
 {
-    let first = type_at(s, place, directory)?;
-    let other = type_at(s, place, second)?;
+    let first = type_at(s, geometry, directory)?;
+    let other = type_at(s, geometry, second)?;
     both_directories(first, other)
 }
 
@@ -65,17 +65,17 @@ fn ask_of_both<S: Sectors>(
 /// directory. EIO: the disk has failed.
 pub fn enter<S: Sectors>(
     s: &mut S,
-    place: Place,
+    geometry: Geometry,
     procs: &mut Procs,
     pid: usize,
     directory: u32,
     second: u32,
 ) -> Result<(), Errno>
-    requires ready { IsReady place (S.state s.old) procs.old }
-    ensures { Enters place pid directory second (S.state s.old) (S.state s.new) procs.old procs.new result }
+    requires ready { MayPerform geometry (S.state s.old) procs.old }
+    ensures { Enters geometry pid directory second (S.state s.old) (S.state s.new) procs.old procs.new result }
 {
     procs.process(pid)?;
-    ask_of_both(s, place, directory, second)?;
+    ask_of_both(s, geometry, directory, second)?;
     procs.stand_at(pid, directory, second);
     Ok(())
 }

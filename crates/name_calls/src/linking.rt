@@ -2,7 +2,7 @@
 
 ghost use Rattle.std.specs.Prelude.{◌≡◌, ◌-◌, ◌<◌, nat_le, ℕ, [], ◌∷◌, not, ◌&&◌, Some, Ok, OnOk, IfErr};
 ghost use Rattle.call_parts.specs.DiskWords.{inode_at, max_inode_names, SameStore, IsUnchanged, IsSound, HasSpare, TakesSpare};
-ghost use Rattle.call_parts.specs.ModelWords.{AddName, changed, swept, refuse, first_of, link_demands, Desks, is_directory_kind, number, is_special, HoldsAll, placed, State, Tree, IsDirectoryAt, refused_or, FailsToRead, IsAnswered, HoldsTree, IsThere};
+ghost use Rattle.call_parts.specs.ModelWords.{AddName, changed, swept, refuse, first_of, link_demands, ProcessTable, is_directory_kind, number, is_special, HoldsAll, placed, State, Tree, IsDirectoryAt, refused_or, FailsToRead, IsAnswered, HoldsTree, IsThere};
 ghost use Rattle.fs_model.specs.declared.call.Call.TheVariants.{Link};
 ghost use Rattle.call_parts.specs.Performing.{IsStateOf, IsReadyFor, PerformsFor};
 ghost use Rattle.name_calls.specs.Linking.{source_asked, place_asked, MayLink};
@@ -14,7 +14,7 @@ use call_parts::{
     name_inode, set_names, touch, walk_both,
 };
 use fs_cred::{Errno, Refusal};
-use fs_layout::{Inode, Kind, Place};
+use fs_layout::{Geometry, Inode, Kind};
 use fs_model::{Found, Last, Path, Reply, Touch};
 use open_files::Process;
 use sector_txn::Sectors;
@@ -43,26 +43,30 @@ fn check_kind(found: &Found, kind: Kind) -> Result<(), Refusal>
 }
 
 // Asks all that is asked of what is to get the name, and answers its number and its inode.
-fn check_source<S: Sectors>(s: &mut S, place: Place, found: &Found) -> Result<(u32, Inode), Refusal>
-    requires sound { IsSound place (S.state s.old) }
-    requires there { (t : Tree) × HoldsTree place (S.state s.old).sectors t × ((n : ℕ) → found.now.ino ≡ Some n → IsThere t n) }
-    ensures each { (t : Tree) → HoldsTree place (S.state s.old).sectors t → ((n : ℕ) → found.now.ino ≡ Some n → IsThere t n)
+fn check_source<S: Sectors>(
+    s: &mut S,
+    geometry: Geometry,
+    found: &Found,
+) -> Result<(u32, Inode), Refusal>
+    requires sound { IsSound geometry (S.state s.old) }
+    requires there { (t : Tree) × HoldsTree geometry (S.state s.old).sectors t × ((n : ℕ) → found.now.ino ≡ Some n → IsThere t n) }
+    ensures each { (t : Tree) → HoldsTree geometry (S.state s.old).sectors t → ((n : ℕ) → found.now.ino ≡ Some n → IsThere t n)
         → IsAnswered (S.state s.old).disk (S.state s.new).disk
         (refused_or (first_of (source_asked t found.now))
-        (Ok (number found.now, inode_at place (S.state s.old).sectors (number found.now)))) result }
+        (Ok (number found.now, inode_at geometry (S.state s.old).sectors (number found.now)))) result }
     ensures same { IsUnchanged (S.state s.old) (S.state s.new) }
 {
     check_last(found)?;
-    let (n, inode) = inode_found(s, place, found)?;
+    let (n, inode) = inode_found(s, geometry, found)?;
     check_kind(found, inode.kind)?;
     Ok((n, inode))
 }
 
 // Asks whether what has so many names may have one more.
-fn check_count(place: Place, names: u32) -> Result<(), Refusal>
-    ensures { result ≡ refused_or (refuse Errno.EMLINK (nat_le (max_inode_names place.version) names)) (Ok tt) }
+fn check_count(geometry: Geometry, names: u32) -> Result<(), Refusal>
+    ensures { result ≡ refused_or (refuse Errno.EMLINK (nat_le (max_inode_names geometry.version) names)) (Ok tt) }
 {
-    let most = place.version.max_inode_names();
+    let most = geometry.version.max_inode_names();
     if names >= most {
         return Err(Refusal::Failed(Errno::EMLINK));
     }
@@ -77,19 +81,19 @@ fn check_place<S: Sectors>(
     found: &Found,
     names: u32,
 ) -> Result<Inode, Refusal>
-    requires sound { IsSound caller.now.place (S.state s.old) }
-    requires there { (t : Tree) × HoldsTree caller.now.place (S.state s.old).sectors t × IsDirectoryAt t found.now.dir }
-    ensures each { (t : Tree) → HoldsTree caller.now.place (S.state s.old).sectors t → IsDirectoryAt t found.now.dir
+    requires sound { IsSound caller.now.geometry (S.state s.old) }
+    requires there { (t : Tree) × HoldsTree caller.now.geometry (S.state s.old).sectors t × IsDirectoryAt t found.now.dir }
+    ensures each { (t : Tree) → HoldsTree caller.now.geometry (S.state s.old).sectors t → IsDirectoryAt t found.now.dir
         → IsAnswered (S.state s.old).disk (S.state s.new).disk
         (refused_or
-        (first_of (place_asked caller.now.place (S.state s.old).sectors process.now.cred t
+        (first_of (place_asked caller.now.geometry (S.state s.old).sectors process.now.cred t
         found.now.dir (found.now.step - 1) names))
-        (Ok (inode_at caller.now.place (S.state s.old).sectors found.now.dir))) result }
+        (Ok (inode_at caller.now.geometry (S.state s.old).sectors found.now.dir))) result }
     ensures same { IsUnchanged (S.state s.old) (S.state s.new) }
 {
     let directory = ask_directory(s, caller, process, found, 2)?;
-    check_count(caller.place, names)?;
-    ask_for_name(s, caller.place, &directory)?;
+    check_count(caller.geometry, names)?;
+    ask_for_name(s, caller.geometry, &directory)?;
     Ok(directory)
 }
 
@@ -100,24 +104,24 @@ fn check_link<S: Sectors>(
     caller: &Caller,
     walked: &WalkedBoth,
 ) -> Result<(u32, Inode, Inode), Refusal>
-    requires sound { IsSound caller.now.place (S.state s.old) }
-    requires found { (desks : Desks) × (st : State)
-        × FindsBoth caller.now.place (S.state s.old).sectors desks
+    requires sound { IsSound caller.now.geometry (S.state s.old) }
+    requires found { (processes : ProcessTable) × (st : State)
+        × FindsBoth caller.now.geometry (S.state s.old).sectors processes
         walked.now.process.now walked.now.first walked.now.second st }
-    ensures each { (desks : Desks) (st : State)
-        → FindsBoth caller.now.place (S.state s.old).sectors desks
+    ensures each { (processes : ProcessTable) (st : State)
+        → FindsBoth caller.now.geometry (S.state s.old).sectors processes
         walked.now.process.now walked.now.first walked.now.second st
         → IsAnswered (S.state s.old).disk (S.state s.new).disk
         (refused_or (first_of (link_demands
         (scene_with st walked.now.process.now walked.now.first walked.now.second)))
         (Ok (
           number walked.now.first,
-          inode_at caller.now.place (S.state s.old).sectors (number walked.now.first),
-          inode_at caller.now.place (S.state s.old).sectors walked.now.second.dir,
+          inode_at caller.now.geometry (S.state s.old).sectors (number walked.now.first),
+          inode_at caller.now.geometry (S.state s.old).sectors walked.now.second.dir,
         ))) result }
     ensures same { IsUnchanged (S.state s.old) (S.state s.new) }
 {
-    let (n, inode) = check_source(s, caller.place, &walked.first)?;
+    let (n, inode) = check_source(s, caller.geometry, &walked.first)?;
     let second = &walked.second;
     check_link_name(second)?;
     let process = walked.process;
@@ -128,30 +132,30 @@ fn check_link<S: Sectors>(
 // Names inode n, which is no directory, once more, in directory dir. EIO: the disk has failed.
 fn add_name<S: Sectors>(
     s: &mut S,
-    place: Place,
+    geometry: Geometry,
     dir: u32,
     directory: Inode,
     name: &[u8],
     n: u32,
     inode: &Inode,
 ) -> Result<(), Refusal>
-    requires sound { IsSound place (S.state s.old) }
-    requires inode { inode.now ≡ inode_at place (S.state s.old).sectors n }
-    requires few { inode.now.names < max_inode_names place.version }
-    requires directory { directory ≡ inode_at place (S.state s.old).sectors dir }
-    requires may { (desks : Desks) × (st : State) × IsStateOf place (S.state s.old).sectors desks st
-        × MayLink place (S.state s.old).sectors st.tree dir name.now n }
-    requires spare { HasSpare place 47 (S.state s.old) }
+    requires sound { IsSound geometry (S.state s.old) }
+    requires inode { inode.now ≡ inode_at geometry (S.state s.old).sectors n }
+    requires few { inode.now.names < max_inode_names geometry.version }
+    requires directory { directory ≡ inode_at geometry (S.state s.old).sectors dir }
+    requires may { (processes : ProcessTable) × (st : State) × IsStateOf geometry (S.state s.old).sectors processes st
+        × MayLink geometry (S.state s.old).sectors st.tree dir name.now n }
+    requires spare { HasSpare geometry 47 (S.state s.old) }
     ensures store { SameStore (S.state s.old) (S.state s.new) }
     ensures superblock { OnOk result ((S.state s.new).sectors 0 ≡ (S.state s.old).sectors 0) }
-    ensures added { OnOk result ((desks : Desks) (st : State) → IsStateOf place (S.state s.old).sectors desks st
-        → MayLink place (S.state s.old).sectors st.tree dir name.now n
-        → HoldsAll place (S.state s.new).sectors (placed (swept (changed st.tree (AddName dir name.now n)) desks))) }
-    ensures room { OnOk result (TakesSpare place 5 (S.state s.old) (S.state s.new)) }
+    ensures added { OnOk result ((processes : ProcessTable) (st : State) → IsStateOf geometry (S.state s.old).sectors processes st
+        → MayLink geometry (S.state s.old).sectors st.tree dir name.now n
+        → HoldsAll geometry (S.state s.new).sectors (placed (swept (changed st.tree (AddName dir name.now n)) processes))) }
+    ensures room { OnOk result (TakesSpare geometry 5 (S.state s.old) (S.state s.new)) }
     ensures fault { IfErr result (FailsToRead (S.state s.old).disk (S.state s.new).disk) }
 {
-    set_names(s, place, n, inode, inode.names + 1)?;
-    name_inode(s, place, dir, directory, name, n)?;
+    set_names(s, geometry, n, inode, inode.names + 1)?;
+    name_inode(s, geometry, dir, directory, name, n)?;
     Ok(())
 }
 
@@ -169,10 +173,10 @@ pub fn link<S: Sectors>(s: &mut S, caller: &Caller, old: &Path, new: &Path) -> C
     let second = &walked.second;
     let name = second.name.bytes();
     let dir = second.dir;
-    add_name(s, caller.place, dir, directory, name, n, &inode)?;
+    add_name(s, caller.geometry, dir, directory, name, n, &inode)?;
     touch(
         s,
-        caller.place,
+        caller.geometry,
         caller.time,
         &[(dir, Touch::Modified), (n, Touch::Changed)],
     )?;

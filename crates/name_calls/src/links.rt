@@ -13,7 +13,7 @@ use call_parts::{
     CallResult, Caller, Walked, check_make, is_new, name_inode, new_group, reach, touch, walk_path,
 };
 use fs_cred::{Cred, Errno, Refusal};
-use fs_layout::{Inode, Kind, MAX_LINK_SIZE, Place};
+use fs_layout::{Geometry, Inode, Kind, MAX_LINK_SIZE};
 use fs_model::{Form, Found, Path, Reply, Touch};
 use path_walk::read_target;
 use sector_txn::Sectors;
@@ -52,30 +52,30 @@ pub(crate) fn check_link_name(found: &Found) -> Result<(), Refusal>
 // Makes a link with this target, and names it in directory dir. EIO: the disk has failed.
 fn place_link<S: Sectors>(
     s: &mut S,
-    place: Place,
+    geometry: Geometry,
     dir: u32,
     directory: Inode,
     name: &[u8],
     cred: &Cred,
     target: &[u8],
 ) -> Result<u32, Refusal>
-    requires sound { IsSound place (S.state s.old) }
-    requires directory { directory ≡ inode_at place (S.state s.old).sectors dir }
-    requires may { (t : Tree) × CanMake place (S.state s.old).sectors t dir name.now }
+    requires sound { IsSound geometry (S.state s.old) }
+    requires directory { directory ≡ inode_at geometry (S.state s.old).sectors dir }
+    requires may { (t : Tree) × CanMake geometry (S.state s.old).sectors t dir name.now }
     requires target { IsTarget target.now }
-    requires spare { HasSpare place 47 (S.state s.old) }
+    requires spare { HasSpare geometry 47 (S.state s.old) }
     ensures store { SameStore (S.state s.old) (S.state s.new) }
-    ensures made { IfOk result (λ n. MakesNode place dir name.now n (link_made directory cred.now target.now)
+    ensures made { IfOk result (λ n. MakesNode geometry dir name.now n (link_made directory cred.now target.now)
         (S.state s.old).sectors (S.state s.new).sectors) }
-    ensures taken { OnOk result (TakesSpare place 7 (S.state s.old) (S.state s.new)) }
+    ensures taken { OnOk result (TakesSpare geometry 7 (S.state s.old) (S.state s.new)) }
     ensures err { IfErr result (FailsToRead (S.state s.old).disk (S.state s.new).disk) }
 {
     let uid = cred.uid();
     let gid = new_group(&directory, cred);
-    let Ok(n) = new_link(s, place, uid, gid, target) else {
+    let Ok(n) = new_link(s, geometry, uid, gid, target) else {
         return Err(Refusal::Failed(Errno::EIO));
     };
-    name_inode(s, place, dir, directory, name, n)?;
+    name_inode(s, geometry, dir, directory, name, n)?;
     Ok(n)
 }
 
@@ -86,17 +86,17 @@ fn make_link<S: Sectors>(
     walked: &Walked,
     target: &Path,
 ) -> Result<u32, Refusal>
-    requires sound { IsSound caller.now.place (S.state s.old) }
-    requires spare { HasSpare caller.now.place 47 (S.state s.old) }
-    requires name { (t : Tree) × HoldsTree caller.now.place (S.state s.old).sectors t
-        × IsNewIn caller.now.place t walked.now.found.dir walked.now.found.name }
+    requires sound { IsSound caller.now.geometry (S.state s.old) }
+    requires spare { HasSpare caller.now.geometry 47 (S.state s.old) }
+    requires name { (t : Tree) × HoldsTree caller.now.geometry (S.state s.old).sectors t
+        × IsNewIn caller.now.geometry t walked.now.found.dir walked.now.found.name }
     requires target { IsTarget target.now }
     ensures store { SameStore (S.state s.old) (S.state s.new) }
-    ensures each { (t : Tree) → HoldsTree caller.now.place (S.state s.old).sectors t
-        → IsNewIn caller.now.place t walked.now.found.dir walked.now.found.name
-        → IsMade caller.now.place (S.state s.old) (S.state s.new) walked.now.process.now.cred t walked.now.found
+    ensures each { (t : Tree) → HoldsTree caller.now.geometry (S.state s.old).sectors t
+        → IsNewIn caller.now.geometry t walked.now.found.dir walked.now.found.name
+        → IsMade caller.now.geometry (S.state s.old) (S.state s.new) walked.now.process.now.cred t walked.now.found
         (born_link walked.now.process.now.cred target.now (the_node t walked.now.found.dir)) result }
-    ensures taken { OnOk result (TakesSpare caller.now.place 7 (S.state s.old) (S.state s.new)) }
+    ensures taken { OnOk result (TakesSpare caller.now.geometry 7 (S.state s.old) (S.state s.new)) }
 {
     let found = &walked.found;
     let cred = walked.process.cred();
@@ -104,7 +104,7 @@ fn make_link<S: Sectors>(
     let directory = check_make(s, caller, cred, found.dir, step)?;
     let name = found.name.bytes();
     let bytes = target.bytes();
-    let n = place_link(s, caller.place, found.dir, directory, name, cred, bytes)?;
+    let n = place_link(s, caller.geometry, found.dir, directory, name, cred, bytes)?;
     Ok(n)
 }
 
@@ -121,7 +121,7 @@ pub fn symlink<S: Sectors>(s: &mut S, caller: &Caller, target: &Path, path: &Pat
     let dir = walked.found.dir;
     touch(
         s,
-        caller.place,
+        caller.geometry,
         caller.time,
         &[(dir, Touch::Modified), (n, Touch::Born)],
     )?;
@@ -146,6 +146,6 @@ pub fn readlink<S: Sectors>(s: &mut S, caller: &Caller, path: &Path) -> CallResu
 {
     let reached = reach(s, caller, Ok(()), path, Form::NoFollow)?;
     check_link(&reached.inode)?;
-    let target = read_target(caller.alloc, s, caller.place, &reached.inode)?;
+    let target = read_target(caller.alloc, s, caller.geometry, &reached.inode)?;
     Ok(Reply::Target(target))
 }

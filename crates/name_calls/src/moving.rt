@@ -2,7 +2,7 @@
 
 ghost use Rattle.std.specs.Prelude.{◌≡◌, ◌≢◌, ◌<◌, ◌≤◌, ℕ, List, length, None, Some, OnOk, IfErr};
 ghost use Rattle.call_parts.specs.DiskWords.{IsName, HasNames, max_name, inode_at, name_cmp, get, with_entry, without, SameStore, IsSound, HasSpare, TakesSpare};
-ghost use Rattle.call_parts.specs.ModelWords.{MoveName, changed, swept, Desks, HoldsAll, placed, State, FailsToRead};
+ghost use Rattle.call_parts.specs.ModelWords.{MoveName, changed, swept, ProcessTable, HoldsAll, placed, State, FailsToRead};
 ghost use Rattle.call_parts.specs.Performing.{IsStateOf};
 ghost use Rattle.call_parts.specs.Given.{ChangesNames};
 ghost use Rattle.call_parts.specs.NewNodes.{HasName, MayBeNamed};
@@ -15,7 +15,7 @@ use crate::dropping::lose_name;
 use call_parts::{Caller, WalkedBoth, name_inode, remove_name, touch};
 use dir_core::{rename, replace};
 use fs_cred::{Errno, Refusal};
-use fs_layout::{Inode, Kind, Place};
+use fs_layout::{Geometry, Inode, Kind};
 use fs_model::{Found, Touch};
 use inode_table::save;
 use path_walk::load_inode;
@@ -24,31 +24,31 @@ use sector_txn::Sectors;
 // Gives what a name of directory dir leads to another name there, which leads to nothing. EIO: the disk has failed.
 fn rename_here<S: Sectors>(
     s: &mut S,
-    place: Place,
+    geometry: Geometry,
     dir: u32,
     name: &[u8],
     to_name: &[u8],
 ) -> Result<(), Refusal>
-    requires sound { IsSound place (S.state s.old) }
-    requires below { dir < place.inodes }
+    requires sound { IsSound geometry (S.state s.old) }
+    requires below { dir < geometry.inodes }
     requires named { (names : List (List ℕ × ℕ))
-        × HasNames place.version (S.state s.old).sectors (inode_at place (S.state s.old).sectors dir) names
+        × HasNames geometry.version (S.state s.old).sectors (inode_at geometry (S.state s.old).sectors dir) names
         × (get name_cmp names name.now ≢ None) × (get name_cmp names to_name.now ≡ None) }
     requires is_name { IsName to_name.now }
-    requires short { length to_name.now ≤ max_name place.version }
-    requires spare { HasSpare place 1 (S.state s.old) }
+    requires short { length to_name.now ≤ max_name geometry.version }
+    requires spare { HasSpare geometry 1 (S.state s.old) }
     ensures store { SameStore (S.state s.old) (S.state s.new) }
-    ensures sound { OnOk result (IsSound place (S.state s.new)) }
-    ensures taken { OnOk result (TakesSpare place 1 (S.state s.old) (S.state s.new)) }
+    ensures sound { OnOk result (IsSound geometry (S.state s.new)) }
+    ensures taken { OnOk result (TakesSpare geometry 1 (S.state s.old) (S.state s.new)) }
     ensures renames { OnOk result ((names : List (List ℕ × ℕ)) (n : ℕ)
-        → HasNames place.version (S.state s.old).sectors (inode_at place (S.state s.old).sectors dir) names
+        → HasNames geometry.version (S.state s.old).sectors (inode_at geometry (S.state s.old).sectors dir) names
         → get name_cmp names name.now ≡ Some n
-        → ChangesNames place dir (λ all. with_entry name_cmp (without name_cmp all name.now) to_name.now n)
+        → ChangesNames geometry dir (λ all. with_entry name_cmp (without name_cmp all name.now) to_name.now n)
         (S.state s.old).sectors (S.state s.new).sectors) }
     ensures fault { IfErr result (FailsToRead (S.state s.old).disk (S.state s.new).disk) }
 {
-    let directory = load_inode(s, place, dir)?;
-    match rename(s, place, dir, &directory, name, to_name) {
+    let directory = load_inode(s, geometry, dir)?;
+    match rename(s, geometry, dir, &directory, name, to_name) {
         Ok(()) => Ok(()),
         Err(_) => Err(Refusal::Failed(Errno::EIO)),
     }
@@ -57,24 +57,24 @@ fn rename_here<S: Sectors>(
 // Leads a name of directory dir to inode n. EIO: the disk has failed.
 fn lead_name<S: Sectors>(
     s: &mut S,
-    place: Place,
+    geometry: Geometry,
     dir: u32,
     name: &[u8],
     n: u32,
 ) -> Result<(), Refusal>
-    requires sound { IsSound place (S.state s.old) }
-    requires below { dir < place.inodes }
-    requires named { HasName place (S.state s.old).sectors dir name.now }
-    requires spare { HasSpare place 1 (S.state s.old) }
+    requires sound { IsSound geometry (S.state s.old) }
+    requires below { dir < geometry.inodes }
+    requires named { HasName geometry (S.state s.old).sectors dir name.now }
+    requires spare { HasSpare geometry 1 (S.state s.old) }
     ensures store { SameStore (S.state s.old) (S.state s.new) }
-    ensures sound { OnOk result (IsSound place (S.state s.new)) }
-    ensures taken { OnOk result (TakesSpare place 1 (S.state s.old) (S.state s.new)) }
-    ensures leads { OnOk result (ChangesNames place dir (λ names. with_entry name_cmp names name.now n)
+    ensures sound { OnOk result (IsSound geometry (S.state s.new)) }
+    ensures taken { OnOk result (TakesSpare geometry 1 (S.state s.old) (S.state s.new)) }
+    ensures leads { OnOk result (ChangesNames geometry dir (λ names. with_entry name_cmp names name.now n)
         (S.state s.old).sectors (S.state s.new).sectors) }
     ensures fault { IfErr result (FailsToRead (S.state s.old).disk (S.state s.new).disk) }
 {
-    let directory = load_inode(s, place, dir)?;
-    match replace(s, place, dir, &directory, name, n) {
+    let directory = load_inode(s, geometry, dir)?;
+    match replace(s, geometry, dir, &directory, name, n) {
         Ok(()) => Ok(()),
         Err(_) => Err(Refusal::Failed(Errno::EIO)),
     }
@@ -83,42 +83,47 @@ fn lead_name<S: Sectors>(
 // Gives inode n another name in directory dir, where there is room for it. EIO: the disk has failed.
 fn add_entry<S: Sectors>(
     s: &mut S,
-    place: Place,
+    geometry: Geometry,
     dir: u32,
     name: &[u8],
     n: u32,
 ) -> Result<(), Refusal>
-    requires sound { IsSound place (S.state s.old) }
-    requires room { MayBeNamed place (S.state s.old).sectors dir name.now }
-    requires spare { HasSpare place 4 (S.state s.old) }
+    requires sound { IsSound geometry (S.state s.old) }
+    requires room { MayBeNamed geometry (S.state s.old).sectors dir name.now }
+    requires spare { HasSpare geometry 4 (S.state s.old) }
     ensures store { SameStore (S.state s.old) (S.state s.new) }
-    ensures sound { OnOk result (IsSound place (S.state s.new)) }
-    ensures taken { OnOk result (TakesSpare place 4 (S.state s.old) (S.state s.new)) }
-    ensures leads { OnOk result (ChangesNames place dir (λ names. with_entry name_cmp names name.now n)
+    ensures sound { OnOk result (IsSound geometry (S.state s.new)) }
+    ensures taken { OnOk result (TakesSpare geometry 4 (S.state s.old) (S.state s.new)) }
+    ensures leads { OnOk result (ChangesNames geometry dir (λ names. with_entry name_cmp names name.now n)
         (S.state s.old).sectors (S.state s.new).sectors) }
     ensures fault { IfErr result (FailsToRead (S.state s.old).disk (S.state s.new).disk) }
 {
-    let directory = load_inode(s, place, dir)?;
-    name_inode(s, place, dir, directory, name, n)?;
+    let directory = load_inode(s, geometry, dir)?;
+    name_inode(s, geometry, dir, directory, name, n)?;
     Ok(())
 }
 
 // Leads the second name to inode n, whether it led to something or to nothing. EIO: the disk has failed.
-fn give_name<S: Sectors>(s: &mut S, place: Place, second: &Found, n: u32) -> Result<(), Refusal>
-    requires sound { IsSound place (S.state s.old) }
-    requires may { MayLead place (S.state s.old).sectors second.now.dir second.now.name second.now.ino }
-    requires spare { HasSpare place 4 (S.state s.old) }
+fn give_name<S: Sectors>(
+    s: &mut S,
+    geometry: Geometry,
+    second: &Found,
+    n: u32,
+) -> Result<(), Refusal>
+    requires sound { IsSound geometry (S.state s.old) }
+    requires may { MayLead geometry (S.state s.old).sectors second.now.dir second.now.name second.now.ino }
+    requires spare { HasSpare geometry 4 (S.state s.old) }
     ensures store { SameStore (S.state s.old) (S.state s.new) }
-    ensures sound { OnOk result (IsSound place (S.state s.new)) }
-    ensures taken { OnOk result (TakesSpare place 4 (S.state s.old) (S.state s.new)) }
-    ensures leads { OnOk result (ChangesNames place second.now.dir (λ names. with_entry name_cmp names second.now.name n)
+    ensures sound { OnOk result (IsSound geometry (S.state s.new)) }
+    ensures taken { OnOk result (TakesSpare geometry 4 (S.state s.old) (S.state s.new)) }
+    ensures leads { OnOk result (ChangesNames geometry second.now.dir (λ names. with_entry name_cmp names second.now.name n)
         (S.state s.old).sectors (S.state s.new).sectors) }
     ensures fault { IfErr result (FailsToRead (S.state s.old).disk (S.state s.new).disk) }
 {
     let name = second.name.bytes();
     match second.ino {
-        Some(_) => lead_name(s, place, second.dir, name, n)?,
-        None => add_entry(s, place, second.dir, name, n)?,
+        Some(_) => lead_name(s, geometry, second.dir, name, n)?,
+        None => add_entry(s, geometry, second.dir, name, n)?,
     }
     Ok(())
 }
@@ -126,49 +131,49 @@ fn give_name<S: Sectors>(s: &mut S, place: Place, second: &Found, n: u32) -> Res
 // Leads the second name to what the first leads to, inode n, and the first to nothing. EIO: the disk has failed.
 fn move_entry<S: Sectors>(
     s: &mut S,
-    place: Place,
+    geometry: Geometry,
     first: &Found,
     second: &Found,
     n: u32,
 ) -> Result<(), Refusal>
-    requires sound { IsSound place (S.state s.old) }
-    requires may { (desks : Desks) × (st : State) × IsStateOf place (S.state s.old).sectors desks st
-        × MayMove place (S.state s.old).sectors st first.now.dir first.now.name n
+    requires sound { IsSound geometry (S.state s.old) }
+    requires may { (processes : ProcessTable) × (st : State) × IsStateOf geometry (S.state s.old).sectors processes st
+        × MayMove geometry (S.state s.old).sectors st first.now.dir first.now.name n
         second.now.dir second.now.name second.now.ino }
-    requires spare { HasSpare place 9 (S.state s.old) }
+    requires spare { HasSpare geometry 9 (S.state s.old) }
     ensures store { SameStore (S.state s.old) (S.state s.new) }
-    ensures sound { OnOk result (IsSound place (S.state s.new)) }
-    ensures taken { OnOk result (TakesSpare place 9 (S.state s.old) (S.state s.new)) }
-    ensures moves { OnOk result (MovesEntry place first.now.dir first.now.name n second.now.dir second.now.name second.now.ino
+    ensures sound { OnOk result (IsSound geometry (S.state s.new)) }
+    ensures taken { OnOk result (TakesSpare geometry 9 (S.state s.old) (S.state s.new)) }
+    ensures moves { OnOk result (MovesEntry geometry first.now.dir first.now.name n second.now.dir second.now.name second.now.ino
         (S.state s.old).sectors (S.state s.new).sectors) }
     ensures fault { IfErr result (FailsToRead (S.state s.old).disk (S.state s.new).disk) }
 {
     let name = first.name.bytes();
     if first.dir == second.dir && second.ino.is_none() {
         let to_name = second.name.bytes();
-        rename_here(s, place, first.dir, name, to_name)?;
+        rename_here(s, geometry, first.dir, name, to_name)?;
         return Ok(());
     }
-    remove_name(s, place, first.dir, name)?;
-    give_name(s, place, second, n)?;
+    remove_name(s, geometry, first.dir, name)?;
+    give_name(s, geometry, second, n)?;
     Ok(())
 }
 
 // Gives inode n, which goes from directory dir to to_dir, its parent, where it is a directory. EIO: the disk has failed.
 fn follow<S: Sectors>(
     s: &mut S,
-    place: Place,
+    geometry: Geometry,
     n: u32,
     inode: &Inode,
     dir: u32,
     to_dir: u32,
 ) -> Result<(), Refusal>
-    requires loaded { IsUsedInode place (S.state s.old) n inode.now }
-    requires spare { HasSpare place 1 (S.state s.old) }
+    requires loaded { IsUsedInode geometry (S.state s.old) n inode.now }
+    requires spare { HasSpare geometry 1 (S.state s.old) }
     ensures store { SameStore (S.state s.old) (S.state s.new) }
-    ensures sound { OnOk result (IsSound place (S.state s.new)) }
-    ensures taken { OnOk result (TakesSpare place 1 (S.state s.old) (S.state s.new)) }
-    ensures follows { OnOk result (ParentFollows place n dir to_dir (S.state s.old).sectors (S.state s.new).sectors) }
+    ensures sound { OnOk result (IsSound geometry (S.state s.new)) }
+    ensures taken { OnOk result (TakesSpare geometry 1 (S.state s.old) (S.state s.new)) }
+    ensures follows { OnOk result (ParentFollows geometry n dir to_dir (S.state s.old).sectors (S.state s.new).sectors) }
     ensures fault { IfErr result (FailsToRead (S.state s.old).disk (S.state s.new).disk) }
 {
     if inode.kind != Kind::Directory || dir == to_dir {
@@ -178,7 +183,7 @@ fn follow<S: Sectors>(
         parent: to_dir,
         ..*inode
     };
-    match save(s, place, n, &moved) {
+    match save(s, geometry, n, &moved) {
         Ok(()) => Ok(()),
         Err(_) => Err(Refusal::Failed(Errno::EIO)),
     }
@@ -194,30 +199,30 @@ pub(crate) fn move_name<S: Sectors>(
     inode: &Inode,
     replaced: &Option<(u32, Inode)>,
 ) -> Result<(), Refusal>
-    requires sound { IsSound caller.now.place (S.state s.old) }
-    requires inode { inode.now ≡ inode_at caller.now.place (S.state s.old).sectors n }
-    requires replaced { replaced.now ≡ inode_there caller.now.place (S.state s.old).sectors walked.now.second.ino }
-    requires may { (st : State) × IsStateOf caller.now.place (S.state s.old).sectors caller.now.procs.now st
-        × MayMove caller.now.place (S.state s.old).sectors st walked.now.first.dir walked.now.first.name n
+    requires sound { IsSound caller.now.geometry (S.state s.old) }
+    requires inode { inode.now ≡ inode_at caller.now.geometry (S.state s.old).sectors n }
+    requires replaced { replaced.now ≡ inode_there caller.now.geometry (S.state s.old).sectors walked.now.second.ino }
+    requires may { (st : State) × IsStateOf caller.now.geometry (S.state s.old).sectors caller.now.procs.now st
+        × MayMove caller.now.geometry (S.state s.old).sectors st walked.now.first.dir walked.now.first.name n
         walked.now.second.dir walked.now.second.name walked.now.second.ino }
-    requires spare { HasSpare caller.now.place 47 (S.state s.old) }
+    requires spare { HasSpare caller.now.geometry 47 (S.state s.old) }
     ensures store { SameStore (S.state s.old) (S.state s.new) }
     ensures superblock { OnOk result ((S.state s.new).sectors 0 ≡ (S.state s.old).sectors 0) }
-    ensures moved { OnOk result ((st : State) → IsStateOf caller.now.place (S.state s.old).sectors caller.now.procs.now st
-        → MayMove caller.now.place (S.state s.old).sectors st walked.now.first.dir walked.now.first.name n
+    ensures moved { OnOk result ((st : State) → IsStateOf caller.now.geometry (S.state s.old).sectors caller.now.procs.now st
+        → MayMove caller.now.geometry (S.state s.old).sectors st walked.now.first.dir walked.now.first.name n
         walked.now.second.dir walked.now.second.name walked.now.second.ino
-        → HoldsAll caller.now.place (S.state s.new).sectors
+        → HoldsAll caller.now.geometry (S.state s.new).sectors
         (placed (swept (changed st.tree (MoveName walked.now.first.dir walked.now.first.name
         walked.now.second.dir walked.now.second.name)) caller.now.procs.now))) }
-    ensures room { OnOk result (TakesSpare caller.now.place 11 (S.state s.old) (S.state s.new)) }
+    ensures room { OnOk result (TakesSpare caller.now.geometry 11 (S.state s.old) (S.state s.new)) }
     ensures fault { IfErr result (FailsToRead (S.state s.old).disk (S.state s.new).disk) }
 {
     let first = &walked.first;
     let second = &walked.second;
-    move_entry(s, caller.place, first, second, n)?;
-    follow(s, caller.place, n, inode, first.dir, second.dir)?;
+    move_entry(s, caller.geometry, first, second, n)?;
+    follow(s, caller.geometry, n, inode, first.dir, second.dir)?;
     if let Some((m, inode)) = replaced {
-        lose_name(s, caller.place, caller.procs, *m, inode)?;
+        lose_name(s, caller.geometry, caller.procs, *m, inode)?;
     }
     Ok(())
 }
@@ -229,10 +234,10 @@ pub(crate) fn touch_moved<S: Sectors>(
     walked: &WalkedBoth,
     n: u32,
 ) -> Result<(), Refusal>
-    requires { MayMoveTimes caller.now.place
+    requires { MayMoveTimes caller.now.geometry
         (renamed_touches walked.now.first.dir walked.now.second.dir n walked.now.second.ino) (S.state s.old) }
     ensures store { SameStore (S.state s.old) (S.state s.new) }
-    ensures moved { OnOk result (MovesTimes caller.now.place caller.now.time
+    ensures moved { OnOk result (MovesTimes caller.now.geometry caller.now.time
         (renamed_touches walked.now.first.dir walked.now.second.dir n walked.now.second.ino) (S.state s.old) (S.state s.new)) }
     ensures fault { IfErr result (FailsToRead (S.state s.old).disk (S.state s.new).disk) }
 {
@@ -241,7 +246,7 @@ pub(crate) fn touch_moved<S: Sectors>(
     match walked.second.ino {
         Some(m) => touch(
             s,
-            caller.place,
+            caller.geometry,
             caller.time,
             &[
                 (dir, Touch::Modified),
@@ -252,7 +257,7 @@ pub(crate) fn touch_moved<S: Sectors>(
         ),
         None => touch(
             s,
-            caller.place,
+            caller.geometry,
             caller.time,
             &[
                 (dir, Touch::Modified),

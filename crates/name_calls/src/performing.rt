@@ -1,7 +1,7 @@
 //! The calls on names, handed to their functions.
 
 ghost use Rattle.std.specs.Prelude.{MatchOption, IsFalse};
-ghost use Rattle.call_parts.specs.Performing.{IsReady, Performs, is_on_names};
+ghost use Rattle.call_parts.specs.Performing.{MayPerform, Performs, is_on_names};
 
 use crate::directories::{chdir, mkdir};
 use crate::linking::link;
@@ -9,7 +9,7 @@ use crate::links::{readlink, symlink};
 use crate::removal::{rmdir, unlink};
 use crate::renaming::rename;
 use call_parts::{CallResult, Caller};
-use fs_layout::Place;
+use fs_layout::Geometry;
 use fs_model::Call;
 use open_files::Procs;
 use sector_txn::Sectors;
@@ -19,19 +19,19 @@ use std::alloc::Global;
 pub fn perform<S: Sectors>(
     alloc: Global,
     s: &mut S,
-    place: Place,
+    geometry: Geometry,
     now: u64,
     procs: &mut Procs,
     pid: usize,
     call: &Call,
 ) -> Option<CallResult>
-    requires ready { IsReady place (S.state s.old) procs.old }
+    requires ready { MayPerform geometry (S.state s.old) procs.old }
     ensures { MatchOption result (IsFalse (is_on_names call.now))
-        (λ r. Performs place now pid call.now (S.state s.old) (S.state s.new) procs.old procs.new r) }
+        (λ r. Performs geometry now pid call.now (S.state s.old) (S.state s.new) procs.old procs.new r) }
 {
     let caller = Caller {
         alloc,
-        place,
+        geometry,
         time: now,
         procs,
         pid,
@@ -44,7 +44,7 @@ pub fn perform<S: Sectors>(
         Call::Readlink(path) => Some(readlink(s, &caller, path)),
         Call::Unlink(path) => Some(unlink(s, &caller, path)),
         Call::Rename { old, new } => Some(rename(s, &caller, old, new)),
-        Call::Chdir(path) => Some(chdir(alloc, s, place, now, procs, pid, path)),
+        Call::Chdir(path) => Some(chdir(alloc, s, geometry, now, procs, pid, path)),
         _ => None,
     }
 }

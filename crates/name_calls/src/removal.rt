@@ -17,7 +17,7 @@ use call_parts::{
 };
 use dir_core::is_empty;
 use fs_cred::{Errno, Refusal};
-use fs_layout::{Inode, Kind, Place};
+use fs_layout::{Geometry, Inode, Kind};
 use fs_model::{Form, Found, Last, Path, Reply, Touch};
 use open_files::Procs;
 use sector_txn::Sectors;
@@ -67,17 +67,17 @@ fn check_removal<S: Sectors>(
     caller: &Caller,
     walked: &Walked,
 ) -> Result<(u32, Inode), Refusal>
-    requires sound { IsSound caller.now.place (S.state s.old) }
-    requires there { (t : Tree) × HoldsTree caller.now.place (S.state s.old).sectors t × IsNamedThere t walked.now.found }
-    ensures each { (t : Tree) → HoldsTree caller.now.place (S.state s.old).sectors t → IsNamedThere t walked.now.found
+    requires sound { IsSound caller.now.geometry (S.state s.old) }
+    requires there { (t : Tree) × HoldsTree caller.now.geometry (S.state s.old).sectors t × IsNamedThere t walked.now.found }
+    ensures each { (t : Tree) → HoldsTree caller.now.geometry (S.state s.old).sectors t → IsNamedThere t walked.now.found
         → IsAnswered (S.state s.old).disk (S.state s.new).disk
         (refused_or (first_of (removal_asked walked.now.process.now.cred t walked.now.found))
-        (Ok (number walked.now.found, inode_at caller.now.place (S.state s.old).sectors (number walked.now.found)))) result }
+        (Ok (number walked.now.found, inode_at caller.now.geometry (S.state s.old).sectors (number walked.now.found)))) result }
     ensures same { IsUnchanged (S.state s.old) (S.state s.new) }
 {
     let process = walked.process;
     let found = &walked.found;
-    let (n, inode) = inode_found(s, caller.place, found)?;
+    let (n, inode) = inode_found(s, caller.geometry, found)?;
     check_slash(found, inode.kind)?;
     let directory = ask_directory(s, caller, process, found, 1)?;
     check_sticky(process, found, &directory, &inode, 1)?;
@@ -119,14 +119,14 @@ fn check_target<S: Sectors>(
     walked: &Walked,
     what: Target,
 ) -> Result<(u32, Inode), Refusal>
-    requires sound { IsSound caller.now.place (S.state s.old) }
+    requires sound { IsSound caller.now.geometry (S.state s.old) }
     requires found { (st : State)
-        × FindsName caller.now.place (S.state s.old).sectors caller.now.procs.now walked.now.process.now walked.now.found st }
+        × FindsName caller.now.geometry (S.state s.old).sectors caller.now.procs.now walked.now.process.now walked.now.found st }
     ensures each { (st : State)
-        → FindsName caller.now.place (S.state s.old).sectors caller.now.procs.now walked.now.process.now walked.now.found st
+        → FindsName caller.now.geometry (S.state s.old).sectors caller.now.procs.now walked.now.process.now walked.now.found st
         → IsAnswered (S.state s.old).disk (S.state s.new).disk
         (refused_or (first_of (removal_demands what (scene_at st walked.now.process.now walked.now.found)))
-        (Ok (number walked.now.found, inode_at caller.now.place (S.state s.old).sectors (number walked.now.found)))) result }
+        (Ok (number walked.now.found, inode_at caller.now.geometry (S.state s.old).sectors (number walked.now.found)))) result }
     ensures same { IsUnchanged (S.state s.old) (S.state s.new) }
 {
     check_last(&walked.found, what)?;
@@ -139,26 +139,26 @@ fn check_target<S: Sectors>(
 // disk has failed.
 fn take_name<S: Sectors>(
     s: &mut S,
-    place: Place,
+    geometry: Geometry,
     procs: &Procs,
     dir: u32,
     name: &[u8],
     n: u32,
     inode: Inode,
 ) -> Result<(), Refusal>
-    requires sound { IsSound place (S.state s.old) }
-    requires inode { inode ≡ inode_at place (S.state s.old).sectors n }
-    requires may { (st : State) × IsStateOf place (S.state s.old).sectors procs.now st × MayGo st dir name.now n }
-    requires spare { HasSpare place 47 (S.state s.old) }
+    requires sound { IsSound geometry (S.state s.old) }
+    requires inode { inode ≡ inode_at geometry (S.state s.old).sectors n }
+    requires may { (st : State) × IsStateOf geometry (S.state s.old).sectors procs.now st × MayGo st dir name.now n }
+    requires spare { HasSpare geometry 47 (S.state s.old) }
     ensures store { SameStore (S.state s.old) (S.state s.new) }
     ensures superblock { OnOk result ((S.state s.new).sectors 0 ≡ (S.state s.old).sectors 0) }
-    ensures taken { OnOk result ((st : State) → IsStateOf place (S.state s.old).sectors procs.now st → MayGo st dir name.now n
-        → HoldsAll place (S.state s.new).sectors (placed (swept (changed st.tree (TakeName dir name.now)) procs.now))) }
-    ensures room { OnOk result (TakesSpare place 6 (S.state s.old) (S.state s.new)) }
+    ensures taken { OnOk result ((st : State) → IsStateOf geometry (S.state s.old).sectors procs.now st → MayGo st dir name.now n
+        → HoldsAll geometry (S.state s.new).sectors (placed (swept (changed st.tree (TakeName dir name.now)) procs.now))) }
+    ensures room { OnOk result (TakesSpare geometry 6 (S.state s.old) (S.state s.new)) }
     ensures fault { IfErr result (FailsToRead (S.state s.old).disk (S.state s.new).disk) }
 {
-    remove_name(s, place, dir, name)?;
-    lose_name(s, place, procs, n, &inode)?;
+    remove_name(s, geometry, dir, name)?;
+    lose_name(s, geometry, procs, n, &inode)?;
     Ok(())
 }
 
@@ -172,10 +172,10 @@ fn remove_target<S: Sectors>(s: &mut S, caller: &Caller, path: &Path, what: Targ
     let found = &walked.found;
     let name = found.name.bytes();
     let dir = found.dir;
-    take_name(s, caller.place, caller.procs, dir, name, n, inode)?;
+    take_name(s, caller.geometry, caller.procs, dir, name, n, inode)?;
     touch(
         s,
-        caller.place,
+        caller.geometry,
         caller.time,
         &[(dir, Touch::Modified), (n, Touch::Changed)],
     )?;

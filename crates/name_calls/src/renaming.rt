@@ -13,7 +13,7 @@ use crate::moving::{move_name, touch_moved};
 use crate::replacing::check_move;
 use call_parts::{CallResult, Caller, WalkedBoth, inode_found, walk_both};
 use fs_cred::{Errno, Refusal};
-use fs_layout::{Inode, Kind, Place};
+use fs_layout::{Geometry, Inode, Kind};
 use fs_model::{Found, Last, Path, Reply};
 use path_walk::load_inode;
 use sector_txn::Sectors;
@@ -58,19 +58,19 @@ fn check_ends(first: &Found, second: &Found) -> Result<(), Refusal>
 // Number and inode of what was found, where something was. EIO: the disk has failed.
 fn inode_replaced<S: Sectors>(
     s: &mut S,
-    place: Place,
+    geometry: Geometry,
     found: &Found,
 ) -> Result<Option<(u32, Inode)>, Refusal>
-    requires sound { IsSound place (S.state s.old) }
-    requires below { (n : ℕ) → found.now.ino ≡ Some n → n < place.inodes }
+    requires sound { IsSound geometry (S.state s.old) }
+    requires below { (n : ℕ) → found.now.ino ≡ Some n → n < geometry.inodes }
     ensures each { IsAnswered (S.state s.old).disk (S.state s.new).disk
-        (Ok (inode_there place (S.state s.old).sectors found.now.ino)) result }
+        (Ok (inode_there geometry (S.state s.old).sectors found.now.ino)) result }
     ensures same { IsUnchanged (S.state s.old) (S.state s.new) }
 {
     let Some(n) = found.ino else {
         return Ok(None);
     };
-    let inode = load_inode(s, place, n)?;
+    let inode = load_inode(s, geometry, n)?;
     Ok(Some((n, inode)))
 }
 
@@ -131,27 +131,27 @@ pub(crate) fn check_kinds(kind: Kind, replaced: &Option<(u32, Inode)>) -> Result
 // directory was named with a slash.
 fn check_renamed<S: Sectors>(
     s: &mut S,
-    place: Place,
+    geometry: Geometry,
     first: &Found,
     second: &Found,
 ) -> Result<(u32, Inode, Option<(u32, Inode)>), Refusal>
-    requires sound { IsSound place (S.state s.old) }
-    requires there { (t : Tree) × HoldsTree place (S.state s.old).sectors t
+    requires sound { IsSound geometry (S.state s.old) }
+    requires there { (t : Tree) × HoldsTree geometry (S.state s.old).sectors t
         × ((n : ℕ) → first.now.ino ≡ Some n → IsThere t n) × ((n : ℕ) → second.now.ino ≡ Some n → IsThere t n) }
-    ensures each { (t : Tree) → HoldsTree place (S.state s.old).sectors t
+    ensures each { (t : Tree) → HoldsTree geometry (S.state s.old).sectors t
         → ((n : ℕ) → first.now.ino ≡ Some n → IsThere t n) → ((n : ℕ) → second.now.ino ≡ Some n → IsThere t n)
         → IsAnswered (S.state s.old).disk (S.state s.new).disk
         (refused_or (first_of (names_asked t first.now second.now))
         (Ok (
           number first.now,
-          inode_at place (S.state s.old).sectors (number first.now),
-          inode_there place (S.state s.old).sectors second.now.ino,
+          inode_at geometry (S.state s.old).sectors (number first.now),
+          inode_there geometry (S.state s.old).sectors second.now.ino,
         ))) result }
     ensures same { IsUnchanged (S.state s.old) (S.state s.new) }
 {
     check_ends(first, second)?;
-    let (n, inode) = inode_found(s, place, first)?;
-    let replaced = inode_replaced(s, place, second)?;
+    let (n, inode) = inode_found(s, geometry, first)?;
+    let replaced = inode_replaced(s, geometry, second)?;
     check_slashes(first, second, inode.kind, &replaced)?;
     Ok((n, inode, replaced))
 }
@@ -173,23 +173,23 @@ fn check_rename<S: Sectors>(
     caller: &Caller,
     walked: &WalkedBoth,
 ) -> Result<(u32, Inode, Option<(u32, Inode)>), Refusal>
-    requires sound { IsSound caller.now.place (S.state s.old) }
+    requires sound { IsSound caller.now.geometry (S.state s.old) }
     requires found { (st : State)
-        × FindsBoth caller.now.place (S.state s.old).sectors caller.now.procs.now
+        × FindsBoth caller.now.geometry (S.state s.old).sectors caller.now.procs.now
         walked.now.process.now walked.now.first walked.now.second st }
     ensures each { (st : State)
-        → FindsBoth caller.now.place (S.state s.old).sectors caller.now.procs.now
+        → FindsBoth caller.now.geometry (S.state s.old).sectors caller.now.procs.now
         walked.now.process.now walked.now.first walked.now.second st
         → IsAnswered (S.state s.old).disk (S.state s.new).disk
         (refused_or (first_of (rename_demands (scene_with st walked.now.process.now walked.now.first walked.now.second)))
         (Ok (
           number walked.now.first,
-          inode_at caller.now.place (S.state s.old).sectors (number walked.now.first),
-          inode_there caller.now.place (S.state s.old).sectors walked.now.second.ino,
+          inode_at caller.now.geometry (S.state s.old).sectors (number walked.now.first),
+          inode_there caller.now.geometry (S.state s.old).sectors walked.now.second.ino,
         ))) result }
     ensures same { IsUnchanged (S.state s.old) (S.state s.new) }
 {
-    let (n, inode, replaced) = check_renamed(s, caller.place, &walked.first, &walked.second)?;
+    let (n, inode, replaced) = check_renamed(s, caller.geometry, &walked.first, &walked.second)?;
     if is_same(n, &replaced) {
         return Ok((n, inode, replaced));
     }

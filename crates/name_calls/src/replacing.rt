@@ -2,7 +2,7 @@
 
 ghost use Rattle.std.specs.Prelude.{◌≡◌, ◌-◌, ℕ, Option, Some, Ok};
 ghost use Rattle.call_parts.specs.DiskWords.{SectorMap, inode_at, IsUnchanged, IsSound};
-ghost use Rattle.call_parts.specs.ModelWords.{first_of, Desks, rename_permissions, rename_moved, rename_space, State, Tree, IsDirectoryAt, refused_or, IsAnswered, HoldsTree, IsThere};
+ghost use Rattle.call_parts.specs.ModelWords.{first_of, ProcessTable, rename_permissions, rename_moved, rename_space, State, Tree, IsDirectoryAt, refused_or, IsAnswered, HoldsTree, IsThere};
 ghost use Rattle.fs_model.specs.Processes.{Process as Asking};
 ghost use Rattle.name_calls.specs.Renaming.{inode_there};
 ghost use Rattle.name_calls.specs.Replacing.{IsToRename, sticky_there, below_asked, replaced_asked, move_asked};
@@ -13,7 +13,7 @@ use crate::renaming::check_kinds;
 use crate::ways::is_below;
 use call_parts::{Caller, WalkedBoth, ask_directory, ask_for_name, check_sticky, permitted};
 use fs_cred::{Errno, Refusal};
-use fs_layout::{Inode, Kind, Place};
+use fs_layout::{Geometry, Inode, Kind};
 use fs_model::Found;
 use open_files::{Process, Procs};
 use posix_acl::Perms;
@@ -51,16 +51,16 @@ fn check_permissions<S: Sectors>(
     inode: &Inode,
     replaced: &Option<(u32, Inode)>,
 ) -> Result<Inode, Refusal>
-    requires sound { IsSound caller.now.place (S.state s.old) }
-    requires names { (desks : Desks) × (n : ℕ) × (st : State)
-        × IsToRename caller.now.place (S.state s.old).sectors desks walked.now.first walked.now.second
+    requires sound { IsSound caller.now.geometry (S.state s.old) }
+    requires names { (processes : ProcessTable) × (n : ℕ) × (st : State)
+        × IsToRename caller.now.geometry (S.state s.old).sectors processes walked.now.first walked.now.second
         n inode.now replaced.now st }
-    ensures each { (desks : Desks) (n : ℕ) (st : State)
-        → IsToRename caller.now.place (S.state s.old).sectors desks walked.now.first walked.now.second
+    ensures each { (processes : ProcessTable) (n : ℕ) (st : State)
+        → IsToRename caller.now.geometry (S.state s.old).sectors processes walked.now.first walked.now.second
         n inode.now replaced.now st
         → IsAnswered (S.state s.old).disk (S.state s.new).disk
         (refused_or (first_of (rename_permissions (scene_with st walked.now.process.now walked.now.first walked.now.second)))
-        (Ok (inode_at caller.now.place (S.state s.old).sectors walked.now.second.dir))) result }
+        (Ok (inode_at caller.now.geometry (S.state s.old).sectors walked.now.second.dir))) result }
     ensures same { IsUnchanged (S.state s.old) (S.state s.new) }
 {
     let process = walked.process;
@@ -76,21 +76,21 @@ fn check_permissions<S: Sectors>(
 // Asks whether what has this kind may go to directory dir: a directory doesn't go below itself.
 fn check_below<S: Sectors>(
     s: &mut S,
-    place: Place,
+    geometry: Geometry,
     n: u32,
     kind: Kind,
     dir: u32,
 ) -> Result<(), Refusal>
-    requires sound { IsSound place (S.state s.old) }
-    requires there { (t : Tree) × HoldsTree place (S.state s.old).sectors t × IsDirectoryAt t dir }
-    ensures each { (t : Tree) → HoldsTree place (S.state s.old).sectors t → IsDirectoryAt t dir
+    requires sound { IsSound geometry (S.state s.old) }
+    requires there { (t : Tree) × HoldsTree geometry (S.state s.old).sectors t × IsDirectoryAt t dir }
+    ensures each { (t : Tree) → HoldsTree geometry (S.state s.old).sectors t → IsDirectoryAt t dir
         → IsAnswered (S.state s.old).disk (S.state s.new).disk (refused_or (below_asked t kind n dir) (Ok tt)) result }
     ensures same { IsUnchanged (S.state s.old) (S.state s.new) }
 {
     if kind != Kind::Directory {
         return Ok(());
     }
-    let below = is_below(s, place, n, dir)?;
+    let below = is_below(s, geometry, n, dir)?;
     if below {
         return Err(Refusal::Failed(Errno::EINVAL));
     }
@@ -99,7 +99,7 @@ fn check_below<S: Sectors>(
 
 // Asks whether what is replaced may go: a directory is empty and not in use.
 fn check_replaced(procs: &Procs, replaced: &Option<(u32, Inode)>) -> Result<(), Refusal>
-    ensures { (p : Place) (map : SectorMap) (t : Tree) (g : Found) → HoldsTree p map t
+    ensures { (p : Geometry) (map : SectorMap) (t : Tree) (g : Found) → HoldsTree p map t
         → ((m : ℕ) → g.ino ≡ Some m → IsThere t m)
         → replaced.now ≡ inode_there p map g.ino
         → result ≡ refused_or (first_of (replaced_asked t procs.now g)) (Ok tt) }
@@ -121,12 +121,12 @@ fn check_moved<S: Sectors>(
     walked: &WalkedBoth,
     inode: &Inode,
 ) -> Result<(), Refusal>
-    requires sound { IsSound caller.now.place (S.state s.old) }
-    requires names { (desks : Desks) × (n : ℕ) × (there : Option (ℕ × Inode)) × (st : State)
-        × IsToRename caller.now.place (S.state s.old).sectors desks walked.now.first walked.now.second
+    requires sound { IsSound caller.now.geometry (S.state s.old) }
+    requires names { (processes : ProcessTable) × (n : ℕ) × (there : Option (ℕ × Inode)) × (st : State)
+        × IsToRename caller.now.geometry (S.state s.old).sectors processes walked.now.first walked.now.second
         n inode.now there st }
-    ensures each { (desks : Desks) (n : ℕ) (there : Option (ℕ × Inode)) (st : State)
-        → IsToRename caller.now.place (S.state s.old).sectors desks walked.now.first walked.now.second
+    ensures each { (processes : ProcessTable) (n : ℕ) (there : Option (ℕ × Inode)) (st : State)
+        → IsToRename caller.now.geometry (S.state s.old).sectors processes walked.now.first walked.now.second
         n inode.now there st
         → IsAnswered (S.state s.old).disk (S.state s.new).disk
         (refused_or (first_of (rename_moved
@@ -150,14 +150,14 @@ fn check_moved<S: Sectors>(
 // Asks for space, where a name is new in another directory.
 fn check_space<S: Sectors>(
     s: &mut S,
-    place: Place,
+    geometry: Geometry,
     walked: &WalkedBoth,
     to_directory: &Inode,
 ) -> Result<(), Refusal>
-    requires sound { IsSound place (S.state s.old) }
-    ensures each { (desks : Desks) (q : Asking) (n : ℕ) (v : Inode) (there : Option (ℕ × Inode)) (st : State)
-        → IsToRename place (S.state s.old).sectors desks walked.now.first walked.now.second n v there st
-        → to_directory.now ≡ inode_at place (S.state s.old).sectors walked.now.second.dir
+    requires sound { IsSound geometry (S.state s.old) }
+    ensures each { (processes : ProcessTable) (q : Asking) (n : ℕ) (v : Inode) (there : Option (ℕ × Inode)) (st : State)
+        → IsToRename geometry (S.state s.old).sectors processes walked.now.first walked.now.second n v there st
+        → to_directory.now ≡ inode_at geometry (S.state s.old).sectors walked.now.second.dir
         → IsAnswered (S.state s.old).disk (S.state s.new).disk
         (refused_or (first_of (rename_space (scene_with st q walked.now.first walked.now.second))) (Ok tt)) result }
     ensures same { IsUnchanged (S.state s.old) (S.state s.new) }
@@ -168,7 +168,7 @@ fn check_space<S: Sectors>(
     if walked.first.dir == walked.second.dir {
         return Ok(());
     }
-    ask_for_name(s, place, to_directory)?;
+    ask_for_name(s, geometry, to_directory)?;
     Ok(())
 }
 
@@ -181,12 +181,12 @@ pub(crate) fn check_move<S: Sectors>(
     inode: &Inode,
     replaced: &Option<(u32, Inode)>,
 ) -> Result<(), Refusal>
-    requires sound { IsSound caller.now.place (S.state s.old) }
+    requires sound { IsSound caller.now.geometry (S.state s.old) }
     requires names { (st : State)
-        × IsToRename caller.now.place (S.state s.old).sectors caller.now.procs.now
+        × IsToRename caller.now.geometry (S.state s.old).sectors caller.now.procs.now
         walked.now.first walked.now.second n inode.now replaced.now st }
     ensures each { (st : State)
-        → IsToRename caller.now.place (S.state s.old).sectors caller.now.procs.now
+        → IsToRename caller.now.geometry (S.state s.old).sectors caller.now.procs.now
         walked.now.first walked.now.second n inode.now replaced.now st
         → IsAnswered (S.state s.old).disk (S.state s.new).disk
         (refused_or (first_of (move_asked
@@ -195,9 +195,9 @@ pub(crate) fn check_move<S: Sectors>(
 {
     let to_directory = check_permissions(s, caller, walked, inode, replaced)?;
     check_kinds(inode.kind, replaced)?;
-    check_below(s, caller.place, n, inode.kind, walked.second.dir)?;
+    check_below(s, caller.geometry, n, inode.kind, walked.second.dir)?;
     check_replaced(caller.procs, replaced)?;
     check_moved(s, caller, walked, inode)?;
-    check_space(s, caller.place, walked, &to_directory)?;
+    check_space(s, caller.geometry, walked, &to_directory)?;
     Ok(())
 }

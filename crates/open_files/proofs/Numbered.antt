@@ -11,7 +11,7 @@ use Rattle.slab.proofs.SlabLemmas.{length-entries_from}
 use Rattle.fs_layout.specs.Maps.{get, with_entry, without, IsMap}
 use Rattle.fs_layout.proofs.MapLaws.{with_entry-IsMap, length-with_entry}
 use Rattle.fs_model.specs.Limits.{processes_limit}
-use Rattle.fs_model.specs.Processes.{Descriptor, Process, Desks, descriptor, is_open, starts_at}
+use Rattle.fs_model.specs.Processes.{Descriptor, Process, ProcessTable, descriptor, is_open, starts_at}
 use Rattle.fs_model.proofs.StepsFit.{length-replaced}
 use Rattle.fs_model.proofs.StepsProcesses.{without-IsMap, in_without, in_with_entry, length-without}
 use Rattle.open_files.specs.Tables.{answer_of_found, answer_of, open_at, open_in, IsKeptProcess, IsTable, with_changed, changed_where}
@@ -70,35 +70,35 @@ table_changed slots pid p f some here =
     table_set slots pid p (f p) some here
     ∙ sym (ap (changed_where (entries_from 1 slots) pid f) (at_pid slots pid some ∙ here))
 
-pub not_changed : (desks : Desks) (pid : ℕ) (f : Process → Process) → get nat_cmp desks pid ≡ None → desks ≡ with_changed desks pid f
-not_changed desks pid f none = sym (ap (changed_where desks pid f) none)
+pub not_changed : (processes : ProcessTable) (pid : ℕ) (f : Process → Process) → get nat_cmp processes pid ≡ None → processes ≡ with_changed processes pid f
+not_changed processes pid f none = sym (ap (changed_where processes pid f) none)
 
 -- ---- it stays a table
 
-pub added_is_table : (desks : Desks) (pid : ℕ) (p : Process) → IsTable desks → get nat_cmp desks pid ≡ None → length desks < processes_limit
-    → IsKeptProcess p → IsTable (with_entry nat_cmp desks pid p)
-added_is_table desks pid p t none room runs = record {
-  rising = with_entry-IsMap desks pid p t.rising;
+pub added_is_table : (processes : ProcessTable) (pid : ℕ) (p : Process) → IsTable processes → get nat_cmp processes pid ≡ None → length processes < processes_limit
+    → IsKeptProcess p → IsTable (with_entry nat_cmp processes pid p)
+added_is_table processes pid p t none room runs = record {
+  rising = with_entry-IsMap processes pid p t.rising;
   few =
-      let count : length (with_entry nat_cmp desks pid p) ≡ length desks + 1 =
-      length-with_entry desks pid p t.rising ∙ ap (λ o. cond (is_some o) (length desks) (length desks + 1)) none in
+      let count : length (with_entry nat_cmp processes pid p) ≡ length processes + 1 =
+      length-with_entry processes pid p t.rising ∙ ap (λ o. cond (is_some o) (length processes) (length processes + 1)) none in
       omega (arith, count, room);
-  each = in_with_entry (λ _ q. IsKeptProcess q) desks pid p runs t.each;
+  each = in_with_entry (λ _ q. IsKeptProcess q) processes pid p runs t.each;
 }
 
-pub changed_is_table : (desks : Desks) (pid : ℕ) (p q : Process) → IsTable desks → get nat_cmp desks pid ≡ Some p → IsKeptProcess q
-    → IsTable (with_entry nat_cmp desks pid q)
-changed_is_table desks pid p q t there runs = record {
-  rising = with_entry-IsMap desks pid q t.rising;
-  few = let same = length-replaced desks pid p q t.rising there in let few = t.few in omega (arith, same, few);
-  each = in_with_entry (λ _ r. IsKeptProcess r) desks pid q runs t.each;
+pub changed_is_table : (processes : ProcessTable) (pid : ℕ) (p q : Process) → IsTable processes → get nat_cmp processes pid ≡ Some p → IsKeptProcess q
+    → IsTable (with_entry nat_cmp processes pid q)
+changed_is_table processes pid p q t there runs = record {
+  rising = with_entry-IsMap processes pid q t.rising;
+  few = let same = length-replaced processes pid p q t.rising there in let few = t.few in omega (arith, same, few);
+  each = in_with_entry (λ _ r. IsKeptProcess r) processes pid q runs t.each;
 }
 
-pub without_is_table : (desks : Desks) (pid : ℕ) → IsTable desks → IsTable (without nat_cmp desks pid)
-without_is_table desks pid t = record {
-  rising = without-IsMap desks pid t.rising;
-  few = let less = length-without desks pid in let few = t.few in omega (arith, less, few);
-  each = λ q p at. t.each q p (in_without desks pid q p t.rising at);
+pub without_is_table : (processes : ProcessTable) (pid : ℕ) → IsTable processes → IsTable (without nat_cmp processes pid)
+without_is_table processes pid t = record {
+  rising = without-IsMap processes pid t.rising;
+  few = let less = length-without processes pid in let few = t.few in omega (arith, less, few);
+  each = λ q p at. t.each q p (in_without processes pid q p t.rising at);
 }
 
 -- the table of slots with one set
@@ -128,34 +128,34 @@ open_by_others slots pid ino some =
     let same : (pid - 1) + 1 ≡ pid = omega arith in
     any_other (has_open ino) (pid - 1) 0 slots ∙ ap (λ n. is_open (without nat_cmp (entries_from 1 slots) n) ino) same
 
-pub open_besides : (desks : Desks) (pid : ℕ) (p : Process) (f : Process → Process) (ino : ℕ) → IsTable desks → get nat_cmp desks pid ≡ Some p
-    → is_open (with_changed desks pid f) ino ≡ (has_open ino (f p) || is_open (without nat_cmp desks pid) ino)
-open_besides desks pid p f ino t there =
-    ap (λ o. is_open (changed_where desks pid f o) ino) there ∙ any_with_entry (has_open ino) desks pid (f p) t.rising
+pub open_besides : (processes : ProcessTable) (pid : ℕ) (p : Process) (f : Process → Process) (ino : ℕ) → IsTable processes → get nat_cmp processes pid ≡ Some p
+    → is_open (with_changed processes pid f) ino ≡ (has_open ino (f p) || is_open (without nat_cmp processes pid) ino)
+open_besides processes pid p f ino t there =
+    ap (λ o. is_open (changed_where processes pid f o) ino) there ∙ any_with_entry (has_open ino) processes pid (f p) t.rising
 
 -- ---- an answer that needs a process
 
-pub without_process : {A : Type 0} (desks : Desks) (pid : ℕ) (f : Process → Result A Errno) → get nat_cmp desks pid ≡ None
-    → Err ESRCH ≡ answer_of desks pid f
-without_process desks pid f none = sym (ap (answer_of_found f) none)
+pub without_process : {A : Type 0} (processes : ProcessTable) (pid : ℕ) (f : Process → Result A Errno) → get nat_cmp processes pid ≡ None
+    → Err ESRCH ≡ answer_of processes pid f
+without_process processes pid f none = sym (ap (answer_of_found f) none)
 
-pub of_this_process : {A : Type 0} (desks : Desks) (pid : ℕ) (f : Process → Result A Errno) (p : Process) → get nat_cmp desks pid ≡ Some p
-    → f p ≡ answer_of desks pid f
-of_this_process desks pid f p there = sym (ap (answer_of_found f) there)
+pub of_this_process : {A : Type 0} (processes : ProcessTable) (pid : ℕ) (f : Process → Result A Errno) (p : Process) → get nat_cmp processes pid ≡ Some p
+    → f p ≡ answer_of processes pid f
+of_this_process processes pid f p there = sym (ap (answer_of_found f) there)
 
 -- an answer says that the process is there
-pub answered : {A : Type 0} (desks : Desks) (pid : ℕ) (f : Process → Result A Errno) → is_ok (answer_of desks pid f) ≡ true
-    → is_some (get nat_cmp desks pid) ≡ true
-answered {A} desks pid f h = go (get nat_cmp desks pid) h
+pub answered : {A : Type 0} (processes : ProcessTable) (pid : ℕ) (f : Process → Result A Errno) → is_ok (answer_of processes pid f) ≡ true
+    → is_some (get nat_cmp processes pid) ≡ true
+answered {A} processes pid f h = go (get nat_cmp processes pid) h
   where
     go : (o : Option Process) → is_ok (answer_of_found f o) ≡ true → is_some o ≡ true
     go None h = absurd cc
     go (Some p) h = refl
 
 -- a descriptor of the process that is there is open
-pub open_here : (desks : Desks) (pid fd : ℕ) (p : Process) → is_ok (open_in desks pid fd) ≡ true → get nat_cmp desks pid ≡ Some p
+pub open_here : (processes : ProcessTable) (pid fd : ℕ) (p : Process) → is_ok (open_in processes pid fd) ≡ true → get nat_cmp processes pid ≡ Some p
     → is_some (descriptor p fd) ≡ true
-open_here desks pid fd p h there = go (descriptor p fd) (ap (λ o. is_ok (answer_of_found (open_at fd) o)) (sym there) ∙ h)
+open_here processes pid fd p h there = go (descriptor p fd) (ap (λ o. is_ok (answer_of_found (open_at fd) o)) (sym there) ∙ h)
   where
     go : (o : Option Descriptor) → is_ok {E = Errno} (ok_or o EBADF) ≡ true → is_some o ≡ true
     go None e = absurd cc
@@ -163,56 +163,56 @@ open_here desks pid fd p h there = go (descriptor p fd) (ap (λ o. is_ok (answer
 
 -- ---- the table that slots are
 
-module _ (slots : List (Option Process)) (desks : Desks) (v : entries_from 1 slots ≡ desks) where
-  pub zero_absent : (pid : ℕ) → pid ≡ 0 → get nat_cmp desks pid ≡ None
-  zero_absent pid e = ap (get nat_cmp desks) e ∙ ap (λ m. get nat_cmp m 0) (sym v) ∙ at_zero slots
+module _ (slots : List (Option Process)) (processes : ProcessTable) (v : entries_from 1 slots ≡ processes) where
+  pub zero_absent : (pid : ℕ) → pid ≡ 0 → get nat_cmp processes pid ≡ None
+  zero_absent pid e = ap (get nat_cmp processes) e ∙ ap (λ m. get nat_cmp m 0) (sym v) ∙ at_zero slots
 
-  pub at_number : (pid : ℕ) → pid ≢ 0 → get nat_cmp desks pid ≡ get_or slots (pid - 1) None
+  pub at_number : (pid : ℕ) → pid ≢ 0 → get nat_cmp processes pid ≡ get_or slots (pid - 1) None
   at_number pid some = ap (λ m. get nat_cmp m pid) (sym v) ∙ at_pid slots pid some
 
-  pub at_key : (key : ℕ) → get nat_cmp desks (key + 1) ≡ get_or slots key None
+  pub at_key : (key : ℕ) → get nat_cmp processes (key + 1) ≡ get_or slots key None
   at_key key =
       let same : key + 1 ≡ 1 + key = omega arith in
       ap (λ m. get nat_cmp m (key + 1)) (sym v) ∙ ap (get nat_cmp (entries_from 1 slots)) same ∙ at_slot 1 slots key
 
-  pub positive : (pid : ℕ) → is_some (get nat_cmp desks pid) ≡ true → pid ≢ 0
-  positive pid there e = absurd (let no : is_some (get nat_cmp desks pid) ≡ false = ap is_some (zero_absent pid e) in cc)
+  pub positive : (pid : ℕ) → is_some (get nat_cmp processes pid) ≡ true → pid ≢ 0
+  positive pid there e = absurd (let no : is_some (get nat_cmp processes pid) ≡ false = ap is_some (zero_absent pid e) in cc)
 
-  pub is_map : IsMap nat_cmp desks
-  is_map = subst (λ (m : Desks). IsMap nat_cmp m) v (slots_rise 1 slots)
+  pub is_map : IsMap nat_cmp processes
+  is_map = subst (λ (m : ProcessTable). IsMap nat_cmp m) v (slots_rise 1 slots)
 
-  pub nothing_gone : (pid : ℕ) → get nat_cmp desks pid ≡ None → desks ≡ without nat_cmp desks pid
-  nothing_gone pid none = absent desks pid is_map none
+  pub nothing_gone : (pid : ℕ) → get nat_cmp processes pid ≡ None → processes ≡ without nat_cmp processes pid
+  nothing_gone pid none = absent processes pid is_map none
 
-  pub gone : (new : List (Option Process)) (pid : ℕ) → pid ≢ 0 → Writes slots new (pid - 1) None → entries_from 1 new ≡ without nat_cmp desks pid
+  pub gone : (new : List (Option Process)) (pid : ℕ) → pid ≢ 0 → Writes slots new (pid - 1) None → entries_from 1 new ≡ without nat_cmp processes pid
   gone new pid some w = table_emptied slots new pid some w ∙ ap (λ m. without nat_cmp m pid) v
 
   pub added : (new : List (Option Process)) (key : ℕ) (p : Process) → Writes slots new key (Some p)
-      → entries_from 1 new ≡ with_entry nat_cmp desks (key + 1) p
+      → entries_from 1 new ≡ with_entry nat_cmp processes (key + 1) p
   added new key p w = table_filled slots new key p w ∙ ap (λ m. with_entry nat_cmp m (key + 1) p) v
 
   pub changed : (pid : ℕ) (p q : Process) (f : Process → Process) → pid ≢ 0 → get_or slots (pid - 1) None ≡ Some p → q ≡ f p
-      → entries_from 1 (set slots (pid - 1) (Some q)) ≡ with_changed desks pid f
+      → entries_from 1 (set slots (pid - 1) (Some q)) ≡ with_changed processes pid f
   changed pid p q f some here same =
       ap (λ r. entries_from 1 (set slots (pid - 1) (Some r))) same ∙ table_changed slots pid p f some here
       ∙ ap (λ m. with_changed m pid f) v
 
   pub filled_is_table : (new : List (Option Process)) (key : ℕ) (p : Process) → IsTable (entries_from 1 slots) → Writes slots new key (Some p)
-      → get_or slots key None ≡ None → length desks < processes_limit → IsKeptProcess p → IsTable (entries_from 1 new)
+      → get_or slots key None ≡ None → length processes < processes_limit → IsKeptProcess p → IsTable (entries_from 1 new)
   filled_is_table new key p t w none room runs =
-      subst IsTable (sym (added new key p w)) (added_is_table desks (key + 1) p (subst IsTable v t) (at_key key ∙ none) room runs)
+      subst IsTable (sym (added new key p w)) (added_is_table processes (key + 1) p (subst IsTable v t) (at_key key ∙ none) room runs)
 
   pub emptied_is_table : (new : List (Option Process)) (pid : ℕ) → IsTable (entries_from 1 slots) → pid ≢ 0 → Writes slots new (pid - 1) None
       → IsTable (entries_from 1 new)
-  emptied_is_table new pid t some w = subst IsTable (sym (gone new pid some w)) (without_is_table desks pid (subst IsTable v t))
+  emptied_is_table new pid t some w = subst IsTable (sym (gone new pid some w)) (without_is_table processes pid (subst IsTable v t))
 
   -- without the process all stays
-  pub unchanged : (pid : ℕ) (f : Process → Process) → pid ≢ 0 → get_or slots (pid - 1) None ≡ None → entries_from 1 slots ≡ with_changed desks pid f
-  unchanged pid f some none = v ∙ not_changed desks pid f (at_number pid some ∙ none)
+  pub unchanged : (pid : ℕ) (f : Process → Process) → pid ≢ 0 → get_or slots (pid - 1) None ≡ None → entries_from 1 slots ≡ with_changed processes pid f
+  unchanged pid f some none = v ∙ not_changed processes pid f (at_number pid some ∙ none)
 
-  pub unchanged_at_zero : (pid : ℕ) (f : Process → Process) → pid ≡ 0 → entries_from 1 slots ≡ with_changed desks pid f
-  unchanged_at_zero pid f e = v ∙ not_changed desks pid f (zero_absent pid e)
+  pub unchanged_at_zero : (pid : ℕ) (f : Process → Process) → pid ≡ 0 → entries_from 1 slots ≡ with_changed processes pid f
+  unchanged_at_zero pid f e = v ∙ not_changed processes pid f (zero_absent pid e)
 
-  pub is_open_here : (pid fd : ℕ) (p : Process) → pid ≢ 0 → get_or slots (pid - 1) None ≡ Some p → is_ok (open_in desks pid fd) ≡ true
+  pub is_open_here : (pid fd : ℕ) (p : Process) → pid ≢ 0 → get_or slots (pid - 1) None ≡ Some p → is_ok (open_in processes pid fd) ≡ true
       → is_some (descriptor p fd) ≡ true
-  is_open_here pid fd p some here h = open_here desks pid fd p h (at_number pid some ∙ here)
+  is_open_here pid fd p some here h = open_here processes pid fd p h (at_number pid some ∙ here)

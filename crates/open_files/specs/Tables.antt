@@ -11,7 +11,7 @@ use Rattle.fs_layout.specs.Maps.{get, with_entry, without, IsMap}
 use Rattle.fs_cred.specs.declared.errno.Errno.{Errno}
 use Rattle.fs_cred.specs.declared.errno.Errno.TheVariants.{ESRCH, EBADF, EMFILE}
 use Rattle.fs_model.specs.Limits.{descriptors_limit, processes_limit}
-use Rattle.fs_model.specs.Processes.{Descriptor, Process, Desks, descriptor, least_unused}
+use Rattle.fs_model.specs.Processes.{Descriptor, Process, ProcessTable, descriptor, least_unused}
 
 -- ---- answers
 
@@ -20,15 +20,15 @@ answer_of_found f None = Err ESRCH
 answer_of_found f (Some p) = f p
 
 -- ESRCH: there is no such process
-abbrev pub answer_of : {A : Type 0} → Desks → ℕ → (Process → Result A Errno) → Result A Errno
-answer_of desks pid f = answer_of_found f (get nat_cmp desks pid)
+abbrev pub answer_of : {A : Type 0} → ProcessTable → ℕ → (Process → Result A Errno) → Result A Errno
+answer_of processes pid f = answer_of_found f (get nat_cmp processes pid)
 
 -- EBADF: not open
 abbrev pub open_at : ℕ → Process → Result Descriptor Errno
 open_at fd p = ok_or (descriptor p fd) EBADF
 
-abbrev pub open_in : Desks → ℕ → ℕ → Result Descriptor Errno
-open_in desks pid fd = answer_of desks pid (open_at fd)
+abbrev pub open_in : ProcessTable → ℕ → ℕ → Result Descriptor Errno
+open_in processes pid fd = answer_of processes pid (open_at fd)
 
 -- the least unused number, where not all are used
 abbrev pub lowest : {X : Type 0} → List (ℕ × X) → Option ℕ
@@ -38,25 +38,25 @@ lowest m = if nat_le descriptors_limit (length m) then None else Some (least_unu
 abbrev pub lowest_slot : Process → Result ℕ Errno
 lowest_slot p = ok_or (lowest p.descriptors) EMFILE
 
-abbrev pub slot_in : Desks → ℕ → Result ℕ Errno
-slot_in desks pid = answer_of desks pid lowest_slot
+abbrev pub slot_in : ProcessTable → ℕ → Result ℕ Errno
+slot_in processes pid = answer_of processes pid lowest_slot
 
 -- the process is there, and may open something at the descriptor
-pub record IsUnused (desks : Desks) (pid fd : ℕ) : Type 0 where
+pub record IsUnused (processes : ProcessTable) (pid fd : ℕ) : Type 0 where
   pub process : Process
-  pub is_there : get nat_cmp desks pid ≡ Some process
+  pub is_there : get nat_cmp processes pid ≡ Some process
   pub below : fd < descriptors_limit
   pub unused : descriptor process fd ≡ None
 
 -- ---- changes
 
-abbrev pub changed_where : Desks → ℕ → (Process → Process) → Option Process → Desks
-changed_where desks pid f None = desks
-changed_where desks pid f (Some p) = with_entry nat_cmp desks pid (f p)
+abbrev pub changed_where : ProcessTable → ℕ → (Process → Process) → Option Process → ProcessTable
+changed_where processes pid f None = processes
+changed_where processes pid f (Some p) = with_entry nat_cmp processes pid (f p)
 
 -- the table in which f has changed the process of this number, if there is one
-abbrev pub with_changed : Desks → ℕ → (Process → Process) → Desks
-with_changed desks pid f = changed_where desks pid f (get nat_cmp desks pid)
+abbrev pub with_changed : ProcessTable → ℕ → (Process → Process) → ProcessTable
+with_changed processes pid f = changed_where processes pid f (get nat_cmp processes pid)
 
 abbrev pub without_descriptor : Process → ℕ → Process
 without_descriptor p fd = record p { descriptors = without nat_cmp p.descriptors fd }
@@ -71,7 +71,7 @@ pub record IsKeptProcess (p : Process) : Type 0 where
   pub umask : p.umask < 512
   pub descriptors : AreDescriptors p.descriptors
 
-pub record IsTable (desks : Desks) : Type 0 where
-  pub rising : IsMap nat_cmp desks
-  pub few : length desks ≤ processes_limit
-  pub each : (pid : ℕ) (p : Process) → get nat_cmp desks pid ≡ Some p → IsKeptProcess p
+pub record IsTable (processes : ProcessTable) : Type 0 where
+  pub rising : IsMap nat_cmp processes
+  pub few : length processes ≤ processes_limit
+  pub each : (pid : ℕ) (p : Process) → get nat_cmp processes pid ≡ Some p → IsKeptProcess p

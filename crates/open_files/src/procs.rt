@@ -28,10 +28,10 @@ pub struct Procs {
 
 impl Model for Procs {
     ghost use Rattle.slab.specs.Slab.{entries_from};
-    ghost use Rattle.fs_model.specs.Processes.{Desks};
+    ghost use Rattle.fs_model.specs.Processes.{ProcessTable};
     ghost use Rattle.open_files.specs.Tables.{IsTable};
 
-    ghost Value = { Desks };
+    ghost Value = { ProcessTable };
 
     ghost view = { λ procs. entries_from 1 procs.slab.slots };
 

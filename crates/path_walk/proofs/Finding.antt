@@ -12,13 +12,13 @@ use Rattle.fs_cred.specs.declared.refusal.Refusal.{Refusal}
 use Rattle.fs_cred.specs.declared.refusal.Refusal.TheVariants.{Failed}
 use Rattle.fs_cred.specs.Verdicts.{verdict}
 use Rattle.fs_layout.specs.declared.inode.Inode.{Inode}
-use Rattle.fs_layout.specs.declared.place.Place.{Place}
+use Rattle.fs_layout.specs.declared.geometry.Geometry.{Geometry}
 use Rattle.fs_layout.specs.Bytes.{SectorMap}
 use Rattle.fs_layout.specs.Images.{inode_at}
 use Rattle.fs_layout.specs.Maps.{name_cmp, get}
 use Rattle.fs_layout.specs.Version.{max_name}
 use Rattle.fs_model.specs.Demands.{Demand, accessed_at, decided, search_of, search_on, search_only}
-use Rattle.fs_model.specs.Nodes.{Node, Body, File, Dir, Link, is_directory, names_in, accessed, accessed_body}
+use Rattle.fs_model.specs.Nodes.{Node, Body, File, Dir, Link, is_directory, names_of_body, accessed, accessed_body}
 use Rattle.fs_model.specs.Rules.{is_directory_kind}
 use Rattle.fs_model.specs.Stands.{room_of}
 use Rattle.fs_model.specs.Trails.{Faulty, arrival, is_dot, is_dot_dot, looked_up, named_inode}
@@ -83,7 +83,7 @@ pub not_refused : (d : Demand) → refused_or {A = Unit {0}} d (Ok tt) ≡ Ok tt
 not_refused None h = refl
 not_refused (Some f) h = absurd (cc)
 
-module _ {p : Place} {image : SectorMap} {t : Tree} (h : HoldsTree p image t) (n : ℕ) (there : IsThere t n) (v : Inode) (is : v ≡ inode_at p image n) where
+module _ {p : Geometry} {image : SectorMap} {t : Tree} (h : HoldsTree p image t) (n : ℕ) (there : IsThere t n) (v : Inode) (is : v ≡ inode_at p image n) where
   pub s : Stands t n
   s = stands t n there
 
@@ -120,7 +120,7 @@ module _ {p : Place} {image : SectorMap} {t : Tree} (h : HoldsTree p image t) (n
         ∙ not_searched cred walk k s.node.owner s.node.group s.node.body (sym kind_is ∙ e) in
         lookup_as ∙ ap (λ (d : Demand). refused_or d (found_as (looked_up (room_of p) t true false n name (Some s.node)))) none
         ∙ ap (λ (b : Bool). found_as (if not b then Faulty ENOTDIR
-        else (if nat_lt (max_name p.version) (length name) then Faulty ENAMETOOLONG else arrival t true false (named_inode t n (names_in s.node.body) name)))) (sym kind_is ∙ e)
+        else (if nat_lt (max_name p.version) (length name) then Faulty ENAMETOOLONG else arrival t true false (named_inode t n (names_of_body s.node.body) name)))) (sym kind_is ∙ e)
 
     -- search is refused
     pub search_refused : (x : IsSearched image t n v) (e : Refusal)
@@ -133,18 +133,18 @@ module _ {p : Place} {image : SectorMap} {t : Tree} (h : HoldsTree p image t) (n
     module _ (e : is_directory_kind v.kind ≡ true) (x : IsSearched image t n v)
         (r : refused_or {A = Unit {0}} (decided walk k Search (verdict cred x.node search_only)) (Ok tt) ≡ Ok tt) where
       past_search : lookup_of (room_of p) t cred walk k n name
-          ≡ found_as (if nat_lt (max_name p.version) (length name) then Faulty ENAMETOOLONG else arrival t true false (named_inode t n (names_in s.node.body) name))
+          ≡ found_as (if nat_lt (max_name p.version) (length name) then Faulty ENAMETOOLONG else arrival t true false (named_inode t n (names_of_body s.node.body) name))
       past_search =
           let none : search_on cred t n walk k ≡ None = search_is x ∙ not_refused (decided walk k Search (verdict cred x.node search_only)) r in
           lookup_as ∙ ap (λ (d : Demand). refused_or d (found_as (looked_up (room_of p) t true false n name (Some s.node)))) none
           ∙ ap (λ (b : Bool). found_as (if not b then Faulty ENOTDIR
-          else (if nat_lt (max_name p.version) (length name) then Faulty ENAMETOOLONG else arrival t true false (named_inode t n (names_in s.node.body) name)))) (sym kind_is ∙ e)
+          else (if nat_lt (max_name p.version) (length name) then Faulty ENAMETOOLONG else arrival t true false (named_inode t n (names_of_body s.node.body) name)))) (sym kind_is ∙ e)
 
       pub too_long : nat_lt (max_name p.version) (length name) ≡ true → lookup_of (room_of p) t cred walk k n name ≡ Err (Failed ENAMETOOLONG)
       too_long l =
-          past_search ∙ ap (λ (b : Bool). found_as (if b then Faulty ENAMETOOLONG else arrival t true false (named_inode t n (names_in s.node.body) name))) l
+          past_search ∙ ap (λ (b : Bool). found_as (if b then Faulty ENAMETOOLONG else arrival t true false (named_inode t n (names_of_body s.node.body) name))) l
 
-      pub is_named : nat_lt (max_name p.version) (length name) ≡ false → (o : Option ℕ) → named_inode t n (names_in s.node.body) name ≡ o → lookup_of (room_of p) t cred walk k n name ≡ Ok o
+      pub is_named : nat_lt (max_name p.version) (length name) ≡ false → (o : Option ℕ) → named_inode t n (names_of_body s.node.body) name ≡ o → lookup_of (room_of p) t cred walk k n name ≡ Ok o
       is_named l o named =
-          past_search ∙ ap (λ (b : Bool). found_as (if b then Faulty ENAMETOOLONG else arrival t true false (named_inode t n (names_in s.node.body) name))) l
-          ∙ found_alone t (named_inode t n (names_in s.node.body) name) ∙ ap (λ (q : Option ℕ). Ok q) named
+          past_search ∙ ap (λ (b : Bool). found_as (if b then Faulty ENAMETOOLONG else arrival t true false (named_inode t n (names_of_body s.node.body) name))) l
+          ∙ found_alone t (named_inode t n (names_of_body s.node.body) name) ∙ ap (λ (q : Option ℕ). Ok q) named

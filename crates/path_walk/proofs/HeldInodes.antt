@@ -7,7 +7,7 @@ use Rattle.fs_cred.specs.declared.node.NodeKind.TheVariants as nodes
 use Rattle.fs_layout.specs.declared.inode.Inode.{Inode}
 use Rattle.fs_layout.specs.declared.inode.Kind.{Kind}
 use Rattle.fs_layout.specs.declared.inode.Kind.TheVariants as kinds
-use Rattle.fs_layout.specs.declared.place.Place.{Place}
+use Rattle.fs_layout.specs.declared.geometry.Geometry.{Geometry}
 use Rattle.fs_layout.specs.Bytes.{SectorMap}
 use Rattle.fs_layout.specs.Inode.{free_inode}
 use Rattle.fs_layout.specs.Images.{inode_at}
@@ -29,7 +29,7 @@ directory_kind kinds.Directory e = refl
 directory_kind kinds.Link e = absurd (cc)
 
 -- a free inode has nothing to show
-pub free_is_sound : (p : Place) (image : SectorMap) (v : Inode) → v ≡ free_inode → IsSoundInode p image v
+pub free_is_sound : (p : Geometry) (image : SectorMap) (v : Inode) → v ≡ free_inode → IsSoundInode p image v
 free_is_sound p image v free = record {
   directory = λ e. absurd (let same : kinds.Free ≡ kinds.Directory = sym (ap (λ (u : Inode). u.kind) free) ∙ e in cc);
   acl = λ e. elim e [
@@ -48,7 +48,7 @@ no_link_directory v is e = let same : kinds.Link ≡ kinds.Directory = sym is �
 no_link_file : (v : Inode) → v.kind ≡ kinds.Link → v.kind ≡ kinds.File → ⊥
 no_link_file v is e = let same : kinds.Link ≡ kinds.File = sym is ∙ e in cc
 
-module _ {p : Place} {image : SectorMap} {t : Tree} (h : HoldsTree p image t) (n : ℕ) (node : Node) (at : node_at t n ≡ Some node) where
+module _ {p : Geometry} {image : SectorMap} {t : Tree} (h : HoldsTree p image t) (n : ℕ) (node : Node) (at : node_at t n ≡ Some node) where
   abbrev pub v : Inode
   v = inode_at p image n
 
@@ -80,7 +80,7 @@ module _ {p : Place} {image : SectorMap} {t : Tree} (h : HoldsTree p image t) (n
   node_is_sound =
       body_says node.body refl (held_node h n node at).body (h.tree.each n node at).body
 
-pub held_inodes : {p : Place} {image : SectorMap} {t : Tree} → HoldsTree p image t → HasSoundInodes p image
+pub held_inodes : {p : Geometry} {image : SectorMap} {t : Tree} → HoldsTree p image t → HasSoundInodes p image
 held_inodes {p} {image} {t} h n low = go (node_at t n) refl (h.holds.nodes n low)
   where
     go : (o : Option Node) → node_at t n ≡ o

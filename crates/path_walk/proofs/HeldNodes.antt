@@ -8,14 +8,14 @@ use Rattle.fs_cred.specs.declared.node.NodeKind.TheVariants as nodes
 use Rattle.fs_layout.specs.declared.inode.TheConstants.{S_ISGID, S_ISVTX}
 use Rattle.fs_layout.specs.declared.inode.Inode.{Inode}
 use Rattle.fs_layout.specs.declared.inode.Kind.TheVariants as kinds
-use Rattle.fs_layout.specs.declared.place.Place.{Place}
+use Rattle.fs_layout.specs.declared.geometry.Geometry.{Geometry}
 use Rattle.fs_layout.specs.declared.version.Version.{Version}
 use Rattle.fs_layout.specs.Bytes.{SectorMap}
 use Rattle.fs_layout.specs.Images.{inode_at, Holds}
 use Rattle.fs_layout.specs.Directories.{HasNames}
 use Rattle.fs_layout.proofs.OneAcl.{mode_small}
 use Rattle.fs_model.specs.Demands.{accessed_at}
-use Rattle.fs_model.specs.Nodes.{Node, Body, File, Dir, Link, is_directory, default_in, names_in, bytes_in, accessed, accessed_body, shown_mode}
+use Rattle.fs_model.specs.Nodes.{Node, Body, File, Dir, Link, is_directory, default_in, names_of_body, bytes_in, accessed, accessed_body, shown_mode}
 use Rattle.fs_model.specs.Rules.{is_directory_kind}
 use Rattle.fs_model.specs.Stands.{HoldsPlaced, room_of}
 use Rattle.fs_model.specs.StoredNodes.{HoldsBody, HoldsNode, parent_field}
@@ -76,7 +76,7 @@ access_says version image v owner group (Dir a d) x o g m h e =
 access_says version image v owner group (Link target) x o g m h e = absurd (cc)
 
 -- a directory's names, and its default ACL
-pub names_say : (version : Version) (image : SectorMap) (v : Inode) (b : Body) → IsTrue (is_directory b) → HoldsBody version image v b → HasNames version image v (names_in b)
+pub names_say : (version : Version) (image : SectorMap) (v : Inode) (b : Body) → IsTrue (is_directory b) → HoldsBody version image v b → HasNames version image v (names_of_body b)
 names_say version image v (File a bytes) is h = absurd (cc)
 names_say version image v (Dir a d) is h = h.names
 names_say version image v (Link target) is h = absurd (cc)
@@ -98,7 +98,7 @@ parent_says (File a bytes) parent is = absurd (cc)
 parent_says (Dir a d) parent is = refl
 parent_says (Link target) parent is = absurd (cc)
 
-module _ {p : Place} {image : SectorMap} {t : Tree} (h : HoldsTree p image t) where
+module _ {p : Geometry} {image : SectorMap} {t : Tree} (h : HoldsTree p image t) where
   -- its number is one of the disk
   pub number_below : (n : ℕ) → IsThere t n → n < p.inodes
   number_below n there = let s = stands t n there in (h.tree.each n s.node s.at).below
@@ -114,7 +114,7 @@ module _ {p : Place} {image : SectorMap} {t : Tree} (h : HoldsTree p image t) wh
   held_kind n node at = kind_says p.version image (inode_at p image n) node.body (held_node n node at).body
 
   -- of a directory: its names, and its parent
-  pub held_names : (n : ℕ) → (d : IsDirectoryAt t n) → HasNames p.version image (inode_at p image n) (names_in d.node.body)
+  pub held_names : (n : ℕ) → (d : IsDirectoryAt t n) → HasNames p.version image (inode_at p image n) (names_of_body d.node.body)
   held_names n d = names_say p.version image (inode_at p image n) d.node.body d.directory (held_node n d.node d.is_there).body
 
   pub held_parent : (n : ℕ) → IsDirectoryAt t n → (inode_at p image n).parent ≡ parent t n
@@ -135,7 +135,7 @@ module _ {p : Place} {image : SectorMap} {t : Tree} (h : HoldsTree p image t) wh
   held_target n node target at is = (subst (HoldsBody p.version image (inode_at p image n)) is (held_node n node at).body).holds
 
   -- what a name in a directory leads to is there
-  pub named_there : (n : ℕ) (d : IsDirectoryAt t n) (name : List ℕ) (m : ℕ) → named_inode t n (names_in d.node.body) name ≡ Some m → IsThere t m
+  pub named_there : (n : ℕ) (d : IsDirectoryAt t n) (name : List ℕ) (m : ℕ) → named_inode t n (names_of_body d.node.body) name ≡ Some m → IsThere t m
   named_there n d name m e = number_there (room_of p) t h.tree n d.node name m d.is_there e
 
   -- and so is where a path starts

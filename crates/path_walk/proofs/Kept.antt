@@ -6,7 +6,7 @@ use Rattle.sector_disk.proofs.Moments.{failed_later}
 use Rattle.fs_cred.specs.declared.errno.Errno.TheVariants.{EIO, ELOOP, ENOMEM}
 use Rattle.fs_cred.specs.declared.refusal.Refusal.{Refusal}
 use Rattle.fs_cred.specs.declared.refusal.Refusal.TheVariants.{Failed}
-use Rattle.fs_layout.specs.declared.place.Place.{Place}
+use Rattle.fs_layout.specs.declared.geometry.Geometry.{Geometry}
 use Rattle.fs_layout.specs.Bytes.{SectorMap}
 use Rattle.fs_layout.specs.Ownership.{IsConsistent}
 use Rattle.sector_txn.specs.Sectors.{TxnState, IsUnchanged}
@@ -26,7 +26,7 @@ kept P same h = subst P (sym (same_map same)) h
 pub kept_back : (P : SectorMap → Type 0) {old new : TxnState} → IsUnchanged old new → P new.sectors → P old.sectors
 kept_back P same h = subst P (same_map same) h
 
-pub sound_kept : {p : Place} {old new : TxnState} → IsUnchanged old new → IsSound p old → IsSound p new
+pub sound_kept : {p : Geometry} {old new : TxnState} → IsUnchanged old new → IsSound p old → IsSound p new
 sound_kept {p} {old} {new} same sound = record {
   consistent = kept (IsConsistent p) same sound.consistent;
   bitmaps = bitmaps_unchanged p old new sound.bitmaps same;

@@ -9,7 +9,7 @@ use Rattle.fs_cred.specs.declared.refusal.Refusal.TheVariants.{Failed}
 use Rattle.fs_model.specs.declared.walk.Form.{Form}
 use Rattle.fs_model.specs.declared.walk.Found.{Found}
 use Rattle.fs_model.specs.Demands.{Demand, refuse, or_else, search_on}
-use Rattle.fs_model.specs.Nodes.{Node, Body, File, Dir, Link, is_directory, names_in}
+use Rattle.fs_model.specs.Nodes.{Node, Body, File, Dir, Link, is_directory, names_of_body}
 use Rattle.fs_model.specs.Parts.{parts_of, start_of, is_empty}
 use Rattle.fs_model.specs.Trails.{Lookup, Trail, Outcome, Faulty, Absent, Reaches, Through, GoesOn, reached, reached_body, named_inode, arrival, looked_up, after_lookup, ends_at, through_if, onward, lookups_from, trail_with}
 use Rattle.fs_model.specs.Trees.{Tree, Room, node_at}
@@ -131,11 +131,11 @@ module _ (t : Tree) (cred : Credential) (walk : ℕ) (form : Form) where
   by_node room is_last follow dir name (Some node) = go (is_directory node.body) (nat_lt room.name_limit (length name))
     where
       go : (directory long : Bool)
-          → cond (not directory) (Faulty ENOTDIR) (cond long (Faulty ENAMETOOLONG) (arrival t is_last follow (named_inode t dir (names_in node.body) name)))
-          ≡ widened is_last follow (cond (not directory) (Faulty ENOTDIR) (cond long (Faulty ENAMETOOLONG) (arrival t true false (named_inode t dir (names_in node.body) name))))
+          → cond (not directory) (Faulty ENOTDIR) (cond long (Faulty ENAMETOOLONG) (arrival t is_last follow (named_inode t dir (names_of_body node.body) name)))
+          ≡ widened is_last follow (cond (not directory) (Faulty ENOTDIR) (cond long (Faulty ENAMETOOLONG) (arrival t true false (named_inode t dir (names_of_body node.body) name))))
       go false long = refl
       go true true = refl
-      go true false = by_arrival is_last follow (named_inode t dir (names_in node.body) name)
+      go true false = by_arrival is_last follow (named_inode t dir (names_of_body node.body) name)
 
   -- alone it never leads through a link
   is_arrival_through : (o : Option ℕ) (target : List ℕ) → arrival t true false o ≢ Through target
@@ -147,10 +147,10 @@ module _ (t : Tree) (cred : Credential) (walk : ℕ) (form : Form) where
   never_through room dir name (Some node) target e = go (is_directory node.body) (nat_lt room.name_limit (length name)) e
     where
       go : (directory long : Bool)
-          → cond (not directory) (Faulty ENOTDIR) (cond long (Faulty ENAMETOOLONG) (arrival t true false (named_inode t dir (names_in node.body) name))) ≡ Through target → ⊥
+          → cond (not directory) (Faulty ENOTDIR) (cond long (Faulty ENAMETOOLONG) (arrival t true false (named_inode t dir (names_of_body node.body) name))) ≡ Through target → ⊥
       go false long e = cc
       go true true e = cc
-      go true false e = is_arrival_through (named_inode t dir (names_in node.body) name) target e
+      go true false e = is_arrival_through (named_inode t dir (names_of_body node.body) name) target e
 
   -- ---- the walk with so many links
   abbrev pub links_behind : Room → Bool → ℕ → Option GoesOn

@@ -6,7 +6,7 @@ use Rattle.fs_layout.specs.declared.inode.Inode.{Inode}
 use Rattle.fs_layout.specs.declared.inode.Kind.{Kind}
 use Rattle.fs_layout.specs.declared.inode.Kind.TheVariants as kinds
 use Rattle.std.proofs.lemmas.Bool.{and_parts, leb-true}
-use Rattle.fs_layout.specs.declared.place.Place.{Place}
+use Rattle.fs_layout.specs.declared.geometry.Geometry.{Geometry}
 use Rattle.fs_layout.specs.Inode.{FitsInode, inode_fits, numbers_fit}
 use Rattle.fs_model.proofs.KindFields.{inode_fits_at}
 use Rattle.sector_txn.specs.Sectors.{TxnState}
@@ -22,11 +22,11 @@ read_whole bytes old new count few is =
     ap (take count) (is.content ∙ ap (λ (l : List ℕ). l ++ drop count old) all) ∙ ap (λ (n : ℕ). take n (bytes ++ drop count old)) len
     ∙ take-append-le (length bytes) bytes (drop count old) (omega arith) ∙ take_all (length bytes) bytes (omega arith)
 
-module _ {p : Place} {txn : TxnState} {v : Inode} (sound : IsSound p txn) (there : IsInodeOf p txn.sectors v) (link : v.kind ≡ kinds.Link) where
+module _ {p : Geometry} {txn : TxnState} {v : Inode} (sound : IsSound p txn) (there : IsInodeOf p txn.sectors v) (link : v.kind ≡ kinds.Link) where
   fits : FitsInode v
   fits =
       subst FitsInode (sym there.2)
-      (inode_fits_at p txn.sectors there.0 sound.consistent.place sound.consistent.sectors there.1 (sound.consistent.valid there.0 there.1))
+      (inode_fits_at p txn.sectors there.0 sound.consistent.geometry sound.consistent.sectors there.1 (sound.consistent.valid there.0 there.1))
 
   -- a link has at most 512 bytes
   pub link_short : v.size ≤ 512

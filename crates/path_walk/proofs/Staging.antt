@@ -7,7 +7,7 @@ use Rattle.fs_cred.specs.declared.errno.Errno.TheVariants.{ENOENT, ENOTDIR, ELOO
 use Rattle.fs_cred.specs.declared.refusal.Refusal.{Refusal}
 use Rattle.fs_cred.specs.declared.refusal.Refusal.TheVariants.{Failed}
 use Rattle.fs_layout.specs.declared.inode.Inode.{Inode}
-use Rattle.fs_layout.specs.declared.place.Place.{Place}
+use Rattle.fs_layout.specs.declared.geometry.Geometry.{Geometry}
 use Rattle.fs_layout.specs.declared.version.Version.{Version}
 use Rattle.fs_layout.specs.Bytes.{SectorMap}
 use Rattle.fs_layout.specs.Images.{inode_at, Holds}
@@ -30,7 +30,7 @@ use Rattle.path_walk.specs.Answers.{refused_or}
 use Rattle.path_walk.specs.HeldTrees.{HoldsTree, IsThere}
 use Rattle.path_walk.specs.Lookups.{lookup_of}
 use Rattle.path_walk.specs.Rests.{last_from, found_at, rest_of}
-use Rattle.path_walk.specs.Stages.{names_ahead, last_done, stage_of, IsAt, IsStart, HasTaken, IsBehind, arrival_of}
+use Rattle.path_walk.specs.Stages.{names_ahead, last_done, stage_of, StandsAt, IsStart, HasTaken, IsBehind, arrival_of}
 use Rattle.path_walk.specs.Walked.{walk_of}
 use Rattle.path_walk.proofs.Cutting.{components_joined}
 use Rattle.path_walk.proofs.HeldNodes.{Stands, stands, held_kind, held_node, held_target}
@@ -98,7 +98,7 @@ module _ (room : Room) (t : Tree) (cred : Credential) (form : Form) where
       ∙ any_last new.number follow new.links new.step (last_done old) (last_done new) new.here new.name.items (names_ahead new) new.slash
 
   -- no component is left
-  pub end_stage : (p : Place) (image : SectorMap) (follow : Bool) (w : Walker) → HoldsTree p image t → IsAt p image w → IsThere t w.here → names_ahead w ≡ []
+  pub end_stage : (p : Geometry) (image : SectorMap) (follow : Bool) (w : Walker) → HoldsTree p image t → StandsAt p image w → IsThere t w.here → names_ahead w ≡ []
       → stage_of room t cred form follow w (names_ahead w) ≡ arrival_of form w
   end_stage p image follow w h at there none =
       let s = stands t w.here there in
@@ -220,7 +220,7 @@ both false b e = absurd (cc)
 target_short : (room : Room) (t : Tree) (b : Body) (target : List ℕ) → b ≡ Link target → IsBody room t b → length target ≤ 512
 target_short room t b target is body = let h : IsTarget target = subst (IsBody room t) is body in h.short
 
-module _ {p : Place} {image : SectorMap} {t : Tree} (h : HoldsTree p image t) (n : ℕ) (there : IsThere t n) (v : Inode) (is : v ≡ inode_at p image n) (goes : Bool) where
+module _ {p : Geometry} {image : SectorMap} {t : Tree} (h : HoldsTree p image t) (n : ℕ) (there : IsThere t n) (v : Inode) (is : v ≡ inode_at p image n) (goes : Bool) where
   s : Stands t n
   s = stands t n there
 

@@ -4,7 +4,7 @@ use Rattle.std.proofs.Common.{refl, sym, ap, subst, arith, ◌∙◌, inr, lengt
 use Rattle.fs_cred.specs.Credentials.{Credential}
 use Rattle.fs_layout.specs.declared.inode.Kind.{Kind}
 use Rattle.fs_layout.specs.declared.inode.Kind.TheVariants as kinds
-use Rattle.fs_layout.specs.declared.place.Place.{Place}
+use Rattle.fs_layout.specs.declared.geometry.Geometry.{Geometry}
 use Rattle.fs_layout.specs.Bytes.{SectorMap}
 use Rattle.fs_model.specs.Demands.{Demand, search_on}
 use Rattle.fs_model.specs.Parts.{slash, parts_of, start_of, ends_with_slash}
@@ -20,7 +20,7 @@ use Rattle.path_walk.specs.Lookups.{looked_up_alone, found_as, lookup_of}
 use Rattle.path_walk.specs.Stages.{IsBehind, IsWay}
 
 -- what a lookup finds is there
-pub found_there : {p : Place} {image : SectorMap} {t : Tree} → HoldsTree p image t → (cred : Credential) (walk k dir : ℕ) (name : List ℕ) (n : ℕ)
+pub found_there : {p : Geometry} {image : SectorMap} {t : Tree} → HoldsTree p image t → (cred : Credential) (walk k dir : ℕ) (name : List ℕ) (n : ℕ)
     → lookup_of (room_of p) t cred walk k dir name ≡ Ok (Some n) → IsThere t n
 found_there {p} {image} {t} h cred walk k dir name n e =
     go (search_on cred t dir walk k) (looked_up_alone (room_of p) t dir name) (lookup_reached (room_of p) t h.tree true false dir name (node_at t dir) refl) e

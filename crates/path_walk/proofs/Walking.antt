@@ -5,9 +5,9 @@ use Rattle.sector_disk.specs.Disk.{DiskState, HasFailed}
 use Rattle.fs_cred.specs.declared.errno.Errno.TheVariants.{EIO, ENOTDIR}
 use Rattle.fs_cred.specs.declared.refusal.Refusal.{Refusal}
 use Rattle.fs_cred.specs.declared.refusal.Refusal.TheVariants.{Failed}
-use Rattle.fs_layout.specs.declared.place.Place.{Place}
+use Rattle.fs_layout.specs.declared.geometry.Geometry.{Geometry}
 use Rattle.fs_layout.specs.Bytes.{SectorMap}
-use Rattle.fs_layout.specs.Place.{IsPlace}
+use Rattle.fs_layout.specs.Geometry.{IsGeometry}
 use Rattle.fs_model.specs.declared.walk.Form.{Form}
 use Rattle.fs_model.specs.Demands.{refuse}
 use Rattle.fs_model.specs.Limits.{root}
@@ -19,14 +19,14 @@ use Rattle.path_walk.specs.declared.walker.Walker.{Walker}
 use Rattle.path_walk.specs.Answers.{refused_or, IsCaused}
 use Rattle.path_walk.specs.Rests.{found_at}
 use Rattle.path_walk.specs.HeldTrees.{IsThere}
-use Rattle.path_walk.specs.Stages.{IsAt, IsStart, HasTaken, IsWay, HasRoom, bytes_ahead, arrival_of, last_done}
+use Rattle.path_walk.specs.Stages.{StandsAt, IsStart, HasTaken, IsWay, HasRoom, bytes_ahead, arrival_of, last_done}
 
 -- ---- the start
-pub start_below : (parts : Parts) (p : Place) (cwd : ℕ) → IsPlace p → cwd < p.inodes → start_of parts cwd < p.inodes
-start_below parts p cwd place low = go parts.absolute
+pub start_below : (parts : Parts) (p : Geometry) (cwd : ℕ) → IsGeometry p → cwd < p.inodes → start_of parts cwd < p.inodes
+start_below parts p cwd geometry low = go parts.absolute
   where
     go : (b : Bool) → cond b root cwd < p.inodes
-    go true = let least = place.least_inodes in omega (arith, least)
+    go true = let least = geometry.least_inodes in omega (arith, least)
     go false = low
 
 -- ---- the way ahead
@@ -75,9 +75,9 @@ steps_fit old mid room taken =
     let step : mid.step ≡ old.step = ap (λ (w : Walker). w.step) taken.is in
     omega (arith, steps, step)
 
-pub at_taken : (p : Place) (image : SectorMap) (old mid : Walker) → HasTaken old mid → IsAt p image old → IsAt p image mid
+pub at_taken : (p : Geometry) (image : SectorMap) (old mid : Walker) → HasTaken old mid → StandsAt p image old → StandsAt p image mid
 at_taken p image old mid taken at =
-    subst (IsAt p image) (sym taken.is) (record { below = at.below; inode = at.inode })
+    subst (StandsAt p image) (sym taken.is) (record { below = at.below; inode = at.inode })
 
 pub dir_taken : (old mid : Walker) → HasTaken old mid → mid.dir ≡ mid.here
 dir_taken old mid taken = ap (λ (w : Walker). w.dir) taken.is ∙ sym (ap (λ (w : Walker). w.here) taken.is)

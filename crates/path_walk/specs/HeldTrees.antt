@@ -9,14 +9,14 @@ use Rattle.fs_cred.specs.declared.node.NodeKind.TheVariants as nodes
 use Rattle.fs_layout.specs.declared.inode.Inode.{Inode}
 use Rattle.fs_layout.specs.declared.inode.Kind.{Kind}
 use Rattle.fs_layout.specs.declared.inode.Kind.TheVariants as kinds
-use Rattle.fs_layout.specs.declared.place.Place.{Place}
+use Rattle.fs_layout.specs.declared.geometry.Geometry.{Geometry}
 use Rattle.fs_layout.specs.Bytes.{SectorMap}
 use Rattle.fs_model.specs.Stands.{HoldsAll, placed, room_of}
 use Rattle.fs_model.specs.Trees.{Tree, node_at, IsTree}
 use Rattle.inode_table.specs.Acls.{HasAcl}
 
 -- each inode holds what the tree has at its number, and it is a tree of this disk
-pub record HoldsTree (p : Place) (image : SectorMap) (t : Tree) : Type 0 where
+pub record HoldsTree (p : Geometry) (image : SectorMap) (t : Tree) : Type 0 where
   pub holds : HoldsAll p image (placed t)
   pub tree : IsTree (room_of p) t
 

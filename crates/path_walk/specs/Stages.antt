@@ -2,13 +2,13 @@
 --     names_ahead        the components that it still has to look up
 --     last_done        its last lookup
 --     stage_of        what its walk answers, from there on
---     IsAt        where it stands
+--     StandsAt        where it stands
 --     bytes_ahead, HasRoom        a bound on its way
 --     IsStart, HasTaken, IsNextOf, IsBehind, IsStep, IsWay, arrival_of        what its methods do
 use Rattle.std.specs.Prelude.{◌≡◌, ℕ, ◌+◌, ◌-◌, ◌*◌, ◌<◌, ◌≤◌, ◌⊎◌, Bool, true, false, not, ◌&&◌, ◌||◌, List, [], ◌∷◌, ◌++◌, length, drop, None, Some, Result, Ok, Err}
 use Rattle.fs_cred.specs.declared.refusal.Refusal.{Refusal}
 use Rattle.fs_cred.specs.Credentials.{Credential}
-use Rattle.fs_layout.specs.declared.place.Place.{Place}
+use Rattle.fs_layout.specs.declared.geometry.Geometry.{Geometry}
 use Rattle.fs_layout.specs.Bytes.{SectorMap}
 use Rattle.fs_layout.specs.Images.{inode_at}
 use Rattle.fs_model.specs.declared.walk.Form.{Form}
@@ -39,7 +39,7 @@ stage_of room t cred form follow w names =
     rest_of t cred w.number form w.step (last_done w) (trail_with room t follow w.links w.here names w.slash)
 
 -- it has the inode at which it stands
-pub record IsAt (p : Place) (image : SectorMap) (w : Walker) : Type 0 where
+pub record StandsAt (p : Geometry) (image : SectorMap) (w : Walker) : Type 0 where
   pub below : w.here < p.inodes
   pub inode : w.inode ≡ inode_at p image w.here
 

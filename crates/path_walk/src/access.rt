@@ -12,7 +12,7 @@ ghost use Rattle.path_walk.specs.HeldTrees.{HasAccess, stored_kind};
 use fs_cred::{
     Cred, Denial, Errno, Need, Node, NodeKind, Refusal, Verdict, decide, decide_by_mode,
 };
-use fs_layout::{Inode, Kind, Place};
+use fs_layout::{Geometry, Inode, Kind};
 use inode_table::{LoadAclFault, load_acl};
 use posix_acl::Perms;
 use sector_txn::Sectors;
@@ -29,13 +29,13 @@ const SEARCH: Perms = Perms {
 pub fn permission<S: Sectors>(
     alloc: Global,
     s: &mut S,
-    place: Place,
+    geometry: Geometry,
     cred: &Cred,
     inode: &Inode,
     want: Perms,
 ) -> Result<Verdict, Refusal>
-    requires sound { IsSound place (S.state s.old) }
-    requires there { IsInodeOf place (S.state s.old).sectors inode.now }
+    requires sound { IsSound geometry (S.state s.old) }
+    requires there { IsInodeOf geometry (S.state s.old).sectors inode.now }
     requires has { (node : AccessNode) × HasAccess (S.state s.old).sectors inode.now node }
     ensures each { (node : AccessNode) → HasAccess (S.state s.old).sectors inode.now node
         → IsAnswered (S.state s.old).disk (S.state s.new).disk (Ok (verdict cred.now node want)) result }
@@ -48,7 +48,7 @@ pub fn permission<S: Sectors>(
         let verdict = decide_by_mode(cred, kind, inode.uid, inode.gid, inode.mode, want);
         return Ok(verdict);
     }
-    let acl = match load_acl(alloc, s, place, inode) {
+    let acl = match load_acl(alloc, s, geometry, inode) {
         Ok(acl) => acl,
         Err(LoadAclFault::OutOfMemory) => return Err(Refusal::Failed(Errno::ENOMEM)),
         Err(LoadAclFault::DiskFault) => return Err(Refusal::Failed(Errno::EIO)),
@@ -77,14 +77,14 @@ fn node_kind(kind: Kind) -> NodeKind
 pub fn search<S: Sectors>(
     alloc: Global,
     s: &mut S,
-    place: Place,
+    geometry: Geometry,
     cred: &Cred,
     inode: &Inode,
     walk: u8,
     step: usize,
 ) -> Result<(), Refusal>
-    requires sound { IsSound place (S.state s.old) }
-    requires there { IsInodeOf place (S.state s.old).sectors inode.now }
+    requires sound { IsSound geometry (S.state s.old) }
+    requires there { IsInodeOf geometry (S.state s.old).sectors inode.now }
     requires has { (node : AccessNode) × HasAccess (S.state s.old).sectors inode.now node }
     ensures each { (node : AccessNode) → HasAccess (S.state s.old).sectors inode.now node
         → IsAnswered (S.state s.old).disk (S.state s.new).disk
@@ -92,7 +92,7 @@ pub fn search<S: Sectors>(
     ensures cause { IfErr result (IsCaused (S.state s.old).disk (S.state s.new).disk) }
     ensures same { IsUnchanged (S.state s.old) (S.state s.new) }
 {
-    let verdict = permission(alloc, s, place, cred, inode, SEARCH)?;
+    let verdict = permission(alloc, s, geometry, cred, inode, SEARCH)?;
     if !verdict.yes {
         return Err(Refusal::Denied(Denial::new(walk, step, Need::Search, verdict.rule)));
     }

@@ -6,7 +6,7 @@ ghost use Rattle.path_walk.specs.Words.{Holds, IsUnchanged, HasCauseOf, IsSound,
 
 use block_map::read_at;
 use fs_cred::{Errno, Refusal};
-use fs_layout::{Inode, Kind, MAX_LINK_SIZE, Place};
+use fs_layout::{Geometry, Inode, Kind, MAX_LINK_SIZE};
 use fs_model::Path;
 use sector_txn::Sectors;
 use std::alloc::Global;
@@ -15,11 +15,11 @@ use std::alloc::Global;
 pub fn read_target<S: Sectors>(
     alloc: Global,
     s: &mut S,
-    place: Place,
+    geometry: Geometry,
     inode: &Inode,
 ) -> Result<Path, Refusal>
-    requires sound { IsSound place (S.state s.old) }
-    requires there { IsInodeOf place (S.state s.old).sectors inode.now }
+    requires sound { IsSound geometry (S.state s.old) }
+    requires there { IsInodeOf geometry (S.state s.old).sectors inode.now }
     requires link { inode.now.kind ≡ Kind.Link }
     ensures each { (target : List ℕ) → Holds (S.state s.old).sectors inode.now target
         → IsAnswered (S.state s.old).disk (S.state s.new).disk (Ok target) result }

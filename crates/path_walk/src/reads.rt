@@ -1,7 +1,7 @@
 //! Inodes and names, as a walk reads them.
 
 ghost use Rattle.std.specs.Prelude.{◌≡◌, ◌<◌, ℕ, Some, Ok, IfOk, IfErr};
-ghost use Rattle.fs_model.specs.Nodes.{names_in};
+ghost use Rattle.fs_model.specs.Nodes.{names_of_body};
 ghost use Rattle.fs_model.specs.Trails.{named_inode};
 ghost use Rattle.fs_model.specs.Trees.{Tree, IsDirectoryAt};
 ghost use Rattle.path_walk.specs.Words.{inode_at, IsUnchanged, IsSound, FailsToRead, Interrupts, IsAnswered};
@@ -11,20 +11,20 @@ ghost use Rattle.path_walk.specs.SoundInodes.{LeadsOn};
 use crate::components::{is_dot, is_dot_dot};
 use dir_core::lookup;
 use fs_cred::{Errno, Refusal};
-use fs_layout::{Inode, Place};
+use fs_layout::{Geometry, Inode};
 use inode_table::load;
 use sector_txn::Sectors;
 
 /// Reads inode n. EIO: the disk has failed.
-pub fn load_inode<S: Sectors>(s: &mut S, place: Place, n: u32) -> Result<Inode, Refusal>
-    requires sound { IsSound place (S.state s.old) }
-    requires below { n < place.inodes }
-    ensures each { IsAnswered (S.state s.old).disk (S.state s.new).disk (Ok (inode_at place (S.state s.old).sectors n)) result }
-    ensures found { IfOk result (λ inode. inode ≡ inode_at place (S.state s.old).sectors n) }
+pub fn load_inode<S: Sectors>(s: &mut S, geometry: Geometry, n: u32) -> Result<Inode, Refusal>
+    requires sound { IsSound geometry (S.state s.old) }
+    requires below { n < geometry.inodes }
+    ensures each { IsAnswered (S.state s.old).disk (S.state s.new).disk (Ok (inode_at geometry (S.state s.old).sectors n)) result }
+    ensures found { IfOk result (λ inode. inode ≡ inode_at geometry (S.state s.old).sectors n) }
     ensures fault { IfErr result (FailsToRead (S.state s.old).disk (S.state s.new).disk) }
     ensures same { IsUnchanged (S.state s.old) (S.state s.new) }
 {
-    match load(s, place, n) {
+    match load(s, geometry, n) {
         Ok(inode) => Ok(inode),
         Err(_) => Err(Refusal::Failed(Errno::EIO)),
     }
@@ -33,18 +33,18 @@ pub fn load_inode<S: Sectors>(s: &mut S, place: Place, n: u32) -> Result<Inode, 
 /// What a component leads to in directory n, whose inode this is.
 pub(crate) fn find<S: Sectors>(
     s: &mut S,
-    place: Place,
+    geometry: Geometry,
     n: u32,
     inode: &Inode,
     name: &[u8],
 ) -> Result<Option<u32>, Refusal>
-    requires sound { IsSound place (S.state s.old) }
-    requires below { n < place.inodes }
-    requires inode { inode.now ≡ inode_at place (S.state s.old).sectors n }
-    requires leads { LeadsOn place (S.state s.old).sectors inode.now }
-    ensures each { (t : Tree) → HoldsTree place (S.state s.old).sectors t → (d : IsDirectoryAt t n)
-        → IsAnswered (S.state s.old).disk (S.state s.new).disk (Ok (named_inode t n (names_in d.node.body) name.now)) result }
-    ensures below { IfOk result (λ found. (m : ℕ) → found ≡ Some m → m < place.inodes) }
+    requires sound { IsSound geometry (S.state s.old) }
+    requires below { n < geometry.inodes }
+    requires inode { inode.now ≡ inode_at geometry (S.state s.old).sectors n }
+    requires leads { LeadsOn geometry (S.state s.old).sectors inode.now }
+    ensures each { (t : Tree) → HoldsTree geometry (S.state s.old).sectors t → (d : IsDirectoryAt t n)
+        → IsAnswered (S.state s.old).disk (S.state s.new).disk (Ok (named_inode t n (names_of_body d.node.body) name.now)) result }
+    ensures below { IfOk result (λ found. (m : ℕ) → found ≡ Some m → m < geometry.inodes) }
     ensures err { IfErr result (Interrupts (S.state s.old).disk (S.state s.new).disk) }
     ensures same { IsUnchanged (S.state s.old) (S.state s.new) }
 {
@@ -54,7 +54,7 @@ pub(crate) fn find<S: Sectors>(
     if is_dot_dot(name) {
         return Ok(Some(inode.parent));
     }
-    match lookup(s, place, inode, name) {
+    match lookup(s, geometry, inode, name) {
         Ok(found) => Ok(found),
         Err(_) => Err(Refusal::Failed(Errno::EIO)),
     }

@@ -13,7 +13,7 @@ ghost use Rattle.path_walk.specs.HeldTrees.{HoldsTree, IsThere};
 ghost use Rattle.path_walk.specs.Lookups.{lookup_of};
 ghost use Rattle.path_walk.specs.SoundInodes.{HasSoundInodes};
 ghost use Rattle.path_walk.specs.Rests.{found_at, last_of_walk};
-ghost use Rattle.path_walk.specs.Stages.{names_ahead, last_done, IsAt, IsNextOf, IsStart, IsBehind, IsStep, IsWay, arrival_of};
+ghost use Rattle.path_walk.specs.Stages.{names_ahead, last_done, StandsAt, IsNextOf, IsStart, IsBehind, IsStep, IsWay, arrival_of};
 
 use crate::access::search;
 use crate::components::{
@@ -22,7 +22,7 @@ use crate::components::{
 use crate::links::read_target;
 use crate::reads::{find, load_inode};
 use fs_cred::{Cred, Errno, Refusal};
-use fs_layout::{Inode, Kind, Place, ROOT};
+use fs_layout::{Geometry, Inode, Kind, ROOT};
 use fs_model::{Form, Found, Last, Name, Path};
 use sector_txn::Sectors;
 use std::alloc::Global;
@@ -108,21 +108,21 @@ impl Walker {
     pub(crate) fn start<S: Sectors>(
         alloc: Global,
         s: &mut S,
-        place: Place,
+        geometry: Geometry,
         cwd: u32,
         path: &Path,
         number: u8,
     ) -> Result<Walker, Refusal>
-        requires sound { IsSound place (S.state s.old) }
-        requires below { cwd < place.inodes }
+        requires sound { IsSound geometry (S.state s.old) }
+        requires below { cwd < geometry.inodes }
         ensures ok { IfOk result (λ w. IsStart cwd path.now number w) }
-        ensures at { IfOk result (IsAt place (S.state s.old).sectors) }
+        ensures at { IfOk result (StandsAt geometry (S.state s.old).sectors) }
         ensures err { IfErr result (Interrupts (S.state s.old).disk (S.state s.new).disk) }
         ensures same { IsUnchanged (S.state s.old) (S.state s.new) }
     {
         let bytes = path.bytes();
         let here = start_of(bytes, cwd);
-        let inode = load_inode(s, place, here)?;
+        let inode = load_inode(s, geometry, here)?;
         let Ok(rest) = Vec::from_slice(alloc, bytes) else {
             return Err(out_of_memory());
         };
@@ -170,28 +170,36 @@ impl Walker {
         &self,
         alloc: Global,
         s: &mut S,
-        place: Place,
+        geometry: Geometry,
         cred: &Cred,
     ) -> Result<Option<u32>, Refusal>
-        requires sound { IsSound place (S.state s.old) }
-        requires at { IsAt place (S.state s.old).sectors self.now }
-        requires inodes { HasSoundInodes place (S.state s.old).sectors }
-        ensures each { (t : Tree) → HoldsTree place (S.state s.old).sectors t → IsThere t self.now.here
+        requires sound { IsSound geometry (S.state s.old) }
+        requires at { StandsAt geometry (S.state s.old).sectors self.now }
+        requires inodes { HasSoundInodes geometry (S.state s.old).sectors }
+        ensures each { (t : Tree) → HoldsTree geometry (S.state s.old).sectors t → IsThere t self.now.here
             → IsAnswered (S.state s.old).disk (S.state s.new).disk
-            (lookup_of (room_of place) t cred.now self.now.number self.now.step self.now.here self.now.name.items) result }
-        ensures below { IfOk result (λ found. (m : ℕ) → found ≡ Some m → m < place.inodes) }
+            (lookup_of (room_of geometry) t cred.now self.now.number self.now.step self.now.here self.now.name.items) result }
+        ensures below { IfOk result (λ found. (m : ℕ) → found ≡ Some m → m < geometry.inodes) }
         ensures cause { IfErr result (IsCaused (S.state s.old).disk (S.state s.new).disk) }
         ensures same { IsUnchanged (S.state s.old) (S.state s.new) }
     {
         if !is_directory(self.inode.kind) {
             return Err(Refusal::Failed(Errno::ENOTDIR));
         }
-        search(alloc, s, place, cred, &self.inode, self.number, self.step)?;
-        let longest = place.version.max_name();
+        search(
+            alloc,
+            s,
+            geometry,
+            cred,
+            &self.inode,
+            self.number,
+            self.step,
+        )?;
+        let longest = geometry.version.max_name();
         if self.name.len() > longest {
             return Err(Refusal::Failed(Errno::ENAMETOOLONG));
         }
-        let found = find(s, place, self.here, &self.inode, &self.name)?;
+        let found = find(s, geometry, self.here, &self.inode, &self.name)?;
         Ok(found)
     }
 
@@ -200,26 +208,26 @@ impl Walker {
         &mut self,
         alloc: Global,
         s: &mut S,
-        place: Place,
+        geometry: Geometry,
         link: &Inode,
         is_last: bool,
     ) -> Result<(), Refusal>
-        requires sound { IsSound place (S.state s.old) }
-        requires at { IsAt place (S.state s.old).sectors self.old }
+        requires sound { IsSound geometry (S.state s.old) }
+        requires at { StandsAt geometry (S.state s.old).sectors self.old }
         requires inside { self.old.at ≤ length self.old.rest.items }
-        requires there { IsInodeOf place (S.state s.old).sectors link.now }
+        requires there { IsInodeOf geometry (S.state s.old).sectors link.now }
         requires link { link.now.kind ≡ Kind.Link }
         ensures behind { OnOk result ((target : List ℕ) × IsBehind target is_last self.old self.new × (length target ≤ 512)
             × ((held : List ℕ) → Holds (S.state s.old).sectors link.now held → target ≡ held)) }
         ensures err { IfErr result (λ e. ((self.old.links ≡ 0) × (e ≡ Refusal.Failed Errno.ELOOP))
             ⊎ Interrupts (S.state s.old).disk (S.state s.new).disk e) }
-        ensures at { OnOk result (IsAt place (S.state s.old).sectors self.new) }
+        ensures at { OnOk result (StandsAt geometry (S.state s.old).sectors self.new) }
         ensures same { IsUnchanged (S.state s.old) (S.state s.new) }
     {
         if self.links == 0 {
             return Err(Refusal::Failed(Errno::ELOOP));
         }
-        let target = read_target(alloc, s, place, link)?;
+        let target = read_target(alloc, s, geometry, link)?;
         let target = target.bytes();
         self.rest = before_rest(alloc, target, &self.rest[self.at..])?;
         self.at = 0;
@@ -228,7 +236,7 @@ impl Walker {
         if !begins_with_slash(target) {
             return Ok(());
         }
-        self.inode = load_inode(s, place, ROOT)?;
+        self.inode = load_inode(s, geometry, ROOT)?;
         self.here = ROOT;
         Ok(())
     }
@@ -238,26 +246,26 @@ impl Walker {
         &mut self,
         alloc: Global,
         s: &mut S,
-        place: Place,
+        geometry: Geometry,
         cred: &Cred,
         follow: bool,
     ) -> Result<bool, Refusal>
-        requires sound { IsSound place (S.state s.old) }
-        requires at { IsAt place (S.state s.old).sectors self.old }
+        requires sound { IsSound geometry (S.state s.old) }
+        requires at { StandsAt geometry (S.state s.old).sectors self.old }
         requires inside { self.old.at ≤ length self.old.rest.items }
         requires taken { self.old.dir ≡ self.old.here }
         requires steps { self.old.step + 1 < 2 ^ 64 }
-        requires inodes { HasSoundInodes place (S.state s.old).sectors }
-        ensures each { (t : Tree) → HoldsTree place (S.state s.old).sectors t → IsThere t self.old.here
+        requires inodes { HasSoundInodes geometry (S.state s.old).sectors }
+        ensures each { (t : Tree) → HoldsTree geometry (S.state s.old).sectors t → IsThere t self.old.here
             → (form : Form) → IsStep (S.state s.old).disk (S.state s.new).disk
-            (room_of place) t cred.now form follow self.old self.new result }
-        ensures at { OnOk result (IsAt place (S.state s.old).sectors self.new) }
+            (room_of geometry) t cred.now form follow self.old self.new result }
+        ensures at { OnOk result (StandsAt geometry (S.state s.old).sectors self.new) }
         ensures way { OnOk result (IsWay self.old self.new) }
         ensures cause { IfErr result (IsCaused (S.state s.old).disk (S.state s.new).disk) }
         ensures same { IsUnchanged (S.state s.old) (S.state s.new) }
     {
         let is_last = self.is_last();
-        let found = self.look_up(alloc, s, place, cred)?;
+        let found = self.look_up(alloc, s, geometry, cred)?;
         self.step += 1;
         let Some(n) = found else {
             return if is_last {
@@ -266,9 +274,9 @@ impl Walker {
                 Err(Refusal::Failed(Errno::ENOENT))
             };
         };
-        let inode = load_inode(s, place, n)?;
+        let inode = load_inode(s, geometry, n)?;
         if is_followed(inode.kind, follow, is_last) {
-            self.follow(alloc, s, place, &inode, is_last)?;
+            self.follow(alloc, s, geometry, &inode, is_last)?;
         } else {
             self.here = n;
             self.inode = inode;

@@ -15,7 +15,7 @@ use crate::components::follows_last;
 use crate::paths::check_path;
 use crate::walker::Walker;
 use fs_cred::{Cred, Errno, Refusal};
-use fs_layout::Place;
+use fs_layout::Geometry;
 use fs_model::{Form, Found, Path};
 use sector_txn::Sectors;
 use std::alloc::Global;
@@ -27,26 +27,26 @@ use std::alloc::Global;
 pub fn walk<S: Sectors>(
     alloc: Global,
     s: &mut S,
-    place: Place,
+    geometry: Geometry,
     cred: &Cred,
     cwd: u32,
     path: &Path,
     form: Form,
     number: u8,
 ) -> Result<Found, Refusal>
-    requires sound { IsSound place (S.state s.old) }
-    requires inodes { HasSoundInodes place (S.state s.old).sectors }
-    requires start { cwd < place.inodes }
+    requires sound { IsSound geometry (S.state s.old) }
+    requires inodes { HasSoundInodes geometry (S.state s.old).sectors }
+    requires start { cwd < geometry.inodes }
     requires short { length path.now ≤ path_limit }
-    ensures each { (t : Tree) → HoldsTree place (S.state s.old).sectors t → IsThere t cwd
-        → IsAnswered (S.state s.old).disk (S.state s.new).disk (walk_of (room_of place) t cred.now number form cwd path.now) result }
+    ensures each { (t : Tree) → HoldsTree geometry (S.state s.old).sectors t → IsThere t cwd
+        → IsAnswered (S.state s.old).disk (S.state s.new).disk (walk_of (room_of geometry) t cred.now number form cwd path.now) result }
     ensures same { IsUnchanged (S.state s.old) (S.state s.new) }
     ensures cause { HasCauseOf (Refusal.Failed Errno.EIO) (S.state s.old).disk (S.state s.new).disk result }
 {
     let follow = follows_last(form, path.bytes());
-    let mut walker = Walker::start(alloc, s, place, cwd, path, number)?;
+    let mut walker = Walker::start(alloc, s, geometry, cwd, path, number)?;
     while walker.next()? {
-        if !walker.step(alloc, s, place, cred, follow)? {
+        if !walker.step(alloc, s, geometry, cred, follow)? {
             return Ok(walker.found(None));
         }
     }
@@ -60,23 +60,23 @@ pub fn walk<S: Sectors>(
 pub fn resolve<S: Sectors>(
     alloc: Global,
     s: &mut S,
-    place: Place,
+    geometry: Geometry,
     cred: &Cred,
     cwd: u32,
     path: &Path,
     form: Form,
 ) -> Result<Found, Refusal>
-    requires sound { IsSound place (S.state s.old) }
-    requires inodes { HasSoundInodes place (S.state s.old).sectors }
-    requires start { cwd < place.inodes }
+    requires sound { IsSound geometry (S.state s.old) }
+    requires inodes { HasSoundInodes geometry (S.state s.old).sectors }
+    requires start { cwd < geometry.inodes }
     ensures checked { (refusal : Refusal) → first_of (path_checks path.now) ≡ Some refusal → result ≡ Err refusal }
     ensures each { first_of (path_checks path.now) ≡ None
-        → (t : Tree) → HoldsTree place (S.state s.old).sectors t → IsThere t cwd
-        → IsAnswered (S.state s.old).disk (S.state s.new).disk (walk_of (room_of place) t cred.now 1 form cwd path.now) result }
+        → (t : Tree) → HoldsTree geometry (S.state s.old).sectors t → IsThere t cwd
+        → IsAnswered (S.state s.old).disk (S.state s.new).disk (walk_of (room_of geometry) t cred.now 1 form cwd path.now) result }
     ensures valid { IfOk result (λ found. first_of (path_checks path.now) ≡ None) }
     ensures same { IsUnchanged (S.state s.old) (S.state s.new) }
     ensures cause { HasCauseOf (Refusal.Failed Errno.EIO) (S.state s.old).disk (S.state s.new).disk result }
 {
     check_path(path)?;
-    walk(alloc, s, place, cred, cwd, path, form, 1)
+    walk(alloc, s, geometry, cred, cwd, path, form, 1)
 }

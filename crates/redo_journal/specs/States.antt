@@ -2,7 +2,7 @@
 use Rattle.std.specs.Prelude.{ℕ, ◌≡◌, ◌⊎◌, ◌≤◌, ◌<◌, ◌+◌, ◌*◌, ◌/◌, ◌%◌, ◌^◌, List, [], length, get_or, Contains}
 use Rattle.fs_layout.specs.declared.commit.TheConstants.{MAX_TARGETS, HEADER_TARGETS}
 use Rattle.fs_layout.specs.declared.header.TheConstants.{LEAST_LOG_END}
-use Rattle.fs_layout.specs.declared.place.TheConstants.{COMMIT_SECTOR}
+use Rattle.fs_layout.specs.declared.geometry.TheConstants.{COMMIT_SECTOR}
 use Rattle.fs_layout.specs.Bytes.{u32_of}
 use Rattle.fs_layout.specs.Header.{header_of, area_start, next_area}
 use Rattle.fs_layout.specs.declared.header.TheConstants.{MAX_HEADER}

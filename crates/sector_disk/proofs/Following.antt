@@ -11,10 +11,10 @@ use Rattle.std.proofs.lemmas.List.Sorted.{Contains-permutation}
 use Rattle.sector_disk.specs.Disk.{DiskState, Image, sector, IsImage, IsSame, ChangesOnly}
 use Rattle.sector_disk.specs.Record.{Past, Held, recorded_state}
 use Rattle.sector_disk.specs.Places.{IsRunSet}
-use Rattle.sector_disk.specs.Files.{file_seen, Goes, IsRun, IsRunTried, HasRun, IsHeldNarrowed, IsHeldSynced, IsHeldStable, HasSectors, HasStable, Lacks, Keeps, Follows, KeepsBefore, FollowsBefore}
+use Rattle.sector_disk.specs.Files.{file_seen, IfKnown, IsRun, IsRunTried, HasRun, IsHeldNarrowed, IsHeldSynced, IsHeldStable, HasSectors, HasStable, Lacks, KeepsFile, KeepsKnown, KeepsBefore, FollowsBefore}
 
 -- ---- what may be known
-pub goes : {P : Held → Held → Type 0} {K L : Held → Type 0} (old new : Option Held) → Goes P old new → IfSome old K → ((h g : Held) → P h g → K h → L g) → IfSome new L
+pub goes : {P : Held → Held → Type 0} {K L : Held → Type 0} (old new : Option Held) → IfKnown P old new → IfSome old K → ((h g : Held) → P h g → K h → L g) → IfSome new L
 goes None None is was step = tt
 goes (Some h) (Some g) is was step = step h g is was
 goes (Some h) None is was step = absurd is
@@ -26,7 +26,7 @@ both (Some h) k l step = step h k l
 
 -- ---- the disk
 -- a file whose sectors are stable, and those that reads of the disk give
-pub stable_keeps : (disk : DiskState) (waiting : List ℕ) (all_wait : Bool) (held : Held) → IsImage disk disk.seen → HasStable disk.seen held → Keeps disk waiting all_wait held
+pub stable_keeps : (disk : DiskState) (waiting : List ℕ) (all_wait : Bool) (held : Held) → IsImage disk disk.seen → HasStable disk.seen held → KeepsFile disk waiting all_wait held
 stable_keeps disk waiting all_wait held image is = record {
   allowed = λ n content below may.
       subst (λ c. disk.may_hold n c) (sym (is.stable n content (omega (arith, below, image.size)) may)) (image.each n below);
@@ -35,7 +35,7 @@ stable_keeps disk waiting all_wait held image is = record {
 
 -- a write of a sector that waits
 pub wrote : (old new : DiskState) (n : ℕ) (content : List ℕ) (waiting : List ℕ) (all_wait : Bool) (held : Held) → ChangesOnly old new n content → Contains waiting n
-    → Keeps old waiting all_wait held → Keeps new waiting all_wait held
+    → KeepsFile old waiting all_wait held → KeepsFile new waiting all_wait held
 wrote old new n content waiting all_wait held changes waits keeps = record {
   allowed = λ k c below may. changes.kept k c (keeps.allowed k c (omega (arith, below, changes.size)) may);
   same = λ k below. elim (cases_eq k n) [
@@ -48,7 +48,7 @@ wrote old new n content waiting all_wait held changes waits keeps = record {
 }
 
 pub more_waits : (disk : DiskState) (waiting more : List ℕ) (all_wait : Bool) (held : Held) → ((n : ℕ) → Contains waiting n → Contains more n)
-    → Keeps disk waiting all_wait held → Keeps disk more all_wait held
+    → KeepsFile disk waiting all_wait held → KeepsFile disk more all_wait held
 more_waits disk waiting more all_wait held among keeps = record {
   allowed = keeps.allowed;
   same = λ n below. ⊎_elim (λ lacks. inl (⊎_elim (λ all. inl all) (λ waits. inr (among n waits)) lacks)) (λ same. inr same) (keeps.same n below);
@@ -70,7 +70,7 @@ from_disk disk first end n content order fits run =
     run.2 ∙ sector_of_range disk.seen first end n run.0 (let len = length-range disk.seen first end order fits in let below = run.1 in omega (arith, len, below))
 
 pub tried_keeps : (disk : DiskState) (waiting : List ℕ) (all_wait : Bool) (first end : ℕ) (old new : Held) → IsImage disk disk.seen → first ≤ end → end ≤ disk.size
-    → IsRunTried first (slice_range disk.seen first end) old new → Keeps disk waiting all_wait old → Keeps disk waiting all_wait new
+    → IsRunTried first (slice_range disk.seen first end) old new → KeepsFile disk waiting all_wait old → KeepsFile disk waiting all_wait new
 tried_keeps disk waiting all_wait first end old new image order fits tried keeps = record {
   allowed = λ n content below may.
       ⊎_elim (λ was. keeps.allowed n content below was)
@@ -88,7 +88,7 @@ tried_keeps disk waiting all_wait first end old new image order fits tried keeps
 -- the run is written, and nothing waits but what is behind it in the list
 pub run_keeps : (disk : DiskState) (waiting rest : List ℕ) (all_wait : Bool) (first end : ℕ) (held : Held) → IsImage disk disk.seen → first ≤ end → end ≤ disk.size
     → ((n : ℕ) → n < disk.size → Lacks waiting all_wait n → ((first ≤ n) × (n < end)) ⊎ Contains rest n)
-    → HasRun first (slice_range disk.seen first end) held → Keeps disk waiting all_wait held → Keeps disk rest false held
+    → HasRun first (slice_range disk.seen first end) held → KeepsFile disk waiting all_wait held → KeepsFile disk rest false held
 run_keeps disk waiting rest all_wait first end held image order fits covers has keeps = record {
   allowed = keeps.allowed;
   same = λ n below.
@@ -100,7 +100,7 @@ run_keeps disk waiting rest all_wait first end held image order fits covers has 
     len n below = let size = image.size in let length = length-range disk.seen first end order (omega (arith, fits, size)) in omega (arith, length, below)
 
 -- ---- a sync
-pub synced : (disk : DiskState) (old new : Held) → IsImage disk disk.seen → IsHeldSynced old new → Keeps disk [] false old → HasStable disk.seen new
+pub synced : (disk : DiskState) (old new : Held) → IsImage disk disk.seen → IsHeldSynced old new → KeepsFile disk [] false old → HasStable disk.seen new
 synced disk old new image is keeps = record { seen = seen; stable = λ n content below may. is.stable n content may ∙ seen n below }
   where
     none : (n : ℕ) → Contains [] n → ⊥
@@ -112,7 +112,7 @@ synced disk old new image is keeps = record { seen = seen; stable = λ n content
         ∙ ⊎_elim (λ lacks. ⊎_elim (λ all. cc) (λ waits. absurd (none n waits)) lacks) (λ same. same) (keeps.same n (let size = image.size in omega (arith, below, size)))
 
 -- a sync that fails: all sectors wait
-pub narrowed : (disk : DiskState) (waiting : List ℕ) (all_wait : Bool) (old new : Held) → IsHeldNarrowed old new → Keeps disk waiting all_wait old → Keeps disk waiting true new
+pub narrowed : (disk : DiskState) (waiting : List ℕ) (all_wait : Bool) (old new : Held) → IsHeldNarrowed old new → KeepsFile disk waiting all_wait old → KeepsFile disk waiting true new
 narrowed disk waiting all_wait old new is keeps = record { allowed = λ n content below may. keeps.allowed n content below (is n content may); same = λ n below. inl (inl refl) }
 
 -- what is read from a file that is stable
@@ -121,36 +121,36 @@ read_stable image held stable has = record { seen = has; stable = λ n content b
 
 -- ---- the same of a file of which it may be known what it holds
 pub follows_tried : (disk : DiskState) (waiting : List ℕ) (all_wait : Bool) (first end : ℕ) (old new : Option Held) → IsImage disk disk.seen → first ≤ end → end ≤ disk.size
-    → Goes (IsRunTried first (slice_range disk.seen first end)) old new → Follows disk waiting all_wait old → Follows disk waiting all_wait new
+    → IfKnown (IsRunTried first (slice_range disk.seen first end)) old new → KeepsKnown disk waiting all_wait old → KeepsKnown disk waiting all_wait new
 follows_tried disk waiting all_wait first end old new image order fits is was =
     ∥∥₁_map was (λ keeps. goes old new is keeps (λ h g tried k. tried_keeps disk waiting all_wait first end h g image order fits tried k))
 
 pub follows_run : (disk : DiskState) (waiting rest : List ℕ) (all_wait : Bool) (first end : ℕ) (file : Option Held) → IsImage disk disk.seen → first ≤ end → end ≤ disk.size
     → ((n : ℕ) → n < disk.size → Lacks waiting all_wait n → ((first ≤ n) × (n < end)) ⊎ Contains rest n)
-    → IfSome file (HasRun first (slice_range disk.seen first end)) → Follows disk waiting all_wait file → Follows disk rest false file
+    → IfSome file (HasRun first (slice_range disk.seen first end)) → KeepsKnown disk waiting all_wait file → KeepsKnown disk rest false file
 follows_run disk waiting rest all_wait first end file image order fits covers has was =
     ∥∥₁_map was (λ keeps. both file has keeps (λ h run k. run_keeps disk waiting rest all_wait first end h image order fits covers run k))
 
 pub follows_more : (disk : DiskState) (waiting more : List ℕ) (all_wait : Bool) (file : Option Held) → ((n : ℕ) → Contains waiting n → Contains more n)
-    → Follows disk waiting all_wait file → Follows disk more all_wait file
+    → KeepsKnown disk waiting all_wait file → KeepsKnown disk more all_wait file
 follows_more disk waiting more all_wait file among was = ∥∥₁_map was (λ keeps. both file keeps keeps (λ h k l. more_waits disk waiting more all_wait h among k))
 
 pub follows_write : (old new : DiskState) (n : ℕ) (content : List ℕ) (waiting : List ℕ) (all_wait : Bool) (file : Option Held) → ChangesOnly old new n content → Contains waiting n
-    → Follows old waiting all_wait file → Follows new waiting all_wait file
+    → KeepsKnown old waiting all_wait file → KeepsKnown new waiting all_wait file
 follows_write old new n content waiting all_wait file changes waits was =
     ∥∥₁_map was (λ keeps. both file keeps keeps (λ h k l. wrote old new n content waiting all_wait h changes waits k))
 
 pub follows_stable : (disk : DiskState) (image : Image) (waiting : List ℕ) (all_wait : Bool) (file : Option Held) → IsImage disk disk.seen → disk.seen ≡ image → IfSome file (HasStable image)
-    → Follows disk waiting all_wait file
+    → KeepsKnown disk waiting all_wait file
 follows_stable disk image waiting all_wait file sound seen is =
     merely (both file is is (λ h k l. stable_keeps disk waiting all_wait h sound (subst (λ (i : Image). HasStable i h) (sym seen) k)))
 
-pub follows_failed : (disk : DiskState) (waiting : List ℕ) (all_wait : Bool) (old new : Option Held) → Goes IsHeldNarrowed old new → Follows disk waiting all_wait old → Follows disk waiting true new
+pub follows_failed : (disk : DiskState) (waiting : List ℕ) (all_wait : Bool) (old new : Option Held) → IfKnown IsHeldNarrowed old new → KeepsKnown disk waiting all_wait old → KeepsKnown disk waiting true new
 follows_failed disk waiting all_wait old new is was = ∥∥₁_map was (λ keeps. goes old new is keeps (λ h g n k. narrowed disk waiting all_wait h g n k))
 
 -- a file that has nothing else to get is synced, and then the disk
 pub follows_synced : (disk later : DiskState) (waiting : List ℕ) (all_wait : Bool) (old new : Option Held) → IsImage disk disk.seen → IsImage later later.seen → later.seen ≡ disk.seen
-    → Goes IsHeldSynced old new → Follows disk [] false old → Follows later waiting all_wait new
+    → IfKnown IsHeldSynced old new → KeepsKnown disk [] false old → KeepsKnown later waiting all_wait new
 follows_synced disk later waiting all_wait old new image sound same is was =
     ∥∥₁_map was (λ keeps. goes old new is keeps (λ h g sync k. stable_keeps later waiting all_wait g sound (subst (λ (i : Image). HasStable i g) (sym same) (synced disk h g image sync k))))
 
@@ -179,28 +179,28 @@ behind waiting at count first end n within (k, below, is) = elim (cases_lt k cou
 ]
 
 pub run_failed : (disk : DiskState) (waiting : List ℕ) (at first end : ℕ) (run : Image) (old new : Option Held) → IsImage disk disk.seen → first ≤ end → end ≤ disk.size
-    → run ≡ slice_range disk.seen first end → Goes (IsRunTried first run) old new → Follows disk (drop at waiting) false old → Follows disk waiting false new
+    → run ≡ slice_range disk.seen first end → IfKnown (IsRunTried first run) old new → KeepsKnown disk (drop at waiting) false old → KeepsKnown disk waiting false new
 run_failed disk waiting at first end run old new image order fits is tried was =
-    follows_tried disk waiting false first end old new image order fits (subst (λ (r : Image). Goes (IsRunTried first r) old new) is tried)
+    follows_tried disk waiting false first end old new image order fits (subst (λ (r : Image). IfKnown (IsRunTried first r) old new) is tried)
     (follows_more disk (drop at waiting) waiting false old (later waiting at) was)
 
 pub run_done : (disk : DiskState) (waiting : List ℕ) (at count first end : ℕ) (run : Image) (old new : Option Held) → IsImage disk disk.seen → first ≤ end → end ≤ disk.size
     → run ≡ slice_range disk.seen first end → ((i : ℕ) → i < count → (first ≤ slice_index (drop at waiting) i) × (slice_index (drop at waiting) i < end))
-    → Goes (IsRunTried first run) old new → IfSome new (HasRun first run) → Follows disk (drop at waiting) false old → Follows disk (drop (at + count) waiting) false new
+    → IfKnown (IsRunTried first run) old new → IfSome new (HasRun first run) → KeepsKnown disk (drop at waiting) false old → KeepsKnown disk (drop (at + count) waiting) false new
 run_done disk waiting at count first end run old new image order fits is within tried done was =
     follows_run disk (drop at waiting) (drop (at + count) waiting) false first end new image order fits
     (λ n below lacks. ⊎_elim (λ all. cc) (λ waits. behind waiting at count first end n within waits) lacks)
     (subst (λ (r : Image). IfSome new (HasRun first r)) is done)
-    (follows_tried disk (drop at waiting) false first end old new image order fits (subst (λ (r : Image). Goes (IsRunTried first r) old new) is tried) was)
+    (follows_tried disk (drop at waiting) false first end old new image order fits (subst (λ (r : Image). IfKnown (IsRunTried first r) old new) is tried) was)
 
-pub follows_all : (disk : DiskState) (waiting : List ℕ) (at : ℕ) (file : Option Held) → length waiting ≤ at → Follows disk (drop at waiting) false file → Follows disk [] false file
+pub follows_all : (disk : DiskState) (waiting : List ℕ) (at : ℕ) (file : Option Held) → length waiting ≤ at → KeepsKnown disk (drop at waiting) false file → KeepsKnown disk [] false file
 follows_all disk waiting at file past was = follows_more disk (drop at waiting) [] false file (λ n has. let len = length-drop at waiting in let below = has.1 in absurd (omega (arith, len, past, below))) was
 
 -- ---- a disk in memory, before a call and after it: what is known of the file stays known
 pub stays_in : (waiting : List ℕ) (old new : ℕ) → new ≡ old → All (λ n. n < old) waiting → All (λ n. n < new) waiting
 stays_in waiting old new same is = subst (λ size. All (λ n. n < size) waiting) (sym same) is
 
-same_keeps : (old new : DiskState) (waiting : List ℕ) (all_wait : Bool) (held : Held) → IsSame old new → Keeps old waiting all_wait held → Keeps new waiting all_wait held
+same_keeps : (old new : DiskState) (waiting : List ℕ) (all_wait : Bool) (held : Held) → IsSame old new → KeepsFile old waiting all_wait held → KeepsFile new waiting all_wait held
 same_keeps old new waiting all_wait held is keeps = record {
   allowed = λ n content below may. is.kept n content (keeps.allowed n content (omega (arith, below, is.narrowed.size)) may);
   same = λ n below.
@@ -208,17 +208,17 @@ same_keeps old new waiting all_wait held is keeps = record {
       (keeps.same n (omega (arith, below, is.narrowed.size)));
 }
 
-pub follows_same : (old new : DiskState) (waiting : List ℕ) (all_wait : Bool) (file : Option Held) → IsSame old new → Follows old waiting all_wait file → Follows new waiting all_wait file
+pub follows_same : (old new : DiskState) (waiting : List ℕ) (all_wait : Bool) (file : Option Held) → IsSame old new → KeepsKnown old waiting all_wait file → KeepsKnown new waiting all_wait file
 follows_same old new waiting all_wait file is was = ∥∥₁_map was (λ keeps. both file keeps keeps (λ h k l. same_keeps old new waiting all_wait h is k))
 
-counted_keeps : (past : Past) (f g : ℕ) (waiting : List ℕ) (all_wait : Bool) (held : Held) → Keeps (recorded_state past f) waiting all_wait held → Keeps (recorded_state past g) waiting all_wait held
+counted_keeps : (past : Past) (f g : ℕ) (waiting : List ℕ) (all_wait : Bool) (held : Held) → KeepsFile (recorded_state past f) waiting all_wait held → KeepsFile (recorded_state past g) waiting all_wait held
 counted_keeps past f g waiting all_wait held keeps = record { allowed = keeps.allowed; same = keeps.same }
 
 -- but for the count of failures
-pub follows_counted : (past new : Past) (f g : ℕ) (waiting : List ℕ) (all_wait : Bool) (file : Option Held) → new ≡ past → Follows (recorded_state past f) waiting all_wait file
-    → Follows (recorded_state new g) waiting all_wait file
+pub follows_counted : (past new : Past) (f g : ℕ) (waiting : List ℕ) (all_wait : Bool) (file : Option Held) → new ≡ past → KeepsKnown (recorded_state past f) waiting all_wait file
+    → KeepsKnown (recorded_state new g) waiting all_wait file
 follows_counted past new f g waiting all_wait file same was =
-    subst (λ (p : Past). Follows (recorded_state p g) waiting all_wait file) (sym same) (∥∥₁_map was (λ keeps. both file keeps keeps (λ h k l. counted_keeps past f g waiting all_wait h k)))
+    subst (λ (p : Past). KeepsKnown (recorded_state p g) waiting all_wait file) (sym same) (∥∥₁_map was (λ keeps. both file keeps keeps (λ h k l. counted_keeps past f g waiting all_wait h k)))
 
 -- ---- one sector more waits, or isn't let in
 pub pushed_in : (size n : ℕ) (old new : List ℕ) (ok : Bool) → new ≡ (if ok then old ++ n ∷ [] else old) → All (λ k. k < size) old → n < size → All (λ k. k < size) new
@@ -234,20 +234,20 @@ pushed_waits n old new (Ok x) is = subst (λ l. Contains l n) (sym is) (Contains
 pushed_waits n old new (Err e) is = tt
 
 -- the order of those that wait
-pub sorted_more : (disk : DiskState) (waiting sorted : List ℕ) (all_wait : Bool) (file : Option Held) → IsPermutation waiting sorted → Follows disk waiting all_wait file → Follows disk sorted all_wait file
+pub sorted_more : (disk : DiskState) (waiting sorted : List ℕ) (all_wait : Bool) (file : Option Held) → IsPermutation waiting sorted → KeepsKnown disk waiting all_wait file → KeepsKnown disk sorted all_wait file
 sorted_more disk waiting sorted all_wait file is was = follows_more disk waiting sorted all_wait file (λ n has. Contains-permutation waiting sorted n is has) was
 
 -- ---- all sectors, from the first on
-pub before_none : (disk : DiskState) (waiting : List ℕ) (all_wait : Bool) (file : Option Held) → Follows disk waiting all_wait file → FollowsBefore disk 0 file
+pub before_none : (disk : DiskState) (waiting : List ℕ) (all_wait : Bool) (file : Option Held) → KeepsKnown disk waiting all_wait file → FollowsBefore disk 0 file
 before_none disk waiting all_wait file was =
     ∥∥₁_map was (λ keeps. both file keeps keeps (λ h k l. record { allowed = k.allowed; same = λ n below early. absurd (omega (arith, early)) }))
 
 -- all may wait
-pub before_lacks : (disk : DiskState) (waiting : List ℕ) (all_wait : Bool) (first : ℕ) (file : Option Held) → all_wait ≡ true → FollowsBefore disk first file → Follows disk waiting all_wait file
+pub before_lacks : (disk : DiskState) (waiting : List ℕ) (all_wait : Bool) (first : ℕ) (file : Option Held) → all_wait ≡ true → FollowsBefore disk first file → KeepsKnown disk waiting all_wait file
 before_lacks disk waiting all_wait first file all was = ∥∥₁_map was (λ keeps. both file keeps keeps (λ h k l. record { allowed = k.allowed; same = λ n below. inl (inl all) }))
 
 -- and where these are all, none waits
-pub before_all : (disk : DiskState) (first : ℕ) (file : Option Held) → disk.size ≤ first → FollowsBefore disk first file → Follows disk [] false file
+pub before_all : (disk : DiskState) (first : ℕ) (file : Option Held) → disk.size ≤ first → FollowsBefore disk first file → KeepsKnown disk [] false file
 before_all disk first file past was =
     ∥∥₁_map was (λ keeps. both file keeps keeps (λ h k l. record { allowed = k.allowed; same = λ n below. inr (k.same n below (omega (arith, below, past))) }))
 
@@ -279,7 +279,7 @@ done_before disk first end held image order fits has keeps = record {
     len n below = let size = image.size in let length = length-range disk.seen first end order (omega (arith, fits, size)) in omega (arith, length, below)
 
 pub follows_tried_before : (disk : DiskState) (kept first end : ℕ) (old new : Option Held) → IsImage disk disk.seen → first ≤ end → end ≤ disk.size
-    → Goes (IsRunTried first (slice_range disk.seen first end)) old new → FollowsBefore disk kept old → FollowsBefore disk kept new
+    → IfKnown (IsRunTried first (slice_range disk.seen first end)) old new → FollowsBefore disk kept old → FollowsBefore disk kept new
 follows_tried_before disk kept first end old new image order fits is was =
     ∥∥₁_map was (λ keeps. goes old new is keeps (λ h g tried k. tried_before disk kept first end h g image order fits tried k))
 

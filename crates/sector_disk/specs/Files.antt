@@ -1,10 +1,10 @@
 -- A file that a disk is kept in: what it holds, what calls of it do, and how it follows the disk.
 --     file_seen        what reads of the file give
---     Goes        what is known of a file stays known
+--     IfKnown        what is known of a file stays known
 --     IsRun, IsRunTried, HasRun        a run of sectors that is written
 --     IsHeldNarrowed, IsHeldSynced        a sync
 --     HasSectors, HasStable        what is read from it; what it has at first
---     Lacks, Keeps, Follows        how it follows the disk
+--     Lacks, KeepsFile, KeepsKnown        how it follows the disk
 --     KeepsBefore, FollowsBefore        how its first sectors do
 use Rattle.std.specs.Prelude.{◌≡◌, ◌⊎◌, ℕ, ◌+◌, ◌-◌, ◌<◌, ◌≤◌, Bool, true, List, length, Option, Some, None, IfSome, Contains}
 use Rattle.sector_disk.specs.Disk.{DiskState, Image, sector}
@@ -15,11 +15,11 @@ abbrev pub file_seen : Held → Image
 file_seen held = after_events held.stable held.pending
 
 -- Where it's known what a file holds, P holds of that before a call and after it; where it isn't, nothing is said.
-abbrev pub Goes : (Held → Held → Type 0) → Option Held → Option Held → Type 0
-Goes P (Some old) (Some new) = P old new
-Goes P None None = Unit {0}
-Goes P (Some old) None = ⊥
-Goes P None (Some new) = ⊥
+abbrev pub IfKnown : (Held → Held → Type 0) → Option Held → Option Held → Type 0
+IfKnown P (Some old) (Some new) = P old new
+IfKnown P None None = Unit {0}
+IfKnown P (Some old) None = ⊥
+IfKnown P None (Some new) = ⊥
 
 -- the content that a run from sector `first` on gives this sector
 abbrev pub IsRun : ℕ → Image → ℕ → List ℕ → Type 0
@@ -62,13 +62,13 @@ Lacks waiting all_wait n = (all_wait ≡ true) ⊎ Contains waiting n
 
 -- What a stop leaves in the file, the disk says that a stop may leave; and the file has what reads of the disk give but for
 -- the sectors that wait.
-pub record Keeps (disk : DiskState) (waiting : List ℕ) (all_wait : Bool) (held : Held) : Type 0 where
+pub record KeepsFile (disk : DiskState) (waiting : List ℕ) (all_wait : Bool) (held : Held) : Type 0 where
   pub allowed : (n : ℕ) (content : List ℕ) → n < disk.size → MayHold held n content → disk.may_hold n content
   pub same : (n : ℕ) → n < disk.size → Lacks waiting all_wait n ⊎ (sector (file_seen held) n ≡ sector disk.seen n)
 
 -- the same of a file of which it may be known what it holds
-abbrev pub Follows : DiskState → List ℕ → Bool → Option Held → Type 0
-Follows disk waiting all_wait file = ∥ IfSome file (Keeps disk waiting all_wait) ∥₁
+abbrev pub KeepsKnown : DiskState → List ℕ → Bool → Option Held → Type 0
+KeepsKnown disk waiting all_wait file = ∥ IfSome file (KeepsFile disk waiting all_wait) ∥₁
 
 -- What a stop leaves in the file, the disk says that a stop may leave; and before sector `first` the file has what reads of the
 -- disk give.

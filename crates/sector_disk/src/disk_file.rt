@@ -2,7 +2,7 @@
 
 ghost use Rattle.std.specs.Prelude.{◌≡◌, Option, None, IfSome, OnOk, replicate};
 ghost use Rattle.sector_disk.specs.Record.{Held};
-ghost use Rattle.sector_disk.specs.Files.{Goes, IsRunTried, HasRun, IsHeldNarrowed, IsHeldSynced, HasStable};
+ghost use Rattle.sector_disk.specs.Files.{IfKnown, IsRunTried, HasRun, IsHeldNarrowed, IsHeldSynced, HasStable};
 
 use std::fs::File;
 use std::io;
@@ -33,13 +33,13 @@ pub trait DiskFile {
 
     /// Writes these sectors from number `first` on. Where that fails, each of them is written or not.
     fn write_run(&mut self, first: u32, run: &[[u8; 512]]) -> io::Result<()>
-        ensures tried { Goes (IsRunTried first run.now) (held self.old) (held self.new) }
+        ensures tried { IfKnown (IsRunTried first run.now) (held self.old) (held self.new) }
         ensures done { OnOk result (IfSome (held self.new) (HasRun first run.now)) };
 
     /// Makes stable what was written. Where that fails, nothing is known of what was written since the last sync.
     fn sync(&mut self) -> io::Result<()>
-        ensures narrowed { Goes IsHeldNarrowed (held self.old) (held self.new) }
-        ensures stable { OnOk result (Goes IsHeldSynced (held self.old) (held self.new)) };
+        ensures narrowed { IfKnown IsHeldNarrowed (held self.old) (held self.new) }
+        ensures stable { OnOk result (IfKnown IsHeldSynced (held self.old) (held self.new)) };
 }
 
 impl DiskFile for File {

@@ -5,7 +5,7 @@ ghost use Rattle.sector_disk.specs.Disk.{IsFresh};
 ghost use Rattle.sector_disk.specs.Record.{recorded_state};
 ghost use Rattle.sector_disk.specs.Replay.{seen_is_image, counts_now, only_now};
 ghost use Rattle.sector_disk.specs.Whole.{whole_sectors};
-ghost use Rattle.sector_disk.specs.Files.{Follows, HasStable, IsHeldStable};
+ghost use Rattle.sector_disk.specs.Files.{KeepsKnown, HasStable, IsHeldStable};
 ghost use Rattle.sector_disk.specs.declared.file_disk.FileFault.TheVariants.{Exists, OutOfMemory};
 
 use crate::reading::read_sectors;
@@ -72,7 +72,7 @@ pub struct FileDisk<F: DiskFile> {
     ghost room: { 0 < length buffer.items },
     ghost in_disk: { All (λ n. n < length memory.value.history.start) waiting.items },
     // A stop leaves in the file nothing but what the disk says.
-    ghost follows: { Follows (recorded_state memory.value.history memory.value.failures) waiting.items all_wait (F.held file) },
+    ghost follows: { KeepsKnown (recorded_state memory.value.history memory.value.failures) waiting.items all_wait (F.held file) },
 }
 
 impl<F: DiskFile + Drop> FileDisk<F> {
@@ -253,7 +253,7 @@ fn load<F: DiskFile>(
     requires { 0 < length buffer.old }
     ensures fresh { IfOk result (λ disk. IsFresh (⟦<MemDisk as Disk>⟧.state disk) (⟦<MemDisk as Disk>⟧.state disk).seen) }
     ensures small { IfOk result (λ disk. (⟦<MemDisk as Disk>⟧.state disk).size ≤ most) }
-    ensures follows { IfOk result (λ disk. Follows (⟦<MemDisk as Disk>⟧.state disk) [] false (F.held file.new)) }
+    ensures follows { IfOk result (λ disk. KeepsKnown (⟦<MemDisk as Disk>⟧.state disk) [] false (F.held file.new)) }
     ensures fault { IfErr result (λ fault. fault ≢ Exists) }
 {
     let Ok(count) = synced_sectors(file, most) else {

@@ -1,7 +1,7 @@
 //! The sectors that a disk has still to write to its file.
 
 ghost use Rattle.std.specs.Prelude.{◌<◌, ◌≤◌, ◌+◌, ℕ, [], All, false, length, slice_index, slice_range, OnOk, IfSome};
-ghost use Rattle.sector_disk.specs.Files.{Goes, IsRunTried, HasRun, Follows, FollowsBefore};
+ghost use Rattle.sector_disk.specs.Files.{IfKnown, IsRunTried, HasRun, KeepsKnown, FollowsBefore};
 
 use crate::{Disk, DiskFile, MemDisk};
 use std::io;
@@ -17,9 +17,9 @@ pub fn write_out<F: DiskFile>(
 ) -> io::Result<()>
     requires room { 0 < length buffer.old }
     requires in_disk { All (λ n. n < (⟦<MemDisk as Disk>⟧.state memory.now).size) waiting.now }
-    requires follows { Follows (⟦<MemDisk as Disk>⟧.state memory.now) waiting.now all_wait (F.held file.old) }
-    ensures follows { Follows (⟦<MemDisk as Disk>⟧.state memory.now) waiting.now all_wait (F.held file.new) }
-    ensures done { OnOk result (Follows (⟦<MemDisk as Disk>⟧.state memory.now) [] false (F.held file.new)) }
+    requires follows { KeepsKnown (⟦<MemDisk as Disk>⟧.state memory.now) waiting.now all_wait (F.held file.old) }
+    ensures follows { KeepsKnown (⟦<MemDisk as Disk>⟧.state memory.now) waiting.now all_wait (F.held file.new) }
+    ensures done { OnOk result (KeepsKnown (⟦<MemDisk as Disk>⟧.state memory.now) [] false (F.held file.new)) }
 {
     if all_wait {
         return write_all(file, memory, buffer);
@@ -35,7 +35,7 @@ fn write_run<F: DiskFile>(
     run: &mut [[u8; 512]],
 ) -> io::Result<()>
     requires { first + length run.old ≤ (⟦<MemDisk as Disk>⟧.state memory.now).size }
-    ensures tried { Goes (IsRunTried first (slice_range (⟦<MemDisk as Disk>⟧.state memory.now).seen first (first + length run.new)))
+    ensures tried { IfKnown (IsRunTried first (slice_range (⟦<MemDisk as Disk>⟧.state memory.now).seen first (first + length run.new)))
         (F.held file.old) (F.held file.new) }
     ensures done { OnOk result (IfSome (F.held file.new)
         (HasRun first (slice_range (⟦<MemDisk as Disk>⟧.state memory.now).seen first (first + length run.new)))) }
@@ -56,7 +56,7 @@ fn write_all<F: DiskFile>(
     requires room { 0 < length buffer.old }
     requires follows { FollowsBefore (⟦<MemDisk as Disk>⟧.state memory.now) 0 (F.held file.old) }
     ensures follows { FollowsBefore (⟦<MemDisk as Disk>⟧.state memory.now) 0 (F.held file.new) }
-    ensures done { OnOk result (Follows (⟦<MemDisk as Disk>⟧.state memory.now) [] false (F.held file.new)) }
+    ensures done { OnOk result (KeepsKnown (⟦<MemDisk as Disk>⟧.state memory.now) [] false (F.held file.new)) }
 {
     let size = memory.size();
     let mut at = 0;
@@ -86,9 +86,9 @@ fn write_waiting<F: DiskFile>(
 ) -> io::Result<()>
     requires room { 0 < length buffer.old }
     requires in_disk { All (λ n. n < (⟦<MemDisk as Disk>⟧.state memory.now).size) waiting.now }
-    requires follows { Follows (⟦<MemDisk as Disk>⟧.state memory.now) waiting.now false (F.held file.old) }
-    ensures follows { Follows (⟦<MemDisk as Disk>⟧.state memory.now) waiting.now false (F.held file.new) }
-    ensures done { OnOk result (Follows (⟦<MemDisk as Disk>⟧.state memory.now) [] false (F.held file.new)) }
+    requires follows { KeepsKnown (⟦<MemDisk as Disk>⟧.state memory.now) waiting.now false (F.held file.old) }
+    ensures follows { KeepsKnown (⟦<MemDisk as Disk>⟧.state memory.now) waiting.now false (F.held file.new) }
+    ensures done { OnOk result (KeepsKnown (⟦<MemDisk as Disk>⟧.state memory.now) [] false (F.held file.new)) }
 {
     let mut at = 0;
     while at < waiting.len() {

@@ -3,7 +3,7 @@ use fs_cred::{Cred, CredFault};
 use fs_model::{Call, FileType, Listing, Name};
 use fuse_protocol::{Operation, Time, parse_request};
 use fuse_state::{
-    Borrower, Keeping, Place, Server, Settings, Times, descriptor_of, handle_of, owner_of,
+    Borrower, Dentry, Keeping, Server, Settings, Times, descriptor_of, handle_of, owner_of,
 };
 use std::alloc::{AllocError, Global};
 use std::test::Fail;
@@ -41,9 +41,9 @@ enum Step {
     Ctime(u32),
 }
 
-fn place(alloc: Global, entry: Entry) -> Result<Place, AllocError> {
+fn dentry(alloc: Global, entry: Entry) -> Result<Dentry, AllocError> {
     let name = Name::from_slice(alloc, &[entry.1])?;
-    Ok(Place {
+    Ok(Dentry {
         directory: entry.0,
         name,
     })
@@ -82,24 +82,24 @@ fn made(
     inode: u32,
 ) -> Result<u64, AllocError> {
     server.prepare()?;
-    server.add_object(at(now), place(alloc, name)?, inode, FileType::File);
+    server.add_object(at(now), dentry(alloc, name)?, inode, FileType::File);
     Ok(0)
 }
 
 fn found(server: &mut Server, alloc: Global, name: Entry, inode: u32) -> Result<u64, AllocError> {
     server.prepare()?;
-    server.note_found(place(alloc, name)?, inode, FileType::Directory);
+    server.note_found(dentry(alloc, name)?, inode, FileType::Directory);
     Ok(0)
 }
 
 fn gone(server: &mut Server, alloc: Global, name: Entry) -> Result<u64, AllocError> {
-    server.remove_name(&place(alloc, name)?);
+    server.remove_name(&dentry(alloc, name)?);
     Ok(0)
 }
 
 fn removed(server: &mut Server, alloc: Global, now: u64, name: Entry) -> Result<u64, AllocError> {
     server.prepare()?;
-    server.note_removed(at(now), &place(alloc, name)?);
+    server.note_removed(at(now), &dentry(alloc, name)?);
     Ok(0)
 }
 
@@ -111,8 +111,8 @@ fn moved(
     new: Entry,
 ) -> Result<u64, AllocError> {
     server.prepare()?;
-    let old = place(alloc, old)?;
-    server.note_moved(at(now), &old, place(alloc, new)?);
+    let old = dentry(alloc, old)?;
+    server.note_moved(at(now), &old, dentry(alloc, new)?);
     Ok(0)
 }
 
@@ -125,7 +125,7 @@ fn linked(
 ) -> Result<u64, AllocError> {
     server.prepare()?;
     let kind = server.kind_of(inode);
-    server.note_linked(at(now), place(alloc, name)?, inode, kind);
+    server.note_linked(at(now), dentry(alloc, name)?, inode, kind);
     Ok(0)
 }
 
@@ -140,7 +140,7 @@ fn opened(
     server.prepare()?;
     server.note_opened(
         at(now),
-        place(alloc, name)?,
+        dentry(alloc, name)?,
         inode,
         FileType::File,
         is.0,
@@ -162,16 +162,16 @@ struct Noter;
 impl Borrower<u64> for Noter {
     ghost Takes = { λ call. Unit {0} };
 
-    ghost Calls = { λ old pid second call place reply new. Unit {0} };
+    ghost Calls = { λ old pid second call dentry reply new. Unit {0} };
 
     fn call_at(
         &mut self,
         _pid: usize,
         _second: Option<u32>,
         _call: &mut Call,
-        place: Place,
-    ) -> (u64, Place) {
-        (letter_of(&place), place)
+        dentry: Dentry,
+    ) -> (u64, Dentry) {
+        (letter_of(&dentry), dentry)
     }
 }
 
@@ -183,8 +183,8 @@ fn lent(server: &mut Server, alloc: Global, inode: u32, at: usize) -> Result<u64
     Ok(letter.unwrap_or(0))
 }
 
-fn letter_of(place: &Place) -> u64 {
-    match place.name.bytes().first() {
+fn letter_of(dentry: &Dentry) -> u64 {
+    match dentry.name.bytes().first() {
         Some(letter) => u64::from(*letter),
         None => 0,
     }
@@ -211,19 +211,19 @@ fn times_set(server: &mut Server, time: u64, inode: u32) -> Result<u64, AllocErr
 }
 
 fn named(server: &Server, alloc: Global, name: Entry) -> Result<u64, AllocError> {
-    Ok(number(server.named(&place(alloc, name)?)))
+    Ok(number(server.named(&dentry(alloc, name)?)))
 }
 
 fn directory(server: &Server, inode: u32) -> u64 {
     match server.place_of(inode) {
-        Some(place) => u64::from(place.directory),
+        Some(dentry) => u64::from(dentry.directory),
         None => 0,
     }
 }
 
 fn letter(server: &Server, inode: u32) -> u64 {
     match server.place_of(inode) {
-        Some(place) => letter_of(place),
+        Some(dentry) => letter_of(dentry),
         None => 0,
     }
 }
@@ -529,7 +529,7 @@ enum Use {
     OwnerAt(u64),
     MayOpen(u32),
     Looks(u32),
-    Looker,
+    ServerProcess,
     Ends,
     IsEnded,
 }
@@ -630,7 +630,7 @@ fn ended(server: &mut Server, pid: u32) -> Result<u64, CredFault> {
 }
 
 fn looks(server: &mut Server, pid: u32) -> Result<u64, CredFault> {
-    server.set_looker(pid as usize);
+    server.set_server_process(pid as usize);
     Ok(0)
 }
 
@@ -660,16 +660,16 @@ fn used(server: &mut Server, alloc: Global, step: Use) -> Result<u64, CredFault>
         Use::OwnerAt(handle) => Ok(owner_at(server, handle)),
         Use::MayOpen(uid) => Ok(u64::from(server.may_open_directory(uid))),
         Use::Looks(pid) => looks(server, pid),
-        Use::Looker => Ok(process(server.looker())),
+        Use::ServerProcess => Ok(process(server.server_process())),
         Use::Ends => ends(server),
         Use::IsEnded => Ok(u64::from(server.is_ended())),
     }
 }
 
 const USES: [(Use, u64); 78] = [
-    (Use::Looker, 0),
+    (Use::ServerProcess, 0),
     (Use::Looks(1), 0),
-    (Use::Looker, 1),
+    (Use::ServerProcess, 1),
     (Use::First(1000), 0),
     (Use::Begun(2, 1000), 0),
     (Use::Begun(4, 1000), 0),

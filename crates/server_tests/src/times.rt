@@ -144,7 +144,7 @@ fn answer_of(response: Response) -> Answer {
             } = attributes.times;
             (0, Some([shown(atime), shown(mtime), shown(ctime)]))
         }
-        Response::Fails(stop) => (stop.number(), None),
+        Response::Fails(error) => (error.number(), None),
         other => {
             mem::drop(other);
             (0, None)

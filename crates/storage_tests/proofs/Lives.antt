@@ -2,12 +2,12 @@
 use Rattle.std.proofs.Common.{◌≡◌, ℕ, ◌-◌, ◌≤◌, ◌+◌, [], refl, ap, subst, ◌∙◌, arith}
 use Rattle.std.proofs.lemmas.List.FromFn.{length-range_with_len}
 use Rattle.fs_layout.specs.declared.inode.Inode.{Inode}
-use Rattle.fs_layout.specs.declared.place.Place.{Place}
+use Rattle.fs_layout.specs.declared.geometry.Geometry.{Geometry}
 use Rattle.fs_layout.specs.Bytes.{SectorMap}
 use Rattle.fs_layout.specs.Header.{log_end}
 use Rattle.fs_layout.specs.Images.{Holds, inode_at}
 use Rattle.fs_layout.specs.Ownership.{IsConsistent}
-use Rattle.fs_layout.specs.Place.{IsPlace}
+use Rattle.fs_layout.specs.Geometry.{IsGeometry}
 use Rattle.sector_txn.specs.Sectors.{TxnState, IsUnchanged}
 use Rattle.sector_txn.proofs.TransactionRuns.{lacking_at_most}
 use Rattle.bit_alloc.specs.Inodes.{IsSound, KeepsBytes}
@@ -16,28 +16,28 @@ use Rattle.bit_alloc.proofs.Transactions.{map_unchanged, bitmaps_unchanged}
 use Rattle.inode_table.specs.Inodes.{DiffersInAttributes}
 
 -- a map that was only read is sound
-pub sound_unchanged : (p : Place) (old new : TxnState) → IsSound p old → IsUnchanged old new → IsSound p new
+pub sound_unchanged : (p : Geometry) (old new : TxnState) → IsSound p old → IsUnchanged old new → IsSound p new
 sound_unchanged p old new sound same = record {
   consistent = subst (IsConsistent p) (map_unchanged same) sound.consistent;
   bitmaps = bitmaps_unchanged p old new sound.bitmaps same;
 }
 
 -- an inode that was read has its own attributes
-pub same_attributes : (p : Place) (n : ℕ) (old new : TxnState) → IsUnchanged old new → (v : Inode) → v ≡ inode_at p old.sectors n
+pub same_attributes : (p : Geometry) (n : ℕ) (old new : TxnState) → IsUnchanged old new → (v : Inode) → v ≡ inode_at p old.sectors n
     → DiffersInAttributes (inode_at p new.sectors n) v
 same_attributes p n old new same v is =
     subst (λ (w : Inode). DiffersInAttributes w v) (is ∙ ap (λ (image : SectorMap). inode_at p image n) (map_unchanged same)) refl
 
 -- the log of a layout ends before its bitmaps
-pub log_of_place : {p : Place} {header : ℕ} → IsPlace p → header ≡ p.header → log_end header ≤ p.inode_bitmap
-log_of_place place same = omega (arith, ap log_end same, place.log)
+pub log_of_geometry : {p : Geometry} {header : ℕ} → IsGeometry p → header ≡ p.header → log_end header ≤ p.inode_bitmap
+log_of_geometry geometry same = omega (arith, ap log_end same, geometry.log)
 
 -- all bitmaps can be put, and so many sectors more
-pub has_spare : (p : Place) (k : ℕ) (txn : TxnState) → (p.table - p.inode_bitmap) + k ≤ txn.room → HasSpare p k txn
+pub has_spare : (p : Geometry) (k : ℕ) (txn : TxnState) → (p.table - p.inode_bitmap) + k ≤ txn.room → HasSpare p k txn
 has_spare p k txn room = omega (arith, room, lacking_at_most txn (bitmaps p), length-range_with_len p.inode_bitmap (p.table - p.inode_bitmap))
 
 -- an inode that is read and then saved holds nothing, if it held nothing
-pub empty_after : (p : Place) (n : ℕ) (old mid new : TxnState) → IsUnchanged old mid
+pub empty_after : (p : Geometry) (n : ℕ) (old mid new : TxnState) → IsUnchanged old mid
     → KeepsBytes mid.sectors new.sectors (inode_at p mid.sectors n) (inode_at p new.sectors n)
     → Holds old.sectors (inode_at p old.sectors n) [] → Holds new.sectors (inode_at p new.sectors n) []
 empty_after p n old mid new same keeps held =

@@ -2,7 +2,7 @@
 
 ghost use Rattle.std.specs.Prelude.{◌≤◌, OnOk};
 ghost use Rattle.fs_layout.specs.Header.{log_end};
-ghost use Rattle.fs_layout.specs.Place.{IsPlace};
+ghost use Rattle.fs_layout.specs.Geometry.{IsGeometry};
 ghost use Rattle.bit_alloc.specs.Bitmaps.{HasBitmaps};
 ghost use Rattle.bit_alloc.specs.Room.{HasSpare};
 
@@ -12,7 +12,7 @@ mod tables;
 use crate::maps::{end, new_map};
 use bit_alloc::{Bitmap, TakeFault, count_free, give, has_free, is_taken, take};
 use blank_map::Counted;
-use fs_layout::Place;
+use fs_layout::Geometry;
 use sector_txn::Sectors;
 use std::alloc::Global;
 use std::test::Fail;
@@ -38,41 +38,41 @@ type Row = (Call, Option<u32>, u32, u32);
 
 fn perform<S: Sectors>(
     s: &mut S,
-    place: Place,
+    geometry: Geometry,
     map: Bitmap,
     call: Call,
 ) -> Result<Option<u32>, Fail>
-    requires bitmaps { HasBitmaps place (S.state s.old) }
-    requires room { HasSpare place 0 (S.state s.old) }
-    ensures bitmaps { OnOk result (HasBitmaps place (S.state s.new)) }
-    ensures room { OnOk result (HasSpare place 0 (S.state s.new)) }
+    requires bitmaps { HasBitmaps geometry (S.state s.old) }
+    requires room { HasSpare geometry 0 (S.state s.old) }
+    ensures bitmaps { OnOk result (HasBitmaps geometry (S.state s.new)) }
+    ensures room { OnOk result (HasSpare geometry 0 (S.state s.new)) }
 {
     match call {
-        Call::Take(near) => match take(s, place, map, near) {
+        Call::Take(near) => match take(s, geometry, map, near) {
             Ok(n) => Ok(Some(n)),
             Err(TakeFault::Full) => Ok(None),
             Err(TakeFault::DiskFault) => Err(Fail::new("not read")),
         },
         Call::Give(n) => {
-            if !is_number(place, map, n) {
+            if !is_number(geometry, map, n) {
                 return Err(Fail::new("no number"));
             }
-            give(s, place, map, n)?;
+            give(s, geometry, map, n)?;
             Ok(Some(n))
         }
         Call::IsTaken(n) => {
-            if !is_number(place, map, n) {
+            if !is_number(geometry, map, n) {
                 return Err(Fail::new("no number"));
             }
-            let taken = is_taken(s, place, map, n)?;
+            let taken = is_taken(s, geometry, map, n)?;
             Ok(Some(u32::from(taken)))
         }
         Call::Count => {
-            let free = count_free(s, place, map)?;
+            let free = count_free(s, geometry, map)?;
             Ok(Some(free))
         }
         Call::HasFree(k) => {
-            let some = has_free(s, place, map, k)?;
+            let some = has_free(s, geometry, map, k)?;
             Ok(Some(u32::from(some)))
         }
     }
@@ -81,17 +81,17 @@ fn perform<S: Sectors>(
 // How many calls are as their rows say, up to the first that isn't.
 fn agreed<S: Sectors>(
     s: &mut Counted<S>,
-    place: Place,
+    geometry: Geometry,
     map: Bitmap,
     rows: &[Row],
 ) -> Result<usize, Fail>
-    requires bitmaps { HasBitmaps place (S.state s.old.inner) }
-    requires room { HasSpare place 0 (S.state s.old.inner) }
+    requires bitmaps { HasBitmaps geometry (S.state s.old.inner) }
+    requires room { HasSpare geometry 0 (S.state s.old.inner) }
 {
     for (i, (call, answer, gets, puts)) in rows.iter().enumerate() {
         s.gets = 0;
         s.puts = 0;
-        let seen = perform(s, place, map, *call)?;
+        let seen = perform(s, geometry, map, *call)?;
         if seen != *answer || s.gets != *gets || s.puts != *puts {
             return Ok(i);
         }
@@ -102,28 +102,28 @@ fn agreed<S: Sectors>(
 // The same of a bitmap that lacks these numbers, while the other one is full.
 fn agreed_without<S: Sectors>(
     s: &mut Counted<S>,
-    place: Place,
+    geometry: Geometry,
     map: Bitmap,
     clear: &[u32],
     rows: &[Row],
 ) -> Result<usize, Fail>
-    requires place { IsPlace place }
-    requires disk { place.sectors ≤ (S.state s.old.inner).disk.size }
-    requires header { log_end (S.state s.old.inner).header ≤ place.inode_bitmap }
+    requires geometry { IsGeometry geometry }
+    requires disk { geometry.sectors ≤ (S.state s.old.inner).disk.size }
+    requires header { log_end (S.state s.old.inner).header ≤ geometry.inode_bitmap }
 {
-    put_all_but(s, place, Bitmap::Inodes, &[]);
-    put_all_but(s, place, Bitmap::Blocks, &[]);
-    put_all_but(s, place, map, clear);
-    if !is_ready(s, place)? {
+    put_all_but(s, geometry, Bitmap::Inodes, &[]);
+    put_all_but(s, geometry, Bitmap::Blocks, &[]);
+    put_all_but(s, geometry, map, clear);
+    if !is_ready(s, geometry)? {
         return Err(Fail::new("other tables"));
     }
-    agreed(s, place, map, rows)
+    agreed(s, geometry, map, rows)
 }
 
 // The same on a new disk.
 fn agreed_on_disk(alloc: Global, map: Bitmap, clear: &[u32], rows: &[Row]) -> Result<usize, Fail> {
-    let (place, mut s) = new_map(alloc, SECTORS, INODES)?;
-    let seen = agreed_without(&mut s, place, map, clear, rows);
+    let (geometry, mut s) = new_map(alloc, SECTORS, INODES)?;
+    let seen = agreed_without(&mut s, geometry, map, clear, rows);
     end(s);
     seen
 }

@@ -4,7 +4,7 @@ ghost use Rattle.std.specs.Prelude.{◌≡◌, ◌≢◌, ◌≤◌, ◌<◌, If
 ghost use Rattle.fs_layout.specs.declared.inode.Kind.TheVariants.{Free};
 ghost use Rattle.fs_layout.specs.Images.{inode_at};
 ghost use Rattle.fs_layout.specs.Header.{log_end};
-ghost use Rattle.fs_layout.specs.Place.{IsPlace};
+ghost use Rattle.fs_layout.specs.Geometry.{IsGeometry};
 ghost use Rattle.bit_alloc.specs.Inodes.{IsSound};
 ghost use Rattle.bit_alloc.specs.Room.{HasSpare};
 
@@ -14,7 +14,7 @@ use crate::maps::{end, map_of_version, parsed};
 use bit_alloc::{Bitmap, count_free};
 use blank_map::{Counted, is_blank, put_blank};
 use block_map::{MapFault, overwrite, read_at, release_all, set_size, write_at};
-use fs_layout::{Inode, Kind, Place, Version};
+use fs_layout::{Geometry, Inode, Kind, Version};
 use inode_table::{load, new_inode};
 use posix_acl::Acl;
 use sector_txn::Sectors;
@@ -46,17 +46,17 @@ type Row = (Call, [u8; 4], u32, u32);
 // Writes four bytes over those of one of the first 12 blocks.
 fn overwrite_direct<S: Sectors>(
     s: &mut S,
-    place: Place,
+    geometry: Geometry,
     n: u32,
     inode: &Inode,
     offset: u64,
 ) -> Result<(), Fail>
-    requires sound { IsSound place (S.state s.old) }
-    requires below { n < place.inodes }
-    requires inode { inode.now ≡ inode_at place (S.state s.old).sectors n }
+    requires sound { IsSound geometry (S.state s.old) }
+    requires below { n < geometry.inodes }
+    requires inode { inode.now ≡ inode_at geometry (S.state s.old).sectors n }
     requires used { inode.now.kind ≢ Free }
-    requires spare { HasSpare place 1 (S.state s.old) }
-    ensures sound { OnOk result (IsSound place (S.state s.new)) }
+    requires spare { HasSpare geometry 1 (S.state s.old) }
+    ensures sound { OnOk result (IsSound geometry (S.state s.new)) }
 {
     if 6144 <= offset || inode.size < offset + 4 || 508 < offset % 512 {
         return Err(Fail::new("not within a block"));
@@ -64,17 +64,17 @@ fn overwrite_direct<S: Sectors>(
     if inode.direct[(offset / 512) as usize] == 0 {
         return Err(Fail::new("a hole"));
     }
-    overwrite(s, place, n, inode, offset, &[5; 4])?;
+    overwrite(s, geometry, n, inode, offset, &[5; 4])?;
     Ok(())
 }
 
-fn perform<S: Sectors>(s: &mut S, place: Place, n: u32, call: Call) -> Result<[u8; 4], Fail>
-    requires sound { IsSound place (S.state s.old) }
-    requires below { n < place.inodes }
-    ensures sound { OnOk result (IsSound place (S.state s.new)) }
+fn perform<S: Sectors>(s: &mut S, geometry: Geometry, n: u32, call: Call) -> Result<[u8; 4], Fail>
+    requires sound { IsSound geometry (S.state s.old) }
+    requires below { n < geometry.inodes }
+    ensures sound { OnOk result (IsSound geometry (S.state s.new)) }
 {
-    let mut inode = load(s, place, n)?;
-    if s.room() < (place.table - place.inode_bitmap) as usize + 16 {
+    let mut inode = load(s, geometry, n)?;
+    if s.room() < (geometry.table - geometry.inode_bitmap) as usize + 16 {
         return Err(Fail::new("no room"));
     }
     let Kind::File = inode.kind else {
@@ -90,27 +90,27 @@ fn perform<S: Sectors>(s: &mut S, place: Place, n: u32, call: Call) -> Result<[u
             if len > 4096 {
                 return Err(Fail::new("too many bytes"));
             }
-            match write_at(s, place, n, &mut inode, offset, &[7; 4096][..len]) {
+            match write_at(s, geometry, n, &mut inode, offset, &[7; 4096][..len]) {
                 Ok(()) => Ok(bytes),
                 Err(MapFault::TooBig) => Ok(TOO_BIG),
                 Err(_) => Err(Fail::new("not written")),
             }
         }
         Call::Overwrite(offset) => {
-            overwrite_direct(s, place, n, &inode, offset)?;
+            overwrite_direct(s, geometry, n, &inode, offset)?;
             Ok(bytes)
         }
-        Call::SetSize(size) => match set_size(s, place, n, &mut inode, size) {
+        Call::SetSize(size) => match set_size(s, geometry, n, &mut inode, size) {
             Ok(()) => Ok(bytes),
             Err(MapFault::TooBig) => Ok(TOO_BIG),
             Err(_) => Err(Fail::new("no other size")),
         },
         Call::Release => {
-            release_all(s, place, n, &mut inode)?;
+            release_all(s, geometry, n, &mut inode)?;
             Ok(bytes)
         }
         Call::HasFree(wanted) => {
-            let free = count_free(s, place, Bitmap::Blocks)?;
+            let free = count_free(s, geometry, Bitmap::Blocks)?;
             if free != wanted {
                 return Err(Fail::new("another number is free"));
             }
@@ -120,14 +120,19 @@ fn perform<S: Sectors>(s: &mut S, place: Place, n: u32, call: Call) -> Result<[u
 }
 
 // How many calls are as their rows say, up to the first that isn't.
-fn agreed<S: Sectors>(s: &mut Counted<S>, place: Place, n: u32, rows: &[Row]) -> Result<usize, Fail>
-    requires sound { IsSound place (S.state s.old.inner) }
-    requires below { n < place.inodes }
+fn agreed<S: Sectors>(
+    s: &mut Counted<S>,
+    geometry: Geometry,
+    n: u32,
+    rows: &[Row],
+) -> Result<usize, Fail>
+    requires sound { IsSound geometry (S.state s.old.inner) }
+    requires below { n < geometry.inodes }
 {
     for (i, (call, bytes, gets, puts)) in rows.iter().enumerate() {
         s.gets = 0;
         s.puts = 0;
-        let seen = perform(s, place, n, *call)?;
+        let seen = perform(s, geometry, n, *call)?;
         // The inode is read before each.
         if seen != *bytes || s.gets.saturating_sub(1) != *gets || s.puts != *puts {
             return Ok(i);
@@ -139,16 +144,16 @@ fn agreed<S: Sectors>(s: &mut Counted<S>, place: Place, n: u32, rows: &[Row]) ->
 // The same of a new file, on a map without inodes.
 fn agreed_on_blank<S: Sectors>(
     s: &mut Counted<S>,
-    place: Place,
+    geometry: Geometry,
     access: &Acl,
     rows: &[Row],
 ) -> Result<usize, Fail>
-    requires place { IsPlace place }
-    requires disk { place.sectors ≤ (S.state s.old.inner).disk.size }
-    requires header { log_end (S.state s.old.inner).header ≤ place.inode_bitmap }
+    requires geometry { IsGeometry geometry }
+    requires disk { geometry.sectors ≤ (S.state s.old.inner).disk.size }
+    requires header { log_end (S.state s.old.inner).header ≤ geometry.inode_bitmap }
 {
-    put_blank(s, place);
-    if !is_blank(s, place)? {
+    put_blank(s, geometry);
+    if !is_blank(s, geometry)? {
         return Err(Fail::new("not blank"));
     }
     let inode = Inode {
@@ -157,10 +162,10 @@ fn agreed_on_blank<S: Sectors>(
         names: 1,
         ..Inode::FREE
     };
-    let Ok(n) = new_inode(s, place, &inode, access, None) else {
+    let Ok(n) = new_inode(s, geometry, &inode, access, None) else {
         return Err(Fail::new("not made"));
     };
-    agreed(s, place, n, rows)
+    agreed(s, geometry, n, rows)
 }
 
 // The same on a new disk of this version.
@@ -170,8 +175,8 @@ fn agreed_on_disk(
     access: &Acl,
     rows: &[Row],
 ) -> Result<usize, Fail> {
-    let (place, mut s) = map_of_version(alloc, version, SECTORS, INODES)?;
-    let seen = agreed_on_blank(&mut s, place, access, rows);
+    let (geometry, mut s) = map_of_version(alloc, version, SECTORS, INODES)?;
+    let seen = agreed_on_blank(&mut s, geometry, access, rows);
     end(s);
     seen
 }

@@ -2,7 +2,7 @@
 
 ghost use Rattle.std.specs.Prelude.{◌≡◌, ◌≤◌, ◌<◌, ℕ, List, length, IfOk, OnOk};
 ghost use Rattle.fs_layout.specs.Header.{log_end};
-ghost use Rattle.fs_layout.specs.Place.{IsPlace};
+ghost use Rattle.fs_layout.specs.Geometry.{IsGeometry};
 ghost use Rattle.fs_layout.specs.Images.{inode_at};
 ghost use Rattle.fs_layout.specs.declared.slot.TheConstants.{MAX_NAME};
 ghost use Rattle.fs_layout.specs.Version.{max_name};
@@ -13,7 +13,7 @@ ghost use Rattle.bit_alloc.specs.Room.{HasSpare};
 use crate::maps::{end, map_of, parsed};
 use blank_map::{Counted, is_blank, put_blank};
 use dir_core::{DirFault, insert, is_empty, list, lookup, remove, rename, replace};
-use fs_layout::{Inode, Kind, MAX_NAME, Place, Super, Version, is_name};
+use fs_layout::{Geometry, Inode, Kind, MAX_NAME, Super, Version, is_name};
 use inode_table::{load, new_inode};
 use posix_acl::Acl;
 use sector_txn::Sectors;
@@ -77,29 +77,29 @@ fn len_of(version: Version, i: u32) -> usize
 // Adds so many names, the i-th of which leads to inode i + 2.
 fn fill<S: Sectors>(
     s: &mut S,
-    place: Place,
+    geometry: Geometry,
     n: u32,
     inode: &mut Inode,
     count: u32,
 ) -> Result<(), Fail>
-    requires sound { IsSound place (S.state s.old) }
-    requires below { n < place.inodes }
-    requires there { inode.old ≡ inode_at place (S.state s.old).sectors n }
-    requires directory { (names : List (List ℕ × ℕ)) × HasNames place.version (S.state s.old).sectors inode.old names }
+    requires sound { IsSound geometry (S.state s.old) }
+    requires below { n < geometry.inodes }
+    requires there { inode.old ≡ inode_at geometry (S.state s.old).sectors n }
+    requires directory { (names : List (List ℕ × ℕ)) × HasNames geometry.version (S.state s.old).sectors inode.old names }
     requires few { count ≤ 600 }
-    ensures sound { OnOk result (IsSound place (S.state s.new)) }
-    ensures there { OnOk result (inode.new ≡ inode_at place (S.state s.new).sectors n) }
-    ensures directory { OnOk result ((names : List (List ℕ × ℕ)) × HasNames place.version (S.state s.new).sectors inode.new names) }
+    ensures sound { OnOk result (IsSound geometry (S.state s.new)) }
+    ensures there { OnOk result (inode.new ≡ inode_at geometry (S.state s.new).sectors n) }
+    ensures directory { OnOk result ((names : List (List ℕ × ℕ)) × HasNames geometry.version (S.state s.new).sectors inode.new names) }
 {
     for i in 0..count {
-        if s.room() < (place.table - place.inode_bitmap) as usize + 4 {
+        if s.room() < (geometry.table - geometry.inode_bitmap) as usize + 4 {
             return Err(Fail::new("no room"));
         }
-        let name = &name_of(i)[..len_of(place.version, i)];
+        let name = &name_of(i)[..len_of(geometry.version, i)];
         if !is_name(name) {
             return Err(Fail::new("no name"));
         }
-        let Ok(()) = insert(s, place, n, inode, name, i + 2) else {
+        let Ok(()) = insert(s, geometry, n, inode, name, i + 2) else {
             return Err(Fail::new("not added"));
         };
     }
@@ -109,71 +109,71 @@ fn fill<S: Sectors>(
 // Gives what has a name a new one, which is looked up before.
 fn renamed<S: Sectors>(
     s: &mut S,
-    place: Place,
+    geometry: Geometry,
     n: u32,
     inode: &Inode,
     name: &[u8],
 ) -> Result<(), DirFault>
-    requires sound { IsSound place (S.state s.old) }
-    requires below { n < place.inodes }
-    requires there { inode.now ≡ inode_at place (S.state s.old).sectors n }
-    requires directory { (names : List (List ℕ × ℕ)) × HasNames place.version (S.state s.old).sectors inode.now names }
-    requires spare { HasSpare place 1 (S.state s.old) }
+    requires sound { IsSound geometry (S.state s.old) }
+    requires below { n < geometry.inodes }
+    requires there { inode.now ≡ inode_at geometry (S.state s.old).sectors n }
+    requires directory { (names : List (List ℕ × ℕ)) × HasNames geometry.version (S.state s.old).sectors inode.now names }
+    requires spare { HasSpare geometry 1 (S.state s.old) }
 {
     let new_name = b"new";
     if !is_name(new_name) {
         return Err(DirFault::Absent);
     }
-    if lookup(s, place, inode, new_name)?.is_some() {
+    if lookup(s, geometry, inode, new_name)?.is_some() {
         return Err(DirFault::Exists);
     }
-    rename(s, place, n, inode, name, new_name)?;
+    rename(s, geometry, n, inode, name, new_name)?;
     Ok(())
 }
 
 fn perform<S: Sectors>(
     alloc: Global,
     s: &mut S,
-    place: Place,
+    geometry: Geometry,
     n: u32,
     inode: &mut Inode,
     call: Call,
     name: &[u8],
 ) -> Result<usize, DirFault>
-    requires sound { IsSound place (S.state s.old) }
-    requires below { n < place.inodes }
-    requires there { inode.old ≡ inode_at place (S.state s.old).sectors n }
-    requires directory { (names : List (List ℕ × ℕ)) × HasNames place.version (S.state s.old).sectors inode.old names }
+    requires sound { IsSound geometry (S.state s.old) }
+    requires below { n < geometry.inodes }
+    requires there { inode.old ≡ inode_at geometry (S.state s.old).sectors n }
+    requires directory { (names : List (List ℕ × ℕ)) × HasNames geometry.version (S.state s.old).sectors inode.old names }
     requires name { IsName name.now }
-    requires short { length name.now ≤ max_name place.version }
-    requires spare { HasSpare place 5 (S.state s.old) }
+    requires short { length name.now ≤ max_name geometry.version }
+    requires spare { HasSpare geometry 5 (S.state s.old) }
 {
     match call {
-        Call::Lookup => return Ok(lookup(s, place, inode, name)?.unwrap_or(0) as usize),
-        Call::List => return Ok(list(alloc, s, place, inode)?.len()),
-        Call::Insert => insert(s, place, n, inode, name, 9)?,
-        Call::Remove => remove(s, place, n, inode, name)?,
-        Call::Replace => replace(s, place, n, inode, name, 9)?,
-        Call::Rename => renamed(s, place, n, inode, name)?,
+        Call::Lookup => return Ok(lookup(s, geometry, inode, name)?.unwrap_or(0) as usize),
+        Call::List => return Ok(list(alloc, s, geometry, inode)?.len()),
+        Call::Insert => insert(s, geometry, n, inode, name, 9)?,
+        Call::Remove => remove(s, geometry, n, inode, name)?,
+        Call::Replace => replace(s, geometry, n, inode, name, 9)?,
+        Call::Rename => renamed(s, geometry, n, inode, name)?,
     }
-    Ok((inode.size / place.version.slot_size() as u64) as usize)
+    Ok((inode.size / geometry.version.slot_size() as u64) as usize)
 }
 
 // What a call on a name sees in a new directory of so many names, on a map without inodes.
 fn seen_on_blank<S: Sectors>(
     alloc: Global,
     s: &mut Counted<S>,
-    place: Place,
+    geometry: Geometry,
     access: &Acl,
     row: &Row,
 ) -> Result<Seen, Fail>
-    requires place { IsPlace place }
-    requires disk { place.sectors ≤ (S.state s.old.inner).disk.size }
-    requires header { log_end (S.state s.old.inner).header ≤ place.inode_bitmap }
+    requires geometry { IsGeometry geometry }
+    requires disk { geometry.sectors ≤ (S.state s.old.inner).disk.size }
+    requires header { log_end (S.state s.old.inner).header ≤ geometry.inode_bitmap }
 {
     let (count, call, i, _) = *row;
-    put_blank(s, place);
-    if !is_blank(s, place)? {
+    put_blank(s, geometry);
+    if !is_blank(s, geometry)? {
         return Err(Fail::new("not blank"));
     }
     let inode = Inode {
@@ -183,28 +183,28 @@ fn seen_on_blank<S: Sectors>(
         parent: 1,
         ..Inode::FREE
     };
-    let Ok(n) = new_inode(s, place, &inode, access, None) else {
+    let Ok(n) = new_inode(s, geometry, &inode, access, None) else {
         return Err(Fail::new("not made"));
     };
-    let mut inode = load(s, place, n)?;
+    let mut inode = load(s, geometry, n)?;
     if !is_empty(&inode) || count > 600 {
         return Err(Fail::new("not empty"));
     }
-    fill(s, place, n, &mut inode, count)?;
-    let name = &name_of(i)[..len_of(place.version, i)];
-    if !is_name(name) || s.room() < (place.table - place.inode_bitmap) as usize + 5 {
+    fill(s, geometry, n, &mut inode, count)?;
+    let name = &name_of(i)[..len_of(geometry.version, i)];
+    if !is_name(name) || s.room() < (geometry.table - geometry.inode_bitmap) as usize + 5 {
         return Err(Fail::new("no room"));
     }
     s.gets = 0;
     s.puts = 0;
-    let given = perform(alloc, s, place, n, &mut inode, call, name);
+    let given = perform(alloc, s, geometry, n, &mut inode, call, name);
     Ok((given, s.gets, s.puts))
 }
 
 // The same on a new disk.
 fn seen_on_disk(alloc: Global, disk: Super, access: &Acl, row: &Row) -> Result<Seen, Fail> {
-    let (place, mut s) = map_of(alloc, disk)?;
-    let seen = seen_on_blank(alloc, &mut s, place, access, row);
+    let (geometry, mut s) = map_of(alloc, disk)?;
+    let seen = seen_on_blank(alloc, &mut s, geometry, access, row);
     end(s);
     seen
 }

@@ -2,7 +2,7 @@
 
 ghost use Rattle.std.specs.Prelude.{◌≤◌};
 ghost use Rattle.fs_layout.specs.Header.{log_end};
-ghost use Rattle.fs_layout.specs.Place.{IsPlace};
+ghost use Rattle.fs_layout.specs.Geometry.{IsGeometry};
 ghost use Rattle.bit_alloc.specs.Inodes.{IsSound};
 ghost use Rattle.bit_alloc.specs.Room.{HasSpare};
 ghost use Rattle.inode_table.specs.Inodes.{ClearAreFree};
@@ -12,7 +12,7 @@ mod calls;
 use crate::maps::{end, new_map, parsed};
 use blank_map::{Counted, is_blank, put_blank};
 use calls::made;
-use fs_layout::{Inode, Kind, Place};
+use fs_layout::{Geometry, Inode, Kind};
 use inode_table::load;
 use posix_acl::{Acl, TextForm};
 use sector_txn::Sectors;
@@ -32,11 +32,11 @@ fn is_written_as(acl: &Acl, text: &[u8]) -> Result<bool, Fail> {
 }
 
 // The first bytes of a sector of the map.
-fn first_bytes<S: Sectors>(s: &mut S, place: Place, n: u32) -> Result<[u8; 24], Fail>
-    requires disk { place.sectors ≤ (S.state s.old).disk.size }
-    requires header { log_end (S.state s.old).header ≤ place.inode_bitmap }
+fn first_bytes<S: Sectors>(s: &mut S, geometry: Geometry, n: u32) -> Result<[u8; 24], Fail>
+    requires disk { geometry.sectors ≤ (S.state s.old).disk.size }
+    requires header { log_end (S.state s.old).header ≤ geometry.inode_bitmap }
 {
-    if n < place.inode_bitmap || place.sectors <= n {
+    if n < geometry.inode_bitmap || geometry.sectors <= n {
         return Err(Fail::new("no sector"));
     }
     let mut content = [0; 512];
@@ -54,12 +54,12 @@ type Stored = ([u8; 24], bool, bool, u16);
 fn stored<S: Sectors>(
     alloc: Global,
     s: &mut Counted<S>,
-    place: Place,
+    geometry: Geometry,
     acl: &Acl,
 ) -> Result<Stored, Fail>
-    requires sound { IsSound place (S.state s.old.inner) }
-    requires clear { ClearAreFree place (S.state s.old.inner).sectors }
-    requires spare { HasSpare place 12 (S.state s.old.inner) }
+    requires sound { IsSound geometry (S.state s.old.inner) }
+    requires clear { ClearAreFree geometry (S.state s.old.inner).sectors }
+    requires spare { HasSpare geometry 12 (S.state s.old.inner) }
 {
     let inode = Inode {
         kind: Kind::Directory,
@@ -68,11 +68,11 @@ fn stored<S: Sectors>(
         parent: 1,
         ..Inode::FREE
     };
-    let (n, _, same) = made(alloc, s, place, &inode, acl, Some(acl))?;
-    let inode = load(s, place, n)?;
+    let (n, _, same) = made(alloc, s, geometry, &inode, acl, Some(acl))?;
+    let inode = load(s, geometry, n)?;
     let kept = inode.acl != 0;
     let at = if kept { inode.acl } else { inode.default_acl };
-    let first = first_bytes(s, place, at)?;
+    let first = first_bytes(s, geometry, at)?;
     Ok((first, same, kept, inode.mode))
 }
 
@@ -80,18 +80,18 @@ fn stored<S: Sectors>(
 fn stored_on_blank<S: Sectors>(
     alloc: Global,
     s: &mut Counted<S>,
-    place: Place,
+    geometry: Geometry,
     acl: &Acl,
 ) -> Result<Stored, Fail>
-    requires place { IsPlace place }
-    requires disk { place.sectors ≤ (S.state s.old.inner).disk.size }
-    requires header { log_end (S.state s.old.inner).header ≤ place.inode_bitmap }
+    requires geometry { IsGeometry geometry }
+    requires disk { geometry.sectors ≤ (S.state s.old.inner).disk.size }
+    requires header { log_end (S.state s.old.inner).header ≤ geometry.inode_bitmap }
 {
-    put_blank(s, place);
-    if !is_blank(s, place)? {
+    put_blank(s, geometry);
+    if !is_blank(s, geometry)? {
         return Err(Fail::new("not blank"));
     }
-    stored(alloc, s, place, acl)
+    stored(alloc, s, geometry, acl)
 }
 
 // The same on a new disk, of the ACL that this text is of.
@@ -99,8 +99,8 @@ fn stored_on_disk(alloc: Global, acl: &Acl, text: &[u8]) -> Result<Stored, Fail>
     if !is_written_as(acl, text)? {
         return Err(Fail::new("another text"));
     }
-    let (place, mut s) = new_map(alloc, SECTORS, INODES)?;
-    let seen = stored_on_blank(alloc, &mut s, place, acl);
+    let (geometry, mut s) = new_map(alloc, SECTORS, INODES)?;
+    let seen = stored_on_blank(alloc, &mut s, geometry, acl);
     end(s);
     seen
 }

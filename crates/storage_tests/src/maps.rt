@@ -2,11 +2,11 @@
 
 ghost use Rattle.std.specs.Prelude.{◌≡◌, ◌≤◌, IfOk, IfSome};
 ghost use Rattle.fs_layout.specs.Header.{log_end};
-ghost use Rattle.fs_layout.specs.Place.{IsPlace};
+ghost use Rattle.fs_layout.specs.Geometry.{IsGeometry};
 ghost use Rattle.redo_journal.specs.States.{header_at};
 
 use blank_map::Counted;
-use fs_layout::{Commit, Place, Super, Version};
+use fs_layout::{Commit, Geometry, Super, Version};
 use posix_acl::{Acl, AclFault};
 use redo_journal::Journal;
 use sector_disk::{Disk, MemDisk};
@@ -50,22 +50,22 @@ fn disk_of(alloc: Global, superblock: Super) -> Option<MemDisk> {
 }
 
 // A transaction on a new disk with this superblock.
-#[tactic(auto, using(crate::proofs::Lives::log_of_place))]
+#[tactic(auto, using(crate::proofs::Lives::log_of_geometry))]
 pub(super) fn map_of(
     alloc: Global,
     superblock: Super,
-) -> Result<(Place, Counted<Txn<MemDisk>>), Fail>
-    ensures place { IfOk result (λ map. IsPlace map.0) }
+) -> Result<(Geometry, Counted<Txn<MemDisk>>), Fail>
+    ensures geometry { IfOk result (λ map. IsGeometry map.0) }
     ensures disk { IfOk result (λ map. map.0.sectors ≤ (⟦<Txn<MemDisk> as Sectors>⟧.state map.1.inner).disk.size) }
     ensures header { IfOk result (λ map. log_end (⟦<Txn<MemDisk> as Sectors>⟧.state map.1.inner).header ≤ map.0.inode_bitmap) }
 {
-    let place = superblock.place().ok_or("no place")?;
-    if place.sectors != superblock.sectors || place.header != superblock.header {
+    let geometry = superblock.geometry().ok_or("no place")?;
+    if geometry.sectors != superblock.sectors || geometry.header != superblock.header {
         return Err(Fail::new("another place"));
     }
     let disk = disk_of(alloc, superblock).ok_or("no disk")?;
     let store = opened(alloc, disk, superblock).ok_or("no store")?;
-    Ok((place, Counted::new(store.begin())))
+    Ok((geometry, Counted::new(store.begin())))
 }
 
 // The same in this version, of so many sectors and inodes, with as few header sectors as it has.
@@ -74,8 +74,8 @@ pub(super) fn map_of_version(
     version: Version,
     sectors: u32,
     inodes: u32,
-) -> Result<(Place, Counted<Txn<MemDisk>>), Fail>
-    ensures place { IfOk result (λ map. IsPlace map.0) }
+) -> Result<(Geometry, Counted<Txn<MemDisk>>), Fail>
+    ensures geometry { IfOk result (λ map. IsGeometry map.0) }
     ensures disk { IfOk result (λ map. map.0.sectors ≤ (⟦<Txn<MemDisk> as Sectors>⟧.state map.1.inner).disk.size) }
     ensures header { IfOk result (λ map. log_end (⟦<Txn<MemDisk> as Sectors>⟧.state map.1.inner).header ≤ map.0.inode_bitmap) }
 {
@@ -97,8 +97,8 @@ pub(super) fn new_map(
     alloc: Global,
     sectors: u32,
     inodes: u32,
-) -> Result<(Place, Counted<Txn<MemDisk>>), Fail>
-    ensures place { IfOk result (λ map. IsPlace map.0) }
+) -> Result<(Geometry, Counted<Txn<MemDisk>>), Fail>
+    ensures geometry { IfOk result (λ map. IsGeometry map.0) }
     ensures disk { IfOk result (λ map. map.0.sectors ≤ (⟦<Txn<MemDisk> as Sectors>⟧.state map.1.inner).disk.size) }
     ensures header { IfOk result (λ map. log_end (⟦<Txn<MemDisk> as Sectors>⟧.state map.1.inner).header ≤ map.0.inode_bitmap) }
 {

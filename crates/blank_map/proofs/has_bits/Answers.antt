@@ -14,7 +14,7 @@ each_below P n before here i to = elim (cases_lt i n) [
 
 pub loop-n-preserved : goal.loop-n-preserved
 loop-n-preserved g c =
-    let p = c.args.place in
+    let p = c.args.geometry in
     let map = c.args.map in
     let n = c.loop-n.n in
     let image : SectorMap = (g.S.Sectors.state c.args.s.now).sectors in

@@ -7,5 +7,5 @@ use Rattle.blank_map.proofs.has_bits.Given as goal
 abbrev pub invariant-loop-n : goal.invariant-loop-n
 invariant-loop-n g l = record {
   same : IsUnchanged (g.S.Sectors.state l.initial.s) (g.S.Sectors.state l.s);
-  set : (i : ℕ) → i < l.n → IsTrue (bit (g.S.Sectors.state l.initial.s).sectors (first_sector l.place l.map) i) ↔ (IsNumber l.place l.map i → ⊥);
+  set : (i : ℕ) → i < l.n → IsTrue (bit (g.S.Sectors.state l.initial.s).sectors (first_sector l.geometry l.map) i) ↔ (IsNumber l.geometry l.map i → ⊥);
 }

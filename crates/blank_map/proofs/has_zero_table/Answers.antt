@@ -19,7 +19,7 @@ loop-t-preserved g c =
     let read : IsSector sector = record { len = c.get.array_long; bytes = c.tell_bytes.ensures } in
     record {
       same = unchanged_joined c.loop-t.invariant.same c.in_ok-get.ensures.same;
-      whole = each_so_far (λ k. IsSector (image k)) c.args.place.inode_bitmap c.loop-t.t c.loop-t.invariant.whole (λ from. subst IsSector here read);
-      zero = each_so_far (λ k. image k ≡ replicate 512 0) c.args.place.table c.loop-t.t c.loop-t.invariant.zero
+      whole = each_so_far (λ k. IsSector (image k)) c.args.geometry.inode_bitmap c.loop-t.t c.loop-t.invariant.whole (λ from. subst IsSector here read);
+      zero = each_so_far (λ k. image k ≡ replicate 512 0) c.args.geometry.table c.loop-t.t c.loop-t.invariant.zero
           (λ from. sym here ∙ c.may_have.ensures c.if-not-may_have.false from);
     }

@@ -1,7 +1,7 @@
 //! Open directories. They hold no descriptors.
 ghost use Rattle.std.specs.Prelude.{◌≡◌, ◌+◌, ◌≤◌, length, option_copied};
 ghost use Rattle.fuse_state.specs.Shares.{count_of};
-ghost use Rattle.fuse_state.specs.Servers.{directory_holders, may_open_directory, directory_of, opened, with_listing, without_directory};
+ghost use Rattle.fuse_state.specs.Servers.{directory_holders, may_open_directory, directory_of, with_opened, with_listing, without_directory};
 
 use super::Server;
 use crate::directory::OpenDirectory;
@@ -56,7 +56,7 @@ impl Server {
     /// A user has opened a directory at [`Server::next_directory`].
     pub fn add_directory(&mut self, owner: u32, inode: u32)
         requires { 1 ≤ self.old.room }
-        ensures kept { self.new.server ≡ opened owner inode self.old.server }
+        ensures kept { self.new.server ≡ with_opened owner inode self.old.server }
         ensures room { self.old.room ≤ self.new.room + 1 }
     {
         let directory = OpenDirectory {

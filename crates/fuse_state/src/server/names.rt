@@ -1,67 +1,67 @@
 //! Names that were found and still stand.
 ghost use Rattle.std.specs.Prelude.{◌≡◌, ◌+◌, ◌^◌, ◌<◌, ◌≤◌, slice_get, option_copied, Some, None, IsNone, IsSome, IfSome};
-ghost use Rattle.fuse_state.specs.declared.place.Place.{Place as PlaceOf};
-ghost use Rattle.fuse_state.specs.Servers.{named, places_of, place_of, with_name, without_name, once_more, born};
+ghost use Rattle.fuse_state.specs.declared.dentry.Dentry.{Dentry as PlaceOf};
+ghost use Rattle.fuse_state.specs.Servers.{number_named, places_of, place_of, with_dentry, without_name, once_more, with_new_object};
 
 use super::Server;
 use crate::borrower::Borrower;
-use crate::place::Place;
+use crate::dentry::Dentry;
 use crate::times::Times;
 use fs_model::{Call, FileType, Name};
 use fuse_protocol::Time;
 
 impl Server {
     /// The inode that a name leads to.
-    pub fn named(&self, place: &Place) -> Option<u32>
-        ensures { result ≡ named self.now.server place.now }
+    pub fn named(&self, dentry: &Dentry) -> Option<u32>
+        ensures { result ≡ number_named self.now.server dentry.now }
     {
-        self.names.get(place)
+        self.names.get(dentry)
     }
 
     /// The first name by which an object is known.
-    pub fn place_of(&self, inode: u32) -> Option<&Place>
+    pub fn place_of(&self, inode: u32) -> Option<&Dentry>
         ensures { option_copied result ≡ place_of self.now.server inode }
     {
         self.names.place_of(inode, 0)
     }
 
     // A name leads to an object of this kind, and to no other.
-    pub(super) fn add_name(&mut self, place: Place, inode: u32, kind: FileType)
+    pub(super) fn add_name(&mut self, dentry: Dentry, inode: u32, kind: FileType)
         requires { 1 ≤ self.old.room }
-        ensures kept { self.new.server ≡ with_name place inode kind self.old.server }
+        ensures kept { self.new.server ≡ with_dentry dentry inode kind self.old.server }
         ensures room { self.old.room ≤ self.new.room + 1 }
     {
         self.kinds.put(u64::from(inode), kind);
-        self.names.put(place, inode);
+        self.names.put(dentry, inode);
         self.room -= 1;
     }
 
     // The same, and the kernel is told of the object.
-    pub(super) fn add_found(&mut self, place: Place, inode: u32, kind: FileType)
+    pub(super) fn add_found(&mut self, dentry: Dentry, inode: u32, kind: FileType)
         requires { 1 ≤ self.old.room }
-        ensures kept { self.new.server ≡ once_more inode (with_name place inode kind self.old.server) }
+        ensures kept { self.new.server ≡ once_more inode (with_dentry dentry inode kind self.old.server) }
         ensures room { self.old.room ≤ self.new.room + 1 }
     {
         let node = self.node_of(inode);
         let count = self.next_lookups(node);
         self.lookups.put(node, count);
         self.kinds.put(u64::from(inode), kind);
-        self.names.put(place, inode);
+        self.names.put(dentry, inode);
         self.room -= 1;
     }
 
     /// A name is gone.
-    pub fn remove_name(&mut self, place: &Place)
-        ensures kept { self.new.server ≡ without_name place.now self.old.server }
+    pub fn remove_name(&mut self, dentry: &Dentry)
+        ensures kept { self.new.server ≡ without_name dentry.now self.old.server }
         ensures room { self.new.room ≡ self.old.room }
     {
-        self.names.remove(place);
+        self.names.remove(dentry);
     }
 
     /// A new object has the inode, and a name.
-    pub fn add_object(&mut self, now: Time, place: Place, inode: u32, kind: FileType)
+    pub fn add_object(&mut self, now: Time, dentry: Dentry, inode: u32, kind: FileType)
         requires { 4 ≤ self.old.room }
-        ensures kept { self.new.server ≡ born now place inode kind self.old.server }
+        ensures kept { self.new.server ≡ with_new_object now dentry inode kind self.old.server }
         ensures room { self.old.room ≤ self.new.room + 4 }
     {
         self.add_generation(inode);
@@ -73,8 +73,8 @@ impl Server {
                 ctime: now,
             },
         );
-        let directory = place.directory;
-        self.add_found(place, inode, kind);
+        let directory = dentry.directory;
+        self.add_found(dentry, inode, kind);
         self.touch(now, directory);
     }
 

@@ -1,7 +1,7 @@
 //! Nodes, by which the kernel names objects: an inode's number, and how often it was given to a new object.
 ghost use Rattle.std.specs.Prelude.{◌≡◌, ◌+◌, ◌≤◌};
 ghost use Rattle.fuse_state.specs.Changes.{is_gone, renewed};
-ghost use Rattle.fuse_state.specs.Servers.{generation_of, with_generation, kind_of, node_of, number_of};
+ghost use Rattle.fuse_state.specs.Servers.{generation_of, with_generation, kind_known, node_of, number_of_node};
 
 use super::Server;
 use fs_layout::ROOT;
@@ -59,7 +59,7 @@ impl Server {
 
     /// What the inode holds, if the kernel was told of it.
     pub fn kind_of(&self, inode: u32) -> Option<FileType>
-        ensures { result ≡ kind_of self.now.server inode }
+        ensures { result ≡ kind_known self.now.server inode }
     {
         self.kinds.get(u64::from(inode)).copied()
     }
@@ -73,7 +73,7 @@ impl Server {
 
     /// The inode of a node, unless that is stale.
     pub fn number_of(&self, node: u64) -> Option<u32>
-        ensures { result ≡ number_of self.now.server node }
+        ensures { result ≡ number_of_node self.now.server node }
     {
         let inode = (node % NUMBERS) as u32;
         let is_known = self.kind_of(inode).is_some();

@@ -1,7 +1,7 @@
 //! Processes: those of callers, by their credentials.
 ghost use Rattle.std.specs.Prelude.{◌≡◌, ◌+◌, ◌≤◌, length};
 ghost use Rattle.fuse_state.specs.Shares.{count_of};
-ghost use Rattle.fuse_state.specs.Servers.{held_by, holds_some, has_room, is_same_credential, first_process, partly_used, idle_process, next_idle, is_process, process_holders, may_take_process, with_process, without_process};
+ghost use Rattle.fuse_state.specs.Servers.{held_by, holds_some, has_room, is_same_credential, first_process, partly_used, idle_process, next_idle, is_process, process_holders, may_take_process, with_known_process, without_process};
 
 use super::Server;
 use crate::handle::owner_of;
@@ -134,7 +134,7 @@ impl Server {
     /// A process has begun.
     pub fn add_process(&mut self, pid: usize, cred: Cred)
         requires { 1 ≤ self.old.room }
-        ensures kept { self.new.server ≡ with_process pid cred self.old.server }
+        ensures kept { self.new.server ≡ with_known_process pid cred self.old.server }
         ensures room { self.old.room ≤ self.new.room + 1 }
     {
         self.processes.put(pid as u64, cred);

@@ -1,6 +1,6 @@
 //! Times of objects.
 ghost use Rattle.std.specs.Prelude.{◌≡◌, ◌+◌, ◌≤◌};
-ghost use Rattle.fuse_state.specs.Servers.{times_of, with_times, touched, changed};
+ghost use Rattle.fuse_state.specs.Servers.{times_of, with_times_of, with_new_contents, with_change_time};
 
 use super::Server;
 use crate::times::Times;
@@ -22,7 +22,7 @@ impl Server {
     /// An object has these times, where the disk keeps none.
     pub fn set_times(&mut self, inode: u32, times: Times)
         requires { 1 ≤ self.old.room }
-        ensures kept { self.new.server ≡ with_times inode times self.old.server }
+        ensures kept { self.new.server ≡ with_times_of inode times self.old.server }
         ensures room { self.old.room ≤ self.new.room + 1 }
     {
         if self.settings.keeps_times {
@@ -35,7 +35,7 @@ impl Server {
     /// The contents of an object have changed.
     pub fn touch(&mut self, now: Time, inode: u32)
         requires { 1 ≤ self.old.room }
-        ensures kept { self.new.server ≡ touched now inode self.old.server }
+        ensures kept { self.new.server ≡ with_new_contents now inode self.old.server }
         ensures room { self.old.room ≤ self.new.room + 1 }
     {
         let times = self.times_of(inode);
@@ -52,7 +52,7 @@ impl Server {
     /// Something else of an object has changed.
     pub fn change(&mut self, now: Time, inode: u32)
         requires { 1 ≤ self.old.room }
-        ensures kept { self.new.server ≡ changed now inode self.old.server }
+        ensures kept { self.new.server ≡ with_change_time now inode self.old.server }
         ensures room { self.old.room ≤ self.new.room + 1 }
     {
         let times = self.times_of(inode);

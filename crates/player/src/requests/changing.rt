@@ -42,20 +42,20 @@ pub fn change(chance: &mut Chance, request: &mut Vec<u8>) -> Result<(), AllocErr
 
 fn change_once(chance: &mut Chance, request: &mut Vec<u8>) -> Result<(), AllocError> {
     let front = FRONT_SIZE.min(request.len() as u64);
-    let place = chance.below(front).max(4);
+    let dentry = chance.below(front).max(4);
     let value = one_of(chance, &NUMBERS);
     let kind = chance.below(10);
     if kind == 6 {
         return change_length(chance, request);
     }
-    let (place, size, number) = any_number(chance, kind, place, value);
-    put(request, place, size, number);
+    let (dentry, size, number) = any_number(chance, kind, dentry, value);
+    put(request, dentry, size, number);
     Ok(())
 }
 
 // Where a number is put, in how many bytes, and which one.
-fn any_number(chance: &mut Chance, kind: u64, place: u64, value: u64) -> (u64, usize, u64) {
-    let aligned = (place / 4).saturating_mul(4);
+fn any_number(chance: &mut Chance, kind: u64, dentry: u64, value: u64) -> (u64, usize, u64) {
+    let aligned = (dentry / 4).saturating_mul(4);
     match kind {
         0 => (aligned, 4, value),
         1 => (aligned, 8, value),
@@ -63,15 +63,15 @@ fn any_number(chance: &mut Chance, kind: u64, place: u64, value: u64) -> (u64, u
         3 => (16, 8, any_node(chance)),
         4 => any_user(chance),
         5 => (4, 4, chance.below(54)),
-        _ => (place, 1, chance.below(256)),
+        _ => (dentry, 1, chance.below(256)),
     }
 }
 
 // Who asks is another user, or another group.
 fn any_user(chance: &mut Chance) -> (u64, usize, u64) {
     let user = one_of(chance, &USERS);
-    let place = chance.below(2).saturating_mul(4).saturating_add(24);
-    (place, 4, user)
+    let dentry = chance.below(2).saturating_mul(4).saturating_add(24);
+    (dentry, 4, user)
 }
 
 fn one_of(chance: &mut Chance, numbers: &[u64]) -> u64 {
@@ -94,18 +94,18 @@ fn change_length(chance: &mut Chance, request: &mut Vec<u8>) -> Result<(), Alloc
 }
 
 // Puts the lowest bytes of a number there.
-fn put(request: &mut [u8], place: u64, size: usize, number: u64) {
-    let places = request.iter_mut().skip(place as usize).take(size);
+fn put(request: &mut [u8], dentry: u64, size: usize, number: u64) {
+    let places = request.iter_mut().skip(dentry as usize).take(size);
     for (byte, new) in places.zip(number.to_le_bytes()) {
         *byte = new;
     }
 }
 
 /// The number whose lowest byte comes first.
-pub fn number_at(bytes: &[u8], place: usize, size: usize) -> u64 {
+pub fn number_at(bytes: &[u8], dentry: usize, size: usize) -> u64 {
     let mut number: u64 = 0;
     let mut weight: u64 = 1;
-    for byte in bytes.iter().skip(place).take(size) {
+    for byte in bytes.iter().skip(dentry).take(size) {
         number = number.wrapping_add(weight.wrapping_mul(u64::from(*byte)));
         weight = weight.wrapping_mul(256);
     }

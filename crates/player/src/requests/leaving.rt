@@ -186,7 +186,7 @@ fn remove_below(alloc: Global, fs: &mut Fs<MemDisk>, above: &mut Vec<u32>) -> an
     bail!("too many names")
 }
 
-// Whether the looker stands in this directory from now on.
+// Whether the server process stands in this directory from now on.
 fn enters(fs: &mut Fs<MemDisk>, directory: u32) -> bool {
     fs.enter(LOOKER, directory, directory).is_ok()
 }
@@ -206,7 +206,7 @@ fn remove_first(alloc: Global, fs: &mut Fs<MemDisk>, above: &mut Vec<u32>) -> an
     Ok(())
 }
 
-// Opens the directory that the looker stands in.
+// Opens the directory that the server process stands in.
 fn open_here(alloc: Global, fs: &mut Fs<MemDisk>) -> anyhow::Result<usize> {
     let call = Call::Open(path(alloc, b".")?, LISTED, 0);
     match asked(fs, LOOKER, call) {
@@ -234,7 +234,7 @@ fn is_own(named: &Named) -> bool {
     named.name.bytes() == b".".as_slice() || named.name.bytes() == b"..".as_slice()
 }
 
-// The first name in the directory that the looker stands in.
+// The first name in the directory that the server process stands in.
 fn first_named(alloc: Global, fs: &mut Fs<MemDisk>) -> anyhow::Result<Option<Named>> {
     let fd = open_here(alloc, fs)?;
     let listing = names_in(alloc, fs, fd)?;

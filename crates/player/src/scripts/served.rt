@@ -199,9 +199,9 @@ fn push_summary(seen: &mut String, summary: &Summary) -> Result<(), AllocError> 
 // Puts bytes on a disk: the words are the sector, the place in it, and the bytes.
 fn put<D: Disk>(disk: &mut D, words: &str) -> anyhow::Result<()> {
     let (sector, words) = number_before(words)?;
-    let (place, bytes) = number_before(words)?;
+    let (dentry, bytes) = number_before(words)?;
     let mut content = content_of(disk, sector)?;
-    set_bytes(&mut content, place, bytes)?;
+    set_bytes(&mut content, dentry, bytes)?;
     if !put_stable(disk, sector, &content) {
         bail!("the disk failed");
     }
@@ -226,10 +226,10 @@ fn content_of<D: Disk>(disk: &mut D, sector: u32) -> anyhow::Result<[u8; 512]> {
 }
 
 // Sets the bytes from a place on.
-fn set_bytes(content: &mut [u8], place: u32, words: &str) -> anyhow::Result<()> {
+fn set_bytes(content: &mut [u8], dentry: u32, words: &str) -> anyhow::Result<()> {
     for (byte, word) in content
         .iter_mut()
-        .skip(place as usize)
+        .skip(dentry as usize)
         .zip(words.split(' '))
     {
         *byte = word.parse::<u8>()?;

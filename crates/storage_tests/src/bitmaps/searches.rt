@@ -35,8 +35,8 @@ fn searched(rows: &[Search]) -> usize {
     for (i, (bytes, lowest)) in rows.iter().enumerate() {
         let mut sector = [0xff; 512];
         for (at, byte) in *bytes {
-            if let Some(place) = sector.get_mut(*at) {
-                *place = *byte;
+            if let Some(geometry) = sector.get_mut(*at) {
+                *geometry = *byte;
             }
         }
         if first_clear(&sector) != *lowest {

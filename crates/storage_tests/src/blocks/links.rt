@@ -2,7 +2,7 @@
 
 ghost use Rattle.std.specs.Prelude.{◌≤◌, OnOk};
 ghost use Rattle.fs_layout.specs.Header.{log_end};
-ghost use Rattle.fs_layout.specs.Place.{IsPlace};
+ghost use Rattle.fs_layout.specs.Geometry.{IsGeometry};
 ghost use Rattle.sector_txn.specs.Sectors.{IsUnchanged};
 ghost use Rattle.bit_alloc.specs.Bitmaps.{HasBitmaps};
 ghost use Rattle.bit_alloc.specs.Inodes.{IsSound};
@@ -14,7 +14,7 @@ use crate::maps::{end, map_of_version};
 use bit_alloc::{Bitmap, count_free};
 use blank_map::{Counted, is_blank, put_blank};
 use block_map::{free_all, new_link};
-use fs_layout::{Place, Version};
+use fs_layout::{Geometry, Version};
 use sector_txn::Sectors;
 use std::alloc::Global;
 use std::test::Fail;
@@ -28,56 +28,60 @@ type Counts = (u32, u32);
 // What is free before a link is made, then, and after it is freed; and what the two calls cost.
 type Life = ([Free; 3], [Counts; 2]);
 
-fn free<S: Sectors>(s: &mut S, place: Place) -> Result<Free, Fail>
-    requires { HasBitmaps place (S.state s.old) }
+fn free<S: Sectors>(s: &mut S, geometry: Geometry) -> Result<Free, Fail>
+    requires { HasBitmaps geometry (S.state s.old) }
     ensures { OnOk result (IsUnchanged (S.state s.old) (S.state s.new)) }
 {
-    let inodes = count_free(s, place, Bitmap::Inodes)?;
-    let blocks = count_free(s, place, Bitmap::Blocks)?;
+    let inodes = count_free(s, geometry, Bitmap::Inodes)?;
+    let blocks = count_free(s, geometry, Bitmap::Blocks)?;
     Ok((inodes, blocks))
 }
 
-fn life<S: Sectors>(s: &mut Counted<S>, place: Place, target: &[u8]) -> Result<Life, Fail>
-    requires sound { IsSound place (S.state s.old.inner) }
-    requires clear { ClearAreFree place (S.state s.old.inner).sectors }
-    requires spare { HasSpare place 12 (S.state s.old.inner) }
+fn life<S: Sectors>(s: &mut Counted<S>, geometry: Geometry, target: &[u8]) -> Result<Life, Fail>
+    requires sound { IsSound geometry (S.state s.old.inner) }
+    requires clear { ClearAreFree geometry (S.state s.old.inner).sectors }
+    requires spare { HasSpare geometry 12 (S.state s.old.inner) }
 {
     if target.is_empty() || target.len() > 512 {
         return Err(Fail::new("no target"));
     }
-    let before = free(s, place)?;
+    let before = free(s, geometry)?;
     s.gets = 0;
     s.puts = 0;
-    let Ok(n) = new_link(s, place, 1000, 100, target) else {
+    let Ok(n) = new_link(s, geometry, 1000, 100, target) else {
         return Err(Fail::new("not made"));
     };
     let made = (s.gets, s.puts);
-    let between = free(s, place)?;
+    let between = free(s, geometry)?;
     s.gets = 0;
     s.puts = 0;
-    free_all(s, place, n)?;
+    free_all(s, geometry, n)?;
     let freed = (s.gets, s.puts);
-    let after = free(s, place)?;
+    let after = free(s, geometry)?;
     Ok(([before, between, after], [made, freed]))
 }
 
 // The same on a map without inodes.
-fn life_on_blank<S: Sectors>(s: &mut Counted<S>, place: Place, target: &[u8]) -> Result<Life, Fail>
-    requires place { IsPlace place }
-    requires disk { place.sectors ≤ (S.state s.old.inner).disk.size }
-    requires header { log_end (S.state s.old.inner).header ≤ place.inode_bitmap }
+fn life_on_blank<S: Sectors>(
+    s: &mut Counted<S>,
+    geometry: Geometry,
+    target: &[u8],
+) -> Result<Life, Fail>
+    requires geometry { IsGeometry geometry }
+    requires disk { geometry.sectors ≤ (S.state s.old.inner).disk.size }
+    requires header { log_end (S.state s.old.inner).header ≤ geometry.inode_bitmap }
 {
-    put_blank(s, place);
-    if !is_blank(s, place)? {
+    put_blank(s, geometry);
+    if !is_blank(s, geometry)? {
         return Err(Fail::new("not blank"));
     }
-    life(s, place, target)
+    life(s, geometry, target)
 }
 
 // The same on a new disk of this version.
 fn life_on_disk(alloc: Global, version: Version, target: &[u8]) -> Result<Life, Fail> {
-    let (place, mut s) = map_of_version(alloc, version, SECTORS, INODES)?;
-    let seen = life_on_blank(&mut s, place, target);
+    let (geometry, mut s) = map_of_version(alloc, version, SECTORS, INODES)?;
+    let seen = life_on_blank(&mut s, geometry, target);
     end(s);
     seen
 }

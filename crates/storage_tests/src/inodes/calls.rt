@@ -2,7 +2,7 @@
 
 ghost use Rattle.std.specs.Prelude.{◌≡◌, ◌≤◌, ◌<◌, [], IfOk, OnOk};
 ghost use Rattle.fs_layout.specs.Header.{log_end};
-ghost use Rattle.fs_layout.specs.Place.{IsPlace};
+ghost use Rattle.fs_layout.specs.Geometry.{IsGeometry};
 ghost use Rattle.fs_layout.specs.Images.{Holds, inode_at};
 ghost use Rattle.fs_layout.specs.Inode.{FitsInode};
 ghost use Rattle.bit_alloc.specs.declared.bitmap.Bitmap.TheVariants.{Inodes};
@@ -14,7 +14,7 @@ ghost use Rattle.inode_table.specs.Inodes.{ClearAreFree};
 use super::{INODES, SECTORS};
 use crate::maps::{end, new_map, parsed};
 use blank_map::{Counted, is_blank, put_blank};
-use fs_layout::{Inode, Kind, Place};
+use fs_layout::{Geometry, Inode, Kind};
 use inode_table::{
     free_inode, load, load_acl, load_default_acl, new_inode, save, save_acl, save_default_acl,
     write_inode,
@@ -68,41 +68,41 @@ fn is_first(n: u32, made: &Inode, has_access: bool, has_default: bool) -> bool {
 pub(super) fn made<S: Sectors>(
     alloc: Global,
     s: &mut Counted<S>,
-    place: Place,
+    geometry: Geometry,
     inode: &Inode,
     access: &Acl,
     default: Option<&Acl>,
 ) -> Result<(u32, [Counts; 4], bool), Fail>
-    requires sound { IsSound place (S.state s.old.inner) }
-    requires clear { ClearAreFree place (S.state s.old.inner).sectors }
+    requires sound { IsSound geometry (S.state s.old.inner) }
+    requires clear { ClearAreFree geometry (S.state s.old.inner).sectors }
     requires blank { IsBlank inode.now }
     requires fits { FitsInode inode.now }
-    requires spare { HasSpare place 12 (S.state s.old.inner) }
-    ensures sound { OnOk result (IsSound place (S.state s.new.inner)) }
-    ensures number { IfOk result (λ r. IsNumber place Inodes r.0) }
-    ensures empty { IfOk result (λ r. Holds (S.state s.new.inner).sectors (inode_at place (S.state s.new.inner).sectors r.0) []) }
+    requires spare { HasSpare geometry 12 (S.state s.old.inner) }
+    ensures sound { OnOk result (IsSound geometry (S.state s.new.inner)) }
+    ensures number { IfOk result (λ r. IsNumber geometry Inodes r.0) }
+    ensures empty { IfOk result (λ r. Holds (S.state s.new.inner).sectors (inode_at geometry (S.state s.new.inner).sectors r.0) []) }
 {
     let mut counts = [(0, 0); 4];
     s.gets = 0;
     s.puts = 0;
-    let Ok(n) = new_inode(s, place, inode, access, default) else {
+    let Ok(n) = new_inode(s, geometry, inode, access, default) else {
         return Err(Fail::new("not made"));
     };
     counts[0] = (s.gets, s.puts);
     s.gets = 0;
     s.puts = 0;
-    let made = load(s, place, n)?;
+    let made = load(s, geometry, n)?;
     counts[1] = (s.gets, s.puts);
     s.gets = 0;
     s.puts = 0;
-    let Ok(read) = load_acl(alloc, s, place, &made) else {
+    let Ok(read) = load_acl(alloc, s, geometry, &made) else {
         return Err(Fail::new("no access ACL"));
     };
     counts[2] = (s.gets, s.puts);
     let same = is_as(read, access);
     s.gets = 0;
     s.puts = 0;
-    let Ok(read_default) = load_default_acl(alloc, s, place, &made) else {
+    let Ok(read_default) = load_default_acl(alloc, s, geometry, &made) else {
         return Err(Fail::new("no default ACL"));
     };
     counts[3] = (s.gets, s.puts);
@@ -121,20 +121,20 @@ enum Save {
 // What a save of file n costs, as it is or with one of these ACLs.
 fn saved<S: Sectors>(
     s: &mut Counted<S>,
-    place: Place,
+    geometry: Geometry,
     n: u32,
     save_as: Save,
     access: &Acl,
     default: Option<&Acl>,
 ) -> Result<Counts, Fail>
-    requires sound { IsSound place (S.state s.old.inner) }
-    requires below { n < place.inodes }
-    ensures sound { OnOk result (IsSound place (S.state s.new.inner)) }
-    ensures empty { OnOk result (Holds (S.state s.old.inner).sectors (inode_at place (S.state s.old.inner).sectors n) []
-        → Holds (S.state s.new.inner).sectors (inode_at place (S.state s.new.inner).sectors n) []) }
+    requires sound { IsSound geometry (S.state s.old.inner) }
+    requires below { n < geometry.inodes }
+    ensures sound { OnOk result (IsSound geometry (S.state s.new.inner)) }
+    ensures empty { OnOk result (Holds (S.state s.old.inner).sectors (inode_at geometry (S.state s.old.inner).sectors n) []
+        → Holds (S.state s.new.inner).sectors (inode_at geometry (S.state s.new.inner).sectors n) []) }
 {
-    let inode = load(s, place, n)?;
-    if s.room() < (place.table - place.inode_bitmap) as usize + 2 {
+    let inode = load(s, geometry, n)?;
+    if s.room() < (geometry.table - geometry.inode_bitmap) as usize + 2 {
         return Err(Fail::new("no room"));
     }
     let Kind::File = inode.kind else {
@@ -144,19 +144,19 @@ fn saved<S: Sectors>(
     s.puts = 0;
     match save_as {
         Save::Inode => {
-            write_inode(s, place, n, &inode)?;
+            write_inode(s, geometry, n, &inode)?;
             Ok((s.gets, s.puts))
         }
         Save::Attributes => {
-            save(s, place, n, &inode)?;
+            save(s, geometry, n, &inode)?;
             Ok((s.gets, s.puts))
         }
         Save::Access => {
-            save_acl(s, place, n, &inode, access)?;
+            save_acl(s, geometry, n, &inode, access)?;
             Ok((s.gets, s.puts))
         }
         Save::Default => {
-            save_default_acl(s, place, n, &inode, default)?;
+            save_default_acl(s, geometry, n, &inode, default)?;
             Ok((s.gets, s.puts))
         }
     }
@@ -165,22 +165,22 @@ fn saved<S: Sectors>(
 // The same of all saves, one after the other.
 fn saves<S: Sectors>(
     s: &mut Counted<S>,
-    place: Place,
+    geometry: Geometry,
     n: u32,
     access: &Acl,
     default: Option<&Acl>,
 ) -> Result<[Counts; 4], Fail>
-    requires sound { IsSound place (S.state s.old.inner) }
-    requires below { n < place.inodes }
-    ensures sound { OnOk result (IsSound place (S.state s.new.inner)) }
-    ensures empty { OnOk result (Holds (S.state s.old.inner).sectors (inode_at place (S.state s.old.inner).sectors n) []
-        → Holds (S.state s.new.inner).sectors (inode_at place (S.state s.new.inner).sectors n) []) }
+    requires sound { IsSound geometry (S.state s.old.inner) }
+    requires below { n < geometry.inodes }
+    ensures sound { OnOk result (IsSound geometry (S.state s.new.inner)) }
+    ensures empty { OnOk result (Holds (S.state s.old.inner).sectors (inode_at geometry (S.state s.old.inner).sectors n) []
+        → Holds (S.state s.new.inner).sectors (inode_at geometry (S.state s.new.inner).sectors n) []) }
 {
     Ok([
-        saved(s, place, n, Save::Inode, access, default)?,
-        saved(s, place, n, Save::Attributes, access, default)?,
-        saved(s, place, n, Save::Access, access, default)?,
-        saved(s, place, n, Save::Default, access, default)?,
+        saved(s, geometry, n, Save::Inode, access, default)?,
+        saved(s, geometry, n, Save::Attributes, access, default)?,
+        saved(s, geometry, n, Save::Access, access, default)?,
+        saved(s, geometry, n, Save::Default, access, default)?,
     ])
 }
 
@@ -194,13 +194,13 @@ type Life = ([Counts; 4], [Counts; 4], Counts, bool);
 fn life<S: Sectors>(
     alloc: Global,
     s: &mut Counted<S>,
-    place: Place,
+    geometry: Geometry,
     first: Acls,
     then: Acls,
 ) -> Result<Life, Fail>
-    requires sound { IsSound place (S.state s.old.inner) }
-    requires clear { ClearAreFree place (S.state s.old.inner).sectors }
-    requires spare { HasSpare place 12 (S.state s.old.inner) }
+    requires sound { IsSound geometry (S.state s.old.inner) }
+    requires clear { ClearAreFree geometry (S.state s.old.inner).sectors }
+    requires spare { HasSpare geometry 12 (S.state s.old.inner) }
 {
     let inode = Inode {
         kind: Kind::File,
@@ -208,14 +208,14 @@ fn life<S: Sectors>(
         names: 1,
         ..Inode::FREE
     };
-    let (n, made, same) = made(alloc, s, place, &inode, first.0, first.1)?;
-    let saved = saves(s, place, n, then.0, then.1)?;
-    if s.room() <= (place.table - place.inode_bitmap) as usize {
+    let (n, made, same) = made(alloc, s, geometry, &inode, first.0, first.1)?;
+    let saved = saves(s, geometry, n, then.0, then.1)?;
+    if s.room() <= (geometry.table - geometry.inode_bitmap) as usize {
         return Err(Fail::new("no room"));
     }
     s.gets = 0;
     s.puts = 0;
-    free_inode(s, place, n)?;
+    free_inode(s, geometry, n)?;
     Ok((made, saved, (s.gets, s.puts), same))
 }
 
@@ -223,25 +223,25 @@ fn life<S: Sectors>(
 fn life_on_blank<S: Sectors>(
     alloc: Global,
     s: &mut Counted<S>,
-    place: Place,
+    geometry: Geometry,
     first: Acls,
     then: Acls,
 ) -> Result<Life, Fail>
-    requires place { IsPlace place }
-    requires disk { place.sectors ≤ (S.state s.old.inner).disk.size }
-    requires header { log_end (S.state s.old.inner).header ≤ place.inode_bitmap }
+    requires geometry { IsGeometry geometry }
+    requires disk { geometry.sectors ≤ (S.state s.old.inner).disk.size }
+    requires header { log_end (S.state s.old.inner).header ≤ geometry.inode_bitmap }
 {
-    put_blank(s, place);
-    if !is_blank(s, place)? {
+    put_blank(s, geometry);
+    if !is_blank(s, geometry)? {
         return Err(Fail::new("not blank"));
     }
-    life(alloc, s, place, first, then)
+    life(alloc, s, geometry, first, then)
 }
 
 // The same on a new disk.
 fn life_on_disk(alloc: Global, first: Acls, then: Acls) -> Result<Life, Fail> {
-    let (place, mut s) = new_map(alloc, SECTORS, INODES)?;
-    let seen = life_on_blank(alloc, &mut s, place, first, then);
+    let (geometry, mut s) = new_map(alloc, SECTORS, INODES)?;
+    let seen = life_on_blank(alloc, &mut s, geometry, first, then);
     end(s);
     seen
 }

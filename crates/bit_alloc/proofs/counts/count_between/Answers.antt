@@ -13,7 +13,7 @@ loop-k-init g c = record { same = unchanged_nothing; some = omega arith; all = �
 pub loop-k-preserved : goal.loop-k-preserved
 loop-k-preserved g c =
     let image : SectorMap = (g.S.Sectors.state c.args.s.now).sectors in
-    let start : ℕ = first_sector c.args.place c.args.map in
+    let start : ℕ = first_sector c.args.geometry c.args.map in
     let sector : List ℕ = c.get.new.to in
     let so_far = c.loop-k.invariant in
     let here : sector ≡ image (start + c.loop-k.k) =
@@ -35,19 +35,19 @@ overflow_add-free g c =
     omega (
       arith,
       c.loop-k.invariant.some,
-      counted_at_most image (first_sector c.args.place c.args.map) (4096 * c.loop-k.k),
+      counted_at_most image (first_sector c.args.geometry c.args.map) (4096 * c.loop-k.k),
       c.count_clear_up_to-free.ensures.some,
       counted_at_most (λ _. sector) 0 4096,
       c.loop-k-test.true,
       c.requires.range.1,
-      few_bits c.args.place c.args.map c.requires.bitmaps.place,
+      few_bits c.args.geometry c.args.map c.requires.bitmaps.geometry,
     )
 
 -- the count so far is at most all
 pub returns-then-free-enough-clause-some : goal.returns-then-free-enough-clause-some
 returns-then-free-enough-clause-some g c =
     let image : SectorMap = (g.S.Sectors.state c.args.s.now).sectors in
-    let start : ℕ = first_sector c.args.place c.args.map in
+    let start : ℕ = first_sector c.args.geometry c.args.map in
     let within : 4096 * c.loop-k.k ≤ 4096 * c.args.to = omega (arith, c.loop-k-test.true) in
     omega (arith, c.loop-k.invariant.some, fewer_counted image start (4096 * c.loop-k.k) (4096 * c.args.to) within)
 
@@ -55,14 +55,14 @@ returns-then-free-enough-clause-some g c =
 pub returns-clause-some : goal.returns-clause-some
 returns-clause-some g c =
     let image : SectorMap = (g.S.Sectors.state c.args.s.now).sectors in
-    let start : ℕ = first_sector c.args.place c.args.map in
+    let start : ℕ = first_sector c.args.geometry c.args.map in
     let within : 4096 * c.loop-k.k ≤ 4096 * c.args.to = omega (arith, c.loop-k.auto.k-end, c.requires.range.0) in
     omega (arith, c.loop-k.invariant.some, fewer_counted image start (4096 * c.loop-k.k) (4096 * c.args.to) within)
 
 pub returns-clause-all : goal.returns-clause-all
 returns-clause-all g c = λ less.
     let image : SectorMap = (g.S.Sectors.state c.args.s.now).sectors in
-    let start : ℕ = first_sector c.args.place c.args.map in
+    let start : ℕ = first_sector c.args.geometry c.args.map in
     let all : 4096 * c.loop-k.k ≡ 4096 * c.args.to = omega (arith, c.loop-k.auto.k-end, c.loop-k-test.false, c.requires.range.0) in
     let end : clear_below image start (4096 * c.loop-k.k) ≡ clear_below image start (4096 * c.args.to) = ap (clear_below image start) all in
     omega (arith, c.loop-k.invariant.all less, end)

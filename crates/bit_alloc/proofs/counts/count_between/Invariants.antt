@@ -7,8 +7,8 @@ use Rattle.bit_alloc.proofs.counts.count_between.Given as goal
 abbrev pub invariant-loop-k : goal.invariant-loop-k
 invariant-loop-k g l = record {
   same : IsUnchanged (g.S.Sectors.state l.initial.s) (g.S.Sectors.state l.s);
-  some : clear_below (g.S.Sectors.state l.initial.s).sectors (first_sector l.place l.map) (4096 * l.from) + l.free
-      ≤ clear_below (g.S.Sectors.state l.initial.s).sectors (first_sector l.place l.map) (4096 * l.k);
-  all : l.free < l.enough → clear_below (g.S.Sectors.state l.initial.s).sectors (first_sector l.place l.map) (4096 * l.from) + l.free
-      ≡ clear_below (g.S.Sectors.state l.initial.s).sectors (first_sector l.place l.map) (4096 * l.k);
+  some : clear_below (g.S.Sectors.state l.initial.s).sectors (first_sector l.geometry l.map) (4096 * l.from) + l.free
+      ≤ clear_below (g.S.Sectors.state l.initial.s).sectors (first_sector l.geometry l.map) (4096 * l.k);
+  all : l.free < l.enough → clear_below (g.S.Sectors.state l.initial.s).sectors (first_sector l.geometry l.map) (4096 * l.from) + l.free
+      ≡ clear_below (g.S.Sectors.state l.initial.s).sectors (first_sector l.geometry l.map) (4096 * l.k);
 }

@@ -1,6 +1,6 @@
 use Rattle.std.proofs.Common.{◌≡◌, ◌+◌, ◌*◌, ◌≤◌, ◌<◌, ◌∙◌, ℕ, ap, sym, arith}
 use Rattle.fs_layout.specs.Bytes.{SectorMap}
-use Rattle.fs_layout.specs.declared.place.Place.{Place}
+use Rattle.fs_layout.specs.declared.geometry.Geometry.{Geometry}
 use Rattle.bit_alloc.specs.declared.bitmap.Bitmap.{Bitmap}
 use Rattle.sector_txn.specs.Sectors.{TxnState}
 use Rattle.bit_alloc.specs.Bits.{clear_below}
@@ -10,18 +10,18 @@ use Rattle.bit_alloc.proofs.Maps.{none_counted, numbers_counted, few_free}
 use Rattle.bit_alloc.proofs.counts.count_up_to.Goals as goal
 
 -- what the whole bitmap has clear are its free numbers
-all_counted : (p : Place) (map : Bitmap) (txn : TxnState) (sectors : ℕ) → HasBitmaps p txn → 4096 * sectors ≡ bit_count p map
+all_counted : (p : Geometry) (map : Bitmap) (txn : TxnState) (sectors : ℕ) → HasBitmaps p txn → 4096 * sectors ≡ bit_count p map
     → clear_below txn.sectors (first_sector p map) (4096 * sectors) ≡ free_numbers p map txn.sectors
-all_counted p map txn sectors has all = ap (clear_below txn.sectors (first_sector p map)) all ∙ numbers_counted p map txn.sectors has.place has.rest
+all_counted p map txn sectors has all = ap (clear_below txn.sectors (first_sector p map)) all ∙ numbers_counted p map txn.sectors has.geometry has.rest
 
 pub returns-then-free-enough-clause-some : goal.returns-then-free-enough-clause-some
 returns-then-free-enough-clause-some g c =
-    let total = all_counted c.args.place c.args.map (g.S.Sectors.state c.args.s.now) c.sectors-sectors.result c.requires c.sectors-sectors.ensures in
+    let total = all_counted c.args.geometry c.args.map (g.S.Sectors.state c.args.s.now) c.sectors-sectors.result c.requires c.sectors-sectors.ensures in
     omega (arith, total, c.in_ok-free.ensures.some)
 
 pub count_between-requires-2-clause-bitmaps : goal.count_between-requires-2-clause-bitmaps
 count_between-requires-2-clause-bitmaps g c =
-    bitmaps_unchanged c.args.place (g.S.Sectors.state c.args.s.now) (g.S.Sectors.state c.count_between.new.s) c.requires c.count_between.ensures.same
+    bitmaps_unchanged c.args.geometry (g.S.Sectors.state c.args.s.now) (g.S.Sectors.state c.count_between.new.s) c.requires c.count_between.ensures.same
 
 -- the sectors behind the first and those before it are all
 module _ (image other : SectorMap) (start first sectors free rest : ℕ) (same : image ≡ other) where
@@ -42,17 +42,17 @@ pub overflow_add-result : goal.overflow_add-result
 overflow_add-result g c =
     let old = g.S.Sectors.state c.args.s.now in
     let mid = g.S.Sectors.state c.count_between.new.s in
-    let total = all_counted c.args.place c.args.map old c.sectors-sectors.result c.requires c.sectors-sectors.ensures in
-    let few = no_more old.sectors mid.sectors (first_sector c.args.place c.args.map) _ c.sectors-sectors.result _ _ (map_unchanged c.count_between.ensures.same)
+    let total = all_counted c.args.geometry c.args.map old c.sectors-sectors.result c.requires c.sectors-sectors.ensures in
+    let few = no_more old.sectors mid.sectors (first_sector c.args.geometry c.args.map) _ c.sectors-sectors.result _ _ (map_unchanged c.count_between.ensures.same)
     c.in_ok-free.ensures.some c.in_ok-count_between.ensures.some in
-    omega (arith, total, few, few_free c.args.place c.args.map old.sectors c.requires.place c.requires.rest)
+    omega (arith, total, few, few_free c.args.geometry c.args.map old.sectors c.requires.geometry c.requires.rest)
 
 pub returns-clause-some : goal.returns-clause-some
 returns-clause-some g c =
     let old = g.S.Sectors.state c.args.s.now in
     let mid = g.S.Sectors.state c.count_between.new.s in
-    let total = all_counted c.args.place c.args.map old c.sectors-sectors.result c.requires c.sectors-sectors.ensures in
-    let few = no_more old.sectors mid.sectors (first_sector c.args.place c.args.map) _ c.sectors-sectors.result _ _ (map_unchanged c.count_between.ensures.same)
+    let total = all_counted c.args.geometry c.args.map old c.sectors-sectors.result c.requires c.sectors-sectors.ensures in
+    let few = no_more old.sectors mid.sectors (first_sector c.args.geometry c.args.map) _ c.sectors-sectors.result _ _ (map_unchanged c.count_between.ensures.same)
     c.in_ok-free.ensures.some c.in_ok-count_between.ensures.some in
     omega (arith, total, few)
 
@@ -60,6 +60,6 @@ pub returns-clause-all : goal.returns-clause-all
 returns-clause-all g c = λ less.
     let old = g.S.Sectors.state c.args.s.now in
     let mid = g.S.Sectors.state c.count_between.new.s in
-    let total = all_counted c.args.place c.args.map old c.sectors-sectors.result c.requires c.sectors-sectors.ensures in
-    all_of_them old.sectors mid.sectors (first_sector c.args.place c.args.map) _ c.sectors-sectors.result _ _ (map_unchanged c.count_between.ensures.same)
+    let total = all_counted c.args.geometry c.args.map old c.sectors-sectors.result c.requires c.sectors-sectors.ensures in
+    all_of_them old.sectors mid.sectors (first_sector c.args.geometry c.args.map) _ c.sectors-sectors.result _ _ (map_unchanged c.count_between.ensures.same)
     (c.in_ok-free.ensures.all (omega (arith, less))) (c.in_ok-count_between.ensures.all (omega (arith, less))) ∙ total

@@ -8,4 +8,4 @@ pub returns-clause-taken : goal.returns-clause-taken
 returns-clause-taken g c =
     let image : SectorMap = (g.S.Sectors.state c.args.s.now).sectors in
     c.has_bit.ensures
-    ∙ bit_in_byte image (first_sector c.args.place c.args.map) c.args.n c.get.new.to (c.in_ok-get.ensures.content ∙ ap (λ (m : ℕ). image (m + c.args.n / 4096)) c.first.ensures)
+    ∙ bit_in_byte image (first_sector c.args.geometry c.args.map) c.args.n c.get.new.to (c.in_ok-get.ensures.content ∙ ap (λ (m : ℕ). image (m + c.args.n / 4096)) c.first.ensures)

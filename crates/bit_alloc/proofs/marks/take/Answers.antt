@@ -47,16 +47,16 @@ pub loop-turn-preserved : goal.loop-turn-preserved
 loop-turn-preserved g c =
     let image : SectorMap = (g.S.Sectors.state c.args.s.now).sectors in
     let k : ℕ = (c.first_sought-first.result + c.loop-turn.turn) % c.sectors-sectors.result in
-    let here : c.get.new.to ≡ image (first_sector c.args.place c.args.map + k) =
+    let here : c.get.new.to ≡ image (first_sector c.args.geometry c.args.map + k) =
     c.in_ok-get.ensures.content ∙ c.loop-turn.invariant.same.sectors (c.first.result + k) ∙ ap (λ (n : ℕ). image (n + k)) c.first.ensures in
     record {
       same = unchanged_joined (unchanged_joined c.loop-turn.invariant.same c.in_ok-get.ensures.same) c.pass_by.ensures;
-      full = full_past image (first_sector c.args.place c.args.map) (c.first_sought-first.result) c.sectors-sectors.result c.loop-turn.turn c.get.new.to here c.in_default.ensures c.loop-turn.invariant.full;
+      full = full_past image (first_sector c.args.geometry c.args.map) (c.first_sought-first.result) c.sectors-sectors.result c.loop-turn.turn c.get.new.to here c.in_default.ensures c.loop-turn.invariant.full;
     }
 
 pub put_bit-requires-clause-bitmaps : goal.put_bit-requires-clause-bitmaps
 put_bit-requires-clause-bitmaps g c =
-    bitmaps_unchanged c.args.place (g.S.Sectors.state c.args.s.now) (g.S.Sectors.state c.get.new.self) c.requires.bitmaps
+    bitmaps_unchanged c.args.geometry (g.S.Sectors.state c.args.s.now) (g.S.Sectors.state c.get.new.self) c.requires.bitmaps
     (unchanged_joined c.loop-turn.invariant.same c.in_ok-get.ensures.same)
 
 pub put_bit-requires-clause-number : goal.put_bit-requires-clause-number
@@ -64,10 +64,10 @@ put_bit-requires-clause-number g c =
     let image : SectorMap = (g.S.Sectors.state c.args.s.now).sectors in
     let sectors : ℕ = c.sectors-sectors.result in
     let k : ℕ = (c.first_sought-first.result + c.loop-turn.turn) % sectors in
-    let here : c.get.new.to ≡ image (first_sector c.args.place c.args.map + k) =
+    let here : c.get.new.to ≡ image (first_sector c.args.geometry c.args.map + k) =
     c.in_ok-get.ensures.content ∙ c.loop-turn.invariant.same.sectors (c.first.result + k) ∙ ap (λ (n : ℕ). image (n + k)) c.first.ensures in
     let below : k < sectors = mod_below (c.first_sought-first.result + c.loop-turn.turn) sectors (omega (arith, c.loop-turn-test.true)) in
-    let free = found_free c.args.place c.args.map image k c.in-Some.i sectors c.get.new.to c.requires.bitmaps.rest here c.sectors-sectors.ensures below
+    let free = found_free c.args.geometry c.args.map image k c.in-Some.i sectors c.get.new.to c.requires.bitmaps.rest here c.sectors-sectors.ensures below
     c.in-Some.ensures.within c.in-Some.ensures.clear in
     (free.0, free.1)
 
@@ -79,19 +79,19 @@ returns-in-Some-clause-taken g c =
     let sectors : ℕ = c.sectors-sectors.result in
     let k : ℕ = (c.first_sought-first.result + c.loop-turn.turn) % sectors in
     let n : ℕ = 4096 * k + c.in-Some.i in
-    let here : c.get.new.to ≡ mid.sectors (first_sector c.args.place c.args.map + k) =
+    let here : c.get.new.to ≡ mid.sectors (first_sector c.args.geometry c.args.map + k) =
     c.in_ok-get.ensures.content ∙ sym (c.in_ok-get.ensures.same.sectors (c.first.result + k)) ∙ ap (λ (m : ℕ). mid.sectors (m + k)) c.first.ensures in
     let same = map_unchanged (unchanged_joined c.loop-turn.invariant.same c.in_ok-get.ensures.same) in
     let below : k < sectors = mod_below (c.first_sought-first.result + c.loop-turn.turn) sectors (omega (arith, c.loop-turn-test.true)) in
-    let free = found_free c.args.place c.args.map mid.sectors k c.in-Some.i sectors c.get.new.to (subst (HasRestSet c.args.place) same c.requires.bitmaps.rest) here
+    let free = found_free c.args.geometry c.args.map mid.sectors k c.in-Some.i sectors c.get.new.to (subst (HasRestSet c.args.geometry) same c.requires.bitmaps.rest) here
     c.sectors-sectors.ensures below c.in-Some.ensures.within c.in-Some.ensures.clear in
-    let taken : TakesNumber c.args.place c.args.map n mid.sectors new.sectors = record {
+    let taken : TakesNumber c.args.geometry c.args.map n mid.sectors new.sectors = record {
       free = free;
       mark = c.put_bit.ensures.marks;
       set = c.put_bit.ensures.bit;
-      count = one_less_free c.args.place c.args.map n mid.sectors new.sectors c.requires.bitmaps.place free c.put_bit.ensures.marks c.put_bit.ensures.bit;
+      count = one_less_free c.args.geometry c.args.map n mid.sectors new.sectors c.requires.bitmaps.geometry free c.put_bit.ensures.marks c.put_bit.ensures.bit;
     } in
-    subst (λ (image : SectorMap). TakesNumber c.args.place c.args.map n image new.sectors) (sym same) taken
+    subst (λ (image : SectorMap). TakesNumber c.args.geometry c.args.map n image new.sectors) (sym same) taken
 
 -- none is free
 pub returns-clause-full : goal.returns-clause-full
@@ -99,13 +99,13 @@ returns-clause-full g c = λ full.
     let image : SectorMap = (g.S.Sectors.state c.args.s.now).sectors in
     let sectors : ℕ = c.sectors-sectors.result in
     let end : sectors ≡ c.loop-turn.turn = omega (arith, c.loop-turn.auto.turn-end, c.loop-turn-test.false) in
-    let set = set_in_all image (first_sector c.args.place c.args.map) (c.first_sought-first.result) sectors (λ j low. c.loop-turn.invariant.full j (omega (arith, low, end))) in
-    sym (numbers_counted c.args.place c.args.map image c.requires.bitmaps.place c.requires.bitmaps.rest)
-    ∙ all_set image (first_sector c.args.place c.args.map) (bit_count c.args.place c.args.map) (λ i low. set i (omega (arith, low, c.sectors-sectors.ensures)))
+    let set = set_in_all image (first_sector c.args.geometry c.args.map) (c.first_sought-first.result) sectors (λ j low. c.loop-turn.invariant.full j (omega (arith, low, end))) in
+    sym (numbers_counted c.args.geometry c.args.map image c.requires.bitmaps.geometry c.requires.bitmaps.rest)
+    ∙ all_set image (first_sector c.args.geometry c.args.map) (bit_count c.args.geometry c.args.map) (λ i low. set i (omega (arith, low, c.sectors-sectors.ensures)))
 
 pub put_bit-requires-clause-room : goal.put_bit-requires-clause-room
 put_bit-requires-clause-room g c =
-    spare_unchanged c.args.place 0 (g.S.Sectors.state c.args.s.now) (g.S.Sectors.state c.get.new.self) c.requires.room
+    spare_unchanged c.args.geometry 0 (g.S.Sectors.state c.args.s.now) (g.S.Sectors.state c.get.new.self) c.requires.room
     (unchanged_joined c.loop-turn.invariant.same c.in_ok-get.ensures.same)
 
 pub returns-in-Some-clause-puts : goal.returns-in-Some-clause-puts

@@ -7,5 +7,5 @@ use Rattle.bit_alloc.proofs.marks.take.Given as goal
 abbrev pub invariant-loop-turn : goal.invariant-loop-turn
 invariant-loop-turn g l = record {
   same : IsUnchanged (g.S.Sectors.state l.initial.s) (g.S.Sectors.state l.s);
-  full : (j : ℕ) → j < l.turn → AreSet ((g.S.Sectors.state l.initial.s).sectors (first_sector l.place l.map + (l.first + j) % l.sectors)) 4096;
+  full : (j : ℕ) → j < l.turn → AreSet ((g.S.Sectors.state l.initial.s).sectors (first_sector l.geometry l.map + (l.first + j) % l.sectors)) 4096;
 }

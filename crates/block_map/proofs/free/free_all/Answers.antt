@@ -10,7 +10,7 @@ use Rattle.block_map.proofs.free.free_all.Goals as goal
 
 pub give-requires-clause-bitmaps : goal.give-requires-clause-bitmaps
 give-requires-clause-bitmaps g c =
-    bitmaps_unchanged c.args.place (g.S.Sectors.state c.args.s.now) (g.S.Sectors.state c.load.new.s) c.requires.sound.bitmaps c.in_ok-inode.ensures.same
+    bitmaps_unchanged c.args.geometry (g.S.Sectors.state c.args.s.now) (g.S.Sectors.state c.load.new.s) c.requires.sound.bitmaps c.in_ok-inode.ensures.same
 
 pub give_from-requires-clause-may : goal.give_from-requires-clause-may
 give_from-requires-clause-may g c =
@@ -18,7 +18,7 @@ give_from-requires-clause-may g c =
 
 pub give_from-requires-clause-room : goal.give_from-requires-clause-room
 give_from-requires-clause-room g c =
-    spare_then c.args.place 0 0 (g.S.Sectors.state c.args.s.now) (g.S.Sectors.state c.give.new.s) (omega (arith, c.requires.spare))
+    spare_then c.args.geometry 0 0 (g.S.Sectors.state c.args.s.now) (g.S.Sectors.state c.give.new.s) (omega (arith, c.requires.spare))
     (cleared_puts c.requires.sound c.requires.number c.in_ok-inode.ensures.found c.in_ok-inode.ensures.same c.in_ok-give.ensures.given c.in_ok-give.ensures.puts)
 
 pub give_sector-requires-clause-owned : goal.give_sector-requires-clause-owned
@@ -26,7 +26,7 @@ give_sector-requires-clause-owned g c = acl_in_data c.requires.sound c.requires.
 
 pub give_sector-requires-clause-room : goal.give_sector-requires-clause-room
 give_sector-requires-clause-room g c =
-    spare_then c.args.place 0 0 (g.S.Sectors.state c.args.s.now) (g.S.Sectors.state c.give_from.new.s) (omega (arith, c.requires.spare))
+    spare_then c.args.geometry 0 0 (g.S.Sectors.state c.args.s.now) (g.S.Sectors.state c.give_from.new.s) (omega (arith, c.requires.spare))
     (given_puts c.requires.sound c.requires.number c.in_ok-inode.ensures.found c.in_ok-inode.ensures.same c.in_ok-give.ensures.given c.in_ok-give.ensures.puts c.in_ok-give_from.ensures.given)
 
 pub give_sector-requires-2-clause-owned : goal.give_sector-requires-2-clause-owned
@@ -36,7 +36,7 @@ give_sector-requires-2-clause-owned g c =
 
 pub give_sector-requires-2-clause-room : goal.give_sector-requires-2-clause-room
 give_sector-requires-2-clause-room g c =
-    spare_then c.args.place 0 0 (g.S.Sectors.state c.args.s.now) (g.S.Sectors.state c.give_sector.new.s) (omega (arith, c.requires.spare))
+    spare_then c.args.geometry 0 0 (g.S.Sectors.state c.args.s.now) (g.S.Sectors.state c.give_sector.new.s) (omega (arith, c.requires.spare))
     (access_puts c.requires.sound c.requires.number c.in_ok-inode.ensures.found c.in_ok-inode.ensures.same c.in_ok-give.ensures.given c.in_ok-give.ensures.puts
     c.in_ok-give_from.ensures.given c.in_ok-give_sector.ensures.puts)
 
@@ -48,10 +48,10 @@ write_inode-requires-clause-room g c = λ none.
     let t5 = g.S.Sectors.state c.give_sector-2.new.s in
     let puts = default_puts c.requires.sound c.requires.number c.in_ok-inode.ensures.found c.in_ok-inode.ensures.same c.in_ok-give.ensures.given c.in_ok-give.ensures.puts
     c.in_ok-give_from.ensures.given c.in_ok-give_sector.ensures.puts c.in_ok-give_sector-2.ensures.puts in
-    room_left c.args.place 1 t5 (spare_then c.args.place 0 1 (g.S.Sectors.state c.args.s.now) t5 (omega (arith, c.requires.spare)) puts) (omega arith)
+    room_left c.args.geometry 1 t5 (spare_then c.args.geometry 0 1 (g.S.Sectors.state c.args.s.now) t5 (omega (arith, c.requires.spare)) puts) (omega arith)
 
 -- all that has come of it
-is_freed : (g : _) (c : goal.In_ok-write_inode g) → IsFreed c.args.place c.args.n (g.S.Sectors.state c.args.s.now) (g.S.Sectors.state c.write_inode.new.s)
+is_freed : (g : _) (c : goal.In_ok-write_inode g) → IsFreed c.args.geometry c.args.n (g.S.Sectors.state c.args.s.now) (g.S.Sectors.state c.write_inode.new.s)
 is_freed g c =
     let may = may_change_then c.requires.sound c.requires.number c.in_ok-inode.ensures.found c.in_ok-inode.ensures.same c.in_ok-give.ensures.given c.in_ok-give.ensures.puts c.requires.used c.in_ok-give.ensures.bitmaps in
     all_freed c.requires.sound c.requires.number c.in_ok-inode.ensures.found c.in_ok-inode.ensures.same c.in_ok-give.ensures.given c.in_ok-give.ensures.puts c.in_ok-give_from.ensures.given
@@ -63,7 +63,7 @@ returns-clause-store g c = (is_freed g c).touches.puts.store
 
 pub returns-clause-sound : goal.returns-clause-sound
 returns-clause-sound g c =
-    sound_then c.args.place c.args.n 0 1 (g.S.Sectors.state c.args.s.now) (g.S.Sectors.state c.write_inode.new.s) c.requires.sound c.requires.number
+    sound_then c.args.geometry c.args.n 0 1 (g.S.Sectors.state c.args.s.now) (g.S.Sectors.state c.write_inode.new.s) c.requires.sound c.requires.number
     (is_freed g c).touches
 
 pub returns-clause-touches : goal.returns-clause-touches

@@ -54,8 +54,8 @@ add_numbers-requires g t c =
     let order : (from < last + 1) × (last + 1 ≤ level_end (level + 1)) =
     (omega (arith, c.requires.order.0, c.saturating_sub-from.ensures, some), omega (arith, far.1, some)) in
     let inside : 512 * first_block (level + 1) (last + 1 - 1) < size = let i = c.requires.inside in omega (arith, i, held, grows) in
-    let room : HasSpare c.args.place (most_for (level + 1) from (last + 1)) (g.S.Sectors.state c.args.s.now) =
-    spare_above c.args.place c.args.first c.args.end (g.S.Sectors.state c.args.s.now) c.requires.level.0 far.0 some
+    let room : HasSpare c.args.geometry (most_for (level + 1) from (last + 1)) (g.S.Sectors.state c.args.s.now) =
+    spare_above c.args.geometry c.args.first c.args.end (g.S.Sectors.state c.args.s.now) c.requires.level.0 far.0 some
     (ap (λ (m : ℕ). m / SECTOR_POINTERS) c.saturating_sub-from.ensures) (omega (arith, some)) c.requires.room in
     let may = c.requires.may in
     let at_hand = c.requires.at_hand in
@@ -66,7 +66,7 @@ returns-in_err-add_numbers-clause-full g t c = λ is.
     let far = has_above c.args.level c.args.end c.requires.level.0 c.requires.level.1 (omega (arith, c.if-end-le1.false)) c.requires.order.1 in
     let e = c.from_residual-in_err-add_numbers.ensures in
     let f = c.in_err-add_numbers.ensures.full (ap Err (same_fault c.from_residual-in_err-add_numbers.result c.in_err-add_numbers.field-0.0 Full e.0 e.1 is)) in
-    above_lacks c.args.place c.args.level c.args.first c.args.end (g.S.Sectors.state c.args.s.now) c.args.blocks.now.inode c.requires.level.0 far.0 (omega (arith, c.if-end-le1.false))
+    above_lacks c.args.geometry c.args.level c.args.first c.args.end (g.S.Sectors.state c.args.s.now) c.args.blocks.now.inode c.requires.level.0 far.0 (omega (arith, c.if-end-le1.false))
     (ap (λ (m : ℕ). m / SECTOR_POINTERS) c.saturating_sub-from.ensures) (omega (arith, c.if-end-le1.false)) f
 
 -- ---- one after the other
@@ -149,7 +149,7 @@ returns-clause-added g t c =
     let v = c.add_numbers.new.blocks.inode in
     let done : c.loop-i.i ≡ c.args.end = omega (arith, c.loop-i-test.false, x.most) in
     all_added c.requires.level.0 c.requires.order.0 (omega (arith, c.if-end-le1.false)) far.0 above
-    (subst (λ (m : ℕ). IsAdded c.args.place (above_of mid.sectors v c.args.level c.args.first c.args.end) c.args.level c.args.first m mid now v c.loop-i.blocks.inode) done x.added)
+    (subst (λ (m : ℕ). IsAdded c.args.geometry (above_of mid.sectors v c.args.level c.args.first c.args.end) c.args.level c.args.first m mid now v c.loop-i.blocks.inode) done x.added)
 
 pub returns-clause-at_hand : goal.returns-clause-at_hand
 returns-clause-at_hand g t c = c.loop-i.invariant.at_hand

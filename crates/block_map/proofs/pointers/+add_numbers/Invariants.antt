@@ -12,6 +12,6 @@ invariant-loop-i g l = record {
   from : l.first ≤ l.i;
   most : l.i ≤ l.end;
   at_hand : IsAtHand (g.S.Sectors.state l.s).sectors l.blocks;
-  added : IsAdded l.place (above_of (g.S.Sectors.state l.initial.s).sectors l.initial.blocks.inode l.level l.first l.end) l.level l.first l.i
+  added : IsAdded l.geometry (above_of (g.S.Sectors.state l.initial.s).sectors l.initial.blocks.inode l.level l.first l.end) l.level l.first l.i
       (g.S.Sectors.state l.initial.s) (g.S.Sectors.state l.s) l.initial.blocks.inode l.blocks.inode;
 }

@@ -64,8 +64,8 @@ list_sector-requires-clause-room g c =
     let old = g.S.Sectors.state c.args.s.now in
     let mid = g.S.Sectors.state c.read_pointers.new.s in
     let less = lacking_less old mid (λ m has. c.in_ok-above.ensures.same.delta m ∙ has)
-    (number_on old.sectors c.args.blocks.now.inode (suc c.args.level) (holder 1 c.args.i) ∷ bitmaps c.args.place) in
-    let e = ap (λ (t : ℕ). lacking mid (t ∷ bitmaps c.args.place)) (read_above old.sectors c.args.blocks.now.inode c.args.level c.args.i c.in_ok-above.ensures.number) in
+    (number_on old.sectors c.args.blocks.now.inode (suc c.args.level) (holder 1 c.args.i) ∷ bitmaps c.args.geometry) in
+    let e = ap (λ (t : ℕ). lacking mid (t ∷ bitmaps c.args.geometry)) (read_above old.sectors c.args.blocks.now.inode c.args.level c.args.i c.in_ok-above.ensures.number) in
     omega (arith, c.requires.room, less, e, c.in_ok-above.ensures.same.room)
 
 pub returns-in_err-list_sector-clause-full : goal.returns-in_err-list_sector-clause-full
@@ -75,14 +75,14 @@ returns-in_err-list_sector-clause-full g c = λ is.
     let none = c.number-number.ensures old.sectors (λ ge. next_pointers v c.args.level c.args.i (λ e. let low = c.requires.number.0 in omega (arith, low, e)) c.in_ok-above.ensures.content) in
     let e = c.from_residual-in_err-list_sector.ensures in
     let f = c.in_err-list_sector.ensures.full (ap Err (same_fault c.from_residual-in_err-list_sector.result c.in_err-list_sector.field-0.0 Full e.0 e.1 is)) in
-    (sym none ∙ c.if-number-ne0.false, sym (free_same c.args.place old (g.S.Sectors.state c.read_pointers.new.s) c.in_ok-above.ensures.same) ∙ f)
+    (sym none ∙ c.if-number-ne0.false, sym (free_same c.args.geometry old (g.S.Sectors.state c.read_pointers.new.s) c.in_ok-above.ensures.same) ∙ f)
 
 pub returns-clause-added : goal.returns-clause-added
 returns-clause-added g c =
     let mid = g.S.Sectors.state c.read_pointers.new.s in
     let new = g.S.Sectors.state c.list_sector.new.s in
     added_after c.in_ok-above.ensures.same
-    (subst (λ (u : ℕ). AddsSector c.args.place (u ∷ []) c.args.level c.args.i mid new c.args.blocks.now.inode c.list_sector.new.blocks.inode)
+    (subst (λ (u : ℕ). AddsSector c.args.geometry (u ∷ []) c.args.level c.args.i mid new c.args.blocks.now.inode c.list_sector.new.blocks.inode)
     (read_above (g.S.Sectors.state c.args.s.now).sectors c.args.blocks.now.inode c.args.level c.args.i c.in_ok-above.ensures.number) c.in_ok-list_sector.ensures.added)
 
 pub returns-clause-store : goal.returns-clause-store

@@ -32,12 +32,12 @@ add_numbers-requires-clause-room g c =
     let first = c.args.first in
     let end = c.args.end in
     let from : holder DIRECT_BLOCKS first ≡ c.saturating_sub-from.result / SECTOR_POINTERS = ap (λ (m : ℕ). m / SECTOR_POINTERS) (sym c.saturating_sub-from.ensures) in
-    subst (λ (m : ℕ). HasSpare c.args.place m (g.S.Sectors.state c.args.s.now))
+    subst (λ (m : ℕ). HasSpare c.args.geometry m (g.S.Sectors.state c.args.s.now))
     (most_far first end (omega (arith, c.if-end-le-DIRECT_BLOCKS.false)) ∙ ap (λ (i : ℕ). most_for 1 i (holder DIRECT_BLOCKS (end - 1) + 1)) from) c.requires.room
 
 pub returns-in_err-add_numbers-clause-full : goal.returns-in_err-add_numbers-clause-full
 returns-in_err-add_numbers-clause-full g c = λ is.
-    let p = c.args.place in
+    let p = c.args.geometry in
     let first = c.args.first in
     let end = c.args.end in
     let old = g.S.Sectors.state c.args.s.now in
@@ -56,5 +56,5 @@ returns-clause-added g c =
     let new = g.S.Sectors.state c.add_numbers.new.s in
     let from : c.saturating_sub-from.result / SECTOR_POINTERS ≡ holder DIRECT_BLOCKS first = ap (λ (m : ℕ). m / SECTOR_POINTERS) c.saturating_sub-from.ensures in
     adds_pointers (omega (arith, c.if-end-le-DIRECT_BLOCKS.false))
-    (subst (λ (i : ℕ). AddsNumbers c.args.place 1 i (holder DIRECT_BLOCKS (end - 1) + 1) old new c.args.blocks.now.inode c.add_numbers.new.blocks.inode) from
+    (subst (λ (i : ℕ). AddsNumbers c.args.geometry 1 i (holder DIRECT_BLOCKS (end - 1) + 1) old new c.args.blocks.now.inode c.add_numbers.new.blocks.inode) from
     c.in_ok-add_numbers.ensures.added)

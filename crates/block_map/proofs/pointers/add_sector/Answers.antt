@@ -14,7 +14,7 @@ add_named-requires-clause-inside g c = subst (λ (i : ℕ). 512 * first_block c.
 pub add_named-requires-clause-room : goal.add_named-requires-clause-room
 add_named-requires-clause-room g c =
     let old = g.S.Sectors.state c.args.s.now in
-    let a = lacking-append old (sectors_to old.sectors c.args.blocks.now.inode c.args.level c.args.i) (bitmaps c.args.place) in
+    let a = lacking-append old (sectors_to old.sectors c.args.blocks.now.inode c.args.level c.args.i) (bitmaps c.args.geometry) in
     let r = c.requires.room in
     omega (arith, a, r)
 
@@ -26,7 +26,7 @@ returns-in_err-add_named-clause-full g c = λ is.
 
 pub returns-then-i-eq0-clause-added : goal.returns-then-i-eq0-clause-added
 returns-then-i-eq0-clause-added g c =
-    let p = c.args.place in
+    let p = c.args.geometry in
     let old = g.S.Sectors.state c.args.s.now in
     let new = g.S.Sectors.state c.add_named.new.s in
     let v = c.args.blocks.now.inode in
@@ -42,7 +42,7 @@ add_listed-requires-clause-above g c = c.requires.above (omega (arith, c.if-i-eq
 pub add_listed-requires-clause-room : goal.add_listed-requires-clause-room
 add_listed-requires-clause-room g c =
     let old = g.S.Sectors.state c.args.s.now in
-    subst (λ (ns : List ℕ). HasRoomFor c.args.place ns 1 old)
+    subst (λ (ns : List ℕ). HasRoomFor c.args.geometry ns 1 old)
     (sectors_far old.sectors c.args.blocks.now.inode c.args.level c.args.i c.requires.level.0 (omega (arith, c.if-i-eq0.false))) c.requires.room
 
 pub returns-clause-added : goal.returns-clause-added
@@ -50,5 +50,5 @@ returns-clause-added g c =
     let old = g.S.Sectors.state c.args.s.now in
     let new = g.S.Sectors.state c.add_listed.new.s in
     let v = c.args.blocks.now.inode in
-    subst (λ (ns : List ℕ). AddsSector c.args.place ns c.args.level c.args.i old new v c.add_listed.new.blocks.inode)
+    subst (λ (ns : List ℕ). AddsSector c.args.geometry ns c.args.level c.args.i old new v c.add_listed.new.blocks.inode)
     (sym (sectors_far old.sectors v c.args.level c.args.i c.requires.level.0 (omega (arith, c.if-i-eq0.false)))) c.in_ok-add_listed.ensures.added

@@ -15,7 +15,7 @@ use Rattle.block_map.proofs.pointers.list_sector.Goals as goal
 
 pub take_sector-requires-clause-room : goal.take_sector-requires-clause-room
 take_sector-requires-clause-room g c =
-    let l = lacking_beside (g.S.Sectors.state c.args.s.now) c.args.above (bitmaps c.args.place) in
+    let l = lacking_beside (g.S.Sectors.state c.args.s.now) c.args.above (bitmaps c.args.geometry) in
     omega (arith, l.0, c.requires.room)
 
 pub returns-in_err-number-clause-full : goal.returns-in_err-number-clause-full
@@ -34,13 +34,13 @@ put-requires-clause-on_disk g c =
 pub put-requires-clause-room : goal.put-requires-clause-room
 put-requires-clause-room g c = λ none.
     let r = (puts_beside c.in_ok-number.ensures.puts c.args.above).room in
-    let z = lacking_unput (g.S.Sectors.state c.take_sector.new.s) c.args.above (bitmaps c.args.place) none in
+    let z = lacking_unput (g.S.Sectors.state c.take_sector.new.s) c.args.above (bitmaps c.args.geometry) none in
     omega (arith, r, z, c.requires.room)
 
 pub returns-clause-added : goal.returns-clause-added
 unfolding zeros
 returns-clause-added g c =
-    subst (λ (w : Inode). AddsSector c.args.place (c.args.above ∷ []) c.args.level c.args.i (g.S.Sectors.state c.args.s.now) (g.S.Sectors.state c.put.new.self) c.args.blocks.now.inode w)
+    subst (λ (w : Inode). AddsSector c.args.geometry (c.args.above ∷ []) c.args.level c.args.i (g.S.Sectors.state c.args.s.now) (g.S.Sectors.state c.put.new.self) c.args.blocks.now.inode w)
     (sym c.was_taken.ensures.inode)
     (lists_sector c.requires.may refl c.in_ok-number.ensures.taken.1 c.in_ok-number.ensures.free c.in_ok-number.ensures.bitmaps c.requires.number.2 c.requires.above.1
     c.requires.content c.write_pointer.ensures c.put.ensures.sectors c.put.ensures.store

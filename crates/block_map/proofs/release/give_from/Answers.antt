@@ -7,7 +7,7 @@ use Rattle.block_map.proofs.release.give_from.Goals as goal
 pub give_level-requires-clause-inside : goal.give_level-requires-clause-inside
 give_level-requires-clause-inside g c =
     let inside = in_data c.requires.may in
-    in_data_kept c.args.place inside (given_keeps inside c.loop-level.invariant.given)
+    in_data_kept c.args.geometry inside (given_keeps inside c.loop-level.invariant.given)
 
 pub loop-level-preserved : goal.loop-level-preserved
 loop-level-preserved g c =
@@ -20,7 +20,7 @@ loop-level-preserved g c =
       most = omega (arith, c.loop-level-test.true);
       few = omega (arith, few, c.next_first-from.ensures);
       given = more_given (in_data c.requires.may) x.given
-          (subst (λ (m : ℕ). GivesParts c.args.place c.args.inode.now (IsFrom level m) (g.S.Sectors.state c.loop-level.s) (g.S.Sectors.state c.give_level.new.s)) x.from
+          (subst (λ (m : ℕ). GivesParts c.args.geometry c.args.inode.now (IsFrom level m) (g.S.Sectors.state c.loop-level.s) (g.S.Sectors.state c.give_level.new.s)) x.from
           c.in_ok-give_level.ensures.given);
     }
 
@@ -28,5 +28,5 @@ pub returns-clause-given : goal.returns-clause-given
 returns-clause-given g c =
     let most = c.loop-level.invariant.most in
     let all : c.loop-level.level ≡ POINTER_LEVELS + 1 = omega (arith, c.loop-level-test.false, most) in
-    all_given (subst (λ (n : ℕ). GivesParts c.args.place c.args.inode.now (IsForBelow n c.args.first) (g.S.Sectors.state c.args.s.now) (g.S.Sectors.state c.loop-level.s)) all
+    all_given (subst (λ (n : ℕ). GivesParts c.args.geometry c.args.inode.now (IsForBelow n c.args.first) (g.S.Sectors.state c.args.s.now) (g.S.Sectors.state c.loop-level.s)) all
     c.loop-level.invariant.given)

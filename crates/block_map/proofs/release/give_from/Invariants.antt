@@ -9,5 +9,5 @@ invariant-loop-level g l = record {
   from : l.from ≡ first_on l.level l.first;
   most : l.level ≤ POINTER_LEVELS + 1;
   few : l.from ≤ MAX_BLOCKS;
-  given : GivesParts l.place l.inode (IsForBelow l.level l.first) (g.S.Sectors.state l.fn.s) (g.S.Sectors.state l.s);
+  given : GivesParts l.geometry l.inode (IsForBelow l.level l.first) (g.S.Sectors.state l.fn.s) (g.S.Sectors.state l.s);
 }

@@ -16,14 +16,14 @@ use Rattle.block_map.proofs.release.give_level.Goals.{then-sector-ne0+in_ok-give
 pub read_pointers-requires-clause-within : goal.read_pointers-requires-clause-within
 read_pointers-requires-clause-within g c =
     let x = c.loop-j.invariant in
-    data_within x.given.tables (in_data_kept c.args.place c.requires.inside (given_keeps c.requires.inside x.given))
+    data_within x.given.tables (in_data_kept c.args.geometry c.requires.inside (given_keeps c.requires.inside x.given))
 
 pub give_listed-requires-then-sector-ne0-clause-bitmaps : goal.give_listed-requires-then-sector-ne0-clause-bitmaps
-give_listed-requires-then-sector-ne0-clause-bitmaps g c = bitmaps_unchanged c.args.place _ _ c.loop-j.invariant.given.tables c.in_ok-sector.ensures.same
+give_listed-requires-then-sector-ne0-clause-bitmaps g c = bitmaps_unchanged c.args.geometry _ _ c.loop-j.invariant.given.tables c.in_ok-sector.ensures.same
 
 pub give_listed-requires-then-sector-ne0-clause-inside : goal.give_listed-requires-then-sector-ne0-clause-inside
 give_listed-requires-then-sector-ne0-clause-inside g c =
-    in_data_kept c.args.place c.requires.inside (given_keeps c.requires.inside (given_unchanged c.loop-j.invariant.given c.in_ok-sector.ensures.same))
+    in_data_kept c.args.geometry c.requires.inside (given_keeps c.requires.inside (given_unchanged c.loop-j.invariant.given c.in_ok-sector.ensures.same))
 
 pub give_listed-requires-then-sector-ne0-clause-listed : goal.give_listed-requires-then-sector-ne0-clause-listed
 give_listed-requires-then-sector-ne0-clause-listed g c = λ i low high ge.
@@ -32,7 +32,7 @@ give_listed-requires-then-sector-ne0-clause-listed g c = λ i low high ge.
 
 pub give_listed-requires-then-sector-ne0-clause-room : goal.give_listed-requires-then-sector-ne0-clause-room
 give_listed-requires-then-sector-ne0-clause-room g c =
-    spare_unchanged c.args.place 0 _ _ (spare_then c.args.place 0 0 _ _ (omega (arith, c.requires.room)) c.loop-j.invariant.given.puts) c.in_ok-sector.ensures.same
+    spare_unchanged c.args.geometry 0 _ _ (spare_then c.args.geometry 0 0 _ _ (omega (arith, c.requires.room)) c.loop-j.invariant.given.puts) c.in_ok-sector.ensures.same
 
 pub returns-in_err-give_listed-2-clause-store : goal.returns-in_err-give_listed-2-clause-store
 returns-in_err-give_listed-2-clause-store g c =
@@ -40,7 +40,7 @@ returns-in_err-give_listed-2-clause-store g c =
 
 pub loop-j-preserved : goal.loop-j-preserved
 loop-j-preserved g c =
-    let p = c.args.place in
+    let p = c.args.geometry in
     let v = c.args.inode.now in
     let level = c.args.level in
     let first = c.args.first in

@@ -14,7 +14,7 @@ pub give-requires-clause-bitmaps : goal.give-requires-clause-bitmaps
 give-requires-clause-bitmaps g c = c.loop-i.invariant.given.tables
 
 pub give-requires-clause-room : goal.give-requires-clause-room
-give-requires-clause-room g c = spare_then c.args.place 0 0 _ _ (omega (arith, c.requires.room)) c.loop-i.invariant.given.puts
+give-requires-clause-room g c = spare_then c.args.geometry 0 0 _ _ (omega (arith, c.requires.room)) c.loop-i.invariant.given.puts
 
 pub give-requires-clause-number : goal.give-requires-clause-number
 give-requires-clause-number g c =
@@ -37,10 +37,10 @@ loop-i-preserved g c =
       most = omega (arith, c.loop-i-test.true);
       given = elim c.if-number-ne0.branch [
         | then-number-ne0+in_ok-give w ↦
-            subst (λ s. GivesParts c.args.place v (IsAmong c.args.level c.args.first (i + 1)) old (g.S.Sectors.state s)) (sym w.s-is)
+            subst (λ s. GivesParts c.args.geometry v (IsAmong c.args.level c.args.first (i + 1)) old (g.S.Sectors.state s)) (sym w.s-is)
             (number_given c.requires.inside x.given x.from (sym is) w.if-number-ne0.true w.in_ok-give.ensures.given w.in_ok-give.ensures.bitmaps w.in_ok-give.ensures.puts)
         | else-number-ne0 w ↦
-            subst (λ s. GivesParts c.args.place v (IsAmong c.args.level c.args.first (i + 1)) old (g.S.Sectors.state s)) (sym w.s-is)
+            subst (λ s. GivesParts c.args.geometry v (IsAmong c.args.level c.args.first (i + 1)) old (g.S.Sectors.state s)) (sym w.s-is)
             (hole_given x.given (sym is ∙ w.if-number-ne0.false) x.from)
       ];
     }
@@ -48,4 +48,4 @@ loop-i-preserved g c =
 pub returns-clause-given : goal.returns-clause-given
 returns-clause-given g c =
     let done : c.loop-i.i ≡ c.args.end = omega (arith, c.loop-i-test.false, c.loop-i.invariant.most) in
-    subst (λ m. GivesParts c.args.place c.args.inode.now (IsAmong c.args.level c.args.first m) (g.S.Sectors.state c.args.s.now) (g.S.Sectors.state c.loop-i.s)) done c.loop-i.invariant.given
+    subst (λ m. GivesParts c.args.geometry c.args.inode.now (IsAmong c.args.level c.args.first m) (g.S.Sectors.state c.args.s.now) (g.S.Sectors.state c.loop-i.s)) done c.loop-i.invariant.given

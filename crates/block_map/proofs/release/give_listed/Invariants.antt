@@ -6,5 +6,5 @@ abbrev pub invariant-loop-i : goal.invariant-loop-i
 invariant-loop-i g l = record {
   from : l.first ≤ l.i;
   most : l.i ≤ l.end;
-  given : GivesParts l.place l.inode (IsAmong l.level l.first l.i) (g.S.Sectors.state l.fn.s) (g.S.Sectors.state l.s);
+  given : GivesParts l.geometry l.inode (IsAmong l.level l.first l.i) (g.S.Sectors.state l.fn.s) (g.S.Sectors.state l.s);
 }

@@ -32,7 +32,7 @@ rewrite-requires-clause-whole g c =
 pub returns-clause-cleared : goal.returns-clause-cleared
 returns-clause-cleared g c =
     let old = g.S.Sectors.state c.args.s.now in
-    let p = c.args.place in
+    let p = c.args.geometry in
     let v = c.args.blocks.now.inode in
     let k = c.args.size / 512 in
     let len = c.min-len.result in

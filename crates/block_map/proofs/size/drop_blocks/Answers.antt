@@ -11,13 +11,13 @@ use Rattle.block_map.proofs.Wrote.{may_within}
 use Rattle.block_map.proofs.size.drop_blocks.Goals as goal
 
 pub give_from-requires-clause-room : goal.give_from-requires-clause-room
-give_from-requires-clause-room g c = spare_none c.args.place (g.S.Sectors.state c.args.s.now) (cut_by c.args.first) c.requires.room
+give_from-requires-clause-room g c = spare_none c.args.geometry (g.S.Sectors.state c.args.s.now) (cut_by c.args.first) c.requires.room
 
 pub loop-level-init : goal.loop-level-init
 loop-level-init g c = record {
   from = refl;
   most = omega arith;
-  cuts = none_cut c.args.place c.args.first (g.S.Sectors.state c.args.s.now).sectors (g.S.Sectors.state c.give_from.new.s) c.args.inode.now;
+  cuts = none_cut c.args.geometry c.args.first (g.S.Sectors.state c.args.s.now).sectors (g.S.Sectors.state c.give_from.new.s) c.args.inode.now;
 }
 
 pub cut_level-requires-clause-within : goal.cut_level-requires-clause-within
@@ -58,7 +58,7 @@ clear_inode-requires-clause-indirect g c = c.requires.may.fits.indirect_len
 
 pub returns-clause-dropped : goal.returns-clause-dropped
 returns-clause-dropped g c =
-    let p = c.args.place in
+    let p = c.args.geometry in
     let first = c.args.first in
     let v = c.args.inode.now in
     let w = c.clear_inode.new.inode in

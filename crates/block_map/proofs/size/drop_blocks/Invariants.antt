@@ -8,5 +8,5 @@ abbrev pub invariant-loop-level : goal.invariant-loop-level
 invariant-loop-level g l = record {
   from : l.from ≡ first_on l.level l.first;
   most : l.level ≤ POINTER_LEVELS;
-  cuts : AreCut l.fn.place l.level l.first (g.S.Sectors.state l.fn.s).sectors (g.S.Sectors.state l.initial.s) (g.S.Sectors.state l.s) l.fn.inode;
+  cuts : AreCut l.fn.geometry l.level l.first (g.S.Sectors.state l.fn.s).sectors (g.S.Sectors.state l.initial.s) (g.S.Sectors.state l.s) l.fn.inode;
 }

@@ -28,7 +28,7 @@ returns-then-inode-size-clause-resized g c = grows c.args.size c.requires.may c.
 
 pub clear_tail-requires-clause-may : goal.clear_tail-requires-clause-may
 clear_tail-requires-clause-may g c =
-    subst (λ (u : Inode). MayChange c.args.place (g.S.Sectors.state c.load.new.s) u) (sym (c.in_ok-load.ensures.inode ∙ c.new-blocks.ensures.inode)) (may_unchanged c.requires.may c.in_ok-load.ensures.same)
+    subst (λ (u : Inode). MayChange c.args.geometry (g.S.Sectors.state c.load.new.s) u) (sym (c.in_ok-load.ensures.inode ∙ c.new-blocks.ensures.inode)) (may_unchanged c.requires.may c.in_ok-load.ensures.same)
 
 pub returns-then-inode-end-clause-resized : goal.returns-then-inode-end-clause-resized
 returns-then-inode-end-clause-resized g c =
@@ -38,7 +38,7 @@ returns-then-inode-end-clause-resized g c =
 pub drop_blocks-requires-clause-may : goal.drop_blocks-requires-clause-may
 drop_blocks-requires-clause-may g c =
     may_after
-    (subst (λ (u : Inode). MayChange c.args.place (g.S.Sectors.state c.load.new.s) u) (sym (c.in_ok-load.ensures.inode ∙ c.new-blocks.ensures.inode)) (may_unchanged c.requires.may c.in_ok-load.ensures.same))
+    (subst (λ (u : Inode). MayChange c.args.geometry (g.S.Sectors.state c.load.new.s) u) (sym (c.in_ok-load.ensures.inode ∙ c.new-blocks.ensures.inode)) (may_unchanged c.requires.may c.in_ok-load.ensures.same))
     c.in_ok-clear_tail.ensures.cleared.alters
 
 pub clear_tail-requires-clause-loaded : goal.clear_tail-requires-clause-loaded
@@ -46,17 +46,17 @@ clear_tail-requires-clause-loaded g c = loaded_unchanged c.in_ok-load.ensures.sa
 
 pub drop_blocks-requires-clause-room : goal.drop_blocks-requires-clause-room
 drop_blocks-requires-clause-room g c =
-    let spare = spare_unchanged c.args.place (1 + cut_by (blocks_to c.args.size)) _ _ c.requires.room c.in_ok-load.ensures.same in
+    let spare = spare_unchanged c.args.geometry (1 + cut_by (blocks_to c.args.size)) _ _ c.requires.room c.in_ok-load.ensures.same in
     let e : blocks_to c.args.size ≡ c.div_ceil-end.result = omega (arith, c.div_ceil-end.ensures) in
-    subst (λ (k : ℕ). HasSpare c.args.place (cut_by k) (g.S.Sectors.state c.clear_tail.new.s)) e
-    (spare_after_one c.args.place (cut_by (blocks_to c.args.size)) spare c.in_ok-clear_tail.ensures.cleared.puts)
+    subst (λ (k : ℕ). HasSpare c.args.geometry (cut_by k) (g.S.Sectors.state c.clear_tail.new.s)) e
+    (spare_after_one c.args.geometry (cut_by (blocks_to c.args.size)) spare c.in_ok-clear_tail.ensures.cleared.puts)
 
 pub returns-clause-resized : goal.returns-clause-resized
 returns-clause-resized g c =
     let e : c.div_ceil-end.result ≡ (c.args.size + 511) / 512 = omega (arith, c.div_ceil-end.ensures) in
     resizes c.requires.may c.requires.kind (omega (arith, c.if-inode-size.false)) c.requires.limit.1 c.in_ok-load.ensures.same (c.in_ok-load.ensures.inode ∙ c.new-blocks.ensures.inode)
     c.in_ok-clear_tail.ensures.cleared
-    (subst (λ (f : ℕ). DropsBlocks c.args.place f (g.S.Sectors.state c.clear_tail.new.s) (g.S.Sectors.state c.drop_blocks.new.s) c.load.new.self.inode c.drop_blocks.new.inode) e
+    (subst (λ (f : ℕ). DropsBlocks c.args.geometry f (g.S.Sectors.state c.clear_tail.new.s) (g.S.Sectors.state c.drop_blocks.new.s) c.load.new.self.inode c.drop_blocks.new.inode) e
     c.in_ok-drop_blocks.ensures.dropped)
 
 pub returns-clause-store : goal.returns-clause-store
@@ -78,7 +78,7 @@ clear_tail-requires-clause-limit g c =
     omega (arith, e, c.requires.limit.1)
 
 pub clear_tail-requires-clause-room : goal.clear_tail-requires-clause-room
-clear_tail-requires-clause-room g c = spare_unchanged c.args.place 1 _ _ (spare_one c.args.place (g.S.Sectors.state c.args.s.now) (cut_by (blocks_to c.args.size)) c.requires.room) c.in_ok-load.ensures.same
+clear_tail-requires-clause-room g c = spare_unchanged c.args.geometry 1 _ _ (spare_one c.args.geometry (g.S.Sectors.state c.args.s.now) (cut_by (blocks_to c.args.size)) c.requires.room) c.in_ok-load.ensures.same
 
 pub drop_blocks-requires-clause-few : goal.drop_blocks-requires-clause-few
 drop_blocks-requires-clause-few g c = omega (arith, c.requires.limit.0, c.div_ceil-end.ensures)

@@ -16,13 +16,13 @@ pub resize-requires-clause-limit : goal.resize-requires-clause-limit
 resize-requires-clause-limit g c = (omega (arith, c.if-size-max_file_size.false, c.max_file_size.ensures.most), size_limit c.args.size c.requires.sound c.requires.below c.requires.inode c.requires.kind)
 
 pub resize-requires-clause-room : goal.resize-requires-clause-room
-resize-requires-clause-room g c = spare_but_one c.args.place (g.S.Sectors.state c.args.s.now) (1 + cut_by (blocks_to c.args.size)) c.requires.spare
+resize-requires-clause-room g c = spare_but_one c.args.geometry (g.S.Sectors.state c.args.s.now) (1 + cut_by (blocks_to c.args.size)) c.requires.spare
 
 pub write_inode-requires-clause-room : goal.write_inode-requires-clause-room
-write_inode-requires-clause-room g c = λ none. spare_last c.args.place (1 + cut_by (blocks_to c.args.size)) c.requires.spare c.in_ok-resize.ensures.resized.puts
+write_inode-requires-clause-room g c = λ none. spare_last c.args.geometry (1 + cut_by (blocks_to c.args.size)) c.requires.spare c.in_ok-resize.ensures.resized.puts
 
 -- the steps and the save
-ended : (g : _) (c : goal.In_ok-write_inode g) → IsEnded c.args.place c.args.n 0 (put_to c.args.size) (g.S.Sectors.state c.args.s.now) (g.S.Sectors.state c.resize.new.s)
+ended : (g : _) (c : goal.In_ok-write_inode g) → IsEnded c.args.geometry c.args.n 0 (put_to c.args.size) (g.S.Sectors.state c.args.s.now) (g.S.Sectors.state c.resize.new.s)
     (g.S.Sectors.state c.write_inode.new.s) c.args.inode.now c.resize.new.inode
 ended g c =
     let r = c.in_ok-resize.ensures.resized in

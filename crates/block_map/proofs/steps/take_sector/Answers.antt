@@ -8,13 +8,13 @@ use Rattle.block_map.proofs.steps.take_sector.Goals as goal
 pub returns-clause-free : goal.returns-clause-free
 returns-clause-free g c =
     let taken = c.in_ok-number.ensures.taken in
-    taken.count ∙ ap (λ (k : ℕ). k + 1) (sym (free_after_put c.requires.bitmaps.place taken.free.0 c.put.ensures.sectors))
+    taken.count ∙ ap (λ (k : ℕ). k + 1) (sym (free_after_put c.requires.bitmaps.geometry taken.free.0 c.put.ensures.sectors))
 
 pub returns-clause-puts : goal.returns-clause-puts
 returns-clause-puts g c =
-    let p = c.args.place in
+    let p = c.args.geometry in
     let taken = c.in_ok-number.ensures.taken in
-    let bits = c.requires.bitmaps.place.bits in
+    let bits = c.requires.bitmaps.geometry.bits in
     changes_put {R = IsStepSector p} {more = 0}
     (changes_weaker {Q = IsStepSector p} (λ t e. inl (omega (arith, e), omega (arith, e, bits, taken.free.1))) (omega arith) c.in_ok-number.ensures.puts) c.put.ensures (inr (taken.free.0, taken.free.1))
 

@@ -29,7 +29,7 @@ rewrite-requires-clause-whole g c =
 pub returns-then-number-ne0-clause-written : goal.returns-then-number-ne0-clause-written
 returns-then-number-ne0-clause-written g c =
     let old = g.S.Sectors.state c.args.s.now in
-    let p = c.args.place in
+    let p = c.args.geometry in
     let v = c.args.blocks.now.inode in
     let is : c.number-number.result ≡ pointer old.sectors v c.args.k = c.number-number.ensures old.sectors c.requires.loaded in
     writes_block_there (g.S.Sectors.state c.rewrite.new.s) c.args.k c.args.at c.args.bytes.now c.requires.may (sym is) c.if-number-ne0.true c.in_ok-rewrite.ensures.written c.requires.fits.0 (λ i. let f = c.type_inv.bytes i in search rules)
@@ -62,10 +62,10 @@ put_pointer-requires-clause-room g c = λ none.
     let v = c.args.blocks.now.inode in
     let u = c.args.blocks.now.sector in
     let ge = c.if-k-lt-DIRECT_BLOCKS.false in
-    let e = ap (λ (ns : List ℕ). lacking old (ns ++ bitmaps c.args.place)) (pointers_are old.sectors v c.args.k ge) in
-    let f = ap (λ (t : ℕ). lacking old (t ∷ bitmaps c.args.place)) (loaded_sector c.requires.loaded ge) in
+    let e = ap (λ (ns : List ℕ). lacking old (ns ++ bitmaps c.args.geometry)) (pointers_are old.sectors v c.args.k ge) in
+    let f = ap (λ (t : ℕ). lacking old (t ∷ bitmaps c.args.geometry)) (loaded_sector c.requires.loaded ge) in
     let r = (puts_beside c.in_ok-number.ensures.puts u).room in
-    let z = lacking_unput (g.S.Sectors.state c.take_block.new.s) u (bitmaps c.args.place) none in
+    let z = lacking_unput (g.S.Sectors.state c.take_block.new.s) u (bitmaps c.args.geometry) none in
     omega (arith, r, z, e, f, c.requires.room)
 
 pub returns-then-k-lt-DIRECT_BLOCKS-clause-written : goal.returns-then-k-lt-DIRECT_BLOCKS-clause-written
@@ -90,7 +90,7 @@ returns-else-k-lt-DIRECT_BLOCKS-clause-written g c =
     let sector = loaded_sector c.requires.loaded ge in
     let has : c.args.blocks.now.sector ≢ 0 = λ e. c.requires.pointers ge (sector ∙ e) in
     let none : pointer old.sectors v c.args.k ≡ 0 = sym (c.number-number.ensures old.sectors c.requires.loaded) ∙ c.if-number-ne0.false in
-    subst (λ (w : Inode). WritesBlock c.args.place c.args.k c.args.at c.args.bytes.now old (g.S.Sectors.state c.put_pointer.new.s) v w) (sym c.put_pointer.ensures.inode)
+    subst (λ (w : Inode). WritesBlock c.args.geometry c.args.k c.args.at c.args.bytes.now old (g.S.Sectors.state c.put_pointer.new.s) v w) (sym c.put_pointer.ensures.inode)
     (writes_entry_block c.args.at c.args.bytes.now c.requires.may none c.requires.fits.0 refl c.requires.fits.1 c.requires.inside
     c.in_ok-number.ensures.taken.1 c.in_ok-number.ensures.free c.in_ok-number.ensures.bitmaps ge (sym sector) has
     (c.requires.loaded.at_hand.is has) c.put_pointer.ensures.pointers c.put_pointer.ensures.put.sectors c.put_pointer.ensures.put.store (pointers_puts 1 (holder DIRECT_BLOCKS c.args.k) c.requires.may (sym sector) has c.in_ok-number.ensures.puts c.put_pointer.ensures.put))

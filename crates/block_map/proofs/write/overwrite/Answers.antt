@@ -34,7 +34,7 @@ rewrite-requires-clause-on_disk g c =
 
 pub rewrite-requires-clause-whole : goal.rewrite-requires-clause-whole
 rewrite-requires-clause-whole g c =
-    let may : MayChange c.args.place (g.S.Sectors.state c.args.s.now) c.args.inode.now = used_may_change c.requires.sound c.requires.below c.requires.inode c.requires.used in
+    let may : MayChange c.args.geometry (g.S.Sectors.state c.args.s.now) c.args.inode.now = used_may_change c.requires.sound c.requires.below c.requires.inode c.requires.used in
     let is = loaded_number (g.S.Sectors.state c.args.s.now).sectors (c.args.offset / 512) (c.number.ensures (g.S.Sectors.state c.args.s.now).sectors c.in_ok-load.ensures.loaded) (c.in_ok-load.ensures.inode ∙ c.new-blocks.ensures.inode) in
     subst IsSector (sym (c.in_ok-load.ensures.same.sectors c.number.result)) (block_whole (c.args.offset / 512) may is (λ e. c.requires.no_hole (sym is ∙ e)))
 

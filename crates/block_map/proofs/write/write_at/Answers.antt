@@ -23,8 +23,8 @@ write_blocks-requires-clause-may g c =
     let m = c.max-blocks.result in
     let is : m ≡ max v.size (c.args.offset + length c.args.bytes.now) = c.max-blocks.ensures in
     let allowed : AllowsSize v.kind m = subst (AllowsSize v.kind) (sym is) c.requires.size in
-    let may : MayChange c.args.place old v = may_change m c.requires.sound c.requires.below c.requires.inode allowed in
-    subst (λ (u : Inode). MayChange c.args.place old (record u { size = m })) (sym c.new-blocks.ensures.inode)
+    let may : MayChange c.args.geometry old v = may_change m c.requires.sound c.requires.below c.requires.inode allowed in
+    subst (λ (u : Inode). MayChange c.args.geometry old (record u { size = m })) (sym c.new-blocks.ensures.inode)
     (may_after may (sized m may unchanged_nothing allowed (limit_at c.max-blocks.result v.size c.args.offset (length c.args.bytes.now) c.max_file_size.result c.max-blocks.ensures c.if-offset-max_file_size.false c.requires.few (omega (arith, c.max_file_size.ensures.least)) c.max_file_size.ensures.most (size_limit c.max-blocks.result c.requires.sound c.requires.below c.requires.inode allowed))))
 
 pub write_blocks-requires-clause-at_hand : goal.write_blocks-requires-clause-at_hand
@@ -51,7 +51,7 @@ returns-in_err-write_blocks-clause-full g c = λ is.
 
 pub write_inode-requires-clause-room : goal.write_inode-requires-clause-room
 write_inode-requires-clause-room g c = λ none.
-    spare_last c.args.place _ c.requires.spare c.in_ok-write_blocks.ensures.written.puts
+    spare_last c.args.geometry _ c.requires.spare c.in_ok-write_blocks.ensures.written.puts
 
 -- the size that the inode is to have
 allowed : (g : _) (c : goal.After-inode-1 g) → AllowsSize c.args.inode.now.kind c.max-blocks.result
@@ -61,7 +61,7 @@ limited : (g : _) (c : goal.After-inode-1 g) → c.max-blocks.result ≤ MAX_FIL
 limited g c =
     limit_at c.max-blocks.result c.args.inode.now.size c.args.offset (length c.args.bytes.now) c.max_file_size.result c.max-blocks.ensures c.if-offset-max_file_size.false c.requires.few (omega (arith, c.max_file_size.ensures.least)) c.max_file_size.ensures.most (size_limit c.max-blocks.result c.requires.sound c.requires.below c.requires.inode (allowed g c))
 
-ended : (g : _) (c : goal.After-inode-1 g) → IsEnded c.args.place c.args.n (taken_by (g.S.Sectors.state c.args.s.now).sectors c.args.inode.now c.args.offset (length c.args.bytes.now)) (put_by c.args.offset (length c.args.bytes.now))
+ended : (g : _) (c : goal.After-inode-1 g) → IsEnded c.args.geometry c.args.n (taken_by (g.S.Sectors.state c.args.s.now).sectors c.args.inode.now c.args.offset (length c.args.bytes.now)) (put_by c.args.offset (length c.args.bytes.now))
     (g.S.Sectors.state c.args.s.now) (g.S.Sectors.state c.write_blocks.new.s) (g.S.Sectors.state c.write_inode.new.s) c.args.inode.now c.write_blocks.new.blocks.inode
 ended g c =
     wrote c.requires.sound c.requires.below c.requires.inode (allowed g c) (limited g c) c.requires.few c.max-blocks.ensures unchanged_nothing c.new-blocks.ensures.inode

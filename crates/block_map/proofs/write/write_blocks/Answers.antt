@@ -103,14 +103,14 @@ returns-clause-written g c =
     let v = c.add_pointers.new.blocks.inode in
     let done : k ≡ end = omega (arith, c.loop-k-test.false, c.div_ceil-end.ensures) in
     all_written c.args.offset c.args.bytes.now c.in_ok-add_pointers.ensures.added (omega (arith, c.div_ceil-end.ensures))
-    (subst (λ (m : ℕ). IsWritten c.args.place (pointers_of mid.sectors v (c.args.offset / 512) end) c.args.offset (c.args.offset / 512) m c.args.bytes.now mid (g.S.Sectors.state c.loop-k.s) v c.loop-k.blocks.inode)
+    (subst (λ (m : ℕ). IsWritten c.args.geometry (pointers_of mid.sectors v (c.args.offset / 512) end) c.args.offset (c.args.offset / 512) m c.args.bytes.now mid (g.S.Sectors.state c.loop-k.s) v c.loop-k.blocks.inode)
     done c.loop-k.invariant.written) (omega (arith, c.loop-k.invariant.from, done))
 
 pub returns-in_err-add_pointers-clause-full : goal.returns-in_err-add_pointers-clause-full
 returns-in_err-add_pointers-clause-full g c = λ is.
     let e = c.from_residual.ensures in
     let f = c.in_err-add_pointers.ensures.full (ap Err (same_fault c.from_residual.result c.in_err-add_pointers.field-0.0 Full e.0 e.1 is)) in
-    pointers_lack c.args.place c.args.offset c.div_ceil-end.result c.args.bytes.now (g.S.Sectors.state c.args.s.now) c.args.blocks.now.inode (omega (arith, c.div_ceil-end.ensures)) f
+    pointers_lack c.args.geometry c.args.offset c.div_ceil-end.result c.args.bytes.now (g.S.Sectors.state c.args.s.now) c.args.blocks.now.inode (omega (arith, c.div_ceil-end.ensures)) f
 
 pub returns-clause-store : goal.returns-clause-store
 returns-clause-store g c = store_joined c.in_ok-add_pointers.ensures.store c.loop-k.invariant.written.puts.store

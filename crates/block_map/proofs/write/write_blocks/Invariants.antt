@@ -8,6 +8,6 @@ abbrev pub invariant-loop-k : goal.invariant-loop-k
 invariant-loop-k g l = record {
   from : l.offset / 512 ≤ l.k;
   at_hand : IsAtHand (g.S.Sectors.state l.s).sectors l.blocks;
-  written : IsWritten l.place (pointers_of (g.S.Sectors.state l.initial.s).sectors l.initial.blocks.inode (l.offset / 512) l.end) l.offset (l.offset / 512) l.k l.bytes
+  written : IsWritten l.geometry (pointers_of (g.S.Sectors.state l.initial.s).sectors l.initial.blocks.inode (l.offset / 512) l.end) l.offset (l.offset / 512) l.k l.bytes
       (g.S.Sectors.state l.initial.s) (g.S.Sectors.state l.s) l.initial.blocks.inode l.blocks.inode;
 }

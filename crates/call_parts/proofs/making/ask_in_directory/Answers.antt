@@ -21,7 +21,7 @@ returns-in_err-directory-clause-each g c = λ t h d.
     let old = g.S.Sectors.state c.args.s.now in
     let new = g.S.Sectors.state c.load_inode.new.s in
     answered_err {A = Inode} old.disk new.disk
-    (refused_or (permission_on c.args.cred.now t c.args.dir write_and_search c.args.walk c.args.step) (Ok (inode_at c.args.caller.now.place old.sectors c.args.dir)))
+    (refused_or (permission_on c.args.cred.now t c.args.dir write_and_search c.args.walk c.args.step) (Ok (inode_at c.args.caller.now.geometry old.sectors c.args.dir)))
     c.from_residual.result c.in_err-directory.field-0.0 r.0 r.1 (inr (inr c.in_err-directory.ensures.fault))
 
 pub permitted-requires : goal.permitted-requires
@@ -33,7 +33,7 @@ permitted-requires g c =
       there = (
         c.args.dir,
         number_below x.1 c.args.dir (is_there x.0 c.args.dir x.2.node x.2.is_there),
-        kept (λ (m : SectorMap). c.in_ok-directory.directory ≡ inode_at c.args.caller.now.place m c.args.dir) same c.in_ok-directory.ensures.found,
+        kept (λ (m : SectorMap). c.in_ok-directory.directory ≡ inode_at c.args.caller.now.geometry m c.args.dir) same c.in_ok-directory.ensures.found,
       );
       has = ((dir_access x.1 c.args.dir x.2 c.args.cred.now c.args.step).access, held_later x.1 c.args.dir x.2 c.args.cred.now c.args.step same c.in_ok-directory.directory c.in_ok-directory.ensures.found);
     }
@@ -45,7 +45,7 @@ returns-in_err-permitted-clause-each g c = λ t h d.
     let new = g.S.Sectors.state c.permitted.new.s in
     let same = c.in_ok-directory.ensures.same in
     let e = c.in_err-permitted.field-0.0 in
-    let v = inode_at c.args.caller.now.place old.sectors c.args.dir in
+    let v = inode_at c.args.caller.now.geometry old.sectors c.args.dir in
     let a = dir_access h c.args.dir d c.args.cred.now c.args.step in
     answered_err {A = Inode} old.disk new.disk (refused_or (permission_on c.args.cred.now t c.args.dir write_and_search c.args.walk c.args.step) (Ok v))
     c.from_residual-in_err-permitted.result e r.0 r.1
@@ -59,4 +59,4 @@ returns-clause-each g c = λ t h d.
     let a = dir_access h c.args.dir d c.args.cred.now c.args.step in
     let met = dir_granted h c.args.dir d c.args.cred.now c.args.walk c.args.step c.in_ok-permitted.field-0
     (c.in_ok-permitted.ensures.each a.access (held_later h c.args.dir d c.args.cred.now c.args.step same c.in_ok-directory.directory c.in_ok-directory.ensures.found)) in
-    ap (λ o. refused_or {A = Inode} o (Ok (inode_at c.args.caller.now.place old.sectors c.args.dir))) met ∙ ap (λ (w : Inode). Ok w) (sym c.in_ok-directory.ensures.found)
+    ap (λ o. refused_or {A = Inode} o (Ok (inode_at c.args.caller.now.geometry old.sectors c.args.dir))) met ∙ ap (λ (w : Inode). Ok w) (sym c.in_ok-directory.ensures.found)

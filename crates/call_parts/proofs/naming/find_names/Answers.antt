@@ -34,15 +34,15 @@ returns-in_err-first-clause-each g c = λ fit t h there second_there.
     let new = g.S.Sectors.state c.walk.new.s in
     let q = c.args.process.now in
     let e = c.in_err-first.field-0.0 in
-    answered_err {A = Found × Found} old.disk new.disk (walks_of (room_of c.args.place) t q.cred q.cwd q.second_cwd c.args.old.now c.args.new.now) c.from_residual-in_err-first.result e r.0 r.1
-    (first_walk_refused (room_of c.args.place) t q.cred q.cwd q.second_cwd c.args.old.now c.args.new.now old.disk new.disk e
-    (walked_as old.disk new.disk (room_of c.args.place) t 1 c.args.old.now (Err e) c.cred-cred.ensures c.cwd-cwd.ensures there (c.in_err-first.ensures.each t h)))
+    answered_err {A = Found × Found} old.disk new.disk (walks_of (room_of c.args.geometry) t q.cred q.cwd q.second_cwd c.args.old.now c.args.new.now) c.from_residual-in_err-first.result e r.0 r.1
+    (first_walk_refused (room_of c.args.geometry) t q.cred q.cwd q.second_cwd c.args.old.now c.args.new.now old.disk new.disk e
+    (walked_as old.disk new.disk (room_of c.args.geometry) t 1 c.args.old.now (Err e) c.cred-cred.ensures c.cwd-cwd.ensures there (c.in_err-first.ensures.each t h)))
 
 pub walk-requires-2-clause-sound : goal.walk-requires-2-clause-sound
 walk-requires-2-clause-sound g c = sound_kept c.in_ok-first.ensures.same c.requires.sound
 
 pub walk-requires-2-clause-inodes : goal.walk-requires-2-clause-inodes
-walk-requires-2-clause-inodes g c = kept (HasSoundInodes c.args.place) c.in_ok-first.ensures.same c.requires.inodes
+walk-requires-2-clause-inodes g c = kept (HasSoundInodes c.args.geometry) c.in_ok-first.ensures.same c.requires.inodes
 
 pub returns-in_err-second-clause-each : goal.returns-in_err-second-clause-each
 returns-in_err-second-clause-each g c = λ fit t h there second_there.
@@ -53,12 +53,12 @@ returns-in_err-second-clause-each g c = λ fit t h there second_there.
     let q = c.args.process.now in
     let e = c.in_err-second.field-0.0 in
     let same = c.in_ok-first.ensures.same in
-    let held = kept (λ m. HoldsTree c.args.place m t) same h in
-    answered_err {A = Found × Found} old.disk new.disk (walks_of (room_of c.args.place) t q.cred q.cwd q.second_cwd c.args.old.now c.args.new.now) c.from_residual-in_err-second.result e r.0 r.1
-    (second_walk_refused (room_of c.args.place) t q.cred q.cwd q.second_cwd c.args.old.now c.args.new.now old.disk new.disk c.in_ok-first.first
-    (walked_as old.disk mid.disk (room_of c.args.place) t 1 c.args.old.now (Ok c.in_ok-first.first) c.cred-cred.ensures c.cwd-cwd.ensures there (c.in_ok-first.ensures.each t h)) e
+    let held = kept (λ m. HoldsTree c.args.geometry m t) same h in
+    answered_err {A = Found × Found} old.disk new.disk (walks_of (room_of c.args.geometry) t q.cred q.cwd q.second_cwd c.args.old.now c.args.new.now) c.from_residual-in_err-second.result e r.0 r.1
+    (second_walk_refused (room_of c.args.geometry) t q.cred q.cwd q.second_cwd c.args.old.now c.args.new.now old.disk new.disk c.in_ok-first.first
+    (walked_as old.disk mid.disk (room_of c.args.geometry) t 1 c.args.old.now (Ok c.in_ok-first.first) c.cred-cred.ensures c.cwd-cwd.ensures there (c.in_ok-first.ensures.each t h)) e
     (answered_later {A = Found} new.disk same
-    (walked_as mid.disk new.disk (room_of c.args.place) t 2 c.args.new.now (Err e) c.cred-cred.ensures c.second_cwd-second_cwd.ensures second_there (c.in_err-second.ensures.each t held))))
+    (walked_as mid.disk new.disk (room_of c.args.geometry) t 2 c.args.new.now (Err e) c.cred-cred.ensures c.second_cwd-second_cwd.ensures second_there (c.in_err-second.ensures.each t held))))
 
 pub returns-clause-each : goal.returns-clause-each
 returns-clause-each g c = λ fit t h there second_there.
@@ -66,8 +66,8 @@ returns-clause-each g c = λ fit t h there second_there.
     let mid = g.S.Sectors.state c.walk.new.s in
     let new = g.S.Sectors.state c.walk-2.new.s in
     let q = c.args.process.now in
-    let held = kept (λ m. HoldsTree c.args.place m t) c.in_ok-first.ensures.same h in
-    both_walked (room_of c.args.place) t q.cred q.cwd q.second_cwd c.args.old.now c.args.new.now old.disk new.disk c.in_ok-first.first
-    (walked_as old.disk mid.disk (room_of c.args.place) t 1 c.args.old.now (Ok c.in_ok-first.first) c.cred-cred.ensures c.cwd-cwd.ensures there (c.in_ok-first.ensures.each t h))
+    let held = kept (λ m. HoldsTree c.args.geometry m t) c.in_ok-first.ensures.same h in
+    both_walked (room_of c.args.geometry) t q.cred q.cwd q.second_cwd c.args.old.now c.args.new.now old.disk new.disk c.in_ok-first.first
+    (walked_as old.disk mid.disk (room_of c.args.geometry) t 1 c.args.old.now (Ok c.in_ok-first.first) c.cred-cred.ensures c.cwd-cwd.ensures there (c.in_ok-first.ensures.each t h))
     c.in_ok-second.second
-    (walked_as mid.disk new.disk (room_of c.args.place) t 2 c.args.new.now (Ok c.in_ok-second.second) c.cred-cred.ensures c.second_cwd-second_cwd.ensures second_there (c.in_ok-second.ensures.each t held))
+    (walked_as mid.disk new.disk (room_of c.args.geometry) t 2 c.args.new.now (Ok c.in_ok-second.second) c.cred-cred.ensures c.second_cwd-second_cwd.ensures second_there (c.in_ok-second.ensures.each t held))

@@ -13,7 +13,7 @@ pub insert_new-requires-clause-directory : goal.insert_new-requires-clause-direc
 insert_new-requires-clause-directory g c =
     let room = c.requires.room in
     let old = (g.S.Sectors.state c.args.s.now).sectors in
-    (room.names, subst (λ (v : Inode). HasNames c.args.place.version old v room.names) (sym c.requires.inode) room.are, room.is_new)
+    (room.names, subst (λ (v : Inode). HasNames c.args.geometry.version old v room.names) (sym c.requires.inode) room.are, room.is_new)
 
 pub insert_new-requires-clause-name : goal.insert_new-requires-clause-name
 insert_new-requires-clause-name g c = c.requires.room.is_name
@@ -36,5 +36,5 @@ returns-in-Err-clause-err g c =
     let old = g.S.Sectors.state c.args.s.now in
     let new = g.S.Sectors.state c.insert_new.new.s in
     let room = c.requires.room in
-    let names = subst (λ (v : Inode). HasNames c.args.place.version old.sectors v room.names) (sym c.requires.inode) room.are in
-    (refl, room_suffices c.args.place old.sectors c.args.directory room.names c.args.name.now room.is_new room.few room.enough old.disk new.disk c.in-Err.field-0 (c.in-Err.ensures.why room.names names) c.in-Err.ensures.cause.failed)
+    let names = subst (λ (v : Inode). HasNames c.args.geometry.version old.sectors v room.names) (sym c.requires.inode) room.are in
+    (refl, room_suffices c.args.geometry old.sectors c.args.directory room.names c.args.name.now room.is_new room.few room.enough old.disk new.disk c.in-Err.field-0 (c.in-Err.ensures.why room.names names) c.in-Err.ensures.cause.failed)

@@ -11,7 +11,7 @@ pub returns-in_err-descriptor-clause-refused : goal.returns-in_err-descriptor-cl
 returns-in_err-descriptor-clause-refused c =
     let r = c.from_residual.ensures in
     failed_with c.from_residual.result (Failed c.in_err-descriptor.field-0.0)
-    (λ (e : Refusal). (s : State) → s.desks ≡ c.args.procs.now → IsNotOpen s c.args.pid c.args.fd c.args.purpose e) r.0 r.1
+    (λ (e : Refusal). (s : State) → s.processes ≡ c.args.procs.now → IsNotOpen s c.args.pid c.args.fd c.args.purpose e) r.0 r.1
     (λ s same. closed_open s c.args.pid c.args.fd c.args.purpose same c.in_err-descriptor.field-0.0 (sym c.in_err-descriptor.ensures.answer))
 
 pub returns-then-not-is_open_for-clause-refused : goal.returns-then-not-is_open_for-clause-refused

@@ -18,7 +18,7 @@ returns-in_err-process-clause-refused g c =
     let old = g.S.Sectors.state c.args.s.now in
     let new = g.S.Sectors.state c.walk_path.new.s in
     failed_with c.from_residual.result c.in_err-process.field-0.0
-    (λ (e : Refusal). (s : State) → IsStateOf c.args.caller.now.place old.sectors c.args.caller.now.procs.now s
+    (λ (e : Refusal). (s : State) → IsStateOf c.args.caller.now.geometry old.sectors c.args.caller.now.procs.now s
     → RefusesReach old.disk new.disk s c.args.caller.now.pid c.args.checks c.args.form c.args.path.now e) r.0 r.1
     (λ s at. walk_reaches (c.in_err-process.ensures.refused s at))
 
@@ -36,9 +36,9 @@ returns-in_err-number-clause-refused g c =
     let f = c.in_ok-process.field-0.found in
     let e = c.in_err-number.field-0.0 in
     failed_with c.from_residual-in_err-number.result e
-    (λ (e : Refusal). (s : State) → IsStateOf c.args.caller.now.place old.sectors c.args.caller.now.procs.now s
+    (λ (e : Refusal). (s : State) → IsStateOf c.args.caller.now.geometry old.sectors c.args.caller.now.procs.now s
     → RefusesReach old.disk new.disk s c.args.caller.now.pid c.args.checks c.args.form c.args.path.now e) r.0 r.1
-    (unreached new.disk e {A = ℕ × Inode} (number f, inode_at c.args.caller.now.place mid.sectors (number f)) c.in_ok-process.ensures.same c.in_ok-process.ensures.walked
+    (unreached new.disk e {A = ℕ × Inode} (number f, inode_at c.args.caller.now.geometry mid.sectors (number f)) c.in_ok-process.ensures.same c.in_ok-process.ensures.walked
     c.in_err-number.ensures.each)
 
 pub returns-clause-reached : goal.returns-clause-reached
@@ -47,7 +47,7 @@ returns-clause-reached g c =
     let mid = g.S.Sectors.state c.walk_path.new.s in
     record {
       walked = walk_kept same c.in_ok-process.ensures.walked;
-      inode = inode_later same (is_inode c.args.caller.now.place mid.sectors c.in_ok-process.field-0.found c.in_ok-number.number c.in_ok-number.inode c.in_ok-number.ensures.each);
+      inode = inode_later same (is_inode c.args.caller.now.geometry mid.sectors c.in_ok-process.field-0.found c.in_ok-number.number c.in_ok-number.inode c.in_ok-number.ensures.each);
     }
 
 pub returns-in_err-number-clause-same : goal.returns-in_err-number-clause-same

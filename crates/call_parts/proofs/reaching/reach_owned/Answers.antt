@@ -18,7 +18,7 @@ returns-in_err-reached-clause-refused g c =
     let old = g.S.Sectors.state c.args.s.now in
     let new = g.S.Sectors.state c.reach.new.s in
     failed_with c.from_residual.result c.in_err-reached.field-0.0
-    (λ (e : Refusal). (s : State) → IsStateOf c.args.caller.now.place old.sectors c.args.caller.now.procs.now s
+    (λ (e : Refusal). (s : State) → IsStateOf c.args.caller.now.geometry old.sectors c.args.caller.now.procs.now s
     → RefusesOwned old.disk new.disk s c.args.caller.now.pid c.args.checks c.args.form c.args.path.now e) r.0 r.1
     (λ s at. reach_owns (c.in_err-reached.ensures.refused s at))
 
@@ -31,7 +31,7 @@ returns-in_err-allowed_by-clause-refused g c =
     let e = c.in_err-allowed_by.field-0.0 in
     let answer = c.may_own-answer.ensures.computed ∙ ap (λ (k : Credential). may_own k x.inode.uid) c.cred.ensures in
     failed_with c.from_residual-in_err-allowed_by.result e
-    (λ (e : Refusal). (s : State) → IsStateOf c.args.caller.now.place old.sectors c.args.caller.now.procs.now s
+    (λ (e : Refusal). (s : State) → IsStateOf c.args.caller.now.geometry old.sectors c.args.caller.now.procs.now s
     → RefusesOwned old.disk new.disk s c.args.caller.now.pid c.args.checks c.args.form c.args.path.now e) r.0 r.1
     (unowned e c.in_ok-reached.ensures.same c.in_ok-reached.ensures.reached
     (sym (ap (λ (a : Answer). checked (allowed_by 1 x.found.step Own a)) answer) ∙ sym c.in_err-allowed_by.ensures))

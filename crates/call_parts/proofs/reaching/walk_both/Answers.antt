@@ -4,7 +4,7 @@ use Rattle.fs_cred.specs.declared.refusal.Refusal.{Refusal}
 use Rattle.fs_cred.specs.declared.refusal.Refusal.TheVariants.{Failed}
 use Rattle.fs_layout.specs.Bytes.{SectorMap}
 use Rattle.fs_layout.specs.Maps.{get}
-use Rattle.fs_model.specs.Processes.{Desks}
+use Rattle.fs_model.specs.Processes.{ProcessTable}
 use Rattle.fs_model.specs.States.{State}
 use Rattle.fs_model.specs.Trees.{Room}
 use Rattle.path_walk.specs.Answers.{IsAnswered}
@@ -24,10 +24,10 @@ returns-in_err-process-clause-refused g c =
     let old = g.S.Sectors.state c.args.s.now in
     let absent = c.in_err-process.ensures.absent in
     failed_with c.from_residual.result (Failed c.in_err-process.field-0.0)
-    (λ (e : Refusal). (s : State) → IsStateOf c.args.caller.now.place old.sectors c.args.caller.now.procs.now s
+    (λ (e : Refusal). (s : State) → IsStateOf c.args.caller.now.geometry old.sectors c.args.caller.now.procs.now s
     → RefusesBoth old.disk old.disk s c.args.caller.now.pid c.args.old.now c.args.new.now e) r.0 r.1
     (λ s at. absent_both old.disk old.disk s c.args.caller.now.pid c.args.old.now c.args.new.now c.in_err-process.field-0.0 absent.0
-    (ap (λ (d : Desks). get nat_cmp d c.args.caller.now.pid) at.same_desks ∙ absent.1))
+    (ap (λ (d : ProcessTable). get nat_cmp d c.args.caller.now.pid) at.same_processes ∙ absent.1))
 
 pub find_names-requires-clause-inodes : goal.find_names-requires-clause-inodes
 find_names-requires-clause-inodes g c = held_inodes (state_tree c.requires.ready.is_state)
@@ -49,7 +49,7 @@ returns-in_err-first-clause-refused g c =
     let there = c.in_ok-process.ensures.found in
     let e = c.in_err-first.field-0.0 in
     failed_with c.from_residual-in_err-first.result e
-    (λ (e : Refusal). (s : State) → IsStateOf c.args.caller.now.place old.sectors c.args.caller.now.procs.now s
+    (λ (e : Refusal). (s : State) → IsStateOf c.args.caller.now.geometry old.sectors c.args.caller.now.procs.now s
     → RefusesBoth old.disk new.disk s c.args.caller.now.pid c.args.old.now c.args.new.now e) r.0 r.1
     (λ s at. unwalked_both old.disk new.disk s c.args.caller.now.pid q (same_process at c.args.caller.now.pid q there) c.args.old.now c.args.new.now e
     (λ x h. same_err e x (found.checked x h)) (λ none.
@@ -69,7 +69,7 @@ returns-clause-walked g c =
       old_bytes = found.old_bytes;
       new_bytes = found.new_bytes;
       found = λ s at.
-          let before = kept_back (λ (m : SectorMap). IsStateOf c.args.caller.now.place m c.args.caller.now.procs.now s) found.same at in
+          let before = kept_back (λ (m : SectorMap). IsStateOf c.args.caller.now.geometry m c.args.caller.now.procs.now s) found.same at in
           both_found old.disk new.disk s c.args.caller.now.pid q (same_process before c.args.caller.now.pid q there) c.args.old.now c.args.new.now c.in_ok-first.first c.in_ok-first.second found.valid
           (subst (λ (r : Room). IsAnswered old.disk new.disk (walks_of r s.tree q.cred q.cwd q.second_cwd c.args.old.now c.args.new.now) (Ok (c.in_ok-first.first, c.in_ok-first.second)))
           (sym before.same_room)

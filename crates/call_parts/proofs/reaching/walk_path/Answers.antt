@@ -4,7 +4,7 @@ use Rattle.std.specs.Ordering.{nat_cmp}
 use Rattle.std.proofs.Common.{Ok, Err, sym, ap, subst, ◌∙◌}
 use Rattle.fs_layout.specs.Maps.{get}
 use Rattle.fs_layout.specs.Bytes.{SectorMap}
-use Rattle.fs_model.specs.Processes.{Desks}
+use Rattle.fs_model.specs.Processes.{ProcessTable}
 use Rattle.fs_model.specs.States.{State}
 use Rattle.fs_model.specs.Trees.{Room}
 use Rattle.path_walk.specs.Answers.{IsAnswered}
@@ -24,10 +24,10 @@ returns-in_err-process-clause-refused g c =
     let old = g.S.Sectors.state c.args.s.now in
     let absent = c.in_err-process.ensures.absent in
     failed_with c.from_residual.result (Failed c.in_err-process.field-0.0)
-    (λ (e : Refusal). (s : State) → IsStateOf c.args.caller.now.place old.sectors c.args.caller.now.procs.now s
+    (λ (e : Refusal). (s : State) → IsStateOf c.args.caller.now.geometry old.sectors c.args.caller.now.procs.now s
     → RefusesWalk old.disk old.disk s c.args.caller.now.pid c.args.checks c.args.form c.args.path.now e) r.0 r.1
     (λ s at. absent_walk old.disk old.disk s c.args.caller.now.pid c.args.checks c.args.form c.args.path.now c.in_err-process.field-0.0 absent.0
-    (ap (λ (d : Desks). get nat_cmp d c.args.caller.now.pid) at.same_desks ∙ absent.1))
+    (ap (λ (d : ProcessTable). get nat_cmp d c.args.caller.now.pid) at.same_processes ∙ absent.1))
 
 pub returns-in_err-checks-clause-refused : goal.returns-in_err-checks-clause-refused
 returns-in_err-checks-clause-refused g c =
@@ -36,7 +36,7 @@ returns-in_err-checks-clause-refused g c =
     let q = c.in_ok-process.process.now in
     let e = c.in_err-checks.field-0.0 in
     failed_with c.from_residual-in_err-checks.result e
-    (λ (e : Refusal). (s : State) → IsStateOf c.args.caller.now.place old.sectors c.args.caller.now.procs.now s
+    (λ (e : Refusal). (s : State) → IsStateOf c.args.caller.now.geometry old.sectors c.args.caller.now.procs.now s
     → RefusesWalk old.disk old.disk s c.args.caller.now.pid c.args.checks c.args.form c.args.path.now e) r.0 r.1
     (λ s at. unchecked_walk old.disk old.disk s c.args.caller.now.pid q (same_process at c.args.caller.now.pid q c.in_ok-process.ensures.found) c.args.checks c.args.form c.args.path.now e
     c.in_err-checks.was)
@@ -57,7 +57,7 @@ returns-in_err-found-clause-refused g c =
     let there = c.in_ok-process.ensures.found in
     let e = c.in_err-found.field-0.0 in
     failed_with c.from_residual-in_err-found.result e
-    (λ (e : Refusal). (s : State) → IsStateOf c.args.caller.now.place old.sectors c.args.caller.now.procs.now s
+    (λ (e : Refusal). (s : State) → IsStateOf c.args.caller.now.geometry old.sectors c.args.caller.now.procs.now s
     → RefusesWalk old.disk new.disk s c.args.caller.now.pid c.args.checks c.args.form c.args.path.now e) r.0 r.1
     (λ s at. unwalked old.disk new.disk s c.args.caller.now.pid q (same_process at c.args.caller.now.pid q there) c.args.checks c.args.form c.args.path.now e c.in_ok-checks.was
     (λ x h. same_err e x (found.checked x h)) (λ none.
@@ -77,7 +77,7 @@ returns-clause-walked g c =
       fine = c.in_ok-checks.was;
       bytes = c.bytes-bytes.ensures.valid;
       found = λ s at.
-          let before = kept_back (λ (m : SectorMap). IsStateOf c.args.caller.now.place m c.args.caller.now.procs.now s) found.same at in
+          let before = kept_back (λ (m : SectorMap). IsStateOf c.args.caller.now.geometry m c.args.caller.now.procs.now s) found.same at in
           resolved old.disk new.disk c.in_ok-found.found (same_process before c.args.caller.now.pid q there) found.valid
           (subst (λ (r : Room). IsAnswered old.disk new.disk (walk_of r s.tree q.cred 1 c.args.form q.cwd c.args.path.now) (Ok c.in_ok-found.found)) (sym before.same_room)
           (found.each found.valid s.tree (state_tree before) (cwd_there before c.args.caller.now.pid q there)));

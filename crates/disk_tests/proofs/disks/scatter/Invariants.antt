@@ -1,6 +1,6 @@
 use Rattle.std.proofs.Common.{◌≡◌, ◌≤◌, take}
 use Rattle.sector_disk.specs.Disk.{LeavesOnly, AddsOnly, IsImageOr}
-use Rattle.disk_tests.specs.Writes.{IsAmong, after_writes}
+use Rattle.disk_tests.specs.Writes.{IsContentOf, after_writes}
 use Rattle.disk_tests.proofs.disks.scatter.Given as goal
 
 abbrev pub invariant-loop-content : goal.invariant-loop-content
@@ -9,7 +9,7 @@ invariant-loop-content g l =
     let now = g.D.Disk.state l.disk in
     record {
       seen : now.seen ≡ after_writes old.seen (take l.content-index l.contents);
-      adds : AddsOnly (IsAmong l.contents) old now;
-      any_moment : LeavesOnly old now (IsImageOr (IsAmong l.contents) old);
+      adds : AddsOnly (IsContentOf l.contents) old now;
+      any_moment : LeavesOnly old now (IsImageOr (IsContentOf l.contents) old);
       failures : old.failures ≤ now.failures;
     }

@@ -60,18 +60,18 @@ replace_acl-requires g c =
     let mid = g.S.Sectors.state c.reach_owned.new.s in
     let kind = accessed_kind _ c.in_ok-reached.reached.inode.kind (reached_access x).kind in
     let acl = option_copied c.args.acl in
-    let enough = (met_ok (first_of (acl_space_asked c.args.which acl (free_sectors c.args.caller.now.place mid.sectors))) tt tt c.in_ok-ask_for_space.ensures.each).0 in
-    let spare = spare_unchanged c.args.caller.now.place 47 mid (g.S.Sectors.state c.ask_for_space.new.s) x.walked.ready.spare same in
+    let enough = (met_ok (first_of (acl_space_asked c.args.which acl (free_sectors c.args.caller.now.geometry mid.sectors))) tt tt c.in_ok-ask_for_space.ensures.each).0 in
+    let spare = spare_unchanged c.args.caller.now.geometry 47 mid (g.S.Sectors.state c.ask_for_space.new.s) x.walked.ready.spare same in
     record {
       loaded = record {
         sound = sound_kept same x.walked.ready.sound;
         below = reached_below x;
-        inode = kept (λ (m : SectorMap). c.in_ok-reached.reached.inode ≡ inode_at c.args.caller.now.place m c.in_ok-reached.reached.number) same x.inode.inode;
+        inode = kept (λ (m : SectorMap). c.in_ok-reached.reached.inode ≡ inode_at c.args.caller.now.geometry m c.in_ok-reached.reached.number) same x.inode.inode;
         used = kind.0;
       };
       no_link = kind.1;
       spare = omega (arith, spare);
-      space = kept (λ (m : SectorMap). first_of (acl_space_asked c.args.which acl (free_sectors c.args.caller.now.place m)) ≡ None) same enough;
+      space = kept (λ (m : SectorMap). first_of (acl_space_asked c.args.which acl (free_sectors c.args.caller.now.geometry m)) ≡ None) same enough;
     }
 
 pub returns-in_err-replace_acl : goal.returns-in_err-replace_acl
@@ -98,14 +98,14 @@ touch-requires g c =
     let holder = (met_ok (holder_asked c.args.which v.kind) tt tt (sym c.in_ok-check_holder.ensures)).0 in
     let same = c.in_ok-ask_for_space.ensures.same in
     let mid = g.S.Sectors.state c.reach_owned.new.s in
-    let enough = (met_ok (first_of (acl_space_asked c.args.which acl (free_sectors c.args.caller.now.place mid.sectors))) tt tt c.in_ok-ask_for_space.ensures.each).0 in
+    let enough = (met_ok (first_of (acl_space_asked c.args.which acl (free_sectors c.args.caller.now.geometry mid.sectors))) tt tt c.in_ok-ask_for_space.ensures.each).0 in
     let new = g.S.Sectors.state c.replace_acl.new.s in
     let done = c.in_ok-replace_acl.ensures in
     may_touch w.ready (store_joined same.store done.store)
     (acl_changed at (w.found w.ready.state at) o.reached.inode o.met c.args.which acl holder new.sectors enough given
-    (λ is a e. kept_back (λ (m : SectorMap). SavesAcl c.args.caller.now.place n v.mode a m new.sectors) same (done.access is a e))
-    (λ is. kept_back (λ (m : SectorMap). SavesDefaultAcl c.args.caller.now.place n acl m new.sectors) same (done.default is)))
-    (reached_below o.reached, tt) 2 (taken_after c.args.caller.now.place 2 new same done.taken) (omega arith)
+    (λ is a e. kept_back (λ (m : SectorMap). SavesAcl c.args.caller.now.geometry n v.mode a m new.sectors) same (done.access is a e))
+    (λ is. kept_back (λ (m : SectorMap). SavesDefaultAcl c.args.caller.now.geometry n acl m new.sectors) same (done.default is)))
+    (reached_below o.reached, tt) 2 (taken_after c.args.caller.now.geometry 2 new same done.taken) (omega arith)
 
 pub returns-in_err-touch : goal.returns-in_err-touch
 returns-in_err-touch g c =
@@ -126,11 +126,11 @@ returns g c =
     let holder = (met_ok (holder_asked c.args.which v.kind) tt tt (sym c.in_ok-check_holder.ensures)).0 in
     let same = c.in_ok-ask_for_space.ensures.same in
     let mid = g.S.Sectors.state c.reach_owned.new.s in
-    let enough = (met_ok (first_of (acl_space_asked c.args.which acl (free_sectors c.args.caller.now.place mid.sectors))) tt tt c.in_ok-ask_for_space.ensures.each).0 in
+    let enough = (met_ok (first_of (acl_space_asked c.args.which acl (free_sectors c.args.caller.now.geometry mid.sectors))) tt tt c.in_ok-ask_for_space.ensures.each).0 in
     let new = g.S.Sectors.state c.replace_acl.new.s in
     let done = c.in_ok-replace_acl.ensures in
     changed by x.same o.reached.walked new (store_joined same.store done.store)
-    (given_super c.args.caller.now.place n c.args.which acl given done.access done.default ∙ same.sectors 0) c.in_ok-touch.ensures.moved Done
+    (given_super c.args.caller.now.geometry n c.args.which acl given done.access done.default ∙ same.sectors 0) c.in_ok-touch.ensures.moved Done
     (λ s has at. acl_changed at has o.reached.inode o.met c.args.which acl holder new.sectors enough given
-    (λ is a e. kept_back (λ (m : SectorMap). SavesAcl c.args.caller.now.place n v.mode a m new.sectors) same (done.access is a e))
-    (λ is. kept_back (λ (m : SectorMap). SavesDefaultAcl c.args.caller.now.place n acl m new.sectors) same (done.default is)))
+    (λ is a e. kept_back (λ (m : SectorMap). SavesAcl c.args.caller.now.geometry n v.mode a m new.sectors) same (done.access is a e))
+    (λ is. kept_back (λ (m : SectorMap). SavesDefaultAcl c.args.caller.now.geometry n acl m new.sectors) same (done.default is)))

@@ -24,7 +24,7 @@ give_acl-requires-clause-sound g c = sound_kept c.in_ok-had.ensures.same c.requi
 pub give_acl-requires-clause-inode : goal.give_acl-requires-clause-inode
 give_acl-requires-clause-inode g c =
     ap (λ (v : Inode). record v { mode = c.special_bits.result })
-    (kept (λ m. c.args.inode.now ≡ inode_at c.args.caller.now.place m c.args.n) c.in_ok-had.ensures.same c.requires.loaded.inode)
+    (kept (λ m. c.args.inode.now ≡ inode_at c.args.caller.now.geometry m c.args.n) c.in_ok-had.ensures.same c.requires.loaded.inode)
 
 pub give_acl-requires-clause-fits : goal.give_acl-requires-clause-fits
 give_acl-requires-clause-fits g c =
@@ -34,7 +34,7 @@ give_acl-requires-clause-fits g c =
 
 pub give_acl-requires-clause-spare : goal.give_acl-requires-clause-spare
 give_acl-requires-clause-spare g c =
-    spare_unchanged c.args.caller.now.place 2 (g.S.Sectors.state c.args.s.now) (g.S.Sectors.state c.acl_of.new.s) c.requires.spare c.in_ok-had.ensures.same
+    spare_unchanged c.args.caller.now.geometry 2 (g.S.Sectors.state c.args.s.now) (g.S.Sectors.state c.acl_of.new.s) c.requires.spare c.in_ok-had.ensures.same
 
 pub give_acl-requires-clause-room : goal.give_acl-requires-clause-room
 give_acl-requires-clause-room g c =
@@ -48,14 +48,14 @@ pub returns-clause-given : goal.returns-clause-given
 returns-clause-given g c = λ a h.
     let new = g.S.Sectors.state c.give_acl.new.s in
     let then = g.S.Sectors.state c.acl_of.new.s in
-    kept_back (λ m. SavesAcl c.args.caller.now.place c.args.n (special_mode c.args.cred.now c.args.inode.now.kind c.args.inode.now.gid c.args.mode) (with_mode_bits a c.args.mode) m new.sectors) c.in_ok-had.ensures.same
-    (subst (λ k. SavesAcl c.args.caller.now.place c.args.n k (with_mode_bits a c.args.mode) then.sectors new.sectors) c.special_bits.ensures
-    (subst (λ (x : AccessList). SavesAcl c.args.caller.now.place c.args.n c.special_bits.result x then.sectors new.sectors)
+    kept_back (λ m. SavesAcl c.args.caller.now.geometry c.args.n (special_mode c.args.cred.now c.args.inode.now.kind c.args.inode.now.gid c.args.mode) (with_mode_bits a c.args.mode) m new.sectors) c.in_ok-had.ensures.same
+    (subst (λ k. SavesAcl c.args.caller.now.geometry c.args.n k (with_mode_bits a c.args.mode) then.sectors new.sectors) c.special_bits.ensures
+    (subst (λ (x : AccessList). SavesAcl c.args.caller.now.geometry c.args.n c.special_bits.result x then.sectors new.sectors)
     (c.with_mode_bits-acl.ensures ∙ ap (λ (x : AccessList). with_mode_bits x c.args.mode) (c.in_ok-had.ensures.found a h)) c.in_ok-give_acl.ensures.given))
 
 pub returns-clause-taken : goal.returns-clause-taken
 returns-clause-taken g c =
-    taken_after c.args.caller.now.place 2 (g.S.Sectors.state c.give_acl.new.s) c.in_ok-had.ensures.same c.in_ok-give_acl.ensures.taken
+    taken_after c.args.caller.now.geometry 2 (g.S.Sectors.state c.give_acl.new.s) c.in_ok-had.ensures.same c.in_ok-give_acl.ensures.taken
 
 pub returns-clause-store : goal.returns-clause-store
 returns-clause-store g c = store_joined c.in_ok-had.ensures.same.store c.in_ok-give_acl.ensures.store

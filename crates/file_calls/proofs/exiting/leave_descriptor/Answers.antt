@@ -15,6 +15,6 @@ returns-clause-leaves g c =
     let old = g.S.Sectors.state c.args.s.now in
     let new = g.S.Sectors.state c.leave.new.s in
     was_open c.in-Ok.descriptor (sym c.in-Ok.ensures.answer)
-    (subst (λ (n : ℕ). LeavesInode c.args.place n (is_open (without nat_cmp c.args.procs.now c.args.pid) n) old new)
+    (subst (λ (n : ℕ). LeavesInode c.args.geometry n (is_open (without nat_cmp c.args.procs.now c.args.pid) n) old new)
     (ap (λ (d : Descriptor). d.number) c.descriptor.view_is)
-    (subst (λ b. LeavesInode c.args.place c.descriptor.inside.number b old new) c.is_open_by_others-stays_open.ensures c.in_ok-leave.ensures.leaves))
+    (subst (λ b. LeavesInode c.args.geometry c.descriptor.inside.number b old new) c.is_open_by_others-stays_open.ensures c.in_ok-leave.ensures.leaves))

@@ -61,5 +61,5 @@ returns-clause-made g c =
 
 pub returns-clause-taken : goal.returns-clause-taken
 returns-clause-taken g c =
-    taken_joined c.args.place 3 4 7 (g.S.Sectors.state c.args.s.now) (g.S.Sectors.state c.new_inode.new.s) (g.S.Sectors.state c.name_inode.new.s) (omega arith)
+    taken_joined c.args.geometry 3 4 7 (g.S.Sectors.state c.args.s.now) (g.S.Sectors.state c.new_inode.new.s) (g.S.Sectors.state c.name_inode.new.s) (omega arith)
     c.in-Ok.ensures.touches.puts.room c.in_ok-name_inode.ensures.taken

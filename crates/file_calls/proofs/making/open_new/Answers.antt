@@ -40,13 +40,13 @@ returns-in_err-directory-clause-each g c = λ st i.
     let new = g.S.Sectors.state c.check_make.new.s in
     let e = c.in_err-directory.field-0.0 in
     refusing i c.args.caller.now.time new.sectors c.args.mode old.disk new.disk c.from_residual-in_err-directory.result e r.0 r.1
-    (make_refused i c.requires.none (sym c.in_ok-check_new.ensures) (inode_at c.args.caller.now.place old.sectors c.args.found.now.dir) c.cred-cred.result.now c.saturating_sub-step.result
+    (make_refused i c.requires.none (sym c.in_ok-check_new.ensures) (inode_at c.args.caller.now.geometry old.sectors c.args.found.now.dir) c.cred-cred.result.now c.saturating_sub-step.result
     c.cred-cred.ensures c.saturating_sub-step.ensures old.disk new.disk e
     (c.in_err-directory.ensures.each st.tree (state_tree i.is_state) (directory_there i c.requires.none)))
 
 pub new_acl-requires : goal.new_acl-requires
 new_acl-requires g c =
-    let p = c.args.caller.now.place in
+    let p = c.args.caller.now.geometry in
     let old = g.S.Sectors.state c.args.s.now in
     let same = c.in_ok-directory.ensures.same in
     let v = c.in_ok-directory.directory in
@@ -74,7 +74,7 @@ returns-in_err-acl-clause-each g c = λ st i.
 
 pub make_file-requires : goal.make_file-requires
 make_file-requires g c =
-    let p = c.args.caller.now.place in
+    let p = c.args.caller.now.geometry in
     let old = g.S.Sectors.state c.args.s.now in
     let mid = g.S.Sectors.state c.new_acl.new.s in
     let joined = unchanged_joined c.in_ok-directory.ensures.same c.in_ok-acl.ensures.same in
@@ -111,7 +111,7 @@ returns-in_err-n-clause-each g c = λ st i.
 pub touch-requires : goal.touch-requires
 touch-requires g c =
     let x = c.requires.found in
-    let p = c.args.caller.now.place in
+    let p = c.args.caller.now.geometry in
     let f = c.args.found.now in
     let mid = g.S.Sectors.state c.new_acl.new.s in
     let new = g.S.Sectors.state c.make_file.new.s in
@@ -168,7 +168,7 @@ returns-clause-superblock g c =
 
 pub returns-clause-each : goal.returns-clause-each
 returns-clause-each g c = λ st i.
-    let p = c.args.caller.now.place in
+    let p = c.args.caller.now.geometry in
     let f = c.args.found.now in
     let mid = g.S.Sectors.state c.new_acl.new.s in
     let new = g.S.Sectors.state c.make_file.new.s in

@@ -22,7 +22,7 @@ returns-in_err-inode-clause-each g c = λ t h there.
     let r = c.from_residual.ensures in
     let old = g.S.Sectors.state c.args.s.now in
     let new = g.S.Sectors.state c.load_inode.new.s in
-    answered_err {A = Inode} old.disk new.disk (refused_or (first_of (found_asked c.args.flags c.args.cred.now t c.args.n c.args.step)) (Ok (inode_at c.args.caller.now.place old.sectors c.args.n)))
+    answered_err {A = Inode} old.disk new.disk (refused_or (first_of (found_asked c.args.flags c.args.cred.now t c.args.n c.args.step)) (Ok (inode_at c.args.caller.now.geometry old.sectors c.args.n)))
     c.from_residual.result c.in_err-inode.field-0.0 r.0 r.1 (inr (inr c.in_err-inode.ensures.fault))
 
 pub returns-in_err-check_kind-clause-each : goal.returns-in_err-check_kind-clause-each
@@ -30,9 +30,9 @@ returns-in_err-check_kind-clause-each g c = λ t h there.
     let r = c.from_residual-in_err-check_kind.ensures in
     let old = g.S.Sectors.state c.args.s.now in
     let new = g.S.Sectors.state c.load_inode.new.s in
-    answered_err {A = Inode} old.disk new.disk (refused_or (first_of (found_asked c.args.flags c.args.cred.now t c.args.n c.args.step)) (Ok (inode_at c.args.caller.now.place old.sectors c.args.n)))
+    answered_err {A = Inode} old.disk new.disk (refused_or (first_of (found_asked c.args.flags c.args.cred.now t c.args.n c.args.step)) (Ok (inode_at c.args.caller.now.geometry old.sectors c.args.n)))
     c.from_residual-in_err-check_kind.result c.in_err-check_kind.field-0.0 r.0 r.1
-    (kind_refuses h c.args.n there c.args.flags c.args.cred.now c.args.step (inode_at c.args.caller.now.place old.sectors c.args.n) c.in_err-check_kind.field-0.0 old.disk new.disk
+    (kind_refuses h c.args.n there c.args.flags c.args.cred.now c.args.step (inode_at c.args.caller.now.geometry old.sectors c.args.n) c.in_err-check_kind.field-0.0 old.disk new.disk
     (kind_met c.args.flags c.in_ok-inode.ensures.found (sym c.in_err-check_kind.ensures)))
 
 pub permitted-requires-clause-sound : goal.permitted-requires-clause-sound
@@ -41,7 +41,7 @@ permitted-requires-clause-sound g c = sound_kept c.in_ok-inode.ensures.same c.re
 pub permitted-requires-clause-there : goal.permitted-requires-clause-there
 permitted-requires-clause-there g c =
     let x = c.requires.there in
-    (c.args.n, number_below x.1 c.args.n x.2, kept (λ (m : SectorMap). c.in_ok-inode.inode ≡ inode_at c.args.caller.now.place m c.args.n) c.in_ok-inode.ensures.same c.in_ok-inode.ensures.found)
+    (c.args.n, number_below x.1 c.args.n x.2, kept (λ (m : SectorMap). c.in_ok-inode.inode ≡ inode_at c.args.caller.now.geometry m c.args.n) c.in_ok-inode.ensures.same c.in_ok-inode.ensures.found)
 
 pub permitted-requires-clause-has : goal.permitted-requires-clause-has
 permitted-requires-clause-has g c =
@@ -59,7 +59,7 @@ returns-in_err-permitted-clause-each g c = λ t h there.
     let r = c.from_residual-in_err-permitted.ensures in
     let old = g.S.Sectors.state c.args.s.now in
     let new = g.S.Sectors.state c.permitted.new.s in
-    let v = inode_at c.args.caller.now.place old.sectors c.args.n in
+    let v = inode_at c.args.caller.now.geometry old.sectors c.args.n in
     let met = kind_met c.args.flags c.in_ok-inode.ensures.found (sym c.in_ok-check_kind.ensures) in
     let access = kind_access h c.args.n there c.args.flags c.args.cred.now c.args.step met in
     let held = kept (λ (m : SectorMap). HasAccess m c.in_ok-inode.inode access.access) c.in_ok-inode.ensures.same
@@ -83,7 +83,7 @@ returns-clause-each g c = λ t h there.
     (kind_held h c.args.n there c.args.flags c.args.cred.now c.args.step met)) in
     let all = found_met h c.args.n there c.args.flags c.args.cred.now c.args.step met c.wanted.result c.in_ok-permitted.field-0 c.wanted.ensures
     (c.in_ok-permitted.ensures.each access.access held) in
-    ap (λ d. refused_or {A = Inode} d (Ok (inode_at c.args.caller.now.place old.sectors c.args.n))) all ∙ ap (λ (w : Inode). Ok w) (sym c.in_ok-inode.ensures.found)
+    ap (λ d. refused_or {A = Inode} d (Ok (inode_at c.args.caller.now.geometry old.sectors c.args.n))) all ∙ ap (λ (w : Inode). Ok w) (sym c.in_ok-inode.ensures.found)
 
 pub returns-clause-same : goal.returns-clause-same
 returns-clause-same g c = unchanged_joined c.in_ok-inode.ensures.same c.in_ok-permitted.ensures.same

@@ -34,7 +34,7 @@ walk-requires g c =
     record {
       sound = c.requires.ready.sound;
       inodes = held_inodes (state_tree at);
-      start = subst (λ k. k < c.args.place.inodes) (sym c.cwd-cwd.ensures) (cwd_below at c.args.pid c.in_ok-process.process.now c.in_ok-process.ensures.found);
+      start = subst (λ k. k < c.args.geometry.inodes) (sym c.cwd-cwd.ensures) (cwd_below at c.args.pid c.in_ok-process.process.now c.in_ok-process.ensures.found);
       short = short_path c.args.path.now c.args.flags c.args.mode (asked_met c.args.path.now c.args.flags c.args.mode (sym c.in_ok-check_open.ensures.answer));
     }
 
@@ -49,7 +49,7 @@ returns-in_err-found g c =
     let e = c.in_err-found.field-0.0 in
     walk_refuses c.args.pid c.args.path.now c.args.flags c.args.mode old q there asked c.in_ok-fd.fd c.in_ok-fd.ensures.answer mid c.in_err-found.ensures.same
     c.from_residual-in_err-found.result e r.0 r.1
-    (walks_as c.args.place old mid c.args.procs.now c.args.pid q there c.args.flags c.args.path.now (Err e) c.cred-cred.result.now c.form_of-form.result c.cwd-cwd.result
+    (walks_as c.args.geometry old mid c.args.procs.now c.args.pid q there c.args.flags c.args.path.now (Err e) c.cred-cred.result.now c.form_of-form.result c.cwd-cwd.result
     c.cred-cred.ensures c.form_of-form.ensures c.cwd-cwd.ensures c.in_err-found.ensures.each)
 
 pub open_inode-requires : goal.open_inode-requires
@@ -63,11 +63,11 @@ open_inode-requires g c =
     let same = c.in_ok-found.ensures.same in
     record {
       sound = sound_kept same c.requires.ready.sound;
-      spare = spare_unchanged c.args.place 47 old mid c.requires.ready.spare same;
+      spare = spare_unchanged c.args.geometry 47 old mid c.requires.ready.spare same;
       found = (
         c.requires.ready.state,
         found_in c.args.pid c.args.path.now c.args.flags c.args.mode old q there asked c.in_ok-fd.fd c.in_ok-fd.ensures.answer mid same f
-            (walks_as c.args.place old mid c.args.procs.now c.args.pid q there c.args.flags c.args.path.now (Ok f) c.cred-cred.result.now c.form_of-form.result c.cwd-cwd.result
+            (walks_as c.args.geometry old mid c.args.procs.now c.args.pid q there c.args.flags c.args.path.now (Ok f) c.cred-cred.result.now c.form_of-form.result c.cwd-cwd.result
             c.cred-cred.ensures c.form_of-form.ensures c.cwd-cwd.ensures c.in_ok-found.ensures.each)
             c.in_ok-check_open.ensures.bytes c.requires.ready.state c.requires.ready.is_state,
       );
@@ -82,7 +82,7 @@ returns-in_err-n g c =
     let f = c.in_ok-found.found in
     let there = c.in_ok-process.ensures.found in
     demands_refuse c.args.pid c.args.path.now c.args.flags c.args.mode old c.in_ok-process.process.now there asked c.in_ok-fd.fd c.in_ok-fd.ensures.answer mid c.in_ok-found.ensures.same f
-    (walks_as c.args.place old mid c.args.procs.now c.args.pid c.in_ok-process.process.now there c.args.flags c.args.path.now (Ok f) c.cred-cred.result.now c.form_of-form.result c.cwd-cwd.result
+    (walks_as c.args.geometry old mid c.args.procs.now c.args.pid c.in_ok-process.process.now there c.args.flags c.args.path.now (Ok f) c.cred-cred.result.now c.form_of-form.result c.cwd-cwd.result
     c.cred-cred.ensures c.form_of-form.ensures c.cwd-cwd.ensures c.in_ok-found.ensures.each)
     c.in_ok-check_open.ensures.bytes (g.S.Sectors.state c.open_inode.new.s) c.from_residual-in_err-n.result c.in_err-n.field-0.0 r.0 r.1 c.in_err-n.ensures.store c.in_err-n.ensures.each
 
@@ -100,7 +100,7 @@ returns g c =
     let flags = c.args.flags in
     let n = c.in_ok-n.n in
     opens c.args.pid c.args.path.now c.args.flags c.args.mode old c.in_ok-process.process.now there asked c.in_ok-fd.fd c.in_ok-fd.ensures.answer mid c.in_ok-found.ensures.same f
-    (walks_as c.args.place old mid c.args.procs.now c.args.pid c.in_ok-process.process.now there c.args.flags c.args.path.now (Ok f) c.cred-cred.result.now c.form_of-form.result c.cwd-cwd.result
+    (walks_as c.args.geometry old mid c.args.procs.now c.args.pid c.in_ok-process.process.now there c.args.flags c.args.path.now (Ok f) c.cred-cred.result.now c.form_of-form.result c.cwd-cwd.result
     c.cred-cred.ensures c.form_of-form.ensures c.cwd-cwd.ensures c.in_ok-found.ensures.each)
     c.in_ok-check_open.ensures.bytes c.in_ok-process.ensures.table new c.open.new.self c.in_ok-n.ensures.store c.in_ok-n.ensures.superblock n
     (record { number = n; offset = 0; read = flags.read; write = flags.write; append = flags.append }) c.in_ok-fd.ensures.unused refl c.open.ensures.opened c.in_ok-n.ensures.each

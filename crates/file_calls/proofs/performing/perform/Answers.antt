@@ -109,5 +109,5 @@ returns-in-SetAcl g c =
 
 pub returns-in-Umask : goal.returns-in-Umask
 returns-in-Umask g c =
-    performed c.args.place c.args.now c.args.pid c.args.call.now _ _ _ c.args.procs.now c.umask.new.procs c.umask.result c.in-Umask.is
+    performed c.args.geometry c.args.now c.args.pid c.args.call.now _ _ _ c.args.procs.now c.umask.new.procs c.umask.result c.in-Umask.is
     (umask_performs c.umask.result unchanged_nothing c.umask.ensures)

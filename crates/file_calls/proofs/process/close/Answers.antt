@@ -1,7 +1,7 @@
 use Rattle.std.proofs.Common.{refl, sym, ap, subst, ◌∙◌, inr, arith}
 use Rattle.fs_model.specs.TreeChanges.{Same}
 use Rattle.fs_model.specs.declared.reply.Reply.TheVariants.{Done}
-use Rattle.fs_model.specs.Processes.{Desks, is_open}
+use Rattle.fs_model.specs.Processes.{ProcessTable, is_open}
 use Rattle.open_files.specs.Tables.{without_descriptor}
 use Rattle.bit_alloc.proofs.Transactions.{unchanged_nothing}
 use Rattle.call_parts.specs.Dropping.{LeavesInode}
@@ -54,5 +54,5 @@ returns g c = λ time.
       new_number = tt;
       times = refl;
       holds = closed_holds c.close.new.self w.opened is s at
-          (subst (λ b. LeavesInode c.args.place c.descriptor.inside.number b old new) (c.is_open_besides-stays_open.ensures ∙ ap (λ (x : Desks). is_open x c.descriptor.inside.number) (sym is)) left.leaves);
+          (subst (λ b. LeavesInode c.args.geometry c.descriptor.inside.number b old new) (c.is_open_besides-stays_open.ensures ∙ ap (λ (x : ProcessTable). is_open x c.descriptor.inside.number) (sym is)) left.leaves);
     })

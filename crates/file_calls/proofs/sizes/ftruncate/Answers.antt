@@ -33,7 +33,7 @@ pub give_size-requires : goal.give_size-requires
 give_size-requires g c =
     let x = reached_as c.descriptor.view_is c.in_ok-descriptor.ensures.opened in
     let o = x.is_open.opened in
-    let met = few_enough (max_file_size c.args.caller.now.place.version) c.args.size (met_ok {A = Unit {0}} (refuse EFBIG (nat_lt (max_file_size c.args.caller.now.place.version) c.args.size)) tt tt (sym c.in_ok-check_size.ensures)).0 in
+    let met = few_enough (max_file_size c.args.caller.now.geometry.version) c.args.size (met_ok {A = Unit {0}} (refuse EFBIG (nat_lt (max_file_size c.args.caller.now.geometry.version) c.args.size)) tt tt (sym c.in_ok-check_size.ensures)).0 in
     let room = x.ready.spare in
     record {
       sound = x.ready.sound;
@@ -56,7 +56,7 @@ pub touch-requires : goal.touch-requires
 touch-requires g c =
     let x = reached_as c.descriptor.view_is c.in_ok-descriptor.ensures.opened in
     let o = x.is_open.opened in
-    let fits = few_enough (max_file_size c.args.caller.now.place.version) c.args.size (met_ok {A = Unit {0}} (refuse EFBIG (nat_lt (max_file_size c.args.caller.now.place.version) c.args.size)) tt tt (sym c.in_ok-check_size.ensures)).0 in
+    let fits = few_enough (max_file_size c.args.caller.now.geometry.version) c.args.size (met_ok {A = Unit {0}} (refuse EFBIG (nat_lt (max_file_size c.args.caller.now.geometry.version) c.args.size)) tt tt (sym c.in_ok-check_size.ensures)).0 in
     let mid = g.S.Sectors.state c.reach_open.new.s in
     let new = g.S.Sectors.state c.give_size.new.s in
     let done = c.in_ok-give_size.ensures in
@@ -74,7 +74,7 @@ returns-in_err-touch g c =
 pub returns : goal.returns
 returns g c =
     let x = reached_as c.descriptor.view_is c.in_ok-descriptor.ensures.opened in
-    let fits = few_enough (max_file_size c.args.caller.now.place.version) c.args.size (met_ok {A = Unit {0}} (refuse EFBIG (nat_lt (max_file_size c.args.caller.now.place.version) c.args.size)) tt tt (sym c.in_ok-check_size.ensures)).0 in
+    let fits = few_enough (max_file_size c.args.caller.now.geometry.version) c.args.size (met_ok {A = Unit {0}} (refuse EFBIG (nat_lt (max_file_size c.args.caller.now.geometry.version) c.args.size)) tt tt (sym c.in_ok-check_size.ensures)).0 in
     let mid = g.S.Sectors.state c.reach_open.new.s in
     let new = g.S.Sectors.state c.give_size.new.s in
     let done = c.in_ok-give_size.ensures in

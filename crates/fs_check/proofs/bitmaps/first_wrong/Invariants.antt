@@ -5,5 +5,5 @@ use Rattle.fs_check.specs.Checks.{IsOwnerMap}
 use Rattle.fs_check.proofs.bitmaps.first_wrong.Given as goal
 
 abbrev pub invariant-loop-s : goal.invariant-loop-s
-invariant-loop-s l = (m : SectorMap) → IsOwnerMap l.place m l.owned → l.map ≡ m (l.place.block_bitmap + l.k)
-    → (i : ℕ) → 4096 * l.k ≤ i → i < l.s → IsBlockBit l.place m i
+invariant-loop-s l = (m : SectorMap) → IsOwnerMap l.geometry m l.owned → l.map ≡ m (l.geometry.block_bitmap + l.k)
+    → (i : ℕ) → 4096 * l.k ≤ i → i < l.s → IsBlockBit l.geometry m i

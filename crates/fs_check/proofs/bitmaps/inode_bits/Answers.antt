@@ -1,7 +1,7 @@
 use Rattle.std.proofs.Common.{◌+◌, ◌/◌, ap, sym, arith, ◌∙◌}
 use Rattle.fs_layout.specs.Bytes.{SectorMap}
 use Rattle.sector_disk.proofs.Moments.{reads_joined}
-use Rattle.fs_check.proofs.BitTests.{maps_place}
+use Rattle.fs_check.proofs.BitTests.{maps_geometry}
 use Rattle.fs_check.proofs.Carrying.{meaning_same}
 use Rattle.fs_check.proofs.TriedBits.{next_bits, wrong_bit}
 use Rattle.fs_check.proofs.TableSectors.{sector_still}
@@ -9,12 +9,12 @@ use Rattle.fs_check.proofs.bitmaps.inode_bits.Goals as goal
 
 pub overflow_sub-n-end : goal.overflow_sub-n-end
 overflow_sub-n-end g c =
-    let order = (maps_place _ _ c.args.opened.now.place c.requires.opened.place).inode_map in
+    let order = (maps_geometry _ _ c.args.opened.now.geometry c.requires.opened.geometry).inode_map in
     omega (arith, order)
 
 pub overflow_mul-n-end : goal.overflow_mul-n-end
 overflow_mul-n-end g c =
-    let maps = maps_place _ _ c.args.opened.now.place c.requires.opened.place in
+    let maps = maps_geometry _ _ c.args.opened.now.geometry c.requires.opened.geometry in
     let block_map = maps.block_map in
     let small = maps.small in
     omega (arith, block_map, small)
@@ -22,11 +22,11 @@ overflow_mul-n-end g c =
 pub read_map-requires-clause-kept : goal.read_map-requires-clause-kept
 read_map-requires-clause-kept g c = λ inside.
     c.loop-n.invariant.map_kept inside
-    ∙ sym (ap (λ (m : SectorMap). m (c.args.opened.now.place.inode_bitmap + c.loop-n.n / 4096)) (meaning_same c.loop-n.invariant.reads))
+    ∙ sym (ap (λ (m : SectorMap). m (c.args.opened.now.geometry.inode_bitmap + c.loop-n.n / 4096)) (meaning_same c.loop-n.invariant.reads))
 
 pub read_table-requires-clause-kept : goal.read_table-requires-clause-kept
 read_table-requires-clause-kept g c = λ inside.
-    sector_still _ _ c.args.opened.now.place c.loop-n.n c.loop-n.table (reads_joined c.loop-n.invariant.reads c.in_ok-read_map.ensures.passed.reads)
+    sector_still _ _ c.args.opened.now.geometry c.loop-n.n c.loop-n.table (reads_joined c.loop-n.invariant.reads c.in_ok-read_map.ensures.passed.reads)
     (c.loop-n.invariant.kept inside)
 
 pub loop-n-preserved : goal.loop-n-preserved
@@ -34,7 +34,7 @@ loop-n-preserved g c =
     let read = c.in_ok-read_map.ensures in
     let more = c.in_ok-read_table.ensures in
     next_bits (g.D.Disk.state c.args.disk.now) (g.D.Disk.state c.loop-n.disk) (g.D.Disk.state c.read_map.new.disk) (g.D.Disk.state c.read_table.new.disk)
-    c.args.opened.now.place c.loop-n.n c.loop-n.map c.loop-n.table c.read_map.new.map c.read_table.new.table c.has_bit.result c.is_taken.result
+    c.args.opened.now.geometry c.loop-n.n c.loop-n.map c.loop-n.table c.read_map.new.map c.read_table.new.table c.has_bit.result c.is_taken.result
     c.loop-n.invariant read.passed.reads more.passed.reads c.loop-n-test.true read.map more.table c.has_bit.ensures c.is_taken.ensures
     c.if-has_bit-is_taken.false
 
@@ -43,7 +43,7 @@ returns-then-has_bit-is_taken-clause-passed g c =
     let read = c.in_ok-read_map.ensures in
     let more = c.in_ok-read_table.ensures in
     wrong_bit (g.D.Disk.state c.args.disk.now) (g.D.Disk.state c.loop-n.disk) (g.D.Disk.state c.read_map.new.disk) (g.D.Disk.state c.read_table.new.disk)
-    c.args.opened.now.place c.loop-n.n c.loop-n.map c.loop-n.table c.read_map.new.map c.read_table.new.table c.has_bit.result c.is_taken.result
+    c.args.opened.now.geometry c.loop-n.n c.loop-n.map c.loop-n.table c.read_map.new.map c.read_table.new.table c.has_bit.result c.is_taken.result
     c.loop-n.invariant read.passed.reads more.passed.reads c.loop-n-test.true read.map more.table c.has_bit.ensures c.is_taken.ensures
     c.if-has_bit-is_taken.true
 

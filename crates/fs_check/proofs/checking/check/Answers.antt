@@ -6,23 +6,23 @@ use Rattle.fs_check.proofs.checking.check.Goals as goal
 
 pub summary-requires : goal.summary-requires
 summary-requires g c = record {
-  within = first_within _ _ c.in_ok-place.place _ c.in_ok-owned.owned c.in_ok-place.ensures.place c.in_ok-owned.ensures.owners;
-  none = none_before _ _ c.in_ok-place.place _ c.in_ok-owned.owned c.in_ok-place.ensures.place c.in_ok-owned.ensures.owners c.in_ok-owned.ensures.before;
+  within = first_within _ _ c.in_ok-geometry.geometry _ c.in_ok-owned.owned c.in_ok-geometry.ensures.geometry c.in_ok-owned.ensures.owners;
+  none = none_before _ _ c.in_ok-geometry.geometry _ c.in_ok-owned.owned c.in_ok-geometry.ensures.geometry c.in_ok-owned.ensures.owners c.in_ok-owned.ensures.before;
 }
 
 pub returns-clause-clean : goal.returns-clause-clean
 returns-clause-clean g c =
     let s0 = g.D.Disk.state c.args.disk.now in
-    let s1 = g.D.Disk.state c.open_place.new.disk in
+    let s1 = g.D.Disk.state c.open_geometry.new.disk in
     let s2 = g.D.Disk.state c.open_commit.new.disk in
     let s3 = g.D.Disk.state c.check_tables.new.disk in
-    let r1 : OnlyReads s0 s1 = c.in_ok-place.ensures.passed.reads in
+    let r1 : OnlyReads s0 s1 = c.in_ok-geometry.ensures.passed.reads in
     let r2 : OnlyReads s0 s2 = reads_joined r1 c.in_ok-area.ensures.passed.reads in
     let r3 : OnlyReads s0 s3 = reads_joined r2 c.in_ok-inodes.ensures.passed.reads in
     let whole : HasWholeSectors s0.size (sector s0.seen) = whole_seen s0 (g.met.D.Disk.seen_is_image c.args.disk.now)
     (g.met.D.Disk.whole_sectors c.args.disk.now) in
-    clean_after s0 s1 s2 s3 c.in_ok-place.place c.in_ok-area.area c.in_ok-area.commit c.in_ok-inodes.inodes.items c.deref-2.result.now c.in_ok-owned.owned c.summary.result
-    (g.met.D.Disk.size_fits c.args.disk.now) whole c.in_ok-place.ensures.place
+    clean_after s0 s1 s2 s3 c.in_ok-geometry.geometry c.in_ok-area.area c.in_ok-area.commit c.in_ok-inodes.inodes.items c.deref-2.result.now c.in_ok-owned.owned c.summary.result
+    (g.met.D.Disk.size_fits c.args.disk.now) whole c.in_ok-geometry.ensures.geometry
     r1 c.in_ok-area.ensures.area c.in_ok-area.ensures.targets
     r2 c.in_ok-inodes.ensures.table c.deref-2.ensures.value
     r3 c.in_ok-owned.ensures.owners c.in_ok-owned.ensures.before c.summary.ensures

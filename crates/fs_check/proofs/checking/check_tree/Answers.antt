@@ -6,7 +6,7 @@ use Rattle.fs_check.proofs.checking.check_tree.Goals as goal
 
 pub returns-in_err-found_at : goal.returns-in_err-found_at
 returns-in_err-found_at c = λ m table named before.
-    let p = c.args.place in
+    let p = c.args.geometry in
     let first = of_image p Names 12 c.args.inodes.now c.args.names.now.counts.items c.args.names.now.directories.items c.miscounted.result
     c.miscounted.ensures.some c.miscounted.ensures.none m table named before in
     let q = err_from_is_err_and c.from_residual.result c.from_residual.ensures.1 in
@@ -15,7 +15,7 @@ returns-in_err-found_at c = λ m table named before.
 
 pub returns-in_err-found_at-2 : goal.returns-in_err-found_at-2
 returns-in_err-found_at-2 c = λ m table named before.
-    let p = c.args.place in
+    let p = c.args.geometry in
     let next = image_next p Names 12 refl c.args.inodes.now c.args.names.now.counts.items c.args.names.now.directories.items c.miscounted.result
     c.in_ok-found_at.field-0 c.found_at.result c.found_at.ensures c.in_ok-found_at.was c.miscounted.ensures.some c.miscounted.ensures.none m table named before in
     let second = of_image p Parents 13 c.args.inodes.now c.args.names.now.counts.items c.args.names.now.directories.items c.misplaced.result
@@ -26,7 +26,7 @@ returns-in_err-found_at-2 c = λ m table named before.
 
 pub returns : goal.returns
 returns c = λ m table named before.
-    let p = c.args.place in
+    let p = c.args.geometry in
     let next = image_next p Names 12 refl c.args.inodes.now c.args.names.now.counts.items c.args.names.now.directories.items c.miscounted.result
     c.in_ok-found_at.field-0 c.found_at.result c.found_at.ensures c.in_ok-found_at.was c.miscounted.ensures.some c.miscounted.ensures.none m table named before in
     let last = image_next p Parents 13 refl c.args.inodes.now c.args.names.now.counts.items c.args.names.now.directories.items c.misplaced.result

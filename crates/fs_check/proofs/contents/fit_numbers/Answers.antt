@@ -14,7 +14,7 @@ returns-then-not-branch-clause-test g c =
     not_fit m v (IsTrimmed m v) c.in_ok-is_trimmed.field-0 (λ fit. fit.trim) c.in_ok-is_trimmed.ensures.test c.if-not-branch.true
 
 pub has_no_hole-requires-clause-in_data : goal.has_no_hole-requires-clause-in_data
-has_no_hole-requires-clause-in_data g c = owns_still c.in_ok-is_trimmed.ensures.passed.reads c.args.opened.now.place c.args.inode.now c.requires.in_data
+has_no_hole-requires-clause-in_data g c = owns_still c.in_ok-is_trimmed.ensures.passed.reads c.args.opened.now.geometry c.args.inode.now c.requires.in_data
 
 pub returns-clause-test : goal.returns-clause-test
 returns-clause-test g c =

@@ -12,7 +12,7 @@ number-requires-clause-opened g c = opened_still c.loop-k.invariant.reads c.requ
 
 pub number-requires-clause-above : goal.number-requires-clause-above
 number-requires-clause-above g c =
-    let p = c.args.opened.now.place in
+    let p = c.args.opened.now.geometry in
     let v = c.args.inode.now in
     above_still c.loop-k.invariant.reads p v 0 (above_owned p (meaning (g.D.Disk.state c.args.disk.now)) v c.requires.in_data 0)
 

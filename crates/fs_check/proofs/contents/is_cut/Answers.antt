@@ -34,11 +34,11 @@ find-requires-clause-highest g c =
 
 pub find-requires-clause-in_data : goal.find-requires-clause-in_data
 find-requires-clause-in_data g c =
-    level_owned c.args.opened.now.place (meaning (g.D.Disk.state c.args.disk.now)) c.args.inode.now c.requires.in_data (c.args.level + 1)
+    level_owned c.args.opened.now.geometry (meaning (g.D.Disk.state c.args.disk.now)) c.args.inode.now c.requires.in_data (c.args.level + 1)
 
 pub find-requires-clause-above : goal.find-requires-clause-above
 find-requires-clause-above g c =
-    above_owned c.args.opened.now.place (meaning (g.D.Disk.state c.args.disk.now)) c.args.inode.now c.requires.in_data (c.args.level + 1)
+    above_owned c.args.opened.now.geometry (meaning (g.D.Disk.state c.args.disk.now)) c.args.inode.now c.requires.in_data (c.args.level + 1)
 
 pub returns-then-branch-eq0-clause-test : goal.returns-then-branch-eq0-clause-test
 returns-then-branch-eq0-clause-test g c =

@@ -16,7 +16,7 @@ returns-then-not-branch-clause-test g c =
 
 pub number-requires-clause-above : goal.number-requires-clause-above
 number-requires-clause-above g c =
-    let p = c.args.opened.now.place in
+    let p = c.args.opened.now.geometry in
     let v = c.args.inode.now in
     above_still c.in_ok-fit_numbers.ensures.passed.reads p v 0 (above_owned p (meaning (g.D.Disk.state c.args.disk.now)) v c.requires.in_data 0)
 
@@ -35,12 +35,12 @@ returns-then-last-eq0-clause-at_hand g c = hand_back c.in_ok-fit_numbers.ensures
 
 pub read_recovered-requires-clause-on_disk : goal.read_recovered-requires-clause-on_disk
 read_recovered-requires-clause-on_disk g c =
-    let p = c.args.opened.now.place in
+    let p = c.args.opened.now.geometry in
     let v = c.args.inode.now in
     let m = meaning (g.D.Disk.state c.args.disk.now) in
     let k = c.saturating_sub-k.result / 512 in
     let is = number_back c.in_ok-fit_numbers.ensures.passed.reads v 0 k c.in_ok-last.last c.in_ok-last.ensures.number in
-    let below = level_below _ _ p m v 0 k c.in_ok-last.last c.requires.opened.place (level_owned p m v c.requires.in_data 0) is in
+    let below = level_below _ _ p m v 0 k c.in_ok-last.last c.requires.opened.geometry (level_owned p m v c.requires.in_data 0) is in
     let first = c.in_ok-fit_numbers.ensures.passed.reads.narrowed.size in
     let second = c.in_ok-last.ensures.passed.reads.narrowed.size in
     omega (arith, below, first, second)

@@ -13,7 +13,7 @@ pub is_cut-requires-clause-opened : goal.is_cut-requires-clause-opened
 is_cut-requires-clause-opened g c = opened_still c.loop-level.invariant.reads c.requires.opened
 
 pub is_cut-requires-clause-in_data : goal.is_cut-requires-clause-in_data
-is_cut-requires-clause-in_data g c = owns_still c.loop-level.invariant.reads c.args.opened.now.place c.args.inode.now c.requires.in_data
+is_cut-requires-clause-in_data g c = owns_still c.loop-level.invariant.reads c.args.opened.now.geometry c.args.inode.now c.requires.in_data
 
 pub is_cut-requires-clause-at_hand : goal.is_cut-requires-clause-at_hand
 is_cut-requires-clause-at_hand g c = hand_still c.loop-level.invariant.reads c.loop-level.pointers c.loop-level.invariant.at_hand

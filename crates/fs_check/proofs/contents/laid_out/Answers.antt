@@ -15,7 +15,7 @@ use Rattle.fs_check.proofs.contents.laid_out.Goals as goal
 pub is_laid_out-requires-clause-in_data : goal.is_laid_out-requires-clause-in_data
 is_laid_out-requires-clause-in_data g c =
     let s0 = g.D.Disk.state c.args.disk.now in
-    let p = c.args.opened.now.place in
+    let p = c.args.opened.now.geometry in
     let lt = c.loop-n-test.true in
     let here = inode_here p (meaning s0) c.args.inodes.now c.loop-n.n blank c.requires.table lt in
     let now : (s : ℕ) → Owns (meaning s0) (inode_at p (meaning s0) c.loop-n.n) s → IsData p s = c.requires.before InData (omega arith) c.loop-n.n (within p (meaning s0) c.args.inodes.now c.loop-n.n c.requires.table lt) in
@@ -25,7 +25,7 @@ is_laid_out-requires-clause-in_data g c =
 pub is_laid_out-requires-clause-size : goal.is_laid_out-requires-clause-size
 is_laid_out-requires-clause-size g c =
     let m = meaning (g.D.Disk.state c.args.disk.now) in
-    let p = c.args.opened.now.place in
+    let p = c.args.opened.now.geometry in
     let lt = c.loop-n-test.true in
     subst HasSize (sym (inode_here p m c.args.inodes.now c.loop-n.n blank c.requires.table lt))
     (good_size p m c.loop-n.n (c.requires.before Inodes (omega arith) c.loop-n.n (within p m c.args.inodes.now c.loop-n.n c.requires.table lt)))
@@ -38,7 +38,7 @@ loop-n-init g c = record {
 
 pub loop-n-preserved : goal.loop-n-preserved
 loop-n-preserved g c = record {
-  tried = next_tried IsLaidOut c.args.opened.now.place (g.D.Disk.state c.args.disk.now) (g.D.Disk.state c.loop-n.disk) (g.D.Disk.state c.is_laid_out.new.disk) c.args.inodes.now c.loop-n.n _
+  tried = next_tried IsLaidOut c.args.opened.now.geometry (g.D.Disk.state c.args.disk.now) (g.D.Disk.state c.loop-n.disk) (g.D.Disk.state c.is_laid_out.new.disk) c.args.inodes.now c.loop-n.n _
       c.in_ok-is_laid_out.field-0 c.loop-n.invariant.tried c.in_ok-is_laid_out.ensures.passed.reads c.requires.table c.loop-n-test.true c.in_ok-is_laid_out.ensures.test
       c.if-not-branch.false;
   at_hand = hand_back c.loop-n.invariant.tried.reads c.is_laid_out.new.pointers c.in_ok-is_laid_out.ensures.at_hand;
@@ -46,17 +46,17 @@ loop-n-preserved g c = record {
 
 pub returns-then-not-branch-clause-passed : goal.returns-then-not-branch-clause-passed
 returns-then-not-branch-clause-passed g c =
-    fails_here IsLaidOut c.args.opened.now.place (g.D.Disk.state c.args.disk.now) (g.D.Disk.state c.loop-n.disk) (g.D.Disk.state c.is_laid_out.new.disk) c.args.inodes.now c.loop-n.n _
+    fails_here IsLaidOut c.args.opened.now.geometry (g.D.Disk.state c.args.disk.now) (g.D.Disk.state c.loop-n.disk) (g.D.Disk.state c.is_laid_out.new.disk) c.args.inodes.now c.loop-n.n _
     c.in_ok-is_laid_out.field-0 c.loop-n.invariant.tried c.in_ok-is_laid_out.ensures.passed.reads c.requires.table c.loop-n-test.true c.in_ok-is_laid_out.ensures.test
     LaidOut (λ k. ((λ h. h), (λ h. h))) c.if-not-branch.true
 
 pub returns-clause-each : goal.returns-clause-each
 returns-clause-each g c =
     let s0 = g.D.Disk.state c.args.disk.now in
-    all_tried IsLaidOut c.args.opened.now.place s0 (g.D.Disk.state c.loop-n.disk) c.args.inodes.now c.loop-n.n c.loop-n.invariant.tried c.requires.table
+    all_tried IsLaidOut c.args.opened.now.geometry s0 (g.D.Disk.state c.loop-n.disk) c.args.inodes.now c.loop-n.n c.loop-n.invariant.tried c.requires.table
     c.loop-n-test.false (free_is_laid_out (meaning s0))
 
 pub overflow_cast-n-end : goal.overflow_cast-n-end
 overflow_cast-n-end g c =
-    let few = few_inodes _ _ c.args.opened.now.place _ c.args.inodes.now c.requires.opened.place c.requires.table in
+    let few = few_inodes _ _ c.args.opened.now.geometry _ c.args.inodes.now c.requires.opened.geometry c.requires.table in
     omega (arith, few)

@@ -6,6 +6,6 @@ use Rattle.fs_check.proofs.contents.laid_out.Given as goal
 
 abbrev pub invariant-loop-n : goal.invariant-loop-n
 invariant-loop-n g l = record {
-  tried : AreTried IsLaidOut l.opened.place (g.D.Disk.state l.initial.disk) (g.D.Disk.state l.disk) l.n;
+  tried : AreTried IsLaidOut l.opened.geometry (g.D.Disk.state l.initial.disk) (g.D.Disk.state l.disk) l.n;
   at_hand : AreAtHand (meaning (g.D.Disk.state l.initial.disk)) l.pointers;
 }

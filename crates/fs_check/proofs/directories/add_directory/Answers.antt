@@ -11,7 +11,7 @@ use Rattle.fs_check.specs.Checks.{meaning}
 use Rattle.fs_check.specs.Naming.{AreSlots, HasGoodSlots}
 use Rattle.sector_disk.proofs.Moments.{reads_nothing}
 use Rattle.fs_check.proofs.Carrying.{same_error}
-use Rattle.fs_check.proofs.Tables.{table_place}
+use Rattle.fs_check.proofs.Tables.{table_geometry}
 use Rattle.fs_check.proofs.Tests.{within, inode_here, blank}
 use Rattle.fs_check.proofs.Tallies.{directory_size, same_naming, next_naming, few_slots, has_room, adds_same, naming_same}
 use Rattle.fs_check.proofs.directories.add_directory.Goals as goal
@@ -19,7 +19,7 @@ use Rattle.fs_check.proofs.directories.add_directory.Goals as goal
 pub returns-then-ne-clause-names : goal.returns-then-ne-clause-names
 returns-then-ne-clause-names g c =
     let m = meaning (g.D.Disk.state c.args.disk.now) in
-    let p = c.args.opened.now.place in
+    let p = c.args.opened.now.geometry in
     let d = c.args.d in
     let here = inode_here p m c.args.inodes.now d blank c.requires.table c.requires.below in
     let other : (get_or c.args.inodes.now d blank).kind ≢ Directory = search rules in
@@ -29,14 +29,14 @@ returns-then-ne-clause-names g c =
 pub read_good_slots-requires-clause-in_data : goal.read_good_slots-requires-clause-in_data
 read_good_slots-requires-clause-in_data g c =
     let m = meaning (g.D.Disk.state c.args.disk.now) in
-    let here = inode_here c.args.opened.now.place m c.args.inodes.now c.args.d blank c.requires.table c.requires.below in
-    subst (λ v. (s : ℕ) → Owns m v s → IsData c.args.opened.now.place s) (sym here) (c.requires.before InData (omega arith) c.args.d
-    (within c.args.opened.now.place m c.args.inodes.now c.args.d c.requires.table c.requires.below))
+    let here = inode_here c.args.opened.now.geometry m c.args.inodes.now c.args.d blank c.requires.table c.requires.below in
+    subst (λ v. (s : ℕ) → Owns m v s → IsData c.args.opened.now.geometry s) (sym here) (c.requires.before InData (omega arith) c.args.d
+    (within c.args.opened.now.geometry m c.args.inodes.now c.args.d c.requires.table c.requires.below))
 
 pub read_good_slots-requires-clause-size : goal.read_good_slots-requires-clause-size
 read_good_slots-requires-clause-size g c =
     let m = meaning (g.D.Disk.state c.args.disk.now) in
-    let p = c.args.opened.now.place in
+    let p = c.args.opened.now.geometry in
     let d = c.args.d in
     let here = inode_here p m c.args.inodes.now d blank c.requires.table c.requires.below in
     let is : (get_or c.args.inodes.now d blank).kind ≡ Directory = search rules in
@@ -47,10 +47,10 @@ pub add_slots-requires-clause-room : goal.add_slots-requires-clause-room
 add_slots-requires-clause-room g c =
     let s0 = g.D.Disk.state c.args.disk.now in
     let m = meaning s0 in
-    let p = c.args.opened.now.place in
+    let p = c.args.opened.now.geometry in
     let d = c.args.d in
     let below = within p m c.args.inodes.now d c.requires.table c.requires.below in
-    let at = table_place _ _ p d c.requires.opened.place below in
+    let at = table_geometry _ _ p d c.requires.opened.geometry below in
     let some = at.few in
     let here = inode_here p m c.args.inodes.now d blank c.requires.table c.requires.below in
     let is : (get_or c.args.inodes.now d blank).kind ≡ Directory = search rules in
@@ -68,7 +68,7 @@ add_slots-requires-clause-room g c =
 pub returns-clause-test : goal.returns-clause-test
 returns-clause-test g c =
     let m = meaning (g.D.Disk.state c.args.disk.now) in
-    let p = c.args.opened.now.place in
+    let p = c.args.opened.now.geometry in
     let here = inode_here p m c.args.inodes.now c.args.d blank c.requires.table c.requires.below in
     let good : HasGoodSlots p m (get_or c.args.inodes.now c.args.d blank) =
     (MatchOption-at_some _ _ c.in-Some.slots c.in-Some.is c.in_ok-slots.ensures.slots).0 in
@@ -77,7 +77,7 @@ returns-clause-test g c =
 pub returns-clause-names : goal.returns-clause-names
 returns-clause-names g c =
     let m = meaning (g.D.Disk.state c.args.disk.now) in
-    let p = c.args.opened.now.place in
+    let p = c.args.opened.now.geometry in
     let d = c.args.d in
     let names = c.args.names.now in
     let slots = c.in-Some.slots.items in

@@ -14,13 +14,13 @@ use Rattle.fs_check.proofs.directories.read_names.Goals as goal
 
 pub add_directory-requires-clause-names : goal.add_directory-requires-clause-names
 add_directory-requires-clause-names g c =
-    subst (λ m. IsNaming c.args.opened.now.place m c.loop-d.d c.loop-d.names.counts.items c.loop-d.names.directories.items c.loop-d.names.repeated)
+    subst (λ m. IsNaming c.args.opened.now.geometry m c.loop-d.d c.loop-d.names.counts.items c.loop-d.names.directories.items c.loop-d.names.repeated)
     (sym (meaning_same c.loop-d.invariant.reads)) c.loop-d.invariant.naming
 
 pub loop-d-preserved : goal.loop-d-preserved
 loop-d-preserved g c =
     let s0 = g.D.Disk.state c.args.disk.now in
-    let p = c.args.opened.now.place in
+    let p = c.args.opened.now.geometry in
     let d = c.loop-d.d in
     let new = c.add_directory.new.names in
     let same = meaning_same c.loop-d.invariant.reads in
@@ -40,8 +40,8 @@ returns-then-not-branch-clause-passed g c =
         refl,
         record {
           fails = λ h.
-              refuses (Obeys c.args.opened.now.place (meaning (g.D.Disk.state c.loop-d.disk)) Slots c.loop-d.d) c.in_ok-add_directory.field-0 c.if-not-branch.true added.test
-              (subst (λ m. Obeys c.args.opened.now.place m Slots c.loop-d.d) (sym (meaning_same c.loop-d.invariant.reads)) h);
+              refuses (Obeys c.args.opened.now.geometry (meaning (g.D.Disk.state c.loop-d.disk)) Slots c.loop-d.d) c.in_ok-add_directory.field-0 c.if-not-branch.true added.test
+              (subst (λ m. Obeys c.args.opened.now.geometry m Slots c.loop-d.d) (sym (meaning_same c.loop-d.invariant.reads)) h);
           least = c.loop-d.invariant.good;
         },
       );
@@ -54,13 +54,13 @@ returns-clause-each g c = λ n lt is.
       | inl low ↦ c.loop-d.invariant.good n low lt is
       | inr ge ↦
           let past = c.loop-d-test.false in
-          let free = free_behind c.args.opened.now.place m c.args.inodes.now n c.requires.table (omega (arith, ge, past)) lt in
+          let free = free_behind c.args.opened.now.geometry m c.args.inodes.now n c.requires.table (omega (arith, ge, past)) lt in
           absurd (let e : Free ≡ Directory = sym (ap (λ (v : Inode). v.kind) free) ∙ is in cc)
     ]
 
 pub returns-clause-names : goal.returns-clause-names
 returns-clause-names g c =
-    let p = c.args.opened.now.place in
+    let p = c.args.opened.now.geometry in
     let m = meaning (g.D.Disk.state c.args.disk.now) in
     let len = c.requires.table.len in
     let end = c.loop-d.auto.d-end in
@@ -70,7 +70,7 @@ returns-clause-names g c =
 
 pub returns-clause-repeated : goal.returns-clause-repeated
 returns-clause-repeated g c =
-    let p = c.args.opened.now.place in
+    let p = c.args.opened.now.geometry in
     let m = meaning (g.D.Disk.state c.args.disk.now) in
     let len = c.requires.table.len in
     let end = c.loop-d.auto.d-end in
@@ -80,7 +80,7 @@ returns-clause-repeated g c =
 
 pub overflow_cast-d-end : goal.overflow_cast-d-end
 overflow_cast-d-end g c =
-    let few = few_inodes _ _ c.args.opened.now.place _ c.args.inodes.now c.requires.opened.place c.requires.table in
+    let few = few_inodes _ _ c.args.opened.now.geometry _ c.args.inodes.now c.requires.opened.geometry c.requires.table in
     omega (arith, few)
 
 pub add_directory-requires-clause-opened : goal.add_directory-requires-clause-opened

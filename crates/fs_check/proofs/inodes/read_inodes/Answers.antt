@@ -12,13 +12,13 @@ use Rattle.fs_check.proofs.inodes.read_inodes.Goals as goal
 
 pub read_table-requires-clause-kept : goal.read_table-requires-clause-kept
 read_table-requires-clause-kept g c = λ inside.
-    sector_still _ _ c.args.opened.now.place c.loop-n.n c.loop-n.table c.loop-n.invariant.reads (c.loop-n.invariant.kept inside)
+    sector_still _ _ c.args.opened.now.geometry c.loop-n.n c.loop-n.table c.loop-n.invariant.reads (c.loop-n.invariant.kept inside)
 
 pub loop-n-preserved : goal.loop-n-preserved
 loop-n-preserved g c =
     let s0 = g.D.Disk.state c.args.disk.now in
     let s1 = g.D.Disk.state c.loop-n.disk in
-    let p = c.args.opened.now.place in
+    let p = c.args.opened.now.geometry in
     let n = c.loop-n.n in
     let so_far = c.loop-n.invariant in
     let here = sector_back s0 s1 p n c.read_table.new.table so_far.reads c.in_ok-read_table.ensures.table in
@@ -38,7 +38,7 @@ loop-n-preserved g c =
 
 pub returns-in-None-clause-passed : goal.returns-in-None-clause-passed
 returns-in-None-clause-passed g c =
-    let p = c.args.opened.now.place in
+    let p = c.args.opened.now.geometry in
     let so_far = c.loop-n.invariant in
     let lt = c.loop-n-test.true in
     let here = sector_back (g.D.Disk.state c.args.disk.now) (g.D.Disk.state c.loop-n.disk) p c.loop-n.n c.read_table.new.table so_far.reads

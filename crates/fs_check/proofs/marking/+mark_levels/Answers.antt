@@ -12,19 +12,19 @@ use Rattle.fs_check.proofs.marking.+mark_levels.Goals as goal
 
 pub returns-then-not-branch-clause-test : goal.returns-then-not-branch-clause-test
 returns-then-not-branch-clause-test g t c =
-    not_all c.args.opened.now.place (meaning (g.D.Disk.state c.args.disk.now)) c.args.inode.now c.args.level c.in_ok-mark_level.field-0 c.in_ok-mark_level.ensures.test
+    not_all c.args.opened.now.geometry (meaning (g.D.Disk.state c.args.disk.now)) c.args.inode.now c.args.level c.in_ok-mark_level.field-0 c.in_ok-mark_level.ensures.test
     c.if-not-branch.true
 
 pub returns-then-level-eq0-clause-test : goal.returns-then-level-eq0-clause-test
 returns-then-level-eq0-clause-test g t c = (
-  (λ good. lowest_level c.args.opened.now.place (meaning (g.D.Disk.state c.args.disk.now)) c.args.inode.now c.args.level c.if-level-eq0.true
+  (λ good. lowest_level c.args.opened.now.geometry (meaning (g.D.Disk.state c.args.disk.now)) c.args.inode.now c.args.level c.if-level-eq0.true
       (c.in_ok-mark_level.ensures.test.0 c.if-not-branch.false)),
   (λ all. refl),
 )
 
 pub returns-then-level-eq0-clause-marked : goal.returns-then-level-eq0-clause-marked
 returns-then-level-eq0-clause-marked g t c = λ good n is x.
-    let p = c.args.opened.now.place in
+    let p = c.args.opened.now.geometry in
     let m = meaning (g.D.Disk.state c.args.disk.now) in
     let owned = c.mark_level.new.owned in
     let twice = c.mark_level.new.twice in
@@ -34,7 +34,7 @@ returns-then-level-eq0-clause-marked g t c = λ good n is x.
 
 pub mark_levels-requires : goal.mark_levels-requires
 mark_levels-requires g t c =
-    let p = c.args.opened.now.place in
+    let p = c.args.opened.now.geometry in
     let v = c.args.inode.now in
     let level = c.args.level in
     let mid = meaning (g.D.Disk.state c.mark_level.new.disk) in
@@ -50,7 +50,7 @@ mark_levels-requires g t c =
 
 pub returns-clause-test : goal.returns-clause-test
 returns-clause-test g t c =
-    let p = c.args.opened.now.place in
+    let p = c.args.opened.now.geometry in
     let m = meaning (g.D.Disk.state c.args.disk.now) in
     let v = c.args.inode.now in
     let below = subst (λ (q : SectorMap). IsTrue c.in_ok-marked.marked ↔ ((n : ℕ) → n ≤ c.args.level - 1 → HasLevelInData p q v n))
@@ -60,7 +60,7 @@ returns-clause-test g t c =
 
 pub returns-clause-marked : goal.returns-clause-marked
 returns-clause-marked g t c = λ good n is x.
-    let p = c.args.opened.now.place in
+    let p = c.args.opened.now.geometry in
     let s0 = g.D.Disk.state c.args.disk.now in
     let v = c.args.inode.now in
     let level = c.args.level in

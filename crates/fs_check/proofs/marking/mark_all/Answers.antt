@@ -16,7 +16,7 @@ pub returns-then-not-branch-clause-passed : goal.returns-then-not-branch-clause-
 returns-then-not-branch-clause-passed g c =
     let s0 = g.D.Disk.state c.args.disk.now in
     let s1 = g.D.Disk.state c.loop-n.disk in
-    let p = c.args.opened.now.place in
+    let p = c.args.opened.now.geometry in
     record {
       reads = reads_joined c.loop-n.invariant.reads c.in_ok-mark_inode.ensures.passed.reads;
       reason = (
@@ -44,7 +44,7 @@ loop-n-preserved g c =
     let s0 = g.D.Disk.state c.args.disk.now in
     let s1 = g.D.Disk.state c.loop-n.disk in
     let lt = c.loop-n-test.true in
-    let p = c.args.opened.now.place in
+    let p = c.args.opened.now.geometry in
     let n = c.loop-n.n in
     let reads = c.loop-n.invariant.reads in
     let here = inode_here p (meaning s0) c.args.inodes.now n blank c.requires.table lt in
@@ -61,7 +61,7 @@ loop-n-preserved g c =
 pub returns-clause-each : goal.returns-clause-each
 returns-clause-each g c = λ n lt.
     let m = meaning (g.D.Disk.state c.args.disk.now) in
-    let p = c.args.opened.now.place in
+    let p = c.args.opened.now.geometry in
     elim (cases_lt n c.loop-n.n) [
       | inl low ↦ c.loop-n.invariant.good n low
       | inr ge ↦
@@ -74,10 +74,10 @@ pub returns-clause-marked : goal.returns-clause-marked
 returns-clause-marked g c =
     let len = c.requires.table.len in
     let end = c.loop-n.auto.n-end in
-    all_marked c.args.opened.now.place (meaning (g.D.Disk.state c.args.disk.now)) c.args.inodes.now c.loop-n.n c.loop-n.owned c.loop-n.twice c.requires.table
+    all_marked c.args.opened.now.geometry (meaning (g.D.Disk.state c.args.disk.now)) c.args.inodes.now c.loop-n.n c.loop-n.owned c.loop-n.twice c.requires.table
     c.loop-n-test.false (omega (arith, end, len)) c.loop-n.invariant.marked
 
 pub overflow_cast-n-end : goal.overflow_cast-n-end
 overflow_cast-n-end g c =
-    let few = few_inodes _ _ c.args.opened.now.place _ c.args.inodes.now c.requires.opened.place c.requires.table in
+    let few = few_inodes _ _ c.args.opened.now.geometry _ c.args.inodes.now c.requires.opened.geometry c.requires.table in
     omega (arith, few)

@@ -8,7 +8,7 @@ use Rattle.fs_check.proofs.marking.mark_all.Given as goal
 abbrev pub invariant-loop-n : goal.invariant-loop-n
 invariant-loop-n g l = record {
   reads : OnlyReads (g.D.Disk.state l.initial.disk) (g.D.Disk.state l.disk);
-  good : (k : ℕ) → k < l.n → IsInData l.opened.place (meaning (g.D.Disk.state l.initial.disk)) k;
+  good : (k : ℕ) → k < l.n → IsInData l.opened.geometry (meaning (g.D.Disk.state l.initial.disk)) k;
   at_hand : AreAtHand (meaning (g.D.Disk.state l.initial.disk)) l.pointers;
-  marked : IsMarked (owned_part l.opened.place (meaning (g.D.Disk.state l.initial.disk))) l.n 0 l.opened.place.sectors l.owned l.twice;
+  marked : IsMarked (owned_part l.opened.geometry (meaning (g.D.Disk.state l.initial.disk))) l.n 0 l.opened.geometry.sectors l.owned l.twice;
 }

@@ -8,19 +8,19 @@ use Rattle.fs_check.proofs.marking.mark_inode.Goals as goal
 pub returns-then-not-mark_acls-clause-test : goal.returns-then-not-mark_acls-clause-test
 returns-then-not-mark_acls-clause-test g c =
     let m = meaning (g.D.Disk.state c.args.disk.now) in
-    let p = c.args.opened.now.place in
+    let p = c.args.opened.now.geometry in
     let v = c.args.inode.now in
     not_owned p m v (HasAclsInData p v) c.mark_acls.result (acls_owned p m v) c.mark_acls.ensures.test c.if-not-mark_acls.true
 
 -- there is no level above the first that is marked
 pub mark_levels-requires-clause-above : goal.mark_levels-requires-clause-above
 mark_levels-requires-clause-above g c =
-    none_above c.args.opened.now.place (meaning (g.D.Disk.state c.args.disk.now)) c.args.inode.now POINTER_LEVELS (omega arith)
+    none_above c.args.opened.now.geometry (meaning (g.D.Disk.state c.args.disk.now)) c.args.inode.now POINTER_LEVELS (omega arith)
 
 pub returns-clause-test : goal.returns-clause-test
 returns-clause-test g c =
     let m = meaning (g.D.Disk.state c.args.disk.now) in
-    let p = c.args.opened.now.place in
+    let p = c.args.opened.now.geometry in
     let v = c.args.inode.now in
     let acls = c.mark_acls.ensures.test.0 c.if-not-mark_acls.false in
     let levels = c.in_ok-marked.ensures.test in

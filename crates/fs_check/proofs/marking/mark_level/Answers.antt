@@ -16,14 +16,14 @@ returns-then-not-mark_listed-clause-test g c =
     let v = c.args.inode.now in
     let own = c.own_count-own.result in
     let at = listed_own m v c.args.level 0 own (get_or c.args.pointers.now.contents 0 []) (omega (arith, c.own_count-own.ensures)) in
-    not_among c.args.opened.now.place m v c.args.level 0 own c.mark_listed.result (c.mark_listed.ensures.test m at) c.if-not-mark_listed.true
+    not_among c.args.opened.now.geometry m v c.args.level 0 own c.mark_listed.result (c.mark_listed.ensures.test m at) c.if-not-mark_listed.true
 
 pub mark_listed-requires-clause-few : goal.mark_listed-requires-clause-few
 mark_listed-requires-clause-few g c = omega (arith, end_listed c.args.level 0 c.requires.level (omega arith), c.own_count-own.ensures)
 
 pub loop-j-init : goal.loop-j-init
 loop-j-init g c =
-    let p = c.args.opened.now.place in
+    let p = c.args.opened.now.geometry in
     let m = meaning (g.D.Disk.state c.args.disk.now) in
     let v = c.args.inode.now in
     let level = c.args.level in
@@ -50,11 +50,11 @@ find-requires-clause-highest g c = has_level c.args.level c.loop-j.j c.requires.
 
 pub find-requires-clause-in_data : goal.find-requires-clause-in_data
 find-requires-clause-in_data g c =
-    level_still c.loop-j.invariant.reads c.args.opened.now.place c.args.inode.now (c.args.level + 1) (c.requires.above (c.args.level + 1) (omega arith))
+    level_still c.loop-j.invariant.reads c.args.opened.now.geometry c.args.inode.now (c.args.level + 1) (c.requires.above (c.args.level + 1) (omega arith))
 
 pub find-requires-clause-above : goal.find-requires-clause-above
 find-requires-clause-above g c =
-    above_still c.loop-j.invariant.reads c.args.opened.now.place c.args.inode.now (c.args.level + 1) (λ above gt. c.requires.above above (omega (arith, gt)))
+    above_still c.loop-j.invariant.reads c.args.opened.now.geometry c.args.inode.now (c.args.level + 1) (λ above gt. c.requires.above above (omega (arith, gt)))
 
 pub find-requires-clause-at_hand : goal.find-requires-clause-at_hand
 find-requires-clause-at_hand g c = hand_still c.loop-j.invariant.reads c.loop-j.pointers c.loop-j.invariant.at_hand
@@ -68,7 +68,7 @@ mark_listed-requires-in-loop-j-clause-few g c =
 -- the numbers of a sector of pointers that isn't there
 pub loop-j-preserved-then-branch-eq0 : goal.loop-j-preserved-then-branch-eq0
 loop-j-preserved-then-branch-eq0 g c =
-    let p = c.args.opened.now.place in
+    let p = c.args.opened.now.geometry in
     let m = meaning (g.D.Disk.state c.args.disk.now) in
     let v = c.args.inode.now in
     let level = c.args.level in
@@ -92,7 +92,7 @@ loop-j-preserved-then-branch-eq0 g c =
 
 pub returns-then-not-mark_listed-2-clause-test : goal.returns-then-not-mark_listed-2-clause-test
 returns-then-not-mark_listed-2-clause-test g c =
-    let p = c.args.opened.now.place in
+    let p = c.args.opened.now.geometry in
     let m = meaning (g.D.Disk.state c.args.disk.now) in
     let v = c.args.inode.now in
     let level = c.args.level in
@@ -108,7 +108,7 @@ returns-then-not-mark_listed-2-clause-test g c =
 
 pub loop-j-preserved : goal.loop-j-preserved
 loop-j-preserved g c =
-    let p = c.args.opened.now.place in
+    let p = c.args.opened.now.geometry in
     let m = meaning (g.D.Disk.state c.args.disk.now) in
     let v = c.args.inode.now in
     let level = c.args.level in
@@ -138,7 +138,7 @@ loop-j-preserved g c =
 pub returns-clause-test : goal.returns-clause-test
 returns-clause-test g c =
     let m = meaning (g.D.Disk.state c.args.disk.now) in (
-      (λ t. level_in_data c.args.opened.now.place m c.args.inode.now c.args.level c.loop-j.j c.loop-j.invariant.good
+      (λ t. level_in_data c.args.opened.now.geometry m c.args.inode.now c.args.level c.loop-j.j c.loop-j.invariant.good
           (λ i ge. c.number_end-j-end.ensures.past m i (omega (arith, ge, c.loop-j-test.false)))),
       (λ all. refl),
     )
@@ -150,7 +150,7 @@ returns-clause-marked g c = λ t n is x.
     let j = c.loop-j.j in
     let end = c.loop-j.auto.j-end in
     let most = c.number_end-j-end.ensures.most in
-    rest_skipped c.args.opened.now.place m n c.args.inode.now is c.loop-j.owned c.loop-j.twice level j c.requires.level
+    rest_skipped c.args.opened.now.geometry m n c.args.inode.now is c.loop-j.owned c.loop-j.twice level j c.requires.level
     (end_listed level j c.requires.level (omega (arith, end, most)))
     (λ i ge. c.number_end-j-end.ensures.past m i (omega (arith, ge, c.loop-j-test.false))) (c.loop-j.invariant.marked n is x)
 

@@ -10,11 +10,11 @@ abbrev pub invariant-loop-j : goal.invariant-loop-j
 invariant-loop-j g l = record {
   reads : OnlyReads (g.D.Disk.state l.fn.disk) (g.D.Disk.state l.disk);
   at_hand : AreAtHand (meaning (g.D.Disk.state l.fn.disk)) l.pointers;
-  owned_len : length l.owned ≡ l.opened.place.sectors;
-  twice_len : length l.twice ≡ l.opened.place.sectors;
-  good : AreInData l.opened.place (meaning (g.D.Disk.state l.fn.disk)) l.inode l.level 0 (own_count l.level + SECTOR_POINTERS * l.j);
-  marked : (n : ℕ) → l.inode ≡ inode_at l.opened.place (meaning (g.D.Disk.state l.fn.disk)) n
-      → IsMarked (owned_part l.opened.place (meaning (g.D.Disk.state l.fn.disk))) n (first_part l.level) l.opened.place.sectors l.fn.owned l.fn.twice
-      → IsMarked (owned_part l.opened.place (meaning (g.D.Disk.state l.fn.disk))) n (first_part l.level + (own_count l.level + SECTOR_POINTERS * l.j))
-      l.opened.place.sectors l.owned l.twice;
+  owned_len : length l.owned ≡ l.opened.geometry.sectors;
+  twice_len : length l.twice ≡ l.opened.geometry.sectors;
+  good : AreInData l.opened.geometry (meaning (g.D.Disk.state l.fn.disk)) l.inode l.level 0 (own_count l.level + SECTOR_POINTERS * l.j);
+  marked : (n : ℕ) → l.inode ≡ inode_at l.opened.geometry (meaning (g.D.Disk.state l.fn.disk)) n
+      → IsMarked (owned_part l.opened.geometry (meaning (g.D.Disk.state l.fn.disk))) n (first_part l.level) l.opened.geometry.sectors l.fn.owned l.fn.twice
+      → IsMarked (owned_part l.opened.geometry (meaning (g.D.Disk.state l.fn.disk))) n (first_part l.level + (own_count l.level + SECTOR_POINTERS * l.j))
+      l.opened.geometry.sectors l.owned l.twice;
 }

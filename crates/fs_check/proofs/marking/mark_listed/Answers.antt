@@ -19,12 +19,12 @@ returns-then-not-mark_number-clause-test c = λ m at.
     let i = c.loop-i.i in
     let from = c.loop-i.invariant.from in
     let lt = c.loop-i-test.true in
-    in_data_not c.args.place m c.args.inode.now c.args.numbers.level c.args.numbers.first c.args.numbers.end i c.number.result c.mark_number.result from lt
+    in_data_not c.args.geometry m c.args.inode.now c.args.numbers.level c.args.numbers.first c.args.numbers.end i c.number.result c.mark_number.result from lt
     (c.number.ensures m (at i from lt)) c.mark_number.ensures.test c.if-not-mark_number.true
 
 pub loop-i-preserved : goal.loop-i-preserved
 loop-i-preserved c =
-    let p = c.args.place in
+    let p = c.args.geometry in
     let v = c.args.inode.now in
     let level = c.args.numbers.level in
     let i = c.loop-i.i in
@@ -51,10 +51,10 @@ loop-i-preserved c =
 pub returns-clause-test : goal.returns-clause-test
 returns-clause-test c = λ m at.
     let done : c.loop-i.i ≡ c.args.numbers.end = omega (arith, c.loop-i-test.false, c.loop-i.invariant.most) in
-    ((λ t. subst (λ k. AreInData c.args.place m c.args.inode.now c.args.numbers.level c.args.numbers.first k) done (c.loop-i.invariant.good m at)), (λ all. refl))
+    ((λ t. subst (λ k. AreInData c.args.geometry m c.args.inode.now c.args.numbers.level c.args.numbers.first k) done (c.loop-i.invariant.good m at)), (λ all. refl))
 
 pub returns-clause-marked : goal.returns-clause-marked
 returns-clause-marked c = λ t m n is at x.
     let done : c.loop-i.i ≡ c.args.numbers.end = omega (arith, c.loop-i-test.false, c.loop-i.invariant.most) in
-    subst (λ k. IsMarked (owned_part c.args.place m) n (first_part c.args.numbers.level + k) c.args.place.sectors c.loop-i.owned c.loop-i.twice) done
+    subst (λ k. IsMarked (owned_part c.args.geometry m) n (first_part c.args.numbers.level + k) c.args.geometry.sectors c.loop-i.owned c.loop-i.twice) done
     (c.loop-i.invariant.marked m n is at x)

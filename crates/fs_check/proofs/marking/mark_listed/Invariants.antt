@@ -8,11 +8,11 @@ abbrev pub invariant-loop-i : goal.invariant-loop-i
 invariant-loop-i l = record {
   from : l.numbers.first ≤ l.i;
   most : l.i ≤ l.numbers.end;
-  owned_len : length l.owned ≡ l.place.sectors;
-  twice_len : length l.twice ≡ l.place.sectors;
+  owned_len : length l.owned ≡ l.geometry.sectors;
+  twice_len : length l.twice ≡ l.geometry.sectors;
   good : (m : SectorMap) → AreListed m l.inode l.content l.numbers.level l.numbers.first l.numbers.end
-      → AreInData l.place m l.inode l.numbers.level l.numbers.first l.i;
-  marked : (m : SectorMap) (n : ℕ) → l.inode ≡ inode_at l.place m n → AreListed m l.inode l.content l.numbers.level l.numbers.first l.numbers.end
-      → IsMarked (owned_part l.place m) n (first_part l.numbers.level + l.numbers.first) l.place.sectors l.initial.owned l.initial.twice
-      → IsMarked (owned_part l.place m) n (first_part l.numbers.level + l.i) l.place.sectors l.owned l.twice;
+      → AreInData l.geometry m l.inode l.numbers.level l.numbers.first l.i;
+  marked : (m : SectorMap) (n : ℕ) → l.inode ≡ inode_at l.geometry m n → AreListed m l.inode l.content l.numbers.level l.numbers.first l.numbers.end
+      → IsMarked (owned_part l.geometry m) n (first_part l.numbers.level + l.numbers.first) l.geometry.sectors l.initial.owned l.initial.twice
+      → IsMarked (owned_part l.geometry m) n (first_part l.numbers.level + l.i) l.geometry.sectors l.owned l.twice;
 }

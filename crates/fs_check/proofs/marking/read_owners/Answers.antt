@@ -8,12 +8,12 @@ use Rattle.fs_check.proofs.marking.read_owners.Goals as goal
 pub returns-clause-twice : goal.returns-clause-twice
 returns-clause-twice g c =
     let first = c.first-twice.ensures in
-    twice_found c.args.opened.now.place (meaning (g.D.Disk.state c.args.disk.now)) c.mark_all.new.owned c.mark_all.new.twice c.in_ok-mark_all.ensures.marked
+    twice_found c.args.opened.now.geometry (meaning (g.D.Disk.state c.args.disk.now)) c.mark_all.new.owned c.mark_all.new.twice c.in_ok-mark_all.ensures.marked
     c.mark_all.new.twice c.first-twice.result refl c.in_ok-mark_all.ensures.each first.below first.is first.least first.none
 
 pub returns-clause-owners : goal.returns-clause-owners
 returns-clause-owners g c =
-    owner_map c.args.opened.now.place (meaning (g.D.Disk.state c.args.disk.now)) c.mark_all.new.owned c.mark_all.new.twice c.in_ok-mark_all.ensures.marked
+    owner_map c.args.opened.now.geometry (meaning (g.D.Disk.state c.args.disk.now)) c.mark_all.new.owned c.mark_all.new.twice c.in_ok-mark_all.ensures.marked
     c.mark_all.new.owned refl
 
 pub returns-in_err-owned-clause-passed : goal.returns-in_err-owned-clause-passed

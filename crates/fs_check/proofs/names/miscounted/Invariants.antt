@@ -5,4 +5,4 @@ use Rattle.fs_check.proofs.names.miscounted.Given as goal
 
 abbrev pub invariant-loop-n : goal.invariant-loop-n
 invariant-loop-n l = (k : ℕ) → k < l.n
-    → HasNameCount l.place.version (get_or l.inodes k free_inode).kind k (get_or l.inodes k free_inode).names (get_or l.names.counts.items k 0)
+    → HasNameCount l.geometry.version (get_or l.inodes k free_inode).kind k (get_or l.inodes k free_inode).names (get_or l.names.counts.items k 0)

@@ -9,7 +9,7 @@ use Rattle.fs_check.proofs.names.misplaced.Goals as goal
 
 pub returns-then-not-has_parent-clause-some : goal.returns-then-not-has_parent-clause-some
 returns-then-not-has_parent-clause-some c = λ m table named before.
-    let p = c.args.place in
+    let p = c.args.geometry in
     let directories = c.args.names.now.directories.items in
     let n = c.loop-n.n in
     let lt = c.loop-n-test.true in
@@ -26,7 +26,7 @@ returns-then-not-has_parent-clause-some c = λ m table named before.
 
 pub returns-clause-none : goal.returns-clause-none
 returns-clause-none c = λ m table named before n lt.
-    let p = c.args.place in
+    let p = c.args.geometry in
     let directories = c.args.names.now.directories.items in
     elim (cases_lt n c.loop-n.n) [
       | inl low ↦

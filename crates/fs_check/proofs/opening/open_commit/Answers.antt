@@ -7,10 +7,10 @@ use Rattle.fs_check.proofs.Openings.{has_header, many_sectors}
 use Rattle.fs_check.proofs.opening.open_commit.Goals as goal
 
 pub read_commit-requires-clause-room : goal.read_commit-requires-clause-room
-read_commit-requires-clause-room g c = let many = many_sectors _ _ (record { place = c.args.place; is = c.requires }) in omega (arith, many)
+read_commit-requires-clause-room g c = let many = many_sectors _ _ (record { geometry = c.args.geometry; is = c.requires }) in omega (arith, many)
 
 pub read_commit-requires-clause-header : goal.read_commit-requires-clause-header
-read_commit-requires-clause-header g c = has_header (g.D.Disk.state c.args.disk.now) c.args.place c.requires
+read_commit-requires-clause-header g c = has_header (g.D.Disk.state c.args.disk.now) c.args.geometry c.requires
 
 pub returns-in-Some-clause-targets : goal.returns-in-Some-clause-targets
 returns-in-Some-clause-targets g c =
@@ -23,6 +23,6 @@ returns-in-None-clause-passed g c =
     record {
       reads = c.read_commit.ensures.reads;
       reason =
-          no_commit (record { place = c.args.place; is = c.requires })
+          no_commit (record { geometry = c.args.geometry; is = c.requires })
           (subst (λ found. MatchOption found (IsValidCommit disk.size (sector disk.seen) → ⊥) (λ targets. IsCommit disk.size (sector disk.seen) targets)) c.in-None.is c.in_ok-area.ensures.commit);
     }

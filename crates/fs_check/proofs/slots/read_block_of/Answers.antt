@@ -5,14 +5,14 @@ use Rattle.fs_check.proofs.slots.read_block_of.Goals as goal
 
 pub number-requires-clause-above : goal.number-requires-clause-above
 number-requires-clause-above g c =
-    above_owned c.args.opened.now.place (meaning (g.D.Disk.state c.args.disk.now)) c.args.inode.now c.requires.in_data 0
+    above_owned c.args.opened.now.geometry (meaning (g.D.Disk.state c.args.disk.now)) c.args.inode.now c.requires.in_data 0
 
 pub read_recovered-requires-clause-on_disk : goal.read_recovered-requires-clause-on_disk
 read_recovered-requires-clause-on_disk g c =
-    let p = c.args.opened.now.place in
+    let p = c.args.opened.now.geometry in
     let m = meaning (g.D.Disk.state c.args.disk.now) in
     let v = c.args.inode.now in
-    let below = level_below _ _ p m v 0 (c.args.k / c.block_slots-block_slots.result) c.in_ok-s.s c.requires.opened.place (level_owned p m v c.requires.in_data 0)
+    let below = level_below _ _ p m v 0 (c.args.k / c.block_slots-block_slots.result) c.in_ok-s.s c.requires.opened.geometry (level_owned p m v c.requires.in_data 0)
     c.in_ok-s.ensures.number in
     let size = c.in_ok-s.ensures.passed.reads.narrowed.size in
     omega (arith, below, size)

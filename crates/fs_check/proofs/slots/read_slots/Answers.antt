@@ -16,7 +16,7 @@ loop-k-init g c =
 
 pub read_block_of-requires-clause-in_data : goal.read_block_of-requires-clause-in_data
 read_block_of-requires-clause-in_data g c =
-    in_data_still (g.D.Disk.state c.args.disk.now) (g.D.Disk.state c.loop-k.disk) c.loop-k.invariant.reads c.args.inode.now c.args.opened.now.place c.requires.in_data
+    in_data_still (g.D.Disk.state c.args.disk.now) (g.D.Disk.state c.loop-k.disk) c.loop-k.invariant.reads c.args.inode.now c.args.opened.now.geometry c.requires.in_data
 
 pub returns-in_err-read_block_of-clause-passed : goal.returns-in_err-read_block_of-clause-passed
 returns-in_err-read_block_of-clause-passed g c =
@@ -27,7 +27,7 @@ returns-in_err-read_block_of-clause-passed g c =
 pub returns-in_default-clause-slots : goal.returns-in_default-clause-slots
 returns-in_default-clause-slots g c =
     let s0 = g.D.Disk.state c.args.disk.now in
-    let version = c.args.opened.now.place.version in
+    let version = c.args.opened.now.geometry.version in
     let v = c.args.inode.now in
     let k = c.loop-k.k in
     let block = c.read_block_of.new.block in
@@ -51,7 +51,7 @@ pub loop-k-preserved : goal.loop-k-preserved
 loop-k-preserved g c =
     let s0 = g.D.Disk.state c.args.disk.now in
     let m = meaning s0 in
-    let version = c.args.opened.now.place.version in
+    let version = c.args.opened.now.geometry.version in
     let v = c.args.inode.now in
     let k = c.loop-k.k in
     let block = c.read_block_of.new.block in

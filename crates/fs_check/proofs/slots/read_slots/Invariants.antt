@@ -12,11 +12,11 @@ abbrev pub invariant-loop-k : goal.invariant-loop-k
 invariant-loop-k g l = record {
   reads : OnlyReads (g.D.Disk.state l.fn.disk) (g.D.Disk.state l.disk);
   at_hand : AreAtHand (meaning (g.D.Disk.state l.fn.disk)) l.pointers;
-  block : l.k % block_slots l.opened.place.version ≢ 0
-      → l.block ≡ block_of_slot l.opened.place.version (meaning (g.D.Disk.state l.fn.disk)) l.inode l.k;
+  block : l.k % block_slots l.opened.geometry.version ≢ 0
+      → l.block ≡ block_of_slot l.opened.geometry.version (meaning (g.D.Disk.state l.fn.disk)) l.inode l.k;
   len : length l.slots.items ≡ l.k;
-  valid : (j : ℕ) → j < l.k → slot_of l.opened.place.version (stored_slot l.opened.place.version (meaning (g.D.Disk.state l.fn.disk)) l.inode j)
-      ≡ Ok (slot_at l.opened.place.version (meaning (g.D.Disk.state l.fn.disk)) l.inode j);
+  valid : (j : ℕ) → j < l.k → slot_of l.opened.geometry.version (stored_slot l.opened.geometry.version (meaning (g.D.Disk.state l.fn.disk)) l.inode j)
+      ≡ Ok (slot_at l.opened.geometry.version (meaning (g.D.Disk.state l.fn.disk)) l.inode j);
   each : (d : NamedInode) (j : ℕ) → j < l.k
-      → get_or l.slots.items j d ≡ slot_at l.opened.place.version (meaning (g.D.Disk.state l.fn.disk)) l.inode j;
+      → get_or l.slots.items j d ≡ slot_at l.opened.geometry.version (meaning (g.D.Disk.state l.fn.disk)) l.inode j;
 }

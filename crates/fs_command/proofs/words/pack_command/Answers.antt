@@ -3,12 +3,12 @@ use Rattle.std.proofs.lemmas.Result.{IfOk-weaker}
 use Rattle.clap.specs.Simple.{app_of_fields}
 use Rattle.clap.specs.Words.{App, app_of, new_app, rule_of, with_rule}
 use Rattle.clap.specs.declared.builder.arg.Arg.{Arg}
-use Rattle.fs_command.specs.Words.{directory, image, needed, number_option, text_option}
+use Rattle.fs_command.specs.Words.{directory, image, must_be_given, number_option, text_option}
 use Rattle.fs_command.proofs.words.pack_command.Goals as goal
 
 -- the command with its words that have to be given
 abbrev with_size : App
-with_size = with_rule (with_rule (with_rule (new_app (codes "pack")) image) directory) (needed (text_option (codes "size")))
+with_size = with_rule (with_rule (with_rule (new_app (codes "pack")) image) directory) (must_be_given (text_option (codes "size")))
 
 -- and with the number of inodes, and the user
 abbrev with_inodes : App
@@ -27,7 +27,7 @@ returns c =
     ∙ ap₂ with_rule one (ap rule_of c.help-2.ensures ∙ c.directory.ensures.rule) in
     let three : app_of c.in_ok-arg-3.field-0 ≡ with_size =
     c.in_ok-arg-3.ensures.shape (ap (λ (a : Arg). a.global) c.help-size.ensures ∙ ap (λ (a : Arg). a.global) c.required.ensures ∙ c.text_option.ensures.local)
-    ∙ ap₂ with_rule two (ap rule_of c.help-size.ensures ∙ ap rule_of c.required.ensures ∙ ap needed c.text_option.ensures.rule) in
+    ∙ ap₂ with_rule two (ap rule_of c.help-size.ensures ∙ ap rule_of c.required.ensures ∙ ap must_be_given c.text_option.ensures.rule) in
     let four : app_of c.in_ok-arg-4.field-0 ≡ with_inodes =
     c.in_ok-arg-4.ensures.shape (ap (λ (a : Arg). a.global) c.help-inodes.ensures ∙ c.number.ensures.local)
     ∙ ap₂ with_rule three (ap rule_of c.help-inodes.ensures ∙ c.number.ensures.rule) in

@@ -3,20 +3,20 @@ use Rattle.std.proofs.lemmas.Result.{on_ok_weaker}
 use Rattle.sector_disk.specs.Disk.{AddsOnly, Image, sector}
 use Rattle.sector_disk.proofs.Moments.{adds_narrowed, adds_nothing, adds_write, goes_on, image_or, joined, started, weaker}
 use Rattle.fs_layout.specs.Commit.{commit_bytes}
-use Rattle.fs_layout.proofs.Places.{place_is_place}
+use Rattle.fs_layout.proofs.Places.{is_a_geometry}
 use Rattle.fs_images.specs.Making.{BehindSuperblock, HoldsNewTables}
-use Rattle.fs_images.proofs.MakingMoments.{adds_joined, image_joined, place_on_disk, prepared, still_cleared}
+use Rattle.fs_images.proofs.MakingMoments.{adds_joined, image_joined, geometry_on_disk, prepared, still_cleared}
 use Rattle.fs_images.proofs.new_disk.prepare.Goals as goal
 
 pub write-requires : goal.write-requires
-write-requires g c = omega (arith, (place_on_disk _ _ c.args.place.inodes c.args.place c.requires.place).least)
+write-requires g c = omega (arith, (geometry_on_disk _ _ c.args.geometry.inodes c.args.geometry c.requires.geometry).least)
 
-pub write_tables-requires-clause-place : goal.write_tables-requires-clause-place
-write_tables-requires-clause-place g c = place_is_place _ _ _ c.args.place.inodes c.requires.place
+pub write_tables-requires-clause-geometry : goal.write_tables-requires-clause-geometry
+write_tables-requires-clause-geometry g c = is_a_geometry _ _ _ c.args.geometry.inodes c.requires.geometry
 
 pub write_tables-requires-clause-room : goal.write_tables-requires-clause-room
 write_tables-requires-clause-room g c =
-    omega (arith, (place_on_disk _ _ c.args.place.inodes c.args.place c.requires.place).first_data, c.write.ensures.changes.size)
+    omega (arith, (geometry_on_disk _ _ c.args.geometry.inodes c.args.geometry c.requires.geometry).first_data, c.write.ensures.changes.size)
 
 pub returns-clause-any_moment : goal.returns-clause-any_moment
 returns-clause-any_moment g c =
@@ -39,13 +39,13 @@ returns-clause-prepared g c =
     let seen = c.sync.ensures.changes.seen in
     let first : AddsOnly BehindSuperblock before written = adds_write adds_nothing c.write.ensures.changes (λ k content is same. omega (arith, is)) in
     let all = adds_narrowed (adds_joined first c.write_tables.ensures.adds) c.sync.ensures.changes in
-    let room : 1 < length before.seen = omega (arith, (place_on_disk _ _ c.args.place.inodes c.args.place c.requires.place).least, c.requires.cleared.whole) in
+    let room : 1 < length before.seen = omega (arith, (geometry_on_disk _ _ c.args.geometry.inodes c.args.geometry c.requires.geometry).least, c.requires.cleared.whole) in
     let commit : sector written.seen 1 ≡ commit_bytes [] =
     ap (λ (i : Image). sector i 1) c.in_ok-write.ensures.written.seen ∙ get_or-set_same before.seen 1 c.to_sector.result [] room ∙ c.to_sector.ensures ∙ ap commit_bytes c.idle.ensures in
     on_ok_weaker c.sync.result
-    (prepared c.args.place before after c.requires.place c.requires.cleared all (g.met.D.Disk.seen_is_image c.sync.new.self)
+    (prepared c.args.geometry before after c.requires.geometry c.requires.cleared all (g.met.D.Disk.seen_is_image c.sync.new.self)
     (ap (λ (i : Image). sector i 1) seen ∙ c.in_ok-write_tables.ensures.commit ∙ commit)
-    (subst (HoldsNewTables c.args.place) (sym seen) c.in_ok-write_tables.ensures.written))
+    (subst (HoldsNewTables c.args.geometry) (sym seen) c.in_ok-write_tables.ensures.written))
     c.sync.ensures.stable
 
 pub returns-in_err-write-clause-any_moment : goal.returns-in_err-write-clause-any_moment

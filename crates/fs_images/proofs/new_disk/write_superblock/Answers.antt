@@ -6,9 +6,9 @@ use Rattle.fs_images.proofs.new_disk.write_superblock.Goals as goal
 pub returns-clause-made : goal.returns-clause-made
 returns-clause-made g c =
     on_ok_weaker c.write_synced.result
-    (written_new c.args.place (g.D.Disk.state c.args.disk.now) c.superblock.result c.requires c.superblock.ensures (g.D.Disk.state c.write_synced.new.disk).seen)
+    (written_new c.args.geometry (g.D.Disk.state c.args.disk.now) c.superblock.result c.requires c.superblock.ensures (g.D.Disk.state c.write_synced.new.disk).seen)
     c.write_synced.ensures.written
 
 pub returns-clause-any_moment : goal.returns-clause-any_moment
 returns-clause-any_moment g c =
-    weaker (cleared_or_new c.args.place (g.D.Disk.state c.args.disk.now) c.superblock.result c.requires c.superblock.ensures) c.write_synced.ensures.any_moment
+    weaker (cleared_or_new c.args.geometry (g.D.Disk.state c.args.disk.now) c.superblock.result c.requires c.superblock.ensures) c.write_synced.ensures.any_moment

@@ -10,14 +10,14 @@ loop-n-preserved g c =
     let n = c.loop-n.n in
     let last = g.D.Disk.state c.loop-n.disk in
     let after = g.D.Disk.state c.write.new.self in
-    let first = after_map c.requires.place in
+    let first = after_map c.requires.geometry in
     let from : 128 ≤ n = omega (arith, c.loop-n.auto.n, first.0) in
     let whole : length last.seen ≡ last.size = (g.met.D.Disk.seen_is_image c.loop-n.disk).size in
     let fits : n < length last.seen = omega (arith, whole, so_far.adds.size, c.loop-n-test.true, c.requires.room) in
     let put = c.in_ok-write.ensures.written.seen in
     let adds = adds_write so_far.adds c.write.ensures.changes (λ k content is same. omega (arith, is, from)) in
     record {
-      written = table_more c.args.place last.seen after.seen n c.table_sector.result fits put c.table_sector.ensures so_far.written;
+      written = table_more c.args.geometry last.seen after.seen n c.table_sector.result fits put c.table_sector.ensures so_far.written;
       commit = same_beside last.seen after.seen n 1 c.table_sector.result put (λ e. omega (arith, e, from)) ∙ so_far.commit;
       adds = adds;
       since = goes_on so_far.since c.write.ensures.time (image_or adds);

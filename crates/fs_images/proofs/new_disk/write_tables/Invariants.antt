@@ -6,7 +6,7 @@ use Rattle.fs_images.proofs.new_disk.write_tables.Given as goal
 
 abbrev pub invariant-loop-n : goal.invariant-loop-n
 invariant-loop-n g l = record {
-  written : (s : ℕ) → l.place.inode_bitmap ≤ s → s < l.n → IsNewTable l.place s (sector (g.D.Disk.state l.disk).seen s);
+  written : (s : ℕ) → l.geometry.inode_bitmap ≤ s → s < l.n → IsNewTable l.geometry s (sector (g.D.Disk.state l.disk).seen s);
   commit : sector (g.D.Disk.state l.disk).seen 1 ≡ sector (g.D.Disk.state l.initial.disk).seen 1;
   adds : AddsOnly BehindSuperblock (g.D.Disk.state l.initial.disk) (g.D.Disk.state l.disk);
   since : LeavesOnly (g.D.Disk.state l.initial.disk) (g.D.Disk.state l.disk) (IsImageOr BehindSuperblock (g.D.Disk.state l.initial.disk));

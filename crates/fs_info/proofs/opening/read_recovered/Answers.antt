@@ -6,18 +6,18 @@ use Rattle.fs_check.proofs.Openings.{has_header, header_there}
 use Rattle.fs_info.proofs.opening.read_recovered.Goals as goal
 
 pub content_of-requires : goal.content_of-requires
-content_of-requires g c = (has_header (g.D.Disk.state c.args.disk.now) c.args.opened.now.place c.requires.opened.place).most
+content_of-requires g c = (has_header (g.D.Disk.state c.args.disk.now) c.args.opened.now.geometry c.requires.opened.geometry).most
 
 pub read-requires : goal.read-requires
 read-requires g c =
     let s0 = g.D.Disk.state c.args.disk.now in
-    let is = header_there s0 c.args.opened.now.place c.requires.opened.place in
+    let is = header_there s0 c.args.opened.now.geometry c.requires.opened.geometry in
     c.content_of.ensures.on_disk s0.size (subst (λ h. AreTargets h s0.size c.args.opened.now.commit) is c.requires.opened.commit.valid) c.requires.on_disk
 
 pub returns-clause-content : goal.returns-clause-content
 returns-clause-content g c =
     let s0 = g.D.Disk.state c.args.disk.now in
-    let is = header_there s0 c.args.opened.now.place c.requires.opened.place in
+    let is = header_there s0 c.args.opened.now.geometry c.requires.opened.geometry in
     c.in_ok-read.ensures.content
     ∙ sym (c.content_of.ensures.content s0.size (sector s0.seen) (g.met.D.Disk.size_fits c.args.disk.now) (sym is) c.requires.opened.log c.requires.opened.commit)
 

@@ -7,7 +7,7 @@ use Rattle.fs_program.proofs.copying.pack_on_disk.Goals as goal
 
 pub returns-in-Err : goal.returns-in-Err
 returns-in-Err g c =
-    let none = refuses_nothing c.args.place.version (g.D.Disk.state c.args.disk).size c.args.place.inodes c.args.place c.requires in
+    let none = refuses_nothing c.args.geometry.version (g.D.Disk.state c.args.disk).size c.args.geometry.inodes c.args.geometry c.requires in
     cannot_make c.mkfs.new.disk c.in-Err.fault (c.in-Err.ensures.fault none) refl
 
 pub returns-in-Ok : goal.returns-in-Ok

@@ -1,7 +1,7 @@
 use Rattle.std.proofs.Common.{refl, subst, Ok}
-use Rattle.fs_layout.specs.declared.place.Place.{Place}
-use Rattle.fs_layout.specs.Place.{new_header}
-use Rattle.fs_layout.proofs.Places.{place_is_laid_out, place_is_place}
+use Rattle.fs_layout.specs.declared.geometry.Geometry.{Geometry}
+use Rattle.fs_layout.specs.Geometry.{new_header}
+use Rattle.fs_layout.proofs.Places.{geometry_is_laid_out, is_a_geometry}
 use Rattle.fs_program.specs.Jobs.{Tells, cannot_make, is_made}
 use Rattle.fs_program.specs.Streams.{writing}
 use Rattle.fs_program.specs.Texts.{made_text}
@@ -11,18 +11,18 @@ use Rattle.fs_program.proofs.disks.make_on_disk.Goals as goal
 
 pub returns-in-Err : goal.returns-in-Err
 returns-in-Err g c =
-    let none = refuses_nothing c.args.place.version (g.D.Disk.state c.args.disk.now).size c.args.place.inodes c.args.place c.requires in
+    let none = refuses_nothing c.args.geometry.version (g.D.Disk.state c.args.disk.now).size c.args.geometry.inodes c.args.geometry c.requires in
     cannot_make c.in-Err.fault (c.in-Err.ensures.fault none) (refl, refl)
 
 pub print_made-requires : goal.print_made-requires
 print_made-requires g c =
     let size = (g.D.Disk.state c.args.disk.now).size in
-    place_is_place c.args.place.version (new_header c.args.place.version size c.args.place.inodes) size c.args.place.inodes c.requires
+    is_a_geometry c.args.geometry.version (new_header c.args.geometry.version size c.args.geometry.inodes) size c.args.geometry.inodes c.requires
 
 pub returns : goal.returns
 returns g c =
     let w = writing g.O.Write.contents c.args.out.now c.print_made.new.out in
-    let told = tells w (made_text c.args.place) c.print_made.result Done c.written.result c.print_made.ensures c.written.ensures in
+    let told = tells w (made_text c.args.geometry) c.print_made.result Done c.written.result c.print_made.ensures c.written.ensures in
     is_made c.in_default.ensures.made c.in_default.ensures.stable
-    (subst (λ (p : Place). Tells w (made_text p) Done (Ok c.written.result))
-    (place_is_laid_out (g.D.Disk.state c.args.disk.now).size c.args.place.inodes c.requires) told)
+    (subst (λ (p : Geometry). Tells w (made_text p) Done (Ok c.written.result))
+    (geometry_is_laid_out (g.D.Disk.state c.args.disk.now).size c.args.geometry.inodes c.requires) told)

@@ -26,6 +26,6 @@ returns g c =
     let made = c.in_default.ensures.made in
     let whole = (g.met.D.Disk.seen_is_image c.mkfs.new.disk).size in (
       fault_of_restart (g.D.Disk.state c.mkfs.new.disk) (g.D.Disk.state c.in-Err-mount.field-0-1) whole
-          (room_of made.place, empty_tree, _, made.stands) c.in-Err-mount.fault c.in-Err-mount.ensures.failed,
+          (room_of made.geometry, empty_tree, _, made.stands) c.in-Err-mount.fault c.in-Err-mount.ensures.failed,
       tt,
     )

@@ -23,7 +23,7 @@ returns-in-None g c =
     (serves_on g.D.Disk.state g.K.Kernel.Does c.args.disk c.unmount-errno.result.0 first c.serve_requests-served.result.1 c.args.own_rules
     c.args.kernel.now c.now.new.self c.serve_requests-served.new.kernel start c.settings_of-settings.result served (unmounted errno)
     c.in-Ok-now.ensures c.in-Ok-mount.ensures.mounted
-    (c.settings_of-settings.ensures ∙ ap (λ p. settings_of p c.args.own_rules start) c.place.ensures)
+    (c.settings_of-settings.ensures ∙ ap (λ p. settings_of p c.args.own_rules start) c.geometry.ensures)
     c.serve_requests-served.ensures c.unmount-errno.ensures.does)
     (ap Ok c.tell_served-status.ensures ∙ sym (ap (λ e. fuse_end served (unmounted e)) c.in-None.is))
 
@@ -37,6 +37,6 @@ returns g c =
     (serves_on g.D.Disk.state g.K.Kernel.Does c.args.disk c.unmount-errno.result.0 first c.serve_requests-served.result.1 c.args.own_rules
     c.args.kernel.now c.now.new.self c.serve_requests-served.new.kernel start c.settings_of-settings.result served (unmounted errno)
     c.in-Ok-now.ensures c.in-Ok-mount.ensures.mounted
-    (c.settings_of-settings.ensures ∙ ap (λ p. settings_of p c.args.own_rules start) c.place.ensures)
+    (c.settings_of-settings.ensures ∙ ap (λ p. settings_of p c.args.own_rules start) c.geometry.ensures)
     c.serve_requests-served.ensures c.unmount-errno.ensures.does)
     (sym (ap (λ e. fuse_end served (unmounted e)) c.in-Some.is))

@@ -3,7 +3,7 @@ use Rattle.std.proofs.Common.{ap, subst}
 use Rattle.fs_cred.specs.declared.refusal.Refusal.{Refusal}
 use Rattle.sector_txn.specs.Sectors.{TxnState}
 use Rattle.fs_model.specs.declared.reply.Reply.{Reply}
-use Rattle.fs_model.specs.Processes.{Desks}
+use Rattle.fs_model.specs.Processes.{ProcessTable}
 use Rattle.call_parts.specs.Performing.{Performs, is_on_names}
 use Rattle.fs_system.proofs.calls.perform.Goals as goal
 
@@ -11,7 +11,7 @@ use Rattle.fs_system.proofs.calls.perform.Goals as goal
 pub returns-in-None : goal.returns-in-None
 returns-in-None g c =
     let before = c.in-None.ensures in
-    let p = c.args.place in
+    let p = c.args.geometry in
     let call = c.args.call.now in
     let mid = g.S.Sectors.state c.perform.new.s in
     let last = g.S.Sectors.state c.perform-in-None.new.s in
@@ -21,4 +21,4 @@ returns-in-None g c =
     subst (λ (o : Option (Result Reply Refusal)). MatchOption o (IsFalse (is_on_names call)) (λ x. Performs p c.args.now c.args.pid call mid last c.perform.new.procs now x))
     c.unwrap.ensures c.perform-in-None.ensures in
     subst (λ (t : TxnState). Performs p c.args.now c.args.pid call t last c.args.procs.now now r) (ap g.S.Sectors.state before.1)
-    (subst (λ (d : Desks). Performs p c.args.now c.args.pid call mid last d now r) before.2 performs)
+    (subst (λ (d : ProcessTable). Performs p c.args.now c.args.pid call mid last d now r) before.2 performs)

@@ -6,8 +6,8 @@ use Rattle.fs_system.proofs.stored.count_both.Goals as goal
 
 pub count_free-requires-2 : goal.count_free-requires-2
 count_free-requires-2 g c =
-    bitmaps_unchanged c.args.place (g.S.Sectors.state c.args.s.now) (g.S.Sectors.state c.count_free.new.s) c.requires c.in_ok-sectors.ensures.same
+    bitmaps_unchanged c.args.geometry (g.S.Sectors.state c.args.s.now) (g.S.Sectors.state c.count_free.new.s) c.requires c.in_ok-sectors.ensures.same
 
 pub returns-clause-inodes : goal.returns-clause-inodes
 returns-clause-inodes g c =
-    c.in_ok-inodes.ensures.free ∙ ap (free_numbers c.args.place Inodes) (sym (map_unchanged c.in_ok-sectors.ensures.same))
+    c.in_ok-inodes.ensures.free ∙ ap (free_numbers c.args.geometry Inodes) (sym (map_unchanged c.in_ok-sectors.ensures.same))

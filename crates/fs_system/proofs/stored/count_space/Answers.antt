@@ -8,9 +8,9 @@ returns-in-Some g c = record {
   does = λ s r.
       let disk = g.D.Disk.state c.args.store.disk in
       let told = c.in-Some.ensures in
-      let desks = c.args.procs.now in (
+      let processes = c.args.procs.now in (
         r,
-        does_told disk disk (g.met.D.Disk.only_now c.args.store.disk) reads_nothing disk.size c.args.place (present g.D.Disk.state c.args.store)
-            desks s r c.in-Some.free.sectors c.in-Some.free.inodes (told.sectors c.args.place desks s r) (told.inodes c.args.place desks s r),
+        does_told disk disk (g.met.D.Disk.only_now c.args.store.disk) reads_nothing disk.size c.args.geometry (present g.D.Disk.state c.args.store)
+            processes s r c.in-Some.free.sectors c.in-Some.free.inodes (told.sectors c.args.geometry processes s r) (told.inodes c.args.geometry processes s r),
       );
 }

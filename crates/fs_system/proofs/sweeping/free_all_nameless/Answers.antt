@@ -9,7 +9,7 @@ use Rattle.fs_system.proofs.sweeping.free_all_nameless.Goals as goal
 pub loop-n-init : goal.loop-n-init
 loop-n-init g c =
     let state = g.D.Disk.state in
-    sweeping_begun c.args.place (present state c.args.store) (state c.args.store.disk) (g.met.D.Disk.only_now c.args.store.disk)
+    sweeping_begun c.args.geometry (present state c.args.store) (state c.args.store.disk) (g.met.D.Disk.only_now c.args.store.disk)
 
 pub free_nameless-requires-clause-tree : goal.free_nameless-requires-clause-tree
 free_nameless-requires-clause-tree g c =
@@ -21,14 +21,14 @@ pub loop-n-preserved : goal.loop-n-preserved
 loop-n-preserved g c =
     let one = c.in_ok-freed.ensures in
     let then = c.in_ok-store.ensures in
-    sweeping_stable (sweeping_on c.loop-n.invariant one.frees one.any_moment one.size one.cause.later one.quiet) (then.kept c.args.place) (then.any_moment c.args.place) then.size then.cause.later then.quiet
+    sweeping_stable (sweeping_on c.loop-n.invariant one.frees one.any_moment one.size one.cause.later one.quiet) (then.kept c.args.geometry) (then.any_moment c.args.geometry) then.size then.cause.later then.quiet
 
 pub returns-in_err-freed-clause-any_moment : goal.returns-in_err-freed-clause-any_moment
 returns-in_err-freed-clause-any_moment g c = λ t h.
     let state = g.D.Disk.state in
     let old = state c.args.store.disk in
     let r = c.from_residual.ensures in
-    subst (λ k. LeavesOnly old (state k) (StandsPruned (room_of c.args.place) t)) (sym (err_disk c.from_residual.result c.in_err-freed.field-0.0 r.0 r.1))
+    subst (λ k. LeavesOnly old (state k) (StandsPruned (room_of c.args.geometry) t)) (sym (err_disk c.from_residual.result c.in_err-freed.field-0.0 r.0 r.1))
     (keeps_on c.loop-n.invariant c.in_err-freed.ensures.any_moment t h)
 
 pub returns-in_err-store-clause-any_moment : goal.returns-in_err-store-clause-any_moment
@@ -38,8 +38,8 @@ returns-in_err-store-clause-any_moment g c = λ t h.
     let r = c.from_residual-in_err-store.ensures in
     let one = c.in_ok-freed.ensures in
     let so_far = sweeping_on c.loop-n.invariant one.frees one.any_moment one.size one.cause.later one.quiet in
-    subst (λ k. LeavesOnly old (state k) (StandsPruned (room_of c.args.place) t)) (sym (err_disk c.from_residual-in_err-store.result c.in_err-store.field-0.0 r.0 r.1))
-    (keeps_on so_far (c.in_err-store.ensures.any_moment c.args.place) t h)
+    subst (λ k. LeavesOnly old (state k) (StandsPruned (room_of c.args.geometry) t)) (sym (err_disk c.from_residual-in_err-store.result c.in_err-store.field-0.0 r.0 r.1))
+    (keeps_on so_far (c.in_err-store.ensures.any_moment c.args.geometry) t h)
 
 pub returns-in_err-freed-clause-cause : goal.returns-in_err-freed-clause-cause
 returns-in_err-freed-clause-cause g c =

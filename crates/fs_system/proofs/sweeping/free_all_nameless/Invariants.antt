@@ -4,4 +4,4 @@ use Rattle.fs_system.proofs.sweeping.free_all_nameless.Given as goal
 
 abbrev pub invariant-loop-n : goal.invariant-loop-n
 invariant-loop-n g l =
-    IsSweeping l.place (present g.D.Disk.state l.fn.store) (g.D.Disk.state l.fn.store.disk) (present g.D.Disk.state l.store) (g.D.Disk.state l.store.disk) l.n
+    IsSweeping l.geometry (present g.D.Disk.state l.fn.store) (g.D.Disk.state l.fn.store.disk) (present g.D.Disk.state l.store) (g.D.Disk.state l.store.disk) l.n

@@ -7,13 +7,13 @@ use Rattle.fs_system.proofs.Sweeps.{err_cause, err_disk, keeps_both}
 use Rattle.fs_system.proofs.sweeping.sweep.Goals as goal
 
 pub returns-clause-swept : goal.returns-clause-swept
-returns-clause-swept g c = λ t h. (c.in_ok-stable.ensures.kept c.args.place (pruned t) (c.in_ok-freed.ensures.swept t h)).stored
+returns-clause-swept g c = λ t h. (c.in_ok-stable.ensures.kept c.args.geometry (pruned t) (c.in_ok-freed.ensures.swept t h)).stored
 
 pub returns-clause-lasting : goal.returns-clause-lasting
-returns-clause-lasting g c = λ t h. c.in_ok-stable.ensures.lasting c.args.place (pruned t) (c.in_ok-freed.ensures.swept t h)
+returns-clause-lasting g c = λ t h. c.in_ok-stable.ensures.lasting c.args.geometry (pruned t) (c.in_ok-freed.ensures.swept t h)
 
 pub returns-clause-any_moment : goal.returns-clause-any_moment
-returns-clause-any_moment g c = keeps_both c.in_ok-freed.ensures.swept c.in_ok-freed.ensures.any_moment (c.in_ok-stable.ensures.any_moment c.args.place)
+returns-clause-any_moment g c = keeps_both c.in_ok-freed.ensures.swept c.in_ok-freed.ensures.any_moment (c.in_ok-stable.ensures.any_moment c.args.geometry)
 
 pub returns-clause-cause : goal.returns-clause-cause
 returns-clause-cause g c = record { later = omega (arith, c.in_ok-freed.ensures.cause.later, c.in_ok-stable.ensures.cause.later); fault = tt }
@@ -22,7 +22,7 @@ pub returns-in_err-freed-clause-any_moment : goal.returns-in_err-freed-clause-an
 returns-in_err-freed-clause-any_moment g c = λ t h.
     let state = g.D.Disk.state in
     let r = c.from_residual.ensures in
-    subst (λ k. LeavesOnly (state c.args.store.disk) (state k) (StandsPruned (room_of c.args.place) t)) (sym (err_disk c.from_residual.result c.in_err-freed.field-0.0 r.0 r.1))
+    subst (λ k. LeavesOnly (state c.args.store.disk) (state k) (StandsPruned (room_of c.args.geometry) t)) (sym (err_disk c.from_residual.result c.in_err-freed.field-0.0 r.0 r.1))
     (c.in_err-freed.ensures.any_moment t h)
 
 pub returns-in_err-freed-clause-cause : goal.returns-in_err-freed-clause-cause
@@ -37,8 +37,8 @@ returns-in_err-stable-clause-any_moment g c = λ t h.
     let state = g.D.Disk.state in
     let r = c.from_residual-in_err-stable.ensures in
     let one = c.in_ok-freed.ensures in
-    subst (λ k. LeavesOnly (state c.args.store.disk) (state k) (StandsPruned (room_of c.args.place) t)) (sym (err_disk c.from_residual-in_err-stable.result c.in_err-stable.field-0.0 r.0 r.1))
-    (keeps_both one.swept one.any_moment (c.in_err-stable.ensures.any_moment c.args.place) t h)
+    subst (λ k. LeavesOnly (state c.args.store.disk) (state k) (StandsPruned (room_of c.args.geometry) t)) (sym (err_disk c.from_residual-in_err-stable.result c.in_err-stable.field-0.0 r.0 r.1))
+    (keeps_both one.swept one.any_moment (c.in_err-stable.ensures.any_moment c.args.geometry) t h)
 
 pub returns-in_err-stable-clause-cause : goal.returns-in_err-stable-clause-cause
 returns-in_err-stable-clause-cause g c =

@@ -1,16 +1,16 @@
 use Rattle.std.proofs.Common.{arith, sym, ap, ◌∙◌, ◌≡◌, ◌++◌, List, ℕ, length}
 use Rattle.std.proofs.lemmas.List.{append-nil}
 use Rattle.byteorder.specs.Endian.{little_bytes}
-use Rattle.fuse_protocol.specs.Bytes.{le32s}
+use Rattle.fuse_protocol.specs.Bytes.{bytes_of_u32s}
 use Rattle.fuse_protocol.proofs.Runs.{one_more}
 use Rattle.fuse_protocol.proofs.bytes.push_u32s.Goals as goal
 
 pub loop-x-init : goal.loop-x-init
-unfolding le32s
+unfolding bytes_of_u32s
 loop-x-init c = record { items = sym (append-nil c.args.to.now.items); len = omega arith; capacity = omega arith }
 
 pub loop-x-preserved : goal.loop-x-preserved
-unfolding le32s
+unfolding bytes_of_u32s
 loop-x-preserved c =
     let before = c.loop-x.invariant in
     let added = c.in_ok-extend_from_slice.ensures in

@@ -3,7 +3,7 @@ use Rattle.fs_cred.specs.declared.errno.Errno.TheVariants.{EINVAL}
 use Rattle.fuse_protocol.specs.declared.request.RequestFault.TheVariants.{Malformed}
 use Rattle.fuse_protocol.specs.Requests.{request_of}
 use Rattle.fuse_plans.specs.declared.reply.Response.TheVariants.{Fails}
-use Rattle.fuse_plans.specs.Stops.{failed}
+use Rattle.fuse_plans.specs.RequestErrors.{failed}
 use Rattle.fuse_serving.specs.Exchanges.{Passes}
 use Rattle.fuse_serving.specs.Rounds.{tells}
 use Rattle.fuse_serving.specs.Pieces.{ReadBreaks, scene}

@@ -1,7 +1,7 @@
 use Rattle.std.proofs.Common.{◌≡◌, [], List, ℕ, arith, rules, tests, subst}
 use Rattle.std.proofs.lemmas.Iterator.Consumers.{YieldsList-end}
 use Rattle.std.proofs.lemmas.Iterator.Splits.{YieldsList-from_slice_split}
-use Rattle.fuse_serving.specs.Status.{is_space, SaysIds, no_word}
+use Rattle.fuse_serving.specs.Status.{is_blank_byte, SaysIds, no_word}
 use Rattle.fuse_serving.proofs.Lines.{no_bytes, one_empty_more, one_id_more}
 use Rattle.fuse_serving.proofs.status.ids_of.Goals as goal
 
@@ -19,6 +19,6 @@ loop-word-preserved c =
 
 pub returns : goal.returns
 returns c =
-    let end = YieldsList-end (YieldsList-from_slice_split _ is_space c.args.text.now (cc) (cc) (cc) (λ x r q k. search (rules, tests)))
+    let end = YieldsList-end (YieldsList-from_slice_split _ is_blank_byte c.args.text.now (cc) (cc) (cc) (λ x r q k. search (rules, tests)))
     c.loop-word.yielded _ c.loop-word.yielded_by _ _ c.in-None.is c.next.ensures.steps in
     subst (λ (words : List (List ℕ)). SaysIds words c.loop-word.groups) end.0 c.loop-word.invariant

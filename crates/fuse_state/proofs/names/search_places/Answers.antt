@@ -7,5 +7,5 @@ use Rattle.fuse_state.proofs.names.search_places.Goals as goal
 pub returns : goal.returns
 returns c =
     let facts = c.binary_search_by.ensures in
-    let compared = facts.position (λ k. compare_place c.args.place.now (get_or c.args.names.now.slots k None)) (always_returns_same _ _ _ (λ a r f k. search (rules, of_calls))) in
-    place_searched c.args.names.now.slots c.args.keys.now c.requires.stand c.args.place.now c.requires.rising _ facts.bound compared
+    let compared = facts.position (λ k. compare_place c.args.dentry.now (get_or c.args.names.now.slots k None)) (always_returns_same _ _ _ (λ a r f k. search (rules, of_calls))) in
+    place_searched c.args.names.now.slots c.args.keys.now c.requires.stand c.args.dentry.now c.requires.rising _ facts.bound compared

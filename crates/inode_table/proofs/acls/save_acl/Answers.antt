@@ -20,9 +20,9 @@ write_inode-requires-clause-fits g c =
     subst (λ (m : ℕ). FitsInode (record v { mode = m; acl = c.in_ok-sector.sector })) (sym c.with_bits.ensures)
     (with_bits_fits v _ c.in_ok-sector.sector v.default_acl c.requires.fits c.requires.used c.requires.no_link (mode_small c.args.acl.now) small c.requires.fits.default_acl)
 
-is_saved : (g : _) (c : goal.In_ok-write_inode g) → IsAccessSaved c.args.place c.args.n c.args.inode.now c.args.acl.now (g.S.Sectors.state c.args.s.now) (g.S.Sectors.state c.write_inode.new.s)
+is_saved : (g : _) (c : goal.In_ok-write_inode g) → IsAccessSaved c.args.geometry c.args.n c.args.inode.now c.args.acl.now (g.S.Sectors.state c.args.s.now) (g.S.Sectors.state c.write_inode.new.s)
 is_saved g c =
-    let p = c.args.place in
+    let p = c.args.geometry in
     let v = c.args.inode.now in
     let a = c.args.acl.now in
     let y = c.in_ok-sector.sector in

@@ -17,9 +17,9 @@ write_inode-requires-clause-fits g c =
     let small : c.in_ok-sector.sector < 2 ^ 32 = omega arith in
     with_mode_fits v v.acl c.in_ok-sector.sector c.requires.fits c.requires.used c.requires.fits.acl small
 
-is_saved : (g : _) (c : goal.In_ok-write_inode g) → IsDefaultSaved c.args.place c.args.n c.args.inode.now (option_copied c.args.acl) (g.S.Sectors.state c.args.s.now) (g.S.Sectors.state c.write_inode.new.s)
+is_saved : (g : _) (c : goal.In_ok-write_inode g) → IsDefaultSaved c.args.geometry c.args.n c.args.inode.now (option_copied c.args.acl) (g.S.Sectors.state c.args.s.now) (g.S.Sectors.state c.write_inode.new.s)
 is_saved g c =
-    let p = c.args.place in
+    let p = c.args.geometry in
     let v = c.args.inode.now in
     let y = c.in_ok-sector.sector in
     let t0 = g.S.Sectors.state c.args.s.now in

@@ -9,14 +9,14 @@ use Rattle.inode_table.proofs.inodes.free_inode.Goals as goal
 
 pub give-requires-clause-bitmaps : goal.give-requires-clause-bitmaps
 give-requires-clause-bitmaps g c =
-    bitmaps_unchanged c.args.place (g.S.Sectors.state c.args.s.now) (g.S.Sectors.state c.load.new.s) c.requires.sound.bitmaps c.in_ok-inode.ensures.same
+    bitmaps_unchanged c.args.geometry (g.S.Sectors.state c.args.s.now) (g.S.Sectors.state c.load.new.s) c.requires.sound.bitmaps c.in_ok-inode.ensures.same
 
 pub give_sector-requires-clause-owned : goal.give_sector-requires-clause-owned
 give_sector-requires-clause-owned g c = acl_in_data c.requires.sound c.requires.number.1 (ap (λ v. v.acl) c.in_ok-inode.ensures.found)
 
 pub give_sector-requires-clause-room : goal.give_sector-requires-clause-room
 give_sector-requires-clause-room g c =
-    let p = c.args.place in
+    let p = c.args.geometry in
     let t0 = g.S.Sectors.state c.args.s.now in
     let t1 = g.S.Sectors.state c.load.new.s in
     let t2 = g.S.Sectors.state c.give.new.s in
@@ -30,7 +30,7 @@ give_sector-requires-2-clause-owned g c =
 
 pub give_sector-requires-2-clause-room : goal.give_sector-requires-2-clause-room
 give_sector-requires-2-clause-room g c =
-    let p = c.args.place in
+    let p = c.args.geometry in
     let t0 = g.S.Sectors.state c.args.s.now in
     let t1 = g.S.Sectors.state c.load.new.s in
     let t2 = g.S.Sectors.state c.give.new.s in
@@ -44,7 +44,7 @@ write_inode-requires-clause-fits g c = free_fits
 
 pub write_inode-requires-clause-room : goal.write_inode-requires-clause-room
 write_inode-requires-clause-room g c = λ none.
-    let p = c.args.place in
+    let p = c.args.geometry in
     let t0 = g.S.Sectors.state c.args.s.now in
     let t1 = g.S.Sectors.state c.load.new.s in
     let t2 = g.S.Sectors.state c.give.new.s in
@@ -55,9 +55,9 @@ write_inode-requires-clause-room g c = λ none.
     room_left p 1 t4 (spare_then p 0 1 t0 t4 (omega (arith, c.requires.spare)) puts) (omega arith)
 
 -- all that has come of it
-is_freed : (g : _) (c : goal.In_ok-write_inode g) → IsFreed c.args.place c.args.n (g.S.Sectors.state c.args.s.now) (g.S.Sectors.state c.write_inode.new.s)
+is_freed : (g : _) (c : goal.In_ok-write_inode g) → IsFreed c.args.geometry c.args.n (g.S.Sectors.state c.args.s.now) (g.S.Sectors.state c.write_inode.new.s)
 is_freed g c =
-    let p = c.args.place in
+    let p = c.args.geometry in
     let n = c.args.n in
     let t0 = g.S.Sectors.state c.args.s.now in
     let t1 = g.S.Sectors.state c.load.new.s in

@@ -8,7 +8,7 @@ use Rattle.inode_table.proofs.Tables.{inode_on_disk, inode_stands}
 use Rattle.inode_table.proofs.inodes.load.Goals as goal
 
 pub read_with-requires-clause-on_disk : goal.read_with-requires-clause-on_disk
-read_with-requires-clause-on_disk g c = inode_on_disk c.inode_sector.ensures c.requires.sound.consistent.place c.requires.below c.requires.sound.bitmaps.disk
+read_with-requires-clause-on_disk g c = inode_on_disk c.inode_sector.ensures c.requires.sound.consistent.geometry c.requires.below c.requires.sound.bitmaps.disk
 
 pub returns-clause-found : goal.returns-clause-found
 returns-clause-found g c =

@@ -12,7 +12,7 @@ use Rattle.inode_table.proofs.inodes.new_inode.Goals as goal
 
 pub store-requires-clause-room : goal.store-requires-clause-room
 store-requires-clause-room g c =
-    let p = c.args.place in
+    let p = c.args.geometry in
     let t0 = g.S.Sectors.state c.args.s.now in
     let t1 = g.S.Sectors.state c.take.new.s in
     let n = c.in_ok-n.n in
@@ -21,7 +21,7 @@ store-requires-clause-room g c =
 
 pub returns-in_err-acl-clause-full : goal.returns-in_err-acl-clause-full
 returns-in_err-acl-clause-full g c =
-    let p = c.args.place in
+    let p = c.args.geometry in
     let t0 = g.S.Sectors.state c.args.s.now in
     let t1 = g.S.Sectors.state c.take.new.s in
     through_try _ c.from_residual-in_err-acl.result c.in_err-acl.field-0.0 c.from_residual-in_err-acl.ensures
@@ -30,7 +30,7 @@ returns-in_err-acl-clause-full g c =
 
 pub returns-in_err-default_acl-clause-full : goal.returns-in_err-default_acl-clause-full
 returns-in_err-default_acl-clause-full g c =
-    let p = c.args.place in
+    let p = c.args.geometry in
     let a = c.args.access.now in
     let t0 = g.S.Sectors.state c.args.s.now in
     let t1 = g.S.Sectors.state c.take.new.s in
@@ -57,10 +57,10 @@ write_inode-requires-clause-fits g c =
     (mode_small c.args.access.now) small small_default)
 
 -- all that the number returned stands for
-is_made : (g : _) (c : goal.In_ok-write_inode g) → IsMade c.args.place c.in_ok-n.n c.args.inode.now c.args.access.now (option_copied c.args.default)
+is_made : (g : _) (c : goal.In_ok-write_inode g) → IsMade c.args.geometry c.in_ok-n.n c.args.inode.now c.args.access.now (option_copied c.args.default)
     (g.S.Sectors.state c.args.s.now) (g.S.Sectors.state c.write_inode.new.s)
 is_made g c =
-    let p = c.args.place in
+    let p = c.args.geometry in
     let v = c.args.inode.now in
     let a = c.args.access.now in
     let d = option_copied c.args.default in

@@ -6,16 +6,16 @@ use Rattle.inode_table.proofs.Sound.{puts_data, puts_bitmap}
 use Rattle.inode_table.proofs.stored.store.Goals as goal
 
 pub returns-then-sector-ne0-clause-puts : goal.returns-then-sector-ne0-clause-puts
-returns-then-sector-ne0-clause-puts g c = puts_data c.args.place (bitmaps c.args.place) c.put.ensures (c.requires.owned c.if-sector-ne0.true)
+returns-then-sector-ne0-clause-puts g c = puts_data c.args.geometry (bitmaps c.args.geometry) c.put.ensures (c.requires.owned c.if-sector-ne0.true)
 
 pub returns-then-sector-ne0-clause-bitmaps : goal.returns-then-sector-ne0-clause-bitmaps
 returns-then-sector-ne0-clause-bitmaps g c = put_keeps_bitmaps c.requires.bitmaps c.put.ensures.store (c.requires.owned c.if-sector-ne0.true).0 c.put.ensures.sectors
 
 pub returns-clause-puts : goal.returns-clause-puts
 returns-clause-puts g c =
-    let p = c.args.place in
+    let p = c.args.geometry in
     let free = c.in_ok-to.ensures.taken.free in
-    changes_joined (puts_bitmap p c.in_ok-to.to c.requires.bitmaps.place (has_bit c.requires.bitmaps.place c.in_ok-to.to free.1) c.in_ok-to.ensures.puts)
+    changes_joined (puts_bitmap p c.in_ok-to.to c.requires.bitmaps.geometry (has_bit c.requires.bitmaps.geometry c.in_ok-to.to free.1) c.in_ok-to.ensures.puts)
     (puts_data p (bitmaps p) c.put-2.ensures (free.0, free.1))
 
 pub returns-clause-bitmaps : goal.returns-clause-bitmaps

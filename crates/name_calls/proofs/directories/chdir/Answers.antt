@@ -12,7 +12,7 @@ returns-in_err-n-clause-performs g c =
     let r = c.from_residual.ensures in
     let old = g.S.Sectors.state c.args.s.now in
     let new = g.S.Sectors.state c.directory_at.new.s in
-    subst (λ (x : Result Reply Refusal). Performs c.args.place c.args.now c.args.pid (Chdir c.args.path.now) old new c.args.procs.now c.args.procs.now x)
+    subst (λ (x : Result Reply Refusal). Performs c.args.geometry c.args.now c.args.pid (Chdir c.args.path.now) old new c.args.procs.now c.args.procs.now x)
     (sym (is_err c.from_residual.result c.in_err-n.field-0.0 r.0 r.1)) c.in_err-n.ensures.refused
 
 pub returns-clause-performs : goal.returns-clause-performs

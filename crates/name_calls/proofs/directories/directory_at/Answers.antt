@@ -22,7 +22,7 @@ returns-in_err-walked-clause-refused g c =
     let old = g.S.Sectors.state c.args.s.now in
     let new = g.S.Sectors.state c.walk_path.new.s in
     failed_with c.from_residual.result e
-    (λ (e : Refusal). Performs c.args.caller.now.place c.args.caller.now.time c.args.caller.now.pid (Chdir c.args.path.now) old new c.args.caller.now.procs.now c.args.caller.now.procs.now (Err e)) r.0 r.1
+    (λ (e : Refusal). Performs c.args.caller.now.geometry c.args.caller.now.time c.args.caller.now.pid (Chdir c.args.path.now) old new c.args.caller.now.procs.now c.args.caller.now.procs.now (Err e)) r.0 r.1
     (walk_refused (chdir_by_path c.args.path.now) (Err e) e refl refl x.same x.refused)
 
 pub directory_found-requires : goal.directory_found-requires
@@ -41,7 +41,7 @@ returns-in_err-n-clause-refused g c =
     let mid = g.S.Sectors.state c.walk_path.new.s in
     let new = g.S.Sectors.state c.directory_found.new.s in
     failed_with c.from_residual-in_err-n.result e
-    (λ (e : Refusal). Performs c.args.caller.now.place c.args.caller.now.time c.args.caller.now.pid (Chdir c.args.path.now) old new c.args.caller.now.procs.now c.args.caller.now.procs.now (Err e)) r.0 r.1
+    (λ (e : Refusal). Performs c.args.caller.now.geometry c.args.caller.now.time c.args.caller.now.pid (Chdir c.args.path.now) old new c.args.caller.now.procs.now c.args.caller.now.procs.now (Err e)) r.0 r.1
     (asked_refused (chdir_by_path c.args.path.now) x.same x.walked new (Err e) e refl refl c.in_err-n.ensures.same.store {A = ℕ} (number f)
     (λ s has at. entering_as s.tree f e mid.disk new.disk c.cred-cred.ensures (c.in_err-n.ensures.each s.tree (state_tree at) (λ n some. found_there n at has some))))
 

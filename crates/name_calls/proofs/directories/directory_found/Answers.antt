@@ -21,7 +21,7 @@ returns-in_err-n-clause-each g c = λ t h there.
 pub returns-in_err-check_is_directory-clause-each : goal.returns-in_err-check_is_directory-clause-each
 returns-in_err-check_is_directory-clause-each g c = λ t h there.
     let old = g.S.Sectors.state c.args.s.now in
-    let i = is_inode c.args.caller.now.place old.sectors c.args.found.now c.in_ok-n.n c.in_ok-n.inode c.in_ok-n.ensures.each in
+    let i = is_inode c.args.caller.now.geometry old.sectors c.args.found.now c.in_ok-n.n c.in_ok-n.inode c.in_ok-n.ensures.each in
     refused_by old.disk (g.S.Sectors.state c.inode_found.new.s).disk _ _ _ c.from_residual-in_err-check_is_directory.ensures
     (other_kind_refuses h _ _ _ i (there _ i.some) c.args.cred.now) (sym c.in_err-check_is_directory.ensures)
 
@@ -33,20 +33,20 @@ search-requires-clause-there g c =
     let x = c.requires.there in
     let n = c.in_ok-n.n in
     let v = c.in_ok-n.inode in
-    let i = is_inode c.args.caller.now.place (g.S.Sectors.state c.args.s.now).sectors c.args.found.now n v c.in_ok-n.ensures.each in
-    (n, number_below x.1 n (x.2 n i.some), kept (λ m. v ≡ inode_at c.args.caller.now.place m n) c.in_ok-n.ensures.same i.inode)
+    let i = is_inode c.args.caller.now.geometry (g.S.Sectors.state c.args.s.now).sectors c.args.found.now n v c.in_ok-n.ensures.each in
+    (n, number_below x.1 n (x.2 n i.some), kept (λ m. v ≡ inode_at c.args.caller.now.geometry m n) c.in_ok-n.ensures.same i.inode)
 
 pub search-requires-clause-has : goal.search-requires-clause-has
 search-requires-clause-has g c =
     let x = c.requires.there in
-    let i = is_inode c.args.caller.now.place (g.S.Sectors.state c.args.s.now).sectors c.args.found.now c.in_ok-n.n c.in_ok-n.inode c.in_ok-n.ensures.each in
+    let i = is_inode c.args.caller.now.geometry (g.S.Sectors.state c.args.s.now).sectors c.args.found.now c.in_ok-n.n c.in_ok-n.inode c.in_ok-n.ensures.each in
     (_, searchable c.in_ok-n.ensures.same x.1 i (x.2 _ i.some) c.args.cred.now (sym c.in_ok-check_is_directory.ensures))
 
 pub returns-in_err-search-clause-each : goal.returns-in_err-search-clause-each
 returns-in_err-search-clause-each g c = λ t h there.
     let same = c.in_ok-n.ensures.same in
     let is = sym c.in_ok-check_is_directory.ensures in
-    let i = is_inode c.args.caller.now.place (g.S.Sectors.state c.args.s.now).sectors c.args.found.now c.in_ok-n.n c.in_ok-n.inode c.in_ok-n.ensures.each in
+    let i = is_inode c.args.caller.now.geometry (g.S.Sectors.state c.args.s.now).sectors c.args.found.now c.in_ok-n.n c.in_ok-n.inode c.in_ok-n.ensures.each in
     passed_later (g.S.Sectors.state c.search.new.s).disk _ _ _ c.from_residual-in_err-search.ensures same
     (search_refuses h _ _ _ i (there _ i.some) c.args.cred.now is) tt (c.in_err-search.ensures.each _ (searchable same h i (there _ i.some) c.args.cred.now is))
 
@@ -56,7 +56,7 @@ returns-in_err-search-clause-same g c = unchanged_joined c.in_ok-n.ensures.same 
 pub returns-clause-each : goal.returns-clause-each
 returns-clause-each g c = λ t h there.
     let is = sym c.in_ok-check_is_directory.ensures in
-    let i = is_inode c.args.caller.now.place (g.S.Sectors.state c.args.s.now).sectors c.args.found.now c.in_ok-n.n c.in_ok-n.inode c.in_ok-n.ensures.each in
+    let i = is_inode c.args.caller.now.geometry (g.S.Sectors.state c.args.s.now).sectors c.args.found.now c.in_ok-n.n c.in_ok-n.inode c.in_ok-n.ensures.each in
     answered_ok
     (entered h _ _ _ i (there _ i.some) c.args.cred.now is
     (c.in_ok-search.ensures.each _ (searchable c.in_ok-n.ensures.same h i (there _ i.some) c.args.cred.now is))) i.number

@@ -23,12 +23,12 @@ check_make-requires-clause-there g c = let x = c.requires.name in (x.0, x.1, x.2
 
 pub returns-in_err-directory-clause-each : goal.returns-in_err-directory-clause-each
 returns-in_err-directory-clause-each g c = λ t h i.
-    not_allowed c.args.caller.now.place (g.S.Sectors.state c.args.s.now) (g.S.Sectors.state c.check_make.new.s) _ t c.args.walked.now.found _ c.cred-cred.ensures c.saturating_sub-step.ensures
+    not_allowed c.args.caller.now.geometry (g.S.Sectors.state c.args.s.now) (g.S.Sectors.state c.check_make.new.s) _ t c.args.walked.now.found _ c.cred-cred.ensures c.saturating_sub-step.ensures
     _ _ c.from_residual.ensures _ (c.in_err-directory.ensures.each t h i.directory)
 
 pub default_of-requires : goal.default_of-requires
 default_of-requires g c =
-    let p = c.args.caller.now.place in
+    let p = c.args.caller.now.geometry in
     let old = g.S.Sectors.state c.args.s.now in
     let same = c.in_ok-directory.ensures.same in
     let v = c.in_ok-directory.directory in
@@ -47,7 +47,7 @@ returns-in_err-inherits-clause-store g c = store_joined c.in_ok-directory.ensure
 pub returns-in_err-inherits-clause-each : goal.returns-in_err-inherits-clause-each
 returns-in_err-inherits-clause-each g c = λ t h i.
     let new = g.S.Sectors.state c.default_of.new.s in
-    not_made c.args.caller.now.place (g.S.Sectors.state c.args.s.now) new c.args.walked.now.process.now.cred t c.args.walked.now.found _ _ _ c.from_residual-in_err-inherits.ensures
+    not_made c.args.caller.now.geometry (g.S.Sectors.state c.args.s.now) new c.args.walked.now.process.now.cred t c.args.walked.now.found _ _ _ c.from_residual-in_err-inherits.ensures
     (inr (interrupts_later new.disk c.in_ok-directory.ensures.same c.in_err-inherits.ensures.err))
 
 pub returns-in_err-access-clause-store : goal.returns-in_err-access-clause-store
@@ -55,7 +55,7 @@ returns-in_err-access-clause-store g c = store_joined c.in_ok-directory.ensures.
 
 pub returns-in_err-access-clause-each : goal.returns-in_err-access-clause-each
 returns-in_err-access-clause-each g c = λ t h i.
-    not_made c.args.caller.now.place (g.S.Sectors.state c.args.s.now) (g.S.Sectors.state c.default_of.new.s) c.args.walked.now.process.now.cred t c.args.walked.now.found _ _ _
+    not_made c.args.caller.now.geometry (g.S.Sectors.state c.args.s.now) (g.S.Sectors.state c.default_of.new.s) c.args.walked.now.process.now.cred t c.args.walked.now.found _ _ _
     c.from_residual-in_err-access.ensures (inr (inl c.in_err-access.ensures.memory))
 
 pub place_directory-requires : goal.place_directory-requires
@@ -63,13 +63,13 @@ place_directory-requires g c =
     let x = c.requires.name in
     let v = c.in_ok-directory.directory in
     let joined = unchanged_joined c.in_ok-directory.ensures.same c.in_ok-inherits.ensures.same in
-    let met = allowed c.args.caller.now.place (g.S.Sectors.state c.args.s.now).sectors x.0 c.args.walked.now.found c.cred-cred.ensures c.saturating_sub-step.ensures _ _ (c.in_ok-directory.ensures.each x.0 x.1 x.2.directory) in
+    let met = allowed c.args.caller.now.geometry (g.S.Sectors.state c.args.s.now).sectors x.0 c.args.walked.now.found c.cred-cred.ensures c.saturating_sub-step.ensures _ _ (c.in_ok-directory.ensures.each x.0 x.1 x.2.directory) in
     record {
       sound = sound_kept joined c.requires.sound;
-      directory = kept (λ (m : SectorMap). v ≡ inode_at c.args.caller.now.place m c.args.walked.now.found.dir) joined met.1;
-      may = may_then c.args.caller.now.place x.1 c.args.walked.now.found x.2 joined c.bytes-name.result.now c.bytes-name.ensures.all c.args.walked.now.process.now.cred met.0;
+      directory = kept (λ (m : SectorMap). v ≡ inode_at c.args.caller.now.geometry m c.args.walked.now.found.dir) joined met.1;
+      may = may_then c.args.caller.now.geometry x.1 c.args.walked.now.found x.2 joined c.bytes-name.result.now c.bytes-name.ensures.all c.args.walked.now.process.now.cred met.0;
       bits = subst (λ (k : ℕ). k < 2048) (sym c.special_bits-bits.ensures) (bits_below (c.args.mode / S_ISVTX % 2 == 1) (v.mode / S_ISGID % 2 == 1));
-      spare = spare_unchanged c.args.caller.now.place 47 (g.S.Sectors.state c.args.s.now) (g.S.Sectors.state c.default_of.new.s) c.requires.spare joined;
+      spare = spare_unchanged c.args.caller.now.geometry 47 (g.S.Sectors.state c.args.s.now) (g.S.Sectors.state c.default_of.new.s) c.requires.spare joined;
     }
 
 pub returns-in_err-n-clause-store : goal.returns-in_err-n-clause-store
@@ -80,7 +80,7 @@ pub returns-in_err-n-clause-each : goal.returns-in_err-n-clause-each
 returns-in_err-n-clause-each g c = λ t h i.
     let new = g.S.Sectors.state c.place_directory.new.s in
     let joined = unchanged_joined c.in_ok-directory.ensures.same c.in_ok-inherits.ensures.same in
-    not_made c.args.caller.now.place (g.S.Sectors.state c.args.s.now) new c.args.walked.now.process.now.cred t c.args.walked.now.found _ _ _ c.from_residual-in_err-n.ensures
+    not_made c.args.caller.now.geometry (g.S.Sectors.state c.args.s.now) new c.args.walked.now.process.now.cred t c.args.walked.now.found _ _ _ c.from_residual-in_err-n.ensures
     (inr (interrupts_later new.disk joined (inr c.in_err-n.ensures.err)))
 
 pub returns-clause-store : goal.returns-clause-store
@@ -89,7 +89,7 @@ returns-clause-store g c =
 
 pub returns-clause-each : goal.returns-clause-each
 returns-clause-each g c = λ t h i.
-    let p = c.args.caller.now.place in
+    let p = c.args.caller.now.geometry in
     let old = g.S.Sectors.state c.args.s.now in
     let new = g.S.Sectors.state c.place_directory.new.s in
     let joined = unchanged_joined c.in_ok-directory.ensures.same c.in_ok-inherits.ensures.same in
@@ -117,4 +117,4 @@ returns-clause-each g c = λ t h i.
 
 pub returns-clause-taken : goal.returns-clause-taken
 returns-clause-taken g c =
-    taken_after c.args.caller.now.place 7 (g.S.Sectors.state c.place_directory.new.s) (unchanged_joined c.in_ok-directory.ensures.same c.in_ok-inherits.ensures.same) c.in_ok-n.ensures.taken
+    taken_after c.args.caller.now.geometry 7 (g.S.Sectors.state c.place_directory.new.s) (unchanged_joined c.in_ok-directory.ensures.same c.in_ok-inherits.ensures.same) c.in_ok-n.ensures.taken

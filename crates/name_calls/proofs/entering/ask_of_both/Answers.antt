@@ -12,7 +12,7 @@ type_at-requires-2 g c = sound_kept c.in_ok-first.ensures.same c.requires
 
 pub returns-clause-each : goal.returns-clause-each
 returns-clause-each g c = λ t h.
-    let held = kept (λ m. HoldsTree c.args.place m t) c.in_ok-first.ensures.same h in
+    let held = kept (λ m. HoldsTree c.args.geometry m t) c.in_ok-first.ensures.same h in
     asked_of_both (g.S.Sectors.state c.args.s.now).disk (g.S.Sectors.state c.type_at-2.new.s).disk t c.args.directory c.args.second
     c.both_directories.result
     (c.both_directories.ensures

@@ -42,11 +42,11 @@ pub returns-clause-superblock : goal.returns-clause-superblock
 returns-clause-superblock g c = c.in_ok-name_inode.ensures.named.super ∙ c.in_ok-set_names.ensures.counts.touches.super
 
 pub returns-clause-added : goal.returns-clause-added
-returns-clause-added g c = λ desks st at may.
+returns-clause-added g c = λ processes st at may.
     link_holds (g.S.Sectors.state c.args.s.now) at may (ap (λ (v : Inode). v.names + 1) c.requires.inode) c.in_ok-set_names.ensures.counts
     (g.S.Sectors.state c.name_inode.new.s).sectors c.in_ok-name_inode.ensures.named
 
 pub returns-clause-room : goal.returns-clause-room
 returns-clause-room g c =
-    taken_joined c.args.place 1 4 5 (g.S.Sectors.state c.args.s.now) (g.S.Sectors.state c.set_names.new.s) (g.S.Sectors.state c.name_inode.new.s) (omega arith)
+    taken_joined c.args.geometry 1 4 5 (g.S.Sectors.state c.args.s.now) (g.S.Sectors.state c.set_names.new.s) (g.S.Sectors.state c.name_inode.new.s) (omega arith)
     c.in_ok-set_names.ensures.counts.touches.puts.room c.in_ok-name_inode.ensures.taken

@@ -21,12 +21,12 @@ pub check_source-requires-clause-there : goal.check_source-requires-clause-there
 check_source-requires-clause-there g c = let x = c.requires.found in (x.1.tree, state_tree x.2.is_state, first_there x.2)
 
 pub returns-in_err-n-clause-each : goal.returns-in_err-n-clause-each
-returns-in_err-n-clause-each g c = λ desks st i.
+returns-in_err-n-clause-each g c = λ processes st i.
     passed (g.S.Sectors.state c.args.s.now).disk (g.S.Sectors.state c.check_source.new.s).disk _ _ _ c.from_residual.ensures (source_refuses i) _
     (c.in_err-n.ensures.each st.tree (state_tree i.is_state) (first_there i))
 
 pub returns-in_err-check_link_name-clause-each : goal.returns-in_err-check_link_name-clause-each
-returns-in_err-check_link_name-clause-each g c = λ desks st i.
+returns-in_err-check_link_name-clause-each g c = λ processes st i.
     let met = (met_ok _ _ _ (c.in_ok-n.ensures.each st.tree (state_tree i.is_state) (first_there i))).0 in
     refused_by (g.S.Sectors.state c.args.s.now).disk (g.S.Sectors.state c.check_source.new.s).disk _ _ _ c.from_residual-in_err-check_link_name.ensures
     (name_refuses i met) (sym c.in_err-check_link_name.ensures)
@@ -40,8 +40,8 @@ check_place-requires-clause-there g c =
     (x.1.tree, tree_kept c.in_ok-n.ensures.same (state_tree x.2.is_state), name_dir x.2 (is_link_name c.args.walked.now.second (sym c.in_ok-check_link_name.ensures)).0)
 
 pub returns-in_err-directory-clause-each : goal.returns-in_err-directory-clause-each
-returns-in_err-directory-clause-each g c = λ desks st i.
-    let p = c.args.caller.now.place in
+returns-in_err-directory-clause-each g c = λ processes st i.
+    let p = c.args.caller.now.geometry in
     let h = c.args.walked.now.second in
     let q = c.args.walked.now.process.now in
     let same = c.in_ok-n.ensures.same in
@@ -53,8 +53,8 @@ returns-in_err-directory-clause-each g c = λ desks st i.
     (c.in_err-directory.ensures.each st.tree (tree_kept same (state_tree i.is_state)) (name_dir i name))
 
 pub returns-clause-each : goal.returns-clause-each
-returns-clause-each g c = λ desks st i.
-    let p = c.args.caller.now.place in
+returns-clause-each g c = λ processes st i.
+    let p = c.args.caller.now.geometry in
     let f = c.args.walked.now.first in
     let h = c.args.walked.now.second in
     let old = (g.S.Sectors.state c.args.s.now).sectors in

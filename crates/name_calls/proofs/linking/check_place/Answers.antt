@@ -19,7 +19,7 @@ returns-in_err-directory-clause-each g c = λ t h d.
     let f = c.args.found.now in
     let old = g.S.Sectors.state c.args.s.now in
     passed old.disk (g.S.Sectors.state c.ask_directory.new.s).disk _ _ _ c.from_residual.ensures
-    (place_denied c.args.caller.now.place old.sectors c.args.process.now.cred t f.dir (f.step - 1) c.args.names) _ (c.in_err-directory.ensures.each t h d)
+    (place_denied c.args.caller.now.geometry old.sectors c.args.process.now.cred t f.dir (f.step - 1) c.args.names) _ (c.in_err-directory.ensures.each t h d)
 
 pub returns-in_err-check_count-clause-each : goal.returns-in_err-check_count-clause-each
 returns-in_err-check_count-clause-each g c = λ t h d.
@@ -27,14 +27,14 @@ returns-in_err-check_count-clause-each g c = λ t h d.
     let old = g.S.Sectors.state c.args.s.now in
     let granted = (met_ok _ _ _ (c.in_ok-directory.ensures.each t h d)).0 in
     refused_by old.disk (g.S.Sectors.state c.ask_directory.new.s).disk _ _ _ c.from_residual-in_err-check_count.ensures
-    (place_many c.args.caller.now.place old.sectors c.args.process.now.cred t f.dir (f.step - 1) c.args.names granted) (sym c.in_err-check_count.ensures)
+    (place_many c.args.caller.now.geometry old.sectors c.args.process.now.cred t f.dir (f.step - 1) c.args.names granted) (sym c.in_err-check_count.ensures)
 
 pub ask_for_name-requires : goal.ask_for_name-requires
 ask_for_name-requires g c = (sound_kept c.in_ok-directory.ensures.same c.requires.sound).bitmaps
 
 pub returns-in_err-ask_for_name-clause-each : goal.returns-in_err-ask_for_name-clause-each
 returns-in_err-ask_for_name-clause-each g c = λ t h d.
-    let p = c.args.caller.now.place in
+    let p = c.args.caller.now.geometry in
     let f = c.args.found.now in
     let cred = c.args.process.now.cred in
     let old = g.S.Sectors.state c.args.s.now in
@@ -47,7 +47,7 @@ returns-in_err-ask_for_name-clause-each g c = λ t h d.
 
 pub returns-clause-each : goal.returns-clause-each
 returns-clause-each g c = λ t h d.
-    let p = c.args.caller.now.place in
+    let p = c.args.caller.now.geometry in
     let f = c.args.found.now in
     let same = c.in_ok-directory.ensures.same in
     let both = met_ok _ _ _ (c.in_ok-directory.ensures.each t h d) in

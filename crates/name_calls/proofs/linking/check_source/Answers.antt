@@ -22,12 +22,12 @@ returns-in_err-n-clause-each g c = λ t h there.
 pub returns-in_err-check_kind-clause-each : goal.returns-in_err-check_kind-clause-each
 returns-in_err-check_kind-clause-each g c = λ t h there.
     let old = g.S.Sectors.state c.args.s.now in
-    let i = is_inode c.args.place old.sectors c.args.found.now c.in_ok-n.n c.in_ok-n.inode c.in_ok-n.ensures.each in
+    let i = is_inode c.args.geometry old.sectors c.args.found.now c.in_ok-n.n c.in_ok-n.inode c.in_ok-n.ensures.each in
     refused_by old.disk (g.S.Sectors.state c.inode_found.new.s).disk _ _ _ c.from_residual-in_err-check_kind.ensures
     (source_other t c.args.found.now (sym c.in_ok-check_last.ensures) i (node_found h i there)) (sym c.in_err-check_kind.ensures)
 
 pub returns-clause-each : goal.returns-clause-each
 returns-clause-each g c = λ t h there.
     let f = c.args.found.now in
-    let i = is_inode c.args.place (g.S.Sectors.state c.args.s.now).sectors f c.in_ok-n.n c.in_ok-n.inode c.in_ok-n.ensures.each in
+    let i = is_inode c.args.geometry (g.S.Sectors.state c.args.s.now).sectors f c.in_ok-n.n c.in_ok-n.inode c.in_ok-n.ensures.each in
     answered_ok (source_all_met t f (sym c.in_ok-check_last.ensures) i (node_found h i there) (sym c.in_ok-check_kind.ensures)) (met_ok _ _ _ c.in_ok-n.ensures.each).1

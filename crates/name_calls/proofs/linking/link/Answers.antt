@@ -40,7 +40,7 @@ add_name-requires g c =
     let w = c.in_ok-walked.ensures.walked in
     let ready = w.ready in
     let h = c.in_ok-walked.walked.second in
-    let p = c.args.caller.now.place in
+    let p = c.args.caller.now.geometry in
     let mid = g.S.Sectors.state c.walk_both.new.s in
     let finds = finds_each w ready.state ready.is_state in
     let told = link_told ready.state (c.in_ok-n.ensures.each c.args.caller.now.procs.now ready.state finds) in
@@ -68,7 +68,7 @@ returns-in_err-n g c =
 
 pub touch-requires : goal.touch-requires
 touch-requires g c =
-    let p = c.args.caller.now.place in
+    let p = c.args.caller.now.geometry in
     let w = c.in_ok-walked.ensures.walked in
     let f = c.in_ok-walked.walked.first in
     let h = c.in_ok-walked.walked.second in
@@ -97,7 +97,7 @@ returns-in_err-touch g c =
 
 pub returns : goal.returns
 returns g c =
-    let p = c.args.caller.now.place in
+    let p = c.args.caller.now.geometry in
     let x = c.in_ok-walked.ensures in
     let f = c.in_ok-walked.walked.first in
     let h = c.in_ok-walked.walked.second in

@@ -18,13 +18,13 @@ place_link-requires g c =
     let x = c.requires.name in
     let same = c.in_ok-directory.ensures.same in
     let f = c.args.walked.now.found in
-    let met = allowed c.args.caller.now.place (g.S.Sectors.state c.args.s.now).sectors x.0 f c.cred-cred.ensures c.saturating_sub-step.ensures _ _ (c.in_ok-directory.ensures.each x.0 x.1 x.2.directory) in
+    let met = allowed c.args.caller.now.geometry (g.S.Sectors.state c.args.s.now).sectors x.0 f c.cred-cred.ensures c.saturating_sub-step.ensures _ _ (c.in_ok-directory.ensures.each x.0 x.1 x.2.directory) in
     record {
       target = subst IsTarget (sym c.bytes-bytes.ensures.all) c.requires.target;
       sound = sound_kept same c.requires.sound;
-      directory = kept (λ (m : SectorMap). c.in_ok-directory.directory ≡ inode_at c.args.caller.now.place m f.dir) same met.1;
-      may = may_then c.args.caller.now.place x.1 f x.2 same c.bytes-name.result.now c.bytes-name.ensures.all c.args.walked.now.process.now.cred met.0;
-      spare = spare_unchanged c.args.caller.now.place 47 (g.S.Sectors.state c.args.s.now) (g.S.Sectors.state c.check_make.new.s) c.requires.spare same;
+      directory = kept (λ (m : SectorMap). c.in_ok-directory.directory ≡ inode_at c.args.caller.now.geometry m f.dir) same met.1;
+      may = may_then c.args.caller.now.geometry x.1 f x.2 same c.bytes-name.result.now c.bytes-name.ensures.all c.args.walked.now.process.now.cred met.0;
+      spare = spare_unchanged c.args.caller.now.geometry 47 (g.S.Sectors.state c.args.s.now) (g.S.Sectors.state c.check_make.new.s) c.requires.spare same;
     }
 
 pub returns-in_err-n-clause-store : goal.returns-in_err-n-clause-store
@@ -33,12 +33,12 @@ returns-in_err-n-clause-store g c = store_joined c.in_ok-directory.ensures.same.
 pub returns-in_err-n-clause-each : goal.returns-in_err-n-clause-each
 returns-in_err-n-clause-each g c = λ t h i.
     let new = g.S.Sectors.state c.place_link.new.s in
-    not_made c.args.caller.now.place (g.S.Sectors.state c.args.s.now) new c.args.walked.now.process.now.cred t c.args.walked.now.found _ _ _ c.from_residual-in_err-n.ensures
+    not_made c.args.caller.now.geometry (g.S.Sectors.state c.args.s.now) new c.args.walked.now.process.now.cred t c.args.walked.now.found _ _ _ c.from_residual-in_err-n.ensures
     (inr (interrupts_later new.disk c.in_ok-directory.ensures.same (inr c.in_err-n.ensures.err)))
 
 pub returns-in_err-directory-clause-each : goal.returns-in_err-directory-clause-each
 returns-in_err-directory-clause-each g c = λ t h i.
-    not_allowed c.args.caller.now.place (g.S.Sectors.state c.args.s.now) (g.S.Sectors.state c.check_make.new.s) _ t c.args.walked.now.found _ c.cred-cred.ensures c.saturating_sub-step.ensures
+    not_allowed c.args.caller.now.geometry (g.S.Sectors.state c.args.s.now) (g.S.Sectors.state c.check_make.new.s) _ t c.args.walked.now.found _ c.cred-cred.ensures c.saturating_sub-step.ensures
     _ _ c.from_residual.ensures _ (c.in_err-directory.ensures.each t h i.directory)
 
 pub returns-clause-store : goal.returns-clause-store
@@ -47,13 +47,13 @@ returns-clause-store g c = store_joined c.in_ok-directory.ensures.same.store c.i
 pub returns-clause-each : goal.returns-clause-each
 returns-clause-each g c = λ t h i.
     let f = c.args.walked.now.found in
-    let met = allowed c.args.caller.now.place (g.S.Sectors.state c.args.s.now).sectors t f c.cred-cred.ensures c.saturating_sub-step.ensures _ _ (c.in_ok-directory.ensures.each t h i.directory) in (
+    let met = allowed c.args.caller.now.geometry (g.S.Sectors.state c.args.s.now).sectors t f c.cred-cred.ensures c.saturating_sub-step.ensures _ _ (c.in_ok-directory.ensures.each t h i.directory) in (
       met.0,
-      link_placed c.args.caller.now.place h f i c.in_ok-directory.ensures.same c.bytes-name.result.now c.bytes-name.ensures.all c.in_ok-directory.directory met.1
+      link_placed c.args.caller.now.geometry h f i c.in_ok-directory.ensures.same c.bytes-name.result.now c.bytes-name.ensures.all c.in_ok-directory.directory met.1
           c.args.walked.now.process.now.cred c.cred-cred.result.now c.args.target.now c.bytes-bytes.result.now c.cred-cred.ensures c.bytes-bytes.ensures.all
           (g.S.Sectors.state c.place_link.new.s).sectors c.in_ok-n.n c.in_ok-n.ensures.made,
     )
 
 pub returns-clause-taken : goal.returns-clause-taken
 returns-clause-taken g c =
-    taken_after c.args.caller.now.place 7 (g.S.Sectors.state c.place_link.new.s) c.in_ok-directory.ensures.same c.in_ok-n.ensures.taken
+    taken_after c.args.caller.now.geometry 7 (g.S.Sectors.state c.place_link.new.s) c.in_ok-directory.ensures.same c.in_ok-n.ensures.taken

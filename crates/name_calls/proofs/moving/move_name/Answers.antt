@@ -30,21 +30,21 @@ pub lose_name-requires-clause-number : goal.lose_name-requires-clause-number
 lose_name-requires-clause-number g c =
     let x = c.requires.may in
     let old = g.S.Sectors.state c.args.s.now in
-    let there = there_is c.args.caller.now.place old.sectors c.args.walked.now.second.ino c.in-Some.m c.in-Some.inode (sym c.in-Some.is ∙ c.requires.replaced) in
+    let there = there_is c.args.caller.now.geometry old.sectors c.args.walked.now.second.ino c.in-Some.m c.in-Some.inode (sym c.in-Some.is ∙ c.requires.replaced) in
     replaced_number old x.1 x.2 c.in_ok-move_entry.ensures.moves c.in_ok-follow.ensures.follows there.0
 
 pub lose_name-requires-clause-inode : goal.lose_name-requires-clause-inode
 lose_name-requires-clause-inode g c =
     let x = c.requires.may in
     let old = g.S.Sectors.state c.args.s.now in
-    let there = there_is c.args.caller.now.place old.sectors c.args.walked.now.second.ino c.in-Some.m c.in-Some.inode (sym c.in-Some.is ∙ c.requires.replaced) in
+    let there = there_is c.args.caller.now.geometry old.sectors c.args.walked.now.second.ino c.in-Some.m c.in-Some.inode (sym c.in-Some.is ∙ c.requires.replaced) in
     there.1 ∙ sym (replaced_same old x.1 x.2 c.in_ok-move_entry.ensures.moves c.in_ok-follow.ensures.follows there.0)
 
 pub lose_name-requires-clause-used : goal.lose_name-requires-clause-used
 lose_name-requires-clause-used g c =
     let x = c.requires.may in
     let old = g.S.Sectors.state c.args.s.now in
-    let there = there_is c.args.caller.now.place old.sectors c.args.walked.now.second.ino c.in-Some.m c.in-Some.inode (sym c.in-Some.is ∙ c.requires.replaced) in
+    let there = there_is c.args.caller.now.geometry old.sectors c.args.walked.now.second.ino c.in-Some.m c.in-Some.inode (sym c.in-Some.is ∙ c.requires.replaced) in
     subst (λ (v : Inode). v.kind ≢ kinds.Free) (sym there.1)
     (replaced_used old x.1 x.2 c.in_ok-move_entry.ensures.moves c.in_ok-follow.ensures.follows there.0)
 
@@ -52,7 +52,7 @@ pub lose_name-requires-clause-named : goal.lose_name-requires-clause-named
 lose_name-requires-clause-named g c =
     let x = c.requires.may in
     let old = g.S.Sectors.state c.args.s.now in
-    let there = there_is c.args.caller.now.place old.sectors c.args.walked.now.second.ino c.in-Some.m c.in-Some.inode (sym c.in-Some.is ∙ c.requires.replaced) in
+    let there = there_is c.args.caller.now.geometry old.sectors c.args.walked.now.second.ino c.in-Some.m c.in-Some.inode (sym c.in-Some.is ∙ c.requires.replaced) in
     subst (λ (v : Inode). 1 ≤ v.names) (sym there.1)
     (replaced_named old x.1 x.2 c.in_ok-move_entry.ensures.moves c.in_ok-follow.ensures.follows there.0)
 
@@ -78,7 +78,7 @@ returns-in_ok-lose_name-clause-superblock g c =
 pub returns-in_ok-lose_name-clause-moved : goal.returns-in_ok-lose_name-clause-moved
 returns-in_ok-lose_name-clause-moved g c = λ st at may.
     let old = g.S.Sectors.state c.args.s.now in
-    let there = there_is c.args.caller.now.place old.sectors c.args.walked.now.second.ino c.in-Some.m c.in-Some.inode (sym c.in-Some.is ∙ c.requires.replaced) in
+    let there = there_is c.args.caller.now.geometry old.sectors c.args.walked.now.second.ino c.in-Some.m c.in-Some.inode (sym c.in-Some.is ∙ c.requires.replaced) in
     replaced_holds old at may c.in_ok-move_entry.ensures.moves c.in_ok-follow.ensures.follows there.0 (is_open c.args.caller.now.procs.now c.in-Some.m) refl
     c.in_ok-lose_name.ensures.loses
 
@@ -100,7 +100,7 @@ returns-in_default-clause-superblock g c =
 pub returns-in_default-clause-moved : goal.returns-in_default-clause-moved
 returns-in_default-clause-moved g c = λ st at may.
     let old = g.S.Sectors.state c.args.s.now in
-    let none = nothing_there c.args.caller.now.place old.sectors c.args.walked.now.second.ino c.args.replaced.now c.requires.replaced c.in_default.not-Some in
+    let none = nothing_there c.args.caller.now.geometry old.sectors c.args.walked.now.second.ino c.args.replaced.now c.requires.replaced c.in_default.not-Some in
     moved_none old at may c.in_ok-move_entry.ensures.moves c.in_ok-follow.ensures.follows none
 
 pub returns-in_default-clause-room : goal.returns-in_default-clause-room

@@ -18,8 +18,8 @@ rename-requires-clause-directory g c =
     let named = c.requires.named in
     let old = g.S.Sectors.state c.args.s.now in (
       named.0,
-      kept (λ (m : SectorMap). HasNames c.args.place.version m c.in_ok-directory.directory named.0) c.in_ok-directory.ensures.same
-          (subst (λ (v : Inode). HasNames c.args.place.version old.sectors v named.0) (sym c.in_ok-directory.ensures.found) named.1),
+      kept (λ (m : SectorMap). HasNames c.args.geometry.version m c.in_ok-directory.directory named.0) c.in_ok-directory.ensures.same
+          (subst (λ (v : Inode). HasNames c.args.geometry.version old.sectors v named.0) (sym c.in_ok-directory.ensures.found) named.1),
       named.3,
     )
 
@@ -38,13 +38,13 @@ returns-in-Ok-clause-renames g c = λ names n has leads.
     let mid = g.S.Sectors.state c.load_inode.new.s in
     let same = c.in_ok-directory.ensures.same in
     let found = c.in_ok-directory.ensures.found in
-    let there = kept (λ (m : SectorMap). HasNames c.args.place.version m c.in_ok-directory.directory names) same (subst (λ (v : Inode). HasNames c.args.place.version old.sectors v names) (sym found) has) in
+    let there = kept (λ (m : SectorMap). HasNames c.args.geometry.version m c.in_ok-directory.directory names) same (subst (λ (v : Inode). HasNames c.args.geometry.version old.sectors v names) (sym found) has) in
     names_changed same found c.in-Ok.ensures.change
     (λ all h.
     c.in-Ok.ensures.names all n h
-    (ap (λ ns. get name_cmp ns c.args.name.now) (names_same c.args.place.version mid.sectors c.in_ok-directory.directory all names h there) ∙ leads))
+    (ap (λ ns. get name_cmp ns c.args.name.now) (names_same c.args.geometry.version mid.sectors c.in_ok-directory.directory all names h there) ∙ leads))
 
 pub returns-in-Err-clause-fault : goal.returns-in-Err-clause-fault
 returns-in-Err-clause-fault g c =
-    fails_to_change c.args.place c.args.dir c.args.name.now (g.S.Sectors.state c.rename.new.s).disk c.in-Err.field-0 (let named = c.requires.named in (named.0, named.1, named.2)) c.in_ok-directory.ensures.same
+    fails_to_change c.args.geometry c.args.dir c.args.name.now (g.S.Sectors.state c.rename.new.s).disk c.in-Err.field-0 (let named = c.requires.named in (named.0, named.1, named.2)) c.in_ok-directory.ensures.same
     c.in_ok-directory.ensures.found c.in-Err.ensures.why c.in-Err.ensures.cause.failed

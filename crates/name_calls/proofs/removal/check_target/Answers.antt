@@ -27,12 +27,12 @@ returns-in_err-check_kind-clause-each g c = λ st i.
     let told = c.in_ok-n.ensures.each st.tree (state_tree i.is_state) (name_told i c.args.what first) in
     let k = inode_told i [] [] told in
     refused_by old.disk (g.S.Sectors.state c.check_removal.new.s).disk _ _ _ c.from_residual-in_err-check_kind.ensures
-    (target_refuses i k c.args.what first (met_ok _ _ _ told).0) (sym (c.in_err-check_kind.ensures c.args.caller.now.place.version old.sectors _ (node_held i k)))
+    (target_refuses i k c.args.what first (met_ok _ _ _ told).0) (sym (c.in_err-check_kind.ensures c.args.caller.now.geometry.version old.sectors _ (node_held i k)))
 
 pub returns-clause-each : goal.returns-clause-each
 returns-clause-each g c = λ st i.
     let first = sym c.in_ok-check_last.ensures in
     let told = c.in_ok-n.ensures.each st.tree (state_tree i.is_state) (name_told i c.args.what first) in
     let k = inode_told i [] [] told in
-    answered_ok (all_told i k c.args.what first (met_ok _ _ _ told).0 (sym (c.in_ok-check_kind.ensures c.args.caller.now.place.version (g.S.Sectors.state c.args.s.now).sectors _ (node_held i k))))
+    answered_ok (all_told i k c.args.what first (met_ok _ _ _ told).0 (sym (c.in_ok-check_kind.ensures c.args.caller.now.geometry.version (g.S.Sectors.state c.args.s.now).sectors _ (node_held i k))))
     (met_ok _ _ _ told).1

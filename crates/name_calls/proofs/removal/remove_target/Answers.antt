@@ -46,13 +46,13 @@ take_name-requires g c =
     let asked = c.in_ok-n.ensures.each ready.state finds in
     record {
       sound = sound_kept same ready.sound;
-      inode = kept (λ (m : SectorMap). c.in_ok-n.inode ≡ inode_at c.args.caller.now.place m c.in_ok-n.n) same (target_found finds c.args.what asked).inode;
+      inode = kept (λ (m : SectorMap). c.in_ok-n.inode ≡ inode_at c.args.caller.now.geometry m c.in_ok-n.n) same (target_found finds c.args.what asked).inode;
       may = (
         ready.state,
         state_kept same ready.is_state,
         subst (λ (name : List ℕ). MayGo ready.state f.dir name c.in_ok-n.n) (sym c.bytes-name.ensures.all) (target_may finds c.args.what asked),
       );
-      spare = spare_unchanged c.args.caller.now.place 47 (g.S.Sectors.state c.walk_path.new.s) (g.S.Sectors.state c.check_target.new.s) ready.spare same;
+      spare = spare_unchanged c.args.caller.now.geometry 47 (g.S.Sectors.state c.walk_path.new.s) (g.S.Sectors.state c.check_target.new.s) ready.spare same;
     }
 
 pub returns-in_err-take_name : goal.returns-in_err-take_name
@@ -63,7 +63,7 @@ returns-in_err-take_name g c =
 
 pub touch-requires : goal.touch-requires
 touch-requires g c =
-    let p = c.args.caller.now.place in
+    let p = c.args.caller.now.geometry in
     let w = c.in_ok-walked.ensures.walked in
     let f = c.in_ok-walked.walked.found in
     let q = c.in_ok-walked.walked.process.now in
@@ -103,5 +103,5 @@ returns g c =
     let asked = c.in_ok-n.ensures.each s finds in
     let may = target_may finds c.args.what asked in
     name_gone s q f c.in_ok-n.n (removal_demands c.args.what (scene_at s q f)) (target_met finds c.args.what asked) may
-    (subst (λ (name : List ℕ). HoldsAll c.args.caller.now.place new.sectors (placed (swept (changed s.tree (TakeName f.dir name)) c.args.caller.now.procs.now))) c.bytes-name.ensures.all
+    (subst (λ (name : List ℕ). HoldsAll c.args.caller.now.geometry new.sectors (placed (swept (changed s.tree (TakeName f.dir name)) c.args.caller.now.procs.now))) c.bytes-name.ensures.all
     (taken.taken s (state_kept same at) (subst (λ (name : List ℕ). MayGo s f.dir name c.in_ok-n.n) (sym c.bytes-name.ensures.all) may))))

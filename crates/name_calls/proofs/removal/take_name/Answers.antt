@@ -29,7 +29,7 @@ lose_name-requires-clause-used g c =
     let mid = g.S.Sectors.state c.remove_name.new.s in
     let removes = c.in_ok-remove_name.ensures.removes in
     subst (λ (v : Inode). v.kind ≢ kinds.Free) (sym (c.requires.inode ∙ sym (target_same old x.1 x.2 removes)))
-    (λ e. body_not_free c.args.place.version mid.sectors (inode_at c.args.place mid.sectors c.args.n) x.2.target.body (target_held old x.1 x.2 removes).body e)
+    (λ e. body_not_free c.args.geometry.version mid.sectors (inode_at c.args.geometry mid.sectors c.args.n) x.2.target.body (target_held old x.1 x.2 removes).body e)
 
 pub lose_name-requires-clause-number : goal.lose_name-requires-clause-number
 lose_name-requires-clause-number g c = let x = c.requires.may in is_number (g.S.Sectors.state c.args.s.now) x.1 x.2
@@ -60,5 +60,5 @@ returns-clause-taken g c = λ st at may.
 
 pub returns-clause-room : goal.returns-clause-room
 returns-clause-room g c =
-    taken_joined c.args.place 5 1 6 (g.S.Sectors.state c.args.s.now) (g.S.Sectors.state c.remove_name.new.s) (g.S.Sectors.state c.lose_name.new.s) (omega arith)
+    taken_joined c.args.geometry 5 1 6 (g.S.Sectors.state c.args.s.now) (g.S.Sectors.state c.remove_name.new.s) (g.S.Sectors.state c.lose_name.new.s) (omega arith)
     c.in_ok-remove_name.ensures.removes.touches.puts.room (lost_room c.in_ok-lose_name.ensures.loses)

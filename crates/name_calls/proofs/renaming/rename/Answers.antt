@@ -49,7 +49,7 @@ returns-then-is_same g c =
 
 pub move_name-requires : goal.move_name-requires
 move_name-requires g c =
-    let p = c.args.caller.now.place in
+    let p = c.args.caller.now.geometry in
     let w = c.in_ok-walked.ensures.walked in
     let ready = w.ready in
     let a = c.in_ok-walked.walked.first in
@@ -78,7 +78,7 @@ returns-in_err-move_name g c =
 
 pub touch_moved-requires : goal.touch_moved-requires
 touch_moved-requires g c =
-    let p = c.args.caller.now.place in
+    let p = c.args.caller.now.geometry in
     let w = c.in_ok-walked.ensures.walked in
     let a = c.in_ok-walked.walked.first in
     let b = c.in_ok-walked.walked.second in
@@ -106,7 +106,7 @@ returns-in_err-touch_moved g c =
 
 pub returns : goal.returns
 returns g c =
-    let p = c.args.caller.now.place in
+    let p = c.args.caller.now.geometry in
     let x = c.in_ok-walked.ensures in
     let a = c.in_ok-walked.walked.first in
     let b = c.in_ok-walked.walked.second in

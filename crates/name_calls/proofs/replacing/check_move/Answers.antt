@@ -15,14 +15,14 @@ use Rattle.name_calls.proofs.replacing.check_move.Goals.{After-check_moved}
 -- both names, before anything is asked
 abbrev Names : (g : given.Over) → goal.After-check_moved g → State → Type 0
 Names g c st =
-    IsToRename c.args.caller.now.place (g.S.Sectors.state c.args.s.now).sectors c.args.caller.now.procs.now c.args.walked.now.first c.args.walked.now.second c.args.n c.args.inode.now c.args.replaced.now st
+    IsToRename c.args.caller.now.geometry (g.S.Sectors.state c.args.s.now).sectors c.args.caller.now.procs.now c.args.walked.now.first c.args.walked.now.second c.args.n c.args.inode.now c.args.replaced.now st
 
 -- what is met before the last two parts
 met : (g : given.Over) (c : goal.After-check_moved g) (st : State) → Names g c st → MeetsThree st c.args.walked.now.process.now c.args.walked.now.first c.args.walked.now.second
 met g c st r =
     three_parts r c.args.walked.now.process.now (c.in_ok-to_directory.ensures.each c.args.caller.now.procs.now c.args.n st r) (sym c.in_ok-check_kinds.ensures)
     (c.in_ok-check_below.ensures.each st.tree (tree_kept c.in_ok-to_directory.ensures.same (state_tree r.is_state)) r.second.directory)
-    (sym (c.in_ok-check_replaced.ensures c.args.caller.now.place (g.S.Sectors.state c.args.s.now).sectors st.tree c.args.walked.now.second (state_tree r.is_state) r.second.found r.replaced_is))
+    (sym (c.in_ok-check_replaced.ensures c.args.caller.now.geometry (g.S.Sectors.state c.args.s.now).sectors st.tree c.args.walked.now.second (state_tree r.is_state) r.second.found r.replaced_is))
 
 pub check_permissions-requires-clause-names : goal.check_permissions-requires-clause-names
 check_permissions-requires-clause-names g c = let x = c.requires.names in (c.args.caller.now.procs.now, c.args.n, x.0, x.1)
@@ -62,7 +62,7 @@ returns-in_err-check_replaced-clause-each g c = λ st r.
     refused_by old.disk (g.S.Sectors.state c.check_below.new.s).disk _ _ _ c.from_residual-in_err-check_replaced.ensures
     (replaced_refuses r c.args.walked.now.process.now (c.in_ok-to_directory.ensures.each c.args.caller.now.procs.now c.args.n st r) (sym c.in_ok-check_kinds.ensures)
     (c.in_ok-check_below.ensures.each st.tree (tree_kept c.in_ok-to_directory.ensures.same h) r.second.directory))
-    (sym (c.in_err-check_replaced.ensures c.args.caller.now.place old.sectors st.tree c.args.walked.now.second h r.second.found r.replaced_is))
+    (sym (c.in_err-check_replaced.ensures c.args.caller.now.geometry old.sectors st.tree c.args.walked.now.second h r.second.found r.replaced_is))
 
 pub returns-in_err-check_replaced-clause-same : goal.returns-in_err-check_replaced-clause-same
 returns-in_err-check_replaced-clause-same g c = unchanged_joined c.in_ok-to_directory.ensures.same c.in_ok-check_below.ensures.same
@@ -100,7 +100,7 @@ returns-in_err-check_space-clause-each g c = λ st r.
     (space_refuses (met g (goal.at.returns-in_err-check_space-clause-each g c).After-check_moved st r)
     (c.in_ok-check_moved.ensures.each c.args.caller.now.procs.now c.args.n c.args.replaced.now st (to_rename_kept joined r))) tt
     (c.in_err-check_space.ensures.each c.args.caller.now.procs.now q c.args.n c.args.inode.now c.args.replaced.now st (to_rename_kept all r)
-    (kept (λ (m : SectorMap). c.in_ok-to_directory.to_directory ≡ inode_at c.args.caller.now.place m c.args.walked.now.second.dir) all
+    (kept (λ (m : SectorMap). c.in_ok-to_directory.to_directory ≡ inode_at c.args.caller.now.geometry m c.args.walked.now.second.dir) all
     (directory_told r q (c.in_ok-to_directory.ensures.each c.args.caller.now.procs.now c.args.n st r))))
 
 pub returns-in_err-check_space-clause-same : goal.returns-in_err-check_space-clause-same
@@ -115,7 +115,7 @@ returns-clause-each g c = λ st r.
     all_five (met g (goal.at.returns-clause-each g c).After-check_moved st r)
     (c.in_ok-check_moved.ensures.each c.args.caller.now.procs.now c.args.n c.args.replaced.now st (to_rename_kept joined r))
     (c.in_ok-check_space.ensures.each c.args.caller.now.procs.now c.args.walked.now.process.now c.args.n c.args.inode.now c.args.replaced.now st (to_rename_kept all r)
-    (kept (λ (m : SectorMap). c.in_ok-to_directory.to_directory ≡ inode_at c.args.caller.now.place m c.args.walked.now.second.dir) all
+    (kept (λ (m : SectorMap). c.in_ok-to_directory.to_directory ≡ inode_at c.args.caller.now.geometry m c.args.walked.now.second.dir) all
     (directory_told r c.args.walked.now.process.now (c.in_ok-to_directory.ensures.each c.args.caller.now.procs.now c.args.n st r))))
 
 pub returns-clause-same : goal.returns-clause-same

@@ -9,12 +9,12 @@ use Rattle.name_calls.proofs.ReplaceAsked.{other_moved, same_moved, moved_access
 use Rattle.name_calls.proofs.replacing.check_moved.Goals as goal
 
 pub returns-then-ne-clause-each : goal.returns-then-ne-clause-each
-returns-then-ne-clause-each g c = λ desks n there st r.
+returns-then-ne-clause-each g c = λ processes n there st r.
     let other : is_directory_kind c.args.inode.now.kind ≡ false = search rules in
     ap checked (other_moved r c.args.walked.now.process.now other)
 
 pub returns-then-first-second-clause-each : goal.returns-then-first-second-clause-each
-returns-then-first-second-clause-each g c = λ desks n there st r.
+returns-then-first-second-clause-each g c = λ processes n there st r.
     ap checked (same_moved r c.args.walked.now.process.now c.if-first-second.true)
 
 pub permitted-requires-clause-there : goal.permitted-requires-clause-there
@@ -30,14 +30,14 @@ permitted-requires-clause-has g c =
     (moved_access r c.args.walked.now.process.now kind, moved_held r c.args.walked.now.process.now kind)
 
 pub returns-in_err-permitted-clause-each : goal.returns-in_err-permitted-clause-each
-returns-in_err-permitted-clause-each g c = λ desks n there st r.
+returns-in_err-permitted-clause-each g c = λ processes n there st r.
     let q = c.args.walked.now.process.now in
     let kind : c.args.inode.now.kind ≡ kinds.Directory = search rules in
     passed (g.S.Sectors.state c.args.s.now).disk (g.S.Sectors.state c.permitted.new.s).disk _ _ _ c.from_residual.ensures
     (moved_denied r q kind c.if-first-second.false c.cred-cred.ensures) _ (c.in_err-permitted.ensures.each (moved_access r q kind) (moved_held r q kind))
 
 pub returns-clause-each : goal.returns-clause-each
-returns-clause-each g c = λ desks n there st r.
+returns-clause-each g c = λ processes n there st r.
     let q = c.args.walked.now.process.now in
     let kind : c.args.inode.now.kind ≡ kinds.Directory = search rules in
     ap checked (moved_met r q kind c.if-first-second.false c.in_ok-permitted.field-0 c.cred-cred.ensures (c.in_ok-permitted.ensures.each (moved_access r q kind) (moved_held r q kind)))

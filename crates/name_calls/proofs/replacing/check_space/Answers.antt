@@ -11,7 +11,7 @@ use Rattle.name_calls.proofs.ReplaceAsked.{room_is}
 use Rattle.name_calls.proofs.replacing.check_space.Goals as goal
 
 pub returns-in_err-ask_for_name-clause-each : goal.returns-in_err-ask_for_name-clause-each
-returns-in_err-ask_for_name-clause-each g c = λ desks q n v there st r is.
+returns-in_err-ask_for_name-clause-each g c = λ processes q n v there st r is.
     let k = c.from_residual.ensures in
     let old = g.S.Sectors.state c.args.s.now in
     let new = g.S.Sectors.state c.ask_for_name.new.s in
@@ -24,7 +24,7 @@ returns-in_err-ask_for_name-clause-each g c = λ desks q n v there st r is.
     (c.in_err-ask_for_name.ensures.each st.tree b.dir (state_tree r.is_state) r.second.directory is))
 
 pub returns-clause-each : goal.returns-clause-each
-returns-clause-each g c = λ desks q n v there st r is.
+returns-clause-each g c = λ processes q n v there st r is.
     let b = c.args.walked.now.second in
     let none : is_some b.ino ≡ false = sym c.is_some.ensures ∙ c.if-is_some.false in
     ap (λ (ds : List Demand). checked (first_of ds)) (room_is r q none c.if-walked.false)

@@ -23,7 +23,7 @@ load_inode-requires-clause-below g c =
 pub loop-at-smaller : goal.loop-at-smaller
 loop-at-smaller g c =
     let x = c.requires.there in
-    let p = c.args.place in
+    let p = c.args.geometry in
     let old = g.S.Sectors.state c.args.s.now in
     let inv = c.loop-at.invariant in
     let at = c.loop-at.at in
@@ -37,7 +37,7 @@ loop-at-preserved g c =
     let inv = c.loop-at.invariant in
     let at = c.loop-at.at in
     let v = c.in_ok-at.field-0 in
-    let is = kept_back (λ (m : SectorMap). v ≡ inode_at c.args.place m at) inv.same c.in_ok-at.ensures.found in
+    let is = kept_back (λ (m : SectorMap). v ≡ inode_at c.args.geometry m at) inv.same c.in_ok-at.ensures.found in
     record {
       same = unchanged_joined inv.same c.in_ok-at.ensures.same;
       each = λ t h d.

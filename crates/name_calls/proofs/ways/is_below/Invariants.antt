@@ -8,9 +8,9 @@ use Rattle.name_calls.proofs.ways.is_below.Given as goal
 abbrev pub invariant-loop-at : goal.invariant-loop-at
 invariant-loop-at g l = record {
   same : IsUnchanged (g.S.Sectors.state l.fn.s) (g.S.Sectors.state l.s);
-  each : (t : Tree) → HoldsTree l.place (g.S.Sectors.state l.fn.s).sectors t → IsDirectoryAt t l.dir
+  each : (t : Tree) → HoldsTree l.geometry (g.S.Sectors.state l.fn.s).sectors t → IsDirectoryAt t l.dir
       → IsDirectoryAt t l.at × (is_within (length t) t l.n l.dir ≡ is_within (length t) t l.n l.at);
 }
 
 abbrev pub decreases-loop-at : goal.decreases-loop-at
-decreases-loop-at g l = height l.place (g.S.Sectors.state l.fn.s).sectors l.place.inodes l.at
+decreases-loop-at g l = height l.geometry (g.S.Sectors.state l.fn.s).sectors l.geometry.inodes l.at

@@ -5,7 +5,7 @@ use Rattle.fs_model.specs.Stands.{room_of}
 use Rattle.fs_model.specs.Trails.{follows_last}
 use Rattle.block_map.proofs.Runs.{unchanged_joined}
 use Rattle.path_walk.specs.HeldTrees.{HoldsTree, IsThere}
-use Rattle.path_walk.specs.Stages.{IsAt, IsNextOf, IsStep, arrival_of}
+use Rattle.path_walk.specs.Stages.{StandsAt, IsNextOf, IsStep, arrival_of}
 use Rattle.path_walk.specs.SoundInodes.{HasSoundInodes}
 use Rattle.path_walk.specs.Walked.{walk_of}
 use Rattle.path_walk.proofs.HeldNodes.{starts_there}
@@ -26,7 +26,7 @@ returns-in_err-walker-clause-each g c = λ t h there.
     let old = g.S.Sectors.state c.args.s.now in
     let new = g.S.Sectors.state c.start.new.s in
     let r = c.from_residual.ensures in
-    answered_err old.disk new.disk (walk_of (room_of c.args.place) t c.args.cred.now c.args.number c.args.form c.args.cwd c.args.path.now)
+    answered_err old.disk new.disk (walk_of (room_of c.args.geometry) t c.args.cred.now c.args.number c.args.form c.args.cwd c.args.path.now)
     c.from_residual.result c.in_err-walker.field-0.0 r.0 r.1 (inr c.in_err-walker.ensures.err)
 
 pub returns-in_err-walker-clause-same : goal.returns-in_err-walker-clause-same
@@ -50,7 +50,7 @@ loop-walker-init g c =
       at = c.in_ok-walker.ensures.at;
       room = start_room c.args.cwd c.args.path.now c.args.number w start c.requires.short;
       each = λ t h there. (
-        start_stage (room_of c.args.place) t c.args.cred.now c.args.form c.args.number c.args.cwd c.args.path.now c.follows_last-follow.result w start follow,
+        start_stage (room_of c.args.geometry) t c.args.cred.now c.args.form c.args.number c.args.cwd c.args.path.now c.follows_last-follow.result w start follow,
         subst (IsThere t) (sym start.here) (starts_there h c.args.path.now c.args.cwd there),
       );
     }
@@ -64,7 +64,7 @@ returns-in_err-next-clause-each g c = λ t h there.
     let old = g.S.Sectors.state c.args.s.now in
     let new = g.S.Sectors.state c.loop-walker.s in
     let r = c.from_residual-in_err-next.ensures in
-    answered_err old.disk new.disk (walk_of (room_of c.args.place) t c.args.cred.now c.args.number c.args.form c.args.cwd c.args.path.now)
+    answered_err old.disk new.disk (walk_of (room_of c.args.geometry) t c.args.cred.now c.args.number c.args.form c.args.cwd c.args.path.now)
     c.from_residual-in_err-next.result c.in_err-next.field-0.0 r.0 r.1 (inr (inl c.in_err-next.ensures))
 
 pub returns-in_err-next-clause-same : goal.returns-in_err-next-clause-same
@@ -88,7 +88,7 @@ step-requires-clause-at g c =
     let w = c.loop-walker.walker in
     let mid = c.next.new.self in
     let taken = subst (IsNextOf w mid) c.if-branch.true c.in_ok-next.ensures in
-    kept (λ m. IsAt c.args.place m mid) inv.same (at_taken c.args.place old.sectors w mid taken inv.at)
+    kept (λ m. StandsAt c.args.geometry m mid) inv.same (at_taken c.args.geometry old.sectors w mid taken inv.at)
 
 pub step-requires-clause-inside : goal.step-requires-clause-inside
 step-requires-clause-inside g c =
@@ -112,7 +112,7 @@ step-requires-clause-steps g c =
     steps_fit w mid c.loop-walker.invariant.room taken
 
 pub step-requires-clause-inodes : goal.step-requires-clause-inodes
-step-requires-clause-inodes g c = kept (HasSoundInodes c.args.place) c.loop-walker.invariant.same c.requires.inodes
+step-requires-clause-inodes g c = kept (HasSoundInodes c.args.geometry) c.loop-walker.invariant.same c.requires.inodes
 
 pub returns-in_err-step-clause-each : goal.returns-in_err-step-clause-each
 returns-in_err-step-clause-each g c = λ t h there.
@@ -122,12 +122,12 @@ returns-in_err-step-clause-each g c = λ t h there.
     let mid = c.next.new.self in
     let taken = subst (IsNextOf w mid) c.if-branch.true c.in_ok-next.ensures in
     let e = inv.each t h there in
-    let stage = e.0 ∙ taken_stage (room_of c.args.place) t c.args.cred.now c.args.form c.follows_last-follow.result w mid taken in
-    let held = kept (λ m. HoldsTree c.args.place m t) inv.same h in
+    let stage = e.0 ∙ taken_stage (room_of c.args.geometry) t c.args.cred.now c.args.form c.follows_last-follow.result w mid taken in
+    let held = kept (λ m. HoldsTree c.args.geometry m t) inv.same h in
     let here = here_taken w mid t taken e.1 in
     let new = g.S.Sectors.state c.step.new.s in
     let r = c.from_residual-in_err-step.ensures in
-    answered_err old.disk new.disk (walk_of (room_of c.args.place) t c.args.cred.now c.args.number c.args.form c.args.cwd c.args.path.now)
+    answered_err old.disk new.disk (walk_of (room_of c.args.geometry) t c.args.cred.now c.args.number c.args.form c.args.cwd c.args.path.now)
     c.from_residual-in_err-step.result c.in_err-step.field-0.0 r.0 r.1
     (elim (c.in_err-step.ensures.each t held here c.args.form) [ inl s ↦ inl (stage ∙ s) | inr way ↦ inr (interrupts_later new.disk inv.same way) ])
 
@@ -151,12 +151,12 @@ returns-then-not-branch-clause-each g c = λ t h there.
     let mid = c.next.new.self in
     let taken = subst (IsNextOf w mid) c.if-branch.true c.in_ok-next.ensures in
     let e = inv.each t h there in
-    let stage = e.0 ∙ taken_stage (room_of c.args.place) t c.args.cred.now c.args.form c.follows_last-follow.result w mid taken in
-    let held = kept (λ m. HoldsTree c.args.place m t) inv.same h in
+    let stage = e.0 ∙ taken_stage (room_of c.args.geometry) t c.args.cred.now c.args.form c.follows_last-follow.result w mid taken in
+    let held = kept (λ m. HoldsTree c.args.geometry m t) inv.same h in
     let here = here_taken w mid t taken e.1 in
     let cur = g.S.Sectors.state c.loop-walker.s in
     let new = g.S.Sectors.state c.step.new.s in
-    let s = subst (λ (b : Bool). IsStep cur.disk new.disk (room_of c.args.place) t c.args.cred.now c.args.form c.follows_last-follow.result mid c.step.new.self (Ok b)) c.if-not-branch.true
+    let s = subst (λ (b : Bool). IsStep cur.disk new.disk (room_of c.args.geometry) t c.args.cred.now c.args.form c.follows_last-follow.result mid c.step.new.self (Ok b)) c.if-not-branch.true
     (c.in_ok-step.ensures.each t held here c.args.form) in
     stage ∙ s ∙ ap (λ (f : Found). Ok f) (sym c.found.ensures)
 
@@ -185,16 +185,16 @@ loop-walker-preserved g c =
     let taken = subst (IsNextOf w mid) c.if-branch.true c.in_ok-next.ensures in
     record {
       same = unchanged_joined inv.same c.in_ok-step.ensures.same;
-      at = kept_back (λ m. IsAt c.args.place m c.step.new.self) inv.same c.in_ok-step.ensures.at;
+      at = kept_back (λ m. StandsAt c.args.geometry m c.step.new.self) inv.same c.in_ok-step.ensures.at;
       room = room_after w mid c.step.new.self inv.room taken c.in_ok-step.ensures.way;
       each = λ t h there.
           let e = inv.each t h there in
-          let stage = e.0 ∙ taken_stage (room_of c.args.place) t c.args.cred.now c.args.form c.follows_last-follow.result w mid taken in
-          let held = kept (λ m. HoldsTree c.args.place m t) inv.same h in
+          let stage = e.0 ∙ taken_stage (room_of c.args.geometry) t c.args.cred.now c.args.form c.follows_last-follow.result w mid taken in
+          let held = kept (λ m. HoldsTree c.args.geometry m t) inv.same h in
           let here = here_taken w mid t taken e.1 in
           let cur = g.S.Sectors.state c.loop-walker.s in
           let new = g.S.Sectors.state c.step.new.s in
-          let s = subst (λ (b : Bool). IsStep cur.disk new.disk (room_of c.args.place) t c.args.cred.now c.args.form c.follows_last-follow.result mid c.step.new.self (Ok b)) c.if-not-branch.false
+          let s = subst (λ (b : Bool). IsStep cur.disk new.disk (room_of c.args.geometry) t c.args.cred.now c.args.form c.follows_last-follow.result mid c.step.new.self (Ok b)) c.if-not-branch.false
           (c.in_ok-step.ensures.each t held here c.args.form) in
           (stage ∙ s.0, s.1);
     }
@@ -208,11 +208,11 @@ returns-in_err-found-clause-each g c = λ t h there.
     let mid = c.next.new.self in
     let none = subst (IsNextOf w mid) c.if-branch.false c.in_ok-next.ensures in
     let e = inv.each t h there in
-    let stage = e.0 ∙ end_stage (room_of c.args.place) t c.args.cred.now c.args.form c.args.place old.sectors c.follows_last-follow.result w h inv.at e.1 none.0
+    let stage = e.0 ∙ end_stage (room_of c.args.geometry) t c.args.cred.now c.args.form c.args.geometry old.sectors c.follows_last-follow.result w h inv.at e.1 none.0
     ∙ ap (arrival_of c.args.form) (sym none.1) ∙ sym c.arrive.ensures in
     let cur = g.S.Sectors.state c.loop-walker.s in
     let r = c.from_residual-in_err-found.ensures in
-    answered_err old.disk cur.disk (walk_of (room_of c.args.place) t c.args.cred.now c.args.number c.args.form c.args.cwd c.args.path.now)
+    answered_err old.disk cur.disk (walk_of (room_of c.args.geometry) t c.args.cred.now c.args.number c.args.form c.args.cwd c.args.path.now)
     c.from_residual-in_err-found.result c.in_err-found.field-0.0 r.0 r.1 (inl (stage ∙ c.in_err-found.was))
 
 pub returns-in_err-found-clause-same : goal.returns-in_err-found-clause-same
@@ -235,7 +235,7 @@ returns-clause-each g c = λ t h there.
     let mid = c.next.new.self in
     let none = subst (IsNextOf w mid) c.if-branch.false c.in_ok-next.ensures in
     let e = inv.each t h there in
-    let stage = e.0 ∙ end_stage (room_of c.args.place) t c.args.cred.now c.args.form c.args.place old.sectors c.follows_last-follow.result w h inv.at e.1 none.0
+    let stage = e.0 ∙ end_stage (room_of c.args.geometry) t c.args.cred.now c.args.form c.args.geometry old.sectors c.follows_last-follow.result w h inv.at e.1 none.0
     ∙ ap (arrival_of c.args.form) (sym none.1) ∙ sym c.arrive.ensures in
     stage ∙ c.in_ok-found.was
 

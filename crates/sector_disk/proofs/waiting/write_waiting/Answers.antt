@@ -2,7 +2,7 @@ use Rattle.std.proofs.Common.{◌≡◌, ◌+◌, ◌-◌, arith, false, subst, 
 use Rattle.std.specs.Prelude.{slice_range, IfSome}
 use Rattle.std.proofs.lemmas.List.{take_rest}
 use Rattle.sector_disk.specs.Record.{recorded_state}
-use Rattle.sector_disk.specs.Files.{Goes, IsRunTried, HasRun}
+use Rattle.sector_disk.specs.Files.{IfKnown, IsRunTried, HasRun}
 use Rattle.sector_disk.specs.Replay.{seen_is_image}
 use Rattle.sector_disk.proofs.Following.{run_failed, run_done, follows_more, follows_all, later}
 use Rattle.sector_disk.proofs.waiting.write_waiting.Goals as goal
@@ -16,7 +16,7 @@ returns-in_err-write_run-clause-follows g c =
     let new = g.F.DiskFile.held c.write_run.new.file in
     let to : run.first + length c.write_run.new.run ≡ run.end =
     let cut = c.write_run.auto.run in let fits = c.first_run-run.ensures.fits in let order = c.first_run-run.ensures.order in omega (arith, cut, fits, order, length-take (run.end - run.first) c.loop-at.buffer) in
-    let tried = subst (λ end. Goes (IsRunTried run.first (slice_range disk.seen run.first end)) old new) to c.write_run.ensures.tried in
+    let tried = subst (λ end. IfKnown (IsRunTried run.first (slice_range disk.seen run.first end)) old new) to c.write_run.ensures.tried in
     let size = subst (λ n. run.end ≤ n) c.size.ensures c.first_run-run.ensures.end in
     run_failed disk c.args.waiting.now c.loop-at.at run.first run.end (slice_range disk.seen run.first run.end) old new (seen_is_image memory.history memory.failures) c.first_run-run.ensures.order size refl tried
     c.loop-at.invariant.follows
@@ -30,7 +30,7 @@ loop-at-preserved g c =
     let new = g.F.DiskFile.held c.write_run.new.file in
     let to : run.first + length c.write_run.new.run ≡ run.end =
     let cut = c.write_run.auto.run in let fits = c.first_run-run.ensures.fits in let order = c.first_run-run.ensures.order in omega (arith, cut, fits, order, length-take (run.end - run.first) c.loop-at.buffer) in
-    let tried = subst (λ end. Goes (IsRunTried run.first (slice_range disk.seen run.first end)) old new) to c.write_run.ensures.tried in
+    let tried = subst (λ end. IfKnown (IsRunTried run.first (slice_range disk.seen run.first end)) old new) to c.write_run.ensures.tried in
     let size = subst (λ n. run.end ≤ n) c.size.ensures c.first_run-run.ensures.end in
     let done = subst (λ end. IfSome new (HasRun run.first (slice_range disk.seen run.first end))) to c.in_ok-write_run.ensures.done in
     record {

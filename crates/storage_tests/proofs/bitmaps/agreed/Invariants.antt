@@ -4,6 +4,6 @@ use Rattle.storage_tests.proofs.bitmaps.agreed.Given as goal
 
 abbrev pub invariant-loop-i : goal.invariant-loop-i
 invariant-loop-i g l = record {
-  bitmaps : HasBitmaps l.place (g.S.Sectors.state l.s.inner);
-  room : HasSpare l.place 0 (g.S.Sectors.state l.s.inner);
+  bitmaps : HasBitmaps l.geometry (g.S.Sectors.state l.s.inner);
+  room : HasSpare l.geometry 0 (g.S.Sectors.state l.s.inner);
 }

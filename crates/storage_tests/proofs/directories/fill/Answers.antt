@@ -8,10 +8,10 @@ pub insert-requires-clause-spare : goal.insert-requires-clause-spare
 insert-requires-clause-spare g c =
     omega (
       arith,
-      lacking_at_most (g.S.Sectors.state c.loop-i.s) (bitmaps c.args.place),
-      length-range_with_len c.args.place.inode_bitmap (c.args.place.table - c.args.place.inode_bitmap),
+      lacking_at_most (g.S.Sectors.state c.loop-i.s) (bitmaps c.args.geometry),
+      length-range_with_len c.args.geometry.inode_bitmap (c.args.geometry.table - c.args.geometry.inode_bitmap),
       c.room.ensures,
-      c.if-room-place.false,
+      c.if-room-geometry.false,
     )
 
 pub loop-i-preserved : goal.loop-i-preserved

@@ -17,12 +17,12 @@ pub rename-requires-clause-directory : goal.rename-requires-clause-directory
 rename-requires-clause-directory g c =
     let d = c.requires.directory in (
       d.0,
-      subst (λ image. HasNames c.args.place.version image c.args.inode.now d.0) (map_unchanged c.in_ok-lookup.ensures.same) d.1,
+      subst (λ image. HasNames c.args.geometry.version image c.args.inode.now d.0) (map_unchanged c.in_ok-lookup.ensures.same) d.1,
       sym (c.in_ok-lookup.ensures.found d.0 d.1) ∙ is_none _ (sym c.is_some.ensures ∙ c.if-is_some.false),
     )
 
 pub rename-requires-clause-short : goal.rename-requires-clause-short
-rename-requires-clause-short g c = let least = (slot_bounds c.args.place.version).0 in omega (arith, least)
+rename-requires-clause-short g c = let least = (slot_bounds c.args.geometry.version).0 in omega (arith, least)
 
 pub rename-requires-clause-spare : goal.rename-requires-clause-spare
-rename-requires-clause-spare g c = spare_unchanged c.args.place 1 _ _ c.requires.spare c.in_ok-lookup.ensures.same
+rename-requires-clause-spare g c = spare_unchanged c.args.geometry 1 _ _ c.requires.spare c.in_ok-lookup.ensures.same

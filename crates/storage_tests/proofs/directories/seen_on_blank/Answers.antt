@@ -22,24 +22,24 @@ fill-requires-clause-sound g c =
 
 pub fill-requires-clause-there : goal.fill-requires-clause-there
 fill-requires-clause-there g c =
-    c.in_ok-inode.ensures.found ∙ ap (λ image. inode_at c.args.place image c.in-Ok.n) (map_unchanged c.in_ok-inode.ensures.same)
+    c.in_ok-inode.ensures.found ∙ ap (λ image. inode_at c.args.geometry image c.in-Ok.n) (map_unchanged c.in_ok-inode.ensures.same)
 
 pub fill-requires-clause-directory : goal.fill-requires-clause-directory
 fill-requires-clause-directory g c =
     let made = (g.S.Sectors.state c.new_inode.new.s.inner).sectors in
     let read = (g.S.Sectors.state c.load.new.s.inner).sectors in
-    let at_first : HasNames c.args.place.version made (inode_at c.args.place made c.in-Ok.n) [] = no_names c.in-Ok.ensures.fields.kind c.in-Ok.ensures.empty in (
+    let at_first : HasNames c.args.geometry.version made (inode_at c.args.geometry made c.in-Ok.n) [] = no_names c.in-Ok.ensures.fields.kind c.in-Ok.ensures.empty in (
       [],
-      subst (λ v. HasNames c.args.place.version read v []) (sym c.in_ok-inode.ensures.found)
-          (subst (λ image. HasNames c.args.place.version image (inode_at c.args.place made c.in-Ok.n) []) (map_unchanged c.in_ok-inode.ensures.same) at_first),
+      subst (λ v. HasNames c.args.geometry.version read v []) (sym c.in_ok-inode.ensures.found)
+          (subst (λ image. HasNames c.args.geometry.version image (inode_at c.args.geometry made c.in-Ok.n) []) (map_unchanged c.in_ok-inode.ensures.same) at_first),
     )
 
 pub perform-given-requires-clause-spare : goal.perform-given-requires-clause-spare
 perform-given-requires-clause-spare g c =
     omega (
       arith,
-      lacking_at_most (g.S.Sectors.state c.fill.new.s.inner) (bitmaps c.args.place),
-      length-range_with_len c.args.place.inode_bitmap (c.args.place.table - c.args.place.inode_bitmap),
+      lacking_at_most (g.S.Sectors.state c.fill.new.s.inner) (bitmaps c.args.geometry),
+      length-range_with_len c.args.geometry.inode_bitmap (c.args.geometry.table - c.args.geometry.inode_bitmap),
       c.room.ensures,
-      c.if-room-place.false,
+      c.if-room-geometry.false,
     )

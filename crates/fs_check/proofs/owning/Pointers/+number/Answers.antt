@@ -23,7 +23,7 @@ returns-then-level-eq-POINTER_LEVELS-clause-number g t c =
 
 pub number-requires-2 : goal.number-requires-2
 number-requires-2 g t c =
-    let p = c.args.opened.now.place in
+    let p = c.args.opened.now.geometry in
     let m = meaning (g.D.Disk.state c.args.disk.now) in
     let v = c.args.inode.now in
     let level = c.args.level in
@@ -51,7 +51,7 @@ load-requires-clause-on_disk g t c =
     let m = meaning (g.D.Disk.state c.args.disk.now) in
     let own = c.own_count-own.result in
     let level = c.args.level + 1 in
-    let below = level_below _ _ c.args.opened.now.place m c.args.inode.now level ((c.args.i - own) / SECTOR_POINTERS) c.in_ok-s.s c.requires.opened.place
+    let below = level_below _ _ c.args.opened.now.geometry m c.args.inode.now level ((c.args.i - own) / SECTOR_POINTERS) c.in_ok-s.s c.requires.opened.geometry
     (c.requires.above level (omega arith)) c.in_ok-s.ensures.number in
     let size = c.in_ok-s.ensures.passed.reads.narrowed.size in
     omega (arith, below, size)

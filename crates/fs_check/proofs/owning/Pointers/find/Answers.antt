@@ -10,7 +10,7 @@ load-requires-clause-opened g c = opened_still c.in_ok-s.ensures.passed.reads c.
 pub load-requires-clause-on_disk : goal.load-requires-clause-on_disk
 load-requires-clause-on_disk g c =
     let m = meaning (g.D.Disk.state c.args.disk.now) in
-    let below = level_below _ _ c.args.opened.now.place m c.args.inode.now c.args.level c.args.i c.in_ok-s.s c.requires.opened.place c.requires.in_data
+    let below = level_below _ _ c.args.opened.now.geometry m c.args.inode.now c.args.level c.args.i c.in_ok-s.s c.requires.opened.geometry c.requires.in_data
     c.in_ok-s.ensures.number in
     let size = c.in_ok-s.ensures.passed.reads.narrowed.size in
     omega (arith, below, size)

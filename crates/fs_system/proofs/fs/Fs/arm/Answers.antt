@@ -5,17 +5,17 @@ use Rattle.fs_system.proofs.fs.Fs.arm.Goals as goal
 
 pub invariant_of-self : goal.invariant_of-self
 invariant_of-self g c =
-    forgot_system g.D.Disk.state c.self.inside.base c.self.inside.place c.self.inside.procs c.self.inside.time c.in-Some.base c.arm_disk.new.base
+    forgot_system g.D.Disk.state c.self.inside.base c.self.inside.geometry c.self.inside.procs c.self.inside.time c.in-Some.base c.arm_disk.new.base
     c.in-Some.is c.arm_disk.ensures.same c.arm_disk.ensures.stays c.self.invariant
 
 pub returns-clause-state : goal.returns-clause-state
 returns-clause-state g c =
-    forgot_state g.D.Disk.state c.self.inside.base c.self.inside.place c.self.inside.procs c.self.inside.time c.in-Some.base c.arm_disk.new.base
+    forgot_state g.D.Disk.state c.self.inside.base c.self.inside.geometry c.self.inside.procs c.self.inside.time c.in-Some.base c.arm_disk.new.base
     c.in-Some.is c.arm_disk.ensures.same c.arm_disk.ensures.stays c.args.self.now c.self.view_is
 
 pub returns-clause-same : goal.returns-clause-same
 returns-clause-same g c =
-    forgot_same g.D.Disk.state c.self.inside.base c.self.inside.place c.self.inside.procs c.self.inside.time c.in-Some.base c.arm_disk.new.base
+    forgot_same g.D.Disk.state c.self.inside.base c.self.inside.geometry c.self.inside.procs c.self.inside.time c.in-Some.base c.arm_disk.new.base
     c.in-Some.is c.arm_disk.ensures.same c.arm_disk.ensures.stays c.args.self.now c.self.view_is
 
 pub returns-clause-failures : goal.returns-clause-failures

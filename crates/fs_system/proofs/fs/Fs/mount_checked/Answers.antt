@@ -15,89 +15,89 @@ sweep-requires g c =
     record {
       tree = (
         c.requires.1,
-        opened_tree g.D.Disk.state c.args.disk c.read_place.new.disk c.in-Ok-open_store.store (g.met.D.Disk.seen_is_image c.args.disk) c.requires
-            c.read_place.ensures.same c.in-Ok-open_store.ensures.size c.in-Ok-open_store.ensures.map c.in-Ok-open_store.ensures.lasting c.in-Ok.place c.in-Ok.ensures.found,
+        opened_tree g.D.Disk.state c.args.disk c.read_geometry.new.disk c.in-Ok-open_store.store (g.met.D.Disk.seen_is_image c.args.disk) c.requires
+            c.read_geometry.ensures.same c.in-Ok-open_store.ensures.size c.in-Ok-open_store.ensures.map c.in-Ok-open_store.ensures.lasting c.in-Ok.geometry c.in-Ok.ensures.found,
       );
     }
 
 pub returns-in_default-clause-any_moment : goal.returns-in_default-clause-any_moment
 returns-in_default-clause-any_moment g c =
-    same_stands (g.D.Disk.state c.args.disk) (g.D.Disk.state c.read_place.new.disk) (g.met.D.Disk.only_now c.args.disk) c.read_place.ensures.same c.read_place.ensures.time
+    same_stands (g.D.Disk.state c.args.disk) (g.D.Disk.state c.read_geometry.new.disk) (g.met.D.Disk.only_now c.args.disk) c.read_geometry.ensures.same c.read_geometry.ensures.time
 
 pub returns-in-Ok-sweep-clause-any_moment : goal.returns-in-Ok-sweep-clause-any_moment
 returns-in-Ok-sweep-clause-any_moment g c =
     subst (λ (x : StoreView g.row.D.Denot). LeavesOnly (g.D.Disk.state c.args.disk) (g.D.Disk.state x.disk) (StandsAsBefore (g.D.Disk.state c.args.disk)))
     (sym c.uncounted.ensures)
-    (swept_moments g.D.Disk.state c.args.disk c.read_place.new.disk c.in-Ok-open_store.store (g.met.D.Disk.seen_is_image c.args.disk) c.requires
-    c.read_place.ensures.same c.in-Ok-open_store.ensures.size c.in-Ok-open_store.ensures.map c.in-Ok-open_store.ensures.lasting c.in-Ok.place c.in-Ok.ensures.found
+    (swept_moments g.D.Disk.state c.args.disk c.read_geometry.new.disk c.in-Ok-open_store.store (g.met.D.Disk.seen_is_image c.args.disk) c.requires
+    c.read_geometry.ensures.same c.in-Ok-open_store.ensures.size c.in-Ok-open_store.ensures.map c.in-Ok-open_store.ensures.lasting c.in-Ok.geometry c.in-Ok.ensures.found
     (g.D.Disk.state c.in-Ok-sweep.store.disk)
-    (opened_stands (g.D.Disk.state c.args.disk) (g.D.Disk.state c.read_place.new.disk) (g.D.Disk.state c.in-Ok-open_store.store.disk) (g.met.D.Disk.only_now c.args.disk)
-    c.read_place.ensures.same c.read_place.ensures.time c.in-Ok-open_store.ensures.any_moment) c.in-Ok-sweep.ensures.any_moment)
+    (opened_stands (g.D.Disk.state c.args.disk) (g.D.Disk.state c.read_geometry.new.disk) (g.D.Disk.state c.in-Ok-open_store.store.disk) (g.met.D.Disk.only_now c.args.disk)
+    c.read_geometry.ensures.same c.read_geometry.ensures.time c.in-Ok-open_store.ensures.any_moment) c.in-Ok-sweep.ensures.any_moment)
 
 pub returns-in-Ok-sweep-clause-mounted : goal.returns-in-Ok-sweep-clause-mounted
 returns-in-Ok-sweep-clause-mounted g c =
-    let first = c.read_place.ensures.cause.later in
+    let first = c.read_geometry.ensures.cause.later in
     let then = c.in-Ok-open_store.ensures.later in
     let last = c.in-Ok-sweep.ensures.cause.later in
-    subst (λ (x : StoreView g.row.D.Denot). (s : State) × IsIn g.D.Disk.state (record { base = Some (Ok x); place = c.in-Ok.place; desks = c.new.result; time = 0 }) s
+    subst (λ (x : StoreView g.row.D.Denot). (s : State) × IsIn g.D.Disk.state (record { base = Some (Ok x); geometry = c.in-Ok.geometry; processes = c.new.result; time = 0 }) s
     × Mounts (g.D.Disk.state c.args.disk) (g.D.Disk.state x.disk) s) (sym c.uncounted.ensures)
-    (mounts_found g.D.Disk.state c.args.disk c.read_place.new.disk c.in-Ok-open_store.store (g.met.D.Disk.seen_is_image c.args.disk) c.requires
-    c.read_place.ensures.same c.in-Ok-open_store.ensures.size c.in-Ok-open_store.ensures.map c.in-Ok-open_store.ensures.lasting c.in-Ok.place c.in-Ok.ensures.found
+    (mounts_found g.D.Disk.state c.args.disk c.read_geometry.new.disk c.in-Ok-open_store.store (g.met.D.Disk.seen_is_image c.args.disk) c.requires
+    c.read_geometry.ensures.same c.in-Ok-open_store.ensures.size c.in-Ok-open_store.ensures.map c.in-Ok-open_store.ensures.lasting c.in-Ok.geometry c.in-Ok.ensures.found
     c.in-Ok-sweep.store c.in-Ok-sweep.ensures.swept c.in-Ok-sweep.ensures.lasting (omega (arith, first, then, last))
-    (c.in-Ok-sweep.ensures.quiet ∙ c.in-Ok-open_store.ensures.quiet ∙ c.read_place.ensures.quiet) c.new.result c.new.ensures)
+    (c.in-Ok-sweep.ensures.quiet ∙ c.in-Ok-open_store.ensures.quiet ∙ c.read_geometry.ensures.quiet) c.new.result c.new.ensures)
 
 pub invariant_of-result : goal.invariant_of-result
 invariant_of-result g c =
-    let first = c.read_place.ensures.cause.later in
+    let first = c.read_geometry.ensures.cause.later in
     let then = c.in-Ok-open_store.ensures.later in
     let last = c.in-Ok-sweep.ensures.cause.later in
-    subst (λ (x : StoreView g.row.D.Denot). IsSystem g.D.Disk.state (record { base = Some (Ok x); place = c.in-Ok.place; desks = c.new.result; time = 0 }))
+    subst (λ (x : StoreView g.row.D.Denot). IsSystem g.D.Disk.state (record { base = Some (Ok x); geometry = c.in-Ok.geometry; processes = c.new.result; time = 0 }))
     (sym c.uncounted.ensures)
-    (mounted_system g.D.Disk.state c.args.disk c.read_place.new.disk c.in-Ok-open_store.store (g.met.D.Disk.seen_is_image c.args.disk) c.requires
-    c.read_place.ensures.same c.in-Ok-open_store.ensures.size c.in-Ok-open_store.ensures.map c.in-Ok-open_store.ensures.lasting c.in-Ok.place c.in-Ok.ensures.found
+    (mounted_system g.D.Disk.state c.args.disk c.read_geometry.new.disk c.in-Ok-open_store.store (g.met.D.Disk.seen_is_image c.args.disk) c.requires
+    c.read_geometry.ensures.same c.in-Ok-open_store.ensures.size c.in-Ok-open_store.ensures.map c.in-Ok-open_store.ensures.lasting c.in-Ok.geometry c.in-Ok.ensures.found
     c.in-Ok-sweep.store c.in-Ok-sweep.ensures.swept c.in-Ok-sweep.ensures.lasting (omega (arith, first, then, last))
-    (c.in-Ok-sweep.ensures.quiet ∙ c.in-Ok-open_store.ensures.quiet ∙ c.read_place.ensures.quiet) c.new.result c.new.ensures)
+    (c.in-Ok-sweep.ensures.quiet ∙ c.in-Ok-open_store.ensures.quiet ∙ c.read_geometry.ensures.quiet) c.new.result c.new.ensures)
 
 pub returns-in-Err-sweep-clause-any_moment : goal.returns-in-Err-sweep-clause-any_moment
 returns-in-Err-sweep-clause-any_moment g c =
-    swept_moments g.D.Disk.state c.args.disk c.read_place.new.disk c.in-Ok-open_store.store (g.met.D.Disk.seen_is_image c.args.disk) c.requires
-    c.read_place.ensures.same c.in-Ok-open_store.ensures.size c.in-Ok-open_store.ensures.map c.in-Ok-open_store.ensures.lasting c.in-Ok.place c.in-Ok.ensures.found
+    swept_moments g.D.Disk.state c.args.disk c.read_geometry.new.disk c.in-Ok-open_store.store (g.met.D.Disk.seen_is_image c.args.disk) c.requires
+    c.read_geometry.ensures.same c.in-Ok-open_store.ensures.size c.in-Ok-open_store.ensures.map c.in-Ok-open_store.ensures.lasting c.in-Ok.geometry c.in-Ok.ensures.found
     (g.D.Disk.state c.in-Err-sweep.disk)
-    (opened_stands (g.D.Disk.state c.args.disk) (g.D.Disk.state c.read_place.new.disk) (g.D.Disk.state c.in-Ok-open_store.store.disk) (g.met.D.Disk.only_now c.args.disk)
-    c.read_place.ensures.same c.read_place.ensures.time c.in-Ok-open_store.ensures.any_moment) c.in-Err-sweep.ensures.any_moment
+    (opened_stands (g.D.Disk.state c.args.disk) (g.D.Disk.state c.read_geometry.new.disk) (g.D.Disk.state c.in-Ok-open_store.store.disk) (g.met.D.Disk.only_now c.args.disk)
+    c.read_geometry.ensures.same c.read_geometry.ensures.time c.in-Ok-open_store.ensures.any_moment) c.in-Err-sweep.ensures.any_moment
 
 pub returns-in-Err-sweep-clause-failed : goal.returns-in-Err-sweep-clause-failed
 returns-in-Err-sweep-clause-failed g c =
-    let first = c.read_place.ensures.cause.later in
+    let first = c.read_geometry.ensures.cause.later in
     let then = c.in-Ok-open_store.ensures.later in
     let last = c.in-Err-sweep.ensures.cause.later in
     fails_to_mount (g.D.Disk.state c.args.disk) (g.D.Disk.state c.in-Err-sweep.disk) DiskFault (g.met.D.Disk.counts_now c.in-Err-sweep.disk)
-    (swept_moments g.D.Disk.state c.args.disk c.read_place.new.disk c.in-Ok-open_store.store (g.met.D.Disk.seen_is_image c.args.disk) c.requires
-    c.read_place.ensures.same c.in-Ok-open_store.ensures.size c.in-Ok-open_store.ensures.map c.in-Ok-open_store.ensures.lasting c.in-Ok.place c.in-Ok.ensures.found
+    (swept_moments g.D.Disk.state c.args.disk c.read_geometry.new.disk c.in-Ok-open_store.store (g.met.D.Disk.seen_is_image c.args.disk) c.requires
+    c.read_geometry.ensures.same c.in-Ok-open_store.ensures.size c.in-Ok-open_store.ensures.map c.in-Ok-open_store.ensures.lasting c.in-Ok.geometry c.in-Ok.ensures.found
     (g.D.Disk.state c.in-Err-sweep.disk)
-    (opened_stands (g.D.Disk.state c.args.disk) (g.D.Disk.state c.read_place.new.disk) (g.D.Disk.state c.in-Ok-open_store.store.disk) (g.met.D.Disk.only_now c.args.disk)
-    c.read_place.ensures.same c.read_place.ensures.time c.in-Ok-open_store.ensures.any_moment) c.in-Err-sweep.ensures.any_moment) (omega (arith, first, then, last))
+    (opened_stands (g.D.Disk.state c.args.disk) (g.D.Disk.state c.read_geometry.new.disk) (g.D.Disk.state c.in-Ok-open_store.store.disk) (g.met.D.Disk.only_now c.args.disk)
+    c.read_geometry.ensures.same c.read_geometry.ensures.time c.in-Ok-open_store.ensures.any_moment) c.in-Err-sweep.ensures.any_moment) (omega (arith, first, then, last))
     (λ is. failed_later (g.D.Disk.state c.args.disk) (g.D.Disk.state c.in-Ok-open_store.store.disk) (g.D.Disk.state c.in-Err-sweep.disk) (omega (arith, first, then))
     c.in-Err-sweep.ensures.cause.fault)
 
 pub returns-in-Err-clause-any_moment : goal.returns-in-Err-clause-any_moment
 returns-in-Err-clause-any_moment g c =
-    opened_stands (g.D.Disk.state c.args.disk) (g.D.Disk.state c.read_place.new.disk) (g.D.Disk.state c.in-Err.fault.1) (g.met.D.Disk.only_now c.args.disk)
-    c.read_place.ensures.same c.read_place.ensures.time c.in-Err.ensures.any_moment
+    opened_stands (g.D.Disk.state c.args.disk) (g.D.Disk.state c.read_geometry.new.disk) (g.D.Disk.state c.in-Err.fault.1) (g.met.D.Disk.only_now c.args.disk)
+    c.read_geometry.ensures.same c.read_geometry.ensures.time c.in-Err.ensures.any_moment
 
 pub returns-in-Err-clause-failed : goal.returns-in-Err-clause-failed
 returns-in-Err-clause-failed g c =
     let old = g.D.Disk.state c.args.disk in
-    let mid = g.D.Disk.state c.read_place.new.disk in
+    let mid = g.D.Disk.state c.read_geometry.new.disk in
     let new = g.D.Disk.state c.in-Err.fault.1 in
-    let first = c.read_place.ensures.cause.later in
+    let first = c.read_geometry.ensures.cause.later in
     let then = c.in-Err.ensures.later in
     fails_to_mount old new c.in-Err.fault.0 (g.met.D.Disk.counts_now c.in-Err.fault.1)
-    (opened_stands old mid new (g.met.D.Disk.only_now c.args.disk) c.read_place.ensures.same c.read_place.ensures.time c.in-Err.ensures.any_moment)
+    (opened_stands old mid new (g.met.D.Disk.only_now c.args.disk) c.read_geometry.ensures.same c.read_geometry.ensures.time c.in-Err.ensures.any_moment)
     (omega (arith, first, then)) (device_failed old mid new c.in-Err.fault.0 first c.in-Err.ensures.cause)
 
 pub returns-in_default-clause-failed : goal.returns-in_default-clause-failed
 returns-in_default-clause-failed g c =
-    fails_to_mount (g.D.Disk.state c.args.disk) (g.D.Disk.state c.read_place.new.disk) DiskFault (g.met.D.Disk.counts_now c.read_place.new.disk)
-    (same_stands (g.D.Disk.state c.args.disk) (g.D.Disk.state c.read_place.new.disk) (g.met.D.Disk.only_now c.args.disk) c.read_place.ensures.same c.read_place.ensures.time)
-    c.read_place.ensures.cause.later (λ is. c.in_default.ensures.cause.fault)
+    fails_to_mount (g.D.Disk.state c.args.disk) (g.D.Disk.state c.read_geometry.new.disk) DiskFault (g.met.D.Disk.counts_now c.read_geometry.new.disk)
+    (same_stands (g.D.Disk.state c.args.disk) (g.D.Disk.state c.read_geometry.new.disk) (g.met.D.Disk.only_now c.args.disk) c.read_geometry.ensures.same c.read_geometry.ensures.time)
+    c.read_geometry.ensures.cause.later (λ is. c.in_default.ensures.cause.fault)

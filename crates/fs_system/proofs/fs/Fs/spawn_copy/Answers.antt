@@ -12,13 +12,13 @@ returns-then-is_halted-clause-does g c =
 
 pub returns-then-is_full-clause-does : goal.returns-then-is_full-clause-does
 returns-then-is_full-clause-does g c =
-    spawn_refused g.D.Disk.state g.met.D.Disk.only_now c.args.self.now (sym c.is_halted.ensures ∙ c.if-is_halted.false) c.args.cred.now c.args.self.now.desks
-    (subst (λ (n : ℕ). 64 ≤ n) (ap (λ s. length s.desks) c.self.view_is) (c.is_full.ensures.0 c.if-is_full.true)) refl
+    spawn_refused g.D.Disk.state g.met.D.Disk.only_now c.args.self.now (sym c.is_halted.ensures ∙ c.if-is_halted.false) c.args.cred.now c.args.self.now.processes
+    (subst (λ (n : ℕ). 64 ≤ n) (ap (λ s. length s.processes) c.self.view_is) (c.is_full.ensures.0 c.if-is_full.true)) refl
 
 pub returns-in_default-clause-does : goal.returns-in_default-clause-does
 returns-in_default-clause-does g c =
     spawn_lacks g.D.Disk.state g.met.D.Disk.only_now c.args.self.now (sym c.is_halted.ensures ∙ c.if-is_halted.false) c.args.cred.now c.try_clone.ensures.valid
-    c.args.self.now.desks (still_room c.self.inside.procs c.args.self.now.desks c.is_full.result (ap (λ s. s.desks) c.self.view_is) c.is_full.ensures c.if-is_full.false) refl
+    c.args.self.now.processes (still_room c.self.inside.procs c.args.self.now.processes c.is_full.result (ap (λ s. s.processes) c.self.view_is) c.is_full.ensures c.if-is_full.false) refl
 
 pub returns-clause-does : goal.returns-clause-does
 returns-clause-does g c =

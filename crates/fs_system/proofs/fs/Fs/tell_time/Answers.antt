@@ -9,10 +9,10 @@ returns-then-is_halted-clause-does g c =
 
 pub invariant_of-self : goal.invariant_of-self
 invariant_of-self g c =
-    time_system g.D.Disk.state g.met.D.Disk.only_now c.self.inside.base c.self.inside.place c.self.inside.procs c.self.inside.time c.args.self.now c.self.view_is
+    time_system g.D.Disk.state g.met.D.Disk.only_now c.self.inside.base c.self.inside.geometry c.self.inside.procs c.self.inside.time c.args.self.now c.self.view_is
     (sym c.is_halted.ensures ∙ c.if-is_halted.false) c.args.now c.ranges.now.fits c.self.invariant
 
 pub returns-clause-does : goal.returns-clause-does
 returns-clause-does g c =
-    time_returns g.D.Disk.state g.met.D.Disk.only_now c.self.inside.base c.self.inside.place c.self.inside.procs c.self.inside.time c.args.self.now c.self.view_is
+    time_returns g.D.Disk.state g.met.D.Disk.only_now c.self.inside.base c.self.inside.geometry c.self.inside.procs c.self.inside.time c.args.self.now c.self.view_is
     (sym c.is_halted.ensures ∙ c.if-is_halted.false) c.args.now c.ranges.now.fits

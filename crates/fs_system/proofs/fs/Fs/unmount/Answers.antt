@@ -5,28 +5,28 @@ use Rattle.fs_images.specs.Standing.{EachStandsForSome}
 
 pub returns-in-Ok-clause-does : goal.returns-in-Ok-clause-does
 returns-in-Ok-clause-does g c =
-    last_closed g.D.Disk.state g.met.D.Disk.only_now c.self.inside.base c.self.inside.place c.self.inside.procs c.self.inside.time c.args.self c.self.view_is c.in-Some-Ok.store
+    last_closed g.D.Disk.state g.met.D.Disk.only_now c.self.inside.base c.self.inside.geometry c.self.inside.procs c.self.inside.time c.args.self c.self.view_is c.in-Some-Ok.store
     (c.in-Some-Ok.is ∙ ap (λ k. Some k) c.in-Some-Ok.field-0-is) c.in-Ok.disk
     c.in-Ok.ensures.images c.in-Ok.ensures.lasting c.in-Ok.ensures.cause.later c.in-Ok.ensures.told.quiet
 
 pub returns-in-Ok-clause-again : goal.returns-in-Ok-clause-again
 returns-in-Ok-clause-again g c =
-    flush_leaves g.D.Disk.state g.met.D.Disk.only_now c.self.inside.base c.self.inside.place c.self.inside.procs c.self.inside.time c.args.self c.self.view_is c.in-Some-Ok.store
+    flush_leaves g.D.Disk.state g.met.D.Disk.only_now c.self.inside.base c.self.inside.geometry c.self.inside.procs c.self.inside.time c.args.self c.self.view_is c.in-Some-Ok.store
     (c.in-Some-Ok.is ∙ ap (λ k. Some k) c.in-Some-Ok.field-0-is) c.in-Ok.disk (g.met.D.Disk.counts_now c.in-Ok.disk) c.in-Ok.ensures.images c.self.invariant
 
 pub returns-in-Some-Ok-clause-does : goal.returns-in-Some-Ok-clause-does
 returns-in-Some-Ok-clause-does g c =
-    last_broken g.D.Disk.state g.met.D.Disk.only_now c.self.inside.base c.self.inside.place c.self.inside.procs c.self.inside.time c.args.self c.self.view_is c.in-Some-Ok.store
+    last_broken g.D.Disk.state g.met.D.Disk.only_now c.self.inside.base c.self.inside.geometry c.self.inside.procs c.self.inside.time c.args.self c.self.view_is c.in-Some-Ok.store
     (c.in-Some-Ok.is ∙ ap (λ k. Some k) c.in-Some-Ok.field-0-is) c.in-Err.broken
     c.in-Err.ensures.images c.in-Err.ensures.cause.later c.in-Err.ensures.cause.fault c.in-Err.ensures.told.fault c.into_disk.result c.into_disk.ensures
 
 pub returns-in-Some-Ok-clause-again : goal.returns-in-Some-Ok-clause-again
 returns-in-Some-Ok-clause-again g c =
     subst (λ d. EachStandsForSome (g.D.Disk.state d)) (sym c.into_disk.ensures)
-    (flush_leaves g.D.Disk.state g.met.D.Disk.only_now c.self.inside.base c.self.inside.place c.self.inside.procs c.self.inside.time c.args.self c.self.view_is c.in-Some-Ok.store
+    (flush_leaves g.D.Disk.state g.met.D.Disk.only_now c.self.inside.base c.self.inside.geometry c.self.inside.procs c.self.inside.time c.args.self c.self.view_is c.in-Some-Ok.store
     (c.in-Some-Ok.is ∙ ap (λ k. Some k) c.in-Some-Ok.field-0-is) c.in-Err.broken (g.met.D.Disk.counts_now c.in-Err.broken) c.in-Err.ensures.images c.self.invariant)
 
 pub returns-in-Some-Err-clause-does : goal.returns-in-Some-Err-clause-does
 returns-in-Some-Err-clause-does g c =
-    last_halted g.D.Disk.state g.met.D.Disk.only_now c.self.inside.base c.self.inside.place c.self.inside.procs c.self.inside.time c.args.self c.self.view_is c.in-Some-Err.broken
+    last_halted g.D.Disk.state g.met.D.Disk.only_now c.self.inside.base c.self.inside.geometry c.self.inside.procs c.self.inside.time c.args.self c.self.view_is c.in-Some-Err.broken
     (c.in-Some-Err.is ∙ ap (λ k. Some k) c.in-Some-Err.field-0-is) c.into_disk-in-Some-Err.result c.into_disk-in-Some-Err.ensures

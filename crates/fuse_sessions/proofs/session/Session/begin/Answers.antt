@@ -16,15 +16,15 @@ unfolding begin
 returns-then-offer-gt-VERSION g c =
     where-false _ _ (le-ltb _ _ c.if-offer-lt-VERSION.false) (where-true _ _ (lt-ltb _ _ c.if-offer-gt-VERSION.true) (gives-as c.terms.ensures))
 
-pub returns-in_err-or_looker : goal.returns-in_err-or_looker
+pub returns-in_err-or_server_process : goal.returns-in_err-or_server_process
 unfolding begin
-returns-in_err-or_looker g c =
+returns-in_err-or_server_process g c =
     where-false _ _ (le-ltb _ _ c.if-offer-lt-VERSION.false) (where-false _ _ (le-ltb _ _ c.if-offer-gt-VERSION.false)
-    (reads _ _ refl (then-fails _ c.from_residual.ensures c.in_err-or_looker.ensures.did)))
+    (reads _ _ refl (then-fails _ c.from_residual.ensures c.in_err-or_server_process.ensures.did)))
 
 pub returns : goal.returns
 unfolding begin
 returns g c =
     where-false _ _ (le-ltb _ _ c.if-offer-lt-VERSION.false) (where-false _ _ (le-ltb _ _ c.if-offer-gt-VERSION.false)
-    (reads _ _ refl (then-ok _ c.in_ok-or_looker.ensures.did
-    (keeps _ _ refl (c.agree_on_acls.ensures.kept ∙ ap (λ (b : Bool). with_acls_offered b c.or_looker.new.self.server.server) c.offers_acls.ensures) (reads-last _ _ (c.agreed.ensures ∙ ap (λ (k : Settings). agreed c.args.offer.now k) c.settings.ensures))))))
+    (reads _ _ refl (then-ok _ c.in_ok-or_server_process.ensures.did
+    (keeps _ _ refl (c.agree_on_acls.ensures.kept ∙ ap (λ (b : Bool). with_acls_offered b c.or_server_process.new.self.server.server) c.offers_acls.ensures) (reads-last _ _ (c.agreed.ensures ∙ ap (λ (k : Settings). agreed c.args.offer.now k) c.settings.ensures))))))

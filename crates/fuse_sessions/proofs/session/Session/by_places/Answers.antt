@@ -4,11 +4,11 @@ use Rattle.std.proofs.lemmas.Option.{slice_get_within}
 use Rattle.fs_model.specs.declared.call.Call.{Call}
 use Rattle.fuse_state.specs.Rooms.{Kept}
 use Rattle.fuse_state.specs.Servers.{places_of}
-use Rattle.fuse_plans.specs.declared.stop.Stop.{Stop}
+use Rattle.fuse_plans.specs.declared.request_error.RequestError.{RequestError}
 use Rattle.fuse_plans.specs.Callers.{at_place, by_places}
 use Rattle.fuse_plans.specs.Paths.{at_path}
 use Rattle.fuse_sessions.proofs.Doings.{same-work, ends-as}
-use Rattle.fuse_sessions.proofs.ByPlaces.{place-next, places-end, places-none, places-ok, places-refused, places-next}
+use Rattle.fuse_sessions.proofs.ByPlaces.{dentry-next, places-end, places-none, places-ok, places-refused, places-next}
 use Rattle.fuse_sessions.proofs.session.Session.by_places.Goals as goal
 
 pub loop-tried-init : goal.loop-tried-init
@@ -20,7 +20,7 @@ returns-in-Ok-clause-did g c =
     let places = places_of c.args.self.now.server.server c.args.inode in
     let is = ap (λ (k : Kept). slice_get (places_of k.server c.args.inode) c.loop-tried.at) (sym c.loop-tried.invariant.1) ∙ made.1 in
     c.loop-tried.invariant.0 _ _
-    (places-ok _ _ _ _ _ _ (place-next places c.loop-tried.at made.0 is)
+    (places-ok _ _ _ _ _ _ (dentry-next places c.loop-tried.at made.0 is)
     (same-work (ap (λ (k : Call). at_place c.args.pid c.args.second (at_path k) made.0) (sym c.loop-tried.invariant.2)) (rw c.in-Ok.is at made.2)))
 
 pub returns-then-not-is_for-clause-did : goal.returns-then-not-is_for-clause-did
@@ -29,7 +29,7 @@ returns-then-not-is_for-clause-did g c =
     let places = places_of c.args.self.now.server.server c.args.inode in
     let is = ap (λ (k : Kept). slice_get (places_of k.server c.args.inode) c.loop-tried.at) (sym c.loop-tried.invariant.1) ∙ made.1 in
     c.loop-tried.invariant.0 _ _
-    (places-refused _ _ _ _ _ _ (place-next places c.loop-tried.at made.0 is)
+    (places-refused _ _ _ _ _ _ (dentry-next places c.loop-tried.at made.0 is)
     (same-work (ap (λ (k : Call). at_place c.args.pid c.args.second (at_path k) made.0) (sym c.loop-tried.invariant.2)) (rw c.in-Err.is at made.2))
     (sym c.is_for.ensures ∙ c.if-not-is_for.true))
 
@@ -47,11 +47,11 @@ loop-tried-preserved g c =
     let is = ap (λ (k : Kept). slice_get (places_of k.server c.args.inode) c.loop-tried.at) (sym c.loop-tried.invariant.1) ∙ made.1 in (
       λ fin r did.
           c.loop-tried.invariant.0 fin r
-          (places-next _ _ _ _ _ _ (place-next places c.loop-tried.at made.0 is)
+          (places-next _ _ _ _ _ _ (dentry-next places c.loop-tried.at made.0 is)
           (same-work (ap (λ (k : Call). at_place c.args.pid c.args.second (at_path k) made.0) (sym c.loop-tried.invariant.2)) (rw c.in-Err.is at made.2))
           (sym c.is_for.ensures ∙ c.if-not-is_for.false)
           (same-work
-          (ap (λ (e : Stop). by_places c.args.pid c.args.second (at_path c.args.call.now) e (drop (c.loop-tried.at + 1) places)) (sym c.standing_refusal-stop.ensures))
+          (ap (λ (e : RequestError). by_places c.args.pid c.args.second (at_path c.args.call.now) e (drop (c.loop-tried.at + 1) places)) (sym c.standing_refusal-error.ensures))
           did)),
       c.call_at.ensures.kept ∙ c.loop-tried.invariant.1,
       c.call_at.ensures.call ∙ c.loop-tried.invariant.2,

@@ -21,4 +21,4 @@ returns g c =
     then-was _ (on-machine c.open_or_make-opened.ensures.did) c.in_ok-reply.was
     (needs-some _ _ (sym (rw c.fd_of_reply-fd.ensures at c.in-Some.ensures))
     (then-ok _ (rw c.descriptor_of.ensures at c.in_ok-seen.ensures.did)
-    (rw (c.place-place.ensures, c.is_trunc-is_cut.ensures, c.open_or_make-opened.ensures.name) at c.tell_created.ensures)))
+    (rw (c.dentry-dentry.ensures, c.is_trunc-is_cut.ensures, c.open_or_make-opened.ensures.name) at c.tell_created.ensures)))

@@ -13,4 +13,4 @@ pub returns : goal.returns
 returns g c =
     then-ok _ (rw c.requires.copy at c.in_ok-pid.ensures.did)
     (then-was _ c.link_by_place-tried.ensures.did c.in_ok-tried.was
-    (rw (c.place.ensures, c.link_by_place-tried.ensures.name) at c.tell_linked.ensures))
+    (rw (c.dentry.ensures, c.link_by_place-tried.ensures.name) at c.tell_linked.ensures))

@@ -4,4 +4,4 @@ use Rattle.fuse_sessions.proofs.Doings.{same-work}
 use Rattle.fuse_sessions.proofs.session.Session.look_at.Goals as goal
 
 pub returns-then-has_place-clause-did : goal.returns-then-has_place-clause-did
-returns-then-has_place-clause-did g c = same-work (ap (look_at _) (sym c.has_place.ensures ∙ c.if-has_place.true)) c.by_looker.ensures.did
+returns-then-has_place-clause-did g c = same-work (ap (look_at _) (sym c.has_place.ensures ∙ c.if-has_place.true)) c.by_server_process.ensures.did

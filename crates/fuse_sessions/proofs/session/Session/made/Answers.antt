@@ -27,5 +27,5 @@ returns g c =
     then-ok _ c.in_ok-pid.ensures
     (then-was _ (on-machine c.look_inside-shown.ensures.did) c.in_ok-status.was
     (then-ok _ c.in_ok-stamps.ensures.did
-    (keeps _ _ refl (rw (c.place.ensures, c.look_inside-shown.ensures.name) at c.add_object.ensures.kept)
+    (keeps _ _ refl (rw (c.dentry.ensures, c.look_inside-shown.ensures.name) at c.add_object.ensures.kept)
     (reads-last _ _ c.found_body.ensures))))

@@ -7,4 +7,4 @@ returns-in_err-free g c = was-fails _ c.from_residual.ensures (on-machine c.noth
 pub returns : goal.returns
 returns g c =
     then-was _ (on-machine c.nothing_to_replace-free.ensures.did) c.in_ok-free.was
-    (rw (c.place.ensures, c.nothing_to_replace-free.ensures.name) at c.rename.ensures)
+    (rw (c.dentry.ensures, c.nothing_to_replace-free.ensures.name) at c.rename.ensures)

@@ -4,7 +4,7 @@ use Rattle.std.proofs.lemmas.Bool.{ne_eqb}
 use Rattle.fs_model.specs.Limits.{root}
 use Rattle.fs_model.specs.declared.call.Call.{Call}
 use Rattle.fuse_state.specs.Rooms.{Kept}
-use Rattle.fuse_state.specs.Servers.{kind_of}
+use Rattle.fuse_state.specs.Servers.{kind_known}
 use Rattle.fuse_plans.specs.Callers.{on, or_inside}
 use Rattle.fuse_plans.specs.Paths.{at_path}
 use Rattle.fuse_sessions.proofs.Doings.{where-true, where-false, reads, then-ok, attempts, on-machine, same-work, gives}
@@ -27,6 +27,6 @@ returns-in-Err-clause-did g c =
     (reads _ _ refl (reads _ _ refl
     (then-ok _ (attempts _ (rw c.in-Err.is at c.by_places.ensures.did))
     (same-work
-    (ap (λ (k : Call). or_inside c.args.pid c.args.inode (at_path k) (kind_of c.args.self.now.server.server c.args.inode) (Err c.in-Err.stop)) (sym c.by_places.ensures.call)
-    ∙ ap (λ (k : Kept). or_inside c.args.pid c.args.inode (at_path c.by_places.new.call) (kind_of k.server c.args.inode) (Err c.in-Err.stop)) (sym c.by_places.ensures.kept))
+    (ap (λ (k : Call). or_inside c.args.pid c.args.inode (at_path k) (kind_known c.args.self.now.server.server c.args.inode) (Err c.in-Err.error)) (sym c.by_places.ensures.call)
+    ∙ ap (λ (k : Kept). or_inside c.args.pid c.args.inode (at_path c.by_places.new.call) (kind_known k.server c.args.inode) (Err c.in-Err.error)) (sym c.by_places.ensures.kept))
     c.or_inside.ensures.did))))

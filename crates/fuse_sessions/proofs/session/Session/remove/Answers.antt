@@ -14,4 +14,4 @@ pub returns : goal.returns
 returns g c =
     then-ok _ c.in_ok-directory.ensures.did
     (then-was _ (on-machine c.remove_inside-tried.ensures.did) c.in_ok-tried.was
-    (keeps _ _ refl (rw (c.place.ensures, c.remove_inside-tried.ensures.name) at c.note_removed.ensures.kept) (gives _ _)))
+    (keeps _ _ refl (rw (c.dentry.ensures, c.remove_inside-tried.ensures.name) at c.note_removed.ensures.kept) (gives _ _)))

@@ -8,4 +8,4 @@ returns-in_err-stamps g c = then-fails _ c.from_residual.ensures c.in_err-stamps
 pub returns : goal.returns
 returns g c =
     then-ok _ c.in_ok-stamps.ensures.did
-    (keeps _ _ refl (rw c.place.ensures at c.note_found.ensures.kept) (reads-last _ _ c.looked_up_body.ensures))
+    (keeps _ _ refl (rw c.dentry.ensures at c.note_found.ensures.kept) (reads-last _ _ c.looked_up_body.ensures))

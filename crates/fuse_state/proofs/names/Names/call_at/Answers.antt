@@ -1,5 +1,5 @@
 use Rattle.std.proofs.Common.{◌≡◌, refl, sym, ap, subst, Some, is_some, count_by, option_map, slice_get, ◌∙◌, arith}
-use Rattle.fuse_state.specs.Names.{Stand, found_at}
+use Rattle.fuse_state.specs.Names.{Stand, found_under}
 use Rattle.fuse_state.specs.Servers.{places_in}
 use Rattle.fuse_state.proofs.NamesKept.{still_indexed, given_back}
 use Rattle.fuse_state.proofs.Indexed.{inodes_stand}
@@ -14,13 +14,13 @@ pub returns-in_err-key-clause-none : goal.returns-in_err-key-clause-none
 returns-in_err-key-clause-none g c =
     λ _. sym (ap (λ n. slice_get (places_in n.0 c.args.inode) c.args.at) c.self.view_is)
     ∙ nth_place _ _ _ c.self.invariant.0 c.args.inode c.args.at
-    ∙ ap (option_map (λ k. (found_at c.self.inside.found.slots k).place)) (sym (rw c.deref.ensures.value at c.key_of.ensures.key) ∙ c.in_err-key.was)
+    ∙ ap (option_map (λ k. (found_under c.self.inside.found.slots k).dentry)) (sym (rw c.deref.ensures.value at c.key_of.ensures.key) ∙ c.in_err-key.was)
 
 pub invariant_of-self-2 : goal.invariant_of-self-2
 invariant_of-self-2 g c =
     let there = sym (rw c.in_ok-found.was at c.get_mut.ensures.value) in
     let same = given_back c.self.inside.found.slots c.in_ok-key.key c.in_ok-found.found.now c.call_at-reply.result.1
-    (c.call_at-reply.ensures.place ∙ ap (λ n. record c.in_ok-found.found.now.place { name = n }) c.replace-name.ensures.value) there in (
+    (c.call_at-reply.ensures.dentry ∙ ap (λ n. record c.in_ok-found.found.now.dentry { name = n }) c.replace-name.ensures.value) there in (
       still_indexed same refl refl c.self.invariant.0,
       record {
         for_found = omega (arith, c.self.invariant.1.for_found, ap (count_by is_some) same);
@@ -33,12 +33,12 @@ pub returns-clause-made : goal.returns-clause-made
 returns-clause-made g c =
     let f = c.in_ok-found.found.now in
     let there = sym (rw c.in_ok-found.was at c.get_mut.ensures.value) in
-    let read : Some f ≡ Some (found_at c.self.inside.found.slots c.in_ok-key.key) = sym there ∙ c.in_ok-key.ensures.stands in (
-      record { directory = f.place.directory; name = c.replace-name.result },
+    let read : Some f ≡ Some (found_under c.self.inside.found.slots c.in_ok-key.key) = sym there ∙ c.in_ok-key.ensures.stands in (
+      record { directory = f.dentry.directory; name = c.replace-name.result },
       sym (ap (λ n. slice_get (places_in n.0 c.args.inode) c.args.at) c.self.view_is)
           ∙ nth_place _ _ _ c.self.invariant.0 c.args.inode c.args.at
-          ∙ ap (option_map (λ k. (found_at c.self.inside.found.slots k).place)) (sym (rw c.deref.ensures.value at c.key_of.ensures.key) ∙ c.in_ok-key.was)
-          ∙ ap (option_map (λ g. g.place)) (sym read)
-          ∙ ap (λ n. Some (record f.place { name = n })) (sym c.replace-name.ensures.value),
+          ∙ ap (option_map (λ k. (found_under c.self.inside.found.slots k).dentry)) (sym (rw c.deref.ensures.value at c.key_of.ensures.key) ∙ c.in_ok-key.was)
+          ∙ ap (option_map (λ g. g.dentry)) (sym read)
+          ∙ ap (λ n. Some (record f.dentry { name = n })) (sym c.replace-name.ensures.value),
       c.call_at-reply.ensures.did,
     )

@@ -1,6 +1,6 @@
 use Rattle.std.proofs.Common.{sym, ap, ◌∙◌, Some}
 use Rattle.fs_layout.specs.Maps.{get, with_entry}
-use Rattle.fuse_state.specs.Servers.{place_cmp}
+use Rattle.fuse_state.specs.Servers.{dentry_cmp}
 use Rattle.fuse_state.proofs.Keyed.{get-gone, put_same, put_again}
 use Rattle.fuse_state.proofs.Orders.{place_total, place_anti}
 use Rattle.fuse_state.proofs.names.Names.put.Goals as goal
@@ -8,17 +8,17 @@ use Rattle.fuse_state.proofs.names.Names.put.Goals.{in-Some-2, in-None}
 
 pub returns-in-Some-clause-put : goal.returns-in-Some-clause-put
 returns-in-Some-clause-put c =
-    put_same place_total place_anti c.args.self.now.0 c.args.place c.args.inode c.get.ensures.rising
+    put_same place_total place_anti c.args.self.now.0 c.args.dentry c.args.inode c.get.ensures.rising
     (sym c.get.ensures.found ∙ c.in-Some.is ∙ ap Some c.if-known-inode.true)
 
 pub add-requires-clause-new : goal.add-requires-clause-new
 add-requires-clause-new c =
     elim c.match-get.branch [
       | in-Some-2 w ↦
-          ap (λ n. get place_cmp n.0 c.args.place) w.self-is
-          ∙ ap (λ m. get place_cmp m c.args.place) w.remove.ensures.removed
-          ∙ get-gone place_total place_anti c.args.self.now.0 c.args.place
-      | in-None w ↦ ap (λ n. get place_cmp n.0 c.args.place) w.self-is ∙ sym c.get.ensures.found ∙ w.in-None.is
+          ap (λ n. get dentry_cmp n.0 c.args.dentry) w.self-is
+          ∙ ap (λ m. get dentry_cmp m c.args.dentry) w.remove.ensures.removed
+          ∙ get-gone place_total place_anti c.args.self.now.0 c.args.dentry
+      | in-None w ↦ ap (λ n. get dentry_cmp n.0 c.args.dentry) w.self-is ∙ sym c.get.ensures.found ∙ w.in-None.is
     ]
 
 pub returns-clause-put : goal.returns-clause-put
@@ -26,8 +26,8 @@ returns-clause-put c =
     c.add.ensures.put
     ∙ elim c.match-get.branch [
       | in-Some-2 w ↦
-          ap (λ n. with_entry place_cmp n.0 c.args.place c.args.inode) w.self-is
-          ∙ ap (λ m. with_entry place_cmp m c.args.place c.args.inode) w.remove.ensures.removed
-          ∙ put_again place_total place_anti c.args.self.now.0 c.args.place c.args.inode c.get.ensures.rising
-      | in-None w ↦ ap (λ n. with_entry place_cmp n.0 c.args.place c.args.inode) w.self-is
+          ap (λ n. with_entry dentry_cmp n.0 c.args.dentry c.args.inode) w.self-is
+          ∙ ap (λ m. with_entry dentry_cmp m c.args.dentry c.args.inode) w.remove.ensures.removed
+          ∙ put_again place_total place_anti c.args.self.now.0 c.args.dentry c.args.inode c.get.ensures.rising
+      | in-None w ↦ ap (λ n. with_entry dentry_cmp n.0 c.args.dentry c.args.inode) w.self-is
     ]

@@ -1,10 +1,10 @@
 use Rattle.std.proofs.Common.{◌≡◌, ◌+◌, ℕ, List, None, Some, OnSome, refl, sym, ap, subst, ◌∙◌, arith}
 use Rattle.slab.specs.Slab.{slab_len}
 use Rattle.fs_layout.specs.Maps.{get}
-use Rattle.fuse_state.specs.declared.place.Found.{Found}
-use Rattle.fuse_state.specs.declared.place.Place.{Place}
-use Rattle.fuse_state.specs.Names.{Stand, found_at, names_under, by_places, by_inodes, found_cmp}
-use Rattle.fuse_state.specs.Servers.{place_cmp, names_elsewhere}
+use Rattle.fuse_state.specs.declared.dentry.Found.{Found}
+use Rattle.fuse_state.specs.declared.dentry.Dentry.{Dentry}
+use Rattle.fuse_state.specs.Names.{Stand, found_under, names_under, by_keys, by_inodes, found_cmp}
+use Rattle.fuse_state.specs.Servers.{dentry_cmp, names_elsewhere}
 use Rattle.fuse_state.specs.Tables.{IsGap}
 use Rattle.fuse_state.proofs.Orders.{place_total}
 use Rattle.fuse_state.proofs.Searched.{get_lacking, lacks_in_gap}
@@ -33,11 +33,11 @@ unreachable-requires-in_default-search_places c =
     let f = c.in-Some-get.found.now in
     let there = sym (rw c.in-Some-get.is at c.get.ensures) in
     let first = sym (rw c.deref.ensures.value at c.in-Some.ensures.key) in
-    let read : Some f ≡ Some (found_at s k) = sym there ∙ c.in-Some.ensures.stands in
-    let one : f ≡ found_at s k = cc in
-    let key : get place_cmp (by_places s c.self.inside.by_place.items) f.place ≡ Some k =
-    ap (λ (g : Found). get place_cmp (by_places s c.self.inside.by_place.items) g.place) one ∙ first_key _ _ _ c.self.invariant.0 c.args.inode k first in
-    let none = get_lacking place_total _ f.place (lacks_in_gap place_total _ f.place c.in_default-search_places.field-0 (rw c.deref-2.ensures.value at c.in_default-search_places.ensures)) in
+    let read : Some f ≡ Some (found_under s k) = sym there ∙ c.in-Some.ensures.stands in
+    let one : f ≡ found_under s k = cc in
+    let key : get dentry_cmp (by_keys s c.self.inside.by_place.items) f.dentry ≡ Some k =
+    ap (λ (g : Found). get dentry_cmp (by_keys s c.self.inside.by_place.items) g.dentry) one ∙ first_key _ _ _ c.self.invariant.0 c.args.inode k first in
+    let none = get_lacking place_total _ f.dentry (lacks_in_gap place_total _ f.dentry c.in_default-search_places.field-0 (rw c.deref-2.ensures.value at c.in_default-search_places.ensures)) in
     let no : None ≡ Some k = sym none ∙ key in
     cc
 
@@ -52,11 +52,11 @@ unreachable-requires-in_default-search_inodes c =
     let f = c.in-Some-get.found.now in
     let there = sym (rw c.in-Some-get.is at c.get.ensures) in
     let first = sym (rw c.deref.ensures.value at c.in-Some.ensures.key) in
-    let read : Some f ≡ Some (found_at s k) = sym there ∙ c.in-Some.ensures.stands in
-    let one : f ≡ found_at s k = cc in
-    let key : get place_cmp (by_places s c.self.inside.by_place.items) f.place ≡ Some k =
-    ap (λ (g : Found). get place_cmp (by_places s c.self.inside.by_place.items) g.place) one ∙ first_key _ _ _ c.self.invariant.0 c.args.inode k first in
-    no_gap _ _ _ c.self.invariant.0 f.place k c.in_default-search_inodes.field-0 key
+    let read : Some f ≡ Some (found_under s k) = sym there ∙ c.in-Some.ensures.stands in
+    let one : f ≡ found_under s k = cc in
+    let key : get dentry_cmp (by_keys s c.self.inside.by_place.items) f.dentry ≡ Some k =
+    ap (λ (g : Found). get dentry_cmp (by_keys s c.self.inside.by_place.items) g.dentry) one ∙ first_key _ _ _ c.self.invariant.0 c.args.inode k first in
+    no_gap _ _ _ c.self.invariant.0 f.dentry k c.in_default-search_inodes.field-0 key
     (subst (λ g. IsGap found_cmp (by_inodes s c.self.inside.by_inode.items) g c.in_default-search_inodes.field-0) one (rw c.deref-3.ensures.value at c.in_default-search_inodes.ensures))
 
 pub invariant_of-self : goal.invariant_of-self
@@ -66,15 +66,15 @@ invariant_of-self c =
     let f = c.in-Some-get.found.now in
     let there = sym (rw c.in-Some-get.is at c.get.ensures) in
     let first = sym (rw c.deref.ensures.value at c.in-Some.ensures.key) in
-    let read : Some f ≡ Some (found_at s k) = sym there ∙ c.in-Some.ensures.stands in
-    let one : f ≡ found_at s k = cc in
-    let key : get place_cmp (by_places s c.self.inside.by_place.items) f.place ≡ Some k =
-    ap (λ (g : Found). get place_cmp (by_places s c.self.inside.by_place.items) g.place) one ∙ first_key _ _ _ c.self.invariant.0 c.args.inode k first in
+    let read : Some f ≡ Some (found_under s k) = sym there ∙ c.in-Some.ensures.stands in
+    let one : f ≡ found_under s k = cc in
+    let key : get dentry_cmp (by_keys s c.self.inside.by_place.items) f.dentry ≡ Some k =
+    ap (λ (g : Found). get dentry_cmp (by_keys s c.self.inside.by_place.items) g.dentry) one ∙ first_key _ _ _ c.self.invariant.0 c.args.inode k first in
     let rooms = c.self.invariant.1 in
     let fewer : slab_len c.try_remove-found.new.self + 1 ≡ slab_len c.self.inside.found =
     subst (λ r. OnSome r (slab_len c.try_remove-found.new.self + 1 ≡ slab_len c.self.inside.found)) (c.try_remove-found.ensures.value ∙ there) c.try_remove-found.ensures.len in (
       still_indexed refl c.remove-placed.ensures.items c.remove-held.ensures.items
-          (gone_indexed _ _ _ c.self.invariant.0 c.try_remove-found.new.self.slots k c.try_remove-found.ensures.updates.others f.place f key there
+          (gone_indexed _ _ _ c.self.invariant.0 c.try_remove-found.new.self.slots k c.try_remove-found.ensures.updates.others f.dentry f key there
           c.in-Ok.at c.in-Ok-search_inodes.behind (rw c.deref-2.ensures.value at c.in-Ok.ensures) (rw c.deref-3.ensures.value at c.in-Ok-search_inodes.ensures)),
       record {
         for_found = omega (arith, rooms.for_found, fewer, c.try_remove-found.ensures.capacity);
@@ -90,14 +90,14 @@ returns-clause-others c =
     let f = c.in-Some-get.found.now in
     let there = sym (rw c.in-Some-get.is at c.get.ensures) in
     let first = sym (rw c.deref.ensures.value at c.in-Some.ensures.key) in
-    let read : Some f ≡ Some (found_at s k) = sym there ∙ c.in-Some.ensures.stands in
-    let one : f ≡ found_at s k = cc in
-    let key : get place_cmp (by_places s c.self.inside.by_place.items) f.place ≡ Some k =
-    ap (λ (g : Found). get place_cmp (by_places s c.self.inside.by_place.items) g.place) one ∙ first_key _ _ _ c.self.invariant.0 c.args.inode k first in
-    ap (λ (m : List (Place × ℕ)). names_elsewhere m c.args.inode)
+    let read : Some f ≡ Some (found_under s k) = sym there ∙ c.in-Some.ensures.stands in
+    let one : f ≡ found_under s k = cc in
+    let key : get dentry_cmp (by_keys s c.self.inside.by_place.items) f.dentry ≡ Some k =
+    ap (λ (g : Found). get dentry_cmp (by_keys s c.self.inside.by_place.items) g.dentry) one ∙ first_key _ _ _ c.self.invariant.0 c.args.inode k first in
+    ap (λ (m : List (Dentry × ℕ)). names_elsewhere m c.args.inode)
     (ap (names_under c.try_remove-found.new.self.slots) c.remove-placed.ensures.items
-    ∙ gone_names _ _ _ c.self.invariant.0 c.try_remove-found.new.self.slots k c.try_remove-found.ensures.updates.others f.place f key there
+    ∙ gone_names _ _ _ c.self.invariant.0 c.try_remove-found.new.self.slots k c.try_remove-found.ensures.updates.others f.dentry f key there
     c.in-Ok.at c.in-Ok-search_inodes.behind (rw c.deref-2.ensures.value at c.in-Ok.ensures) (rw c.deref-3.ensures.value at c.in-Ok-search_inodes.ensures))
-    ∙ still_elsewhere f.place c.args.inode (names_under s c.self.inside.by_place.items) (names_rise _ _ _ c.self.invariant.0)
-    (name_inode _ _ _ c.self.invariant.0 f.place k key ∙ ap Some (first_inode _ _ _ c.self.invariant.0 c.args.inode k first))
+    ∙ still_elsewhere f.dentry c.args.inode (names_under s c.self.inside.by_place.items) (names_rise _ _ _ c.self.invariant.0)
+    (name_inode _ _ _ c.self.invariant.0 f.dentry k key ∙ ap Some (first_inode _ _ _ c.self.invariant.0 c.args.inode k first))
     ∙ ap (λ v. names_elsewhere v.0 c.args.inode) c.self.view_is

@@ -44,7 +44,7 @@ pub load_inode-requires-clause-sound : goal.load_inode-requires-clause-sound
 load_inode-requires-clause-sound g c = sound_kept c.in_ok-target.ensures.same c.requires.sound
 
 pub load_inode-requires-clause-below : goal.load_inode-requires-clause-below
-load_inode-requires-clause-below g c = let least = c.requires.sound.consistent.place.least_inodes in omega (arith, least)
+load_inode-requires-clause-below g c = let least = c.requires.sound.consistent.geometry.least_inodes in omega (arith, least)
 
 pub returns-then-not-begins_with_slash-clause-behind : goal.returns-then-not-begins_with_slash-clause-behind
 returns-then-not-begins_with_slash-clause-behind g c =
@@ -96,10 +96,10 @@ returns-clause-same g c = unchanged_joined c.in_ok-target.ensures.same c.in_ok-s
 
 pub returns-clause-at : goal.returns-clause-at
 returns-clause-at g c =
-    let least = c.requires.sound.consistent.place.least_inodes in
+    let least = c.requires.sound.consistent.geometry.least_inodes in
     record {
       below = omega (arith, least);
-      inode = sym (same_ok _ _ c.in_ok-self-2.ensures.each) ∙ ap (λ (m : SectorMap). inode_at c.args.place m root) (same_map c.in_ok-target.ensures.same);
+      inode = sym (same_ok _ _ c.in_ok-self-2.ensures.each) ∙ ap (λ (m : SectorMap). inode_at c.args.geometry m root) (same_map c.in_ok-target.ensures.same);
     }
 
 pub returns-then-not-begins_with_slash-clause-at : goal.returns-then-not-begins_with_slash-clause-at

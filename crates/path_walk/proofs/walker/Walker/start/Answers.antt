@@ -10,7 +10,7 @@ pub load_inode-requires-clause-below : goal.load_inode-requires-clause-below
 load_inode-requires-clause-below g c =
     let is : c.start_of-here.result ≡ start_of (parts_of c.args.path.now) c.args.cwd =
     c.start_of-here.ensures ∙ ap (λ (l : List ℕ). start_of (parts_of l) c.args.cwd) c.bytes-bytes.ensures.all in
-    subst (λ (n : ℕ). n < c.args.place.inodes) (sym is) (start_below (parts_of c.args.path.now) c.args.place c.args.cwd c.requires.sound.consistent.place c.requires.below)
+    subst (λ (n : ℕ). n < c.args.geometry.inodes) (sym is) (start_below (parts_of c.args.path.now) c.args.geometry c.args.cwd c.requires.sound.consistent.geometry c.requires.below)
 
 pub returns-in_err-inode-clause-err : goal.returns-in_err-inode-clause-err
 returns-in_err-inode-clause-err g c =
@@ -41,7 +41,7 @@ returns-clause-at g c =
     let is : c.start_of-here.result ≡ start_of (parts_of c.args.path.now) c.args.cwd =
     c.start_of-here.ensures ∙ ap (λ (l : List ℕ). start_of (parts_of l) c.args.cwd) c.bytes-bytes.ensures.all in
     record {
-      below = subst (λ (n : ℕ). n < c.args.place.inodes) (sym is)
-          (start_below (parts_of c.args.path.now) c.args.place c.args.cwd c.requires.sound.consistent.place c.requires.below);
+      below = subst (λ (n : ℕ). n < c.args.geometry.inodes) (sym is)
+          (start_below (parts_of c.args.path.now) c.args.geometry c.args.cwd c.requires.sound.consistent.geometry c.requires.below);
       inode = sym (same_ok _ _ c.in_ok-inode.ensures.each);
     }

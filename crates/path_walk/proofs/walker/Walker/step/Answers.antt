@@ -7,7 +7,7 @@ use Rattle.fs_model.specs.Parts.{is_empty}
 use Rattle.fs_model.specs.Stands.{room_of}
 use Rattle.fs_model.specs.Summaries.{is_link_kind}
 use Rattle.path_walk.specs.HeldTrees.{IsThere}
-use Rattle.path_walk.specs.Stages.{names_ahead, IsStep, IsAt, IsBehind}
+use Rattle.path_walk.specs.Stages.{names_ahead, IsStep, StandsAt, IsBehind}
 use Rattle.block_map.proofs.Runs.{unchanged_joined}
 use Rattle.path_walk.proofs.HeldNodes.{starts_there}
 use Rattle.path_walk.proofs.Kept.{same_map, kept, kept_back, sound_kept, is_err, interrupted, interrupts_later, same_ok, on_err, failed_with, interrupt_caused, loop_caused, caused_later}
@@ -24,9 +24,9 @@ returns-in_err-found-clause-each g c = λ t h there form.
     let old = g.S.Sectors.state c.args.s.now in
     let new = g.S.Sectors.state c.look_up.new.s in
     let r = c.from_residual.ensures in
-    subst (λ q. IsStep old.disk new.disk (room_of c.args.place) t c.args.cred.now form c.args.follow w w q) (sym (is_err c.from_residual.result c.in_err-found.field-0.0 r.0 r.1))
+    subst (λ q. IsStep old.disk new.disk (room_of c.args.geometry) t c.args.cred.now form c.args.follow w w q) (sym (is_err c.from_residual.result c.in_err-found.field-0.0 r.0 r.1))
     (elim (c.in_err-found.ensures.each t h there) [
-      | inl a ↦ inl (refused_stage (room_of c.args.place) t c.args.cred.now form c.args.follow w c.requires.taken c.in_err-found.field-0.0 a)
+      | inl a ↦ inl (refused_stage (room_of c.args.geometry) t c.args.cred.now form c.args.follow w c.requires.taken c.in_err-found.field-0.0 a)
       | inr way ↦ inr way
     ])
 
@@ -34,13 +34,13 @@ pub returns-then-is_last-clause-each : goal.returns-then-is_last-clause-each
 returns-then-is_last-clause-each g c = λ t h there form.
     let w = c.args.self.now in
     let a = c.in_ok-found.ensures.each t h there ∙ ap (λ (o : Option ℕ). Ok o) c.in_default.is in
-    none_stage (room_of c.args.place) t c.args.cred.now form c.args.follow w c.requires.taken a (sym c.is_last-is_last.ensures ∙ c.if-is_last.true) _ refl
+    none_stage (room_of c.args.geometry) t c.args.cred.now form c.args.follow w c.requires.taken a (sym c.is_last-is_last.ensures ∙ c.if-is_last.true) _ refl
 
 pub returns-else-is_last-clause-each : goal.returns-else-is_last-clause-each
 returns-else-is_last-clause-each g c = λ t h there form.
     let w = c.args.self.now in
     let a = c.in_ok-found.ensures.each t h there ∙ ap (λ (o : Option ℕ). Ok o) c.in_default.is in
-    inl (lost_stage (room_of c.args.place) t c.args.cred.now form c.args.follow w c.requires.taken a (sym c.is_last-is_last.ensures ∙ c.if-is_last.false))
+    inl (lost_stage (room_of c.args.geometry) t c.args.cred.now form c.args.follow w c.requires.taken a (sym c.is_last-is_last.ensures ∙ c.if-is_last.false))
 
 pub load_inode-requires-clause-sound : goal.load_inode-requires-clause-sound
 load_inode-requires-clause-sound g c = sound_kept c.in_ok-found.ensures.same c.requires.sound
@@ -55,7 +55,7 @@ returns-in_err-inode-clause-each g c = λ t h there form.
     let mid = g.S.Sectors.state c.look_up.new.s in
     let new = g.S.Sectors.state c.load_inode.new.s in
     let r = c.from_residual-in_err-inode.ensures in
-    subst (λ q. IsStep old.disk new.disk (room_of c.args.place) t c.args.cred.now form c.args.follow w (record w { step = w.step + 1 }) q)
+    subst (λ q. IsStep old.disk new.disk (room_of c.args.geometry) t c.args.cred.now form c.args.follow w (record w { step = w.step + 1 }) q)
     (sym (is_err c.from_residual-in_err-inode.result c.in_err-inode.field-0.0 r.0 r.1))
     (inr (interrupts_later new.disk c.in_ok-found.ensures.same (interrupted mid.disk new.disk _ c.in_err-inode.field-0.0 c.in_err-inode.ensures.each)))
 
@@ -71,7 +71,7 @@ follow-requires-clause-at g c =
     let same = unchanged_joined c.in_ok-found.ensures.same c.in_ok-inode.ensures.same in
     record {
       below = c.requires.at.below;
-      inode = c.requires.at.inode ∙ sym (ap (λ (m : SectorMap). inode_at c.args.place m w.here) (same_map same));
+      inode = c.requires.at.inode ∙ sym (ap (λ (m : SectorMap). inode_at c.args.geometry m w.here) (same_map same));
     }
 
 pub follow-requires-clause-there : goal.follow-requires-clause-there
@@ -79,7 +79,7 @@ follow-requires-clause-there g c =
     let n = c.in-Some.n in (
       n,
       c.in_ok-found.ensures.below n c.in-Some.is,
-      sym (same_ok _ _ c.in_ok-inode.ensures.each) ∙ sym (ap (λ (m : SectorMap). inode_at c.args.place m n) (same_map c.in_ok-inode.ensures.same)),
+      sym (same_ok _ _ c.in_ok-inode.ensures.each) ∙ sym (ap (λ (m : SectorMap). inode_at c.args.geometry m n) (same_map c.in_ok-inode.ensures.same)),
     )
 
 both : (a b : Bool) → (a && b) ≡ true → a ≡ true
@@ -99,16 +99,16 @@ returns-in_err-follow-clause-each g c = λ t h there form.
     let a = c.in_ok-found.ensures.each t h there ∙ ap (λ (o : Option ℕ). Ok o) c.in-Some.is in
     let found = found_there h c.args.cred.now w.number w.step w.here w.name.items n a in
     let v = c.in_ok-inode.inode in
-    let is = sym (same_ok _ _ c.in_ok-inode.ensures.each) ∙ ap (λ (m : SectorMap). inode_at c.args.place m n) (same_map c.in_ok-found.ensures.same) in
+    let is = sym (same_ok _ _ c.in_ok-inode.ensures.each) ∙ ap (λ (m : SectorMap). inode_at c.args.geometry m n) (same_map c.in_ok-found.ensures.same) in
     let goes : (is_link_kind v.kind && (c.args.follow || not (is_empty (names_ahead w)))) ≡ true =
     ap (λ (b : Bool). is_link_kind v.kind && (c.args.follow || not b)) (sym c.is_last-is_last.ensures) ∙ sym c.is_followed.ensures ∙ c.if-is_followed.true in
     let f = is_followed h n found v is (c.args.follow || not (is_empty (names_ahead w))) goes in
     let same = unchanged_joined c.in_ok-found.ensures.same c.in_ok-inode.ensures.same in
     let r = c.from_residual-in_err-follow.ensures in
-    subst (λ q. IsStep old.disk new.disk (room_of c.args.place) t c.args.cred.now form c.args.follow w c.follow.new.self q)
+    subst (λ q. IsStep old.disk new.disk (room_of c.args.geometry) t c.args.cred.now form c.args.follow w c.follow.new.self q)
     (sym (is_err c.from_residual-in_err-follow.result c.in_err-follow.field-0.0 r.0 r.1))
     (elim c.in_err-follow.ensures.err [
-      | inl l ↦ inl (looped_stage (room_of c.args.place) t c.args.cred.now form c.args.follow w c.requires.taken n a f.target f.through l.0 ∙ ap (λ (e : Refusal). Err e) (sym l.1))
+      | inl l ↦ inl (looped_stage (room_of c.args.geometry) t c.args.cred.now form c.args.follow w c.requires.taken n a f.target f.through l.0 ∙ ap (λ (e : Refusal). Err e) (sym l.1))
       | inr way ↦ inr (interrupts_later new.disk same way)
     ])
 
@@ -122,7 +122,7 @@ returns-in_ok-follow-clause-each g c = λ t h there form.
     let a = c.in_ok-found.ensures.each t h there ∙ ap (λ (o : Option ℕ). Ok o) c.in-Some.is in
     let found = found_there h c.args.cred.now w.number w.step w.here w.name.items n a in
     let v = c.in_ok-inode.inode in
-    let is = sym (same_ok _ _ c.in_ok-inode.ensures.each) ∙ ap (λ (m : SectorMap). inode_at c.args.place m n) (same_map c.in_ok-found.ensures.same) in
+    let is = sym (same_ok _ _ c.in_ok-inode.ensures.each) ∙ ap (λ (m : SectorMap). inode_at c.args.geometry m n) (same_map c.in_ok-found.ensures.same) in
     let last = c.is_last-is_last.ensures in
     let goes : (is_link_kind v.kind && (c.args.follow || not (is_empty (names_ahead w)))) ≡ true =
     ap (λ (b : Bool). is_link_kind v.kind && (c.args.follow || not b)) (sym last) ∙ sym c.is_followed.ensures ∙ c.if-is_followed.true in
@@ -133,14 +133,14 @@ returns-in_ok-follow-clause-each g c = λ t h there form.
     let new = c.follow.new.self in
     let b = subst (λ (l : List ℕ). IsBehind l c.is_last-is_last.result (record w { step = w.step + 1 }) new) target went.1 in
     let behind = subst (λ (l : Bool). IsBehind f.target l (record w { step = w.step + 1 }) new) last b in (
-      behind_stage (room_of c.args.place) t c.args.cred.now form c.args.follow w c.requires.taken n a f.target f.through (record w { step = w.step + 1 }) new refl behind,
+      behind_stage (room_of c.args.geometry) t c.args.cred.now form c.args.follow w c.requires.taken n a f.target f.through (record w { step = w.step + 1 }) new refl behind,
       subst (IsThere t) (sym behind.here) (starts_there h f.target w.here there),
     )
 
 pub returns-in_ok-follow-clause-at : goal.returns-in_ok-follow-clause-at
 returns-in_ok-follow-clause-at g c =
     let same = unchanged_joined c.in_ok-found.ensures.same c.in_ok-inode.ensures.same in
-    kept_back (λ m. IsAt c.args.place m c.follow.new.self) same c.in_ok-follow.ensures.at
+    kept_back (λ m. StandsAt c.args.geometry m c.follow.new.self) same c.in_ok-follow.ensures.at
 
 pub returns-in_ok-follow-clause-way : goal.returns-in_ok-follow-clause-way
 returns-in_ok-follow-clause-way g c =
@@ -157,10 +157,10 @@ returns-else-is_followed-clause-each g c = λ t h there form.
     let a = c.in_ok-found.ensures.each t h there ∙ ap (λ (o : Option ℕ). Ok o) c.in-Some.is in
     let found = found_there h c.args.cred.now w.number w.step w.here w.name.items n a in
     let v = c.in_ok-inode.inode in
-    let is = sym (same_ok _ _ c.in_ok-inode.ensures.each) ∙ ap (λ (m : SectorMap). inode_at c.args.place m n) (same_map c.in_ok-found.ensures.same) in
+    let is = sym (same_ok _ _ c.in_ok-inode.ensures.each) ∙ ap (λ (m : SectorMap). inode_at c.args.geometry m n) (same_map c.in_ok-found.ensures.same) in
     let stays : (is_link_kind v.kind && (c.args.follow || not (is_empty (names_ahead w)))) ≡ false =
     ap (λ (b : Bool). is_link_kind v.kind && (c.args.follow || not b)) (sym c.is_last-is_last.ensures) ∙ sym c.is_followed.ensures ∙ c.if-is_followed.false in (
-      moved_stage (room_of c.args.place) t c.args.cred.now form c.args.follow w c.requires.taken n a
+      moved_stage (room_of c.args.geometry) t c.args.cred.now form c.args.follow w c.requires.taken n a
           (is_moved h n found v is (c.args.follow || not (is_empty (names_ahead w))) stays) (record w { step = w.step + 1; here = n; inode = v }) v refl,
       found,
     )
@@ -170,7 +170,7 @@ returns-else-is_followed-clause-at g c =
     let n = c.in-Some.n in
     record {
       below = c.in_ok-found.ensures.below n c.in-Some.is;
-      inode = sym (same_ok _ _ c.in_ok-inode.ensures.each) ∙ ap (λ (m : SectorMap). inode_at c.args.place m n) (same_map c.in_ok-found.ensures.same);
+      inode = sym (same_ok _ _ c.in_ok-inode.ensures.each) ∙ ap (λ (m : SectorMap). inode_at c.args.geometry m n) (same_map c.in_ok-found.ensures.same);
     }
 
 pub returns-else-is_followed-clause-way : goal.returns-else-is_followed-clause-way

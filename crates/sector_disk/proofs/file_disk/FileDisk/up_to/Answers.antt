@@ -4,7 +4,7 @@ use Rattle.std.proofs.lemmas.List.Elements.{All-nil}
 use Rattle.std.proofs.lemmas.List.{with_items_is}
 use Rattle.sector_disk.specs.Disk.{Image}
 use Rattle.sector_disk.specs.Record.{recorded_state}
-use Rattle.sector_disk.specs.Files.{Follows}
+use Rattle.sector_disk.specs.Files.{KeepsKnown}
 use Rattle.sector_disk.specs.declared.memory.MemDisk.{MemDisk}
 use Rattle.sector_disk.proofs.file_disk.FileDisk.up_to.Goals as goal
 
@@ -18,6 +18,6 @@ invariant_of-result g c =
       room = subst (λ (l : Image). 0 < length l) (sym (with_items_is buffer c.load.new.buffer size)) (let some = c.in_ok-buffer.ensures in let len = buffer.ok.0 in omega (arith, some, size, len));
       in_disk = subst (λ (l : List ℕ). All (λ n. n < length disk.history.start) l) (sym c.in_ok-waiting.ensures.items) (All-nil (λ n. n < length disk.history.start));
       follows =
-          subst (λ (l : List ℕ). Follows (recorded_state disk.history disk.failures) l false file) (sym c.in_ok-waiting.ensures.items)
-          (subst (λ (m : MemDisk). Follows (recorded_state m.history m.failures) [] false file) (sym c.in_ok-memory.ensures) c.in_ok-load.ensures.follows);
+          subst (λ (l : List ℕ). KeepsKnown (recorded_state disk.history disk.failures) l false file) (sym c.in_ok-waiting.ensures.items)
+          (subst (λ (m : MemDisk). KeepsKnown (recorded_state m.history m.failures) [] false file) (sym c.in_ok-memory.ensures) c.in_ok-load.ensures.follows);
     }

@@ -2,7 +2,7 @@ use Rattle.std.proofs.Common.{[], ◌∙◌, Bool, List, ℕ, length, sym, subst
 use Rattle.sector_disk.specs.Disk.{IsNarrowed}
 use Rattle.sector_disk.specs.Record.{recorded_state}
 use Rattle.sector_disk.specs.Replay.{seen_is_image}
-use Rattle.sector_disk.specs.Files.{Follows}
+use Rattle.sector_disk.specs.Files.{KeepsKnown}
 use Rattle.sector_disk.specs.declared.memory.MemDisk.{MemDisk}
 use Rattle.sector_disk.proofs.Following.{stays_in, follows_failed, follows_synced}
 use Rattle.sector_disk.proofs.Recorded.{recorded}
@@ -28,7 +28,7 @@ invariant_of-self-2 g c =
     let flushed = sym c.is_err.ensures.value ∙ c.if-is_err.false in
     let none = recorded c.flush.result flushed c.flush.ensures.none in
     let all = recorded c.flush.result flushed c.flush.ensures.all in
-    let follows = subst (λ (b : Bool). Follows (recorded_state old.history old.failures) [] b file) all (subst (λ (l : List ℕ). Follows (recorded_state old.history old.failures) l disk.all_wait file) none disk.follows) in
+    let follows = subst (λ (b : Bool). KeepsKnown (recorded_state old.history old.failures) [] b file) all (subst (λ (l : List ℕ). KeepsKnown (recorded_state old.history old.failures) l disk.all_wait file) none disk.follows) in
     let changes = subst (λ (was : MemDisk). IsNarrowed (recorded_state was.history was.failures) (recorded_state new.history new.failures)) c.deref_mut.ensures.value c.sync-2.ensures.changes in
     let synced = recorded c.sync.result (sym c.is_err-2.ensures.value ∙ c.if-is_err-2.false) c.sync.ensures.stable in
     record {

@@ -8,4 +8,4 @@ use Rattle.storage_tests.proofs.bitmaps.tables.has_rest_set.Goals as goal
 pub returns-clause-set : goal.returns-clause-set
 returns-clause-set g c = λ yes n low ban.
     let past : n < c.loop-n.n = omega (arith, low, c.sectors-n-end.ensures, c.loop-n-test.false) in
-    subst (λ (image : SectorMap). IsTrue (bit image (first_sector c.args.place c.args.map) n)) (map_unchanged c.loop-n.invariant.same) (c.loop-n.invariant.set n past ban)
+    subst (λ (image : SectorMap). IsTrue (bit image (first_sector c.args.geometry c.args.map) n)) (map_unchanged c.loop-n.invariant.same) (c.loop-n.invariant.set n past ban)

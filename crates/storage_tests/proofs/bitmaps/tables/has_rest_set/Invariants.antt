@@ -7,5 +7,5 @@ use Rattle.storage_tests.proofs.bitmaps.tables.has_rest_set.Given as goal
 abbrev pub invariant-loop-n : goal.invariant-loop-n
 invariant-loop-n g l = record {
   same : IsUnchanged (g.S.Sectors.state l.initial.s) (g.S.Sectors.state l.s);
-  set : (i : ℕ) → i < l.n → (IsNumber l.place l.map i → ⊥) → IsTrue (bit (g.S.Sectors.state l.initial.s).sectors (first_sector l.place l.map) i);
+  set : (i : ℕ) → i < l.n → (IsNumber l.geometry l.map i → ⊥) → IsTrue (bit (g.S.Sectors.state l.initial.s).sectors (first_sector l.geometry l.map) i);
 }

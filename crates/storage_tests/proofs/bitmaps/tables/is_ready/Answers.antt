@@ -2,7 +2,7 @@ use Rattle.std.proofs.Common.{◌≡◌, ◌<◌, ◌-◌, ℕ, subst, arith, Is
 use Rattle.std.proofs.lemmas.Bool.{leb-true}
 use Rattle.std.proofs.lemmas.List.FromFn.{length-range_with_len}
 use Rattle.fs_layout.specs.Header.{log_end}
-use Rattle.fs_layout.specs.declared.place.Place.{Place}
+use Rattle.fs_layout.specs.declared.geometry.Geometry.{Geometry}
 use Rattle.fs_layout.specs.Bytes.{SectorMap}
 use Rattle.fs_layout.specs.Images.{HasWholeTables, inode_map_bits, map_bits, bit}
 use Rattle.sector_txn.proofs.TransactionRuns.{lacking_at_most}
@@ -13,7 +13,7 @@ use Rattle.bit_alloc.proofs.Transactions.{unchanged_joined, map_unchanged}
 use Rattle.storage_tests.proofs.bitmaps.tables.is_ready.Goals as goal
 
 -- what each check says of the map that it has left is so at the end
-rest_of : (p : Place) (a b : SectorMap) → a ≡ b
+rest_of : (p : Geometry) (a b : SectorMap) → a ≡ b
     → ((n : ℕ) → n < inode_map_bits p → (IsNumber p Inodes n → ⊥) → IsTrue (bit a p.inode_bitmap n))
     → ((n : ℕ) → n < map_bits p → (IsNumber p Blocks n → ⊥) → IsTrue (bit b p.block_bitmap n)) → HasRestSet p b
 rest_of p a b same inodes blocks Inodes n low ban = subst (λ (image : SectorMap). IsTrue (bit image p.inode_bitmap n)) same (inodes n low ban)
@@ -26,11 +26,11 @@ returns-clause-bitmaps g c = λ yes.
     let second = c.in_ok-blocks.ensures in
     let whole = unchanged_joined (unchanged_joined read.same first.same) second.same in
     record {
-      place = c.requires.place;
+      geometry = c.requires.geometry;
       disk = omega (arith, c.requires.disk, whole.store.reads.narrowed.size);
       header = omega (arith, c.requires.header, ap log_end whole.store.header);
-      tables = subst (HasWholeTables c.args.place) (map_unchanged (unchanged_joined first.same second.same)) read.tables;
-      rest = rest_of c.args.place (g.S.Sectors.state c.has_rest_set.new.s).sectors (g.S.Sectors.state c.has_rest_set-2.new.s).sectors (map_unchanged second.same)
+      tables = subst (HasWholeTables c.args.geometry) (map_unchanged (unchanged_joined first.same second.same)) read.tables;
+      rest = rest_of c.args.geometry (g.S.Sectors.state c.has_rest_set.new.s).sectors (g.S.Sectors.state c.has_rest_set-2.new.s).sectors (map_unchanged second.same)
           (first.set c.if-not-inodes.false) (second.set c.if-not-blocks.false);
     }
 
@@ -39,7 +39,7 @@ returns-clause-room g c = λ yes.
     omega (
       arith,
       leb-true _ _ yes,
-      lacking_at_most (g.S.Sectors.state c.has_rest_set-2.new.s) (bitmaps c.args.place),
-      length-range_with_len c.args.place.inode_bitmap (c.args.place.table - c.args.place.inode_bitmap),
+      lacking_at_most (g.S.Sectors.state c.has_rest_set-2.new.s) (bitmaps c.args.geometry),
+      length-range_with_len c.args.geometry.inode_bitmap (c.args.geometry.table - c.args.geometry.inode_bitmap),
       c.room.ensures,
     )

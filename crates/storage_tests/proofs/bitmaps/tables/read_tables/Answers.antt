@@ -19,5 +19,5 @@ loop-n-preserved g c =
     let read : IsSector sector = record { len = c.get.array_long; bytes = c.tell_bytes.ensures } in
     record {
       same = unchanged_joined c.loop-n.invariant.same c.in_ok-get.ensures.same;
-      whole = whole_so_far image c.args.place.inode_bitmap c.loop-n.n c.loop-n.invariant.whole (subst IsSector here read);
+      whole = whole_so_far image c.args.geometry.inode_bitmap c.loop-n.n c.loop-n.invariant.whole (subst IsSector here read);
     }

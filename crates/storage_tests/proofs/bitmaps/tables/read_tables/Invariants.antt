@@ -6,5 +6,5 @@ use Rattle.storage_tests.proofs.bitmaps.tables.read_tables.Given as goal
 abbrev pub invariant-loop-n : goal.invariant-loop-n
 invariant-loop-n g l = record {
   same : IsUnchanged (g.S.Sectors.state l.initial.s) (g.S.Sectors.state l.s);
-  whole : (t : ℕ) → l.fn.place.inode_bitmap ≤ t → t < l.n → IsSector ((g.S.Sectors.state l.initial.s).sectors t);
+  whole : (t : ℕ) → l.fn.geometry.inode_bitmap ≤ t → t < l.n → IsSector ((g.S.Sectors.state l.initial.s).sectors t);
 }

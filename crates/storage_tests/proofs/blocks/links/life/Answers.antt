@@ -9,24 +9,24 @@ use Rattle.storage_tests.proofs.blocks.links.life.Goals as goal
 
 pub new_link-requires-clause-sound : goal.new_link-requires-clause-sound
 new_link-requires-clause-sound g c =
-    sound_unchanged c.args.place (g.S.Sectors.state c.args.s.now.inner) (g.S.Sectors.state c.free.new.s.inner) c.requires.sound c.in_ok-before.ensures
+    sound_unchanged c.args.geometry (g.S.Sectors.state c.args.s.now.inner) (g.S.Sectors.state c.free.new.s.inner) c.requires.sound c.in_ok-before.ensures
 
 pub new_link-requires-clause-clear : goal.new_link-requires-clause-clear
-new_link-requires-clause-clear g c = subst (ClearAreFree c.args.place) (map_unchanged c.in_ok-before.ensures) c.requires.clear
+new_link-requires-clause-clear g c = subst (ClearAreFree c.args.geometry) (map_unchanged c.in_ok-before.ensures) c.requires.clear
 
 pub free_all-requires-clause-sound : goal.free_all-requires-clause-sound
 free_all-requires-clause-sound g c =
-    sound_unchanged c.args.place (g.S.Sectors.state c.new_link.new.s.inner) (g.S.Sectors.state c.free-2.new.s.inner) c.in-Ok.ensures.sound c.in_ok-between.ensures
+    sound_unchanged c.args.geometry (g.S.Sectors.state c.new_link.new.s.inner) (g.S.Sectors.state c.free-2.new.s.inner) c.in-Ok.ensures.sound c.in_ok-between.ensures
 
 pub free_all-requires-clause-used : goal.free_all-requires-clause-used
 free_all-requires-clause-used g c = λ e.
-    let is = ap (λ image. (inode_at c.args.place image c.in-Ok.n).kind) (sym (map_unchanged c.in_ok-between.ensures)) ∙ c.in-Ok.ensures.fields.kind in
+    let is = ap (λ image. (inode_at c.args.geometry image c.in-Ok.n).kind) (sym (map_unchanged c.in_ok-between.ensures)) ∙ c.in-Ok.ensures.fields.kind in
     let both : kinds.Link ≡ kinds.Free = sym is ∙ e in
     cc
 
 pub free_all-requires-clause-spare : goal.free_all-requires-clause-spare
 free_all-requires-clause-spare g c =
-    let p = c.args.place in
+    let p = c.args.geometry in
     let t0 = g.S.Sectors.state c.args.s.now.inner in
     let t1 = g.S.Sectors.state c.free.new.s.inner in
     let t2 = g.S.Sectors.state c.new_link.new.s.inner in

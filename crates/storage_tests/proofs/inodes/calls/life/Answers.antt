@@ -10,4 +10,4 @@ made-requires-clause-fits g c = made_fits (λ e. cc) refl (omega arith) (omega a
 
 pub free_inode-requires-clause-spare : goal.free_inode-requires-clause-spare
 free_inode-requires-clause-spare g c =
-    has_spare c.args.place 1 (g.S.Sectors.state c.saves.new.s.inner) (omega (arith, c.room.ensures, c.if-room-place.false))
+    has_spare c.args.geometry 1 (g.S.Sectors.state c.saves.new.s.inner) (omega (arith, c.room.ensures, c.if-room-geometry.false))

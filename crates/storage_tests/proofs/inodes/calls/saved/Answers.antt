@@ -9,55 +9,55 @@ write_inode-requires-clause-on_disk g c = omega (arith, c.requires.sound.bitmaps
 
 pub write_inode-requires-clause-tables : goal.write_inode-requires-clause-tables
 write_inode-requires-clause-tables g c =
-    (sound_unchanged c.args.place (g.S.Sectors.state c.args.s.now.inner) (g.S.Sectors.state c.load.new.s.inner) c.requires.sound c.in_ok-inode.ensures.same).bitmaps.tables
+    (sound_unchanged c.args.geometry (g.S.Sectors.state c.args.s.now.inner) (g.S.Sectors.state c.load.new.s.inner) c.requires.sound c.in_ok-inode.ensures.same).bitmaps.tables
 
 pub write_inode-requires-clause-room : goal.write_inode-requires-clause-room
 write_inode-requires-clause-room g c = λ none.
-    room_left c.args.place 2 (g.S.Sectors.state c.load.new.s.inner)
-    (has_spare c.args.place 2 (g.S.Sectors.state c.load.new.s.inner) (omega (arith, c.room.ensures, c.if-room-place.false))) (omega arith)
+    room_left c.args.geometry 2 (g.S.Sectors.state c.load.new.s.inner)
+    (has_spare c.args.geometry 2 (g.S.Sectors.state c.load.new.s.inner) (omega (arith, c.room.ensures, c.if-room-geometry.false))) (omega arith)
 
 pub save-requires-clause-sound : goal.save-requires-clause-sound
 save-requires-clause-sound g c =
-    sound_unchanged c.args.place (g.S.Sectors.state c.args.s.now.inner) (g.S.Sectors.state c.load.new.s.inner) c.requires.sound c.in_ok-inode.ensures.same
+    sound_unchanged c.args.geometry (g.S.Sectors.state c.args.s.now.inner) (g.S.Sectors.state c.load.new.s.inner) c.requires.sound c.in_ok-inode.ensures.same
 
 pub save-requires-clause-attributes : goal.save-requires-clause-attributes
 save-requires-clause-attributes g c =
-    same_attributes c.args.place c.args.n (g.S.Sectors.state c.args.s.now.inner) (g.S.Sectors.state c.load.new.s.inner) c.in_ok-inode.ensures.same
+    same_attributes c.args.geometry c.args.n (g.S.Sectors.state c.args.s.now.inner) (g.S.Sectors.state c.load.new.s.inner) c.in_ok-inode.ensures.same
     c.in_ok-inode.inode c.in_ok-inode.ensures.found
 
 pub save-requires-clause-spare : goal.save-requires-clause-spare
 save-requires-clause-spare g c =
-    has_spare c.args.place 1 (g.S.Sectors.state c.load.new.s.inner) (omega (arith, c.room.ensures, c.if-room-place.false))
+    has_spare c.args.geometry 1 (g.S.Sectors.state c.load.new.s.inner) (omega (arith, c.room.ensures, c.if-room-geometry.false))
 
 pub save_acl-requires-clause-sound : goal.save_acl-requires-clause-sound
 save_acl-requires-clause-sound g c =
-    sound_unchanged c.args.place (g.S.Sectors.state c.args.s.now.inner) (g.S.Sectors.state c.load.new.s.inner) c.requires.sound c.in_ok-inode.ensures.same
+    sound_unchanged c.args.geometry (g.S.Sectors.state c.args.s.now.inner) (g.S.Sectors.state c.load.new.s.inner) c.requires.sound c.in_ok-inode.ensures.same
 
 pub save_acl-requires-clause-attributes : goal.save_acl-requires-clause-attributes
 save_acl-requires-clause-attributes g c =
-    same_attributes c.args.place c.args.n (g.S.Sectors.state c.args.s.now.inner) (g.S.Sectors.state c.load.new.s.inner) c.in_ok-inode.ensures.same
+    same_attributes c.args.geometry c.args.n (g.S.Sectors.state c.args.s.now.inner) (g.S.Sectors.state c.load.new.s.inner) c.in_ok-inode.ensures.same
     c.in_ok-inode.inode c.in_ok-inode.ensures.found
 
 pub save_acl-requires-clause-spare : goal.save_acl-requires-clause-spare
 save_acl-requires-clause-spare g c =
-    has_spare c.args.place 2 (g.S.Sectors.state c.load.new.s.inner) (omega (arith, c.room.ensures, c.if-room-place.false))
+    has_spare c.args.geometry 2 (g.S.Sectors.state c.load.new.s.inner) (omega (arith, c.room.ensures, c.if-room-geometry.false))
 
 pub save_default_acl-requires-clause-sound : goal.save_default_acl-requires-clause-sound
 save_default_acl-requires-clause-sound g c =
-    sound_unchanged c.args.place (g.S.Sectors.state c.args.s.now.inner) (g.S.Sectors.state c.load.new.s.inner) c.requires.sound c.in_ok-inode.ensures.same
+    sound_unchanged c.args.geometry (g.S.Sectors.state c.args.s.now.inner) (g.S.Sectors.state c.load.new.s.inner) c.requires.sound c.in_ok-inode.ensures.same
 
 pub save_default_acl-requires-clause-attributes : goal.save_default_acl-requires-clause-attributes
 save_default_acl-requires-clause-attributes g c =
-    same_attributes c.args.place c.args.n (g.S.Sectors.state c.args.s.now.inner) (g.S.Sectors.state c.load.new.s.inner) c.in_ok-inode.ensures.same
+    same_attributes c.args.geometry c.args.n (g.S.Sectors.state c.args.s.now.inner) (g.S.Sectors.state c.load.new.s.inner) c.in_ok-inode.ensures.same
     c.in_ok-inode.inode c.in_ok-inode.ensures.found
 
 pub save_default_acl-requires-clause-spare : goal.save_default_acl-requires-clause-spare
 save_default_acl-requires-clause-spare g c =
-    has_spare c.args.place 2 (g.S.Sectors.state c.load.new.s.inner) (omega (arith, c.room.ensures, c.if-room-place.false))
+    has_spare c.args.geometry 2 (g.S.Sectors.state c.load.new.s.inner) (omega (arith, c.room.ensures, c.if-room-geometry.false))
 
 pub returns-in_ok-write_inode-in-Inode-clause-sound : goal.returns-in_ok-write_inode-in-Inode-clause-sound
 returns-in_ok-write_inode-in-Inode-clause-sound g c =
-    let p = c.args.place in
+    let p = c.args.geometry in
     let n = c.args.n in
     let v = c.in_ok-inode.inode in
     let old = g.S.Sectors.state c.args.s.now.inner in
@@ -69,7 +69,7 @@ returns-in_ok-write_inode-in-Inode-clause-sound g c =
 
 pub returns-in_ok-write_inode-in-Inode-clause-empty : goal.returns-in_ok-write_inode-in-Inode-clause-empty
 returns-in_ok-write_inode-in-Inode-clause-empty g c =
-    let p = c.args.place in
+    let p = c.args.geometry in
     let n = c.args.n in
     let v = c.in_ok-inode.inode in
     let old = g.S.Sectors.state c.args.s.now.inner in
@@ -81,15 +81,15 @@ returns-in_ok-write_inode-in-Inode-clause-empty g c =
 
 pub returns-in_ok-save-in-Attributes-clause-empty : goal.returns-in_ok-save-in-Attributes-clause-empty
 returns-in_ok-save-in-Attributes-clause-empty g c =
-    empty_after c.args.place c.args.n (g.S.Sectors.state c.args.s.now.inner) (g.S.Sectors.state c.load.new.s.inner) (g.S.Sectors.state c.save.new.s.inner)
+    empty_after c.args.geometry c.args.n (g.S.Sectors.state c.args.s.now.inner) (g.S.Sectors.state c.load.new.s.inner) (g.S.Sectors.state c.save.new.s.inner)
     c.in_ok-inode.ensures.same c.in_ok-save-in-Attributes.ensures.bytes
 
 pub returns-in_ok-save_acl-in-Access-clause-empty : goal.returns-in_ok-save_acl-in-Access-clause-empty
 returns-in_ok-save_acl-in-Access-clause-empty g c =
-    empty_after c.args.place c.args.n (g.S.Sectors.state c.args.s.now.inner) (g.S.Sectors.state c.load.new.s.inner) (g.S.Sectors.state c.save_acl.new.s.inner)
+    empty_after c.args.geometry c.args.n (g.S.Sectors.state c.args.s.now.inner) (g.S.Sectors.state c.load.new.s.inner) (g.S.Sectors.state c.save_acl.new.s.inner)
     c.in_ok-inode.ensures.same c.in_ok-save_acl-in-Access.ensures.bytes
 
 pub returns-in_ok-save_default_acl-in-Default-clause-empty : goal.returns-in_ok-save_default_acl-in-Default-clause-empty
 returns-in_ok-save_default_acl-in-Default-clause-empty g c =
-    empty_after c.args.place c.args.n (g.S.Sectors.state c.args.s.now.inner) (g.S.Sectors.state c.load.new.s.inner)
+    empty_after c.args.geometry c.args.n (g.S.Sectors.state c.args.s.now.inner) (g.S.Sectors.state c.load.new.s.inner)
     (g.S.Sectors.state c.save_default_acl.new.s.inner) c.in_ok-inode.ensures.same c.in_ok-save_default_acl-in-Default.ensures.bytes

@@ -1,7 +1,7 @@
 use Rattle.std.proofs.Common.{refl, sym}
 use Rattle.fuse_sessions.proofs.Doings.{then-ok, then-fails, needs-some, needs-none, on-machine, keeps-last}
 use Rattle.fuse_steps.proofs.Steps.{machine-ok, machine-result}
-use Rattle.fuse_sessions.proofs.session.Session.begin_looker.Goals as goal
+use Rattle.fuse_sessions.proofs.session.Session.begin_server_process.Goals as goal
 
 pub returns-in_err-reply-clause-did : goal.returns-in_err-reply-clause-did
 returns-in_err-reply-clause-did g c =
@@ -14,4 +14,4 @@ returns-in_default-clause-did g c =
 pub returns-clause-did : goal.returns-clause-did
 returns-clause-did g c =
     then-ok _ (on-machine (machine-ok _ (rw c.requires at c.ask_spawn.ensures) (machine-result c.in_ok-reply.ensures)))
-    (needs-some _ _ (sym c.in-Some.ensures) (keeps-last _ refl c.set_looker.ensures.kept))
+    (needs-some _ _ (sym c.in-Some.ensures) (keeps-last _ refl c.set_server_process.ensures.kept))

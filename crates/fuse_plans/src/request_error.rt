@@ -1,6 +1,6 @@
 //! Why requests fail.
 ghost use Rattle.std.specs.Prelude.{◌≡◌};
-ghost use Rattle.fuse_plans.specs.Stops.{refusal_errno, other_number, stop_number, is_for};
+ghost use Rattle.fuse_plans.specs.RequestErrors.{refusal_errno, other_number, error_number, is_for};
 
 use fs_cred::{Errno, Refusal};
 
@@ -18,7 +18,7 @@ pub enum OtherErrno {
 
 /// Why a request fails: the machine refuses, or the server does.
 #[derive(Clone, Copy)]
-pub enum Stop {
+pub enum RequestError {
     Refuses(Refusal),
     Lacks(OtherErrno),
 }
@@ -49,62 +49,62 @@ fn refusal_errno(refusal: Refusal) -> Errno
     }
 }
 
-impl Stop {
+impl RequestError {
     /// Operation not permitted.
-    pub const EPERM: Stop = Stop::Refuses(Refusal::Failed(Errno::EPERM));
+    pub const EPERM: RequestError = RequestError::Refuses(Refusal::Failed(Errno::EPERM));
 
     /// No such file or directory.
-    pub const ENOENT: Stop = Stop::Refuses(Refusal::Failed(Errno::ENOENT));
+    pub const ENOENT: RequestError = RequestError::Refuses(Refusal::Failed(Errno::ENOENT));
 
     /// The device has failed.
-    pub const EIO: Stop = Stop::Refuses(Refusal::Failed(Errno::EIO));
+    pub const EIO: RequestError = RequestError::Refuses(Refusal::Failed(Errno::EIO));
 
     /// No descriptor that is open so.
-    pub const EBADF: Stop = Stop::Refuses(Refusal::Failed(Errno::EBADF));
+    pub const EBADF: RequestError = RequestError::Refuses(Refusal::Failed(Errno::EBADF));
 
     /// Memory is lacking.
-    pub const ENOMEM: Stop = Stop::Refuses(Refusal::Failed(Errno::ENOMEM));
+    pub const ENOMEM: RequestError = RequestError::Refuses(Refusal::Failed(Errno::ENOMEM));
 
     /// Permission denied; also of a caller whose groups are unknown.
-    pub const EACCES: Stop = Stop::Refuses(Refusal::Failed(Errno::EACCES));
+    pub const EACCES: RequestError = RequestError::Refuses(Refusal::Failed(Errno::EACCES));
 
     /// The name is there.
-    pub const EEXIST: Stop = Stop::Refuses(Refusal::Failed(Errno::EEXIST));
+    pub const EEXIST: RequestError = RequestError::Refuses(Refusal::Failed(Errno::EEXIST));
 
     /// Not a directory.
-    pub const ENOTDIR: Stop = Stop::Refuses(Refusal::Failed(Errno::ENOTDIR));
+    pub const ENOTDIR: RequestError = RequestError::Refuses(Refusal::Failed(Errno::ENOTDIR));
 
     /// A body that is not of its form, or a value that is none.
-    pub const EINVAL: Stop = Stop::Refuses(Refusal::Failed(Errno::EINVAL));
+    pub const EINVAL: RequestError = RequestError::Refuses(Refusal::Failed(Errno::EINVAL));
 
     /// Too much is open in the whole system.
-    pub const ENFILE: Stop = Stop::Lacks(OtherErrno::ENFILE);
+    pub const ENFILE: RequestError = RequestError::Lacks(OtherErrno::ENFILE);
 
     /// The value of an attribute is longer than there is room for.
-    pub const ERANGE: Stop = Stop::Lacks(OtherErrno::ERANGE);
+    pub const ERANGE: RequestError = RequestError::Lacks(OtherErrno::ERANGE);
 
     /// A request that is unknown.
-    pub const ENOSYS: Stop = Stop::Lacks(OtherErrno::ENOSYS);
+    pub const ENOSYS: RequestError = RequestError::Lacks(OtherErrno::ENOSYS);
 
     /// There is no such attribute.
-    pub const ENODATA: Stop = Stop::Lacks(OtherErrno::ENODATA);
+    pub const ENODATA: RequestError = RequestError::Lacks(OtherErrno::ENODATA);
 
     /// A version of the protocol that is not spoken.
-    pub const EPROTO: Stop = Stop::Lacks(OtherErrno::EPROTO);
+    pub const EPROTO: RequestError = RequestError::Lacks(OtherErrno::EPROTO);
 
     /// What is not supported: attributes of other names, the owner of a link.
-    pub const EOPNOTSUPP: Stop = Stop::Lacks(OtherErrno::EOPNOTSUPP);
+    pub const EOPNOTSUPP: RequestError = RequestError::Lacks(OtherErrno::EOPNOTSUPP);
 
     /// A node whose inode is gone, or is another one by now.
-    pub const ESTALE: Stop = Stop::Lacks(OtherErrno::ESTALE);
+    pub const ESTALE: RequestError = RequestError::Lacks(OtherErrno::ESTALE);
 
     /// The number of the error on Linux.
     pub fn number(self) -> u8
-        ensures { result ≡ stop_number self }
+        ensures { result ≡ error_number self }
     {
         match self {
-            Stop::Refuses(refusal) => refusal_errno(refusal).number(),
-            Stop::Lacks(errno) => errno.number(),
+            RequestError::Refuses(refusal) => refusal_errno(refusal).number(),
+            RequestError::Lacks(errno) => errno.number(),
         }
     }
 
@@ -113,8 +113,8 @@ impl Stop {
         ensures { result ≡ is_for errno self }
     {
         match self {
-            Stop::Refuses(refusal) => refusal_errno(refusal).number() == errno.number(),
-            Stop::Lacks(_) => false,
+            RequestError::Refuses(refusal) => refusal_errno(refusal).number() == errno.number(),
+            RequestError::Lacks(_) => false,
         }
     }
 }

@@ -1,13 +1,13 @@
 use Rattle.std.proofs.Common.{◌≡◌, Some, None, sym, subst, arith}
 use Rattle.std.specs.Prelude.{MatchResult, Result}
-use Rattle.fs_layout.specs.declared.place.Place.{Place}
-use Rattle.fs_layout.specs.Place.{the_place}
+use Rattle.fs_layout.specs.declared.geometry.Geometry.{Geometry}
+use Rattle.fs_layout.specs.Geometry.{the_geometry}
 use Rattle.fs_layout.specs.Version.{max_sectors, max_inodes}
 use Rattle.fs_images.specs.declared.faults.MkfsFault.{MkfsFault}
 use Rattle.fs_images.specs.Making.{mkfs_refusal}
-use Rattle.fs_images.proofs.MakingRefusals.{bad_size, bad_inodes, is_above, is_below, place_or_too_small}
-use Rattle.fs_images.proofs.new_disk.place_for.Goals as goal
-use Rattle.fs_images.proofs.new_disk.place_for.Goals.{then-sectors-lt1024-via-then-sectors-lt1024, then-sectors-lt1024-via-else-sectors-lt1024+then-max_sectors-sectors, then-inodes-lt16-via-then-inodes-lt16, then-inodes-lt16-via-else-inodes-lt16+then-max_inodes-inodes}
+use Rattle.fs_images.proofs.MakingRefusals.{bad_size, bad_inodes, is_above, is_below, geometry_or_too_small}
+use Rattle.fs_images.proofs.new_disk.geometry_for.Goals as goal
+use Rattle.fs_images.proofs.new_disk.geometry_for.Goals.{then-sectors-lt1024-via-then-sectors-lt1024, then-sectors-lt1024-via-else-sectors-lt1024+then-max_sectors-sectors, then-inodes-lt16-via-then-inodes-lt16, then-inodes-lt16-via-else-inodes-lt16+then-max_inodes-inodes}
 
 pub returns-then-sectors-lt1024 : goal.returns-then-sectors-lt1024
 returns-then-sectors-lt1024 c =
@@ -29,10 +29,10 @@ returns c =
     let version = c.args.version in
     let sectors = c.args.sectors in
     let inodes = c.args.inodes in
-    subst (λ (r : Result Place MkfsFault). MatchResult r (λ p. (mkfs_refusal version sectors inodes ≡ None) × (the_place version sectors inodes ≡ Some p)) (λ f. mkfs_refusal version sectors inodes ≡ Some f))
+    subst (λ (r : Result Geometry MkfsFault). MatchResult r (λ p. (mkfs_refusal version sectors inodes ≡ None) × (the_geometry version sectors inodes ≡ Some p)) (λ f. mkfs_refusal version sectors inodes ≡ Some f))
     (sym c.ok_or.ensures.value)
-    (place_or_too_small version sectors inodes (record {
+    (geometry_or_too_small version sectors inodes (record {
       size = record { least = c.if-sectors-lt1024.false; most = omega (arith, c.if-max_sectors-sectors.false, c.max_sectors.ensures) };
       least = c.if-inodes-lt16.false;
       most = omega (arith, c.if-max_inodes-inodes.false, c.max_inodes.ensures);
-    }) c.place_of.result c.place_of.ensures.value)
+    }) c.geometry_of.result c.geometry_of.ensures.value)

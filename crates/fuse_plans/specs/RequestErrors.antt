@@ -7,12 +7,12 @@ use Rattle.fs_cred.specs.declared.errno.Errno.{Errno}
 use Rattle.fs_cred.specs.declared.refusal.Refusal.{Refusal}
 use Rattle.fs_cred.specs.declared.refusal.Refusal.TheVariants.{Denied, Failed}
 use Rattle.fs_cred.specs.Errnos.{errno_number}
-use Rattle.fuse_plans.specs.declared.stop.OtherErrno.{OtherErrno}
-use Rattle.fuse_plans.specs.declared.stop.OtherErrno.TheVariants.{ENFILE, ERANGE, ENOSYS, ENODATA, EPROTO, EOPNOTSUPP, ESTALE}
-use Rattle.fuse_plans.specs.declared.stop.Stop.{Stop}
-use Rattle.fuse_plans.specs.declared.stop.Stop.TheVariants.{Refuses, Lacks}
+use Rattle.fuse_plans.specs.declared.request_error.OtherErrno.{OtherErrno}
+use Rattle.fuse_plans.specs.declared.request_error.OtherErrno.TheVariants.{ENFILE, ERANGE, ENOSYS, ENODATA, EPROTO, EOPNOTSUPP, ESTALE}
+use Rattle.fuse_plans.specs.declared.request_error.RequestError.{RequestError}
+use Rattle.fuse_plans.specs.declared.request_error.RequestError.TheVariants.{Refuses, Lacks}
 
-abbrev pub failed : Errno → Stop
+abbrev pub failed : Errno → RequestError
 failed e = Refuses (Failed e)
 
 abbrev pub refusal_errno : Refusal → Errno
@@ -28,11 +28,11 @@ other_number EPROTO = 71
 other_number EOPNOTSUPP = 95
 other_number ESTALE = 116
 
-abbrev pub stop_number : Stop → ℕ
-stop_number (Refuses r) = errno_number (refusal_errno r)
-stop_number (Lacks e) = other_number e
+abbrev pub error_number : RequestError → ℕ
+error_number (Refuses r) = errno_number (refusal_errno r)
+error_number (Lacks e) = other_number e
 
 -- the machine refuses with this error
-abbrev pub is_for : Errno → Stop → Bool
+abbrev pub is_for : Errno → RequestError → Bool
 is_for e (Refuses r) = errno_number (refusal_errno r) == errno_number e
 is_for e (Lacks _) = false

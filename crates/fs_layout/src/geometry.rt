@@ -1,7 +1,7 @@
 //! Where the parts of a disk begin.
 
 ghost use Rattle.std.specs.Prelude.{IsTrue, ◌≡◌, ◌+◌, ◌*◌, ◌/◌, ◌%◌, ◌<◌, ◌≤◌, ◌^◌, IfSome};
-ghost use Rattle.fs_layout.specs.Place.{allows_header, are_in_range, new_header, place_in, the_place, IsPlace};
+ghost use Rattle.fs_layout.specs.Geometry.{allows_header, are_in_range, new_header, geometry_in, the_geometry, IsGeometry};
 ghost use Rattle.fs_layout.specs.Version.{max_file_size};
 ghost use Rattle.fs_layout.specs.declared.inode.TheConstants.{OLDER_DIRECTORY_SIZE, MAX_FILE_SIZE};
 
@@ -30,7 +30,7 @@ pub const ROOT: u32 = 1;
 
 /// The layout of a disk: its version, how many sectors and inodes it has, and where its parts begin, one right after the other.
 #[derive(Clone, Copy)]
-pub struct Place {
+pub struct Geometry {
     /// The version of the layout.
     pub version: Version,
     /// The number of sectors of the disk.
@@ -49,7 +49,7 @@ pub struct Place {
     pub first_data: u32,
 }
 
-impl Place {
+impl Geometry {
     /// The most bytes of a file on this disk.
     pub fn max_file_size(self) -> u64
         ensures value { result ≡ max_file_size self.version }
@@ -59,7 +59,7 @@ impl Place {
         self.version.max_file_size()
     }
 
-    /// The sector of the inode table that has inode `n`, which lies in it from [`Place::inode_offset`] on.
+    /// The sector of the inode table that has inode `n`, which lies in it from [`Geometry::inode_offset`] on.
     pub fn inode_sector(self, n: u32) -> u32
         requires room { self.table + n / 4 < 2 ^ 32 }
         ensures { result ≡ self.table + n / 4 }
@@ -77,12 +77,12 @@ impl Place {
 }
 
 /// The layout of a new disk of this version, with so many sectors and inodes; None where a disk may not have these numbers.
-pub fn place_of(version: Version, sectors: u32, inodes: u32) -> Option<Place>
-    ensures value { result ≡ the_place version sectors inodes }
-    ensures room { IfSome result IsPlace }
+pub fn geometry_of(version: Version, sectors: u32, inodes: u32) -> Option<Geometry>
+    ensures value { result ≡ the_geometry version sectors inodes }
+    ensures room { IfSome result IsGeometry }
 {
     let header = new_header(version, sectors, inodes);
-    place_in(version, header, sectors, inodes)
+    geometry_in(version, header, sectors, inodes)
 }
 
 // How many header sectors a new disk has.
@@ -111,7 +111,7 @@ fn are_in_range(version: Version, sectors: u32, inodes: u32) -> bool
 }
 
 // A disk of this version, with numbers in range, may have so many header sectors.
-#[tactic(auto, unfolding(crate::specs::Place::allows_header))]
+#[tactic(auto, unfolding(crate::specs::Geometry::allows_header))]
 fn allows_header(version: Version, header: u32, sectors: u32, inodes: u32) -> bool
     requires { IsTrue (are_in_range version sectors inodes) }
     ensures { result ≡ allows_header version header sectors inodes }
@@ -128,10 +128,15 @@ fn allows_header(version: Version, header: u32, sectors: u32, inodes: u32) -> bo
 
 // The layout in this version of a disk with so many header sectors, of so many sectors and inodes; None where a disk may not have
 // these numbers.
-#[tactic(auto, unfolding(crate::specs::Place::place_in))]
-pub(crate) fn place_in(version: Version, header: u32, sectors: u32, inodes: u32) -> Option<Place>
-    ensures value { result ≡ place_in version header sectors inodes }
-    ensures room { IfSome result IsPlace }
+#[tactic(auto, unfolding(crate::specs::Geometry::geometry_in))]
+pub(crate) fn geometry_in(
+    version: Version,
+    header: u32,
+    sectors: u32,
+    inodes: u32,
+) -> Option<Geometry>
+    ensures value { result ≡ geometry_in version header sectors inodes }
+    ensures room { IfSome result IsGeometry }
 {
     if !are_in_range(version, sectors, inodes) {
         return None;
@@ -146,7 +151,7 @@ pub(crate) fn place_in(version: Version, header: u32, sectors: u32, inodes: u32)
     if sectors < first_data + 64 {
         return None;
     }
-    Some(Place {
+    Some(Geometry {
         version,
         sectors,
         inodes,

@@ -1,7 +1,7 @@
 use Rattle.std.proofs.Common.{rules, arith, sym}
-use Rattle.fs_layout.specs.Place.{place_in}
-use Rattle.fs_layout.proofs.Places.{numbers_allowed, parts_small, place_is_place}
-use Rattle.fs_layout.proofs.place.place_in.Goals as goal
+use Rattle.fs_layout.specs.Geometry.{geometry_in}
+use Rattle.fs_layout.proofs.Places.{numbers_allowed, parts_small, is_a_geometry}
+use Rattle.fs_layout.proofs.geometry.geometry_in.Goals as goal
 
 pub log_end-inode_bitmap-requires : goal.log_end-inode_bitmap-requires
 log_end-inode_bitmap-requires c =
@@ -28,8 +28,8 @@ overflow_add-first_data-2 c =
     omega (arith, small, c.log_end-inode_bitmap.ensures, c.div_ceil.ensures, c.div_ceil-2.ensures, c.div_ceil-3.ensures)
 
 pub returns-clause-value : goal.returns-clause-value
-unfolding place_in
+unfolding geometry_in
 returns-clause-value c = search rules
 
 pub returns-clause-room : goal.returns-clause-room
-returns-clause-room c = place_is_place c.args.version c.args.header c.args.sectors c.args.inodes (sym (returns-clause-value c))
+returns-clause-room c = is_a_geometry c.args.version c.args.header c.args.sectors c.args.inodes (sym (returns-clause-value c))

@@ -6,7 +6,7 @@ use std::cmp::Ordering;
 
 /// A name in a directory.
 #[derive(Drop)]
-pub struct Place {
+pub struct Dentry {
     /// The number of the directory's inode.
     pub directory: u32,
     pub name: Name,
@@ -15,16 +15,16 @@ pub struct Place {
 /// A name, and the inode that it leads to.
 #[derive(Drop)]
 pub(crate) struct Found {
-    pub(crate) place: Place,
+    pub(crate) dentry: Dentry,
     pub(crate) inode: u32,
 }
 
-impl Place {
-    ghost use Rattle.fuse_state.specs.Servers.{place_cmp};
+impl Dentry {
+    ghost use Rattle.fuse_state.specs.Servers.{dentry_cmp};
 
     /// Which comes first: by directories, and in each by names.
-    pub(crate) fn compare(&self, other: &Place) -> Ordering
-        ensures { result ≡ place_cmp self.now other.now }
+    pub(crate) fn compare(&self, other: &Dentry) -> Ordering
+        ensures { result ≡ dentry_cmp self.now other.now }
     {
         self.directory
             .cmp(&other.directory)
