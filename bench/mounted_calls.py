@@ -340,6 +340,7 @@ def one_tree(mounted, told, choice, tree, done, last, watched):
     choice.there = []
     watch = Watch(sides) if watched else None
     workers = {user: Worker(user, perform) for user in WHO}
+    roots = [str(side) for side in sides]
     try:
         for user, name, *words in choice.calls():
             if done == last:
@@ -347,7 +348,7 @@ def one_tree(mounted, told, choice, tree, done, last, watched):
             line = f'{done}: {user} {name} {words}'
             if watch:
                 watch.begin(f'call {done}')
-            ours, theirs = (workers[user].ask(side, name, *words) for side in sides)
+            ours, theirs = workers[user].ask_each(roots, name, *words)
             number = known(mounted, sides[1], name, words, ours, theirs)
             told.compare('random calls', line, number, ours, theirs)
             if number and failed(ours) != failed(theirs) and name in ('fchmod', 'link'):

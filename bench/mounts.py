@@ -131,6 +131,13 @@ class Worker:
         self.send(*words)
         return self.answer()
 
+    def ask_each(self, roots, *words):
+        """The answers of calls with these words, one for each root, one after another."""
+        for root in roots:
+            pickle.dump((root, *words), self.sending)
+        self.sending.flush()
+        return [self.answer() for _ in roots]
+
     def send(self, *words):
         pickle.dump(words, self.sending)
         self.sending.flush()
