@@ -15,6 +15,8 @@ pub(crate) enum Lack {
     Bits,
     /// One of its times is before 1970, or after 2554.
     Times,
+    /// An access list, which the host's modes can't say.
+    List,
     /// The host refuses.
     Host(ErrorKind),
     /// The file system refuses.
@@ -72,6 +74,7 @@ pub(crate) fn tell<E: Write>(err: &mut E, path: &str, lack: Lack) {
         Lack::Name => writeln!(err, "{path:?}: a name that is no UTF-8"),
         Lack::Bits => writeln!(err, "{path:?}: set-id or sticky bits"),
         Lack::Times => writeln!(err, "{path:?}: times before 1970 or after 2554"),
+        Lack::List => writeln!(err, "{path:?}: an access list"),
         Lack::Host(kind) => writeln!(err, "{path:?}: host: {kind:?}"),
         Lack::Refused(errno) => {
             let name = errno.name();

@@ -9,6 +9,7 @@ mod entry;
 mod fault;
 mod file_system;
 mod lack;
+mod lists;
 mod objects;
 mod owner;
 mod packing;

@@ -1,6 +1,7 @@
 //! What replies say.
 use crate::lack::Lack;
 use fs_model::{Listing, Path, Reply, Stamps, Status};
+use posix_acl::Acl;
 
 /// The number of a new process.
 pub(crate) fn pid_in(reply: Reply) -> Result<usize, Lack> {
@@ -46,6 +47,14 @@ pub(crate) fn target_in(reply: Reply) -> Result<Path, Lack> {
 pub(crate) fn stamps_in(reply: Reply) -> Result<Stamps, Lack> {
     match reply {
         Reply::Stamped(stamps) => Ok(stamps),
+        other => Err(unlike(other)),
+    }
+}
+
+/// An access list, if there is one.
+pub(crate) fn acl_in(reply: Reply) -> Result<Option<Acl>, Lack> {
+    match reply {
+        Reply::Acl(acl) => Ok(acl),
         other => Err(unlike(other)),
     }
 }

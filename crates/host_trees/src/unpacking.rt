@@ -6,6 +6,7 @@ use crate::asker::{Asker, name_if_lacking, name_lack};
 use crate::fault::{Copied, CopyFault};
 use crate::file_system::FileSystem;
 use crate::lack::Lack;
+use crate::lists::{Grants, grants_of};
 use crate::replies::{fd_in, listing_in, pid_in, stamps_in, status_in, target_in};
 use crate::times::file_times;
 use crate::writing::read_contents;
@@ -35,7 +36,7 @@ struct Pending {
 struct Made {
     host: String,
     inode: u32,
-    mode: u16,
+    grants: Grants,
 }
 
 // What is still to be done.
@@ -151,9 +152,10 @@ fn unpack_root<R: Files, M: FileSystem>(
 {
     let path = Path::from_slice(work.alloc, b"/")?;
     let status = status_in(asker.call(work.pid, Call::Lstat(path))?)?;
+    let grants = grants_of(asker, work.alloc, work.pid, b"/", status)?;
     let host = String::from_str(work.alloc, to)?;
     let inside = Vec::new(work.alloc);
-    make_directory(rt, work, Pending { inside, host }, status)
+    make_directory(rt, work, Pending { inside, host }, status.inode, grants)
 }
 
 // Copies all that is below the root, and finishes the directories.
@@ -174,7 +176,8 @@ fn make_directory<R: Files>(
     rt: &R,
     work: &mut Work,
     object: Pending,
-    status: Status,
+    inode: u32,
+    grants: Grants,
 ) -> Result<(), Lack> {
     DirBuilder::new()
         .mode(PRIVATE_DIRECTORY)
@@ -182,8 +185,8 @@ fn make_directory<R: Files>(
     let host = String::from_str(work.alloc, object.host.as_str())?;
     work.made.push(Made {
         host,
-        inode: status.inode,
-        mode: status.mode,
+        inode,
+        grants,
     })?;
     work.pending.push(object)?;
     Ok(())
@@ -297,11 +300,12 @@ fn unpack_object<R: Files + AllocGlobal, M: FileSystem>(
 {
     let path = Path::from_slice(work.alloc, &object.inside)?;
     let status = status_in(asker.call(work.pid, Call::Lstat(path))?)?;
+    let grants = grants_of(asker, work.alloc, work.pid, &object.inside, status)?;
     if let FileType::Directory = status.kind {
         let directory = copy_of(work.alloc, object)?;
-        return make_directory(rt, work, directory, status);
+        return make_directory(rt, work, directory, status.inode, grants);
     }
-    unpack_nondirectory(rt, asker, work, object, status)
+    unpack_nondirectory(rt, asker, work, object, status, grants)
 }
 
 fn copy_of(alloc: Global, object: &Pending) -> Result<Pending, AllocError> {
@@ -320,14 +324,16 @@ fn unpack_nondirectory<R: Files + AllocGlobal, M: FileSystem>(
     work: &mut Work,
     object: &Pending,
     status: Status,
+    grants: Grants,
 ) -> Result<(), Lack>
     ensures { Asks M.Serves asker.old.machine asker.new.machine asker.old.is_whole asker.new.is_whole }
 {
     if let Some(first) = work.names.get(&status.inode) {
         return Ok(fs::hard_link(rt, first.as_str(), object.host.as_str())?);
     }
-    unpack_new(rt, asker, work, object, status)?;
-    keep_name(work, object, status)
+    unpack_new(rt, asker, work, object, status, grants)?;
+    keep_name(work, object, status)?;
+    grants.lack()
 }
 
 // Keeps in mind under which name an object with several was copied.
@@ -346,13 +352,14 @@ fn unpack_new<R: Files, M: FileSystem>(
     work: &Work,
     object: &Pending,
     status: Status,
+    grants: Grants,
 ) -> Result<(), Lack>
     ensures { Asks M.Serves asker.old.machine asker.new.machine asker.old.is_whole asker.new.is_whole }
 {
     if let FileType::Link = status.kind {
         return unpack_link(rt, asker, work, object);
     }
-    unpack_file(rt, asker, work, object, status)
+    unpack_file(rt, asker, work, object, status.inode, grants)
 }
 
 // Makes a file of the host, with what one holds.
@@ -361,7 +368,8 @@ fn unpack_file<R: Files, M: FileSystem>(
     asker: &mut Asker<M>,
     work: &Work,
     object: &Pending,
-    status: Status,
+    inode: u32,
+    grants: Grants,
 ) -> Result<(), Lack>
     ensures { Asks M.Serves asker.old.machine asker.new.machine asker.old.is_whole asker.new.is_whole }
 {
@@ -371,8 +379,8 @@ fn unpack_file<R: Files, M: FileSystem>(
         .mode(PRIVATE_FILE)
         .open(rt, object.host.as_str())?;
     read_file(asker, work, object, &mut file)?;
-    let stamps = stamps_of(asker, status.inode)?;
-    Ok(finish_file(&file, status.mode, stamps)?)
+    let stamps = stamps_of(asker, inode)?;
+    Ok(finish_file(&file, grants.mode, stamps)?)
 }
 
 // Reads a file, and writes what it holds to one of the host.
@@ -511,5 +519,6 @@ fn finish_directory<R: Files, M: FileSystem>(
 {
     let stamps = stamps_of(asker, made.inode)?;
     let directory = fs::open(rt, made.host.as_str())?;
-    Ok(finish_file(&directory, made.mode, stamps)?)
+    finish_file(&directory, made.grants.mode, stamps)?;
+    made.grants.lack()
 }

@@ -1,0 +1,5 @@
+use Rattle.host_trees.proofs.Asking.{asks_nothing}
+use Rattle.host_trees.proofs.lists.list_of.Goals as goal
+
+pub returns-in_err-path : goal.returns-in_err-path
+returns-in_err-path g c = asks_nothing _ _
