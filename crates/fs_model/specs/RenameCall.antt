@@ -1,6 +1,7 @@
 -- rename: POSIX.1-2017, rename(). Where a call could be refused for several reasons the order is our own.
 --     is_same        both paths name one node: then nothing is asked of it, and nothing is changed
---     rename_demands, rename_effect, rename_row        what it asks and does
+--     rename_demands, rename_effect, rename_row        what it asks and does; before that the checks of both paths are asked, and
+--             then both walks, as of each call by paths (Steps.antt)
 use Rattle.std.specs.Prelude.{ℕ, ◌==◌, Bool, true, false, not, ◌&&◌, ◌||◌, List, [], ◌∷◌, ◌++◌, length, if◌then◌else◌}
 use Rattle.fs_cred.specs.declared.errno.Errno.TheVariants.{EBUSY, ENOTDIR, EISDIR, EINVAL, ENOTEMPTY}
 use Rattle.fs_model.specs.Trees.{is_within}

@@ -32,7 +32,7 @@ pub record Does (before now : DiskState) (old : State) (e : Event) (reply : Repl
   pub is_added : Adds old e new added
   -- at any moment
   pub images : LeavesOnly before now (IsFound before old added)
-  -- fsync and sync, where they answer ok
+  -- once fsync or sync answers ok, each image that a stop may leave stands for the tree that is present then
   pub synced : IsTrue (makes_stable e reply) → EachStandsFor new.room now new.tree
   -- EIO is answered only where the device failed, or where the machine is halted
   pub cause : IsTrue (is_io_error reply) → IsFalse old.halted → HasFailed before now

@@ -41,7 +41,8 @@ abbrev pub is_judged : ℕ → Bool → Server → Plan Bool
 is_judged node false s = Finish false
 is_judged node true s = followed_by (is_masked node s) (λ r. Finish (unless_masked r.0))
 
--- By its form nothing changes of what the server keeps.
+-- The kernel judges by lists (`posix_acl`) in the default way of a mount, and not with `own_rules`: `settings_of` of `fs_program`. By its
+-- form nothing changes of what the server keeps.
 abbrev pub needs_nobody : ℕ → Operation → Server → Plan Bool
 needs_nobody node (Lookup name) s = is_judged node s.settings.posix_acl s
 needs_nobody node operation s = Finish (not (needs_caller operation))
