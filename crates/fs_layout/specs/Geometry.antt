@@ -1,10 +1,10 @@
 -- Where the parts of a disk begin.
 --     are_in_range, allows_header        how many sectors, inodes and header sectors a disk may have
---     laid_out_in, place_in        the layout of a disk, by its version and its header sectors
+--     laid_out_in, geometry_in        the layout of a disk, by its version and its header sectors
 --     least_header, new_header        how many header sectors a new disk has
---     laid_out, the_place        the layout of a new disk
---     super_for, place_for        the superblock of a layout, and the layout that a superblock gives
---     IsPlace        what each layout has
+--     laid_out, the_geometry        the layout of a new disk
+--     super_for, geometry_for        the superblock of a layout, and the layout that a superblock gives
+--     IsGeometry        what each layout has
 use Rattle.std.specs.Prelude.{◌≡◌, ℕ, ◌+◌, ◌-◌, ◌*◌, ◌/◌, ◌≤◌, min, max, Bool, Option, Some, None, nat_eq, nat_le, nat_lt, not, ◌&&◌, if◌then◌else◌}
 use Rattle.std.specs.Int.{div_ceil}
 use Rattle.fs_layout.specs.declared.geometry.Geometry.{Geometry}
