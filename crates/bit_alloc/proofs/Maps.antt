@@ -63,7 +63,7 @@ pub counted_at_most : (image : SectorMap) (start n : ℕ) → clear_below image 
 unfolding clear_below
 counted_at_most image start n = count_at_most _ 0 n
 
--- those of some bits are among those of more
+-- the clear bits up to some number are among those up to a higher one
 pub fewer_counted : (image : SectorMap) (start m n : ℕ) → m ≤ n → clear_below image start m ≤ clear_below image start n
 unfolding clear_below
 fewer_counted image start m n le =

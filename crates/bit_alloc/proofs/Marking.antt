@@ -30,7 +30,7 @@ in_bitmaps p s from to =
     let back : first + k ≡ s = omega arith in
     (k, omega (arith, few, length-range_with_len first (p.table - first)), get_or-range_with_len first (p.table - first) k s few ∙ back)
 
--- it is one of a bitmap
+-- the sector is one of a bitmap
 pub sector_below : (p : Geometry) (map : Bitmap) (n : ℕ) → IsGeometry p → n < limit p map → (p.inode_bitmap ≤ sector_of p map n) × (sector_of p map n < p.table)
 sector_below p Inodes n geometry lt = let bits = geometry.inode_bits in let after = after_map geometry in (omega arith, omega (arith, bits, lt, after))
 sector_below p Blocks n geometry lt = let bits = geometry.bits in let after = after_map geometry in (omega (arith, after), omega (arith, bits, lt))

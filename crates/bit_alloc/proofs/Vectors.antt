@@ -11,7 +11,7 @@ use Rattle.byteorder.specs.Endian.{little_from}
 use Rattle.byteorder.specs.Numbers.{little_from-cons}
 use Rattle.fs_layout.specs.Bytes.{IsBytes, u64_of}
 
--- the same bytes, the same number
+-- same bytes, same number
 number_same : (n i j : ℕ) (xs ys : List ℕ) → ((m : ℕ) → m < n → get_or xs (i + m) 0 ≡ get_or ys (j + m) 0) → little_from i n xs ≡ little_from j n ys
 number_same zero i j xs ys same = refl
 number_same (suc n) i j xs ys same =

@@ -34,7 +34,7 @@ pub record Touches (p : Geometry) (n taken more : ℕ) (old new : TxnState) : Ty
   pub inode : ChangesInode p n old.sectors new.sectors
   pub free : free_sectors p old.sectors ≤ free_sectors p new.sectors + taken
 
--- the same attributes
+-- two inodes have the same attributes
 pub record KeepsFields (v w : Inode) : Type 0 where
   pub kind : w.kind ≡ v.kind
   pub mode : w.mode ≡ v.mode
@@ -51,12 +51,12 @@ pub record KeepsBytes (old new : SectorMap) (v w : Inode) : Type 0 where
   pub bytes : (held : List ℕ) → Holds old v held → Holds new w held
   pub whole : HasNoHole old v → HasNoHole new w
 
--- the same access ACL
+-- two inodes have the same access ACL
 pub record KeepsAccess (old new : SectorMap) (v w : Inode) : Type 0 where
   pub acl : w.acl ≡ v.acl
   pub acl_sector : v.acl ≢ 0 → new v.acl ≡ old v.acl
 
--- the same default ACL
+-- two inodes have the same default ACL
 pub record KeepsDefault (old new : SectorMap) (v w : Inode) : Type 0 where
   pub default : w.default_acl ≡ v.default_acl
   pub default_sector : v.default_acl ≢ 0 → new v.default_acl ≡ old v.default_acl

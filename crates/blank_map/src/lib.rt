@@ -141,7 +141,7 @@ fn may_have(geometry: Geometry, t: u32, sector: &[u8; 512]) -> bool
     *sector == [0; 512]
 }
 
-// Bytes are below 256: a fact of their type.
+// Does nothing: tells a proof that bytes are below 256, a fact of their type.
 fn tell_bytes(bytes: &[u8])
     ensures { IsBytes bytes.now }
 {

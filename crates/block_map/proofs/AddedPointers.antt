@@ -223,7 +223,7 @@ module _ (level : ℕ) {p : Geometry} {s u index : ℕ} {old mid new : TxnState}
       (entry_keeps may.bitmaps.geometry may.apart a listed (number_on old.sectors v 1 b.index) (owns_on_level old.sectors v 1 b.index there)
       (numbers_apart may.apart 1 (suc (suc level)) b.index (holder 1 index) (inl (λ z. absurd (let y = z in omega (arith, y)))) there))
 
-  -- it is at hand then, if it has the numbers of blocks
+  -- the sector is at hand then, if it has the numbers of blocks
   pub listed_at_hand : {b c : Blocks} → IsAtHand old.sectors b → b.inode ≡ v → IsTaken (suc level) index s (record b { inode = v }) c → IsAtHand new.sectors c
   listed_at_hand {b} {c} h is t =
       taken_at_hand (λ n j away. gained_others listed_gained n j away ∙ ap (λ (w : Inode). number_on old.sectors w n j) (sym is)) (gained_number listed_gained)

@@ -265,7 +265,7 @@ spare_above p {level} first end {from} {to} old low below far is_from is_to spar
     let same = ap (λ (i : ℕ). most_for (level + 1) i to) is_from ∙ ap (most_for (level + 1) (holder 1 first)) is_to in
     omega (arith, most, same, spare)
 
--- those above, as they were added
+-- the sectors above, as they were added
 pub above_at : {p : Geometry} (level first end : ℕ) {from to : ℕ} {old mid : TxnState} {u v : Inode} → from ≡ holder 1 first → to ≡ holder 1 (end - 1) + 1
     → AddsNumbers p (level + 1) from to old mid u v → AddsNumbers p (level + 1) (holder 1 first) (holder 1 (end - 1) + 1) old mid u v
 above_at {p} level first end {from} {to} {old} {mid} {u} {v} is_from is_to a =

@@ -11,7 +11,7 @@ use Rattle.bit_alloc.specs.Inodes.{KeepsFields, KeepsAcls}
 use Rattle.block_map.specs.Steps.{MayChange, Alters}
 use Rattle.block_map.proofs.Runs.{same_map}
 
--- the same attributes
+-- an inode has its own attributes
 pub fields_same : {v : Inode} → KeepsFields v v
 fields_same = record { kind = refl; mode = refl; uid = refl; gid = refl; names = refl; parent = refl; mtime = refl; ctime = refl; atime = refl }
 

@@ -113,7 +113,7 @@ pub no_lacks : (image : SectorMap) (v : Inode) (first end : ℕ) → end ≤ DIR
 no_lacks image v first end low =
     ap (λ (b : Bool). cond b (lacks_from image v POINTER_LEVELS 1 (holder DIRECT_BLOCKS first) (holder DIRECT_BLOCKS (end - 1) + 1)) 0) (le-ltb DIRECT_BLOCKS end low)
 
--- those of blocks, and those of their pointers
+-- the sectors of blocks, and those of their pointers
 pub taken_is : (image : SectorMap) (v : Inode) (offset len : ℕ) → taken_by image v offset len
     ≡ holes image v (offset / 512) (blocks_to (offset + len) - offset / 512) + lacks_pointers image v (offset / 512) (blocks_to (offset + len))
 taken_is image v offset len = refl

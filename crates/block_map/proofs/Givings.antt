@@ -80,7 +80,7 @@ given_weaker {p} {v} {P} {Q} {old} {new} g wider none = record {
 pub given_keeps : {p : Geometry} {v : Inode} {P : Part → Type 0} {old new : TxnState} → OwnsOnlyData p old.sectors v → GivesParts p v P old new → Keeps old.sectors new.sectors v
 given_keeps inside g s o = g.others s (λ m. let low = map_is_low g.tables.geometry s m in let d = (inside s o).0 in omega (arith, low, d))
 
--- those of some, and then those of others
+-- the sectors of some, and then those of others
 pub given_joined : {p : Geometry} {v : Inode} {P Q : Part → Type 0} {old mid new : TxnState} → OwnsOnlyData p old.sectors v → GivesParts p v P old mid → GivesParts p v Q mid new
     → GivesParts p v (λ at. P at ⊎ Q at) old new
 given_joined {p} {v} {P} {Q} {old} {mid} {new} inside a b =
@@ -224,7 +224,7 @@ keeps_or_gives {p} {v} {w} {old} {new} geometry apart g = record {
   low = λ s lt ban. g.others s (low_not_owned apart s lt) ban;
 }
 
--- those of some numbers, and then of the next
+-- the sectors of some numbers, and then of the next
 pub among_joined : {p : Geometry} {v : Inode} {level first k end : ℕ} {old mid new : TxnState} → OwnsOnlyData p old.sectors v → GivesParts p v (IsAmong level first k) old mid
     → GivesParts p v (IsAmong level k end) mid new → first ≤ k → k ≤ end → GivesParts p v (IsAmong level first end) old new
 among_joined {level = level} {first} {k} {end} inside a b from to = given_weaker (given_joined inside a b)
@@ -364,7 +364,7 @@ gone_part image v AccessAcl here = absurd here
 gone_part image v DefaultAcl here = absurd here
 gone_part image v (OnLevel level i) here = emptied_number image v level i
 
--- it fits its fields
+-- an emptied inode fits its fields
 emptied_fits : (v : Inode) → FitsInode v → AllowsSize v.kind 0 → FitsInode (emptied v)
 unfolding zeros
 emptied_fits v fits allowed =

@@ -62,7 +62,7 @@ link_has_no_sector : (owner group size : ℕ) → HasNoSector (link_of owner gro
 unfolding zeros
 link_has_no_sector owner group size = record { acl = refl; default_acl = refl; direct = get_or-zeros DIRECT_BLOCKS; indirect = get_or-zeros POINTER_LEVELS }
 
--- it holds zeros
+-- a new link holds zeros
 link_holds_zeros : (image : SectorMap) (owner group size : ℕ) → Holds image (link_of owner group size) (zeros size)
 link_holds_zeros image owner group size =
     let none : Holds image (link_of owner group 0) [] = holds_nothing image (link_of owner group 0) (link_has_no_sector owner group 0) refl in

@@ -64,11 +64,11 @@ at_hand_of {image} b is h = record {
 pub loaded_has : {image : SectorMap} {b : Blocks} {k : ℕ} → IsLoaded image b k → DIRECT_BLOCKS ≤ k → HasPointers image b.inode 1 (holder DIRECT_BLOCKS k) b.pointers
 loaded_has {image} {b} l ge = subst (λ (i : ℕ). HasPointers image b.inode 1 i b.pointers) (l.index ge) (at_hand_has l.at_hand)
 
--- it is the sector of pointers that has the block's number
+-- what is at hand is the sector of pointers that has the block's number
 pub loaded_sector : {image : SectorMap} {b : Blocks} {k : ℕ} → IsLoaded image b k → DIRECT_BLOCKS ≤ k → number_on image b.inode 1 (holder DIRECT_BLOCKS k) ≡ b.sector
 loaded_sector {image} {b} l ge = ap (number_on image b.inode 1) (sym (l.index ge)) ∙ l.at_hand.number
 
--- it stays so where its number and content are the same
+-- what is at hand stays so where its number and content are the same
 pub at_hand_kept : {old new : SectorMap} {b : Blocks} → IsAtHand old b → (w : Inode) → number_on new w 1 b.index ≡ number_on old b.inode 1 b.index
     → (b.sector ≢ 0 → new b.sector ≡ old b.sector) → IsAtHand new (record b { inode = w })
 at_hand_kept {old} {new} {b} h w number same = record {

@@ -42,7 +42,7 @@ is_used File m allowed e = cc
 is_used Directory m allowed e = cc
 is_used Link m allowed e = cc
 
--- it fits its fields
+-- an inode of that size fits its fields
 pub sized_fits : (v : Inode) (m : ℕ) → FitsInode v → AllowsSize v.kind m → m ≤ MAX_FILE_SIZE → FitsInode (record v { size = m })
 unfolding inode_fits
 sized_fits v m fits allowed few =
@@ -71,7 +71,7 @@ size_limit {p} {n} {txn} {v} m sound lt is allowed =
     let fits : FitsInode v = subst FitsInode (sym is) (inode_fits_there sound.consistent n lt) in
     number_limit v.kind v.mode v.size m fits.valid.numbers allowed
 
--- its size changes in memory, after reads
+-- the size changes in memory, after reads
 pub sized : {p : Geometry} {old mid : TxnState} {v : Inode} (m : ℕ) → MayChange p old v → IsUnchanged old mid → AllowsSize v.kind m → m ≤ MAX_FILE_SIZE
     → Alters p old mid v (record v { size = m })
 sized {p} {old} {mid} {v} m may same allowed few =

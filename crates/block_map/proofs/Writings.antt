@@ -62,7 +62,7 @@ shares_pointers p {u} {old} {new} v k from is puts =
     subst (λ (ns : List ℕ). PutsOnly (IsStepSector p) (ns ++ bitmaps p) 1 old new) (sym (pointers_are old.sectors v k from))
     (subst (λ (t : ℕ). PutsOnly (IsStepSector p) (t ∷ bitmaps p) 1 old new) is puts)
 
--- the same sectors are free after a put into the data
+-- no sector becomes free or taken by a put into the data
 pub free_after_put : {p : Geometry} {s : ℕ} {x : List ℕ} {old new : SectorMap} → IsGeometry p → p.first_data ≤ s → Puts s x old new → free_sectors p new ≡ free_sectors p old
 free_after_put {p} {s} {x} {old} {new} geometry ge put =
     free_sectors_kept p old new (λ t at. block_bit_kept p old new t (has_bit geometry t at.1) (λ u m. put.others u (λ e. let low = map_is_low geometry u m in omega (arith, low, ge, e))))

@@ -27,14 +27,14 @@ pub record IsLoaded (image : SectorMap) (b : Blocks) (k : ℕ) : Type 0 where
   pub at_hand : IsAtHand image b
   pub index : DIRECT_BLOCKS ≤ k → b.index ≡ holder DIRECT_BLOCKS k
 
--- it stays at hand, or where a sector of pointers to blocks is taken that one is, of zeros; the next is sought near it
+-- what is at hand stays, or where a sector of pointers to blocks is taken that one is, of zeros; the next is sought near it
 pub record IsTaken (level i s : ℕ) (old new : Blocks) : Type 0 where
   pub inode : new.inode ≡ old.inode
   pub near : new.near ≡ s
   pub here : level ≡ 1 → (new.index ≡ i) × (new.sector ≡ s) × (new.pointers ≡ zeros 512)
   pub others : level ≢ 1 → (new.index ≡ old.index) × (new.sector ≡ old.sector) × (new.pointers ≡ old.pointers)
 
--- it was made of the bytes of block k
+-- a value was made of the bytes of block k
 pub record IsMadeOfBlock {T : Type 0} (image : SectorMap) (v : Inode) (k : ℕ) (IsMadeOf : List ℕ → T → Type 0) (x : T) : Type 0 where
   pub block : List ℕ
   pub bytes : (i : ℕ) → i < 512 → get_or block i 0 ≡ byte_at image v (512 * k + i)

@@ -12,7 +12,7 @@ use Rattle.bit_alloc.specs.Room.{bitmaps}
 use Rattle.block_map.specs.Drops.{cut_by}
 use Rattle.block_map.specs.Steps.{IsStepSector, Alters, blocks_to}
 
--- these are the bytes up to `size`, with zeros from there to the end of the block, if it goes on there
+-- the bytes are those up to `size`, with zeros from there to the end of the block, if it goes on there
 pub record HasZeroTail (size : ℕ) (bytes then : List ℕ) : Type 0 where
   pub before : (i : ℕ) → i < size → get_or then i 0 ≡ get_or bytes i 0
   pub after : (i : ℕ) → size ≤ i → i < 512 * ((size + 511) / 512) → get_or then i 0 ≡ 0

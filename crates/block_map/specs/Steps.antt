@@ -98,7 +98,7 @@ sectors_to image v level i =
 abbrev pub pointers_to : SectorMap → Inode → ℕ → List ℕ
 pointers_to image v k = sectors_to image v 0 k
 
--- those that blocks from `first` up to `end` have
+-- the sectors of pointers that blocks from `first` up to `end` have
 abbrev pub pointers_of : SectorMap → Inode → ℕ → ℕ → List ℕ
 pointers_of image v first end =
     if nat_lt DIRECT_BLOCKS end then numbers_on image v 1 (holder DIRECT_BLOCKS first) (holder DIRECT_BLOCKS (end - 1) + 1 - holder DIRECT_BLOCKS first) else []

@@ -25,9 +25,9 @@ pub struct Blocks {
     pub inode: Inode,
     // Which sector of pointers to blocks is at hand, counted from the one that the inode names.
     pub(crate) index: u64,
-    // Its number, or 0: there is none.
+    // The number of that sector, or 0: there is none.
     pub(crate) sector: u32,
-    // Its content; zeros where there is none.
+    // The content of that sector; zeros where there is none.
     pub(crate) pointers: [u8; 512],
     // Near this number a sector is sought: that of the first block, and then the one that was taken last.
     pub(crate) near: u32,

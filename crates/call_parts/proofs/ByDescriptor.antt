@@ -66,7 +66,7 @@ use Rattle.call_parts.specs.Times.{MovesTimes}
 use Rattle.call_parts.proofs.Changed.{IsChange, times_moved, none_moved}
 use Rattle.call_parts.proofs.Shown.{the_node_is, is_used}
 
--- it has no path, and so no find
+-- a call by a descriptor has no path, and so no find
 abbrev pub open_scene : State → Process → Scene
 open_scene s q = scene_at s q nothing_found
 
@@ -230,7 +230,7 @@ module _ (s : State) (pid fd : ℕ) (purpose : OpenFor) {processes : ProcessTabl
           }
 
   module _ {d : Descriptor} (o : IsOpened processes pid fd d) where
-    -- it isn't open for that
+    -- what is there isn't open for that
     pub unfit_open : not (opens_for purpose d) ≡ true → IsNotOpen s pid fd purpose (Failed EBADF)
     unfit_open unfit = record {
       each = λ call demands effect is.
@@ -241,7 +241,7 @@ module _ (s : State) (pid fd : ℕ) (purpose : OpenFor) {processes : ProcessTabl
     pub not_open : {e : Refusal} → IsNotOpen s pid fd purpose e → RefusesOpen old new s pid fd purpose e
     not_open refuses = record { each = λ call demands effect is. why.early (refuses.each call demands effect is) }
 
-    -- its inode can't be read
+    -- the inode of what is open can't be read
     pub unread_open : {d : Descriptor} (e : Refusal) → IsOpenFor processes pid fd purpose d → FailsToRead old new e → RefusesOpen old new s pid fd purpose e
     unread_open e w fails = record {
       each = λ call demands effect is.
@@ -255,7 +255,7 @@ fit_open {fd = fd} {d = d} purpose o fit = record { opened = o; fine = bad_open 
 
 module _ {pid : ℕ} {call : Call} {fd : ℕ} {purpose : OpenFor} {demands : Scene → List Demand} {effect : Scene → Effect}
     (is : ActsOn call fd purpose demands effect) {p : Geometry} where
-  -- its refusal is passed on
+  -- the refusal of the descriptor is passed on
   pub closed_refused : {time : ℕ} {txn : TxnState} {processes : ProcessTable} (r : Result Reply Refusal) (e : Refusal) → IsErr r → IsErrAnd r (λ y. y ≡ e)
       → ((s : State) → s.processes ≡ processes → IsNotOpen s pid fd purpose e) → Performs p time pid call txn txn processes processes r
   closed_refused r e err and refuses = refused_performs r e err and store_same (λ s at. why.early ((refuses s at.same_processes).each call demands effect is))
@@ -311,7 +311,7 @@ module _ {pid : ℕ} {call : Call} {fd : ℕ} {purpose : OpenFor} {demands : Sce
     broken_later {last} new r e err first store fault = unread_performs new r e err.0 err.1 (store_joined first store)
         (λ s at. inr (fault.0, failed_later mid.disk last.disk new.disk first.reads.failures fault.1))
 
-    -- it has changed the tree, then its times have moved, and then its process has changed
+    -- the call has changed the tree, then its times have moved, and then its process has changed
     pub changed_tree : {time : ℕ} (last : TxnState) {new : TxnState} {touches : List (ℕ × Touch)} (now : ProcessTable) → SameStore mid last → last.sectors 0 ≡ mid.sectors 0
         → MovesTimes p time touches last new → (f : Process → Process) (reply : Reply) → now ≡ with_changed processes pid f
         → ((s : State) → IsStateOf p mid.sectors processes s
@@ -337,7 +337,7 @@ module _ {pid : ℕ} {call : Call} {fd : ℕ} {purpose : OpenFor} {demands : Sce
           };
     }
 
-    -- its process alone
+    -- the call has changed its process alone
     pub changed_one : {time : ℕ} (new : TxnState) (now : ProcessTable) → IsUnchanged mid new → (f : Process → Process) (reply : Reply) → now ≡ with_changed processes pid f
         → ((n : ℕ) → has_open n (f w.opened.process) ≡ has_open n w.opened.process)
         → ((s : State) → IsStateOf p mid.sectors processes s → (first_of (demands (open_scene s w.opened.process)) ≡ None) × (effect (open_scene s w.opened.process) ≡ with_process (f w.opened.process) reply))

@@ -70,7 +70,7 @@ module _ {A : Type 0} (old new : List ℕ) (r : Result A Refusal) (e : Refusal) 
       (first_of-append (path_checks old) (path_checks new)
       ∙ ap (λ (d : Demand). or_else d (first_of (path_checks new))) (refused_err {A = Unit {0}} (first_of (path_checks old)) tt e is))
 
-  -- it may, and the second may not
+  -- the first may be walked, and the second may not
   pub second_unfit : checked (first_of (path_checks old)) ≡ Ok tt → checked (first_of (path_checks new)) ≡ Err e
       → (x : Refusal) → first_of (both_checks old new) ≡ Some x → r ≡ Err x
   second_unfit met is x = refused_by (second_refused old new e met is)
@@ -104,7 +104,7 @@ module _ (room : Room) (t : Tree) (cred : Credential) (cwd second_cwd : ℕ) (ol
     met : or_else one two ≡ two
     met = ap (λ (d : Demand). or_else d two) (met_ok {A = Found} one finds.0 f first).0
 
-    -- it finds this, and the second is refused
+    -- the first finds this, and the second is refused
     pub second_walk_refused : (e : Refusal) → IsAnswered before after (walk_of room t cred 2 Parent second_cwd new) (Err e)
         → IsAnswered before after (walks_of room t cred cwd second_cwd old new) (Err e)
     second_walk_refused e h = elim h [
@@ -223,7 +223,7 @@ both_found old new s pid q there old_path new_path f g fit is =
 
 module _ {pid : ℕ} {call : Call} {old_path new_path : List ℕ} {demands : Scene → List Demand} {effect : Scene → Effect}
     (is : WalksBoth call old_path new_path demands effect) {p : Geometry} where
-  -- its refusal is passed on
+  -- the refusal of the walks is passed on
   pub walks_refused : {time : ℕ} {old new : TxnState} {processes : ProcessTable} (r : Result Reply Refusal) (e : Refusal) → IsErr r → IsErrAnd r (λ y. y ≡ e) → IsUnchanged old new
       → ((s : State) → IsStateOf p old.sectors processes s → RefusesBoth old.disk new.disk s pid old_path new_path e) → Performs p time pid call old new processes processes r
   walks_refused r e err and same refuses = refused_performs r e err and same.store (λ s at. (refuses s at).each call demands effect is)
@@ -253,13 +253,13 @@ module _ {pid : ℕ} {call : Call} {old_path new_path : List ℕ} {demands : Sce
     both_broken {last} new r e err later store fault =
         both_refused new r e err.0 err.1 (store_joined later.store store) {A = ℕ} 0 (λ s has at. inr (interrupts_later new.disk later (inr fault)))
 
-    -- the same, after it has changed the tree
+    -- or a fault, after the call has changed the tree
     pub both_broken_later : {time : ℕ} {last : TxnState} (new : TxnState) (r : Result Reply Refusal) (e : Refusal) → IsErr r × IsErrAnd r (λ y. y ≡ e) → SameStore mid last → SameStore last new
         → FailsToRead last.disk new.disk e → Performs p time pid call old new processes processes r
     both_broken_later {last} new r e err first store fault = both_refused new r e err.0 err.1 (store_joined first store) {A = ℕ} 0
         (λ s has at. inr (inr (fault.0, failed_later mid.disk last.disk new.disk first.reads.failures fault.1)))
 
-    -- it has changed the tree, and then its times have moved
+    -- the call has changed the tree, and then its times have moved
     pub both_performs : {time : ℕ} (last : TxnState) {new : TxnState} {touches : List (ℕ × Touch)} → SameStore mid last → last.sectors 0 ≡ mid.sectors 0 → MovesTimes p time touches last new → (reply : Reply)
         → ((s : State) → HasFoundBoth s pid q old_path new_path f g → IsStateOf p mid.sectors processes s
         → IsChange p last.sectors processes s q (demands (scene_with s q f g)) (λ n. effect (scene_with s q f g)) reply touches)

@@ -50,7 +50,7 @@ module _ {p : Geometry} {map : SectorMap} {processes : ProcessTable} {s : State}
   pub state_process : (pid : ℕ) (q : Process) → get nat_cmp processes pid ≡ Some q → IsProcess s.tree q
   state_process pid q there = (at.is_state.processes at.up).each_process pid q (same_process pid q there)
 
-  -- its current directory
+  -- the current directory of a process is there
   pub cwd_there : (pid : ℕ) (q : Process) → get nat_cmp processes pid ≡ Some q → IsThere s.tree q.cwd
   cwd_there pid q there = let d = (state_process pid q there).cwd in is_there s.tree q.cwd d.node d.is_there
 
@@ -64,7 +64,7 @@ module _ {p : Geometry} {map : SectorMap} {processes : ProcessTable} {s : State}
   pub second_cwd_below : (pid : ℕ) (q : Process) → get nat_cmp processes pid ≡ Some q → q.second_cwd < p.inodes
   second_cwd_below pid q there = number_below state_tree q.second_cwd (second_cwd_there pid q there)
 
--- it is the state of the map after reads, too
+-- a state is that of the map after reads, too
 pub state_kept : {p : Geometry} {old new : TxnState} {processes : ProcessTable} {s : State} → IsUnchanged old new → IsStateOf p old.sectors processes s
     → IsStateOf p new.sectors processes s
 state_kept {p} {old} {new} {processes} {s} same at = kept (λ m. IsStateOf p m processes s) same at

@@ -39,7 +39,7 @@ use Rattle.call_parts.specs.Times.{AreBelow, kept_touches, MayMoveTimes, MovesTi
 
 -- ---- a change
 
--- Its demands are met, and the map holds the tree that its effect leaves, before times move: these are to.
+-- The demands are met, and the map holds the tree that the effect leaves, before the times of `touching` move.
 pub record IsChange (p : Geometry) (map : SectorMap) (processes : ProcessTable) (s : State) (q : Process) (asked : List Demand) (effect : ℕ → Effect) (reply : Reply)
     (touching : List (ℕ × Touch)) : Type 0 where
   pub met : first_of asked ≡ None
@@ -59,7 +59,7 @@ none_kept : (keeps : Bool) → no_touches ≡ (if keeps then no_touches else no_
 none_kept true = refl
 none_kept false = refl
 
--- those that the disk keeps
+-- the times that the disk keeps
 module _ {p : Geometry} {map : SectorMap} {processes : ProcessTable} {s : State} (at : IsStateOf p map processes s) where
   touches_kept : (change : Change) → touches s.room s.tree change ≡ kept_touches p (touches_of s.tree change)
   touches_kept Same = none_kept (room_of p).keeps_times
@@ -126,7 +126,7 @@ module _ {p : Geometry} {mid : SectorMap} {processes : ProcessTable} {s : State}
       rewrite_held s at.is_state at.up processes (λ k is. subst (λ (d : ProcessTable). IsTrue (is_open d k)) at.same_processes is) p mid at.holds at.same_room
       new touch n was now there may one.inode one.used here
 
-  -- it is the node that was found
+  -- what is rewritten is the node that was found
   pub rewrites_found : (q : Process) (f : Found) (asked : List Demand) (g : Node → Node) → first_of asked ≡ None → number f ≡ n
       → the_node s.tree (number f) ≡ was → g was ≡ now → IsChange p new processes s q asked (λ k. rewrites (scene_at s q f) touch (number f) g) Done ((n, touch) ∷ [])
   rewrites_found q f asked g met is node_is now_is = record {

@@ -55,7 +55,7 @@ module _ (a b : List Demand) (d : Demand) where
 
 -- ---- what an inode says
 
--- its kind says whether it is a link
+-- the kind of an inode says whether it is a link
 pub link_says : (version : Version) (image : SectorMap) (v : Inode) (b : Body) → HoldsBody version image v b → is_link_kind v.kind ≡ is_link b
 link_says version image v (File a bytes) h = ap is_link_kind h.kind
 link_says version image v (Dir a d) h = ap is_link_kind h.names.kind

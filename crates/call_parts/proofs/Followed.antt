@@ -79,7 +79,7 @@ asked_of s q f want n is a =
 pub node_is : (s : State) (q : Process) (f : Found) (n : ℕ) → number f ≡ n → (a : IsAccessed s.tree n) → node_found (scene_at s q f) f ≡ a.node
 node_is s q f n is a = ap (λ (k : ℕ). unwrap_or (node_at s.tree k) no_node) is ∙ ap (λ o. unwrap_or o no_node) a.at
 
--- it is a directory where its inode says so
+-- what was found is a directory where its inode says so
 pub directory_is : {p : Geometry} {map : SectorMap} {processes : ProcessTable} {s : State} {pid : ℕ} {q : Process} {path : List ℕ} {f : Found} {n : ℕ} {v : Inode}
     → IsStateOf p map processes s → HasFound s pid q Follow path f → f.ino ≡ Some n → number f ≡ n → v ≡ inode_at p map n
     → is_directory (body_found (scene_at s q f) f) ≡ is_directory_kind v.kind
@@ -95,7 +95,7 @@ rule_told s q f want n is a =
     ap (λ (node : Node). answers (scene_at s q f) (granted_by q.cred want (accessed node))) (node_is s q f n is a)
     ∙ ap (λ o. answers (scene_at s q f) (granted_by q.cred want o)) a.is
 
--- its inode, as it was read
+-- the inode of what was found, as it was read
 module _ {p : Geometry} {mid new : TxnState} {processes : ProcessTable} {s : State} {pid : ℕ} {q : Process} {path : List ℕ} {f : Found} {n : ℕ} {v : Inode}
     (at : IsStateOf p mid.sectors processes s) (has : HasFound s pid q Follow path f) (i : IsInodeFound p mid.sectors f n v) (same : IsUnchanged mid new) where
   pub access_held : HasAccess new.sectors v (followed_access n at has i.some).access
@@ -131,7 +131,7 @@ module _ {p : Geometry} {mid new : TxnState} {processes : ProcessTable} {s : Sta
       let met = met_ok {A = Rule} (decided 1 f.step (Perm want) (verdict q.cred a.access want)) (verdict q.cred a.access want).rule rule e in
       (asked_of s q f want n i.number a ∙ met.0, met.1)
 
-  -- its body is that of a file or a directory
+  -- the body of what was found is that of a file or a directory
   pub body_found_held : HasBody p.version new.sectors v (followed_access n at has i.some).node.body
   body_found_held =
       let a = followed_access n at has i.some in

@@ -1,7 +1,7 @@
 -- What the walks of two paths have found.
 --     finds_both, finds_each        it was found in a state
 --     first_there, second_there        it is there
---     first_at, second_at, second_new        names in directories
+--     first_walked, second_walked        what each of the two walks says of the tree
 --     is_scene        the scene fits the state
 use Rattle.std.specs.Prelude.{◌≡◌, ℕ, ◌==◌, List, None, Some}
 use Rattle.std.proofs.Common.{sym, ap, subst, ◌∙◌}

@@ -114,7 +114,7 @@ acl_leaves_times : (v : Inode) (m : ℕ) (a : AccessList) → stamps_in (with_ac
 unfolding stamps_in
 acl_leaves_times v m a = refl
 
--- those that have moved
+-- the times that have moved
 touched_times : (time : ℕ) (touch : Touch) (v : Inode) → stamps_in (with_times v (touch_at time touch (stamps_in v))) ≡ touch_at time touch (stamps_in v)
 unfolding stamps_in
 touched_times time Untouched v = refl
@@ -311,7 +311,7 @@ taken_apart n m true false lt e = omega (arith, lt, e)
 taken_apart n m false true lt e = omega (arith, lt, e)
 taken_apart n m false false lt e = omega (arith, lt, e)
 
--- those of a mode that shows the body
+-- the bits of a mode that shows the body
 pub special_says : (b : Body) (m : ℕ) → m ≡ shown_mode b → m / 512 ≡ special_bits b
 special_says (File a bytes) m e = let lt = mode_small a in omega (arith, lt, e)
 special_says (Dir a d) m e = taken_apart (mode_bits a) m d.sticky d.set_group_id (mode_small a) e

@@ -74,7 +74,7 @@ node_stood room t was now is fits n node at still =
     fitting_stays room now n node.body (names_of t n) (is.each n node at).names (λ none ne. still (fits.nameless n node at none ne))
     (root_directory room t n node is at)
 
--- It stays, or goes, as its inode says.
+-- A node stays, or goes, as its inode says.
 pub left_node : {p : Geometry} {n : ℕ} {old new : TxnState} (t : Tree) (was now : ProcessTable) (node : Node) (up : ℕ)
     → HoldsNode p.version old.sectors (inode_at p old.sectors n) (record { node = node; names = names_of t n; parent = up })
     → IsFalse (is_link node.body) → stays t was (n, node) ≡ true → LeavesInode p n (is_open now n) old new

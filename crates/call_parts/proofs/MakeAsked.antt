@@ -74,7 +74,7 @@ inodes_later p {old} {mid} new e same is =
 pub answered_as : (d : Demand) {v w : Inode} → refused_or d (Ok v) ≡ Ok w → w ≡ v
 answered_as d {v} {w} is = sym (met_ok {A = Inode} d v w is).1
 
--- it was asked for after reads
+-- the inode was asked for after reads
 pub directory_met : (p : Geometry) {old mid : TxnState} (dir : ℕ) {d : Inode} (asked : Demand) → IsUnchanged old mid
     → refused_or asked (Ok (inode_at p mid.sectors dir)) ≡ Ok d → (asked ≡ None) × (d ≡ inode_at p old.sectors dir)
 directory_met p {old} {mid} dir {d} asked same is =

@@ -89,7 +89,7 @@ module _ {p : Geometry} {map : SectorMap} {t : Tree} (h : HoldsTree p map t) {di
       let both : Some d.node ≡ None = sym d.is_there ∙ ap (node_at t) e ∙ nothing_stands h n free in
       cc
 
-  -- its inode is the same
+  -- the directory's inode is the same
   pub dir_kept : inode_at p mid dir ≡ inode_at p map dir
   dir_kept = inode_kept p dir map mid (first.table dir (number_below h dir (is_there t dir d.node d.is_there)) apart_from_new)
 

@@ -102,7 +102,7 @@ asked_as p map t dir {cred} {who} {step} {steps} same count =
     ap (λ (k : Credential). make_asked p map k t dir step) same ∙ ap (λ (k : ℕ). make_asked p map who t dir k) count
 
 module _ (p : Geometry) (old new : TxnState) (who : Credential) (t : Tree) (f : Found) (node : Node) where
-  -- it isn't made
+  -- the object isn't made
   pub not_made : (r : Result ℕ Refusal) (e : Refusal) → IsErr r × IsErrAnd r (λ y. y ≡ e)
       → IsAnswered old.disk new.disk (refused_or {A = Unit {0}} (first_of (make_asked p old.sectors who t f.dir (f.step - 1))) (Ok tt)) (Err e)
       → IsMade p old new who t f node r
@@ -116,7 +116,7 @@ module _ (p : Geometry) (old new : TxnState) (who : Credential) (t : Tree) (f : 
       (refused_as {A = Unit {0}} {B = B} (first_of (make_asked p old.sectors who t f.dir (f.step - 1))) x tt e old.disk new.disk
       (subst (λ (ds : List Demand). IsAnswered old.disk new.disk (refused_or {A = B} (first_of ds) (Ok x)) (Err e)) (asked_as p old.sectors t f.dir same count) h))
 
--- it is met, and answers this
+-- what is asked is met, and answers this
 pub allowed : (p : Geometry) (map : SectorMap) (t : Tree) (f : Found) {cred who : Credential} {step : ℕ} → cred ≡ who → step ≡ f.step - 1 → {B : Type 0} (x y : B)
     → refused_or {A = B} (first_of (make_asked p map cred t f.dir step)) (Ok x) ≡ Ok y → (first_of (make_asked p map who t f.dir (f.step - 1)) ≡ None) × (y ≡ x)
 allowed p map t f {cred} {who} {step} same count {B} x y h =
@@ -247,7 +247,7 @@ module _ {pid : ℕ} {call : Call} {checks : Checked} {path : List ℕ} (asked :
       (w.ready.state.tree, state_tree at, new_in at q f (w.found w.ready.state at) w.bytes none)
 
   module _ (none : f.ino ≡ None) (new : TxnState) where
-    -- it isn't made
+    -- the object isn't made, and the call refused
     pub made_refused : {time : ℕ} (r : Result Reply Refusal) (e : Refusal) → IsErr r × IsErrAnd r (λ y. y ≡ e) → SameStore mid new → first_of (asked f) ≡ None
         → ((t : Tree) → HoldsTree p mid.sectors t → IsNewIn p t f.dir f.name
         → IsAnswered mid.disk new.disk (refused_or {A = Unit {0}} (first_of (make_asked p mid.sectors q.cred t f.dir (f.step - 1))) (Ok tt)) (Err e))
@@ -255,7 +255,7 @@ module _ {pid : ℕ} {call : Call} {checks : Checked} {path : List ℕ} (asked :
     made_refused r e err store met each = asked_refused is same w new r e err.0 err.1 store {A = Unit {0}} tt
         (λ s has at. space_refused at q f (asked f) met e mid.disk new.disk (each s.tree (state_tree at) (new_in at q f has w.bytes none)))
 
-  -- it is, at this number
+  -- the object is made, at this number
   module _ (none : f.ino ≡ None) (last : TxnState) (n : ℕ) (node : Tree → Node)
       (each : (t : Tree) → HoldsTree p mid.sectors t → IsNewIn p t f.dir f.name → IsMade p mid last q.cred t f (node t) (Ok n))
       (says : (s : State) → HasFound s pid q Parent path f → IsStateOf p mid.sectors processes s → first_of (make_asked p mid.sectors q.cred s.tree f.dir (f.step - 1)) ≡ None
@@ -269,7 +269,7 @@ module _ {pid : ℕ} {call : Call} {checks : Checked} {path : List ℕ} (asked :
         → IsChange p last.sectors processes s q (asked f ++ space_at (scene_at s q f)) (effect (scene_at s q f)) Done ((f.dir, Modified) ∷ (n, Born) ∷ [])
     made_change s has at = let m = made_at s at has in says s has at m.0 m.1
 
-    -- its times and the directory's may move
+    -- the times of the new object and of the directory may move
     pub made_may_touch : SameStore mid last → (k : ℕ) → k ≤ 45 → TakesSpare p k mid last → MayMoveTimes p ((f.dir, Modified) ∷ (n, Born) ∷ []) last
     made_may_touch store k few taken =
         let ready = w.ready in

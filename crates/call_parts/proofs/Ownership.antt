@@ -52,7 +52,7 @@ some_asked {A} ds es y x e old new h = elim h [
 both_are : (ds es : List Demand) → first_of ds ≡ None → first_of (ds ++ es) ≡ first_of es
 both_are ds es none = first_of-append ds es ∙ ap (λ (o : Demand). or_else o (first_of es)) none
 
--- they are met, and the others refuse
+-- the first demands are met, and the others refuse
 pub others_asked : {A : Type 0} (ds es : List Demand) (x : A) (e : Refusal) (old new : DiskState) → first_of ds ≡ None
     → IsAnswered old new (refused_or (first_of es) (Ok x)) (Err e) → IsAnswered old new (refused_or (first_of (ds ++ es)) (Ok x)) (Err e)
 others_asked {A} ds es x e old new none h =
@@ -91,14 +91,14 @@ module _ {p : Geometry} {map : SectorMap} {processes : ProcessTable} {s : State}
   own_is : own_at_end (scene_at s q f) ≡ own_asked q.cred v.uid f.step
   own_is = ap (λ (k : ℕ). own_asked q.cred k f.step) (ap (λ (u : Node). u.owner) found_node.is ∙ sym found_node.holds.owner)
 
-  -- it isn't the caller's
+  -- what was found isn't the caller's
   pub own_refused : {A : Type 0} (rest : List Demand) (x : A) (e : Refusal) (old new : DiskState) → checked (own_asked q.cred v.uid f.step) ≡ Err e
       → IsAnswered old new (refused_or (first_of (must_be_there f ∷ own_at_end (scene_at s q f) ∷ rest)) (Ok x)) (Err e)
   own_refused rest x e old new is =
       next_asked (must_be_there f) (own_at_end (scene_at s q f) ∷ rest) x e old new i.met
       (first_asked {B = Unit {0}} (own_at_end (scene_at s q f)) rest tt x e old new (inl (ap checked own_is ∙ is)))
 
-  -- it is
+  -- what was found is the caller's
   pub own_met : own_asked q.cred v.uid f.step ≡ None → first_of (must_be_there f ∷ own_at_end (scene_at s q f) ∷ []) ≡ None
   own_met none = both_met (must_be_there f) (own_at_end (scene_at s q f) ∷ []) i.met (both_met (own_at_end (scene_at s q f)) [] (own_is ∙ none) refl)
 

@@ -113,7 +113,7 @@ walk_reaches refuses = record { each = λ call rest effect w. refuses.each call 
 
 module _ {pid : ℕ} {call : Call} {checks : Checked} {form : Form} {path : List ℕ} {demands : Scene → List Demand} {effect : Scene → ℕ → Effect}
     (is : WalksPath call checks form path demands effect) {p : Geometry} where
-  -- its refusal is passed on
+  -- the refusal of the walk is passed on
   pub walk_refused : {time : ℕ} {old new : TxnState} {processes : ProcessTable} (r : Result Reply Refusal) (e : Refusal) → IsErr r → IsErrAnd r (λ y. y ≡ e) → IsUnchanged old new
       → ((s : State) → IsStateOf p old.sectors processes s → RefusesWalk old.disk new.disk s pid checks form path e) → Performs p time pid call old new processes processes r
   walk_refused r e err and same refuses = refused_performs r e err and same.store (λ s at. (refuses s at).each call demands effect is)
@@ -154,13 +154,13 @@ module _ {pid : ℕ} {call : Call} {checks : Checked} {form : Form} {path : List
     asked_broken {last} new r e err later store fault =
         asked_refused new r e err.0 err.1 (store_joined later.store store) {A = ℕ} 0 (λ s has at. inr (interrupts_later new.disk later (inr fault)))
 
-    -- the same, after it has changed the tree
+    -- or a fault, after the call has changed the tree
     pub broken_later : {time : ℕ} {last : TxnState} (new : TxnState) (r : Result Reply Refusal) (e : Refusal) → IsErr r × IsErrAnd r (λ y. y ≡ e) → SameStore mid last → SameStore last new
         → FailsToRead last.disk new.disk e → Performs p time pid call old new processes processes r
     broken_later {last} new r e err first store fault = asked_refused new r e err.0 err.1 (store_joined first store) {A = ℕ} 0
         (λ s has at. inr (inr (fault.0, failed_later mid.disk last.disk new.disk first.reads.failures fault.1)))
 
-    -- it answers
+    -- the call answers
     pub told : {time : ℕ} (new : TxnState) → IsUnchanged mid new → (reply : Reply)
         → ((s : State) → HasFound s pid q form path f → IsStateOf p mid.sectors processes s
         → (first_of (demands (scene_at s q f)) ≡ None) × (effect (scene_at s q f) 0 ≡ answers (scene_at s q f) reply))
@@ -173,7 +173,7 @@ module _ {pid : ℕ} {call : Call} {checks : Checked} {form : Form} {path : List
           found_told s pid q call form path is.arguments demands effect is.row met (here s at) f (has s at) reply at t.1,
         ))
 
-    -- it has changed the tree, and then its times have moved
+    -- the call has changed the tree, and then its times have moved
     pub changed : {time : ℕ} (last : TxnState) {new : TxnState} {touches : List (ℕ × Touch)} → SameStore mid last → last.sectors 0 ≡ mid.sectors 0 → MovesTimes p time touches last new → (reply : Reply)
         → ((s : State) → HasFound s pid q form path f → IsStateOf p mid.sectors processes s
         → IsChange p last.sectors processes s q (demands (scene_at s q f)) (effect (scene_at s q f)) reply touches)
@@ -198,7 +198,7 @@ module _ {pid : ℕ} {call : Call} {checks : Checked} {form : Form} {path : List
           };
     }
 
-    -- its process alone has changed, and what it has open stays
+    -- the process of the call alone has changed, and what it has open stays
     pub process_changed : {time : ℕ} (new : TxnState) (now : ProcessTable) → IsUnchanged mid new → (r : Process) (reply : Reply) → now ≡ with_entry nat_cmp processes pid r
         → r.descriptors ≡ q.descriptors
         → ((s : State) → HasFound s pid q form path f → IsStateOf p mid.sectors processes s
@@ -288,7 +288,7 @@ pub reach_owns : {old new : DiskState} {s : State} {pid : ℕ} {checks : Checked
     → RefusesReach old new s pid checks form path e → RefusesOwned old new s pid checks form path e
 reach_owns refuses = record { each = λ call rest effect w. refuses.each call (λ x. own_at_end x ∷ rest x) effect w }
 
--- it isn't the caller's
+-- what was found isn't the caller's
 pub unowned : {p : Geometry} {old mid : TxnState} {processes : ProcessTable} {pid : ℕ} {checks : Checked} {form : Form} {path : List ℕ} {q : Process} {f : Found} {n : ℕ} {v : Inode}
     (e : Refusal) → IsUnchanged old mid → HasReached p mid processes pid checks form path q f n v → checked (own_asked q.cred v.uid f.step) ≡ Err e
     → (s : State) → IsStateOf p old.sectors processes s → RefusesOwned old.disk mid.disk s pid checks form path e

@@ -43,7 +43,7 @@ Checked = Result (Unit {0}) Refusal
 abbrev pub checked : Demand → Checked
 checked d = refused_or {A = Unit {0}} d (Ok tt)
 
--- It walks this path so, after its arguments, whose checks answer this. Then it asks these demands of what is found.
+-- A call walks this path so, after its arguments, whose checks answer this. Then it asks these demands of what is found.
 pub record WalksPath (call : Call) (checks : Checked) (form : Form) (path : List ℕ) (demands : Scene → List Demand) (effect : Scene → ℕ → Effect) : Type 0 where
   pub arguments : List Demand
   pub row : row_of call ≡ by_path arguments form path demands effect
@@ -88,7 +88,7 @@ pub record HasOwned (p : Geometry) (txn : TxnState) (processes : ProcessTable) (
   pub reached : HasReached p txn processes pid checks form path q f n v
   pub met : own_asked q.cred v.uid f.step ≡ None
 
--- It walks both paths, the first from its start to its end before the second. Then it asks these demands of what is found.
+-- A call walks both paths, the first from its start to its end before the second. Then it asks these demands of what is found.
 pub record WalksBoth (call : Call) (old_path new_path : List ℕ) (demands : Scene → List Demand) (effect : Scene → Effect) : Type 0 where
   pub row : row_of call ≡ by_two_paths old_path new_path demands effect
   pub asks : IsTrue (asks_in_call call)
@@ -117,7 +117,7 @@ opens_for Anything d = true
 opens_for Reading d = d.read
 opens_for Writing d = d.write
 
--- It acts on what its process has open at fd, where that is open for this. Then it asks these demands.
+-- A call acts on what its process has open at fd, where that is open for this. Then it asks these demands.
 pub record ActsOn (call : Call) (fd : ℕ) (purpose : OpenFor) (demands : Scene → List Demand) (effect : Scene → Effect) : Type 0 where
   pub row : row_of call ≡ by_descriptor (bad_for purpose fd) demands effect
 

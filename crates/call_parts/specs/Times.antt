@@ -21,7 +21,7 @@ use Rattle.fs_model.specs.Trees.{Tree}
 abbrev pub with_times : Inode → Stamps → Inode
 with_times v x = record v { atime = x.atime; mtime = x.mtime; ctime = x.ctime }
 
--- these times of inode n have moved, and all else that it had stays
+-- some times of inode n have moved, and all else that it had stays
 pub record SavesTimes (p : Geometry) (time n : ℕ) (touch : Touch) (old new : TxnState) : Type 0 where
   pub sound : IsSound p new
   pub touches : Touches p n 0 1 old new
@@ -44,7 +44,7 @@ pub record MayMoveTimes (p : Geometry) (touches : List (ℕ × Touch)) (txn : Tx
   pub below : AreBelow p.inodes touches
   pub spare : HasSpare p (length touches) txn
 
--- They have moved, one after another, of those inodes that are used.
+-- The times of the inodes that are used have moved, one after another.
 pub record MovesTimes (p : Geometry) (time : ℕ) (touches : List (ℕ × Touch)) (old new : TxnState) : Type 0 where
   pub store : SameStore old new
   pub super : new.sectors 0 ≡ old.sectors 0

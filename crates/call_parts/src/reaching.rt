@@ -24,7 +24,7 @@ pub struct Walked<'a> {
     pub found: Found,
 }
 
-/// The same, with number and inode of what was found.
+/// The process that calls, with number and inode of what its path leads to.
 #[derive(Drop)]
 pub struct Reached<'a> {
     pub process: &'a Process,
@@ -73,7 +73,7 @@ pub fn walk_path<'a, S: Sectors>(
     Ok(Walked { process, found })
 }
 
-/// The same, where something has to be there, with its inode. ENOENT: nothing is.
+/// What the path of a call leads to, as by `walk_path`, where something has to be there, with its inode. ENOENT: nothing is.
 pub fn reach<'a, S: Sectors>(
     s: &mut S,
     caller: &Caller<'a>,
@@ -99,7 +99,7 @@ pub fn reach<'a, S: Sectors>(
     })
 }
 
-/// The same, where the caller may change its mode, owner and ACLs.
+/// What the path of a call leads to, as by `reach`, where the caller may change its mode, owner and ACLs.
 pub fn reach_owned<'a, S: Sectors>(
     s: &mut S,
     caller: &Caller<'a>,
@@ -176,7 +176,7 @@ pub fn find_open(
     Ok(descriptor)
 }
 
-/// The same, with its inode. EIO: the disk has failed.
+/// What a process has open at a descriptor, as by `find_open`, with its inode. EIO: the disk has failed.
 pub fn reach_open<S: Sectors>(
     s: &mut S,
     caller: &Caller,

@@ -62,7 +62,7 @@ pub no_free : (k : Kind) → k ≡ kinds.Directory → k ≢ kinds.Free
 no_free k e f = let same : kinds.Directory ≡ kinds.Free = sym e ∙ f in cc
 
 module _ {p : Geometry} {n : ℕ} {txn : TxnState} {v : Inode} (sound : IsSound p txn) (lt : n < p.inodes) (is : v ≡ inode_at p txn.sectors n) (kind : v.kind ≡ kinds.Directory) where
-  -- it can be read
+  -- a directory can be read
   pub directory_within : IsWithin txn.header txn.disk.size txn.sectors v
   directory_within = may_within (used_may_change sound lt is (no_free v.kind kind))
 
@@ -123,7 +123,7 @@ length-written version x n block e is short = ap length (written version x n blo
 pub moves_itself : (slots : List NamedInode) (slot : ℕ) (d : NamedInode) → slot ≡ length slots - 1 → set slots slot (get_or slots (length slots - 1) d) ≡ slots
 moves_itself slots slot d e = ap (λ (k : ℕ). set slots k (get_or slots (length slots - 1) d)) e ∙ set-get_or slots (length slots - 1) d
 
--- its bytes are read
+-- the bytes of the last slot are read
 pub last_read : {version : Version} {image : SectorMap} {v : Inode} {slots : List NamedInode} {offset count : ℕ} {old new : List ℕ} → HasSlots version image v slots
     → 0 < length slots → offset ≡ v.size - slot_size version → length old ≡ slot_size version → IsReadOf (slots_bytes version slots) offset old new count
     → (d : NamedInode) → new ≡ slot_bytes version (get_or slots (length slots - 1) d)
@@ -280,7 +280,7 @@ module _ {version : Version} {image : SectorMap} {v : Inode} {names : List (List
     whole = now.whole;
   }
 
-  -- the same name leads to another inode
+  -- the name of the slot leads to another inode
   own_name : y.name ≡ x.name → IsNameOfOne h.slots slot y.name
   own_name same = subst (IsNameOfOne h.slots slot) (sym same) (its_own_name h.slots slot x h.apart lt is)
 

@@ -222,7 +222,7 @@ module _ (slots : List NamedInode) (i : ℕ) (x y : NamedInode) (lt : i < length
   within : (k : ℕ) → k < length after → k < length slots
   within k small = omega (arith, small, length-set slots i y)
 
-  -- it has its new name alone
+  -- the slot has its new name alone
   set_alone : (k : ℕ) (d : NamedInode) → k < length after → k ≢ i → (get_or after k d).name ≢ y.name
   set_alone k d small ne e = alone k d (within k small) ne (ap (λ (z : NamedInode). z.name) (sym (get_or-set_other slots i k y d ne)) ∙ e)
 

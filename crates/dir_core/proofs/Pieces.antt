@@ -95,7 +95,7 @@ module _ {version : Version} (block : List ℕ) (at : ℕ) (x : NamedInode) (is 
       ∙ name_byte (length name - 1) (omega (arith, some, long))
       ∙ ap (λ (s : List ℕ). get_or s (length name - 1) 0) same
 
-  -- its name
+  -- the name of a slot
   pub name_there : at + slot_size version ≤ length block → window block (at + 8) (length x.name) ≡ x.name
   name_there room =
       let short = is.0.short in
@@ -106,7 +106,7 @@ module _ {version : Version} (block : List ℕ) (at : ℕ) (x : NamedInode) (is 
       ∙ get_or-drop (at + 8) block i 0
       ∙ name_byte i below)
 
-  -- its inode
+  -- the inode of a slot
   pub inode_there : u32_of block at ≡ x.inode
   unfolding le32
   inode_there =

@@ -171,7 +171,7 @@ const SYNCED_BETWEEN: [Call; 4] = [
     Call::Write(0, 3),
 ];
 
-// The same of a new disk of four sectors.
+// What four calls and a stop leave on a new disk of four sectors.
 fn stopped_in_memory(
     alloc: Global,
     armed: u64,
@@ -248,7 +248,7 @@ fn through<D: Disk + Drop, const FAULTS: u64>(
     Ok((passed, failures, first_byte(&mut disk, 0)?))
 }
 
-// The same of a fuse and of a disk of one fault, each over a new disk.
+// The calls through a fuse and through a disk of one fault, each over a new disk.
 fn through_both(alloc: Global, call: u64) -> Result<(Through, Through), Fail> {
     let burnt = through(FuseDisk::new(MemDisk::new(alloc, 4)?, call))?;
     let failed = through(FailOnce::new(MemDisk::new(alloc, 4)?, call))?;

@@ -264,7 +264,7 @@ fn call_disk<D: Disk + Drop>(disk: D, calls: [Call; 4]) -> ([bool; 4], u64, Seen
     (passed, disk.failures(), see(&mut disk))
 }
 
-// The same of a file of three sectors, and what it has then.
+// Which calls pass of the disk in a file of three sectors, how often it has failed, what it has, and what its file has then.
 type Failed = Result<([bool; 4], u64, Seen, Seen), FileFault>;
 
 fn fail(rt: &HostRuntime, path: Path<'_>, first: u64, count: u64) -> Failed {
@@ -274,7 +274,7 @@ fn fail(rt: &HostRuntime, path: Path<'_>, first: u64, count: u64) -> Failed {
     Ok((passed, failures, read, opened(rt, path)?))
 }
 
-// The same of a file in which another disk is.
+// What is told of the disk in a file in which another disk is.
 fn refused(rt: &HostRuntime, path: Path<'_>) -> Result<Told, FileFault> {
     let first = FileDisk::create(rt, rt.alloc(), path, 3)?;
     let told = fail_calls(rt, path, TWO_RUNS, u64::MAX, 0);

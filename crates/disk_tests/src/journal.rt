@@ -103,7 +103,7 @@ fn committed<D: CrashDisk + Drop>(disk: D, batch: &Batch, passes: u64) -> Option
     Some(disk_after(journal, batch))
 }
 
-// The same, and a stop.
+// The disk after a commit of which so many writes and syncs pass, and a stop.
 fn stopped<D: CrashDisk + Drop>(disk: D, batch: &Batch, passes: u64, choice: &[u8]) -> Option<D>
     requires room { 128 ≤ (D.state disk).size }
     requires on_disk { IsOnDisk 0 (D.state disk).size batch.now.entries }
@@ -127,7 +127,7 @@ fn disk_after_opening<D: CrashDisk>(disk: D, passes: u64) -> D
     }
 }
 
-// The same, and a stop.
+// The disk after an opening of which so many writes and syncs pass, and a stop.
 fn stopped_within_opening<D: CrashDisk>(disk: D, passes: u64, choice: &[u8]) -> D
     requires { 128 ≤ (D.state disk).size }
     ensures { (D.state result).size ≡ (D.state disk).size }
@@ -151,7 +151,7 @@ fn bytes_in<D: Disk>(journal: &mut Journal<D>) -> Option<(u8, u8)>
     }
 }
 
-// The same on a disk, which is opened.
+// The first bytes of sectors 200 and 201 of a disk that is opened, if they are read.
 fn bytes_of<D: Disk + Drop>(disk: D) -> Option<(u8, u8)>
     requires { 202 ≤ (D.state disk).size }
 {
@@ -173,7 +173,7 @@ fn bytes_after_stop<D: CrashDisk + Drop>(
     bytes_of(disk)
 }
 
-// The same of a batch of two sectors, on a new disk.
+// What is read after a stop within a commit of two sectors, on a new disk.
 fn two_after_stop(
     alloc: Global,
     passes: u64,
@@ -184,7 +184,7 @@ fn two_after_stop(
     Ok(bytes_after_stop(disk, &batch, passes, choice))
 }
 
-// The same for choices 0, choices 1, and two that begin with one of these and end with the other.
+// What is read after such a stop for choices 0, choices 1, and two that begin with one of these and end with the other.
 fn two_after_stops(alloc: Global, passes: u64) -> Result<[Option<(u8, u8)>; 4], AllocError> {
     Ok([
         two_after_stop(alloc, passes, &[])?,
@@ -235,7 +235,7 @@ fn bytes_after_stops<D: CrashDisk + Drop>(
     bytes_of(disk)
 }
 
-// The same of a batch of two sectors, on a new disk.
+// What is read after a stop within a commit of two sectors and two stopped openings, on a new disk.
 fn two_after_openings(
     alloc: Global,
     passes: u64,
@@ -248,7 +248,7 @@ fn two_after_openings(
     Ok(bytes_after_stops(disk, &batch, passes, choice, openings, later))
 }
 
-// The same for four choices at the later stops.
+// What is read so for four choices at the later stops.
 fn four_after_openings(
     alloc: Global,
     passes: u64,
@@ -372,7 +372,7 @@ fn is_committed<D: CrashDisk + Drop>(disk: D, batch: &Batch, passes: u64) -> boo
     }
 }
 
-// The same of an opening.
+// None of the writes and syncs of an opening fails where so many pass.
 fn is_opened<D: CrashDisk + Drop>(disk: D, passes: u64) -> bool
     requires { 128 ≤ (D.state disk).size }
 {

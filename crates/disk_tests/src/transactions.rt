@@ -90,7 +90,7 @@ fn count_put<S: Sectors>(s: &mut S, count: u8) -> Result<u8, DiskFault>
     Ok(found)
 }
 
-// The same of a store.
+// How many of so many sectors of a store are as `put_some` leaves them.
 fn count_kept<D: Disk>(store: Store<D>, count: u8) -> (Result<u8, DiskFault>, Store<D>)
     requires { IsSmall (D.state store.disk) }
 {
@@ -99,7 +99,7 @@ fn count_kept<D: Disk>(store: Store<D>, count: u8) -> (Result<u8, DiskFault>, St
     (found, txn.drop_delta())
 }
 
-// The same once the disk has been stopped.
+// How many of so many sectors are as `put_some` leaves them once the disk has been stopped.
 fn count_lasting<D: CrashDisk + Drop>(
     alloc: Global,
     disk: D,
@@ -290,7 +290,7 @@ fn kept_while_armed<D: CrashDisk + Drop>(
     Ok((kept, flushed, count_lasting(alloc, disk, choice, count)?))
 }
 
-// The same on a new disk.
+// Whether a store on a new disk has kept and flushed so many sectors, and how many are there after a stop.
 fn kept_on_new(
     alloc: Global,
     passes: u64,
@@ -300,7 +300,7 @@ fn kept_on_new(
     kept_while_armed(alloc, idle_disk(alloc)?, passes, count, choice)
 }
 
-// The same for choices 0, choices 1, and two that begin with one of these and end with the other.
+// What is kept so for choices 0, choices 1, and two that begin with one of these and end with the other.
 fn kept_for_choices(alloc: Global, passes: u64, count: u8) -> Result<[(bool, bool, u8); 4], Fail> {
     Ok([
         kept_on_new(alloc, passes, count, &[])?,

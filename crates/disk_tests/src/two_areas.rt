@@ -136,7 +136,7 @@ fn stopped<D: CrashDisk + Drop>(
     Some((passed, contents_of(&mut disk)?))
 }
 
-// The same of the first commit of a new disk, of 200 sectors from 600 on.
+// What a stop leaves of the first commit of a new disk, of 200 sectors from 600 on.
 fn first_stopped(alloc: Global, passes: u64, choice: &[u8]) -> Option<(bool, (u8, u8))> {
     let journal = opened(disk_with(alloc, [0; 4])?)?;
     let batch = batch_of(alloc, 600, 200).ok()?;
@@ -152,7 +152,7 @@ fn after_first(alloc: Global) -> Option<Journal<MemDisk>>
     committed(journal, &batch)
 }
 
-// The same of the commit after it, of sector 900.
+// What a stop leaves of the commit after the first, of sector 900.
 fn second_stopped(alloc: Global, passes: u64, choice: &[u8]) -> Option<(bool, (u8, u8))> {
     let journal = after_first(alloc)?;
     let batch = batch_of(alloc, 900, 1).ok()?;
@@ -229,7 +229,7 @@ fn settled(alloc: Global) -> Option<Journal<MemDisk>> {
 // Bytes of a sector from one on.
 type Row = (u32, usize, &'static [u8]);
 
-// Those after a commit of the sectors 600 to 799, in the first area.
+// Bytes after a commit of the sectors 600 to 799, in the first area.
 static FIRST: [Row; 10] = [
     (1, 0, b"INOJ\xc8\0\0\0\x58\x02\0\0\x59\x02\0\0"),
     (1, 504, b"\xd4\x02\0\0\xd5\x02\0\0"),
@@ -243,7 +243,7 @@ static FIRST: [Row; 10] = [
     (900, 0, &[0; 512]),
 ];
 
-// Those after one of sector 900 behind it, in the second area.
+// Bytes after one more commit, of sector 900, in the second area.
 static SECOND: [Row; 8] = [
     (1, 0, b"INOJ\x01\0\0\x80\x84\x03\0\0\0\0\0\0"),
     (1, 504, &[0; 8]),
@@ -255,7 +255,7 @@ static SECOND: [Row; 8] = [
     (900, 0, &[7; 512]),
 ];
 
-// Those once it is settled.
+// Bytes once the journal is settled.
 static SETTLED: [Row; 3] = [
     (1, 0, b"INOJ\0\0\0\0\0\0\0\0\0\0\0\0"),
     (258, 0, &[7; 512]),

@@ -1,6 +1,6 @@
 -- What ftruncate asks and does.
 --     ftruncate_by        its row
---     size_asked, size_fits        what it asks
+--     size_asked        what it asks
 --     process_stays        its process stays as it is
 --     cuts        the tree afterwards
 use Rattle.std.specs.Prelude.{◌≡◌, ℕ, ◌≤◌, Bool, true, [], ◌∷◌, nat_lt, None, Some, IsTrue, Ok, Err}
@@ -46,7 +46,7 @@ ftruncate_is fd size = refl
 pub ftruncate_by : (fd size : ℕ) → ActsOn (Ftruncate fd size) fd Writing (ftruncate_demands size) (ftruncate_effect fd size)
 ftruncate_by fd size = record { row = ftruncate_is fd size }
 
--- its process is written back as it is
+-- the process is written back as it is
 pub process_stays : {processes : ProcessTable} {pid fd : ℕ} {d : Descriptor} → IsOpened processes pid fd d → IsTable processes → processes ≡ with_changed processes pid (λ p. p)
 process_stays {processes} {pid} o table =
     sym (changed_there processes pid o.process (λ p. p) o.there ∙ same_process_stays processes pid o.process table.rising o.there)

@@ -347,7 +347,7 @@ module _ {p : Geometry} {pid : ℕ} {old new : TxnState} {processes : ProcessTab
   failed_exits q there r e err and store failed = exits_err r e err and store
       (λ s at. why.read_fails (exit_firm s pid q (same_process at pid q there)) failed.1 failed.0)
 
-  -- it is ended
+  -- the process is ended
   pub exited : (now : ProcessTable) (q : Process) → get nat_cmp processes pid ≡ Some q → now ≡ without nat_cmp processes pid → SameStore old new
       → new.sectors 0 ≡ old.sectors 0
       → ((s : State) → IsStateOf p old.sectors processes s → HoldsAll p new.sectors (placed (swept s.tree (without nat_cmp processes pid))))

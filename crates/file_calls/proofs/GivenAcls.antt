@@ -131,7 +131,7 @@ module _ {p : Geometry} {map : SectorMap} {processes : ProcessTable} {s : State}
         → IsAnswered old new (refused_or {A = A} (first_of (set_acl_demands which acl (scene_at s q f))) (Ok x)) (Err e)
     space_refused x e old new h = rest_asked x e old new (next_asked (holder_asked which v.kind) space x e old new holder h)
 
-    -- it is given
+    -- the list is given
     pub acl_changed : (new : SectorMap) → first_of space ≡ None → first_of (set_acl_arguments which acl) ≡ None
         → (which ≡ Access → (a : AccessList) → acl ≡ Some a → SavesAcl p n v.mode a map new) → (which ≡ Default → SavesDefaultAcl p n acl map new)
         → IsChange p new processes s q (set_acl_demands which acl (scene_at s q f)) (set_acl_effect which acl (scene_at s q f)) Done ((n, Changed) ∷ [])

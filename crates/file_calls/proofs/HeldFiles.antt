@@ -69,7 +69,7 @@ module _ {p : Geometry} {map : SectorMap} {processes : ProcessTable} {pid fd : �
         directory = sym (held_kind (state_tree at) d.number x.node x.is_there) ∙ ap is_directory_kind is;
       }
 
-  -- its names and its parent
+  -- the names and the parent of a directory that is open
   pub open_names : (v : Inode) → v ≡ inode_at p map d.number → v.kind ≡ kinds.Directory → HasNames p.version map v (names_of_body (node_open (open_scene s o.process) fd).body)
   open_names v is directory =
       let here = held_names (state_tree at) d.number (the_directory (sym (ap (λ (w : Inode). w.kind) is) ∙ directory)) in

@@ -55,7 +55,7 @@ use Rattle.call_parts.specs.Reaching.{IsInodeFound}
 pub attributes_of : (v w : Inode) → w ≡ record v { mode = w.mode } → DiffersInAttributes v w
 attributes_of v w e = subst (λ (u : Inode). DiffersInAttributes v u) (sym e) refl
 
--- it fails only where the disk does, where there is space
+-- taking fails only where the disk does, where there is space
 pub taking_fails : (old new : DiskState) (e : TakeFault) (takes free : ℕ) → takes ≤ free → (e ≡ faults.Full → free < takes)
     → (e ≡ faults.DiskFault → HasFailed old new) → HasFailed old new
 taking_fails old new faults.Full takes free room full failed = let lacks = full refl in absurd (omega (arith, room, lacks))
@@ -126,7 +126,7 @@ small kinds.Directory cred group m = go (m / S_ISVTX % 2 == 1) (m / S_ISGID % 2 
     go false false = omega arith
 small kinds.Link cred group m = omega arith
 
--- such an inode fits its fields
+-- an inode with a new mode fits its fields
 pub mode_fits : (v : Inode) (cred : Credential) (m : ℕ) → FitsInode v → v.kind ≢ kinds.Free → v.kind ≢ kinds.Link
     → FitsInode (record v { mode = special_mode cred v.kind v.gid m })
 unfolding inode_fits

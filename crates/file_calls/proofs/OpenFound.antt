@@ -80,7 +80,7 @@ module _ {p : Geometry} {map : SectorMap} {t : Tree} (h : HoldsTree p map t) (n 
       ∙ ap (λ (b : Bool). refuse EEXIST (f.create && f.excl) ∷ refuse ELOOP (is_link (the_node t n).body) ∷ refuse ENOTDIR (f.directory && not b)
       ∷ refuse EISDIR (b && (f.write || f.create)) ∷ permission_on cred t n (perms f.read f.write false) 1 step ∷ []) directory
 
-  -- its kind refuses
+  -- the kind of what was found refuses
   pub kind_refuses : {A : Type 0} (x : A) (e : Refusal) (old new : DiskState) → checked (first_of (open_kind_asked f (inode_at p map n).kind)) ≡ Err e
       → IsAnswered old new (refused_or (first_of (found_asked f cred t n step)) (Ok x)) (Err e)
   kind_refuses {A} x e old new is =
@@ -156,7 +156,7 @@ module _ {p : Geometry} {map : SectorMap} {flags : Flags} {q : Process} {f : Fou
   demands_are =
       ap (λ (o : Option ℕ). if is_some o then found_asked flags q.cred s.tree (unwrap_or o 0) f.step else open_new_demands flags (scene_at s q f)) some
 
-  -- its demands refuse
+  -- the demands on what was found refuse
   pub old_refused : {A : Type 0} (y : A) (cred : Credential) (e : Refusal) (old new : DiskState) → cred ≡ q.cred
       → IsAnswered old new (refused_or {A = A} (first_of (found_asked flags cred s.tree n f.step)) (Ok y)) (Err e) → IsRefusedOpen old new flags q f s e
   old_refused {A} y cred e old new same h =

@@ -190,7 +190,7 @@ module _ {p : Geometry} (pid : ℕ) (path : List ℕ) (f : Flags) (mode : ℕ) (
           ∙ (slot_if q fd (sym (slot ∙ slot_of processes pid q there))).0
 
       module _ (mid : TxnState) (same : IsUnchanged old mid) where
-        -- its walk is refused
+        -- the walk of the open is refused
         pub walk_refuses : {time : ℕ} (r : Result Reply Refusal) (e : Refusal) → IsErr r → IsErrAnd r (λ y. y ≡ e)
             → ((s : State) → IsStateOf p old.sectors processes s → IsAnswered old.disk mid.disk (walk_of s.room s.tree q.cred 1 (open_form f) q.cwd path) (Err e))
             → Performs p time pid (Open path f mode) old mid processes processes r
@@ -300,7 +300,7 @@ walked_as old mid room t q f path r cred form cwd same_cred same_form same_cwd w
     (subst (λ (k : Form). IsAnswered old mid (walk_of room t cred 1 k q.cwd path) r) same_form
     (subst (λ (k : ℕ). IsAnswered old mid (walk_of room t cred 1 form k path) r) same_cwd (walks (subst (IsThere t) (sym same_cwd) there))))
 
--- the same of each state that the map may hold
+-- the walk, as this caller, of each state that the map may hold
 pub walks_as : (p : Geometry) (old mid : TxnState) (processes : ProcessTable) (pid : ℕ) (q : Process) → get nat_cmp processes pid ≡ Some q → (f : Flags) (path : List ℕ)
     (r : Result Found Refusal) (cred : Credential) (form : Form) (cwd : ℕ) → cred ≡ q.cred → form ≡ open_form f → cwd ≡ q.cwd
     → ((t : Tree) → HoldsTree p old.sectors t → IsThere t cwd → IsAnswered old.disk mid.disk (walk_of (room_of p) t cred 1 form cwd path) r)

@@ -62,7 +62,7 @@ content_changes {p} {n} {taken} {more} {old} {new} {v} {w} f is c held = record 
   used = c.used;
 }
 
--- it fails only where the disk does
+-- a rewrite fails only where the disk does
 only_fails : (old new : DiskState) (e : MapFault) → (e ≡ map.TooBig → ⊥) → (e ≡ map.Full → ⊥) → (e ≡ map.DiskFault → HasFailed old new) → HasFailed old new
 only_fails old new map.Full big full failed = absurd (full refl)
 only_fails old new map.TooBig big full failed = absurd (big refl)

@@ -11,7 +11,7 @@ use Rattle.inode_table.specs.Acls.{HasAcl, HasDefaultAcl}
 use Rattle.path_walk.proofs.HeldNodes.{access_says, default_says}
 use Rattle.call_parts.specs.Given.{HasBody}
 
--- its access ACL
+-- the access ACL of a file or a directory
 pub record HasAccessAcl (image : SectorMap) (v : Inode) (b : Body) : Type 0 where
   pub acl : AccessList
   pub is : acl_in b ≡ Some acl
@@ -24,7 +24,7 @@ has_access_acl {version} image v (Dir a d) h =
     record { acl = a; is = refl; has = (access_says version image v v.uid v.gid (Dir a d) _ refl refl h.mode h.held refl).acl }
 has_access_acl {version} image v (Link target) h = absurd (let e = h.no_link in cc)
 
--- its default ACL
+-- the default ACL of a directory
 pub default_of_directory : {version : Version} (image : SectorMap) (v : Inode) (b : Body) → HasBody version image v b → v.kind ≡ kinds.Directory → HasDefaultAcl image v (default_in b)
 default_of_directory {version} image v (File a bytes) h is = absurd (let e : kinds.File ≡ kinds.Directory = sym h.held.kind ∙ is in cc)
 default_of_directory {version} image v (Dir a d) h is = default_says version image v (Dir a d) refl h.held

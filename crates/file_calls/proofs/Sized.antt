@@ -86,7 +86,7 @@ module _ {p : Geometry} {map : SectorMap} {processes : ProcessTable} {s : State}
   asked_again {A} x e old new h = subst (λ (ds : List Demand). IsAnswered old new (refused_or {A = A} (first_of ds) (Ok x)) (Err e)) (sym demands_are) h
 
   module _ (there : must_be_there f ≡ None) where
-    -- it is a directory
+    -- what was found is a directory
     pub directory_refused : {A B : Type 0} (y : B) (x : A) (e : Refusal) (old new : DiskState)
         → refused_or {A = B} (refuse EISDIR (is_directory_kind v.kind)) (Ok y) ≡ Err e
         → IsAnswered old new (refused_or {A = A} (first_of (truncate_demands size (scene_at s q f))) (Ok x)) (Err e)
@@ -95,7 +95,7 @@ module _ {p : Geometry} {map : SectorMap} {processes : ProcessTable} {s : State}
         (first_asked {B = B} (refuse EISDIR (is_directory_kind v.kind)) third_asked y x e old new (inl is)))
 
     module _ (file : refuse EISDIR (is_directory_kind v.kind) ≡ None) where
-      -- it may not be written
+      -- the file may not be written
       pub write_refused : {A B : Type 0} (y : B) (x : A) (e : Refusal) (old new : DiskState)
           → IsAnswered old new (refused_or {A = B} (permission_at_end (scene_at s q f) f 1 (perms false true false)) (Ok y)) (Err e)
           → IsAnswered old new (refused_or {A = A} (first_of (truncate_demands size (scene_at s q f))) (Ok x)) (Err e)
@@ -105,7 +105,7 @@ module _ {p : Geometry} {map : SectorMap} {processes : ProcessTable} {s : State}
           (first_asked {B = B} (permission_at_end (scene_at s q f) f 1 (perms false true false)) last_asked y x e old new h)))
 
       module _ (granted : permission_at_end (scene_at s q f) f 1 (perms false true false) ≡ None) where
-        -- it would be too big
+        -- the file would be too big
         pub size_refused : {A B : Type 0} (y : B) (x : A) (e : Refusal) (old new : DiskState)
             → refused_or {A = B} (refuse EFBIG (nat_lt (max_file_size p.version) size)) (Ok y) ≡ Err e
             → IsAnswered old new (refused_or {A = A} (first_of (truncate_demands size (scene_at s q f))) (Ok x)) (Err e)
@@ -124,7 +124,7 @@ module _ {p : Geometry} {map : SectorMap} {processes : ProcessTable} {s : State}
 module _ {p : Geometry} {old : TxnState} {processes : ProcessTable} {s : State} {pid : ℕ} {q : Process} {path : List ℕ} {f : Found} {n : ℕ} {v : Inode}
     (at : IsStateOf p old.sectors processes s) (has : HasFound s pid q Follow path f) (some : f.ino ≡ Some n) (number_is : number f ≡ n) (inode : v ≡ inode_at p old.sectors n)
     (size : ℕ) where
-  -- it has that size
+  -- the file has that size
   pub size_changed : (new : TxnState) → must_be_there f ≡ None → refuse EISDIR (is_directory_kind v.kind) ≡ None
       → permission_at_end (scene_at s q f) f 1 (perms false true false) ≡ None → refuse EFBIG (nat_lt (max_file_size p.version) size) ≡ None
       → size ≤ max_file_size p.version → v.kind ≡ kinds.File → ChangesBytes p n old new (λ held. resized held size)

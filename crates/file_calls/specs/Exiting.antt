@@ -32,7 +32,7 @@ pub record IsExited (p : Geometry) (map : SectorMap) (processes : ProcessTable) 
   pub effect : after s (Exit pid) (chosen 0 0) ≡ record { change = Same; processes = processes; reply = Done; now = s.now }
   pub holds : HoldsAll p map (placed (swept s.tree processes))
 
--- It is refused: there is no such process, or a read failed.
+-- The end of a process is refused: there is no such process, or a read failed.
 pub data IsNotExited (old new : DiskState) (s : State) (pid : ℕ) (r : Refusal) : Type 0 where
   absent : firm_refusal s (Exit pid) ≡ Some r → IsNotExited old new s pid r
   read_fails : firm_refusal s (Exit pid) ≡ None → HasFailed old new → r ≡ Failed EIO → IsNotExited old new s pid r

@@ -61,7 +61,7 @@ pub record FindsIn (p : Geometry) (map : SectorMap) (flags : Flags) (q : Process
   pub is_state : IsStateOf p map processes s
   pub found : HasFound s pid q (open_form flags) path f
 
--- its demands on what was found refuse it, or what may stand in their place does
+-- the demands of an open on what was found refuse it, or what may stand in their place does
 abbrev pub IsRefusedOpen : DiskState → DiskState → Flags → Process → Found → State → Refusal → Type 0
 IsRefusedOpen old new flags q f s e = IsAnswered old new (refused_or {A = ℕ} (first_of (open_demands flags (scene_at s q f))) (Ok 0)) (Err e)
 

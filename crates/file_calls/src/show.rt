@@ -75,7 +75,7 @@ pub fn stat<S: Sectors>(s: &mut S, caller: &Caller, path: &Path) -> CallResult
     show_path(s, caller, path, Form::Follow)
 }
 
-/// The same, but a symbolic link that is the last name of the path is shown itself.
+/// Shows what a path leads to, and a symbolic link that is its last name itself. ENOENT: nothing.
 pub fn lstat<S: Sectors>(s: &mut S, caller: &Caller, path: &Path) -> CallResult
     requires ready { IsReadyFor caller.now (S.state s.old) }
     ensures performs { PerformsFor caller.now (Lstat path.now) (S.state s.old) (S.state s.new) result }

@@ -384,7 +384,7 @@ fn agreeing_on(list: &Digits, node: &Node, askers: &[(Cred, Asker)]) -> u32 {
     agreeing
 }
 
-// The same of the list of this number. A list with a name and no mask is none.
+// How many answers agree about a node with the list of this number. A list with a name and no mask is none.
 fn agreeing_on_list(
     alloc: Global,
     number: u32,
@@ -407,7 +407,7 @@ fn agreeing_on_list(
     }
 }
 
-// The same over every list, of a file and of a directory.
+// How many answers agree over every list, of a file and of a directory.
 fn agreeing_of(alloc: Global, askers: &[(Cred, Asker)]) -> Result<u32, AclFault> {
     let mut agreeing = 0u32;
     for number in 0..LISTS {

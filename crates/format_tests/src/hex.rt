@@ -5,7 +5,7 @@ ghost use Rattle.std.specs.Prelude.{◌≤◌, ◌<◌};
 // Bytes of a message, with zeros behind them, and how many it has.
 pub(crate) type Bytes = ([u8; 160], usize);
 
-// Those that a text of hexadecimal digits spells.
+// The bytes that a text of hexadecimal digits spells.
 pub(crate) fn bytes_of(text: &str) -> Bytes
     ensures { result.1 ≤ 160 }
 {

@@ -219,7 +219,7 @@ fn rewritten(alloc: Global, entries: &[Entry]) -> Result<(u16, Bytes), Fail> {
     Ok((acl.mode_bits(), bytes_from(&value)))
 }
 
-// The same of the list that a value says, and the id and the permissions of its second entry.
+// The permission bits and the value of the list that a value says, and the id and the permissions of its second entry.
 fn reread(alloc: Global, value: &[u8]) -> Result<(u16, Bytes, Option<(u32, u16)>), Fail> {
     let entries = read_acl_value(alloc, value)?;
     let second = entries.get(1).map(|entry| (entry.id, entry.perms.digit()));

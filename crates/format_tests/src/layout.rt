@@ -121,14 +121,14 @@ const LARGEST_FILE: &[u8] = &[
     1, 0, 0xff, 1, 0, 0, 0, 0, 0, 0, 0, 0, 0, 0, 0, 0, 0, 0x18, 0x81,
 ];
 
-// One of as many bytes as version 3 allows.
+// A file of as many bytes as version 3 allows.
 const LARGEST_NEXT_FILE: &[u8] = &[
     1, 0, 0xff, 1, 0, 0, 0, 0, 0, 0, 0, 0, 0, 0, 0, 0, 0, 0x18, 0x81, 0x40,
 ];
 
 const DIRECTORY: &[u8] = &[2, 0, 0xff, 7, 0, 0, 0, 0, 0, 0, 0, 0, 0, 0, 0, 0, 0x80];
 
-// Those of as many bytes as versions 1 and 2 allow, of 300 slots of version 3, and of as many as it allows.
+// Directories of as many bytes as versions 1 and 2 allow, of 300 slots of version 3, and of as many bytes as that allows.
 const FULL_DIRECTORY: &[u8] = &[
     2, 0, 0xff, 7, 0, 0, 0, 0, 0, 0, 0, 0, 0, 0, 0, 0, 0, 0x18, 1,
 ];
@@ -145,7 +145,7 @@ const LONGEST_LINK: &[u8] = &[3, 0, 0xff, 1, 0, 0, 0, 0, 0, 0, 0, 0, 0, 0, 0, 0,
 
 const SLOT_BYTES: &[u8] = &[4, 3, 2, 1, 5, 0, 0, 0, b'h', b'e', b'l', b'l', b'o'];
 
-// Those before a name of 248 bytes, and before one of a byte more.
+// The bytes of a slot before a name of 248 bytes, and before one of a byte more.
 const LONG_SLOT: &[u8] = &[4, 3, 2, 1, 248, 0, 0, 0];
 
 const TOO_LONG_SLOT: &[u8] = &[4, 3, 2, 1, 249, 0, 0, 0];

@@ -204,7 +204,7 @@ static REQUESTS: [Row; 37] = [
     ),
 ];
 
-// Its number, node, uid, gid and pid.
+// The number, node, uid, gid and pid of a request.
 fn header_of(request: &Request<'_>) -> [u64; 5] {
     [
         request.unique,

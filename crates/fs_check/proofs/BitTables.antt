@@ -78,7 +78,7 @@ none_set bits all n lt = elim (either (get_or bits n false)) [
   | inr clear ↦ clear
 ]
 
--- those before some end are, if none of them is set
+-- the bits before some end are clear, if none of them is set
 pub clear_before : (first : ℕ) (bits : List Bool) → first ≤ length bits → ((n : ℕ) → n < first → get_or bits n false ≡ false)
     → count_by not bits ≡ first + count_by not (drop first bits)
 clear_before first bits within clear =

@@ -91,7 +91,7 @@ used_there p m owned s owners from below =
       ],
     )
 
--- its bit is right, where that of the owner map is the same
+-- the bit of a sector is right, where that of the owner map is the same
 pub bits_right : (p : Geometry) (m : SectorMap) (owned : List Bool) (map : List ℕ) (k s : ℕ) → IsOwnerMap p m owned → map ≡ m (p.block_bitmap + k)
     → p.first_data ≤ s → s < p.sectors → 4096 * k ≤ s → s < 4096 * (k + 1) → get_or owned s false ≡ bit_in map (s % 4096) → IsBlockBit p m s
 bits_right p m owned map k s owners there from below low lt same =

@@ -17,7 +17,7 @@ use Rattle.fs_check.specs.Owning.{AreAtHand, HasLevelInData, HasAboveInData, Own
 use Rattle.fs_check.specs.Checks.{meaning, BeginsWith, AreInodes, IsReason, Passed, IsNone, IsLeast, IsFirst, IsFailureOf}
 use Rattle.fs_model.proofs.Findings.{next_obeyed}
 
--- the same facts of two states
+-- facts of one state hold of the other
 same_of : (P : ℕ → Image → Type 0) {old new : DiskState} → OnlyReads old new → P old.size old.seen → P new.size new.seen
 same_of P {old} {new} reads x = subst (P new.size) (sym reads.narrowed.seen) (subst (λ n. P n old.seen) (sym reads.narrowed.size) x)
 
@@ -136,7 +136,7 @@ pub rule_error : {T U : Type 0} (old mid new : DiskState) {p : Geometry} {area :
 rule_error old mid new {p} r k is reads opened before e q at x =
     passed_err (IsLeast p r) IsFirst old mid new reads (reason_of_rule new r k is reads opened before) e at.0 q at.1 at.2 x
 
--- the same of the first part
+-- a rule's first part, and its error
 pub first_error : {T U : Type 0} (old new : DiskState) {p : Geometry} {area : ℕ} {targets : List ℕ} (r : ImageRule) (k : ℕ) → rule_number r ≡ k → BeginsWith old p area targets
     → ObeysBefore p (meaning old) k → (e : CheckFault) (q : Result U CheckFault) → (y : CheckFault) × (q ≡ Err y) × (y ≡ e)
     → Passed {T = T} (IsLeast p r) old new (Err e) → Passed IsFirst old new q

@@ -177,7 +177,7 @@ module _ (p : Geometry) (m : SectorMap) (inodes : List Inode) (table : AreInodes
           absurd (never_up (inode_at p m n).parent none (omega (arith, none, lt)) g)
     ]
 
-    -- those before d that are directories climb
+    -- the numbers before d that are directories climb
     abbrev pub AreUpTo : ℕ → Type 0
     AreUpTo d = (k : ℕ) → 1 ≤ k → k < d → (get_or inodes k free_inode).kind ≡ kinds.Directory → Climbs inodes k
 

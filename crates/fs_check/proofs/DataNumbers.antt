@@ -31,7 +31,7 @@ module _ (m : SectorMap) (v : Inode) where
       subst (λ n. HasPointers m v n (holder (own_count level) i) content) (next_level level)
       (has_content (level + 1) (holder (own_count level) i) s content is some read)
 
-  -- those that one sector of pointers lists
+  -- the numbers that one sector of pointers lists
   pub are_listed : (level j s : ℕ) (content : List ℕ) → s ≡ number_on m v (level + 1) j → s ≢ 0 → content ≡ m s
       → AreListed m v content level (own_count level + SECTOR_POINTERS * j) (own_count level + SECTOR_POINTERS * (j + 1))
   are_listed level j s content is some read k ge lt own =
@@ -44,7 +44,7 @@ module _ (m : SectorMap) (v : Inode) where
   sector_lists level j s own at contents few geometry is some read k ge lt =
       are_listed level j s (get_or contents level []) is some (ap (λ n. get_or contents n []) (sym geometry) ∙ read) k (omega (arith, ge, few)) (omega (arith, lt, few))
 
-  -- those that stand in the inode stand in no sector
+  -- the numbers that stand in the inode stand in no sector
   pub listed_own : (level first end : ℕ) (content : List ℕ) → end ≤ own_count level → AreListed m v content level first end
   listed_own level first end content few i ge lt own = absurd (omega (arith, few, lt, own))
 
@@ -57,7 +57,7 @@ module _ (m : SectorMap) (v : Inode) where
       ∙ ap (λ (s : ℕ). pointer_in m s (place_in_holder (own_count level) i))
       (ap (λ n. number_on m v n (holder (own_count level) i)) (sym (next_level level)) ∙ none)
 
-  -- those that are found by one sector of pointers
+  -- the numbers that are found by one sector of pointers
   pub none_found : (level j k : ℕ) → number_on m v (level + 1) j ≡ 0 → own_count level + SECTOR_POINTERS * j ≤ k
       → k < own_count level + SECTOR_POINTERS * (j + 1) → number_on m v level k ≡ 0
   none_found level j k none ge lt =

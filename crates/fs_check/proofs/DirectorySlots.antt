@@ -45,7 +45,7 @@ module _ (old mid : DiskState) (reads : OnlyReads old mid) (v : Inode) where
 
 -- ---- one slot
 
--- it begins at this byte of its block
+-- slot k begins at this byte of its block
 module _ (version : Version) (m : SectorMap) (v : Inode) (k at : ℕ) (block : List ℕ) (is : block ≡ block_of_slot version m v k)
     (begins : at ≡ slot_size version * (k % block_slots version)) where
   slot_here : window block at (slot_size version) ≡ stored_slot version m v k

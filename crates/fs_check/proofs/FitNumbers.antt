@@ -15,7 +15,7 @@ use Rattle.fs_check.proofs.Tests.{refuses}
 
 -- ---- how many numbers a size needs
 
--- those from so many on are found by blocks past the size, and no others are
+-- the numbers from so many on are found by blocks past the size, and no others are
 pub needed_if : (level size i : ℕ) → size ≤ 512 * first_block level i → numbers_for level size ≤ i
 needed_if zero size i le = omega (arith, le)
 needed_if (suc level) size i le = let below = needed_if level size (own_count level + SECTOR_POINTERS * i) le in omega (arith, below)
@@ -112,13 +112,13 @@ module _ (m : SectorMap) (v : Inode) where
         let from = (needs_last level v.size (λ none. some (e ∙ none))).0 in
         omega (arith, at, few, e, from)
 
-    -- it isn't there
+    -- the last sector of pointers isn't there
     pub cut_at_hole : above ≢ 0 → number_on m v (level + 1) (above - 1) ≡ 0 → IsCut m v level
     cut_at_hole some none = to_cut (λ i ge lt.
         let from = last_begins some in
         none_found m v level (above - 1) i none (omega (arith, few, from, ge)) (omega (arith, few, lt, some)))
 
-    -- it is there, and the numbers stand in it
+    -- the last sector of pointers is there, and the numbers stand in it
     pub last_lists : (s : ℕ) (content : List ℕ) → above ≢ 0 → s ≡ number_on m v (level + 1) (above - 1) → s ≢ 0 → content ≡ m s
         → AreListed m v content level first (own + SECTOR_POINTERS * above)
     last_lists s content more is some read i ge lt held =

@@ -35,7 +35,7 @@ module _ (p : Geometry) (m : SectorMap) (n : ℕ) (v : Inode) (is : v ≡ inode_
       (owned_number p m n v is level i few (omega (arith, most, order, ge, lt)) ∙ none i (omega (arith, ge)) (omega (arith, order, ge, lt))))
       x)
 
-  -- those of a sector of pointers that isn't there
+  -- the numbers of a sector of pointers that isn't there
   pub sector_skipped : (level j : ℕ) → level ≤ POINTER_LEVELS → own_count level + SECTOR_POINTERS * (j + 1) ≤ level_end level → number_on m v (level + 1) j ≡ 0
       → IsMarked (owned_part p m) n (first_part level + (own_count level + SECTOR_POINTERS * j)) p.sectors owned twice
       → IsMarked (owned_part p m) n (first_part level + (own_count level + SECTOR_POINTERS * (j + 1))) p.sectors owned twice
@@ -43,7 +43,7 @@ module _ (p : Geometry) (m : SectorMap) (n : ℕ) (v : Inode) (is : v ≡ inode_
       numbers_skipped level (own_count level + SECTOR_POINTERS * j) (own_count level + SECTOR_POINTERS * (j + 1)) few (omega arith) most
       (λ i ge lt. none_found m v level j i none ge lt) x
 
-  -- those of all sectors of pointers from one on
+  -- the numbers of all sectors of pointers from one on
   pub rest_skipped : (level e : ℕ) → level ≤ POINTER_LEVELS → own_count level + SECTOR_POINTERS * e ≤ level_end level
       → ((i : ℕ) → e ≤ i → number_on m v (level + 1) i ≡ 0)
       → IsMarked (owned_part p m) n (first_part level + (own_count level + SECTOR_POINTERS * e)) p.sectors owned twice

@@ -61,7 +61,7 @@ only_made es ns b is only other a valid same =
     let made : IsListOf es a = record { valid = valid; same = moved } in
     other (sym (ap list_numbers (only a made)) ∙ same)
 
--- its entries, in canonical order, have other numbers
+-- the entries of the list, in canonical order, have other numbers
 pub not_these : (b : AccessList) (es : List Entry) (ns : List EntryNumbers) (r : Bool) → es ≡ entries_of b → r ≡ false → (IsTrue r ↔ map numbers_of es ≡ ns)
     → list_numbers b ≢ ns
 not_these b es ns r all is test same = let c : false ≡ true = sym is ∙ test.1 (ap (map numbers_of) all ∙ same) in absurd cc

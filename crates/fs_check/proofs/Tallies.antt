@@ -309,7 +309,7 @@ module _ (p : Geometry) (m : SectorMap) (d : ℕ) where
   is_first None none x fails = record { fails = fails; least = x }
   is_first (Some k) none x fails = absurd cc
 
--- the same lists, as they were read
+-- the lists are the same, as they were read
 pub adds_same : (d : ℕ) (slots seen : List NamedInode) (c0 d0 c1 d1 cs ds : List ℕ) → seen ≡ slots → cs ≡ c0 → ds ≡ d0 → AddsSlots d seen cs ds c1 d1
     → AddsSlots d slots c0 d0 c1 d1
 adds_same d slots seen c0 d0 c1 d1 cs ds a b e x =

@@ -26,7 +26,7 @@ pub inode_here : (p : Geometry) (m : SectorMap) (inodes : List Inode) (n : ℕ) 
     → get_or inodes n d ≡ inode_at p m n
 inode_here p m inodes n d table lt = get_or_default inodes n d free_inode lt ∙ table.each n (within p m inodes n table lt)
 
--- they have numbers
+-- all inodes have numbers
 pub few_inodes : (size : ℕ) (image : SectorMap) (p : Geometry) (m : SectorMap) (inodes : List Inode) → IsGeometryOf size image p → AreInodes p m inodes
     → length inodes < 2 ^ 32
 few_inodes size image p m inodes at table =
@@ -65,7 +65,7 @@ module _ (P : SectorMap → Inode → Type 0) (p : Geometry) (old mid new : Disk
     good = more_good (λ k. P (meaning old) (inode_at p (meaning old) k)) n tried.good (here.0 e);
   }
 
-  -- it is the first that fails the rule
+  -- the inode is the first that fails the rule
   pub fails_here : (r : ImageRule) → ((k : ℕ) → Obeys p (meaning old) r k ↔ (k < p.inodes → P (meaning old) (inode_at p (meaning old) k))) → b ≡ false
       → Passed {T = Unit {0}} (IsLeast p r) old new (Err (Found (record { rule = rule_number r; at = n })))
   fails_here r is e = record {

@@ -52,7 +52,7 @@ module _ (s0 s1 s2 s3 : DiskState) (p : Geometry) (n : ℕ) (map table new_map n
     good = more_good (IsBit p (meaning s0)) n so_far.good (test.0 (same_bits b t e));
   }
 
-  -- it is the first that is wrong
+  -- the bit is the first that is wrong
   pub wrong_bit : not (beq b t) ≡ true → Passed {T = Unit {0}} (IsLeast p InodeBits) s0 s3 (Err (Found (record { rule = 3; at = n })))
   wrong_bit e = record {
     reads = reads;

@@ -1,6 +1,6 @@
 -- What a check says of a disk, which it only reads.
 --     meaning        what a disk means: its recovered image
---     BeginsWith        the superblock gives the place, and the commit names this log area and has these targets
+--     BeginsWith        the superblock gives the geometry, and the commit names this log area and has these targets
 --     AreInodes, IsOwnerMap, IsNameCount, IsNamedBy, IsNameTable        the tables of a check
 --     IsReason, Passed        why a check gives no summary; it only reads, and has a reason
 --     IsLeast, IsFirst        a finding of one rule; a finding
@@ -30,7 +30,7 @@ use Rattle.fs_check.specs.declared.faults.Summary.{Summary}
 abbrev pub meaning : DiskState → SectorMap
 meaning disk = recovered disk.size (sector disk.seen)
 
--- the superblock gives this place, and the commit is valid, names this log area and has these targets
+-- the superblock gives this geometry, and the commit is valid, names this log area and has these targets
 pub record BeginsWith (disk : DiskState) (p : Geometry) (area : ℕ) (targets : List ℕ) : Type 0 where
   pub geometry : IsGeometryOf disk.size (sector disk.seen) p
   pub log : area ≡ named_area (sector disk.seen)
@@ -55,7 +55,7 @@ pub record IsNameCount (p : Geometry) (m : SectorMap) (counts : List ℕ) : Type
 abbrev pub IsNamedBy : Geometry → SectorMap → ℕ → ℕ → Type 0
 IsNamedBy p m d n = (d < p.inodes) × (1 ≤ namings_in p.version m (inode_at p m d) n)
 
--- the same, and for each inode that is named a directory that names it
+-- how often each inode is named, and for each one that is named a directory that names it
 pub record IsNameTable (p : Geometry) (m : SectorMap) (counts directories : List ℕ) : Type 0 where
   pub counted : IsNameCount p m counts
   pub len : length directories ≡ p.inodes
@@ -74,7 +74,7 @@ pub record Passed {T : Type 0} (IsIt : DiskState → ℕ → ℕ → Type 0) (ol
   pub reads : OnlyReads old new
   pub reason : IfErr result (IsReason IsIt old new)
 
--- this rule fails, and not at a lower number
+-- one rule fails, and not at a lower number
 abbrev pub IsLeast : Geometry → ImageRule → DiskState → ℕ → ℕ → Type 0
 IsLeast p r disk rule at = (rule ≡ rule_number r) × IsLeastFailure p (meaning disk) r at
 
@@ -89,7 +89,7 @@ pub record IsFailure (p : Geometry) (m : SectorMap) (rule at : ℕ) : Type 0 whe
   pub before : ObeysBefore p m (rule_number of)
   pub least : IsLeastFailure p m of at
 
--- the same as the reason of a fault, which no device gives
+-- a rule that fails so, as the reason of a fault, which no device gives
 abbrev pub IsFailureOf : Geometry → SectorMap → CheckFault → Type 0
 IsFailureOf p m (Found f) = IsFailure p m f.rule f.at
 IsFailureOf p m DiskFault = ⊥

@@ -31,7 +31,7 @@ block_of_slot version m v k = m (pointer m v (k / block_slots version))
 abbrev pub AreValid : Version → SectorMap → Inode → Type 0
 AreValid version m v = (k : ℕ) → k < slot_count version v → slot_of version (stored_slot version m v k) ≡ Ok (slot_at version m v k)
 
--- its slots are valid, and this is the list of them
+-- the slots of a directory are valid, and this is the list of them
 pub record AreSlots (version : Version) (m : SectorMap) (v : Inode) (slots : List NamedInode) : Type 0 where
   pub valid : AreValid version m v
   pub len : length slots ≡ slot_count version v

@@ -16,7 +16,7 @@ use sector_disk::Disk;
 /// The sectors of pointers that were read last, one of each level.
 #[derive(Drop)]
 pub(crate) struct Pointers {
-    // Their numbers, those of the first level first; 0 where none was read.
+    // The numbers of the sectors, that of the first level first; 0 where none was read.
     sectors: [u32; POINTER_LEVELS],
     /// What stands in them, that of the first level first.
     pub contents: [[u8; 512]; POINTER_LEVELS],

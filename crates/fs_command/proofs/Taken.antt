@@ -55,11 +55,11 @@ no_kinds (k ∷ ks) b e = cc
 
 -- ---- one use of an argument
 
--- it takes a value, and has none by itself
+-- a word takes a value, and has none by itself
 abbrev TakesOne : Rule → Type 0
 TakesOne a = (action_of a ≡ Set) × (a.defaults ≡ []) × ((unwrap_or_range a.range).start_inclusive ≡ 1)
 
--- it takes none, and stands for true where it is used and else for false
+-- a word takes no value, and stands for true where it is used and else for false
 abbrev IsSwitch : Rule → Type 0
 IsSwitch a = (action_of a ≡ SetTrue) × (a.defaults ≡ codes "false" ∷ []) × (a.missing ≡ codes "true" ∷ [])
     × (unwrap_or_range a.range ≡ record { start_inclusive = 0; end_inclusive = 0 })

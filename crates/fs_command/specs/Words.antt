@@ -97,7 +97,7 @@ IsNumberFor least most None n = ⊥
 IsNumberFor least most (Some text) n =
     IsNumeral 10 (without_leading_plus text) × (n ≡ digits_value 10 (without_leading_plus text)) × (least ≤ n) × (n ≤ most)
 
--- the same, or the usual number where there is no text
+-- the text says n so, or there is no text and n is the usual number
 abbrev pub IsNumberOr : ℕ → ℕ → ℕ → Option Text → ℕ → Type 0
 IsNumberOr usual least most None n = n ≡ usual
 IsNumberOr usual least most (Some text) n = IsNumberFor least most (Some text) n

@@ -8,13 +8,13 @@ use fs_shell::Count;
 /// How the program ends.
 #[derive(Clone, Copy, Debug, PartialEq, Eq)]
 pub enum Status {
-    /// It did what it was asked for.
+    /// The program did what it was asked for.
     Done,
     /// A line of the script had a fault, or the image has a finding.
     Faulty,
     /// The words ask for nothing that can be done.
     BadWords,
-    /// It failed, or a text couldn't be written.
+    /// The program failed, or a text couldn't be written.
     Failed,
 }
 

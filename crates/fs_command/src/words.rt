@@ -151,10 +151,10 @@ pub enum Job {
 /// Why the words ask for nothing that can be done.
 #[derive(Debug, Drop, ThisError)]
 pub enum WordsFault {
-    /// They ask for the help or the version, which is the error's text.
+    /// The words ask for the help or the version, which is the error's text.
     #[error("{0}")]
     Help(Error),
-    /// They aren't those of any job. The error's text says what is wrong.
+    /// The words aren't those of any job. The error's text says what is wrong.
     #[error("{0}")]
     BadWords(Error),
     /// The size of the image to be made is none, or out of range.

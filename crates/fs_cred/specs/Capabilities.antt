@@ -29,13 +29,13 @@ no_caps = record { 0 = 0 }
 abbrev pub all_caps : Caps
 all_caps = record { 0 = 31 }
 
--- their names, by rising bits
+-- the names of the capabilities, by rising bits
 abbrev pub named_caps : List (List ℕ × ℕ)
 named_caps =
     (codes "chown", 1) ∷ (codes "dac-override", 2) ∷ (codes "dac-read-search", 4) ∷ (codes "fowner", 8)
     ∷ (codes "fsetid", 16) ∷ []
 
--- these hold all of those
+-- one set of capabilities holds all of another
 abbrev pub holds_caps : Caps → Caps → Bool
 holds_caps these those = bit_and these.0 those.0 == those.0
 

@@ -3,7 +3,7 @@ use Rattle.std.specs.Prelude.{ℕ, List, codes}
 use Rattle.fs_cred.specs.declared.errno.Errno.{Errno}
 use Rattle.fs_cred.specs.declared.errno.Errno.TheVariants.{EPERM, ENOENT, ESRCH, EIO, EBADF, EAGAIN, ENOMEM, EACCES, EBUSY, EEXIST, ENOTDIR, EISDIR, EINVAL, EMFILE, EFBIG, ENOSPC, EMLINK, ENAMETOOLONG, ENOTEMPTY, ELOOP}
 
--- their numbers on Linux
+-- the numbers of the errors on Linux
 abbrev pub errno_number : Errno → ℕ
 errno_number EPERM = 1
 errno_number ENOENT = 2
@@ -26,7 +26,7 @@ errno_number ENAMETOOLONG = 36
 errno_number ENOTEMPTY = 39
 errno_number ELOOP = 40
 
--- their names
+-- the names of the errors
 abbrev pub errno_name : Errno → List ℕ
 errno_name EPERM = codes "EPERM"
 errno_name ENOENT = codes "ENOENT"

@@ -10,7 +10,7 @@ use Rattle.fs_cred.specs.Credentials.{Credential, is_member}
 abbrev pub groups_named_by : Node → List ℕ
 groups_named_by node = node.group ∷ map (λ e. e.0) node.acl.groups
 
--- the same user with the same capabilities, and of these groups the one is in just those in which the other is
+-- two credentials of one user with the same capabilities, and of these groups the one is in just those in which the other is
 pub record AreAlikeOn (groups : List ℕ) (a b : Credential) : Type 0 where
   pub uid : a.uid ≡ b.uid
   pub caps : a.caps ≡ b.caps

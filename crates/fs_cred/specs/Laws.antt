@@ -25,7 +25,7 @@ HasOneAnswer =
     (cred : Credential) (node : Node) (want : Perms) → IsAcl node.acl
     → (a b : Bool) (r s : Rule) → Decides cred node want a r → Decides cred node want b s → (a ≡ b) × (r ≡ s)
 
--- It is the one that is computed.
+-- The answer is the one that is computed.
 abbrev pub VerdictDecides : Type 0
 VerdictDecides =
     (cred : Credential) (node : Node) (want : Perms) → IsAcl node.acl

@@ -26,7 +26,7 @@ abbrev pub first_named : Credential → Perms → List (ℕ × Perms) → Option
 first_named cred want [] = None
 first_named cred want (e ∷ es) = if is_member cred e.0 && holds e.1 want then Some (NamedGroup e.0) else first_named cred want es
 
--- the same with the owning group before them
+-- the first such entry, with the owning group before them
 abbrev pub first_of_groups : Credential → Node → Perms → Option Rule
 first_of_groups cred node want =
     if is_member cred node.group && holds node.acl.group want then Some OwningGroup

@@ -31,7 +31,7 @@ pub fn decide(cred: &Cred, node: &Node, want: Perms) -> Verdict
     }
 }
 
-/// The same of a node whose ACL is no more than the bits of a mode. Such an ACL is its three base entries, and has neither
+/// Decides as `decide` about a node whose ACL is no more than the bits of a mode. Such an ACL is its three base entries, and has neither
 /// names nor a mask: nothing of it has to be in memory.
 #[tactic(auto, unfolding(crate::specs::Verdicts::verdict))]
 pub fn decide_by_mode(

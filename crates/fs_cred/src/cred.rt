@@ -64,7 +64,7 @@ impl Cred {
         Cred::with_caps(alloc, uid, gid, groups, Caps::empty())
     }
 
-    /// The same with these capabilities and no others.
+    /// The credential of a user with these groups, and with these capabilities and no others.
     pub fn with_caps(
         alloc: Global,
         uid: u32,
@@ -132,7 +132,7 @@ impl Cred {
         self.caps
     }
 
-    /// The same credential once more.
+    /// A copy of the credential.
     pub fn try_clone(&self, alloc: Global) -> Result<Cred, AllocError>
         ensures same { IfOk result (λ copy. copy ≡ self.now) }
         ensures valid { IsCredential self.now }

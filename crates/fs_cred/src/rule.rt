@@ -22,7 +22,7 @@ pub enum Rule {
     NoExecuteBit,
     /// The caller isn't the owner, and has no capability that stands for it.
     NotOwner,
-    /// It takes a capability to give an object to another owner.
+    /// To give an object to another owner takes a capability.
     NoCapability,
     /// The caller is not in the group that the file is to have.
     NotMember,

@@ -3,7 +3,7 @@
 --     Performed        the file system went on by a history of just what the plan asks
 --     Served        requests were served, one after another
 --     ServesHistories        what is carried out on a file system is served so
---     ServedFrom        the same of all requests until the end, and of what was read and bytes_sent
+--     ServedFrom        the same of all requests until the end, and of what was read and written
 --     BrokenFrom, Faulted        the same until a fault
 --     ServingEnds        either, by how it ends
 use Rattle.std.specs.Prelude.{◌≡◌, ◌⊎◌, List, [], ◌∷◌, ◌++◌, map, length, Result, Ok, Err}
@@ -48,7 +48,7 @@ ServesHistories {D} state =
     → CarriesOut (ServesOne state) (requests_plan requests before) old new (responses, after) → Served state requests old new before after responses
 
 -- The kernel's requests were served by a server that had just begun, until the end. The requests are those that the reads say.
--- The answers are those of their plans, which are one history of the file system; and what was bytes_sent and taken is these answers.
+-- The answers are those of their plans, which are one history of the file system; and what was written and taken is these answers.
 pub record ServedFrom {D K : Type 0} (state : D → DiskState) (Does : K → Exchange → K → Type 0) (settings : Settings)
     (old new : System D) (before after : K) : Type 0 where
   pub rounds : List Round
@@ -61,7 +61,7 @@ pub record ServedFrom {D K : Type 0} (state : D → DiskState) (Does : K → Exc
   pub end : IsEnd Does server last after ⊎ ((length rounds ≡ rounds_limit) × (after ≡ last))
 
 -- The kernel's requests were served by a server that had just begun, until a fault. Of the requests that were answered, and of what was
--- bytes_sent and taken, the same holds. All that was asked of the file system is one history still: that of the plans of these
+-- written and taken, the same holds. All that was asked of the file system is one history still: that of the plans of these
 -- requests, and of the one that is untold, if one is.
 pub record BrokenFrom {D K : Type 0} (state : D → DiskState) (Does : K → Exchange → K → Type 0) (settings : Settings) (fault : ServeFault)
     (old new : System D) (before : K) : Type 0 where

@@ -73,7 +73,7 @@ image_joined {old = old} {mid} first image is = record {
   each = λ n below. ⊎_elim (first.nothing_else n (sector image n)) (λ more. inr more) (is.each n (omega (arith, below, first.size)));
 }
 
--- a place is that of a disk of its size
+-- the geometry of a disk has its size
 pub geometry_size : (version : Version) (size inodes : ℕ) (p : Geometry) → the_geometry version size inodes ≡ Some p → p.sectors ≡ size
 geometry_size version size inodes p e = ap (λ (q : Geometry). q.sectors) (geometry_is_laid_out size inodes e)
 
@@ -85,7 +85,7 @@ geometry_version version size inodes p e = ap (λ (q : Geometry). q.version) (ge
 pub geometry_inodes : (version : Version) (size inodes : ℕ) (p : Geometry) → the_geometry version size inodes ≡ Some p → p.inodes ≡ inodes
 geometry_inodes version size inodes p e = ap (λ (q : Geometry). q.inodes) (geometry_is_laid_out size inodes e)
 
--- its parts are on the disk
+-- the parts of the layout are on the disk
 pub record IsOnDisk (p : Geometry) (size : ℕ) : Type 0 where
   pub least : 1024 ≤ size
   pub first_data : p.first_data ≤ size

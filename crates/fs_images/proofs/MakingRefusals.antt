@@ -81,7 +81,7 @@ some_then : (b : Bool) (l p : Geometry) → Some p ≡ cond b None (Some l) → 
 some_then true l p e = absurd cc
 some_then false l p e = refl
 
--- there is a place, or no room for the data
+-- there is a geometry, or no room for the data
 pub geometry_or_too_small : (version : Version) (sectors inodes : ℕ) → AreInRange version sectors inodes → (o : Option Geometry)
     → o ≡ the_geometry version sectors inodes
     → MatchResult (ok_or o TooSmall) (λ p. (mkfs_refusal version sectors inodes ≡ None) × (the_geometry version sectors inodes ≡ Some p))

@@ -37,7 +37,7 @@ module _ (seen : Image) (room : Room) (t : Tree) (free : ℕ) (st : StandsFor ro
       let least = is_geometry.least_sectors in
       omega (arith, all, least)
 
-  -- the place that a superblock gives
+  -- the geometry that a superblock gives
   pub geometry_found : (v : Super) → v ≡ st.super → geometry_for v ≡ Some st.geometry
   geometry_found v same =
       ap geometry_for same ∙ ap (λ (n : ℕ). geometry_in st.super.version st.super.header n st.super.inodes) st.same_size ∙ st.has_geometry

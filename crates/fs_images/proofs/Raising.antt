@@ -59,7 +59,7 @@ raised_stands from image super is size says others = λ room t free stands.
       others = λ n some below. others n some;
     })))
 
--- it has it already
+-- the disk has that version already
 same_super : (super : Super) → super.version ≡ raised super.version → super ≡ with_version (raised super.version) super
 same_super super is = ap (λ (v : Version). with_version v super) is
 

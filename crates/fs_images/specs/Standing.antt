@@ -17,7 +17,7 @@ use Rattle.fs_model.specs.Rules.{IsFinding}
 abbrev pub StandsFor : Room → Image → Tree → ℕ → Type 0
 StandsFor room image t free = Stands (length image) (sector image) room t free
 
--- it stands for some tree
+-- an image stands for some tree
 abbrev pub StandsForSome : Image → Type 0
 StandsForSome image = (room : Room) × (t : Tree) × (free : ℕ) × StandsFor room image t free
 

@@ -31,7 +31,7 @@ pub record IsInfoOf (size : ℕ) (image : SectorMap) (info : Info) : Type 0 wher
   pub of_tree : (room : Room) (t : Tree) (free : ℕ) → Stands size image room t free
       → (info.free_sectors ≡ free) × (info.free_inodes ≡ free_inodes room t)
 
--- the same of a disk
+-- what a disk says of itself
 abbrev pub IsInfo : DiskState → Info → Type 0
 IsInfo disk info = IsInfoOf disk.size (sector disk.seen) info
 

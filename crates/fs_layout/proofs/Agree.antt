@@ -56,7 +56,7 @@ module _ {p : Geometry} {old new : SectorMap} (h : IsConsistent p old) (same : A
   pub agree_keeps : (n : ℕ) → n < p.inodes → Keeps old new (inode_at p old n)
   agree_keeps n lt s o = same.used s (h.in_data n s lt o) (owned_is_used h n s lt o)
 
-  -- it owns what it owned, for the same
+  -- an inode owns what it owned, for the same
   abbrev pub agree_owns : (n : ℕ) {s : ℕ} → n < p.inodes → Owns old (inode_at p old n) s → Owns new (inode_at p new n) s
   agree_owns n lt o = owns_as (sym (agree_inode n lt)) (owns_still (agree_keeps n lt) o)
 

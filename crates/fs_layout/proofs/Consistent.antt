@@ -74,7 +74,7 @@ module _ {p : Geometry} {n : ℕ} {old new : SectorMap} (h : IsConsistent p old)
   pub other_keeps : (m : ℕ) → m < p.inodes → m ≢ n → Keeps old new (inode_at p old m)
   other_keeps m lm ne = blocks_keep_others h ln lm ne c.owned
 
-  -- it owns what it owned, for the same
+  -- another inode owns what it owned, for the same
   abbrev pub other_owns : (m : ℕ) {s : ℕ} → m < p.inodes → m ≢ n → Owns old (inode_at p old m) s → Owns new (inode_at p new m) s
   other_owns m lm ne o = owns_as (sym (other_inode m lm ne)) (owns_still (other_keeps m lm ne) o)
 

@@ -46,7 +46,7 @@ count_split f a (suc m) n =
     let part : count_by f (range_with_len (a + suc m) n) ≡ count_by f (range_with_len (a + 1 + m) n) = ap (λ (k : ℕ). count_by f (range_with_len k n)) start in
     omega (arith, whole, part, count_cons f a (m + n), count_cons f a m, count_split f (a + 1) m n)
 
--- the same numbers, counted from elsewhere
+-- numbers are counted from elsewhere
 pub count_moved : (f : ℕ → Bool) (a b n : ℕ) → count_by (λ i. f (a + i)) (range_with_len b n) ≡ count_by f (range_with_len (a + b) n)
 count_moved f a b zero = refl
 count_moved f a b (suc n) =

@@ -41,7 +41,7 @@ no_sector_part image v AccessAcl none = none.acl
 no_sector_part image v DefaultAcl none = none.default_acl
 no_sector_part image v (OnLevel level i) none = no_sector_on_level image v level i none
 
--- it owns nothing
+-- an inode without sectors owns nothing
 pub owns_nothing : (image : SectorMap) (v : Inode) (s : ℕ) → HasNoSector v → Owns image v s → ⊥
 owns_nothing image v s none o = o.some (sym o.is ∙ no_sector_part image v o.at none)
 
@@ -59,7 +59,7 @@ pub free_has_no_sector : HasNoSector free_inode
 unfolding zeros
 free_has_no_sector = record { acl = refl; default_acl = refl; direct = get_or-zeros DIRECT_BLOCKS; indirect = get_or-zeros POINTER_LEVELS }
 
--- it fits its fields
+-- a free inode fits its fields
 pub free_fits : FitsInode free_inode
 unfolding inode_fits zeros
 free_fits = record {

@@ -83,7 +83,7 @@ length-le64 : (x : ℕ) → length (le64 x) ≡ 8
 unfolding le64
 length-le64 x = omega arith
 
--- those of w are written one after the other over those of v
+-- the times of w are written one after the other over those of v
 pub times_put : (s t u r : List ℕ) (at : ℕ) (v w : Inode) → length s ≡ 512 → at + INODE_SIZE ≤ 512 → length w.direct ≡ DIRECT_BLOCKS
     → length w.indirect ≡ POINTER_LEVELS
     → t ≡ splice s (at + 96) (le64 w.mtime) → u ≡ splice t (at + 104) (le64 w.ctime) → r ≡ splice u (at + 112) (le64 w.atime)

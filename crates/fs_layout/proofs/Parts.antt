@@ -166,7 +166,7 @@ module _ {old new : SectorMap} {v : Inode} (keeps : Keeps old new v) where
   pub HasNoHole-kept : HasNoHole old v → HasNoHole new v
   HasNoHole-kept h k lt e = h k lt (sym (pointer_kept k) ∙ e)
 
--- it keeps its sectors from new to old too
+-- an inode keeps its sectors from new to old too
 pub keeps_back : {old new : SectorMap} {v : Inode} → Keeps old new v → Keeps new old v
 keeps_back keeps s o = sym (keeps s (owned_before keeps o))
 

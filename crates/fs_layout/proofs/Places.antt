@@ -1,4 +1,4 @@
--- What follows from a disk's having a place, and what a place says of where its parts stand.
+-- What follows from a disk's having a geometry, and what a geometry says of where the parts stand.
 use Rattle.std.proofs.Common.{◌≡◌, ℕ, zero, suc, ◌+◌, ◌*◌, ◌<◌, ◌≤◌, Bool, true, false, cond, Option, Some, None, refl, sym, subst, arith, nat_le, nat_lt, not, ◌&&◌}
 use Rattle.std.proofs.lemmas.Bool.{and_parts, eqb-true, leb-true, le-leb, lt-leb, ltb-false}
 use Rattle.std.specs.Int.{div_ceil}
@@ -26,7 +26,7 @@ some_unless : {A : Type 0} (b : Bool) (x : Option A) (y : A) → cond b None x �
 some_unless true x y e = absurd cc
 some_unless false x y e = (refl, e)
 
--- the tests that a disk with a place has passed
+-- the tests that a disk with a geometry has passed
 record Passed (version : Version) (header sectors inodes : ℕ) : Type 0 where
   range : are_in_range version sectors inodes ≡ true
   header_allowed : allows_header version header sectors inodes ≡ true
@@ -46,7 +46,7 @@ placed {p} {version} {header} s i e =
     same_some : (x y : Geometry) → Some x ≡ Some y → x ≡ y
     same_some x y e = cc
 
--- the place of a disk is where its parts are laid out
+-- the geometry of a disk is that of its parts as they are laid out
 pub geometry_is_laid_out : {p : Geometry} {version : Version} {header : ℕ} (sectors inodes : ℕ) → geometry_in version header sectors inodes ≡ Some p
     → p ≡ laid_out_in version header sectors inodes
 geometry_is_laid_out s i e = (placed s i e).0
@@ -154,11 +154,11 @@ laid_out_is_geometry version header s i p =
       data_sectors = p.room;
     }
 
--- a disk that has a place has room for its parts
+-- a disk that has a geometry has room for its parts
 pub is_a_geometry : {p : Geometry} (version : Version) (header sectors inodes : ℕ) → geometry_in version header sectors inodes ≡ Some p → IsGeometry p
 is_a_geometry version header s i e = let x = placed s i e in subst IsGeometry (sym x.0) (laid_out_is_geometry version header s i x.1)
 
--- ---- from a place
+-- ---- from a geometry
 -- log, inode bitmap, block bitmap and inode table stand one behind the other
 pub after_map : {p : Geometry} → IsGeometry p → (128 ≤ p.inode_bitmap) × (p.inode_bitmap < p.block_bitmap) × (p.block_bitmap < p.table)
 after_map geometry =

@@ -88,7 +88,7 @@ none_named image v level lt none above i = elim (cases_eq i 0) [
   | inr ne ↦ number_past_above image v (suc level) 0 (λ j from. above j) i (omega (arith, ne))
 ]
 
--- the same of the level that follows, by how many numbers that has
+-- a level has no number past those that the level above lists, where that has none from `end` on
 pub number_past_next : (image : SectorMap) (v : Inode) (level end count : ℕ) → own_count level ≡ count → ((j : ℕ) → end ≤ j → number_on image v (level + 1) j ≡ 0)
     → (i : ℕ) → count + SECTOR_POINTERS * end ≤ i → number_on image v level i ≡ 0
 number_past_next image v level end count own above i ge =
@@ -259,7 +259,7 @@ put_entry {v} {level} {i} {y} {old} {new} h =
     ∙ ap (λ (r : List ℕ). u32_of r (4 * at)) h.is
     ∙ are_numbers_32.read (old s) (4 * at) y (omega (arith, h.len, low)) h.fits
 
--- it is what the sector of pointers at hand says
+-- the number is what the sector of pointers at hand says
 pub number_is : (image : SectorMap) (v : Inode) (level : ℕ) (content : List ℕ) (i : ℕ) → length v.indirect ≡ POINTER_LEVELS
     → HasPointersAbove image v level i content → number_in v level content i ≡ number_on image v level i
 number_is image v level content i len h = elim (cases_lt i (own_count level)) [
@@ -373,7 +373,7 @@ alike_named v (suc (suc zero)) y lt = (
     other n ne = get_or-set_other v.indirect 2 n y 0 ne
 alike_named v (suc (suc (suc level))) y lt = absurd (omega (arith, lt))
 
--- it becomes y, where both have the same numbers
+-- the named sector becomes y, where both have the same numbers
 turns_named : (old new : SectorMap) (v : Inode) (level y : ℕ) → level < POINTER_LEVELS → length v.indirect ≡ POINTER_LEVELS → {x : ℕ} → get_or v.indirect level 0 ≡ x
     → KeepsPointers old new v → ((q : ℕ) → q < SECTOR_POINTERS → pointer_in new y q ≡ pointer_in old (get_or v.indirect level 0) q)
     → Turns old new v (with_indirect v level y) (OnLevel (suc level) 0) x y

@@ -125,7 +125,7 @@ idle_commit size image idle =
       valid = no_targets (header_of (image 0)) size;
     }
 
--- it is recovered
+-- an idle image is recovered
 pub recovered-idle : (size : ℕ) (image : SectorMap) (s : ℕ) → size < 2 ^ 32 → image 1 ≡ commit_bytes [] → recovered size image s ≡ image s
 recovered-idle size image s small idle = recovered-commit size image [] s small (idle_commit size image idle)
 

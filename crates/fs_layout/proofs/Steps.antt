@@ -52,7 +52,7 @@ module _ {p : Geometry} {v : Inode} {s : ℕ} {x : List ℕ} {old mid new : Sect
   pub acl_gained : v.acl ≡ 0 → ChangesBlocks p v (record v { acl = s }) old new
   acl_gained none = gains geometry apart (turns_acl old new v 0 s none kept) allocated
 
-  -- it holds what it held
+  -- the inode holds what it held, with an ACL
   pub acl_gained_holds : (bytes : List ℕ) → v.acl ≡ 0 → Holds old v bytes → Holds new (record v { acl = s }) bytes
   acl_gained_holds bytes none h = turns_acl_holds (turns_acl old new v 0 s none kept) same_content refl h
 
@@ -60,7 +60,7 @@ module _ {p : Geometry} {v : Inode} {s : ℕ} {x : List ℕ} {old mid new : Sect
   pub default_acl_gained : v.default_acl ≡ 0 → ChangesBlocks p v (record v { default_acl = s }) old new
   default_acl_gained none = gains geometry apart (turns_default_acl old new v 0 s none kept) allocated
 
-  -- it holds what it held
+  -- the inode holds what it held, with a default ACL
   pub default_acl_gained_holds : (bytes : List ℕ) → v.default_acl ≡ 0 → Holds old v bytes → Holds new (record v { default_acl = s }) bytes
   default_acl_gained_holds bytes none h = turns_default_acl_holds (turns_default_acl old new v 0 s none kept) same_content refl h
 
@@ -73,7 +73,7 @@ module _ {p : Geometry} {v : Inode} {s : ℕ} {x : List ℕ} {old mid new : Sect
       → ChangesBlocks p v (with_indirect v level s) old new
   named_gained level lt len none clear = gains geometry apart (named_gains level lt len none clear) allocated
 
-  -- it holds what it held
+  -- the inode holds what it held, with a sector of pointers
   pub named_gained_holds : (level : ℕ) (bytes : List ℕ) → level < POINTER_LEVELS → length v.indirect ≡ POINTER_LEVELS → get_or v.indirect level 0 ≡ 0 → x ≡ zeros 512
       → 512 * first_block (suc level) 0 < v.size → Holds old v bytes → Holds new (with_indirect v level s) bytes
   named_gained_holds level bytes lt len none clear inside h =
@@ -84,7 +84,7 @@ module _ {p : Geometry} {v : Inode} {s : ℕ} {x : List ℕ} {old mid new : Sect
 abbrev at_holder : SectorMap → Inode → ℕ → ℕ → ℕ
 at_holder image v level i = number_on image v (suc level) (holder (own_count level) i)
 
--- it is whole again
+-- the sector with the entry is whole again
 entry_whole : {v : Inode} {level i y : ℕ} {old new : SectorMap} → PutsEntry v level i y old new → IsSector (old (at_holder old v level i))
     → IsSector (splice (old (at_holder old v level i)) (4 * place_in_holder (own_count level) i) (le32 y))
 entry_whole {v} {level} {i} {y} {old} e whole =
@@ -228,7 +228,7 @@ module _ {p : Geometry} {v : Inode} {s : ℕ} {old new : SectorMap} (geometry : 
   pub acl_lost : v.acl ≡ s → ChangesBlocks p v (record v { acl = 0 }) old new
   acl_lost was = loses geometry apart some (turns_acl old new v s 0 was kept_then) (releases_alone geometry apart f.mark f.clear)
 
-  -- it holds what it held
+  -- the inode holds what it held, without its ACL
   pub acl_lost_holds : (bytes : List ℕ) → v.acl ≡ s → Holds old v bytes → Holds new (record v { acl = 0 }) bytes
   acl_lost_holds bytes was h = turns_acl_holds (turns_acl old new v s 0 was kept_then) same_then refl h
 
@@ -236,7 +236,7 @@ module _ {p : Geometry} {v : Inode} {s : ℕ} {old new : SectorMap} (geometry : 
   pub default_acl_lost : v.default_acl ≡ s → ChangesBlocks p v (record v { default_acl = 0 }) old new
   default_acl_lost was = loses geometry apart some (turns_default_acl old new v s 0 was kept_then) (releases_alone geometry apart f.mark f.clear)
 
-  -- it holds what it held
+  -- the inode holds what it held, without its default ACL
   pub default_acl_lost_holds : (bytes : List ℕ) → v.default_acl ≡ s → Holds old v bytes → Holds new (record v { default_acl = 0 }) bytes
   default_acl_lost_holds bytes was h = turns_default_acl_holds (turns_default_acl old new v s 0 was kept_then) same_then refl h
 

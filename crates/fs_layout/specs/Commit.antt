@@ -17,7 +17,7 @@ commit_magic = 0x4a4f_4e49
 abbrev pub commit_bytes : List ℕ → List ℕ
 commit_bytes targets = le32 commit_magic ++ (le32 (length targets) ++ (le32s (take MAX_TARGETS targets) ++ zeros (504 - 4 * length targets)))
 
--- the same of a commit whose contents stand in this log area: the highest bit of the number says in which
+-- the bytes of a commit whose contents stand in this log area: the highest bit of the number says in which
 abbrev pub commit_bytes_in : ℕ → List ℕ → List ℕ
 commit_bytes_in area targets =
     le32 commit_magic ++ (le32 (length targets + 0x8000_0000 * area) ++ (le32s (take MAX_TARGETS targets) ++ zeros (504 - 4 * length targets)))

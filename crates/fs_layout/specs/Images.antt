@@ -171,7 +171,7 @@ byte_at image v i = byte_in image (pointer image v (i / 512)) (i % 512)
 abbrev pub IsTrimmed : SectorMap → Inode → Type 0
 IsTrimmed image v = (level i : ℕ) → v.size ≤ 512 * first_block level i → number_on image v level i ≡ 0
 
--- These bytes are what a file, a directory or a link holds. The inode has no sector past them, and the rest of its last
+-- A file, a directory or a link holds these bytes. The inode has no sector past them, and the rest of its last
 -- block is zero.
 pub record Holds (image : SectorMap) (v : Inode) (bytes : List ℕ) : Type 0 where
   pub size : v.size ≡ length bytes

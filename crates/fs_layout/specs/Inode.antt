@@ -100,7 +100,7 @@ gaps_are_zero Link s = are_zero (window s 120 8)
 abbrev pub older_gaps_are_zero : Kind → List ℕ → Bool
 older_gaps_are_zero kind s = gaps_are_zero kind s && are_zero (window s 92 36)
 
--- it has no more bytes than versions 1 and 2 allow
+-- an inode has no more bytes than versions 1 and 2 allow
 abbrev pub is_small : Kind → ℕ → Bool
 is_small Free size = true
 is_small File size = nat_le size OLDER_FILE_SIZE

@@ -51,11 +51,11 @@ pub record Turns (old new : SectorMap) (v w : Inode) (at : Part) (x y : ℕ) : T
   pub now : part new w at ≡ y
   pub others : (other : Part) → other ≢ at → part new w other ≡ part old v other
 
--- it has s for this, and had none
+-- the inode has s for this, and had none
 abbrev pub Gains : SectorMap → SectorMap → Inode → Inode → Part → ℕ → Type 0
 Gains old new v w at s = Turns old new v w at 0 s
 
--- it had s for this, and has none
+-- the inode had s for this, and has none
 abbrev pub Loses : SectorMap → SectorMap → Inode → Inode → Part → ℕ → Type 0
 Loses old new v w at s = Turns old new v w at s 0
 

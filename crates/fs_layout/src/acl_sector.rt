@@ -76,7 +76,7 @@ fn get_entries(from: &[u8], at: usize, to: &mut [EntryNumbers])
 }
 
 impl AclSector {
-    /// These entries, at most [`MAX_ENTRIES`].
+    /// An ACL sector of these entries, at most [`MAX_ENTRIES`].
     pub fn new(entries: &[EntryNumbers]) -> AclSector
         requires { length entries.now ≤ MAX_ENTRIES }
         ensures { result ≡ entries.now }

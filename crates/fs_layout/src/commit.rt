@@ -230,7 +230,7 @@ impl Commit {
         Commit::sector_with(area, self.targets())
     }
 
-    /// The same of a commit with these targets, which needs no memory for as many as a commit may have.
+    /// The content of the commit sector of a commit with these targets, which needs no memory for as many as a commit may have.
     pub fn sector_with(area: u32, targets: &[u32]) -> [u8; 512]
         requires area { area ≤ 1 }
         requires few { length targets.now ≤ MAX_LOG_SECTORS }
@@ -274,7 +274,7 @@ fn header_bytes(targets: &[u32]) -> [u8; 512]
     content
 }
 
-// Those that stand in the commit sector.
+// The targets that stand in the commit sector.
 fn first_targets(targets: &[u32]) -> &[u32]
     ensures first { result.now ≡ take MAX_TARGETS targets.now }
     ensures few { length result.now ≤ MAX_TARGETS }

@@ -12,12 +12,12 @@ pub fn numbers_of_16_bits()
     ensures { AreNumbersAsBytes 2 le16 u16_of }
 {}
 
-/// The same of 32 bits.
+/// A number of 32 bits that is read from bytes is written as these bytes, and one that is written is read again.
 pub fn numbers_of_32_bits()
     ensures { AreNumbersAsBytes 4 le32 u32_of }
 {}
 
-/// The same of 64 bits.
+/// A number of 64 bits that is read from bytes is written as these bytes, and one that is written is read again.
 pub fn numbers_of_64_bits()
     ensures { AreNumbersAsBytes 8 le64 u64_of }
 {}

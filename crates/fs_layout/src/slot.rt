@@ -54,7 +54,7 @@ pub fn is_name(name: &[u8]) -> bool
 }
 
 impl Slot {
-    /// This name for this inode.
+    /// A slot with this name for this inode.
     pub fn new(inode: u32, name: &[u8]) -> Slot
         requires { IsName name.now }
         ensures { result ≡ record { inode = inode; name = name.now } }

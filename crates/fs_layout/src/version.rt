@@ -11,10 +11,10 @@ use crate::inode::{INDIRECT_END, MAX_FILE_SIZE, OLDER_FILE_SIZE};
 pub enum Version {
     /// Direct blocks, and those of one indirect sector.
     One,
-    /// Those, and those of one double indirect sector.
+    /// The blocks of version 1, and those of one double indirect sector.
     Two,
-    /// Those, and those of one triple indirect sector; longer names, and more of them, on larger disks, and times of each inode. No
-    /// older one is upgraded to it.
+    /// The blocks of version 2, and those of one triple indirect sector; longer names, and more of them, on larger disks, and times of
+    /// each inode. No older version is upgraded to this one.
     Three,
 }
 

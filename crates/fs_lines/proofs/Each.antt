@@ -40,13 +40,13 @@ each_fault read (z ∷ zs) ys x back fault front last =
     let rest = each_fault read zs parts.rest x back fault parts.rest_read last in
     rw (parts.first_read, rest) refl
 
--- the same in the middle of a list
+-- the fault in the middle of a list
 pub fault_at : {A B : Type 0} (read : A → Result B LineFault) (all : List A) (n : ℕ) (d : A) (ys : List B) (fault : LineFault)
     → each read (take n all) ≡ Ok ys → n < length all → read (get_or all n d) ≡ Err fault → each read all ≡ Err fault
 fault_at read all n d ys fault front below bad =
     ap (each read) (split_at all n d below) ∙ each_fault read (take n all) ys (get_or all n d) (drop (suc n) all) fault front bad
 
--- the same of a vector that grows
+-- each of a vector that grows
 pub each_push_plain : {A B X : Type 0} (read : A → Result B LineFault) (see : X → A) (xs : List X) (ys new : List B) (x : X) (y : B)
     → new ≡ ys ++ y ∷ [] → each read (map see xs) ≡ Ok ys → read (see x) ≡ Ok y
     → each read (map see (xs ++ x ∷ [])) ≡ Ok new

@@ -106,7 +106,7 @@ pub data CommandRow : Type 0 where
 abbrev pub credential_event : ℕ → ℕ → List ℕ → Option Caps → Event
 credential_event uid gid supplementary caps = events.Spawn (credential uid gid supplementary (unwrap_or caps (usual_caps uid)))
 
--- Those that stand alone.
+-- The commands that stand alone.
 abbrev pub lone_commands : List CommandRow
 lone_commands =
     alone (codes "spawn") a_credential credential_event
@@ -114,7 +114,7 @@ lone_commands =
     ∷ alone (codes "statfs") no_words events.Statfs
     ∷ []
 
--- Those whose first word is a path. A file that open makes has the mode 0666 where none is given.
+-- The commands whose first word is a path. A file that open makes has the mode 0666 where none is given.
 abbrev pub path_commands : List CommandRow
 path_commands =
     behind_pid (codes "open") (two_or bytes flags mode 438) (λ pid path how perm. events.Call pid (calls.Open path how perm))
@@ -128,7 +128,7 @@ path_commands =
     ∷ behind_pid (codes "setacl") (two_and_acl bytes acl_type) (λ pid path which acl. events.Call pid (calls.SetAcl path which acl))
     ∷ []
 
--- Those whose first word is a descriptor.
+-- The commands whose first word is a descriptor.
 abbrev pub descriptor_commands : List CommandRow
 descriptor_commands =
     behind_pid (codes "read") (two number number) (λ pid fd count. events.Call pid (calls.Read fd count))
@@ -141,7 +141,7 @@ descriptor_commands =
     ∷ behind_pid (codes "readdir") (one number) (λ pid fd. events.Call pid (calls.Readdir fd))
     ∷ []
 
--- Those on names.
+-- The commands on names.
 abbrev pub name_commands : List CommandRow
 name_commands =
     behind_pid (codes "mkdir") (two bytes mode) (λ pid path perm. events.Call pid (calls.Mkdir path perm))
@@ -154,7 +154,7 @@ name_commands =
     ∷ behind_pid (codes "chdir") (one bytes) (λ pid path. events.Call pid (calls.Chdir path))
     ∷ []
 
--- Those on the process itself.
+-- The commands on the process itself.
 abbrev pub process_commands : List CommandRow
 process_commands =
     behind_pid (codes "umask") (one mode) (λ pid mask. events.Call pid (calls.Umask mask))
@@ -176,7 +176,7 @@ pub data Said : Type 0 where
   plain : Line → Said
   with_acl : List ℕ → (AccessList → Line) → Said
 
--- it asks for this event
+-- a line asks for this event
 abbrev pub asked : Event → Said
 asked e = plain (Asks e)
 
@@ -303,7 +303,7 @@ clean_value line = do
   words ← each word_bytes (words_of line)
   words_value words
 
--- It is read word by word: it isn't too long, it says something, and it has only bytes that may stand in a line.
+-- A line is read word by word: it isn't too long, it says something, and it has only bytes that may stand in a line.
 abbrev pub has_words : List ℕ → Bool
 has_words line = not (nat_lt 4096 (length line)) && not (is_silent line) && list_all is_printable line
 

@@ -21,7 +21,7 @@ is_space b = b == 32
 abbrev pub is_no_space : ℕ → Bool
 is_no_space b = not (is_space b)
 
--- it has no byte but spaces, or a `#` is the first
+-- a line has no byte but spaces, or a `#` is the first
 abbrev pub is_silent_start : Option ℕ → Bool
 is_silent_start None = true
 is_silent_start (Some b) = b == 35

@@ -16,11 +16,11 @@ use Rattle.fs_lines.specs.Commands.{Said, IsSaid, acl_said_by}
 abbrev pub Gives : {X Y : Type 0} → (X → Y) → Result X LineFault → Result Y LineFault → Type 0
 Gives view read said = MatchResult read (λ x. said ≡ Ok (view x)) (λ fault. fault ≢ OutOfMemory → said ≡ Err fault)
 
--- the same where it is known what is said but for the ACL of a text
+-- what reading comes to is what is said, which is known but for the ACL of a text
 abbrev pub GivesSaid : {X : Type 0} → (X → Line) → Result X LineFault → Result Said LineFault → Type 0
 GivesSaid view read said = MatchResult read (λ x. IsSaid said (Ok (view x))) (λ fault. fault ≢ OutOfMemory → IsSaid said (Err fault))
 
--- The same of a word that is an ACL, whatever asks for it.
+-- What is known to be said of a word that is an ACL, whatever asks for it.
 abbrev pub GivesAcl : Result (Option AccessList) LineFault → List ℕ → Type 0
 GivesAcl read word = (says : Option AccessList → Event) → GivesSaid (λ acl. Asks (says acl)) read (acl_said_by says word)
 

@@ -87,7 +87,7 @@ of_bits bits = record { 0 = bits }
 abbrev pub cap_named : List ℕ → Result Caps LineFault
 cap_named name = ok_or (option_map of_bits (find_name named_caps name)) BadNumber
 
--- these and those that are named, each above all before it
+-- some capabilities and those that are named, each above all before it
 abbrev pub caps_with : Caps → List (List ℕ) → Result Caps LineFault
 caps_with caps [] = Ok caps
 caps_with caps (name ∷ names) = do
@@ -104,7 +104,7 @@ some_caps_of word = do
   caps ← caps_of word
   Ok (Some caps)
 
--- those of the digits 0 to 7
+-- the permissions of the digits 0 to 7
 abbrev pub all_perms : List Perms
 all_perms = map perms_of (range_with_len 0 8)
 

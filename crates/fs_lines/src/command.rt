@@ -129,7 +129,7 @@ fn read_path_command(name: &str, operands: Operands<'_>) -> Result<Event, LineFa
     }
 }
 
-// Those whose first word is a descriptor, and those below.
+// The commands whose first word is a descriptor, and those below.
 fn read_descriptor_command(name: &str, operands: Operands<'_>) -> Result<Event, LineFault>
     ensures said { (pid : List ℕ) → operands.entry.pid ≡ number_of 64 pid
         → GivesSaid Asks result (command_says (row_named (descriptor_commands ++
@@ -173,7 +173,7 @@ fn read_descriptor_command(name: &str, operands: Operands<'_>) -> Result<Event, 
     }
 }
 
-// Those on names, and those below.
+// The commands on names, and those below.
 fn read_name_command(name: &str, operands: Operands<'_>) -> Result<Event, LineFault>
     ensures said { (pid : List ℕ) → operands.entry.pid ≡ number_of 64 pid
         → GivesSaid Asks result (command_says (row_named (name_commands ++ process_commands) name.now) pid operands.entry.words.now) }
@@ -216,7 +216,7 @@ fn read_name_command(name: &str, operands: Operands<'_>) -> Result<Event, LineFa
     }
 }
 
-// Those on the process itself.
+// The commands on the process itself.
 fn read_process_command(name: &str, operands: Operands<'_>) -> Result<Event, LineFault>
     ensures said { (pid : List ℕ) → operands.entry.pid ≡ number_of 64 pid
         → GivesSaid Asks result (command_says (row_named process_commands name.now) pid operands.entry.words.now) }

@@ -17,9 +17,9 @@ pub enum Line {
 /// What is wrong with a line.
 #[derive(Clone, Copy, Debug, PartialEq, Eq)]
 pub enum LineFault {
-    /// It has more than 4,096 bytes.
+    /// The line has more than 4,096 bytes.
     TooLong = 1,
-    /// It has a byte that is neither a space nor a graphic character of ASCII.
+    /// The line has a byte that is neither a space nor a graphic character of ASCII.
     BadByte = 2,
     /// A `\` without two lower-case hexadecimal digits behind it, or a `"` that is no part of the word `""`.
     BadEscape = 3,
@@ -46,7 +46,7 @@ impl LineFault {
         self as u8
     }
 
-    /// Its name in replies.
+    /// The fault's name in replies.
     pub fn name(self) -> &'static str
         ensures { result.now ≡ fault_name self }
     {

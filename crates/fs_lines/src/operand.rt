@@ -159,7 +159,7 @@ impl Groups {
         Groups(Vec::new(alloc))
     }
 
-    /// Their ids.
+    /// The ids of the groups.
     pub fn ids(&self) -> &[u32]
         ensures { result.now ≡ self.now }
     {
@@ -195,7 +195,7 @@ fn operand_at<A: Operand>(alloc: Global, words: &[Word<'_>], index: usize) -> Re
     }
 }
 
-// The same, or this one where there is no such word.
+// The value of the word with this index, or `missing` where there is no such word.
 fn operand_at_or<A: Operand>(
     alloc: Global,
     words: &[Word<'_>],

@@ -179,7 +179,7 @@ same_there pid p s t alike here n =
     ∙ ap is_some (node_at-seen p t.tree n)
     ∙ some_mapped (node_seen p n) (node_at t.tree n)
 
--- the same inodes before and afterwards: the new one is the same
+-- both have the same inodes before and afterwards: so the new one is the same
 made_same : (s t s' t' : Tree) (n m : ℕ) → ((k : ℕ) → is_some (node_at s k) ≡ is_some (node_at t k))
     → ((k : ℕ) → is_some (node_at s' k) ≡ is_some (node_at t' k)) → Made s s' n → Made t t' m → n ≡ m
 made_same s t s' t' n m before now one two = elim (cases_eq n m) [

@@ -66,7 +66,7 @@ module _ (p : Process) (flags : Flags) (n : ℕ) where
   abbrev opener : Process
   opener = open_process p flags n
 
-  -- it sees what it saw, and what it opened for reading
+  -- the process sees what it saw, and what it opened for reading
   opener_sees : (m : ℕ) (node : Node) → (m ≡ n → flags.read ≡ true → sees_into p m node ≡ true) → sees_into opener m node ≡ true → sees_into p m node ≡ true
   opener_sees m node opened h = go (n == m && flags.read) refl
     where

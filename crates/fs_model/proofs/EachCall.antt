@@ -52,7 +52,7 @@ use Rattle.fs_model.proofs.ConfinedSteps.{Confines}
 
 -- ---- what it does with the number of a new node
 
--- it doesn't take it, or it makes a node there, under a name that is new
+-- a call doesn't take the number, or it makes a node there, under a name that is new
 abbrev pub UsesNumber : Scene → (ℕ → Effect) → Type 0
 UsesNumber c effect =
     ((n m : ℕ) → effect n ≡ effect m)
@@ -77,9 +77,9 @@ module _ (c : Scene) where
 -- ---- the record
 
 pub record IsLawful (call : Call) : Type 0 where
-  -- its paths are bytes
+  -- the paths of the call are bytes
   pub paths : IsCall call → AreBytes (row_of call).walks
-  -- it refuses nothing with EIO, and answers no EIO
+  -- the call refuses nothing with EIO, and answers no EIO
   pub spares : RowSpares (row_of call)
   pub replies : (c : Scene) (new : ℕ) → is_io_error ((row_of call).effect c new).reply ≡ false
   -- what it asks depends on no byte of a file

@@ -45,7 +45,7 @@ node_kept version old new v x keeps h = record {
   body = body_kept version old new v x.node.body keeps h.body;
 }
 
--- the same inode holds what it held, or is free as it was
+-- an inode that stays holds what it held, or is free as it was
 pub placed_kept : (version : Version) (o : Option Placed) (old new : SectorMap) (v w : Inode) → w ≡ v → Keeps old new v
     → MatchOption o (v ≡ free_inode) (λ x. HoldsNode version old v x) → MatchOption o (w ≡ free_inode) (λ x. HoldsNode version new w x)
 placed_kept version None old new v w e keeps h = e ∙ h

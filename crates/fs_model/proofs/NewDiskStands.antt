@@ -178,7 +178,7 @@ module _ (p : Geometry) (image : SectorMap) (h : IsNewImage p image) where
   header_is : p.header ≡ new_header p.version p.sectors p.inodes
   header_is = ap (λ (q : Geometry). q.header) (geometry_is_laid_out p.sectors p.inodes h.has_geometry)
 
-  -- it says how many header sectors it has
+  -- the superblock says how many header sectors the disk has
   own_geometry : geometry_in p.version p.header p.sectors p.inodes ≡ Some p
   own_geometry = ap (λ (n : ℕ). geometry_in p.version n p.sectors p.inodes) header_is ∙ h.has_geometry
 

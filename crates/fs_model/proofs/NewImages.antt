@@ -1,4 +1,4 @@
--- Each disk that has a place has an image that holds an empty root, and nothing else.
+-- Each disk that has a geometry has an image that holds an empty root, and nothing else.
 use Rattle.std.specs.Prelude.{◌≡◌, ◌≢◌, ℕ, zero, suc, ◌+◌, ◌-◌, ◌*◌, ◌/◌, ◌%◌, ◌<◌, ◌≤◌, nat_eq, nat_lt, nat_le, Bool, true, false, cond, ◌||◌, List, [], ◌++◌, get_or, map, Some, IsTrue, ◌⊎◌, ◌↔◌}
 use Rattle.std.proofs.Common.{refl, sym, ap, arith, ◌∙◌, subst, inl, inr}
 use Rattle.std.specs.Int.{bit_at}
@@ -271,7 +271,7 @@ module _ (p : Geometry) (there : the_geometry p.version p.sectors p.inodes ≡ S
     free = others_free;
   }
 
--- Each disk that has a place has such an image.
+-- Each disk that has a geometry has such an image.
 pub new_images_exist : (p : Geometry) → the_geometry p.version p.sectors p.inodes ≡ Some p → (image : SectorMap) × IsNewImage p image
 new_images_exist p there = (new_image p, new_image_is_new p there)
 

@@ -41,7 +41,7 @@ abbrev pub asks_eio : Demand → Bool
 asks_eio (Some (Failed e)) = is_eio e
 asks_eio _ = false
 
--- it doesn't refuse with EIO
+-- a demand doesn't refuse with EIO
 abbrev pub Spares : Demand → Type 0
 Spares d = asks_eio d ≡ false
 

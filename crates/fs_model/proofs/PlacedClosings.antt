@@ -57,7 +57,7 @@ module _ (room : Room) (t : Tree) (is : IsTree room t) (was now : ProcessTable) 
         | inr ne ↦ same_others m ne
       ]
 
-  -- it goes
+  -- the node goes once it is closed
   pub close_drop_held : (new : SectorMap) → stays t now (n, node) ≡ false → n < p.inodes → ChangesInode p n old new → bit new p.inode_bitmap n ≡ false
       → inode_at p new n ≡ free_inode → HoldsAll p new (placed (swept t now))
   close_drop_held new goes below changes clear free =

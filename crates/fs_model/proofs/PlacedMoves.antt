@@ -345,7 +345,7 @@ module _ (s : State) (is : IsState s) (up : IsFalse s.halted) (processes : Proce
             (one_replaced p m mid new arrived held m_below changes _ _ arrived_m
             (subst (λ w. HoldsNode p.version new (inode_at p new m) (record { node = replaced; names = names_of s.tree m - 1; parent = parent w m })) (moved_is s.room s.tree s.processes dir directory name n to_dir to_directory to_name o is.tree moves) here) same)
 
-        -- it goes
+        -- the node that is replaced goes
         pub move_drop_held : (not (names_of s.tree m - 1 == 0) || lives_nameless processes m replaced.body) ≡ false → bit new p.inode_bitmap m ≡ false
             → inode_at p new m ≡ free_inode → HoldsAll p new (placed (swept (changed s.tree (MoveName dir name to_dir to_name)) processes))
         move_drop_held goes clear free =

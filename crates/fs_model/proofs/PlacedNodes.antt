@@ -32,7 +32,7 @@ use Rattle.fs_model.proofs.Unchanged.{fitting_stays, root_directory, open_stays}
 
 -- ---- number by number
 
--- the same is to be held
+-- what is to be held stays
 pub same_placed : (p : Geometry) (image : SectorMap) (what next : ℕ → Option Placed) → HoldsAll p image what → ((n : ℕ) → next n ≡ what n)
     → HoldsAll p image next
 same_placed p image what next h same = record {
@@ -41,7 +41,7 @@ same_placed p image what next h same = record {
   inode_bits = λ n few. h.inode_bits n few ∙ ap (λ o. nat_eq n 0 || nat_le p.inodes n || is_some o) (sym (same n));
 }
 
--- this at n, and else what there was
+-- one thing at n, and else what there was
 abbrev pub placing : ℕ → Option Placed → (ℕ → Option Placed) → ℕ → Option Placed
 placing n o what m = if nat_eq m n then o else what m
 

@@ -15,7 +15,7 @@ use Rattle.fs_layout.proofs.NameMaps.{leading}
 use Rattle.fs_model.proofs.Moves.{body_moves}
 use Rattle.fs_model.proofs.StepsParents.{names_or, names_at}
 
--- the same number of names for d in both bodies, for each d
+-- both bodies have as many names for d, for each d
 module _ (t : Tree) (k : ℕ) (old new : Node) (m : IsMap nat_cmp t) (was : node_at t k ≡ Some old) (names : names_of_body new.body ≡ names_of_body old.body) where
   pub names_of-rewritten : (d : ℕ) → names_of (with_node t k new) d ≡ names_of t d
   names_of-rewritten d =
@@ -28,7 +28,7 @@ module _ (t : Tree) (k : ℕ) (old new : Node) (m : IsMap nat_cmp t) (was : node
   at-rewritten q true e = ap is_some (sym was ∙ ap (node_at t) (sym (tied q k e)))
   at-rewritten q false e = refl
 
-  -- the same numbers stand in both trees
+  -- both trees have the same numbers
   pub there-rewritten : (q : ℕ) → is_some (node_at (with_node t k new) q) ≡ is_some (node_at t q)
   there-rewritten q = ap is_some (get-with_entry t k new q) ∙ at-rewritten q _ refl
 

@@ -60,7 +60,7 @@ many_names = refl
 abbrev of_version_three : State
 of_version_three = record fresh { room = room_with Three 64 878 }
 
--- its names have up to 248 bytes, and two of them take a block; 128 bytes each are shown
+-- names of version 3 have up to 248 bytes, and two of them take a block; 128 bytes each are shown
 pub longer_names : replies of_version_three (
     user 0 0 [] ∷ Calls 1 (Mkdir (codes "/" ++ replicate 249 122) 0o755) ∷ Calls 1 (Mkdir (codes "/" ++ replicate 248 122) 0o755)
     ∷ Calls 1 (Mkdir (codes "/a") 0o755) ∷ Statfs ∷ Calls 1 (Mkdir (codes "/b") 0o755) ∷ Statfs ∷ Calls 1 (Stat (codes "/")) ∷ []) ≡

@@ -90,7 +90,7 @@ pieces_are (b ∷ path) all = go (b == slash) refl (pieces_are path all.1)
     go true e are = (tt, are)
     go false e are = onto_first_are b rest (all.0.0, all.0.1, (λ is. let t : (b == slash) ≡ true = grind (arith, nat_tests) in cc)) are
 
--- those of them that aren't empty
+-- the components that aren't empty
 nonempty_are : (pieces : List (List ℕ)) → AllByRecursion AreNameBytes pieces → AreComponents (filter (λ piece. not (is_empty piece)) pieces)
 nonempty_are [] are = tt
 nonempty_are ([] ∷ pieces) are = nonempty_are pieces are.1

@@ -35,7 +35,7 @@ use Rattle.fs_model.proofs.StepsProcesses.{without-IsMap, in_without, length-wit
 use Rattle.fs_model.proofs.Swept.{swept_is_tree}
 use Rattle.fs_model.proofs.StepsSwept.{MayBeLeft, left_is_state, tree_may_be_left}
 
--- ---- the desks after an event
+-- ---- the processes after an event
 
 abbrev IsProcessTable : ProcessTable → Type 0
 IsProcessTable processes = IsMap nat_cmp processes × (length processes ≤ processes_limit)

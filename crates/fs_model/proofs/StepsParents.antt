@@ -82,7 +82,7 @@ parent_names (e ∷ t) x m some = go (nat_lt 0 (names_for x e.1.body)) refl (λ 
         let all = names_of-cons x e t in
         behind (node_at t (parent t x)) refl (rest (omega (arith, none, all, some)))
 
--- it stays where it keeps the name, and no other is given
+-- the parent stays where it keeps the name, and no other is given
 pub parent_kept : (t u : Tree) (x : ℕ) → IsMap nat_cmp t → 1 ≤ names_of t x → names_of u x ≤ 1
     → (1 ≤ leading x (names_at t (parent t x)) → 1 ≤ leading x (names_at u (parent t x))) → parent u x ≡ parent t x
 parent_kept t u x m some one keeps = parent_is u (parent t x) x (keeps (parent_names t x m some)) one

@@ -26,7 +26,7 @@ pub root_stamps : stamps_in root_inode ≡ no_stamps
 unfolding stamps_in
 root_stamps = refl
 
--- the same times
+-- equal times
 pub stamps_move : (keeps : Bool) (x y : Stamps) → y ≡ x → AreStamps keeps x → AreStamps keeps y
 stamps_move keeps x y e h = subst (AreStamps keeps) (sym e) h
 

@@ -31,7 +31,7 @@ use Rattle.fs_model.proofs.Frame.{agreed}
 use Rattle.fs_model.proofs.NodesHeld.{node_held}
 use Rattle.fs_model.proofs.VersionLimits.{HasSameNames, HasSameRange, same_names, same_range, same_slots, same_times}
 
--- ---- the place
+-- ---- the geometry
 
 abbrev in_version : Version → Geometry → Geometry
 in_version version p =
@@ -55,7 +55,7 @@ placed_in false true c x y p is = absurd (cc)
 placed_in false false true x y p is = absurd (cc)
 placed_in false false false x y p is = refl
 
--- a disk with these numbers has a place in each version with the same range
+-- a disk with these numbers has a geometry in each version with the same range
 geometry_in_version : (old new : Version) (header sectors inodes : ℕ) (p : Geometry) → HasSameRange old new → geometry_in old header sectors inodes ≡ Some p
     → geometry_in new header sectors inodes ≡ Some (laid_out_in new header sectors inodes)
 unfolding geometry_in

@@ -74,7 +74,7 @@ IsOf pid _ = ⊥
 abbrev pub AreOf : ℕ → List (Event × Choice) → Type 0
 AreOf pid events = All (λ e. IsOf pid e.0 × IsEvent e.0) events
 
--- The same replies. The process is the same in both states, or gone from both; and while it is there they are alike to it.
+-- Both answer with the same replies. The process is the same in both states, or gone from both; and while it is there they are alike to it.
 pub record AnswerAlike {X : Type 0} (pid : ℕ) (answer answer' : X) (s t : State) : Type 0 where
   pub replies : answer ≡ answer'
   pub process : get nat_cmp s.processes pid ≡ get nat_cmp t.processes pid

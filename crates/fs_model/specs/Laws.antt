@@ -226,7 +226,7 @@ NewDiskStands =
     (p : Geometry) (image : SectorMap) → IsNewImage p image
     → Stands p.sectors image (room_of p) empty_tree (p.sectors - p.first_data)
 
--- Each disk that has a place has such an image,
+-- Each disk that has a geometry has such an image,
 abbrev pub NewImagesExist : Type 0
 NewImagesExist = (p : Geometry) → the_geometry p.version p.sectors p.inodes ≡ Some p → (image : SectorMap) × IsNewImage p image
 
@@ -256,7 +256,7 @@ FindingRefuses =
     (sectors : ℕ) (image : SectorMap) (k i : ℕ) (room : Room) (t : Tree) (free : ℕ) → IsFinding sectors image k i
     → Stands sectors image room t free → ⊥
 
--- The numbers of a tree that a disk with this place holds: its named and nameless files, directories, links, and all its
+-- The numbers of a tree that a disk with this geometry holds: its named and nameless files, directories, links, and all its
 -- nodes, as counts over the inodes.
 pub record CountsInodes (p : Geometry) (image : SectorMap) (t : Tree) : Type 0 where
   pub files : named_files t ≡ count_by (λ n. is_file_kind (inode_at p image n).kind && not ((inode_at p image n).names == 0)) (range_with_len 0 p.inodes)

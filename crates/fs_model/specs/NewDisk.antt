@@ -28,7 +28,7 @@ empty_tree = (
   },
 ) ∷ []
 
--- it has one name, as each directory, and is its own parent
+-- the root has one name, as each directory, and is its own parent
 abbrev pub root_inode : Inode
 root_inode = record free_inode { kind = kinds.Directory; mode = 0o755; names = 1; parent = root }
 

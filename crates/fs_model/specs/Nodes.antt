@@ -40,7 +40,7 @@ pub record Node : Type 0 where
 abbrev pub no_stamps : Stamps
 no_stamps = record { atime = 0; mtime = 0; ctime = 0 }
 
--- those that are given are set, the others stay
+-- the times that are given are set, the others stay
 abbrev pub stamped : Option ℕ → Option ℕ → Option ℕ → Stamps → Stamps
 stamped atime mtime ctime x =
     record { atime = unwrap_or atime x.atime; mtime = unwrap_or mtime x.mtime; ctime = unwrap_or ctime x.ctime }

@@ -1,6 +1,6 @@
 -- Processes and their open file descriptions: POSIX.1-2017, Base Definitions (Process, Open File
 -- Description).
---     Descriptor, Process, Desks        an open file; a process; all processes
+--     Descriptor, Process, ProcessTable        an open file; a process; all processes
 --     new_process        a process as it begins
 --     cwd_of, standing_at        where its walks start
 --     descriptor, the_descriptor, with_descriptor, with_offset, least_unused        one descriptor of a process
@@ -40,7 +40,7 @@ new_process cred = record { cred = cred; umask = 18; cwd = root; second_cwd = ro
 abbrev pub cwd_of : Process → ℕ → ℕ
 cwd_of p k = if k == 1 then p.cwd else p.second_cwd
 
--- it stands in a directory, and its second walks start at another
+-- the process stands in a directory, and its second walks start at another
 abbrev pub standing_at : ℕ → ℕ → Process → Process
 standing_at directory second p = record p { cwd = directory; second_cwd = second }
 

@@ -1,5 +1,5 @@
 -- The checker's rules, each a predicate on an image, read from its bytes: our own layout.
---     IsPlaceOf        the first two: the superblock gives the disk this place; the commit is valid, as `IsValidCommit` says it
+--     IsGeometryOf        the first two: the superblock gives the disk this geometry; the commit is valid, as `IsValidCommit` says it
 --     ImageRule, rule_number        the others, and their numbers; they speak of the recovered image
 --     namings_in, namings        how many slots of one directory, and of all, name an inode
 --     IsBit, IsAllowed, IsGoodInode, IsLaidOut, HasAcls, IsGoodSlot, HasNameCount, HasParent, GoesUp        what single rules ask
@@ -32,7 +32,7 @@ use Rattle.fs_model.specs.StoredStamps.{stamps_in}
 
 -- ---- the superblock and the commit sector
 
--- Rule 1. The superblock is valid, it says that the disk has the sectors that it has, and gives it this place.
+-- Rule 1. The superblock is valid, it says that the disk has the sectors that it has, and gives it this geometry.
 pub record IsGeometryOf (sectors : ℕ) (image : SectorMap) (p : Geometry) : Type 0 where
   pub super : Super
   pub super_is : super_of (image 0) ≡ Ok super
@@ -161,7 +161,7 @@ pub data GoesUp (p : Geometry) (m : SectorMap) : ℕ → Type 0 where
 
 -- ---- all rules
 
--- those from the third on
+-- the rules from the third on
 pub data ImageRule : Type 0 where
   InodeBits Inodes InData OwnedOnce BlockBits LaidOut Acls Slots NamesApart Names Parents Ways : ImageRule
 
@@ -179,7 +179,7 @@ rule_number Names = 12
 rule_number Parents = 13
 rule_number Ways = 14
 
--- The recovered image m of a disk with this place obeys the rule at a number: that of an inode, but for rule 3 of a bit,
+-- The recovered image m of a disk with this geometry obeys the rule at a number: that of an inode, but for rule 3 of a bit,
 -- for 6 of a sector and for 7 of a bit. Numbers out of range obey.
 abbrev pub Obeys : Geometry → SectorMap → ImageRule → ℕ → Type 0
 Obeys p m InodeBits n = n < inode_map_bits p → IsBit p m n
@@ -196,11 +196,11 @@ Obeys p m Names n = n < p.inodes → HasNameCount p.version (inode_at p m n).kin
 Obeys p m Parents n = n < p.inodes → HasParent p m n
 Obeys p m Ways d = d < p.inodes → (inode_at p m d).kind ≡ kinds.Directory → GoesUp p m d
 
--- it obeys the rule at each number
+-- an image obeys the rule at each number
 abbrev pub ObeysEach : Geometry → SectorMap → ImageRule → Type 0
 ObeysEach p m r = (n : ℕ) → Obeys p m r n
 
--- it obeys each rule below number k
+-- an image obeys each rule below number k
 abbrev pub ObeysBefore : Geometry → SectorMap → ℕ → Type 0
 ObeysBefore p m k = (r : ImageRule) → rule_number r < k → ObeysEach p m r
 

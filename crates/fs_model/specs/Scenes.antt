@@ -45,7 +45,7 @@ pub record Effect : Type 0 where
 pub record Row : Type 0 where
   -- asked of the call alone
   pub arguments : List Demand
-  -- its paths, and how each is followed
+  -- the call's paths, and how each is followed
   pub walks : List (Form × List ℕ)
   -- asked of the process, after the path checks and before the walks
   pub early : Process → List Demand

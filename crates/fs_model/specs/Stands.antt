@@ -48,11 +48,11 @@ room_with version inodes sectors = record {
   keeps_times = keeps_times version;
 }
 
--- those of this disk
+-- the room of this disk
 abbrev pub room_of : Geometry → Room
 room_of p = room_with p.version p.inodes (p.sectors - p.first_data)
 
--- the same disk in another version
+-- the room of a disk in another version
 abbrev pub room_in : Version → Room → Room
 room_in version room = room_with version room.inodes room.sectors
 

@@ -76,7 +76,7 @@ scene_of s p row = record {
 abbrev pub early_refusal : Process → Row → Demand
 early_refusal p row = first_of (row.arguments ++ flat_map (λ walk. path_checks walk.1) row.walks ++ row.early p)
 
--- its walks, and what it asks of what they have found
+-- the call's walks, and what it asks of what they have found
 abbrev pub late_refusal : State → Process → Row → Demand
 late_refusal s p row = first_of (walk_refusals s.room s.tree p 1 row.walks ++ row.demands (scene_of s p row))
 
@@ -220,13 +220,13 @@ pub record Acts (s : State) (e : Event) (choice : Choice) : Type 0 where
   pub late : other_refusal s e ≡ None
   pub allowed : IsAllowedChoice s e choice
 
--- the desks as they were, or as the event leaves them; no later reply shows which
+-- the processes as they were, or as the event leaves them; no later reply shows which
 abbrev pub HaltedProcesses : State → Event → Choice → ProcessTable → Type 0
 HaltedProcesses s e choice processes = (processes ≡ s.processes) ⊎ (processes ≡ (after s e choice).processes)
 
 -- From old, the machine may give this reply to an event and go on to new.
 pub data Answers (old : State) (e : Event) (reply : Reply) (new : State) : Type 0 where
-  -- it is halted: EIO, and nothing changes
+  -- the machine is halted: EIO, and nothing changes
   is_halted : IsTrue old.halted → reply ≡ Refused (Failed EIO) → new ≡ old → Answers old e reply new
   -- the first refusal in order, and nothing changes
   refuses_early : IsFalse old.halted → (r : Refusal) → firm_refusal old e ≡ Some r

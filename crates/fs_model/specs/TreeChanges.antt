@@ -75,7 +75,7 @@ touches_of t (TakeName dir name) = (dir, Modified) ∷ changed_at (lookup t dir 
 touches_of t (MoveName dir name to_dir to_name) =
     (dir, Modified) ∷ (to_dir, Modified) ∷ (changed_at (lookup t dir name) ++ changed_at (lookup t to_dir to_name))
 
--- those, on a disk that keeps times
+-- the times that a change moves, on a disk that keeps times
 abbrev pub touches : Room → Tree → Change → List (ℕ × Touch)
 touches room t Same = []
 touches room t change = if room.keeps_times then touches_of t change else []

@@ -45,7 +45,7 @@ impl<Role> Model for ByteString<Role> {
 impl<Role> ByteString<Role> {
     ghost use Rattle.fs_layout.specs.Bytes.{IsBytes};
 
-    /// These bytes.
+    /// A string of these bytes.
     pub fn new(bytes: Vec<u8>) -> ByteString<Role>
         ensures { result ≡ bytes.items }
     {

@@ -24,6 +24,7 @@ pub struct Flags {
     pub nofollow: bool,
     /// O_DIRECTORY: refuse what is no directory.
     pub directory: bool,
+    // What is opened is opened to read or to write. The proof of that takes no room.
     pub ghost opens: { IsTrue (read || write) },
 }
 
@@ -119,7 +120,7 @@ pub enum Call {
 }
 
 impl Call {
-    /// Lets go of it.
+    /// Lets go of a call.
     ///
     /// Who has done with a value of many kinds calls this: so the going of each kind is proved here, and not in each crate again.
     pub fn discard(self) {

@@ -51,7 +51,7 @@ pub enum Event {
 }
 
 impl Event {
-    /// Lets go of it, as [`Call::discard`] does of a call.
+    /// Lets go of an event, as [`Call::discard`] does of a call.
     pub fn discard(self) {
         mem::drop(self);
     }
@@ -75,7 +75,7 @@ pub enum EventReply {
     Armed,
     /// The disk is mounted again.
     Mounted,
-    /// It is not.
+    /// The disk is not mounted again.
     MountFailed(RestartFault),
     /// No file system is mounted.
     Down,

@@ -86,7 +86,7 @@ pub struct Stamps {
 /// The answer to a call, or to an event that is asked of the file system.
 #[derive(Drop)]
 pub enum Reply {
-    /// It is done, and there is no more to say.
+    /// What was asked is done, and there is no more to say.
     Done,
     /// A new process has this number.
     Pid(usize),
@@ -116,7 +116,7 @@ pub enum Reply {
 }
 
 impl Reply {
-    /// Lets go of it, as [`Call::discard`](crate::Call::discard) does of a call.
+    /// Lets go of a reply, as [`Call::discard`](crate::Call::discard) does of a call.
     pub fn discard(self) {
         mem::drop(self);
     }

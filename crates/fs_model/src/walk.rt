@@ -5,11 +5,11 @@ use crate::bytes::Name;
 /// followed.
 #[derive(Clone, Copy)]
 pub enum Form {
-    /// It is followed.
+    /// The link is followed.
     Follow,
-    /// It is followed only where the path ends in a slash.
+    /// The link is followed only where the path ends in a slash.
     NoFollow,
-    /// It is never followed: the call is for a name in a directory, and the slash is only told of.
+    /// The link is never followed: the call is for a name in a directory, and the slash is only told of.
     Parent,
 }
 

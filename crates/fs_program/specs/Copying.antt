@@ -42,7 +42,7 @@ abbrev pub kept_end : Copied → Reply → Result Status Failure
 kept_end copied replies.Done = Ok (copied_status copied)
 kept_end copied reply = Err failures.Unmount
 
--- the same of a copy that may have failed
+-- the end of a copy that may have failed
 abbrev pub copy_end : (CopyFault → Failure) → Result Copied CopyFault → Reply → Result Status Failure
 copy_end failure (Err fault) reply = Err (failure fault)
 copy_end failure (Ok copied) reply = kept_end copied reply

@@ -108,7 +108,7 @@ pub data CheckEnds (old now : DiskState) (explain : Bool) (w : Writing) (result 
 -- A disk is to say of itself what it does, a line each or as JSON.
 pub data InfoEnds (old now : DiskState) (json : Bool) (w : Writing) (result : Result Status Failure) : Type 0 where
   says : (info : Info) → IsInfo old info → Tells w (info_text json info) Done result → InfoEnds old now json w result
-  -- it is no file system, its commit is damaged, or the device failed
+  -- the disk is no file system, its commit is damaged, or the device failed
   says_nothing : (fault : InfoFault) → IsInfoReason old now fault → IsUndone w (failures.Info fault) result
       → InfoEnds old now json w result
 

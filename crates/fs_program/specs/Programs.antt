@@ -51,7 +51,7 @@ Fails ran untouched NotCreated = untouched
 Fails ran untouched (Mkfs fault) = (fault ≡ DiskFault) × untouched
 Fails ran untouched (Mount fault) = IsOfRestart fault × untouched
 Fails ran untouched (Run fault) = ran fault
--- those of files, and of the kernel
+-- the failures of files, and of the kernel
 Fails ran untouched Exists = ⊥
 Fails ran untouched NotOpened = ⊥
 Fails ran untouched NoScript = ⊥

@@ -20,7 +20,7 @@ use Rattle.fs_shell.specs.Scripts.{script_limit, IsTaken, LineRead, IsOver}
 use Rattle.fs_shell.specs.Runs.{answer_text, answers_text, faults_counted, count_faults, LineAnswers, LinePerformed, ScriptAnswers, no_line, a_line, Finished, EndedEarly, Ran}
 use Rattle.fs_shell.proofs.Cut.{cut_answers}
 
--- these lines have been taken from an input, and what is left has the others
+-- some lines have been taken from an input, and what is left has the others
 abbrev pub AreTaken : List (List ℕ) → Option (List ℕ) → Option (List ℕ) → Type 0
 AreTaken lines None left = Unit {0}
 AreTaken lines (Some xs) None = ⊥
@@ -179,7 +179,7 @@ goes_over (Some xs) (Some ys) text given took count over =
     let whole : length xs ≡ length (text ++ ys) = ap length took in
     omega (arith, length-append text ys)
 
--- it ends early
+-- the run ends early
 pub ends_early : {D : Type 0} (state : D → DiskState) (input left before after later : Option (List ℕ)) (given : ℕ) (count : Count) (old now : System D) (fault : RunFault)
     → Running state input left before after given count old now → (fault ≡ TooMuch → IsOver left given)
     → Runs state input before later old now (Err fault)

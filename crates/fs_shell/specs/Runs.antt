@@ -52,13 +52,13 @@ count_faults (answer ∷ answers) = faults_counted answer + count_faults answers
 
 -- A line gets this answer, and the event that is performed for it this reply; or none is performed.
 pub data LineAnswers (line : List ℕ) : Answer → List Event → List EventReply → Type 0 where
-  -- it asks for nothing
+  -- the line asks for nothing
   is_blank : LineSays line (Ok Blank) → LineAnswers line Nothing [] []
   -- something is wrong with it
   is_faulty : (fault : LineFault) → LineSays line (Err fault) → LineAnswers line (Fault fault) [] []
   -- memory runs out over its words
   lacks_memory : has_words line ≡ true → LineAnswers line (Fault OutOfMemory) [] []
-  -- it is performed
+  -- the event is performed
   is_performed : (e : Event) (reply : ReplyType) → LineSays line (Ok (Asks e)) → LineAnswers line (Reply reply) (e ∷ []) (Replies reply ∷ [])
 
 -- A line gets this answer, and what is performed for it takes a file system from old to new.
@@ -83,7 +83,7 @@ pub record Finished (input : Option (List ℕ)) (before after : Option (List ℕ
   pub faults_counted : count.faults ≡ count_faults answers
   pub fits : IfSome input (λ xs. length xs ≤ script_limit)
 
--- It ended early: after some of the lines.
+-- The script ended early: after some of the lines.
 pub record EndedEarly (input : Option (List ℕ)) (lines : List (List ℕ)) (fault : RunFault) : Type 0 where
   pub rest : List (List ℕ)
   pub first_lines : IfSome input (λ xs. lines_of xs ≡ lines ++ rest)

@@ -28,7 +28,7 @@ pub enum Answer {
 pub struct Count {
     /// All lines, blank ones and comments too.
     pub lines: usize,
-    /// Those that were answered with a fault.
+    /// The lines that were answered with a fault.
     pub faults: usize,
 }
 

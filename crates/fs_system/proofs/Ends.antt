@@ -123,7 +123,7 @@ running_same size size' p old new processes processes' s sized same tabled r =
       };
     }
 
--- the same tree with other processes
+-- a running system with other processes
 pub running_with : (size : ℕ) (p : Geometry) (map : SectorMap) (processes processes' : ProcessTable) (s : State) → IsState (record s { processes = processes' })
     → IsRunning size p map processes s → IsRunning size p map processes' (record s { processes = processes' })
 running_with size p map processes processes' s is r = record {
@@ -138,7 +138,7 @@ running_with size p map processes processes' s is r = record {
   };
 }
 
--- the same at another time
+-- a running system at another time
 pub running_at : (size : ℕ) (p : Geometry) (map : SectorMap) (processes : ProcessTable) (time : ℕ) (s : State) → IsState (record s { now = time })
     → IsRunning size p map processes s → IsRunning size p map processes (record s { now = time })
 running_at size p map processes time s is r = record {

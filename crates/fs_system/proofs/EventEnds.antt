@@ -61,7 +61,7 @@ write_failed_later old mid new none failed = ⊎_elim (λ more. inl (omega (arit
 
 module _ (old : DiskState) (only_now : (image : Image) → old.left_since old.moment image → IsImage old image)
     (p : Geometry) (map : SectorMap) (processes : ProcessTable) (s : State) (r : IsRunning old.size p map processes s) (e : Event) where
-  -- it acts, on a map with the same data, and the commit leaves `new`
+  -- the event acts, on a map with the same data, and the commit leaves `new`
   module _ (before now_map : SectorMap) (same : SameMap before map) (super : now_map 0 ≡ before 0)
       (mid new : DiskState) (reads : OnlyReads old mid) (run : LeavesOneOf before now_map mid new) (later : mid.failures ≤ new.failures)
       (now : ProcessTable) (reply : Reply) (at : IsStateOf p before processes s) (d : IsPerformed p now_map now s e reply) where

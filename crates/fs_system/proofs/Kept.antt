@@ -74,7 +74,7 @@ module _ {D : Type 0} (state : D → DiskState) (p : Geometry) (store : StoreVie
       (running_same (state store.disk).size (state store.disk).size p (present state store) (map_now state begun) processes processes s refl map refl r).state_of
 
   module _ (last : TxnView D) (same : SameStore (txn_state state begun) (txn_state state last)) where
-    -- it began with the store's map
+    -- the transaction began with the store's map
     before_is_store : SameMap (map_before state last) (present state store)
     before_is_store n part = same.before n ∙ before n part
 
@@ -93,7 +93,7 @@ module _ {D : Type 0} (state : D → DiskState) (p : Geometry) (store : StoreVie
           → LeavesOneOf (map_now state begun) (map_now state last) (state last.disk) new
       run new images = maps_same before_is_begun (λ n part. refl) images
 
-      -- its changes were kept
+      -- the changes of the transaction were kept
       pub kept_does : (after : StoreView D) → SameMap (present state after) (map_now state last)
           → LeavesOneOf (map_before state last) (map_now state last) (state last.disk) (state after.disk)
           → (state last.disk).failures ≤ (state after.disk).failures → (state after.disk).failed_writes ≡ (state last.disk).failed_writes

@@ -42,7 +42,7 @@ err_of (Err errno) = errno
 -- ---- from one system to the next
 
 module _ {D : Type 0} (state : D → DiskState) where
-  -- it is in some state again
+  -- the file system is in some state again
   pub system_then : (old new : System D) (e : Event) (reply : Reply) → Happens state old new e reply → IsSystem state old
       → EachStandsForSome (disk_in state new.base) → IsSystem state new
   system_then old new e reply happens was may =
@@ -321,7 +321,7 @@ module _ {D : Type 0} (state : D → DiskState) where
         seen_so : record { base = Some (Ok before); geometry = geometry; processes = procs; time = time } ≡ fs
         seen_so = ap (λ (b : Base D). record { base = b; geometry = geometry; processes = procs; time = time }) (sym is) ∙ view_is
 
-        -- it goes on in some state
+        -- the file system goes on in some state
         pub store_runs : IsSystem state (record { base = base; geometry = geometry; processes = procs; time = time })
             → (s : State) × IsRunning (state before.disk).size geometry (present state before) procs s
         store_runs was =

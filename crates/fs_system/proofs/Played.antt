@@ -151,7 +151,7 @@ module _ {D : Type 0} (state : D → DiskState) where
               (arms_up disk there.0 s k (same_there disk there.0 is.0 there.1) (later_there disk there.0 is.0 there.1)),
         )
 
-    -- its disk lets go of its past, and then it goes on
+    -- the disk of what is served lets go of its past, and then it goes on
     pub forgotten_then : (served : Result (System D) D) (es : List Event) (rs : List EventReply) → Plays state (Ok new) es rs served → Plays state (Ok old) es rs served
     forgotten_then served es rs then (Off disk) is = absurd is
     forgotten_then served es rs then (Up s disk) is =

@@ -41,7 +41,7 @@ counted_tells size p map processes s r free all clear = record {
       ∙ ap (λ (k : Geometry). count_by (λ n. not (bit map k.inode_bitmap n)) (range_with_len 0 k.inodes)) (one_geometry size map q p on.disk_is r.disk_is) ∙ sym clear;
 }
 
--- It is so of the same map.
+-- What is told of the free space holds of the same map.
 pub tells_after : (size size' : ℕ) (old new : SectorMap) (free : FreeSpace) → size' ≡ size → SameMap new old → TellsSpace size old free → TellsSpace size' new free
 tells_after size size' old new free sized same told = record {
   sectors = λ p processes s r. told.sectors p processes s (running_same size' size p new old processes processes s (sym sized) (same_back new old same) refl r);

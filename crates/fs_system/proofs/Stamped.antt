@@ -123,7 +123,7 @@ module _ {p : Geometry} {map : SectorMap} {processes : ProcessTable} {s : State}
       go (Some node) e = record { node = node; there = e; held = held_node (state_tree at) n node e }
 
   module _ (h : Here) where
-    -- its times then
+    -- the times of the inode then
     abbrev then : Stamps
     then = kept_stamps s.room h.node.stamps (stamped atime mtime ctime h.node.stamps)
 

@@ -27,7 +27,7 @@ pub record IsServed (reply : Reply) : Type 0 where
   pub memory : reply ≢ Refused (Failed ENOMEM)
   pub disk : reply ≢ Refused (Failed EIO)
 
--- the same inodes are in use, and as many data sectors are free
+-- two states have the same inodes in use, and as many data sectors free
 pub record MayBeChosenAlike (s t : State) : Type 0 where
   pub numbers : (n : ℕ) → is_some (node_at s.tree n) ≡ is_some (node_at t.tree n)
   pub free : s.free ≡ t.free
@@ -42,7 +42,7 @@ pub record BothAnswered {D E : Type 0} (state : D → DiskState) (other : E → 
   pub alike : MayBeChosenAlike first second → AnswerAlike pid reply reply' first second
   pub confined : (q : Process) → get nat_cmp first.processes pid ≡ Some q → IsConfined q.cred
 
--- The same call, fsync or exit of a process happens on two file systems that are alike to it, and neither fails.
+-- A call, an fsync or the exit of a process happens on two file systems that are alike to it, and neither fails.
 abbrev pub UnreadableBytesDoNotShow : {D E : Type 0} → (D → DiskState) → (E → DiskState) → Type 0
 UnreadableBytesDoNotShow {D} {E} state other =
     (pid : ℕ) (p : Process) (s t : State) (old new : System D) (old' new' : System E) (e : Event) (reply reply' : Reply)

@@ -36,7 +36,7 @@ pub record Does (before now : DiskState) (old : State) (e : Event) (reply : Repl
   pub synced : IsTrue (makes_stable e reply) → EachStandsFor new.room now new.tree
   -- EIO is answered only where the device failed, or where the machine is halted
   pub cause : IsTrue (is_io_error reply) → IsFalse old.halted → HasFailed before now
-  -- it halts only where a write or a sync failed
+  -- the machine halts only where a write or a sync failed
   pub halts : IsFalse old.halted → IsTrue new.halted → HasFailedToWrite before now
   -- where it isn't halted then, no write and no sync has failed
   pub unhalted : IsFalse new.halted → now.failed_writes ≡ before.failed_writes
@@ -51,11 +51,11 @@ abbrev pub Happens : {D : Type 0} → (D → DiskState) → System D → System 
 Happens state old new e reply =
     (s : State) → IsIn state old s → (t : State) × IsIn state new t × Does (disk_in state old.base) (disk_in state new.base) s e reply t
 
--- the same of its last event, after which there is the disk alone
+-- the last event of a file system happened so, after which there is the disk alone
 abbrev pub HappensLast : {D : Type 0} → (D → DiskState) → System D → D → Event → Reply → Type 0
 HappensLast state old now e reply = (s : State) → IsIn state old s → (t : State) × Does (disk_in state old.base) (state now) s e reply t
 
--- The same of an event that makes all stable, where nothing that is asked first refuses it.
+-- An event that makes all stable happened in each state in which nothing that is asked first refuses it.
 abbrev pub FlushesFor : {D : Type 0} → (D → DiskState) → System D → System D → Event → Reply → Type 0
 FlushesFor state old new e reply =
     IsTrue (asks_stable e) → (s : State) → IsIn state old s → firm_refusal s e ≡ None

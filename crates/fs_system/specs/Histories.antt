@@ -51,7 +51,7 @@ pub data Goes {D : Type 0} (state : D → DiskState) : Config D → Event → Ev
   fails : (c : Config D) (mid now : D) (fault : RestartFault) (bytes : List ℕ) (arm : Option ℕ) → Stopped (state (device c)) (state mid)
       → FailsToMount (state mid) (state now) fault → Goes state c (Restart bytes arm) (MountFailed fault) (Off now)
 
--- the same file system, or none, on a disk that has let go of its past
+-- a file system as it was, or none, on a disk that has let go of its past
 abbrev pub on_disk : {D : Type 0} → Config D → D → Config D
 on_disk (Up s disk) now = Up s now
 on_disk (Off disk) now = Off now

@@ -26,7 +26,7 @@ abbrev pub stamped_reply : Result Stamps Errno → Reply
 stamped_reply (Ok stamps) = Stamped stamps
 stamped_reply (Err e) = Refused (Failed e)
 
--- it is asked for a sync
+-- an unmount is answered as a sync is
 abbrev pub unmounted : Option Errno → Reply
 unmounted None = Done
 unmounted (Some e) = Refused (Failed e)

@@ -45,7 +45,7 @@ pub record IsRunning (size : ℕ) (p : Geometry) (map : SectorMap) (processes : 
   pub disk_is : IsDiskOf size p map
   pub state_of : IsStateOf p map processes s
 
--- It goes on in this state, at this time, or is halted. Of a halted one nothing more is known.
+-- A file system goes on in this state, at this time, or is halted. Of a halted one nothing more is known.
 abbrev pub IsOn : {D : Type 0} → (D → DiskState) → Geometry → ℕ → ProcessTable → Base D → State → Type 0
 IsOn state p time processes None s = ⊥
 IsOn state p time processes (Some (Ok store)) s = IsRunning (state store.disk).size p (present state store) processes s × (s.now ≡ time)
@@ -55,6 +55,6 @@ IsOn state p time processes (Some (Err broken)) s = IsTrue s.halted
 abbrev pub IsIn : {D : Type 0} → (D → DiskState) → System D → State → Type 0
 IsIn state fs s = IsOn state fs.geometry fs.time fs.processes fs.base s
 
--- it is in some state
+-- the file system is in some state
 abbrev pub IsInSomeState : {D : Type 0} → (D → DiskState) → System D → Type 0
 IsInSomeState state fs = (s : State) × IsIn state fs s

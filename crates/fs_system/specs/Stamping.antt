@@ -27,7 +27,7 @@ pub record IsStamped (p : Geometry) (map : SectorMap) (s : State) (n : ℕ) (ati
   pub reply : (after s (Stamp n atime mtime ctime) (chosen 0 0)).reply ≡ Stamped stamps
   pub holds : HoldsAll p map (placed (tree_after s (after s (Stamp n atime mtime ctime) (chosen 0 0))))
 
--- It is refused: the inode isn't there, or a read failed.
+-- Stamping is refused: the inode isn't there, or a read failed.
 pub data IsNotStamped (old new : DiskState) (s : State) (n : ℕ) (atime mtime ctime : Option ℕ) (e : Errno) : Type 0 where
   absent : other_refusal s (Stamp n atime mtime ctime) ≡ Some (Failed e) → IsNotStamped old new s n atime mtime ctime e
   read_fails : HasFailed old new → e ≡ EIO → IsNotStamped old new s n atime mtime ctime e

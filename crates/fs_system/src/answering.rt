@@ -95,7 +95,7 @@ impl<D: Disk + Drop> Fs<D> {
         self.answer(event)
     }
 
-    /// The same of a call of a process.
+    /// Lets the disk forget its past, and then answers a call of a process.
     pub fn serve_call(&mut self, pid: usize, call: &Call) -> Reply
         ensures { Plays D.state (Ok self.old) (Calls pid call.now ∷ []) (Replies result ∷ []) (Ok self.new) }
     {
@@ -103,7 +103,7 @@ impl<D: Disk + Drop> Fs<D> {
         self.call(pid, call)
     }
 
-    /// The same of a new process, which gets a copy of this credential.
+    /// Lets the disk forget its past, and then begins a process, which gets a copy of this credential.
     pub fn serve_spawn(&mut self, cred: &Cred) -> Reply
         ensures { Plays D.state (Ok self.old) (Spawn cred.now ∷ []) (Replies result ∷ []) (Ok self.new) }
     {

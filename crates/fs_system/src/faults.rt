@@ -30,7 +30,7 @@ pub enum PlayFault {
     /// The disk was not mounted.
     #[error("Mount {0}")]
     Mount(MountFault),
-    /// It was mounted, and there was no memory for the replies.
+    /// The disk was mounted, and there was no memory for the replies.
     #[error("OutOfMemory")]
     OutOfMemory,
 }

@@ -56,7 +56,7 @@ impl<D: Disk> Model for Fs<D> {
 
     ghost view = { λ fs. record { base = fs.base; geometry = fs.geometry; processes = fs.procs; time = fs.time } };
 
-    // It is in some state, and a stop leaves what may be mounted.
+    // A file system is in some state, and a stop leaves what may be mounted.
     ghost invariant = { λ fs. IsSystem D.state (record { base = fs.base; geometry = fs.geometry; processes = fs.procs; time = fs.time }) };
 }
 

@@ -97,7 +97,7 @@ IsFailure (Err e, s) = Unit {0}
 record Clean {X : Type 0} (w : Work X) : Type 0 where
   at : (s : Server) → SparesFailures IsFailure (w s)
 
--- it doesn't fail
+-- a piece of work doesn't fail
 record Sure {X : Type 0} (w : Work X) : Type 0 where
   at : (s : Server) → AllEnd (λ r. IsFailure r → ⊥) (w s)
 

@@ -102,7 +102,7 @@ module _ (r : Asked) (c : AttrChanges) where
       asks->>= (asks-needed _ r.cred) (λ cred.
       asks->>= (asks-may_set_times pid n link _) (λ may. asks-set_stamps r.now n status told)))
 
-  -- those that are given, or none
+  -- the owners that are given, or none
   gives-new_owners : (n : ℕ) (link : Bool) → Gives (AreGiven c) (new_owners c n link)
   gives-new_owners n false = gives-give _ (record { owner = λ is. is; group = λ is. is })
   gives-new_owners n true =

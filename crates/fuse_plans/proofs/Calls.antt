@@ -33,12 +33,12 @@ CanCall rights P pid call = (known : Known) (s : Server) → Fits rights P known
 abbrev pub IsPathOf : (List ℕ → Call) → Type 0
 IsPathOf call = (path : List ℕ) → path_kept (call path) ≡ Some path
 
--- the object of the request, whose places are ones that may be used
+-- the object of the request, whose dentries are ones that may be used
 pub record About (rights : Rights) (P : Server → Type 0) (n : ℕ) : Type 0 where
   pub object : IsObject rights.subject n
   pub places : (s : Server) → P s → All (IsOfRequest rights.subject) (places_of s n)
 
--- by this place, what is acted on is of the request
+-- by this dentry, what is acted on is of the request
 abbrev pub ActsAt : Subject → Option ℕ → (List ℕ → Call) → Dentry → Type 0
 ActsAt r second call p = ActsWithin r p.directory (unwrap_or second p.directory) (call p.name)
 
@@ -262,7 +262,7 @@ module _ {rights : Rights} {P : Server → Type 0} where
       found known s fits None is = fits-any fits
       found known s fits (Some pid) is = (rest pid (sym fits.server_process ∙ is)).goes known s fits
 
-  -- it may look
+  -- the server's own process may look
   pub looks : (pid : ℕ) → rights.server_process ≡ Some pid → (call : Call) → IsTrue (only_looks call) → CanCall rights P pid call
   looks pid is call only known s fits = as_server_process is only
 
@@ -301,7 +301,7 @@ pub is-object : (rights : Rights) (node : ℕ) → AsksOf rights node → (n : �
 is-object rights node asks n was = subst (λ k. number_of_node rights.subject.start k ≡ Some n) (sym asks) was
 
 module _ {rights : Rights} where
-  -- where names are as they were, each place is a known one
+  -- where names are as they were, each dentry is a known one
   pub known-places : {s : Server} → Still rights s → (n : ℕ) → All (IsKnownPlace rights.subject.start n) (places_of s n)
   known-places {s} still n =
       All-same (IsKnownPlace rights.subject.start n) (places_of s n) (places_of rights.subject.start n) (still-places still n)

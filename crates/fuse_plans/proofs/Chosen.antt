@@ -50,7 +50,7 @@ twice_chosen : {X : Type 0} (test other : X → Bool) (y x : X) (rest : List X) 
 twice_chosen test other y x rest true passes is later = first_of_either test y x (filter other rest) (other y) passes is later
 twice_chosen test other y x rest false fails is later = later is
 
--- the same where others are left out before
+-- the first that passes, where others are left out before
 twice-passes : {X : Type 0} (test other : X → Bool) (xs : List X) (x : X) → head_of (filter other (filter test xs)) ≡ Some x → test x ≡ true
 twice-passes test other [] x is = absurd (let none : None ≡ Some x = is in cc)
 twice-passes test other (y ∷ ys) x is = twice_chosen test other y x (filter test ys) (test y) refl is (twice-passes test other ys x)
@@ -88,7 +88,7 @@ pub record MayOpen (rights : Rights) (pid : ℕ) (s : Server) : Type 0 where
   pub there : get nat_cmp s.processes pid ≡ Some cred
   pub room : WithinShares rights.subject.start → holds_some s pid ≡ false → may_take_process s cred.uid ≡ true
 
--- such a one of who asks
+-- a process of who asks that holds descriptors, or may hold some
 pub record OfOpener (rights : Rights) (pid : ℕ) (s : Server) : Type 0 where
   pub caller : OfCaller rights pid s
   pub may : MayOpen rights pid s

@@ -84,7 +84,7 @@ still-number {rights} {s} still node =
     ap (λ k. number_of_node (record s { kinds = k }) node) still.kinds
     ∙ ap (λ g. number_of_node (record s { kinds = t.kinds; generations = g }) node) still.generations
 
--- and an object has the places that it had
+-- and an object has the dentries that it had
 pub still-places : {rights : Rights} {s : Server} → Still rights s → (n : ℕ) → places_of s n ≡ places_of rights.subject.start n
 still-places {rights} {s} still n = ap (λ l. places_in l n) still.names
 
@@ -110,7 +110,7 @@ LeftTo rights Q F known (Err e, s) = Fits rights Any known s
 pub record DoesTo (rights : Rights) {X : Type 0} (Q : X → Server → Type 0) (F : X → Type 0) (w : Work X) : Type 0 where
   pub goes : (known : Known) (s : Server) → Fits rights (Still rights) known s → KeepsTo (conduct rights) (LeftTo rights Q F) known (w s)
 
--- the same, where what the server knows stays
+-- work keeps to its conduct, where what the server knows stays
 abbrev pub Gives : (rights : Rights) {X : Type 0} → (X → Type 0) → Work X → Type 0
 Gives rights F w = DoesTo rights (λ x. Still rights) F w
 
@@ -243,7 +243,7 @@ module _ {rights : Rights} {P : Server → Type 0} where
   unfolding ask
   does-stamp n atime mtime ctime may = record { goes = λ known s fits. ((subst IsHome (sym fits.home) tt, may), λ reply. fits) }
 
-  -- those of each object may be asked for
+  -- the times of each object may be asked for
   pub does-told_stamps : (n : ℕ) → Does rights P (told_stamps n)
   unfolding told_stamps
   does-told_stamps n = does->>= (does-kept _) tells
@@ -303,7 +303,7 @@ module _ {rights : Rights} where
   unfolding fail
   gives-fail e = record { goes = λ known s fits. fits-any fits }
 
-  -- where it is told whether the first stopped
+  -- where it is told whether the first failed
   pub attempt-does_to : {X Y : Type 0} {F : X → Type 0} {R : Y → Server → Type 0} {G : Y → Type 0} {w : Work X} (f : Result X RequestError → Work Y)
       → Gives rights F w → ((x : X) → F x → DoesTo rights R G (f (Ok x)))
       → ((e : RequestError) (known : Known) (s : Server) → Fits rights Any known s → KeepsTo (conduct rights) (LeftTo rights R G) known (f (Err e) s))

@@ -40,7 +40,7 @@ module _ {rights : Rights} {P : Server → Type 0} where
   does-when true w first = first
   does-when false w first = does-give tt
 
-  -- it may be known that it is so
+  -- the work may know that the condition is met
   pub does-when_so : (b : Bool) (w : Work (Unit {0})) → (IsTrue b → Does rights P w) → Does rights P (when b w)
   does-when_so true w first = first refl
   does-when_so false w first = does-give tt

@@ -95,7 +95,7 @@ true-or false b is = is
 
 -- ---- pieces
 
--- By such events, what is told of the value or the stop holds then, and the server's own process stays.
+-- By such events, what is told of the value or the error holds then, and the server's own process stays.
 module _ (who : Event → Bool) (what : Reply → Bool) (server_process : Option ℕ) where
   abbrev Ends : {X : Type 0} → (Bool → Result X RequestError → Type 0) → Bool → Result X RequestError × Server → Type 0
   Ends T m r = T m r.0 × (r.1.server_process ≡ server_process)
@@ -140,7 +140,7 @@ module _ (who : Event → Bool) (what : Reply → Bool) (server_process : Option
   unfolding kept ◌>>=◌
   goes-kept g rest = record { goes = λ m s holds own. (rest (g s)).goes m s holds own }
 
-  -- where it is told whether the first stopped
+  -- where it is told whether the first failed
   goes-attempt : {P : Bool → Type 0} {X Y : Type 0} {T : Bool → Result X RequestError → Type 0} {U : Bool → Result Y RequestError → Type 0} {w : Work X} {f : Result X RequestError → Work Y}
       → Goes P T w → ((r : Result X RequestError) → Goes (λ m. T m r) U (f r)) → Goes P U (attempt w >>= f)
   unfolding attempt ◌>>=◌
@@ -265,7 +265,7 @@ module _ (who : Event → Bool) (what : Reply → Bool) (server_process : Option
       (λ n. goes-kept _ (λ kind. goes-if (is_known_directory kind) _ _ (goes-give n (λ m any. tt)) (goes-fail _ (λ m any. tt))))
       (λ m e told. tt)
 
-  -- such a reply was seen
+  -- a reply of that kind was seen
   abbrev Noted : Bool → Result Reply RequestError → Type 0
   Noted m (Ok reply) = what reply ≡ true → m ≡ true
   Noted m (Err e) = Unit {0}
@@ -324,7 +324,7 @@ same_number n = grind (arith, nat_tests)
 -- ---- a look-up by the server's own process
 
 module _ (server_process : Option ℕ) where
-  -- a stop for access was replied to it
+  -- an error for access was replied to it
   abbrev Blamed : {X : Type 0} → Bool → Result X RequestError → Type 0
   Blamed m (Ok x) = Unit {0}
   Blamed m (Err e) = IsTrue (is_for EACCES e) → m ≡ true
@@ -382,7 +382,7 @@ module _ (server_process : Option ℕ) where
   unfolding ask
   blames-ask e = record { goes = λ m s any own. (tt, λ reply. (tt, own)) }
 
-  -- no stop is for access
+  -- no error is for access
   blames-told_stamps_if : (keeps : Bool) (n : ℕ) → Blames (told_stamps_if keeps n)
   blames-told_stamps_if false n = goes-give _ _ _ None (λ m any. tt)
   blames-told_stamps_if true n =
@@ -397,7 +397,7 @@ module _ (server_process : Option ℕ) where
   unfolding keep kept ◌>>=◌
   blames-tell p status f = record { goes = λ m s any own. (tt, (found-same p status.inode status.kind s).1 ∙ own) }
 
-  -- what stopped stops, or is told as absent
+  -- what failed fails, or is told as absent
   blames-found_or_absent : (nobody : Bool) (d : ℕ) (name : List ℕ) (seen : Result Status RequestError)
       → Goes (is_by server_process) denies server_process (λ m. Blamed m seen) Blamed (found_or_absent nobody d name seen)
   blames-found_or_absent nobody d name (Ok status) =
@@ -451,7 +451,7 @@ acl_hides (Some acl) = hides acl
 abbrev shows_acl : Reply → Bool
 shows_acl reply = acl_hides (acl_of_reply reply)
 
--- it was with_found to be one
+-- a directory is told as masked only where such a reply was seen
 abbrev Masked : Bool → Result Bool RequestError → Type 0
 Masked m (Ok b) = b ≡ true → m ≡ true
 Masked m (Err e) = Unit {0}

@@ -250,7 +250,7 @@ plain-plan r value Unknown is = so-fail _
 
 -- ---- work that asks nothing
 
--- it changes nothing, and F holds of its value
+-- a piece of work changes nothing, and F holds of its value
 abbrev OnceAt : {X : Type 0} → (X → Type 0) → Server → Plan (Result X RequestError × Server) → Type 0
 OnceAt F s (Finish (Ok x, t)) = F x × (t ≡ s)
 OnceAt F s (Finish (Err e, t)) = t ≡ s

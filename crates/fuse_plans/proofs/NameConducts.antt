@@ -75,7 +75,7 @@ module _ {rights : Rights} {P : Server → Type 0} where
   does-tell_entry : (name_valid : ℕ) (status : Status) (stamps : Option Stamps) → Does rights P (tell_entry name_valid status stamps)
   does-tell_entry name_valid status stamps = does-kept _
 
-  -- what was with_found, made or opened is told, and no more is asked
+  -- what was found, made or opened is told, and no more is asked
   tells-entry : (f : Server → Server) → SameOwn f → (body : Server → ReplyBody) → Lasts rights P (keep f >> kept body)
   tells-entry f same body = ends->>= (ends-keep f same) (λ done. does-kept _)
 

@@ -103,7 +103,7 @@ run->>= {X} {Y} G grows w f s t es replies y runs goes =
     ended (Ok x, u) first after replied rest ran go = goes x u first replied after rest ran go
     ended (Err e, u) first after replied rest ran go = absurd (fails_not_well e y u t after rest go)
 
--- It is told the time, or not; and the rest goes on from what the server kept.
+-- The machine is told the time, or not; and the rest goes on from what the server kept.
 pub run-told : {X : Type 0} (G : List Event → List Reply → Type 0) (now : Time) (w : Work X) (s t : Server) (es : List Event) (replies : List Reply) (x : X)
     → EndsWell ((tell_time now >> w) s) es replies x t
     → ((first : List Event) (replied : List Reply) (after : List Event) (rest : List Reply) → IsRunOf (tell_time now s) first replied (Ok tt, s)
@@ -178,7 +178,7 @@ empties pid fd true x s t (e ∷ es) (reply ∷ replies) runs =
     let ends = cuts_end pid fd x s t reply es replies runs.1 in
     record { alone = subst (λ l. All (λ f. f ≡ cut pid fd) (e ∷ l)) (sym ends.0) (All-cons (λ f. f ≡ cut pid fd) e [] runs.0 (All-nil (λ f. f ≡ cut pid fd))); stays = ends.1 }
 
--- it is shown, and is the object
+-- what is open is shown, and is the object
 record Confirmed (pid fd n : ℕ) (s t : Server) (es : List Event) (replies : List Reply) : Type 0 where
   status : Status
   same : status.inode ≡ n

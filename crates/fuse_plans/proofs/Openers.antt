@@ -18,7 +18,7 @@ use Rattle.fuse_plans.proofs.Calls.{CanCall, About, about-still}
 use Rattle.fuse_plans.proofs.Chosen.{MayOpen, OfOpener}
 use Rattle.fuse_plans.proofs.OpenedObjects.{owner_is}
 
--- it may make each call but chdir
+-- an opener may make each call but chdir
 pub opener-can : {rights : Rights} (pid : ℕ) (call : Call) → IsTrue (stays call) → CanCall rights (OfOpener rights pid) pid call
 opener-can {rights} pid call puts known s fits = as_caller (subst (λ m. IsCaller rights.cred m pid) (sym fits.processes) fits.holds.caller.is) puts
 

@@ -128,7 +128,7 @@ module _ {rights : Rights} (r : Asked) (is : rights.cred ≡ r.cred) (asks : Ask
 
   -- ---- ACLs
 
-  -- it has ACLs
+  -- the object of the request has ACLs
   gives-an_object : Gives rights (IsObject rights.subject) (an_object r)
   gives-an_object =
       then-does_to (gives-number _ (is-object rights _ asks)) (λ n object.

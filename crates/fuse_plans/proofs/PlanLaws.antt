@@ -73,7 +73,7 @@ run-parts (Ask e next) f (g ∷ es) (reply ∷ replies) y follows =
       later = rest.later;
     }
 
--- the same replies lead to the same result
+-- equal replies lead to equal results
 pub run-one : {X : Type 0} (p : Plan X) (es fs : List Event) (replies : List Reply) (x y : X) → IsRunOf p es replies x → IsRunOf p fs replies y
     → (es ≡ fs) × (x ≡ y)
 run-one (Finish z) [] [] [] x y first other = (refl, first ∙ sym other)

@@ -212,7 +212,7 @@ settle_not_full cred reply s t es replies fine runs = choose (is_refused_for EAG
     choose true is ran = fine is
     choose false is ran = settled_not_full cred reply s t es replies ran
 
--- it has, where few are known
+-- the machine has room for one more, where few are known
 begins_not_full : (cred : Credential) (known : Known) (s t : Server) (es : List Event) (replies : List Reply) → length known.processes ≤ 60 → RefusesOnlyFull known es replies
     → EndsFull ((ask (Spawn cred) >>= settle cred) s) es replies t → ⊥
 unfolding ask ◌>>=◌

@@ -220,7 +220,7 @@ module _ (r : Request) (s : Server) where
   leads-quiet : {X : Type 0} {o : Option Operation} {w : Work X} → (IsToldIn o sets_times → ⊥) → Asks o w → Leads Anyhow Anything w
   leads-quiet {X} {o} {w} never asks = record { at = λ m t any. keeps-quiet o never (w t) m (asks.at t) }
 
-  -- the same, while what is known lasts
+  -- work leads past what is known, while that lasts
   leads-past : {X : Type 0} {o : Option Operation} {w : Work X} (Q : History → Type 0) → Lasting Q → (IsToldIn o sets_times → ⊥) → Asks o w
       → Leads (λ m t. Q m) (λ (x : X) m t. Q m) w
   leads-past Q lasts never asks =
@@ -228,7 +228,7 @@ module _ (r : Request) (s : Server) where
 
   -- ---- calls
 
-  -- this was replied, and refuses nothing
+  -- one event was replied so, and not refused
   record Answered (e : Event) (reply : Reply) (m : History) : Type 0 where
     was : WasAsked e reply m
     granted : refusal_in reply ≡ None

@@ -1,4 +1,4 @@
--- What is told of a name that was with_found or made leads to the object.
+-- What is told of a name that was found or made leads to the object.
 --     Same, Leaves        nodes, names and handles of files are as they were; work that changes none of them
 --     Tells        work that ends with what it tells of a name
 --     told_nodes_lead_to_objects

@@ -34,7 +34,7 @@ acl_named name = if bytes_eq name access_name then Some Access else if bytes_eq 
 abbrev pub the_acl : List ℕ → Work AclType
 the_acl name = needed (Lacks EOPNOTSUPP) (acl_named name)
 
--- it is no link, and has a name
+-- the object is no link, and has a name
 abbrev pub has_acls : Server → ℕ → Bool
 has_acls s n = not (is_known_link (kind_known s n)) && has_place s n
 

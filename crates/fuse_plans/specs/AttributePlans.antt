@@ -89,7 +89,7 @@ set_mode now pid n (Some mode) = do
   on pid n (λ path. Chmod path (bit_and mode 0o7777))
   keep (with_change_time now n)
 
--- it is set to the present
+-- a time is set to the present
 abbrev pub is_now : Option NewTime → Bool
 is_now (Some Now) = true
 is_now new = false

@@ -1,8 +1,8 @@
 -- For whom a request is performed, and by which process.
 --     caller, caller_with_room        a process of it; one that can hold one more descriptor
 --     inside, between, done_between        a call in a directory, and in two
---     by_places, on        a call by one place after another; on an object, by where it is known
---     by_looker, look        a call on an object by the server's own process; what stat(2) shows of it
+--     by_places, on        a call by one dentry after another; on an object, by where it is known
+--     by_server_process, look        a call on an object by the server's own process; what stat(2) shows of it
 use Rattle.std.specs.Prelude.{ℕ, zero, suc, ◌==◌, Bool, true, false, ◌&&◌, ◌||◌, List, [], ◌∷◌, length, codes, Option, None, Some, is_some, unwrap_or, Result, Ok, Err, if◌then◌else◌}
 use Rattle.fs_cred.specs.declared.errno.Errno.TheVariants.{EACCES, EAGAIN, ENOTDIR}
 use Rattle.fs_cred.specs.Credentials.{Credential}
@@ -120,7 +120,7 @@ between pid directory second call = do
   ask (Enter pid root root)
   unless_refused reply
 
--- the same, where the reply says no more
+-- a call with names of one directory, or of two, whose reply says no more than that it was done
 abbrev pub done_between : ℕ → ℕ → ℕ → Call → Work (Unit {0})
 done_between pid directory second call = do
   between pid directory second call
@@ -148,16 +148,16 @@ or_inside pid n call kind (Err e) = if is_for EACCES e && is_known_directory kin
 abbrev pub at_place : ℕ → Option ℕ → (List ℕ → Call) → Dentry → Work Reply
 at_place pid second call p = between pid p.directory (unwrap_or second p.directory) (call p.name)
 
--- the refusal that stands where each place is refused for permission: the first
+-- the refusal that stands where each dentry is refused for permission: the first
 abbrev pub standing_refusal : RequestError → RequestError → RequestError
 standing_refusal before e = if is_for EACCES before then before else e
 
--- Who is refused by one place goes on to the next.
+-- Who is refused by one dentry goes on to the next.
 abbrev pub or_next : (RequestError → Work Reply) → Result Reply RequestError → Work Reply
 or_next next (Ok reply) = give reply
 or_next next (Err e) = if is_for EACCES e then next e else fail e
 
--- By one place after another, until the call isn't refused for permission. Where no place is left it stops, as it would have before.
+-- By one dentry after another, until the call isn't refused for permission. Where none is left it fails, as it would have before.
 unfoldable pub by_places : ℕ → Option ℕ → (List ℕ → Call) → RequestError → List Dentry → Work Reply
 by_places pid second call before [] = fail before
 by_places pid second call before (p ∷ others) =
@@ -173,7 +173,7 @@ by_place pid n call = do
 unfoldable pub on : ℕ → ℕ → (List ℕ → Call) → Work Reply
 on pid n call = if n == root then obtain (Calls pid (call (codes "/"))) else by_place pid n call
 
--- it has a name that is known, or needs none
+-- the object has a name that is known, or needs none
 abbrev pub has_place : Server → ℕ → Bool
 has_place s n = n == root || is_some (place_of s n)
 

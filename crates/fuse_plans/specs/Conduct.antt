@@ -2,7 +2,7 @@
 --     Known        what is known while a plan goes on
 --     Rights        for whom it is done, and on what
 --     MayCall, MayAsk, conduct        what may be asked
---     IsDone        how it ends
+--     Fits        how it ends
 use Rattle.std.specs.Prelude.{◌≡◌, ℕ, ◌==◌, Bool, true, false, not, ◌&&◌, ◌||◌, List, Option, None, Some, is_some, IsTrue}
 use Rattle.std.specs.Ordering.{nat_cmp}
 use Rattle.fs_cred.specs.Credentials.{Credential}
@@ -35,7 +35,7 @@ pub record Rights : Type 0 where
 
 -- ---- who calls
 
--- it shows what is there, and changes nothing
+-- a call shows what is there, and changes nothing
 abbrev pub only_looks : Call → Bool
 only_looks (Lstat path) = true
 only_looks (Fstat fd) = true
@@ -50,7 +50,7 @@ abbrev pub shows_open : Call → Bool
 shows_open (Fstat fd) = true
 shows_open _ = false
 
--- it is about this descriptor
+-- a call is about this descriptor
 abbrev pub is_on : ℕ → Call → Bool
 is_on fd (Read at len) = at == fd
 is_on fd (Write at bytes) = at == fd
@@ -69,7 +69,7 @@ abbrev pub IsByHandle : Option ℕ → ℕ → Call → Type 0
 IsByHandle None pid call = ⊥
 IsByHandle (Some handle) pid call = (pid ≡ owner_of handle) × IsTrue (is_on (descriptor_of handle) call)
 
--- it leaves the process where it stands
+-- a call leaves the process where it stands
 abbrev pub stays : Call → Bool
 stays (Chdir path) = false
 stays _ = true

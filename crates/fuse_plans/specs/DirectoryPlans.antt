@@ -88,7 +88,7 @@ list_open pid fd = do
   seen ← attempt (tell_names pid fd)
   or_closed pid fd seen
 
--- the same, and then it is closed
+-- the names in what was opened, and then it is closed
 abbrev pub list_and_close : ℕ → ℕ → Work (List (List ℕ × ℕ))
 list_and_close pid fd = do
   names ← list_open pid fd

@@ -39,7 +39,7 @@ abbrev pub when : Bool → Work (Unit {0}) → Work (Unit {0})
 when true w = w
 when false w = give tt
 
--- work of which only the stop counts
+-- work of which only the error counts
 abbrev pub done : {X : Type 0} → Work X → Work (Unit {0})
 done w = w >> give tt
 
@@ -76,7 +76,7 @@ confirm_shown pid fd n cuts = do
   only_inode n status
   when cuts (done (obtain (Calls pid (Ftruncate fd 0))))
 
--- the same; where it is another, or isn't shown, it is closed
+-- what is open is confirmed so; where it is another object, or isn't shown, it is closed
 unfoldable pub confirm_open : ℕ → ℕ → ℕ → Bool → Work (Unit {0})
 confirm_open pid fd n cuts = do
   confirmed ← attempt (confirm_shown pid fd n cuts)
@@ -137,7 +137,7 @@ show_timed pid fd = do
   stamps ← told_stamps status.inode
   give (status, stamps)
 
--- the same; where nothing is shown that is closed
+-- what stat(2) shows of what is open, and its times; where nothing is shown that is closed
 unfoldable pub look_open : ℕ → ℕ → Work (Status × Option Stamps)
 look_open pid fd = do
   seen ← attempt (show_timed pid fd)
@@ -147,7 +147,7 @@ abbrev pub created_body : ℕ → ℕ → Status → Option Stamps → Server �
 created_body name_valid handle status stamps s =
     Created (node_of s status.inode) name_valid (attributes s status stamps) handle (file_flags s.settings)
 
--- it is new, or it was found, with its bytes or without them
+-- the file is new, or it was found, with its bytes or without them
 unfoldable pub tell_created : Time → ℕ → Dentry → Bool → Bool → ℕ → Status × Option Stamps → Work ReplyBody
 tell_created now name_valid p is_new is_cut handle seen = do
   keep (told now p seen.0.inode seen.0.kind is_new is_cut)

@@ -109,7 +109,7 @@ BeginningBehaves =
     (r : Request) (s : Server) (offer : Offer) → r.operation ≡ Some (Init offer)
     → KeepsTo (conduct (server_rights r s)) (Begun s) (known_in s) (request_plan r s)
 
--- The same of what was asked of a machine, with its replies.
+-- What was asked of a machine for such a request, with its replies, was allowed, and ends so.
 abbrev pub RunsBehave : Type 0
 RunsBehave =
     (r : Request) (s : Server) (es : List Event) (replies : List Reply) (result : Response × Server) → IsFalse (is_init r.operation)
@@ -122,7 +122,7 @@ RunsBehave =
 abbrev pub RequestsChangeWhatTheySay : Type 0
 RequestsChangeWhatTheySay = (r : Request) (s : Server) → AsksOnly (MayBeAsked r.operation) (request_plan r s)
 
--- The same of what was asked.
+-- All that was asked of a machine is what the request says.
 abbrev pub RunsChangeWhatRequestsSay : Type 0
 RunsChangeWhatRequestsSay =
     (r : Request) (s : Server) (es : List Event) (replies : List Reply) (result : Response × Server)

@@ -182,7 +182,7 @@ make_link r name target = do
 abbrev pub set_umask : ℕ → ℕ → Work Reply
 set_umask pid umask = obtain (Calls pid (Umask (bit_and umask 0o777)))
 
--- the same, once new objects of the process are made with a mask
+-- a call makes what has the name, once new objects of the process are made with a mask
 abbrev pub make_masked : Time → ℕ → ℕ → ℕ → ℕ → Call → List ℕ → Work ReplyBody
 make_masked now name_valid umask pid d call name = do
   set_umask pid umask
@@ -245,14 +245,14 @@ may_move name new_name flags = do
   plain_name name
   plain_name new_name
 
--- what has the one place gets the other
+-- what has the one dentry gets the other
 abbrev pub rename : Time → ℕ → Dentry → Dentry → Work ReplyBody
 rename now pid old new = do
   done_between pid old.directory new.directory (RenameCall old.name new.name)
   keep (moved now old new)
   give Nothing
 
--- the same, if it may replace what is there
+-- what has the one dentry gets the other, if it may replace what is there
 abbrev pub move_to : Time → ℕ → ℕ → Dentry → ℕ → List ℕ → Work ReplyBody
 move_to now flags pid old new new_name = do
   nothing_to_replace flags pid new new_name

@@ -80,7 +80,7 @@ only_path (Unlink path) = Some path
 only_path (Chdir path) = Some path
 only_path call = None
 
--- it may add the name, or takes it
+-- a call may add the name, or takes it
 abbrev pub changes_name : Call → Bool
 changes_name (Open path flags mode) = flags.create
 changes_name (Mkdir path mode) = true

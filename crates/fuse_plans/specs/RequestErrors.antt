@@ -1,7 +1,7 @@
 -- Why a request fails.
 --     failed        a refusal of the machine
---     refusal_errno, is_for        the error of a refusal; whether one stops for it
---     stop_number        the number on Linux
+--     refusal_errno, is_for        the error of a refusal; whether one is for it
+--     error_number        the number on Linux
 use Rattle.std.specs.Prelude.{ℕ, ◌==◌, Bool, false}
 use Rattle.fs_cred.specs.declared.errno.Errno.{Errno}
 use Rattle.fs_cred.specs.declared.refusal.Refusal.{Refusal}

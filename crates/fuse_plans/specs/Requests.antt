@@ -24,7 +24,7 @@ pub record Outside : Type 0 where
 abbrev pub are_known : List ℕ → Bool
 are_known groups = nat_le (length groups) groups_limit
 
--- those of the user, less those that the process lacks
+-- the capabilities of the user, less those that the process lacks
 abbrev pub caps_left : ℕ → Caps → Caps
 caps_left uid held = record { 0 = bit_and (usual_caps uid).0 held.0 }
 

@@ -52,7 +52,7 @@ pub record ProcessesAreFound : Type 0 where
   pub with_room : (cred : Credential) (s t : Server) (es : List Event) (replies : List Reply) → WithinShares s → HasShare process_shares (process_holders s) cred.uid
       → RefusesOnlyFull (known_in s) es replies → IsRunOf (caller_with_room (Some cred) s) es replies (Err (Lacks ENFILE), t) → ⊥
 
--- It opens one more directory.
+-- A user who has a share opens one more directory.
 abbrev pub DirectoriesAreFound : Type 0
 DirectoriesAreFound =
     (s : Server) (uid n : ℕ) → WithinShares s → HasShare directory_shares (directory_holders s) uid

@@ -1,7 +1,7 @@
 -- Pieces of plans, which read and change what a server keeps.
 --     Work        what is asked of the machine, and then a value, or why there is none, and what the server keeps
---     give, stop, kept, keep, ◌>>=◌, ◌>>◌, attempt        those that ask nothing, one after another, and without a stop
---     ask, obtain, or_closed        one event; a refusal stops; and what is open is closed first
+--     give, fail, kept, keep, ◌>>=◌, ◌>>◌, attempt        those that ask nothing, one after another, and with their error as a value
+--     ask, obtain, or_closed        one event; a refusal as an error; and what is open is closed before an error
 --     refusal_in, is_refused_for        whether a reply refuses
 --     status_of_reply, replied_status, ..        what a reply holds
 use Rattle.std.specs.Prelude.{ℕ, nat_le, nat_lt, Bool, false, ◌&&◌, List, length, Option, None, Some, Result, Ok, Err, if◌then◌else◌}
@@ -23,7 +23,7 @@ use Rattle.fuse_plans.specs.declared.request_error.RequestError.TheVariants.{Ref
 use Rattle.fuse_plans.specs.RequestErrors.{failed, is_for}
 use Rattle.fuse_state.specs.Servers.{Server, handle_of}
 
--- What was done before a stop stays.
+-- What was done before an error stays.
 abbrev pub Work : Type 0 → Type 0
 Work X = Server → Plan (Result X RequestError × Server)
 
@@ -53,7 +53,7 @@ infixl 10 ◌>>◌
 abbrev pub ◌>>◌ : {X Y : Type 0} → Work X → Work Y → Work Y
 v >> w = v >>= (λ _. w)
 
--- the work, and whether it stopped
+-- the work, and whether it failed
 unfoldable pub attempt : {X : Type 0} → Work X → Work (Result X RequestError)
 attempt w s = followed_by (w s) (λ r. Finish (Ok r.0, r.1))
 
@@ -90,7 +90,7 @@ unless_refused reply = give_unless reply (refusal_in reply)
 abbrev pub obtain : Event → Work Reply
 obtain e = ask e >>= unless_refused
 
--- Where the work stopped the process closes what it has opened.
+-- Where the work failed the process closes what it has opened.
 abbrev pub or_closed : {X : Type 0} → ℕ → ℕ → Result X RequestError → Work X
 or_closed pid fd (Ok x) = give x
 or_closed pid fd (Err e) = ask (Calls pid (Close fd)) >> fail e
@@ -113,7 +113,7 @@ status_of_reply _ = None
 abbrev pub replied_status : Reply → Work Status
 replied_status reply = needed unexpected (status_of_reply reply)
 
--- it is asked of no process, and a refusal is a fault of the machine
+-- a stamp is of no process, so a refusal of it is a fault of the machine
 abbrev pub stamps_of_reply : Reply → Option Stamps
 stamps_of_reply (Stamped stamps) = Some stamps
 stamps_of_reply _ = None

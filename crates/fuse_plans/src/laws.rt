@@ -25,7 +25,7 @@ pub fn beginning_behaves()
     ensures { BeginningBehaves }
 {}
 
-/// The same of what was asked, with the replies that were given.
+/// What was asked for each request but the first, with the replies that were given, is what may be asked.
 pub fn what_is_asked_may_be()
     ensures { RunsBehave }
 {}

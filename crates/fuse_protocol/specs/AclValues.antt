@@ -22,12 +22,12 @@ acl_value_bytes es = bytes_of_u32s (ACL_VERSION ∷ []) ++ flat_map acl_entry_by
 abbrev pub numbers_at : List ℕ → ℕ → EntryNumbers
 numbers_at s at = record { tag = short_at s at; perms = short_at s (at + 2); id = word_at s (at + 4) }
 
--- those of the first n entries
+-- the numbers of the first n entries
 unfoldable pub first_numbers : List ℕ → ℕ → List EntryNumbers
 first_numbers s zero = []
 first_numbers s (suc n) = first_numbers s n ++ numbers_at s (ACL_HEADER_SIZE + ACL_ENTRY_SIZE * n) ∷ []
 
--- it has the version, and is these entries and nothing more
+-- the value has the version, and is these entries and nothing more
 pub record IsAclValue (s : List ℕ) (es : List Entry) : Type 0 where
   pub size : length s ≡ ACL_HEADER_SIZE + ACL_ENTRY_SIZE * length es
   pub version : word_at s 0 ≡ ACL_VERSION

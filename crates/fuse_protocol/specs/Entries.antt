@@ -17,7 +17,7 @@ padding name = (8 - name % 8) % 8
 abbrev pub entry_size : ℕ → ℕ
 entry_size name = 24 + name + padding name
 
--- inode, offset of the next, length of the name, kind, name, zeros_of
+-- inode, offset of the next, length of the name, kind, name, zeros
 unfoldable pub directory_entry_bytes : DirectoryEntry → List ℕ
 directory_entry_bytes e =
     bytes_of_u64s (e.inode ∷ e.next ∷ [])

@@ -14,7 +14,7 @@ use std::alloc::{AllocError, AllocFailed, Global};
 /// Why a value says no entries.
 #[derive(Clone, Copy, Debug)]
 pub enum AclValueFault {
-    /// It isn't of the form.
+    /// The value isn't of the form.
     Malformed,
     /// Memory ran out.
     OutOfMemory,

@@ -129,7 +129,7 @@ pub struct Extent {
 /// What becomes of a time.
 #[derive(Clone, Copy)]
 pub enum NewTime {
-    /// It is the present one.
+    /// The time becomes the present one.
     Now,
     /// So long after 1970 began.
     At { seconds: u64, nanoseconds: u32 },
@@ -195,7 +195,7 @@ pub(crate) fn parse_operation(code: u32, body: &[u8]) -> Option<Operation<'_>>
     }
 }
 
-// Those that ask of the node itself, and those below.
+// The operations on the node itself, and those below.
 #[tactic(auto, unfolding(crate::specs::Operations::object_operation))]
 fn parse_object_operation(code: u32, body: &[u8]) -> Option<Operation<'_>>
     ensures { result ≡ object_operation code body.now }
@@ -215,7 +215,7 @@ fn parse_object_operation(code: u32, body: &[u8]) -> Option<Operation<'_>>
     }
 }
 
-// Those that ask of what is open, and those below.
+// The operations on what is open, and those below.
 #[tactic(auto, unfolding(crate::specs::Operations::handle_operation))]
 fn parse_handle_operation(code: u32, body: &[u8]) -> Option<Operation<'_>>
     ensures { result ≡ handle_operation code body.now }

@@ -61,7 +61,7 @@ pub struct Room {
 pub enum Reply<'a> {
     /// The request failed: the number of the error, from 1 to 511.
     Error(u16),
-    /// It is done, and there is nothing to tell.
+    /// The request is done, and there is nothing to tell.
     Done,
     /// Attributes.
     Attr {

@@ -24,7 +24,7 @@ pub struct Request<'a> {
 /// Why bytes are no request.
 #[derive(Clone, Copy)]
 pub enum RequestFault {
-    /// They are fewer than a header has, or than the header says, or more. There is no reply to this.
+    /// The bytes are fewer than a header has, or than the header says, or more. There is no reply to this.
     NotWhole,
     /// The body isn't of the form that its operation has; the number is that of the request.
     Malformed(u64),

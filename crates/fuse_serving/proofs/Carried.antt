@@ -33,7 +33,7 @@ module _ {M : Type 0} (Serves : M → Event → Reply → M → Type 0) where
   whole r nobody response before after old new is =
       carried_then Serves (needs_nobody_in r.node r.operation before) _ old is.mid new nobody (response, after) is.finds is.answers
 
-  -- it was found first, and the server kept what it kept
+  -- who counts was found first, and the server kept what it kept
   pub answered_after : (r : Request) (nobody : Bool) (response : Response) {before kept after : Server} {old mid new : M}
       → CarriesOut Serves (needs_nobody_in r.node r.operation before) old mid nobody → kept ≡ before
       → CarriesOut Serves (answered_as nobody r kept) mid new (response, after) → IsAnsweredSo Serves r nobody response before after old new

@@ -19,7 +19,7 @@ use Rattle.fuse_serving.specs.Rounds.{Round, Parties, IsRound, Rounds, no_round,
 use Rattle.fuse_serving.proofs.Carried.{whole, carried_on, carried_none}
 use Rattle.fuse_serving.proofs.Passing.{passes_joined}
 
--- of what was bytes_sent, what was taken
+-- of what was written, what was taken
 abbrev answer_taken : ℕ → Response → Bool → List ℕ
 answer_taken unique response taken = if taken then response_bytes unique response else []
 

@@ -35,7 +35,7 @@ pub record AnswersOne {M : Type 0} (Serves : M → Event → Reply → M → Typ
   pub has_value : memory ≡ true → HasValue spoken.operation acl
   pub performs : CarriesOut Serves (answered_as nobody (request_from (known caller now memory) acl spoken) before) old new (response, after)
 
--- the same where there was memory
+-- a request is answered so where there was memory
 pub record AnswersWithMemory {M : Type 0} (Serves : M → Event → Reply → M → Type 0) (spoken : WireRequest) (caller : Caller) (nobody : Bool)
     (now : Time) (old new : M) (before after : Server) (response : Response) : Type 0 where
   pub acl : Option (Option AccessList)

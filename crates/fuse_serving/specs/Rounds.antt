@@ -75,7 +75,7 @@ later_exchanges r = learns r.nobody (request_of r.bytes) r.outside ++ tells r.re
 abbrev pub exchanges : Round → List Exchange
 exchanges r = Reads r.bytes ∷ later_exchanges r
 
--- It is found whether who asks counts, which changes nothing that the server keeps; and then the request is answered.
+-- First it is found whether who asks counts, which changes nothing that the server keeps; and then the request is answered.
 pub record IsAnsweredSo {M : Type 0} (Serves : M → Event → Reply → M → Type 0) (request : Request) (nobody : Bool) (response : Response)
     (before after : Server) (old new : M) : Type 0 where
   pub mid : M
@@ -98,7 +98,7 @@ pub data Rounds {M K : Type 0} (Serves : M → Event → Reply → M → Type 0)
   one_round : (round : Round) (rounds : List Round) (old mid new : Parties M K)
       → IsRound Serves Does old round mid → Rounds Serves Does mid rounds new → Rounds Serves Does old (round ∷ rounds) new
 
--- It was told to end, or no more requests come, or a read isn't whole.
+-- A session was told to end, or no more requests come, or a read isn't whole.
 pub data IsEnd {K : Type 0} (Does : K → Exchange → K → Type 0) (server : Server) (old new : K) : Type 0 where
   was_told : server.ended ≡ true → new ≡ old → IsEnd Does server old new
   no_more : Does old ReadsEnd new → IsEnd Does server old new
@@ -126,7 +126,7 @@ bytes_sent (Writes bytes true) = bytes
 bytes_sent _ = []
 
 -- The requests of the rounds are those that the reads say. Their plans, run one after another, give the answers; and what was
--- bytes_sent and taken is these answers.
+-- written and taken is these answers.
 pub record AreServed {M K : Type 0} (Serves : M → Event → Reply → M → Type 0) (Does : K → Exchange → K → Type 0)
     (old : Parties M K) (rounds : List Round) (new : Parties M K) : Type 0 where
   pub hears : HearsAll (map heard_in rounds) (map (λ r. r.request) rounds)
@@ -155,7 +155,7 @@ abbrev pub IsOfClock : ServeFault → Type 0
 IsOfClock (faults.Clock error) = Unit {0}
 IsOfClock _ = ⊥
 
--- The reply could not be made, or not be bytes_sent.
+-- The reply could not be made, or not be written.
 abbrev pub IsOfReply : ServeFault → Type 0
 IsOfReply (faults.Reply fault) = Unit {0}
 IsOfReply (faults.Write error) = Unit {0}
@@ -166,7 +166,7 @@ pub data IsBreak {K : Type 0} (Does : K → Exchange → K → Type 0) (fault : 
   no_request : IsOfRead fault → IsBreak Does fault old []
   -- one is read, and nothing is asked for it
   no_time : (bytes : List ℕ) (reached : K) → IsOfClock fault → Does old (Reads bytes) reached → IsBreak Does fault old []
-  -- its plan is performed, and whether its answer is taken isn't known
+  -- the plan is performed, and whether the answer is taken isn't known
   no_reply : (untold : Round) (reached : K) → IsOfReply fault
       → Passes Does old (Reads untold.bytes ∷ learns untold.nobody (request_of untold.bytes) untold.outside) reached → IsBreak Does fault old (untold ∷ [])
 

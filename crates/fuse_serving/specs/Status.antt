@@ -65,7 +65,7 @@ pub record ActsAs (text : List ℕ) (uid gid : ℕ) : Type 0 where
 abbrev pub caps_name : List ℕ
 caps_name = codes "CapEff:\t"
 
--- Those that are asked are the lowest bits, in the same order.
+-- The capabilities that are asked about are the lowest bits, in the same order.
 pub record SaysCaps (text : List ℕ) (caps : Caps) : Type 0 where
   pub rest : List ℕ
   pub line : HasLine text caps_name rest

@@ -18,6 +18,7 @@ pub trait Performer {
     /// What is asked.
     type Machine;
 
+    /// The state of what is asked.
     ghost machine: { Self → Self.Machine };
 
     /// From one state of it to another by an event with its reply.

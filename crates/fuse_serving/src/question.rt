@@ -17,7 +17,7 @@ fn usual_caps(uid: u32) -> Caps
     if uid == 0 { Caps::all() } else { Caps::empty() }
 }
 
-// Those of the user, less those that the process lacks.
+// The capabilities of the user, less those that the process lacks.
 fn caps_left(uid: u32, held: Caps) -> Caps
     ensures { result ≡ caps_left uid held }
 {
@@ -63,7 +63,7 @@ pub(crate) fn acl_of_value(alloc: Global, value: &[u8]) -> Result<Option<Option<
     }
 }
 
-/// The same of the value in an operation, if there is one.
+/// The ACL that the value in an operation says, as by `acl_of_value`, if there is a value.
 pub(crate) fn value_in(
     alloc: Global,
     operation: &Operation<'_>,

@@ -144,7 +144,7 @@ fn attributes_reply(shown: &Attributes) -> Reply<'static>
     }
 }
 
-// The same of what has a name.
+// What is told of an object that has a name.
 fn found_reply(node: u64, name_valid: u64, shown: &Attributes) -> Reply<'static>
     ensures { result ≡ reply_of_body (Found node name_valid shown.now) }
 {
@@ -156,7 +156,7 @@ fn found_reply(node: u64, name_valid: u64, shown: &Attributes) -> Reply<'static>
     }
 }
 
-// The same of a file that was made or found, and opened.
+// What is told of a file that was made or found, and opened.
 fn created_reply(
     node: u64,
     name_valid: u64,

@@ -147,6 +147,7 @@ pub fn serve<P: Performer, K: Kernel, W: Witness>(
     ensures broken { IfErr result (λ fault. BrokenOff P.Serves K.Does fault
         (scene P.machine P.server performer.old kernel.old) (scene P.machine P.server performer.new kernel.new)) }
 {
+    // Bounded, since each function has to end.
     for _ in 0..u64::MAX {
         if !serve_next(alloc, performer, kernel, witness, buffer, room)? {
             return Ok(());

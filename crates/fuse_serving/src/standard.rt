@@ -114,9 +114,11 @@ fn time_of<R: Clock>(rt: &R) -> io::Result<Time> {
 impl<R: Files + AllocGlobal + Clock, I: Read, O: Write> Kernel for Standard<R, I, O> {
     ghost use Rattle.std.specs.Prelude.{⊤};
 
+    // Nothing is claimed of what passes.
     ghost Does = { λ old exchange new. ⊤ };
 
     fn read(&mut self, buffer: &mut [u8]) -> io::Result<Option<usize>> {
+        // Bounded, since each function has to end.
         for _ in 0..u64::MAX {
             match self.input.read(buffer) {
                 Ok(0) => return Ok(None),

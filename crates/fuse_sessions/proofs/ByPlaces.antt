@@ -1,6 +1,6 @@
--- Calls by one place after another.
---     place-next, places-end        the places from one on
---     places-none, places-ok, places-refused, places-next        what comes of the first place goes for all
+-- Calls by one dentry after another.
+--     places-end        the dentries from one on
+--     places-none, places-ok, places-refused, places-next        what comes of the first dentry goes for all
 use Rattle.std.specs.Prelude.{◌≡◌, ℕ, zero, suc, ◌+◌, true, false, List, [], ◌∷◌, drop, slice_get, refl, Option, None, Some, Result, Ok, Err}
 use Rattle.std.proofs.Common.{sym, ap, ◌∙◌, add-one}
 use Rattle.fs_cred.specs.declared.errno.Errno.TheVariants.{EACCES}
@@ -15,7 +15,7 @@ use Rattle.fuse_sessions.specs.declared.session.Session.{Session}
 use Rattle.fuse_sessions.specs.Performing.{Did}
 use Rattle.fuse_sessions.proofs.Doings.{then-ok, attempts, same-work, where-true, where-false, gives, stops}
 
--- one place after another
+-- one dentry after another
 pub dentry-first : (places : List Dentry) (i : ℕ) (p : Dentry) → slice_get places i ≡ Some p → drop i places ≡ p ∷ drop (suc i) places
 dentry-first [] i p is = absurd (cc)
 dentry-first (q ∷ places) zero p is = let one : q ≡ p = cc in ap (λ x. x ∷ places) one

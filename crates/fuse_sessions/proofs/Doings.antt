@@ -3,7 +3,7 @@
 --     then-matches        after the first goes one that asks nothing
 --     of-result, gives, stops        steps that ask nothing and read nothing
 --     reads, reads-needed, keeps, needs-some, needs-none, where-true, where-false        steps that ask nothing, before the rest
---     attempts        a step of which it is told whether it stopped
+--     attempts        a step of which it is told whether it failed
 --     by-machine        a step for which nothing that is kept is read
 use Rattle.std.specs.Prelude.{◌≡◌, Bool, true, false, Option, None, Some, Result, Ok, Err, MatchResult, if◌then◌else◌}
 use Rattle.std.specs.Option.{ok_or}
@@ -79,7 +79,7 @@ module _ {M : Type 0} {Serves : M → Event → Reply → M → Type 0} where
     performs = subst (λ (s : Server). CarriesOut Serves (w old.server.server) old.machine new.machine (r, s)) (sym same) (did.performs old.server.server);
   }
 
-  -- the same, where the rest of the session is as it was
+  -- a step of the machine, where the rest of the session is as it was
   pub on-machine : {X : Type 0} {w : Work X} {old : Session M} {m : M} {r : Result X RequestError}
       → DidByMachine Serves w old.machine m r → Did Serves w old (record old { machine = m }) r
   on-machine {X} {w} {old} {m} {r} did = record { performs = did.performs old.server.server }
@@ -147,7 +147,7 @@ module _ {M : Type 0} {Serves : M → Event → Reply → M → Type 0} where
         (subst (λ (s : Server). CarriesOut Serves (w s) mid.machine new.machine (r, new.server.server)) is rest.performs);
   }
 
-  -- the same before a further change: what room there is meanwhile doesn't count
+  -- a change before a further one: what room there is meanwhile doesn't count
   pub keeps-on : {Y : Type 0} (h : Server → Server) (w : Work Y) {old new : Session M} {s : Server} {r : Result Y RequestError}
       → s ≡ h old.server.server → Did Serves w (record old { server = record { server = s; room = 0 } }) new r → Did Serves (keep h >> w) old new r
   keeps-on {Y} h w {old} {new} {s} {r} is rest = keeps h w {mid = record old { server = record { server = s; room = 0 } }} refl is rest
@@ -161,7 +161,7 @@ module _ {M : Type 0} {Serves : M → Event → Reply → M → Type 0} where
         (finishes (Ok tt, h old.server.server) old.machine));
   }
 
-  -- the same work, said otherwise
+  -- equal work, said otherwise
   pub same-work : {X : Type 0} {w v : Work X} {old new : Session M} {r : Result X RequestError} → w ≡ v → Did Serves v old new r → Did Serves w old new r
   same-work {X} {w} {v} {old} {new} {r} is did = subst (λ (u : Work X). Did Serves u old new r) (sym is) did
 

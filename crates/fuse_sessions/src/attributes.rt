@@ -339,7 +339,7 @@ impl<M: Machine> Session<M> {
         Ok(())
     }
 
-    /// The same, where it is asked.
+    /// A process of who asks may do so much, where that is asked.
     pub(crate) fn access_if(
         &mut self,
         condition: bool,

@@ -55,7 +55,7 @@ fn list_open<M: Machine>(machine: &mut M, pid: usize, fd: usize) -> Result<Listi
     or_closed(machine, pid, fd, seen)
 }
 
-// The same, and then it is closed.
+// The names in what was opened, and then it is closed.
 fn list_and_close<M: Machine>(
     machine: &mut M,
     pid: usize,

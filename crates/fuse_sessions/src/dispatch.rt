@@ -51,7 +51,7 @@ impl<M: Machine> Session<M> {
         }
     }
 
-    // The same with a name.
+    // Copies of the credential of who asks, where it is known, and of a name.
     fn copy_with(&self, asked: &Asked, name: &[u8]) -> Result<(Option<Cred>, Path), AllocError>
         ensures { IfOk result (λ copy. (copy.0 ≡ asked.entry.now.cred) × (copy.1 ≡ name.now)) }
     {
@@ -59,7 +59,7 @@ impl<M: Machine> Session<M> {
         Ok((self.copy_for(asked)?, name))
     }
 
-    // The same with two.
+    // Copies of the credential of who asks, where it is known, and of two names.
     fn copy_with_two(
         &self,
         asked: &Asked,
@@ -73,7 +73,7 @@ impl<M: Machine> Session<M> {
         Ok((copy, name, second))
     }
 
-    // The same with a list of three entries.
+    // A copy of the credential of who asks, where it is known, and a list of three entries.
     fn copy_with_acl(&self, asked: &Asked) -> Result<(Option<Cred>, Acl), AllocError>
         ensures { IfOk result (λ copy. (copy.0 ≡ asked.entry.now.cred) × (copy.1 ≡ minimal 0)) }
     {
@@ -127,7 +127,7 @@ impl<M: Machine> Session<M> {
         self.perform_prepared(&asked, &mut value, operation)
     }
 
-    // The same, where the room for what it adds is reserved.
+    // Performs the plan of an operation, where the room for what it adds is reserved.
     fn perform_prepared(
         &mut self,
         asked: &Asked,

@@ -168,7 +168,7 @@ fn confirm_shown<M: Machine>(
     done(obtain_once(machine, pid, Call::Ftruncate(fd, 0)))
 }
 
-// The same; where it is another object, or isn't shown, it is closed.
+// What is open is confirmed as by `confirm_shown`; where it is another object, or isn't shown, it is closed.
 fn confirm_open<M: Machine>(
     machine: &mut M,
     pid: usize,
@@ -276,7 +276,7 @@ impl<M: Machine> Session<M> {
         Ok((status, stamps))
     }
 
-    // The same; where nothing is shown that is closed.
+    // What stat(2) shows of what is open, and its times; where nothing is shown that is closed.
     fn look_open(&mut self, pid: usize, fd: usize) -> Result<(Status, Option<Stamps>), RequestError>
         ensures did { Did M.Serves (look_open pid fd) self.old self.new result }
         ensures kept { self.new.server ≡ self.old.server }

@@ -215,7 +215,7 @@ impl<M: Machine> Session<M> {
         obtain_once(&mut self.machine, owner_of(handle), call)
     }
 
-    // The same by a handle: the inode that is open there.
+    // Seeks in the directory that is open at a handle; the answer is its inode.
     fn seek_open(&mut self, handle: u64, offset: u64) -> Result<u32, RequestError>
         ensures did { Did M.Serves (seek_open handle offset) self.old self.new result }
         ensures kept { self.new.server ≡ self.old.server }

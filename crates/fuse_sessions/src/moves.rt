@@ -27,7 +27,7 @@ fn removal(of_directory: bool, name: Path) -> Call
     }
 }
 
-// The same on a machine. The name comes back.
+// A machine removes a name. The name comes back.
 fn remove_inside<M: Machine>(
     machine: &mut M,
     pid: usize,
@@ -92,7 +92,7 @@ impl<M: Machine> Session<M> {
         plain_name(new_name)
     }
 
-    // What has the one place gets the other.
+    // What has the one dentry gets the other.
     fn rename(
         &mut self,
         now: Time,
@@ -153,7 +153,7 @@ impl<M: Machine> Session<M> {
         )
     }
 
-    // The same, if it may replace what is there.
+    // What has a name gets another, if it may replace what is there.
     fn move_to(
         &mut self,
         now: Time,

@@ -234,7 +234,7 @@ impl<M: Machine> Session<M> {
         self.made(now, name_valid, directory, name)
     }
 
-    // The same, once new objects of the process are made with a mask.
+    // A call makes what has the name in it, once new objects of the process are made with a mask.
     fn make_masked(
         &mut self,
         now: Time,

@@ -82,7 +82,7 @@ impl<M: Machine> Session<M> {
         self.list_hides(inode)
     }
 
-    /// The same of a directory.
+    /// Whether Linux doesn't follow the access list of a directory.
     pub(crate) fn list_hides(&mut self, inode: u32) -> Result<bool, RequestError>
         ensures did { Did M.Serves (list_hides inode) self.old self.new result }
         ensures kept { self.new.server ≡ self.old.server }

@@ -20,7 +20,7 @@ use fuse_steps::Machine;
 use fuse_steps::asker::{done, inside, obtain_once};
 use fuse_steps::replies::status_of_reply;
 
-// The refusal that stands where each place is refused for permission.
+// The refusal that stands where each dentry is refused for permission.
 fn standing_refusal(before: RequestError, refusal: RequestError) -> RequestError
     ensures { result ≡ standing_refusal before refusal }
 {
@@ -71,7 +71,7 @@ impl<M: Machine> Session<M> {
         Path::new(Vec::new(self.alloc))
     }
 
-    /// A call on an object, if it is to be made. Only its stop counts.
+    /// A call on an object, if it is to be made. Only its error counts.
     pub(crate) fn on_if(
         &mut self,
         condition: bool,
@@ -90,7 +90,7 @@ impl<M: Machine> Session<M> {
         done(self.on_once(pid, inode, call))
     }
 
-    // A call by one of the places of an object, counted from 0 in their order, if there are so many.
+    // A call by one of the dentries of an object, counted from 0 in their order, if there are so many.
     fn call_at(
         &mut self,
         pid: usize,
@@ -113,7 +113,7 @@ impl<M: Machine> Session<M> {
             .call_at(&mut self.machine, pid, second, call, inode, at, blank)
     }
 
-    /// A call by the places of an object in their order, until it isn't refused for permission. The stop is what comes
+    /// A call by the dentries of an object in their order, until it isn't refused for permission. The error is what comes
     /// where the object has none. A second name of the call may be one of another directory. The path of the call isn't looked
     /// at, and stays.
     pub(crate) fn by_places(
@@ -168,7 +168,7 @@ impl<M: Machine> Session<M> {
         }
     }
 
-    /// The same of a call that is made once.
+    /// A call that is made once, on an object, by where that is known.
     pub(crate) fn on_once(
         &mut self,
         pid: usize,
@@ -185,7 +185,7 @@ impl<M: Machine> Session<M> {
         reply
     }
 
-    /// The same by the server's own process.
+    /// A call on an object by the server's own process, made once.
     pub(crate) fn by_server_process(
         &mut self,
         inode: u32,
@@ -231,7 +231,7 @@ impl<M: Machine> Session<M> {
         shown(reply)
     }
 
-    // By the server's own process where the object has a place, else by a handle.
+    // By the server's own process where the object has a dentry, else by a handle.
     fn look_at(&mut self, inode: u32) -> Result<Reply, RequestError>
         ensures did { Did M.Serves (look_at inode (has_place self.old.server.server inode)) self.old self.new result }
         ensures kept { self.new.server ≡ self.old.server }

@@ -67,7 +67,7 @@ impl<M: Machine> Session<M> {
         tell_time(&mut self.machine, keeps_times, now);
     }
 
-    /// The same, if it is to be told.
+    /// The machine is told the present time, if that is asked, where the disk keeps times.
     pub(crate) fn tell_time_if(&mut self, condition: bool, now: Time)
         ensures did { Did M.Serves (when condition (tell_time now)) self.old self.new (Ok tt) }
         ensures kept { self.new.server ≡ self.old.server }

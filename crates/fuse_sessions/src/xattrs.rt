@@ -99,6 +99,7 @@ const FIRST_NAME: usize = 24;
 pub(crate) struct AclNames {
     both: Vec<u8>,
     second: Vec<u8>,
+    // Both texts are the names, spelled as the plan spells them.
     ghost of_both: { both.items ≡ acl_names true true },
     ghost of_second: { second.items ≡ acl_names false true },
 }

@@ -84,7 +84,7 @@ module _ (s : Server) (cred : Credential) (h : IsMap nat_cmp s.processes) where
   pub processes-chosen : processes_of s cred ≡ keys (filter (λ e. is_same_credential cred e.1) s.processes)
   processes-chosen = chosen-keys (has_credential cred) s.processes h
 
-  -- those of the credential that pass a test
+  -- the processes of the credential that pass a test
   passing : (test : ℕ → Bool) → filter test (processes_of s cred) ≡ keys (filter (λ e. is_same_credential cred e.1 && test e.0) s.processes)
   passing test = ap (filter test) processes-chosen ∙ filter-chosen test (λ e. is_same_credential cred e.1) s.processes
 

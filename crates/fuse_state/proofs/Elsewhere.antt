@@ -38,7 +38,7 @@ module _ (p : Dentry) (n : ℕ) where
       after : List (Dentry × ℕ)
       after = without dentry_cmp m p
 
-      -- what is left, by whether it is of the place and whether it leads there
+      -- what is left, by whether it is of the dentry and whether it leads there
       filter_by : Bool → Bool → List (Dentry × ℕ)
       filter_by true b = names_elsewhere after n
       filter_by false b = cond (not b) (e ∷ names_elsewhere after n) (names_elsewhere after n)

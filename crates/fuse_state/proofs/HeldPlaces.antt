@@ -1,5 +1,5 @@
--- The names that lead to an inode: found_entry by it, they are those in the order of places.
---     places_held, nth_place        as places
+-- The names that lead to an inode: found by it, they are those in the order of dentries.
+--     places_held, nth_place        as dentries
 --     if_led, held_nth, key_stands, led_slot        by their numbers
 use Rattle.std.specs.Prelude.{◌≡◌, ℕ, zero, suc, ◌+◌, ◌<◌, ◌≤◌, ◌==◌, Bool, true, false, ◌&&◌, cond, List, [], ◌∷◌, length, map, drop, get_or, slice_get, refl, Option, None, Some, option_map}
 use Rattle.std.proofs.Common.{sym, ap, subst, ◌∙◌, arith}
@@ -44,7 +44,7 @@ module _ (s : List (Option Found)) (n : ℕ) where
 
   -- ---- in both orders they are the same
 
-  -- those of a rising list rise
+  -- the keys of a rising list rise
   below-led : (p : Dentry) (keys : List ℕ) → below_all dentry_cmp p (by_keys s keys) ≡ true → below_all dentry_cmp p (by_keys s (keys_of s keys n)) ≡ true
   below-led p [] h = h
   below-led p (k ∷ keys) h = go (leads k) (left _ _ h) (below-led p keys (right (is_lt (dentry_cmp p (found_under s k).dentry)) _ h))
@@ -96,7 +96,7 @@ module _ (s : List (Option Found)) (n : ℕ) where
           ap (λ b. b && is_sorted dentry_cmp (by_keys s (keys_of s keys n))) (below-held (found_under s k) keys (same_inode _ _ there) first) ∙ rest
       go false there first rest = rest
 
-  -- what is found_entry among those of the inode
+  -- what is found among those of the inode
   get-held : (keys : List ℕ) (p : Dentry) → get dentry_cmp (by_keys s (keys_of s keys n)) p ≡ get found_cmp (by_inodes s keys) (found_entry p n)
   get-held [] p = refl
   get-held (k ∷ keys) p = go (leads k) refl (get-held keys p)
@@ -121,7 +121,7 @@ module _ (s : List (Option Found)) (n : ℕ) where
           rest
           ∙ ap (λ b. cond b (Some k) (get found_cmp (by_inodes s keys) (found_entry p n))) (sym (then_none (nat_cmp n (found_under s k).inode) refl (λ same. grind (arith, nat_tests))))
 
-  -- and among those of the inode in the order of places
+  -- and among those of the inode in the order of dentries
   abbrev kept_of : Option ℕ → Option ℕ
   kept_of None = None
   kept_of (Some k) = cond (leads k) (Some k) None
@@ -152,7 +152,7 @@ module _ (s : List (Option Found)) (placed held : List ℕ) (indexed : IsIndexed
   held_none p None is none = refl
   held_none p (Some k) is none = absurd (let no : None ≡ Some k = sym none ∙ indexed.has_place (found_entry p n) k is in cc)
 
-  -- what has the place leads elsewhere
+  -- what has the dentry leads elsewhere
   held_other : (p : Dentry) (k : ℕ) → get dentry_cmp (by_keys s placed) p ≡ Some k → leads s n k ≡ false → (r : Option ℕ) → get found_cmp (by_inodes s held) (found_entry p n) ≡ r → None ≡ r
   held_other p k is other None none = refl
   held_other p k is other (Some m) there =
@@ -223,7 +223,7 @@ module _ (s : List (Option Found)) (n : ℕ) where
           let all : (j d : ℕ) → j < length (k ∷ keys) → n < (found_under s (get_or (k ∷ keys) j d)).inode = λ j d lt. omega (arith, above, rises 0 j d (omega arith) lt) in
           ap (λ l. slice_get l m) (none_led keys (λ j d lt. all (suc j) d (omega arith))) ∙ none_nth (k ∷ keys) m all
 
-  -- those before don't lead there
+  -- the keys before don't lead there
   pub led_behind : (keys : List ℕ) (first : ℕ) → first ≤ length keys → ((j d : ℕ) → j < first → (found_under s (get_or keys j d)).inode < n) → keys_of s keys n ≡ keys_of s (drop first keys) n
   led_behind keys zero le before = refl
   led_behind [] (suc first) le before = refl

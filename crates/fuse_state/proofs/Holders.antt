@@ -363,7 +363,7 @@ ended_within s pid idle w = record {
 
 -- ---- handles come and go
 
--- the same processes hold some
+-- who holds some, by a test of processes
 abbrev holders_by : Server → (ℕ → Bool) → List ℕ
 holders_by s test = map (λ e. e.1.uid) (filter (λ e. test e.0) s.processes)
 

@@ -1,5 +1,4 @@
 -- What keeps names in order where one comes or goes.
---     Updated        one slot has changed
 --     added_indexed, added_names        a name that is added
 --     removed_indexed, removed_names        a name that is removed
 use Rattle.std.specs.Prelude.{◌≡◌, ◌≢◌, ℕ, Bool, true, false, cond, List, [], ◌∷◌, get_or, refl, Option, None, Some, unwrap_or, option_map}
@@ -24,7 +23,7 @@ place_at s k = (found_under s k).dentry
 abbrev inode_at : List (Option Found) → ℕ → ℕ
 inode_at s k = (found_under s k).inode
 
--- the names are the places with other values
+-- the names are the dentries with other values
 pub names_valued : (s : List (Option Found)) (keys : List ℕ) → names_under s keys ≡ valued dentry_cmp (inode_at s) (by_keys s keys)
 names_valued s [] = refl
 names_valued s (k ∷ keys) = ap (λ rest. (place_at s k, inode_at s k) ∷ rest) (names_valued s keys)
@@ -49,7 +48,7 @@ module _ (s : List (Option Found)) (placed held : List ℕ) (indexed : IsIndexed
   inodes_stand j d lt =
       indexed.stands _ _ (indexed.has_place _ _ (each_keyed found_total found_anti (found_under s) held indexed.inodes_rise j d lt))
 
-  -- what the names say of a place
+  -- what the names say of a dentry
   pub name_found : (p : Dentry) → get dentry_cmp (names_under s placed) p ≡ get dentry_cmp (valued dentry_cmp (inode_at s) places) p
   name_found p = ap (λ m. get dentry_cmp m p) (names_valued s placed)
 
@@ -77,14 +76,14 @@ module _ (s : List (Option Found)) (placed held : List ℕ) (indexed : IsIndexed
       get_at place_total places p i (entry d) indexed.places_rise at
       ∙ ap (λ (e : Dentry × ℕ). Some e.1) (get_or-map entry placed i d (entry d) (omega (arith, length-map placed entry, at.within)))
 
-  -- what stands under the key of a place
+  -- what stands under the key of a dentry
   pub found_there : (p : Dentry) (k : ℕ) (f : Found) → get dentry_cmp places p ≡ Some k → get_or s k None ≡ Some f → found_entry p f.inode ≡ found_under s k
   found_there p k f is there =
       let same : Some f ≡ Some (found_under s k) = sym there ∙ indexed.stands p k is in
       let one : f ≡ found_under s k = cc in
       ap (λ n. found_entry p n) (ap (λ g. g.inode) one) ∙ ap (λ q. found_entry q (inode_at s k)) (place_is p k is)
 
-  -- where nothing has the place
+  -- where nothing has the dentry
   pub place_missing : (p : Dentry) → get dentry_cmp (names_under s placed) p ≡ None → get dentry_cmp places p ≡ None
   place_missing p none = go (get dentry_cmp places p) refl
     where
@@ -312,7 +311,7 @@ module _ (s : List (Option Found)) (placed held : List ℕ) (indexed : IsIndexed
             ap (λ m. get dentry_cmp m f.dentry) places_left ∙ place_left f k (ap (λ m. get found_cmp m f) (sym inodes_left) ∙ is);
       }
 
-  -- by the place, and by what was found_entry to have it
+  -- by the dentry, and by what was found to have it
   module _ (t : List (Option Found)) (key : ℕ) (others : (k : ℕ) → k ≢ key → get_or t k None ≡ get_or s k None) (p : Dentry) (f : Found) (here : get dentry_cmp places p ≡ Some key)
       (there : get_or s key None ≡ Some f) (i j : ℕ) (at : IsAt places p i) (behind : IsAt inodes (found_entry p f.inode) j) where
     at_its_place : IsAt places (place_at s key) i

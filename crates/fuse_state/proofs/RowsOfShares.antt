@@ -37,7 +37,7 @@ two_have_all = refl
 root_has_all : may_take (crowd 4 46 0 (crowd 12 34 1001 (crowd 32 2 1000 (new_server settings)))) ≡ false ∷ false ∷ true ∷ false ∷ []
 root_has_all = refl
 
--- the same of directories
+-- one user opens directories up to its share
 one_opens_all : may_open (opens 128 1000 (new_server settings)) ≡ false ∷ true ∷ true ∷ true ∷ []
 one_opens_all = refl
 

@@ -78,7 +78,7 @@ pub others_stay : OtherNodesStay
 others_stay s now p n m kind other =
     ap (λ o. 2 ^ 32 * unwrap_or o 0 + m) (set_other s.generations n ((generation_of s n + 1) % 2 ^ 32) m other)
 
--- ---- nodes of what is with_found
+-- ---- nodes of what is found
 
 module _ (s : Server) (p : Dentry) (n : ℕ) (kind : FileType) where
   pub kind_then : (u : Server) → IsSome (kind_known (with_dentry p n kind u) n)
@@ -149,7 +149,7 @@ names_are_kept s p n kind = record {
       get-without place_total place_anti s.names p q ∙ ap (λ b. cond b None (get dentry_cmp s.names q)) (elsewhere p q (λ same. other (sym same)));
 }
 
--- ---- places
+-- ---- dentries
 
 module _ (P : Dentry → Type 0) (n : ℕ) where
   abbrev led : List (Dentry × ℕ) → List Dentry
@@ -170,7 +170,7 @@ module _ (P : Dentry → Type 0) (n : ℕ) where
       go true every = All-tail P e.0 (led m) every
       go false every = every
 
-  -- the same entry before others
+  -- an entry before others
   same_first : (e : Dentry × ℕ) (m others : List (Dentry × ℕ)) → All P (led (e ∷ m)) → All P (led others) → All P (led (e ∷ others))
   same_first e m others all rest = go (e.1 == n) all
     where
@@ -189,7 +189,7 @@ module _ (P : Dentry → Type 0) (n : ℕ) where
       go Equal cmp rest = first_then (e.0, n) m (subst P (place_anti p e.0 cmp) is) (if_first e m all (λ rest. rest))
       go Greater cmp rest = same_first e m (with_entry dentry_cmp m p n) all rest
 
--- what holds of the new name and of each place, holds of each place then
+-- what holds of the new name and of each dentry, holds of each dentry then
 pub all_places_then : (P : Dentry → Type 0) (s : Server) (p : Dentry) (n : ℕ) (kind : FileType) → P p → All P (places_of s n) → All P (places_of (with_dentry p n kind s) n)
 all_places_then P s p n kind new all = all_then P n s.names p new all
 

@@ -1,7 +1,7 @@
 -- What requests for names change of what a server keeps.
 --     is_gone        whether the object that had a number may be no more
---     with_found        where a name is with_found
---     removed, moved, linked, told        where a name goes, leads elsewhere, is added, or is with_found or made by its opening
+--     with_found        where a name is found
+--     removed, moved, linked, told        where a name goes, leads elsewhere, is added, or is found or made by its opening
 use Rattle.std.specs.Prelude.{ℕ, ◌==◌, Bool, true, false, not, ◌&&◌, Option, None, Some, is_some, is_none, if◌then◌else◌}
 use Rattle.fs_model.specs.Limits.{root}
 use Rattle.fs_model.specs.declared.reply.FileType.{FileType}
@@ -14,11 +14,11 @@ use Rattle.fuse_state.specs.Servers.{Server, with_generation, kind_known, number
 abbrev pub is_gone : Server → ℕ → Bool
 is_gone s n = not (n == root) && (is_some (kind_known s n) && (is_none (place_of s n) && is_none (handle_for s n)))
 
--- what is with_found under such a number counts as a new object
+-- what is found under such a number counts as a new object
 abbrev pub renewed : ℕ → Server → Server
 renewed n s = if is_gone s n then with_generation n s else s
 
--- a name is with_found to lead to an object, of which the kernel is told
+-- a name is found to lead to an object, of which the kernel is told
 abbrev pub with_found : Dentry → ℕ → FileType → Server → Server
 with_found p n kind s = once_more n (with_dentry p n kind (renewed n s))
 

@@ -1,7 +1,7 @@
 -- Laws of what a server keeps.
 --     HandlesTellDescriptors        a handle tells its process and its descriptor, so no two of these have the same
 --     NodesLeadBack, StaleNodesLeadNowhere, NewNodesLedNowhere, OtherNodesStay        nodes
---     FoundNodesLeadBack, GoneNodesLeadNowhere, FoundNodesLedNowhere, KnownNodesStay, OtherNodesStayThen        nodes of what is with_found
+--     FoundNodesLeadBack, GoneNodesLeadNowhere, FoundNodesLedNowhere, KnownNodesStay, OtherNodesStayThen        nodes of what is found
 --     NamesAreKept, AddedNamesArePlaces        names
 --     ToldNodesAreCounted, NodesStayUntilForgotten, ForgottenNodesAreFree, ForgettingSparesOthers        what the kernel forgets
 --     NewServersKeepShares, OneMoreKeepsShares, OneFewerKeepsShares, FurtherUsersMayHold, RootMayHold        shares
@@ -39,9 +39,9 @@ NewNodesLedNowhere =
 abbrev pub OtherNodesStay : Type 0
 OtherNodesStay = (s : Server) (now : Time) (p : Dentry) (n m : ℕ) (kind : FileType) → m ≢ n → node_of (with_new_object now p n kind s) m ≡ node_of s m
 
--- ---- nodes of what is with_found
+-- ---- nodes of what is found
 
--- the node of what is with_found leads to its number
+-- the node of what is found leads to its number
 abbrev pub FoundNodesLeadBack : Type 0
 FoundNodesLeadBack =
     (s : Server) (p : Dentry) (n : ℕ) (kind : FileType) → n < 2 ^ 32
@@ -53,7 +53,7 @@ GoneNodesLeadNowhere =
     (s : Server) (p : Dentry) (n : ℕ) (kind : FileType) → n < 2 ^ 32 → IsTrue (is_gone s n)
     → number_of_node (with_found p n kind s) (node_of s n) ≡ None
 
--- and the node of what is with_found led nowhere before.
+-- and the node of what is found led nowhere before.
 abbrev pub FoundNodesLedNowhere : Type 0
 FoundNodesLedNowhere =
     (s : Server) (p : Dentry) (n : ℕ) (kind : FileType) → n < 2 ^ 32 → IsTrue (is_gone s n)
@@ -79,7 +79,7 @@ pub record KeepsNames (s : Server) (p : Dentry) (n : ℕ) (kind : FileType) : Ty
 abbrev pub NamesAreKept : Type 0
 NamesAreKept = (s : Server) (p : Dentry) (n : ℕ) (kind : FileType) → KeepsNames s p n kind
 
--- a name that was added is among the places of its object
+-- a name that was added is among the dentries of its object
 abbrev pub AddedNamesArePlaces : Type 0
 AddedNamesArePlaces = (s : Server) (p : Dentry) (n : ℕ) (kind : FileType) → Contains (places_of (with_dentry p n kind s) n) p
 
@@ -90,7 +90,7 @@ pub record CountsOnce (s t : Server) (n : ℕ) : Type 0 where
   pub counted : lookups_of t (node_of t n) ≡ min most_lookups (lookups_of s (node_of t n) + 1)
   pub besides : (node : ℕ) → node ≢ node_of t n → lookups_of t node ≡ lookups_of s node
 
--- where its object is with_found, is new, or got one more name
+-- where its object is found, is new, or got one more name
 pub record CountsTold (s : Server) (now : Time) (p : Dentry) (n : ℕ) (kind : FileType) : Type 0 where
   pub by_found : CountsOnce s (with_found p n kind s) n
   pub by_born : CountsOnce s (with_new_object now p n kind s) n

@@ -1,10 +1,10 @@
--- Names that stand under keys, in slots, and two lists of these keys: one in the order of places, one by the inodes that they lead to.
+-- Names that stand under keys, in slots, and two lists of these keys: one in the order of dentries, one by the inodes that they lead to.
 --     found_entry, found_under        a name and its inode; what stands under a key
---     found_cmp        the order of names by inodes, and for each inode by places
+--     found_cmp        the order of names by inodes, and for each inode by dentries
 --     compare_place, compare_found, is_lower, leads_to        what a search compares
 --     Stand, keys_of, BeginsAt        under each key stands a name; the keys of an inode's names, and where these begin
 --     by_keys, by_inodes        the keys as the values of two maps
---     names_under        the names, in the order of places
+--     names_under        the names, in the order of dentries
 --     IsIndexed        each name stands in both
 --     HasNameRoom        so many more have room
 use Rattle.std.specs.Prelude.{◌≡◌, ℕ, ◌+◌, ◌<◌, ◌≤◌, ◌==◌, nat_lt, Bool, false, List, [], map, length, slice_index_or, Option, None, Some, unwrap_or}
@@ -58,7 +58,7 @@ by_inodes s keys = map (λ k. (found_under s k, k)) keys
 abbrev pub names_under : List (Option Found) → List ℕ → List (Dentry × ℕ)
 names_under s keys = map (λ k. ((found_under s k).dentry, (found_under s k).inode)) keys
 
--- those of the names that lead to an inode
+-- the keys of the names that lead to an inode
 abbrev pub keys_of : List (Option Found) → List ℕ → ℕ → List ℕ
 keys_of s keys n = filter (λ k. (found_under s k).inode == n) keys
 
@@ -72,7 +72,7 @@ pub record IsIndexed (s : List (Option Found)) (placed held : List ℕ) : Type 0
   pub inodes_rise : IsMap found_cmp (by_inodes s held)
   -- under each key one stands
   pub stands : (p : Dentry) (k : ℕ) → get dentry_cmp (by_keys s placed) p ≡ Some k → slice_index_or s k None ≡ Some (found_under s k)
-  -- what has a place is found_entry by its inode, and the other way round
+  -- what has a dentry is found by its inode, and the other way round
   pub has_inode : (p : Dentry) (k : ℕ) → get dentry_cmp (by_keys s placed) p ≡ Some k → get found_cmp (by_inodes s held) (found_under s k) ≡ Some k
   pub has_place : (f : Found) (k : ℕ) → get found_cmp (by_inodes s held) f ≡ Some k → get dentry_cmp (by_keys s placed) f.dentry ≡ Some k
 

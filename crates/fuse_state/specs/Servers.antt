@@ -4,11 +4,11 @@
 --     lookups_of, once_more        how often the kernel was told a node, and hasn't forgotten it since
 --     forgotten, all_forgotten        it forgets nodes
 --     number_named, with_dentry, without_name, with_new_object        names, all that were found and still stand
---     place_cmp, places_of, place_of        the order of places, and where an object is known
+--     dentry_cmp, places_of, place_of        the order of dentries, and where an object is known
 --     times_of, with_new_contents, with_change_time        times of objects, where the disk keeps none
 --     processes_of, held_by, ..        processes, and the descriptors that they hold
 --     owner_of, descriptor_of, handle_of        a handle is a process and one of its descriptors
---     process_holders, directory_holders        whose processes hold descriptors, and who has with_opened directories
+--     process_holders, directory_holders        whose processes hold descriptors, and who has opened directories
 --     may_take_process, may_open_directory        whether a user may hold one more
 --     with_opened, with_listing, without_directory        open directories
 --     WithinShares        none holds more than it may
@@ -111,7 +111,7 @@ once_more n s = with_lookups (node_of s n) (min most_lookups (lookups_of s (node
 
 -- ---- names
 
--- the order of places: by directories, and in each by names
+-- the order of dentries: by directories, and in each by names
 abbrev pub dentry_cmp : Dentry → Dentry → Ordering
 dentry_cmp p q = ordering_then (nat_cmp p.directory q.directory) (name_cmp p.name q.name)
 
@@ -119,7 +119,7 @@ dentry_cmp p q = ordering_then (nat_cmp p.directory q.directory) (name_cmp p.nam
 abbrev pub number_named : Server → Dentry → Option ℕ
 number_named s p = get dentry_cmp s.names p
 
--- where an object is known by these names, in the order of places
+-- where an object is known by these names, in the order of dentries
 abbrev pub places_in : List (Dentry × ℕ) → ℕ → List Dentry
 places_in names n = map (λ e. e.0) (filter (λ e. e.1 == n) names)
 
@@ -163,7 +163,7 @@ times_with false n times old = with_entry nat_cmp old n times
 abbrev pub with_times_of : ℕ → Times → Server → Server
 with_times_of n times s = record s { times = times_with s.settings.keeps_times n times s.times }
 
--- its contents have with_change_time
+-- the contents of an object have changed
 abbrev pub with_new_contents : Time → ℕ → Server → Server
 with_new_contents now n s = with_times_of n (record (times_of s n) { mtime = now; ctime = now }) s
 
@@ -262,7 +262,7 @@ holds_some s pid = nat_lt 0 (held_by s pid)
 abbrev pub has_room : Server → ℕ → Bool
 has_room s pid = holds_some s pid && nat_lt (held_by s pid) descriptors_limit
 
--- those that hold none
+-- the processes that hold none
 abbrev pub idle : Server → List ℕ → List ℕ
 idle s pids = filter (λ pid. not (holds_some s pid)) pids
 
@@ -304,7 +304,7 @@ without_handle handle s = record s { handles = without nat_cmp s.handles handle 
 
 -- ---- open directories
 
--- the users who with_opened them, with an entry for each directory
+-- the users who opened them, with an entry for each directory
 abbrev pub directory_holders : Server → List ℕ
 directory_holders s = map (λ e. e.1.owner) s.directories
 

@@ -20,7 +20,7 @@ directory_shares = record { open_to_all = 200; of_one = 128; firsts = 40; of_roo
 abbrev pub count_of : List ℕ → ℕ → ℕ
 count_of holders uid = length (filter (λ holder. holder == uid) holders)
 
--- Those of user 0 that take a part which is kept for it.
+-- The things of user 0 that take a part which is kept for it.
 abbrev pub root_part : Shares → ℕ → ℕ
 root_part shares of_root = min of_root shares.of_root
 
@@ -40,7 +40,7 @@ allows shares uid all own of_root = is_open_to shares uid all own || is_kept_for
 abbrev pub may_hold : Shares → List ℕ → ℕ → Bool
 may_hold shares holders uid = allows shares uid (length holders) (count_of holders uid) (count_of holders 0)
 
--- these are all who hold some, beside user 0
+-- the list has all users who hold some, beside user 0
 abbrev pub HasEach : List ℕ → List ℕ → Type 0
 HasEach users holders = (uid : ℕ) → 0 < uid → 0 < count_of holders uid → 0 < count_of users uid
 
@@ -49,7 +49,7 @@ pub record KeepsShares (shares : Shares) (holders : List ℕ) : Type 0 where
   pub all : length holders ≤ shares.open_to_all + shares.firsts + root_part shares (count_of holders 0)
   pub of_users : (users : List ℕ) → HasEach users holders → length holders ≤ shares.open_to_all + length users + root_part shares (count_of holders 0)
 
--- the same things are held, and one more
+-- one more thing is held, by this user
 pub record OneMore (uid : ℕ) (fewer more : List ℕ) : Type 0 where
   pub all : length more ≡ suc (length fewer)
   pub each : (user : ℕ) → count_of more user ≡ cond (uid == user) (suc (count_of fewer user)) (count_of fewer user)

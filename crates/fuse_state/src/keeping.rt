@@ -16,7 +16,7 @@ pub struct Keeping {
 }
 
 impl Keeping {
-    /// It asks anew each time.
+    /// The kernel keeps nothing, and asks anew each time.
     pub fn nothing() -> Keeping
         ensures { result ≡ nothing_kept }
     {

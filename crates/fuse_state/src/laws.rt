@@ -28,7 +28,7 @@ pub fn found_nodes_lead_to_objects()
     ensures others { OtherNodesStayThen }
 {}
 
-/// A name that is added leads to its object, and is among its places; one that is removed leads nowhere; each other leads where it
+/// A name that is added leads to its object, and is among its dentries; one that is removed leads nowhere; each other leads where it
 /// did.
 pub fn names_are_kept()
     ensures names { NamesAreKept }

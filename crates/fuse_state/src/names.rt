@@ -1,4 +1,4 @@
-//! Names that were found, each kept once, and found by its place and by the inode that it leads to.
+//! Names that were found, each kept once, and found by its dentry and by the inode that it leads to.
 //!
 //! A map that hashes would put names in no order, and `BTreeMap` reserves no room.
 ghost use Rattle.std.specs.Prelude.{◌≡◌, ◌+◌, ◌^◌, ◌<◌, ◌≤◌, [], length, drop, slice_get, slice_index_or, None, Some, option_copied, OnOk, IsSome, IfSome, IsNone, IsTrue, IsFalse, MatchResult};
@@ -17,11 +17,11 @@ use std::cmp::Ordering;
 use std::marker::Model;
 use std::mem;
 
-/// Names by their places. Contracts see the entries, the places rising, and for how many more there is memory.
+/// Names by their dentries. Contracts see the entries, the dentries rising, and for how many more there is memory.
 #[derive(Drop)]
 pub(crate) struct Names {
     found: Slab<Found>,
-    // The keys of all names, in the order of their places, and of their inodes and then their places.
+    // The keys of all names, in the order of their dentries, and of their inodes and then their dentries.
     by_place: Vec<usize>,
     by_inode: Vec<usize>,
     room: usize,
@@ -169,7 +169,7 @@ impl Names {
         while self.remove_first(inode) {}
     }
 
-    /// One of the names that lead to an inode, in the order of their places.
+    /// One of the names that lead to an inode, in the order of their dentries.
     pub(crate) fn place_of(&self, inode: u32, at: usize) -> Option<&Dentry>
         ensures { option_copied result ≡ slice_get (places_in self.now.0 inode) at }
     {
@@ -207,7 +207,7 @@ impl Names {
     }
 }
 
-// How what stands under a key compares with a place. Under each key that is asked for something stands.
+// How what stands under a key compares with a dentry. Under each key that is asked for something stands.
 fn compare_place(names: &Slab<Found>, key: usize, dentry: &Dentry) -> Ordering
     ensures { result ≡ compare_place dentry.now (slice_index_or names.now.slots key None) }
 {
@@ -217,7 +217,7 @@ fn compare_place(names: &Slab<Found>, key: usize, dentry: &Dentry) -> Ordering
     }
 }
 
-// The same by inodes first.
+// How what stands under a key compares with an inode first, and then with a dentry.
 fn compare_found(names: &Slab<Found>, key: usize, inode: u32, dentry: &Dentry) -> Ordering
     ensures { result ≡ compare_found (found_entry dentry.now inode) (slice_index_or names.now.slots key None) }
 {
@@ -230,7 +230,7 @@ fn compare_found(names: &Slab<Found>, key: usize, inode: u32, dentry: &Dentry) -
     }
 }
 
-// Where the key of a place stands among the keys in the order of places, or where it would stand.
+// Where the key of a dentry stands among the keys in the order of dentries, or where it would stand.
 fn search_places(names: &Slab<Found>, keys: &[usize], dentry: &Dentry) -> Result<usize, usize>
     requires rising { IsMap dentry_cmp (by_keys names.now.slots keys.now) }
     requires stand { Stand names.now.slots keys.now }
@@ -240,7 +240,7 @@ fn search_places(names: &Slab<Found>, keys: &[usize], dentry: &Dentry) -> Result
     keys.binary_search_by(|key| compare_place(names, *key, dentry))
 }
 
-// The same among the keys by inodes.
+// Where the key of an inode and a dentry stands among the keys by inodes, or where it would stand.
 fn search_inodes(
     names: &Slab<Found>,
     keys: &[usize],
@@ -293,7 +293,7 @@ fn key_behind(keys: &[usize], first: usize, at: usize) -> Option<usize>
     keys[first..].get(at).copied()
 }
 
-// The key of one of an inode's names: of so many in the order of their places.
+// The key of one of an inode's names: of so many in the order of their dentries.
 fn key_of(names: &Slab<Found>, keys: &[usize], inode: u32, at: usize) -> Option<usize>
     requires rising { IsMap found_cmp (by_inodes names.now.slots keys.now) }
     requires stand { Stand names.now.slots keys.now }

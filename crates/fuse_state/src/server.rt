@@ -155,7 +155,7 @@ impl Server {
         self.ended
     }
 
-    /// It is told to end.
+    /// The server is told to end.
     pub fn end(&mut self)
         ensures kept { self.new.server ≡ with_end self.old.server }
         ensures room { self.new.room ≡ self.old.room }

@@ -24,7 +24,7 @@ pub(crate) struct Held {
 }
 
 impl Shares {
-    /// Those of processes that hold descriptors. There are 60 with all that are kept: the machine has 64.
+    /// The shares of processes that hold descriptors. There are 60 with all that are kept: the machine has 64.
     pub(crate) fn of_processes() -> Shares
         ensures { result ≡ process_shares }
     {
@@ -36,7 +36,7 @@ impl Shares {
         }
     }
 
-    /// Those of open directories.
+    /// The shares of open directories.
     pub(crate) fn of_directories() -> Shares
         ensures { result ≡ directory_shares }
     {

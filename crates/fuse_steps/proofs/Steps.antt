@@ -3,7 +3,7 @@
 --     machine-then        after the first goes one that asks nothing
 --     machine-result, machine-gives, machine-stops        steps that ask nothing
 --     machine-needs-some, machine-needs-none, machine-true, machine-false        steps that ask nothing, before the rest
---     machine-attempts        a step of which it is told whether it stopped
+--     machine-attempts        a step of which it is told whether it failed
 --     either, PassedOn        a result, and what `?` makes of an error
 use Rattle.std.specs.Prelude.{◌≡◌, Bool, true, false, ◌&&◌, Option, None, Some, unwrap_or, Result, Ok, Err, IsErr, IsErrAnd, MatchResult, if◌then◌else◌}
 use Rattle.std.specs.Option.{ok_or}
@@ -129,7 +129,7 @@ module _ {M : Type 0} {Serves : M → Event → Reply → M → Type 0} where
     performs = λ s. carries-followed_by (w s) (λ done. Finish (Ok done.0, done.1)) old new new (r, s) (Ok r, s) (first.performs s) (finishes (Ok r, s) new);
   }
 
-  -- the same work, said otherwise
+  -- equal work, said otherwise
   pub machine-same : {X : Type 0} {w v : Work X} {old new : M} {r : Result X RequestError} → w ≡ v → DidByMachine Serves v old new r → DidByMachine Serves w old new r
   machine-same {X} {w} {v} {old} {new} {r} is did = subst (λ (u : Work X). DidByMachine Serves u old new r) (sym is) did
 

@@ -27,7 +27,7 @@ fn refusal_in(reply: &Reply) -> Option<Refusal>
     }
 }
 
-/// A refusal stops: the error is the refusal, with the denial that it may be.
+/// A refusal is an error, with the denial that it may be.
 pub fn unless_refused(reply: Reply) -> Result<Reply, RequestError>
     ensures { unless_refused reply ≡ of_result result }
 {
@@ -74,7 +74,7 @@ pub fn obtain_call<M: Machine>(
     unless_refused(reply)
 }
 
-/// The same of a call that is made once.
+/// The reply to a call of a process that is made once, unless that is a refusal.
 pub fn obtain_once<M: Machine>(
     machine: &mut M,
     pid: usize,
@@ -120,7 +120,7 @@ pub fn between<M: Machine>(
     unless_refused(reply)
 }
 
-/// The same of a call with names of one directory. The name of what it is about comes back.
+/// The reply to a call with names of one directory. The name of what it is about comes back.
 pub fn inside<M: Machine>(
     machine: &mut M,
     pid: usize,
@@ -151,7 +151,7 @@ pub fn done(tried: Result<Reply, RequestError>) -> Result<(), RequestError>
     }
 }
 
-/// Where the work stopped the process closes what it has opened. The reply to that doesn't count.
+/// Where the work failed the process closes what it has opened. The reply to that doesn't count.
 pub fn or_closed<M: Machine, T>(
     machine: &mut M,
     pid: usize,
@@ -171,7 +171,7 @@ pub fn or_closed<M: Machine, T>(
     }
 }
 
-/// The same call, where its reply says no more.
+/// A call with names of one directory, or of two, whose reply says no more than that it was done.
 pub fn done_between<M: Machine>(
     machine: &mut M,
     pid: usize,

@@ -72,7 +72,7 @@ abbrev pub is_copied_whole : Result Copied CopyFault → Bool
 is_copied_whole (Ok copied) = is_whole copied
 is_copied_whole (Err fault) = false
 
--- These events with these replies copy a tree: all of them is done where it is copied whole.
+-- Events with these replies copy a tree: all of them is done where it is copied whole.
 pub record AreCopying (asked : List Asked) (whole : Bool) : Type 0 where
   pub own : All (λ a. IsOfCopying a.event) asked
   pub done : IsTrue whole → All (λ a. IsTrue (is_done a.event a.reply)) asked

@@ -99,6 +99,7 @@ fn pack_directories<R: Files + AllocGlobal, M: FileSystem, E: Write>(
 )
     ensures { Tells M.Serves asker.old.machine asker.new.machine asker.old.is_whole asker.new.is_whole err.old err.new }
 {
+    // Bounded, since each function has to end.
     for _ in 0..u64::MAX {
         let Some(directory) = work.pending.pop() else {
             return;
@@ -273,6 +274,7 @@ fn pack_new<R: Files + AllocGlobal, M: FileSystem>(
 fn finish_directories<M: FileSystem, E: Write>(asker: &mut Asker<M>, work: &mut Work, err: &mut E)
     ensures { Tells M.Serves asker.old.machine asker.new.machine asker.old.is_whole asker.new.is_whole err.old err.new }
 {
+    // Bounded, since each function has to end.
     for _ in 0..u64::MAX {
         let Some(made) = work.made.pop() else {
             return;

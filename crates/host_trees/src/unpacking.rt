@@ -201,6 +201,7 @@ fn unpack_directories<R: Files + AllocGlobal, M: FileSystem, E: Write>(
 )
     ensures { Tells M.Serves asker.old.machine asker.new.machine asker.old.is_whole asker.new.is_whole err.old err.new }
 {
+    // Bounded, since each function has to end.
     for _ in 0..u64::MAX {
         let Some(directory) = work.pending.pop() else {
             return;
@@ -500,6 +501,7 @@ fn finish_directories<R: Files, M: FileSystem, E: Write>(
 )
     ensures { Tells M.Serves asker.old.machine asker.new.machine asker.old.is_whole asker.new.is_whole err.old err.new }
 {
+    // Bounded, since each function has to end.
     for _ in 0..u64::MAX {
         let Some(made) = work.made.pop() else {
             return;

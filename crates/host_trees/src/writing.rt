@@ -23,6 +23,7 @@ pub(crate) fn write_contents<F: Read, M: FileSystem>(
 ) -> Result<(), Lack>
     ensures { Asks M.Serves asker.old.machine asker.new.machine asker.old.is_whole asker.new.is_whole }
 {
+    // Bounded, since each function has to end.
     for _ in 0..u64::MAX {
         let size = read_some(from, room)?;
         if size == 0 {
@@ -37,6 +38,7 @@ pub(crate) fn write_contents<F: Read, M: FileSystem>(
 fn read_some<F: Read>(from: &mut F, room: &mut [u8]) -> Result<usize, Lack>
     ensures { IfOk result (λ size. size ≤ length room.new) }
 {
+    // Bounded, since each function has to end.
     for _ in 0..u64::MAX {
         match from.read(room) {
             Ok(size) => return Ok(size),
@@ -73,6 +75,7 @@ pub(crate) fn read_contents<F: Write, M: FileSystem>(
 ) -> Result<(), Lack>
     ensures { Asks M.Serves asker.old.machine asker.new.machine asker.old.is_whole asker.new.is_whole }
 {
+    // Bounded, since each function has to end.
     for _ in 0..u64::MAX {
         let bytes = read_piece(asker, pid, fd)?;
         if bytes.bytes().is_empty() {

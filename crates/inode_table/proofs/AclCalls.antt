@@ -38,7 +38,7 @@ pub record IsSavedWith (p : Geometry) (n : ℕ) (w : Inode) (sector : Inode → 
   pub bytes : KeepsBytes old.sectors new.sectors (inode_at p old.sectors n) (inode_at p new.sectors n)
   pub used : bit new.sectors p.inode_bitmap n ≡ bit old.sectors p.inode_bitmap n
 
--- it follows where the inode as it is saved, x, has sector y for the ACL, and the fields of w
+-- the promise follows where the inode as it is saved, x, has sector y for the ACL, and the fields of w
 saved_with : {p : Geometry} {n y taken : ℕ} {w x : Inode} {t0 t1 t2 : TxnState} (sector : Inode → ℕ) → IsAclSaved p n (inode_at p t0.sectors n) x taken t0 t1 t2 → sector x ≡ y
     → KeepsFields w x → SameStore t0 t2 → PutsOnly (IsForAcl p y) (bitmaps p) 1 t0 t1 → (y ≡ 0 → TakesSpare p 0 t0 t1)
     → PutsOnly (λ t. t ≡ p.table + n / 4) [] 1 t1 t2 → IsSavedWith p n w sector taken t0 t2

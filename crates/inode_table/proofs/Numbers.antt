@@ -50,7 +50,7 @@ pub entries_read : (a : AccessList) (es : List Entry) (ns : List EntryNumbers) (
     → es ≡ entries_of a
 entries_read a es ns i is end so_far = entries_same es (entries_of a) (so_far ∙ take_all i ns (omega (arith, end)) ∙ is)
 
--- they make the ACL
+-- the entries of a list make it
 pub entries_make : (a : AccessList) (es : List Entry) → IsAcl a → es ≡ entries_of a → IsListOf es a
 entries_make a es is same = record {
   valid = is;

@@ -56,7 +56,7 @@ puts_saving p n x acl inode =
 pub spare_saving : (p : Geometry) (n : ℕ) (old mid new : TxnState) → TakesSpare p 0 old mid → PutsOnly (λ t. t ≡ p.table + n / 4) [] 1 mid new → TakesSpare p 1 old new
 spare_saving p n old mid new taken inode = let beside = (changes_beside inode (bitmaps p)).room in omega (arith, taken, beside)
 
--- these are some of those too
+-- the sectors that a save puts are some of those too
 pub puts_saved : (p : Geometry) (n x : ℕ) {more : ℕ} {old new : TxnState} → PutsOnly (IsForSaving p n x) (bitmaps p) more old new
     → PutsOnly (IsSectorFor p n) (bitmaps p) more old new
 puts_saved p n x puts =

@@ -46,7 +46,7 @@ pub acl_stays : (old new : SectorMap) (s : ℕ) (a : Option AccessList) → (s �
 acl_stays old new s None same h = h
 acl_stays old new s (Some a) same h = (h.0, same h.0 ∙ h.1)
 
--- it takes as many sectors as its content
+-- an ACL takes as many sectors as its content
 pub takes_same : (s : ℕ) (a : Option AccessList) → takes_for s (contents a) ≡ acl_takes s a
 takes_same s None = refl
 takes_same zero (Some a) = refl

@@ -89,7 +89,7 @@ mkdir_is : (path : List ℕ) (mode : ℕ) → row_of (Mkdir path mode) ≡ mkdir
 unfolding row_of
 mkdir_is path mode = refl
 
--- its mode is checked
+-- the mode of mkdir is checked
 pub mkdir_by_path : (path : List ℕ) (mode : ℕ) (checks : Checked) → checks ≡ checked (check_of_mode mode) → WalksPath (Mkdir path mode) checks Parent path mkdir_demands (mkdir_effect mode)
 mkdir_by_path path mode checks are = record {
   arguments = check_of_mode mode ∷ [];

@@ -80,7 +80,7 @@ symlink_is : (target path : List ℕ) → row_of (Symlink target path) ≡ symli
 unfolding row_of
 symlink_is target path = refl
 
--- its target is checked
+-- the target of symlink is checked
 pub symlink_by_path : (target path : List ℕ) (checks : Checked) → checks ≡ checked (first_of (symlink_arguments target))
     → WalksPath (Symlink target path) checks Parent path symlink_demands (symlink_effect target)
 symlink_by_path target path checks are = record { arguments = symlink_arguments target; row = symlink_is target path; are_checked = are; asks = refl }

@@ -87,7 +87,7 @@ module _ {p : Geometry} {map : SectorMap} {t : Tree} (h : HoldsTree p map t) (f 
   kind_is = ap (λ (b : Bool). refuse ENOTDIR (not b))
       (ap (λ (w : Inode). is_directory_kind w.kind) i.inode ∙ held_kind h n node.node node.at ∙ sym (ap (λ (u : Node). is_directory u.body) node.is))
 
-  -- it is no directory
+  -- what is entered is no directory
   pub other_kind_refuses : Refuses (refuse ENOTDIR (not (is_directory_kind v.kind))) (first_of (enter_asked cred t f))
   other_kind_refuses =
       refuses_next (must_be_there f) (other_kind ∷ searched ∷ []) i.met (λ (e : Refusal) is. refuses_first other_kind (searched ∷ []) e (sym kind_is ∙ is))
@@ -118,13 +118,13 @@ module _ {p : Geometry} {map : SectorMap} {t : Tree} (h : HoldsTree p map t) (f 
         ∙ ap (λ (b : Bool). if b then None else decided 1 f.step Search (verdict cred a.access search_only))
         (directory_access t n a directory)
 
-    -- it may not be searched
+    -- the directory may not be searched
     pub search_refuses : Refuses (decided 1 f.step Search (verdict cred access search_only)) (first_of (enter_asked cred t f))
     search_refuses =
         refuses_next (must_be_there f) (other_kind ∷ searched ∷ []) i.met
         (refuses_next other_kind (searched ∷ []) kind_met (λ (e : Refusal) is. refuses_first searched [] e (search_is ∙ is)))
 
-    -- it may
+    -- the directory may be searched
     pub entered : refused_or {A = Unit {0}} (decided 1 f.step Search (verdict cred access search_only)) (Ok tt) ≡ Ok tt → first_of (enter_asked cred t f) ≡ None
     entered asked =
         both_met (must_be_there f) (other_kind ∷ searched ∷ []) i.met

@@ -154,7 +154,7 @@ module _ {p : Geometry} {map : SectorMap} {processes : ProcessTable} {q : Proces
     pub source_node : IsNode p.version map s.tree f n v
     source_node = node_of (state_tree i.is_state) f n v k.number k.inode (first_there i n k.some)
 
-    -- it is no directory
+    -- what is linked is no directory
     pub source_kind : IsFalse (is_directory source_node.node.body)
     source_kind =
         let rest = then_met (must_be_there f) _ (then_met (refuse EPERM (is_special f)) _ source_met) in
@@ -163,7 +163,7 @@ module _ {p : Geometry} {map : SectorMap} {processes : ProcessTable} {q : Proces
         (first_met (refuse EPERM (is_found f && is_directory (the_node s.tree (number f)).body)) None last) in
         ap (λ (u : Node). is_directory u.body) (sym source_node.is) ∙ and_false (is_found f) (is_directory (the_node s.tree (number f)).body) other (ap is_some k.some)
 
-    -- its inode says how many names it has
+    -- the inode of what is linked says how many names it has
     pub source_names : v.names ≡ names_of s.tree n
     source_names = source_node.holds.names ∙ field_is source_node.node.body (names_of s.tree n) source_kind
 

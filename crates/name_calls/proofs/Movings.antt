@@ -329,7 +329,7 @@ module _ {p : Geometry} (old : TxnState) {processes : ProcessTable} {s : State} 
         pub replaced_number : IsNumber p Inodes m
         replaced_number = ((at.is_state.tree.each m replaced.node replaced.at).positive, node_below s p at.is_state at.same_room m replaced.node replaced.at)
 
-        -- its inode stands as before
+        -- the inode of what is replaced stands as before
         pub replaced_same : inode_at p now m ≡ inode_at p old.sectors m
         replaced_same =
             follow_same m replaced_number.1 (may.other m led)

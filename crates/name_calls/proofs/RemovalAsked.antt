@@ -114,7 +114,7 @@ module _ {p : Geometry} {map : SectorMap} {t : Tree} (h : HoldsTree p map t) {f 
         ∙ ap (λ (u : Node). refuse ENOTDIR (f.slash && not (is_directory u.body))) node.is
         ∙ ap (λ (b : Bool). refuse ENOTDIR (f.slash && not b)) (sym (body_kind_is p.version map v node.node.body node.holds.body))
 
-    -- it is no directory, and named as one
+    -- what is removed is no directory, and named as one
     pub removal_slashed : Refuses (refuse ENOTDIR (f.slash && not (is_directory_kind v.kind))) (first_of (removal_asked cred t f))
     removal_slashed =
         refuses_next absent (slashed ∷ allowed ∷ yielded ∷ []) i.met
@@ -156,7 +156,7 @@ empty_says [] empty says = sym (says.1 refl)
 empty_says (x ∷ xs) true says = let none = says.0 refl in absurd (cc)
 empty_says (x ∷ xs) false says = refl
 
--- it is a directory that isn't in use, and a test says whether it has names
+-- what is removed is a directory that isn't in use, and a test says whether it has names
 pub directory_checked : (version : Version) (image : SectorMap) (v : Inode) (b : Body) → HoldsBody version image v b → v.kind ≡ kinds.Directory → (used empty : Bool) → used ≡ false
     → ((names : List (List ℕ × ℕ)) → HasNames version image v names → (IsTrue empty → names ≡ []) × (names ≡ [] → IsTrue empty))
     → first_of (directory_asked b used) ≡ refuse ENOTEMPTY (not empty)

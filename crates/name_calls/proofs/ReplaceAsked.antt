@@ -354,7 +354,7 @@ module _ {p : Geometry} {map : SectorMap} {processes : ProcessTable} {f g : Foun
         ∙ ap (λ (c : ℕ). refuse ENOSPC (nat_lt c least_free) ∷ refuse ENOSPC (nat_le s.room.entries_limit (length (names_of_body (the_node s.tree g.dir).body))) ∷ []) r.is_state.free_is
         ∙ ap (λ (k : Room). refuse ENOSPC (nat_lt (free_sectors p map) least_free) ∷ refuse ENOSPC (nat_le k.entries_limit (length (names_of_body (the_node s.tree g.dir).body))) ∷ []) r.is_state.same_room
 
--- the same after reads
+-- what is asked of a rename holds after reads too
 pub to_rename_kept : {p : Geometry} {old new : TxnState} {processes : ProcessTable} {f g : Found} {n : ℕ} {v : Inode} {there : Option (ℕ × Inode)} {s : State} → IsUnchanged old new
     → IsToRename p old.sectors processes f g n v there s → IsToRename p new.sectors processes f g n v there s
 to_rename_kept {p} {old} {new} {processes} {f} {g} {n} {v} {there} {s} same r = kept (λ (m : SectorMap). IsToRename p m processes f g n v there s) same r
@@ -395,7 +395,7 @@ module _ {p : Geometry} {map : SectorMap} {t : Tree} (h : HoldsTree p map t) (g 
         ∙ ap (λ (b : Bool). refuse EBUSY (b && is_in_use processes (number g)) ∷ refuse ENOTEMPTY (not (is_empty (names_of_body body))) ∷ []) is
         ∙ ap (λ (o : Option ℕ). refuse EBUSY (d && is_in_use processes (unwrap_or o 0)) ∷ refuse ENOTEMPTY (not (is_empty (names_of_body body))) ∷ []) some
 
-    -- it is no directory
+    -- what is replaced is no directory
     pub other_replaced : is_directory_kind (inode_at p map m).kind ≡ false → first_of (replaced_asked t processes g) ≡ None
     other_replaced other =
         ap first_of (here false (kind_is ∙ other))
@@ -405,7 +405,7 @@ module _ {p : Geometry} {map : SectorMap} {t : Tree} (h : HoldsTree p map t) (g 
     pub there_body : (v : Inode) → v ≡ inode_at p map m → IsNode p.version map t g m v
     there_body v is = node_of h g m v (ap (λ (o : Option ℕ). unwrap_or o 0) some) is (there m some)
 
-    -- it is one
+    -- what is replaced is a directory
     pub directory_replaced : (v : Inode) (is : v ≡ inode_at p map m) → v.kind ≡ kinds.Directory
         → first_of (directory_asked (there_body v is).node.body (is_in_use processes m)) ≡ first_of (replaced_asked t processes g)
     directory_replaced v is kind =

@@ -1,6 +1,6 @@
 -- A name that is taken from its directory, and what it led to.
 --     named_there, is_number, target_held, target_named        what stands before
---     target_same, target_held_then        what it leads to stands as before, once the name is gone from the directory
+--     target_same        what it leads to stands as before, once the name is gone from the directory
 --     field_named, field_is        the count of names that an inode stores
 --     left_counts, left_held, left_drops        what is left of a node that loses a name
 --     taken_holds        the map holds the tree without the name

@@ -79,7 +79,7 @@ module _ {p : Geometry} {map : SectorMap} {t : Tree} (h : HoldsTree p map t) (f 
   kind_is : refuse EINVAL (not (is_link_kind v.kind)) ≡ other_kind
   kind_is = ap (λ (b : Bool). refuse EINVAL (not b)) (link_says p.version map v node.node.body node.holds.body ∙ sym (ap (λ (u : Node). is_link u.body) node.is))
 
-  -- it is no link
+  -- what was found is no link
   pub other_kind_refused : {A : Type 0} (x : A) (e : Refusal) (old new : DiskState) → refused_or {A = Unit {0}} (refuse EINVAL (not (is_link_kind v.kind))) (Ok tt) ≡ Err e
       → IsAnswered old new (refused_or {A = A} (first_of (must_be_there f ∷ other_kind ∷ [])) (Ok x)) (Err e)
   other_kind_refused {A} x e old new is =

@@ -67,7 +67,7 @@ abbrev pub kind_asked : Target → Body → Bool → List Demand
 kind_asked NoDirectory b used = refuse EISDIR (is_directory b) ∷ []
 kind_asked Directory b used = directory_asked b used
 
--- the same of what was found, if something was
+-- asked of what was found, if something was
 abbrev pub target_asked : Target → Scene → List Demand
 target_asked NoDirectory s = refuse EISDIR (is_directory_found s s.first) ∷ []
 target_asked Directory s =

@@ -42,12 +42,12 @@ abbrev pub inode_there : Geometry → SectorMap → Option ℕ → Option (ℕ �
 inode_there p map None = None
 inode_there p map (Some n) = Some (n, inode_at p map n)
 
--- it is there, and no directory
+-- what was found is there, and no directory
 abbrev pub other_kind : Option (ℕ × Inode) → Bool
 other_kind None = false
 other_kind (Some x) = not (is_directory_kind x.1.kind)
 
--- it is there, and a directory
+-- what was found is there, and a directory
 abbrev pub directory_kind : Option (ℕ × Inode) → Bool
 directory_kind None = false
 directory_kind (Some x) = is_directory_kind x.1.kind

@@ -9,9 +9,9 @@ pub struct Descriptor {
     pub number: u32,
     /// The byte at which the next read or write begins.
     pub offset: u64,
-    /// It was opened for reading.
+    /// The file was opened for reading.
     pub read: bool,
-    /// It was opened for writing.
+    /// The file was opened for writing.
     pub write: bool,
     /// Each write goes to the end: `O_APPEND`.
     pub append: bool,
@@ -24,5 +24,6 @@ impl Model for Descriptor {
 
     ghost view = { λ d. record { number = d.number; offset = d.offset; read = d.read; write = d.write; append = d.append } };
 
+    // A descriptor is told by what a contract sees of it.
     ghost inverse = { λ d. record { number = d.number; offset = d.offset; read = d.read; write = d.write; append = d.append } };
 }

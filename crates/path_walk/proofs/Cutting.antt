@@ -58,7 +58,7 @@ one_more n = omega arith
 abbrev slashes : List ℕ → ℕ
 slashes path = position_or_len (λ b. not (b == 47)) path
 
--- they make no components
+-- slashes make no components
 without_slashes : (path : List ℕ) → components_of path ≡ components_of (drop (slashes path) path)
 without_slashes [] = refl
 without_slashes (b ∷ path) = go (b == 47) refl (without_slashes path)

@@ -99,11 +99,11 @@ parent_says (Dir a d) parent is = refl
 parent_says (Link target) parent is = absurd (cc)
 
 module _ {p : Geometry} {image : SectorMap} {t : Tree} (h : HoldsTree p image t) where
-  -- its number is one of the disk
+  -- the number of a node is one of the disk
   pub number_below : (n : ℕ) → IsThere t n → n < p.inodes
   number_below n there = let s = stands t n there in (h.tree.each n s.node s.at).below
 
-  -- its inode holds it
+  -- the inode of a node holds it
   pub held_node : (n : ℕ) (node : Node) → node_at t n ≡ Some node
       → HoldsNode p.version image (inode_at p image n) (record { node = node; names = names_of t n; parent = parent t n })
   held_node n node at =

@@ -137,7 +137,7 @@ module _ (room : Room) (t : Tree) (cred : Credential) (form : Form) where
         ∙ ap (λ (v : Walker). Ok (found_at v.step (last_done v) None v.slash)) (sym is)
 
     module _ (n : ℕ) (a : answer ≡ Ok (Some n)) where
-      -- it stands at what was found
+      -- the walk stands at what was found
       pub moved_stage : reached (follow || not (is_empty (names_ahead w))) n (node_at t n) ≡ Reaches n → (new : Walker) → (v : Inode)
           → new ≡ (record w { step = w.step + 1; here = n; inode = v }) → stage ≡ stage_of room t cred form follow new (names_ahead new)
       moved_stage r new v is =
@@ -147,7 +147,7 @@ module _ (room : Room) (t : Tree) (cred : Credential) (form : Form) where
           ∙ ap (λ (d : ℕ). rest_of t cred w.number form (w.step + 1) (done d w.name.items) (trail_with room t follow w.links n (names_ahead w) w.slash)) (sym taken)
           ∙ ap (λ (u : Walker). stage_of room t cred form follow u (names_ahead u)) (sym is)
 
-      -- it is a link to be followed
+      -- what was found is a link to be followed
       module _ (target : List ℕ) (r : reached (follow || not (is_empty (names_ahead w))) n (node_at t n) ≡ Through target) where
         link_stage : stage ≡ behind t cred w.number form w.here w.name.items (names_ahead w) w.slash w.step (links_behind t cred w.number form room follow w.links) target
         link_stage =

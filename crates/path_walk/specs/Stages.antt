@@ -38,7 +38,7 @@ abbrev pub stage_of : Room → Tree → Credential → Form → Bool → Walker 
 stage_of room t cred form follow w names =
     rest_of t cred w.number form w.step (last_done w) (trail_with room t follow w.links w.here names w.slash)
 
--- it has the inode at which it stands
+-- a walk has the inode at which it stands
 pub record StandsAt (p : Geometry) (image : SectorMap) (w : Walker) : Type 0 where
   pub below : w.here < p.inodes
   pub inode : w.inode ≡ inode_at p image w.here
@@ -53,7 +53,7 @@ pub record HasRoom (w : Walker) : Type 0 where
   pub ahead : bytes_ahead w + 513 * w.links < 21544
   pub steps : w.step + (bytes_ahead w + 21544 * w.links) < 21544 * 41
 
--- it is at the start of a path
+-- a walk is at the start of a path
 pub record IsStart (cwd : ℕ) (path : List ℕ) (number : ℕ) (w : Walker) : Type 0 where
   pub number_is : w.number ≡ number
   pub here : w.here ≡ start_of (parts_of path) cwd
@@ -76,7 +76,7 @@ abbrev pub IsNextOf : Walker → Walker → Bool → Type 0
 IsNextOf old new true = HasTaken old new
 IsNextOf old new false = (names_ahead old ≡ []) × (new ≡ old)
 
--- it goes on behind a link with this target
+-- a walk goes on behind a link with this target
 pub record IsBehind (target : List ℕ) (is_last : Bool) (old new : Walker) : Type 0 where
   pub here : new.here ≡ start_of (parts_of target) old.here
   pub rest : new.rest.items ≡ target ++ (slash ∷ drop old.at old.rest.items)

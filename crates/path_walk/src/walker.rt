@@ -37,7 +37,7 @@ pub(crate) struct Walker {
     pub number: u8,
     /// What was reached: a directory, if a name is still to be looked up.
     pub here: u32,
-    /// Its inode.
+    /// The inode of what was reached.
     pub inode: Inode,
     /// The path, with the targets of the links that were followed, from `at` on.
     pub rest: Vec<u8>,

@@ -5,7 +5,7 @@ use fs_layout::Version;
 /// The sectors of a disk.
 pub const SECTORS: u32 = 1024;
 
-/// Those of one with a file system of this version: where the log has two areas, they take half of it.
+/// The sectors of a disk with a file system of this version: where the log has two areas, they take half of it.
 pub fn sectors_of(version: Version) -> u32 {
     match version {
         Version::One | Version::Two => SECTORS,
@@ -13,5 +13,5 @@ pub fn sectors_of(version: Version) -> u32 {
     }
 }
 
-/// Its inodes, 0 too.
+/// The inodes of a disk, 0 too.
 pub const INODES: u32 = 64;

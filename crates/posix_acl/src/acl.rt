@@ -66,7 +66,7 @@ impl Acl {
         ensures all { result.now ≡ entries_of self.now }
         ensures valid { IsAcl self.now }
 
-        // They make this list again, and so do their numbers.
+        // The entries make this list again, and so do their numbers.
         ensures plain { plain_entries result.now ≡ result.now }
         ensures faultless { first_fault result.now ≡ None }
         ensures only { (a : AccessList) → IsListOf result.now a → a ≡ self.now }

@@ -16,7 +16,7 @@ use std::{env, fs, mem, process};
 // What becomes of an image before the program runs.
 enum Change {
     Nothing,
-    // This byte at this place.
+    // The byte at this place becomes this one.
     Byte(usize, u8),
     // So many of its first bytes are left.
     Cut(usize),
@@ -143,7 +143,7 @@ keeps_times yes
 pending no
 ";
 
-// The same of a disk of version 3.
+// What a check says of a new disk of version 3.
 const NEW_LARGE: &str =
     "clean files 0 dirs 1 links 0 nameless 0 blocks 1518 inodes 62 pending no\n";
 
@@ -154,7 +154,7 @@ const REPLIES: &str = "pid 1\nok\nfd 0\nwrote 1\nok\n";
 
 const FILLED: &str = "clean files 1 dirs 2 links 1 nameless 0 blocks 875 inodes 59 pending no\n";
 
-// Its blocks have two slots, so that three names take two.
+// A block of version 3 has two slots, so that three names take two.
 const FILLED_LARGE: &str =
     "clean files 1 dirs 2 links 1 nameless 0 blocks 1514 inodes 59 pending no\n";
 
@@ -407,7 +407,7 @@ fn push_rows(rt: &HostRuntime, folder: &str, report: &mut String) -> Result<(), 
     Ok(())
 }
 
-// The same in a folder that is there for the rows alone.
+// Adds what the rows come to in a folder that is there for them alone.
 fn push_others(rt: &HostRuntime, report: &mut String) -> Result<(), Fail> {
     let folder = folder(rt)?;
     fs::create_dir(rt, folder.as_str())?;

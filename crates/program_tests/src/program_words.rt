@@ -17,7 +17,7 @@ fn parsed(alloc: Global, line: &str) -> Result<Result<Job, WordsFault>, AllocErr
     Ok(outcome)
 }
 
-// The same as a text.
+// What the words of a line ask for, as a text.
 fn asked(alloc: Global, line: &str) -> Result<String, AllocError> {
     let outcome = parsed(alloc, line)?;
     let told = match &outcome {

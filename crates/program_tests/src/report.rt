@@ -10,7 +10,7 @@ fn push_other(report: &mut String, row: &str, seen: &str, wanted: &str) -> Resul
     writeln!(report, "{row}\nwas\n{seen}")
 }
 
-// The same of a text that is let go.
+// Adds to the report what a row comes to, where another text was seen than is wanted. The text is let go.
 pub(crate) fn push_other_text(
     report: &mut String,
     row: &str,

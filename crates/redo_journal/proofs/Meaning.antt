@@ -67,7 +67,7 @@ commit_stays size old new ts super commit header is =
       valid = subst (λ s. AreTargets (header_of s) size ts) (sym super) is.valid;
     }
 
--- the same where all is the same before the bitmaps
+-- the commit stays where all is the same before the bitmaps
 commit_stays_low : (size : ℕ) (old new : SectorMap) (ts : List ℕ) → ((n : ℕ) → n < log_end (header_of (old 0)) → new n ≡ old n) → IsCommit size old ts → IsCommit size new ts
 commit_stays_low size old new ts low is =
     let room = area_room (header_of (old 0)) (named_area old) in

@@ -6,7 +6,7 @@ use Rattle.fs_layout.specs.Commit.{AreTargets, IsCommit, IsSpelled, IsValidCommi
 use Rattle.fs_layout.specs.Header.{log_end, header_of, max_targets, area_start}
 use Rattle.fs_layout.proofs.Targets.{length-named, named_by_numbers, not_valid, word_of}
 
--- it counts more targets than the header has room for
+-- a commit counts more targets than the header has room for
 pub too_many : (header size : ℕ) (zero one : List ℕ) (image : SectorMap) → size < 2 ^ 32 → header ≡ header_of zero → zero ≡ image 0 → one ≡ image 1 → max_targets header < u32_of one 4 % 0x8000_0000 → IsValidCommit size image → ⊥
 too_many header size zero one image small is at_zero at_one many =
     let same : header ≡ header_of (image 0) = is ∙ ap header_of at_zero in
@@ -14,7 +14,7 @@ too_many header size zero one image small is at_zero at_one many =
     not_valid size image (named_targets image (named_count image)) small refl
     (λ valid bytes. let few : length (named_targets image (named_count image)) ≤ max_targets (header_of (image 0)) = valid.few in omega (arith, few, length-named image (named_count image), same, count, many))
 
--- its log lies on the disk, where it is valid
+-- the log of a commit lies on the disk, where that is valid
 pub log_there : (header size count : ℕ) (zero one : List ℕ) (image : SectorMap) → header ≡ header_of zero → zero ≡ image 0 → one ≡ image 1 → count ≡ u32_of one 4 % 0x8000_0000 → IsValidCommit size image
     → 0 < count → log_end header ≤ size
 log_there header size count zero one image is at_zero at_one counts valid some =
@@ -24,7 +24,7 @@ log_there header size count zero one image is at_zero at_one counts valid some =
     let range = valid.is.valid.in_range 0 0 fits in
     subst (λ (h : ℕ). log_end h ≤ size) (sym same) (omega (arith, range.0, range.1))
 
--- its targets are not valid, or its sector is no spelling of them
+-- the targets of a commit are not valid, or its sector is no spelling of them
 pub other_targets : (header size from : ℕ) (zero one : List ℕ) (image : SectorMap) (counted ts : List ℕ) → size < 2 ^ 32 → header ≡ header_of zero → zero ≡ image 0 → one ≡ image 1
     → from ≡ area_start header (u32_of one 4 / 0x8000_0000)
     → length counted ≡ u32_of one 4 % 0x8000_0000 → ((i : ℕ) → i < 126 → i < length counted → get_or counted i 0 ≡ u32_of one (8 + 4 * i))
@@ -42,7 +42,7 @@ other_targets header size from zero one image counted ts small is at_zero at_one
     area_start_is : (header from : ℕ) (zero one : List ℕ) (image : SectorMap) → header ≡ header_of zero → zero ≡ image 0 → one ≡ image 1 → from ≡ area_start header (u32_of one 4 / 0x8000_0000) → from ≡ named_start image
     area_start_is header from zero one image is at_zero at_one starts = starts ∙ (λ j. area_start ((is ∙ ap header_of at_zero) j) (u32_of (at_one j) 4 / 0x8000_0000))
 
--- it is valid
+-- the commit is valid
 pub found_commit : (header size from : ℕ) (zero one : List ℕ) (image : SectorMap) (counted ts : List ℕ) → header ≡ header_of zero → zero ≡ image 0 → one ≡ image 1
     → from ≡ area_start header (u32_of one 4 / 0x8000_0000) → length ts ≡ length counted
     → ((k : ℕ) → 126 + k < length counted → u32_of (image (from + k / 128)) (4 * (k % 128)) ≡ get_or ts (126 + k) 0)

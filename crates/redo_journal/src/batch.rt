@@ -141,7 +141,7 @@ impl Batch {
         Some(&self.contents[at])
     }
 
-    // It has a content for the sector.
+    // The batch has a content for the sector.
     fn has(&self, n: u32) -> bool
         ensures { result ≡ has_entry self.now.entries n }
     {
@@ -156,7 +156,7 @@ impl Batch {
         self.sectors.len()
     }
 
-    /// It has no sectors.
+    /// The batch has no sectors.
     pub fn is_empty(&self) -> bool
         ensures { IsTrue result ↔ (self.now.entries ≡ []) }
     {

@@ -58,7 +58,7 @@ fn has_log(counted: &Commit, header: u32, size: u32) -> bool
     log_end(header) <= size
 }
 
-// Those targets too that stand in the header, which begins at this sector.
+// Reads the targets of the header too, which begins at sector `from`.
 fn read_targets<D: Disk>(
     disk: &mut D,
     header: u32,
@@ -83,7 +83,7 @@ fn read_targets<D: Disk>(
     Ok(commit)
 }
 
-// Those of one header sector.
+// Reads the targets that stand in one header sector.
 fn read_header<D: Disk>(
     disk: &mut D,
     from: u32,

@@ -106,7 +106,7 @@ pub record HasCause {T E : Type 0} (old new : DiskState) (result : Result T E) :
 abbrev pub HasFailedToWrite : DiskState → DiskState → Type 0
 HasFailedToWrite old new = (old.failed_writes < new.failed_writes) ⊎ (new.failures ≡ 2 ^ 64 - 1)
 
--- the same of the count of failed writes and syncs
+-- the count of failed writes and syncs doesn't fall, and an error is told only where a write or a sync has failed since
 pub record HasWriteCause {T E : Type 0} (old new : DiskState) (result : Result T E) : Type 0 where
   pub later : old.failed_writes ≤ new.failed_writes
   pub fault : OnErr result (HasFailedToWrite old new)
@@ -144,6 +144,6 @@ pub record IsImageOr (R : ℕ → List ℕ → Type 0) (disk : DiskState) (image
   pub size : length image ≡ disk.size
   pub each : (n : ℕ) → n < disk.size → disk.may_hold n (sector image n) ⊎ R n (sector image n)
 
--- this content in this sector: what one write allows
+-- one write allows this content in this sector
 abbrev pub IsWrite : ℕ → List ℕ → ℕ → List ℕ → Type 0
 IsWrite at written n content = (n ≡ at) × (content ≡ written)

@@ -11,7 +11,7 @@ pub record Faulty (D : Type 0) : Type 0 where
   pub failed_reads : ℕ
   pub failed_writes : ℕ
 
--- the same disk, with more failures, as far as they can be counted
+-- a disk with more failures, as far as they can be counted
 abbrev pub with_failures : DiskState → ℕ → ℕ → DiskState
 with_failures disk reads writes =
     record disk { failures = min (disk.failures + (reads + writes)) (2 ^ 64 - 1); failed_writes = disk.failed_writes + writes }

@@ -66,7 +66,7 @@ pub record KeepsFile (disk : DiskState) (waiting : List ℕ) (all_wait : Bool) (
   pub allowed : (n : ℕ) (content : List ℕ) → n < disk.size → MayHold held n content → disk.may_hold n content
   pub same : (n : ℕ) → n < disk.size → Lacks waiting all_wait n ⊎ (sector (file_seen held) n ≡ sector disk.seen n)
 
--- the same of a file of which it may be known what it holds
+-- a file is as `KeepsFile` says, if it is known what it holds
 abbrev pub KeepsKnown : DiskState → List ℕ → Bool → Option Held → Type 0
 KeepsKnown disk waiting all_wait file = ∥ IfSome file (KeepsFile disk waiting all_wait) ∥₁
 
@@ -76,6 +76,6 @@ pub record KeepsBefore (disk : DiskState) (first : ℕ) (held : Held) : Type 0 w
   pub allowed : (n : ℕ) (content : List ℕ) → n < disk.size → MayHold held n content → disk.may_hold n content
   pub same : (n : ℕ) → n < disk.size → n < first → sector (file_seen held) n ≡ sector disk.seen n
 
--- the same of a file of which it may be known what it holds
+-- a file is as `KeepsBefore` says, if it is known what it holds
 abbrev pub FollowsBefore : DiskState → ℕ → Option Held → Type 0
 FollowsBefore disk first file = ∥ IfSome file (KeepsBefore disk first) ∥₁

@@ -39,6 +39,6 @@ pub record IsRunSet (first : ℕ) (run old new : Image) : Type 0 where
   pub before : (n : ℕ) → n < first → sector new n ≡ sector old n
   pub behind : (n : ℕ) → first + length run ≤ n → sector new n ≡ sector old n
 
--- These places are neighbours, from `start` on.
+-- Some places are neighbours, from `start` on.
 abbrev pub IsRow : ℕ → List ℕ → Type 0
 IsRow start places = (k : ℕ) → k < length places → get_or places k 0 ≡ start + k

@@ -74,7 +74,7 @@ pub trait Disk {
     /// What reads give is one of the images that a stop may leave.
     ghost seen_is_image: { (disk : Self) → IsImage (state disk) (state disk).seen };
 
-    /// This moment is one of those since an earlier one.
+    /// The present moment is one of those since an earlier one.
     ghost counts_now: { (disk : Self) (t : ℕ) (image : Image) → t ≤ (state disk).moment → IsImage (state disk) image → (state disk).left_since t image };
 
     /// Since this moment there is no other.

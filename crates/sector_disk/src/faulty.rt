@@ -85,7 +85,7 @@ impl<D: Disk, const FAULTS: u64> FaultyDisk<D, FAULTS> {
         Ok(())
     }
 
-    // The same of a write or a sync.
+    // Counts a write or a sync, which reaches the disk below where it is Ok.
     fn pass_write(&mut self) -> Result<(), DiskFault>
         ensures disk { self.new.disk ≡ self.old.disk }
         ensures failures { OnOk result (self.new ≡ self.old) }

@@ -20,7 +20,7 @@ use std::rt::Files;
 // What of a longer file lies behind so many sectors is no part of the disk.
 const MAX_SECTORS: u32 = 65_537;
 
-// The same of a large one: one sector more than any layout has.
+// A large disk has at most so many sectors: one more than any layout has.
 const MAX_LARGE_SECTORS: u32 = 16_777_217;
 
 // So many neighbours are read or written in one call: a MiB.
@@ -69,6 +69,7 @@ pub struct FileDisk<F: DiskFile> {
     all_wait: bool,
     // What goes between the file and memory. Its room is there from the start.
     buffer: Vec<[u8; 512]>,
+    // The buffer takes a sector at least, and what waits is on the disk.
     ghost room: { 0 < length buffer.items },
     ghost in_disk: { All (λ n. n < length memory.value.history.start) waiting.items },
     // A stop leaves in the file nothing but what the disk says.

@@ -24,6 +24,7 @@ pub struct MemDisk {
     // How many writes and syncs pass before all fail.
     armed: Option<u64>,
     failures: u64,
+    // What `Disk` wants to be told of any disk: its size is a u32, its count a u64, and each sector has 512 bytes.
     ghost small: { length history.start < 2 ^ 32 },
     ghost counted: { failures < 2 ^ 64 },
     ghost whole: { AreWhole history },
@@ -47,7 +48,7 @@ impl MemDisk {
         Ok(MemDisk::with_sectors(alloc, kept))
     }
 
-    /// The same of sectors as a disk keeps them.
+    /// A disk of sectors as a disk keeps them, all of them stable.
     pub(crate) fn with_sectors(alloc: Global, sectors: Sectors) -> Self
         requires { length sectors.shown < 2 ^ 32 }
         ensures { IsFresh (⟦<MemDisk as Disk>⟧.state result) sectors.shown }

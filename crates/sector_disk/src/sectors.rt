@@ -202,7 +202,7 @@ impl Sectors {
         }
     }
 
-    /// Each has 512 bytes.
+    /// Does nothing: tells a proof that each sector has 512 bytes.
     pub fn tell_whole(&self)
         ensures { AreSectors self.now.shown }
     {

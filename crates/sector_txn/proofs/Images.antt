@@ -63,7 +63,7 @@ second_map run = record { size = run.size; any_moment = weaker (λ image. ⊎_el
 pub first_map : {before after : SectorMap} {old new : DiskState} → LeavesOldOr before old new → LeavesOneOf before after old new
 first_map run = record { size = run.size; any_moment = weaker (λ image. ⊎_elim (λ means. inl means) (⊎_elim (λ reads. inr (inl reads)) (λ reads. inr (inl reads)))) run.any_moment }
 
--- the same of maps with the same data
+-- what is left is so of maps with the same data
 pub maps_same : {before after before' after' : SectorMap} {old new : DiskState} → SameMap before before' → SameMap after after' → LeavesOneOf before after old new → LeavesOneOf before' after' old new
 maps_same {before} {after} {before'} {after'} {old} {new} same_before same_after run = record {
   size = run.size;

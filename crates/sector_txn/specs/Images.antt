@@ -17,6 +17,6 @@ pub record LeavesOneOf (before after : SectorMap) (old new : DiskState) : Type 0
   pub size : new.size ≡ old.size
   pub any_moment : LeavesOnly old new (IsOneOf old before after)
 
--- the same where there is one map: what means what an image of the start did, or reads as the map
+-- with one map: a stop leaves what means what an image of the start did, or reads as the map
 abbrev pub LeavesOldOr : SectorMap → DiskState → DiskState → Type 0
 LeavesOldOr sectors old new = LeavesOneOf sectors sectors old new

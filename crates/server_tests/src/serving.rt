@@ -19,6 +19,7 @@ impl Performer for Lacking {
 
     ghost machine = { λ _. tt };
 
+    // No event is ever served.
     ghost Serves = { λ _ _ _ _. ⊥ };
 
     ghost server = { λ _. new_server (record { max_write = 4096; posix_acl = false; keeping = nothing_kept; sectors = 1; inodes = 1; max_name = 120; keeps_times = false; start = record { seconds = 0; nanoseconds = 0 } }) };
@@ -63,6 +64,7 @@ struct Played<'a> {
 }
 
 impl<'a> Kernel for Played<'a> {
+    // Nothing is claimed of what passes.
     ghost Does = { λ _ _ _. ⊤ };
 
     fn read(&mut self, buffer: &mut [u8]) -> io::Result<Option<usize>> {

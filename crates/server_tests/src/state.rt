@@ -160,6 +160,7 @@ fn held(server: &mut Server, inode: u32) -> Result<u64, AllocError> {
 struct Noter;
 
 impl Borrower<u64> for Noter {
+    // Any call may be made, and nothing is claimed of it.
     ghost Takes = { λ call. Unit {0} };
 
     ghost Calls = { λ old pid second call dentry reply new. Unit {0} };
@@ -307,7 +308,7 @@ const ROWS: [(Step, u64); 99] = [
     (Step::Mtime(5), 10),
     (Step::Ctime(5), 20),
     (Step::Mtime(1), 20),
-    // A name that is removed is gone, and the other is the place.
+    // A name that is removed is gone, and the object is known by the other.
     (Step::Removed(30, (1, b'b')), 0),
     (Step::Named((1, b'b')), 0),
     (Step::Letter(5), 97),
@@ -317,7 +318,7 @@ const ROWS: [(Step, u64); 99] = [
     (Step::Mtime(1), 30),
     (Step::Removed(35, (1, b'z')), 0),
     (Step::Mtime(1), 35),
-    // What is moved to another directory takes the place of another object.
+    // What is moved to another directory takes the name of another object.
     (Step::Found((1, b's'), 7), 0),
     (Step::Made(40, (7, b'c'), 6), 0),
     (Step::Moved(50, (1, b'a'), (7, b'c')), 0),
@@ -343,7 +344,7 @@ const ROWS: [(Step, u64); 99] = [
     (Step::Number(8), 8),
     (Step::Mtime(8), 3),
     (Step::Ctime(8), 3),
-    // The same name leads elsewhere.
+    // A name that was found leads elsewhere.
     (Step::Found((1, b'f'), 9), 0),
     (Step::Named((1, b'f')), 9),
     (Step::Directory(8), 0),
@@ -422,7 +423,7 @@ const FORGETS: [(Step, u64); 47] = [
     (Step::Number(5), 0),
     (Step::Named((1, b'a')), 0),
     (Step::Directory(5), 0),
-    // It is found again, with the node that it had.
+    // An object that was forgotten is found again, with the node that it had.
     (Step::Found((1, b'a'), 5), 0),
     (Step::Node(5), 5),
     (Step::Number(5), 5),
@@ -481,7 +482,7 @@ fn other_answer(
     Ok((rows.len(), 0))
 }
 
-// The same of a new server.
+// The first row that a new server answers otherwise, and how; one behind the last if there is none.
 fn other_answer_at_start(alloc: Global, rows: &[(Step, u64)]) -> Result<(usize, u64), AllocError> {
     let mut server = started(alloc)?;
     other_answer(&mut server, alloc, rows)
@@ -698,7 +699,7 @@ const USES: [(Use, u64); 78] = [
     (Use::Closes(3, 0), 0),
     (Use::Object(3, 0), 0),
     (Use::Object(2, 0), 5),
-    // Those that hold nothing may go.
+    // Processes that hold nothing may go.
     (Use::NextIdle(0), 3),
     (Use::NextIdle(4), 4),
     (Use::NextIdle(5), 0),
@@ -782,7 +783,7 @@ fn other_use(
     Ok((rows.len(), 0, server.settings().max_write))
 }
 
-// The same of a new server.
+// The first row that a new server answers otherwise, and how.
 fn other_use_at_start(alloc: Global, rows: &[(Use, u64)]) -> Result<(usize, u64, u32), CredFault> {
     let mut server = started(alloc)?;
     other_use(&mut server, alloc, rows)

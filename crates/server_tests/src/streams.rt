@@ -143,7 +143,7 @@ const FORTY_GROUPS: &[u8] =
 
 const BAD_GROUPS: &[u8] = b"Uid:\t0\t0\t0\t1000\nGid:\t0\t0\t0\t100\nGroups:\t1 4294967296 \n";
 
-// It acts on files as another user, or as another group, than it has else.
+// A process that acts on files as another user, or as another group, than it has else.
 const OTHER_USER: &[u8] =
     b"Uid:\t1000\t1000\t1000\t0\nGid:\t100\t100\t100\t100\nGroups:\t1 \nCapEff:\t0000000000000009\n";
 
@@ -204,7 +204,7 @@ fn number_in(status: &[u8], name: &[u8]) -> Option<u32> {
 // A process, and the user and the group as which it acts on files.
 type Ids = (u32, u32, u32);
 
-// Those of the text, and what that says.
+// The ids that a status says, and what else that says.
 fn told_by(alloc: Global, status: Vec<u8>) -> Result<(Ids, Known), AllocError> {
     let pid = number_in(&status, b"Pid:").unwrap_or(0);
     let uid = number_in(&status, b"Uid:").unwrap_or(0);

@@ -55,6 +55,7 @@ impl Played {
 }
 
 impl Machine for Played {
+    // Nothing is claimed of what is served.
     ghost Serves = { λ _ _ _ _. ⊤ };
 
     fn serve(&mut self, event: &Event) -> Reply {

@@ -99,7 +99,7 @@ fn agreed<S: Sectors>(
     Ok(rows.len())
 }
 
-// The same of a bitmap that lacks these numbers, while the other one is full.
+// How many calls agree on a bitmap that lacks these numbers, while the other one is full.
 fn agreed_without<S: Sectors>(
     s: &mut Counted<S>,
     geometry: Geometry,
@@ -120,7 +120,7 @@ fn agreed_without<S: Sectors>(
     agreed(s, geometry, map, rows)
 }
 
-// The same on a new disk.
+// How many calls agree on such a bitmap of a new disk.
 fn agreed_on_disk(alloc: Global, map: Bitmap, clear: &[u32], rows: &[Row]) -> Result<usize, Fail> {
     let (geometry, mut s) = new_map(alloc, SECTORS, INODES)?;
     let seen = agreed_without(&mut s, geometry, map, clear, rows);

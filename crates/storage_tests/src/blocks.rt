@@ -141,7 +141,7 @@ fn agreed<S: Sectors>(
     Ok(rows.len())
 }
 
-// The same of a new file, on a map without inodes.
+// How many calls on a new file agree, on a map without inodes.
 fn agreed_on_blank<S: Sectors>(
     s: &mut Counted<S>,
     geometry: Geometry,
@@ -168,7 +168,7 @@ fn agreed_on_blank<S: Sectors>(
     agreed(s, geometry, n, rows)
 }
 
-// The same on a new disk of this version.
+// How many calls on a new file agree, on a new disk of this version.
 fn agreed_on_disk(
     alloc: Global,
     version: Version,
@@ -181,7 +181,7 @@ fn agreed_on_disk(
     seen
 }
 
-// The same of a file with an ACL of its mode.
+// How many calls on a new file with an ACL of its mode agree.
 fn agreed_of(alloc: Global, version: Version, rows: &[Row]) -> Result<usize, Fail> {
     let access = parsed(alloc, b"user::rw-,group::r--,other::---")?;
     agreed_on_disk(alloc, version, &access, rows)
@@ -190,7 +190,7 @@ fn agreed_of(alloc: Global, version: Version, rows: &[Row]) -> Result<usize, Fai
 // The bytes of a call that reads none.
 const NOTHING: [u8; 4] = [9; 4];
 
-// Those of one that is refused: the file would be too big.
+// The bytes of a call that is refused: the file would be too big.
 const TOO_BIG: [u8; 4] = [8; 4];
 
 // Blocks that the inode points to.

@@ -201,7 +201,7 @@ fn seen_on_blank<S: Sectors>(
     Ok((given, s.gets, s.puts))
 }
 
-// The same on a new disk.
+// What a call on a name sees in a new directory, on a new disk.
 fn seen_on_disk(alloc: Global, disk: Super, access: &Acl, row: &Row) -> Result<Seen, Fail> {
     let (geometry, mut s) = map_of(alloc, disk)?;
     let seen = seen_on_blank(alloc, &mut s, geometry, access, row);
@@ -222,7 +222,7 @@ fn agreed(alloc: Global, disk: Super, access: &Acl, rows: &[Row]) -> Result<usiz
     Ok(rows.len())
 }
 
-// The same of directories with an ACL of their mode.
+// How many rows of directories with an ACL of their mode are as they say.
 fn agreed_of(alloc: Global, disk: Super, rows: &[Row]) -> Result<usize, Fail> {
     let access = parsed(alloc, b"user::rwx,group::r-x,other::---")?;
     agreed(alloc, disk, &access, rows)

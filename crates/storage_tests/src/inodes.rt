@@ -76,7 +76,7 @@ fn stored<S: Sectors>(
     Ok((first, same, kept, inode.mode))
 }
 
-// The same on a map without inodes.
+// Makes a directory that has the ACL twice, on a map without inodes.
 fn stored_on_blank<S: Sectors>(
     alloc: Global,
     s: &mut Counted<S>,
@@ -94,7 +94,7 @@ fn stored_on_blank<S: Sectors>(
     stored(alloc, s, geometry, acl)
 }
 
-// The same on a new disk, of the ACL that this text is of.
+// Makes a directory that has the ACL of this text twice, on a new disk.
 fn stored_on_disk(alloc: Global, acl: &Acl, text: &[u8]) -> Result<Stored, Fail> {
     if !is_written_as(acl, text)? {
         return Err(Fail::new("another text"));
@@ -105,7 +105,7 @@ fn stored_on_disk(alloc: Global, acl: &Acl, text: &[u8]) -> Result<Stored, Fail>
     seen
 }
 
-// The same of a text.
+// Makes a directory that has the ACL which a text says twice.
 fn stored_of(alloc: Global, text: &[u8]) -> Result<Stored, Fail> {
     let acl = parsed(alloc, text)?;
     stored_on_disk(alloc, &acl, text)

@@ -68,7 +68,7 @@ pub(super) fn map_of(
     Ok((geometry, Counted::new(store.begin())))
 }
 
-// The same in this version, of so many sectors and inodes, with as few header sectors as it has.
+// A transaction on a new disk of this version, of so many sectors and inodes, with as few header sectors as it has.
 pub(super) fn map_of_version(
     alloc: Global,
     version: Version,
@@ -92,7 +92,7 @@ pub(super) fn map_of_version(
     map_of(alloc, superblock)
 }
 
-// The same in version 2.
+// A transaction on a new disk of version 2.
 pub(super) fn new_map(
     alloc: Global,
     sectors: u32,

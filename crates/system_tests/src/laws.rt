@@ -30,7 +30,7 @@ const READ_DIRECTORY: Flags = Flags {
     directory: true,
 };
 
-// The same of one that opens the root to read it, and of one that renames.
+// The law on a call that opens the root to read it, and on one that renames.
 fn calls_are_in_range(alloc: Global) -> Result<(), AllocError> {
     let root = Path::from_slice(alloc, b"/")?;
     law_on(Call::Open(root, READ_DIRECTORY, 0));

@@ -110,7 +110,7 @@ fn answers<D: Disk + Drop>(alloc: Global, fs: &mut Fs<D>) -> Result<Answers, Fai
     Ok([first, opened, written, stable, synced, space, gone, last])
 }
 
-// The same; then what an unmount tells, and how often the disk has failed.
+// What each method answers; then what an unmount tells, and how often the disk has failed.
 type Seen = (Answers, Told, u64);
 
 fn seen<D: Disk + Drop>(alloc: Global, disk: D) -> Result<Seen, Fail> {

@@ -154,7 +154,7 @@ static BYTES: [(u32, usize, &[u8]); 11] = [
     (146, 0, b"\xaa\xaa"),
 ];
 
-// The same of one of version 3 and 2,048 sectors.
+// Bytes of a new disk of version 3 and 2,048 sectors.
 static BYTES_OF_THREE: [(u32, usize, &[u8]); 15] = [
     // The superblock has the number of header sectors too.
     (
@@ -235,7 +235,7 @@ fn made_and_stopped<D: CrashDisk + Drop>(
     Ok((made.is_ok(), content))
 }
 
-// The same after a stop that leaves the old contents, and after one that leaves the new ones.
+// What is made so after a stop that leaves the old contents, and after one that leaves the new ones.
 fn made_both_ways(
     alloc: Global,
     version: Version,
@@ -319,7 +319,7 @@ fn made_and_mounted<D: Disk + Drop>(alloc: Global, mut disk: D) -> Outcome {
     (made, failures, mount_fault(alloc, disk))
 }
 
-// The same of a disk whose call of this number alone fails, and of one where all from it on do.
+// The outcome of a disk whose call of this number alone fails, and of one where all from it on do.
 fn told_at(alloc: Global, call: u64) -> Result<[Outcome; 2], AllocError> {
     let once = FailOnce::new(used_disk(alloc, 1024)?, call);
     let once = made_and_mounted(alloc, once);

@@ -303,7 +303,7 @@ fn push_runs(alloc: Global, seen: &mut String, fs: &mut Fs<MemDisk>) -> Result<(
     Ok(())
 }
 
-// The same on a new file system.
+// Adds what the scripts come to on a new file system.
 fn push_writers(alloc: Global, seen: &mut String) -> Result<(), Fail> {
     let mut fs = mounted(alloc)?;
     let pushed = push_runs(alloc, seen, &mut fs);

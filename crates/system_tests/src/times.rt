@@ -37,7 +37,7 @@ fn stamped(fs: &mut Fs<MemDisk>, inode: u32, atime: Option<u64>, ctime: Option<u
     }
 }
 
-// Those of the root, of the directory `/d` and of the file that is made in it.
+// The times of the root, of the directory `/d` and of the file that is made in it.
 fn seen(fs: &mut Fs<MemDisk>) -> [Times; 3] {
     [1, 2, 3].map(|inode| stamped(fs, inode, None, None))
 }

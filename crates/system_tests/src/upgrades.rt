@@ -40,7 +40,7 @@ fn upgraded_and_stopped<D: CrashDisk + Drop>(
     Ok((upgraded, content[VERSION]))
 }
 
-// The same after a stop that leaves the old contents, and after one that leaves the new ones.
+// What an upgrade comes to after a stop that leaves the old contents, and after one that leaves the new ones.
 fn upgraded_both_ways(alloc: Global, version: Version, passes: u64) -> Result<[Upgraded; 2], Fail> {
     let disk = disk_of_version(alloc, version)?;
     let zeros = upgraded_and_stopped(alloc, disk, passes, &[])?;

@@ -78,7 +78,7 @@ impl Server {
         }
     }
 
-    /// The same of several nodes, one after another.
+    /// The kernel forgets several nodes, one after another.
     pub fn forget_all(&mut self, batch: &Batch<'_>)
         ensures kept { self.new.server ≡ all_forgotten batch.now self.old.server }
         ensures room { self.new.room ≡ self.old.room }

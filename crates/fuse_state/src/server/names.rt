@@ -36,7 +36,7 @@ impl Server {
         self.room -= 1;
     }
 
-    // The same, and the kernel is told of the object.
+    // A name leads to an object of this kind, and the kernel is told of the object.
     pub(super) fn add_found(&mut self, dentry: Dentry, inode: u32, kind: FileType)
         requires { 1 ≤ self.old.room }
         ensures kept { self.new.server ≡ once_more inode (with_dentry dentry inode kind self.old.server) }
@@ -78,7 +78,7 @@ impl Server {
         self.touch(now, directory);
     }
 
-    /// A call of a process by one of the names that lead to an object: by so many in the order of their places, counted from 0.
+    /// A call of a process by one of the names that lead to an object: by so many in the order of their dentries, counted from 0.
     /// The name is lent; an empty one stands for it meanwhile. Without such a name there is no call.
     pub fn call_at<Reply, B: Borrower<Reply>>(
         &mut self,

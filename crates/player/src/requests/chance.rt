@@ -21,7 +21,7 @@ impl Chance {
         (self.state / 4_294_967_296).checked_rem(bound).unwrap_or(0)
     }
 
-    /// The same, as a smaller type.
+    /// A number below a bound, as a smaller type; 0 where the bound is 0.
     pub fn small(&mut self, bound: u32) -> u32 {
         u32::try_from(self.below(u64::from(bound))).unwrap_or(0)
     }

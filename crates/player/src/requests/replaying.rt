@@ -100,6 +100,7 @@ impl<'a> Recorded<'a> {
 impl<'a> Kernel for Recorded<'a> {
     ghost use Rattle.std.specs.Prelude.{⊤};
 
+    // Nothing is claimed of what passes.
     ghost Does = { λ _ _ _. ⊤ };
 
     fn read(&mut self, buffer: &mut [u8]) -> io::Result<Option<usize>> {

@@ -180,6 +180,7 @@ impl<'a> Changing<'a> {
 impl<'a> Kernel for Changing<'a> {
     ghost use Rattle.std.specs.Prelude.{⊤};
 
+    // Nothing is claimed of what passes.
     ghost Does = { λ _ _ _. ⊤ };
 
     fn read(&mut self, buffer: &mut [u8]) -> io::Result<Option<usize>> {

@@ -54,15 +54,15 @@ const ONCE: Numbers<'static> = Numbers {
 /// The disk of a script.
 #[derive(Clone, Copy)]
 pub enum NewDisk {
-    /// It has an empty file system of this version.
+    /// The disk has an empty file system of this version.
     Made(Version),
-    /// It has one of version 2, and this call of it fails.
+    /// The disk has one of version 2, and this call of it fails.
     FailsAt(u64),
-    /// It has no file system.
+    /// The disk has no file system.
     Unmade,
 }
 
-// The same with the number as it stands in the file.
+// The disk of a script, with the number as it stands in the file.
 #[derive(Clone, Copy)]
 enum DiskLine<'a> {
     Made(Version),

@@ -108,7 +108,7 @@ fn read_tables<S: Sectors>(s: &mut S, geometry: Geometry) -> Result<(), DiskFaul
     Ok(())
 }
 
-// Bytes are below 256: a fact of their type.
+// Does nothing: tells a proof that bytes are below 256, a fact of their type.
 fn tell_bytes(bytes: &[u8])
     ensures { IsBytes bytes.now }
 {

@@ -61,7 +61,7 @@ fn life<S: Sectors>(s: &mut Counted<S>, geometry: Geometry, target: &[u8]) -> Re
     Ok(([before, between, after], [made, freed]))
 }
 
-// The same on a map without inodes.
+// The life of a link on a map without inodes.
 fn life_on_blank<S: Sectors>(
     s: &mut Counted<S>,
     geometry: Geometry,
@@ -78,7 +78,7 @@ fn life_on_blank<S: Sectors>(
     life(s, geometry, target)
 }
 
-// The same on a new disk of this version.
+// The life of a link on a new disk of this version.
 fn life_on_disk(alloc: Global, version: Version, target: &[u8]) -> Result<Life, Fail> {
     let (geometry, mut s) = map_of_version(alloc, version, SECTORS, INODES)?;
     let seen = life_on_blank(&mut s, geometry, target);

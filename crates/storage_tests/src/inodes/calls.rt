@@ -47,7 +47,7 @@ fn is_as(read: Acl, wanted: &Acl) -> bool {
     are_alike(&read, wanted)
 }
 
-// The same, where there are ACLs.
+// Whether an ACL that was read, where there is one, has the same entries.
 fn is_as_if_any(read: Option<Acl>, wanted: Option<&Acl>) -> bool {
     match read {
         None => wanted.is_none(),
@@ -162,7 +162,7 @@ fn saved<S: Sectors>(
     }
 }
 
-// The same of all saves, one after the other.
+// What all saves of file n cost, one after the other.
 fn saves<S: Sectors>(
     s: &mut Counted<S>,
     geometry: Geometry,
@@ -219,7 +219,7 @@ fn life<S: Sectors>(
     Ok((made, saved, (s.gets, s.puts), same))
 }
 
-// The same on a map without inodes.
+// The life of a file on a map without inodes.
 fn life_on_blank<S: Sectors>(
     alloc: Global,
     s: &mut Counted<S>,
@@ -238,7 +238,7 @@ fn life_on_blank<S: Sectors>(
     life(alloc, s, geometry, first, then)
 }
 
-// The same on a new disk.
+// The life of a file on a new disk.
 fn life_on_disk(alloc: Global, first: Acls, then: Acls) -> Result<Life, Fail> {
     let (geometry, mut s) = new_map(alloc, SECTORS, INODES)?;
     let seen = life_on_blank(alloc, &mut s, geometry, first, then);

@@ -8,7 +8,7 @@ use Rattle.fuse_sessions.specs.declared.session.Session.{Session}
 use Rattle.fuse_sessions.specs.Performing.{Did}
 use Rattle.fuse_sessions.proofs.session.Session.by_places.Given as goal
 
--- what is done by the places that are left, is done by all; and what is kept stays, and the call
+-- what is done by the dentries that are left, is done by all; and what is kept stays, and the call
 abbrev pub invariant-loop-tried : goal.invariant-loop-tried
 invariant-loop-tried g l =
     ((fin : Session g.row.M.Denot) (r : Result Reply RequestError)

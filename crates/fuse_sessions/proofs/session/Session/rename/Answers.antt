@@ -13,7 +13,7 @@ returns-in_err-tried g c =
     (on-machine (rw (c.new.ensures, c.new-2.ensures, c.into_bytes.ensures, c.into_bytes-2.ensures) at c.done_between-tried.ensures))
     c.in_err-tried.was
 
--- (by the places as a whole: the changes at one are too many to be gone through for each equation)
+-- (by the dentries as a whole: the changes at one are too many to be gone through for each equation)
 pub returns : goal.returns
 returns g c =
     let names = some-same c.in-Some.ensures in
