@@ -63,7 +63,8 @@ fn list_sector<S: Sectors>(
     requires none { number_on (S.state s.old).sectors blocks.old.inode level i ≡ 0 }
     requires inside { 512 * first_block level i < blocks.old.inode.size }
     requires room { HasRoomFor geometry (above ∷ []) 1 (S.state s.old) }
-    ensures added { OnOk result (AddsSector geometry (above ∷ []) level i (S.state s.old) (S.state s.new) blocks.old.inode blocks.new.inode) }
+    ensures added { OnOk result (AddsSector geometry (above ∷ []) level i (S.state s.old) (S.state s.new)
+        blocks.old.inode blocks.new.inode) }
     ensures at_hand { OnOk result (IsAtHand (S.state s.new).sectors blocks.new) }
     ensures full { result ≡ Err MapFault.Full → free_sectors geometry (S.state s.old).sectors ≡ 0 }
     ensures small { result ≢ Err MapFault.TooBig }
@@ -90,9 +91,10 @@ fn add_listed<S: Sectors>(
     requires number { (1 ≤ level) × (level ≤ POINTER_LEVELS) × (1 ≤ i) }
     requires above { number_on (S.state s.old).sectors blocks.old.inode (suc level) (holder 1 i) ≢ 0 }
     requires inside { 512 * first_block level i < blocks.old.inode.size }
-    requires room { HasRoomFor geometry (number_on (S.state s.old).sectors blocks.old.inode (suc level) (holder 1 i) ∷ []) 1 (S.state s.old) }
-    ensures added { OnOk result (AddsSector geometry (number_on (S.state s.old).sectors blocks.old.inode (suc level) (holder 1 i) ∷ []) level i
-        (S.state s.old) (S.state s.new) blocks.old.inode blocks.new.inode) }
+    requires room { HasRoomFor geometry (number_on (S.state s.old).sectors blocks.old.inode (suc level) (holder 1 i) ∷ []) 1
+        (S.state s.old) }
+    ensures added { OnOk result (AddsSector geometry (number_on (S.state s.old).sectors blocks.old.inode (suc level) (holder 1 i) ∷ [])
+        level i (S.state s.old) (S.state s.new) blocks.old.inode blocks.new.inode) }
     ensures at_hand { OnOk result (IsAtHand (S.state s.new).sectors blocks.new) }
     ensures full { result ≡ Err MapFault.Full
         → (number_on (S.state s.old).sectors blocks.old.inode level i ≡ 0) × (free_sectors geometry (S.state s.old).sectors ≡ 0) }

@@ -37,7 +37,8 @@ pub(crate) fn write_blocks<S: Sectors>(
     requires inside { (offset + length bytes.now ≤ blocks.old.inode.size) × (blocks.old.inode.size ≤ MAX_FILE_SIZE) }
     requires room { HasSpare geometry (blocks_to (offset + length bytes.now) - offset / 512
         + pointer_sectors (offset / 512) (blocks_to (offset + length bytes.now))) (S.state s.old) }
-    ensures written { OnOk result (WritesBlocks geometry offset bytes.now (S.state s.old) (S.state s.new) blocks.old.inode blocks.new.inode) }
+    ensures written { OnOk result (WritesBlocks geometry offset bytes.now (S.state s.old) (S.state s.new)
+        blocks.old.inode blocks.new.inode) }
     ensures full { result ≡ Err MapFault.Full
         → free_sectors geometry (S.state s.old).sectors < taken_by (S.state s.old).sectors blocks.old.inode offset (length bytes.now) }
     ensures small { result ≢ Err MapFault.TooBig }

@@ -104,7 +104,8 @@ pub(crate) fn read_names<D: Disk>(disk: &mut D, opened: &Opened, inodes: &[Inode
     ensures each { OnOk result (ObeysEach opened.now.geometry (meaning (D.state disk.old)) Slots) }
     ensures names { IfOk result (λ names.
         IsNameTable opened.now.geometry (meaning (D.state disk.old)) names.counts.items names.directories.items) }
-    ensures repeated { IfOk result (λ names. MatchOption names.repeated (ObeysEach opened.now.geometry (meaning (D.state disk.old)) NamesApart)
+    ensures repeated { IfOk result (λ names. MatchOption names.repeated
+        (ObeysEach opened.now.geometry (meaning (D.state disk.old)) NamesApart)
         (λ d. IsLeastFailure opened.now.geometry (meaning (D.state disk.old)) NamesApart d)) }
     ensures passed { Passed (IsLeast opened.now.geometry Slots) (D.state disk.old) (D.state disk.new) result }
 {

@@ -267,7 +267,8 @@ fn mark_all<D: Disk>(
 ) -> Checked<()>
     requires opened { BeginsWith (D.state disk.old) opened.now.geometry opened.now.area opened.now.commit }
     requires table { AreInodes opened.now.geometry (meaning (D.state disk.old)) inodes.now }
-    requires none { IsMarked (owned_part opened.now.geometry (meaning (D.state disk.old))) 0 0 opened.now.geometry.sectors owned.old twice.old }
+    requires none { IsMarked (owned_part opened.now.geometry (meaning (D.state disk.old))) 0 0 opened.now.geometry.sectors
+        owned.old twice.old }
     ensures each { OnOk result (ObeysEach opened.now.geometry (meaning (D.state disk.old)) InData) }
     ensures marked { OnOk result
         (IsMarked (owned_part opened.now.geometry (meaning (D.state disk.old))) opened.now.geometry.inodes 0 opened.now.geometry.sectors owned.new twice.new) }

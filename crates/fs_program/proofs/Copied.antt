@@ -12,11 +12,11 @@ use Rattle.fs_system.specs.Playing.{HasDisk, IsConfig, Plays}
 use Rattle.fs_system.specs.Seen.{System, disk_in, IsIn}
 use Rattle.fs_system.proofs.Played.{plays_nothing, plays_joined, seen_in, the_disk}
 use Rattle.fs_fuse.specs.Performing.{ServesOne}
-use Rattle.host_trees.specs.Copies.{Asked, Copies, Goes, stays, goes}
+use Rattle.host_trees.specs.Copies.{Asked, Copies, ServesAll, stays, goes}
 use Rattle.fs_program.specs.Copying.{CopiesOn}
 
 module _ {D : Type 0} (state : D → DiskState) where
-  asked_plays : (old new : System D) (asked : List Asked) → Goes (ServesOne state) old asked new
+  asked_plays : (old new : System D) (asked : List Asked) → ServesAll (ServesOne state) old asked new
       → Plays state (Ok old) (map (λ a. a.event) asked) (map (λ a. Replies a.reply) asked) (Ok new)
   asked_plays old new _ (stays _) = plays_nothing state (Ok old)
   asked_plays old new _ (goes _ mid _ asked rest serves on) =

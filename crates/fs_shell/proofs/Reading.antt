@@ -5,7 +5,7 @@ use Rattle.std.proofs.lemmas.List.{take-append-le, take-take}
 use Rattle.std.specs.Io.KnownBytes.{Consumes, Keeps, IsAtEnd}
 use Rattle.std.proofs.KnownBytes.{Consumes-nil, Consumes-trans, Consumes-kept}
 use Rattle.fs_lines.specs.Lines.{lines_of}
-use Rattle.fs_shell.specs.Scripts.{kept_front, IsTaken, LineRead, IsOver}
+use Rattle.fs_shell.specs.Scripts.{kept_front, IsLineTaken, LineRead, IsOver}
 
 abbrev pub HasNoNewline : List ℕ → Type 0
 HasNoNewline [] = Unit {0}
@@ -73,7 +73,7 @@ reads_more old now next before after later line longer piece is took clean count
   counted = omega (arith, is.counted, length-append is.whole piece);
 }
 
-taken_by : (old next : Option (List ℕ)) (whole : List ℕ) → HasNoNewline whole → Consumes old next (whole ++ 10 ∷ []) → IsTaken whole old next
+taken_by : (old next : Option (List ℕ)) (whole : List ℕ) → HasNoNewline whole → Consumes old next (whole ++ 10 ∷ []) → IsLineTaken whole old next
 taken_by None next whole clean took = tt
 taken_by (Some xs) None whole clean took = took
 taken_by (Some xs) (Some ys) whole clean took =
@@ -97,7 +97,7 @@ reads_line old now next before after later line longer piece is took clean count
     }
 
 -- at the end there may be a line without one
-ends : (old now next : Option (List ℕ)) (whole : List ℕ) → HasNoNewline whole → whole ≢ [] → Consumes old now whole → IsAtEnd now → Keeps now next → IsTaken whole old next
+ends : (old now next : Option (List ℕ)) (whole : List ℕ) → HasNoNewline whole → whole ≢ [] → Consumes old now whole → IsAtEnd now → Keeps now next → IsLineTaken whole old next
 ends None now next whole clean some took end same = tt
 ends (Some xs) None next whole clean some took end same = absurd took
 ends (Some xs) (Some ys) None whole clean some took end same = absurd same

@@ -16,7 +16,7 @@ use Rattle.fs_shell.specs.declared.answer.Count.{Count}
 use Rattle.fs_shell.specs.declared.fault.RunFault.{RunFault}
 use Rattle.fs_shell.specs.declared.fault.RunFault.TheVariants.{WriteFault, OutOfMemory, TooMuch}
 use Rattle.fs_lines.specs.Lines.{lines_of}
-use Rattle.fs_shell.specs.Scripts.{script_limit, IsTaken, LineRead, IsOver}
+use Rattle.fs_shell.specs.Scripts.{script_limit, IsLineTaken, LineRead, IsOver}
 use Rattle.fs_shell.specs.Runs.{answer_text, answers_text, faults_counted, count_faults, LineAnswers, LinePerformed, ScriptAnswers, no_line, a_line, Finished, EndedEarly, Ran}
 use Rattle.fs_shell.proofs.Cut.{cut_answers}
 
@@ -63,7 +63,7 @@ count_more : (answers : List Answer) (answer : Answer) → count_faults (answers
 count_more [] answer = omega arith
 count_more (a ∷ answers) answer = omega (arith, count_more answers answer)
 
-takes_more : (lines : List (List ℕ)) (line : List ℕ) (input left next : Option (List ℕ)) → AreTaken lines input left → IsTaken line left next → AreTaken (lines ++ line ∷ []) input next
+takes_more : (lines : List (List ℕ)) (line : List ℕ) (input left next : Option (List ℕ)) → AreTaken lines input left → IsLineTaken line left next → AreTaken (lines ++ line ∷ []) input next
 takes_more lines line None left next taken more = tt
 takes_more lines line (Some xs) None next taken more = absurd taken
 takes_more lines line (Some xs) (Some ys) None taken more = absurd more

@@ -2,7 +2,7 @@
 --     script_limit        the most bytes of a script
 --     Pending, bytes_left        what has been read ahead and how much was given; what is still to come
 --     FindsEnd        the end of a script
---     IsTaken, LineRead, ReadsLine        a line is taken from what is to come, and read
+--     IsLineTaken, LineRead, ReadsLine        a line is taken from what is to come, and read
 --     IsOver        what is to come goes past the limit
 use Rattle.std.specs.Prelude.{◌≡◌, ◌+◌, ◌<◌, ℕ, List, ◌∷◌, length, take, Option, None, Some}
 use Rattle.std.specs.Io.KnownBytes.{prepend_known, Consumes, IsAtEnd, Keeps}
@@ -30,9 +30,9 @@ IsFirstLine line xs None = ⊥
 IsFirstLine line xs (Some ys) = lines_of xs ≡ line ∷ lines_of ys
 
 -- Of the bytes that were to come the first line is gone, where they are known.
-abbrev pub IsTaken : List ℕ → Option (List ℕ) → Option (List ℕ) → Type 0
-IsTaken line None new = Unit {0}
-IsTaken line (Some xs) new = IsFirstLine line xs new
+abbrev pub IsLineTaken : List ℕ → Option (List ℕ) → Option (List ℕ) → Type 0
+IsLineTaken line None new = Unit {0}
+IsLineTaken line (Some xs) new = IsFirstLine line xs new
 
 -- A line that is too long is kept up to the byte that makes it so.
 abbrev pub kept_front : List ℕ → List ℕ
@@ -43,7 +43,7 @@ pub record LineRead (old new : Option (List ℕ)) (before after : ℕ) (line : L
   pub whole : List ℕ
   pub text : List ℕ
   pub kept : line ≡ kept_front whole
-  pub taken : IsTaken whole old new
+  pub taken : IsLineTaken whole old new
   pub consumed : Consumes old new text
   pub counted : after ≡ before + length text
   pub some : before < after

@@ -19,10 +19,10 @@ use Rattle.fs_model.specs.declared.reply.Reply.TheVariants.{Done}
 use Rattle.fs_model.specs.Steps.{is_of_machine}
 use Rattle.host_trees.specs.declared.fault.Copied.{Copied}
 use Rattle.host_trees.specs.declared.fault.CopyFault.{CopyFault}
-use Rattle.host_trees.specs.Copies.{Asked, Asks, Tells, Goes, stays, goes, IsOfCopying, is_done, is_whole, synced, ArePacking, AreUnpacking, Copies}
+use Rattle.host_trees.specs.Copies.{Asked, Asks, AsksTelling, ServesAll, stays, goes, IsOfCopying, is_done, is_whole, synced, ArePacking, AreUnpacking, Copies}
 
 module _ {M : Type 0} {Serves : M → Event → Reply → M → Type 0} where
-  goes_then : {old mid new : M} {first rest : List Asked} → Goes Serves old first mid → Goes Serves mid rest new → Goes Serves old (first ++ rest) new
+  goes_then : {old mid new : M} {first rest : List Asked} → ServesAll Serves old first mid → ServesAll Serves mid rest new → ServesAll Serves old (first ++ rest) new
   goes_then (stays m) rest = rest
   goes_then (goes old next mid asked first serves on) rest = goes old next _ asked _ serves (goes_then on rest)
 
@@ -71,7 +71,7 @@ module _ {M : Type 0} {Serves : M → Event → Reply → M → Type 0} where
   pub asks_lack : {old new : M} {was is : Bool} → new ≡ old → is ≡ false → Asks Serves old new was is
   asks_lack {old} {new} {was} {is} same lacking = record {
     asked = [];
-    goes = subst (λ m. Goes Serves old [] m) (sym same) (stays old);
+    goes = subst (λ m. ServesAll Serves old [] m) (sym same) (stays old);
     own = All-nil (λ a. IsOfCopying a.event);
     before = λ whole. absurd (true≢false (sym whole ∙ lacking));
     done = λ whole. All-nil (λ a. IsTrue (is_done a.event a.reply));
@@ -86,20 +86,20 @@ module _ {M : Type 0} {Serves : M → Event → Reply → M → Type 0} where
 
   -- ---- what is lacking may be told
 
-  pub tells_nothing : {E : Type 0} (m : M) (whole : Bool) (e : E) → Tells Serves m m whole whole e e
+  pub tells_nothing : {E : Type 0} (m : M) (whole : Bool) (e : E) → AsksTelling Serves m m whole whole e e
   tells_nothing m whole e = record { asks = asks_nothing m whole; silent = λ is. refl }
 
-  pub tells_asked : {E : Type 0} (e : E) {old new : M} {was is : Bool} → Asks Serves old new was is → Tells Serves old new was is e e
+  pub tells_asked : {E : Type 0} (e : E) {old new : M} {was is : Bool} → Asks Serves old new was is → AsksTelling Serves old new was is e e
   tells_asked e all = record { asks = all; silent = λ is. refl }
 
-  pub tells_lack : {E : Type 0} (unaware aware : E) {old new : M} {was is : Bool} → new ≡ old → is ≡ false → Tells Serves old new was is unaware aware
+  pub tells_lack : {E : Type 0} (unaware aware : E) {old new : M} {was is : Bool} → new ≡ old → is ≡ false → AsksTelling Serves old new was is unaware aware
   tells_lack unaware aware same lacking = record {
     asks = asks_lack same lacking;
     silent = λ whole. absurd (true≢false (sym whole ∙ lacking));
   }
 
-  pub tells_then : {E : Type 0} {first second third : E} {old mid new : M} {was between is : Bool} → Tells Serves old mid was between first second
-      → Tells Serves mid new between is second third → Tells Serves old new was is first third
+  pub tells_then : {E : Type 0} {first second third : E} {old mid new : M} {was between is : Bool} → AsksTelling Serves old mid was between first second
+      → AsksTelling Serves mid new between is second third → AsksTelling Serves old new was is first third
   tells_then one rest = record {
     asks = asks_then one.asks rest.asks;
     silent = λ is. rest.silent is ∙ one.silent (rest.asks.before is);
@@ -107,7 +107,7 @@ module _ {M : Type 0} {Serves : M → Event → Reply → M → Type 0} where
 
   -- nothing was told of a copy that is whole
   pub silent_so : {E : Type 0} {unaware aware : E} {old new : M} {was : Bool} (copied : Copied) (is : Bool) → is_whole copied ≡ is
-      → Tells Serves old new was is unaware aware → IsTrue (is_whole copied) → aware ≡ unaware
+      → AsksTelling Serves old new was is unaware aware → IsTrue (is_whole copied) → aware ≡ unaware
   silent_so copied is same all whole = all.silent (sym same ∙ whole)
 
   -- ---- how a copy ends

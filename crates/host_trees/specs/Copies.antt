@@ -1,9 +1,9 @@
 -- What is asked of a file system while a tree is copied to it or from it.
 --     IsOfCopying        what who copies a tree may ask
 --     is_so_long, is_done        the reply says that all was done that was asked for
---     Asked, Goes        an event with its reply, and what several lead to
+--     Asked, ServesAll        an event with its reply, and what several lead to
 --     Asks        such events were asked, one after another, and whether anything is lacking since
---     Tells        the same, where what is lacking may be told
+--     AsksTelling        the same, where what is lacking may be told
 --     AreCopying, ArePacking, AreUnpacking        what is asked for a copy, and how that ends
 --     Copies        the same, from one state of the file system to another
 --     is_copied_whole        a copy came to its end, and all is there
@@ -43,21 +43,21 @@ pub record Asked : Type 0 where
   pub reply : Reply
 
 -- from one state to another by these events with these replies, one after another
-pub data Goes {M : Type 0} (Serves : M → Event → Reply → M → Type 0) : M → List Asked → M → Type 0 where
-  stays : (m : M) → Goes Serves m [] m
-  goes : (old mid new : M) (asked : Asked) (rest : List Asked) → Serves old asked.event asked.reply mid → Goes Serves mid rest new
-      → Goes Serves old (asked ∷ rest) new
+pub data ServesAll {M : Type 0} (Serves : M → Event → Reply → M → Type 0) : M → List Asked → M → Type 0 where
+  stays : (m : M) → ServesAll Serves m [] m
+  goes : (old mid new : M) (asked : Asked) (rest : List Asked) → Serves old asked.event asked.reply mid → ServesAll Serves mid rest new
+      → ServesAll Serves old (asked ∷ rest) new
 
 -- Events of copying were asked, one after another. Where nothing is lacking now, nothing was before, and all was done.
 pub record Asks {M : Type 0} (Serves : M → Event → Reply → M → Type 0) (old new : M) (was_whole is_whole : Bool) : Type 0 where
   pub asked : List Asked
-  pub goes : Goes Serves old asked new
+  pub goes : ServesAll Serves old asked new
   pub own : All (λ a. IsOfCopying a.event) asked
   pub before : IsTrue is_whole → IsTrue was_whole
   pub done : IsTrue is_whole → All (λ a. IsTrue (is_done a.event a.reply)) asked
 
 -- Events of copying were asked, and between two states of who is told what is lacking. Where nothing is lacking, nothing was told.
-pub record Tells {M E : Type 0} (Serves : M → Event → Reply → M → Type 0) (old new : M) (was_whole is_whole : Bool) (unaware aware : E) : Type 0 where
+pub record AsksTelling {M E : Type 0} (Serves : M → Event → Reply → M → Type 0) (old new : M) (was_whole is_whole : Bool) (unaware aware : E) : Type 0 where
   pub asks : Asks Serves old new was_whole is_whole
   pub silent : IsTrue is_whole → aware ≡ unaware
 
@@ -94,5 +94,5 @@ AreUnpacking asked (Err fault) = AreCopying asked false
 -- From one state to another by events that copy a tree so.
 pub record Copies {M : Type 0} (Serves : M → Event → Reply → M → Type 0) (old new : M) (Are : List Asked → Type 0) : Type 0 where
   pub asked : List Asked
-  pub goes : Goes Serves old asked new
+  pub goes : ServesAll Serves old asked new
   pub are : Are asked

@@ -1,6 +1,6 @@
 //! What is asked of a file system, and whether all of it was done.
 ghost use Rattle.std.specs.Prelude.{◌≡◌, ◌&&◌, OnErr, true, false, IsTrue};
-ghost use Rattle.host_trees.specs.Copies.{Asks, IsOfCopying, Tells, is_done, is_so_long, is_whole};
+ghost use Rattle.host_trees.specs.Copies.{Asks, IsOfCopying, AsksTelling, is_done, is_so_long, is_whole};
 
 use crate::fault::Copied;
 use crate::file_system::FileSystem;
@@ -127,7 +127,7 @@ pub(crate) fn name_lack<M: FileSystem, E: Write>(
     path: &str,
     lack: Lack,
 )
-    ensures told { Tells M.Serves asker.old.machine asker.new.machine asker.old.is_whole asker.new.is_whole err.old err.new }
+    ensures told { AsksTelling M.Serves asker.old.machine asker.new.machine asker.old.is_whole asker.new.is_whole err.old err.new }
     ensures lacking { asker.new.is_whole ≡ false }
 {
     asker.lacks();
@@ -141,7 +141,7 @@ pub(crate) fn name_if_lacking<M: FileSystem, E: Write>(
     path: &str,
     tried: Result<(), Lack>,
 )
-    ensures told { Tells M.Serves asker.old.machine asker.new.machine asker.old.is_whole asker.new.is_whole err.old err.new }
+    ensures told { AsksTelling M.Serves asker.old.machine asker.new.machine asker.old.is_whole asker.new.is_whole err.old err.new }
     ensures lacking { OnErr tried (asker.new.is_whole ≡ false) }
 {
     match tried {

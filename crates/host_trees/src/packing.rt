@@ -2,7 +2,7 @@
 ghost use Rattle.std.specs.Prelude.{◌≡◌, OnOk, IsTrue};
 ghost use Rattle.fs_model.specs.declared.event.Event.TheVariants.{Sync};
 ghost use Rattle.fs_model.specs.declared.reply.Reply.TheVariants.{Done};
-ghost use Rattle.host_trees.specs.Copies.{Asks, ArePacking, Copies, Tells, is_copied_whole};
+ghost use Rattle.host_trees.specs.Copies.{Asks, ArePacking, Copies, AsksTelling, is_copied_whole};
 
 use crate::asker::{Asker, name_if_lacking, name_lack};
 use crate::entry::{Entry, OF_DIRECTORIES, OF_FILES};
@@ -97,7 +97,7 @@ fn pack_directories<R: Files + AllocGlobal, M: FileSystem, E: Write>(
     work: &mut Work,
     err: &mut E,
 )
-    ensures { Tells M.Serves asker.old.machine asker.new.machine asker.old.is_whole asker.new.is_whole err.old err.new }
+    ensures { AsksTelling M.Serves asker.old.machine asker.new.machine asker.old.is_whole asker.new.is_whole err.old err.new }
 {
     // Bounded, since each function has to end.
     for _ in 0..u64::MAX {
@@ -116,7 +116,7 @@ fn pack_below<R: Files + AllocGlobal, M: FileSystem, E: Write>(
     directory: &Pending,
     err: &mut E,
 )
-    ensures { Tells M.Serves asker.old.machine asker.new.machine asker.old.is_whole asker.new.is_whole err.old err.new }
+    ensures { AsksTelling M.Serves asker.old.machine asker.new.machine asker.old.is_whole asker.new.is_whole err.old err.new }
 {
     match names_of(rt, asker, directory, err) {
         Ok(names) => pack_names(rt, asker, work, directory, &names, err),
@@ -131,7 +131,7 @@ fn names_of<R: Files + AllocGlobal, M: FileSystem, E: Write>(
     directory: &Pending,
     err: &mut E,
 ) -> Result<Vec<String>, Lack>
-    ensures { Tells M.Serves asker.old.machine asker.new.machine asker.old.is_whole asker.new.is_whole err.old err.new }
+    ensures { AsksTelling M.Serves asker.old.machine asker.new.machine asker.old.is_whole asker.new.is_whole err.old err.new }
 {
     let mut names = Vec::new(rt.alloc());
     for entry in fs::read_dir(&rt, directory.host.as_str())? {
@@ -150,7 +150,7 @@ fn take_name<R: Files + Drop, M: FileSystem, E: Write>(
     entry: io::Result<DirEntry<R, Global>>,
     err: &mut E,
 ) -> Result<(), Lack>
-    ensures { Tells M.Serves asker.old.machine asker.new.machine asker.old.is_whole asker.new.is_whole err.old err.new }
+    ensures { AsksTelling M.Serves asker.old.machine asker.new.machine asker.old.is_whole asker.new.is_whole err.old err.new }
 {
     match entry {
         Ok(entry) => push_name(alloc, names, entry.file_name()),
@@ -175,7 +175,7 @@ fn pack_names<R: Files + AllocGlobal, M: FileSystem, E: Write>(
     names: &[String],
     err: &mut E,
 )
-    ensures { Tells M.Serves asker.old.machine asker.new.machine asker.old.is_whole asker.new.is_whole err.old err.new }
+    ensures { AsksTelling M.Serves asker.old.machine asker.new.machine asker.old.is_whole asker.new.is_whole err.old err.new }
 {
     for name in names {
         pack_name(rt, asker, work, directory, name.as_str(), err);
@@ -191,7 +191,7 @@ fn pack_name<R: Files + AllocGlobal, M: FileSystem, E: Write>(
     name: &str,
     err: &mut E,
 )
-    ensures { Tells M.Serves asker.old.machine asker.new.machine asker.old.is_whole asker.new.is_whole err.old err.new }
+    ensures { AsksTelling M.Serves asker.old.machine asker.new.machine asker.old.is_whole asker.new.is_whole err.old err.new }
 {
     match below(work.alloc, directory, name) {
         Ok(object) => pack_named(rt, asker, work, &object, err),
@@ -206,7 +206,7 @@ fn pack_named<R: Files + AllocGlobal, M: FileSystem, E: Write>(
     object: &Pending,
     err: &mut E,
 )
-    ensures { Tells M.Serves asker.old.machine asker.new.machine asker.old.is_whole asker.new.is_whole err.old err.new }
+    ensures { AsksTelling M.Serves asker.old.machine asker.new.machine asker.old.is_whole asker.new.is_whole err.old err.new }
 {
     let packed = pack_object(rt, asker, work, object);
     name_if_lacking(asker, err, object.host.as_str(), packed);
@@ -272,7 +272,7 @@ fn pack_new<R: Files + AllocGlobal, M: FileSystem>(
 
 // Gives all directories what waits until their names are there.
 fn finish_directories<M: FileSystem, E: Write>(asker: &mut Asker<M>, work: &mut Work, err: &mut E)
-    ensures { Tells M.Serves asker.old.machine asker.new.machine asker.old.is_whole asker.new.is_whole err.old err.new }
+    ensures { AsksTelling M.Serves asker.old.machine asker.new.machine asker.old.is_whole asker.new.is_whole err.old err.new }
 {
     // Bounded, since each function has to end.
     for _ in 0..u64::MAX {

@@ -1,6 +1,6 @@
 //! Copies the tree of a file system to the host.
 ghost use Rattle.std.specs.Prelude.{◌≡◌, IsTrue};
-ghost use Rattle.host_trees.specs.Copies.{Asks, AreUnpacking, Copies, Tells, is_copied_whole};
+ghost use Rattle.host_trees.specs.Copies.{Asks, AreUnpacking, Copies, AsksTelling, is_copied_whole};
 
 use crate::asker::{Asker, name_if_lacking, name_lack};
 use crate::fault::{Copied, CopyFault};
@@ -89,7 +89,7 @@ fn unpack_all<R: Files + AllocGlobal, M: FileSystem, E: Write>(
     to: &str,
     err: &mut E,
 ) -> Result<(), CopyFault>
-    ensures { Tells M.Serves asker.old.machine asker.new.machine asker.old.is_whole asker.new.is_whole err.old err.new }
+    ensures { AsksTelling M.Serves asker.old.machine asker.new.machine asker.old.is_whole asker.new.is_whole err.old err.new }
 {
     match spawn_reader(asker, rt.alloc()) {
         Ok(pid) => unpack_by(rt, asker, pid, to, err),
@@ -105,7 +105,7 @@ fn unpack_by<R: Files + AllocGlobal, M: FileSystem, E: Write>(
     to: &str,
     err: &mut E,
 ) -> Result<(), CopyFault>
-    ensures { Tells M.Serves asker.old.machine asker.new.machine asker.old.is_whole asker.new.is_whole err.old err.new }
+    ensures { AsksTelling M.Serves asker.old.machine asker.new.machine asker.old.is_whole asker.new.is_whole err.old err.new }
 {
     let alloc = rt.alloc();
     let mut work = Work {
@@ -165,7 +165,7 @@ fn unpack_rest<R: Files + AllocGlobal, M: FileSystem, E: Write>(
     work: &mut Work,
     err: &mut E,
 )
-    ensures { Tells M.Serves asker.old.machine asker.new.machine asker.old.is_whole asker.new.is_whole err.old err.new }
+    ensures { AsksTelling M.Serves asker.old.machine asker.new.machine asker.old.is_whole asker.new.is_whole err.old err.new }
 {
     unpack_directories(rt, asker, work, err);
     finish_directories(rt, asker, work, err);
@@ -199,7 +199,7 @@ fn unpack_directories<R: Files + AllocGlobal, M: FileSystem, E: Write>(
     work: &mut Work,
     err: &mut E,
 )
-    ensures { Tells M.Serves asker.old.machine asker.new.machine asker.old.is_whole asker.new.is_whole err.old err.new }
+    ensures { AsksTelling M.Serves asker.old.machine asker.new.machine asker.old.is_whole asker.new.is_whole err.old err.new }
 {
     // Bounded, since each function has to end.
     for _ in 0..u64::MAX {
@@ -218,7 +218,7 @@ fn unpack_below<R: Files + AllocGlobal, M: FileSystem, E: Write>(
     directory: &Pending,
     err: &mut E,
 )
-    ensures { Tells M.Serves asker.old.machine asker.new.machine asker.old.is_whole asker.new.is_whole err.old err.new }
+    ensures { AsksTelling M.Serves asker.old.machine asker.new.machine asker.old.is_whole asker.new.is_whole err.old err.new }
 {
     match listing_of(asker, work, directory) {
         Ok(listing) => unpack_names(rt, asker, work, directory, names_below(&listing), err),
@@ -240,7 +240,7 @@ fn unpack_names<R: Files + AllocGlobal, M: FileSystem, E: Write>(
     names: &[Named],
     err: &mut E,
 )
-    ensures { Tells M.Serves asker.old.machine asker.new.machine asker.old.is_whole asker.new.is_whole err.old err.new }
+    ensures { AsksTelling M.Serves asker.old.machine asker.new.machine asker.old.is_whole asker.new.is_whole err.old err.new }
 {
     for named in names {
         unpack_name(rt, asker, work, directory, named.name.bytes(), err);
@@ -256,7 +256,7 @@ fn unpack_name<R: Files + AllocGlobal, M: FileSystem, E: Write>(
     name: &[u8],
     err: &mut E,
 )
-    ensures { Tells M.Serves asker.old.machine asker.new.machine asker.old.is_whole asker.new.is_whole err.old err.new }
+    ensures { AsksTelling M.Serves asker.old.machine asker.new.machine asker.old.is_whole asker.new.is_whole err.old err.new }
 {
     match below(work.alloc, directory, name) {
         Ok(object) => unpack_named(rt, asker, work, &object, err),
@@ -271,7 +271,7 @@ fn unpack_named<R: Files + AllocGlobal, M: FileSystem, E: Write>(
     object: &Pending,
     err: &mut E,
 )
-    ensures { Tells M.Serves asker.old.machine asker.new.machine asker.old.is_whole asker.new.is_whole err.old err.new }
+    ensures { AsksTelling M.Serves asker.old.machine asker.new.machine asker.old.is_whole asker.new.is_whole err.old err.new }
 {
     let unpacked = unpack_object(rt, asker, work, object);
     name_if_lacking(asker, err, object.host.as_str(), unpacked);
@@ -499,7 +499,7 @@ fn finish_directories<R: Files, M: FileSystem, E: Write>(
     work: &mut Work,
     err: &mut E,
 )
-    ensures { Tells M.Serves asker.old.machine asker.new.machine asker.old.is_whole asker.new.is_whole err.old err.new }
+    ensures { AsksTelling M.Serves asker.old.machine asker.new.machine asker.old.is_whole asker.new.is_whole err.old err.new }
 {
     // Bounded, since each function has to end.
     for _ in 0..u64::MAX {

@@ -94,7 +94,8 @@ pub fn save_acl<S: Sectors>(
     ensures touches { OnOk result (Touches geometry n (acl_takes inode.now.acl (kept_acl acl.now)) 2 (S.state s.old) (S.state s.new)) }
     ensures puts { OnOk result (PutsOnly (IsForSaving geometry n (inode_at geometry (S.state s.new).sectors n).acl) (bitmaps geometry) 2
         (S.state s.old) (S.state s.new)) }
-    ensures none { OnOk result ((inode_at geometry (S.state s.new).sectors n).acl ≡ 0 → TakesSpare geometry 1 (S.state s.old) (S.state s.new)) }
+    ensures none { OnOk result ((inode_at geometry (S.state s.new).sectors n).acl ≡ 0
+        → TakesSpare geometry 1 (S.state s.old) (S.state s.new)) }
     ensures fields { OnOk result (KeepsFields (with_acl_bits inode.now acl.now) (inode_at geometry (S.state s.new).sectors n)) }
     ensures bytes { OnOk result (KeepsBytes (S.state s.old).sectors (S.state s.new).sectors
         (inode_at geometry (S.state s.old).sectors n) (inode_at geometry (S.state s.new).sectors n)) }
@@ -135,8 +136,8 @@ pub fn save_default_acl<S: Sectors>(
     ensures sound { OnOk result (IsSound geometry (S.state s.new)) }
     ensures touches { OnOk result (Touches geometry n (acl_takes inode.now.default_acl (option_copied acl.entry)) 2
         (S.state s.old) (S.state s.new)) }
-    ensures puts { OnOk result (PutsOnly (IsForSaving geometry n (inode_at geometry (S.state s.new).sectors n).default_acl) (bitmaps geometry) 2
-        (S.state s.old) (S.state s.new)) }
+    ensures puts { OnOk result (PutsOnly (IsForSaving geometry n (inode_at geometry (S.state s.new).sectors n).default_acl)
+        (bitmaps geometry) 2 (S.state s.old) (S.state s.new)) }
     ensures none { OnOk result ((inode_at geometry (S.state s.new).sectors n).default_acl ≡ 0
         → TakesSpare geometry 1 (S.state s.old) (S.state s.new)) }
     ensures fields { OnOk result (KeepsFields inode.now (inode_at geometry (S.state s.new).sectors n)) }

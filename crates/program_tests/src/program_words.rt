@@ -41,17 +41,7 @@ fn told_job(alloc: Global, job: &Job) -> Result<String, AllocError> {
             sectors,
             inodes,
         } => format!(in alloc; "format {} {sectors} {inodes}", image.as_str()),
-        Job::Pack {
-            image,
-            from,
-            sectors,
-            inodes,
-            user,
-            group,
-        } => {
-            let (image, from) = (image.as_str(), from.as_str());
-            format!(in alloc; "pack {image} {from} {sectors} {inodes} {user:?} {group:?}")
-        }
+        Job::Pack { .. } => told_pack(alloc, job),
         Job::Unpack { image, to } => {
             format!(in alloc; "unpack {} {}", image.as_str(), to.as_str())
         }
@@ -77,6 +67,23 @@ fn told_job(alloc: Global, job: &Job) -> Result<String, AllocError> {
             own_rules,
         } => format!(in alloc; "fuse {} {own_rules}", image.as_str()),
     }
+}
+
+// Of another job nothing is told.
+fn told_pack(alloc: Global, job: &Job) -> Result<String, AllocError> {
+    let Job::Pack {
+        image,
+        from,
+        sectors,
+        inodes,
+        user,
+        group,
+    } = job
+    else {
+        return Ok(String::new(alloc));
+    };
+    let (image, from) = (image.as_str(), from.as_str());
+    format!(in alloc; "pack {image} {from} {sectors} {inodes} {user:?} {group:?}")
 }
 
 fn told_fault(alloc: Global, fault: &WordsFault) -> Result<String, AllocError> {
