@@ -1,7 +1,7 @@
 //! Disks in files of this machine, and in files that fail.
 
 use crate::disks::{Call, first_byte, four_calls};
-use sector_disk::{Disk, DiskFile, FileDisk, FileFault};
+use sector_disk::{Disk, DiskFile, FileDisk, FileFault, PartFile};
 use std::cell::Cell;
 use std::fs::{self, File, OpenOptions};
 use std::io::{self, ErrorKind};
@@ -412,6 +412,89 @@ fn neighbours_are_written_in_one_call(rt: HostRuntime) -> Result<(), Fail> {
     ] {
         let seen = count_calls_at_scratch(&rt, writes)?;
         assert!(rt; seen == Ok(wanted), "{writes:?} {seen:?}");
+    }
+    Ok(())
+}
+
+// ---- files of which some sectors are loaded
+
+// What is loaded of a file: so many sectors from one on, or those of these numbers.
+enum Load {
+    Run(u32, u32),
+    Each(&'static [u32]),
+}
+
+// What reads of the disk of the loaded sectors give, which calls of it pass, and how many have failed, the reads among them; and what
+// reads give of the disk in the file, once it is loaded whole.
+type Parted = Result<(Seen, [bool; 4], u64, Seen), FileFault>;
+
+const CHANGES: [Call; 4] = [Call::Write(0, 9), Call::Sync, Call::Write(2, 9), Call::Sync];
+
+fn load_part(rt: &HostRuntime, path: Path<'_>, load: &Load) -> Parted {
+    let part = PartFile::open(rt, rt.alloc(), path)?;
+    let part = match load {
+        Load::Run(first, count) => part.load(*first, *count)?,
+        Load::Each(numbers) => part.load_each(numbers)?,
+    };
+    let (mut disk, file) = part.into_disk(rt.alloc());
+    let seen = see(&mut disk);
+    let passed = four_calls(&mut disk, CHANGES);
+    let mut whole = FileDisk::over_large(rt.alloc(), file)?;
+    Ok((seen, passed, disk.failures(), see(&mut whole)))
+}
+
+// What that comes to for a file of three sectors with 100 bytes behind them.
+fn load_part_of_three(rt: &HostRuntime, path: Path<'_>, load: &Load) -> Parted {
+    let _ = sevens(rt, path)?;
+    let _ = written(rt, path)?;
+    load_part(rt, path, load)
+}
+
+fn load_at_scratch(rt: &HostRuntime, load: &Load) -> Result<Parted, Fail> {
+    let path = scratch(rt, "part")?;
+    let seen = load_part_of_three(rt, path.as_path(), load);
+    let _ = fs::remove_file(rt, path.as_path());
+    Ok(seen)
+}
+
+// What is loaded; then what can be read, and how many calls fail. A sector behind the end of the file is left out.
+static LOADS: [(Load, [u8; 3], u64); 10] = [
+    (Load::Run(0, 0), [255, 255, 255], 7),
+    (Load::Run(0, 1), [7, 255, 255], 6),
+    (Load::Run(1, 2), [255, 1, 3], 5),
+    (Load::Run(2, 9), [255, 255, 3], 6),
+    (Load::Run(3, u32::MAX), [255, 255, 255], 7),
+    (Load::Run(0, u32::MAX), [7, 1, 3], 4),
+    (Load::Each(&[]), [255, 255, 255], 7),
+    (Load::Each(&[0, 2]), [7, 255, 3], 5),
+    (Load::Each(&[2, 1, 1, 1]), [255, 1, 3], 5),
+    (Load::Each(&[1, u32::MAX]), [255, 1, 255], 6),
+];
+
+// What another disk of a file comes to, of which sectors are loaded.
+fn refused_beside_part(rt: &HostRuntime, path: Path<'_>) -> Result<bool, FileFault> {
+    let _ = sevens(rt, path)?;
+    let part = PartFile::open(rt, rt.alloc(), path)?;
+    let refused = opened(rt, path) == Err(FileFault::Failed);
+    let _ = part.count();
+    Ok(refused)
+}
+
+fn refused_beside_part_at_scratch(rt: &HostRuntime) -> Result<Result<bool, FileFault>, Fail> {
+    let path = scratch(rt, "part")?;
+    let seen = refused_beside_part(rt, path.as_path());
+    let _ = fs::remove_file(rt, path.as_path());
+    Ok(seen)
+}
+
+#[test]
+fn only_loaded_sectors_can_be_read(rt: HostRuntime) -> Result<(), Fail> {
+    let seen = refused_beside_part_at_scratch(&rt)?;
+    assert!(rt; seen == Ok(true), "{seen:?}");
+    for (load, bytes, failures) in &LOADS {
+        let seen = load_at_scratch(&rt, load)?;
+        let wanted = Ok(((3, *bytes), [false; 4], *failures, (3, [7, 1, 3])));
+        assert!(rt; seen == wanted, "{bytes:?} {seen:?}");
     }
     Ok(())
 }

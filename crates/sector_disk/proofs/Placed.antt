@@ -540,3 +540,8 @@ row_seen first len start places read contents stored seen view read_is stored_is
     ∙ row_shown first len start places contents (let size = ap (λ (i : Image). length i) view in omega (arith, fits, size, length-map places (sector contents))) stands
     (subst (λ (l : List ℕ). IsRow start (slice_range l first (first + len))) read_is row)
     ∙ ap (λ (i : Image). slice_range i first (first + len)) view
+
+-- bytes of a sector that are all zero
+pub all_zeros : (content : List ℕ) → length content ≡ 512 → ((i : ℕ) → i < length content → get_or content i 0 ≡ 0) → content ≡ replicate 512 0
+all_zeros content size zeros =
+    ext_get_or 0 content (replicate 512 0) (size ∙ sym (length-replicate {A = ℕ} 512 0)) (λ i below. zeros i below ∙ sym (get_or-replicate {A = ℕ} 512 i 0 0 (omega (arith, below, size))))

@@ -1,7 +1,7 @@
 -- A disk over another, which counts failures of its own: its state, and the laws of that.
 use Rattle.std.specs.Prelude.{ℕ, ◌+◌, ◌-◌, ◌^◌, ◌<◌, ◌≤◌, min}
 use Rattle.std.proofs.Common.{arith}
-use Rattle.sector_disk.specs.Disk.{DiskState, Image, IsImage}
+use Rattle.sector_disk.specs.Disk.{DiskState, Image, IsImage, IsFresh}
 
 -- a disk that fails by itself, as callers see it: the disk below, the first call that is to fail, and how often its reads,
 -- and its writes and syncs, have failed by themselves
@@ -33,3 +33,6 @@ counts_now disk reads writes law t image le is = law t image le (record { size =
 pub only_now : (disk : DiskState) (reads writes : ℕ) → ((image : Image) → disk.left_since disk.moment image → IsImage disk image)
     → (image : Image) → disk.left_since disk.moment image → IsImage (with_failures disk reads writes) image
 only_now disk reads writes law image left = let is = law image left in record { size = is.size; each = is.each }
+
+pub fresh : (disk : DiskState) (image : Image) → IsFresh disk image → IsFresh (with_failures disk 0 0) image
+fresh disk image is = record { size = is.size; seen = is.seen; stable = is.stable; failures = omega (arith, is.failures) }

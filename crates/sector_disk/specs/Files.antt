@@ -4,9 +4,10 @@
 --     IsRun, IsRunTried, HasRun        a run of sectors that is written
 --     IsHeldNarrowed, IsHeldSynced        a sync
 --     HasSectors, HasStable        what is read from it; what it has at first
+--     HasLoaded, IsMarked        which sectors were read from it
 --     Lacks, KeepsFile, KeepsKnown        how it follows the disk
 --     KeepsBefore, FollowsBefore        how its first sectors do
-use Rattle.std.specs.Prelude.{◌≡◌, ◌⊎◌, ℕ, ◌+◌, ◌-◌, ◌<◌, ◌≤◌, Bool, true, List, length, Option, Some, None, IfSome, Contains}
+use Rattle.std.specs.Prelude.{◌≡◌, ◌⊎◌, ℕ, ◌+◌, ◌-◌, ◌<◌, ◌≤◌, Bool, true, false, IsTrue, List, length, get_or, Option, Some, None, IfSome, Contains}
 use Rattle.sector_disk.specs.Disk.{DiskState, Image, sector}
 use Rattle.sector_disk.specs.Record.{Held, after_events, MayHold}
 
@@ -55,6 +56,15 @@ HasSectors image held = (n : ℕ) → n < length image → sector (file_seen hel
 pub record HasStable (image : Image) (held : Held) : Type 0 where
   pub seen : (n : ℕ) → n < length image → sector (file_seen held) n ≡ sector image n
   pub stable : (n : ℕ) (content : List ℕ) → n < length image → MayHold held n content → content ≡ sector image n
+
+-- these sectors of the image are those that reads of the file give
+abbrev pub HasLoaded : Image → List Bool → Held → Type 0
+HasLoaded image loaded held = (n : ℕ) → IsTrue (get_or loaded n false) → sector (file_seen held) n ≡ sector image n
+
+-- so many more from `first` on may be, and no other
+pub record IsMarked (first count : ℕ) (old new : List Bool) : Type 0 where
+  pub len : length new ≡ length old
+  pub others : (n : ℕ) → (n < first) ⊎ (first + count ≤ n) → get_or new n false ≡ get_or old n false
 
 -- the file may lack what reads of the disk give in this sector: it's among those that wait, or all are
 abbrev pub Lacks : List ℕ → Bool → ℕ → Type 0

@@ -141,6 +141,15 @@ impl<F: DiskFile + Drop> FileDisk<F> {
         FileDisk::up_to(alloc, file, MAX_SECTORS)
     }
 
+    /// The disk in a file that is open, as [`FileDisk::open_large`] makes it.
+    pub fn over_large(alloc: Global, file: F) -> Result<Self, FileFault>
+        ensures fresh { IfOk result (λ disk. IsFresh (⟦<FileDisk<F> as Disk>⟧.state disk) (⟦<FileDisk<F> as Disk>⟧.state disk).seen) }
+        ensures small { IfOk result (λ disk. (⟦<FileDisk<F> as Disk>⟧.state disk).size ≤ 16777217) }
+        ensures fault { IfErr result (λ fault. fault ≢ Exists) }
+    {
+        FileDisk::up_to(alloc, file, MAX_LARGE_SECTORS)
+    }
+
     // The disk in a file that is open, of at most so many sectors.
     fn up_to(alloc: Global, file: F, most: u32) -> Result<Self, FileFault>
         ensures fresh { IfOk result (λ disk. IsFresh (⟦<FileDisk<F> as Disk>⟧.state disk) (⟦<FileDisk<F> as Disk>⟧.state disk).seen) }
@@ -264,8 +273,8 @@ fn load<F: DiskFile>(
     Ok(MemDisk::with_sectors(alloc, sectors))
 }
 
-// A file that is there, to be read and written.
-fn open_file<F, R: Files<File = F>, P: AsPath>(rt: &R, path: P) -> Result<F, FileFault>
+/// A file that is there, to be read and written.
+pub(crate) fn open_file<F, R: Files<File = F>, P: AsPath>(rt: &R, path: P) -> Result<F, FileFault>
     ensures { IfErr result (λ fault. fault ≢ Exists) }
 {
     let mut how = OpenOptions::new();
@@ -276,8 +285,8 @@ fn open_file<F, R: Files<File = F>, P: AsPath>(rt: &R, path: P) -> Result<F, Fil
     }
 }
 
-// Room for a piece of a file.
-fn new_buffer(alloc: Global) -> Result<Vec<[u8; 512]>, AllocError>
+/// Room for a piece of a file.
+pub(crate) fn new_buffer(alloc: Global) -> Result<Vec<[u8; 512]>, AllocError>
     ensures { IfOk result (λ buffer. 0 < length buffer.items) }
 {
     let mut buffer = Vec::new(alloc);
@@ -290,6 +299,14 @@ fn boxed(alloc: Global, disk: MemDisk) -> Result<Box<MemDisk>, AllocError>
     ensures { IfOk result (λ place. place.value ≡ disk) }
 {
     Ok(Box::new(alloc, disk)?)
+}
+
+/// Locks a file, and tells how many sectors of it a large disk has, once it is synced.
+pub(crate) fn lock_and_count<F: DiskFile>(file: &mut F) -> io::Result<u32>
+    ensures { IfOk result (λ count. count ≤ 16777217) }
+{
+    file.try_lock()?;
+    synced_sectors(file, MAX_LARGE_SECTORS)
 }
 
 // How many sectors of the file a disk has, at most so many, once it is synced.

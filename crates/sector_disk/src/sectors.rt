@@ -1,6 +1,6 @@
 //! Sectors in memory, of which those that are zeros take four bytes each.
 
-ghost use Rattle.std.specs.Prelude.{◌≡◌, ◌≢◌, ◌<◌, ◌≤◌, ◌+◌, ◌^◌, ℕ, length, get_or, replicate, slice_set, slice_range, IfOk, IfSome, IsTrue, OnOk, OnErr};
+ghost use Rattle.std.specs.Prelude.{◌≡◌, ◌≢◌, ◌↔◌, ◌<◌, ◌≤◌, ◌+◌, ◌^◌, ℕ, length, get_or, replicate, slice_set, slice_range, IfOk, IfSome, IsTrue, OnOk, OnErr};
 ghost use Rattle.sector_disk.specs.Disk.{sector};
 ghost use Rattle.sector_disk.specs.Whole.{AreSectors};
 ghost use Rattle.sector_disk.specs.Places.{OwnsPlace, IsRunSet, IsRow};
@@ -81,7 +81,7 @@ impl Sectors {
             self.replace(n, content);
             return Ok(());
         }
-        if *content == ZEROS {
+        if are_zeros(content) {
             return Ok(());
         }
         self.add(n, content)
@@ -208,6 +208,17 @@ impl Sectors {
     {
         let _count = self.places.len();
     }
+}
+
+// All bytes are zero. Not stopping at the first other one, it tests many at once.
+fn are_zeros(bytes: &[u8]) -> bool
+    ensures { IsTrue result ↔ ((i : ℕ) → i < length bytes.now → get_or bytes.now i 0 ≡ 0) }
+{
+    let mut zero = true;
+    for byte in bytes {
+        zero &= *byte == 0;
+    }
+    zero
 }
 
 // Whether these places are neighbours, from one on.
