@@ -11,6 +11,7 @@ mod contents;
 mod directories;
 mod faults;
 mod inodes;
+mod loading;
 mod marking;
 mod names;
 mod opening;
@@ -23,3 +24,4 @@ mod zeros;
 
 pub use checking::check;
 pub use faults::{CheckFault, Finding, Summary};
+pub use loading::load;

@@ -27,8 +27,8 @@ const NO_GEOMETRY: CheckFault = CheckFault::Found(Finding { rule: 1, at: 0 });
 
 const NO_COMMIT: CheckFault = CheckFault::Found(Finding { rule: 2, at: 1 });
 
-// The layout of a disk of so many sectors, as its superblock says it.
-fn geometry_in(content: &[u8; 512], size: u32) -> Option<Geometry>
+/// The layout of a disk of so many sectors, as its superblock says it.
+pub(crate) fn geometry_in(content: &[u8; 512], size: u32) -> Option<Geometry>
     ensures some { IfSome result (λ p. (image : SectorMap) → image 0 ≡ content.now → IsGeometryOf size image p) }
     ensures none { IfNone result ((image : SectorMap) → image 0 ≡ content.now → HasGeometry size image → ⊥) }
 {

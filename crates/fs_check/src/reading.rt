@@ -27,8 +27,8 @@ fn target_index(targets: &[u32], n: u32) -> Option<usize>
     None
 }
 
-// The sector that has the content of sector n, where the header has so many sectors: a target of the commit has it in this log area.
-fn content_of(header: u32, area: u32, commit: &Commit, n: u32) -> u32
+/// The sector that has the content of sector n, where the header has so many sectors: a target of the commit has it in this log area.
+pub(crate) fn content_of(header: u32, area: u32, commit: &Commit, n: u32) -> u32
     requires { header ≤ MAX_HEADER }
     ensures content { (size : ℕ) (image : SectorMap) → size < 2 ^ 32 → header ≡ header_of (image 0) → area ≡ named_area image
         → IsCommit size image commit.now → recovered size image n ≡ image result }

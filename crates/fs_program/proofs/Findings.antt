@@ -1,6 +1,15 @@
--- A finding's rule is one of the fourteen.
+-- What a check finds: a finding's rule is one of the fourteen, and what is told is how the check ends.
 use Rattle.std.proofs.Common.{ℕ, arith}
-use Rattle.std.specs.Prelude.{◌≤◌}
+use Rattle.std.specs.Prelude.{◌≤◌, Bool, Result, Ok, Err, IfErr, IfOk}
+use Rattle.sector_disk.specs.Disk.{DiskState}
+use Rattle.fs_check.specs.Checks.{IsClean, IsFirst, IsReason, Passed}
+use Rattle.fs_check.specs.declared.faults.CheckFault.{CheckFault}
+use Rattle.fs_check.specs.declared.faults.CheckFault.TheVariants.{Found, DiskFault, OutOfMemory}
+use Rattle.fs_check.specs.declared.faults.Summary.{Summary}
+use Rattle.fs_command.specs.declared.failure.Failure.{Failure}
+use Rattle.fs_command.specs.declared.status.Status.{Status}
+use Rattle.fs_program.specs.Jobs.{CheckEnds, HasChecked, IsOfRule, IsTold, is_clean, has_finding, is_unchecked}
+use Rattle.fs_program.specs.Streams.{Writing}
 use Rattle.fs_layout.specs.Bytes.{SectorMap}
 use Rattle.fs_model.specs.Rules.{ImageRule, InodeBits, Inodes, InData, OwnedOnce, BlockBits, LaidOut, Acls, Slots, NamesApart, Names, Parents, Ways, rule_number, IsFinding, no_geometry, no_commit, fails}
 
@@ -22,3 +31,20 @@ pub rule_in_range : {sectors : ℕ} {image : SectorMap} {rule at : ℕ} → IsFi
 rule_in_range (no_geometry none) = (omega arith, omega arith)
 rule_in_range (no_commit geometry none) = (omega arith, omega arith)
 rule_in_range (fails p r at geometry commit before least) = numbered r
+
+pub is_of_rule : (found : Result Summary CheckFault) (old new : DiskState) → IfErr found (IsReason IsFirst old new) → IfErr found IsOfRule
+is_of_rule (Ok summary) old new reason = tt
+is_of_rule (Err (Found finding)) old new reason = rule_in_range reason
+is_of_rule (Err DiskFault) old new reason = tt
+is_of_rule (Err OutOfMemory) old new reason = tt
+
+-- what is told of a check is how it ends
+pub check_ends : (found : Result Summary CheckFault) (old now : DiskState) (explain : Bool) (w : Writing) (result : Result Status Failure)
+    → IfOk found (IsClean old) → Passed IsFirst old now found → IsTold explain w found result → CheckEnds old now explain w result
+check_ends (Ok summary) old now explain w result clean passed told = is_clean summary clean told
+check_ends (Err (Found finding)) old now explain w result clean passed told = has_finding finding passed.reason told
+check_ends (Err DiskFault) old now explain w result clean passed told = is_unchecked DiskFault passed.reason told
+check_ends (Err OutOfMemory) old now explain w result clean passed told = is_unchecked OutOfMemory tt told
+
+pub checked_of_rule : {P : Type 0} (part : P → DiskState) (found : Result Summary CheckFault) → HasChecked part found → IfErr found IsOfRule
+checked_of_rule part found checked = is_of_rule found (part checked.old) (part checked.now) checked.passed.reason

@@ -2,12 +2,14 @@
 --     ended        the status of a job
 --     IsUndone        a job isn't done, and nothing is printed
 --     Tells        a line is printed, and the status is this one; or it can't be printed
+--     IsOfRule, HasChecked        a finding is one of the rules'; a check has found something on a disk that has not failed
+--     IsTold        what a check has found is told
 --     MkfsEnds, CheckEnds, UpgradeEnds        a disk is made a file system, a disk is checked, and a disk is upgraded
 --     InfoEnds        a disk says of itself what it does
 --     RunsOn, RunEnds        a script is run on a disk that is mounted for it
 --     MemoryEnds, ImageMkfsEnds, ImageRunEnds, ImageCheckEnds, ImageInfoEnds, ImageUpgradeEnds        the jobs but that of serving
 --     JobEnds, ProgramEnds        a job, and what the program does for its words
-use Rattle.std.specs.Prelude.{◌≡◌, ◌⊎◌, ℕ, Bool, List, Option, None, IsSome, IsTrue, Result, Ok, Err, OnOk}
+use Rattle.std.specs.Prelude.{◌≡◌, ◌⊎◌, ◌≤◌, ℕ, Bool, List, Option, None, IsSome, IsTrue, Result, Ok, Err, OnOk, IfOk}
 use Rattle.std.specs.Io.KnownBytes.{Appends}
 use Rattle.sector_disk.specs.Disk.{DiskState, IsFresh, IsStable, LeavesOnly, OnlyReads}
 use Rattle.fs_layout.specs.declared.version.Version.{Version}
@@ -17,8 +19,9 @@ use Rattle.fs_model.specs.States.{State}
 use Rattle.fs_model.specs.declared.event.Event.TheVariants.{Sync}
 use Rattle.fs_model.specs.declared.reply.Reply.{Reply}
 use Rattle.fs_model.specs.declared.reply.Reply.TheVariants as replies
-use Rattle.fs_check.specs.Checks.{IsClean, IsFirst, IsReason, IsNone}
+use Rattle.fs_check.specs.Checks.{IsClean, IsFirst, IsReason, IsNone, Passed}
 use Rattle.fs_check.specs.declared.faults.CheckFault.{CheckFault}
+use Rattle.fs_check.specs.declared.faults.CheckFault.TheVariants.{Found, DiskFault, OutOfMemory}
 use Rattle.fs_check.specs.declared.faults.Finding.{Finding}
 use Rattle.fs_check.specs.declared.faults.Summary.{Summary}
 use Rattle.fs_info.specs.Infos.{IsInfo, IsWhyNoInfo as IsInfoReason}
@@ -87,6 +90,28 @@ abbrev pub Tells : Writing → List ℕ → Status → Result Status Failure →
 Tells w line status result = (Appends w.before w.after line × (result ≡ Ok status)) ⊎ (result ≡ Ok Failed)
 
 -- ---- on a disk
+
+-- a finding is one of the fourteen rules'
+abbrev pub IsOfRule : CheckFault → Type 0
+IsOfRule (Found finding) = (1 ≤ finding.rule) × (finding.rule ≤ 14)
+IsOfRule DiskFault = Unit {0}
+IsOfRule OutOfMemory = Unit {0}
+
+-- what a check has found is told: what a clean disk has, the finding, or why there is neither
+abbrev pub IsTold : Bool → Writing → Result Summary CheckFault → Result Status Failure → Type 0
+IsTold explain w (Ok summary) result = Tells w (clean_text summary) Done result
+IsTold explain w (Err (Found finding)) result = Tells w (found_text explain finding) Faulty result
+IsTold explain w (Err DiskFault) result = IsUndone w (failures.Check DiskFault) result
+IsTold explain w (Err OutOfMemory) result = IsUndone w (failures.Check OutOfMemory) result
+
+-- A check has found this on a disk that has not failed.
+pub record HasChecked {P : Type 0} (part : P → DiskState) (found : Result Summary CheckFault) : Type 0 where
+  pub old : P
+  pub now : P
+  pub fresh : IsFresh (part old) (part old).seen
+  pub clean : IfOk found (IsClean (part old))
+  pub passed : Passed IsFirst (part old) (part now) found
+  pub quiet : (part now).failures ≡ 0
 
 -- A file system of this version is to be made on a disk that has room for so many inodes.
 pub data MkfsEnds (old now : DiskState) (version : Version) (inodes : ℕ) (w : Writing) (result : Result Status Failure) : Type 0 where
@@ -168,10 +193,13 @@ pub data ImageRunEnds {D : Type 0} (state : D → DiskState) (script : Option (L
   opens : (disk : D) (own : Reading) → IsFresh (state disk) (state disk).seen → (script ≡ None → own ≡ r)
       → RunEnds state disk own w result → ImageRunEnds state script r w result
 
-pub data ImageCheckEnds {D : Type 0} (state : D → DiskState) (explain : Bool) (w : Writing) (result : Result Status Failure) : Type 0 where
-  cannot_check : IsUndone w failures.NotOpened result → ImageCheckEnds state explain w result
+-- Of a disk in part the check has asked for no sector but those that were read from the file: else that disk had failed.
+pub data ImageCheckEnds {D P : Type 0} (state : D → DiskState) (part : P → DiskState) (explain : Bool) (w : Writing) (result : Result Status Failure) : Type 0 where
+  cannot_check : IsUndone w failures.NotOpened result → ImageCheckEnds state part explain w result
   checks : (old now : D) → IsFresh (state old) (state old).seen → OnlyReads (state old) (state now)
-      → CheckEnds (state old) (state now) explain w result → ImageCheckEnds state explain w result
+      → CheckEnds (state old) (state now) explain w result → ImageCheckEnds state part explain w result
+  checks_part : (old now : P) → IsFresh (part old) (part old).seen → OnlyReads (part old) (part now) → (part now).failures ≡ 0
+      → CheckEnds (part old) (part now) explain w result → ImageCheckEnds state part explain w result
 
 pub data ImageInfoEnds {D : Type 0} (state : D → DiskState) (json : Bool) (w : Writing) (result : Result Status Failure) : Type 0 where
   cannot_say : IsUndone w failures.NotOpened result → ImageInfoEnds state json w result
@@ -183,26 +211,26 @@ pub data ImageUpgradeEnds {D : Type 0} (state : D → DiskState) (w : Writing) (
   upgrades : (old now : D) → IsFresh (state old) (state old).seen → LeavesOnly (state old) (state now) (IsHalfUpgraded (state old))
       → UpgradeEnds (state old) (state now) w result → ImageUpgradeEnds state w result
 
--- A job ends so, on disks in memory and in files.
-abbrev pub JobEnds : {M F : Type 0} → (M → DiskState) → (F → DiskState) → Reading → Writing → Job → Result Status Failure → Type 0
-JobEnds memory file r w Memory result = MemoryEnds memory r w result
-JobEnds memory file r w (Mkfs image sectors inodes) result = ImageMkfsEnds file Two sectors inodes w result
-JobEnds memory file r w (Format image sectors inodes) result = ImageMkfsEnds file Three sectors inodes w result
-JobEnds memory file r w (Pack image from sectors inodes user group) result = (w.after ≡ w.before) × ImagePackEnds file sectors inodes result
-JobEnds memory file r w (Unpack image to) result = (w.after ≡ w.before) × ImageUnpackEnds file result
-JobEnds memory file r w (Run image script) result = ImageRunEnds file script r w result
-JobEnds memory file r w (Check image explain) result = ImageCheckEnds file explain w result
-JobEnds memory file r w (InfoJob image json) result = ImageInfoEnds file json w result
-JobEnds memory file r w (Upgrade image) result = ImageUpgradeEnds file w result
-JobEnds memory file r w (Fuse image denials own_rules) result = ImageFuseEnds file denials own_rules result
+-- A job ends so, on disks in memory and in files, the latter as wholes and in part.
+abbrev pub JobEnds : {M F P : Type 0} → (M → DiskState) → (F → DiskState) → (P → DiskState) → Reading → Writing → Job → Result Status Failure → Type 0
+JobEnds memory file part r w Memory result = MemoryEnds memory r w result
+JobEnds memory file part r w (Mkfs image sectors inodes) result = ImageMkfsEnds file Two sectors inodes w result
+JobEnds memory file part r w (Format image sectors inodes) result = ImageMkfsEnds file Three sectors inodes w result
+JobEnds memory file part r w (Pack image from sectors inodes user group) result = (w.after ≡ w.before) × ImagePackEnds file sectors inodes result
+JobEnds memory file part r w (Unpack image to) result = (w.after ≡ w.before) × ImageUnpackEnds file result
+JobEnds memory file part r w (Run image script) result = ImageRunEnds file script r w result
+JobEnds memory file part r w (Check image explain) result = ImageCheckEnds file part explain w result
+JobEnds memory file part r w (InfoJob image json) result = ImageInfoEnds file json w result
+JobEnds memory file part r w (Upgrade image) result = ImageUpgradeEnds file w result
+JobEnds memory file part r w (Fuse image denials own_rules) result = ImageFuseEnds file denials own_rules result
 
 -- ---- the program
 
 -- What the program does for its words, and the number that it ends with.
-pub data ProgramEnds {M F : Type 0} (memory : M → DiskState) (file : F → DiskState) (words : List (List ℕ)) (r : Reading) (w : Writing) (code : ℕ) : Type 0 where
-  does_job : (job : Job) (result : Result Status Failure) → AsksFor words job → JobEnds memory file r w job result
-      → code ≡ code_of (ended result) → ProgramEnds memory file words r w code
+pub data ProgramEnds {M F P : Type 0} (memory : M → DiskState) (file : F → DiskState) (part : P → DiskState) (words : List (List ℕ)) (r : Reading) (w : Writing) (code : ℕ) : Type 0 where
+  does_job : (job : Job) (result : Result Status Failure) → AsksFor words job → JobEnds memory file part r w job result
+      → code ≡ code_of (ended result) → ProgramEnds memory file part words r w code
   -- the help, the version, or what is wrong is printed
-  refuses : (fault : WordsFault) → Refuses words fault → code ≡ code_of (words_status fault) → ProgramEnds memory file words r w code
+  refuses : (fault : WordsFault) → Refuses words fault → code ≡ code_of (words_status fault) → ProgramEnds memory file part words r w code
   -- that can't be printed
-  is_mute : (fault : WordsFault) → Refuses words fault → code ≡ code_of Failed → ProgramEnds memory file words r w code
+  is_mute : (fault : WordsFault) → Refuses words fault → code ≡ code_of Failed → ProgramEnds memory file part words r w code

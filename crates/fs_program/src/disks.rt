@@ -1,11 +1,11 @@
 //! What the jobs do on a disk, and what they print.
 
-ghost use Rattle.std.specs.Prelude.{◌≡◌, ◌≤◌, OnOk, is_ok, if◌then◌else◌, Some, Ok};
+ghost use Rattle.std.specs.Prelude.{◌≡◌, ◌≤◌, OnOk, IfErr, is_ok, if◌then◌else◌, Some, Ok, Err};
 ghost use Rattle.std.specs.Io.KnownBytes.{Appends};
 ghost use Rattle.sector_disk.specs.Disk.{LeavesOnly, OnlyReads};
 ghost use Rattle.fs_layout.specs.Geometry.{IsGeometry, the_geometry};
 ghost use Rattle.fs_images.specs.Upgrading.{IsHalfUpgraded};
-ghost use Rattle.fs_program.specs.Jobs.{MkfsEnds, RunEnds, CheckEnds, UpgradeEnds, ended, run_status};
+ghost use Rattle.fs_program.specs.Jobs.{IsOfRule, IsTold, MkfsEnds, RunEnds, CheckEnds, UpgradeEnds, ended, run_status};
 ghost use Rattle.fs_program.specs.Streams.{reading, writing};
 ghost use Rattle.fs_program.specs.Texts.{made_text, kinds_text, room_text, yes_text, clean_text, finding_text, found_text, version_text};
 
@@ -126,13 +126,38 @@ pub(crate) fn check_disk<D: Disk, O: Write>(
     ensures reads { OnlyReads (D.state disk.old) (D.state disk.new) }
     ensures ends { CheckEnds (D.state disk.old) (D.state disk.new) explain (writing O.contents out.old out.new) result }
 {
-    match check(alloc, disk) {
+    tell_check(check(alloc, disk), explain, out)
+}
+
+/// Prints what a check has found.
+pub(crate) fn tell_check<O: Write>(
+    found: Result<Summary, CheckFault>,
+    explain: bool,
+    out: &mut Watched<O>,
+) -> Result<Status, Failure>
+    requires { IfErr found IsOfRule }
+    ensures { IsTold explain (writing O.contents out.old out.new) found result }
+{
+    match found {
         Ok(summary) => Ok(written(print_summary(&summary, out), Status::Done)),
-        Err(CheckFault::Found(finding)) => {
+        Err(fault) => tell_fault(fault, explain, out),
+    }
+}
+
+fn tell_fault<O: Write>(
+    fault: CheckFault,
+    explain: bool,
+    out: &mut Watched<O>,
+) -> Result<Status, Failure>
+    requires { IsOfRule fault }
+    ensures { IsTold explain (writing O.contents out.old out.new) (Err fault) result }
+{
+    match fault {
+        CheckFault::Found(finding) => {
             Ok(written(print_found(finding, explain, out), Status::Faulty))
         }
-        Err(CheckFault::DiskFault) => Err(Failure::Check(CheckFault::DiskFault)),
-        Err(CheckFault::OutOfMemory) => Err(Failure::Check(CheckFault::OutOfMemory)),
+        CheckFault::DiskFault => Err(Failure::Check(CheckFault::DiskFault)),
+        CheckFault::OutOfMemory => Err(Failure::Check(CheckFault::OutOfMemory)),
     }
 }
 

@@ -1,9 +1,9 @@
 //! What the program does for its words.
 
-ghost use Rattle.std.specs.Prelude.{◌≡◌, ◌⊎◌, ◌≤◌, map, string_bytes, MatchResult, Err, IfErr, IfOk, IsSome};
+ghost use Rattle.std.specs.Prelude.{◌≡◌, ◌⊎◌, ◌≤◌, map, string_bytes, MatchResult, Err, IfErr, IfOk, IfSome, IsSome};
 ghost use Rattle.std.specs.Option.{option_copied};
 ghost use Rattle.sector_disk.specs.Disk.{IsFresh};
-ghost use Rattle.fs_program.specs.Jobs.{ImageMkfsEnds, ImageRunEnds, ImageCheckEnds, ImageInfoEnds, ImageUpgradeEnds, JobEnds, ProgramEnds};
+ghost use Rattle.fs_program.specs.Jobs.{HasChecked, ImageMkfsEnds, ImageRunEnds, ImageCheckEnds, ImageInfoEnds, ImageUpgradeEnds, JobEnds, ProgramEnds};
 ghost use Rattle.fs_program.specs.Copying.{ImagePackEnds, ImageUnpackEnds};
 ghost use Rattle.fs_program.specs.Serving.{ImageFuseEnds};
 ghost use Rattle.fs_program.specs.Streams.{reading, writing};
@@ -12,16 +12,19 @@ ghost use Rattle.fs_command.specs.Words.{words_status};
 use crate::copying::{pack_on_disk, unpack_on_disk};
 use crate::denials::DenialList;
 use crate::describing::describe_disk;
-use crate::disks::{check_disk, finish, make_on_disk, run_on_disk, upgrade_disk, written};
+use crate::disks::{
+    check_disk, finish, make_on_disk, run_on_disk, tell_check, upgrade_disk, written,
+};
 use crate::memory::run_in_memory;
 use crate::served::serve_on_disk;
+use fs_check::{CheckFault, Summary, check, load};
 use fs_command::{Failure, Job, Status, Text, WordsFault, parse_words};
 use fs_images::MkfsFault;
 use fs_layout::{Version, geometry_of};
 use fs_shell::Watched;
 use fuse_serving::Standard;
 use host_trees::{CopyFault, Given};
-use sector_disk::{Disk, DiskFile, FileDisk, FileFault, MemDisk};
+use sector_disk::{Disk, DiskFile, FileDisk, FileFault, MemDisk, PartDisk, PartFile};
 use std::fs::{self, OpenOptions};
 use std::io::{ErrorKind, Read, Write};
 use std::os::unix::fs::OpenOptionsExt;
@@ -39,8 +42,8 @@ pub fn perform<R: Files<File: DiskFile> + AllocGlobal + Clock, I: Read, O: Write
     err: &mut E,
 ) -> u8
     // The words ask for a job, and it has ended with this status; or they ask for none.
-    ensures performs { ProgramEnds ⟦<MemDisk as Disk>⟧.state ⟦<FileDisk<R::File> as Disk>⟧.state (map string_bytes words.now)
-        (reading I.remaining input.old input.new) (writing O.contents out.old out.new) result }
+    ensures performs { ProgramEnds ⟦<MemDisk as Disk>⟧.state ⟦<FileDisk<R::File> as Disk>⟧.state ⟦<PartDisk<MemDisk> as Disk>⟧.state
+        (map string_bytes words.now) (reading I.remaining input.old input.new) (writing O.contents out.old out.new) result }
     ensures range { result ≤ 3 }
 {
     match parse_words(rt.alloc(), words) {
@@ -69,7 +72,7 @@ fn perform_job<R: Files<File: DiskFile> + AllocGlobal + Clock, I: Read, O: Write
     out: &mut Watched<O>,
     err: &mut E,
 ) -> Result<Status, Failure>
-    ensures { JobEnds ⟦<MemDisk as Disk>⟧.state ⟦<FileDisk<R::File> as Disk>⟧.state
+    ensures { JobEnds ⟦<MemDisk as Disk>⟧.state ⟦<FileDisk<R::File> as Disk>⟧.state ⟦<PartDisk<MemDisk> as Disk>⟧.state
         (reading I.remaining input.old input.new) (writing O.contents out.old out.new) job.now result }
 {
     match job {
@@ -237,10 +240,40 @@ fn check_image<R: Files<File: DiskFile> + AllocGlobal, O: Write>(
     explain: bool,
     out: &mut Watched<O>,
 ) -> Result<Status, Failure>
-    ensures { ImageCheckEnds ⟦<FileDisk<R::File> as Disk>⟧.state explain (writing O.contents out.old out.new) result }
+    ensures { ImageCheckEnds ⟦<FileDisk<R::File> as Disk>⟧.state ⟦<PartDisk<MemDisk> as Disk>⟧.state explain
+        (writing O.contents out.old out.new) result }
 {
-    let mut disk = open_image(rt, image)?;
-    check_disk(rt.alloc(), &mut disk, explain, out)
+    let (found, file) = check_part(rt, image)?;
+    if let Some(found) = found {
+        return tell_check(found, explain, out);
+    }
+    match FileDisk::over_large(rt.alloc(), file) {
+        Ok(mut disk) => check_disk(rt.alloc(), &mut disk, explain, out),
+        Err(_) => Err(Failure::NotOpened),
+    }
+}
+
+// What a check finds that reads a file in part. None where it has asked for a sector that wasn't loaded.
+fn check_part<R: Files<File: DiskFile> + AllocGlobal>(
+    rt: &R,
+    image: &Text,
+) -> Result<(Option<Result<Summary, CheckFault>>, R::File), Failure>
+    ensures { MatchResult result (λ found. IfSome found.0 (HasChecked ⟦<PartDisk<MemDisk> as Disk>⟧.state))
+        (λ failure. failure ≡ Failure.NotOpened) }
+{
+    let Ok(part) = PartFile::open(rt, rt.alloc(), image.as_str()) else {
+        return Err(Failure::NotOpened);
+    };
+    let Ok(part) = load(rt.alloc(), part) else {
+        return Err(Failure::NotOpened);
+    };
+    let (mut disk, file) = part.into_disk(rt.alloc());
+    let found = check(rt.alloc(), &mut disk);
+    if disk.failures() == 0 {
+        Ok((Some(found), file))
+    } else {
+        Ok((None, file))
+    }
 }
 
 fn describe_image<R: Files<File: DiskFile> + AllocGlobal, O: Write>(

@@ -1,0 +1,251 @@
+//! The sectors of a file that a check reads, loaded in runs as long as possible.
+//!
+//! Nothing trusts that these are all: a sector that is missed is one that the check can't read.
+
+ghost use Rattle.std.specs.Prelude.{◌≤◌};
+ghost use Rattle.fs_layout.specs.declared.inode.TheConstants.{POINTER_LEVELS};
+ghost use Rattle.fs_layout.specs.declared.header.TheConstants.{MAX_HEADER};
+
+use crate::opening::geometry_in;
+use crate::reading::content_of;
+use fs_layout::{
+    COMMIT_SECTOR, Commit, Geometry, INODE_SIZE, Inode, Kind, MAX_BLOCKS, MAX_HEADER,
+    POINTER_LEVELS, SECTOR_POINTERS, area_start, own_count,
+};
+use sector_disk::{DiskFile, FileFault, PartFile};
+use std::alloc::{AllocError, Global};
+
+const ZEROS: [u8; 512] = [0; 512];
+
+// So many inodes stand in a sector of their table.
+const SECTOR_INODES: usize = 4;
+
+// How many header sectors a log area has, and which area the commit is in, with its targets.
+#[derive(Drop)]
+struct Log {
+    header: u32,
+    area: u32,
+    commit: Commit,
+    ghost few: { header ≤ MAX_HEADER },
+}
+
+/// Loads what a check reads of a file, as far as its superblock, its commit and its inodes tell where that is.
+pub fn load<F: DiskFile + Drop>(
+    alloc: Global,
+    part: PartFile<F>,
+) -> Result<PartFile<F>, FileFault> {
+    let part = part.load(0, COMMIT_SECTOR + 1)?;
+    let Some(geometry) = read_geometry(&part) else {
+        return Ok(part);
+    };
+    let count = geometry.first_data.saturating_sub(geometry.inode_bitmap);
+    let part = part.load(geometry.inode_bitmap, count)?;
+    let (part, log) = load_log(part, geometry.header.min(MAX_HEADER))?;
+    let inodes = used_inodes(alloc, &part, &log, geometry)?;
+    let part = load_named(alloc, part, &inodes)?;
+    let part = load_pointers(alloc, part, &log, &inodes)?;
+    load_blocks(alloc, part, &log, &inodes)
+}
+
+fn read_geometry<F: DiskFile + Drop>(part: &PartFile<F>) -> Option<Geometry> {
+    geometry_in(part.get(0)?, part.count())
+}
+
+// The log as far as the commit uses it.
+fn load_log<F: DiskFile + Drop>(
+    part: PartFile<F>,
+    header: u32,
+) -> Result<(PartFile<F>, Log), FileFault>
+    requires { header ≤ MAX_HEADER }
+{
+    let content = *part.get(COMMIT_SECTOR).unwrap_or(&ZEROS);
+    let area = Commit::area_in(&content);
+    let commit = Commit::counted(&content, header).unwrap_or(Commit::idle());
+    let start = area_start(header, area);
+    let count = match commit.targets().len() as u32 {
+        0 => 0,
+        count => header.saturating_add(count),
+    };
+    let part = part.load(start, count)?;
+    let commit = read_targets(&part, start, commit);
+    let log = Log {
+        header,
+        area,
+        commit,
+    };
+    Ok((part, log))
+}
+
+// Those targets too that stand in the header, which begins at this sector.
+fn read_targets<F: DiskFile + Drop>(part: &PartFile<F>, start: u32, commit: Commit) -> Commit {
+    let mut commit = commit;
+    for at in 0..commit.header_sectors().min(MAX_HEADER as usize) {
+        let content = part.get(start.saturating_add(at as u32));
+        commit.read_header(at, content.unwrap_or(&ZEROS));
+    }
+    commit
+}
+
+// What a sector has as recovery would leave it; zeros where it wasn't read, and of sector 0.
+fn recovered<'a, F: DiskFile + Drop>(part: &'a PartFile<F>, log: &Log, n: u32) -> &'a [u8; 512] {
+    if n == 0 {
+        return &ZEROS;
+    }
+    let from = content_of(log.header, log.area, &log.commit, n);
+    part.get(from).unwrap_or(&ZEROS)
+}
+
+// The inodes that are in use and good.
+fn used_inodes<F: DiskFile + Drop>(
+    alloc: Global,
+    part: &PartFile<F>,
+    log: &Log,
+    geometry: Geometry,
+) -> Result<Vec<Inode>, AllocError> {
+    let mut inodes = Vec::new(alloc);
+    for s in geometry.table..geometry.first_data {
+        let content = recovered(part, log, s);
+        for i in 0..SECTOR_INODES {
+            let at = INODE_SIZE * i;
+            if content[at] == 0 {
+                continue;
+            }
+            if let Ok(inode) = Inode::read_any(content, at) {
+                inodes.push(inode)?;
+            }
+        }
+    }
+    Ok(inodes)
+}
+
+fn want(numbers: &mut Vec<u32>, s: u32) -> Result<(), AllocError> {
+    if s != 0 {
+        numbers.push(s)?;
+    }
+    Ok(())
+}
+
+// The sectors of ACLs and of pointers that inodes name.
+fn load_named<F: DiskFile + Drop>(
+    alloc: Global,
+    part: PartFile<F>,
+    inodes: &[Inode],
+) -> Result<PartFile<F>, FileFault> {
+    let mut numbers = Vec::new(alloc);
+    for inode in inodes {
+        want(&mut numbers, inode.acl)?;
+        want(&mut numbers, inode.default_acl)?;
+        for s in &inode.indirect {
+            want(&mut numbers, *s)?;
+        }
+    }
+    numbers.sort_unstable();
+    part.load_each(&numbers)
+}
+
+// The sectors of pointers that others list, from the top.
+fn load_pointers<F: DiskFile + Drop>(
+    alloc: Global,
+    part: PartFile<F>,
+    log: &Log,
+    inodes: &[Inode],
+) -> Result<PartFile<F>, FileFault> {
+    let mut part = part;
+    let mut level = POINTER_LEVELS;
+    while level > 1 {
+        let numbers = listed_numbers(alloc, &part, log, inodes, level)?;
+        part = part.load_each(&numbers)?;
+        level -= 1;
+    }
+    Ok(part)
+}
+
+// What the sectors of pointers of a level list. There are no more of them than sectors, unless the disk is damaged.
+fn listed_numbers<F: DiskFile + Drop>(
+    alloc: Global,
+    part: &PartFile<F>,
+    log: &Log,
+    inodes: &[Inode],
+    level: usize,
+) -> Result<Vec<u32>, AllocError>
+    requires lowest { 1 ≤ level }
+    requires highest { level ≤ POINTER_LEVELS }
+{
+    let mut numbers = Vec::new(alloc);
+    for inode in inodes {
+        if numbers.len() > part.count() as usize {
+            break;
+        }
+        for i in 0..inode.number_end(level) {
+            let s = number_of(part, log, inode, level, i);
+            if s != 0 {
+                want_listed(&mut numbers, recovered(part, log, s), inode, level - 1)?;
+            }
+        }
+    }
+    numbers.sort_unstable();
+    Ok(numbers)
+}
+
+// The numbers of a level that stand in a sector of pointers with this content.
+fn want_listed(
+    numbers: &mut Vec<u32>,
+    content: &[u8; 512],
+    inode: &Inode,
+    level: usize,
+) -> Result<(), AllocError> {
+    let own = own_count(level);
+    for i in own..own + SECTOR_POINTERS {
+        want(numbers, inode.number(level, content, i))?;
+    }
+    Ok(())
+}
+
+// Of files the last block, and of others all. There are no more of them than sectors, unless the disk is damaged.
+fn load_blocks<F: DiskFile + Drop>(
+    alloc: Global,
+    part: PartFile<F>,
+    log: &Log,
+    inodes: &[Inode],
+) -> Result<PartFile<F>, FileFault> {
+    let mut numbers = Vec::new(alloc);
+    let mut left = u64::from(part.count());
+    for inode in inodes {
+        let end = inode.size.div_ceil(512).min(MAX_BLOCKS);
+        let first = match inode.kind {
+            Kind::File => end.saturating_sub(1),
+            _ => 0,
+        };
+        if left < end.saturating_sub(first) {
+            break;
+        }
+        left = left.saturating_sub(end.saturating_sub(first));
+        for i in first..end {
+            want(&mut numbers, number_of(&part, log, inode, 0, i))?;
+        }
+    }
+    numbers.sort_unstable();
+    part.load_each(&numbers)
+}
+
+// Number `i` of a level; 0 where there is none, or where a sector of pointers in which it is looked for wasn't read.
+fn number_of<F: DiskFile + Drop>(
+    part: &PartFile<F>,
+    log: &Log,
+    inode: &Inode,
+    level: usize,
+    i: u64,
+) -> u32
+    requires { level ≤ POINTER_LEVELS }
+{
+    let own = own_count(level);
+    if i < own {
+        return inode.number(level, &ZEROS, i);
+    }
+    // There is no level above the highest.
+    if level == POINTER_LEVELS {
+        return 0;
+    }
+    let s = number_of(part, log, inode, level + 1, (i - own) / SECTOR_POINTERS);
+    inode.number(level, recovered(part, log, s), i)
+}
