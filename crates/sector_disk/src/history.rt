@@ -104,7 +104,8 @@ impl History {
         ensures ok { OnOk result (self.new ≡ record self.old { events = self.old.events ++ Written n content.now ∷ [] }) }
         ensures err { OnErr result (self.new ≡ self.old) }
     {
-        self.done.push(Step::Replaced(n, *self.seen.get(n)))?;
+        self.done
+            .extend_from_slice(&[Step::Replaced(n, *self.seen.get(n))])?;
         if self.seen.set(n, content).is_err() {
             self.done.pop();
             return Err(AllocError);

@@ -8,6 +8,7 @@ ghost use Rattle.sector_disk.specs.Places.{OwnsPlace, IsRunSet, IsRow};
 use crate::whole::tell_whole;
 use std::alloc::{AllocError, Global};
 use std::marker::Model;
+use std::slice::from_ref;
 
 const ZEROS: [u8; 512] = [0; 512];
 
@@ -157,7 +158,7 @@ impl Sectors {
             return Err(AllocError);
         };
         self.owners.push(n)?;
-        if self.contents.push(*content).is_err() {
+        if self.contents.extend_from_slice(from_ref(content)).is_err() {
             self.owners.pop();
             return Err(AllocError);
         }

@@ -16,12 +16,12 @@ invariant_of-self-else-is_err c =
     let size = ap (λ (p : Past). length p.start) c.self.view_is in
     let len = c.self.invariant.log.len in
     let below : n < length i.seen.shown = let fits = c.requires in omega (arith, fits, size, len) in
-    let step = c.in_ok-push.ensures.items ∙ ap (λ was. i.done.items ++ Replaced n was ∷ []) c.get.ensures.content in
+    let step = c.in_ok-extend_from_slice.ensures.items ∙ ap (λ was. i.done.items ++ Replaced n was ∷ []) c.get.ensures.content in
     let set = recorded c.set.result (sym c.is_err.ensures.value ∙ c.if-is_err.false) c.set.ensures.ok in
     let now = c.set.new.self in
     let keeps = λ (zeros_not : _). c.get.ensures.placed (λ zeros. zeros_not (sym c.get.ensures.content ∙ zeros)) in
     record {
-      log = subst (λ (seen : Image). IsLog seen c.push.new.self.items i.synced) (sym set)
+      log = subst (λ (seen : Image). IsLog seen c.extend_from_slice.new.self.items i.synced) (sym set)
           (subst (λ (l : List Step). IsLog (slice_set i.seen.shown n content) l i.synced) (sym step) (log-write i.seen.shown n content i.done.items i.synced below c.self.invariant.log));
       back = subst (λ (l : List Step). CanPutBack now (drop i.synced l)) (sym step)
           (back-write i.seen now n content i.done.items i.synced below c.self.invariant.log.synced_fits keeps set c.set.ensures.keeps c.self.invariant.back);
@@ -35,7 +35,7 @@ returns-clause-ok c =
     let size = ap (λ (p : Past). length p.start) c.self.view_is in
     let len = c.self.invariant.log.len in
     let below : n < length i.seen.shown = let fits = c.requires in omega (arith, fits, size, len) in
-    let step = c.in_ok-push.ensures.items ∙ ap (λ was. i.done.items ++ Replaced n was ∷ []) c.get.ensures.content in
+    let step = c.in_ok-extend_from_slice.ensures.items ∙ ap (λ was. i.done.items ++ Replaced n was ∷ []) c.get.ensures.content in
     let set = recorded c.set.result (sym c.is_err.ensures.value ∙ c.if-is_err.false) c.set.ensures.ok in
-    ap (λ (seen : Image). past_of seen c.push.new.self.items) set ∙ ap (λ (l : List Step). past_of (slice_set i.seen.shown n content) l) step
+    ap (λ (seen : Image). past_of seen c.extend_from_slice.new.self.items) set ∙ ap (λ (l : List Step). past_of (slice_set i.seen.shown n content) l) step
     ∙ past-write i.seen.shown n content i.done.items below ∙ ap (λ (p : Past). record p { events = p.events ++ Written n content ∷ [] }) c.self.view_is

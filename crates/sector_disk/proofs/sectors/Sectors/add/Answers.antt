@@ -1,4 +1,5 @@
-use Rattle.std.proofs.Common.{◌≢◌, ℕ, List, ap, arith, slice_set, ◌∙◌, subst, sym, [], ◌∷◌, ◌++◌}
+use Rattle.std.proofs.Common.{◌≢◌, ℕ, List, ap, arith, slice_set, ◌∙◌, subst, sym, [], ◌∷◌, ◌++◌, if◌then◌else◌}
+use Rattle.std.specs.Result.{is_ok}
 use Rattle.sector_disk.specs.Disk.{Image}
 use Rattle.sector_disk.specs.Places.{sectors_at, IsKept}
 use Rattle.sector_disk.proofs.Placed.{shown_is, place_seen, keeps_all, added_kept, added_shown, added_keeps, pushed}
@@ -11,7 +12,8 @@ invariant_of-self-2 c =
     let content = c.args.content.now in
     let seen = place_seen i.places.items i.contents.items c.args.self.now n c.self.view_is c.requires.below in
     let end = c.in-Ok.ensures.1 ∙ c.len.ensures ∙ i.contents.ok.0 in
-    let more = pushed c.push-2.result c.is_err.result i.contents.items c.push-2.new.self.items content c.is_err.ensures.negation c.if-is_err.false c.push-2.ensures.items in
+    let all = c.extend_from_slice.ensures.items ∙ ap (λ (l : Image). if is_ok c.extend_from_slice.result then i.contents.items ++ l else i.contents.items) c.from_ref.ensures.value in
+    let more = pushed c.extend_from_slice.result c.is_err.result i.contents.items c.extend_from_slice.new.self.items content c.is_err.ensures.negation c.if-is_err.false all in
     subst (λ (l : Image). IsKept (slice_set i.places.items n c.in-Ok.place) l c.push.new.self.items) (sym more)
     (subst (λ (l : List ℕ). IsKept (slice_set i.places.items n c.in-Ok.place) (i.contents.items ++ content ∷ []) l) (sym c.in_ok-push.ensures.items)
     (added_kept i.places.items i.contents.items i.owners.items n c.in-Ok.place content c.self.invariant seen.0 (seen.1 ∙ c.requires.none) end c.tell_whole.ensures))
@@ -23,7 +25,8 @@ returns-clause-ok c =
     let content = c.args.content.now in
     let seen = place_seen i.places.items i.contents.items c.args.self.now n c.self.view_is c.requires.below in
     let end = c.in-Ok.ensures.1 ∙ c.len.ensures ∙ i.contents.ok.0 in
-    let more = pushed c.push-2.result c.is_err.result i.contents.items c.push-2.new.self.items content c.is_err.ensures.negation c.if-is_err.false c.push-2.ensures.items in
+    let all = c.extend_from_slice.ensures.items ∙ ap (λ (l : Image). if is_ok c.extend_from_slice.result then i.contents.items ++ l else i.contents.items) c.from_ref.ensures.value in
+    let more = pushed c.extend_from_slice.result c.is_err.result i.contents.items c.extend_from_slice.new.self.items content c.is_err.ensures.negation c.if-is_err.false all in
     ap (λ (l : Image). sectors_at l (slice_set i.places.items n c.in-Ok.place)) more
     ∙ added_shown i.places.items i.contents.items i.owners.items n c.in-Ok.place content c.self.invariant seen.0 end ∙ ap (λ (shown : Image). slice_set shown n content) (shown_is c.self.view_is)
 
