@@ -1,6 +1,6 @@
 //! Sectors in memory, of which those that are zeros take four bytes each.
 
-ghost use Rattle.std.specs.Prelude.{◌≡◌, ◌≢◌, ◌↔◌, ◌<◌, ◌≤◌, ◌+◌, ◌^◌, ℕ, length, get_or, replicate, slice_set, slice_range, IfOk, IfSome, IsTrue, OnOk, OnErr};
+ghost use Rattle.std.specs.Prelude.{◌≡◌, ◌≢◌, ◌<◌, ◌≤◌, ◌+◌, ◌^◌, ℕ, length, get_or, replicate, slice_set, slice_range, IfOk, IfSome, IsTrue, OnOk, OnErr};
 ghost use Rattle.sector_disk.specs.Disk.{sector};
 ghost use Rattle.sector_disk.specs.Whole.{AreSectors};
 ghost use Rattle.sector_disk.specs.Places.{OwnsPlace, IsRunSet, IsRow};
@@ -82,7 +82,7 @@ impl Sectors {
             self.replace(n, content);
             return Ok(());
         }
-        if are_zeros(content) {
+        if may_be_zeros(content) && *content == ZEROS {
             return Ok(());
         }
         self.add(n, content)
@@ -104,6 +104,16 @@ impl Sectors {
 
     /// Lets the place of one go that has zeros.
     pub fn release(&mut self, n: u32)
+        requires { n < length self.old.shown }
+        ensures { self.new.shown ≡ self.old.shown }
+    {
+        if may_be_zeros(self.get(n)) {
+            self.release_zeros(n);
+        }
+    }
+
+    // Lets the place of one go, if all its bytes are zeros.
+    fn release_zeros(&mut self, n: u32)
         requires { n < length self.old.shown }
         ensures { self.new.shown ≡ self.old.shown }
     {
@@ -211,15 +221,9 @@ impl Sectors {
     }
 }
 
-// All bytes are zero. Not stopping at the first other one, it tests many at once.
-fn are_zeros(bytes: &[u8]) -> bool
-    ensures { IsTrue result ↔ ((i : ℕ) → i < length bytes.now → get_or bytes.now i 0 ≡ 0) }
-{
-    let mut zero = true;
-    for byte in bytes {
-        zero &= *byte == 0;
-    }
-    zero
+// Whether a sector begins as one of zeros does: what most others don't.
+fn may_be_zeros(content: &[u8; 512]) -> bool {
+    content[0] == 0
 }
 
 // Whether these places are neighbours, from one on.

@@ -1,6 +1,6 @@
 use Rattle.std.proofs.Common.{◌≡◌, ap, replicate, rules, slice_set, sym, ◌∙◌, List, ℕ, []}
 use Rattle.std.proofs.lemmas.List.{set-get_or}
-use Rattle.sector_disk.proofs.sectors.Sectors.release.Goals as goal
+use Rattle.sector_disk.proofs.sectors.Sectors.release_zeros.Goals as goal
 
 pub returns-then-eq : goal.returns-then-eq
 returns-then-eq c =
