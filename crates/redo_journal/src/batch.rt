@@ -51,21 +51,37 @@ impl Model for Batch {
         × AreMarked b.sectors.keys b.marks };
 }
 
-// The sector's place: the one that it has, or else the next one, which it then has. A sector that is there is not inserted
-// again, since that might take from the room.
-fn index_for(sectors: &mut IndexSet<u32>, n: u32) -> usize
+// The place of a sector that isn't there, which it then has: behind all others.
+fn add_sector(sectors: &mut IndexSet<u32>, n: u32) -> usize
+    requires absent { contains nat_eq sectors.old n ≡ false }
+    requires room { 0 < spare sectors.old }
+    ensures place { result ≡ insert_index nat_eq sectors.old n }
+    ensures within { result < index_set_len sectors.new }
+    ensures sectors { sectors.new.keys ≡ insert_key nat_eq sectors.old.keys n }
+    ensures room { index_set_len sectors.old + spare sectors.old ≤ index_set_len sectors.new + spare sectors.new }
+{
+    match sectors.insert_full(n) {
+        Ok((at, _)) => at,
+        Err(_) => unreachable!(),
+    }
+}
+
+// The sector's place: the one that it has, or else the next one, which it then has. A sector without a mark isn't looked for. One that
+// is there is not inserted again, since that might take from the room.
+fn index_for(sectors: &mut IndexSet<u32>, marked: bool, n: u32) -> usize
+    requires unmarked { marked ≡ false → contains nat_eq sectors.old n ≡ false }
     requires room { contains nat_eq sectors.old n ≡ false → 0 < spare sectors.old }
     ensures place { result ≡ insert_index nat_eq sectors.old n }
     ensures within { result < index_set_len sectors.new }
     ensures sectors { sectors.new.keys ≡ insert_key nat_eq sectors.old.keys n }
     ensures room { index_set_len sectors.old + spare sectors.old ≤ index_set_len sectors.new + spare sectors.new }
 {
+    if !marked {
+        return add_sector(sectors, n);
+    }
     match sectors.get_index_of(&n) {
         Some(at) => at,
-        None => match sectors.insert_full(n) {
-            Ok((at, _)) => at,
-            Err(_) => unreachable!(),
-        },
+        None => add_sector(sectors, n),
     }
 }
 
@@ -122,7 +138,8 @@ impl Batch {
         ensures on_disk { (header size : ℕ) → log_end header ≤ n → n < size → IsOnDisk header size self.old.entries
             → IsOnDisk header size self.new.entries }
     {
-        let at = index_for(&mut self.sectors, n);
+        let marked = self.marks[n as usize % MARKS];
+        let at = index_for(&mut self.sectors, marked, n);
         set_content(&mut self.contents, at, from);
         self.marks[n as usize % MARKS] = true;
     }

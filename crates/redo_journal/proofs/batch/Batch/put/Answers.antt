@@ -5,7 +5,7 @@ use Rattle.indexmap.specs.IndexSet.{spare}
 use Rattle.redo_journal.specs.Batch.{BatchView, HasPlaces, IsOnDisk, has_entry}
 use Rattle.redo_journal.proofs.Puts.{length-put, on_disk_put, puts_put}
 use Rattle.redo_journal.proofs.Places.{places_put, put_by_parts, room_by_parts, room_for_content, within_contents}
-use Rattle.redo_journal.proofs.Marks.{marked_put}
+use Rattle.redo_journal.proofs.Marks.{marked_put, unmarked_absent}
 use Rattle.redo_journal.proofs.batch.Batch.put.Goals as goal
 
 -- the room that there is, in the words of the parts
@@ -18,6 +18,7 @@ index_for-at-requires c =
     record {
       room = room_by_parts _ parts.sectors.keys parts.contents.items _ _ c.args.n c.args.self.now.entries c.self.invariant.0 (ap (λ (v : BatchView). v.entries) c.self.view_is)
           (room_before c.args.n _ c.args.self.now c.self.view_is c.requires.room);
+      unmarked = unmarked_absent parts.sectors.keys parts.marks c.args.n c.self.invariant.1;
     }
 
 pub set_content-requires-clause-within : goal.set_content-requires-clause-within
