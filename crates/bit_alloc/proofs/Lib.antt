@@ -1,3 +1,4 @@
+pub mod Listed
 pub mod Maps
 pub mod Marking
 pub mod Soundness

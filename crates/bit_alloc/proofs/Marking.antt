@@ -50,7 +50,7 @@ marked_puts p map n content old new geometry lt put =
 
 -- ---- what the write is
 -- a sector with another byte is one
-IsSector-set : (s : List ℕ) (i b : ℕ) → IsSector s → i < 512 → b < 256 → IsSector (set s i b)
+pub IsSector-set : (s : List ℕ) (i b : ℕ) → IsSector s → i < 512 → b < 256 → IsSector (set s i b)
 IsSector-set s i b whole lt small = record {
   len = length-set s i b ∙ whole.len;
   bytes = λ j. elim (cases_eq j i) [

@@ -2,11 +2,13 @@
 --     first_sector, bit_count        where a bitmap begins, and how many bits it has
 --     least, limit, IsNumber        the numbers that it keeps
 --     IsFreeNumber, free_numbers        one that is free; how many are
---     sector_of        the sector in which a number's bit stands
+--     sector_of, IsSectorOf        the sector in which a number's bit stands; one of several numbers
+--     IsListed        a number of a list
 --     Marks        one bit of it is written
 --     TakesNumber, GivesNumber        a free number is taken; a number becomes free
+--     IsMapSector, GivesNumbers        a sector of a bitmap; several numbers become free
 --     HasRestSet, HasBitmaps        what is asked of the bitmaps
-use Rattle.std.specs.Prelude.{◌≡◌, ℕ, ◌+◌, ◌/◌, ◌<◌, ◌≤◌, false, not, IsTrue, count_by}
+use Rattle.std.specs.Prelude.{◌≡◌, ◌≢◌, ℕ, ◌+◌, ◌/◌, ◌<◌, ◌≤◌, ◌⊎◌, false, not, IsTrue, List, get_or, count_by}
 use Rattle.std.specs.List.{range_with_len}
 use Rattle.bit_alloc.specs.declared.bitmap.Bitmap.{Bitmap}
 use Rattle.bit_alloc.specs.declared.bitmap.Bitmap.TheVariants.{Inodes, Blocks}
@@ -15,7 +17,7 @@ use Rattle.fs_layout.specs.Bytes.{SectorMap}
 use Rattle.fs_layout.specs.Header.{log_end}
 use Rattle.fs_layout.specs.Geometry.{IsGeometry}
 use Rattle.fs_layout.specs.Images.{HasWholeTables, inode_map_bits, map_bits, bit, free_sectors}
-use Rattle.fs_layout.specs.InodeChanges.{MarksSector, MarksInode}
+use Rattle.fs_layout.specs.InodeChanges.{IsInodeMap, IsBlockMap, MarksSector, MarksInode}
 use Rattle.sector_txn.specs.Sectors.{TxnState}
 
 -- the first sector of the bitmap
@@ -55,6 +57,20 @@ free_numbers p Blocks image = free_sectors p image
 abbrev pub sector_of : Geometry → Bitmap → ℕ → ℕ
 sector_of p map n = first_sector p map + n / 4096
 
+-- that of a number with P
+pub record IsSectorOf (p : Geometry) (map : Bitmap) (P : ℕ → Type 0) (s : ℕ) : Type 0 where
+  pub number : ℕ
+  pub has : P number
+  pub is : s ≡ sector_of p map number
+
+-- a number that a list has from place `first` on, before place `end`; 0 is none
+pub record IsListed (numbers : List ℕ) (first end n : ℕ) : Type 0 where
+  pub place : ℕ
+  pub from : first ≤ place
+  pub before : place < end
+  pub is : get_or numbers place 0 ≡ n
+  pub some : n ≢ 0
+
 -- of the bitmap no bit but that of n differs, and nothing else does
 abbrev pub Marks : Geometry → Bitmap → ℕ → SectorMap → SectorMap → Type 0
 Marks p Inodes n old new = MarksInode p n old new
@@ -74,6 +90,20 @@ pub record GivesNumber (p : Geometry) (map : Bitmap) (n : ℕ) (old new : Sector
   pub clear : bit new (first_sector p map) n ≡ false
   -- if n was taken, one number more is free
   pub count : IsTrue (bit old (first_sector p map) n) → free_numbers p map new ≡ free_numbers p map old + 1
+
+-- a sector of the bitmap
+abbrev pub IsMapSector : Geometry → Bitmap → ℕ → Type 0
+IsMapSector p Inodes s = IsInodeMap p s
+IsMapSector p Blocks s = IsBlockMap p s
+
+-- the bits of the numbers with P are clear, the others are as they were, and nothing else differs
+pub record GivesNumbers (p : Geometry) (map : Bitmap) (P : ℕ → Type 0) (old new : SectorMap) : Type 0 where
+  pub tables : HasWholeTables p new
+  pub clear : (n : ℕ) → P n → bit new (first_sector p map) n ≡ false
+  pub bits : (n : ℕ) → n < bit_count p map → P n ⊎ (bit new (first_sector p map) n ≡ bit old (first_sector p map) n)
+  pub others : (s : ℕ) → (IsMapSector p map s → ⊥) → new s ≡ old s
+  -- at least as many are free
+  pub count : free_numbers p map old ≤ free_numbers p map new
 
 -- The bits that are no number's are set: that of inode 0, those below the data, and those past the end. So each clear
 -- bit is that of a free number.

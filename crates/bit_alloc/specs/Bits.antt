@@ -1,11 +1,13 @@
 -- The bits of one sector, and those of a bitmap.
 --     AreSet, IsLeastClear        the first bits of a sector are set; the lowest that is clear
 --     HasFullWords        the first words of 64 bits have all their bits set
+--     ClearsListed        the bits of numbers of a list become clear
 --     clear_below        how many of a bitmap's first bits are clear
-use Rattle.std.specs.Prelude.{◌≡◌, ℕ, ◌*◌, ◌-◌, ◌^◌, ◌<◌, List, false, not, IsTrue, count_by}
+use Rattle.std.specs.Prelude.{◌≡◌, ℕ, ◌*◌, ◌-◌, ◌/◌, ◌^◌, ◌<◌, ◌⊎◌, List, false, not, IsTrue, count_by}
 use Rattle.std.specs.List.{range_with_len}
 use Rattle.fs_layout.specs.Bytes.{SectorMap, u64_of}
 use Rattle.fs_layout.specs.Images.{bit}
+use Rattle.bit_alloc.specs.Bitmaps.{IsListed}
 
 -- each of the first n bits is set
 abbrev pub AreSet : List ℕ → ℕ → Type 0
@@ -20,6 +22,12 @@ pub record IsLeastClear (sector : List ℕ) (n : ℕ) : Type 0 where
 -- each of the first n words has all its bits set
 abbrev pub HasFullWords : List ℕ → ℕ → Type 0
 HasFullWords sector n = (k : ℕ) → k < n → u64_of sector (8 * k) ≡ 2 ^ 64 - 1
+
+-- The numbers of a list from place `from` on, before place `end`, have their bits in sector k of a bitmap. There they are clear, and
+-- the others as they were.
+pub record ClearsListed (numbers : List ℕ) (k from end : ℕ) (old new : List ℕ) : Type 0 where
+  pub clear : (n : ℕ) → IsListed numbers from end n → (n / 4096 ≡ k) × (bit (λ _. new) 0 n ≡ false)
+  pub others : (n : ℕ) → n / 4096 ≡ k → IsListed numbers from end n ⊎ (bit (λ _. new) 0 n ≡ bit (λ _. old) 0 n)
 
 -- how many of the first n bits of the bitmap that begins at a sector are clear
 unfoldable pub clear_below : SectorMap → ℕ → ℕ → ℕ

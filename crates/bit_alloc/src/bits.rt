@@ -1,9 +1,9 @@
 //! The bits of one sector of a bitmap.
 
-ghost use Rattle.std.specs.Prelude.{◌≡◌, ◌≢◌, ◌+◌, ◌*◌, ◌-◌, ◌^◌, ◌<◌, ◌≤◌, ℕ, length, get_or, nat_eq, IsTrue, MatchOption};
+ghost use Rattle.std.specs.Prelude.{◌≡◌, ◌≢◌, ◌+◌, ◌*◌, ◌-◌, ◌/◌, ◌^◌, ◌<◌, ◌≤◌, ℕ, length, get_or, nat_eq, IsTrue, MatchOption};
 ghost use Rattle.std.specs.Int.{bit_at};
-ghost use Rattle.fs_layout.specs.Bytes.{u64_of};
-ghost use Rattle.bit_alloc.specs.Bits.{AreSet, HasFullWords, IsLeastClear, clear_below};
+ghost use Rattle.fs_layout.specs.Bytes.{IsSector, u64_of};
+ghost use Rattle.bit_alloc.specs.Bits.{AreSet, ClearsListed, HasFullWords, IsLeastClear, clear_below};
 
 use byteorder::{ByteOrder, LittleEndian};
 use std::simd::prelude::*;
@@ -107,4 +107,26 @@ pub(crate) fn has_bit(byte: u8, i: u32) -> bool
     ensures { result ≡ nat_eq (bit_at byte i) 1 }
 {
     byte >> i & 1 == 1
+}
+
+// Clears the bits of a list's numbers from `from` on in sector k of a bitmap, up to the first of them that has its bit in another
+// sector, and answers where that stands. Of the numbers 0 is none.
+pub(crate) fn clear_listed(sector: &mut [u8; 512], k: u32, numbers: &[u32], from: usize) -> usize
+    requires { from ≤ length numbers.now }
+    ensures within { (from ≤ result) × (result ≤ length numbers.now) }
+    ensures whole { IsSector sector.new }
+    ensures cleared { ClearsListed numbers.now k from result sector.old sector.new }
+    ensures rest { result < length numbers.now → (get_or numbers.now result 0 ≢ 0) × (get_or numbers.now result 0 / 4096 ≢ k) }
+{
+    for i in from..numbers.len() {
+        let n = numbers[i];
+        if n != 0 {
+            if n / 4096 != k {
+                return i;
+            }
+            let at = n as usize % 4096 / 8;
+            sector[at] = with_bit(sector[at], n % 8, false);
+        }
+    }
+    numbers.len()
 }

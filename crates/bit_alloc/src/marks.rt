@@ -1,14 +1,14 @@
 //! A number is taken or given back.
 
-ghost use Rattle.std.specs.Prelude.{◌≡◌, IfOk, IfErr, OnOk, OnErr};
+ghost use Rattle.std.specs.Prelude.{◌≡◌, ◌≤◌, ◌<◌, ℕ, length, IfOk, IfErr, OnOk, OnErr};
 ghost use Rattle.fs_layout.specs.Images.{bit};
 ghost use Rattle.sector_disk.specs.Disk.{HasCause};
-ghost use Rattle.sector_txn.specs.Sectors.{IsUnchanged, PutsOnly};
-ghost use Rattle.bit_alloc.specs.Bitmaps.{first_sector, IsNumber, free_numbers, sector_of, Marks, TakesNumber, GivesNumber, HasBitmaps};
+ghost use Rattle.sector_txn.specs.Sectors.{IsUnchanged, PutsOnly, SameStore};
+ghost use Rattle.bit_alloc.specs.Bitmaps.{first_sector, IsNumber, IsListed, free_numbers, sector_of, IsSectorOf, Marks, TakesNumber, GivesNumber, GivesNumbers, HasBitmaps};
 ghost use Rattle.bit_alloc.specs.Faults.{HasCauseOf};
 ghost use Rattle.bit_alloc.specs.Room.{bitmaps, HasSpare};
 
-use crate::bits::{first_clear, with_bit};
+use crate::bits::{clear_listed, first_clear, with_bit};
 use crate::{Bitmap, TakeFault};
 use fs_layout::Geometry;
 use sector_disk::DiskFault;
@@ -64,6 +64,68 @@ pub fn give<S: Sectors>(s: &mut S, geometry: Geometry, map: Bitmap, n: u32) -> R
     s.get(map.first(geometry) + n / 4096, &mut sector)?;
     put_bit(s, geometry, map, n, &mut sector, false);
     Ok(())
+}
+
+/// Makes the numbers of a list free, in which 0 is none. Those that were free stay so. A sector of the bitmap is read and put once for
+/// as many of them as follow one another in it.
+///
+/// At `Err` some may have been made free.
+pub fn give_all<S: Sectors>(
+    s: &mut S,
+    geometry: Geometry,
+    map: Bitmap,
+    numbers: &[u32],
+) -> Result<(), DiskFault>
+    requires bitmaps { HasBitmaps geometry (S.state s.old) }
+    requires numbers { (n : ℕ) → IsListed numbers.now 0 (length numbers.now) n → IsNumber geometry map n }
+    requires room { HasSpare geometry 0 (S.state s.old) }
+    ensures given { OnOk result (GivesNumbers geometry map (IsListed numbers.now 0 (length numbers.now))
+        (S.state s.old).sectors (S.state s.new).sectors) }
+    ensures puts { OnOk result (PutsOnly (IsSectorOf geometry map (IsListed numbers.now 0 (length numbers.now))) (bitmaps geometry) 0
+        (S.state s.old) (S.state s.new)) }
+    ensures bitmaps { OnOk result (HasBitmaps geometry (S.state s.new)) }
+    ensures store { SameStore (S.state s.old) (S.state s.new) }
+    ensures cause { HasCause (S.state s.old).disk (S.state s.new).disk result }
+{
+    let mut at = 0;
+    while at < numbers.len() {
+        at = give_next(s, geometry, map, numbers, at)?;
+    }
+    Ok(())
+}
+
+// Makes those numbers of a list free that follow one another from `from` on in one sector of the bitmap, or passes by one that is none,
+// and answers from where on the rest stand.
+fn give_next<S: Sectors>(
+    s: &mut S,
+    geometry: Geometry,
+    map: Bitmap,
+    numbers: &[u32],
+    from: usize,
+) -> Result<usize, DiskFault>
+    requires bitmaps { HasBitmaps geometry (S.state s.old) }
+    requires within { from < length numbers.now }
+    requires numbers { (n : ℕ) → IsListed numbers.now 0 (length numbers.now) n → IsNumber geometry map n }
+    requires room { HasSpare geometry 0 (S.state s.old) }
+    ensures more { IfOk result (λ end. from < end) }
+    ensures within { IfOk result (λ end. end ≤ length numbers.now) }
+    ensures given { IfOk result (λ end. GivesNumbers geometry map (IsListed numbers.now from end)
+        (S.state s.old).sectors (S.state s.new).sectors) }
+    ensures puts { IfOk result (λ end. PutsOnly (IsSectorOf geometry map (IsListed numbers.now from end)) (bitmaps geometry) 0
+        (S.state s.old) (S.state s.new)) }
+    ensures bitmaps { OnOk result (HasBitmaps geometry (S.state s.new)) }
+    ensures unchanged { OnErr result (IsUnchanged (S.state s.old) (S.state s.new)) }
+    ensures cause { HasCause (S.state s.old).disk (S.state s.new).disk result }
+{
+    if numbers[from] == 0 {
+        return Ok(from + 1);
+    }
+    let mut sector = [0; 512];
+    let k = numbers[from] / 4096;
+    s.get(map.first(geometry) + k, &mut sector)?;
+    let end = clear_listed(&mut sector, k, numbers, from);
+    s.put(map.first(geometry) + k, &sector);
+    Ok(end)
 }
 
 // Writes the bit of a number into its sector, which is read already.

@@ -1,6 +1,6 @@
 -- Sectors of blocks and of pointers are given back, one after the other.
 use Rattle.std.proofs.Common.{◌≡◌, ◌≢◌, ℕ, zero, suc, ◌+◌, ◌-◌, ◌*◌, ◌/◌, ◌%◌, [], ◌≤◌, ◌<◌, false, refl, sym, ap, subst, ◌∙◌, arith, inl, inr, ◌⊎◌, IsTrue}
-use Rattle.std.specs.Prelude.{min, max}
+use Rattle.std.specs.Prelude.{List, get_or, min, max}
 use Rattle.std.proofs.lemmas.Bool.{cases_eq, cases_lt}
 use Rattle.fs_layout.specs.declared.inode.TheConstants.{DIRECT_BLOCKS, POINTER_LEVELS, SECTOR_POINTERS}
 use Rattle.fs_layout.specs.declared.inode.Inode.{Inode}
@@ -8,11 +8,10 @@ use Rattle.fs_layout.specs.declared.geometry.Geometry.{Geometry}
 use Rattle.fs_layout.specs.Bytes.{SectorMap, IsSector, zeros}
 use Rattle.fs_layout.specs.Inode.{FitsInode}
 use Rattle.fs_layout.specs.Geometry.{IsGeometry}
-use Rattle.fs_layout.proofs.Places.{after_map}
-use Rattle.fs_layout.specs.Images.{HasWholeTables, pointer_in, own_count, holder, place_in_holder, number_on, first_block, Part, AccessAcl, DefaultAcl, OnLevel, part, Owns, Holds, byte_in, byte_at, bit, map_bits, free_sectors}
+use Rattle.fs_layout.specs.Images.{HasWholeTables, IsData, pointer_in, own_count, holder, place_in_holder, number_on, first_block, Part, AccessAcl, DefaultAcl, OnLevel, part, Owns, Holds, byte_in, byte_at, bit, map_bits, free_sectors}
 use Rattle.fs_layout.specs.InodeChanges.{Keeps, IsOwnedApart, IsBlockMap, ChangesBlocks}
-use Rattle.fs_layout.proofs.Bits.{set_or_clear, not_both, has_bit, free_sectors_kept}
-use Rattle.fs_layout.proofs.Parts.{number_on_kept, owned_before, owns_part, part_kept}
+use Rattle.fs_layout.proofs.Bits.{set_or_clear, not_both, has_bit}
+use Rattle.fs_layout.proofs.Parts.{owned_before, owns_part, part_kept}
 use Rattle.fs_layout.proofs.Pointers.{no_level, no_pointers, number_on_held, pointer_direct, pointer_without}
 use Rattle.fs_layout.proofs.Free.{free_fits}
 use Rattle.fs_layout.proofs.SplicedBytes.{get_or-zeros}
@@ -22,34 +21,16 @@ use Rattle.block_map.proofs.Sizing.{sized_fits, is_used}
 use Rattle.fs_layout.proofs.Blocks.{low_not_owned, map_is_low}
 use Rattle.fs_layout.proofs.Marks.{no_map}
 use Rattle.sector_txn.specs.Sectors.{TxnState, IsUnchanged, PutsOnly}
+use Rattle.bit_alloc.proofs.Marking.{sector_below}
 use Rattle.bit_alloc.proofs.Transactions.{bitmaps_unchanged, puts_after}
 use Rattle.block_map.proofs.Runs.{same_map}
 use Rattle.sector_txn.proofs.TransactionRuns.{changes_nothing, changes_joined, changes_read, changes_weaker}
 use Rattle.bit_alloc.specs.declared.bitmap.Bitmap.TheVariants.{Blocks as BlockMap}
-use Rattle.bit_alloc.specs.Bitmaps.{HasBitmaps, GivesNumber, sector_of}
+use Rattle.bit_alloc.specs.Bitmaps.{HasBitmaps, GivesNumbers, IsListed, IsSectorOf}
 use Rattle.bit_alloc.specs.Room.{bitmaps}
 use Rattle.block_map.specs.Steps.{MayChange, IsStepSector, Alters}
 use Rattle.block_map.specs.Contents.{AllowsSize}
 use Rattle.block_map.specs.Drops.{GivesParts, OwnsOnlyData, IsFor, IsAmong, IsFrom, first_on, emptied}
-
--- ---- one sector is given back
--- at least as many are free then
-pub free_after_give : {p : Geometry} {n : ℕ} {old new : SectorMap} → GivesNumber p BlockMap n old new → IsGeometry p → free_sectors p old ≤ free_sectors p new
-free_after_give {p} {n} {old} {new} given geometry = elim (set_or_clear (bit old p.block_bitmap n)) [
-  | inl set ↦ let e = given.count set in omega (arith, e)
-  | inr clear ↦
-      let e : free_sectors p new ≡ free_sectors p old = free_sectors_kept p old new (λ s at. elim (cases_eq s n) [
-        | inl here ↦ ap (bit new p.block_bitmap) here ∙ given.clear ∙ sym clear ∙ ap (bit old p.block_bitmap) (sym here)
-        | inr ne ↦ given.mark.bits s (has_bit geometry s at.1) ne
-      ]) in
-      omega (arith, e)
-]
-
-pub give_puts : (p : Geometry) {n : ℕ} {old new : TxnState} → IsGeometry p → n < map_bits p → PutsOnly (λ t. t ≡ sector_of p BlockMap n) (bitmaps p) 0 old new
-    → PutsOnly (IsStepSector p) (bitmaps p) 0 old new
-give_puts p geometry few puts =
-    let after = after_map geometry in
-    changes_weaker {Q = IsStepSector p} (λ t e. inl (omega (arith, e, after), omega (arith, e, few))) (omega arith) puts
 
 -- ---- several parts
 pub none_given : {p : Geometry} {v : Inode} {P : Part → Type 0} {txn : TxnState} → HasBitmaps p txn → ((at : Part) → P at → ⊥) → GivesParts p v P txn txn
@@ -107,54 +88,53 @@ given_joined {p} {v} {P} {Q} {old} {mid} {new} inside a b =
       free = let x = a.free in let y = b.free in omega (arith, x, y);
     }
 
--- one sector
-pub part_given : {p : Geometry} {v : Inode} {n : ℕ} {old new : TxnState} (at : Part) → HasBitmaps p old → part old.sectors v at ≡ n → n ≢ 0 → n < map_bits p
-    → GivesNumber p BlockMap n old.sectors new.sectors → HasBitmaps p new → PutsOnly (λ t. t ≡ sector_of p BlockMap n) (bitmaps p) 0 old new
-    → GivesParts p v (λ other. other ≡ at) old new
-part_given {p} {v} {n} {old} {new} at h is some few given bits puts = record {
-  tables = bits;
-  others = given.mark.others;
-  cleared = λ other e has. ap (bit new.sectors p.block_bitmap) (ap (part old.sectors v) e ∙ is) ∙ given.clear;
-  released = λ s small set clear. elim (cases_eq s n) [
-    | inl e ↦ (at, refl, is ∙ sym e, λ z. some (sym e ∙ z))
-    | inr ne ↦ absurd (not_both set (sym (given.mark.bits s small ne) ∙ clear))
-  ];
-  set = λ s small set. elim (cases_eq s n) [
-    | inl e ↦ absurd (not_both set (ap (bit new.sectors p.block_bitmap) e ∙ given.clear))
-    | inr ne ↦ sym (given.mark.bits s small ne) ∙ set
-  ];
-  puts = give_puts p h.geometry few puts;
-  free = free_after_give given h.geometry;
-}
-
 -- ---- several numbers of a level
-no_number_between : (level first : ℕ) (at : Part) → IsAmong level first first at → ⊥
-no_number_between level first at w = let a = w.2 in let b = w.3 in omega (arith, a, b)
-
-pub none_among : {p : Geometry} {v : Inode} {level first : ℕ} {txn : TxnState} → HasBitmaps p txn → GivesParts p v (IsAmong level first first) txn txn
-none_among {level = level} {first} h = none_given h (no_number_between level first)
-
-among_more : (level first k : ℕ) (at : Part) → IsAmong level first (k + 1) at → (IsAmong level first k at) ⊎ (at ≡ OnLevel level k)
-among_more level first k at w = elim (cases_eq w.0 k) [
-  | inl e ↦ inr (w.1 ∙ ap (OnLevel level) e)
-  | inr ne ↦ inl (w.0, w.1, w.2, (let a = w.3 in omega (arith, a, ne)))
-]
-
-among_on : (level first k : ℕ) (at : Part) → first ≤ k → (IsAmong level first k at) ⊎ (at ≡ OnLevel level k) → IsAmong level first (k + 1) at
-among_on level first k at from way = elim way [
-  | inl w ↦ (w.0, w.1, w.2, (let a = w.3 in omega (arith, a)))
-  | inr e ↦ (k, e, from, omega arith)
-]
-
--- a hole
-pub hole_given : {p : Geometry} {v : Inode} {level first k : ℕ} {old new : TxnState} → GivesParts p v (IsAmong level first k) old new → number_on old.sectors v level k ≡ 0 → first ≤ k
-    → GivesParts p v (IsAmong level first (k + 1)) old new
+-- the numbers of a list that has each of them or 0 are those of data sectors
+pub listed_inside : (p : Geometry) (v : Inode) (level first : ℕ) {count : ℕ} {numbers : List ℕ} {image : SectorMap} → OwnsOnlyData p image v
+    → ((i : ℕ) → i < count → get_or numbers i 0 ≡ number_on image v level (first + i)) → (n : ℕ) → IsListed numbers 0 count n → IsData p n
 unfolding part
-hole_given {p} {v} {level} {first} {k} {old} {new} g none from =
-    given_weaker g (λ at w. among_on level first k at from (inl w))
-    (λ at w. elim (among_more level first k at w) [ inl was ↦ inl was | inr e ↦ inr (ap (part old.sectors v) e ∙ none) ])
+listed_inside p v level first {image = image} inside each n w =
+    let is : number_on image v level (first + w.place) ≡ n = sym (each w.place w.before) ∙ w.is in
+    inside n (record { at = OnLevel level (first + w.place); is = is; some = w.some })
 
--- nor have numbers past the last that the inode can have
+-- those of a list, which has each number or 0
+pub numbers_given : {p : Geometry} {v : Inode} {level first end count : ℕ} {numbers : List ℕ} {old new : TxnState} → OwnsOnlyData p old.sectors v → first + count ≡ end
+    → ((i : ℕ) → i < count → get_or numbers i 0 ≡ number_on old.sectors v level (first + i)) → HasBitmaps p new → GivesNumbers p BlockMap (IsListed numbers 0 count) old.sectors new.sectors
+    → PutsOnly (IsSectorOf p BlockMap (IsListed numbers 0 count)) (bitmaps p) 0 old new → GivesParts p v (IsAmong level first end) old new
+unfolding part
+numbers_given {p} {v} {level} {first} {end} {count} {numbers} {old} {new} inside all each tables given puts = record {
+  tables = tables;
+  others = given.others;
+  cleared = λ at here some.
+      let i : ℕ = here.0 in
+      let low = here.2 in
+      let high = here.3 in
+      let place : i - first < count = omega (arith, low, high, all) in
+      let back : first + (i - first) ≡ i = omega (arith, low) in
+      ap (λ (other : Part). bit new.sectors p.block_bitmap (part old.sectors v other)) here.1
+      ∙ given.clear (number_on old.sectors v level i) (record {
+        place = i - first;
+        from = omega arith;
+        before = place;
+        is = each (i - first) place ∙ ap (number_on old.sectors v level) back;
+        some = λ e. some (ap (part old.sectors v) here.1 ∙ e);
+      });
+  released = λ s few set clear. elim (given.bits s few) [
+    | inl w ↦ (OnLevel level (first + w.place), (first + w.place, refl, omega arith, omega (arith, w.before, all)), sym (each w.place w.before) ∙ w.is, w.some)
+    | inr same ↦ absurd (not_both set (sym same ∙ clear))
+  ];
+  set = λ s few set. elim (given.bits s few) [ inl w ↦ absurd (not_both set (given.clear s w)) | inr same ↦ sym same ∙ set ];
+  puts = changes_weaker {Q = IsStepSector p} (λ t w. inl (in_bitmaps t w)) (omega arith) puts;
+  free = given.count;
+}
+  where
+    in_bitmaps : (t : ℕ) → IsSectorOf p BlockMap (IsListed numbers 0 count) t → (p.inode_bitmap ≤ t) × (t < p.table)
+    in_bitmaps t w =
+        let at = listed_inside p v level first inside each w.number w.has in
+        let below = sector_below p BlockMap w.number tables.geometry at.1 in
+        (omega (arith, below.0, w.is), omega (arith, below.1, w.is))
+
+-- numbers past the last that the inode can have are holes
 pub rest_given : {p : Geometry} {v : Inode} {level first k : ℕ} {old new : TxnState} → GivesParts p v (IsAmong level first k) old new → (end : ℕ) → k ≤ end
     → ((j : ℕ) → k ≤ j → number_on old.sectors v level j ≡ 0) → GivesParts p v (IsAmong level first end) old new
 unfolding part
@@ -165,24 +145,12 @@ rest_given {p} {v} {level} {first} {k} {old} {new} g end le none =
       | inr ge ↦ inr (ap (part old.sectors v) w.1 ∙ none w.0 ge)
     ])
 
--- nor holes among them
+-- of holes alone there is nothing to give back
 pub holes_given : {p : Geometry} {v : Inode} {level first end : ℕ} {txn : TxnState} → HasBitmaps p txn
     → ((i : ℕ) → first ≤ i → i < end → number_on txn.sectors v level i ≡ 0) → GivesParts p v (IsAmong level first end) txn txn
 unfolding part
 holes_given {p} {v} {level} {first} {end} {txn} h none =
     given_weaker {P = λ at. ⊥} (none_given h (λ at x. x)) (λ at x. absurd x) (λ at w. inr (ap (part txn.sectors v) w.1 ∙ none w.0 w.2 w.3))
-
--- a number more
-pub number_given : {p : Geometry} {v : Inode} {level first k n : ℕ} {old mid new : TxnState} → OwnsOnlyData p old.sectors v → GivesParts p v (IsAmong level first k) old mid → first ≤ k
-    → number_on old.sectors v level k ≡ n → n ≢ 0 → GivesNumber p BlockMap n mid.sectors new.sectors → HasBitmaps p new → PutsOnly (λ t. t ≡ sector_of p BlockMap n) (bitmaps p) 0 mid new
-    → GivesParts p v (IsAmong level first (k + 1)) old new
-unfolding part
-number_given {p} {v} {level} {first} {k} {n} {old} {mid} {new} inside g from is some given bits puts =
-    let own : Owns old.sectors v n = record { at = OnLevel level k; is = is; some = some } in
-    let few : n < map_bits p = has_bit g.tables.geometry n (inside n own).1 in
-    let now : number_on mid.sectors v level k ≡ n = number_on_kept (given_keeps inside g) level k ∙ is in
-    given_weaker (given_joined inside g (part_given (OnLevel level k) g.tables now some few given bits puts)) (λ at way. among_on level first k at from way)
-    (λ at w. inl (among_more level first k at w))
 
 -- ---- what is owned
 -- Each part of v stays or is given back, with its bit: then w has what v had and kept.

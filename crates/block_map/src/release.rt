@@ -1,7 +1,7 @@
 //! Giving back what an inode has for its bytes.
 
-ghost use Rattle.std.specs.Prelude.{◌≡◌, ◌≤◌, ◌<◌, ℕ, suc, [], OnOk};
-ghost use Rattle.fs_layout.specs.declared.inode.TheConstants.{MAX_BLOCKS, POINTER_LEVELS};
+ghost use Rattle.std.specs.Prelude.{◌≡◌, ◌≤◌, ◌<◌, ◌+◌, ℕ, suc, [], OnOk};
+ghost use Rattle.fs_layout.specs.declared.inode.TheConstants.{MAX_BLOCKS, POINTER_LEVELS, SECTOR_POINTERS};
 ghost use Rattle.fs_layout.specs.Images.{HasPointers, Holds, holder, inode_at, own_count};
 ghost use Rattle.sector_disk.specs.Disk.{HasCause};
 ghost use Rattle.sector_txn.specs.Sectors.{SameStore};
@@ -13,7 +13,7 @@ ghost use Rattle.block_map.specs.Drops.{GivesParts, IsAmong, IsFor, IsFrom, Owns
 ghost use Rattle.block_map.specs.Steps.{MayChange};
 
 use crate::blocks::{BLOCK, read_pointers};
-use bit_alloc::{Bitmap, give};
+use bit_alloc::{Bitmap, give_all};
 use fs_layout::{DIRECT_BLOCKS, Geometry, Inode, POINTER_LEVELS, SECTOR_POINTERS, own_count};
 use inode_table::write_inode;
 use sector_disk::DiskFault;
@@ -43,18 +43,18 @@ fn give_listed<S: Sectors>(
     requires inside { OwnsOnlyData geometry (S.state s.old).sectors inode.now }
     requires listed { (i : ℕ) → first ≤ i → i < end → own_count level ≤ i
         → HasPointers (S.state s.old).sectors inode.now (suc level) (holder (own_count level) i) content.now }
-    requires few { first ≤ end }
+    requires few { (first ≤ end) × (end ≤ first + SECTOR_POINTERS) }
     requires room { HasSpare geometry 0 (S.state s.old) }
     ensures given { OnOk result (GivesParts geometry inode.now (IsAmong level first end) (S.state s.old) (S.state s.new)) }
     ensures store { SameStore (S.state s.old) (S.state s.new) }
     ensures cause { HasCause (S.state s.old).disk (S.state s.new).disk result }
 {
-    for i in first..end {
-        let number = inode.number(level, content, i);
-        if number != 0 {
-            give(s, geometry, Bitmap::Blocks, number)?;
-        }
+    let count = (end - first) as usize;
+    let mut numbers = [0; SECTOR_POINTERS as usize];
+    for i in 0..count {
+        numbers[i] = inode.number(level, content, first + i as u64);
     }
+    give_all(s, geometry, Bitmap::Blocks, &numbers[..count])?;
     Ok(())
 }
 

@@ -228,7 +228,7 @@ const LONG: [Row; 5] = [
     (Call::Read(4094), [7, 7, 9, 9], 1, 0),
     (Call::SetSize(9000), NOTHING, 1, 1),
     (Call::Write(8998, 2), NOTHING, 3, 6),
-    (Call::Release, NOTHING, 12, 11),
+    (Call::Release, NOTHING, 5, 4),
 ];
 
 // A hole of the largest size takes no sector, and a byte in it two, the second for pointers; a cut gives both back. The largest
@@ -259,7 +259,7 @@ const LIMIT_OF_TWO: [Row; 11] = [
     (Call::Write(8_460_287, 1), NOTHING, 4, 7),
     (Call::HasFree(883), NOTHING, 1, 0),
     (Call::Read(8_460_284), [0, 0, 0, 7], 3, 0),
-    (Call::SetSize(6144), NOTHING, 141, 8),
+    (Call::SetSize(6144), NOTHING, 140, 7),
     (Call::HasFree(890), NOTHING, 1, 0),
 ];
 

@@ -1,4 +1,4 @@
-use Rattle.std.proofs.Common.{ℕ, ◌+◌, ◌/◌, ◌%◌, ◌<◌}
+use Rattle.std.proofs.Common.{ℕ, ◌+◌, ◌%◌, ◌<◌}
 use Rattle.sector_txn.specs.Sectors.{IsUnchanged}
 use Rattle.bit_alloc.specs.Bits.{AreSet}
 use Rattle.bit_alloc.specs.Bitmaps.{first_sector}

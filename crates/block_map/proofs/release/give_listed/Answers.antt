@@ -1,51 +1,52 @@
-use Rattle.std.proofs.Common.{◌≡◌, ◌+◌, sym, subst, ◌∙◌, arith}
+use Rattle.std.proofs.Common.{◌≡◌, ◌+◌, ◌-◌, ◌<◌, ℕ, List, length, get_or, set, take, sym, ap, ◌∙◌, arith, inl, inr}
+use Rattle.std.proofs.lemmas.Bool.{cases_eq}
+use Rattle.std.proofs.lemmas.List.{get_or-set_same, get_or-set_other, get_or-take, length-set, length-take-le}
 use Rattle.fs_layout.specs.Images.{number_on}
-use Rattle.fs_layout.proofs.Parts.{owns_on_level}
-use Rattle.bit_alloc.proofs.Soundness.{spare_then}
-use Rattle.block_map.specs.Drops.{GivesParts, IsAmong}
-use Rattle.block_map.proofs.Givings.{none_among, hole_given, number_given}
+use Rattle.block_map.proofs.Givings.{listed_inside, numbers_given}
 use Rattle.block_map.proofs.release.give_listed.Goals as goal
-use Rattle.block_map.proofs.release.give_listed.Goals.{then-number-ne0+in_ok-give, else-number-ne0}
-
-pub loop-i-init : goal.loop-i-init
-loop-i-init g c = record { from = omega arith; most = omega (arith, c.requires.few); given = none_among c.requires.bitmaps }
-
-pub give-requires-clause-bitmaps : goal.give-requires-clause-bitmaps
-give-requires-clause-bitmaps g c = c.loop-i.invariant.given.tables
-
-pub give-requires-clause-room : goal.give-requires-clause-room
-give-requires-clause-room g c = spare_then c.args.geometry 0 0 _ _ (omega (arith, c.requires.room)) c.loop-i.invariant.given.puts
-
-pub give-requires-clause-number : goal.give-requires-clause-number
-give-requires-clause-number g c =
-    let old = g.S.Sectors.state c.args.s.now in
-    let v = c.args.inode.now in
-    let i = c.loop-i.i in
-    let is = c.number-number.ensures old.sectors (c.requires.listed i c.loop-i.invariant.from c.loop-i-test.true) in
-    let d = c.requires.inside (number_on old.sectors v c.args.level i) (owns_on_level old.sectors v c.args.level i (λ e. c.if-number-ne0.true (is ∙ e))) in
-    (omega (arith, is, d.0), omega (arith, is, d.1))
 
 pub loop-i-preserved : goal.loop-i-preserved
 loop-i-preserved g c =
     let old = g.S.Sectors.state c.args.s.now in
-    let x = c.loop-i.invariant in
     let v = c.args.inode.now in
-    let i = c.loop-i.i in
-    let is = c.number-number.ensures old.sectors (c.requires.listed i x.from c.loop-i-test.true) in
+    let level = c.args.level in
+    let first = c.args.first in
+    let few = c.requires.few in
+    let most = few.1 in
+    let x = c.loop-i.invariant in
+    let i : ℕ = c.loop-i.i in
+    let numbers : List ℕ = c.loop-i.numbers in
+    let n : ℕ = c.number.result in
+    let low : i < length numbers = omega (arith, c.loop-i-test.true, x.long, most) in
+    let is : n ≡ number_on old.sectors v level (first + i) =
+    c.number.ensures old.sectors (c.requires.listed (first + i) (omega arith) (omega (arith, c.loop-i-test.true))) in
     record {
-      from = omega (arith, x.from);
       most = omega (arith, c.loop-i-test.true);
-      given = elim c.if-number-ne0.branch [
-        | then-number-ne0+in_ok-give w ↦
-            subst (λ s. GivesParts c.args.geometry v (IsAmong c.args.level c.args.first (i + 1)) old (g.S.Sectors.state s)) (sym w.s-is)
-            (number_given c.requires.inside x.given x.from (sym is) w.if-number-ne0.true w.in_ok-give.ensures.given w.in_ok-give.ensures.bitmaps w.in_ok-give.ensures.puts)
-        | else-number-ne0 w ↦
-            subst (λ s. GivesParts c.args.geometry v (IsAmong c.args.level c.args.first (i + 1)) old (g.S.Sectors.state s)) (sym w.s-is)
-            (hole_given x.given (sym is ∙ w.if-number-ne0.false) x.from)
+      long = length-set numbers i n ∙ x.long;
+      each = λ j lt. elim (cases_eq j i) [
+        | inl e ↦ ap (λ (k : ℕ). get_or (set numbers i n) k 0) e ∙ get_or-set_same numbers i n 0 low ∙ is ∙ ap (λ (k : ℕ). number_on old.sectors v level (first + k)) (sym e)
+        | inr ne ↦ get_or-set_other numbers i j n 0 ne ∙ x.each j (omega (arith, lt, ne))
       ];
     }
 
+pub give_all-requires-clause-numbers : goal.give_all-requires-clause-numbers
+give_all-requires-clause-numbers g c =
+    let old = g.S.Sectors.state c.args.s.now in
+    let most = c.requires.few.1 in
+    let x = c.loop-i.invariant in
+    let count : ℕ = c.args.end - c.args.first in
+    let len : length (take count c.loop-i.numbers) ≡ count = length-take-le count c.loop-i.numbers (omega (arith, most, x.long)) in
+    listed_inside c.args.geometry c.args.inode.now c.args.level c.args.first c.requires.inside
+    (λ i lt. get_or-take count c.loop-i.numbers i 0 (omega (arith, lt, len)) ∙ x.each i (omega (arith, lt, len, c.loop-i-test.false)))
+
 pub returns-clause-given : goal.returns-clause-given
 returns-clause-given g c =
-    let done : c.loop-i.i ≡ c.args.end = omega (arith, c.loop-i-test.false, c.loop-i.invariant.most) in
-    subst (λ m. GivesParts c.args.geometry c.args.inode.now (IsAmong c.args.level c.args.first m) (g.S.Sectors.state c.args.s.now) (g.S.Sectors.state c.loop-i.s)) done c.loop-i.invariant.given
+    let old = g.S.Sectors.state c.args.s.now in
+    let few = c.requires.few.0 in
+    let most = c.requires.few.1 in
+    let x = c.loop-i.invariant in
+    let count : ℕ = c.args.end - c.args.first in
+    let len : length (take count c.loop-i.numbers) ≡ count = length-take-le count c.loop-i.numbers (omega (arith, most, x.long)) in
+    numbers_given c.requires.inside (omega (arith, few, len))
+    (λ i lt. get_or-take count c.loop-i.numbers i 0 (omega (arith, lt, len)) ∙ x.each i (omega (arith, lt, len, c.loop-i-test.false)))
+    c.in_ok-give_all.ensures.bitmaps c.in_ok-give_all.ensures.given c.in_ok-give_all.ensures.puts
