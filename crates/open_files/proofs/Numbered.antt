@@ -178,6 +178,10 @@ module _ (slots : List (Option Process)) (processes : ProcessTable) (v : entries
   pub positive : (pid : ℕ) → is_some (get nat_cmp processes pid) ≡ true → pid ≢ 0
   positive pid there e = absurd (let no : is_some (get nat_cmp processes pid) ≡ false = ap is_some (zero_absent pid e) in cc)
 
+  -- a process with an open descriptor is there
+  pub of_open : (pid fd : ℕ) → is_ok (open_in processes pid fd) ≡ true → pid ≢ 0
+  of_open pid fd is = positive pid (answered processes pid (open_at fd) is)
+
   pub is_map : IsMap nat_cmp processes
   is_map = subst (λ (m : ProcessTable). IsMap nat_cmp m) v (slots_rise 1 slots)
 

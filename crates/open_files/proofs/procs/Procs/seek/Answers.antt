@@ -1,31 +1,33 @@
-use Rattle.std.proofs.Common.{◌≢◌, arith, sym}
+use Rattle.std.proofs.Common.{arith, sym}
 use Rattle.fs_model.specs.Processes.{with_offset}
-use Rattle.open_files.specs.Tables.{open_at}
-use Rattle.open_files.proofs.Numbered.{positive, answered, unchanged, changed, set_is_table, is_open_here}
+use Rattle.open_files.proofs.Numbered.{of_open, unchanged, changed, set_is_table, is_open_here}
 use Rattle.open_files.proofs.procs.Procs.seek.Goals as goal
 
 pub overflow_sub-pid : goal.overflow_sub-pid
-overflow_sub-pid c =
-    let some : c.args.pid ≢ 0 = positive c.self.inside.slab.slots c.args.self.now c.self.view_is c.args.pid (answered c.args.self.now c.args.pid (open_at c.args.fd) c.requires.open) in
-    omega (arith, some)
+overflow_sub-pid c = omega (arith, of_open c.self.inside.slab.slots c.args.self.now c.self.view_is c.args.pid c.args.fd c.requires.open)
 
 pub returns-in_default : goal.returns-in_default
-returns-in_default c =
-    let some : c.args.pid ≢ 0 = positive c.self.inside.slab.slots c.args.self.now c.self.view_is c.args.pid (answered c.args.self.now c.args.pid (open_at c.args.fd) c.requires.open) in
-    record { moved = unchanged c.self.inside.slab.slots c.args.self.now c.self.view_is c.args.pid (λ p. with_offset p c.args.fd c.args.offset) some (sym c.in_default.ensures.value) }
+returns-in_default c = record {
+  moved = unchanged c.self.inside.slab.slots c.args.self.now c.self.view_is c.args.pid (λ p. with_offset p c.args.fd c.args.offset)
+      (of_open c.self.inside.slab.slots c.args.self.now c.self.view_is c.args.pid c.args.fd c.requires.open)
+      (sym c.in_default.ensures.value);
+}
 
 pub seek-requires : goal.seek-requires
 seek-requires c =
-    let some : c.args.pid ≢ 0 = positive c.self.inside.slab.slots c.args.self.now c.self.view_is c.args.pid (answered c.args.self.now c.args.pid (open_at c.args.fd) c.requires.open) in
-    is_open_here c.self.inside.slab.slots c.args.self.now c.self.view_is c.args.pid c.args.fd c.in-Some.process.now some (sym c.in-Some.ensures.value) c.requires.open
+    is_open_here c.self.inside.slab.slots c.args.self.now c.self.view_is c.args.pid c.args.fd c.in-Some.process.now
+    (of_open c.self.inside.slab.slots c.args.self.now c.self.view_is c.args.pid c.args.fd c.requires.open)
+    (sym c.in-Some.ensures.value) c.requires.open
 
 pub invariant_of-self-2 : goal.invariant_of-self-2
 invariant_of-self-2 c =
-    let some : c.args.pid ≢ 0 = positive c.self.inside.slab.slots c.args.self.now c.self.view_is c.args.pid (answered c.args.self.now c.args.pid (open_at c.args.fd) c.requires.open) in
-    set_is_table c.self.inside.slab.slots c.args.pid c.in-Some.process.now c.seek.new.self c.self.invariant some (sym c.in-Some.ensures.value)
-    c.seek.ensures.kept
+    set_is_table c.self.inside.slab.slots c.args.pid c.in-Some.process.now c.seek.new.self c.self.invariant
+    (of_open c.self.inside.slab.slots c.args.self.now c.self.view_is c.args.pid c.args.fd c.requires.open)
+    (sym c.in-Some.ensures.value) c.seek.ensures.kept
 
 pub returns : goal.returns
-returns c =
-    let some : c.args.pid ≢ 0 = positive c.self.inside.slab.slots c.args.self.now c.self.view_is c.args.pid (answered c.args.self.now c.args.pid (open_at c.args.fd) c.requires.open) in
-    record { moved = changed c.self.inside.slab.slots c.args.self.now c.self.view_is c.args.pid c.in-Some.process.now c.seek.new.self (λ p. with_offset p c.args.fd c.args.offset) some (sym c.in-Some.ensures.value) c.seek.ensures.moved }
+returns c = record {
+  moved = changed c.self.inside.slab.slots c.args.self.now c.self.view_is c.args.pid c.in-Some.process.now c.seek.new.self (λ p. with_offset p c.args.fd c.args.offset)
+      (of_open c.self.inside.slab.slots c.args.self.now c.self.view_is c.args.pid c.args.fd c.requires.open)
+      (sym c.in-Some.ensures.value) c.seek.ensures.moved;
+}
