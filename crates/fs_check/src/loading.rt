@@ -6,8 +6,7 @@ ghost use Rattle.std.specs.Prelude.{◌≤◌};
 ghost use Rattle.fs_layout.specs.declared.inode.TheConstants.{POINTER_LEVELS};
 ghost use Rattle.fs_layout.specs.declared.header.TheConstants.{MAX_HEADER};
 
-use crate::opening::geometry_in;
-use crate::reading::content_of;
+use crate::recovering::{content_of, geometry_said};
 use fs_layout::{
     COMMIT_SECTOR, Commit, Geometry, INODE_SIZE, Inode, Kind, MAX_BLOCKS, MAX_HEADER,
     POINTER_LEVELS, SECTOR_POINTERS, area_start, own_count,
@@ -48,7 +47,7 @@ pub fn load<F: DiskFile + Drop>(
 }
 
 fn read_geometry<F: DiskFile + Drop>(part: &PartFile<F>) -> Option<Geometry> {
-    geometry_in(part.get(0)?, part.count())
+    geometry_said(part.get(0)?, part.count())
 }
 
 // The log as far as the commit uses it.

@@ -1,14 +1,14 @@
 //! The superblock and the commit.
 
-ghost use Rattle.std.specs.Prelude.{◌≡◌, IfOk, IfSome, IfNone};
-ghost use Rattle.fs_layout.specs.Bytes.{SectorMap};
+ghost use Rattle.std.specs.Prelude.{◌≡◌, IfOk};
 ghost use Rattle.fs_layout.specs.Commit.{IsCommit, named_area};
-ghost use Rattle.fs_model.specs.Rules.{IsGeometryOf, HasGeometry};
+ghost use Rattle.fs_model.specs.Rules.{IsGeometryOf};
 ghost use Rattle.sector_disk.specs.Disk.{sector};
 ghost use Rattle.fs_check.specs.Checks.{Passed, IsFirst};
 
 use crate::faults::{CheckFault, Checked, Finding};
-use fs_layout::{Commit, Geometry, Super};
+use crate::recovering::geometry_said;
+use fs_layout::{Commit, Geometry};
 use redo_journal::read_commit;
 use sector_disk::Disk;
 use std::alloc::Global;
@@ -27,20 +27,6 @@ const NO_GEOMETRY: CheckFault = CheckFault::Found(Finding { rule: 1, at: 0 });
 
 const NO_COMMIT: CheckFault = CheckFault::Found(Finding { rule: 2, at: 1 });
 
-/// The layout of a disk of so many sectors, as its superblock says it.
-pub(crate) fn geometry_in(content: &[u8; 512], size: u32) -> Option<Geometry>
-    ensures some { IfSome result (λ p. (image : SectorMap) → image 0 ≡ content.now → IsGeometryOf size image p) }
-    ensures none { IfNone result ((image : SectorMap) → image 0 ≡ content.now → HasGeometry size image → ⊥) }
-{
-    let Ok(superblock) = Super::read_from(content, 0) else {
-        return None;
-    };
-    if superblock.sectors != size {
-        return None;
-    }
-    superblock.geometry()
-}
-
 /// Reads where the parts of the disk lie: the first rule.
 pub(crate) fn open_geometry<D: Disk>(disk: &mut D) -> Checked<Geometry>
     ensures geometry { IfOk result (λ p. IsGeometryOf (D.state disk.old).size (sector (D.state disk.old).seen) p) }
@@ -52,7 +38,7 @@ pub(crate) fn open_geometry<D: Disk>(disk: &mut D) -> Checked<Geometry>
     }
     let mut content = [0; 512];
     disk.read(0, &mut content)?;
-    match geometry_in(&content, size) {
+    match geometry_said(&content, size) {
         Some(geometry) => Ok(geometry),
         None => Err(NO_GEOMETRY),
     }

@@ -7,7 +7,8 @@ ghost use Rattle.fs_check.specs.Checks.{meaning, BeginsWith};
 ghost use Rattle.sector_disk.specs.Disk.{OnlyReads, HasCause};
 ghost use Rattle.fs_info.specs.Infos.{clear_bits};
 
-use crate::opening::{Opened, read_recovered};
+use crate::opening::Opened;
+use fs_check::read_meaning;
 use fs_layout::SECTOR_BITS;
 use sector_disk::{Disk, DiskFault};
 
@@ -39,7 +40,15 @@ fn read_map<D: Disk>(
     if from < n && n % SECTOR_BITS != 0 {
         return Ok(());
     }
-    read_recovered(disk, opened, start + n / SECTOR_BITS, map)
+    let sector = start + n / SECTOR_BITS;
+    read_meaning(
+        disk,
+        opened.geometry,
+        opened.area,
+        &opened.commit,
+        sector,
+        map,
+    )
 }
 
 /// How many bits are clear of those from one up to another, in the bitmap that begins at a sector, as recovery would leave it.

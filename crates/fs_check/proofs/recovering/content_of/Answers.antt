@@ -6,7 +6,7 @@ use Rattle.fs_layout.specs.Header.{area_start, header_of}
 use Rattle.fs_layout.specs.Recovered.{recovered}
 use Rattle.fs_layout.proofs.RecoveryLaw.{recovered-target, recovered-other}
 use Rattle.fs_layout.proofs.Targets.{area_room}
-use Rattle.fs_check.proofs.reading.content_of.Goals as goal
+use Rattle.fs_check.proofs.recovering.content_of.Goals as goal
 
 in_log : (header area size : ℕ) (image : SectorMap) (ts us : List ℕ) (n k : ℕ) → us ≡ ts → size < 2 ^ 32 → header ≡ header_of (image 0)
     → area ≡ named_area image → IsCommit size image ts → k < length us → get_or us k 0 ≡ n
@@ -36,7 +36,7 @@ log_on_disk header area size ts us k same valid lt =
 pub returns-in-Some-clause-content : goal.returns-in-Some-clause-content
 returns-in-Some-clause-content c = λ size image small header named is.
     in_log c.args.header c.args.area size image c.args.commit.now c.targets.result.now c.args.n c.in-Some.k c.targets.ensures.value small header named is
-    c.in-Some.ensures.geometry c.in-Some.ensures.there
+    c.in-Some.ensures.position c.in-Some.ensures.there
     ∙ ap (λ (s : ℕ). image (s + c.args.header + c.in-Some.k)) (sym c.area_start.ensures)
 
 pub returns-in-None-clause-content : goal.returns-in-None-clause-content
@@ -45,6 +45,6 @@ returns-in-None-clause-content c = λ size image small header named is.
 
 pub returns-in-Some-clause-on_disk : goal.returns-in-Some-clause-on_disk
 returns-in-Some-clause-on_disk c = λ size valid low.
-    let within = log_on_disk c.args.header c.args.area size c.args.commit.now c.targets.result.now c.in-Some.k c.targets.ensures.value valid c.in-Some.ensures.geometry in
+    let within = log_on_disk c.args.header c.args.area size c.args.commit.now c.targets.result.now c.in-Some.k c.targets.ensures.value valid c.in-Some.ensures.position in
     let start = c.area_start.ensures in
     omega (arith, within, start)
