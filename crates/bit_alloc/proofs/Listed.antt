@@ -18,20 +18,20 @@ use Rattle.sector_txn.proofs.TransactionRuns.{changes_joined, changes_weaker}
 use Rattle.bit_alloc.specs.declared.bitmap.Bitmap.{Bitmap}
 use Rattle.bit_alloc.specs.declared.bitmap.Bitmap.TheVariants.{Inodes, Blocks}
 use Rattle.bit_alloc.specs.Bits.{ClearsListed}
-use Rattle.bit_alloc.specs.Bitmaps.{first_sector, bit_count, limit, IsNumber, IsListed, free_numbers, sector_of, IsSectorOf, IsMapSector, GivesNumbers, HasBitmaps}
+use Rattle.bit_alloc.specs.Bitmaps.{first_sector, bit_count, limit, IsNumber, IsNumberOf, free_numbers, sector_of, IsSectorOf, IsMapSector, GivesNumbers, HasBitmaps}
 use Rattle.bit_alloc.specs.Room.{bitmaps}
 use Rattle.bit_alloc.proofs.Maps.{number_has_bit}
 use Rattle.bit_alloc.proofs.Marking.{marked_puts, sector_below}
 
 -- ---- the numbers of a list
-pub listed_wider : {numbers : List ℕ} {from end later n : ℕ} → end ≤ later → IsListed numbers from end n → IsListed numbers from later n
+pub listed_wider : {numbers : List ℕ} {from end later n : ℕ} → end ≤ later → IsNumberOf numbers from end n → IsNumberOf numbers from later n
 listed_wider le w = record { place = w.place; from = w.from; before = omega (arith, w.before, le); is = w.is; some = w.some }
 
-pub listed_earlier : {numbers : List ℕ} {first from end n : ℕ} → first ≤ from → IsListed numbers from end n → IsListed numbers first end n
+pub listed_earlier : {numbers : List ℕ} {first from end n : ℕ} → first ≤ from → IsNumberOf numbers from end n → IsNumberOf numbers first end n
 listed_earlier le w = record { place = w.place; from = omega (arith, w.from, le); before = w.before; is = w.is; some = w.some }
 
 -- between a place and itself there is none
-pub none_listed : {numbers : List ℕ} {from n : ℕ} → IsListed numbers from from n → ⊥
+pub none_listed : {numbers : List ℕ} {from n : ℕ} → IsNumberOf numbers from from n → ⊥
 none_listed w = omega (arith, w.from, w.before)
 
 -- ---- in one sector
@@ -58,7 +58,7 @@ pub clears_none : {numbers : List ℕ} {k from : ℕ} {s : List ℕ} → ClearsL
 clears_none = record { clear = λ n w. absurd (none_listed w); others = λ n at. inr refl }
 
 -- a number of one place more that isn't the one there
-listed_before : {numbers : List ℕ} {from i m n : ℕ} → get_or numbers i 0 ≡ n → m ≢ n → IsListed numbers from (i + 1) m → IsListed numbers from i m
+listed_before : {numbers : List ℕ} {from i m n : ℕ} → get_or numbers i 0 ≡ n → m ≢ n → IsNumberOf numbers from (i + 1) m → IsNumberOf numbers from i m
 listed_before {numbers} {from} {i} is ne w =
     let other : w.place ≢ i = λ e. ne (sym w.is ∙ ap (λ (j : ℕ). get_or numbers j 0) e ∙ is) in
     record { place = w.place; from = w.from; before = omega (arith, w.before, other); is = w.is; some = w.some }
@@ -135,13 +135,13 @@ seen image start n s is = ap (λ (t : List ℕ). nat_eq (bit_at (get_or t (n % 4
 
 -- those of one sector
 pub gives_listed : {p : Geometry} {map : Bitmap} {numbers : List ℕ} {k from end : ℕ} {s t : List ℕ} {old new : SectorMap} → IsGeometry p → HasWholeTables p old → IsMapSector p map (first_sector p map + k)
-    → s ≡ old (first_sector p map + k) → IsSector t → Puts (first_sector p map + k) t old new → ClearsListed numbers k from end s t → GivesNumbers p map (IsListed numbers from end) old new
+    → s ≡ old (first_sector p map + k) → IsSector t → Puts (first_sector p map + k) t old new → ClearsListed numbers k from end s t → GivesNumbers p map (IsNumberOf numbers from end) old new
 gives_listed {p} {map} {numbers} {k} {from} {end} {s} {t} {old} {new} geometry tables within is whole put c =
     let start : ℕ = first_sector p map in
     let before : (n : ℕ) → n / 4096 ≡ k → bit (λ _. s) 0 n ≡ bit old start n = λ n e. seen old start n s (is ∙ ap (λ (j : ℕ). old (start + j)) (sym e)) in
     let after : (n : ℕ) → n / 4096 ≡ k → bit (λ _. t) 0 n ≡ bit new start n = λ n e. seen new start n t (sym put.here ∙ ap (λ (j : ℕ). new (start + j)) (sym e)) in
-    let clear : (n : ℕ) → IsListed numbers from end n → bit new start n ≡ false = λ n w. let z = c.clear n w in sym (after n z.0) ∙ z.1 in
-    let bits : (n : ℕ) → IsListed numbers from end n ⊎ (bit new start n ≡ bit old start n) =
+    let clear : (n : ℕ) → IsNumberOf numbers from end n → bit new start n ≡ false = λ n w. let z = c.clear n w in sym (after n z.0) ∙ z.1 in
+    let bits : (n : ℕ) → IsNumberOf numbers from end n ⊎ (bit new start n ≡ bit old start n) =
     λ n. elim (cases_eq (n / 4096) k) [
       | inl e ↦ elim (c.others n e) [ inl w ↦ inl w | inr same ↦ inr (sym (after n e) ∙ same ∙ before n e) ]
       | inr ne ↦ inr (bit_kept old new start n (put.others (start + n / 4096) (λ e. ne (omega (arith, e)))))
@@ -158,13 +158,13 @@ gives_listed {p} {map} {numbers} {k} {from} {end} {s} {t} {old} {new} geometry t
     }
 
 -- those up to a place, and then the next
-pub gives_joined : {p : Geometry} {map : Bitmap} {numbers : List ℕ} {from next end : ℕ} {old mid new : SectorMap} → ((n : ℕ) → IsListed numbers from next n → n < bit_count p map) → from ≤ next → next ≤ end
-    → GivesNumbers p map (IsListed numbers from next) old mid → GivesNumbers p map (IsListed numbers next end) mid new → GivesNumbers p map (IsListed numbers from end) old new
+pub gives_joined : {p : Geometry} {map : Bitmap} {numbers : List ℕ} {from next end : ℕ} {old mid new : SectorMap} → ((n : ℕ) → IsNumberOf numbers from next n → n < bit_count p map) → from ≤ next → next ≤ end
+    → GivesNumbers p map (IsNumberOf numbers from next) old mid → GivesNumbers p map (IsNumberOf numbers next end) mid new → GivesNumbers p map (IsNumberOf numbers from end) old new
 gives_joined {p} {map} {numbers} {from} {next} {end} few low high a b = record {
   tables = b.tables;
   clear = λ n w. elim (cases_lt w.place next) [
     | inl lt ↦
-        let first : IsListed numbers from next n = record { place = w.place; from = w.from; before = lt; is = w.is; some = w.some } in
+        let first : IsNumberOf numbers from next n = record { place = w.place; from = w.from; before = lt; is = w.is; some = w.some } in
         elim (b.bits n (few n first)) [ inl then ↦ b.clear n then | inr same ↦ same ∙ a.clear n first ]
     | inr ge ↦ b.clear n (record { place = w.place; from = ge; before = w.before; is = w.is; some = w.some })
   ];
@@ -198,11 +198,11 @@ bitmaps_given {p} {map} {P} {old} {new} has store each g = record {
 
 -- the sectors that were put
 pub listed_puts : {p : Geometry} {map : Bitmap} {numbers : List ℕ} {from next end : ℕ} {old mid new : TxnState} → from ≤ next → next ≤ end
-    → PutsOnly (IsSectorOf p map (IsListed numbers from next)) (bitmaps p) 0 old mid → PutsOnly (IsSectorOf p map (IsListed numbers next end)) (bitmaps p) 0 mid new
-    → PutsOnly (IsSectorOf p map (IsListed numbers from end)) (bitmaps p) 0 old new
+    → PutsOnly (IsSectorOf p map (IsNumberOf numbers from next)) (bitmaps p) 0 old mid → PutsOnly (IsSectorOf p map (IsNumberOf numbers next end)) (bitmaps p) 0 mid new
+    → PutsOnly (IsSectorOf p map (IsNumberOf numbers from end)) (bitmaps p) 0 old new
 listed_puts {p} {map} {numbers} {from} {next} {end} {old} {mid} {new} low high a b =
-    let first : PutsOnly (IsSectorOf p map (IsListed numbers from end)) (bitmaps p) 0 old mid = changes_weaker (λ s w. record { number = w.number; has = listed_wider high w.has; is = w.is }) (omega arith) a in
-    let then : PutsOnly (IsSectorOf p map (IsListed numbers from end)) (bitmaps p) 0 mid new = changes_weaker (λ s w. record { number = w.number; has = listed_earlier low w.has; is = w.is }) (omega arith) b in
+    let first : PutsOnly (IsSectorOf p map (IsNumberOf numbers from end)) (bitmaps p) 0 old mid = changes_weaker (λ s w. record { number = w.number; has = listed_wider high w.has; is = w.is }) (omega arith) a in
+    let then : PutsOnly (IsSectorOf p map (IsNumberOf numbers from end)) (bitmaps p) 0 mid new = changes_weaker (λ s w. record { number = w.number; has = listed_earlier low w.has; is = w.is }) (omega arith) b in
     changes_joined first then
 
 -- a sector is one of the bitmap where one of its bits is a number's
@@ -217,7 +217,7 @@ in_disk {p} map n has lt =
     omega (arith, below, has.disk, has.geometry.slots, has.geometry.least_inodes, has.geometry.data_sectors)
 
 -- one put of the sector of a listed number
-pub listed_put : {p : Geometry} {map : Bitmap} {numbers : List ℕ} {first end : ℕ} {content : List ℕ} {old new : TxnState} (n : ℕ) → IsGeometry p → n < limit p map → IsListed numbers first end n
-    → IsPut (first_sector p map + n / 4096) content old new → PutsOnly (IsSectorOf p map (IsListed numbers first end)) (bitmaps p) 0 old new
+pub listed_put : {p : Geometry} {map : Bitmap} {numbers : List ℕ} {first end : ℕ} {content : List ℕ} {old new : TxnState} (n : ℕ) → IsGeometry p → n < limit p map → IsNumberOf numbers first end n
+    → IsPut (first_sector p map + n / 4096) content old new → PutsOnly (IsSectorOf p map (IsNumberOf numbers first end)) (bitmaps p) 0 old new
 listed_put {p} {map} {content = content} {old} {new} n geometry lt listed put =
     changes_weaker (λ t e. record { number = n; has = listed; is = e }) (omega arith) (marked_puts p map n content old new geometry lt put)

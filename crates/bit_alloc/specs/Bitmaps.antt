@@ -3,7 +3,7 @@
 --     least, limit, IsNumber        the numbers that it keeps
 --     IsFreeNumber, free_numbers        one that is free; how many are
 --     sector_of, IsSectorOf        the sector in which a number's bit stands; one of several numbers
---     IsListed        a number of a list
+--     IsNumberOf        a number of a list
 --     Marks        one bit of it is written
 --     TakesNumber, GivesNumber        a free number is taken; a number becomes free
 --     IsMapSector, GivesNumbers        a sector of a bitmap; several numbers become free
@@ -64,7 +64,7 @@ pub record IsSectorOf (p : Geometry) (map : Bitmap) (P : ℕ → Type 0) (s : �
   pub is : s ≡ sector_of p map number
 
 -- a number that a list has from place `first` on, before place `end`; 0 is none
-pub record IsListed (numbers : List ℕ) (first end n : ℕ) : Type 0 where
+pub record IsNumberOf (numbers : List ℕ) (first end n : ℕ) : Type 0 where
   pub place : ℕ
   pub from : first ≤ place
   pub before : place < end

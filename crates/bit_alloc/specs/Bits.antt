@@ -7,7 +7,7 @@ use Rattle.std.specs.Prelude.{◌≡◌, ℕ, ◌*◌, ◌-◌, ◌/◌, ◌^◌
 use Rattle.std.specs.List.{range_with_len}
 use Rattle.fs_layout.specs.Bytes.{SectorMap, u64_of}
 use Rattle.fs_layout.specs.Images.{bit}
-use Rattle.bit_alloc.specs.Bitmaps.{IsListed}
+use Rattle.bit_alloc.specs.Bitmaps.{IsNumberOf}
 
 -- each of the first n bits is set
 abbrev pub AreSet : List ℕ → ℕ → Type 0
@@ -26,8 +26,8 @@ HasFullWords sector n = (k : ℕ) → k < n → u64_of sector (8 * k) ≡ 2 ^ 64
 -- The numbers of a list from place `from` on, before place `end`, have their bits in sector k of a bitmap. There they are clear, and
 -- the others as they were.
 pub record ClearsListed (numbers : List ℕ) (k from end : ℕ) (old new : List ℕ) : Type 0 where
-  pub clear : (n : ℕ) → IsListed numbers from end n → (n / 4096 ≡ k) × (bit (λ _. new) 0 n ≡ false)
-  pub others : (n : ℕ) → n / 4096 ≡ k → IsListed numbers from end n ⊎ (bit (λ _. new) 0 n ≡ bit (λ _. old) 0 n)
+  pub clear : (n : ℕ) → IsNumberOf numbers from end n → (n / 4096 ≡ k) × (bit (λ _. new) 0 n ≡ false)
+  pub others : (n : ℕ) → n / 4096 ≡ k → IsNumberOf numbers from end n ⊎ (bit (λ _. new) 0 n ≡ bit (λ _. old) 0 n)
 
 -- how many of the first n bits of the bitmap that begins at a sector are clear
 unfoldable pub clear_below : SectorMap → ℕ → ℕ → ℕ

@@ -4,7 +4,7 @@ ghost use Rattle.std.specs.Prelude.{◌≡◌, ◌≤◌, ◌<◌, ℕ, length, 
 ghost use Rattle.fs_layout.specs.Images.{bit};
 ghost use Rattle.sector_disk.specs.Disk.{HasCause};
 ghost use Rattle.sector_txn.specs.Sectors.{IsUnchanged, PutsOnly, SameStore};
-ghost use Rattle.bit_alloc.specs.Bitmaps.{first_sector, IsNumber, IsListed, free_numbers, sector_of, IsSectorOf, Marks, TakesNumber, GivesNumber, GivesNumbers, HasBitmaps};
+ghost use Rattle.bit_alloc.specs.Bitmaps.{first_sector, IsNumber, IsNumberOf, free_numbers, sector_of, IsSectorOf, Marks, TakesNumber, GivesNumber, GivesNumbers, HasBitmaps};
 ghost use Rattle.bit_alloc.specs.Faults.{HasCauseOf};
 ghost use Rattle.bit_alloc.specs.Room.{bitmaps, HasSpare};
 
@@ -77,11 +77,11 @@ pub fn give_all<S: Sectors>(
     numbers: &[u32],
 ) -> Result<(), DiskFault>
     requires bitmaps { HasBitmaps geometry (S.state s.old) }
-    requires numbers { (n : ℕ) → IsListed numbers.now 0 (length numbers.now) n → IsNumber geometry map n }
+    requires numbers { (n : ℕ) → IsNumberOf numbers.now 0 (length numbers.now) n → IsNumber geometry map n }
     requires room { HasSpare geometry 0 (S.state s.old) }
-    ensures given { OnOk result (GivesNumbers geometry map (IsListed numbers.now 0 (length numbers.now))
+    ensures given { OnOk result (GivesNumbers geometry map (IsNumberOf numbers.now 0 (length numbers.now))
         (S.state s.old).sectors (S.state s.new).sectors) }
-    ensures puts { OnOk result (PutsOnly (IsSectorOf geometry map (IsListed numbers.now 0 (length numbers.now))) (bitmaps geometry) 0
+    ensures puts { OnOk result (PutsOnly (IsSectorOf geometry map (IsNumberOf numbers.now 0 (length numbers.now))) (bitmaps geometry) 0
         (S.state s.old) (S.state s.new)) }
     ensures bitmaps { OnOk result (HasBitmaps geometry (S.state s.new)) }
     ensures store { SameStore (S.state s.old) (S.state s.new) }
@@ -105,13 +105,13 @@ fn give_next<S: Sectors>(
 ) -> Result<usize, DiskFault>
     requires bitmaps { HasBitmaps geometry (S.state s.old) }
     requires within { from < length numbers.now }
-    requires numbers { (n : ℕ) → IsListed numbers.now 0 (length numbers.now) n → IsNumber geometry map n }
+    requires numbers { (n : ℕ) → IsNumberOf numbers.now 0 (length numbers.now) n → IsNumber geometry map n }
     requires room { HasSpare geometry 0 (S.state s.old) }
     ensures more { IfOk result (λ end. from < end) }
     ensures within { IfOk result (λ end. end ≤ length numbers.now) }
-    ensures given { IfOk result (λ end. GivesNumbers geometry map (IsListed numbers.now from end)
+    ensures given { IfOk result (λ end. GivesNumbers geometry map (IsNumberOf numbers.now from end)
         (S.state s.old).sectors (S.state s.new).sectors) }
-    ensures puts { IfOk result (λ end. PutsOnly (IsSectorOf geometry map (IsListed numbers.now from end)) (bitmaps geometry) 0
+    ensures puts { IfOk result (λ end. PutsOnly (IsSectorOf geometry map (IsNumberOf numbers.now from end)) (bitmaps geometry) 0
         (S.state s.old) (S.state s.new)) }
     ensures bitmaps { OnOk result (HasBitmaps geometry (S.state s.new)) }
     ensures unchanged { OnErr result (IsUnchanged (S.state s.old) (S.state s.new)) }

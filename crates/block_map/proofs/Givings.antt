@@ -26,7 +26,7 @@ use Rattle.bit_alloc.proofs.Transactions.{bitmaps_unchanged, puts_after}
 use Rattle.block_map.proofs.Runs.{same_map}
 use Rattle.sector_txn.proofs.TransactionRuns.{changes_nothing, changes_joined, changes_read, changes_weaker}
 use Rattle.bit_alloc.specs.declared.bitmap.Bitmap.TheVariants.{Blocks as BlockMap}
-use Rattle.bit_alloc.specs.Bitmaps.{HasBitmaps, GivesNumbers, IsListed, IsSectorOf}
+use Rattle.bit_alloc.specs.Bitmaps.{HasBitmaps, GivesNumbers, IsNumberOf, IsSectorOf}
 use Rattle.bit_alloc.specs.Room.{bitmaps}
 use Rattle.block_map.specs.Steps.{MayChange, IsStepSector, Alters}
 use Rattle.block_map.specs.Contents.{AllowsSize}
@@ -91,7 +91,7 @@ given_joined {p} {v} {P} {Q} {old} {mid} {new} inside a b =
 -- ---- several numbers of a level
 -- the numbers of a list that has each of them or 0 are those of data sectors
 pub listed_inside : (p : Geometry) (v : Inode) (level first : ℕ) {count : ℕ} {numbers : List ℕ} {image : SectorMap} → OwnsOnlyData p image v
-    → ((i : ℕ) → i < count → get_or numbers i 0 ≡ number_on image v level (first + i)) → (n : ℕ) → IsListed numbers 0 count n → IsData p n
+    → ((i : ℕ) → i < count → get_or numbers i 0 ≡ number_on image v level (first + i)) → (n : ℕ) → IsNumberOf numbers 0 count n → IsData p n
 unfolding part
 listed_inside p v level first {image = image} inside each n w =
     let is : number_on image v level (first + w.place) ≡ n = sym (each w.place w.before) ∙ w.is in
@@ -99,8 +99,8 @@ listed_inside p v level first {image = image} inside each n w =
 
 -- those of a list, which has each number or 0
 pub numbers_given : {p : Geometry} {v : Inode} {level first end count : ℕ} {numbers : List ℕ} {old new : TxnState} → OwnsOnlyData p old.sectors v → first + count ≡ end
-    → ((i : ℕ) → i < count → get_or numbers i 0 ≡ number_on old.sectors v level (first + i)) → HasBitmaps p new → GivesNumbers p BlockMap (IsListed numbers 0 count) old.sectors new.sectors
-    → PutsOnly (IsSectorOf p BlockMap (IsListed numbers 0 count)) (bitmaps p) 0 old new → GivesParts p v (IsAmong level first end) old new
+    → ((i : ℕ) → i < count → get_or numbers i 0 ≡ number_on old.sectors v level (first + i)) → HasBitmaps p new → GivesNumbers p BlockMap (IsNumberOf numbers 0 count) old.sectors new.sectors
+    → PutsOnly (IsSectorOf p BlockMap (IsNumberOf numbers 0 count)) (bitmaps p) 0 old new → GivesParts p v (IsAmong level first end) old new
 unfolding part
 numbers_given {p} {v} {level} {first} {end} {count} {numbers} {old} {new} inside all each tables given puts = record {
   tables = tables;
@@ -128,7 +128,7 @@ numbers_given {p} {v} {level} {first} {end} {count} {numbers} {old} {new} inside
   free = given.count;
 }
   where
-    in_bitmaps : (t : ℕ) → IsSectorOf p BlockMap (IsListed numbers 0 count) t → (p.inode_bitmap ≤ t) × (t < p.table)
+    in_bitmaps : (t : ℕ) → IsSectorOf p BlockMap (IsNumberOf numbers 0 count) t → (p.inode_bitmap ≤ t) × (t < p.table)
     in_bitmaps t w =
         let at = listed_inside p v level first inside each w.number w.has in
         let below = sector_below p BlockMap w.number tables.geometry at.1 in

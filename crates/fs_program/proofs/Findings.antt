@@ -8,7 +8,7 @@ use Rattle.fs_check.specs.declared.faults.CheckFault.TheVariants.{Found, DiskFau
 use Rattle.fs_check.specs.declared.faults.Summary.{Summary}
 use Rattle.fs_command.specs.declared.failure.Failure.{Failure}
 use Rattle.fs_command.specs.declared.status.Status.{Status}
-use Rattle.fs_program.specs.Jobs.{CheckEnds, HasChecked, IsOfRule, IsTold, is_clean, has_finding, is_unchecked}
+use Rattle.fs_program.specs.Jobs.{CheckEnds, HasChecked, IsOfRule, IsCheckTold, is_clean, has_finding, is_unchecked}
 use Rattle.fs_program.specs.Streams.{Writing}
 use Rattle.fs_layout.specs.Bytes.{SectorMap}
 use Rattle.fs_model.specs.Rules.{ImageRule, InodeBits, Inodes, InData, OwnedOnce, BlockBits, LaidOut, Acls, Slots, NamesApart, Names, Parents, Ways, rule_number, IsFinding, no_geometry, no_commit, fails}
@@ -40,7 +40,7 @@ is_of_rule (Err OutOfMemory) old new reason = tt
 
 -- what is told of a check is how it ends
 pub check_ends : (found : Result Summary CheckFault) (old now : DiskState) (explain : Bool) (w : Writing) (result : Result Status Failure)
-    → IfOk found (IsClean old) → Passed IsFirst old now found → IsTold explain w found result → CheckEnds old now explain w result
+    → IfOk found (IsClean old) → Passed IsFirst old now found → IsCheckTold explain w found result → CheckEnds old now explain w result
 check_ends (Ok summary) old now explain w result clean passed told = is_clean summary clean told
 check_ends (Err (Found finding)) old now explain w result clean passed told = has_finding finding passed.reason told
 check_ends (Err DiskFault) old now explain w result clean passed told = is_unchecked DiskFault passed.reason told

@@ -3,7 +3,7 @@
 --     IsUndone        a job isn't done, and nothing is printed
 --     Tells        a line is printed, and the status is this one; or it can't be printed
 --     IsOfRule, HasChecked        a finding is one of the rules'; a check has found something on a disk that has not failed
---     IsTold        what a check has found is told
+--     IsCheckTold        what a check has found is told
 --     MkfsEnds, CheckEnds, UpgradeEnds        a disk is made a file system, a disk is checked, and a disk is upgraded
 --     InfoEnds        a disk says of itself what it does
 --     RunsOn, RunEnds        a script is run on a disk that is mounted for it
@@ -98,11 +98,11 @@ IsOfRule DiskFault = Unit {0}
 IsOfRule OutOfMemory = Unit {0}
 
 -- what a check has found is told: what a clean disk has, the finding, or why there is neither
-abbrev pub IsTold : Bool → Writing → Result Summary CheckFault → Result Status Failure → Type 0
-IsTold explain w (Ok summary) result = Tells w (clean_text summary) Done result
-IsTold explain w (Err (Found finding)) result = Tells w (found_text explain finding) Faulty result
-IsTold explain w (Err DiskFault) result = IsUndone w (failures.Check DiskFault) result
-IsTold explain w (Err OutOfMemory) result = IsUndone w (failures.Check OutOfMemory) result
+abbrev pub IsCheckTold : Bool → Writing → Result Summary CheckFault → Result Status Failure → Type 0
+IsCheckTold explain w (Ok summary) result = Tells w (clean_text summary) Done result
+IsCheckTold explain w (Err (Found finding)) result = Tells w (found_text explain finding) Faulty result
+IsCheckTold explain w (Err DiskFault) result = IsUndone w (failures.Check DiskFault) result
+IsCheckTold explain w (Err OutOfMemory) result = IsUndone w (failures.Check OutOfMemory) result
 
 -- A check has found this on a disk that has not failed.
 pub record HasChecked {P : Type 0} (part : P → DiskState) (found : Result Summary CheckFault) : Type 0 where

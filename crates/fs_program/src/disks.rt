@@ -5,7 +5,7 @@ ghost use Rattle.std.specs.Io.KnownBytes.{Appends};
 ghost use Rattle.sector_disk.specs.Disk.{LeavesOnly, OnlyReads};
 ghost use Rattle.fs_layout.specs.Geometry.{IsGeometry, the_geometry};
 ghost use Rattle.fs_images.specs.Upgrading.{IsHalfUpgraded};
-ghost use Rattle.fs_program.specs.Jobs.{IsOfRule, IsTold, MkfsEnds, RunEnds, CheckEnds, UpgradeEnds, ended, run_status};
+ghost use Rattle.fs_program.specs.Jobs.{IsOfRule, IsCheckTold, MkfsEnds, RunEnds, CheckEnds, UpgradeEnds, ended, run_status};
 ghost use Rattle.fs_program.specs.Streams.{reading, writing};
 ghost use Rattle.fs_program.specs.Texts.{made_text, kinds_text, room_text, yes_text, clean_text, finding_text, found_text, version_text};
 
@@ -136,7 +136,7 @@ pub(crate) fn tell_check<O: Write>(
     out: &mut Watched<O>,
 ) -> Result<Status, Failure>
     requires { IfErr found IsOfRule }
-    ensures { IsTold explain (writing O.contents out.old out.new) found result }
+    ensures { IsCheckTold explain (writing O.contents out.old out.new) found result }
 {
     match found {
         Ok(summary) => Ok(written(print_summary(&summary, out), Status::Done)),
@@ -150,7 +150,7 @@ fn tell_fault<O: Write>(
     out: &mut Watched<O>,
 ) -> Result<Status, Failure>
     requires { IsOfRule fault }
-    ensures { IsTold explain (writing O.contents out.old out.new) (Err fault) result }
+    ensures { IsCheckTold explain (writing O.contents out.old out.new) (Err fault) result }
 {
     match fault {
         CheckFault::Found(finding) => {

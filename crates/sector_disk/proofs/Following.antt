@@ -11,7 +11,7 @@ use Rattle.std.proofs.lemmas.List.Sorted.{Contains-permutation}
 use Rattle.sector_disk.specs.Disk.{DiskState, Image, sector, IsImage, IsSame, ChangesOnly}
 use Rattle.sector_disk.specs.Record.{Past, Held, recorded_state}
 use Rattle.sector_disk.specs.Places.{IsRunSet}
-use Rattle.sector_disk.specs.Files.{file_seen, IfKnown, IsRun, IsRunTried, HasRun, IsHeldNarrowed, IsHeldSynced, IsHeldStable, HasSectors, HasStable, HasLoaded, IsMarked, Lacks, KeepsFile, KeepsKnown, KeepsBefore, FollowsBefore}
+use Rattle.sector_disk.specs.Files.{file_seen, IfKnown, IsRun, IsRunTried, HasRun, IsHeldNarrowed, IsHeldSynced, IsHeldStable, HasSectors, HasStable, HasLoaded, HasRunMarked, Lacks, KeepsFile, KeepsKnown, KeepsBefore, FollowsBefore}
 
 -- ---- what may be known
 pub goes : {P : Held → Held → Type 0} {K L : Held → Type 0} (old new : Option Held) → IfKnown P old new → IfSome old K → ((h g : Held) → P h g → K h → L g) → IfSome new L
@@ -349,7 +349,7 @@ pub follows_none : (image : Image) (count : ℕ) (loaded : List Bool) (file : Op
 follows_none image count loaded None none = merely tt
 follows_none image count loaded (Some h) none = merely (subst (λ (l : List Bool). HasLoaded image l h) (sym none) (none_loaded image count h))
 
-pub more_loaded : (first : ℕ) (run old new : Image) (was is : List Bool) (held : Held) → IsRunSet first run old new → IsMarked first (length run) was is → HasRun first run held
+pub more_loaded : (first : ℕ) (run old new : Image) (was is : List Bool) (held : Held) → IsRunSet first run old new → HasRunMarked first (length run) was is → HasRun first run held
     → HasLoaded old was held → HasLoaded new is held
 more_loaded first run old new was is held set marked has loaded n here = elim (cases_lt n first) [
   | inl before ↦ loaded n (subst (λ b. IsTrue b) (marked.others n (inl before)) here) ∙ sym (set.before n before)
@@ -359,7 +359,7 @@ more_loaded first run old new was is held set marked has loaded n here = elim (c
   ]
 ]
 
-pub follows_loaded : (first : ℕ) (run old new : Image) (was is : List Bool) (file : Option Held) → IsRunSet first run old new → IsMarked first (length run) was is
+pub follows_loaded : (first : ℕ) (run old new : Image) (was is : List Bool) (file : Option Held) → IsRunSet first run old new → HasRunMarked first (length run) was is
     → IfSome file (HasRun first run) → ∥ IfSome file (HasLoaded old was) ∥₁ → ∥ IfSome file (HasLoaded new is) ∥₁
 follows_loaded first run old new was is file set marked has loaded =
     ∥∥₁_map loaded (λ l. both file has l (λ h r k. more_loaded first run old new was is h set marked r k))

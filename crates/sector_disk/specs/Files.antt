@@ -4,7 +4,7 @@
 --     IsRun, IsRunTried, HasRun        a run of sectors that is written
 --     IsHeldNarrowed, IsHeldSynced        a sync
 --     HasSectors, HasStable        what is read from it; what it has at first
---     HasLoaded, IsMarked        which sectors were read from it
+--     HasLoaded, HasRunMarked        which sectors were read from it
 --     Lacks, KeepsFile, KeepsKnown        how it follows the disk
 --     KeepsBefore, FollowsBefore        how its first sectors do
 use Rattle.std.specs.Prelude.{◌≡◌, ◌⊎◌, ℕ, ◌+◌, ◌-◌, ◌<◌, ◌≤◌, Bool, true, false, IsTrue, List, length, get_or, Option, Some, None, IfSome, Contains}
@@ -62,7 +62,7 @@ abbrev pub HasLoaded : Image → List Bool → Held → Type 0
 HasLoaded image loaded held = (n : ℕ) → IsTrue (get_or loaded n false) → sector (file_seen held) n ≡ sector image n
 
 -- so many more from `first` on may be, and no other
-pub record IsMarked (first count : ℕ) (old new : List Bool) : Type 0 where
+pub record HasRunMarked (first count : ℕ) (old new : List Bool) : Type 0 where
   pub len : length new ≡ length old
   pub others : (n : ℕ) → (n < first) ⊎ (first + count ≤ n) → get_or new n false ≡ get_or old n false
 

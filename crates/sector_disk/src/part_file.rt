@@ -1,7 +1,7 @@
 //! A file of which some sectors are read into memory.
 
 ghost use Rattle.std.specs.Prelude.{◌≡◌, ◌<◌, ◌≤◌, ◌+◌, ◌^◌, length, IfOk, IfSome, OnOk};
-ghost use Rattle.sector_disk.specs.Files.{HasLoaded, IsMarked};
+ghost use Rattle.sector_disk.specs.Files.{HasLoaded, HasRunMarked};
 ghost use Rattle.sector_disk.specs.Disk.{IsFresh, sector};
 
 use crate::file_disk::{lock_and_count, new_buffer, open_file};
@@ -75,7 +75,8 @@ impl<F: DiskFile + Drop> PartFile<F> {
     fn load_piece(self, first: u32, len: usize) -> Result<Self, FileFault>
         requires fits { first + len ≤ length self.sectors.shown }
         requires room { len ≤ length self.buffer.items }
-        ensures { IfOk result (λ part. (length part.sectors.shown ≡ length self.sectors.shown) × (length part.buffer.items ≡ length self.buffer.items)) }
+        ensures { IfOk result (λ part. (length part.sectors.shown ≡ length self.sectors.shown)
+            × (length part.buffer.items ≡ length self.buffer.items)) }
     {
         let PartFile {
             mut file,
@@ -172,7 +173,7 @@ fn load_run<F: DiskFile>(
 // So many sectors from number `first` on are in memory now.
 fn mark(loaded: &mut [bool], first: usize, count: usize)
     requires { first + count ≤ length loaded.old }
-    ensures { IsMarked first count loaded.old loaded.new }
+    ensures { HasRunMarked first count loaded.old loaded.new }
 {
     for i in first..first + count {
         loaded[i] = true;

@@ -1,7 +1,7 @@
 use Rattle.std.proofs.Common.{◌≡◌, ◌<◌, ℕ, List, length, subst, arith}
 use Rattle.sector_txn.specs.Sectors.{PutsOnly}
 use Rattle.sector_txn.proofs.TransactionRuns.{changes_nothing}
-use Rattle.bit_alloc.specs.Bitmaps.{bit_count, IsListed, IsSectorOf, GivesNumbers}
+use Rattle.bit_alloc.specs.Bitmaps.{bit_count, IsNumberOf, IsSectorOf, GivesNumbers}
 use Rattle.bit_alloc.specs.Room.{bitmaps}
 use Rattle.bit_alloc.proofs.Listed.{gives_joined, gives_none, listed_puts, listed_wider, none_listed}
 use Rattle.bit_alloc.proofs.Maps.{number_has_bit}
@@ -28,7 +28,7 @@ loop-at-preserved g c =
     let within = x.within in
     let more = c.in_ok-at.ensures.more in
     let end = c.in_ok-at.ensures.within in
-    let few : (n : ℕ) → IsListed numbers 0 c.loop-at.at n → n < bit_count p map =
+    let few : (n : ℕ) → IsNumberOf numbers 0 c.loop-at.at n → n < bit_count p map =
     λ n w. number_has_bit p map n c.requires.bitmaps.geometry (c.requires.numbers n (listed_wider within w)).1 in
     record {
       within = omega (arith, end);
@@ -41,12 +41,12 @@ pub returns-clause-given : goal.returns-clause-given
 returns-clause-given g c =
     let within = c.loop-at.invariant.within in
     let end : c.loop-at.at ≡ length c.args.numbers.now = omega (arith, c.loop-at-test.false, within) in
-    subst (λ (m : ℕ). GivesNumbers c.args.geometry c.args.map (IsListed c.args.numbers.now 0 m) (g.S.Sectors.state c.args.s.now).sectors (g.S.Sectors.state c.loop-at.s).sectors) end
+    subst (λ (m : ℕ). GivesNumbers c.args.geometry c.args.map (IsNumberOf c.args.numbers.now 0 m) (g.S.Sectors.state c.args.s.now).sectors (g.S.Sectors.state c.loop-at.s).sectors) end
     c.loop-at.invariant.given
 
 pub returns-clause-puts : goal.returns-clause-puts
 returns-clause-puts g c =
     let within = c.loop-at.invariant.within in
     let end : c.loop-at.at ≡ length c.args.numbers.now = omega (arith, c.loop-at-test.false, within) in
-    subst (λ (m : ℕ). PutsOnly (IsSectorOf c.args.geometry c.args.map (IsListed c.args.numbers.now 0 m)) (bitmaps c.args.geometry) 0 (g.S.Sectors.state c.args.s.now) (g.S.Sectors.state c.loop-at.s)) end
+    subst (λ (m : ℕ). PutsOnly (IsSectorOf c.args.geometry c.args.map (IsNumberOf c.args.numbers.now 0 m)) (bitmaps c.args.geometry) 0 (g.S.Sectors.state c.args.s.now) (g.S.Sectors.state c.loop-at.s)) end
     c.loop-at.invariant.puts

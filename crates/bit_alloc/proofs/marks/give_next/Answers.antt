@@ -3,7 +3,7 @@ use Rattle.std.proofs.lemmas.Bool.{cases_lt}
 use Rattle.fs_layout.specs.Bytes.{SectorMap}
 use Rattle.fs_layout.specs.InodeChanges.{Puts}
 use Rattle.sector_txn.specs.Sectors.{IsPut}
-use Rattle.bit_alloc.specs.Bitmaps.{first_sector, IsListed, IsNumber, GivesNumbers}
+use Rattle.bit_alloc.specs.Bitmaps.{first_sector, IsNumberOf, IsNumber, GivesNumbers}
 use Rattle.bit_alloc.proofs.Listed.{bitmaps_given, gives_listed, in_disk, in_map, listed_earlier, listed_put, listed_wider}
 use Rattle.bit_alloc.proofs.Marking.{room_to_mark}
 use Rattle.bit_alloc.proofs.Transactions.{bitmaps_unchanged, map_unchanged, puts_after, spare_unchanged}
@@ -52,7 +52,7 @@ returns-clause-given g c =
     c.in_ok-get.ensures.content ∙ ap (λ (image : SectorMap). image (c.first.result + n / 4096)) same ∙ ap (λ (k : ℕ). mid.sectors (k + n / 4096)) c.first.ensures in
     let put : Puts (first_sector p map + n / 4096) c.clear_listed-end.new.sector mid.sectors new.sectors =
     subst (λ (k : ℕ). Puts (k + n / 4096) c.clear_listed-end.new.sector mid.sectors new.sectors) c.first-2.ensures c.put.ensures.sectors in
-    subst (λ (image : SectorMap). GivesNumbers p map (IsListed numbers c.args.from c.clear_listed-end.result) image new.sectors) (sym same)
+    subst (λ (image : SectorMap). GivesNumbers p map (IsNumberOf numbers c.args.from c.clear_listed-end.result) image new.sectors) (sym same)
     (gives_listed has.geometry has.tables (in_map p map n has.geometry is.1) here c.clear_listed-end.ensures.whole put c.clear_listed-end.ensures.cleared)
 
 pub returns-clause-puts : goal.returns-clause-puts

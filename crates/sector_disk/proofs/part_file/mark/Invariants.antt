@@ -1,5 +1,5 @@
 use Rattle.std.proofs.Common.{◌≡◌, ◌⊎◌, ◌<◌, ◌≤◌, ℕ, get_or, false, length}
-use Rattle.sector_disk.specs.Files.{IsMarked}
+use Rattle.sector_disk.specs.Files.{HasRunMarked}
 use Rattle.sector_disk.proofs.part_file.mark.Given as goal
 
 abbrev pub invariant-loop-i : goal.invariant-loop-i
