@@ -12,7 +12,7 @@ use Rattle.fs_model.specs.declared.event.Event.{Event}
 use Rattle.fs_model.specs.declared.event.Event.TheVariants.{Spawn, Exit, Call as Calls, Enter, Stamp, Clock, Fsync, Sync, Statfs, Arm, Restart}
 use Rattle.fs_model.specs.declared.reply.Reply.{Reply}
 use Rattle.fuse_protocol.specs.declared.operation.Operation.{Operation}
-use Rattle.fuse_protocol.specs.declared.operation.Operation.TheVariants.{Unlink, RmDir, Rename, SetXAttr, RemoveXAttr}
+use Rattle.fuse_protocol.specs.declared.operation.Operation.TheVariants.{Unlink, RmDir, Rename, Open, SetXAttr, RemoveXAttr}
 use Rattle.fuse_protocol.specs.declared.reply.Time.{Time}
 use Rattle.fuse_state.specs.declared.dentry.Dentry.{Dentry}
 use Rattle.fuse_state.specs.Servers.{Server}
@@ -21,20 +21,23 @@ use Rattle.fuse_plans.specs.declared.reply.Response.{Response}
 use Rattle.fuse_plans.specs.declared.reply.Response.TheVariants.{Silence, Says, Fails}
 use Rattle.fuse_plans.specs.declared.request.Asked.{Asked}
 use Rattle.fuse_plans.specs.declared.request_error.RequestError.{RequestError}
+use Rattle.fuse_plans.specs.declared.mode.Mode.{Mode}
 use Rattle.fuse_plans.specs.Plans.{Plan, Finish, Ask, followed_by, IsRunOf, IsAsked, at_once, later}
 use Rattle.fuse_plans.specs.Requests.{asked_of}
-use Rattle.fuse_plans.specs.Works.{Work, give, fail, keep, goes_on, ◌>>=◌, attempt, ask, give_unless, refusal_in, unless_refused, obtain}
+use Rattle.fuse_plans.specs.Works.{Work, give, fail, kept, keep, goes_on, ◌>>=◌, attempt, or_closed, ask, give_unless, refusal_in, unless_refused, obtain}
 use Rattle.fuse_plans.specs.Callers.{between, done_between, standing_refusal, by_places, on}
 use Rattle.fuse_plans.specs.NamePlans.{removal, remove, move_name}
 use Rattle.fuse_plans.specs.AclPlans.{set_acl, set_xattr, remove_xattr}
+use Rattle.fuse_plans.specs.FilePlans.{when, done, confirm_shown, confirm_open, open_object, open_file}
 use Rattle.fuse_plans.specs.Nobody.{needs_nobody_in}
 use Rattle.fuse_plans.specs.Serving.{Task, Replying, Silently, plan_of, told_first, asked_for, response_of, answered, answered_as, request_plan}
 use Rattle.fuse_plans.specs.Alterations.{Alteration, alterations_by, alterations_in, says_change, changes_at_once, AreTold, MayBeAsked, AsksOnly}
 use Rattle.fuse_plans.specs.Laws.{FailuresChangeNothing}
 use Rattle.fuse_plans.proofs.AllEnds.{AllEnd, all-followed_by, all-run}
-use Rattle.fuse_plans.proofs.AlterPieces.{pieces, Asks, asks-tell_time}
+use Rattle.fuse_plans.proofs.AlterPieces.{pieces, Asks, asks-when, asks-done, asks-needed, asks-ask, asks-on, asks-tell_time}
 use Rattle.fuse_plans.proofs.AlterRequests.{asks-needs_nobody_in}
 use Rattle.fuse_plans.proofs.AlterNames.{asks-none_there}
+use Rattle.fuse_plans.proofs.AlterFiles.{asks-show_open}
 
 -- ---- plans
 
@@ -110,6 +113,18 @@ sure-keep : {X : Type 0} (f : Server → Server) (x : X) → Sure (keep f >>= (�
 unfolding give keep ◌>>=◌
 sure-keep f x = record { at = λ s stopped. stopped }
 
+sure-keeps : {X : Type 0} (f g : Server → Server) (x : X) → Sure (keep f >>= (λ _. keep g >>= (λ _. give x)))
+unfolding give keep ◌>>=◌
+sure-keeps f g x = record { at = λ s stopped. stopped }
+
+sure-kept : {X : Type 0} (f : Server → X) → Sure (kept f)
+unfolding kept
+sure-kept f = record { at = λ s stopped. stopped }
+
+clean-give : {X : Type 0} (x : X) → Clean (give x)
+unfolding give
+clean-give x = record { at = λ s. tt }
+
 clean-fail : {X : Type 0} (e : RequestError) → Clean {X = X} (fail e)
 unfolding fail
 clean-fail e = record { at = λ s. tt }
@@ -137,6 +152,13 @@ clean->>= {X} {Y} {w} {f} first rest = record { at = λ s. spares-followed_by Is
     next : (r : Result X RequestError × Server) → SparesFailures IsFailure (goes_on f r)
     next (Ok x, t) = spares-never IsFailure (f x t) ((rest x).at t)
     next (Err e, t) = tt
+
+clean-when : (b : Bool) (w : Work (Unit {0})) → Clean w → Clean (when b w)
+clean-when true w clean = clean
+clean-when false w clean = clean-give tt
+
+clean-done : {X : Type 0} {w : Work X} → Clean w → Clean (done w)
+clean-done clean = clean->>= clean (λ x. sure-give tt)
 
 clean-attempt : {X Y : Type 0} {w : Work X} (f : Result X RequestError → Work Y) → Clean w → ((x : X) → Sure (f (Ok x))) → ((e : RequestError) → Clean (f (Err e)))
     → Clean (attempt w >>= f)
@@ -228,6 +250,30 @@ clean-move_name r name new_node new_name flags =
     quiet->>= (search (pieces, asks-none_there) depth 20) (λ none.
     clean->>= (clean-done_between pid d new _) (λ moved. sure-keep _ _))))))
 
+-- what is opened changes nothing, and once it has lost its bytes nothing fails
+clean-confirm_open : (pid fd n : ℕ) (cuts : Bool) → Clean (confirm_open pid fd n cuts)
+unfolding confirm_shown confirm_open
+clean-confirm_open pid fd n cuts =
+    clean-attempt (or_closed pid fd)
+    (quiet->>= (asks-show_open pid fd) (λ status.
+    quiet->>= (search pieces) (λ same.
+    clean-when cuts _ (clean-done (clean-obtain _)))))
+    (λ confirmed. sure-give confirmed) (λ e. quiet->>= (asks-ask _ tt) (λ closed. clean-fail e))
+
+clean-open_object : (now : Time) (pid n flags : ℕ) (mode : Mode) → Clean (open_object now pid n flags mode)
+clean-open_object now pid n flags mode =
+    quiet->>= (asks-on pid n _ (λ path. tt)) (λ reply.
+    quiet->>= (asks-needed _ _) (λ handle.
+    clean->>= (clean-confirm_open pid _ n _) (λ confirmed. sure-keeps _ _ _)))
+
+clean-open_file : (r : Asked) (flags : ℕ) → Clean (open_file r flags)
+clean-open_file r flags =
+    quiet->>= (search pieces depth 20) (λ n.
+    quiet->>= (search pieces) (λ mode.
+    quiet->>= (search pieces) (λ pid.
+    quiet->>= (asks-when _ _ (asks-done (asks-on pid n _ (λ path. tt)))) (λ may.
+    clean->>= (clean-open_object r.now pid n flags mode) (λ handle. sure-kept _)))))
+
 clean-set_acl : (r : Asked) (which : AclType) (wanted : Option AccessList) → Clean (set_acl r which wanted)
 clean-set_acl r which wanted =
     quiet->>= (search pieces depth 20) (λ n.
@@ -251,6 +297,7 @@ clean-plan : (r : Asked) (value : Option (Option AccessList)) (operation : Opera
 clean-plan r value (Unlink name) is = clean-remove r (removal false) name
 clean-plan r value (RmDir name) is = clean-remove r (removal true) name
 clean-plan r value (Rename name new_directory new_name flags) is = clean-move_name r name new_directory new_name flags
+clean-plan r value (Open flags) is = clean-open_file r flags.0
 clean-plan r value (SetXAttr name bytes) is = clean-set_xattr r name value
 clean-plan r value (RemoveXAttr name) is = clean-remove_xattr r name
 clean-plan r value _ is = absurd (let no : false ≡ true = is in cc)

@@ -1,8 +1,8 @@
 -- What requests for files change: no more than they say.
-use Rattle.std.specs.Prelude.{◌&&◌, not, ◌≡◌, ℕ, ◌+◌, ◌-◌, zero, suc, Bool, true, List, [], ◌∷◌, map, Option, Result, Ok, Err}
+use Rattle.std.specs.Prelude.{◌≡◌, ℕ, ◌+◌, ◌-◌, zero, suc, Bool, true, List, [], ◌∷◌, map, Option, Result, Ok, Err}
 use Rattle.fs_model.specs.Limits.{move_limit}
 use Rattle.fs_model.specs.declared.call.Call.{Call}
-use Rattle.fs_model.specs.declared.call.Call.TheVariants.{Write as WriteCall, Truncate, Ftruncate}
+use Rattle.fs_model.specs.declared.call.Call.TheVariants.{Write as WriteCall, Ftruncate}
 use Rattle.fs_model.specs.declared.reply.Reply.{Reply}
 use Rattle.fuse_protocol.specs.declared.operation.Extent.{Extent}
 use Rattle.fuse_protocol.specs.declared.operation.Operation.{Operation}
@@ -10,21 +10,19 @@ use Rattle.fuse_state.specs.Servers.{owner_of, descriptor_of}
 use Rattle.fuse_plans.specs.declared.mode.Mode.{Mode}
 use Rattle.fuse_plans.specs.declared.request.Asked.{Asked}
 use Rattle.fuse_plans.specs.declared.request_error.RequestError.{RequestError}
-use Rattle.fuse_plans.specs.Callers.{on}
 use Rattle.fs_model.specs.declared.event.Event.TheVariants.{Call as Calls}
 use Rattle.fuse_plans.specs.Works.{obtain}
 use Rattle.fuse_plans.specs.Flags.{is_trunc}
-use Rattle.fuse_plans.specs.FilePlans.{done, when, reads_alone, show_open, confirm_shown, confirm_open, cuts_open, open_file, or_opened, open_or_make, look_open, tell_created, create_file, the_open, call_open, seek, seek_open, read_piece, read_pieces, read_file, or_done, write_piece, write_pieces, pieces_in, write_file, close_file, sync_file}
+use Rattle.fuse_plans.specs.FilePlans.{done, show_open, confirm_shown, confirm_open, open_file, or_opened, open_or_make, look_open, tell_created, create_file, the_open, call_open, seek, seek_open, read_piece, read_pieces, read_file, or_done, write_piece, write_pieces, pieces_in, write_file, close_file, sync_file}
 use Rattle.fuse_plans.specs.Alterations.{resizes, resizes_open, writes_open, adds_name, IsToldIn}
-use Rattle.fuse_plans.proofs.AlterPieces.{pieces, told-where_so, Asks, IsTold, asks-give, asks-fail, asks->>=, asks-attempt, asks-if, asks-when_so, asks-done, asks-obtain, asks-or_closed, asks-on}
+use Rattle.fuse_plans.proofs.AlterPieces.{pieces, told-where_so, Asks, IsTold, asks-give, asks-fail, asks->>=, asks-attempt, asks-if, asks-when_so, asks-done, asks-obtain, asks-or_closed}
 use Rattle.fuse_plans.proofs.AlterMasks.{asks-new_valid}
 use Rattle.fuse_plans.proofs.AlterNames.{asks-plain_name}
-use Rattle.fs_layout.proofs.FirstEntries.{left, right}
 
 -- ---- to open and create
 
 module _ {o : Option Operation} where
-  asks-show_open : (pid fd : ℕ) → Asks o (show_open pid fd)
+  pub asks-show_open : (pid fd : ℕ) → Asks o (show_open pid fd)
   unfolding show_open
   asks-show_open pid fd = search pieces depth 12
 
@@ -49,15 +47,13 @@ module _ {o : Option Operation} (flags : ℕ) (told : is_trunc flags ≡ true �
   unfolding open_or_make look_open tell_created
   asks-create_file r name file_mode umask adds = search (pieces, asks-plain_name, asks-new_valid, asks-or_opened, asks-show_open, adds) depth 24
 
-  -- where what is there loses its bytes by a path, or once it is open, that is told
+module _ {o : Option Operation} (flags : ℕ) where
+  -- where what is there loses its bytes once it is open, that is told
   pub asks-open_file : (r : Asked) → ((pid fd : ℕ) → is_trunc flags ≡ true → IsToldIn o (resizes_open pid fd 0)) → Asks o (open_file r flags)
-  asks-open_file r told_open = search (pieces, empties, confirms) depth 24
+  asks-open_file r told_open = search (pieces, confirms) depth 24
     where
-      empties : (pid n : ℕ) (mode : Mode) → Asks o (when (is_trunc flags && reads_alone mode) (done (on pid n (λ path. Truncate path 0))))
-      empties pid n mode = asks-when_so (is_trunc flags && reads_alone mode) (done (on pid n (λ path. Truncate path 0))) (λ is. asks-done (asks-on pid n _ (λ path. (told (left (is_trunc flags) _ is), tt))))
-
-      confirms : (pid fd n : ℕ) (mode : Mode) → Asks o (confirm_open pid fd n (cuts_open flags mode))
-      confirms pid fd n mode = asks-confirm_open pid fd n (cuts_open flags mode) (λ is. told_open pid fd (right (not (reads_alone mode)) _ is))
+      confirms : (pid fd n : ℕ) → Asks o (confirm_open pid fd n (is_trunc flags))
+      confirms pid fd n = asks-confirm_open pid fd n (is_trunc flags) (told_open pid fd)
 
 -- ---- by a handle
 

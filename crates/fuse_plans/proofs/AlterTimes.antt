@@ -42,7 +42,7 @@ use Rattle.fuse_plans.specs.AclPlans.{an_object, get_xattr, attribute_names, lis
 use Rattle.fuse_plans.specs.Masks.{acl_of}
 use Rattle.fuse_plans.specs.Nobody.{needs_nobody_in}
 use Rattle.fuse_plans.specs.Serving.{Task, Replying, Silently, or_server_process, begin, count_space, end, plan_of, told_first, asked_for, response_of, answered, answered_as, request_plan}
-use Rattle.fuse_plans.specs.Alterations.{Alteration, resizes, resizes_open, says_change, says_change_in, IsToldIn}
+use Rattle.fuse_plans.specs.Alterations.{Alteration, resizes_open, says_change, says_change_in, IsToldIn}
 use Rattle.fuse_plans.specs.Laws.{OthersChangeNothing, OthersKeepTimes}
 use Rattle.fuse_plans.proofs.AllEnds.{AllEnd, all-weaker, all-followed_by, all-run}
 use Rattle.fuse_plans.proofs.AlterPieces.{all-any}
@@ -479,7 +479,6 @@ says-nothing (Write handle offset bytes) alteration none told = said-so none
 says-nothing (SetXAttr name value) alteration none told = said-so none
 says-nothing (RemoveXAttr name) alteration none told = said-so none
 says-nothing (Create name flags mode umask) alteration none told = said-so none
-says-nothing (Open flags) (resizes size) none told = said-so (sym told.0 ∙ none)
 says-nothing (Open flags) (resizes_open pid fd size) none told = said-so (sym told.0 ∙ none)
 says-nothing (Open flags) _ none told = told
 says-nothing _ alteration none told = told

@@ -42,11 +42,9 @@ touched_if-same false now n s = (refl, refl, refl, refl, refl)
 -- ---- to open
 
 module _ {rights : Rights} (r : Asked) (is : rights.cred ≡ r.cred) (asks : AsksOf rights r.node) where
-  does-ask_first : (pid n flags : ℕ) (mode : Mode) → IsObject rights.subject n → Does rights (OfOpener rights pid) (ask_first pid n flags mode)
-  does-ask_first pid n flags mode object =
-      let about = about-opener pid n object in
-      does->>= (does-when _ _ (does-done (does-on pid n _ (λ path. opener-can pid _ refl) (λ path. refl) about))) (λ may.
-      does-when _ _ (does-done (does-on pid n _ (λ path. opener-can pid _ refl) (λ path. refl) about)))
+  does-ask_first : (pid n flags : ℕ) → IsObject rights.subject n → Does rights (OfOpener rights pid) (ask_first pid n flags)
+  does-ask_first pid n flags object =
+      does-when _ _ (does-done (does-on pid n _ (λ path. opener-can pid _ refl) (λ path. refl) (about-opener pid n object)))
 
   does-confirm_open : (pid fd n : ℕ) (cuts : Bool) → Does rights (OfOpener rights pid) (confirm_open pid fd n cuts)
   unfolding show_open confirm_shown confirm_open
@@ -70,7 +68,7 @@ module _ {rights : Rights} (r : Asked) (is : rights.cred ≡ r.cred) (asks : Ask
       then-lasts (gives-number _ (is-object rights _ asks)) (λ n object.
       lasts->>= (does-needed _ _) (λ mode.
       then-does (does-opener _ is) (λ pid more.
-      does->>= (does-ask_first pid n flags mode object) (λ asked.
+      does->>= (does-ask_first pid n flags object) (λ asked.
       does->>= (does-open_object _ pid n flags mode object) (λ handle. does-kept _)))))
 
 -- ---- to create

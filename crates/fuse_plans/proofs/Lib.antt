@@ -25,6 +25,7 @@ pub mod Replays
 pub mod RequestConducts
 pub mod RowsOfAlterations
 pub mod RowsOfBytes
+pub mod RowsOfCuts
 pub mod RowsOfNames
 pub mod RowsOfPlaces
 pub mod RowsOfStale

@@ -36,7 +36,7 @@ use Rattle.fuse_plans.specs.declared.reply.Response.TheVariants.{Says, Fails}
 use Rattle.fuse_plans.specs.Plans.{Plan, Finish, Ask, followed_by, IsRunOf, IsAsked, at_once, later}
 use Rattle.fuse_plans.specs.Works.{Work, give, fail, kept, keep, goes_on, ◌>>=◌, ◌>>◌, attempt, needed, ask, unless_refused, obtain, or_closed, handle_within, replied_handle}
 use Rattle.fuse_plans.specs.Callers.{the_number, caller_with_room}
-use Rattle.fuse_plans.specs.FilePlans.{when, done, touched_if, show_open, confirm_shown, confirm_open, cuts_open, ask_first, open_object, file_flags, opened_body, open_granted, open_file}
+use Rattle.fuse_plans.specs.FilePlans.{when, done, touched_if, show_open, confirm_shown, confirm_open, ask_first, open_object, file_flags, opened_body, open_granted, open_file}
 use Rattle.fuse_plans.specs.Flags.{mode_in, is_trunc}
 use Rattle.fuse_plans.specs.Times.{tell_time_if, tell_time}
 use Rattle.fuse_plans.specs.Laws.{OpenedIsTheObject}
@@ -311,7 +311,7 @@ opens_held : (now : Time) (pid n flags : ℕ) (mode : Mode) (s t : Server) (es :
 opens_held now pid n flags mode s t es replies handle runs =
     run->>= (Held n handle t) (held_grows n handle t) _ _ s t es replies handle runs (λ reply u first replied after rest ran goes.
     run->>= (Held n handle t) (held_grows n handle t) (replied_handle pid reply) _ u t after rest handle goes (λ h v more again last rests found ends.
-    ends_held now pid n (cuts_open flags mode) (is_trunc flags) h handle (owner_is pid _ h (needed_is _ _ h u v more again found)) v t last rests ends))
+    ends_held now pid n (is_trunc flags) (is_trunc flags) h handle (owner_is pid _ h (needed_is _ _ h u v more again found)) v t last rests ends))
 
 -- what is told of a value that was given
 record Told {X Y : Type 0} (p : Plan (Result X RequestError × Server)) (f : X → Server → Y) (y : Y) (t : Server) (es : List Event) (replies : List Reply) : Type 0 where
@@ -346,7 +346,7 @@ granted_held : (now : Time) (pid n flags : ℕ) (mode : Mode) (s t : Server) (es
     → EndsWell (open_granted now pid n flags mode s) es replies (Opened handle keeping) t → Held n handle t es replies
 unfolding ◌>>=◌
 granted_held now pid n flags mode s t es replies handle keeping runs =
-    run->>= (Held n handle t) (held_grows n handle t) (ask_first pid n flags mode) _ s t es replies (Opened handle keeping) runs (λ x u first replied after rest ran goes.
+    run->>= (Held n handle t) (held_grows n handle t) (ask_first pid n flags) _ s t es replies (Opened handle keeping) runs (λ x u first replied after rest ran goes.
     opens u after rest goes)
   where
     opens : (u : Server) (after : List Event) (rest : List Reply)

@@ -34,6 +34,10 @@ open_cuts = ((refl, refl), tt)
 pub open_cuts_to_nothing : MayBeAsked (Some cutting) (Calls 2 (Ftruncate 0 5)) → ⊥
 open_cuts_to_nothing told = absurd (let no : 5 ≡ 0 = told.0.1 in cc)
 
+-- what is open is cut, and nothing by a path
+pub open_cuts_no_path : MayBeAsked (Some cutting) (Calls 2 (Truncate (codes "f") 0)) → ⊥
+open_cuts_no_path told = told.0
+
 -- a look-up only looks
 pub lookup_looks : MayBeAsked (Some (Lookup (codes "f"))) (Calls 1 (Lstat (codes "f")))
 lookup_looks = tt

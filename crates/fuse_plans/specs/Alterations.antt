@@ -79,7 +79,6 @@ IsToldBy (SetAttr changes) sets_group = IsTrue (is_some changes.gid)
 IsToldBy (SetAttr changes) sets_times = IsTrue (is_some changes.atime || is_some changes.mtime)
 IsToldBy (SetXAttr name value) (sets_list which) = acl_named name ≡ Some which
 IsToldBy (RemoveXAttr name) (sets_list which) = acl_named name ≡ Some which
-IsToldBy (Open flags) (resizes size) = IsTrue (is_trunc flags.0) × (size ≡ 0)
 IsToldBy (Open flags) (resizes_open pid fd size) = IsTrue (is_trunc flags.0) × (size ≡ 0)
 IsToldBy (Write handle offset bytes) (writes_open pid fd) = IsOfHandle (Some handle) pid fd
 IsToldBy (Create name flags mode umask) (adds_name path) = path ≡ name
@@ -129,6 +128,7 @@ abbrev pub changes_at_once : Operation → Bool
 changes_at_once (Unlink name) = true
 changes_at_once (RmDir name) = true
 changes_at_once (Rename name new_directory new_name flags) = true
+changes_at_once (Open flags) = true
 changes_at_once (SetXAttr name value) = true
 changes_at_once (RemoveXAttr name) = true
 changes_at_once operation = false

@@ -5,7 +5,7 @@ use Rattle.std.specs.Prelude.{ℕ, ◌+◌, ◌-◌, ◌/◌, ◌^◌, ◌==◌,
 use Rattle.posix_acl.specs.Entries.{perms_of}
 use Rattle.fs_cred.specs.declared.errno.Errno.TheVariants.{EEXIST, EINVAL, EBADF}
 use Rattle.fs_model.specs.declared.call.Call.{Call}
-use Rattle.fs_model.specs.declared.call.Call.TheVariants.{Open as OpenCall, Close, Fstat, Ftruncate, Lseek, Read as ReadCall, Write as WriteCall, Access, Truncate}
+use Rattle.fs_model.specs.declared.call.Call.TheVariants.{Open as OpenCall, Close, Fstat, Ftruncate, Lseek, Read as ReadCall, Write as WriteCall, Access}
 use Rattle.fs_model.specs.declared.call.Whence.TheVariants.{Set}
 use Rattle.fs_model.specs.declared.event.Event.TheVariants.{Call as Calls, Fsync}
 use Rattle.fs_model.specs.declared.reply.Reply.{Reply}
@@ -29,7 +29,7 @@ use Rattle.fuse_state.specs.declared.settings.Settings.{Settings}
 use Rattle.fuse_plans.specs.Works.{Work, give, fail, kept, keep, ◌>>=◌, ◌>>◌, attempt, needed, obtain, or_closed, replied_status, replied_handle, replied_data, replied_count}
 use Rattle.fuse_plans.specs.Callers.{caller_with_room, inside, on, the_number, standing_directory}
 use Rattle.fuse_plans.specs.declared.mode.Mode.{Mode}
-use Rattle.fuse_plans.specs.declared.mode.Mode.TheVariants.{Reads}
+use Rattle.fuse_plans.specs.declared.mode.Mode.TheVariants.{Reads, Both}
 use Rattle.fuse_plans.specs.Flags.{mode_in, is_exec, is_excl, is_trunc, opening, creating}
 use Rattle.fuse_plans.specs.NamePlans.{dentry, plain_name, attributes, new_valid, set_umask}
 use Rattle.fuse_plans.specs.Times.{told_stamps}
@@ -43,18 +43,16 @@ when false w = give tt
 abbrev pub done : {X : Type 0} → Work X → Work (Unit {0})
 done w = w >> give tt
 
-abbrev pub reads_alone : Mode → Bool
-reads_alone Reads = true
-reads_alone _ = false
-
 -- ---- to open and create
 
--- To run it is asked for as access(2) does; where a file that is opened for reading alone is to lose its bytes, that is asked
--- for as truncate(2) does.
-abbrev pub ask_first : ℕ → ℕ → ℕ → Mode → Work (Unit {0})
-ask_first pid n flags mode = do
-  when (is_exec flags) (done (on pid n (λ path. Access path (perms_of 1))))
-  when (is_trunc flags && reads_alone mode) (done (on pid n (λ path. Truncate path 0)))
+-- to run it is asked for as access(2) does
+abbrev pub ask_first : ℕ → ℕ → ℕ → Work (Unit {0})
+ask_first pid n flags = when (is_exec flags) (done (on pid n (λ path. Access path (perms_of 1))))
+
+-- To lose its bytes a file is opened for writing too, so that both are asked before anything changes.
+abbrev pub asked_mode : ℕ → Mode → Mode
+asked_mode flags Reads = if is_trunc flags then Both else Reads
+asked_mode flags mode = mode
 
 abbrev pub touched_if : Bool → Time → ℕ → Server → Server
 touched_if true now n s = with_new_contents now n s
@@ -82,16 +80,12 @@ confirm_open pid fd n cuts = do
   confirmed ← attempt (confirm_shown pid fd n cuts)
   or_closed pid fd confirmed
 
--- a file that is opened for writing loses its bytes once it is known to be the object
-abbrev pub cuts_open : ℕ → Mode → Bool
-cuts_open flags mode = not (reads_alone mode) && is_trunc flags
-
 -- what is open, and is the object, has a handle
 abbrev pub open_object : Time → ℕ → ℕ → ℕ → Mode → Work ℕ
 open_object now pid n flags mode = do
-  reply ← on pid n (λ path. OpenCall path (opening mode false) 0)
+  reply ← on pid n (λ path. OpenCall path (opening (asked_mode flags mode) false) 0)
   handle ← replied_handle pid reply
-  confirm_open pid (descriptor_of handle) n (cuts_open flags mode)
+  confirm_open pid (descriptor_of handle) n (is_trunc flags)
   keep (touched_if (is_trunc flags) now n)
   keep (with_handle handle n)
   give handle
@@ -106,7 +100,7 @@ opened_body handle s = Opened handle (file_flags s.settings)
 -- once it is granted
 abbrev pub open_granted : Time → ℕ → ℕ → ℕ → Mode → Work ReplyBody
 open_granted now pid n flags mode = do
-  ask_first pid n flags mode
+  ask_first pid n flags
   handle ← open_object now pid n flags mode
   kept (opened_body handle)
 
@@ -121,7 +115,7 @@ open_file r flags = do
 abbrev pub or_opened : ℕ → ℕ → List ℕ → Mode → ℕ → Result Reply RequestError → Work (Reply × Bool)
 or_opened pid d name mode flags (Ok reply) = give (reply, true)
 or_opened pid d name mode flags (Err e) = if is_for EEXIST e && not (is_excl flags) then (do
-  reply ← inside pid d (OpenCall name (opening mode (is_trunc flags)) 0)
+  reply ← inside pid d (OpenCall name (opening (asked_mode flags mode) (is_trunc flags)) 0)
   give (reply, false)) else fail e
 
 -- makes a file, or opens what has the name

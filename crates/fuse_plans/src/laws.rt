@@ -44,7 +44,7 @@ pub fn what_is_asked_may_be()
 /// SETATTR and what makes or links an object are answered with the attributes that it has then; of the rest the kernel knows by its
 /// own request what it has to ask again. Where a request fails, [`failures_change_nothing`] says which have changed nothing. Others
 /// may have changed what they say, and the kernel isn't told: a SETATTR is done in parts, what was made or linked may not be shown,
-/// and an OPEN or a CREATE may have taken the bytes.
+/// and a CREATE may have taken the bytes.
 pub fn requests_change_what_they_say()
     ensures may_be_asked { RequestsChangeWhatTheySay }
     ensures asked { RunsChangeWhatRequestsSay }
@@ -52,9 +52,9 @@ pub fn requests_change_what_they_say()
     ensures times { OthersKeepTimes }
 {}
 
-/// Where UNLINK, RMDIR, RENAME, SETXATTR or REMOVEXATTR fails, nothing has changed.
+/// Where UNLINK, RMDIR, RENAME, OPEN, SETXATTR or REMOVEXATTR fails, nothing has changed.
 ///
-/// Each call that they asked for, and that changes names or attributes, was refused, whatever else was replied.
+/// Each call that they asked for, and that changes names, bytes or attributes, was refused, whatever else was replied.
 pub fn failures_change_nothing()
     ensures { FailuresChangeNothing }
 {}

@@ -1,6 +1,6 @@
 //! Requests that open files.
 ghost use Rattle.std.specs.Prelude.{◌≡◌, ◌+◌, ◌≤◌, ◌&&◌, not, Err};
-ghost use Rattle.fuse_plans.specs.FilePlans.{reads_alone, ask_first, touched_if, cuts_open, confirm_shown, confirm_open, open_object, open_granted, open_file, or_opened, open_or_make, show_open, show_timed, look_open, file_flags, opened_body, created_body, tell_created, create_by, create_file};
+ghost use Rattle.fuse_plans.specs.FilePlans.{ask_first, asked_mode, touched_if, confirm_shown, confirm_open, open_object, open_granted, open_file, or_opened, open_or_make, show_open, show_timed, look_open, file_flags, opened_body, created_body, tell_created, create_by, create_file};
 ghost use Rattle.fs_cred.specs.declared.errno.Errno.TheVariants.{EEXIST};
 ghost use Rattle.fuse_plans.specs.Flags.{is_trunc, is_excl};
 ghost use Rattle.fuse_plans.specs.RequestErrors.{is_for};
@@ -23,23 +23,13 @@ use fuse_steps::name::{attributes, dentry, only_inode, plain_name};
 use fuse_steps::replies::{fd_of_reply, handle_within};
 use posix_acl::Perms;
 
-// Whether a file that is opened for reading alone is to lose its bytes.
-fn cuts_first(flags: OpenFlags, mode: Mode) -> bool
-    ensures { result ≡ (is_trunc flags.0 && reads_alone mode) }
+// To lose its bytes a file is opened for writing too.
+fn asked_mode(flags: OpenFlags, mode: Mode) -> Mode
+    ensures { result ≡ asked_mode flags.0 mode }
 {
     match mode {
-        Mode::Reads => is_trunc(flags),
-        _ => false,
-    }
-}
-
-// Whether a file that is opened for writing is to lose its bytes.
-fn cuts_open(flags: OpenFlags, mode: Mode) -> bool
-    ensures { result ≡ cuts_open flags.0 mode }
-{
-    match mode {
-        Mode::Reads => false,
-        _ => is_trunc(flags),
+        Mode::Reads if is_trunc(flags) => Mode::Both,
+        _ => mode,
     }
 }
 
@@ -114,7 +104,7 @@ fn or_opened<M: Machine>(
     if !may_be_found(error, flags) {
         return (Err(error), name);
     }
-    let call = Call::Open(name, opening(mode, is_trunc(flags)), 0);
+    let call = Call::Open(name, opening(asked_mode(flags, mode), is_trunc(flags)), 0);
     let (opened, name) = inside(machine, pid, directory, call);
     match opened {
         Ok(reply) => (Ok((reply, false)), name),
@@ -184,20 +174,12 @@ fn confirm_open<M: Machine>(
 
 impl<M: Machine> Session<M> {
     // What open(2) doesn't ask is asked first.
-    fn ask_first(
-        &mut self,
-        pid: usize,
-        inode: u32,
-        flags: OpenFlags,
-        mode: Mode,
-    ) -> Result<(), RequestError>
-        ensures did { Did M.Serves (ask_first pid inode flags.0 mode) self.old self.new result }
+    fn ask_first(&mut self, pid: usize, inode: u32, flags: OpenFlags) -> Result<(), RequestError>
+        ensures did { Did M.Serves (ask_first pid inode flags.0) self.old self.new result }
         ensures kept { self.new.server ≡ self.old.server }
     {
         let run = Call::Access(self.blank_path(), Perms::from_digit(1));
-        self.on_if(is_exec(flags), pid, inode, run)?;
-        let cut = Call::Truncate(self.blank_path(), 0);
-        self.on_if(cuts_first(flags, mode), pid, inode, cut)
+        self.on_if(is_exec(flags), pid, inode, run)
     }
 
     // Opens an object, and no other that its name may lead to: its handle.
@@ -212,16 +194,20 @@ impl<M: Machine> Session<M> {
         requires { 2 ≤ self.old.server.room }
         ensures { Did M.Serves (open_object now pid inode flags.0 mode) self.old self.new result }
     {
-        let call = Call::Open(self.blank_path(), opening(mode, false), 0);
+        let call = Call::Open(
+            self.blank_path(),
+            opening(asked_mode(flags, mode), false),
+            0,
+        );
         let reply = self.on_once(pid, inode, call)?;
         let fd = fd_of_reply(&reply);
         reply.discard();
         let Some(handle) = handle_within(pid, fd) else {
             return Err(RequestError::EIO);
         };
-        let (fd, is_cut) = (descriptor_of(handle), cuts_open(flags, mode));
+        let (fd, is_cut) = (descriptor_of(handle), is_trunc(flags));
         confirm_open(&mut self.machine, pid, fd, inode, is_cut)?;
-        touch_if(&mut self.server, is_trunc(flags), now, inode);
+        touch_if(&mut self.server, is_cut, now, inode);
         self.server.add_handle(handle, inode);
         Ok(handle)
     }
@@ -257,7 +243,7 @@ impl<M: Machine> Session<M> {
         requires { 2 ≤ self.old.server.room }
         ensures { Did M.Serves (open_granted now pid inode flags.0 mode) self.old self.new result }
     {
-        self.ask_first(pid, inode, flags, mode)?;
+        self.ask_first(pid, inode, flags)?;
         let handle = self.open_object(now, pid, inode, flags, mode)?;
         Ok(opened_body(&self.server, handle))
     }

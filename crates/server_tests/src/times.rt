@@ -171,7 +171,7 @@ fn performed(
     Ok(session.perform(asked, None, operation)?)
 }
 
-fn settings(keeps_times: bool) -> Settings {
+pub(crate) fn settings(keeps_times: bool) -> Settings {
     Settings {
         max_write: 4096,
         posix_acl: false,
@@ -187,7 +187,7 @@ fn settings(keeps_times: bool) -> Settings {
     }
 }
 
-const OFFER: Offer = Offer {
+pub(crate) const OFFER: Offer = Offer {
     major: 7,
     minor: 45,
     max_readahead: 0,

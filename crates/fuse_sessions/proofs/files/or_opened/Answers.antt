@@ -8,9 +8,9 @@ returns-then-not-may_be_found-clause-did g c = machine-false _ _ (sym c.may_be_f
 pub returns-in-Ok-clause-did : goal.returns-in-Ok-clause-did
 returns-in-Ok-clause-did g c =
     machine-true _ _ (sym c.may_be_found.ensures ∙ c.if-not-may_be_found.false)
-    (machine-was _ (rw (c.opening.ensures, c.is_trunc.ensures) at c.inside-opened.ensures.did) c.in-Ok.is (machine-gives _ _))
+    (machine-was _ (rw (c.opening.ensures, c.asked_mode.ensures, c.is_trunc.ensures) at c.inside-opened.ensures.did) c.in-Ok.is (machine-gives _ _))
 
 pub returns-in-Err-clause-did : goal.returns-in-Err-clause-did
 returns-in-Err-clause-did g c =
     machine-true _ _ (sym c.may_be_found.ensures ∙ c.if-not-may_be_found.false)
-    (machine-was-err _ (rw (c.opening.ensures, c.is_trunc.ensures) at c.inside-opened.ensures.did) c.in-Err.is)
+    (machine-was-err _ (rw (c.opening.ensures, c.asked_mode.ensures, c.is_trunc.ensures) at c.inside-opened.ensures.did) c.in-Err.is)

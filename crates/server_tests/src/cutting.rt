@@ -1,0 +1,160 @@
+//! Files that are to lose their bytes as they are opened, at a machine that is played: what it is asked for, and what it cuts.
+ghost use Rattle.std.specs.Prelude.{⊤};
+
+use crate::times::{OFFER, settings};
+use bitflags::Flags as _;
+use fs_cred::{Cred, CredFault, Errno, Refusal};
+use fs_model::{Call, Event, FileType, Flags, Reply, Status};
+use fuse_plans::{Asked, Response};
+use fuse_protocol::{OpenFlags, Operation, Time};
+use fuse_sessions::Session;
+use fuse_steps::Machine;
+use std::alloc::{AllocError, Global};
+use std::mem;
+use std::test::Fail;
+
+// For reading, and for writing.
+type Ways = (bool, bool);
+
+// For what the file was opened, as often as that was asked, and how often it was cut.
+type Heard = (Option<Ways>, u32, u32);
+
+// A machine whose one object is a file. It grants these ways to open it.
+#[derive(Drop)]
+struct Played {
+    granted: Ways,
+    processes: usize,
+    heard: Heard,
+}
+
+impl Played {
+    fn open(&mut self, flags: Flags) -> Reply {
+        let (_, opens, cuts) = self.heard;
+        self.heard = (
+            Some((flags.read, flags.write)),
+            opens.saturating_add(1),
+            cuts,
+        );
+        let (reads, writes) = self.granted;
+        if (flags.read && !reads) || (flags.write && !writes) {
+            return Reply::Refused(Refusal::Failed(Errno::EACCES));
+        }
+        Reply::Fd(0)
+    }
+
+    fn cut(&mut self) -> Reply {
+        let (ways, opens, cuts) = self.heard;
+        self.heard = (ways, opens, cuts.saturating_add(1));
+        Reply::Done
+    }
+}
+
+impl Machine for Played {
+    // Nothing is claimed of what is served.
+    ghost Serves = { λ _ _ _ _. ⊤ };
+
+    fn serve(&mut self, _event: &Event) -> Reply {
+        Reply::Done
+    }
+
+    fn call(&mut self, _pid: usize, call: &Call) -> Reply {
+        match call {
+            Call::Open(_, flags, _) => self.open(*flags),
+            Call::Truncate(..) | Call::Ftruncate(..) => self.cut(),
+            Call::Fstat(_) => Reply::Shown(STATUS),
+            _ => Reply::Done,
+        }
+    }
+
+    fn spawn(&mut self, _cred: &Cred) -> Reply {
+        self.processes = self.processes.saturating_add(1);
+        Reply::Pid(self.processes)
+    }
+}
+
+// What the machine shows of its file.
+const STATUS: Status = Status {
+    inode: 1,
+    kind: FileType::File,
+    mode: 0o222,
+    links: 1,
+    owner: 0,
+    group: 0,
+    size: 4,
+};
+
+// The request of user 1000.
+fn performed(
+    session: &mut Session<Played>,
+    alloc: Global,
+    operation: &Operation<'_>,
+) -> Result<Response, CredFault> {
+    let asked = Asked {
+        node: 1,
+        needs_nobody: false,
+        cred: Some(Cred::new(alloc, 1000, 100, &[])?),
+        now: Time {
+            seconds: 9,
+            nanoseconds: 5,
+        },
+    };
+    Ok(session.perform(asked, None, operation)?)
+}
+
+// The number of the error, or 0.
+fn number_of(response: Response) -> u8 {
+    match response {
+        Response::Fails(error) => error.number(),
+        other => {
+            mem::drop(other);
+            0
+        }
+    }
+}
+
+// The answer to an OPEN with these flags, and what the machine heard.
+fn answered(alloc: Global, granted: Ways, flags: u32) -> Result<(u8, Heard), CredFault> {
+    let machine = Played {
+        granted,
+        processes: 0,
+        heard: (None, 0, 0),
+    };
+    let Ok(mut session) = Session::new(alloc, machine, settings(false)) else {
+        return Err(CredFault::from(AllocError));
+    };
+    mem::drop(performed(&mut session, alloc, &Operation::Init(OFFER))?);
+    let open = Operation::Open(OpenFlags::from_bits_retain(flags));
+    let response = performed(&mut session, alloc, &open)?;
+    let machine = session.into_machine();
+    Ok((number_of(response), machine.heard))
+}
+
+const READS: Ways = (true, false);
+
+const WRITES: Ways = (false, true);
+
+const BOTH: Ways = (true, true);
+
+const ROWS: [(Ways, u32, (u8, Heard)); 9] = [
+    // A file that is to lose its bytes is asked for both at once, also where it is opened for reading alone: EACCES, and nothing is cut.
+    (WRITES, 0o1000, (13, (Some(BOTH), 1, 0))),
+    (READS, 0o1000, (13, (Some(BOTH), 1, 0))),
+    (READS, 0o1001, (13, (Some(WRITES), 1, 0))),
+    (WRITES, 0o1002, (13, (Some(BOTH), 1, 0))),
+    // Where that is granted it is cut once.
+    (BOTH, 0o1000, (0, (Some(BOTH), 1, 1))),
+    (WRITES, 0o1001, (0, (Some(WRITES), 1, 1))),
+    (BOTH, 0o1002, (0, (Some(BOTH), 1, 1))),
+    // Without O_TRUNC it keeps them.
+    (READS, 0, (0, (Some(READS), 1, 0))),
+    (WRITES, 0, (13, (Some(READS), 1, 0))),
+];
+
+#[test]
+fn files_that_are_cut(rt: HostRuntime) -> Result<(), Fail> {
+    for (granted, flags, wanted) in &ROWS {
+        let seen = answered(rt.alloc(), *granted, *flags)?;
+        assert!(rt; seen == *wanted, "{seen:?}");
+    }
+    Ok(())
+}
