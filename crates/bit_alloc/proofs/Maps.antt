@@ -25,8 +25,8 @@ unfolding bit
 bit_in_sector image start n =
     let s : List ℕ = image (start + n / 4096) in
     let byte : n % 4096 / 8 ≡ n % 4096 % 4096 / 8 = omega arith in
-    let geometry : n % 8 ≡ n % 4096 % 8 = omega arith in
-    ap (λ (m : ℕ). nat_eq (bit_at (get_or s m 0) (n % 8)) 1) byte ∙ ap (λ (m : ℕ). nat_eq (bit_at (get_or s (n % 4096 % 4096 / 8) 0) m) 1) geometry
+    let place : n % 8 ≡ n % 4096 % 8 = omega arith in
+    ap (λ (m : ℕ). nat_eq (bit_at (get_or s m 0) (n % 8)) 1) byte ∙ ap (λ (m : ℕ). nat_eq (bit_at (get_or s (n % 4096 % 4096 / 8) 0) m) 1) place
 
 -- and one of its byte
 pub bit_in_byte : (image : SectorMap) (start n : ℕ) (s : List ℕ) → s ≡ image (start + n / 4096) → nat_eq (bit_at (get_or s (n % 4096 / 8) 0) (n % 8)) 1 ≡ bit image start n
@@ -37,9 +37,9 @@ bit_in_byte image start n s is = ap (λ (t : List ℕ). nat_eq (bit_at (get_or t
 pub bit_of_sector : (image : SectorMap) (start k i : ℕ) (s : List ℕ) → s ≡ image (start + k) → i < 4096 → bit (λ _. s) 0 i ≡ bit image start (4096 * k + i)
 bit_of_sector image start k i s is few =
     let sector : k ≡ (4096 * k + i) / 4096 = omega arith in
-    let geometry : i ≡ (4096 * k + i) % 4096 = omega arith in
+    let place : i ≡ (4096 * k + i) % 4096 = omega arith in
     ap (λ (t : List ℕ). bit (λ _. t) 0 i) (is ∙ ap (λ (m : ℕ). image (start + m)) sector)
-    ∙ ap (bit (λ _. image (start + (4096 * k + i) / 4096)) 0) geometry ∙ sym (bit_in_sector image start (4096 * k + i))
+    ∙ ap (bit (λ _. image (start + (4096 * k + i) / 4096)) 0) place ∙ sym (bit_in_sector image start (4096 * k + i))
 
 -- the clear bits of one sector more
 pub sector_counted : (image : SectorMap) (start k m : ℕ) (s : List ℕ) → s ≡ image (start + k) → m ≤ 4096

@@ -43,9 +43,9 @@ lane_is_word s bytes k j lt room =
     get_or_wider 256 8 (2 ^ 64) 8 v j refl small lt ∙ number_whole part ∙ ap (λ (n : ℕ). little_from 0 n part) size
     ∙ number_same 8 0 0 part (drop (8 * (8 * k + j)) s) (λ m to.
     let start : 0 + m ≡ m = omega arith in
-    let geometry : 64 * k + (8 * j + m) ≡ 8 * (8 * k + j) + (0 + m) = omega arith in
+    let place : 64 * k + (8 * j + m) ≡ 8 * (8 * k + j) + (0 + m) = omega arith in
     ap (λ (i : ℕ). get_or part i 0) start ∙ get_or-chunk (8 * j) 8 v m 0 to ∙ get_or-chunk (64 * k) 64 s (8 * j + m) 0 (omega arith)
-    ∙ ap (λ (i : ℕ). get_or s i 0) geometry ∙ sym (get_or-drop (8 * (8 * k + j)) s (0 + m) 0))
+    ∙ ap (λ (i : ℕ). get_or s i 0) place ∙ sym (get_or-drop (8 * (8 * k + j)) s (0 + m) 0))
 
 -- where no lane is told to differ from x, each lane is x
 pub none_differs : (v : List ℕ) (n x : ℕ) → length v ≡ n → n ≤ 64

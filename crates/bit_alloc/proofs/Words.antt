@@ -27,13 +27,13 @@ number_bit xs bytes (suc n) i j lt =
     ap (λ (m : ℕ). bit_at m j) turned ∙ elim (cases_lt j 8) [
       | inl low ↦
           let byte : i ≡ i + j / 8 = omega arith in
-          let geometry : j ≡ j % 8 = omega arith in
-          bit_at_cat_low rest 8 x j low ∙ ap (λ (m : ℕ). bit_at (get_or xs m 0) j) byte ∙ ap (λ (m : ℕ). bit_at (get_or xs (i + j / 8) 0) m) geometry
+          let place : j ≡ j % 8 = omega arith in
+          bit_at_cat_low rest 8 x j low ∙ ap (λ (m : ℕ). bit_at (get_or xs m 0) j) byte ∙ ap (λ (m : ℕ). bit_at (get_or xs (i + j / 8) 0) m) place
       | inr high ↦
           let byte : suc i + (j - 8) / 8 ≡ i + j / 8 = omega arith in
-          let geometry : (j - 8) % 8 ≡ j % 8 = omega arith in
+          let place : (j - 8) % 8 ≡ j % 8 = omega arith in
           bit_at_cat_high rest 8 x j small high ∙ number_bit xs bytes n (suc i) (j - 8) (omega arith)
-          ∙ ap (λ (m : ℕ). bit_at (get_or xs m 0) ((j - 8) % 8)) byte ∙ ap (λ (m : ℕ). bit_at (get_or xs (i + j / 8) 0) m) geometry
+          ∙ ap (λ (m : ℕ). bit_at (get_or xs m 0) ((j - 8) % 8)) byte ∙ ap (λ (m : ℕ). bit_at (get_or xs (i + j / 8) 0) m) place
     ]
 
 -- the bits of word k of a sector are those from 64 k on
@@ -42,10 +42,10 @@ unfolding u64_of bit
 word_bit s bytes k j low few =
     let dropped : IsBytes (drop (8 * k) s) = λ i. rw get_or-drop (bytes (8 * k + i)) in
     let byte : 8 * k + (0 + j / 8) ≡ (64 * k + j) % 4096 / 8 = omega arith in
-    let geometry : j % 8 ≡ (64 * k + j) % 8 = omega arith in
+    let place : j % 8 ≡ (64 * k + j) % 8 = omega arith in
     ap (λ (m : ℕ). nat_eq m 1) (number_bit (drop (8 * k) s) dropped 8 0 j few
     ∙ ap (λ (m : ℕ). bit_at m (j % 8)) (get_or-drop (8 * k) s (0 + j / 8) 0)
-    ∙ ap (λ (m : ℕ). bit_at (get_or s m 0) (j % 8)) byte ∙ ap (λ (m : ℕ). bit_at (get_or s ((64 * k + j) % 4096 / 8) 0) m) geometry)
+    ∙ ap (λ (m : ℕ). bit_at (get_or s m 0) (j % 8)) byte ∙ ap (λ (m : ℕ). bit_at (get_or s ((64 * k + j) % 4096 / 8) 0) m) place)
 
 bit_as_number : (b : ℕ) → b < 2 → one_if (nat_eq b 1) ≡ b
 unfolding one_if
@@ -93,8 +93,8 @@ pub set_in_words : (s : List ℕ) → IsBytes s → (n : ℕ) → n ≤ 64 → H
 set_in_words s bytes n few full i to =
     let k : ℕ = i / 64 in
     let j : ℕ = i % 64 in
-    let geometry : 64 * k + j ≡ i = omega arith in
-    ap (bit (λ _. s) 0) (sym geometry) ∙ sym (word_bit s bytes k j (omega arith) (omega arith))
+    let place : 64 * k + j ≡ i = omega arith in
+    ap (bit (λ _. s) 0) (sym place) ∙ sym (word_bit s bytes k j (omega arith) (omega arith))
     ∙ ap (λ (m : ℕ). nat_eq (bit_at m j) 1) (full k (omega arith)) ∙ ap (λ (m : ℕ). nat_eq m 1) (bit_at_ones 64 j (omega arith))
 
 -- where the next one isn't, its lowest clear bit is that of the sector
@@ -112,7 +112,7 @@ least_in_word s bytes k n t low is less at full =
         | inl lt ↦ set_in_words s bytes k (omega arith) full i lt
         | inr from ↦
             let j : ℕ = i - 64 * k in
-            let geometry : 64 * k + j ≡ i = omega arith in
-            ap (bit (λ _. s) 0) (sym geometry) ∙ here j (omega arith) ∙ ap (λ (m : ℕ). nat_eq m 1) (lowest.2 j (omega (arith, at, to, from)))
+            let place : 64 * k + j ≡ i = omega arith in
+            ap (bit (λ _. s) 0) (sym place) ∙ here j (omega arith) ∙ ap (λ (m : ℕ). nat_eq m 1) (lowest.2 j (omega (arith, at, to, from)))
       ];
     }

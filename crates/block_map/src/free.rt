@@ -17,25 +17,25 @@ use inode_table::{give_sector, load, write_inode};
 use sector_disk::DiskFault;
 use sector_txn::Sectors;
 
-/// Frees inode n, a file, a directory or a link, with the sectors of its blocks and of its ACLs: its 128 bytes become zero, and
-/// its bit is cleared.
-pub fn free_all<S: Sectors>(s: &mut S, geometry: Geometry, n: u32) -> Result<(), DiskFault>
+/// Frees inode `ino`, a file, a directory or a link, with the sectors of its blocks and of its ACLs: its 128 bytes
+/// become zero, and its bit is cleared.
+pub fn free_all<S: Sectors>(s: &mut S, geometry: Geometry, ino: u32) -> Result<(), DiskFault>
     requires sound { IsSound geometry (S.state s.old) }
-    requires number { IsNumber geometry Inodes n }
-    requires used { (inode_at geometry (S.state s.old).sectors n).kind ≢ Kind.Free }
+    requires number { IsNumber geometry Inodes ino }
+    requires used { (inode_at geometry (S.state s.old).sectors ino).kind ≢ Kind.Free }
     requires spare { HasSpare geometry 1 (S.state s.old) }
     ensures store { SameStore (S.state s.old) (S.state s.new) }
     ensures sound { OnOk result (IsSound geometry (S.state s.new)) }
-    ensures touches { OnOk result (Touches geometry n 0 1 (S.state s.old) (S.state s.new)) }
-    ensures free { OnOk result (inode_at geometry (S.state s.new).sectors n ≡ free_inode) }
-    ensures unused { OnOk result (bit (S.state s.new).sectors geometry.inode_bitmap n ≡ false) }
+    ensures touches { OnOk result (Touches geometry ino 0 1 (S.state s.old) (S.state s.new)) }
+    ensures free { OnOk result (inode_at geometry (S.state s.new).sectors ino ≡ free_inode) }
+    ensures unused { OnOk result (bit (S.state s.new).sectors geometry.inode_bitmap ino ≡ false) }
     ensures cause { HasCause (S.state s.old).disk (S.state s.new).disk result }
 {
-    let inode = load(s, geometry, n)?;
-    give(s, geometry, Bitmap::Inodes, n)?;
+    let inode = load(s, geometry, ino)?;
+    give(s, geometry, Bitmap::Inodes, ino)?;
     give_from(s, geometry, &inode, 0)?;
     give_sector(s, geometry, inode.acl)?;
     give_sector(s, geometry, inode.default_acl)?;
-    write_inode(s, geometry, n, &Inode::FREE)?;
+    write_inode(s, geometry, ino, &Inode::FREE)?;
     Ok(())
 }

@@ -45,7 +45,7 @@ pub fn new_link<S: Sectors>(
         ⊎ (free_sectors geometry (S.state s.old).sectors ≡ 0)) }
     ensures cause { HasCauseOf TakeFault.DiskFault (S.state s.old).disk (S.state s.new).disk result }
 {
-    let n = take(s, geometry, Bitmap::Inodes, 0)?;
+    let ino = take(s, geometry, Bitmap::Inodes, 0)?;
     let mut content = [0; BLOCK];
     (&mut content[..target.len()]).copy_from_slice(target);
     let mut link = Inode {
@@ -58,6 +58,6 @@ pub fn new_link<S: Sectors>(
         ..Inode::FREE
     };
     link.direct[0] = take_sector(s, geometry, 0, &content)?;
-    write_inode(s, geometry, n, &link)?;
-    Ok(n)
+    write_inode(s, geometry, ino, &link)?;
+    Ok(ino)
 }

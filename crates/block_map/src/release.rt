@@ -114,21 +114,22 @@ pub(crate) fn give_from<S: Sectors>(
     Ok(())
 }
 
-/// Takes all bytes from inode n, a file or a directory, and gives its blocks back. `inode` is inode n, before and after.
+/// Takes all bytes from inode `ino`, a file or a directory, and gives its blocks back. `inode` is its record, before
+/// and after.
 ///
 /// At `Err` the caller drops the changes of the transaction; of `inode` nothing is said then.
 pub fn release_all<S: Sectors>(
     s: &mut S,
     geometry: Geometry,
-    n: u32,
+    ino: u32,
     inode: &mut Inode,
 ) -> Result<(), DiskFault>
     requires sound { IsSound geometry (S.state s.old) }
-    requires below { n < geometry.inodes }
-    requires inode { inode.old ≡ inode_at geometry (S.state s.old).sectors n }
+    requires below { ino < geometry.inodes }
+    requires inode { inode.old ≡ inode_at geometry (S.state s.old).sectors ino }
     requires kind { AllowsSize inode.old.kind 0 }
     requires spare { HasSpare geometry 1 (S.state s.old) }
-    ensures change { OnOk result (ChangesContent geometry n 0 1 (S.state s.old) (S.state s.new) inode.old inode.new) }
+    ensures change { OnOk result (ChangesContent geometry ino 0 1 (S.state s.old) (S.state s.new) inode.old inode.new) }
     ensures held { OnOk result (Holds (S.state s.new).sectors inode.new []) }
     ensures store { SameStore (S.state s.old) (S.state s.new) }
     ensures cause { HasCause (S.state s.old).disk (S.state s.new).disk result }
@@ -137,6 +138,6 @@ pub fn release_all<S: Sectors>(
     inode.size = 0;
     inode.direct = [0; DIRECT_BLOCKS as usize];
     inode.indirect = [0; POINTER_LEVELS];
-    write_inode(s, geometry, n, inode)?;
+    write_inode(s, geometry, ino, inode)?;
     Ok(())
 }

@@ -192,23 +192,23 @@ fn resize<S: Sectors>(
     Ok(())
 }
 
-/// Cuts what inode n holds, or makes it longer by zeros, for which no sector is taken. `inode` is inode n, before and
-/// after.
+/// Cuts what inode `ino` holds, or makes it longer by zeros, for which no sector is taken. `inode` is its record,
+/// before and after.
 ///
 /// At `Err` the caller drops the changes of the transaction; of `inode` nothing is said then.
 pub fn set_size<S: Sectors>(
     s: &mut S,
     geometry: Geometry,
-    n: u32,
+    ino: u32,
     inode: &mut Inode,
     size: u64,
 ) -> Result<(), MapFault>
     requires sound { IsSound geometry (S.state s.old) }
-    requires below { n < geometry.inodes }
-    requires inode { inode.old ≡ inode_at geometry (S.state s.old).sectors n }
+    requires below { ino < geometry.inodes }
+    requires inode { inode.old ≡ inode_at geometry (S.state s.old).sectors ino }
     requires kind { AllowsSize inode.old.kind size }
     requires spare { HasSpare geometry (put_to size) (S.state s.old) }
-    ensures change { OnOk result (ChangesContent geometry n 0 (put_to size) (S.state s.old) (S.state s.new) inode.old inode.new) }
+    ensures change { OnOk result (ChangesContent geometry ino 0 (put_to size) (S.state s.old) (S.state s.new) inode.old inode.new) }
     ensures held { OnOk result ((held : List ℕ) → Holds (S.state s.old).sectors inode.old held
         → Holds (S.state s.new).sectors inode.new (resized held size)) }
     // A cut makes no hole.
@@ -224,6 +224,6 @@ pub fn set_size<S: Sectors>(
         return Err(MapFault::TooBig);
     }
     resize(s, geometry, inode, size)?;
-    write_inode(s, geometry, n, inode)?;
+    write_inode(s, geometry, ino, inode)?;
     Ok(())
 }

@@ -57,25 +57,25 @@ pub(crate) fn write_blocks<S: Sectors>(
     Ok(())
 }
 
-/// Writes bytes into what inode n holds, from `offset` on, and zeros between its end and these. `inode` is inode n,
-/// before and after.
+/// Writes bytes into what inode `ino` holds, from `offset` on, and zeros between its end and these. `inode` is its
+/// record, before and after.
 ///
 /// At `Err` the caller drops the changes of the transaction; of `inode` nothing is said then.
 pub fn write_at<S: Sectors>(
     s: &mut S,
     geometry: Geometry,
-    n: u32,
+    ino: u32,
     inode: &mut Inode,
     offset: u64,
     bytes: &[u8],
 ) -> Result<(), MapFault>
     requires sound { IsSound geometry (S.state s.old) }
-    requires below { n < geometry.inodes }
-    requires inode { inode.old ≡ inode_at geometry (S.state s.old).sectors n }
+    requires below { ino < geometry.inodes }
+    requires inode { inode.old ≡ inode_at geometry (S.state s.old).sectors ino }
     requires size { AllowsSize inode.old.kind (max inode.old.size (offset + length bytes.now)) }
     requires few { length bytes.now ≤ 4096 }
     requires spare { HasSpare geometry (put_by offset (length bytes.now)) (S.state s.old) }
-    ensures change { OnOk result (ChangesContent geometry n (taken_by (S.state s.old).sectors inode.old offset (length bytes.now))
+    ensures change { OnOk result (ChangesContent geometry ino (taken_by (S.state s.old).sectors inode.old offset (length bytes.now))
         (put_by offset (length bytes.now)) (S.state s.old) (S.state s.new) inode.old inode.new) }
     ensures held { OnOk result ((held : List ℕ) → Holds (S.state s.old).sectors inode.old held
         → Holds (S.state s.new).sectors inode.new (overwritten held offset bytes.now)) }
@@ -98,31 +98,32 @@ pub fn write_at<S: Sectors>(
     let mut blocks = Blocks::new(inode);
     blocks.inode.size = inode.size.max(end);
     write_blocks(s, geometry, &mut blocks, offset, bytes)?;
-    write_inode(s, geometry, n, &blocks.inode)?;
+    write_inode(s, geometry, ino, &blocks.inode)?;
     *inode = blocks.inode;
     Ok(())
 }
 
-/// Writes bytes over those that inode n holds, within one of its blocks, which is no hole. `inode` is inode n, and stays.
+/// Writes bytes over those that inode `ino` holds, within one of its blocks, which is no hole. `inode` is its record,
+/// and stays.
 ///
 /// At `Err` the caller drops the changes of the transaction.
 pub fn overwrite<S: Sectors>(
     s: &mut S,
     geometry: Geometry,
-    n: u32,
+    ino: u32,
     inode: &Inode,
     offset: u64,
     bytes: &[u8],
 ) -> Result<(), DiskFault>
     requires sound { IsSound geometry (S.state s.old) }
-    requires below { n < geometry.inodes }
-    requires inode { inode.now ≡ inode_at geometry (S.state s.old).sectors n }
+    requires below { ino < geometry.inodes }
+    requires inode { inode.now ≡ inode_at geometry (S.state s.old).sectors ino }
     requires used { inode.now.kind ≢ Free }
     requires inside { offset + length bytes.now ≤ inode.now.size }
     requires one_block { offset % 512 + length bytes.now ≤ 512 }
     requires no_hole { pointer (S.state s.old).sectors inode.now (offset / 512) ≢ 0 }
     requires spare { HasSpare geometry 1 (S.state s.old) }
-    ensures change { OnOk result (ChangesContent geometry n 0 1 (S.state s.old) (S.state s.new) inode.now inode.now) }
+    ensures change { OnOk result (ChangesContent geometry ino 0 1 (S.state s.old) (S.state s.new) inode.now inode.now) }
     ensures held { OnOk result ((held : List ℕ) → Holds (S.state s.old).sectors inode.now held
         → Holds (S.state s.new).sectors inode.now (splice held offset bytes.now)) }
     ensures whole { OnOk result (HasNoHole (S.state s.old).sectors inode.now → HasNoHole (S.state s.new).sectors inode.now) }

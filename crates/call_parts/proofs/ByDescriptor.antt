@@ -107,19 +107,19 @@ module _ {p : Geometry} {map : SectorMap} {processes : ProcessTable} {pid fd : �
   pub open_fits : IsDescriptor s.tree fd d
   open_fits = (state_process at pid o.process o.there).each fd d o.at
 
-  pub open_there : IsThere s.tree d.number
-  open_there = is_there s.tree d.number open_fits.node open_fits.is_there
+  pub open_there : IsThere s.tree d.ino
+  open_there = is_there s.tree d.ino open_fits.node open_fits.is_there
 
-  pub open_below : d.number < p.inodes
-  open_below = number_below (state_tree at) d.number open_there
+  pub open_below : d.ino < p.inodes
+  open_below = number_below (state_tree at) d.ino open_there
 
   pub open_node : node_open (open_scene s o.process) fd ≡ open_fits.node
-  open_node = ap (λ (x : Descriptor). the_node s.tree x.number) (the_opened o) ∙ the_node_is s.tree d.number open_fits.node open_fits.is_there
+  open_node = ap (λ (x : Descriptor). the_node s.tree x.ino) (the_opened o) ∙ the_node_is s.tree d.ino open_fits.node open_fits.is_there
 
-  pub open_kind : (v : Inode) → v ≡ inode_at p map d.number → is_directory (node_open (open_scene s o.process) fd).body ≡ is_directory_kind v.kind
+  pub open_kind : (v : Inode) → v ≡ inode_at p map d.ino → is_directory (node_open (open_scene s o.process) fd).body ≡ is_directory_kind v.kind
   open_kind v is =
       ap (λ (n : Node). is_directory n.body) open_node
-      ∙ sym (held_kind (state_tree at) d.number open_fits.node open_fits.is_there)
+      ∙ sym (held_kind (state_tree at) d.ino open_fits.node open_fits.is_there)
       ∙ ap (λ (w : Inode). is_directory_kind w.kind) (sym is)
 
 -- the inode of what was reached is used
@@ -127,7 +127,7 @@ pub open_used : {p : Geometry} {txn : TxnState} {processes : ProcessTable} {pid 
     → HasOpened p txn processes pid fd purpose d v → v.kind ≢ kinds.Free
 open_used {d = d} x =
     let at = x.ready.is_state in
-    subst (λ (u : Inode). u.kind ≢ kinds.Free) (sym x.inode) (is_used (state_tree at) d.number (open_there x.is_open.opened x.ready.state at))
+    subst (λ (u : Inode). u.kind ≢ kinds.Free) (sym x.inode) (is_used (state_tree at) d.ino (open_there x.is_open.opened x.ready.state at))
 
 -- ---- a row
 
@@ -177,7 +177,7 @@ any_kept {X} test m k x y h there same =
     ∙ ap (λ (l : List (ℕ × X)). list_any (λ (e : ℕ × X). test e.1) l) (entry_again m k x h there)
 
 abbrev pub has_open : ℕ → Process → Bool
-has_open n q = list_any (λ d. d.1.number == n) q.descriptors
+has_open n q = list_any (λ d. d.1.ino == n) q.descriptors
 
 -- what a process that changes still has open, is still open
 pub still_open : (processes : ProcessTable) (pid : ℕ) (q r : Process) → IsMap nat_cmp processes → get nat_cmp processes pid ≡ Some q → (n : ℕ) → has_open n r ≡ has_open n q
@@ -187,8 +187,8 @@ still_open processes pid q r h there n same = any_kept (has_open n) processes pi
 offset_keeps : (q : Process) (fd offset : ℕ) (d : Descriptor) → IsMap nat_cmp q.descriptors → descriptor q fd ≡ Some d → (n : ℕ)
     → has_open n (with_offset q fd offset) ≡ has_open n q
 offset_keeps q fd offset d h at n =
-    any_kept (λ (x : Descriptor). x.number == n) q.descriptors fd d (record (the_descriptor q fd) { offset = offset }) h at
-    (ap (λ (x : Option Descriptor). (unwrap_or x no_descriptor).number == n) at)
+    any_kept (λ (x : Descriptor). x.ino == n) q.descriptors fd d (record (the_descriptor q fd) { offset = offset }) h at
+    (ap (λ (x : Option Descriptor). (unwrap_or x no_descriptor).ino == n) at)
 
 pub offset_stays_open : {processes : ProcessTable} {pid fd : ℕ} {d : Descriptor} → (o : IsOpened processes pid fd d) → IsTable processes → (offset n : ℕ)
     → has_open n (with_offset o.process fd offset) ≡ has_open n o.process

@@ -145,7 +145,7 @@ module _ (s : State) (pid : ℕ) (q : Process) (call : Call) (there : get nat_cm
   unfolding other_refusal
   late_is = rw there refl
 
-  pub after_is : (choice : Choice) → after s (Calls pid call) choice ≡ after_call s pid (row_of call) choice.number (Some q)
+  pub after_is : (choice : Choice) → after s (Calls pid call) choice ≡ after_call s pid (row_of call) choice.ino (Some q)
   unfolding after
   after_is choice = rw there refl
 
@@ -163,9 +163,9 @@ pub first_of-append : (ds es : List Demand) → first_of (ds ++ es) ≡ or_else 
 first_of-append [] es = refl
 first_of-append (d ∷ ds) es = ap (or_else d) (first_of-append ds es) ∙ or_else-assoc d (first_of ds) (first_of es)
 
-pub found_ino : (room : Room) (t : Tree) (cwd : ℕ) (form : Form) (path : List ℕ) → (found_by room t cwd (form, path)).ino ≡ (trail_of room t cwd form path).found
+pub ino_of_trail : (room : Room) (t : Tree) (cwd : ℕ) (form : Form) (path : List ℕ) → (found_by room t cwd (form, path)).ino ≡ (trail_of room t cwd form path).found
 unfolding found_of
-found_ino room t cwd form path = refl
+ino_of_trail room t cwd form path = refl
 
 -- what was found is there
 pub found_there : {p : Geometry} {map : SectorMap} {processes : ProcessTable} {s : State} {pid : ℕ} {q : Process} {form : Form} {path : List ℕ} {f : Found} (n : ℕ)
@@ -173,7 +173,7 @@ pub found_there : {p : Geometry} {map : SectorMap} {processes : ProcessTable} {s
 found_there {p} {map} {processes} {s} {pid} {q} {form} {path} {f} n at found is =
     let here = (at.is_state.processes at.up).each_process pid q found.there in
     finds_are_there s.room s.tree at.is_state.tree q.cwd form path (is_there s.tree q.cwd here.cwd.node here.cwd.is_there) n
-    (sym (found_ino s.room s.tree q.cwd form path) ∙ ap (λ (g : Found). g.ino) (sym found.is) ∙ is)
+    (sym (ino_of_trail s.room s.tree q.cwd form path) ∙ ap (λ (g : Found). g.ino) (sym found.is) ∙ is)
 
 module _ (s : State) (pid : ℕ) (q : Process) (call : Call) (form : Form) (path : List ℕ) (arguments : List Demand) (demands : Scene → List Demand)
     (effect : Scene → ℕ → Effect) (row : row_of call ≡ by_path arguments form path demands effect) (met : first_of arguments ≡ None)

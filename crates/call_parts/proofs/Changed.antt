@@ -24,7 +24,7 @@ use Rattle.fs_model.specs.TreeChanges.{Change, Same, Rewrite, Make, AddName, Tak
 use Rattle.fs_model.specs.Demands.{Demand, first_of}
 use Rattle.fs_model.specs.Nodes.{Node}
 use Rattle.fs_model.specs.Processes.{Process, ProcessTable, is_open}
-use Rattle.fs_model.specs.Scenes.{Effect, number, rewrites}
+use Rattle.fs_model.specs.Scenes.{Effect, found_ino, rewrites}
 use Rattle.fs_model.specs.Stands.{HoldsAll, placed, room_of}
 use Rattle.fs_model.specs.States.{State}
 use Rattle.fs_model.specs.Steps.{HasNewNumber}
@@ -64,10 +64,10 @@ module _ {p : Geometry} {map : SectorMap} {processes : ProcessTable} {s : State}
   touches_kept : (change : Change) → touches s.room s.tree change ≡ kept_touches p (touches_of s.tree change)
   touches_kept Same = none_kept (room_of p).keeps_times
   touches_kept (Rewrite touch n node) = ap (λ (r : Room). touches r s.tree (Rewrite touch n node)) at.same_room
-  touches_kept (Make dir name n node) = ap (λ (r : Room). touches r s.tree (Make dir name n node)) at.same_room
-  touches_kept (AddName dir name n) = ap (λ (r : Room). touches r s.tree (AddName dir name n)) at.same_room
-  touches_kept (TakeName dir name) = ap (λ (r : Room). touches r s.tree (TakeName dir name)) at.same_room
-  touches_kept (MoveName dir name to_dir to_name) = ap (λ (r : Room). touches r s.tree (MoveName dir name to_dir to_name)) at.same_room
+  touches_kept (Make dir_ino name n node) = ap (λ (r : Room). touches r s.tree (Make dir_ino name n node)) at.same_room
+  touches_kept (AddName dir_ino name n) = ap (λ (r : Room). touches r s.tree (AddName dir_ino name n)) at.same_room
+  touches_kept (TakeName dir_ino name) = ap (λ (r : Room). touches r s.tree (TakeName dir_ino name)) at.same_room
+  touches_kept (MoveName dir_ino name to_dir_ino to_name) = ap (λ (r : Room). touches r s.tree (MoveName dir_ino name to_dir_ino to_name)) at.same_room
 
   -- whatever becomes of the processes
   pub all_moved : {time : ℕ} {touching : List (ℕ × Touch)} {old new : TxnState} (change : Change) → touches_of s.tree change ≡ touching → MovesTimes p time touching old new → (now : ProcessTable)
@@ -127,13 +127,13 @@ module _ {p : Geometry} {mid : SectorMap} {processes : ProcessTable} {s : State}
       new touch n was now there may one.inode one.used here
 
   -- what is rewritten is the node that was found
-  pub rewrites_found : (q : Process) (f : Found) (asked : List Demand) (g : Node → Node) → first_of asked ≡ None → number f ≡ n
-      → the_node s.tree (number f) ≡ was → g was ≡ now → IsChange p new processes s q asked (λ k. rewrites (scene_at s q f) touch (number f) g) Done ((n, touch) ∷ [])
+  pub rewrites_found : (q : Process) (f : Found) (asked : List Demand) (g : Node → Node) → first_of asked ≡ None → found_ino f ≡ n
+      → the_node s.tree (found_ino f) ≡ was → g was ≡ now → IsChange p new processes s q asked (λ k. rewrites (scene_at s q f) touch (found_ino f) g) Done ((n, touch) ∷ [])
   rewrites_found q f asked g met is node_is now_is = record {
     met = met;
     number = 0;
     change = Rewrite touch n now;
-    is = ap (λ (k : ℕ). rewritten_as k (g (the_node s.tree (number f)))) is
+    is = ap (λ (k : ℕ). rewritten_as k (g (the_node s.tree (found_ino f)))) is
         ∙ ap (λ (u : Node). rewritten_as n u) (ap g node_is ∙ now_is);
     new_number = tt;
     times = refl;

@@ -22,7 +22,7 @@ use Rattle.fs_model.specs.Births.{no_node}
 use Rattle.fs_model.specs.Demands.{Demand, accessed_at, decided, permission_of, permission_on}
 use Rattle.fs_model.specs.Nodes.{Node, Body, File, Dir, Link, accessed, accessed_body, is_directory, is_link}
 use Rattle.fs_model.specs.Processes.{Process, ProcessTable}
-use Rattle.fs_model.specs.Scenes.{number, node_found, body_found, permission_at_end, answers}
+use Rattle.fs_model.specs.Scenes.{found_ino, node_found, body_found, permission_at_end, answers}
 use Rattle.fs_model.specs.Rules.{is_directory_kind}
 use Rattle.fs_model.specs.States.{State}
 use Rattle.fs_model.specs.StoredNodes.{HoldsNode}
@@ -32,7 +32,7 @@ use Rattle.path_walk.specs.Answers.{refused_or, IsAnswered}
 use Rattle.path_walk.specs.HeldTrees.{HasAccess}
 use Rattle.call_parts.specs.Paths.{scene_at, HasFound}
 use Rattle.call_parts.specs.Performing.{IsStateOf}
-use Rattle.call_parts.proofs.Calling.{state_tree, found_ino, found_there, met_ok, answered_later}
+use Rattle.call_parts.proofs.Calling.{state_tree, ino_of_trail, found_there, met_ok, answered_later}
 use Rattle.path_walk.proofs.HeldNodes.{stands, held_access, held_kind, held_node}
 use Rattle.path_walk.proofs.Kept.{kept}
 use Rattle.call_parts.specs.Given.{HasBody}
@@ -65,23 +65,23 @@ followed_access {p} {map} {processes} {s} {pid} {q} {path} {f} n at found is =
     let there = stands s.tree n (found_there n at found is) in
     let here = (at.is_state.processes at.up).each_process pid q found.there in
     let none = followed_no_link s.room s.tree at.is_state.tree q.cwd path here.cwd n
-    (sym (found_ino s.room s.tree q.cwd Follow path) ∙ ap (λ (g : Found). g.ino) (sym found.is) ∙ is) there.node there.at in
+    (sym (ino_of_trail s.room s.tree q.cwd Follow path) ∙ ap (λ (g : Found). g.ino) (sym found.is) ∙ is) there.node there.at in
     let a = accessible there.node.owner there.node.group there.node.body none in
     record { node = there.node; at = there.at; access = a.0; is = a.1 }
 
 -- the decision on it is what is asked
-pub asked_of : (s : State) (q : Process) (f : Found) (want : Perms) (n : ℕ) → number f ≡ n → (a : IsAccessed s.tree n)
+pub asked_of : (s : State) (q : Process) (f : Found) (want : Perms) (n : ℕ) → found_ino f ≡ n → (a : IsAccessed s.tree n)
     → permission_at_end (scene_at s q f) f 1 want ≡ decided 1 f.step (Perm want) (verdict q.cred a.access want)
 asked_of s q f want n is a =
     ap (λ (k : ℕ). permission_on q.cred s.tree k want 1 f.step) is
     ∙ ap (permission_of q.cred want 1 f.step) (accessed_is s.tree n a)
 
-pub node_is : (s : State) (q : Process) (f : Found) (n : ℕ) → number f ≡ n → (a : IsAccessed s.tree n) → node_found (scene_at s q f) f ≡ a.node
+pub node_is : (s : State) (q : Process) (f : Found) (n : ℕ) → found_ino f ≡ n → (a : IsAccessed s.tree n) → node_found (scene_at s q f) f ≡ a.node
 node_is s q f n is a = ap (λ (k : ℕ). unwrap_or (node_at s.tree k) no_node) is ∙ ap (λ o. unwrap_or o no_node) a.at
 
 -- what was found is a directory where its inode says so
 pub directory_is : {p : Geometry} {map : SectorMap} {processes : ProcessTable} {s : State} {pid : ℕ} {q : Process} {path : List ℕ} {f : Found} {n : ℕ} {v : Inode}
-    → IsStateOf p map processes s → HasFound s pid q Follow path f → f.ino ≡ Some n → number f ≡ n → v ≡ inode_at p map n
+    → IsStateOf p map processes s → HasFound s pid q Follow path f → f.ino ≡ Some n → found_ino f ≡ n → v ≡ inode_at p map n
     → is_directory (body_found (scene_at s q f) f) ≡ is_directory_kind v.kind
 directory_is {p} {map} {processes} {s} {pid} {q} {path} {f} {n} {v} at has some is inode =
     let a = followed_access n at has some in
@@ -89,7 +89,7 @@ directory_is {p} {map} {processes} {s} {pid} {q} {path} {f} {n} {v} at has some 
     ∙ sym (ap (λ (w : Inode). is_directory_kind w.kind) inode ∙ held_kind (state_tree at) n a.node a.at)
 
 -- the rule that grants it is answered
-pub rule_told : (s : State) (q : Process) (f : Found) (want : Perms) (n : ℕ) → number f ≡ n → (a : IsAccessed s.tree n)
+pub rule_told : (s : State) (q : Process) (f : Found) (want : Perms) (n : ℕ) → found_ino f ≡ n → (a : IsAccessed s.tree n)
     → access_effect want (scene_at s q f) 0 ≡ answers (scene_at s q f) (Granted (verdict q.cred a.access want).rule)
 rule_told s q f want n is a =
     ap (λ (node : Node). answers (scene_at s q f) (granted_by q.cred want (accessed node))) (node_is s q f n is a)

@@ -23,7 +23,7 @@ use Rattle.fs_model.proofs.StepsFit.{IsScene}
 use Rattle.fs_model.proofs.StepsFound.{IsWalked, is_walked}
 use Rattle.path_walk.specs.HeldTrees.{IsThere}
 use Rattle.call_parts.specs.Performing.{IsStateOf}
-use Rattle.call_parts.proofs.Calling.{first_of-append, found_ino}
+use Rattle.call_parts.proofs.Calling.{first_of-append, ino_of_trail}
 use Rattle.path_walk.proofs.HeldNodes.{is_there}
 use Rattle.sector_txn.specs.Sectors.{TxnState}
 use Rattle.call_parts.specs.Reaching.{HasWalkedBoth}
@@ -46,7 +46,7 @@ module _ {p : Geometry} {map : SectorMap} {processes : ProcessTable} {s : State}
   path_there : (n : ℕ) → x.ino ≡ Some n → IsThere s.tree n
   path_there n some =
       finds_are_there s.room s.tree at.is_state.tree cwd Parent path (is_there s.tree cwd from.node from.is_there) n
-      (sym (found_ino s.room s.tree cwd Parent path) ∙ ap (λ (g : Found). g.ino) (sym is) ∙ some)
+      (sym (ino_of_trail s.room s.tree cwd Parent path) ∙ ap (λ (g : Found). g.ino) (sym is) ∙ some)
 
   path_walked : (walk : ℕ) → IsBytes path → first_of (path_checks path) ≡ None → walk_refusal s.room s.tree q.cred walk cwd path ≡ None → IsWalked s.room s.tree Parent x
   path_walked walk bytes fit met =

@@ -262,12 +262,12 @@ module _ {version : Version} (old new : SectorMap) (v w : Inode) (x : Placed) (h
   -- of a directory another parent, as after save
   pub moved_held : (up : ℕ) → IsTrue (is_directory x.node.body) → w ≡ record v { parent = up } → KeepsBytes old new v w → KeepsAcls old new v w
       → HoldsNode version new w (record x { parent = up })
-  moved_held up dir is bytes acls = record {
+  moved_held up dir_ino is bytes acls = record {
     owner = ap (λ (i : Inode). i.uid) is ∙ h.owner;
     group = ap (λ (i : Inode). i.gid) is ∙ h.group;
     mode = ap (λ (i : Inode). i.mode) is ∙ h.mode;
     names = ap (λ (i : Inode). i.names) is ∙ h.names;
-    parent = ap (λ (i : Inode). i.parent) is ∙ sym (parent_says x.node.body up dir);
+    parent = ap (λ (i : Inode). i.parent) is ∙ sym (parent_says x.node.body up dir_ino);
     stamps = ap stamps_in is ∙ parent_leaves_times v up ∙ h.stamps;
     body = body_again version x.node.body (ap (λ (i : Inode). i.kind) is) bytes acls h.body;
   }

@@ -106,21 +106,21 @@ left_node {p} {n} {old} {new} t was now node up held no_link stood leaves = go n
 -- ---- of the table
 
 -- what was open at another descriptor is open without this one
-pub open_besides : (q : Process) (fd : ℕ) (d : Descriptor) → IsMap nat_cmp q.descriptors → get nat_cmp q.descriptors fd ≡ Some d → (m : ℕ) → m ≢ d.number
+pub open_besides : (q : Process) (fd : ℕ) (d : Descriptor) → IsMap nat_cmp q.descriptors → get nat_cmp q.descriptors fd ≡ Some d → (m : ℕ) → m ≢ d.ino
     → has_open m (without_descriptor q fd) ≡ has_open m q
 open_besides q fd d rising at m ne =
-    let other : (d.number == m) ≡ false = ne_eqb d.number m (λ e. ne (sym e)) in
-    sym (ap (λ (l : List (ℕ × Descriptor)). list_any (λ (e : ℕ × Descriptor). e.1.number == m) l) (sym (entry_again q.descriptors fd d rising at))
-    ∙ any_with_entry (λ (x : Descriptor). x.number == m) q.descriptors fd d rising
+    let other : (d.ino == m) ≡ false = ne_eqb d.ino m (λ e. ne (sym e)) in
+    sym (ap (λ (l : List (ℕ × Descriptor)). list_any (λ (e : ℕ × Descriptor). e.1.ino == m) l) (sym (entry_again q.descriptors fd d rising at))
+    ∙ any_with_entry (λ (x : Descriptor). x.ino == m) q.descriptors fd d rising
     ∙ ap (λ b. b || has_open m (without_descriptor q fd)) other)
 
 -- ---- close
 
 module _ {p : Geometry} {map : SectorMap} {before : ProcessTable} {pid fd : ℕ} {d : Descriptor} (o : IsOpened before pid fd d) (s : State) (at : IsStateOf p map before s) where
-  pub closed_number : IsNumber p Inodes d.number
-  closed_number = let x = open_fits o s at in ((at.is_state.tree.each d.number x.node x.is_there).positive, open_below o s at)
+  pub closed_number : IsNumber p Inodes d.ino
+  closed_number = let x = open_fits o s at in ((at.is_state.tree.each d.ino x.node x.is_there).positive, open_below o s at)
 
-  others_open : (now : ProcessTable) → now ≡ with_changed before pid (λ q. without_descriptor q fd) → (m : ℕ) → m ≢ d.number → is_open now m ≡ is_open s.processes m
+  others_open : (now : ProcessTable) → now ≡ with_changed before pid (λ q. without_descriptor q fd) → (m : ℕ) → m ≢ d.ino → is_open now m ≡ is_open s.processes m
   others_open now is m ne =
       let rising : IsMap nat_cmp before = subst (λ (x : ProcessTable). IsMap nat_cmp x) at.same_processes at.is_state.pids in
       let fits = (at.is_state.processes at.up).each_process pid o.process (same_process at pid o.process o.there) in
@@ -130,19 +130,19 @@ module _ {p : Geometry} {map : SectorMap} {before : ProcessTable} {pid fd : ℕ}
 
 pub closed_holds : {p : Geometry} {old new : TxnState} {before : ProcessTable} {pid fd : ℕ} {d : Descriptor} (now : ProcessTable) (o : IsOpened before pid fd d)
     → now ≡ with_changed before pid (λ q. without_descriptor q fd) → (s : State) → IsStateOf p old.sectors before s
-    → LeavesInode p d.number (is_open now d.number) old new → HoldsAll p new.sectors (placed (swept s.tree now))
+    → LeavesInode p d.ino (is_open now d.ino) old new → HoldsAll p new.sectors (placed (swept s.tree now))
 closed_holds {p} {old} {new} {before} {pid} {fd} {d} now o is s at leaves =
     let x = open_fits o s at in
     let fits = at.is_state.processes at.up in
     let others = others_open o s at now is in
-    let stood = node_stood s.room s.tree s.processes s.processes at.is_state.tree fits d.number x.node x.is_there (λ still. still) in
+    let stood = node_stood s.room s.tree s.processes s.processes at.is_state.tree fits d.ino x.node x.is_there (λ still. still) in
     let held : HoldsAll p old.sectors (placed (swept s.tree s.processes)) =
     subst (λ (t : Tree). HoldsAll p old.sectors (placed t)) (sym (nothing_to_drop s.room s.tree s.processes at.is_state.tree fits)) at.holds in
-    elim (left_node s.tree s.processes now x.node (parent s.tree d.number) (held_node (state_tree at) d.number x.node x.is_there) x.no_link stood leaves) [
+    elim (left_node s.tree s.processes now x.node (parent s.tree d.ino) (held_node (state_tree at) d.ino x.node x.is_there) x.no_link stood leaves) [
       | inl stay ↦
           kept (λ (m : SectorMap). HoldsAll p m (placed (swept s.tree now))) stay.1
-          (close_held s.room s.tree at.is_state.tree s.processes now d.number others x.node x.is_there stood p old.sectors held stay.0)
+          (close_held s.room s.tree at.is_state.tree s.processes now d.ino others x.node x.is_there stood p old.sectors held stay.0)
       | inr gone ↦
-          close_drop_held s.room s.tree at.is_state.tree s.processes now d.number others x.node x.is_there stood p old.sectors held new.sectors gone.0
+          close_drop_held s.room s.tree at.is_state.tree s.processes now d.ino others x.node x.is_there stood p old.sectors held new.sectors gone.0
           (open_below o s at) gone.1.touches.inode gone.1.clear gone.1.free
     ]

@@ -75,34 +75,34 @@ pub answered_as : (d : Demand) {v w : Inode} → refused_or d (Ok v) ≡ Ok w �
 answered_as d {v} {w} is = sym (met_ok {A = Inode} d v w is).1
 
 -- the inode was asked for after reads
-pub directory_met : (p : Geometry) {old mid : TxnState} (dir : ℕ) {d : Inode} (asked : Demand) → IsUnchanged old mid
-    → refused_or asked (Ok (inode_at p mid.sectors dir)) ≡ Ok d → (asked ≡ None) × (d ≡ inode_at p old.sectors dir)
-directory_met p {old} {mid} dir {d} asked same is =
-    let x = met_ok {A = Inode} asked (inode_at p mid.sectors dir) d is in
-    (x.0, kept_back (λ (m : SectorMap). d ≡ inode_at p m dir) same (sym x.1))
+pub directory_met : (p : Geometry) {old mid : TxnState} (dir_ino : ℕ) {d : Inode} (asked : Demand) → IsUnchanged old mid
+    → refused_or asked (Ok (inode_at p mid.sectors dir_ino)) ≡ Ok d → (asked ≡ None) × (d ≡ inode_at p old.sectors dir_ino)
+directory_met p {old} {mid} dir_ino {d} asked same is =
+    let x = met_ok {A = Inode} asked (inode_at p mid.sectors dir_ino) d is in
+    (x.0, kept_back (λ (m : SectorMap). d ≡ inode_at p m dir_ino) same (sym x.1))
 
 pub size_as : (most : ℕ) {v w : Inode} {r : Checked} → w ≡ v → checked (refuse ENOSPC (nat_le most w.size)) ≡ r → checked (refuse ENOSPC (nat_le most v.size)) ≡ r
 size_as most {v} {w} {r} same is = subst (λ (u : Inode). checked (refuse ENOSPC (nat_le most u.size)) ≡ r) same is
 
 -- the size of its inode says whether a directory has place for one more name
-pub names_are : {p : Geometry} {map : SectorMap} {t : Tree} → HoldsTree p map t → (dir : ℕ) → IsDirectoryAt t dir
-    → refuse ENOSPC (nat_le (max_directory_size p.version) (inode_at p map dir).size) ≡ refuse ENOSPC (nat_le (max_names p.version) (length (names_of_body (the_node t dir).body)))
-names_are {p} {map} {t} h dir d =
-    let size = names_size (held_names h dir d) in
-    ap (refuse ENOSPC) (same_test p.version (length (names_of_body d.node.body)) (inode_at p map dir).size size)
-    ∙ sym (ap (λ (u : Node). refuse ENOSPC (nat_le (max_names p.version) (length (names_of_body u.body)))) (the_node_is t dir d.node d.is_there))
+pub names_are : {p : Geometry} {map : SectorMap} {t : Tree} → HoldsTree p map t → (dir_ino : ℕ) → IsDirectoryAt t dir_ino
+    → refuse ENOSPC (nat_le (max_directory_size p.version) (inode_at p map dir_ino).size) ≡ refuse ENOSPC (nat_le (max_names p.version) (length (names_of_body (the_node t dir_ino).body)))
+names_are {p} {map} {t} h dir_ino d =
+    let size = names_size (held_names h dir_ino d) in
+    ap (refuse ENOSPC) (same_test p.version (length (names_of_body d.node.body)) (inode_at p map dir_ino).size size)
+    ∙ sym (ap (λ (u : Node). refuse ENOSPC (nat_le (max_names p.version) (length (names_of_body u.body)))) (the_node_is t dir_ino d.node d.is_there))
 
-module _ {p : Geometry} {map : SectorMap} {t : Tree} (h : HoldsTree p map t) (dir : ℕ) (d : IsDirectoryAt t dir) (cred : Credential) (step : ℕ) where
-  pub dir_access : IsAccessed t dir
+module _ {p : Geometry} {map : SectorMap} {t : Tree} (h : HoldsTree p map t) (dir_ino : ℕ) (d : IsDirectoryAt t dir_ino) (cred : Credential) (step : ℕ) where
+  pub dir_access : IsAccessed t dir_ino
   dir_access =
       let a = accessible d.node.owner d.node.group d.node.body (no_link d.node.body d.directory) in
       record { node = d.node; at = d.is_there; access = a.0; is = a.1 }
 
-  pub dir_held : HasAccess map (inode_at p map dir) dir_access.access
-  dir_held = held_access h dir dir_access.access (accessed_is t dir dir_access)
+  pub dir_held : HasAccess map (inode_at p map dir_ino) dir_access.access
+  dir_held = held_access h dir_ino dir_access.access (accessed_is t dir_ino dir_access)
 
   abbrev allowed : Demand
-  allowed = permission_on cred t dir write_and_search 1 step
+  allowed = permission_on cred t dir_ino write_and_search 1 step
 
   abbrev sectors : Demand
   sectors = refuse ENOSPC (nat_lt (free_sectors p map) least_free)
@@ -111,53 +111,53 @@ module _ {p : Geometry} {map : SectorMap} {t : Tree} (h : HoldsTree p map t) (di
   inodes = refuse ENOSPC (free_inodes (room_of p) t == 0)
 
   abbrev names : Demand
-  names = refuse ENOSPC (nat_le (max_names p.version) (length (names_of_body (the_node t dir).body)))
+  names = refuse ENOSPC (nat_le (max_names p.version) (length (names_of_body (the_node t dir_ino).body)))
 
   inodes_are : refuse ENOSPC (free_numbers p Inodes map == 0) ≡ inodes
   inodes_are = ap (λ (n : ℕ). refuse ENOSPC (n == 0)) (sym (free_are_clear p map t h.holds h.tree))
 
   module _ {A : Type 0} (x : A) (e : Refusal) (old new : DiskState) where
-    pub make_denied : IsAnswered old new (refused_or allowed (Ok x)) (Err e) → IsAnswered old new (refused_or (first_of (make_asked p map cred t dir step)) (Ok x)) (Err e)
+    pub make_denied : IsAnswered old new (refused_or allowed (Ok x)) (Err e) → IsAnswered old new (refused_or (first_of (make_asked p map cred t dir_ino step)) (Ok x)) (Err e)
     make_denied is = first_asked {B = A} allowed (sectors ∷ inodes ∷ names ∷ []) x x e old new is
 
     module _ (granted : allowed ≡ None) where
-      pub make_few : IsAnswered old new (checked sectors) (Err e) → IsAnswered old new (refused_or (first_of (make_asked p map cred t dir step)) (Ok x)) (Err e)
+      pub make_few : IsAnswered old new (checked sectors) (Err e) → IsAnswered old new (refused_or (first_of (make_asked p map cred t dir_ino step)) (Ok x)) (Err e)
       make_few is = next_asked allowed (sectors ∷ inodes ∷ names ∷ []) x e old new granted (first_asked {B = Unit {0}} sectors (inodes ∷ names ∷ []) tt x e old new is)
 
       module _ (enough : sectors ≡ None) where
         pub make_none : IsAnswered old new (checked (refuse ENOSPC (free_numbers p Inodes map == 0))) (Err e)
-            → IsAnswered old new (refused_or (first_of (make_asked p map cred t dir step)) (Ok x)) (Err e)
+            → IsAnswered old new (refused_or (first_of (make_asked p map cred t dir_ino step)) (Ok x)) (Err e)
         make_none is =
             next_asked allowed (sectors ∷ inodes ∷ names ∷ []) x e old new granted
             (next_asked sectors (inodes ∷ names ∷ []) x e old new enough
             (first_asked {B = Unit {0}} inodes (names ∷ []) tt x e old new (subst (λ (o : Demand). IsAnswered old new (checked o) (Err e)) inodes_are is)))
 
-        pub make_crowded : inodes ≡ None → checked (refuse ENOSPC (nat_le (max_directory_size p.version) (inode_at p map dir).size)) ≡ Err e
-            → IsAnswered old new (refused_or (first_of (make_asked p map cred t dir step)) (Ok x)) (Err e)
+        pub make_crowded : inodes ≡ None → checked (refuse ENOSPC (nat_le (max_directory_size p.version) (inode_at p map dir_ino).size)) ≡ Err e
+            → IsAnswered old new (refused_or (first_of (make_asked p map cred t dir_ino step)) (Ok x)) (Err e)
         make_crowded some is =
             next_asked allowed (sectors ∷ inodes ∷ names ∷ []) x e old new granted
             (next_asked sectors (inodes ∷ names ∷ []) x e old new enough
             (next_asked inodes (names ∷ []) x e old new some
-            (first_asked {B = Unit {0}} names [] tt x e old new (inl (ap checked (sym (names_are h dir d)) ∙ is)))))
+            (first_asked {B = Unit {0}} names [] tt x e old new (inl (ap checked (sym (names_are h dir_ino d)) ∙ is)))))
 
   pub make_granted : (v w : Inode) → refused_or allowed (Ok v) ≡ Ok w → allowed ≡ None
   make_granted v w is = (met_ok {A = Inode} allowed v w is).0
 
-  pub make_met : allowed ≡ None → sectors ≡ None → inodes ≡ None → checked (refuse ENOSPC (nat_le (max_directory_size p.version) (inode_at p map dir).size)) ≡ Ok tt
-      → first_of (make_asked p map cred t dir step) ≡ None
+  pub make_met : allowed ≡ None → sectors ≡ None → inodes ≡ None → checked (refuse ENOSPC (nat_le (max_directory_size p.version) (inode_at p map dir_ino).size)) ≡ Ok tt
+      → first_of (make_asked p map cred t dir_ino step) ≡ None
   make_met granted enough some is =
       both_met allowed (sectors ∷ inodes ∷ names ∷ []) granted
       (both_met sectors (inodes ∷ names ∷ []) enough
       (both_met inodes (names ∷ []) some
-      (or_else-none names ∙ sym (names_are h dir d) ∙ (met_ok {A = Unit {0}} (refuse ENOSPC (nat_le (max_directory_size p.version) (inode_at p map dir).size)) tt tt is).0)))
+      (or_else-none names ∙ sym (names_are h dir_ino d) ∙ (met_ok {A = Unit {0}} (refuse ENOSPC (nat_le (max_directory_size p.version) (inode_at p map dir_ino).size)) tt tt is).0)))
 
-module _ {p : Geometry} {old : TxnState} {t : Tree} (h : HoldsTree p old.sectors t) (dir : ℕ) (d : IsDirectoryAt t dir) (cred : Credential) (step : ℕ)
+module _ {p : Geometry} {old : TxnState} {t : Tree} (h : HoldsTree p old.sectors t) (dir_ino : ℕ) (d : IsDirectoryAt t dir_ino) (cred : Credential) (step : ℕ)
     {mid : TxnState} (same : IsUnchanged old mid) where
-  pub held_later : (v : Inode) → v ≡ inode_at p old.sectors dir → HasAccess mid.sectors v (dir_access h dir d cred step).access
+  pub held_later : (v : Inode) → v ≡ inode_at p old.sectors dir_ino → HasAccess mid.sectors v (dir_access h dir_ino d cred step).access
   held_later v is =
-      let a = dir_access h dir d cred step in
+      let a = dir_access h dir_ino d cred step in
       kept (λ (m : SectorMap). HasAccess m v a.access) same
-      (subst (λ (w : Inode). HasAccess old.sectors w a.access) (sym is) (dir_held h dir d cred step))
+      (subst (λ (w : Inode). HasAccess old.sectors w a.access) (sym is) (dir_held h dir_ino d cred step))
 
   pub make_enough : checked (refuse ENOSPC (nat_lt (free_sectors p mid.sectors) least_free)) ≡ Ok tt → refuse ENOSPC (nat_lt (free_sectors p old.sectors) least_free) ≡ None
   make_enough is =
@@ -166,6 +166,6 @@ module _ {p : Geometry} {old : TxnState} {t : Tree} (h : HoldsTree p old.sectors
 
   pub make_some : checked (refuse ENOSPC (free_numbers p Inodes mid.sectors == 0)) ≡ Ok tt → refuse ENOSPC (free_inodes (room_of p) t == 0) ≡ None
   make_some is =
-      sym (inodes_are h dir d cred step)
+      sym (inodes_are h dir_ino d cred step)
       ∙ kept_back (λ (m : SectorMap). refuse ENOSPC (free_numbers p Inodes m == 0) ≡ None) same
       (met_ok {A = Unit {0}} (refuse ENOSPC (free_numbers p Inodes mid.sectors == 0)) tt tt is).0

@@ -35,7 +35,7 @@ use Rattle.call_parts.specs.Makings.{CanMake, make_asked}
 use Rattle.call_parts.proofs.Shown.{the_node_is}
 
 pub found_new : {p : Geometry} {map : SectorMap} {processes : ProcessTable} {s : State} {pid : ℕ} {q : Process} {form : Form} {path : List ℕ} {f : Found}
-    → IsStateOf p map processes s → HasFound s pid q form path f → IsBytes path → f.ino ≡ None → IsNameAt s.room s.tree f.dir f.name None
+    → IsStateOf p map processes s → HasFound s pid q form path f → IsBytes path → f.ino ≡ None → IsNameAt s.room s.tree f.dir_ino f.name None
 found_new {p} {map} {processes} {s} {pid} {q} {form} {path} {f} at has bytes none =
     let later = then_met (refuse ENOENT (is_empty path)) _ has.checked in
     let no_zero = unrefused EINVAL (list_any (λ b. b == 0) path) (first_met (refuse EINVAL (list_any (λ b. b == 0) path)) _ later) in
@@ -43,21 +43,21 @@ found_new {p} {map} {processes} {s} {pid} {q} {form} {path} {f} at has bytes non
     is_walked s.room at.is_state.room.name_limit s.tree at.is_state.tree q.cred q.cwd 1 (form, path) bytes no_zero has.unrefused in
     (subst (IsWalked s.room s.tree form) (sym has.is) walked).new none
 
-pub has_few : (p : Geometry) (map : SectorMap) (t : Tree) (dir : ℕ) (cred : Credential) (step : ℕ) → first_of (make_asked p map cred t dir step) ≡ None
-    → length (names_of_body (the_node t dir).body) < max_names p.version
-has_few p map t dir cred step met =
-    let names = length (names_of_body (the_node t dir).body) in
-    let space = then_met (permission_on cred t dir write_and_search 1 step) _ met in
+pub has_few : (p : Geometry) (map : SectorMap) (t : Tree) (dir_ino : ℕ) (cred : Credential) (step : ℕ) → first_of (make_asked p map cred t dir_ino step) ≡ None
+    → length (names_of_body (the_node t dir_ino).body) < max_names p.version
+has_few p map t dir_ino cred step met =
+    let names = length (names_of_body (the_node t dir_ino).body) in
+    let space = then_met (permission_on cred t dir_ino write_and_search 1 step) _ met in
     let two = then_met (refuse ENOSPC (nat_lt (free_sectors p map) least_free)) _ space in
     let three = then_met (refuse ENOSPC (free_inodes (room_of p) t == 0)) _ two in
     let few : nat_le (max_names p.version) names ≡ false = unrefused ENOSPC (nat_le (max_names p.version) names) (first_met (refuse ENOSPC (nat_le (max_names p.version) names)) _ three) in
     grind (arith, nat_tests)
 
-module _ {p : Geometry} {map : SectorMap} {t : Tree} {dir : ℕ} (cred : Credential) (step : ℕ) (met : first_of (make_asked p map cred t dir step) ≡ None) where
-  pub may_make : HoldsTree p map t → (d : IsDirectoryAt t dir) (name : List ℕ) → IsName name → length name ≤ max_name p.version → get name_cmp (names_of_body d.node.body) name ≡ None
-      → CanMake p map t dir name
+module _ {p : Geometry} {map : SectorMap} {t : Tree} {dir_ino : ℕ} (cred : Credential) (step : ℕ) (met : first_of (make_asked p map cred t dir_ino step) ≡ None) where
+  pub may_make : HoldsTree p map t → (d : IsDirectoryAt t dir_ino) (name : List ℕ) → IsName name → length name ≤ max_name p.version → get name_cmp (names_of_body d.node.body) name ≡ None
+      → CanMake p map t dir_ino name
   may_make h d name is_name short is_new =
-      let space = then_met (permission_on cred t dir write_and_search 1 step) _ met in
+      let space = then_met (permission_on cred t dir_ino write_and_search 1 step) _ met in
       let enough : nat_lt (free_sectors p map) least_free ≡ false =
       unrefused ENOSPC (nat_lt (free_sectors p map) least_free) (first_met (refuse ENOSPC (nat_lt (free_sectors p map) least_free)) _ space) in
       let two = then_met (refuse ENOSPC (nat_lt (free_sectors p map) least_free)) _ space in
@@ -70,7 +70,7 @@ module _ {p : Geometry} {map : SectorMap} {t : Tree} {dir : ℕ} (cred : Credent
         is_name = is_name;
         short = short;
         is_new = is_new;
-        has_room = subst (λ (u : Node). length (names_of_body u.body) < max_names p.version) (the_node_is t dir d.node d.is_there) (has_few p map t dir cred step met);
+        has_room = subst (λ (u : Node). length (names_of_body u.body) < max_names p.version) (the_node_is t dir_ino d.node d.is_there) (has_few p map t dir_ino cred step met);
         some = λ zero. let clear : free_inodes (room_of p) t ≡ 0 = counted ∙ zero in grind (arith, nat_tests);
         enough = grind (arith, nat_tests);
       }

@@ -33,59 +33,59 @@ use Rattle.call_parts.specs.Reaching.{checked}
 -- ---- write and search on a directory
 
 -- permission on a directory, of the same caller after as many lookups
-pub asked_as : {cred who : Credential} {step steps : ℕ} (t : Tree) (dir walk : ℕ) (y : Inode) (r : Result Inode Refusal) (old new : DiskState) → cred ≡ who → step ≡ steps
-    → IsAnswered old new (refused_or {A = Inode} (permission_on cred t dir write_and_search walk step) (Ok y)) r
-    → IsAnswered old new (refused_or {A = Inode} (permission_on who t dir write_and_search walk steps) (Ok y)) r
-asked_as {cred} {who} {step} {steps} t dir walk y r old new same is h =
-    subst (λ (k : ℕ). IsAnswered old new (refused_or {A = Inode} (permission_on who t dir write_and_search walk k) (Ok y)) r) is
-    (subst (λ (k : Credential). IsAnswered old new (refused_or {A = Inode} (permission_on k t dir write_and_search walk step) (Ok y)) r) same h)
+pub asked_as : {cred who : Credential} {step steps : ℕ} (t : Tree) (dir_ino walk : ℕ) (y : Inode) (r : Result Inode Refusal) (old new : DiskState) → cred ≡ who → step ≡ steps
+    → IsAnswered old new (refused_or {A = Inode} (permission_on cred t dir_ino write_and_search walk step) (Ok y)) r
+    → IsAnswered old new (refused_or {A = Inode} (permission_on who t dir_ino write_and_search walk steps) (Ok y)) r
+asked_as {cred} {who} {step} {steps} t dir_ino walk y r old new same is h =
+    subst (λ (k : ℕ). IsAnswered old new (refused_or {A = Inode} (permission_on who t dir_ino write_and_search walk k) (Ok y)) r) is
+    (subst (λ (k : Credential). IsAnswered old new (refused_or {A = Inode} (permission_on k t dir_ino write_and_search walk step) (Ok y)) r) same h)
 
-module _ {p : Geometry} {map : SectorMap} {t : Tree} (h : HoldsTree p map t) (dir : ℕ) (d : IsDirectoryAt t dir) (cred : Credential) (walk step : ℕ) where
+module _ {p : Geometry} {map : SectorMap} {t : Tree} (h : HoldsTree p map t) (dir_ino : ℕ) (d : IsDirectoryAt t dir_ino) (cred : Credential) (walk step : ℕ) where
   abbrev pub decision : Result Rule Refusal
   decision =
-      refused_or {A = Rule} (decided walk step (Perm write_and_search) (verdict cred (dir_access h dir d cred step).access write_and_search))
-      (Ok (verdict cred (dir_access h dir d cred step).access write_and_search).rule)
+      refused_or {A = Rule} (decided walk step (Perm write_and_search) (verdict cred (dir_access h dir_ino d cred step).access write_and_search))
+      (Ok (verdict cred (dir_access h dir_ino d cred step).access write_and_search).rule)
 
-  asked_is : permission_on cred t dir write_and_search walk step ≡ decided walk step (Perm write_and_search) (verdict cred (dir_access h dir d cred step).access write_and_search)
-  asked_is = ap (permission_of cred write_and_search walk step) (accessed_is t dir (dir_access h dir d cred step))
+  asked_is : permission_on cred t dir_ino write_and_search walk step ≡ decided walk step (Perm write_and_search) (verdict cred (dir_access h dir_ino d cred step).access write_and_search)
+  asked_is = ap (permission_of cred write_and_search walk step) (accessed_is t dir_ino (dir_access h dir_ino d cred step))
 
   pub dir_denied : {A : Type 0} (x : A) (e : Refusal) (old new : DiskState) → IsAnswered old new decision (Err e)
-      → IsAnswered old new (refused_or (permission_on cred t dir write_and_search walk step) (Ok x)) (Err e)
+      → IsAnswered old new (refused_or (permission_on cred t dir_ino write_and_search walk step) (Ok x)) (Err e)
   dir_denied {A} x e old new is =
-      let rule = (verdict cred (dir_access h dir d cred step).access write_and_search).rule in
-      refused_as {A = A} {B = Rule} (permission_on cred t dir write_and_search walk step) rule x e old new
+      let rule = (verdict cred (dir_access h dir_ino d cred step).access write_and_search).rule in
+      refused_as {A = A} {B = Rule} (permission_on cred t dir_ino write_and_search walk step) rule x e old new
       (subst (λ (o : Demand). IsAnswered old new (refused_or {A = Rule} o (Ok rule)) (Err e)) (sym asked_is) is)
 
-  pub dir_granted : (rule : Rule) → decision ≡ Ok rule → permission_on cred t dir write_and_search walk step ≡ None
+  pub dir_granted : (rule : Rule) → decision ≡ Ok rule → permission_on cred t dir_ino write_and_search walk step ≡ None
   dir_granted rule is =
       asked_is
-      ∙ (met_ok {A = Rule} (decided walk step (Perm write_and_search) (verdict cred (dir_access h dir d cred step).access write_and_search))
-      (verdict cred (dir_access h dir d cred step).access write_and_search).rule rule is).0
+      ∙ (met_ok {A = Rule} (decided walk step (Perm write_and_search) (verdict cred (dir_access h dir_ino d cred step).access write_and_search))
+      (verdict cred (dir_access h dir_ino d cred step).access write_and_search).rule rule is).0
 
 -- ---- room for a name
 
-module _ {p : Geometry} {map : SectorMap} {t : Tree} (h : HoldsTree p map t) (dir : ℕ) (d : IsDirectoryAt t dir) where
+module _ {p : Geometry} {map : SectorMap} {t : Tree} (h : HoldsTree p map t) (dir_ino : ℕ) (d : IsDirectoryAt t dir_ino) where
   abbrev sectors : Demand
   sectors = refuse ENOSPC (nat_lt (free_sectors p map) least_free)
 
   abbrev slots : Demand
-  slots = refuse ENOSPC (nat_le (max_names p.version) (length (names_of_body (the_node t dir).body)))
+  slots = refuse ENOSPC (nat_le (max_names p.version) (length (names_of_body (the_node t dir_ino).body)))
 
   pub room_few : (e : Refusal) (old new : DiskState) → IsAnswered old new (checked (refuse ENOSPC (nat_lt (free_sectors p map) least_free))) (Err e)
-      → IsAnswered old new (checked (first_of (room_asked p map t dir))) (Err e)
+      → IsAnswered old new (checked (first_of (room_asked p map t dir_ino))) (Err e)
   room_few e old new is = first_asked {A = Unit {0}} {B = Unit {0}} sectors (slots ∷ []) tt tt e old new is
 
-  module _ (enough : checked (refuse ENOSPC (nat_lt (free_sectors p map) least_free)) ≡ Ok tt) {v : Inode} (is : v ≡ inode_at p map dir) where
+  module _ (enough : checked (refuse ENOSPC (nat_lt (free_sectors p map) least_free)) ≡ Ok tt) {v : Inode} (is : v ≡ inode_at p map dir_ino) where
     enough_met : sectors ≡ None
     enough_met = (met_ok {A = Unit {0}} sectors tt tt enough).0
 
     pub room_crowded : (e : Refusal) (old new : DiskState) → checked (refuse ENOSPC (nat_le (max_directory_size p.version) v.size)) ≡ Err e
-        → IsAnswered old new (checked (first_of (room_asked p map t dir))) (Err e)
+        → IsAnswered old new (checked (first_of (room_asked p map t dir_ino))) (Err e)
     room_crowded e old new full =
         next_asked {A = Unit {0}} sectors (slots ∷ []) tt e old new enough_met
-        (first_asked {A = Unit {0}} {B = Unit {0}} slots [] tt tt e old new (inl (ap checked (sym (names_are h dir d)) ∙ size_as (max_directory_size p.version) is full)))
+        (first_asked {A = Unit {0}} {B = Unit {0}} slots [] tt tt e old new (inl (ap checked (sym (names_are h dir_ino d)) ∙ size_as (max_directory_size p.version) is full)))
 
-    pub room_met : checked (refuse ENOSPC (nat_le (max_directory_size p.version) v.size)) ≡ Ok tt → checked (first_of (room_asked p map t dir)) ≡ Ok tt
+    pub room_met : checked (refuse ENOSPC (nat_le (max_directory_size p.version) v.size)) ≡ Ok tt → checked (first_of (room_asked p map t dir_ino)) ≡ Ok tt
     room_met free =
         ap checked (both_met sectors (slots ∷ []) enough_met
-        (or_else-none slots ∙ sym (names_are h dir d) ∙ (met_ok {A = Unit {0}} (refuse ENOSPC (nat_le (max_directory_size p.version) (inode_at p map dir).size)) tt tt (size_as (max_directory_size p.version) is free)).0))
+        (or_else-none slots ∙ sym (names_are h dir_ino d) ∙ (met_ok {A = Unit {0}} (refuse ENOSPC (nat_le (max_directory_size p.version) (inode_at p map dir_ino).size)) tt tt (size_as (max_directory_size p.version) is free)).0))

@@ -78,41 +78,41 @@ takes_one (Some a) = omega arith
 pub takes_few : (a : AccessList) → acls_take a None ≤ 1
 takes_few a = let few = takes_one (kept_acl a) in omega (arith, few)
 
-module _ {p : Geometry} {map : SectorMap} {t : Tree} {dir : ℕ} {name : List ℕ} (can : CanMake p map t dir name) where
-  pub dir_below : dir < p.inodes
-  dir_below = number_below can.holds dir (is_there t dir can.directory.node can.directory.is_there)
+module _ {p : Geometry} {map : SectorMap} {t : Tree} {dir_ino : ℕ} {name : List ℕ} (can : CanMake p map t dir_ino name) where
+  pub dir_below : dir_ino < p.inodes
+  dir_below = number_below can.holds dir_ino (is_there t dir_ino can.directory.node can.directory.is_there)
 
-module _ {p : Geometry} {map : SectorMap} {t : Tree} (h : HoldsTree p map t) {dir : ℕ} (d : IsDirectoryAt t dir) {mid : SectorMap} (n : ℕ)
+module _ {p : Geometry} {map : SectorMap} {t : Tree} (h : HoldsTree p map t) {dir_ino : ℕ} (d : IsDirectoryAt t dir_ino) {mid : SectorMap} (n : ℕ)
     (free : IsFreeNumber p Inodes map n) (first : ChangesInode p n map mid) where
-  pub apart_from_new : dir ≢ n
+  pub apart_from_new : dir_ino ≢ n
   apart_from_new e =
       let both : Some d.node ≡ None = sym d.is_there ∙ ap (node_at t) e ∙ nothing_stands h n free in
       cc
 
   -- the directory's inode is the same
-  pub dir_kept : inode_at p mid dir ≡ inode_at p map dir
-  dir_kept = inode_kept p dir map mid (first.table dir (number_below h dir (is_there t dir d.node d.is_there)) apart_from_new)
+  pub dir_kept : inode_at p mid dir_ino ≡ inode_at p map dir_ino
+  dir_kept = inode_kept p dir_ino map mid (first.table dir_ino (number_below h dir_ino (is_there t dir_ino d.node d.is_there)) apart_from_new)
 
   -- and it holds what it held
   pub dir_still_held : (x : Placed) → HoldsNode p.version mid (inode_at p mid n) x → IsTrue (bit mid p.inode_bitmap n)
-      → HoldsNode p.version mid (inode_at p mid dir) (record { node = d.node; names = names_of t dir; parent = parent t dir })
+      → HoldsNode p.version mid (inode_at p mid dir_ino) (record { node = d.node; names = names_of t dir_ino; parent = parent t dir_ino })
   dir_still_held x born taken =
       held_at p mid (placing n (Some x) (placed t))
       (one_placed p n map mid (placed t) h.holds free.1 first (Some x) born (taken ∙ sym (or_right (nat_eq n 0 || nat_le p.inodes n) true refl)))
-      dir (number_below h dir (is_there t dir d.node d.is_there)) (record { node = d.node; names = names_of t dir; parent = parent t dir })
-      (placing_other n (Some x) (placed t) dir apart_from_new ∙ placed_from t dir (Some d.node) (names_of t dir) (parent t dir) d.is_there refl refl)
+      dir_ino (number_below h dir_ino (is_there t dir_ino d.node d.is_there)) (record { node = d.node; names = names_of t dir_ino; parent = parent t dir_ino })
+      (placing_other n (Some x) (placed t) dir_ino apart_from_new ∙ placed_from t dir_ino (Some d.node) (names_of t dir_ino) (parent t dir_ino) d.is_there refl refl)
 
 module _ {p : Geometry} {n taken more : ℕ} {old new : TxnState} (free : IsFreeNumber p Inodes old.sectors n) (touches : Touches p n taken more old new)
     (used : IsTrue (bit new.sectors p.inode_bitmap n)) where
-  pub file_taken : (dir uid gid : ℕ) (a : AccessList) → KeepsFields (with_acl_bits (new_file uid gid) a) (inode_at p new.sectors n) → Holds new.sectors (inode_at p new.sectors n) []
+  pub file_taken : (dir_ino uid gid : ℕ) (a : AccessList) → KeepsFields (with_acl_bits (new_file uid gid) a) (inode_at p new.sectors n) → Holds new.sectors (inode_at p new.sectors n) []
       → HasAcl new.sectors (inode_at p new.sectors n) a → HasDefaultAcl new.sectors (inode_at p new.sectors n) None
-      → TakesInode p n (record { node = file_made uid gid a; names = 1; parent = dir }) old.sectors new.sectors
-  file_taken dir uid gid a fields empty access default = record {
+      → TakesInode p n (record { node = file_made uid gid a; names = 1; parent = dir_ino }) old.sectors new.sectors
+  file_taken dir_ino uid gid a fields empty access default = record {
     super = touches.super;
     free = free;
     change = touches.inode;
     taken = used;
-    holds = new_file_held new.sectors (new_file uid gid) (inode_at p new.sectors n) uid gid refl refl refl (refl, refl, refl) a fields empty access dir refl refl refl default;
+    holds = new_file_held new.sectors (new_file uid gid) (inode_at p new.sectors n) uid gid refl refl refl (refl, refl, refl) a fields empty access dir_ino refl refl refl default;
   }
 
 -- ---- its name

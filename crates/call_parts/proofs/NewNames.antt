@@ -68,8 +68,8 @@ use Rattle.call_parts.proofs.Shown.{the_node_is}
 use Rattle.call_parts.specs.NewNodes.{MayBeNamed, IsMade, IsNewIn, MakesNode, TakesInode}
 use Rattle.call_parts.specs.Times.{MayMoveTimes, MovesTimes}
 
-module _ {p : Geometry} {map : SectorMap} {t : Tree} {dir : ℕ} {name : List ℕ} (can : CanMake p map t dir name) where
-  pub room_then : (mid : SectorMap) (n : ℕ) (x : Placed) → TakesInode p n x map mid → free_sectors p map ≤ free_sectors p mid + 2 → MayBeNamed p mid dir name
+module _ {p : Geometry} {map : SectorMap} {t : Tree} {dir_ino : ℕ} {name : List ℕ} (can : CanMake p map t dir_ino name) where
+  pub room_then : (mid : SectorMap) (n : ℕ) (x : Placed) → TakesInode p n x map mid → free_sectors p map ≤ free_sectors p mid + 2 → MayBeNamed p mid dir_ino name
   room_then mid n x takes left =
       let held = dir_still_held can.holds can.directory n takes.free takes.change x takes.holds takes.taken in
       let enough = can.enough in
@@ -78,7 +78,7 @@ module _ {p : Geometry} {map : SectorMap} {t : Tree} {dir : ℕ} {name : List �
         is_name = can.is_name;
         short = can.short;
         names = names_of_body can.directory.node.body;
-        are = names_say p.version mid (inode_at p mid dir) can.directory.node.body can.directory.directory held.body;
+        are = names_say p.version mid (inode_at p mid dir_ino) can.directory.node.body can.directory.directory held.body;
         is_new = can.is_new;
         few = can.has_room;
         enough = omega (arith, enough, left);
@@ -96,32 +96,32 @@ module _ {p : Geometry} {map : SectorMap} {t : Tree} {dir : ℕ} {name : List �
 -- ---- what is asked of the directory
 
 -- as this caller, after so many lookups
-pub asked_as : (p : Geometry) (map : SectorMap) (t : Tree) (dir : ℕ) {cred who : Credential} {step steps : ℕ} → cred ≡ who → step ≡ steps
-    → make_asked p map cred t dir step ≡ make_asked p map who t dir steps
-asked_as p map t dir {cred} {who} {step} {steps} same count =
-    ap (λ (k : Credential). make_asked p map k t dir step) same ∙ ap (λ (k : ℕ). make_asked p map who t dir k) count
+pub asked_as : (p : Geometry) (map : SectorMap) (t : Tree) (dir_ino : ℕ) {cred who : Credential} {step steps : ℕ} → cred ≡ who → step ≡ steps
+    → make_asked p map cred t dir_ino step ≡ make_asked p map who t dir_ino steps
+asked_as p map t dir_ino {cred} {who} {step} {steps} same count =
+    ap (λ (k : Credential). make_asked p map k t dir_ino step) same ∙ ap (λ (k : ℕ). make_asked p map who t dir_ino k) count
 
 module _ (p : Geometry) (old new : TxnState) (who : Credential) (t : Tree) (f : Found) (node : Node) where
   -- the object isn't made
   pub not_made : (r : Result ℕ Refusal) (e : Refusal) → IsErr r × IsErrAnd r (λ y. y ≡ e)
-      → IsAnswered old.disk new.disk (refused_or {A = Unit {0}} (first_of (make_asked p old.sectors who t f.dir (f.step - 1))) (Ok tt)) (Err e)
+      → IsAnswered old.disk new.disk (refused_or {A = Unit {0}} (first_of (make_asked p old.sectors who t f.dir_ino (f.step - 1))) (Ok tt)) (Err e)
       → IsMade p old new who t f node r
   not_made r e err h = subst (λ (x : Result ℕ Refusal). IsMade p old new who t f node x) (sym (is_err r e err.0 err.1)) h
 
   -- what is asked refuses
   pub not_allowed : {cred : Credential} {step : ℕ} → cred ≡ who → step ≡ f.step - 1 → (r : Result ℕ Refusal) (e : Refusal) → IsErr r × IsErrAnd r (λ y. y ≡ e)
-      → {B : Type 0} (x : B) → IsAnswered old.disk new.disk (refused_or {A = B} (first_of (make_asked p old.sectors cred t f.dir step)) (Ok x)) (Err e)
+      → {B : Type 0} (x : B) → IsAnswered old.disk new.disk (refused_or {A = B} (first_of (make_asked p old.sectors cred t f.dir_ino step)) (Ok x)) (Err e)
       → IsMade p old new who t f node r
   not_allowed {cred} {step} same count r e err {B} x h = not_made r e err
-      (refused_as {A = Unit {0}} {B = B} (first_of (make_asked p old.sectors who t f.dir (f.step - 1))) x tt e old.disk new.disk
-      (subst (λ (ds : List Demand). IsAnswered old.disk new.disk (refused_or {A = B} (first_of ds) (Ok x)) (Err e)) (asked_as p old.sectors t f.dir same count) h))
+      (refused_as {A = Unit {0}} {B = B} (first_of (make_asked p old.sectors who t f.dir_ino (f.step - 1))) x tt e old.disk new.disk
+      (subst (λ (ds : List Demand). IsAnswered old.disk new.disk (refused_or {A = B} (first_of ds) (Ok x)) (Err e)) (asked_as p old.sectors t f.dir_ino same count) h))
 
 -- what is asked is met, and answers this
 pub allowed : (p : Geometry) (map : SectorMap) (t : Tree) (f : Found) {cred who : Credential} {step : ℕ} → cred ≡ who → step ≡ f.step - 1 → {B : Type 0} (x y : B)
-    → refused_or {A = B} (first_of (make_asked p map cred t f.dir step)) (Ok x) ≡ Ok y → (first_of (make_asked p map who t f.dir (f.step - 1)) ≡ None) × (y ≡ x)
+    → refused_or {A = B} (first_of (make_asked p map cred t f.dir_ino step)) (Ok x) ≡ Ok y → (first_of (make_asked p map who t f.dir_ino (f.step - 1)) ≡ None) × (y ≡ x)
 allowed p map t f {cred} {who} {step} same count {B} x y h =
-    let met = met_ok {A = B} (first_of (make_asked p map cred t f.dir step)) x y h in
-    (ap first_of (sym (asked_as p map t f.dir same count)) ∙ met.0, sym met.1)
+    let met = met_ok {A = B} (first_of (make_asked p map cred t f.dir_ino step)) x y h in
+    (ap first_of (sym (asked_as p map t f.dir_ino same count)) ∙ met.0, sym met.1)
 
 -- ---- in a state
 
@@ -143,32 +143,32 @@ module _ {p : Geometry} {map : SectorMap} {processes : ProcessTable} {s : State}
   abbrev space : List Demand
   space = space_at (scene_at s q f)
 
-  space_is : space ≡ make_asked p map q.cred s.tree f.dir (f.step - 1)
+  space_is : space ≡ make_asked p map q.cred s.tree f.dir_ino (f.step - 1)
   space_is =
       ap (λ (k : ℕ). permission_at_dir (scene_at s q f) f 1 ∷ refuse ENOSPC (nat_lt k least_free)
-      ∷ refuse ENOSPC (free_inodes s.room s.tree == 0) ∷ refuse ENOSPC (nat_le s.room.entries_limit (length (names_of_body (the_node s.tree f.dir).body))) ∷ []) at.free_is
+      ∷ refuse ENOSPC (free_inodes s.room s.tree == 0) ∷ refuse ENOSPC (nat_le s.room.entries_limit (length (names_of_body (the_node s.tree f.dir_ino).body))) ∷ []) at.free_is
       ∙ ap (λ (r : Room). permission_at_dir (scene_at s q f) f 1 ∷ refuse ENOSPC (nat_lt (free_sectors p map) least_free)
-      ∷ refuse ENOSPC (free_inodes r s.tree == 0) ∷ refuse ENOSPC (nat_le r.entries_limit (length (names_of_body (the_node s.tree f.dir).body))) ∷ []) at.same_room
+      ∷ refuse ENOSPC (free_inodes r s.tree == 0) ∷ refuse ENOSPC (nat_le r.entries_limit (length (names_of_body (the_node s.tree f.dir_ino).body))) ∷ []) at.same_room
 
   module _ (asked : List Demand) (met : first_of asked ≡ None) where
     pub space_refused : (e : Refusal) (old new : DiskState)
-        → IsAnswered old new (refused_or {A = Unit {0}} (first_of (make_asked p map q.cred s.tree f.dir (f.step - 1))) (Ok tt)) (Err e)
+        → IsAnswered old new (refused_or {A = Unit {0}} (first_of (make_asked p map q.cred s.tree f.dir_ino (f.step - 1))) (Ok tt)) (Err e)
         → IsAnswered old new (refused_or {A = Unit {0}} (first_of (asked ++ space)) (Ok tt)) (Err e)
     space_refused e old new h =
         others_asked asked space tt e old new met
         (subst (λ (ds : List Demand). IsAnswered old new (refused_or {A = Unit {0}} (first_of ds) (Ok tt)) (Err e)) (sym space_is) h)
 
-    pub space_met : first_of (make_asked p map q.cred s.tree f.dir (f.step - 1)) ≡ None → first_of (asked ++ space) ≡ None
+    pub space_met : first_of (make_asked p map q.cred s.tree f.dir_ino (f.step - 1)) ≡ None → first_of (asked ++ space) ≡ None
     space_met h = all_met asked space met (ap first_of space_is ∙ h)
 
   module _ {pid : ℕ} {form : Form} {path : List ℕ} (has : HasFound s pid q form path f) (bytes : IsBytes path) (none : f.ino ≡ None) where
-    new_name : IsNameAt s.room s.tree f.dir f.name None
+    new_name : IsNameAt s.room s.tree f.dir_ino f.name None
     new_name = found_new at has bytes none
 
-    abbrev directory_there : IsDirectoryAt s.tree f.dir
+    abbrev directory_there : IsDirectoryAt s.tree f.dir_ino
     directory_there = record { node = new_name.node; is_there = new_name.stands; directory = new_name.directory }
 
-    pub new_in : IsNewIn p s.tree f.dir f.name
+    pub new_in : IsNewIn p s.tree f.dir_ino f.name
     new_in = record {
       directory = directory_there;
       is_name = new_name.is_name;
@@ -177,48 +177,48 @@ module _ {p : Geometry} {map : SectorMap} {processes : ProcessTable} {s : State}
     }
 
     -- the directory fits
-    pub parent_fits : ParentFits s.room s.tree (the_node s.tree f.dir)
+    pub parent_fits : ParentFits s.room s.tree (the_node s.tree f.dir_ino)
     parent_fits =
-        let is = at.is_state.tree.each f.dir (the_node s.tree f.dir) (dir_is_there s.tree f.dir f.name None new_name).0 in
+        let is = at.is_state.tree.each f.dir_ino (the_node s.tree f.dir_ino) (dir_is_there s.tree f.dir_ino f.name None new_name).0 in
         record { group = is.group; body = is.body }
 
-    module _ {n : ℕ} (node : Node) (newborn : IsNewborn s.room s.tree node) (new : SectorMap) (made : MakesNode p f.dir f.name n node map new) where
+    module _ {n : ℕ} (node : Node) (newborn : IsNewborn s.room s.tree node) (new : SectorMap) (made : MakesNode p f.dir_ino f.name n node map new) where
       abbrev directory : Node
       directory = new_name.node
 
-      fresh : HasNewNumber s (Make f.dir f.name n node)
+      fresh : HasNewNumber s (Make f.dir_ino f.name n node)
       fresh =
           let free = made.takes.free in
           let below = free.1 in
           let same = ap (λ (r : Room). r.inodes) at.same_room in
           (free.0, omega (arith, below, same), nothing_stands (state_tree at) n free)
 
-      renamed_held : HoldsNode p.version new (inode_at p new f.dir) (record {
+      renamed_held : HoldsNode p.version new (inode_at p new f.dir_ino) (record {
         node = record directory { body = with_names (with_entry name_cmp (names_of_body directory.body) f.name n) directory.body };
-        names = names_of s.tree f.dir;
-        parent = parent s.tree f.dir;
+        names = names_of s.tree f.dir_ino;
+        parent = parent s.tree f.dir_ino;
       })
       renamed_held =
-          let before = inode_at p made.mid f.dir in
-          let held = dir_still_held (state_tree at) directory_there n made.takes.free made.takes.change (record { node = node; names = 1; parent = f.dir }) made.takes.holds made.takes.taken in
-          names_held made.mid new before (inode_at p new f.dir) (record { node = directory; names = names_of s.tree f.dir; parent = parent s.tree f.dir }) held
+          let before = inode_at p made.mid f.dir_ino in
+          let held = dir_still_held (state_tree at) directory_there n made.takes.free made.takes.change (record { node = node; names = 1; parent = f.dir_ino }) made.takes.holds made.takes.taken in
+          names_held made.mid new before (inode_at p new f.dir_ino) (record { node = directory; names = names_of s.tree f.dir_ino; parent = parent s.tree f.dir_ino }) held
           (with_entry name_cmp (names_of_body directory.body) f.name n) new_name.directory made.names.kept made.names.acls
           (made.names.named (names_of_body directory.body) (names_say p.version made.mid before directory.body new_name.directory held.body))
 
       -- the node was made
-      pub node_made : (asked : List Demand) → first_of asked ≡ None → first_of (make_asked p map q.cred s.tree f.dir (f.step - 1)) ≡ None
-          → IsChange p new processes s q asked (λ k. changes (scene_at s q f) (Make f.dir f.name k node)) Done ((f.dir, Modified) ∷ (n, Born) ∷ [])
+      pub node_made : (asked : List Demand) → first_of asked ≡ None → first_of (make_asked p map q.cred s.tree f.dir_ino (f.step - 1)) ≡ None
+          → IsChange p new processes s q asked (λ k. changes (scene_at s q f) (Make f.dir_ino f.name k node)) Done ((f.dir_ino, Modified) ∷ (n, Born) ∷ [])
       node_made asked met allows = record {
         met = met;
         number = n;
-        change = Make f.dir f.name n node;
+        change = Make f.dir_ino f.name n node;
         is = refl;
         new_number = fresh;
         times = refl;
         holds =
-            let few = subst (λ (u : Node). length (names_of_body u.body) < max_names p.version) (the_node_is s.tree f.dir directory new_name.stands) (has_few p map s.tree f.dir q.cred (f.step - 1) allows) in
+            let few = subst (λ (u : Node). length (names_of_body u.body) < max_names p.version) (the_node_is s.tree f.dir_ino directory new_name.stands) (has_few p map s.tree f.dir_ino q.cred (f.step - 1) allows) in
             make_held s at.is_state at.up processes (λ k is. subst (λ (d : ProcessTable). IsTrue (is_open d k)) at.same_processes is) p map at.holds at.same_room
-            made.mid new f.dir directory f.name n node (record {
+            made.mid new f.dir_ino directory f.name n node (record {
               takes = takes_new new_name (subst (λ (r : Room). length (names_of_body directory.body) < r.entries_limit) (sym at.same_room) few);
               positive = fresh.0;
               below = fresh.1;
@@ -241,7 +241,7 @@ module _ {pid : ℕ} {call : Call} {checks : Checked} {path : List ℕ} (asked :
       (refuses_some (asked f) (space_at (scene_at s q f)) e (refuses e (refused_err {A = Unit {0}} d tt e is_refused)))))
 
   -- the name is new in a directory
-  pub name_found : f.ino ≡ None → (t : Tree) × HoldsTree p mid.sectors t × IsNewIn p t f.dir f.name
+  pub name_found : f.ino ≡ None → (t : Tree) × HoldsTree p mid.sectors t × IsNewIn p t f.dir_ino f.name
   name_found none =
       let at = w.ready.is_state in
       (w.ready.state.tree, state_tree at, new_in at q f (w.found w.ready.state at) w.bytes none)
@@ -249,39 +249,39 @@ module _ {pid : ℕ} {call : Call} {checks : Checked} {path : List ℕ} (asked :
   module _ (none : f.ino ≡ None) (new : TxnState) where
     -- the object isn't made, and the call refused
     pub made_refused : {time : ℕ} (r : Result Reply Refusal) (e : Refusal) → IsErr r × IsErrAnd r (λ y. y ≡ e) → SameStore mid new → first_of (asked f) ≡ None
-        → ((t : Tree) → HoldsTree p mid.sectors t → IsNewIn p t f.dir f.name
-        → IsAnswered mid.disk new.disk (refused_or {A = Unit {0}} (first_of (make_asked p mid.sectors q.cred t f.dir (f.step - 1))) (Ok tt)) (Err e))
+        → ((t : Tree) → HoldsTree p mid.sectors t → IsNewIn p t f.dir_ino f.name
+        → IsAnswered mid.disk new.disk (refused_or {A = Unit {0}} (first_of (make_asked p mid.sectors q.cred t f.dir_ino (f.step - 1))) (Ok tt)) (Err e))
         → Performs p time pid call old new processes processes r
     made_refused r e err store met each = asked_refused is same w new r e err.0 err.1 store {A = Unit {0}} tt
         (λ s has at. space_refused at q f (asked f) met e mid.disk new.disk (each s.tree (state_tree at) (new_in at q f has w.bytes none)))
 
   -- the object is made, at this number
   module _ (none : f.ino ≡ None) (last : TxnState) (n : ℕ) (node : Tree → Node)
-      (each : (t : Tree) → HoldsTree p mid.sectors t → IsNewIn p t f.dir f.name → IsMade p mid last q.cred t f (node t) (Ok n))
-      (says : (s : State) → HasFound s pid q Parent path f → IsStateOf p mid.sectors processes s → first_of (make_asked p mid.sectors q.cred s.tree f.dir (f.step - 1)) ≡ None
-      → MakesNode p f.dir f.name n (node s.tree) mid.sectors last.sectors
-      → IsChange p last.sectors processes s q (asked f ++ space_at (scene_at s q f)) (effect (scene_at s q f)) Done ((f.dir, Modified) ∷ (n, Born) ∷ [])) where
+      (each : (t : Tree) → HoldsTree p mid.sectors t → IsNewIn p t f.dir_ino f.name → IsMade p mid last q.cred t f (node t) (Ok n))
+      (says : (s : State) → HasFound s pid q Parent path f → IsStateOf p mid.sectors processes s → first_of (make_asked p mid.sectors q.cred s.tree f.dir_ino (f.step - 1)) ≡ None
+      → MakesNode p f.dir_ino f.name n (node s.tree) mid.sectors last.sectors
+      → IsChange p last.sectors processes s q (asked f ++ space_at (scene_at s q f)) (effect (scene_at s q f)) Done ((f.dir_ino, Modified) ∷ (n, Born) ∷ [])) where
     made_at : (s : State) → IsStateOf p mid.sectors processes s → HasFound s pid q Parent path f
-        → (first_of (make_asked p mid.sectors q.cred s.tree f.dir (f.step - 1)) ≡ None) × MakesNode p f.dir f.name n (node s.tree) mid.sectors last.sectors
+        → (first_of (make_asked p mid.sectors q.cred s.tree f.dir_ino (f.step - 1)) ≡ None) × MakesNode p f.dir_ino f.name n (node s.tree) mid.sectors last.sectors
     made_at s at has = each s.tree (state_tree at) (new_in at q f has w.bytes none)
 
     made_change : (s : State) → HasFound s pid q Parent path f → IsStateOf p mid.sectors processes s
-        → IsChange p last.sectors processes s q (asked f ++ space_at (scene_at s q f)) (effect (scene_at s q f)) Done ((f.dir, Modified) ∷ (n, Born) ∷ [])
+        → IsChange p last.sectors processes s q (asked f ++ space_at (scene_at s q f)) (effect (scene_at s q f)) Done ((f.dir_ino, Modified) ∷ (n, Born) ∷ [])
     made_change s has at = let m = made_at s at has in says s has at m.0 m.1
 
     -- the times of the new object and of the directory may move
-    pub made_may_touch : SameStore mid last → (k : ℕ) → k ≤ 45 → TakesSpare p k mid last → MayMoveTimes p ((f.dir, Modified) ∷ (n, Born) ∷ []) last
+    pub made_may_touch : SameStore mid last → (k : ℕ) → k ≤ 45 → TakesSpare p k mid last → MayMoveTimes p ((f.dir_ino, Modified) ∷ (n, Born) ∷ []) last
     made_may_touch store k few taken =
         let ready = w.ready in
         let at = ready.is_state in
         let has = w.found ready.state at in
         let d = new_in at q f has w.bytes none in
         may_touch ready store (made_change ready.state has at)
-        (number_below (state_tree at) f.dir (is_there ready.state.tree f.dir d.directory.node d.directory.is_there), ((made_at ready.state at has).1.takes.free.1, tt))
+        (number_below (state_tree at) f.dir_ino (is_there ready.state.tree f.dir_ino d.directory.node d.directory.is_there), ((made_at ready.state at has).1.takes.free.1, tt))
         k taken (omega (arith, few))
 
     -- and it is done
-    pub made_done : {time : ℕ} {new : TxnState} → SameStore mid last → MovesTimes p time ((f.dir, Modified) ∷ (n, Born) ∷ []) last new → Performs p time pid call old new processes processes (Ok Done)
+    pub made_done : {time : ℕ} {new : TxnState} → SameStore mid last → MovesTimes p time ((f.dir_ino, Modified) ∷ (n, Born) ∷ []) last new → Performs p time pid call old new processes processes (Ok Done)
     made_done store moved =
         let ready = w.ready in
         let done = (made_at ready.state ready.is_state (w.found ready.state ready.is_state)).1 in

@@ -19,7 +19,7 @@ use Rattle.fs_model.specs.Births.{the_node}
 use Rattle.fs_model.specs.Demands.{Demand, or_else, first_of}
 use Rattle.fs_model.specs.Nodes.{Node}
 use Rattle.fs_model.specs.Processes.{Process, ProcessTable}
-use Rattle.fs_model.specs.Scenes.{number, must_be_there, own_at_end}
+use Rattle.fs_model.specs.Scenes.{found_ino, must_be_there, own_at_end}
 use Rattle.fs_model.specs.States.{State}
 use Rattle.fs_model.specs.StoredNodes.{HoldsNode}
 use Rattle.fs_model.specs.Trees.{Tree, node_at, names_of, parent}
@@ -67,10 +67,10 @@ all_met ds es none rest = both_are ds es none ∙ rest
 pub record IsNode (version : Version) (map : SectorMap) (t : Tree) (f : Found) (n : ℕ) (v : Inode) : Type 0 where
   pub node : Node
   pub at : node_at t n ≡ Some node
-  pub is : the_node t (number f) ≡ node
+  pub is : the_node t (found_ino f) ≡ node
   pub holds : HoldsNode version map v (record { node = node; names = names_of t n; parent = parent t n })
 
-pub node_of : {p : Geometry} {map : SectorMap} {t : Tree} (h : HoldsTree p map t) (f : Found) (n : ℕ) (v : Inode) → number f ≡ n → v ≡ inode_at p map n
+pub node_of : {p : Geometry} {map : SectorMap} {t : Tree} (h : HoldsTree p map t) (f : Found) (n : ℕ) (v : Inode) → found_ino f ≡ n → v ≡ inode_at p map n
     → IsThere t n → IsNode p.version map t f n v
 node_of {p} {map} {t} h f n v is inode there =
     let s = stands t n there in
@@ -107,7 +107,7 @@ module _ {p : Geometry} {map : SectorMap} {processes : ProcessTable} {s : State}
 -- what chown() asks after that
 abbrev pub owner_rest : Option ℕ → Option ℕ → State → Process → Found → List Demand
 owner_rest owner group s q f =
-    let node = the_node s.tree (number f) in
+    let node = the_node s.tree (found_ino f) in
     owner_asked q.cred node.owner node.group (unwrap_or owner node.owner) (unwrap_or group node.group) f.step
 
 pub owner_given : (v : Inode) (uid gid : ℕ) → FitsInode v → v.kind ≢ kinds.Free → uid < 2 ^ 32 → gid < 2 ^ 32 → FitsInode (record v { uid = uid; gid = gid })
@@ -119,7 +119,7 @@ module _ {p : Geometry} {map : SectorMap} {processes : ProcessTable} {s : State}
     owner_is : chown_demands owner group (scene_at s q f) ≡ must_be_there f ∷ owner_asked q.cred v.uid v.gid uid gid f.step
     owner_is =
         ap (λ (k : ℕ). must_be_there f
-        ∷ owner_asked q.cred k (the_node s.tree (number f)).group (unwrap_or owner k) (unwrap_or group (the_node s.tree (number f)).group) f.step)
+        ∷ owner_asked q.cred k (the_node s.tree (found_ino f)).group (unwrap_or owner k) (unwrap_or group (the_node s.tree (found_ino f)).group) f.step)
         (ap (λ (u : Node). u.owner) (found_node at has i).is ∙ sym (found_node at has i).holds.owner)
         ∙ ap (λ (k : ℕ). must_be_there f ∷ owner_asked q.cred v.uid k (unwrap_or owner v.uid) (unwrap_or group k) f.step)
         (ap (λ (u : Node). u.group) (found_node at has i).is ∙ sym (found_node at has i).holds.group)

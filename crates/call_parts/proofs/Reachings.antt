@@ -215,7 +215,7 @@ module _ {pid : ℕ} {call : Call} {checks : Checked} {form : Form} {path : List
               let of_state : with_entry nat_cmp s.processes pid r ≡ now = ap (λ (d : ProcessTable). with_entry nat_cmp d pid r) at.same_processes ∙ sym is_now in
               let still : (n : ℕ) → IsTrue (is_open s.processes n) → IsTrue (is_open now n) = λ n was.
               ap (λ (d : ProcessTable). is_open d n) (sym of_state)
-              ∙ still_open s.processes pid q r at.is_state.pids (here s at) n (ap (λ (l : List (ℕ × Descriptor)). list_any (λ (d : ℕ × Descriptor). d.1.number == n) l) descriptors) ∙ was in
+              ∙ still_open s.processes pid q r at.is_state.pids (here s at) n (ap (λ (l : List (ℕ × Descriptor)). list_any (λ (d : ℕ × Descriptor). d.1.ino == n) l) descriptors) ∙ was in
               record {
                 early = firm s at;
                 late = late s at ∙ t.0;

@@ -44,17 +44,17 @@ touches_after {p} {n} {taken} {more} {old} {mid} {new} same touches = record {
   free = kept_back (λ (m : SectorMap). free_sectors p m ≤ free_sectors p new.sectors + taken) same touches.free;
 }
 
-pub names_changed : {p : Geometry} {dir taken more : ℕ} {f : List (List ℕ × ℕ) → List (List ℕ × ℕ)} {old mid new : TxnState} {v w : Inode} → IsUnchanged old mid
-    → v ≡ inode_at p old.sectors dir → ChangesContent p dir taken more mid new v w
+pub names_changed : {p : Geometry} {dir_ino taken more : ℕ} {f : List (List ℕ × ℕ) → List (List ℕ × ℕ)} {old mid new : TxnState} {v w : Inode} → IsUnchanged old mid
+    → v ≡ inode_at p old.sectors dir_ino → ChangesContent p dir_ino taken more mid new v w
     → ((names : List (List ℕ × ℕ)) → HasNames p.version mid.sectors v names → HasNames p.version new.sectors w (f names))
-    → ChangesNames p dir f old.sectors new.sectors
-names_changed {p} {dir} {taken} {more} {f} {old} {mid} {new} {v} {w} same is c says = record {
+    → ChangesNames p dir_ino f old.sectors new.sectors
+names_changed {p} {dir_ino} {taken} {more} {f} {old} {mid} {new} {v} {w} same is c says = record {
   super = c.touches.super ∙ same.sectors 0;
-  change = kept_back (λ (m : SectorMap). ChangesInode p dir m new.sectors) same c.touches.inode;
-  used = kept_back (λ (m : SectorMap). bit new.sectors p.inode_bitmap dir ≡ bit m p.inode_bitmap dir) same c.used;
-  kept = subst (λ (u : Inode). KeepsFields u (inode_at p new.sectors dir)) is (subst (KeepsFields v) (sym c.now) c.fields);
-  acls = kept_back (λ (m : SectorMap). KeepsAcls m new.sectors (inode_at p old.sectors dir) (inode_at p new.sectors dir)) same
-      (subst (λ (u : Inode). KeepsAcls mid.sectors new.sectors u (inode_at p new.sectors dir)) is (subst (KeepsAcls mid.sectors new.sectors v) (sym c.now) c.acls));
+  change = kept_back (λ (m : SectorMap). ChangesInode p dir_ino m new.sectors) same c.touches.inode;
+  used = kept_back (λ (m : SectorMap). bit new.sectors p.inode_bitmap dir_ino ≡ bit m p.inode_bitmap dir_ino) same c.used;
+  kept = subst (λ (u : Inode). KeepsFields u (inode_at p new.sectors dir_ino)) is (subst (KeepsFields v) (sym c.now) c.fields);
+  acls = kept_back (λ (m : SectorMap). KeepsAcls m new.sectors (inode_at p old.sectors dir_ino) (inode_at p new.sectors dir_ino)) same
+      (subst (λ (u : Inode). KeepsAcls mid.sectors new.sectors u (inode_at p new.sectors dir_ino)) is (subst (KeepsAcls mid.sectors new.sectors v) (sym c.now) c.acls));
   named = λ names has.
       subst (λ (u : Inode). HasNames p.version new.sectors u (f names)) (sym c.now)
       (says names (kept (λ (m : SectorMap). HasNames p.version m v names) same (subst (λ (u : Inode). HasNames p.version old.sectors u names) (sym is) has)));
@@ -74,10 +74,10 @@ taken_joined p first then more old mid new fits one two = omega (arith, fits, on
 
 -- ---- the name goes from its directory
 
-pub name_removed : {p : Geometry} {dir : ℕ} {name : List ℕ} {old mid new : TxnState} {v w : Inode} → IsUnchanged old mid → v ≡ inode_at p old.sectors dir
-    → ChangesContent p dir 0 5 mid new v w
+pub name_removed : {p : Geometry} {dir_ino : ℕ} {name : List ℕ} {old mid new : TxnState} {v w : Inode} → IsUnchanged old mid → v ≡ inode_at p old.sectors dir_ino
+    → ChangesContent p dir_ino 0 5 mid new v w
     → ((names : List (List ℕ × ℕ)) → HasNames p.version mid.sectors v names → (get name_cmp names name ≢ None) × HasNames p.version new.sectors w (without name_cmp names name))
-    → RemovesName p dir name old new
+    → RemovesName p dir_ino name old new
 name_removed same is c says = record {
   sound = c.sound;
   touches = touches_after same c.touches;
@@ -94,10 +94,10 @@ not_removed names name old new faults.DiskFault there why failed = failed refl
 not_removed names name old new faults.OutOfMemory there why failed = absurd why
 
 -- since before the directory was read
-pub fails_to_change : (p : Geometry) (dir : ℕ) (name : List ℕ) {old mid : TxnState} {v : Inode} (new : DiskState) (e : DirFault) → HasName p old.sectors dir name → IsUnchanged old mid
-    → v ≡ inode_at p old.sectors dir → ((names : List (List ℕ × ℕ)) → HasNames p.version mid.sectors v names → WhyNotChanged names name e)
+pub fails_to_change : (p : Geometry) (dir_ino : ℕ) (name : List ℕ) {old mid : TxnState} {v : Inode} (new : DiskState) (e : DirFault) → HasName p old.sectors dir_ino name → IsUnchanged old mid
+    → v ≡ inode_at p old.sectors dir_ino → ((names : List (List ℕ × ℕ)) → HasNames p.version mid.sectors v names → WhyNotChanged names name e)
     → (e ≡ faults.DiskFault → HasFailed mid.disk new) → FailsToRead old.disk new (Failed EIO)
-fails_to_change p dir name {old} {mid} {v} new e named same is why failed = (
+fails_to_change p dir_ino name {old} {mid} {v} new e named same is why failed = (
   refl,
   failed_later old.disk mid.disk new same.store.reads.failures
       (not_removed named.0 name mid.disk new e named.2

@@ -21,7 +21,7 @@ use Rattle.fs_model.specs.declared.reply.Reply.TheVariants.{Shown}
 use Rattle.fs_model.specs.AttributeCalls.{stat_demands, stat_effect}
 use Rattle.fs_model.specs.Processes.{Process}
 use Rattle.fs_model.specs.States.{State}
-use Rattle.fs_model.specs.Scenes.{number, must_be_there, answers}
+use Rattle.fs_model.specs.Scenes.{found_ino, must_be_there, answers}
 use Rattle.fs_model.specs.Births.{no_node, the_node}
 use Rattle.fs_model.specs.DescriptorCalls.{shown}
 use Rattle.fs_model.specs.Kinds.{kind_of_type, type_of_kind}
@@ -95,7 +95,7 @@ module _ {p : Geometry} {image : SectorMap} {t : Tree} (h : HoldsTree p image t)
   -- and shows it
   pub shown_is : (v : Inode) (status : Status) → v ≡ inode_at p image n
       → ((kind : FileType) → type_of_kind v.kind ≡ Some kind → status
-      ≡ record { inode = n; kind = kind; mode = v.mode; links = v.names; owner = v.uid; group = v.gid; size = size_shown p.version v })
+      ≡ record { ino = n; kind = kind; mode = v.mode; links = v.names; owner = v.uid; group = v.gid; size = size_shown p.version v })
       → status ≡ shown t n
   shown_is v status is says =
       let s = stands t n there in
@@ -111,7 +111,7 @@ module _ {p : Geometry} {image : SectorMap} {t : Tree} (h : HoldsTree p image t)
     where
       status_of : FileType → ℕ → ℕ → ℕ → ℕ → ℕ → Status
       status_of kind mode links owner group size =
-          record { inode = n; kind = kind; mode = mode; links = links; owner = owner; group = group; size = size }
+          record { ino = n; kind = kind; mode = mode; links = links; owner = owner; group = group; size = size }
 
       links : Body → ℕ
       links b = if is_directory b then 1 else names_of t n
@@ -119,7 +119,7 @@ module _ {p : Geometry} {image : SectorMap} {t : Tree} (h : HoldsTree p image t)
 -- ---- the inode that a path leads to
 
 -- where it was found, it is there
-pub number_of : (f : Found) → IsTrue (is_some f.ino) → f.ino ≡ Some (number f)
+pub number_of : (f : Found) → IsTrue (is_some f.ino) → f.ino ≡ Some (found_ino f)
 number_of f some = go f.ino some
   where
     go : (o : Option ℕ) → is_some o ≡ true → o ≡ Some (unwrap_or o 0)
@@ -130,11 +130,11 @@ there_unless : (b : Bool) → refuse ENOENT (not b) ≡ None → b ≡ true
 there_unless true e = refl
 there_unless false e = absurd (cc)
 
-pub is_inode : (p : Geometry) (image : SectorMap) (f : Found) (n : ℕ) (v : Inode) → refused_or {A = ℕ × Inode} (must_be_there f) (Ok (number f, inode_at p image (number f))) ≡ Ok (n, v)
+pub is_inode : (p : Geometry) (image : SectorMap) (f : Found) (n : ℕ) (v : Inode) → refused_or {A = ℕ × Inode} (must_be_there f) (Ok (found_ino f, inode_at p image (found_ino f))) ≡ Ok (n, v)
     → IsInodeFound p image f n v
 is_inode p image f n v e =
-    let is = met_ok {A = ℕ × Inode} (must_be_there f) (number f, inode_at p image (number f)) (n, v) e in
-    let same : number f ≡ n = ap (λ x. x.0) is.1 in
+    let is = met_ok {A = ℕ × Inode} (must_be_there f) (found_ino f, inode_at p image (found_ino f)) (n, v) e in
+    let same : found_ino f ≡ n = ap (λ x. x.0) is.1 in
     let some = number_of f (there_unless (is_some f.ino) is.0) in
     record { some = some ∙ ap Some same; number = same; inode = sym (ap (λ x. x.1) is.1) ∙ ap (inode_at p image) same; met = is.0 }
 
@@ -142,7 +142,7 @@ is_inode p image f n v e =
 pub stat_told : {p : Geometry} {map : SectorMap} (s : State) (q : Process) (f : Found) (n : ℕ) (v : Inode) (status : Status) → IsInodeFound p map f n v
     → HoldsTree p map s.tree → IsThere s.tree n
     → ((kind : FileType) → type_of_kind v.kind ≡ Some kind → status
-    ≡ record { inode = n; kind = kind; mode = v.mode; links = v.names; owner = v.uid; group = v.gid; size = size_shown p.version v })
+    ≡ record { ino = n; kind = kind; mode = v.mode; links = v.names; owner = v.uid; group = v.gid; size = size_shown p.version v })
     → (first_of (stat_demands (scene_at s q f)) ≡ None) × (stat_effect (scene_at s q f) 0 ≡ answers (scene_at s q f) (Shown status))
 stat_told {p} {map} s q f n v status is h there says = (
   or_else-none (must_be_there f) ∙ is.met,

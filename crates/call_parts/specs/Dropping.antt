@@ -38,7 +38,7 @@ pub record Counts (p : Geometry) (n names : ℕ) (old new : TxnState) : Type 0 w
   pub used : bit new.sectors p.inode_bitmap n ≡ bit old.sectors p.inode_bitmap n
 
 -- directory dir has all its names but this one
-pub record RemovesName (p : Geometry) (dir : ℕ) (name : List ℕ) (old new : TxnState) : Type 0 where
+pub record RemovesName (p : Geometry) (dir_ino : ℕ) (name : List ℕ) (old new : TxnState) : Type 0 where
   pub sound : IsSound p new
-  pub touches : Touches p dir 0 5 old new
-  pub names : ChangesNames p dir (λ names. without name_cmp names name) old.sectors new.sectors
+  pub touches : Touches p dir_ino 0 5 old new
+  pub names : ChangesNames p dir_ino (λ names. without name_cmp names name) old.sectors new.sectors

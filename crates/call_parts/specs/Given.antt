@@ -34,13 +34,13 @@ pub record ChangesOne (p : Geometry) (n : ℕ) (old new : SectorMap) : Type 0 wh
   pub used : bit new p.inode_bitmap n ≡ bit old p.inode_bitmap n
 
 -- directory dir has other names, which f makes of those that it had, and is else as it was
-pub record ChangesNames (p : Geometry) (dir : ℕ) (f : List (List ℕ × ℕ) → List (List ℕ × ℕ)) (old new : SectorMap) : Type 0 where
+pub record ChangesNames (p : Geometry) (dir_ino : ℕ) (f : List (List ℕ × ℕ) → List (List ℕ × ℕ)) (old new : SectorMap) : Type 0 where
   pub super : new 0 ≡ old 0
-  pub change : ChangesInode p dir old new
-  pub used : bit new p.inode_bitmap dir ≡ bit old p.inode_bitmap dir
-  pub kept : KeepsFields (inode_at p old dir) (inode_at p new dir)
-  pub acls : KeepsAcls old new (inode_at p old dir) (inode_at p new dir)
-  pub named : (names : List (List ℕ × ℕ)) → HasNames p.version old (inode_at p old dir) names → HasNames p.version new (inode_at p new dir) (f names)
+  pub change : ChangesInode p dir_ino old new
+  pub used : bit new p.inode_bitmap dir_ino ≡ bit old p.inode_bitmap dir_ino
+  pub kept : KeepsFields (inode_at p old dir_ino) (inode_at p new dir_ino)
+  pub acls : KeepsAcls old new (inode_at p old dir_ino) (inode_at p new dir_ino)
+  pub named : (names : List (List ℕ × ℕ)) → HasNames p.version old (inode_at p old dir_ino) names → HasNames p.version new (inode_at p new dir_ino) (f names)
 
 -- inode n has another owner and group, and all else that it had
 pub record GivesOwner (p : Geometry) (n uid gid : ℕ) (old new : SectorMap) : Type 0 where

@@ -1,5 +1,3 @@
-pub mod DiskWords
-pub mod ModelWords
 pub mod Performing
 pub mod Paths
 pub mod Asked

@@ -21,9 +21,9 @@ use Rattle.fs_model.specs.Demands.{Demand, refuse, permission_on, write_and_sear
 use Rattle.fs_model.specs.Stands.{room_of}
 
 -- the name is new there, and there is room for it, for its inode and for their sectors
-pub record CanMake (p : Geometry) (map : SectorMap) (t : Tree) (dir : ℕ) (name : List ℕ) : Type 0 where
+pub record CanMake (p : Geometry) (map : SectorMap) (t : Tree) (dir_ino : ℕ) (name : List ℕ) : Type 0 where
   pub holds : HoldsTree p map t
-  pub directory : IsDirectoryAt t dir
+  pub directory : IsDirectoryAt t dir_ino
   pub is_name : IsName name
   pub short : length name ≤ max_name p.version
   pub is_new : get name_cmp (names_of_body directory.node.body) name ≡ None
@@ -33,14 +33,15 @@ pub record CanMake (p : Geometry) (map : SectorMap) (t : Tree) (dir : ℕ) (name
 
 -- asked of a directory, to make something in it
 abbrev pub make_asked : Geometry → SectorMap → Credential → Tree → ℕ → ℕ → List Demand
-make_asked p map cred t dir step =
-    permission_on cred t dir write_and_search 1 step
+make_asked p map cred t dir_ino step =
+    permission_on cred t dir_ino write_and_search 1 step
     ∷ refuse ENOSPC (nat_lt (free_sectors p map) least_free)
     ∷ refuse ENOSPC (free_inodes (room_of p) t == 0)
-    ∷ refuse ENOSPC (nat_le (max_names p.version) (length (names_of_body (the_node t dir).body)))
+    ∷ refuse ENOSPC (nat_le (max_names p.version) (length (names_of_body (the_node t dir_ino).body)))
     ∷ []
 
 -- sectors are left, and a slot in the directory
 abbrev pub room_asked : Geometry → SectorMap → Tree → ℕ → List Demand
-room_asked p map t dir =
-    refuse ENOSPC (nat_lt (free_sectors p map) least_free) ∷ refuse ENOSPC (nat_le (max_names p.version) (length (names_of_body (the_node t dir).body))) ∷ []
+room_asked p map t dir_ino =
+    refuse ENOSPC (nat_lt (free_sectors p map) least_free)
+    ∷ refuse ENOSPC (nat_le (max_names p.version) (length (names_of_body (the_node t dir_ino).body))) ∷ []

@@ -35,30 +35,30 @@ use Rattle.path_walk.specs.Answers.{refused_or, IsAnswered}
 use Rattle.call_parts.specs.Given.{ChangesNames}
 use Rattle.call_parts.specs.Makings.{make_asked}
 
-pub record IsNewIn (p : Geometry) (t : Tree) (dir : ℕ) (name : List ℕ) : Type 0 where
-  pub directory : IsDirectoryAt t dir
+pub record IsNewIn (p : Geometry) (t : Tree) (dir_ino : ℕ) (name : List ℕ) : Type 0 where
+  pub directory : IsDirectoryAt t dir_ino
   pub is_name : IsName name
   pub short : length name ≤ max_name p.version
   pub is_new : get name_cmp (names_of_body directory.node.body) name ≡ None
 
 -- directory dir has this name
 abbrev pub HasName : Geometry → SectorMap → ℕ → List ℕ → Type 0
-HasName p map dir name = (names : List (List ℕ × ℕ)) × HasNames p.version map (inode_at p map dir) names × (get name_cmp names name ≢ None)
+HasName p map dir_ino name = (names : List (List ℕ × ℕ)) × HasNames p.version map (inode_at p map dir_ino) names × (get name_cmp names name ≢ None)
 
 -- Of the names of directory dir this is none, and it has room for one more, as the disk has for that.
-pub record MayBeNamed (p : Geometry) (map : SectorMap) (dir : ℕ) (name : List ℕ) : Type 0 where
-  pub below : dir < p.inodes
+pub record MayBeNamed (p : Geometry) (map : SectorMap) (dir_ino : ℕ) (name : List ℕ) : Type 0 where
+  pub below : dir_ino < p.inodes
   pub is_name : IsName name
   pub short : length name ≤ max_name p.version
   pub names : List (List ℕ × ℕ)
-  pub are : HasNames p.version map (inode_at p map dir) names
+  pub are : HasNames p.version map (inode_at p map dir_ino) names
   pub is_new : get name_cmp names name ≡ None
   pub few : length names < max_names p.version
   pub enough : 3 ≤ free_sectors p map
 
 -- directory dir names inode n, and is else as it was
 abbrev pub NamesInode : Geometry → ℕ → List ℕ → ℕ → SectorMap → SectorMap → Type 0
-NamesInode p dir name n old new = ChangesNames p dir (λ names. with_entry name_cmp names name n) old new
+NamesInode p dir_ino name n old new = ChangesNames p dir_ino (λ names. with_entry name_cmp names name n) old new
 
 -- inode n was free, and holds this
 pub record TakesInode (p : Geometry) (n : ℕ) (x : Placed) (old new : SectorMap) : Type 0 where
@@ -69,10 +69,10 @@ pub record TakesInode (p : Geometry) (n : ℕ) (x : Placed) (old new : SectorMap
   pub holds : HoldsNode p.version new (inode_at p new n) x
 
 -- Inode n was free and holds this node, and then directory dir names it.
-pub record MakesNode (p : Geometry) (dir : ℕ) (name : List ℕ) (n : ℕ) (node : Node) (old new : SectorMap) : Type 0 where
+pub record MakesNode (p : Geometry) (dir_ino : ℕ) (name : List ℕ) (n : ℕ) (node : Node) (old new : SectorMap) : Type 0 where
   pub mid : SectorMap
-  pub takes : TakesInode p n (record { node = node; names = 1; parent = dir }) old mid
-  pub names : NamesInode p dir name n mid new
+  pub takes : TakesInode p n (record { node = node; names = 1; parent = dir_ino }) old mid
+  pub names : NamesInode p dir_ino name n mid new
 
 -- ---- what is made
 
@@ -109,5 +109,5 @@ link_name_asked f = must_be_new f ∷ refuse ENOENT f.slash ∷ []
 abbrev pub IsMade : Geometry → TxnState → TxnState → Credential → Tree → Found → Node → Result ℕ Refusal → Type 0
 IsMade p old new cred t f node result =
     MatchResult result
-    (λ n. (first_of (make_asked p old.sectors cred t f.dir (f.step - 1)) ≡ None) × MakesNode p f.dir f.name n node old.sectors new.sectors)
-    (λ e. IsAnswered old.disk new.disk (refused_or {A = Unit {0}} (first_of (make_asked p old.sectors cred t f.dir (f.step - 1))) (Ok tt)) (Err e))
+    (λ n. (first_of (make_asked p old.sectors cred t f.dir_ino (f.step - 1)) ≡ None) × MakesNode p f.dir_ino f.name n node old.sectors new.sectors)
+    (λ e. IsAnswered old.disk new.disk (refused_or {A = Unit {0}} (first_of (make_asked p old.sectors cred t f.dir_ino (f.step - 1))) (Ok tt)) (Err e))

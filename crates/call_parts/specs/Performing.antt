@@ -47,7 +47,7 @@ pub record MayPerform (p : Geometry) (txn : TxnState) (processes : ProcessTable)
 
 -- a call reads no more of a choice than the number of a new node
 abbrev pub chosen : ℕ → ℕ → Choice
-chosen number free = record { number = number; pid = 0; free = free }
+chosen number free = record { ino = number; pid = 0; free = free }
 
 -- Nothing refuses the call. It gives this reply and leaves these processes, and the map holds the tree after it, in which times
 -- have moved to this one.

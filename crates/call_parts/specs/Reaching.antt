@@ -24,7 +24,7 @@ use Rattle.fs_model.specs.declared.walk.Found.{Found}
 use Rattle.fs_model.specs.Demands.{Demand, first_of}
 use Rattle.fs_model.specs.Processes.{Process, Descriptor, ProcessTable, descriptor}
 use Rattle.fs_model.specs.Rows.{row_of}
-use Rattle.fs_model.specs.Scenes.{Scene, Effect, by_path, by_two_paths, by_descriptor, number, must_be_there, own_at_end, is_bad, is_bad_to_read, is_bad_to_write}
+use Rattle.fs_model.specs.Scenes.{Scene, Effect, by_path, by_two_paths, by_descriptor, found_ino, must_be_there, own_at_end, is_bad, is_bad_to_read, is_bad_to_write}
 use Rattle.fs_model.specs.States.{State}
 use Rattle.fs_model.specs.Steps.{asks_in_call, firm_refusal}
 use Rattle.open_files.specs.Tables.{IsTable}
@@ -76,7 +76,7 @@ pub record HasWalked (p : Geometry) (txn : TxnState) (processes : ProcessTable) 
 -- the number and the inode of what was found
 pub record IsInodeFound (p : Geometry) (image : SectorMap) (f : Found) (n : ℕ) (v : Inode) : Type 0 where
   pub some : f.ino ≡ Some n
-  pub number : number f ≡ n
+  pub number : found_ino f ≡ n
   pub inode : v ≡ inode_at p image n
   pub met : must_be_there f ≡ None
 
@@ -146,4 +146,4 @@ pub record HasOpened (p : Geometry) (txn : TxnState) (processes : ProcessTable) 
   pub ready : MayPerform p txn processes
   pub table : IsTable processes
   pub is_open : IsOpenFor processes pid fd purpose d
-  pub inode : v ≡ inode_at p txn.sectors d.number
+  pub inode : v ≡ inode_at p txn.sectors d.ino

@@ -1,8 +1,16 @@
 //! What calls ask, one check for each.
 
 ghost use Rattle.std.specs.Prelude.{◌≡◌, ◌-◌, Ok, ◌<◌, ◌&&◌, not};
-ghost use Rattle.call_parts.specs.DiskWords.{IsUnchanged, IsSound, IsInodeOf};
-ghost use Rattle.call_parts.specs.ModelWords.{Perm, verdict, allowed_by, decided, refuse, refused_or, IsAnswered, HasAccess, check_of_mode, is_directory_kind};
+ghost use Rattle.sector_txn.specs.Sectors.{IsUnchanged};
+ghost use Rattle.bit_alloc.specs.Inodes.{IsSound};
+ghost use Rattle.inode_table.specs.Inodes.{IsInodeOf};
+ghost use Rattle.fs_cred.specs.declared.refusal.Need.TheVariants.{Perm};
+ghost use Rattle.fs_cred.specs.Verdicts.{verdict};
+ghost use Rattle.fs_model.specs.Demands.{allowed_by, decided, refuse};
+ghost use Rattle.path_walk.specs.Answers.{refused_or, IsAnswered};
+ghost use Rattle.path_walk.specs.HeldTrees.{HasAccess};
+ghost use Rattle.fs_model.specs.Scenes.{check_of_mode};
+ghost use Rattle.fs_model.specs.Rules.{is_directory_kind};
 ghost use Rattle.fs_cred.specs.declared.node.Node.{Node as AccessNode};
 ghost use Rattle.call_parts.specs.Asked.{sticky_asked};
 

@@ -2,8 +2,13 @@
 //! close().
 
 ghost use Rattle.std.specs.Prelude.{◌≡◌, ◌≢◌, OnOk, IfErr, ◌<◌};
-ghost use Rattle.call_parts.specs.DiskWords.{inode_at, SameStore, Inodes, IsNumber, IsSound, HasSpare};
-ghost use Rattle.call_parts.specs.ModelWords.{FailsToRead};
+ghost use Rattle.fs_layout.specs.Images.{inode_at};
+ghost use Rattle.sector_txn.specs.Sectors.{SameStore};
+ghost use Rattle.bit_alloc.specs.declared.bitmap.Bitmap.TheVariants.{Inodes};
+ghost use Rattle.bit_alloc.specs.Bitmaps.{IsNumber};
+ghost use Rattle.bit_alloc.specs.Inodes.{IsSound};
+ghost use Rattle.bit_alloc.specs.Room.{HasSpare};
+ghost use Rattle.path_walk.specs.Answers.{FailsToRead};
 ghost use Rattle.call_parts.specs.Dropping.{Drops, LeavesInode, Counts};
 ghost use Rattle.call_parts.specs.UsedInode.{IsUsedInode};
 
@@ -14,67 +19,68 @@ use inode_table::save;
 use path_walk::load_inode;
 use sector_txn::Sectors;
 
-/// Frees inode n, which nothing names and nobody has open: a file or a directory with its bytes and ACLs, a link with its
-/// target. EIO: the disk has failed.
-pub fn drop_node<S: Sectors>(s: &mut S, geometry: Geometry, n: u32) -> Result<(), Refusal>
+/// Frees inode `ino`, which nothing names and nobody has open: a file or a directory with its bytes and ACLs, a link
+/// with its target. EIO: the disk has failed.
+pub fn drop_node<S: Sectors>(s: &mut S, geometry: Geometry, ino: u32) -> Result<(), Refusal>
     requires sound { IsSound geometry (S.state s.old) }
-    requires number { IsNumber geometry Inodes n }
-    requires used { (inode_at geometry (S.state s.old).sectors n).kind ≢ Kind.Free }
+    requires number { IsNumber geometry Inodes ino }
+    requires used { (inode_at geometry (S.state s.old).sectors ino).kind ≢ Kind.Free }
     requires spare { HasSpare geometry 1 (S.state s.old) }
     ensures store { SameStore (S.state s.old) (S.state s.new) }
-    ensures drops { OnOk result (Drops geometry n (S.state s.old) (S.state s.new)) }
+    ensures drops { OnOk result (Drops geometry ino (S.state s.old) (S.state s.new)) }
     ensures fault { IfErr result (FailsToRead (S.state s.old).disk (S.state s.new).disk) }
 {
-    match free_all(s, geometry, n) {
+    match free_all(s, geometry, ino) {
         Ok(()) => Ok(()),
         Err(_) => Err(Refusal::Failed(Errno::EIO)),
     }
 }
 
-/// Frees inode n, of which a descriptor goes, unless it stays open, has a name, or was freed before. EIO: the disk has failed.
+/// Frees inode `ino`, of which a descriptor goes, unless it stays open, has a name, or was freed before. EIO: the disk
+/// has failed.
 pub fn leave<S: Sectors>(
     s: &mut S,
     geometry: Geometry,
-    n: u32,
+    ino: u32,
     stays_open: bool,
 ) -> Result<(), Refusal>
     requires sound { IsSound geometry (S.state s.old) }
-    requires number { IsNumber geometry Inodes n }
+    requires number { IsNumber geometry Inodes ino }
     requires spare { HasSpare geometry 1 (S.state s.old) }
     ensures store { SameStore (S.state s.old) (S.state s.new) }
-    ensures leaves { OnOk result (LeavesInode geometry n stays_open (S.state s.old) (S.state s.new)) }
+    ensures leaves { OnOk result (LeavesInode geometry ino stays_open (S.state s.old) (S.state s.new)) }
     ensures fault { IfErr result (FailsToRead (S.state s.old).disk (S.state s.new).disk) }
 {
     if stays_open {
         return Ok(());
     }
-    let inode = load_inode(s, geometry, n)?;
+    let inode = load_inode(s, geometry, ino)?;
     if inode.names != 0 {
         return Ok(());
     }
     if inode.kind == Kind::Free {
         return Ok(());
     }
-    drop_node(s, geometry, n)?;
+    drop_node(s, geometry, ino)?;
     Ok(())
 }
 
-/// Gives inode n, which is used, another count of names. EIO: the disk has failed.
+/// Gives inode `ino`, which is used, another count of names. EIO: the disk has failed.
 pub fn set_names<S: Sectors>(
     s: &mut S,
     geometry: Geometry,
-    n: u32,
+    ino: u32,
     inode: &Inode,
     names: u32,
 ) -> Result<(), Refusal>
-    requires loaded { IsUsedInode geometry (S.state s.old) n inode.now }
+    requires loaded { IsUsedInode geometry (S.state s.old) ino inode.now }
     requires spare { HasSpare geometry 1 (S.state s.old) }
     ensures store { SameStore (S.state s.old) (S.state s.new) }
-    ensures counts { OnOk result (Counts geometry n names (S.state s.old) (S.state s.new)) }
+    ensures counts { OnOk result (Counts geometry ino names (S.state s.old) (S.state s.new)) }
     ensures fault { IfErr result (FailsToRead (S.state s.old).disk (S.state s.new).disk) }
 {
     let counted = Inode { names, ..*inode };
-    match save(s, geometry, n, &counted) {
+    match save(s, geometry, ino, &counted) {
         Ok(()) => Ok(()),
         Err(_) => Err(Refusal::Failed(Errno::EIO)),
     }

@@ -1,8 +1,18 @@
 //! What the path of a call leads to.
 
 ghost use Rattle.std.specs.Prelude.{◌≡◌, ◌<◌, ℕ, None, Some, Ok, Err, IfOk};
-ghost use Rattle.call_parts.specs.DiskWords.{inode_at, IsUnchanged, IsSound};
-ghost use Rattle.call_parts.specs.ModelWords.{first_of, path_checks, number, must_be_there, Tree, refused_or, IsAnswered, HoldsTree, IsThere, HasSoundInodes, room_of, walk_of};
+ghost use Rattle.fs_layout.specs.Images.{inode_at};
+ghost use Rattle.sector_txn.specs.Sectors.{IsUnchanged};
+ghost use Rattle.bit_alloc.specs.Inodes.{IsSound};
+ghost use Rattle.fs_model.specs.Demands.{first_of};
+ghost use Rattle.fs_model.specs.Parts.{path_checks};
+ghost use Rattle.fs_model.specs.Scenes.{found_ino, must_be_there};
+ghost use Rattle.fs_model.specs.Trees.{Tree};
+ghost use Rattle.path_walk.specs.Answers.{refused_or, IsAnswered};
+ghost use Rattle.path_walk.specs.HeldTrees.{HoldsTree, IsThere};
+ghost use Rattle.path_walk.specs.SoundInodes.{HasSoundInodes};
+ghost use Rattle.fs_model.specs.Stands.{room_of};
+ghost use Rattle.path_walk.specs.Walked.{walk_of};
 
 use crate::caller::Caller;
 use fs_cred::{Errno, Refusal};
@@ -45,12 +55,12 @@ pub fn inode_found<S: Sectors>(
     requires sound { IsSound geometry (S.state s.old) }
     requires below { (n : ℕ) → found.now.ino ≡ Some n → n < geometry.inodes }
     ensures each { IsAnswered (S.state s.old).disk (S.state s.new).disk (refused_or (must_be_there found.now)
-        (Ok (number found.now, inode_at geometry (S.state s.old).sectors (number found.now)))) result }
+        (Ok (found_ino found.now, inode_at geometry (S.state s.old).sectors (found_ino found.now)))) result }
     ensures same { IsUnchanged (S.state s.old) (S.state s.new) }
 {
-    let Some(n) = found.ino else {
+    let Some(ino) = found.ino else {
         return Err(Refusal::Failed(Errno::ENOENT));
     };
-    let inode = load_inode(s, geometry, n)?;
-    Ok((n, inode))
+    let inode = load_inode(s, geometry, ino)?;
+    Ok((ino, inode))
 }

@@ -1,8 +1,19 @@
 //! What is asked of a directory before something is made in it, and what that gets of it.
 
 ghost use Rattle.std.specs.Prelude.{◌≡◌, ◌-◌, ◌/◌, ◌%◌, ◌==◌, nat_le, if◌then◌else◌, Option, None, Ok, option_copied, IfOk, IfErr};
-ghost use Rattle.call_parts.specs.DiskWords.{AccessList, minimal, max_directory_size, S_ISGID, inode_at, IsUnchanged, IsSound, HasDefaultAcl, IsInodeOf};
-ghost use Rattle.call_parts.specs.ModelWords.{without_perms, masked_acl, born_acl, refuse, first_of, permission_on, write_and_search, Tree, IsDirectoryAt, refused_or, Interrupts, IsAnswered, HoldsTree};
+ghost use Rattle.posix_acl.specs.AccessList.{AccessList, minimal};
+ghost use Rattle.fs_layout.specs.Version.{max_directory_size};
+ghost use Rattle.fs_layout.specs.declared.inode.TheConstants.{S_ISGID};
+ghost use Rattle.fs_layout.specs.Images.{inode_at};
+ghost use Rattle.sector_txn.specs.Sectors.{IsUnchanged};
+ghost use Rattle.bit_alloc.specs.Inodes.{IsSound};
+ghost use Rattle.inode_table.specs.Acls.{HasDefaultAcl};
+ghost use Rattle.inode_table.specs.Inodes.{IsInodeOf};
+ghost use Rattle.fs_model.specs.Births.{without_perms, masked_acl, born_acl};
+ghost use Rattle.fs_model.specs.Demands.{refuse, first_of, permission_on, write_and_search};
+ghost use Rattle.fs_model.specs.Trees.{Tree, IsDirectoryAt};
+ghost use Rattle.path_walk.specs.Answers.{refused_or, Interrupts, IsAnswered};
+ghost use Rattle.path_walk.specs.HeldTrees.{HoldsTree};
 ghost use Rattle.call_parts.specs.Makings.{make_asked};
 
 use crate::caller::Caller;
@@ -26,24 +37,25 @@ pub(crate) fn check_names(geometry: Geometry, directory: &Inode) -> Result<(), R
     refuse_if(Errno::ENOSPC, directory.size >= most)
 }
 
-// Asks for write and search on directory dir, after `step` lookups of the walk with this number, and answers its inode.
+// Asks for write and search on directory `dir_ino`, after `step` lookups of the walk with this number, and answers its
+// inode.
 fn ask_in_directory<S: Sectors>(
     s: &mut S,
     caller: &Caller,
     cred: &Cred,
-    dir: u32,
+    dir_ino: u32,
     walk: u8,
     step: usize,
 ) -> Result<Inode, Refusal>
     requires sound { IsSound caller.now.geometry (S.state s.old) }
-    requires there { (t : Tree) × HoldsTree caller.now.geometry (S.state s.old).sectors t × IsDirectoryAt t dir }
-    ensures each { (t : Tree) → HoldsTree caller.now.geometry (S.state s.old).sectors t → IsDirectoryAt t dir
+    requires there { (t : Tree) × HoldsTree caller.now.geometry (S.state s.old).sectors t × IsDirectoryAt t dir_ino }
+    ensures each { (t : Tree) → HoldsTree caller.now.geometry (S.state s.old).sectors t → IsDirectoryAt t dir_ino
         → IsAnswered (S.state s.old).disk (S.state s.new).disk
-        (refused_or (permission_on cred.now t dir write_and_search walk step)
-        (Ok (inode_at caller.now.geometry (S.state s.old).sectors dir))) result }
+        (refused_or (permission_on cred.now t dir_ino write_and_search walk step)
+        (Ok (inode_at caller.now.geometry (S.state s.old).sectors dir_ino))) result }
     ensures same { IsUnchanged (S.state s.old) (S.state s.new) }
 {
-    let directory = load_inode(s, caller.geometry, dir)?;
+    let directory = load_inode(s, caller.geometry, dir_ino)?;
     permitted(s, caller, cred, &directory, WRITE_AND_SEARCH, walk, step)?;
     Ok(directory)
 }
@@ -57,16 +69,16 @@ pub fn ask_directory<S: Sectors>(
     walk: u8,
 ) -> Result<Inode, Refusal>
     requires sound { IsSound caller.now.geometry (S.state s.old) }
-    requires there { (t : Tree) × HoldsTree caller.now.geometry (S.state s.old).sectors t × IsDirectoryAt t found.now.dir }
-    ensures each { (t : Tree) → HoldsTree caller.now.geometry (S.state s.old).sectors t → IsDirectoryAt t found.now.dir
+    requires there { (t : Tree) × HoldsTree caller.now.geometry (S.state s.old).sectors t × IsDirectoryAt t found.now.dir_ino }
+    ensures each { (t : Tree) → HoldsTree caller.now.geometry (S.state s.old).sectors t → IsDirectoryAt t found.now.dir_ino
         → IsAnswered (S.state s.old).disk (S.state s.new).disk
-        (refused_or (permission_on process.now.cred t found.now.dir write_and_search walk (found.now.step - 1))
-        (Ok (inode_at caller.now.geometry (S.state s.old).sectors found.now.dir))) result }
+        (refused_or (permission_on process.now.cred t found.now.dir_ino write_and_search walk (found.now.step - 1))
+        (Ok (inode_at caller.now.geometry (S.state s.old).sectors found.now.dir_ino))) result }
     ensures same { IsUnchanged (S.state s.old) (S.state s.new) }
 {
     let cred = process.cred();
     let step = found.step.saturating_sub(1);
-    ask_in_directory(s, caller, cred, found.dir, walk, step)
+    ask_in_directory(s, caller, cred, found.dir_ino, walk, step)
 }
 
 /// Asks all that is asked of a directory before something is made in it, and answers its inode. ENOSPC: there is no room for
@@ -75,18 +87,18 @@ pub fn check_make<S: Sectors>(
     s: &mut S,
     caller: &Caller,
     cred: &Cred,
-    dir: u32,
+    dir_ino: u32,
     step: usize,
 ) -> Result<Inode, Refusal>
     requires sound { IsSound caller.now.geometry (S.state s.old) }
-    requires there { (t : Tree) × HoldsTree caller.now.geometry (S.state s.old).sectors t × IsDirectoryAt t dir }
-    ensures each { (t : Tree) → HoldsTree caller.now.geometry (S.state s.old).sectors t → IsDirectoryAt t dir
+    requires there { (t : Tree) × HoldsTree caller.now.geometry (S.state s.old).sectors t × IsDirectoryAt t dir_ino }
+    ensures each { (t : Tree) → HoldsTree caller.now.geometry (S.state s.old).sectors t → IsDirectoryAt t dir_ino
         → IsAnswered (S.state s.old).disk (S.state s.new).disk
-        (refused_or (first_of (make_asked caller.now.geometry (S.state s.old).sectors cred.now t dir step))
-        (Ok (inode_at caller.now.geometry (S.state s.old).sectors dir))) result }
+        (refused_or (first_of (make_asked caller.now.geometry (S.state s.old).sectors cred.now t dir_ino step))
+        (Ok (inode_at caller.now.geometry (S.state s.old).sectors dir_ino))) result }
     ensures same { IsUnchanged (S.state s.old) (S.state s.new) }
 {
-    let directory = ask_in_directory(s, caller, cred, dir, 1, step)?;
+    let directory = ask_in_directory(s, caller, cred, dir_ino, 1, step)?;
     ask_for_sectors(s, caller.geometry)?;
     ask_for_inode(s, caller.geometry)?;
     check_names(caller.geometry, &directory)?;

@@ -1,8 +1,19 @@
 //! Names in directories: what they lead to, new ones, and those that go.
 
 ghost use Rattle.std.specs.Prelude.{ℕ, ◌≡◌, ◌<◌, ◌||◌, not, None, Some, Ok, Err, OnOk, IfOk, IfErr};
-ghost use Rattle.call_parts.specs.DiskWords.{IsBytes, inode_at, SameStore, IsUnchanged, IsSound, HasSpare, TakesSpare, HasBitmaps};
-ghost use Rattle.call_parts.specs.ModelWords.{first_of, is_found, is_special, Tree, IsDirectoryAt, refused_or, FailsToRead, IsAnswered, HoldsTree, IsThere, HasSoundInodes, room_of};
+ghost use Rattle.fs_layout.specs.Bytes.{IsBytes};
+ghost use Rattle.fs_layout.specs.Images.{inode_at};
+ghost use Rattle.sector_txn.specs.Sectors.{SameStore, IsUnchanged};
+ghost use Rattle.bit_alloc.specs.Inodes.{IsSound};
+ghost use Rattle.bit_alloc.specs.Room.{HasSpare, TakesSpare};
+ghost use Rattle.bit_alloc.specs.Bitmaps.{HasBitmaps};
+ghost use Rattle.fs_model.specs.Demands.{first_of};
+ghost use Rattle.fs_model.specs.Scenes.{is_found, is_special};
+ghost use Rattle.fs_model.specs.Trees.{Tree, IsDirectoryAt};
+ghost use Rattle.path_walk.specs.Answers.{refused_or, FailsToRead, IsAnswered};
+ghost use Rattle.path_walk.specs.HeldTrees.{HoldsTree, IsThere};
+ghost use Rattle.path_walk.specs.SoundInodes.{HasSoundInodes};
+ghost use Rattle.fs_model.specs.Stands.{room_of};
 ghost use Rattle.call_parts.specs.Makings.{room_asked};
 ghost use Rattle.call_parts.specs.NewNodes.{HasName, MayBeNamed, NamesInode};
 ghost use Rattle.call_parts.specs.TwoPaths.{both_checks, walks_of};
@@ -71,10 +82,10 @@ pub fn ask_for_name<S: Sectors>(
     directory: &Inode,
 ) -> Result<(), Refusal>
     requires { HasBitmaps geometry (S.state s.old) }
-    ensures each { (t : Tree) (dir : ℕ) → HoldsTree geometry (S.state s.old).sectors t → IsDirectoryAt t dir
-        → directory.now ≡ inode_at geometry (S.state s.old).sectors dir
+    ensures each { (t : Tree) (dir_ino : ℕ) → HoldsTree geometry (S.state s.old).sectors t → IsDirectoryAt t dir_ino
+        → directory.now ≡ inode_at geometry (S.state s.old).sectors dir_ino
         → IsAnswered (S.state s.old).disk (S.state s.new).disk
-        (refused_or (first_of (room_asked geometry (S.state s.old).sectors t dir)) (Ok tt)) result }
+        (refused_or (first_of (room_asked geometry (S.state s.old).sectors t dir_ino)) (Ok tt)) result }
     ensures same { IsUnchanged (S.state s.old) (S.state s.new) }
 {
     ask_for_sectors(s, geometry)?;
@@ -82,49 +93,49 @@ pub fn ask_for_name<S: Sectors>(
     Ok(())
 }
 
-/// Gives inode n a name in directory dir, where there is room for it. EIO: the disk has failed.
+/// Gives inode `ino` a name in directory `dir_ino`, where there is room for it. EIO: the disk has failed.
 pub fn name_inode<S: Sectors>(
     s: &mut S,
     geometry: Geometry,
-    dir: u32,
+    dir_ino: u32,
     directory: Inode,
     name: &[u8],
-    n: u32,
+    ino: u32,
 ) -> Result<(), Refusal>
     requires sound { IsSound geometry (S.state s.old) }
-    requires inode { directory ≡ inode_at geometry (S.state s.old).sectors dir }
-    requires room { MayBeNamed geometry (S.state s.old).sectors dir name.now }
+    requires inode { directory ≡ inode_at geometry (S.state s.old).sectors dir_ino }
+    requires room { MayBeNamed geometry (S.state s.old).sectors dir_ino name.now }
     requires spare { HasSpare geometry 4 (S.state s.old) }
     ensures store { SameStore (S.state s.old) (S.state s.new) }
     ensures sound { OnOk result (IsSound geometry (S.state s.new)) }
     ensures taken { OnOk result (TakesSpare geometry 4 (S.state s.old) (S.state s.new)) }
-    ensures named { OnOk result (NamesInode geometry dir name.now n (S.state s.old).sectors (S.state s.new).sectors) }
+    ensures named { OnOk result (NamesInode geometry dir_ino name.now ino (S.state s.old).sectors (S.state s.new).sectors) }
     ensures err { IfErr result (FailsToRead (S.state s.old).disk (S.state s.new).disk) }
 {
     let mut directory = directory;
-    match insert_new(s, geometry, dir, &mut directory, name, n) {
+    match insert_new(s, geometry, dir_ino, &mut directory, name, ino) {
         Ok(()) => Ok(()),
         Err(_) => Err(Refusal::Failed(Errno::EIO)),
     }
 }
 
-/// Removes a name from directory dir. EIO: the disk has failed.
+/// Removes a name from directory `dir_ino`. EIO: the disk has failed.
 pub fn remove_name<S: Sectors>(
     s: &mut S,
     geometry: Geometry,
-    dir: u32,
+    dir_ino: u32,
     name: &[u8],
 ) -> Result<(), Refusal>
     requires sound { IsSound geometry (S.state s.old) }
-    requires below { dir < geometry.inodes }
-    requires named { HasName geometry (S.state s.old).sectors dir name.now }
+    requires below { dir_ino < geometry.inodes }
+    requires named { HasName geometry (S.state s.old).sectors dir_ino name.now }
     requires spare { HasSpare geometry 5 (S.state s.old) }
     ensures store { SameStore (S.state s.old) (S.state s.new) }
-    ensures removes { OnOk result (RemovesName geometry dir name.now (S.state s.old) (S.state s.new)) }
+    ensures removes { OnOk result (RemovesName geometry dir_ino name.now (S.state s.old) (S.state s.new)) }
     ensures fault { IfErr result (FailsToRead (S.state s.old).disk (S.state s.new).disk) }
 {
-    let mut directory = load_inode(s, geometry, dir)?;
-    match remove(s, geometry, dir, &mut directory, name) {
+    let mut directory = load_inode(s, geometry, dir_ino)?;
+    match remove(s, geometry, dir_ino, &mut directory, name) {
         Ok(()) => Ok(()),
         Err(_) => Err(Refusal::Failed(Errno::EIO)),
     }

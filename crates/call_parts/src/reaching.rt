@@ -1,8 +1,9 @@
 //! How a call reaches what it acts on.
 
 ghost use Rattle.std.specs.Prelude.{◌≡◌, Result, IfOk, IfErr};
-ghost use Rattle.call_parts.specs.DiskWords.{IsUnchanged};
-ghost use Rattle.call_parts.specs.ModelWords.{State, IsTable};
+ghost use Rattle.sector_txn.specs.Sectors.{IsUnchanged};
+ghost use Rattle.fs_model.specs.States.{State};
+ghost use Rattle.open_files.specs.Tables.{IsTable};
 ghost use Rattle.call_parts.specs.Performing.{IsStateOf, IsReadyFor};
 ghost use Rattle.call_parts.specs.Reaching.{RefusesWalk, RefusesReach, RefusesOwned, HasWalked, HasReached, HasOwned, RefusesBoth, HasWalkedBoth, IsNotOpen, RefusesOpen, IsOpenFor, HasOpened, opens_for};
 
@@ -29,7 +30,7 @@ pub struct Walked<'a> {
 pub struct Reached<'a> {
     pub process: &'a Process,
     pub found: Found,
-    pub number: u32,
+    pub ino: u32,
     pub inode: Inode,
 }
 
@@ -86,15 +87,15 @@ pub fn reach<'a, S: Sectors>(
         → IsStateOf caller.now.geometry (S.state s.old).sectors caller.now.procs.now st
         → RefusesReach (S.state s.old).disk (S.state s.new).disk st caller.now.pid checks form path.now e) }
     ensures reached { IfOk result (λ r. HasReached caller.now.geometry (S.state s.new)
-        caller.now.procs.now caller.now.pid checks form path.now r.process.now r.found r.number r.inode) }
+        caller.now.procs.now caller.now.pid checks form path.now r.process.now r.found r.ino r.inode) }
     ensures same { IsUnchanged (S.state s.old) (S.state s.new) }
 {
     let Walked { process, found } = walk_path(s, caller, checks, path, form)?;
-    let (number, inode) = inode_found(s, caller.geometry, &found)?;
+    let (ino, inode) = inode_found(s, caller.geometry, &found)?;
     Ok(Reached {
         process,
         found,
-        number,
+        ino,
         inode,
     })
 }
@@ -112,7 +113,7 @@ pub fn reach_owned<'a, S: Sectors>(
         → IsStateOf caller.now.geometry (S.state s.old).sectors caller.now.procs.now st
         → RefusesOwned (S.state s.old).disk (S.state s.new).disk st caller.now.pid checks form path.now e) }
     ensures owned { IfOk result (λ r. HasOwned caller.now.geometry (S.state s.new)
-        caller.now.procs.now caller.now.pid checks form path.now r.process.now r.found r.number r.inode) }
+        caller.now.procs.now caller.now.pid checks form path.now r.process.now r.found r.ino r.inode) }
     ensures same { IsUnchanged (S.state s.old) (S.state s.new) }
 {
     let reached = reach(s, caller, checks, path, form)?;
@@ -192,6 +193,6 @@ pub fn reach_open<S: Sectors>(
     ensures same { IsUnchanged (S.state s.old) (S.state s.new) }
 {
     let descriptor = find_open(caller.procs, caller.pid, fd, purpose)?;
-    let inode = load_inode(s, caller.geometry, descriptor.number)?;
+    let inode = load_inode(s, caller.geometry, descriptor.ino)?;
     Ok((descriptor, inode))
 }

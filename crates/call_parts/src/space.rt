@@ -1,8 +1,14 @@
 //! The space that a call asks for before it takes any.
 
 ghost use Rattle.std.specs.Prelude.{◌≡◌, ◌<◌, ◌⊎◌, ◌==◌, nat_lt, Ok, IfErr};
-ghost use Rattle.call_parts.specs.DiskWords.{free_sectors, IsUnchanged, HasBitmaps, free_numbers, Inodes};
-ghost use Rattle.call_parts.specs.ModelWords.{ENOSPC, refuse, least_free, refused_or, FailsToRead, IsAnswered};
+ghost use Rattle.fs_layout.specs.Images.{free_sectors};
+ghost use Rattle.sector_txn.specs.Sectors.{IsUnchanged};
+ghost use Rattle.bit_alloc.specs.Bitmaps.{HasBitmaps, free_numbers};
+ghost use Rattle.bit_alloc.specs.declared.bitmap.Bitmap.TheVariants.{Inodes};
+ghost use Rattle.fs_cred.specs.declared.errno.Errno.TheVariants.{ENOSPC};
+ghost use Rattle.fs_model.specs.Demands.{refuse};
+ghost use Rattle.fs_model.specs.Limits.{least_free};
+ghost use Rattle.path_walk.specs.Answers.{refused_or, FailsToRead, IsAnswered};
 
 use bit_alloc::{Bitmap, has_free};
 use fs_cred::{Errno, Refusal};

@@ -1,8 +1,12 @@
 //! Times that a call moves, once it has changed the tree. A version that keeps none is left as it is.
 
 ghost use Rattle.std.specs.Prelude.{◌≡◌, ◌<◌, OnOk, IfErr};
-ghost use Rattle.call_parts.specs.DiskWords.{SameStore, TakesSpare, IsSound, HasSpare};
-ghost use Rattle.call_parts.specs.ModelWords.{HoldsAll, placed, Tree, FailsToRead};
+ghost use Rattle.sector_txn.specs.Sectors.{SameStore};
+ghost use Rattle.bit_alloc.specs.Room.{TakesSpare, HasSpare};
+ghost use Rattle.bit_alloc.specs.Inodes.{IsSound};
+ghost use Rattle.fs_model.specs.Stands.{HoldsAll, placed};
+ghost use Rattle.fs_model.specs.Trees.{Tree};
+ghost use Rattle.path_walk.specs.Answers.{FailsToRead};
 ghost use Rattle.call_parts.specs.Times.{with_times, MayMoveTimes, MovesTimes};
 ghost use Rattle.fs_model.specs.StoredStamps.{stamps_in};
 ghost use Rattle.fs_model.specs.TreeChanges.{touch_at, touch_one, restamped};
@@ -37,34 +41,34 @@ fn with_touch(inode: &Inode, touch: Touch, now: u64) -> Inode
     }
 }
 
-// Moves these times of inode n, if it is used. EIO: the disk has failed.
+// Moves these times of inode `ino`, if it is used. EIO: the disk has failed.
 fn touch_inode<S: Sectors>(
     s: &mut S,
     geometry: Geometry,
-    n: u32,
+    ino: u32,
     touch: Touch,
     now: u64,
 ) -> Result<(), Refusal>
     requires sound { IsSound geometry (S.state s.old) }
-    requires below { n < geometry.inodes }
+    requires below { ino < geometry.inodes }
     requires spare { HasSpare geometry 1 (S.state s.old) }
     ensures store { SameStore (S.state s.old) (S.state s.new) }
     ensures superblock { OnOk result ((S.state s.new).sectors 0 ≡ (S.state s.old).sectors 0) }
     ensures sound { OnOk result (IsSound geometry (S.state s.new)) }
     ensures taken { OnOk result (TakesSpare geometry 1 (S.state s.old) (S.state s.new)) }
     ensures held { OnOk result ((t : Tree) → HoldsAll geometry (S.state s.old).sectors (placed t)
-        → HoldsAll geometry (S.state s.new).sectors (placed (restamped (touch_one now (n, touch)) t))) }
+        → HoldsAll geometry (S.state s.new).sectors (placed (restamped (touch_one now (ino, touch)) t))) }
     ensures fault { IfErr result (FailsToRead (S.state s.old).disk (S.state s.new).disk) }
 {
     let mut content = [0; 512];
-    let Ok(inode) = load_with_content(s, geometry, n, &mut content) else {
+    let Ok(inode) = load_with_content(s, geometry, ino, &mut content) else {
         return Err(Refusal::Failed(Errno::EIO));
     };
     if inode.kind == Kind::Free {
         return Ok(());
     }
     let touched = with_touch(&inode, touch, now);
-    save_times(s, geometry, n, &touched, &mut content);
+    save_times(s, geometry, ino, &touched, &mut content);
     Ok(())
 }
 
@@ -84,8 +88,8 @@ pub fn touch<S: Sectors>(
     if !geometry.version.keeps_times() {
         return Ok(());
     }
-    for (n, touch) in touches {
-        touch_inode(s, geometry, *n, *touch, now)?;
+    for (ino, touch) in touches {
+        touch_inode(s, geometry, *ino, *touch, now)?;
     }
     Ok(())
 }

@@ -148,7 +148,7 @@ module _ (slots : List NamedInode) (name : List ℕ) (apart : HaveDistinctNames 
   found_there None is e none = absurd (true≢false (sym e))
   found_there (Some f) is e none = some_none (found_is_entry slots name (Some f) apart is ∙ none)
     where
-      some_none : Some f.inode ≡ None → ⊥
+      some_none : Some f.ino ≡ None → ⊥
       some_none k = cc
 
   -- one that is not found is not
@@ -160,7 +160,7 @@ module _ (slots : List NamedInode) (name : List ℕ) (apart : HaveDistinctNames 
 pub found_name : {version : Version} (slots : List NamedInode) (name : List ℕ) (f : FoundSlot) → All (FitsSlot version) slots → IsFoundIn slots name (Some f)
     → IsName name × (length name ≤ max_name version)
 found_name {version} slots name f fits at =
-    let x : NamedInode = record { inode = f.inode; name = name } in
+    let x : NamedInode = record { ino = f.ino; name = name } in
     let fit = fits f.slot x at.0 in
     subst (λ (q : List ℕ). IsName q × (length q ≤ max_name version)) (ap (λ (y : NamedInode). y.name) (at.1 x)) (fit.name, fit.short)
 
@@ -175,12 +175,12 @@ said_by_slots name h none = ap (λ (m : List (List ℕ × ℕ)). get name_cmp m 
 
 -- what they lead to is found
 pub leads_to_found : {version : Version} {image : SectorMap} {v : Inode} {names : List (List ℕ × ℕ)} {to : ℕ} (h : HasNames version image v names) (name : List ℕ) (f : FoundSlot)
-    → IsFoundIn h.slots name (Some f) → get name_cmp names name ≡ Some to → f.inode ≡ to
+    → IsFoundIn h.slots name (Some f) → get name_cmp names name ≡ Some to → f.ino ≡ to
 leads_to_found {to = to} h name f is leads =
     let entry = found_is_entry h.slots name (Some f) h.apart is in
     one_number (entry ∙ ap (λ (m : List (List ℕ × ℕ)). get name_cmp m name) (sym h.are) ∙ leads)
   where
-    one_number : Some f.inode ≡ Some to → f.inode ≡ to
+    one_number : Some f.ino ≡ Some to → f.ino ≡ to
     one_number k = cc
 
 -- ---- faults passed on
@@ -197,7 +197,7 @@ ok_is_no_fault e = cc
 -- ---- names with one more
 -- the slot of a name
 abbrev pub added : List ℕ → ℕ → NamedInode
-added name to = record { inode = to; name = name }
+added name to = record { ino = to; name = name }
 
 module _ {version : Version} {image : SectorMap} {v : Inode} {names : List (List ℕ × ℕ)} (h : HasNames version image v names) (name : List ℕ) (to : ℕ)
     (is_name : IsName name) (short : length name ≤ max_name version) (bytes : IsBytes name) (small : to < 2 ^ 32) (none : get name_cmp (names_of_slots h.slots) name ≡ None)
@@ -210,7 +210,7 @@ module _ {version : Version} {image : SectorMap} {v : Inode} {names : List (List
     slots = h.slots ++ added name to ∷ [];
     are = ap (λ (m : List (List ℕ × ℕ)). with_entry name_cmp m name to) h.are ∙ sym (names_added h.slots (added name to) h.apart none);
     apart = apart_added h.slots (added name to) h.apart none;
-    each = fits_added h.slots (added name to) h.each (record { inode = small; name = is_name; short = short; bytes = bytes });
+    each = fits_added h.slots (added name to) h.each (record { ino = small; name = is_name; short = short; bytes = bytes });
     few = omega (arith, few, length-append h.slots (added name to ∷ []));
     holds = subst (λ (r : List ℕ). Holds new w r) (bytes_added version h.slots (added name to) v.size h.holds.size) holds;
     whole = whole;
@@ -266,12 +266,12 @@ module _ {version : Version} {image : SectorMap} {v : Inode} {names : List (List
 module _ {version : Version} {image : SectorMap} {v : Inode} {names : List (List ℕ × ℕ)} (h : HasNames version image v names) (slot : ℕ) (x y : NamedInode)
     (lt : slot < length h.slots) (is : get_or h.slots slot x ≡ x) where
   changed_slots : IsNameOfOne h.slots slot y.name → {new : SectorMap} → HasSlots version new v (set h.slots slot y)
-      → HasNames version new v (with_entry name_cmp (without name_cmp names x.name) y.name y.inode)
+      → HasNames version new v (with_entry name_cmp (without name_cmp names x.name) y.name y.ino)
   changed_slots alone {new} now = record {
     kind = now.kind;
     slots = set h.slots slot y;
     are =
-        ap (λ (m : List (List ℕ × ℕ)). with_entry name_cmp (without name_cmp m x.name) y.name y.inode) h.are
+        ap (λ (m : List (List ℕ × ℕ)). with_entry name_cmp (without name_cmp m x.name) y.name y.ino) h.are
         ∙ sym (names_set h.slots slot x y lt is alone h.apart);
     apart = now.apart;
     each = now.each;
@@ -287,11 +287,11 @@ module _ {version : Version} {image : SectorMap} {v : Inode} {names : List (List
   pub apart_led : y.name ≡ x.name → HaveDistinctNames (set h.slots slot y)
   apart_led same = apart_set h.slots slot x y lt is (own_name same) h.apart
 
-  pub names_led : y.name ≡ x.name → {new : SectorMap} → HasSlots version new v (set h.slots slot y) → HasNames version new v (with_entry name_cmp names x.name y.inode)
+  pub names_led : y.name ≡ x.name → {new : SectorMap} → HasSlots version new v (set h.slots slot y) → HasNames version new v (with_entry name_cmp names x.name y.ino)
   names_led same {new} now =
       let map_is : IsMap name_cmp names = subst (IsMap name_cmp) (sym h.are) (are_names_of h.slots h.apart).map_is in
       subst (λ (m : List (List ℕ × ℕ)). HasNames version new v m)
-      (ap (λ (q : List ℕ). with_entry name_cmp (without name_cmp names x.name) q y.inode) same ∙ without_and_with names x.name y.inode map_is)
+      (ap (λ (q : List ℕ). with_entry name_cmp (without name_cmp names x.name) q y.ino) same ∙ without_and_with names x.name y.ino map_is)
       (changed_slots (own_name same) now)
 
   -- a new name leads to the same inode
@@ -302,5 +302,5 @@ module _ {version : Version} {image : SectorMap} {v : Inode} {names : List (List
   apart_renamed none = apart_set h.slots slot x y lt is (new_name none) h.apart
 
   pub names_renamed : get name_cmp names y.name ≡ None → {new : SectorMap} → HasSlots version new v (set h.slots slot y)
-      → HasNames version new v (with_entry name_cmp (without name_cmp names x.name) y.name y.inode)
+      → HasNames version new v (with_entry name_cmp (without name_cmp names x.name) y.name y.ino)
   names_renamed none {new} now = changed_slots (new_name none) now

@@ -33,8 +33,8 @@ entries_are [] rise = refl
 entries_are (x ∷ []) rise = refl
 entries_are (x ∷ y ∷ ys) rise =
     let less : name_cmp x.name y.name ≡ Less = rise 0 1 x (omega arith) (omega arith) in
-    ap (λ m. with_entry name_cmp m x.name x.inode) (entries_are (y ∷ ys) (risen_tail x (y ∷ ys) rise))
-    ∙ ap (λ o. by_order o (name_entry x ∷ map name_entry (y ∷ ys)) ((y.name, x.inode) ∷ map name_entry ys) (name_entry y ∷ with_entry name_cmp (map name_entry ys) x.name x.inode)) less
+    ap (λ m. with_entry name_cmp m x.name x.ino) (entries_are (y ∷ ys) (risen_tail x (y ∷ ys) rise))
+    ∙ ap (λ o. by_order o (name_entry x ∷ map name_entry (y ∷ ys)) ((y.name, x.ino) ∷ map name_entry ys) (name_entry y ∷ with_entry name_cmp (map name_entry ys) x.name x.ino)) less
 
 -- ---- the same names in another order
 same_names : (xs ys : List NamedInode) → IsPermutation xs ys → HaveDistinctNames xs → HaveDistinctNames ys → names_of_slots ys ≡ names_of_slots xs

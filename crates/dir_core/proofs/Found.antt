@@ -32,13 +32,13 @@ absent_further slots name count before here i d lt fits =
     ]
 
 -- a slot by its parts
-pub slot_parts : (x : NamedInode) (name : List ℕ) (n : ℕ) → x.name ≡ name → x.inode ≡ n → x ≡ record { inode = n; name = name }
-slot_parts x name n e f = let whole : record x { inode = x.inode } ≡ record { inode = n; name = name } = rw (e, f) refl in whole
+pub slot_parts : (x : NamedInode) (name : List ℕ) (n : ℕ) → x.name ≡ name → x.ino ≡ n → x ≡ record { ino = n; name = name }
+slot_parts x name n e f = let whole : record x { ino = x.ino } ≡ record { ino = n; name = name } = rw (e, f) refl in whole
 
 -- what is found is what the map of names has
 pub found_is_entry : (slots : List NamedInode) (name : List ℕ) (found : Option FoundSlot) → HaveDistinctNames slots → IsFoundIn slots name found
-    → option_map (λ f. f.inode) found ≡ get name_cmp (names_of_slots slots) name
-found_is_entry slots name (Some f) apart is = sym (((are_names_of slots apart).each name f.inode).1 (f.slot, is.0, is.1 _))
+    → option_map (λ f. f.ino) found ≡ get name_cmp (names_of_slots slots) name
+found_is_entry slots name (Some f) apart is = sym (((are_names_of slots apart).each name f.ino).1 (f.slot, is.0, is.1 _))
 found_is_entry slots name None apart absent = sym (nothing (get name_cmp (names_of_slots slots) name) refl)
   where
     nothing : (o : Option ℕ) → get name_cmp (names_of_slots slots) name ≡ o → o ≡ None
@@ -78,7 +78,7 @@ module _ {version : Version} {image : SectorMap} {v : Inode} {slots : List Named
   -- a slot of block k has it
   pub found_in_block : (block name : List ℕ) (k : ℕ) (found : FoundSlot) → length block ≡ 512 → 0 < length name → IsBlock image v k block
       → IsFoundInBlock version block name (Some found)
-      → IsFoundIn slots name (Some (record { slot = block_slots version * k + found.slot; inode = found.inode }))
+      → IsFoundIn slots name (Some (record { slot = block_slots version * k + found.slot; ino = found.ino }))
   found_in_block block name k found len some read (small, is, named) =
       let slot = found.slot in
       let at : ℕ = block_slots version * k + slot in

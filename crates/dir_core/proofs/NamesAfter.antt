@@ -52,8 +52,8 @@ names_in_any_order xs ys order apart_x apart_y =
     let y = are_names_of ys apart_y in
     names_have_entries.one (names_of_slots xs) (names_of_slots ys) x.map_is y.map_is (λ q.
     same_there (names_of_slots xs) (names_of_slots ys) q
-    (λ n e. (y.each q n).1 (Contains-permutation xs ys (record { inode = n; name = q }) order ((x.each q n).0 e)))
-    (λ n e. (x.each q n).1 (Contains-permutation ys xs (record { inode = n; name = q }) (IsPermutation-sym xs ys order) ((y.each q n).0 e))))
+    (λ n e. (y.each q n).1 (Contains-permutation xs ys (record { ino = n; name = q }) order ((x.each q n).0 e)))
+    (λ n e. (x.each q n).1 (Contains-permutation ys xs (record { ino = n; name = q }) (IsPermutation-sym xs ys order) ((y.each q n).0 e))))
 
 -- ---- a name that no slot has
 pub no_such_name : (slots : List NamedInode) (name : List ℕ) → HaveDistinctNames slots → get name_cmp (names_of_slots slots) name ≡ None
@@ -65,9 +65,9 @@ no_such_name slots name apart none k d lt e = some_none (sym (slot_leads slots d
 
 -- and one that a slot has
 pub slot_name_leads : (slots : List NamedInode) (k : ℕ) (x : NamedInode) → HaveDistinctNames slots → k < length slots → get_or slots k x ≡ x
-    → get name_cmp (names_of_slots slots) x.name ≡ Some x.inode
+    → get name_cmp (names_of_slots slots) x.name ≡ Some x.ino
 slot_name_leads slots k x apart lt is =
-    ap (λ (y : NamedInode). get name_cmp (names_of_slots slots) y.name) (sym is) ∙ slot_leads slots x k apart lt ∙ ap (λ (y : NamedInode). Some y.inode) is
+    ap (λ (y : NamedInode). get name_cmp (names_of_slots slots) y.name) (sym is) ∙ slot_leads slots x k apart lt ∙ ap (λ (y : NamedInode). Some y.ino) is
 
 -- a name that no slot has leads nowhere
 pub unnamed : (slots : List NamedInode) (name : List ℕ) → HaveDistinctNames slots → ((k : ℕ) (d : NamedInode) → k < length slots → (get_or slots k d).name ≢ name)
@@ -78,7 +78,7 @@ unnamed slots name apart other = go (get name_cmp (names_of_slots slots) name) r
     go None e = refl
     go (Some n) e =
         let found = ((are_names_of slots apart).each name n).0 e in
-        absurd (other found.0 (record { inode = n; name = name }) found.1 (ap (λ (y : NamedInode). y.name) found.2))
+        absurd (other found.0 (record { ino = n; name = name }) found.1 (ap (λ (y : NamedInode). y.name) found.2))
 
 -- an entry that is set and removed
 with_and_without : (m : Names) (name : List ℕ) (n : ℕ) → IsMap name_cmp m → get name_cmp m name ≡ None → m ≡ without name_cmp (with_entry name_cmp m name n) name
@@ -111,7 +111,7 @@ pub apart_first : (slots : List NamedInode) (x : NamedInode) → HaveDistinctNam
 apart_first slots x apart other = AllPairs-cons (λ a b. a.name ≢ b.name) x slots (λ k d lt e. other k d lt (sym e)) apart
 
 pub names_added : (slots : List NamedInode) (x : NamedInode) → HaveDistinctNames slots → get name_cmp (names_of_slots slots) x.name ≡ None
-    → names_of_slots (slots ++ x ∷ []) ≡ with_entry name_cmp (names_of_slots slots) x.name x.inode
+    → names_of_slots (slots ++ x ∷ []) ≡ with_entry name_cmp (names_of_slots slots) x.name x.ino
 unfolding names_of_slots
 names_added slots x apart none =
     names_in_any_order (slots ++ x ∷ []) (x ∷ slots) (IsPermutation-to_front slots x) (apart_added slots x apart none) (apart_first slots x apart (no_such_name slots x.name apart none))
@@ -196,9 +196,9 @@ module _ (slots : List NamedInode) (i : ℕ) (x : NamedInode) (lt : i < length s
       λ k d small e. other_names apart k x small
       (ap (λ (y : NamedInode). y.name) (get_or_default moved k x d small) ∙ e ∙ ap (λ (y : NamedInode). y.name) (sym is)) in
       let rest : HaveDistinctNames moved = apart_moved apart in
-      let all : names_of_slots slots ≡ with_entry name_cmp (names_of_slots moved) x.name x.inode =
+      let all : names_of_slots slots ≡ with_entry name_cmp (names_of_slots moved) x.name x.ino =
       names_in_any_order slots (x ∷ moved) (IsPermutation-swap_remove slots i x lt (sym is)) apart (apart_first moved x rest other) in
-      with_and_without (names_of_slots moved) x.name x.inode (are_names_of moved rest).map_is (unnamed moved x.name rest other)
+      with_and_without (names_of_slots moved) x.name x.ino (are_names_of moved rest).map_is (unnamed moved x.name rest other)
       ∙ ap (λ (m : Names). without name_cmp m x.name) (sym all)
 
 -- ---- one in the place of another
@@ -242,9 +242,9 @@ module _ (slots : List NamedInode) (i : ℕ) (x y : NamedInode) (lt : i < length
       ]
 
   -- a slot of a third name stands in both
-  stands_in_both : (q : List ℕ) (n : ℕ) → q ≢ y.name → Contains after (record { inode = n; name = q }) → Contains slots (record { inode = n; name = q })
+  stands_in_both : (q : List ℕ) (n : ℕ) → q ≢ y.name → Contains after (record { ino = n; name = q }) → Contains slots (record { ino = n; name = q })
   stands_in_both q n ne (k, small, there) =
-      let z : NamedInode = record { inode = n; name = q } in (
+      let z : NamedInode = record { ino = n; name = q } in (
         k,
         within k small,
         elim (cases_eq k i) [
@@ -253,9 +253,9 @@ module _ (slots : List NamedInode) (i : ℕ) (x y : NamedInode) (lt : i < length
         ],
       )
 
-  stood_in_both : (q : List ℕ) (n : ℕ) → q ≢ x.name → Contains slots (record { inode = n; name = q }) → Contains after (record { inode = n; name = q })
+  stood_in_both : (q : List ℕ) (n : ℕ) → q ≢ x.name → Contains slots (record { ino = n; name = q }) → Contains after (record { ino = n; name = q })
   stood_in_both q n ne (k, less, there) =
-      let z : NamedInode = record { inode = n; name = q } in (
+      let z : NamedInode = record { ino = n; name = q } in (
         k,
         omega (arith, less, length-set slots i y),
         elim (cases_eq k i) [
@@ -290,18 +290,18 @@ module _ (slots : List NamedInode) (i : ℕ) (x y : NamedInode) (lt : i < length
             ∙ sym (l.left (names_of_slots slots) x.name q other)
       ]
 
-  pub names_set : names_of_slots after ≡ with_entry name_cmp (without name_cmp (names_of_slots slots) x.name) y.name y.inode
+  pub names_set : names_of_slots after ≡ with_entry name_cmp (without name_cmp (names_of_slots slots) x.name) y.name y.ino
   names_set =
       let l = names_have_entries in
       let now = are_names_of after apart_set in
       let rest : Names = without name_cmp (names_of_slots slots) x.name in
       let rest_is = l.without_is (names_of_slots slots) x.name (are_names_of slots apart).map_is in
-      l.one (names_of_slots after) (with_entry name_cmp rest y.name y.inode) now.map_is (l.with_is rest y.name y.inode rest_is) (λ q.
+      l.one (names_of_slots after) (with_entry name_cmp rest y.name y.ino) now.map_is (l.with_is rest y.name y.ino rest_is) (λ q.
       elim (cases_name q y.name) [
         | inl e ↦
             ap (get name_cmp (names_of_slots after)) e
             ∙ slot_name_leads after i y apart_set (omega (arith, lt, length-set slots i y)) (get_or-set_same slots i y y lt)
-            ∙ sym (l.here rest y.name y.inode)
-            ∙ ap (get name_cmp (with_entry name_cmp rest y.name y.inode)) (sym e)
-        | inr ne ↦ leads_on q ne ∙ sym (l.others rest y.name q y.inode ne)
+            ∙ sym (l.here rest y.name y.ino)
+            ∙ ap (get name_cmp (with_entry name_cmp rest y.name y.ino)) (sym e)
+        | inr ne ↦ leads_on q ne ∙ sym (l.others rest y.name q y.ino ne)
       ])

@@ -107,12 +107,12 @@ module _ {version : Version} (block : List ℕ) (at : ℕ) (x : NamedInode) (is 
       ∙ name_byte i below)
 
   -- the inode of a slot
-  pub inode_there : u32_of block at ≡ x.inode
+  pub inode_there : u32_of block at ≡ x.ino
   unfolding le32
   inode_there =
       let rest : List ℕ = length x.name ∷ (zeros 3 ++ (x.name ++ zeros (max_name version - length x.name))) in
-      read32 block at x.inode (rest ++ drop (at + slot_size version) block)
-      (split (slot_size version) at block (slot_bytes version x) (sym is.1) ∙ append_assoc (le32 x.inode) rest (drop (at + slot_size version) block)) is.0.inode
+      read32 block at x.ino (rest ++ drop (at + slot_size version) block)
+      (split (slot_size version) at block (slot_bytes version x) (sym is.1) ∙ append_assoc (le32 x.ino) rest (drop (at + slot_size version) block)) is.0.ino
 
 -- ---- without a name
 no_slots : (slots : List NamedInode) → length slots ≡ 0 → names_of_slots slots ≡ []

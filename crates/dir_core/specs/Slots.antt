@@ -40,14 +40,14 @@ IsFoundInBlock version block name None =
 IsFoundInBlock version block name (Some found) =
     (found.slot < block_slots version)
     × (slice_index block (slot_size version * found.slot + 4) ≡ length name)
-    × ((x : NamedInode) → IsSlotAt version block (slot_size version * found.slot) x → x ≡ record { inode = found.inode; name = name })
+    × ((x : NamedInode) → IsSlotAt version block (slot_size version * found.slot) x → x ≡ record { ino = found.ino; name = name })
 
 -- the slot that has the name, with its inode; None where no slot has it
 abbrev pub IsFoundIn : List NamedInode → List ℕ → Option FoundSlot → Type 0
 IsFoundIn slots name None = All (λ x. x.name ≢ name) slots
 IsFoundIn slots name (Some found) =
-    (found.slot < length slots) × ((d : NamedInode) → slice_index_or slots found.slot d ≡ record { inode = found.inode; name = name })
+    (found.slot < length slots) × ((d : NamedInode) → slice_index_or slots found.slot d ≡ record { ino = found.ino; name = name })
 
 -- a slot as an entry of the map of names
 abbrev pub name_entry : NamedInode → List ℕ × ℕ
-name_entry x = (x.name, x.inode)
+name_entry x = (x.name, x.ino)

@@ -23,106 +23,113 @@ use sector_disk::DiskFault;
 use sector_txn::Sectors;
 
 // A block that begins with a slot.
-fn block_with(version: Version, inode: u32, name: &[u8]) -> [u8; 512]
+fn block_with(version: Version, ino: u32, name: &[u8]) -> [u8; 512]
     requires name { IsName name.now }
     requires short { length name.now ≤ max_name version }
-    ensures { take (slot_size version) result ≡ slot_bytes version (record { inode = inode; name = name.now }) }
+    ensures { take (slot_size version) result ≡ slot_bytes version (record { ino = ino; name = name.now }) }
 {
     let mut block = [0; 512];
-    Slot::new(inode, name).write_in(version, &mut block, 0);
+    Slot::new(ino, name).write_in(version, &mut block, 0);
     block
 }
 
-/// Adds a name, which is new and leads to inode `to`, to directory n. `inode` is inode n, before and after.
+/// Adds a name, which is new and leads to inode `to`, to directory `ino`. `inode` is its record, before and after.
 ///
 /// It doesn't look for the name. At `Err` the caller drops the changes of the transaction; of `inode` nothing is said then.
 pub fn insert_new<S: Sectors>(
     s: &mut S,
-    place: Geometry,
-    n: u32,
+    geometry: Geometry,
+    ino: u32,
     inode: &mut Inode,
     name: &[u8],
     to: u32,
 ) -> Result<(), DirFault>
-    requires sound { IsSound place (S.state s.old) }
-    requires below { n < place.inodes }
-    requires inode { inode.old ≡ inode_at place (S.state s.old).sectors n }
-    requires directory { (names : List (List ℕ × ℕ)) × HasNames place.version (S.state s.old).sectors inode.old names
+    requires sound { IsSound geometry (S.state s.old) }
+    requires below { ino < geometry.inodes }
+    requires inode { inode.old ≡ inode_at geometry (S.state s.old).sectors ino }
+    requires directory { (names : List (List ℕ × ℕ)) × HasNames geometry.version (S.state s.old).sectors inode.old names
         × (get name_cmp names name.now ≡ None) }
     requires name { IsName name.now }
-    requires short { length name.now ≤ max_name place.version }
-    requires spare { HasSpare place 4 (S.state s.old) }
-    ensures change { OnOk result (ChangesContent place n (taken_for inode.old) 4 (S.state s.old) (S.state s.new) inode.old inode.new) }
-    ensures names { OnOk result ((names : List (List ℕ × ℕ)) → HasNames place.version (S.state s.old).sectors inode.old names
-        → (length names < max_names place.version) × HasNames place.version (S.state s.new).sectors inode.new
+    requires short { length name.now ≤ max_name geometry.version }
+    requires spare { HasSpare geometry 4 (S.state s.old) }
+    ensures change { OnOk result (ChangesContent geometry ino (taken_for inode.old) 4 (S.state s.old) (S.state s.new) inode.old inode.new) }
+    ensures names { OnOk result ((names : List (List ℕ × ℕ)) → HasNames geometry.version (S.state s.old).sectors inode.old names
+        → (length names < max_names geometry.version) × HasNames geometry.version (S.state s.new).sectors inode.new
         (with_entry name_cmp names name.now to)) }
-    ensures why { IfErr result (λ e. (names : List (List ℕ × ℕ)) → HasNames place.version (S.state s.old).sectors inode.old names
-        → WhyNotAdded place (S.state s.old).sectors inode.old names name.now e) }
+    ensures why { IfErr result (λ e. (names : List (List ℕ × ℕ)) → HasNames geometry.version (S.state s.old).sectors inode.old names
+        → WhyNotAdded geometry (S.state s.old).sectors inode.old names name.now e) }
     ensures store { SameStore (S.state s.old) (S.state s.new) }
     ensures cause { HasCauseOf DirFault.DiskFault (S.state s.old).disk (S.state s.new).disk result }
 {
     let end = inode.size;
-    if end >= place.version.max_directory_size() {
+    if end >= geometry.version.max_directory_size() {
         return Err(DirFault::Full);
     }
-    let block = block_with(place.version, to, name);
-    write_at(s, place, n, inode, end, &block[..place.version.slot_size()])?;
+    let block = block_with(geometry.version, to, name);
+    write_at(
+        s,
+        geometry,
+        ino,
+        inode,
+        end,
+        &block[..geometry.version.slot_size()],
+    )?;
     Ok(())
 }
 
-/// Adds a name, which leads to inode `to`, to directory n. `inode` is inode n, before and after.
+/// Adds a name, which leads to inode `to`, to directory `ino`. `inode` is its record, before and after.
 ///
 /// At `Err` the caller drops the changes of the transaction; of `inode` nothing is said then.
 pub fn insert<S: Sectors>(
     s: &mut S,
-    place: Geometry,
-    n: u32,
+    geometry: Geometry,
+    ino: u32,
     inode: &mut Inode,
     name: &[u8],
     to: u32,
 ) -> Result<(), DirFault>
-    requires sound { IsSound place (S.state s.old) }
-    requires below { n < place.inodes }
-    requires inode { inode.old ≡ inode_at place (S.state s.old).sectors n }
-    requires directory { (names : List (List ℕ × ℕ)) × HasNames place.version (S.state s.old).sectors inode.old names }
+    requires sound { IsSound geometry (S.state s.old) }
+    requires below { ino < geometry.inodes }
+    requires inode { inode.old ≡ inode_at geometry (S.state s.old).sectors ino }
+    requires directory { (names : List (List ℕ × ℕ)) × HasNames geometry.version (S.state s.old).sectors inode.old names }
     requires name { IsName name.now }
-    requires short { length name.now ≤ max_name place.version }
-    requires spare { HasSpare place 4 (S.state s.old) }
-    ensures change { OnOk result (ChangesContent place n (taken_for inode.old) 4 (S.state s.old) (S.state s.new) inode.old inode.new) }
-    ensures names { OnOk result ((names : List (List ℕ × ℕ)) → HasNames place.version (S.state s.old).sectors inode.old names
-        → (get name_cmp names name.now ≡ None) × (length names < max_names place.version)
-        × HasNames place.version (S.state s.new).sectors inode.new (with_entry name_cmp names name.now to)) }
-    ensures why { IfErr result (λ e. (names : List (List ℕ × ℕ)) → HasNames place.version (S.state s.old).sectors inode.old names
-        → WhyNotAdded place (S.state s.old).sectors inode.old names name.now e) }
+    requires short { length name.now ≤ max_name geometry.version }
+    requires spare { HasSpare geometry 4 (S.state s.old) }
+    ensures change { OnOk result (ChangesContent geometry ino (taken_for inode.old) 4 (S.state s.old) (S.state s.new) inode.old inode.new) }
+    ensures names { OnOk result ((names : List (List ℕ × ℕ)) → HasNames geometry.version (S.state s.old).sectors inode.old names
+        → (get name_cmp names name.now ≡ None) × (length names < max_names geometry.version)
+        × HasNames geometry.version (S.state s.new).sectors inode.new (with_entry name_cmp names name.now to)) }
+    ensures why { IfErr result (λ e. (names : List (List ℕ × ℕ)) → HasNames geometry.version (S.state s.old).sectors inode.old names
+        → WhyNotAdded geometry (S.state s.old).sectors inode.old names name.now e) }
     ensures store { SameStore (S.state s.old) (S.state s.new) }
     ensures cause { HasCauseOf DirFault.DiskFault (S.state s.old).disk (S.state s.new).disk result }
 {
-    if find_slot(s, place.version, inode, name)?.is_some() {
+    if find_slot(s, geometry.version, inode, name)?.is_some() {
         return Err(DirFault::Exists);
     }
-    insert_new(s, place, n, inode, name, to)?;
+    insert_new(s, geometry, ino, inode, name, to)?;
     Ok(())
 }
 
 // Finds the slot of a name of a directory, which has to be there.
 fn named_slot<S: Sectors>(
     s: &mut S,
-    place: Geometry,
+    geometry: Geometry,
     inode: &Inode,
     name: &[u8],
 ) -> Result<FoundSlot, DirFault>
     requires within { IsWithin (S.state s.old).header (S.state s.old).disk.size (S.state s.old).sectors inode.now }
-    requires directory { (names : List (List ℕ × ℕ)) × HasNames place.version (S.state s.old).sectors inode.now names }
-    ensures found { IfOk result (λ found. (slots : List NamedInode) → HasSlots place.version (S.state s.old).sectors inode.now slots
+    requires directory { (names : List (List ℕ × ℕ)) × HasNames geometry.version (S.state s.old).sectors inode.now names }
+    ensures found { IfOk result (λ found. (slots : List NamedInode) → HasSlots geometry.version (S.state s.old).sectors inode.now slots
         → IsFoundIn slots name.now (Some found)) }
-    ensures slots { IfOk result (λ found. (slots : List NamedInode) × HasSlots place.version (S.state s.new).sectors inode.now slots
+    ensures slots { IfOk result (λ found. (slots : List NamedInode) × HasSlots geometry.version (S.state s.new).sectors inode.now slots
         × (found.slot < length slots)) }
-    ensures why { IfErr result (λ e. (names : List (List ℕ × ℕ)) → HasNames place.version (S.state s.old).sectors inode.now names
+    ensures why { IfErr result (λ e. (names : List (List ℕ × ℕ)) → HasNames geometry.version (S.state s.old).sectors inode.now names
         → WhyNotChanged names name.now e) }
     ensures same { IsUnchanged (S.state s.old) (S.state s.new) }
     ensures cause { HasCauseOf DirFault.DiskFault (S.state s.old).disk (S.state s.new).disk result }
 {
-    let Some(found) = find_slot(s, place.version, inode, name)? else {
+    let Some(found) = find_slot(s, geometry.version, inode, name)? else {
         return Err(DirFault::Absent);
     };
     Ok(found)
@@ -131,23 +138,24 @@ fn named_slot<S: Sectors>(
 // Writes the last slot over another one. `bytes` has room for a slot.
 fn put_last<S: Sectors>(
     s: &mut S,
-    place: Geometry,
-    n: u32,
+    geometry: Geometry,
+    ino: u32,
     inode: &Inode,
     slot: u64,
     bytes: &mut [u8],
 ) -> Result<(), DiskFault>
-    requires sound { IsSound place (S.state s.old) }
-    requires below { n < place.inodes }
-    requires inode { inode.now ≡ inode_at place (S.state s.old).sectors n }
-    requires directory { (slots : List NamedInode) × HasSlots place.version (S.state s.old).sectors inode.now slots
+    requires sound { IsSound geometry (S.state s.old) }
+    requires below { ino < geometry.inodes }
+    requires inode { inode.now ≡ inode_at geometry (S.state s.old).sectors ino }
+    requires directory { (slots : List NamedInode) × HasSlots geometry.version (S.state s.old).sectors inode.now slots
         × (slot < length slots) }
-    requires room { length bytes.old ≡ slot_size place.version }
-    requires spare { HasSpare place 1 (S.state s.old) }
-    ensures change { OnOk result (ChangesContent place n 0 1 (S.state s.old) (S.state s.new) inode.now inode.now) }
-    ensures moved { OnOk result ((slots : List NamedInode) (d : NamedInode) → HasSlots place.version (S.state s.old).sectors inode.now slots
+    requires room { length bytes.old ≡ slot_size geometry.version }
+    requires spare { HasSpare geometry 1 (S.state s.old) }
+    ensures change { OnOk result (ChangesContent geometry ino 0 1 (S.state s.old) (S.state s.new) inode.now inode.now) }
+    ensures moved { OnOk result ((slots : List NamedInode) (d : NamedInode)
+        → HasSlots geometry.version (S.state s.old).sectors inode.now slots
         → Holds (S.state s.new).sectors inode.now
-        (slots_bytes place.version (set slots slot (slice_index_or slots (length slots - 1) d)))) }
+        (slots_bytes geometry.version (set slots slot (slice_index_or slots (length slots - 1) d)))) }
     ensures whole { OnOk result (HasNoHole (S.state s.new).sectors inode.now) }
     ensures store { SameStore (S.state s.old) (S.state s.new) }
     ensures cause { HasCause (S.state s.old).disk (S.state s.new).disk result }
@@ -156,169 +164,170 @@ fn put_last<S: Sectors>(
     let at = slot * slot_size;
     let last = inode.size - slot_size;
     read_at(s, inode, last, bytes)?;
-    overwrite(s, place, n, inode, at, bytes)?;
+    overwrite(s, geometry, ino, inode, at, bytes)?;
     Ok(())
 }
 
 // Writes the last slot in the place of another one.
 fn move_last<S: Sectors>(
     s: &mut S,
-    place: Geometry,
-    n: u32,
+    geometry: Geometry,
+    ino: u32,
     inode: &Inode,
     slot: u64,
 ) -> Result<(), DiskFault>
-    requires sound { IsSound place (S.state s.old) }
-    requires below { n < place.inodes }
-    requires inode { inode.now ≡ inode_at place (S.state s.old).sectors n }
-    requires directory { (slots : List NamedInode) × HasSlots place.version (S.state s.old).sectors inode.now slots
+    requires sound { IsSound geometry (S.state s.old) }
+    requires below { ino < geometry.inodes }
+    requires inode { inode.now ≡ inode_at geometry (S.state s.old).sectors ino }
+    requires directory { (slots : List NamedInode) × HasSlots geometry.version (S.state s.old).sectors inode.now slots
         × (slot < length slots) }
-    requires spare { HasSpare place 1 (S.state s.old) }
-    ensures change { OnOk result (ChangesContent place n 0 1 (S.state s.old) (S.state s.new) inode.now inode.now) }
-    ensures moved { OnOk result ((slots : List NamedInode) (d : NamedInode) → HasSlots place.version (S.state s.old).sectors inode.now slots
+    requires spare { HasSpare geometry 1 (S.state s.old) }
+    ensures change { OnOk result (ChangesContent geometry ino 0 1 (S.state s.old) (S.state s.new) inode.now inode.now) }
+    ensures moved { OnOk result ((slots : List NamedInode) (d : NamedInode)
+        → HasSlots geometry.version (S.state s.old).sectors inode.now slots
         → Holds (S.state s.new).sectors inode.now
-        (slots_bytes place.version (set slots slot (slice_index_or slots (length slots - 1) d)))) }
+        (slots_bytes geometry.version (set slots slot (slice_index_or slots (length slots - 1) d)))) }
     ensures whole { OnOk result (HasNoHole (S.state s.new).sectors inode.now) }
     ensures store { SameStore (S.state s.old) (S.state s.new) }
     ensures cause { HasCause (S.state s.old).disk (S.state s.new).disk result }
 {
-    let slot_size = place.version.slot_size();
+    let slot_size = geometry.version.slot_size();
     let at = slot * slot_size as u64;
     let last = inode.size - slot_size as u64;
     if at == last {
         return Ok(());
     }
     let mut bytes = [0; MAX_SLOT_SIZE];
-    put_last(s, place, n, inode, slot, &mut bytes[..slot_size])?;
+    put_last(s, geometry, ino, inode, slot, &mut bytes[..slot_size])?;
     Ok(())
 }
 
-/// Removes a name from directory n. `inode` is inode n, before and after.
+/// Removes a name from directory `ino`. `inode` is its record, before and after.
 ///
 /// The last slot moves into the place of the name's. At `Err` the caller drops the changes of the transaction; of `inode`
 /// nothing is said then.
 pub fn remove<S: Sectors>(
     s: &mut S,
-    place: Geometry,
-    n: u32,
+    geometry: Geometry,
+    ino: u32,
     inode: &mut Inode,
     name: &[u8],
 ) -> Result<(), DirFault>
-    requires sound { IsSound place (S.state s.old) }
-    requires below { n < place.inodes }
-    requires inode { inode.old ≡ inode_at place (S.state s.old).sectors n }
-    requires directory { (names : List (List ℕ × ℕ)) × HasNames place.version (S.state s.old).sectors inode.old names }
-    requires spare { HasSpare place 5 (S.state s.old) }
-    ensures change { OnOk result (ChangesContent place n 0 5 (S.state s.old) (S.state s.new) inode.old inode.new) }
-    ensures names { OnOk result ((names : List (List ℕ × ℕ)) → HasNames place.version (S.state s.old).sectors inode.old names
-        → (get name_cmp names name.now ≢ None) × HasNames place.version (S.state s.new).sectors inode.new
+    requires sound { IsSound geometry (S.state s.old) }
+    requires below { ino < geometry.inodes }
+    requires inode { inode.old ≡ inode_at geometry (S.state s.old).sectors ino }
+    requires directory { (names : List (List ℕ × ℕ)) × HasNames geometry.version (S.state s.old).sectors inode.old names }
+    requires spare { HasSpare geometry 5 (S.state s.old) }
+    ensures change { OnOk result (ChangesContent geometry ino 0 5 (S.state s.old) (S.state s.new) inode.old inode.new) }
+    ensures names { OnOk result ((names : List (List ℕ × ℕ)) → HasNames geometry.version (S.state s.old).sectors inode.old names
+        → (get name_cmp names name.now ≢ None) × HasNames geometry.version (S.state s.new).sectors inode.new
         (without name_cmp names name.now)) }
-    ensures why { IfErr result (λ e. (names : List (List ℕ × ℕ)) → HasNames place.version (S.state s.old).sectors inode.old names
+    ensures why { IfErr result (λ e. (names : List (List ℕ × ℕ)) → HasNames geometry.version (S.state s.old).sectors inode.old names
         → WhyNotChanged names name.now e) }
     ensures store { SameStore (S.state s.old) (S.state s.new) }
     ensures cause { HasCauseOf DirFault.DiskFault (S.state s.old).disk (S.state s.new).disk result }
 {
-    let found = named_slot(s, place, inode, name)?;
-    move_last(s, place, n, inode, found.slot)?;
-    let size = inode.size - place.version.slot_size() as u64;
-    set_size(s, place, n, inode, size)?;
+    let found = named_slot(s, geometry, inode, name)?;
+    move_last(s, geometry, ino, inode, found.slot)?;
+    let size = inode.size - geometry.version.slot_size() as u64;
+    set_size(s, geometry, ino, inode, size)?;
     Ok(())
 }
 
 // Writes a name, which leads to inode `to`, in the place of a slot.
 fn set_slot<S: Sectors>(
     s: &mut S,
-    place: Geometry,
-    n: u32,
+    geometry: Geometry,
+    ino: u32,
     inode: &Inode,
     slot: u64,
     name: &[u8],
     to: u32,
 ) -> Result<(), DiskFault>
-    requires sound { IsSound place (S.state s.old) }
-    requires below { n < place.inodes }
-    requires inode { inode.now ≡ inode_at place (S.state s.old).sectors n }
-    requires directory { (slots : List NamedInode) × HasSlots place.version (S.state s.old).sectors inode.now slots
+    requires sound { IsSound geometry (S.state s.old) }
+    requires below { ino < geometry.inodes }
+    requires inode { inode.now ≡ inode_at geometry (S.state s.old).sectors ino }
+    requires directory { (slots : List NamedInode) × HasSlots geometry.version (S.state s.old).sectors inode.now slots
         × (slot < length slots) }
     requires name { IsName name.now }
-    requires short { length name.now ≤ max_name place.version }
-    requires spare { HasSpare place 1 (S.state s.old) }
-    ensures change { OnOk result (ChangesContent place n 0 1 (S.state s.old) (S.state s.new) inode.now inode.now) }
-    ensures slots { OnOk result ((slots : List NamedInode) → HasSlots place.version (S.state s.old).sectors inode.now slots
-        → HaveDistinctNames (set slots slot (record { inode = to; name = name.now }))
-        → HasSlots place.version (S.state s.new).sectors inode.now (set slots slot (record { inode = to; name = name.now }))) }
+    requires short { length name.now ≤ max_name geometry.version }
+    requires spare { HasSpare geometry 1 (S.state s.old) }
+    ensures change { OnOk result (ChangesContent geometry ino 0 1 (S.state s.old) (S.state s.new) inode.now inode.now) }
+    ensures slots { OnOk result ((slots : List NamedInode) → HasSlots geometry.version (S.state s.old).sectors inode.now slots
+        → HaveDistinctNames (set slots slot (record { ino = to; name = name.now }))
+        → HasSlots geometry.version (S.state s.new).sectors inode.now (set slots slot (record { ino = to; name = name.now }))) }
     ensures store { SameStore (S.state s.old) (S.state s.new) }
     ensures cause { HasCause (S.state s.old).disk (S.state s.new).disk result }
 {
-    let slot_size = place.version.slot_size();
+    let slot_size = geometry.version.slot_size();
     let at = slot * slot_size as u64;
-    let block = block_with(place.version, to, name);
-    overwrite(s, place, n, inode, at, &block[..slot_size])?;
+    let block = block_with(geometry.version, to, name);
+    overwrite(s, geometry, ino, inode, at, &block[..slot_size])?;
     Ok(())
 }
 
-/// Leads a name of directory n to inode `to`. `inode` is inode n, and stays.
+/// Leads a name of directory `ino` to inode `to`. `inode` is its record, and stays.
 ///
 /// At `Err` the caller drops the changes of the transaction.
 pub fn replace<S: Sectors>(
     s: &mut S,
-    place: Geometry,
-    n: u32,
+    geometry: Geometry,
+    ino: u32,
     inode: &Inode,
     name: &[u8],
     to: u32,
 ) -> Result<(), DirFault>
-    requires sound { IsSound place (S.state s.old) }
-    requires below { n < place.inodes }
-    requires inode { inode.now ≡ inode_at place (S.state s.old).sectors n }
-    requires directory { (names : List (List ℕ × ℕ)) × HasNames place.version (S.state s.old).sectors inode.now names }
-    requires spare { HasSpare place 1 (S.state s.old) }
-    ensures change { OnOk result (ChangesContent place n 0 1 (S.state s.old) (S.state s.new) inode.now inode.now) }
-    ensures names { OnOk result ((names : List (List ℕ × ℕ)) → HasNames place.version (S.state s.old).sectors inode.now names
-        → (get name_cmp names name.now ≢ None) × HasNames place.version (S.state s.new).sectors inode.now
+    requires sound { IsSound geometry (S.state s.old) }
+    requires below { ino < geometry.inodes }
+    requires inode { inode.now ≡ inode_at geometry (S.state s.old).sectors ino }
+    requires directory { (names : List (List ℕ × ℕ)) × HasNames geometry.version (S.state s.old).sectors inode.now names }
+    requires spare { HasSpare geometry 1 (S.state s.old) }
+    ensures change { OnOk result (ChangesContent geometry ino 0 1 (S.state s.old) (S.state s.new) inode.now inode.now) }
+    ensures names { OnOk result ((names : List (List ℕ × ℕ)) → HasNames geometry.version (S.state s.old).sectors inode.now names
+        → (get name_cmp names name.now ≢ None) × HasNames geometry.version (S.state s.new).sectors inode.now
         (with_entry name_cmp names name.now to)) }
-    ensures why { IfErr result (λ e. (names : List (List ℕ × ℕ)) → HasNames place.version (S.state s.old).sectors inode.now names
+    ensures why { IfErr result (λ e. (names : List (List ℕ × ℕ)) → HasNames geometry.version (S.state s.old).sectors inode.now names
         → WhyNotChanged names name.now e) }
     ensures store { SameStore (S.state s.old) (S.state s.new) }
     ensures cause { HasCauseOf DirFault.DiskFault (S.state s.old).disk (S.state s.new).disk result }
 {
-    let found = named_slot(s, place, inode, name)?;
-    set_slot(s, place, n, inode, found.slot, name, to)?;
+    let found = named_slot(s, geometry, inode, name)?;
+    set_slot(s, geometry, ino, inode, found.slot, name, to)?;
     Ok(())
 }
 
-/// Gives what has a name in directory n another name there, which is new. `inode` is inode n, and stays.
+/// Gives what has a name in directory `ino` another name there, which is new. `inode` is its record, and stays.
 ///
 /// It takes no sector. At `Err` the caller drops the changes of the transaction.
 pub fn rename<S: Sectors>(
     s: &mut S,
-    place: Geometry,
-    n: u32,
+    geometry: Geometry,
+    ino: u32,
     inode: &Inode,
     name: &[u8],
     new_name: &[u8],
 ) -> Result<(), DirFault>
-    requires sound { IsSound place (S.state s.old) }
-    requires below { n < place.inodes }
-    requires inode { inode.now ≡ inode_at place (S.state s.old).sectors n }
-    requires directory { (names : List (List ℕ × ℕ)) × HasNames place.version (S.state s.old).sectors inode.now names
+    requires sound { IsSound geometry (S.state s.old) }
+    requires below { ino < geometry.inodes }
+    requires inode { inode.now ≡ inode_at geometry (S.state s.old).sectors ino }
+    requires directory { (names : List (List ℕ × ℕ)) × HasNames geometry.version (S.state s.old).sectors inode.now names
         × (get name_cmp names new_name.now ≡ None) }
     requires new_name { IsName new_name.now }
-    requires short { length new_name.now ≤ max_name place.version }
-    requires spare { HasSpare place 1 (S.state s.old) }
-    ensures change { OnOk result (ChangesContent place n 0 1 (S.state s.old) (S.state s.new) inode.now inode.now) }
-    ensures there { OnOk result ((names : List (List ℕ × ℕ)) → HasNames place.version (S.state s.old).sectors inode.now names
+    requires short { length new_name.now ≤ max_name geometry.version }
+    requires spare { HasSpare geometry 1 (S.state s.old) }
+    ensures change { OnOk result (ChangesContent geometry ino 0 1 (S.state s.old) (S.state s.new) inode.now inode.now) }
+    ensures there { OnOk result ((names : List (List ℕ × ℕ)) → HasNames geometry.version (S.state s.old).sectors inode.now names
         → get name_cmp names name.now ≢ None) }
-    ensures names { OnOk result ((names : List (List ℕ × ℕ)) (to : ℕ) → HasNames place.version (S.state s.old).sectors inode.now names
+    ensures names { OnOk result ((names : List (List ℕ × ℕ)) (to : ℕ) → HasNames geometry.version (S.state s.old).sectors inode.now names
         → get name_cmp names name.now ≡ Some to
-        → HasNames place.version (S.state s.new).sectors inode.now
+        → HasNames geometry.version (S.state s.new).sectors inode.now
         (with_entry name_cmp (without name_cmp names name.now) new_name.now to)) }
-    ensures why { IfErr result (λ e. (names : List (List ℕ × ℕ)) → HasNames place.version (S.state s.old).sectors inode.now names
+    ensures why { IfErr result (λ e. (names : List (List ℕ × ℕ)) → HasNames geometry.version (S.state s.old).sectors inode.now names
         → WhyNotChanged names name.now e) }
     ensures store { SameStore (S.state s.old) (S.state s.new) }
     ensures cause { HasCauseOf DirFault.DiskFault (S.state s.old).disk (S.state s.new).disk result }
 {
-    let found = named_slot(s, place, inode, name)?;
-    set_slot(s, place, n, inode, found.slot, new_name, found.inode)?;
+    let found = named_slot(s, geometry, inode, name)?;
+    set_slot(s, geometry, ino, inode, found.slot, new_name, found.ino)?;
     Ok(())
 }

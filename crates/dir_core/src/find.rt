@@ -21,7 +21,7 @@ pub(crate) struct FoundSlot {
     /// The slot's number.
     pub(crate) slot: u64,
     /// The inode's number.
-    pub(crate) inode: u32,
+    pub(crate) ino: u32,
 }
 
 // Whether the slot at `at` has the name. The length is compared first, and then the last byte, since names of one directory
@@ -43,9 +43,9 @@ fn is_named(version: Version, block: &[u8; 512], at: usize, name: &[u8]) -> bool
 }
 
 // The inode of the slot at `at`.
-fn slot_inode(block: &[u8; 512], at: usize) -> u32
+fn slot_ino(block: &[u8; 512], at: usize) -> u32
     requires { at + 4 ≤ 512 }
-    ensures { (version : Version) (x : NamedInode) → IsSlotAt version block.now at x → result ≡ x.inode }
+    ensures { (version : Version) (x : NamedInode) → IsSlotAt version block.now at x → result ≡ x.ino }
 {
     LittleEndian::read_u32(&block[at..])
 }
@@ -60,9 +60,9 @@ fn find_in_block(version: Version, block: &[u8; 512], name: &[u8]) -> Option<Fou
     for slot in 0..version.block_slots() {
         let at = slot_size * slot;
         if is_named(version, block, at, name) {
-            let inode = slot_inode(block, at);
+            let ino = slot_ino(block, at);
             let slot = slot as u64;
-            return Some(FoundSlot { slot, inode });
+            return Some(FoundSlot { slot, ino });
         }
     }
     None
@@ -106,7 +106,7 @@ fn find_at_hint<S: Sectors>(
     if let Some(found) = found {
         return Ok(Some(FoundSlot {
             slot: block_slots * k + found.slot,
-            inode: found.inode,
+            ino: found.ino,
         }));
     }
     Ok(None)
@@ -136,7 +136,7 @@ fn find_by_blocks<S: Sectors>(
         if let Some(found) = found {
             return Ok(Some(FoundSlot {
                 slot: block_slots * k + found.slot,
-                inode: found.inode,
+                ino: found.ino,
             }));
         }
     }

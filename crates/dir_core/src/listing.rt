@@ -104,19 +104,19 @@ fn leave_hints<S: Sectors>(s: &mut S, inode: &Inode, slots: &[Slot])
 pub fn list<S: Sectors>(
     alloc: Global,
     s: &mut S,
-    place: Geometry,
+    geometry: Geometry,
     inode: &Inode,
 ) -> Result<Vec<Slot>, DirFault>
-    requires sound { IsSound place (S.state s.old) }
-    requires there { IsInodeOf place (S.state s.old).sectors inode.now }
-    requires directory { (names : List (List ℕ × ℕ)) × HasNames place.version (S.state s.old).sectors inode.now names }
-    ensures found { IfOk result (λ found. (names : List (List ℕ × ℕ)) → HasNames place.version (S.state s.old).sectors inode.now names
+    requires sound { IsSound geometry (S.state s.old) }
+    requires there { IsInodeOf geometry (S.state s.old).sectors inode.now }
+    requires directory { (names : List (List ℕ × ℕ)) × HasNames geometry.version (S.state s.old).sectors inode.now names }
+    ensures found { IfOk result (λ found. (names : List (List ℕ × ℕ)) → HasNames geometry.version (S.state s.old).sectors inode.now names
         → map name_entry found.items ≡ names) }
     ensures faults { IfErr result (λ e. (e ≡ Device) ⊎ (e ≡ OutOfMemory)) }
     ensures same { IsUnchanged (S.state s.old) (S.state s.new) }
     ensures cause { HasCauseOf DirFault.DiskFault (S.state s.old).disk (S.state s.new).disk result }
 {
-    let mut slots = read_slots(alloc, s, place.version, inode)?;
+    let mut slots = read_slots(alloc, s, geometry.version, inode)?;
     leave_hints(s, inode, &slots);
     sort_by_name(&mut slots);
     Ok(slots)

@@ -18,20 +18,20 @@ use sector_txn::Sectors;
 /// The inode that a name leads to in a directory of the table. Bytes that can't be a name lead nowhere.
 pub fn lookup<S: Sectors>(
     s: &mut S,
-    place: Geometry,
+    geometry: Geometry,
     inode: &Inode,
     name: &[u8],
 ) -> Result<Option<u32>, DiskFault>
-    requires sound { IsSound place (S.state s.old) }
-    requires there { IsInodeOf place (S.state s.old).sectors inode.now }
-    requires directory { (names : List (List ℕ × ℕ)) × HasNames place.version (S.state s.old).sectors inode.now names }
-    ensures found { IfOk result (λ found. (names : List (List ℕ × ℕ)) → HasNames place.version (S.state s.old).sectors inode.now names
+    requires sound { IsSound geometry (S.state s.old) }
+    requires there { IsInodeOf geometry (S.state s.old).sectors inode.now }
+    requires directory { (names : List (List ℕ × ℕ)) × HasNames geometry.version (S.state s.old).sectors inode.now names }
+    ensures found { IfOk result (λ found. (names : List (List ℕ × ℕ)) → HasNames geometry.version (S.state s.old).sectors inode.now names
         → found ≡ get name_cmp names name.now) }
     ensures same { IsUnchanged (S.state s.old) (S.state s.new) }
     ensures cause { HasCause (S.state s.old).disk (S.state s.new).disk result }
 {
-    let found = find_slot(s, place.version, inode, name)?;
-    Ok(found.map(|slot| slot.inode))
+    let found = find_slot(s, geometry.version, inode, name)?;
+    Ok(found.map(|slot| slot.ino))
 }
 
 /// Whether a directory has no names.

@@ -65,23 +65,23 @@ module _ {p : Geometry} (old : TxnState) {processes : ProcessTable} {pid fd : �
   size_met fits = asked_is ∙ ap (λ (b : Bool). first_of (refuse EFBIG b ∷ [])) (le-ltb (max_file_size p.version) size fits)
 
   pub cuts : (new : TxnState) → d.write ≡ true → size ≤ max_file_size p.version → processes ≡ with_changed processes pid (λ p. p)
-      → ChangesBytes p d.number old new (λ held. resized held size)
+      → ChangesBytes p d.ino old new (λ held. resized held size)
       → IsChange p new.sectors processes s o.process (ftruncate_demands size (open_scene s o.process)) (λ k. ftruncate_effect fd size (open_scene s o.process)) Done
-      ((d.number, Modified) ∷ [])
+      ((d.ino, Modified) ∷ [])
   cuts new open_to_write fits same c =
       let x = open_fits o s at in
-      let body = (at.is_state.tree.each d.number x.node x.is_there).body in
+      let body = (at.is_state.tree.each d.ino x.node x.is_there).body in
       let limit : s.room.file_limit ≡ max_file_size p.version = ap (λ (r : Room). r.file_limit) at.same_room in
       let len = length-resized (bytes_in x.node.body) size in
       record {
         met = size_met fits;
         number = 0;
-        change = Rewrite Modified d.number (resized_node size x.node);
-        is = ap (λ (y : Descriptor). change_of y.number (the_node s.tree y.number)) (the_opened o)
-            ∙ ap (change_of d.number) (sym (ap (λ (y : Descriptor). the_node s.tree y.number) (the_opened o)) ∙ open_node o s at);
+        change = Rewrite Modified d.ino (resized_node size x.node);
+        is = ap (λ (y : Descriptor). change_of y.ino (the_node s.tree y.ino)) (the_opened o)
+            ∙ ap (change_of d.ino) (sym (ap (λ (y : Descriptor). the_node s.tree y.ino) (the_opened o)) ∙ open_node o s at);
         new_number = tt;
         times = refl;
-        holds = bytes_rewritten at processes (λ n was. subst (λ (k : ProcessTable). IsTrue (is_open k n)) at.same_processes was) d.number x.node x.is_there
+        holds = bytes_rewritten at processes (λ n was. subst (λ (k : ProcessTable). IsTrue (is_open k n)) at.same_processes was) d.ino x.node x.is_there
             (file_kind o s at open_to_write) (λ held. resized held size) c
             (omega (arith, len, limit, fits)) (IsBytes-resized (bytes_in x.node.body) size (bytes_are_bytes s.room s.tree x.node.body body));
       }

@@ -33,13 +33,13 @@ pub fstat_by : (fd : ℕ) → ActsOn (Fstat fd) fd Anything nothing_asked (fstat
 fstat_by fd = record { row = fstat_is fd }
 
 pub fstat_told : {p : Geometry} {map : SectorMap} {processes : ProcessTable} {pid fd : ℕ} {d : Descriptor} (o : IsOpened processes pid fd d) (v : Inode) (status : Status)
-    → v ≡ inode_at p map d.number
+    → v ≡ inode_at p map d.ino
     → ((kind : FileType) → type_of_kind v.kind ≡ Some kind → status
-    ≡ record { inode = d.number; kind = kind; mode = v.mode; links = v.names; owner = v.uid; group = v.gid; size = size_shown p.version v })
+    ≡ record { ino = d.ino; kind = kind; mode = v.mode; links = v.names; owner = v.uid; group = v.gid; size = size_shown p.version v })
     → (s : State) → IsStateOf p map processes s
     → (first_of (nothing_asked (open_scene s o.process)) ≡ None) × (fstat_effect fd (open_scene s o.process) ≡ answers (open_scene s o.process) (Shown status))
 fstat_told {p} {map} {processes} {pid} {fd} {d} o v status is says s at = (
   refl,
-  ap (λ (x : Descriptor). answers (open_scene s o.process) (Shown (shown s.tree x.number))) (the_opened o)
-      ∙ ap (λ (x : Status). answers (open_scene s o.process) (Shown x)) (sym (shown_is (state_tree at) d.number (open_there o s at) v status is says)),
+  ap (λ (x : Descriptor). answers (open_scene s o.process) (Shown (shown s.tree x.ino))) (the_opened o)
+      ∙ ap (λ (x : Status). answers (open_scene s o.process) (Shown x)) (sym (shown_is (state_tree at) d.ino (open_there o s at) v status is says)),
 )

@@ -62,7 +62,7 @@ use Rattle.call_parts.proofs.Leavings.{left_super, left_sound, left_node, node_s
 abbrev pub AreLeft : Tree → ProcessTable → ℕ → ℕ → (ℕ → Option Placed) → Type 0
 AreLeft t processes pid below what =
     (m : ℕ) → (what m ≡ placed (swept t (without nat_cmp processes pid)) m)
-    ⊎ ((what m ≡ placed t m) × ((fd : ℕ) (d : Descriptor) → fd < below → open_in processes pid fd ≡ Ok d → d.number ≢ m))
+    ⊎ ((what m ≡ placed t m) × ((fd : ℕ) (d : Descriptor) → fd < below → open_in processes pid fd ≡ Ok d → d.ino ≢ m))
 
 pub record HoldsLeft (p : Geometry) (map : SectorMap) (t : Tree) (processes : ProcessTable) (pid below : ℕ) : Type 0 where
   pub what : ℕ → Option Placed
@@ -88,13 +88,13 @@ leaving_begun {p} {old} {processes} {pid} sound spare = record {
 
 -- what is open has a number of the disk
 pub open_number : {p : Geometry} {map : SectorMap} {processes : ProcessTable} (pid fd : ℕ) (s : State) → IsStateOf p map processes s → (d : Descriptor)
-    → open_in processes pid fd ≡ Ok d → IsNumber p Inodes d.number
+    → open_in processes pid fd ≡ Ok d → IsNumber p Inodes d.ino
 open_number {p} {map} {processes} pid fd s at d is = closed_number (opened processes pid fd d is) s at
 
 -- what is open at none of the descriptors below is open at none up to this one
-not_below : (processes : ProcessTable) (pid below m : ℕ) → ((fd : ℕ) (d : Descriptor) → fd < below → open_in processes pid fd ≡ Ok d → d.number ≢ m)
-    → ((d : Descriptor) → open_in processes pid below ≡ Ok d → d.number ≢ m)
-    → (fd : ℕ) (d : Descriptor) → fd < below + 1 → open_in processes pid fd ≡ Ok d → d.number ≢ m
+not_below : (processes : ProcessTable) (pid below m : ℕ) → ((fd : ℕ) (d : Descriptor) → fd < below → open_in processes pid fd ≡ Ok d → d.ino ≢ m)
+    → ((d : Descriptor) → open_in processes pid below ≡ Ok d → d.ino ≢ m)
+    → (fd : ℕ) (d : Descriptor) → fd < below + 1 → open_in processes pid fd ≡ Ok d → d.ino ≢ m
 not_below processes pid below m before here fd d low there = elim (cases_eq fd below) [
   | inl e ↦ here d (ap (open_in processes pid) (sym e) ∙ there)
   | inr ne ↦ before fd d (omega (arith, low, ne)) there
@@ -108,7 +108,7 @@ module _ {p : Geometry} {was : SectorMap} (mid : TxnState) {processes : ProcessT
   now = without nat_cmp processes pid
 
   abbrev n : ℕ
-  n = d.number
+  n = d.ino
 
   gone : DropsNoNames (stays s.tree now) s.tree s.tree
   gone = (tree_may_be_swept s.room s.tree now at.is_state.tree).gone
@@ -189,7 +189,7 @@ module _ {p : Geometry} {was : SectorMap} (mid : TxnState) {processes : ProcessT
             | inl done ↦ inl (then.others m ne ∙ done)
             | inr yet ↦ inr (
               then.others m ne ∙ yet.0,
-              not_below processes pid fd m yet.1 (λ c same e. (let one : c ≡ d = (let two = sym same ∙ is in cc) in ne (sym e ∙ ap (λ (x : Descriptor). x.number) one))),
+              not_below processes pid fd m yet.1 (λ c same e. (let one : c ≡ d = (let two = sym same ∙ is in cc) in ne (sym e ∙ ap (λ (x : Descriptor). x.ino) one))),
             )
           ]
         ];
@@ -242,12 +242,12 @@ leaving_on {p} {old} {mid} {new} {processes} {pid} {fd} low so_far store leaves 
 
 -- ---- the end
 
-no_number : (m : ℕ) (ds : List (ℕ × Descriptor)) → IsMap nat_cmp ds → ((fd : ℕ) (d : Descriptor) → get nat_cmp ds fd ≡ Some d → d.number ≢ m)
-    → list_any (λ d. d.1.number == m) ds ≡ false
+no_number : (m : ℕ) (ds : List (ℕ × Descriptor)) → IsMap nat_cmp ds → ((fd : ℕ) (d : Descriptor) → get nat_cmp ds fd ≡ Some d → d.ino ≢ m)
+    → list_any (λ d. d.1.ino == m) ds ≡ false
 no_number m [] rising none = refl
 no_number m (e ∷ ds) rising none =
-    ap (λ b. b || list_any (λ d. d.1.number == m) ds) (ne_eqb e.1.number m (at_first (λ (x : ℕ × Descriptor). true) (λ fd d. d.number ≢ m) e ds none))
-    ∙ no_number m ds (right _ _ rising) (at_rest (λ (x : ℕ × Descriptor). true) (λ fd d. d.number ≢ m) e ds rising none)
+    ap (λ b. b || list_any (λ d. d.1.ino == m) ds) (ne_eqb e.1.ino m (at_first (λ (x : ℕ × Descriptor). true) (λ fd d. d.ino ≢ m) e ds none))
+    ∙ no_number m ds (right _ _ rising) (at_rest (λ (x : ℕ × Descriptor). true) (λ fd d. d.ino ≢ m) e ds rising none)
 
 some_process : (o : Option Process) → IsSome o → (q : Process) × (o ≡ Some q)
 some_process None h = absurd (cc)
@@ -277,7 +277,7 @@ leaving_done {p} {old} {new} {processes} {pid} {below} some all so_far s at =
     is_process : IsProcess s.tree q
     is_process = state_process at pid q there
 
-    same_open : (m : ℕ) → ((fd : ℕ) (d : Descriptor) → fd < below → open_in processes pid fd ≡ Ok d → d.number ≢ m) → is_open s.processes m ≡ is_open now m
+    same_open : (m : ℕ) → ((fd : ℕ) (d : Descriptor) → fd < below → open_in processes pid fd ≡ Ok d → d.ino ≢ m) → is_open s.processes m ≡ is_open now m
     same_open m no_one =
         ap (λ (x : ProcessTable). is_open x m) at.same_processes
         ∙ sym (ap (λ (x : ProcessTable). is_open x m) (entry_again processes pid q rising there))
@@ -287,7 +287,7 @@ leaving_done {p} {old} {new} {processes} {pid} {below} some all so_far s at =
         let low = (is_process.each fd d here).below in
         no_one fd d (omega (arith, low, all)) (ap (answer_of_found (open_at fd)) there ∙ ap (λ (o : Option Descriptor). ok_or o EBADF) here)))
 
-    same_there : (m : ℕ) → ((fd : ℕ) (d : Descriptor) → fd < below → open_in processes pid fd ≡ Ok d → d.number ≢ m)
+    same_there : (m : ℕ) → ((fd : ℕ) (d : Descriptor) → fd < below → open_in processes pid fd ≡ Ok d → d.ino ≢ m)
         → placed (swept s.tree now) m ≡ placed s.tree m
     same_there m no_one = go (node_at s.tree m) refl
       where

@@ -49,37 +49,37 @@ file_held version map v (Dir a d) h no_link no_directory = absurd (no_directory 
 file_held version map v (Link target) h no_link no_directory = absurd (cc)
 
 module _ {p : Geometry} {map : SectorMap} {processes : ProcessTable} {pid fd : ℕ} {d : Descriptor} (o : IsOpened processes pid fd d) (s : State) (at : IsStateOf p map processes s) where
-  pub open_file : (v : Inode) → v ≡ inode_at p map d.number → v.kind ≢ kinds.Directory → IsFile map v (node_open (open_scene s o.process) fd).body
+  pub open_file : (v : Inode) → v ≡ inode_at p map d.ino → v.kind ≢ kinds.Directory → IsFile map v (node_open (open_scene s o.process) fd).body
   open_file v is no_directory =
       let x = open_fits o s at in
-      let held = subst (λ (w : Inode). HoldsBody p.version map w x.node.body) (sym is) (held_node (state_tree at) d.number x.node x.is_there).body in
+      let held = subst (λ (w : Inode). HoldsBody p.version map w x.node.body) (sym is) (held_node (state_tree at) d.ino x.node x.is_there).body in
       subst (λ (n : Node). IsFile map v n.body) (sym (open_node o s at)) (file_held p.version map v x.node.body held x.no_link no_directory)
 
-  pub open_directory : (inode_at p map d.number).kind ≡ kinds.Directory → is_directory (node_open (open_scene s o.process) fd).body ≡ true
+  pub open_directory : (inode_at p map d.ino).kind ≡ kinds.Directory → is_directory (node_open (open_scene s o.process) fd).body ≡ true
   open_directory is =
       let x = open_fits o s at in
-      ap (λ (n : Node). is_directory n.body) (open_node o s at) ∙ sym (held_kind (state_tree at) d.number x.node x.is_there) ∙ ap is_directory_kind is
+      ap (λ (n : Node). is_directory n.body) (open_node o s at) ∙ sym (held_kind (state_tree at) d.ino x.node x.is_there) ∙ ap is_directory_kind is
 
-  abbrev the_directory : (inode_at p map d.number).kind ≡ kinds.Directory → IsDirectoryAt s.tree d.number
+  abbrev the_directory : (inode_at p map d.ino).kind ≡ kinds.Directory → IsDirectoryAt s.tree d.ino
   the_directory is =
       let x = open_fits o s at in
       record {
         node = x.node;
         is_there = x.is_there;
-        directory = sym (held_kind (state_tree at) d.number x.node x.is_there) ∙ ap is_directory_kind is;
+        directory = sym (held_kind (state_tree at) d.ino x.node x.is_there) ∙ ap is_directory_kind is;
       }
 
   -- the names and the parent of a directory that is open
-  pub open_names : (v : Inode) → v ≡ inode_at p map d.number → v.kind ≡ kinds.Directory → HasNames p.version map v (names_of_body (node_open (open_scene s o.process) fd).body)
+  pub open_names : (v : Inode) → v ≡ inode_at p map d.ino → v.kind ≡ kinds.Directory → HasNames p.version map v (names_of_body (node_open (open_scene s o.process) fd).body)
   open_names v is directory =
-      let here = held_names (state_tree at) d.number (the_directory (sym (ap (λ (w : Inode). w.kind) is) ∙ directory)) in
+      let here = held_names (state_tree at) d.ino (the_directory (sym (ap (λ (w : Inode). w.kind) is) ∙ directory)) in
       subst (λ (n : Node). HasNames p.version map v (names_of_body n.body)) (sym (open_node o s at))
       (subst (λ (w : Inode). HasNames p.version map w (names_of_body (open_fits o s at).node.body)) (sym is) here)
 
-  pub open_parent : (v : Inode) → v ≡ inode_at p map d.number → v.kind ≡ kinds.Directory → v.parent ≡ parent s.tree d.number
+  pub open_parent : (v : Inode) → v ≡ inode_at p map d.ino → v.kind ≡ kinds.Directory → v.parent ≡ parent s.tree d.ino
   open_parent v is directory =
       ap (λ (w : Inode). w.parent) is
-      ∙ held_parent (state_tree at) d.number (the_directory (sym (ap (λ (w : Inode). w.kind) is) ∙ directory))
+      ∙ held_parent (state_tree at) d.ino (the_directory (sym (ap (λ (w : Inode). w.kind) is) ∙ directory))
 
-  pub has_names : (v : Inode) → v ≡ inode_at p map d.number → v.kind ≡ kinds.Directory → (names : List (List ℕ × ℕ)) × HasNames p.version map v names
+  pub has_names : (v : Inode) → v ≡ inode_at p map d.ino → v.kind ≡ kinds.Directory → (names : List (List ℕ × ℕ)) × HasNames p.version map v names
   has_names v is directory = (names_of_body (node_open (open_scene s o.process) fd).body, open_names v is directory)

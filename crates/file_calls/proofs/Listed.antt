@@ -42,7 +42,7 @@ listing_begun none one two a b empty first second =
     second ∙ ap (λ (l : Entries). l ++ b ∷ []) (first ∙ ap (λ (l : Entries). l ++ a ∷ []) empty)
 
 pub listing_grown : (a b : List ℕ × ℕ) (now new : Entries) (slots : List NamedInode) (k : ℕ) (slot : NamedInode) (name : List ℕ) (inode : ℕ)
-    → now ≡ a ∷ b ∷ map name_entry (take k slots) → new ≡ now ++ (name, inode) ∷ [] → name ≡ slot.name → inode ≡ slot.inode
+    → now ≡ a ∷ b ∷ map name_entry (take k slots) → new ≡ now ++ (name, inode) ∷ [] → name ≡ slot.name → inode ≡ slot.ino
     → slot ≡ get_or slots k slot → k < length slots → new ≡ a ∷ b ∷ map name_entry (take (k + 1) slots)
 listing_grown a b now new slots k slot name inode so_far push same_name same_inode is lt =
     push
@@ -73,19 +73,19 @@ module _ {p : Geometry} {map : SectorMap} {processes : ProcessTable} {pid fd : �
   abbrev scene : Scene
   scene = open_scene s o.process
 
-  pub readdir_refused : (v : Inode) → v ≡ inode_at p map d.number → (e : Refusal) → checked (refuse ENOTDIR (not (is_directory_kind v.kind))) ≡ Err e
+  pub readdir_refused : (v : Inode) → v ≡ inode_at p map d.ino → (e : Refusal) → checked (refuse ENOTDIR (not (is_directory_kind v.kind))) ≡ Err e
       → first_of (readdir_demands fd scene) ≡ Some e
   readdir_refused v is e refuses =
       ap (λ (b : Bool). first_of (refuse ENOTDIR (not b) ∷ [])) (open_kind o s at v is)
       ∙ first_refuses (refuse ENOTDIR (not (is_directory_kind v.kind))) [] e refuses
 
-  pub readdir_told : (v : Inode) → v ≡ inode_at p map d.number → v.kind ≡ kinds.Directory → (found : List (List ℕ × ℕ))
-      → ((names : List (List ℕ × ℕ)) → HasNames p.version map v names → found ≡ (46 ∷ [], d.number) ∷ (46 ∷ 46 ∷ [], v.parent) ∷ names)
+  pub readdir_told : (v : Inode) → v ≡ inode_at p map d.ino → v.kind ≡ kinds.Directory → (found : List (List ℕ × ℕ))
+      → ((names : List (List ℕ × ℕ)) → HasNames p.version map v names → found ≡ (46 ∷ [], d.ino) ∷ (46 ∷ 46 ∷ [], v.parent) ∷ names)
       → (first_of (readdir_demands fd scene) ≡ None) × (readdir_effect fd scene ≡ answers scene (Names found))
   readdir_told v is directory found lists =
       let names = names_of_body (node_open scene fd).body in (
         ap (λ (b : Bool). first_of (refuse ENOTDIR (not b) ∷ [])) (open_directory o s at (sym (ap (λ (w : Inode). w.kind) is) ∙ directory)),
-        ap (λ (x : Descriptor). answers scene (Names ((46 ∷ [], x.number) ∷ (46 ∷ 46 ∷ [], parent s.tree x.number) ∷ names))) (the_opened o)
-            ∙ ap (λ (m : ℕ). answers scene (Names ((46 ∷ [], d.number) ∷ (46 ∷ 46 ∷ [], m) ∷ names))) (sym (open_parent o s at v is directory))
+        ap (λ (x : Descriptor). answers scene (Names ((46 ∷ [], x.ino) ∷ (46 ∷ 46 ∷ [], parent s.tree x.ino) ∷ names))) (the_opened o)
+            ∙ ap (λ (m : ℕ). answers scene (Names ((46 ∷ [], d.ino) ∷ (46 ∷ 46 ∷ [], m) ∷ names))) (sym (open_parent o s at v is directory))
             ∙ ap (λ (l : List (List ℕ × ℕ)). answers scene (Names l)) (sym (lists names (open_names o s at v is directory))),
       )

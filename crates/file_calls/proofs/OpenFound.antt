@@ -198,7 +198,7 @@ module _ {p : Geometry} {map : SectorMap} {flags : Flags} {q : Process} {f : Fou
 
     change_is : (mode : ℕ) → open_change flags mode (scene_at s q f) n ≡ (if flags.trunc && flags.write then cut_at n else Same)
     change_is mode =
-        ap (λ (o : Option ℕ). if not (is_some o) then Make f.dir f.name n (born_file q.cred q.umask mode (the_node s.tree f.dir))
+        ap (λ (o : Option ℕ). if not (is_some o) then Make f.dir_ino f.name n (born_file q.cred q.umask mode (the_node s.tree f.dir_ino))
         else (if flags.trunc && flags.write then cut_at (unwrap_or o 0) else Same)) some
 
     prepared_by : (mode : ℕ) (new : SectorMap) (touching : List (ℕ × Touch)) (change : Change) → open_change flags mode (scene_at s q f) n ≡ change → HasNewNumber s change

@@ -62,23 +62,23 @@ pub finds_kept : {p : Geometry} {old mid : TxnState} {flags : Flags} {q : Proces
 finds_kept {p} {old} {mid} {flags} {q} {f} {s} same i = kept (λ (m : SectorMap). FindsIn p m flags q f s) same i
 
 -- and what was asked
-pub asked_later : (p : Geometry) {old mid : TxnState} (t : Tree) (dir step : ℕ) (cred : Credential) (v : Inode) → IsUnchanged old mid
-    → refused_or {A = Inode} (first_of (make_asked p old.sectors cred t dir step)) (Ok (inode_at p old.sectors dir)) ≡ Ok v
-    → refused_or {A = Inode} (first_of (make_asked p mid.sectors cred t dir step)) (Ok (inode_at p mid.sectors dir)) ≡ Ok v
-asked_later p {old} {mid} t dir step cred v same is =
-    kept (λ (m : SectorMap). refused_or {A = Inode} (first_of (make_asked p m cred t dir step)) (Ok (inode_at p m dir)) ≡ Ok v) same is
+pub asked_later : (p : Geometry) {old mid : TxnState} (t : Tree) (dir_ino step : ℕ) (cred : Credential) (v : Inode) → IsUnchanged old mid
+    → refused_or {A = Inode} (first_of (make_asked p old.sectors cred t dir_ino step)) (Ok (inode_at p old.sectors dir_ino)) ≡ Ok v
+    → refused_or {A = Inode} (first_of (make_asked p mid.sectors cred t dir_ino step)) (Ok (inode_at p mid.sectors dir_ino)) ≡ Ok v
+asked_later p {old} {mid} t dir_ino step cred v same is =
+    kept (λ (m : SectorMap). refused_or {A = Inode} (first_of (make_asked p m cred t dir_ino step)) (Ok (inode_at p m dir_ino)) ≡ Ok v) same is
 
 module _ {p : Geometry} {map : SectorMap} {flags : Flags} {q : Process} {f : Found} {s : State} (i : FindsIn p map flags q f s) (none : f.ino ≡ None) where
-  pub new_name : IsNameAt s.room s.tree f.dir f.name None
+  pub new_name : IsNameAt s.room s.tree f.dir_ino f.name None
   new_name = found_new i.is_state i.found i.bytes none
 
-  abbrev pub directory_there : IsDirectoryAt s.tree f.dir
+  abbrev pub directory_there : IsDirectoryAt s.tree f.dir_ino
   directory_there = record { node = new_name.node; is_there = new_name.stands; directory = new_name.directory }
 
-  pub dir_default : (v : Inode) → v ≡ inode_at p map f.dir → HasDefaultAcl map v (default_in new_name.node.body)
+  pub dir_default : (v : Inode) → v ≡ inode_at p map f.dir_ino → HasDefaultAcl map v (default_in new_name.node.body)
   dir_default v is =
       subst (λ (w : Inode). HasDefaultAcl map w (default_in new_name.node.body)) (sym is)
-      (default_says p.version map (inode_at p map f.dir) new_name.node.body new_name.directory (held_node (state_tree i.is_state) f.dir new_name.node new_name.stands).body)
+      (default_says p.version map (inode_at p map f.dir_ino) new_name.node.body new_name.directory (held_node (state_tree i.is_state) f.dir_ino new_name.node new_name.stands).body)
 
   -- ---- what is asked
 
@@ -86,15 +86,15 @@ module _ {p : Geometry} {map : SectorMap} {flags : Flags} {q : Process} {f : Fou
   absent = refuse ENOENT (not flags.create || f.slash)
 
   abbrev asked : List Demand
-  asked = make_asked p map q.cred s.tree f.dir (f.step - 1)
+  asked = make_asked p map q.cred s.tree f.dir_ino (f.step - 1)
 
   demands_are : open_demands flags (scene_at s q f) ≡ absent ∷ asked
   demands_are =
       ap (λ (o : Option ℕ). if is_some o then open_found_demands flags (scene_at s q f) else open_new_demands flags (scene_at s q f)) none
-      ∙ ap (λ (k : ℕ). absent ∷ permission_on q.cred s.tree f.dir write_and_search 1 (f.step - 1) ∷ refuse ENOSPC (nat_lt k least_free)
-      ∷ refuse ENOSPC (free_inodes s.room s.tree == 0) ∷ refuse ENOSPC (nat_le s.room.entries_limit (length (names_of_body (the_node s.tree f.dir).body))) ∷ []) i.is_state.free_is
-      ∙ ap (λ (r : Room). absent ∷ permission_on q.cred s.tree f.dir write_and_search 1 (f.step - 1) ∷ refuse ENOSPC (nat_lt (free_sectors p map) least_free)
-      ∷ refuse ENOSPC (free_inodes r s.tree == 0) ∷ refuse ENOSPC (nat_le r.entries_limit (length (names_of_body (the_node s.tree f.dir).body))) ∷ []) i.is_state.same_room
+      ∙ ap (λ (k : ℕ). absent ∷ permission_on q.cred s.tree f.dir_ino write_and_search 1 (f.step - 1) ∷ refuse ENOSPC (nat_lt k least_free)
+      ∷ refuse ENOSPC (free_inodes s.room s.tree == 0) ∷ refuse ENOSPC (nat_le s.room.entries_limit (length (names_of_body (the_node s.tree f.dir_ino).body))) ∷ []) i.is_state.free_is
+      ∙ ap (λ (r : Room). absent ∷ permission_on q.cred s.tree f.dir_ino write_and_search 1 (f.step - 1) ∷ refuse ENOSPC (nat_lt (free_sectors p map) least_free)
+      ∷ refuse ENOSPC (free_inodes r s.tree == 0) ∷ refuse ENOSPC (nat_le r.entries_limit (length (names_of_body (the_node s.tree f.dir_ino).body))) ∷ []) i.is_state.same_room
 
   pub none_is_there : (old new : DiskState) (e : Refusal) → checked absent ≡ Err e → IsRefusedOpen old new flags q f s e
   none_is_there old new e is =
@@ -106,12 +106,12 @@ module _ {p : Geometry} {map : SectorMap} {flags : Flags} {q : Process} {f : Fou
     may_be_made = (met_ok {A = Unit {0}} absent tt tt may).0
 
     module _ {A : Type 0} (y : A) (cred : Credential) (step : ℕ) (same_cred : cred ≡ q.cred) (same_step : step ≡ f.step - 1) where
-      asked_is : make_asked p map cred s.tree f.dir step ≡ asked
+      asked_is : make_asked p map cred s.tree f.dir_ino step ≡ asked
       asked_is =
-          ap (λ (k : Credential). make_asked p map k s.tree f.dir step) same_cred
-          ∙ ap (λ (k : ℕ). make_asked p map q.cred s.tree f.dir k) same_step
+          ap (λ (k : Credential). make_asked p map k s.tree f.dir_ino step) same_cred
+          ∙ ap (λ (k : ℕ). make_asked p map q.cred s.tree f.dir_ino k) same_step
 
-      pub make_refused : (old new : DiskState) (e : Refusal) → IsAnswered old new (refused_or {A = A} (first_of (make_asked p map cred s.tree f.dir step)) (Ok y)) (Err e)
+      pub make_refused : (old new : DiskState) (e : Refusal) → IsAnswered old new (refused_or {A = A} (first_of (make_asked p map cred s.tree f.dir_ino step)) (Ok y)) (Err e)
           → IsRefusedOpen old new flags q f s e
       make_refused old new e is =
           subst (λ (ds : List Demand). IsAnswered old new (refused_or {A = ℕ} (first_of ds) (Ok 0)) (Err e)) (sym demands_are)
@@ -119,28 +119,28 @@ module _ {p : Geometry} {map : SectorMap} {flags : Flags} {q : Process} {f : Fou
           (refused_as {A = ℕ} {B = A} (first_of asked) y 0 e old new
           (subst (λ (ds : List Demand). IsAnswered old new (refused_or {A = A} (first_of ds) (Ok y)) (Err e)) asked_is is)))
 
-      module _ (v : A) (is : refused_or {A = A} (first_of (make_asked p map cred s.tree f.dir step)) (Ok y) ≡ Ok v) where
+      module _ (v : A) (is : refused_or {A = A} (first_of (make_asked p map cred s.tree f.dir_ino step)) (Ok y) ≡ Ok v) where
         asked_none : first_of asked ≡ None
-        asked_none = ap first_of (sym asked_is) ∙ (met_ok {A = A} (first_of (make_asked p map cred s.tree f.dir step)) y v is).0
+        asked_none = ap first_of (sym asked_is) ∙ (met_ok {A = A} (first_of (make_asked p map cred s.tree f.dir_ino step)) y v is).0
 
         pub make_met : first_of (open_demands flags (scene_at s q f)) ≡ None
         make_met = ap first_of demands_are ∙ both_met absent asked may_be_made asked_none
 
         pub asked_of_it : v ≡ y
-        asked_of_it = sym (met_ok {A = A} (first_of (make_asked p map cred s.tree f.dir step)) y v is).1
+        asked_of_it = sym (met_ok {A = A} (first_of (make_asked p map cred s.tree f.dir_ino step)) y v is).1
 
         pub few_names : length (names_of_body new_name.node.body) < max_names p.version
         few_names =
-            subst (λ (u : Node). length (names_of_body u.body) < max_names p.version) (the_node_is s.tree f.dir new_name.node new_name.stands)
-            (has_few p map s.tree f.dir q.cred (f.step - 1) asked_none)
+            subst (λ (u : Node). length (names_of_body u.body) < max_names p.version) (the_node_is s.tree f.dir_ino new_name.node new_name.stands)
+            (has_few p map s.tree f.dir_ino q.cred (f.step - 1) asked_none)
 
-        pub can_make : CanMake p map s.tree f.dir f.name
+        pub can_make : CanMake p map s.tree f.dir_ino f.name
         can_make = may_make q.cred (f.step - 1) asked_none (state_tree i.is_state) directory_there f.name new_name.is_name
             (subst (λ (r : Room). length f.name ≤ r.name_limit) i.is_state.same_room new_name.short) new_name.leads
 
   -- ---- the file that was made
 
-  module _ (mode : ℕ) (gid : ℕ) (a : AccessList) (new : SectorMap) (n : ℕ) (made : MakesNode p f.dir f.name n (file_made q.cred.uid gid a) map new) where
+  module _ (mode : ℕ) (gid : ℕ) (a : AccessList) (new : SectorMap) (n : ℕ) (made : MakesNode p f.dir_ino f.name n (file_made q.cred.uid gid a) map new) where
     abbrev node : Node
     node = new_name.node
 
@@ -151,28 +151,28 @@ module _ {p : Geometry} {map : SectorMap} {flags : Flags} {q : Process} {f : Fou
     newborn =
         let is = i.is_state.is_state in
         let here = (is.processes i.is_state.up).each_process i.pid q i.found.there in
-        let fits = is.tree.each f.dir node new_name.stands in
+        let fits = is.tree.each f.dir_ino node new_name.stands in
         file_is_born s.room s.tree q.cred here.cred node fits.group q.umask mode fits.body
 
-    change_is : open_change flags mode (scene_at s q f) n ≡ Make f.dir f.name n file
+    change_is : open_change flags mode (scene_at s q f) n ≡ Make f.dir_ino f.name n file
     change_is =
-        ap (λ (o : Option ℕ). if not (is_some o) then Make f.dir f.name n (born_file q.cred q.umask mode (the_node s.tree f.dir))
+        ap (λ (o : Option ℕ). if not (is_some o) then Make f.dir_ino f.name n (born_file q.cred q.umask mode (the_node s.tree f.dir_ino))
         else (if flags.trunc && flags.write then Rewrite Modified (unwrap_or o 0) (record (the_node s.tree (unwrap_or o 0)) { body = with_bytes [] (the_node s.tree (unwrap_or o 0)).body }) else Same)) none
-        ∙ ap (λ (u : Node). Make f.dir f.name n (born_file q.cred q.umask mode u)) (the_node_is s.tree f.dir node new_name.stands)
+        ∙ ap (λ (u : Node). Make f.dir_ino f.name n (born_file q.cred q.umask mode u)) (the_node_is s.tree f.dir_ino node new_name.stands)
 
-    fresh : HasNewNumber s (Make f.dir f.name n file)
+    fresh : HasNewNumber s (Make f.dir_ino f.name n file)
     fresh =
         let free = made.takes.free in
         let below = free.1 in
         let same = ap (λ (r : Room). r.inodes) i.is_state.same_room in
         (free.0, omega (arith, below, same), nothing_stands (state_tree i.is_state) n free)
 
-    module _ (v : Inode) (is_dir : v ≡ inode_at p map f.dir) (group_is : gid ≡ (if v.mode / S_ISGID % 2 == 1 then v.gid else q.cred.gid))
+    module _ (v : Inode) (is_dir : v ≡ inode_at p map f.dir_ino) (group_is : gid ≡ (if v.mode / S_ISGID % 2 == 1 then v.gid else q.cred.gid))
         (acl_is : (d : Option AccessList) → HasDefaultAcl map v d → a ≡ born_acl d mode q.umask) where
-      dir_holds : HoldsNode p.version map v (record { node = node; names = names_of s.tree f.dir; parent = parent s.tree f.dir })
+      dir_holds : HoldsNode p.version map v (record { node = node; names = names_of s.tree f.dir_ino; parent = parent s.tree f.dir_ino })
       dir_holds =
-          subst (λ (w : Inode). HoldsNode p.version map w (record { node = node; names = names_of s.tree f.dir; parent = parent s.tree f.dir })) (sym is_dir)
-          (held_node (state_tree i.is_state) f.dir node new_name.stands)
+          subst (λ (w : Inode). HoldsNode p.version map w (record { node = node; names = names_of s.tree f.dir_ino; parent = parent s.tree f.dir_ino })) (sym is_dir)
+          (held_node (state_tree i.is_state) f.dir_ino node new_name.stands)
 
       group_given : gid ≡ file.group
       group_given =
@@ -185,27 +185,27 @@ module _ {p : Geometry} {map : SectorMap} {flags : Flags} {q : Process} {f : Fou
           acl_is (default_in node.body) (default_says p.version map v node.body new_name.directory dir_holds.body)
           ∙ ap (λ (d : Option AccessList). born_acl d mode q.umask) (default_is node.owner node.group node.body node.stamps new_name.directory)
 
-      born : HoldsNode p.version made.mid (inode_at p made.mid n) (record { node = file; names = 1; parent = f.dir })
+      born : HoldsNode p.version made.mid (inode_at p made.mid n) (record { node = file; names = 1; parent = f.dir_ino })
       born =
           subst (λ (k : ℕ). HoldsNode p.version made.mid (inode_at p made.mid n)
-          (record { node = record { owner = q.cred.uid; group = k; body = File (born_acl (the_directory node).default mode q.umask) []; stamps = no_stamps }; names = 1; parent = f.dir })) group_given
+          (record { node = record { owner = q.cred.uid; group = k; body = File (born_acl (the_directory node).default mode q.umask) []; stamps = no_stamps }; names = 1; parent = f.dir_ino })) group_given
           (subst (λ (l : AccessList). HoldsNode p.version made.mid (inode_at p made.mid n)
-          (record { node = record { owner = q.cred.uid; group = gid; body = File l []; stamps = no_stamps }; names = 1; parent = f.dir })) acl_given made.takes.holds)
+          (record { node = record { owner = q.cred.uid; group = gid; body = File l []; stamps = no_stamps }; names = 1; parent = f.dir_ino })) acl_given made.takes.holds)
 
-      here : HoldsNode p.version new (inode_at p new f.dir) (record {
+      here : HoldsNode p.version new (inode_at p new f.dir_ino) (record {
         node = record node { body = with_names (with_entry name_cmp (names_of_body node.body) f.name n) node.body };
-        names = names_of s.tree f.dir;
-        parent = parent s.tree f.dir;
+        names = names_of s.tree f.dir_ino;
+        parent = parent s.tree f.dir_ino;
       })
       here =
-          let before = inode_at p made.mid f.dir in
-          let held = dir_still_held (state_tree i.is_state) directory_there n made.takes.free made.takes.change (record { node = file; names = 1; parent = f.dir }) born made.takes.taken in
-          names_held made.mid new before (inode_at p new f.dir) (record { node = node; names = names_of s.tree f.dir; parent = parent s.tree f.dir }) held
+          let before = inode_at p made.mid f.dir_ino in
+          let held = dir_still_held (state_tree i.is_state) directory_there n made.takes.free made.takes.change (record { node = file; names = 1; parent = f.dir_ino }) born made.takes.taken in
+          names_held made.mid new before (inode_at p new f.dir_ino) (record { node = node; names = names_of s.tree f.dir_ino; parent = parent s.tree f.dir_ino }) held
           (with_entry name_cmp (names_of_body node.body) f.name n) new_name.directory made.names.kept made.names.acls
           (made.names.named (names_of_body node.body) (names_say p.version made.mid before node.body new_name.directory held.body))
 
       pub made_prepares : first_of (open_demands flags (scene_at s q f)) ≡ None → length (names_of_body node.body) < max_names p.version
-          → Prepares p new flags mode q f s n ((f.dir, Modified) ∷ (n, Born) ∷ [])
+          → Prepares p new flags mode q f s n ((f.dir_ino, Modified) ∷ (n, Born) ∷ [])
       made_prepares met has_room =
           let at = i.is_state in
           record {
@@ -215,7 +215,7 @@ module _ {p : Geometry} {map : SectorMap} {flags : Flags} {q : Process} {f : Fou
             times = ap (touches_of s.tree) change_is;
             holds = λ now still.
                 subst (λ (x : Change). HoldsAll p new (placed (swept (changed s.tree x) now))) (sym change_is)
-                (make_held s at.is_state at.up now still p map at.holds at.same_room made.mid new f.dir node f.name n file (record {
+                (make_held s at.is_state at.up now still p map at.holds at.same_room made.mid new f.dir_ino node f.name n file (record {
                   takes = takes_new new_name (subst (λ (r : Room). length (names_of_body node.body) < r.entries_limit) (sym at.same_room) has_room);
                   positive = fresh.0;
                   below = fresh.1;

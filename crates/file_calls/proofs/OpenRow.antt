@@ -114,7 +114,7 @@ without_absent {X} m k h none =
         apart false e = refl
 
 abbrev has_open : ℕ → Process → Bool
-has_open n q = list_any (λ d. d.1.number == n) q.descriptors
+has_open n q = list_any (λ d. d.1.ino == n) q.descriptors
 
 or_second : (a b : Bool) → b ≡ true → (a || b) ≡ true
 or_second true b e = refl
@@ -135,9 +135,9 @@ opened_too : (processes : ProcessTable) (pid : ℕ) (q : Process) (fd : ℕ) (d 
 opened_too processes pid q fd d n h there rising none was =
     any_with_entry (has_open n) processes pid (with_descriptor q fd d) h
     ∙ or_first (has_open n q) (has_open n (with_descriptor q fd d)) (list_any (λ (e : ℕ × Process). has_open n e.1) (without nat_cmp processes pid))
-    (λ e. any_with_entry (λ (x : Descriptor). x.number == n) q.descriptors fd d rising
-    ∙ or_second (d.number == n) (list_any (λ (e : ℕ × Descriptor). e.1.number == n) (without nat_cmp q.descriptors fd))
-    (ap (λ (l : List (ℕ × Descriptor)). list_any (λ (e : ℕ × Descriptor). e.1.number == n) l) (without_absent q.descriptors fd rising none) ∙ e))
+    (λ e. any_with_entry (λ (x : Descriptor). x.ino == n) q.descriptors fd d rising
+    ∙ or_second (d.ino == n) (list_any (λ (e : ℕ × Descriptor). e.1.ino == n) (without nat_cmp q.descriptors fd))
+    (ap (λ (l : List (ℕ × Descriptor)). list_any (λ (e : ℕ × Descriptor). e.1.ino == n) l) (without_absent q.descriptors fd rising none) ∙ e))
     (sym (again (has_open n) processes pid q h there) ∙ was)
 
 -- ---- the least unused descriptor
@@ -232,7 +232,7 @@ module _ {p : Geometry} (pid : ℕ) (path : List ℕ) (f : Flags) (mode : ℕ) (
           -- or it is done
           pub opens : {time : ℕ} (bytes : IsBytes path) (table : IsTable processes) (new : TxnState) (now : ProcessTable) → SameStore mid new → new.sectors 0 ≡ mid.sectors 0 → (n : ℕ) (d : Descriptor)
               → IsUnused processes pid fd
-              → d ≡ record { number = n; offset = 0; read = f.read; write = f.write; append = f.append }
+              → d ≡ record { ino = n; offset = 0; read = f.read; write = f.write; append = f.append }
               → now ≡ with_changed processes pid (λ x. with_descriptor x fd d)
               → ((s : State) → FindsIn p mid.sectors f q found s → Reaches p time new.sectors f mode q found s n)
               → Performs p time pid (Open path f mode) old new processes now (Ok (Fd fd))
@@ -255,7 +255,7 @@ module _ {p : Geometry} (pid : ℕ) (path : List ℕ) (f : Flags) (mode : ℕ) (
                   change = open_change f mode (scene_at s q found) n;
                   effect = open_after s pid q path f mode here found (open_found s at).is n
                       ∙ ap (λ (k : ℕ). record { change = open_change f mode (scene_at s q found) n; processes = with_entry nat_cmp s.processes pid (open_process q f k); reply = Fd (least_unused 0 q.descriptors); now = s.now }) x.number
-                      ∙ ap (λ (k : ℕ). record { change = open_change f mode (scene_at s q found) n; processes = with_entry nat_cmp s.processes pid (with_descriptor q k (record { number = n; offset = 0; read = f.read; write = f.write; append = f.append })); reply = Fd k; now = s.now }) (sym least)
+                      ∙ ap (λ (k : ℕ). record { change = open_change f mode (scene_at s q found) n; processes = with_entry nat_cmp s.processes pid (with_descriptor q k (record { ino = n; offset = 0; read = f.read; write = f.write; append = f.append })); reply = Fd k; now = s.now }) (sym least)
                       ∙ ap (λ (y : Descriptor). record { change = open_change f mode (scene_at s q found) n; processes = with_entry nat_cmp s.processes pid (with_descriptor q fd y); reply = Fd fd; now = s.now }) (sym d_is)
                       ∙ ap (λ (y : ProcessTable). record { change = open_change f mode (scene_at s q found) n; processes = y; reply = Fd fd; now = s.now }) entered;
                   new_number = x.new_number;

@@ -65,12 +65,12 @@ module _ {p : Geometry} {map : SectorMap} {processes : ProcessTable} {pid fd : �
   abbrev scene : Scene
   scene = open_scene s o.process
 
-  pub read_refused : (v : Inode) → v ≡ inode_at p map d.number → (e : Refusal) → checked (refuse EISDIR (is_directory_kind v.kind)) ≡ Err e
+  pub read_refused : (v : Inode) → v ≡ inode_at p map d.ino → (e : Refusal) → checked (refuse EISDIR (is_directory_kind v.kind)) ≡ Err e
       → first_of (read_demands fd scene) ≡ Some e
   read_refused v is e refuses =
       ap (λ (b : Bool). first_of (refuse EISDIR b ∷ [])) (open_kind o s at v is) ∙ first_refuses (refuse EISDIR (is_directory_kind v.kind)) [] e refuses
 
-  module _ (v : Inode) (is : v ≡ inode_at p map d.number) (no_directory : v.kind ≢ kinds.Directory) (len : ℕ) (read : List ℕ)
+  module _ (v : Inode) (is : v ≡ inode_at p map d.ino) (no_directory : v.kind ≢ kinds.Directory) (len : ℕ) (read : List ℕ)
       (found : (bytes : List ℕ) → Holds map v bytes → read ≡ take (min len move_limit) (drop d.offset bytes)) where
     read_is_part : read ≡ take (min len move_limit) (drop d.offset (bytes_in (node_open scene fd).body))
     read_is_part = found (bytes_in (node_open scene fd).body) (open_file o s at v is no_directory).holds
@@ -91,7 +91,7 @@ module _ {p : Geometry} {map : SectorMap} {processes : ProcessTable} {pid fd : �
         let bytes = bytes_in (node_open scene fd).body in
         let few : length bytes ≤ s.room.file_limit =
         subst (λ (n : Node). length (bytes_in n.body) ≤ s.room.file_limit) (sym (open_node o s at))
-        (bytes_are_few s.room s.tree x.node.body (at.is_state.tree.each d.number x.node x.is_there).body) in
+        (bytes_are_few s.room s.tree x.node.body (at.is_state.tree.each d.ino x.node x.is_there).body) in
         let limit : s.room.file_limit < 2 ^ 63 = at.is_state.room.file_limit in
         let part : length read ≡ length (take (min len move_limit) (drop d.offset bytes)) = ap length read_is_part in
         omega (arith, part, length-take (min len move_limit) (drop d.offset bytes), length-drop d.offset bytes, few, limit, x.offset)

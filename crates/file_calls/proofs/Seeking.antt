@@ -84,13 +84,13 @@ module _ {p : Geometry} {map : SectorMap} {processes : ProcessTable} {pid fd : �
   abbrev scene : Scene
   scene = open_scene s o.process
 
-  pub lseek_refused : (v : Inode) → v ≡ inode_at p map d.number → (e : Refusal) → checked (refuse EISDIR (is_directory_kind v.kind)) ≡ Err e
+  pub lseek_refused : (v : Inode) → v ≡ inode_at p map d.ino → (e : Refusal) → checked (refuse EISDIR (is_directory_kind v.kind)) ≡ Err e
       → first_of (lseek_demands fd whence by scene) ≡ Some e
   lseek_refused v is e refuses =
       ap (λ (b : Bool). first_of (refuse EISDIR b ∷ refuse EINVAL (not (is_some (sought scene fd whence by))) ∷ [])) (open_kind o s at v is)
       ∙ first_refuses (refuse EISDIR (is_directory_kind v.kind)) (refuse EINVAL (not (is_some (sought scene fd whence by))) ∷ []) e refuses
 
-  module _ (v : Inode) (is : v ≡ inode_at p map d.number) (no_directory : v.kind ≢ kinds.Directory) (base : ℕ) (start : whence ≡ Set → base ≡ 0)
+  module _ (v : Inode) (is : v ≡ inode_at p map d.ino) (no_directory : v.kind ≢ kinds.Directory) (base : ℕ) (start : whence ≡ Set → base ≡ 0)
       (present : whence ≡ Cur → base ≡ d.offset) (end : whence ≡ End → base ≡ v.size) where
     base_is : (w : Whence) → whence ≡ w → base ≡ seek_base scene fd w
     base_is Set e = start e

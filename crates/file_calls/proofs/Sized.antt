@@ -25,7 +25,7 @@ use Rattle.fs_model.specs.DescriptorCalls.{resized_node}
 use Rattle.fs_model.specs.Nodes.{is_directory, bytes_in}
 use Rattle.fs_model.specs.Processes.{Process, ProcessTable}
 use Rattle.fs_model.specs.Rules.{is_directory_kind}
-use Rattle.fs_model.specs.Scenes.{number, must_be_there, body_found, permission_at_end}
+use Rattle.fs_model.specs.Scenes.{found_ino, must_be_there, body_found, permission_at_end}
 use Rattle.fs_model.specs.States.{State}
 use Rattle.fs_model.specs.Trees.{Room, names_of, parent}
 use Rattle.fs_model.proofs.StepsBodies.{bytes_may_replace, length-resized, IsBytes-resized, bytes_are_bytes}
@@ -60,7 +60,7 @@ truncate_rest size s q f =
     ∷ []
 
 module _ {p : Geometry} {map : SectorMap} {processes : ProcessTable} {s : State} {pid : ℕ} {q : Process} {path : List ℕ} {f : Found} {n : ℕ} {v : Inode}
-    (at : IsStateOf p map processes s) (has : HasFound s pid q Follow path f) (some : f.ino ≡ Some n) (number_is : number f ≡ n) (inode : v ≡ inode_at p map n)
+    (at : IsStateOf p map processes s) (has : HasFound s pid q Follow path f) (some : f.ino ≡ Some n) (number_is : found_ino f ≡ n) (inode : v ≡ inode_at p map n)
     (size : ℕ) where
   abbrev last_asked : List Demand
   last_asked = refuse EFBIG (nat_lt (max_file_size p.version) size) ∷ []
@@ -122,7 +122,7 @@ module _ {p : Geometry} {map : SectorMap} {processes : ProcessTable} {s : State}
             (or_else-none (refuse EFBIG (nat_lt (max_file_size p.version) size)) ∙ fits)))
 
 module _ {p : Geometry} {old : TxnState} {processes : ProcessTable} {s : State} {pid : ℕ} {q : Process} {path : List ℕ} {f : Found} {n : ℕ} {v : Inode}
-    (at : IsStateOf p old.sectors processes s) (has : HasFound s pid q Follow path f) (some : f.ino ≡ Some n) (number_is : number f ≡ n) (inode : v ≡ inode_at p old.sectors n)
+    (at : IsStateOf p old.sectors processes s) (has : HasFound s pid q Follow path f) (some : f.ino ≡ Some n) (number_is : found_ino f ≡ n) (inode : v ≡ inode_at p old.sectors n)
     (size : ℕ) where
   -- the file has that size
   pub size_changed : (new : TxnState) → must_be_there f ≡ None → refuse EISDIR (is_directory_kind v.kind) ≡ None

@@ -97,21 +97,21 @@ module _ {processes : ProcessTable} {pid fd : ℕ} {d : Descriptor} (o : IsOpene
 
 module _ {p : Geometry} {map : SectorMap} {processes : ProcessTable} {pid fd : ℕ} {d : Descriptor} (o : IsOpened processes pid fd d) (s : State) (at : IsStateOf p map processes s)
     (wrote : d.write ≡ true) where
-  pub file_kind : (inode_at p map d.number).kind ≡ kinds.File
+  pub file_kind : (inode_at p map d.ino).kind ≡ kinds.File
   file_kind =
       let x = open_fits o s at in
-      written_kind p.version map (inode_at p map d.number) x.node.body (held_node (state_tree at) d.number x.node x.is_there).body x.no_link
+      written_kind p.version map (inode_at p map d.ino) x.node.body (held_node (state_tree at) d.ino x.node x.is_there).body x.no_link
       (no_directory_written (is_directory x.node.body) d.write x.no_writes wrote)
 
-  file_size : (inode_at p map d.number).size ≡ length (bytes_in (open_fits o s at).node.body)
+  file_size : (inode_at p map d.ino).size ≡ length (bytes_in (open_fits o s at).node.body)
   file_size =
       let x = open_fits o s at in
-      (bytes_say p.version map (inode_at p map d.number) x.node.body file_kind (held_node (state_tree at) d.number x.node x.is_there).body).size
+      (bytes_say p.version map (inode_at p map d.ino) x.node.body file_kind (held_node (state_tree at) d.ino x.node x.is_there).body).size
 
   abbrev scene : Scene
   scene = open_scene s o.process
 
-  module _ (v : Inode) (is : v ≡ inode_at p map d.number) (offset : ℕ) (offset_is : offset ≡ (if d.append then v.size else d.offset)) where
+  module _ (v : Inode) (is : v ≡ inode_at p map d.ino) (offset : ℕ) (offset_is : offset ≡ (if d.append then v.size else d.offset)) where
     abbrev geometry_of : Descriptor → Node → ℕ
     geometry_of x node = if x.append then length (bytes_in node.body) else x.offset
 
@@ -164,39 +164,39 @@ module _ {p : Geometry} {map : SectorMap} {processes : ProcessTable} {pid fd : �
               reply = Wrote count;
             }
 
-        pub effect_is : write_effect fd bytes (open_scene s o.process) ≡ effect_at d.number (open_fits o s at).node offset (max_file_size p.version)
+        pub effect_is : write_effect fd bytes (open_scene s o.process) ≡ effect_at d.ino (open_fits o s at).node offset (max_file_size p.version)
         effect_is =
-            ap (λ (b : Bool). if b then answers (open_scene s o.process) (Wrote 0) else effect_at (the_descriptor o.process fd).number
+            ap (λ (b : Bool). if b then answers (open_scene s o.process) (Wrote 0) else effect_at (the_descriptor o.process fd).ino
             (node_open (open_scene s o.process) fd) (write_offset (open_scene s o.process) fd) s.room.file_limit) some
-            ∙ ap (λ (x : Descriptor). effect_at x.number (node_open (open_scene s o.process) fd) (write_offset (open_scene s o.process) fd) s.room.file_limit) (the_opened o)
-            ∙ ap (λ (x : Node). effect_at d.number x (write_offset (open_scene s o.process) fd) s.room.file_limit) (open_node o s at)
-            ∙ ap (λ (x : ℕ). effect_at d.number (open_fits o s at).node x s.room.file_limit) offset_same
-            ∙ ap (effect_at d.number (open_fits o s at).node offset) limit_is
+            ∙ ap (λ (x : Descriptor). effect_at x.ino (node_open (open_scene s o.process) fd) (write_offset (open_scene s o.process) fd) s.room.file_limit) (the_opened o)
+            ∙ ap (λ (x : Node). effect_at d.ino x (write_offset (open_scene s o.process) fd) s.room.file_limit) (open_node o s at)
+            ∙ ap (λ (x : ℕ). effect_at d.ino (open_fits o s at).node x s.room.file_limit) offset_same
+            ∙ ap (effect_at d.ino (open_fits o s at).node offset) limit_is
 
 -- ---- what is written
 
 module _ {p : Geometry} {old new : TxnState} {processes : ProcessTable} {pid fd : ℕ} {d : Descriptor} (o : IsOpened processes pid fd d) (s : State) (at : IsStateOf p old.sectors processes s)
-    (wrote : d.write ≡ true) (v : Inode) (is : v ≡ inode_at p old.sectors d.number) (offset : ℕ) (offset_is : offset ≡ (if d.append then v.size else d.offset))
+    (wrote : d.write ≡ true) (v : Inode) (is : v ≡ inode_at p old.sectors d.ino) (offset : ℕ) (offset_is : offset ≡ (if d.append then v.size else d.offset))
     (bytes : List ℕ) (some : is_empty bytes ≡ false) (near : offset < max_file_size p.version) (enough : least_free ≤ free_sectors p old.sectors) (fresh : IsBytes bytes) (count : ℕ)
     (counted : count ≡ min (length bytes) (min move_limit (max_file_size p.version - offset)))
     (now : ProcessTable) (still : (n : ℕ) → IsTrue (is_open s.processes n) → IsTrue (is_open now n))
-    (c : ChangesBytes p d.number old new (λ held. overwritten held offset (take count bytes))) where
+    (c : ChangesBytes p d.ino old new (λ held. overwritten held offset (take count bytes))) where
   pub writes : IsChange p new.sectors now s (with_offset o.process fd (offset + count)) (write_demands fd bytes (open_scene s o.process))
-      (λ k. write_effect fd bytes (open_scene s o.process)) (Wrote count) ((d.number, Modified) ∷ [])
+      (λ k. write_effect fd bytes (open_scene s o.process)) (Wrote count) ((d.ino, Modified) ∷ [])
   writes =
       let x = open_fits o s at in
-      let body = (at.is_state.tree.each d.number x.node x.is_there).body in
+      let body = (at.is_state.tree.each d.ino x.node x.is_there).body in
       let limit : s.room.file_limit ≡ max_file_size p.version = ap (λ (r : Room). r.file_limit) at.same_room in
       let len = length-take count bytes in
       record {
         met = all_met o s at wrote v is offset offset_is bytes some near enough;
         number = 0;
-        change = Rewrite Modified d.number (written x.node offset (take count bytes));
+        change = Rewrite Modified d.ino (written x.node offset (take count bytes));
         is = effect_is o s at wrote v is offset offset_is bytes some near
-            ∙ ap (λ (k : ℕ). record { change = Rewrite Modified d.number (written x.node offset (take k bytes)); process = with_offset o.process fd (offset + k); reply = Wrote k }) (sym counted);
+            ∙ ap (λ (k : ℕ). record { change = Rewrite Modified d.ino (written x.node offset (take k bytes)); process = with_offset o.process fd (offset + k); reply = Wrote k }) (sym counted);
         new_number = tt;
         times = refl;
-        holds = bytes_rewritten at now still d.number x.node x.is_there (file_kind o s at wrote) (λ held. overwritten held offset (take count bytes)) c
+        holds = bytes_rewritten at now still d.ino x.node x.is_there (file_kind o s at wrote) (λ held. overwritten held offset (take count bytes)) c
             (length-overwritten (bytes_in x.node.body) offset (take count bytes) s.room.file_limit (bytes_are_few s.room s.tree x.node.body body) (omega (arith, len, counted, limit, near)))
             (IsBytes-overwritten (bytes_in x.node.body) offset (take count bytes) (bytes_are_bytes s.room s.tree x.node.body body) (IsBytes-take count bytes fresh));
       }

@@ -48,5 +48,5 @@ pub record Exits (p : Geometry) (pid : ℕ) (old new : TxnState) (before now : P
 -- Where a process has something open at the descriptor, that is as it was, or gone: no other process may have it open.
 pub data LeavesAt (p : Geometry) (processes : ProcessTable) (pid fd : ℕ) (old new : TxnState) : Type 0 where
   is_closed : (errno : Errno) → open_in processes pid fd ≡ Err errno → IsUnchanged old new → LeavesAt p processes pid fd old new
-  was_open : (d : Descriptor) → open_in processes pid fd ≡ Ok d → LeavesInode p d.number (is_open (without nat_cmp processes pid) d.number) old new
+  was_open : (d : Descriptor) → open_in processes pid fd ≡ Ok d → LeavesInode p d.ino (is_open (without nat_cmp processes pid) d.ino) old new
       → LeavesAt p processes pid fd old new

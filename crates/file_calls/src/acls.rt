@@ -9,8 +9,14 @@ ghost use Rattle.fs_model.specs.declared.call.Call.TheVariants.{GetAcl, SetAcl};
 ghost use Rattle.fs_model.specs.AttributeCalls.{acl_shown, needs_sector, set_acl_arguments};
 ghost use Rattle.fs_model.specs.Demands.{first_of};
 ghost use Rattle.fs_model.specs.Nodes.{Body, default_in};
-ghost use Rattle.path_walk.specs.Words.{inode_at, free_sectors, SameStore, IsUnchanged, HasBitmaps, IsSound, HasSpare, HasAcl, acl_takes, IsInodeOf, refused_or, Interrupts, IsAnswered};
-ghost use Rattle.bit_alloc.specs.Room.{TakesSpare};
+ghost use Rattle.fs_layout.specs.Images.{inode_at, free_sectors};
+ghost use Rattle.sector_txn.specs.Sectors.{SameStore, IsUnchanged};
+ghost use Rattle.bit_alloc.specs.Bitmaps.{HasBitmaps};
+ghost use Rattle.bit_alloc.specs.Inodes.{IsSound};
+ghost use Rattle.bit_alloc.specs.Room.{HasSpare, TakesSpare};
+ghost use Rattle.inode_table.specs.Acls.{HasAcl, acl_takes};
+ghost use Rattle.inode_table.specs.Inodes.{IsInodeOf};
+ghost use Rattle.path_walk.specs.Answers.{refused_or, Interrupts, IsAnswered};
 ghost use Rattle.call_parts.specs.Performing.{IsReadyFor, PerformsFor};
 ghost use Rattle.call_parts.specs.Asked.{holder_asked, acl_space_asked};
 ghost use Rattle.call_parts.specs.Given.{SavesAcl, SavesDefaultAcl, HasBody};
@@ -40,29 +46,29 @@ pub(crate) fn acl_of<S: Sectors>(s: &mut S, caller: &Caller, inode: &Inode) -> R
     }
 }
 
-/// Gives inode n this access ACL, for which there is space, and of its mode the bits above the permission bits. EIO: the
-/// disk has failed.
+/// Gives inode `ino` this access ACL, for which there is space, and of its mode the bits above the permission bits.
+/// EIO: the disk has failed.
 pub(crate) fn give_acl<S: Sectors>(
     s: &mut S,
     geometry: Geometry,
-    n: u32,
+    ino: u32,
     inode: &Inode,
     acl: &Acl,
 ) -> Result<(), Refusal>
     requires sound { IsSound geometry (S.state s.old) }
-    requires below { n < geometry.inodes }
-    requires inode { inode.now ≡ record (inode_at geometry (S.state s.old).sectors n) { mode = inode.now.mode } }
+    requires below { ino < geometry.inodes }
+    requires inode { inode.now ≡ record (inode_at geometry (S.state s.old).sectors ino) { mode = inode.now.mode } }
     requires fits { FitsInode inode.now }
     requires used { inode.now.kind ≢ Kind.Free }
     requires no_link { inode.now.kind ≢ Kind.Link }
     requires spare { HasSpare geometry 2 (S.state s.old) }
     requires room { acl_takes inode.now.acl (kept_acl acl.now) ≤ free_sectors geometry (S.state s.old).sectors }
-    ensures given { OnOk result (SavesAcl geometry n inode.now.mode acl.now (S.state s.old).sectors (S.state s.new).sectors) }
+    ensures given { OnOk result (SavesAcl geometry ino inode.now.mode acl.now (S.state s.old).sectors (S.state s.new).sectors) }
     ensures taken { OnOk result (TakesSpare geometry 2 (S.state s.old) (S.state s.new)) }
     ensures store { SameStore (S.state s.old) (S.state s.new) }
     ensures interrupts { IfErr result (Interrupts (S.state s.old).disk (S.state s.new).disk) }
 {
-    match save_acl(s, geometry, n, inode, acl) {
+    match save_acl(s, geometry, ino, inode, acl) {
         Ok(()) => Ok(()),
         Err(_) => Err(Refusal::Failed(Errno::EIO)),
     }
@@ -176,52 +182,52 @@ fn ask_for_space<S: Sectors>(
     Ok(())
 }
 
-// Gives inode n this default ACL, for which there is space, or none. EIO: the disk has failed.
+// Gives inode `ino` this default ACL, for which there is space, or none. EIO: the disk has failed.
 fn give_default_acl<S: Sectors>(
     s: &mut S,
     geometry: Geometry,
-    n: u32,
+    ino: u32,
     inode: &Inode,
     acl: Option<&Acl>,
 ) -> Result<(), Refusal>
-    requires loaded { IsUsedInode geometry (S.state s.old) n inode.now }
+    requires loaded { IsUsedInode geometry (S.state s.old) ino inode.now }
     requires spare { HasSpare geometry 2 (S.state s.old) }
     requires room { acl_takes inode.now.default_acl (option_copied acl) ≤ free_sectors geometry (S.state s.old).sectors }
-    ensures given { OnOk result (SavesDefaultAcl geometry n (option_copied acl.entry) (S.state s.old).sectors (S.state s.new).sectors) }
+    ensures given { OnOk result (SavesDefaultAcl geometry ino (option_copied acl.entry) (S.state s.old).sectors (S.state s.new).sectors) }
     ensures taken { OnOk result (TakesSpare geometry 2 (S.state s.old) (S.state s.new)) }
     ensures store { SameStore (S.state s.old) (S.state s.new) }
     ensures interrupts { IfErr result (Interrupts (S.state s.old).disk (S.state s.new).disk) }
 {
-    match save_default_acl(s, geometry, n, inode, acl) {
+    match save_default_acl(s, geometry, ino, inode, acl) {
         Ok(()) => Ok(()),
         Err(_) => Err(Refusal::Failed(Errno::EIO)),
     }
 }
 
-// Gives inode n, a file or a directory, this ACL, for which there is space, or removes its default ACL.
+// Gives inode `ino`, a file or a directory, this ACL, for which there is space, or removes its default ACL.
 fn replace_acl<S: Sectors>(
     s: &mut S,
     geometry: Geometry,
-    n: u32,
+    ino: u32,
     inode: &Inode,
     which: AclType,
     acl: Option<&Acl>,
 ) -> Result<(), Refusal>
-    requires loaded { IsUsedInode geometry (S.state s.old) n inode.now }
+    requires loaded { IsUsedInode geometry (S.state s.old) ino inode.now }
     requires no_link { inode.now.kind ≢ Kind.Link }
     requires spare { HasSpare geometry 2 (S.state s.old) }
     requires space { first_of (acl_space_asked which (option_copied acl) (free_sectors geometry (S.state s.old).sectors)) ≡ None }
     ensures access { OnOk result (which ≡ AclType.Access → (a : AccessList) → option_copied acl.entry ≡ Some a
-        → SavesAcl geometry n inode.now.mode a (S.state s.old).sectors (S.state s.new).sectors) }
+        → SavesAcl geometry ino inode.now.mode a (S.state s.old).sectors (S.state s.new).sectors) }
     ensures default { OnOk result (which ≡ AclType.Default
-        → SavesDefaultAcl geometry n (option_copied acl.entry) (S.state s.old).sectors (S.state s.new).sectors) }
+        → SavesDefaultAcl geometry ino (option_copied acl.entry) (S.state s.old).sectors (S.state s.new).sectors) }
     ensures taken { OnOk result (TakesSpare geometry 2 (S.state s.old) (S.state s.new)) }
     ensures store { SameStore (S.state s.old) (S.state s.new) }
     ensures interrupts { IfErr result (Interrupts (S.state s.old).disk (S.state s.new).disk) }
 {
     match (which, acl) {
-        (AclType::Access, Some(acl)) => give_acl(s, geometry, n, inode, acl),
-        _ => give_default_acl(s, geometry, n, inode, acl),
+        (AclType::Access, Some(acl)) => give_acl(s, geometry, ino, inode, acl),
+        _ => give_default_acl(s, geometry, ino, inode, acl),
     }
 }
 
@@ -244,8 +250,8 @@ pub fn set_acl<S: Sectors>(
     let inode = reached.inode;
     check_holder(which, inode.kind)?;
     ask_for_space(s, caller.geometry, which, acl)?;
-    let n = reached.number;
-    replace_acl(s, caller.geometry, n, &inode, which, acl)?;
-    touch(s, caller.geometry, caller.time, &[(n, Touch::Changed)])?;
+    let ino = reached.ino;
+    replace_acl(s, caller.geometry, ino, &inode, which, acl)?;
+    touch(s, caller.geometry, caller.time, &[(ino, Touch::Changed)])?;
     Ok(Reply::Done)
 }

@@ -4,8 +4,12 @@ ghost use Rattle.std.specs.Prelude.{◌≡◌, ◌≢◌, ◌<◌, Ok, OnOk, IfE
 ghost use Rattle.fs_model.specs.Demands.{first_of};
 ghost use Rattle.posix_acl.specs.AccessList.{AccessList, with_mode_bits};
 ghost use Rattle.fs_model.specs.declared.call.Call.TheVariants.{Chmod, Chown};
-ghost use Rattle.path_walk.specs.Words.{inode_at, SameStore, IsSound, HasSpare, HasAcl, refused_or, Interrupts};
-ghost use Rattle.bit_alloc.specs.Room.{TakesSpare};
+ghost use Rattle.fs_layout.specs.Images.{inode_at};
+ghost use Rattle.sector_txn.specs.Sectors.{SameStore};
+ghost use Rattle.bit_alloc.specs.Inodes.{IsSound};
+ghost use Rattle.bit_alloc.specs.Room.{HasSpare, TakesSpare};
+ghost use Rattle.inode_table.specs.Acls.{HasAcl};
+ghost use Rattle.path_walk.specs.Answers.{refused_or, Interrupts};
 ghost use Rattle.call_parts.specs.Performing.{IsReadyFor, PerformsFor};
 ghost use Rattle.call_parts.specs.Asked.{owner_asked};
 ghost use Rattle.call_parts.specs.Given.{GivesOwner, SavesAcl, special_mode};
@@ -31,24 +35,24 @@ fn check_owner(cred: &Cred, inode: &Inode, uid: u32, gid: u32, step: usize) -> R
     Ok(())
 }
 
-// Gives inode n this owner and group.
+// Gives inode `ino` this owner and group.
 fn give_owner<S: Sectors>(
     s: &mut S,
     geometry: Geometry,
-    n: u32,
+    ino: u32,
     inode: &Inode,
     uid: u32,
     gid: u32,
 ) -> Result<(), Refusal>
-    requires loaded { IsUsedInode geometry (S.state s.old) n inode.now }
+    requires loaded { IsUsedInode geometry (S.state s.old) ino inode.now }
     requires spare { HasSpare geometry 1 (S.state s.old) }
-    ensures given { OnOk result (GivesOwner geometry n uid gid (S.state s.old).sectors (S.state s.new).sectors) }
+    ensures given { OnOk result (GivesOwner geometry ino uid gid (S.state s.old).sectors (S.state s.new).sectors) }
     ensures taken { OnOk result (TakesSpare geometry 1 (S.state s.old) (S.state s.new)) }
     ensures store { SameStore (S.state s.old) (S.state s.new) }
     ensures interrupts { IfErr result (Interrupts (S.state s.old).disk (S.state s.new).disk) }
 {
     let given = Inode { uid, gid, ..*inode };
-    match save(s, geometry, n, &given) {
+    match save(s, geometry, ino, &given) {
         Ok(()) => Ok(()),
         Err(_) => Err(Refusal::Failed(Errno::EIO)),
     }
@@ -69,21 +73,21 @@ fn special_bits(cred: &Cred, inode: &Inode, mode: u16) -> u16
     sticky
 }
 
-// Gives inode n this mode.
+// Gives inode `ino` this mode.
 fn give_mode<S: Sectors>(
     s: &mut S,
     caller: &Caller,
     cred: &Cred,
-    n: u32,
+    ino: u32,
     inode: &Inode,
     mode: u16,
 ) -> Result<(), Refusal>
-    requires loaded { IsUsedInode caller.now.geometry (S.state s.old) n inode.now }
+    requires loaded { IsUsedInode caller.now.geometry (S.state s.old) ino inode.now }
     requires has { (a : AccessList) × HasAcl (S.state s.old).sectors inode.now a }
     requires no_link { inode.now.kind ≢ Kind.Link }
     requires spare { HasSpare caller.now.geometry 2 (S.state s.old) }
     ensures given { OnOk result ((a : AccessList) → HasAcl (S.state s.old).sectors inode.now a
-        → SavesAcl caller.now.geometry n (special_mode cred.now inode.now.kind inode.now.gid mode) (with_mode_bits a mode)
+        → SavesAcl caller.now.geometry ino (special_mode cred.now inode.now.kind inode.now.gid mode) (with_mode_bits a mode)
         (S.state s.old).sectors (S.state s.new).sectors) }
     ensures taken { OnOk result (TakesSpare caller.now.geometry 2 (S.state s.old) (S.state s.new)) }
     ensures store { SameStore (S.state s.old) (S.state s.new) }
@@ -95,7 +99,7 @@ fn give_mode<S: Sectors>(
         mode: special_bits(cred, inode, mode),
         ..*inode
     };
-    give_acl(s, caller.geometry, n, &moded, &acl)?;
+    give_acl(s, caller.geometry, ino, &moded, &acl)?;
     Ok(())
 }
 
@@ -110,9 +114,9 @@ pub fn chmod<S: Sectors>(s: &mut S, caller: &Caller, path: &Path, mode: u16) -> 
     let checks = check_mode(mode);
     let reached = reach_owned(s, caller, checks, path, Form::Follow)?;
     let cred = reached.process.cred();
-    let n = reached.number;
-    give_mode(s, caller, cred, n, &reached.inode, mode)?;
-    touch(s, caller.geometry, caller.time, &[(n, Touch::Changed)])?;
+    let ino = reached.ino;
+    give_mode(s, caller, cred, ino, &reached.inode, mode)?;
+    touch(s, caller.geometry, caller.time, &[(ino, Touch::Changed)])?;
     Ok(Reply::Done)
 }
 
@@ -136,8 +140,12 @@ pub fn chown<S: Sectors>(
     let uid = owner.unwrap_or(inode.uid);
     let gid = group.unwrap_or(inode.gid);
     check_owner(cred, &inode, uid, gid, reached.found.step)?;
-    let number = reached.number;
-    give_owner(s, caller.geometry, number, &inode, uid, gid)?;
-    touch(s, caller.geometry, caller.time, &[(number, Touch::Changed)])?;
+    give_owner(s, caller.geometry, reached.ino, &inode, uid, gid)?;
+    touch(
+        s,
+        caller.geometry,
+        caller.time,
+        &[(reached.ino, Touch::Changed)],
+    )?;
     Ok(Reply::Done)
 }

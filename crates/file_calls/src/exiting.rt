@@ -9,7 +9,11 @@ ghost use Rattle.fs_model.specs.Processes.{Descriptor as OpenFile};
 ghost use Rattle.fs_model.specs.Stands.{HoldsAll, placed};
 ghost use Rattle.fs_model.specs.States.{State};
 ghost use Rattle.open_files.specs.Tables.{open_in};
-ghost use Rattle.path_walk.specs.Words.{SameStore, IsNumber, IsSound, HasSpare, FailsToRead};
+ghost use Rattle.sector_txn.specs.Sectors.{SameStore};
+ghost use Rattle.bit_alloc.specs.Bitmaps.{IsNumber};
+ghost use Rattle.bit_alloc.specs.Inodes.{IsSound};
+ghost use Rattle.bit_alloc.specs.Room.{HasSpare};
+ghost use Rattle.path_walk.specs.Answers.{FailsToRead};
 ghost use Rattle.call_parts.specs.Performing.{MayPerform, IsStateOf};
 ghost use Rattle.file_calls.specs.Exiting.{Exits, LeavesAt};
 
@@ -30,7 +34,7 @@ fn leave_descriptor<S: Sectors>(
 ) -> Result<(), Refusal>
     requires sound { IsSound geometry (S.state s.old) }
     requires found { IsSome (get nat_cmp procs.now pid) }
-    requires number { (d : OpenFile) → open_in procs.now pid fd ≡ Ok d → IsNumber geometry Inodes d.number }
+    requires number { (d : OpenFile) → open_in procs.now pid fd ≡ Ok d → IsNumber geometry Inodes d.ino }
     requires spare { HasSpare geometry 1 (S.state s.old) }
     ensures store { SameStore (S.state s.old) (S.state s.new) }
     ensures leaves { OnOk result (LeavesAt geometry procs.now pid fd (S.state s.old) (S.state s.new)) }
@@ -40,9 +44,9 @@ fn leave_descriptor<S: Sectors>(
         Ok(descriptor) => descriptor,
         Err(_) => return Ok(()),
     };
-    let n = descriptor.number;
-    let stays_open = procs.is_open_by_others(pid, n);
-    leave(s, geometry, n, stays_open)?;
+    let ino = descriptor.ino;
+    let stays_open = procs.is_open_by_others(pid, ino);
+    leave(s, geometry, ino, stays_open)?;
     Ok(())
 }
 

@@ -5,7 +5,10 @@ ghost use Rattle.fs_layout.specs.Directories.{HasNames};
 ghost use Rattle.fs_model.specs.declared.call.Call.TheVariants.{Readdir};
 ghost use Rattle.fs_model.specs.Listings.{pairs};
 ghost use Rattle.dir_core.specs.Slots.{name_entry};
-ghost use Rattle.path_walk.specs.Words.{IsUnchanged, IsSound, IsInodeOf, Interrupts};
+ghost use Rattle.sector_txn.specs.Sectors.{IsUnchanged};
+ghost use Rattle.bit_alloc.specs.Inodes.{IsSound};
+ghost use Rattle.inode_table.specs.Inodes.{IsInodeOf};
+ghost use Rattle.path_walk.specs.Answers.{Interrupts};
 ghost use Rattle.call_parts.specs.Performing.{IsReadyFor, PerformsFor};
 
 use call_parts::{CallResult, Caller, OpenFor, check_is_directory, reach_open};
@@ -17,31 +20,31 @@ use sector_txn::Sectors;
 use std::alloc::Global;
 
 // Adds a name to others. ENOMEM: there is no memory for it.
-fn push_name(alloc: Global, names: &mut Vec<Named>, name: &[u8], inode: u32) -> Result<(), Refusal>
-    ensures added { OnOk result (pairs names.new.items ≡ pairs names.old.items ++ (name.now, inode) ∷ []) }
+fn push_name(alloc: Global, names: &mut Vec<Named>, name: &[u8], ino: u32) -> Result<(), Refusal>
+    ensures added { OnOk result (pairs names.new.items ≡ pairs names.old.items ++ (name.now, ino) ∷ []) }
     ensures fault { IfErr result (λ e. e ≡ Refusal.Failed Errno.ENOMEM) }
 {
     let Ok(name) = Name::from_slice(alloc, name) else {
         return Err(Refusal::Failed(Errno::ENOMEM));
     };
-    let Ok(_) = names.push(Named { name, inode }) else {
+    let Ok(_) = names.push(Named { name, ino }) else {
         return Err(Refusal::Failed(Errno::ENOMEM));
     };
     Ok(())
 }
 
 // The listing of directory n: itself, its parent, and its names. ENOMEM: there is no memory for it.
-fn list_slots(alloc: Global, n: u32, parent: u32, slots: &[Slot]) -> Result<Listing, Refusal>
-    ensures shown { IfOk result (λ names. names ≡ (codes ".", n) ∷ (codes "..", parent) ∷ map name_entry slots.now) }
+fn list_slots(alloc: Global, ino: u32, parent: u32, slots: &[Slot]) -> Result<Listing, Refusal>
+    ensures shown { IfOk result (λ names. names ≡ (codes ".", ino) ∷ (codes "..", parent) ∷ map name_entry slots.now) }
     ensures fault { IfErr result (λ e. e ≡ Refusal.Failed Errno.ENOMEM) }
 {
     let Ok(mut names) = Vec::with_capacity(alloc, slots.len() + 2) else {
         return Err(Refusal::Failed(Errno::ENOMEM));
     };
-    push_name(alloc, &mut names, b".", n)?;
+    push_name(alloc, &mut names, b".", ino)?;
     push_name(alloc, &mut names, b"..", parent)?;
     for slot in slots {
-        push_name(alloc, &mut names, slot.name(), slot.inode())?;
+        push_name(alloc, &mut names, slot.name(), slot.ino())?;
     }
     Ok(Listing::new(names))
 }
@@ -50,7 +53,7 @@ fn list_slots(alloc: Global, n: u32, parent: u32, slots: &[Slot]) -> Result<List
 fn list_names<S: Sectors>(
     s: &mut S,
     caller: &Caller,
-    n: u32,
+    ino: u32,
     inode: &Inode,
 ) -> Result<Listing, Refusal>
     requires sound { IsSound caller.now.geometry (S.state s.old) }
@@ -58,7 +61,7 @@ fn list_names<S: Sectors>(
     requires directory { (names : List (List ℕ × ℕ)) × HasNames caller.now.geometry.version (S.state s.old).sectors inode.now names }
     ensures found { IfOk result (λ found. (names : List (List ℕ × ℕ))
         → HasNames caller.now.geometry.version (S.state s.old).sectors inode.now names
-        → found ≡ (codes ".", n) ∷ (codes "..", inode.now.parent) ∷ names) }
+        → found ≡ (codes ".", ino) ∷ (codes "..", inode.now.parent) ∷ names) }
     ensures fault { IfErr result (λ e. Interrupts (S.state s.old).disk (S.state s.new).disk e) }
     ensures same { IsUnchanged (S.state s.old) (S.state s.new) }
 {
@@ -67,7 +70,7 @@ fn list_names<S: Sectors>(
         Err(DirFault::OutOfMemory) => return Err(Refusal::Failed(Errno::ENOMEM)),
         Err(_) => return Err(Refusal::Failed(Errno::EIO)),
     };
-    list_slots(caller.alloc, n, inode.parent, &slots)
+    list_slots(caller.alloc, ino, inode.parent, &slots)
 }
 
 /// Lists a directory: `.`, `..`, and its names in bytewise order.
@@ -80,6 +83,6 @@ pub fn readdir<S: Sectors>(s: &mut S, caller: &Caller, fd: usize) -> CallResult
 {
     let (descriptor, inode) = reach_open(s, caller, fd, OpenFor::Reading)?;
     check_is_directory(inode.kind)?;
-    let names = list_names(s, caller, descriptor.number, &inode)?;
+    let names = list_names(s, caller, descriptor.ino, &inode)?;
     Ok(Reply::Names(names))
 }

@@ -6,8 +6,13 @@ ghost use Rattle.fs_model.specs.Births.{born_acl};
 ghost use Rattle.fs_model.specs.Demands.{refuse};
 ghost use Rattle.fs_model.specs.States.{State};
 ghost use Rattle.fs_model.specs.Trees.{Tree};
-ghost use Rattle.path_walk.specs.Words.{inode_at, SameStore, IsUnchanged, IsSound, HasSpare, HasDefaultAcl, IsInodeOf, refused_or, FailsToRead, Interrupts};
-ghost use Rattle.bit_alloc.specs.Room.{TakesSpare};
+ghost use Rattle.fs_layout.specs.Images.{inode_at};
+ghost use Rattle.sector_txn.specs.Sectors.{SameStore, IsUnchanged};
+ghost use Rattle.bit_alloc.specs.Inodes.{IsSound};
+ghost use Rattle.bit_alloc.specs.Room.{HasSpare, TakesSpare};
+ghost use Rattle.inode_table.specs.Acls.{HasDefaultAcl};
+ghost use Rattle.inode_table.specs.Inodes.{IsInodeOf};
+ghost use Rattle.path_walk.specs.Answers.{refused_or, FailsToRead, Interrupts};
 ghost use Rattle.call_parts.specs.Makings.{CanMake};
 ghost use Rattle.call_parts.specs.NewNodes.{MakesNode, file_made};
 ghost use Rattle.file_calls.specs.Openings.{FindsIn, IsRefusedOpen, Reaches};
@@ -42,11 +47,11 @@ fn new_acl<S: Sectors>(
     Ok(acl)
 }
 
-// Makes an empty file with this owner, group and ACL, and names it in directory dir. EIO: the disk has failed.
+// Makes an empty file with this owner, group and ACL, and names it in directory `dir_ino`. EIO: the disk has failed.
 fn make_file<S: Sectors>(
     s: &mut S,
     geometry: Geometry,
-    dir: u32,
+    dir_ino: u32,
     directory: Inode,
     name: &[u8],
     uid: u32,
@@ -54,11 +59,11 @@ fn make_file<S: Sectors>(
     acl: &Acl,
 ) -> Result<u32, Refusal>
     requires sound { IsSound geometry (S.state s.old) }
-    requires directory { directory ≡ inode_at geometry (S.state s.old).sectors dir }
-    requires may { (t : Tree) × CanMake geometry (S.state s.old).sectors t dir name.now }
+    requires directory { directory ≡ inode_at geometry (S.state s.old).sectors dir_ino }
+    requires may { (t : Tree) × CanMake geometry (S.state s.old).sectors t dir_ino name.now }
     requires spare { HasSpare geometry 47 (S.state s.old) }
     ensures store { SameStore (S.state s.old) (S.state s.new) }
-    ensures made { IfOk result (λ n. MakesNode geometry dir name.now n (file_made uid gid acl.now)
+    ensures made { IfOk result (λ n. MakesNode geometry dir_ino name.now n (file_made uid gid acl.now)
         (S.state s.old).sectors (S.state s.new).sectors) }
     ensures taken { OnOk result (TakesSpare geometry 7 (S.state s.old) (S.state s.new)) }
     ensures err { IfErr result (FailsToRead (S.state s.old).disk (S.state s.new).disk) }
@@ -70,11 +75,11 @@ fn make_file<S: Sectors>(
         names: 1,
         ..Inode::FREE
     };
-    let Ok(n) = new_inode(s, geometry, &file, acl, None) else {
+    let Ok(ino) = new_inode(s, geometry, &file, acl, None) else {
         return Err(Refusal::Failed(Errno::EIO));
     };
-    name_inode(s, geometry, dir, directory, name, n)?;
-    Ok(n)
+    name_inode(s, geometry, dir_ino, directory, name, ino)?;
+    Ok(ino)
 }
 
 // Asks whether what was not found may be made.
@@ -109,15 +114,15 @@ pub(crate) fn open_new<S: Sectors>(
     check_new(flags, found)?;
     let cred = process.cred();
     let step = found.step.saturating_sub(1);
-    let directory = check_make(s, caller, cred, found.dir, step)?;
+    let directory = check_make(s, caller, cred, found.dir_ino, step)?;
     let acl = new_acl(s, caller, &directory, mode, process.umask())?;
     let gid = new_group(&directory, cred);
     let name = found.name.bytes();
     let uid = cred.uid();
-    let n = make_file(
+    let ino = make_file(
         s,
         caller.geometry,
-        found.dir,
+        found.dir_ino,
         directory,
         name,
         uid,
@@ -128,7 +133,7 @@ pub(crate) fn open_new<S: Sectors>(
         s,
         caller.geometry,
         caller.time,
-        &[(found.dir, Touch::Modified), (n, Touch::Born)],
+        &[(found.dir_ino, Touch::Modified), (ino, Touch::Born)],
     )?;
-    Ok(n)
+    Ok(ino)
 }

@@ -8,7 +8,11 @@ ghost use Rattle.fs_model.specs.OpenCall.{open_arguments, open_form};
 ghost use Rattle.fs_model.specs.States.{State};
 ghost use Rattle.fs_model.specs.Trees.{Tree};
 ghost use Rattle.fs_model.specs.declared.call.Call.TheVariants.{Open};
-ghost use Rattle.path_walk.specs.Words.{inode_at, SameStore, IsUnchanged, IsSound, HasSpare, refused_or, IsAnswered};
+ghost use Rattle.fs_layout.specs.Images.{inode_at};
+ghost use Rattle.sector_txn.specs.Sectors.{SameStore, IsUnchanged};
+ghost use Rattle.bit_alloc.specs.Inodes.{IsSound};
+ghost use Rattle.bit_alloc.specs.Room.{HasSpare};
+ghost use Rattle.path_walk.specs.Answers.{refused_or, IsAnswered};
 ghost use Rattle.path_walk.specs.HeldTrees.{HoldsTree, IsThere};
 ghost use Rattle.call_parts.specs.Performing.{MayPerform, Performs};
 ghost use Rattle.file_calls.specs.Openings.{open_asked, open_kind_asked, found_asked, FindsIn, IsRefusedOpen, Reaches};
@@ -108,19 +112,19 @@ fn check_found<S: Sectors>(
     s: &mut S,
     caller: &Caller,
     cred: &Cred,
-    n: u32,
+    ino: u32,
     step: usize,
     flags: Flags,
 ) -> Result<Inode, Refusal>
     requires sound { IsSound caller.now.geometry (S.state s.old) }
-    requires there { (t : Tree) × HoldsTree caller.now.geometry (S.state s.old).sectors t × IsThere t n }
-    ensures each { (t : Tree) → HoldsTree caller.now.geometry (S.state s.old).sectors t → IsThere t n
+    requires there { (t : Tree) × HoldsTree caller.now.geometry (S.state s.old).sectors t × IsThere t ino }
+    ensures each { (t : Tree) → HoldsTree caller.now.geometry (S.state s.old).sectors t → IsThere t ino
         → IsAnswered (S.state s.old).disk (S.state s.new).disk
-        (refused_or (first_of (found_asked flags cred.now t n step))
-        (Ok (inode_at caller.now.geometry (S.state s.old).sectors n))) result }
+        (refused_or (first_of (found_asked flags cred.now t ino step))
+        (Ok (inode_at caller.now.geometry (S.state s.old).sectors ino))) result }
     ensures same { IsUnchanged (S.state s.old) (S.state s.new) }
 {
-    let inode = load_inode(s, caller.geometry, n)?;
+    let inode = load_inode(s, caller.geometry, ino)?;
     check_kind(flags, inode.kind)?;
     permitted(s, caller, cred, &inode, wanted(flags), 1, step)?;
     Ok(inode)
@@ -139,27 +143,27 @@ fn open_old<S: Sectors>(
     caller: &Caller,
     process: &Process,
     found: &Found,
-    n: u32,
+    ino: u32,
     flags: Flags,
 ) -> Result<u32, Refusal>
     requires sound { IsSound caller.now.geometry (S.state s.old) }
     requires spare { HasSpare caller.now.geometry 47 (S.state s.old) }
     requires found { (st : State) × FindsIn caller.now.geometry (S.state s.old).sectors flags process.now found.now st }
-    requires some { found.now.ino ≡ Some n }
+    requires some { found.now.ino ≡ Some ino }
     ensures store { SameStore (S.state s.old) (S.state s.new) }
     ensures superblock { OnOk result ((S.state s.new).sectors 0 ≡ (S.state s.old).sectors 0) }
     ensures each { (mode : ℕ) (st : State) → FindsIn caller.now.geometry (S.state s.old).sectors flags process.now found.now st
         → MatchResult result (λ m. Reaches caller.now.geometry caller.now.time (S.state s.new).sectors flags mode process.now found.now st m)
         (λ e. IsRefusedOpen (S.state s.old).disk (S.state s.new).disk flags process.now found.now st e) }
 {
-    let inode = check_found(s, caller, process.cred(), n, found.step, flags)?;
+    let inode = check_found(s, caller, process.cred(), ino, found.step, flags)?;
     let cuts = cuts(flags);
     if !cuts {
-        return Ok(n);
+        return Ok(ino);
     }
-    give_size(s, caller.geometry, n, inode, 0)?;
-    touch(s, caller.geometry, caller.time, &[(n, Touch::Modified)])?;
-    Ok(n)
+    give_size(s, caller.geometry, ino, inode, 0)?;
+    touch(s, caller.geometry, caller.time, &[(ino, Touch::Modified)])?;
+    Ok(ino)
 }
 
 // Opens what was found, or makes it.
@@ -181,7 +185,7 @@ fn open_inode<S: Sectors>(
         (λ e. IsRefusedOpen (S.state s.old).disk (S.state s.new).disk flags process.now found.now st e) }
 {
     match found.ino {
-        Some(n) => open_old(s, caller, process, found, n, flags),
+        Some(ino) => open_old(s, caller, process, found, ino, flags),
         None => open_new(s, caller, process, found, flags, mode),
     }
 }
@@ -220,9 +224,9 @@ pub fn open<S: Sectors>(
     let cred = process.cred();
     let cwd = process.cwd();
     let found = walk(alloc, s, geometry, cred, cwd, path, form, 1)?;
-    let n = open_inode(s, &caller, process, &found, flags, mode)?;
+    let ino = open_inode(s, &caller, process, &found, flags, mode)?;
     let descriptor = Descriptor {
-        number: n,
+        ino,
         offset: 0,
         read: flags.read,
         write: flags.write,

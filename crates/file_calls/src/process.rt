@@ -33,9 +33,9 @@ pub fn close<S: Sectors>(
     ensures { (time : ℕ) → Performs geometry time pid (Close fd) (S.state s.old) (S.state s.new) procs.old procs.new result }
 {
     let descriptor = find_open(procs, pid, fd, OpenFor::Anything)?;
-    let n = descriptor.number;
-    let stays_open = procs.is_open_besides(pid, fd, n);
-    leave(s, geometry, n, stays_open)?;
+    let ino = descriptor.ino;
+    let stays_open = procs.is_open_besides(pid, fd, ino);
+    leave(s, geometry, ino, stays_open)?;
     procs.close(pid, fd);
     Ok(Reply::Done)
 }

@@ -27,11 +27,11 @@ fn size_of(version: Version, inode: &Inode) -> u64
     inode.size
 }
 
-// What is shown of inode n, which is used, on a disk of this version.
-fn status(version: Version, n: u32, inode: &Inode) -> Status
+// What is shown of inode `ino`, which is used, on a disk of this version.
+fn status(version: Version, ino: u32, inode: &Inode) -> Status
     requires used { inode.now.kind ≢ Kind.Free }
     ensures { (kind : ShownType) → type_of_kind inode.now.kind ≡ Some kind → result ≡ record {
-      inode = n;
+      ino = ino;
       kind = kind;
       mode = inode.now.mode;
       links = inode.now.names;
@@ -44,7 +44,7 @@ fn status(version: Version, n: u32, inode: &Inode) -> Status
         unreachable!()
     };
     Status {
-        inode: n,
+        ino,
         kind,
         mode: inode.mode,
         links: inode.names,
@@ -63,7 +63,7 @@ fn show_path<S: Sectors>(s: &mut S, caller: &Caller, path: &Path, form: Form) ->
 {
     let reached = reach(s, caller, Ok(()), path, form)?;
     let version = caller.geometry.version;
-    Ok(Reply::Shown(status(version, reached.number, &reached.inode)))
+    Ok(Reply::Shown(status(version, reached.ino, &reached.inode)))
 }
 
 /// Shows what a path leads to. ENOENT: nothing.
@@ -92,5 +92,5 @@ pub fn fstat<S: Sectors>(s: &mut S, caller: &Caller, fd: usize) -> CallResult
 {
     let (descriptor, inode) = reach_open(s, caller, fd, OpenFor::Anything)?;
     let version = caller.geometry.version;
-    Ok(Reply::Shown(status(version, descriptor.number, &inode)))
+    Ok(Reply::Shown(status(version, descriptor.ino, &inode)))
 }

@@ -6,8 +6,11 @@ ghost use Rattle.fs_layout.specs.Version.{max_file_size};
 ghost use Rattle.fs_layout.specs.Bytes.{resized};
 ghost use Rattle.fs_model.specs.Demands.{refuse};
 ghost use Rattle.fs_model.specs.declared.call.Call.TheVariants.{Truncate, Ftruncate};
-ghost use Rattle.path_walk.specs.Words.{inode_at, SameStore, IsSound, HasSpare, refused_or, FailsToRead};
-ghost use Rattle.bit_alloc.specs.Room.{TakesSpare};
+ghost use Rattle.fs_layout.specs.Images.{inode_at};
+ghost use Rattle.sector_txn.specs.Sectors.{SameStore};
+ghost use Rattle.bit_alloc.specs.Inodes.{IsSound};
+ghost use Rattle.bit_alloc.specs.Room.{HasSpare, TakesSpare};
+ghost use Rattle.path_walk.specs.Answers.{refused_or, FailsToRead};
 ghost use Rattle.call_parts.specs.Performing.{IsReadyFor, PerformsFor};
 ghost use Rattle.call_parts.specs.ByteChanges.{ChangesBytes};
 
@@ -34,27 +37,27 @@ fn check_size(geometry: Geometry, size: u64) -> Result<(), Refusal>
     refuse_if(Errno::EFBIG, size > geometry.max_file_size())
 }
 
-/// Cuts inode n, a file, to this size, or fills it up with zeros.
+/// Cuts inode `ino`, a file, to this size, or fills it up with zeros.
 pub(crate) fn give_size<S: Sectors>(
     s: &mut S,
     geometry: Geometry,
-    n: u32,
+    ino: u32,
     inode: Inode,
     size: u64,
 ) -> Result<(), Refusal>
     requires sound { IsSound geometry (S.state s.old) }
-    requires below { n < geometry.inodes }
-    requires inode { inode ≡ inode_at geometry (S.state s.old).sectors n }
+    requires below { ino < geometry.inodes }
+    requires inode { inode ≡ inode_at geometry (S.state s.old).sectors ino }
     requires file { inode.kind ≡ Kind.File }
     requires fits { size ≤ max_file_size geometry.version }
     requires spare { HasSpare geometry 5 (S.state s.old) }
-    ensures change { OnOk result (ChangesBytes geometry n (S.state s.old) (S.state s.new) (λ held. resized held size)) }
+    ensures change { OnOk result (ChangesBytes geometry ino (S.state s.old) (S.state s.new) (λ held. resized held size)) }
     ensures taken { OnOk result (TakesSpare geometry 5 (S.state s.old) (S.state s.new)) }
     ensures store { SameStore (S.state s.old) (S.state s.new) }
     ensures fault { IfErr result (FailsToRead (S.state s.old).disk (S.state s.new).disk) }
 {
     let mut inode = inode;
-    match set_size(s, geometry, n, &mut inode, size) {
+    match set_size(s, geometry, ino, &mut inode, size) {
         Ok(()) => Ok(()),
         Err(_) => Err(Refusal::Failed(Errno::EIO)),
     }
@@ -74,9 +77,9 @@ pub fn truncate<S: Sectors>(s: &mut S, caller: &Caller, path: &Path, size: u64) 
     let step = reached.found.step;
     permitted(s, caller, cred, &inode, WRITE, 1, step)?;
     check_size(caller.geometry, size)?;
-    let n = reached.number;
-    give_size(s, caller.geometry, n, inode, size)?;
-    touch(s, caller.geometry, caller.time, &[(n, Touch::Modified)])?;
+    let ino = reached.ino;
+    give_size(s, caller.geometry, ino, inode, size)?;
+    touch(s, caller.geometry, caller.time, &[(ino, Touch::Modified)])?;
     Ok(Reply::Done)
 }
 
@@ -89,8 +92,8 @@ pub fn ftruncate<S: Sectors>(s: &mut S, caller: &Caller, fd: usize, size: u64) -
 {
     let (descriptor, inode) = reach_open(s, caller, fd, OpenFor::Writing)?;
     check_size(caller.geometry, size)?;
-    let n = descriptor.number;
-    give_size(s, caller.geometry, n, inode, size)?;
-    touch(s, caller.geometry, caller.time, &[(n, Touch::Modified)])?;
+    let ino = descriptor.ino;
+    give_size(s, caller.geometry, ino, inode, size)?;
+    touch(s, caller.geometry, caller.time, &[(ino, Touch::Modified)])?;
     Ok(Reply::Done)
 }

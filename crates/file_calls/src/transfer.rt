@@ -5,7 +5,9 @@ ghost use Rattle.fs_model.specs.declared.call.Call.TheVariants.{Read, Lseek};
 ghost use Rattle.fs_model.specs.DescriptorCalls.{seekable};
 ghost use Rattle.fs_model.specs.Limits.{move_limit};
 ghost use Rattle.block_map.specs.Blocks.{IsWithin};
-ghost use Rattle.path_walk.specs.Words.{Holds, IsUnchanged, Interrupts};
+ghost use Rattle.fs_layout.specs.Images.{Holds};
+ghost use Rattle.sector_txn.specs.Sectors.{IsUnchanged};
+ghost use Rattle.path_walk.specs.Answers.{Interrupts};
 ghost use Rattle.call_parts.specs.Performing.{MayPerform, Performs};
 
 use block_map::read_at;

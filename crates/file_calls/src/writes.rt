@@ -6,8 +6,11 @@ ghost use Rattle.fs_layout.specs.Version.{max_file_size};
 ghost use Rattle.fs_layout.specs.Bytes.{overwritten};
 ghost use Rattle.fs_model.specs.Limits.{least_free, move_limit};
 ghost use Rattle.fs_model.specs.declared.call.Call.TheVariants.{Write};
-ghost use Rattle.path_walk.specs.Words.{inode_at, free_sectors, SameStore, IsSound, HasSpare, FailsToRead};
-ghost use Rattle.bit_alloc.specs.Room.{TakesSpare};
+ghost use Rattle.fs_layout.specs.Images.{inode_at, free_sectors};
+ghost use Rattle.sector_txn.specs.Sectors.{SameStore};
+ghost use Rattle.bit_alloc.specs.Inodes.{IsSound};
+ghost use Rattle.bit_alloc.specs.Room.{HasSpare, TakesSpare};
+ghost use Rattle.path_walk.specs.Answers.{FailsToRead};
 ghost use Rattle.call_parts.specs.Performing.{MayPerform, Performs};
 ghost use Rattle.call_parts.specs.ByteChanges.{ChangesBytes};
 
@@ -30,30 +33,30 @@ fn write_count(geometry: Geometry, len: usize, offset: u64) -> usize
     len.min(MAX_MOVE.min(left))
 }
 
-// Writes bytes that fit into what inode n, a file, holds. EIO: the disk has failed.
+// Writes bytes that fit into what inode `ino`, a file, holds. EIO: the disk has failed.
 fn write_bytes<S: Sectors>(
     s: &mut S,
     geometry: Geometry,
-    n: u32,
+    ino: u32,
     inode: Inode,
     offset: u64,
     bytes: &[u8],
 ) -> Result<(), Refusal>
     requires sound { IsSound geometry (S.state s.old) }
-    requires below { n < geometry.inodes }
-    requires inode { inode ≡ inode_at geometry (S.state s.old).sectors n }
+    requires below { ino < geometry.inodes }
+    requires inode { inode ≡ inode_at geometry (S.state s.old).sectors ino }
     requires file { inode.kind ≡ File }
     requires few { length bytes.now ≤ move_limit }
     requires fits { offset + length bytes.now ≤ max_file_size geometry.version }
     requires space { least_free ≤ free_sectors geometry (S.state s.old).sectors }
     requires spare { HasSpare geometry 47 (S.state s.old) }
     ensures store { SameStore (S.state s.old) (S.state s.new) }
-    ensures change { OnOk result (ChangesBytes geometry n (S.state s.old) (S.state s.new) (λ held. overwritten held offset bytes.now)) }
+    ensures change { OnOk result (ChangesBytes geometry ino (S.state s.old) (S.state s.new) (λ held. overwritten held offset bytes.now)) }
     ensures taken { OnOk result (TakesSpare geometry 16 (S.state s.old) (S.state s.new)) }
     ensures err { IfErr result (FailsToRead (S.state s.old).disk (S.state s.new).disk) }
 {
     let mut inode = inode;
-    match write_at(s, geometry, n, &mut inode, offset, bytes) {
+    match write_at(s, geometry, ino, &mut inode, offset, bytes) {
         Ok(()) => Ok(()),
         Err(_) => Err(Refusal::Failed(Errno::EIO)),
     }
@@ -92,8 +95,8 @@ pub fn write<S: Sectors>(
     if bytes.is_empty() {
         return Ok(Reply::Wrote(0));
     }
-    let n = descriptor.number;
-    let inode = load_inode(s, geometry, n)?;
+    let ino = descriptor.ino;
+    let inode = load_inode(s, geometry, ino)?;
     let offset = write_offset(descriptor, &inode);
     let limit = geometry.max_file_size();
     if offset >= limit {
@@ -101,8 +104,8 @@ pub fn write<S: Sectors>(
     }
     ask_for_sectors(s, geometry)?;
     let count = write_count(geometry, bytes.len(), offset);
-    write_bytes(s, geometry, n, inode, offset, &bytes[..count])?;
-    touch(s, geometry, now, &[(n, Touch::Modified)])?;
+    write_bytes(s, geometry, ino, inode, offset, &bytes[..count])?;
+    touch(s, geometry, now, &[(ino, Touch::Modified)])?;
     procs.seek(pid, fd, offset + count as u64);
     Ok(Reply::Wrote(count))
 }

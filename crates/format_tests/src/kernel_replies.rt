@@ -28,10 +28,10 @@ fn at(seconds: u64) -> Time {
     }
 }
 
-fn file(inode: u64, size: u64, mode: u32, links: u32, times: [u64; 3]) -> Attr {
+fn file(ino: u64, size: u64, mode: u32, links: u32, times: [u64; 3]) -> Attr {
     let [atime, mtime, ctime] = times;
     Attr {
-        inode,
+        ino,
         size,
         blocks: size.div_ceil(512),
         atime: at(atime),
@@ -181,7 +181,7 @@ const DOTS: &str =
 // Whether the entry has room in a list of 64 bytes.
 fn add(
     to: &mut Vec<u8>,
-    inode: u64,
+    ino: u64,
     next: u64,
     kind: EntryKind,
     name: &[u8],
@@ -189,7 +189,7 @@ fn add(
     requires { length name.now < 256 }
 {
     let entry = DirectoryEntry {
-        inode,
+        ino,
         next,
         kind,
         name: Piece::new(name),

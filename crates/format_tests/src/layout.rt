@@ -227,7 +227,7 @@ fn slot_read(part: Part, sector: &[u8; 512]) -> Result<Slot, LayoutFault> {
 
 fn is_slot(part: Part, sector: &[u8; 512], name: &[u8]) -> bool {
     match slot_read(part, sector) {
-        Ok(read) => read.inode() == 0x01020304 && read.name() == name,
+        Ok(read) => read.ino() == 0x01020304 && read.name() == name,
         Err(_) => false,
     }
 }

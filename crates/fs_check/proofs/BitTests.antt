@@ -95,8 +95,8 @@ used_there p m owned s owners from below =
 pub bits_right : (p : Geometry) (m : SectorMap) (owned : List Bool) (map : List ℕ) (k s : ℕ) → IsOwnerMap p m owned → map ≡ m (p.block_bitmap + k)
     → p.first_data ≤ s → s < p.sectors → 4096 * k ≤ s → s < 4096 * (k + 1) → get_or owned s false ≡ bit_in map (s % 4096) → IsBlockBit p m s
 bits_right p m owned map k s owners there from below low lt same =
-    let geometry : s % 4096 % 8 ≡ s % 8 = omega arith in
-    let is = same ∙ ap (λ (i : ℕ). nat_eq (bit_at (get_or map (s % 4096 / 8) 0) i) 1) geometry
+    let place : s % 4096 % 8 ≡ s % 8 = omega arith in
+    let is = same ∙ ap (λ (i : ℕ). nat_eq (bit_at (get_or map (s % 4096 / 8) 0) i) 1) place
     ∙ bit_there m p.block_bitmap s map (in_sector m p.block_bitmap k s map low lt there) in
     (is_block_bit p m s (get_or owned s false) (get_or owned s false) is (used_there p m owned s owners from below)).0 refl
 

@@ -90,11 +90,11 @@ module _ (p : Geometry) (m : SectorMap) (v : Inode) (inodes : List Inode) (slots
       let u = subst (IsUsable inodes) (are.each k (slot_at p.version m v k) lt) (usable k (slot_at p.version m v k) (omega (arith, lt, len))) in
       let size = table.len in
       let low = u.below in
-      let below : (slot_at p.version m v k).inode < p.inodes = omega (arith, size, low) in
+      let below : (slot_at p.version m v k).ino < p.inodes = omega (arith, size, low) in
       record {
         is = are.valid k lt;
         below = below;
-        used = subst (λ (w : Inode). w.kind ≢ Free) (table.each (slot_at p.version m v k).inode below) u.used;
+        used = subst (λ (w : Inode). w.kind ≢ Free) (table.each (slot_at p.version m v k).ino below) u.used;
         not_root = u.not_root;
       }
 
@@ -105,11 +105,11 @@ module _ (p : Geometry) (m : SectorMap) (v : Inode) (inodes : List Inode) (slots
       let x = good k below in
       let low = x.below in
       subst (IsUsable inodes) (sym (are.each k d below)) (record {
-        below = elim (cases_lt (slot_at p.version m v k).inode (length inodes)) [
+        below = elim (cases_lt (slot_at p.version m v k).ino (length inodes)) [
           | inl in_list ↦ in_list
-          | inr past ↦ absurd (x.used (ap (λ (w : Inode). w.kind) (free_behind p m inodes (slot_at p.version m v k).inode table past low)))
+          | inr past ↦ absurd (x.used (ap (λ (w : Inode). w.kind) (free_behind p m inodes (slot_at p.version m v k).ino table past low)))
         ];
-        used = subst (λ (w : Inode). w.kind ≢ Free) (sym (table.each (slot_at p.version m v k).inode low)) x.used;
+        used = subst (λ (w : Inode). w.kind ≢ Free) (sym (table.each (slot_at p.version m v k).ino low)) x.used;
         not_root = x.not_root;
       })
 

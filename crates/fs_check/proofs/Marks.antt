@@ -55,25 +55,25 @@ either_before a i b j = elim (cases_lt a b) [
 
 module _ (f : ℕ → ℕ → ℕ) (n i : ℕ) where
   more : (s : ℕ) → IsOnce f n i s → IsOnce f n (i + 1) s
-  more s x = record { inode = x.inode; at = x.at; before = before_more x.inode x.at n i x.before; is = x.is; some = x.some }
+  more s x = record { ino = x.ino; at = x.at; before = before_more x.ino x.at n i x.before; is = x.is; some = x.some }
 
   more_twice : (s : ℕ) → IsTwice f n i s → IsTwice f n (i + 1) s
-  more_twice s x = record { inode = x.inode; at = x.at; before = before_more x.inode x.at n i x.before; is = x.is; other = x.other }
+  more_twice s x = record { ino = x.ino; at = x.at; before = before_more x.ino x.at n i x.before; is = x.is; other = x.other }
 
   -- the last part, or an earlier one
   last_or : (s : ℕ) → IsOnce f n (i + 1) s → (f n i ≡ s) ⊎ IsOnce f n i s
-  last_or s x = elim (before_or x.inode x.at n i x.before) [
+  last_or s x = elim (before_or x.ino x.at n i x.before) [
     | inl e ↦ inl (ap (f n) (sym e.1) ∙ ap (λ k. f k x.at) (sym e.0) ∙ x.is)
-    | inr b ↦ inr (record { inode = x.inode; at = x.at; before = b; is = x.is; some = x.some })
+    | inr b ↦ inr (record { ino = x.ino; at = x.at; before = b; is = x.is; some = x.some })
   ]
 
   last_twice_or : (s : ℕ) → IsTwice f n (i + 1) s → ((f n i ≡ s) × IsOnce f n i s) ⊎ IsTwice f n i s
-  last_twice_or s x = elim (before_or x.inode x.at n i x.before) [
+  last_twice_or s x = elim (before_or x.ino x.at n i x.before) [
     | inl e ↦ inl (
       ap (f n) (sym e.1) ∙ ap (λ k. f k x.at) (sym e.0) ∙ x.is,
-      subst (λ k. IsOnce f k i s) e.0 (subst (λ k. IsOnce f x.inode k s) e.1 x.other),
+      subst (λ k. IsOnce f k i s) e.0 (subst (λ k. IsOnce f x.ino k s) e.1 x.other),
     )
-    | inr b ↦ inr (record { inode = x.inode; at = x.at; before = b; is = x.is; other = x.other })
+    | inr b ↦ inr (record { ino = x.ino; at = x.at; before = b; is = x.is; other = x.other })
   ]
 
   -- 0 is no sector
@@ -99,7 +99,7 @@ module _ (f : ℕ → ℕ → ℕ) (n i : ℕ) where
         | inl e ↦
             let here : get_or (set owned q true) s false ≡ true = ap (λ k. get_or (set owned q true) k false) e
             ∙ get_or-set_same owned q true false (omega (arith, below, len)) in
-            ((λ set. record { inode = n; at = i; before = inr (refl, omega arith); is = is ∙ sym e; some = λ z. some (sym e ∙ z) }), (λ y. here))
+            ((λ set. record { ino = n; at = i; before = inr (refl, omega arith); is = is ∙ sym e; some = λ z. some (sym e ∙ z) }), (λ y. here))
         | inr ne ↦
             let there : get_or (set owned q true) s false ≡ get_or owned s false = get_or-set_other owned q s true false ne in (
               (λ set. more s ((x.once s lt).0 (sym there ∙ set))),
@@ -141,11 +141,11 @@ module _ (f : ℕ → ℕ → ℕ) (n i : ℕ) where
               let here : get_or (set twice q true) s false ≡ true = ap (λ k. get_or (set twice q true) k false) e
               ∙ get_or-set_same twice q true false (omega (arith, below, len)) in (
                 (λ set. record {
-                  inode = n;
+                  ino = n;
                   at = i;
                   before = inr (refl, omega arith);
                   is = is ∙ sym e;
-                  other = record { inode = old.inode; at = old.at; before = old.before; is = old.is ∙ sym e; some = λ z. some (sym e ∙ z) };
+                  other = record { ino = old.ino; at = old.at; before = old.before; is = old.is ∙ sym e; some = λ z. some (sym e ∙ z) };
                 }),
                 (λ y. here),
               )
@@ -187,18 +187,18 @@ module _ (f : ℕ → ℕ → ℕ) (n i : ℕ) (none : (k : ℕ) → i ≤ k →
     once = λ s lt. (
       (λ set.
           let y = (x.once s lt).0 set in
-          record { inode = y.inode; at = y.at; before = before_next y.inode y.at n i y.before; is = y.is; some = y.some }),
+          record { ino = y.ino; at = y.at; before = before_next y.ino y.at n i y.before; is = y.is; some = y.some }),
       (λ y.
-          let some : f y.inode y.at ≢ 0 = λ z. y.some (sym y.is ∙ z) in
-          (x.once s lt).1 (record { inode = y.inode; at = y.at; before = back_before y.inode y.at some y.before; is = y.is; some = y.some })),
+          let some : f y.ino y.at ≢ 0 = λ z. y.some (sym y.is ∙ z) in
+          (x.once s lt).1 (record { ino = y.ino; at = y.at; before = back_before y.ino y.at some y.before; is = y.is; some = y.some })),
     );
     again = λ s lt. (
       (λ set.
           let y = (x.again s lt).0 set in
-          record { inode = y.inode; at = y.at; before = before_next y.inode y.at n i y.before; is = y.is; other = y.other }),
+          record { ino = y.ino; at = y.at; before = before_next y.ino y.at n i y.before; is = y.is; other = y.other }),
       (λ y.
-          let some : f y.inode y.at ≢ 0 = λ z. y.other.some (sym y.is ∙ z) in
-          (x.again s lt).1 (record { inode = y.inode; at = y.at; before = back_before y.inode y.at some y.before; is = y.is; other = y.other })),
+          let some : f y.ino y.at ≢ 0 = λ z. y.other.some (sym y.is ∙ z) in
+          (x.again s lt).1 (record { ino = y.ino; at = y.at; before = back_before y.ino y.at some y.before; is = y.is; other = y.other })),
     );
   }
 
@@ -216,7 +216,7 @@ mark_rest f n (suc more) size owned twice none x =
 
 module _ (p : Geometry) (m : SectorMap) where
   twice_here : {n i s : ℕ} → n < p.inodes → owned_part p m n i ≡ s → IsOnce (owned_part p m) n i s → IsTwice (owned_part p m) p.inodes 0 s
-  twice_here {n} {i} lt is other = record { inode = n; at = i; before = inl lt; is = is; other = other }
+  twice_here {n} {i} lt is other = record { ino = n; at = i; before = inl lt; is = is; other = other }
 
   -- where none stands twice
   pub once_if : (s : ℕ) → (IsTwice (owned_part p m) p.inodes 0 s → ⊥) → IsOwnedOnce p m s
@@ -224,9 +224,9 @@ module _ (p : Geometry) (m : SectorMap) where
       let x = counted_part m (inode_at p m j) s a in
       let y = counted_part m (inode_at p m k) s b in
       elim (either_before j x.0 k y.0) [
-        | inl first ↦ absurd (none (twice_here kl y.1 (record { inode = j; at = x.0; before = first; is = x.1; some = a.some })))
+        | inl first ↦ absurd (none (twice_here kl y.1 (record { ino = j; at = x.0; before = first; is = x.1; some = a.some })))
         | inr o ↦ elim o [
-          | inl second ↦ absurd (none (twice_here jl x.1 (record { inode = k; at = y.0; before = second; is = y.1; some = a.some })))
+          | inl second ↦ absurd (none (twice_here jl x.1 (record { ino = k; at = y.0; before = second; is = y.1; some = a.some })))
           | inr same ↦ (same.0, x.2 ∙ ap part_at same.1 ∙ sym y.2)
         ]
       ]
@@ -235,11 +235,11 @@ module _ (p : Geometry) (m : SectorMap) where
   pub not_once : (s : ℕ) → IsTwice (owned_part p m) p.inodes 0 s → IsOwnedOnce p m s → ⊥
   not_once s x once =
       let y = x.other in
-      let below = before_all x.inode x.at p.inodes x.before in
-      let lower : y.inode < p.inodes = elim y.before [ inl lt ↦ omega (arith, lt, below) | inr e ↦ let same = e.0 in omega (arith, same, below) ] in
-      let both = once y.inode x.inode lower below
+      let below = before_all x.ino x.at p.inodes x.before in
+      let lower : y.ino < p.inodes = elim y.before [ inl lt ↦ omega (arith, lt, below) | inr e ↦ let same = e.0 in omega (arith, same, below) ] in
+      let both = once y.ino x.ino lower below
       (record { at = part_at y.at; is = y.is; some = y.some }) (record { at = part_at x.at; is = x.is; some = y.some }) in
-      not_itself y.inode x.inode y.at x.at both.0 (part_at-injective y.at x.at both.1) y.before
+      not_itself y.ino x.ino y.at x.at both.0 (part_at-injective y.at x.at both.1) y.before
 
 -- maps that say nothing yet
 pub none_marked : (f : ℕ → ℕ → ℕ) (size : ℕ) (owned twice : List Bool) → length owned ≡ size → length twice ≡ size
@@ -247,8 +247,8 @@ pub none_marked : (f : ℕ → ℕ → ℕ) (size : ℕ) (owned twice : List Boo
 none_marked f size owned twice a b c d = record {
   owned_len = a;
   twice_len = b;
-  once = λ s lt. ((λ set. absurd (let e : false ≡ true = sym (c s) ∙ set in cc)), (λ x. absurd (let l = before_all x.inode x.at 0 x.before in omega (arith, l))));
-  again = λ s lt. ((λ set. absurd (let e : false ≡ true = sym (d s) ∙ set in cc)), (λ x. absurd (let l = before_all x.inode x.at 0 x.before in omega (arith, l))));
+  once = λ s lt. ((λ set. absurd (let e : false ≡ true = sym (c s) ∙ set in cc)), (λ x. absurd (let l = before_all x.ino x.at 0 x.before in omega (arith, l))));
+  again = λ s lt. ((λ set. absurd (let e : false ≡ true = sym (d s) ∙ set in cc)), (λ x. absurd (let l = before_all x.ino x.at 0 x.before in omega (arith, l))));
 }
 
 -- as where each says no
@@ -305,10 +305,10 @@ module _ (p : Geometry) (m : SectorMap) (owned twice : List Bool) (x : IsMarked 
     each = λ s lt. (
       (λ set.
           let y = (x.once s lt).0 (ap (λ l. get_or l s false) (sym same) ∙ set) in
-          record { by = y.inode; below = before_all y.inode y.at p.inodes y.before; is = record { at = part_at y.at; is = y.is; some = y.some } }),
+          record { by = y.ino; below = before_all y.ino y.at p.inodes y.before; is = record { at = part_at y.at; is = y.is; some = y.some } }),
       (λ o.
           let y = counted_part m (inode_at p m o.by) s o.is in
           ap (λ l. get_or l s false) same
-          ∙ (x.once s lt).1 (record { inode = o.by; at = y.0; before = inl o.below; is = y.1; some = o.is.some })),
+          ∙ (x.once s lt).1 (record { ino = o.by; at = y.0; before = inl o.below; is = y.1; some = o.is.some })),
     );
   }

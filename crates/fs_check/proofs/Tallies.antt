@@ -43,15 +43,15 @@ is_one-other : (i n : ℕ) → i ≢ n → is_one i n ≡ 0
 is_one-other i n ne = ap (λ b. cond b 1 0) (ne_eqb i n ne)
 
 naming_more : (n : ℕ) (slots : List NamedInode) (k : ℕ) (x : NamedInode) → k < length slots
-    → naming n (take (k + 1) slots) ≡ naming n (take k slots) + is_one (get_or slots k x).inode n
-naming_more n slots k x lt = sum_by_more (λ (y : NamedInode). cond (y.inode == n) 1 0) slots k x lt
+    → naming n (take (k + 1) slots) ≡ naming n (take k slots) + is_one (get_or slots k x).ino n
+naming_more n slots k x lt = sum_by_more (λ (y : NamedInode). cond (y.ino == n) 1 0) slots k x lt
 
 -- one name more
-pub add_one : (d : ℕ) (slots : List NamedInode) (k n : ℕ) (x : NamedInode) (c0 d0 c1 d1 : List ℕ) → k < length slots → (get_or slots k x).inode ≡ n
+pub add_one : (d : ℕ) (slots : List NamedInode) (k n : ℕ) (x : NamedInode) (c0 d0 c1 d1 : List ℕ) → k < length slots → (get_or slots k x).ino ≡ n
     → n < length c1 → n < length d1
     → AddsSlots d (take k slots) c0 d0 c1 d1 → AddsSlots d (take (k + 1) slots) c0 d0 (set c1 n (get_or c1 n 0 + 1)) (set d1 n d)
 add_one d slots k n x c0 d0 c1 d1 lt is in_counts in_directories h =
-    let who = (get_or slots k x).inode in
+    let who = (get_or slots k x).ino in
     record {
       counts_len = length-set c1 n (get_or c1 n 0 + 1) ∙ h.counts_len;
       directories_len = length-set d1 n d ∙ h.directories_len;
@@ -118,7 +118,7 @@ namings_of : (version : Version) (m : SectorMap) (v : Inode) (slots : List Named
 unfolding slots_naming
 namings_of version m v slots n is are =
     ap (naming n) (are_slots_of version m v slots are) ∙ naming-slots_of version m v n
-    ∙ sym (ap (λ k. cond (is_directory_kind k) (count_by (λ k. (slot_at version m v k).inode == n) (range_with_len 0 (slot_count version v))) 0) is)
+    ∙ sym (ap (λ k. cond (is_directory_kind k) (count_by (λ k. (slot_at version m v k).ino == n) (range_with_len 0 (slot_count version v))) 0) is)
 
 other_kind : (k : Kind) → k ≢ kinds.Directory → is_directory_kind k ≡ false
 other_kind kinds.Free ne = refl
@@ -133,7 +133,7 @@ few_slots Two v small = omega (arith, small)
 few_slots Three v small = omega (arith, small)
 
 no_namings : (version : Version) (m : SectorMap) (v : Inode) (n : ℕ) → v.kind ≢ kinds.Directory → namings_in version m v n ≡ 0
-no_namings version m v n ne = ap (λ b. cond b (count_by (λ k. (slot_at version m v k).inode == n) (range_with_len 0 (slot_count version v))) 0) (other_kind v.kind ne)
+no_namings version m v n ne = ap (λ b. cond b (count_by (λ k. (slot_at version m v k).ino == n) (range_with_len 0 (slot_count version v))) 0) (other_kind v.kind ne)
 
 few_namings : (version : Version) (m : SectorMap) (v : Inode) (n : ℕ) → (v.kind ≡ kinds.Directory → v.size ≤ MAX_DIRECTORY_SIZE) → namings_in version m v n ≤ MAX_DIRECTORY_SIZE / SLOT_SIZE
 few_namings version m v n small = go v.kind refl
@@ -144,8 +144,8 @@ few_namings version m v n small = go v.kind refl
     go kinds.Link e = let z = no_namings version m v n (λ d. absurd (let c : kinds.Link ≡ kinds.Directory = sym e ∙ d in cc)) in omega (arith, z)
     go kinds.Directory e =
         let size = few_slots version v (small e) in
-        let some = ap (λ k. cond (is_directory_kind k) (count_by (λ k. (slot_at version m v k).inode == n) (range_with_len 0 (slot_count version v))) 0) e in
-        let few = count_by-le-length (λ k. (slot_at version m v k).inode == n) (range_with_len 0 (slot_count version v)) in
+        let some = ap (λ k. cond (is_directory_kind k) (count_by (λ k. (slot_at version m v k).ino == n) (range_with_len 0 (slot_count version v))) 0) e in
+        let few = count_by-le-length (λ k. (slot_at version m v k).ino == n) (range_with_len 0 (slot_count version v)) in
         let long = length-range_with_len 0 (slot_count version v) in
         omega (arith, size, some, few, long)
 

@@ -39,9 +39,9 @@ pub record AreSlots (version : Version) (m : SectorMap) (v : Inode) (slots : Lis
 
 -- the slot's inode is one of the table, in use, and not the root
 pub record IsUsable (inodes : List Inode) (x : NamedInode) : Type 0 where
-  pub below : x.inode < length inodes
-  pub used : (get_or inodes x.inode free_inode).kind ≢ Free
-  pub not_root : x.inode ≢ root
+  pub below : x.ino < length inodes
+  pub used : (get_or inodes x.ino free_inode).kind ≢ Free
+  pub not_root : x.ino ≢ root
 
 abbrev pub HasGoodSlots : Geometry → SectorMap → Inode → Type 0
 HasGoodSlots p m v = (k : ℕ) → k < slot_count p.version v → IsGoodSlot p m v k
@@ -52,7 +52,7 @@ is_below x y = is_lt (name_cmp x.name y.name)
 
 -- how many of the slots name inode n
 abbrev pub naming : ℕ → List NamedInode → ℕ
-naming n slots = count_by (λ x. x.inode == n) slots
+naming n slots = count_by (λ x. x.ino == n) slots
 
 -- directory d's slots are added to the tables
 pub record AddsSlots (d : ℕ) (slots : List NamedInode) (counts directories counts' directories' : List ℕ) : Type 0 where

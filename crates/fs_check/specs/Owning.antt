@@ -71,19 +71,19 @@ IsEarlierPart n i m j = (n < m) ⊎ ((n ≡ m) × (i < j))
 
 -- before part i of inode n, a part has the sector
 pub record IsOnce (f : ℕ → ℕ → ℕ) (n i s : ℕ) : Type 0 where
-  pub inode : ℕ
+  pub ino : ℕ
   pub at : ℕ
-  pub before : IsEarlierPart inode at n i
-  pub is : f inode at ≡ s
+  pub before : IsEarlierPart ino at n i
+  pub is : f ino at ≡ s
   pub some : s ≢ 0
 
 -- so has a part before which another one has it
 pub record IsTwice (f : ℕ → ℕ → ℕ) (n i s : ℕ) : Type 0 where
-  pub inode : ℕ
+  pub ino : ℕ
   pub at : ℕ
-  pub before : IsEarlierPart inode at n i
-  pub is : f inode at ≡ s
-  pub other : IsOnce f inode at s
+  pub before : IsEarlierPart ino at n i
+  pub is : f ino at ≡ s
+  pub other : IsOnce f ino at s
 
 pub record IsMarked (f : ℕ → ℕ → ℕ) (n i size : ℕ) (owned twice : List Bool) : Type 0 where
   pub owned_len : length owned ≡ size

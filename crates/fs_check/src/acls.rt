@@ -164,9 +164,12 @@ pub(crate) fn acls<D: Disk>(disk: &mut D, opened: &Opened, inodes: &[Inode]) -> 
     ensures each { OnOk result (ObeysEach opened.now.geometry (meaning (D.state disk.old)) Acls) }
     ensures passed { Passed (IsLeast opened.now.geometry Acls) (D.state disk.old) (D.state disk.new) result }
 {
-    for n in 0..inodes.len() as u32 {
-        if !has_good_acls(disk, opened, &inodes[n as usize])? {
-            return Err(CheckFault::Found(Finding { rule: ACLS, at: n }));
+    for ino in 0..inodes.len() as u32 {
+        if !has_good_acls(disk, opened, &inodes[ino as usize])? {
+            return Err(CheckFault::Found(Finding {
+                rule: ACLS,
+                at: ino,
+            }));
         }
     }
     Ok(())

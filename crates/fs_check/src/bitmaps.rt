@@ -38,11 +38,11 @@ fn kind_field(table: &[u8; 512], at: usize) -> u16
 }
 
 // What bit n of the inode bitmap has to be; `table` is the sector of the inode, if there is such an inode.
-fn is_taken(geometry: Geometry, table: &[u8; 512], n: u32) -> bool
-    ensures { (m : SectorMap) → IsTableSector geometry m n table.now
-        → result ≡ (nat_lt n 2 || nat_le geometry.inodes n || not (nat_eq (u16_of (stored geometry m n) 0) 0)) }
+fn is_taken(geometry: Geometry, table: &[u8; 512], ino: u32) -> bool
+    ensures { (m : SectorMap) → IsTableSector geometry m ino table.now
+        → result ≡ (nat_lt ino 2 || nat_le geometry.inodes ino || not (nat_eq (u16_of (stored geometry m ino) 0) 0)) }
 {
-    n < 2 || geometry.inodes <= n || kind_field(table, geometry.inode_offset(n)) != 0
+    ino < 2 || geometry.inodes <= ino || kind_field(table, geometry.inode_offset(ino)) != 0
 }
 
 // The sector of the inode bitmap in which bit n stands: `map` has it, and is read again only where n is the sector's first bit.

@@ -207,11 +207,11 @@ pub(crate) fn laid_out<D: Disk>(disk: &mut D, opened: &Opened, inodes: &[Inode])
     ensures passed { Passed (IsLeast opened.now.geometry LaidOut) (D.state disk.old) (D.state disk.new) result }
 {
     let mut pointers = Pointers::new();
-    for n in 0..inodes.len() as u32 {
-        if !is_laid_out(disk, opened, &inodes[n as usize], &mut pointers)? {
+    for ino in 0..inodes.len() as u32 {
+        if !is_laid_out(disk, opened, &inodes[ino as usize], &mut pointers)? {
             return Err(CheckFault::Found(Finding {
                 rule: LAID_OUT,
-                at: n,
+                at: ino,
             }));
         }
     }

@@ -26,34 +26,34 @@ pub(crate) struct Names {
     pub repeated: Option<u32>,
 }
 
-// One more name of inode n, in directory d.
-fn add_name(n: usize, d: u32, counts: &mut [u64], directories: &mut [u32])
-    requires counts { n < length counts.old }
-    requires directories { n < length directories.old }
-    requires room { get_or counts.old n 0 + 1 < 2 ^ 64 }
-    ensures counts { counts.new ≡ set counts.old n (get_or counts.old n 0 + 1) }
-    ensures directories { directories.new ≡ set directories.old n d }
+// One more name of inode `ino`, in directory `dir_ino`.
+fn add_name(ino: usize, dir_ino: u32, counts: &mut [u64], directories: &mut [u32])
+    requires counts { ino < length counts.old }
+    requires directories { ino < length directories.old }
+    requires room { get_or counts.old ino 0 + 1 < 2 ^ 64 }
+    ensures counts { counts.new ≡ set counts.old ino (get_or counts.old ino 0 + 1) }
+    ensures directories { directories.new ≡ set directories.old ino dir_ino }
 {
-    counts[n] += 1;
-    directories[n] = d;
+    counts[ino] += 1;
+    directories[ino] = dir_ino;
 }
 
 // Adds what the slots of directory d name.
-fn add_slots(slots: &[Slot], d: u32, counts: &mut [u64], directories: &mut [u32])
-    requires counts { All (λ x. x.inode < length counts.old) slots.now }
-    requires directories { All (λ x. x.inode < length directories.old) slots.now }
+fn add_slots(slots: &[Slot], dir_ino: u32, counts: &mut [u64], directories: &mut [u32])
+    requires counts { All (λ x. x.ino < length counts.old) slots.now }
+    requires directories { All (λ x. x.ino < length directories.old) slots.now }
     requires room { (n : ℕ) → n < length counts.old → get_or counts.old n 0 + length slots.now < 2 ^ 64 }
-    ensures { AddsSlots d slots.now counts.old directories.old counts.new directories.new }
+    ensures { AddsSlots dir_ino slots.now counts.old directories.old counts.new directories.new }
 {
     for slot in slots {
-        add_name(slot.inode() as usize, d, counts, directories);
+        add_name(slot.ino() as usize, dir_ino, counts, directories);
     }
 }
 
 // The first directory in which a name stands twice, where d with these slots is the next.
-fn first_repeated(first: Option<u32>, d: u32, slots: &mut [Slot]) -> Option<u32>
-    ensures { (p : Geometry) (m : SectorMap) → IsRepeated p m d first → (HaveDistinctNames slots.old ↔ Obeys p m NamesApart d)
-        → IsRepeated p m (d + 1) result }
+fn first_repeated(first: Option<u32>, dir_ino: u32, slots: &mut [Slot]) -> Option<u32>
+    ensures { (p : Geometry) (m : SectorMap) → IsRepeated p m dir_ino first → (HaveDistinctNames slots.old ↔ Obeys p m NamesApart dir_ino)
+        → IsRepeated p m (dir_ino + 1) result }
 {
     if first.is_some() {
         return first;
@@ -61,7 +61,7 @@ fn first_repeated(first: Option<u32>, d: u32, slots: &mut [Slot]) -> Option<u32>
     if are_names_apart(slots) {
         return None;
     }
-    Some(d)
+    Some(dir_ino)
 }
 
 // Adds inode d, where it is a directory; not where one of its slots names no inode that it may.
@@ -69,29 +69,29 @@ fn add_directory<D: Disk>(
     disk: &mut D,
     opened: &Opened,
     inodes: &[Inode],
-    d: u32,
+    dir_ino: u32,
     names: &mut Names,
 ) -> Checked<bool>
     requires opened { BeginsWith (D.state disk.old) opened.now.geometry opened.now.area opened.now.commit }
     requires table { AreInodes opened.now.geometry (meaning (D.state disk.old)) inodes.now }
     requires before { ObeysBefore opened.now.geometry (meaning (D.state disk.old)) 10 }
-    requires below { d < length inodes.now }
-    requires names { IsNaming opened.now.geometry (meaning (D.state disk.old)) d
+    requires below { dir_ino < length inodes.now }
+    requires names { IsNaming opened.now.geometry (meaning (D.state disk.old)) dir_ino
         names.old.counts.items names.old.directories.items names.old.repeated }
-    ensures test { IfOk result (λ b. IsTrue b ↔ Obeys opened.now.geometry (meaning (D.state disk.old)) Slots d) }
+    ensures test { IfOk result (λ b. IsTrue b ↔ Obeys opened.now.geometry (meaning (D.state disk.old)) Slots dir_ino) }
     ensures names { IfOk result (λ b. IsTrue b
-        → IsNaming opened.now.geometry (meaning (D.state disk.old)) (d + 1) names.new.counts.items names.new.directories.items names.new.repeated) }
+        → IsNaming opened.now.geometry (meaning (D.state disk.old)) (dir_ino + 1) names.new.counts.items names.new.directories.items names.new.repeated) }
     ensures passed { Passed IsNone (D.state disk.old) (D.state disk.new) result }
 {
-    let inode = inodes[d as usize];
+    let inode = inodes[dir_ino as usize];
     if inode.kind != Kind::Directory {
         return Ok(true);
     }
     let Some(mut slots) = read_good_slots(disk, opened, inodes, &inode)? else {
         return Ok(false);
     };
-    add_slots(&slots, d, &mut names.counts, &mut names.directories);
-    names.repeated = first_repeated(names.repeated, d, &mut slots);
+    add_slots(&slots, dir_ino, &mut names.counts, &mut names.directories);
+    names.repeated = first_repeated(names.repeated, dir_ino, &mut slots);
     Ok(true)
 }
 
@@ -114,9 +114,12 @@ pub(crate) fn read_names<D: Disk>(disk: &mut D, opened: &Opened, inodes: &[Inode
         directories: vec![in opened.alloc; 0; opened.geometry.inodes as usize]?,
         repeated: None,
     };
-    for d in 0..inodes.len() as u32 {
-        if !add_directory(disk, opened, inodes, d, &mut names)? {
-            return Err(CheckFault::Found(Finding { rule: SLOTS, at: d }));
+    for dir_ino in 0..inodes.len() as u32 {
+        if !add_directory(disk, opened, inodes, dir_ino, &mut names)? {
+            return Err(CheckFault::Found(Finding {
+                rule: SLOTS,
+                at: dir_ino,
+            }));
         }
     }
     Ok(names)

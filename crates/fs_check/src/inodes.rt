@@ -88,17 +88,17 @@ fn is_blank(content: &[u8; 512], at: usize) -> bool
 }
 
 // Inode n of its table sector, where it is a good one of a disk of this version.
-fn good_inode(content: &[u8; 512], n: u32, version: Version) -> Option<Inode>
-    ensures is { IfSome result (λ v. inode_of (window content.now (INODE_SIZE * (n % 4)) INODE_SIZE) ≡ Ok v) }
+fn good_inode(content: &[u8; 512], ino: u32, version: Version) -> Option<Inode>
+    ensures is { IfSome result (λ v. inode_of (window content.now (INODE_SIZE * (ino % 4)) INODE_SIZE) ≡ Ok v) }
     ensures blank { IfSome result (λ v. v.kind ≡ Free → v ≡ free_inode) }
     ensures allowed { IfSome result (λ v. IsAllowed version v) }
-    ensures free { IfSome result (λ v. n ≡ 0 → v.kind ≡ Free) }
-    ensures top { IfSome result (λ v. n ≡ 1 → v.kind ≡ Directory) }
-    ensures none { IfNone result ((v : AnInode) → inode_of (window content.now (INODE_SIZE * (n % 4)) INODE_SIZE) ≡ Ok v
-        → IsAllowed version v → (n ≡ 0 → v.kind ≡ Free) → (n ≡ 1 → v.kind ≡ Directory) → ⊥) }
+    ensures free { IfSome result (λ v. ino ≡ 0 → v.kind ≡ Free) }
+    ensures top { IfSome result (λ v. ino ≡ 1 → v.kind ≡ Directory) }
+    ensures none { IfNone result ((v : AnInode) → inode_of (window content.now (INODE_SIZE * (ino % 4)) INODE_SIZE) ≡ Ok v
+        → IsAllowed version v → (ino ≡ 0 → v.kind ≡ Free) → (ino ≡ 1 → v.kind ≡ Directory) → ⊥) }
 {
-    let at = INODE_SIZE * (n as usize % 4);
-    if n != 1 && is_blank(content, at) {
+    let at = INODE_SIZE * (ino as usize % 4);
+    if ino != 1 && is_blank(content, at) {
         return Some(Inode::FREE);
     }
     let Ok(inode) = Inode::read_any(content, at) else {
@@ -107,53 +107,53 @@ fn good_inode(content: &[u8; 512], n: u32, version: Version) -> Option<Inode>
     if !is_allowed(&inode, version) {
         return None;
     }
-    if n == 0 && inode.kind != Kind::Free {
+    if ino == 0 && inode.kind != Kind::Free {
         return None;
     }
-    if n == 1 && inode.kind != Kind::Directory {
+    if ino == 1 && inode.kind != Kind::Directory {
         return None;
     }
     Some(inode)
 }
 
-// The sector of the inode table that inode n stands in, if there is such an inode: `table` has it, and is read again
+// The sector of the inode table that inode `ino` stands in, if there is such an inode: `table` has it, and is read again
 // only where n is the sector's first.
 pub(crate) fn read_table<D: Disk>(
     disk: &mut D,
     opened: &Opened,
-    n: u32,
+    ino: u32,
     table: &mut [u8; 512],
 ) -> Checked<()>
     requires opened { BeginsWith (D.state disk.old) opened.now.geometry opened.now.area opened.now.commit }
-    requires kept { n % 4 ≢ 0 → IsTableSector opened.now.geometry (meaning (D.state disk.old)) n table.old }
-    ensures table { OnOk result (IsTableSector opened.now.geometry (meaning (D.state disk.old)) n table.new) }
+    requires kept { ino % 4 ≢ 0 → IsTableSector opened.now.geometry (meaning (D.state disk.old)) ino table.old }
+    ensures table { OnOk result (IsTableSector opened.now.geometry (meaning (D.state disk.old)) ino table.new) }
     ensures passed { Passed IsNone (D.state disk.old) (D.state disk.new) result }
 {
-    if n % 4 != 0 {
+    if ino % 4 != 0 {
         return Ok(());
     }
     let geometry = opened.geometry;
-    if geometry.inodes <= n {
+    if geometry.inodes <= ino {
         return Ok(());
     }
-    read_recovered(disk, opened, geometry.inode_sector(n), table)?;
+    read_recovered(disk, opened, geometry.inode_sector(ino), table)?;
     Ok(())
 }
 
-// Puts inode n behind those before it, unless it is free: no free one is kept behind the last that is in use.
-fn keep_inode(inodes: &mut Vec<Inode>, n: u32, inode: Inode) -> Checked<()>
-    requires before { length inodes.old.items ≤ n }
+// Puts inode `ino` behind those before it, unless it is free: no free one is kept behind the last that is in use.
+fn keep_inode(inodes: &mut Vec<Inode>, ino: u32, inode: Inode) -> Checked<()>
+    requires before { length inodes.old.items ≤ ino }
     requires free { inode.kind ≡ Free → inode ≡ free_inode }
-    ensures few { OnOk result (length inodes.new.items ≤ n + 1) }
+    ensures few { OnOk result (length inodes.new.items ≤ ino + 1) }
     ensures earlier { OnOk result
-        ((k : ℕ) → k < n → get_or inodes.new.items k free_inode ≡ get_or inodes.old.items k free_inode) }
-    ensures there { OnOk result (get_or inodes.new.items n free_inode ≡ inode) }
+        ((k : ℕ) → k < ino → get_or inodes.new.items k free_inode ≡ get_or inodes.old.items k free_inode) }
+    ensures there { OnOk result (get_or inodes.new.items ino free_inode ≡ inode) }
     ensures memory { IfErr result (λ e. e ≡ OutOfMemory) }
 {
     if inode.kind == Kind::Free {
         return Ok(());
     }
-    for _k in inodes.len()..n as usize {
+    for _k in inodes.len()..ino as usize {
         inodes.push(Inode::FREE)?;
     }
     inodes.push(inode)?;
@@ -169,14 +169,14 @@ pub(crate) fn read_inodes<D: Disk>(disk: &mut D, opened: &Opened) -> Checked<Vec
 {
     let mut inodes = Vec::with_capacity(opened.alloc, opened.geometry.inodes as usize)?;
     let mut table = [0; 512];
-    for n in 0..opened.geometry.inodes {
-        read_table(disk, opened, n, &mut table)?;
-        match good_inode(&table, n, opened.geometry.version) {
-            Some(inode) => keep_inode(&mut inodes, n, inode)?,
+    for ino in 0..opened.geometry.inodes {
+        read_table(disk, opened, ino, &mut table)?;
+        match good_inode(&table, ino, opened.geometry.version) {
+            Some(inode) => keep_inode(&mut inodes, ino, inode)?,
             None => {
                 return Err(CheckFault::Found(Finding {
                     rule: INODES,
-                    at: n,
+                    at: ino,
                 }));
             }
         }

@@ -275,12 +275,12 @@ fn mark_all<D: Disk>(
     ensures passed { Passed (IsLeast opened.now.geometry InData) (D.state disk.old) (D.state disk.new) result }
 {
     let mut pointers = Pointers::new();
-    for n in 0..inodes.len() as u32 {
-        let inode = inodes[n as usize];
+    for ino in 0..inodes.len() as u32 {
+        let inode = inodes[ino as usize];
         if !mark_inode(disk, opened, &inode, &mut pointers, owned, twice)? {
             return Err(CheckFault::Found(Finding {
                 rule: IN_DATA,
-                at: n,
+                at: ino,
             }));
         }
     }

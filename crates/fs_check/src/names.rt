@@ -9,16 +9,16 @@ ghost use Rattle.fs_check.specs.Ways.{the_parent};
 use crate::directories::Names;
 use fs_layout::{Geometry, Inode, Kind, ROOT, Version};
 
-// Whether inode n may have the names field that it has, where so many slots name it.
-fn has_name_count(version: Version, n: u32, inode: &Inode, count: u64) -> bool
-    ensures { IsTrue result ↔ HasNameCount version inode.now.kind n inode.now.names count }
+// Whether inode `ino` may have the names field that it has, where so many slots name it.
+fn has_name_count(version: Version, ino: u32, inode: &Inode, count: u64) -> bool
+    ensures { IsTrue result ↔ HasNameCount version inode.now.kind ino inode.now.names count }
 {
     let most = version.max_inode_names() as u64;
     let names = inode.names as u64;
     match inode.kind {
         Kind::Free => true,
         Kind::File => names == count && count <= most,
-        Kind::Directory => names == 1 && count == if n == ROOT { 0 } else { 1 },
+        Kind::Directory => names == 1 && count == if ino == ROOT { 0 } else { 1 },
         Kind::Link => names == count && 1 <= count && count <= most,
     }
 }
@@ -32,24 +32,24 @@ pub(crate) fn miscounted(geometry: Geometry, inodes: &[Inode], names: &Names) ->
     ensures none { IfNone result ((m : SectorMap) → AreInodes geometry m inodes.now
         → IsNameTable geometry m names.now.counts.items names.now.directories.items → ObeysBefore geometry m 12 → ObeysEach geometry m NameCounts) }
 {
-    for n in 0..inodes.len() as u32 {
-        let count = names.counts[n as usize];
-        if !has_name_count(geometry.version, n, &inodes[n as usize], count) {
-            return Some(n);
+    for ino in 0..inodes.len() as u32 {
+        let count = names.counts[ino as usize];
+        if !has_name_count(geometry.version, ino, &inodes[ino as usize], count) {
+            return Some(ino);
         }
     }
     None
 }
 
-// Whether inode n may have the parent field that it has, where this directory names it, or none does.
-fn has_parent(n: u32, inode: &Inode, directory: u32) -> bool
-    ensures { IsTrue result ↔ (inode.now.parent ≡ the_parent n inode.now.kind directory) }
+// Whether inode `ino` may have the parent field that it has, where this directory names it, or none does.
+fn has_parent(ino: u32, inode: &Inode, parent_ino: u32) -> bool
+    ensures { IsTrue result ↔ (inode.now.parent ≡ the_parent ino inode.now.kind parent_ino) }
 {
-    if n == ROOT {
+    if ino == ROOT {
         return inode.parent == ROOT;
     }
     match inode.kind {
-        Kind::Directory => inode.parent == directory,
+        Kind::Directory => inode.parent == parent_ino,
         Kind::Free | Kind::File | Kind::Link => inode.parent == 0,
     }
 }
@@ -63,9 +63,9 @@ pub(crate) fn misplaced(geometry: Geometry, inodes: &[Inode], names: &Names) -> 
     ensures none { IfNone result ((m : SectorMap) → AreInodes geometry m inodes.now
         → IsNameTable geometry m names.now.counts.items names.now.directories.items → ObeysBefore geometry m 13 → ObeysEach geometry m Parents) }
 {
-    for n in 0..inodes.len() as u32 {
-        if !has_parent(n, &inodes[n as usize], names.directories[n as usize]) {
-            return Some(n);
+    for ino in 0..inodes.len() as u32 {
+        if !has_parent(ino, &inodes[ino as usize], names.directories[ino as usize]) {
+            return Some(ino);
         }
     }
     None

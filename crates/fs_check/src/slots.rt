@@ -74,11 +74,11 @@ fn read_slots<D: Disk>(disk: &mut D, opened: &Opened, inode: &Inode) -> Checked<
 fn is_usable(inodes: &[Inode], slot: &Slot) -> bool
     ensures { IsTrue result ↔ IsUsable inodes.now slot.now }
 {
-    let n = slot.inode();
-    if inodes.len() <= n as usize {
+    let ino = slot.ino();
+    if inodes.len() <= ino as usize {
         return false;
     }
-    n != ROOT && inodes[n as usize].kind != Kind::Free
+    ino != ROOT && inodes[ino as usize].kind != Kind::Free
 }
 
 fn are_usable(inodes: &[Inode], slots: &[Slot]) -> bool

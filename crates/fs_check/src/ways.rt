@@ -11,25 +11,25 @@ use std::alloc::{AllocError, Global};
 
 // Whether the way up from directory d reaches the root. It ends where it meets an earlier way, as all of them reach the
 // root, and where it meets itself; each inode on it is marked with d.
-fn goes_up(inodes: &[Inode], marks: &mut [u32], d: u32) -> bool
+fn goes_up(inodes: &[Inode], marks: &mut [u32], dir_ino: u32) -> bool
     requires len { length marks.old ≡ length inodes.now }
-    requires earlier { (n : ℕ) → get_or marks.old n 0 < d }
+    requires earlier { (n : ℕ) → get_or marks.old n 0 < dir_ino }
     requires climb { AllClimb inodes.now marks.old }
-    ensures reaches { IsTrue result ↔ Climbs inodes.now d }
+    ensures reaches { IsTrue result ↔ Climbs inodes.now dir_ino }
     ensures climb { result ≡ true → AllClimb inodes.now marks.new }
-    ensures earlier { (n : ℕ) → get_or marks.new n 0 < d + 1 }
+    ensures earlier { (n : ℕ) → get_or marks.new n 0 < dir_ino + 1 }
     ensures len { length marks.new ≡ length inodes.now }
 {
-    let mut at = d;
+    let mut at = dir_ino;
     while at != ROOT {
         let i = at as usize;
         if i >= inodes.len() {
             return false;
         }
         if marks[i] != 0 {
-            return marks[i] != d;
+            return marks[i] != dir_ino;
         }
-        marks[i] = d;
+        marks[i] = dir_ino;
         at = inodes[i].parent;
     }
     true
@@ -46,9 +46,11 @@ pub(crate) fn unreached(
         → MatchOption first (ObeysEach geometry m Ways) (λ d. IsLeastFailure geometry m Ways d)) }
 {
     let mut marks = vec![in alloc; 0; inodes.len()]?;
-    for d in 1..inodes.len() as u32 {
-        if inodes[d as usize].kind == Kind::Directory && !goes_up(inodes, &mut marks, d) {
-            return Ok(Some(d));
+    for dir_ino in 1..inodes.len() as u32 {
+        if inodes[dir_ino as usize].kind == Kind::Directory
+            && !goes_up(inodes, &mut marks, dir_ino)
+        {
+            return Ok(Some(dir_ino));
         }
     }
     Ok(None)

@@ -135,9 +135,9 @@ free_bytes : inode_bytes free_inode ≡ zeros 128
 unfolding le16 le32 le64 le32s zeros
 free_bytes = refl
 
-free_in_zeros : (geometry : ℕ) → geometry + 128 ≤ 512 → window (zeros 512) geometry 128 ≡ inode_bytes free_inode
+free_in_zeros : (place : ℕ) → place + 128 ≤ 512 → window (zeros 512) place 128 ≡ inode_bytes free_inode
 unfolding zeros
-free_in_zeros geometry room = ap (take 128) (drop-replicate geometry 512 0) ∙ take-replicate 128 (512 - geometry) 0 (omega arith) ∙ sym free_bytes
+free_in_zeros place room = ap (take 128) (drop-replicate place 512 0) ∙ take-replicate 128 (512 - place) 0 (omega arith) ∙ sym free_bytes
 
 others_are_free : (k : ℕ) → k < 4 → k ≢ 1 → window root_table (128 * k) 128 ≡ inode_bytes free_inode
 unfolding root_table

@@ -28,7 +28,7 @@ flips a b =
 pairs_to_names : (xs : List NamedInode) → HaveDistinctNames xs → AllPairs (λ a b. a ≢ b) (map name_of xs)
 pairs_to_names xs apart i j d less lt same =
     let long : length (map name_of xs) ≡ length xs = length-map xs name_of in
-    let none : NamedInode = record { inode = 0; name = d } in
+    let none : NamedInode = record { ino = 0; name = d } in
     let below : j < length xs = omega (arith, lt, long) in
     apart i j none less below
     (sym (get_or-map name_of xs i none d (omega (arith, less, below))) ∙ same ∙ get_or-map name_of xs j none d below)

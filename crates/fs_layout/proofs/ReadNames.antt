@@ -11,19 +11,19 @@ use Rattle.fs_layout.proofs.SlotNames.{names-IsMap, length-names, slot_leads, na
 use Rattle.fs_layout.proofs.ImageSlots.{HasWholeBlocks, slots_of, slot_is, slots_are, count_is}
 
 -- a slot by its parts
-slot_parts : (s : NamedInode) (name : List ℕ) (n : ℕ) → s.name ≡ name → s.inode ≡ n → s ≡ record { inode = n; name = name }
-slot_parts s name n e f = let whole : record s { inode = s.inode } ≡ record { inode = n; name = name } = rw (e, f) refl in whole
+slot_parts : (s : NamedInode) (name : List ℕ) (n : ℕ) → s.name ≡ name → s.ino ≡ n → s ≡ record { ino = n; name = name }
+slot_parts s name n e f = let whole : record s { ino = s.ino } ≡ record { ino = n; name = name } = rw (e, f) refl in whole
 
 module _ (slots : List NamedInode) (apart : HaveDistinctNames slots) where
-  leads : (name : List ℕ) (n : ℕ) → Contains slots (record { inode = n; name = name }) → get name_cmp (names_of_slots slots) name ≡ Some n
+  leads : (name : List ℕ) (n : ℕ) → Contains slots (record { ino = n; name = name }) → get name_cmp (names_of_slots slots) name ≡ Some n
   leads name n (k, lt, is) =
       ap (λ (s : NamedInode). get name_cmp (names_of_slots slots) s.name) (sym is)
-      ∙ slot_leads slots (record { inode = n; name = name }) k apart lt
-      ∙ ap (λ (s : NamedInode). Some s.inode) is
+      ∙ slot_leads slots (record { ino = n; name = name }) k apart lt
+      ∙ ap (λ (s : NamedInode). Some s.ino) is
 
-  stands : (name : List ℕ) (n : ℕ) → get name_cmp (names_of_slots slots) name ≡ Some n → Contains slots (record { inode = n; name = name })
+  stands : (name : List ℕ) (n : ℕ) → get name_cmp (names_of_slots slots) name ≡ Some n → Contains slots (record { ino = n; name = name })
   stands name n e =
-      let r = named_by slots (record { inode = n; name = name }) name n e in
+      let r = named_by slots (record { ino = n; name = name }) name n e in
       (r.at, r.below, slot_parts _ name n r.name_is r.inode_is)
 
   pub are_names_of : AreNamesOf slots

@@ -133,7 +133,7 @@ IsSector-acl_sector_bytes es few = record {
 
 pub IsBytes-slot_bytes : (version : Version) (v : NamedInode) → FitsSlot version v → IsBytes (slot_bytes version v)
 IsBytes-slot_bytes version v f =
-    IsBytes-append (le32 v.inode) (length v.name ∷ (zeros 3 ++ (v.name ++ zeros (max_name version - length v.name)))) (IsBytes-le32 v.inode)
+    IsBytes-append (le32 v.ino) (length v.name ∷ (zeros 3 ++ (v.name ++ zeros (max_name version - length v.name)))) (IsBytes-le32 v.ino)
     (IsBytes-cons (length v.name) (zeros 3 ++ (v.name ++ zeros (max_name version - length v.name))) (omega (arith, f.name.short))
     (IsBytes-append (zeros 3) (v.name ++ zeros (max_name version - length v.name)) (IsBytes-zeros 3)
     (IsBytes-append v.name (zeros (max_name version - length v.name)) f.bytes (IsBytes-zeros (max_name version - length v.name)))))

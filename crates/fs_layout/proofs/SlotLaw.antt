@@ -17,7 +17,7 @@ use Rattle.fs_layout.proofs.Small.{u32_small}
 use Rattle.fs_layout.proofs.Writes.{first_write, next_write, all_written, length-zeros}
 
 abbrev fields : List ℕ → ℕ → NamedInode
-fields s n = record { inode = u32_of s 0; name = window s 8 n }
+fields s n = record { ino = u32_of s 0; name = window s 8 n }
 
 -- the bytes of a slot that the fields of s are
 spelled : (version : Version) (s : List ℕ) (n : ℕ) → length s ≡ slot_size version → IsBytes s → get_or s 4 0 ≡ n → n ≤ max_name version → are_zero (window s 5 3) ≡ true
@@ -47,14 +47,14 @@ back version s v len fits e =
     let same : fields s n ≡ v = same_ok (fields s n) v good refl b.1 in
     let short_name : length (window s 8 n) ≤ max_name version = omega (arith, part_len n 8 s (omega (arith, len, leb-true n (max_name version) named.0)), leb-true n (max_name version) named.0) in
     let fit : FitsSlot version (fields s n) =
-    record { inode = u32_small s 0 fits; name = (name_test-decides (window s 8 n)).0 named.1; short = short_name; bytes = IsBytes-part n 8 s fits } in
+    record { ino = u32_small s 0 fits; name = (name_test-decides (window s 8 n)).0 named.1; short = short_name; bytes = IsBytes-part n 8 s fits } in
     (spelled version s n len fits refl (leb-true n (max_name version) named.0) padded.0 padded.1 ∙ ap (slot_bytes version) same, subst (FitsSlot version) same fit)
 
 -- a slot that passes each test
-pub reads : (version : Version) (s name : List ℕ) (n inode : ℕ) → get_or s 4 0 ≡ n → u32_of s 0 ≡ inode → window s 8 n ≡ name → n ≤ max_name version → name_test name ≡ true
-    → are_zero (window s 5 3) ≡ true → are_zero (drop (8 + n) s) ≡ true → slot_of version s ≡ Ok (record { inode = inode; name = name })
+pub reads : (version : Version) (s name : List ℕ) (n ino : ℕ) → get_or s 4 0 ≡ n → u32_of s 0 ≡ ino → window s 8 n ≡ name → n ≤ max_name version → name_test name ≡ true
+    → are_zero (window s 5 3) ≡ true → are_zero (drop (8 + n) s) ≡ true → slot_of version s ≡ Ok (record { ino = ino; name = name })
 unfolding slot_of
-reads version s name n inode len number is short named pad rest =
+reads version s name n ino len number is short named pad rest =
     let fits : nat_le n (max_name version) ≡ true = le-leb n (max_name version) short in
     rw len (rw (is, number) (rw (fits, named, pad, rest) refl))
 
@@ -74,11 +74,11 @@ again : (version : Version) (v : NamedInode) → FitsSlot version v → slot_of 
 again version v f =
     let s = slot_bytes version v in
     let n = length v.name in
-    let inode : u32_of s 0 ≡ v.inode = read32 s 0 v.inode (n ∷ (zeros 3 ++ (v.name ++ zeros (max_name version - n)))) refl f.inode in
+    let ino : u32_of s 0 ≡ v.ino = read32 s 0 v.ino (n ∷ (zeros 3 ++ (v.name ++ zeros (max_name version - n)))) refl f.ino in
     let name : window s 8 n ≡ v.name = ap (take n) (named_again version v) ∙ take_at v.name (zeros (max_name version - n)) n refl in
     let past : drop (8 + n) s ≡ zeros (max_name version - n) =
     sym (drop-drop n 8 s) ∙ ap (drop n) (named_again version v) ∙ drop_at v.name (zeros (max_name version - n)) n refl in
-    reads version s v.name n v.inode (length_again version v) inode name f.short ((name_test-decides v.name).1 f.name)
+    reads version s v.name n v.ino (length_again version v) ino name f.short ((name_test-decides v.name).1 f.name)
     (ap are_zero (padding_again version v) ∙ zeros-are_zero 3) (ap are_zero past ∙ zeros-are_zero (max_name version - n))
 
 pub slot_codec : (version : Version) → IsCodec (slot_size version) (FitsSlot version) (slot_bytes version) (slot_of version)
@@ -89,23 +89,23 @@ unfolding le32 zeros
 length-slot_bytes version v short = omega (arith, length-append v.name (zeros (max_name version - length v.name)), length-zeros (max_name version - length v.name))
 
 -- the five writes of a slot
-pub written : (version : Version) (old a b d e f : List ℕ) (v : NamedInode) (inode n : ℕ) (name : List ℕ) → length old ≡ slot_size version → length v.name ≤ max_name version
-    → inode ≡ v.inode → name ≡ v.name → n ≡ length name
-    → a ≡ splice old 0 (le32 inode) → b ≡ splice a 4 (n ∷ []) → d ≡ splice b 5 (zeros 3) → e ≡ splice d 8 name
+pub written : (version : Version) (old a b d e f : List ℕ) (v : NamedInode) (ino n : ℕ) (name : List ℕ) → length old ≡ slot_size version → length v.name ≤ max_name version
+    → ino ≡ v.ino → name ≡ v.name → n ≡ length name
+    → a ≡ splice old 0 (le32 ino) → b ≡ splice a 4 (n ∷ []) → d ≡ splice b 5 (zeros 3) → e ≡ splice d 8 name
     → f ≡ splice e (8 + n) (zeros (max_name version - n)) → f ≡ slot_bytes version v
 unfolding le32 zeros
-written version old a b d e f v inode n name len short inode_is name_is is wa wb wd we wf =
+written version old a b d e f v ino n name len short inode_is name_is is wa wb wd we wf =
     let k : length name ≡ length v.name = ap length name_is in
     let z : length (zeros (max_name version - n)) ≡ max_name version - n = length-zeros (max_name version - n) in
-    let b0 = first_write old a (le32 inode) wa in
+    let b0 = first_write old a (le32 ino) wa in
     let b1 = next_write old _ a b (n ∷ []) 4 b0 refl wb in
     let b2 = next_write old _ b d (zeros 3) 5 b1 refl wd in
     let b3 = next_write old _ d e name 8 b2 refl we in
     let b4 = next_write old _ e f (zeros (max_name version - n)) (8 + n) b3 (omega (arith, is)) wf in
     all_written old _ f b4 (omega (arith, len, z, k, short, is, length-append name (zeros (max_name version - n))))
     ∙ ap (λ (i : ℕ). le32 i ++ (n ∷ (zeros 3 ++ (name ++ zeros (max_name version - n))))) inode_is
-    ∙ ap (λ (m : ℕ). le32 v.inode ++ (m ∷ (zeros 3 ++ (name ++ zeros (max_name version - m))))) is
-    ∙ ap (λ (r : List ℕ). le32 v.inode ++ (length r ∷ (zeros 3 ++ (r ++ zeros (max_name version - length r))))) name_is
+    ∙ ap (λ (m : ℕ). le32 v.ino ++ (m ∷ (zeros 3 ++ (name ++ zeros (max_name version - m))))) is
+    ∙ ap (λ (r : List ℕ). le32 v.ino ++ (length r ∷ (zeros 3 ++ (r ++ zeros (max_name version - length r))))) name_is
 
 -- what `is_name` answers of the name's bytes
 pub answered : (s : List ℕ) (answer : Bool) (k n : ℕ) → k ≡ n → (IsTrue answer ↔ IsName (take k (drop 8 s)))
@@ -134,12 +134,12 @@ pub rest_tested : (s : List ℕ) (at : ℕ) (zero_rest : Bool) → zero_rest ≡
 rest_tested s at zero_rest tested = tested ∙ ap are_zero (take_rest s at)
 
 -- a reading that came to its end
-pub read_to_end : (version : Version) (s : List ℕ) (v : NamedInode) (inode k : ℕ) → v ≡ record { inode = inode; name = take k (drop 8 s) } → k ≡ get_or s 4 0
-    → inode ≡ u32_of s 0 → get_or s 4 0 ≤ max_name version
+pub read_to_end : (version : Version) (s : List ℕ) (v : NamedInode) (ino k : ℕ) → v ≡ record { ino = ino; name = take k (drop 8 s) } → k ≡ get_or s 4 0
+    → ino ≡ u32_of s 0 → get_or s 4 0 ≤ max_name version
     → name_test (window s 8 (get_or s 4 0)) ≡ true → are_zero (window s 5 3) ≡ true → are_zero (drop (8 + get_or s 4 0) s) ≡ true → Ok v ≡ slot_of version s
-read_to_end version s v inode k is all number short named pad rest =
+read_to_end version s v ino k is all number short named pad rest =
     let same : window s 8 (get_or s 4 0) ≡ take k (drop 8 s) = ap (λ (m : ℕ). window s 8 m) (sym all) in
     let test : name_test (take k (drop 8 s)) ≡ true = ap name_test (sym same) ∙ named in
-    let read : slot_of version s ≡ Ok (record { inode = inode; name = take k (drop 8 s) }) =
-    reads version s (take k (drop 8 s)) (get_or s 4 0) inode refl (sym number) same short test pad rest in
+    let read : slot_of version s ≡ Ok (record { ino = ino; name = take k (drop 8 s) }) =
+    reads version s (take k (drop 8 s)) (get_or s 4 0) ino refl (sym number) same short test pad rest in
     sym (rw is read)

@@ -36,16 +36,16 @@ name_test name =
 
 -- an inode's number, and a name that it has in a directory
 pub record NamedInode : Type 0 where
-  pub inode : ℕ
+  pub ino : ℕ
   pub name : List ℕ
 
 -- the inode, the name's length, zeros, the name, zeros
 abbrev pub slot_bytes : Version → NamedInode → List ℕ
-slot_bytes version v = le32 v.inode ++ (length v.name ∷ (zeros 3 ++ (v.name ++ zeros (max_name version - length v.name))))
+slot_bytes version v = le32 v.ino ++ (length v.name ∷ (zeros 3 ++ (v.name ++ zeros (max_name version - length v.name))))
 
 -- the name is one of this version, and each number fits its field
 pub record FitsSlot (version : Version) (v : NamedInode) : Type 0 where
-  pub inode : v.inode < 2 ^ 32
+  pub ino : v.ino < 2 ^ 32
   pub name : IsName v.name
   pub short : length v.name ≤ max_name version
   pub bytes : IsBytes v.name
@@ -61,7 +61,7 @@ has_zeros s = are_zero (window s 5 3) && are_zero (drop (8 + slice_index s 4) s)
 unfoldable pub slot_of : Version → List ℕ → Result NamedInode LayoutFault
 slot_of version s =
     if has_name version s then
-    (if has_zeros s then Ok (record { inode = u32_of s 0; name = window s 8 (slice_index s 4) }) else Err NotZero)
+    (if has_zeros s then Ok (record { ino = u32_of s 0; name = window s 8 (slice_index s 4) }) else Err NotZero)
     else Err BadNumber
 
 -- ---- slots one after the other
@@ -72,7 +72,7 @@ slots_bytes version slots = flat_map (slot_bytes version) slots
 -- the names of the slots as a map
 unfoldable pub names_of_slots : List NamedInode → List (List ℕ × ℕ)
 names_of_slots [] = []
-names_of_slots (slot ∷ slots) = with_entry name_cmp (names_of_slots slots) slot.name slot.inode
+names_of_slots (slot ∷ slots) = with_entry name_cmp (names_of_slots slots) slot.name slot.ino
 
 -- no name stands twice
 abbrev pub HaveDistinctNames : List NamedInode → Type 0
@@ -91,7 +91,7 @@ stored_slot version m v k =
 
 abbrev pub slot_or_none : Result NamedInode LayoutFault → NamedInode
 slot_or_none (Ok x) = x
-slot_or_none (Err e) = record { inode = 0; name = [] }
+slot_or_none (Err e) = record { ino = 0; name = [] }
 
 -- slot k, one of no name where its bytes are none
 unfoldable pub slot_at : Version → SectorMap → Inode → ℕ → NamedInode

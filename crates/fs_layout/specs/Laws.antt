@@ -94,7 +94,7 @@ pub record AreNamesOf (slots : List NamedInode) : Type 0 where
   pub map_is : IsMap name_cmp (names_of_slots slots)
   pub count : length (names_of_slots slots) ≡ length slots
   pub each : (name : List ℕ) (n : ℕ)
-      → (get name_cmp (names_of_slots slots) name ≡ Some n) ↔ Contains slots (record { inode = n; name = name })
+      → (get name_cmp (names_of_slots slots) name ≡ Some n) ↔ Contains slots (record { ino = n; name = name })
 
 -- In each version a name fits its slot, and so do as many slots as a directory has names the bytes of the largest one.
 pub record SlotsHoldNames (version : Version) : Type 0 where

@@ -60,19 +60,19 @@ impl Geometry {
     }
 
     /// The sector of the inode table that has inode `n`, which lies in it from [`Geometry::inode_offset`] on.
-    pub fn inode_sector(self, n: u32) -> u32
-        requires room { self.table + n / 4 < 2 ^ 32 }
-        ensures { result ≡ self.table + n / 4 }
+    pub fn inode_sector(self, ino: u32) -> u32
+        requires room { self.table + ino / 4 < 2 ^ 32 }
+        ensures { result ≡ self.table + ino / 4 }
     {
-        self.table + n / 4
+        self.table + ino / 4
     }
 
     /// Where in its sector the bytes of inode `n` begin.
-    pub fn inode_offset(self, n: u32) -> usize
-        ensures value { result ≡ INODE_SIZE * (n % 4) }
+    pub fn inode_offset(self, ino: u32) -> usize
+        ensures value { result ≡ INODE_SIZE * (ino % 4) }
         ensures room { result + INODE_SIZE ≤ 512 }
     {
-        INODE_SIZE * (n % 4) as usize
+        INODE_SIZE * (ino % 4) as usize
     }
 }
 

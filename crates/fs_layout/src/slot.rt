@@ -23,7 +23,7 @@ pub const MAX_NAME: usize = 248;
 /// An inode and a name that it has in a directory. A contract sees both by `NamedInode`.
 #[derive(Drop)]
 pub struct Slot {
-    inode: u32,
+    ino: u32,
     length: usize,
     name: [u8; MAX_NAME],
 }
@@ -35,7 +35,7 @@ impl Model for Slot {
 
     ghost Value = { NamedInode };
 
-    ghost view = { λ s. record { inode = s.inode; name = take s.length s.name } };
+    ghost view = { λ s. record { ino = s.ino; name = take s.length s.name } };
 
     ghost invariant = { λ s. (s.length ≤ MAX_NAME) × IsName (take s.length s.name) };
 }
@@ -55,24 +55,24 @@ pub fn is_name(name: &[u8]) -> bool
 
 impl Slot {
     /// A slot with this name for this inode.
-    pub fn new(inode: u32, name: &[u8]) -> Slot
+    pub fn new(ino: u32, name: &[u8]) -> Slot
         requires { IsName name.now }
-        ensures { result ≡ record { inode = inode; name = name.now } }
+        ensures { result ≡ record { ino = ino; name = name.now } }
     {
         let mut bytes = [0; MAX_NAME];
         (&mut bytes[..name.len()]).copy_from_slice(name);
         Slot {
-            inode,
+            ino,
             length: name.len(),
             name: bytes,
         }
     }
 
     /// The number of the inode.
-    pub fn inode(&self) -> u32
-        ensures { result ≡ self.now.inode }
+    pub fn ino(&self) -> u32
+        ensures { result ≡ self.now.ino }
     {
-        self.inode
+        self.ino
     }
 
     /// The name's bytes.
@@ -89,7 +89,7 @@ impl Slot {
         ensures { to.new ≡ slot_bytes version self.now }
     {
         let name = self.name();
-        put_u32(to, 0, self.inode());
+        put_u32(to, 0, self.ino());
         put_bytes(to, 4, &[name.len() as u8]);
         put_zeros(to, 5, 3);
         put_bytes(to, 8, name);

@@ -187,7 +187,7 @@ pid_text : reply_text (Pid 2) ≡ codes "pid 2"
 unfolding reply_text digits
 pid_text = refl
 
-root_text : reply_text (Shown (record { inode = 1; kind = Directory; mode = 493; links = 1; owner = 0; group = 0; size = 0 }))
+root_text : reply_text (Shown (record { ino = 1; kind = Directory; mode = 493; links = 1; owner = 0; group = 0; size = 0 }))
     ≡ codes "ino 1 dir 0755 links 1 uid 0 gid 0 size 0"
 unfolding reply_text digits
 root_text = refl

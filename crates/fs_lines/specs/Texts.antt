@@ -112,7 +112,7 @@ counts_text s =
 
 abbrev pub status_text : Status → List ℕ
 status_text s =
-    codes "ino " ++ decimal s.inode ++ codes " " ++ kind_text s.kind ++ codes " " ++ mode_text s.mode ++ counts_text s
+    codes "ino " ++ decimal s.ino ++ codes " " ++ kind_text s.kind ++ codes " " ++ mode_text s.mode ++ counts_text s
 
 abbrev pub acl_text : Option AccessList → List ℕ
 acl_text None = codes "none"

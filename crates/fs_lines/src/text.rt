@@ -220,9 +220,9 @@ fn octal_digit(number: u16) -> char
 fn push_status(text: &mut String, status: &Status) -> Result<(), AllocError>
     ensures { OnOk result (string_bytes text.new ≡ string_bytes text.old ++ status_text status.now) }
 {
-    let inode = status.inode;
+    let ino = status.ino;
     let kind = kind_word(status.kind);
-    write!(text, "ino {inode} {kind} ")?;
+    write!(text, "ino {ino} {kind} ")?;
     push_mode(text, status.mode)?;
     push_counts(text, status)
 }
@@ -327,8 +327,8 @@ fn push_names(text: &mut String, names: &Listing) -> Result<(), AllocError>
 {
     text.push_str("list")?;
     for named in names.names() {
-        let inode = named.inode;
-        write!(text, " {inode}:")?;
+        let ino = named.ino;
+        write!(text, " {ino}:")?;
         push_word(text, named.name.bytes())?;
     }
     Ok(())

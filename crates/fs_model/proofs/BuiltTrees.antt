@@ -188,9 +188,9 @@ module _ (p : Geometry) (m : SectorMap) (geometry : IsGeometry p) (sectors : (s 
       let below : r.at < slot_count p.version (inode_at p m n) = (let l = r.below in let c = ap length same in omega (arith, l, c, length-slots_of p.version m (inode_at p m n))) in
       let slot = rules Slots n lt h.names.kind r.at below in
       let here : slot_at p.version m (inode_at p m n) r.at ≡ get_or h.names.slots r.at none = sym (slot_there p.version m (inode_at p m n) r.at none below) ∙ ap (λ (q : List NamedInode). get_or q r.at none) (sym same) in
-      let number : (slot_at p.version m (inode_at p m n) r.at).inode ≡ x = ap (λ (s : NamedInode). s.inode) here ∙ r.inode_is in
+      let number : (slot_at p.version m (inode_at p m n) r.at).ino ≡ x = ap (λ (s : NamedInode). s.ino) here ∙ r.inode_is in
       let used : is_used (inode_at p m x).kind ≡ true = (
-      subst (λ q. is_used (inode_at p m q).kind ≡ true) number (used_if (inode_at p m (slot_at p.version m (inode_at p m n) r.at).inode).kind slot.used)) in
+      subst (λ q. is_used (inode_at p m q).kind ≡ true) number (used_if (inode_at p m (slot_at p.version m (inode_at p m n) r.at).ino).kind slot.used)) in
       let few : x < p.inodes = subst (λ q. q < p.inodes) number slot.below in
       record {
         is_name = subst IsName r.name_is fit.name;

@@ -38,48 +38,48 @@ use Rattle.fs_model.proofs.Swept.{stays, kept, get-filter, at-swept, named_stays
 
 -- ---- a node is made, and named
 
-module _ {room : Room} (t : Tree) (numbers : IsMap nat_cmp t) (dir : ℕ) (name : List ℕ) (is : IsNameAt room t dir name None)
+module _ {room : Room} (t : Tree) (numbers : IsMap nat_cmp t) (dir_ino : ℕ) (name : List ℕ) (is : IsNameAt room t dir_ino name None)
     (n : ℕ) (node : Node) (new : node_at t n ≡ None) where
   abbrev w : Tree
   w = with_node t n node
 
   abbrev made : Tree
-  made = changed t (Make dir name n node)
+  made = changed t (Make dir_ino name n node)
 
-  dir_apart : dir ≢ n
+  dir_apart : dir_ino ≢ n
   dir_apart e =
       let at : node_at t n ≡ Some is.node = ap (node_at t) (sym e) ∙ is.stands in
       let both : None ≡ Some is.node = sym new ∙ at in
       cc
 
-  dir_at : node_at w dir ≡ Some is.node
-  dir_at = at_others t n node dir dir_apart ∙ is.stands
+  dir_at : node_at w dir_ino ≡ Some is.node
+  dir_at = at_others t n node dir_ino dir_apart ∙ is.stands
 
-  made_is : made ≡ renamed w dir is.node (with_entry name_cmp (names_of_body is.node.body) name n)
-  made_is = named_is w dir is.node name n dir_at
+  made_is : made ≡ renamed w dir_ino is.node (with_entry name_cmp (names_of_body is.node.body) name n)
+  made_is = named_is w dir_ino is.node name n dir_at
 
   made_at : node_at made n ≡ Some node
   made_at =
       ap (λ u. node_at u n) made_is
-      ∙ at_others w dir (renamed_node is.node (with_entry name_cmp (names_of_body is.node.body) name n)) n (λ e. dir_apart (sym e))
+      ∙ at_others w dir_ino (renamed_node is.node (with_entry name_cmp (names_of_body is.node.body) name n)) n (λ e. dir_apart (sym e))
       ∙ at_it t n node
 
   has_name : 1 ≤ names_of made n
   has_name =
       let names = with_entry name_cmp (names_of_body is.node.body) name n in
-      let all = names_of-renamed w dir is.node names is.directory (with_entry-IsMap t n node numbers) dir_at n in
+      let all = names_of-renamed w dir_ino is.node names is.directory (with_entry-IsMap t n node numbers) dir_at n in
       let more = leading-with_name (names_of_body is.node.body) name n n is.leads in
       let one = once_same n n refl in
-      let some : 1 ≤ names_of (renamed w dir is.node names) n = omega (arith, all, more, one) in
+      let some : 1 ≤ names_of (renamed w dir_ino is.node names) n = omega (arith, all, more, one) in
       subst (λ u. 1 ≤ names_of u n) (sym made_is) some
 
   others_were : (m : ℕ) → m ≢ n → is_some (node_at made m) ≡ true → is_some (node_at t m) ≡ true
-  others_were m ne there = elim (cases_eq m dir) [
+  others_were m ne there = elim (cases_eq m dir_ino) [
     | inl e ↦ ap (λ k. is_some (node_at t k)) e ∙ ap is_some is.stands
     | inr other ↦
         sym (ap is_some (
         ap (λ u. node_at u m) made_is
-        ∙ at_others w dir (renamed_node is.node (with_entry name_cmp (names_of_body is.node.body) name n)) m other
+        ∙ at_others w dir_ino (renamed_node is.node (with_entry name_cmp (names_of_body is.node.body) name n)) m other
         ∙ at_others t n node m ne
         )) ∙ there
   ]
@@ -102,19 +102,19 @@ some_kept : (keeps : ℕ × Node → Bool) (m : ℕ) (o : Option Node) → is_so
 some_kept keeps m None h = h
 some_kept keeps m (Some node) h = refl
 
-made_stays : (s : State) (processes : ProcessTable) (dir : ℕ) (name : List ℕ) (n : ℕ) (node : Node) → IsState s → IsNameAt s.room s.tree dir name None
+made_stays : (s : State) (processes : ProcessTable) (dir_ino : ℕ) (name : List ℕ) (n : ℕ) (node : Node) → IsState s → IsNameAt s.room s.tree dir_ino name None
     → node_at s.tree n ≡ None
-    → MayBeLeft s.room (changed s.tree (Make dir name n node)) processes → Made s.tree (swept (changed s.tree (Make dir name n node)) processes) n
-made_stays s processes dir name n node is at new left =
-    let made = changed s.tree (Make dir name n node) in
+    → MayBeLeft s.room (changed s.tree (Make dir_ino name n node)) processes → Made s.tree (swept (changed s.tree (Make dir_ino name n node)) processes) n
+made_stays s processes dir_ino name n node is at new left =
+    let made = changed s.tree (Make dir_ino name n node) in
     let swept_at =
-    at-swept s.room made processes left.tree n node (made_at s.tree is.tree.numbers dir name at n node new)
-    (named_stays s.room made processes left.tree n node (has_name s.tree is.tree.numbers dir name at n node new)) in
+    at-swept s.room made processes left.tree n node (made_at s.tree is.tree.numbers dir_ino name at n node new)
+    (named_stays s.room made processes left.tree n node (has_name s.tree is.tree.numbers dir_ino name at n node new)) in
     record {
       unused = new;
       there = ap is_some swept_at;
       others = λ m ne there.
-          others_were s.tree is.tree.numbers dir name at n node new m ne
+          others_were s.tree is.tree.numbers dir_ino name at n node new m ne
           (some_kept (stays made processes) m (node_at made m) (sym (ap is_some (get-filter (stays made processes) made left.tree.numbers m)) ∙ there));
     }
 
@@ -124,9 +124,9 @@ module _ (s : State) (is : IsState s) (pid : ℕ) (p : Process) (here : get nat_
   abbrev effect_with : ℕ → Effect
   effect_with n = (row_of call).effect (scene_of s p (row_of call)) n
 
-  after_is : (choice : Choice) → after s (Calls pid call) choice ≡ after_effect s pid (effect_with choice.number)
+  after_is : (choice : Choice) → after s (Calls pid call) choice ≡ after_effect s pid (effect_with choice.ino)
   unfolding after
-  after_is choice = ap (after_call s pid (row_of call) choice.number) here
+  after_is choice = ap (after_call s pid (row_of call) choice.ino) here
 
   firm_is : firm_refusal s (Calls pid call) ≡ None → early_refusal p (row_of call) ≡ None
   unfolding firm_refusal
@@ -138,28 +138,28 @@ module _ (s : State) (is : IsState s) (pid : ℕ) (p : Process) (here : get nat_
 
   -- whichever number, or the one at which a node was made
   acted : (choice : Choice) → Acts s (Calls pid call) choice
-      → ((m : ℕ) → effect_with choice.number ≡ effect_with m) ⊎ Made s.tree (tree_after s (after s (Calls pid call) choice)) choice.number
+      → ((m : ℕ) → effect_with choice.ino ≡ effect_with m) ⊎ Made s.tree (tree_after s (after s (Calls pid call) choice)) choice.ino
   acted choice acts =
       let row = row_of call in
       let early = firm_is acts.early in
       let late = other_is acts.late in
       let of = each_call call in
       elim (of.uses (scene_of s p row) (unrefused_call s p call is fits (of.paths fits) early late)) [
-        | inl same ↦ inl (λ m. same choice.number m)
+        | inl same ↦ inl (λ m. same choice.ino m)
         | inr makes ↦ inr (
             let c = scene_of s p row in
             let node = makes.1.0 in
-            let a : after s (Calls pid call) choice ≡ after_effect s pid (effect_with choice.number) = after_is choice in
-            let change : (effect_with choice.number).change ≡ Make c.first.dir c.first.name choice.number node = makes.1.1 choice.number in
-            let processes = with_entry nat_cmp s.processes pid (effect_with choice.number).process in
-            let fresh : HasNewNumber s (effect_with choice.number).change = subst (λ a. HasNewNumber s a.change) a acts.allowed.number in
-            let made : HasNewNumber s (Make c.first.dir c.first.name choice.number node) = subst (HasNewNumber s) change fresh in
-            let left : MayBeLeft s.room (changed s.tree (effect_with choice.number).change) processes =
-            process_leaves s pid p call choice.number is acts.running here fits early late fresh in
-            let stays = made_stays s processes c.first.dir c.first.name choice.number node is makes.0 made.2
+            let a : after s (Calls pid call) choice ≡ after_effect s pid (effect_with choice.ino) = after_is choice in
+            let change : (effect_with choice.ino).change ≡ Make c.first.dir_ino c.first.name choice.ino node = makes.1.1 choice.ino in
+            let processes = with_entry nat_cmp s.processes pid (effect_with choice.ino).process in
+            let fresh : HasNewNumber s (effect_with choice.ino).change = subst (λ a. HasNewNumber s a.change) a acts.allowed.number in
+            let made : HasNewNumber s (Make c.first.dir_ino c.first.name choice.ino node) = subst (HasNewNumber s) change fresh in
+            let left : MayBeLeft s.room (changed s.tree (effect_with choice.ino).change) processes =
+            process_leaves s pid p call choice.ino is acts.running here fits early late fresh in
+            let stays = made_stays s processes c.first.dir_ino c.first.name choice.ino node is makes.0 made.2
             (subst (λ ch. MayBeLeft s.room (changed s.tree ch) processes) change left) in
-            subst (λ a. Made s.tree (tree_after s a) choice.number) (sym a)
-            (made_touched s.now (touches s.room s.tree (effect_with choice.number).change) s.tree (swept (changed s.tree (effect_with choice.number).change) processes) choice.number (subst (λ ch. Made s.tree (swept (changed s.tree ch) processes) choice.number) (sym change) stays))
+            subst (λ a. Made s.tree (tree_after s a) choice.ino) (sym a)
+            (made_touched s.now (touches s.room s.tree (effect_with choice.ino).change) s.tree (swept (changed s.tree (effect_with choice.ino).change) processes) choice.ino (subst (λ ch. Made s.tree (swept (changed s.tree ch) processes) choice.ino) (sym change) stays))
             )
       ]
 
@@ -247,16 +247,16 @@ module _ (pid : ℕ) (p : Process) (s t s' t' : State) (c d : Choice) (reply rep
       let e = Calls by call in
       elim (acted s is by p here_by call fits.1 c act) [
         | inl any ↦ by_second e fits of free x y (
-            after_is s is by p here_by call fits.1 c ∙ ap (after_effect s by) (any d.number) ∙ sym (after_is s is by p here_by call fits.1 d)
+            after_is s is by p here_by call fits.1 c ∙ ap (after_effect s by) (any d.ino) ∙ sym (after_is s is by p here_by call fits.1 d)
             )
         | inr made ↦ elim (acted t js by p there_by call fits.1 d act') [
           | inl any ↦ by_first e fits of free x y (
-              after_is t js by p there_by call fits.1 d ∙ ap (after_effect t by) (any c.number) ∙ sym (after_is t js by p there_by call fits.1 c)
+              after_is t js by p there_by call fits.1 d ∙ ap (after_effect t by) (any c.ino) ∙ sym (after_is t js by p there_by call fits.1 c)
               )
           | inr made' ↦
-              let one : Made s.tree s'.tree c.number = subst (λ u. Made s.tree u.tree c.number) (sym now) made in
-              let two : Made t.tree t'.tree d.number = subst (λ u. Made t.tree u.tree d.number) (sym now') made' in
-              let number = made_same s.tree t.tree s'.tree t'.tree c.number d.number (same_there pid p s t alike here) numbers one two in
+              let one : Made s.tree s'.tree c.ino = subst (λ u. Made s.tree u.tree c.ino) (sym now) made in
+              let two : Made t.tree t'.tree d.ino = subst (λ u. Made t.tree u.tree d.ino) (sym now') made' in
+              let number = made_same s.tree t.tree s'.tree t'.tree c.ino d.ino (same_there pid p s t alike here) numbers one two in
               by_second e fits of free x y (
               after_is s is by p here_by call fits.1 c ∙ ap (λ n. after_effect s by (effect_with s is by p here_by call fits.1 n)) number
               ∙ sym (after_is s is by p here_by call fits.1 d)

@@ -86,9 +86,9 @@ unfolding other_refusal
 other_is s pid p call here e = ap (demand_of (λ p. late_refusal s p (row_of call))) (sym here) ∙ e
 
 after_is : (s : State) (pid : ℕ) (p : Process) (call : Call) (choice : Choice) → get nat_cmp s.processes pid ≡ Some p
-    → after s (Calls pid call) choice ≡ after_effect s pid (effect_in pid p (row_of call) choice.number choice.free s)
+    → after s (Calls pid call) choice ≡ after_effect s pid (effect_in pid p (row_of call) choice.ino choice.free s)
 unfolding after
-after_is s pid p call choice here = ap (after_call s pid (row_of call) choice.number) here
+after_is s pid p call choice here = ap (after_call s pid (row_of call) choice.ino) here
 
 call_acts : (pid : ℕ) (call : Call) → Confines call → (p : Process) (s t : State) (choice : Choice)
     → IsState s → IsState t → IsConfined p.cred → IsCall call → Acts s (Calls pid call) choice → Acts t (Calls pid call) choice
@@ -100,17 +100,17 @@ call_acts pid call conf p s t choice is js confined fits act act' here alike =
     let a = after_is s pid p call choice here in
     let b = after_is t pid p call choice there in
     let row = row_of call in
-    let x = conf s pid p choice.number choice.free is act.running here confined fits (firm_is s pid p call here act.early) (other_is s pid p call here act.late)
+    let x = conf s pid p choice.ino choice.free is act.running here confined fits (firm_is s pid p call here act.early) (other_is s pid p call here act.late)
     (subst (λ a. HasNewNumber s a.change) a act.allowed.number) in
-    let y = conf t pid p choice.number choice.free js act'.running there confined fits (firm_is t pid p call there act'.early) (other_is t pid p call there act'.late)
+    let y = conf t pid p choice.ino choice.free js act'.running there confined fits (firm_is t pid p call there act'.early) (other_is t pid p call there act'.late)
     (subst (λ a. HasNewNumber t a.change) b act'.allowed.number) in
     let same = same_seen pid p s t alike here in
     subst (λ m. AnswerAlike pid m.reply (after t (Calls pid call) choice).reply (state_after s m choice.free) (state_after t (after t (Calls pid call) choice) choice.free)) (sym a)
-    (subst (λ m. AnswerAlike pid (effect_in pid p row choice.number choice.free s).reply m.reply (left_by pid p row choice.number choice.free s) (state_after t m choice.free)) (sym b)
+    (subst (λ m. AnswerAlike pid (effect_in pid p row choice.ino choice.free s).reply m.reply (left_by pid p row choice.ino choice.free s) (state_after t m choice.free)) (sym b)
     (record {
-      replies = same_reply pid p row choice.number choice.free s t same x y;
-      process = same_process pid p row choice.number choice.free s t same x y;
-      alike = λ _. left_alike pid p row choice.number choice.free s t act.running act'.running same x y;
+      replies = same_reply pid p row choice.ino choice.free s t same x y;
+      process = same_process pid p row choice.ino choice.free s t same x y;
+      alike = λ _. left_alike pid p row choice.ino choice.free s t act.running act'.running same x y;
     }))
 
 pub confines_call : (by : ℕ) (call : Call) → Confines call → ConfinesEvent (Calls by call)

@@ -15,7 +15,7 @@ use Rattle.fs_model.specs.TreeChanges.{Same, changed, touches}
 use Rattle.fs_model.specs.States.{State}
 use Rattle.fs_model.specs.Alike.{sees_into, seen_by, tree_seen}
 use Rattle.fs_model.specs.Rows.{row_of}
-use Rattle.fs_model.specs.Scenes.{Scene, Row, number, node_found, body_found}
+use Rattle.fs_model.specs.Scenes.{Scene, Row, found_ino, node_found, body_found}
 use Rattle.fs_model.specs.Steps.{scene_of}
 use Rattle.fs_model.specs.DescriptorCalls.{shown}
 use Rattle.fs_model.specs.AttributeCalls.{granted_by, acl_shown}
@@ -69,21 +69,21 @@ module _ (c : Scene) where
       let e = shown_size-blotted body in
       let f = directory_in-blotted body in
       let g = names_of-veil t n in
-      ap (λ x. record { inode = n; kind = type_of x.body; mode = shown_mode x.body; links = if is_directory x.body then 1 else names_of (veil t) n; owner = x.owner; group = x.group; size = shown_size x.body }) a
+      ap (λ x. record { ino = n; kind = type_of x.body; mode = shown_mode x.body; links = if is_directory x.body then 1 else names_of (veil t) n; owner = x.owner; group = x.group; size = shown_size x.body }) a
       ∙ cc
 
   granted-veil : (want : Perms) → granted_by c.process.cred want (accessed (node_found (veiled_scene c) c.first)) ≡ granted_by c.process.cred want (accessed (node_found c c.first))
   granted-veil want =
       let x = node_found c c.first in
-      ap (λ node. granted_by c.process.cred want (accessed node)) (the_node-veil c.state.tree (number c.first))
+      ap (λ node. granted_by c.process.cred want (accessed node)) (the_node-veil c.state.tree (found_ino c.first))
       ∙ ap (granted_by c.process.cred want) (accessed-blotted x.owner x.group x.body)
 
   acl-veil : (which : AclType) → acl_shown which (body_found (veiled_scene c) c.first) ≡ acl_shown which (body_found c c.first)
-  acl-veil AccessType = ap (λ node. acl_in node.body) (the_node-veil c.state.tree (number c.first)) ∙ acl_in-blotted (body_found c c.first)
-  acl-veil DefaultType = ap (λ node. default_in node.body) (the_node-veil c.state.tree (number c.first)) ∙ default_in-blotted (body_found c c.first)
+  acl-veil AccessType = ap (λ node. acl_in node.body) (the_node-veil c.state.tree (found_ino c.first)) ∙ acl_in-blotted (body_found c c.first)
+  acl-veil DefaultType = ap (λ node. default_in node.body) (the_node-veil c.state.tree (found_ino c.first)) ∙ default_in-blotted (body_found c c.first)
 
   target-veil : target_in (body_found (veiled_scene c) c.first) ≡ target_in (body_found c c.first)
-  target-veil = ap (λ node. target_in node.body) (the_node-veil c.state.tree (number c.first)) ∙ target_in-blotted (body_found c c.first)
+  target-veil = ap (λ node. target_in node.body) (the_node-veil c.state.tree (found_ino c.first)) ∙ target_in-blotted (body_found c c.first)
 
   listed-veil : (n : ℕ) → names_of_body (the_node (veil c.state.tree) n).body ≡ names_of_body (the_node c.state.tree n).body
   listed-veil n = ap (λ node. names_of_body node.body) (the_node-veil c.state.tree n) ∙ names_in-blotted (the_node c.state.tree n).body
@@ -102,15 +102,15 @@ look_at call is u pid p new free _ _ _ _ _ _ _ _ = look_confined u pid p (row_of
 
 pub stat_confined : (path : List ℕ) → Confines (Stat path)
 unfolding row_of
-stat_confined path = look_at (Stat path) (λ new. looks (row_of (Stat path)) new (λ c. refl) (λ c. refl) (λ c. ap Shown (shown-veil c (number c.first))))
+stat_confined path = look_at (Stat path) (λ new. looks (row_of (Stat path)) new (λ c. refl) (λ c. refl) (λ c. ap Shown (shown-veil c (found_ino c.first))))
 
 pub lstat_confined : (path : List ℕ) → Confines (Lstat path)
 unfolding row_of
-lstat_confined path = look_at (Lstat path) (λ new. looks (row_of (Lstat path)) new (λ c. refl) (λ c. refl) (λ c. ap Shown (shown-veil c (number c.first))))
+lstat_confined path = look_at (Lstat path) (λ new. looks (row_of (Lstat path)) new (λ c. refl) (λ c. refl) (λ c. ap Shown (shown-veil c (found_ino c.first))))
 
 pub fstat_confined : (fd : ℕ) → Confines (Fstat fd)
 unfolding row_of
-fstat_confined fd = look_at (Fstat fd) (λ new. looks (row_of (Fstat fd)) new (λ c. refl) (λ c. refl) (λ c. ap Shown (shown-veil c (the_descriptor c.process fd).number)))
+fstat_confined fd = look_at (Fstat fd) (λ new. looks (row_of (Fstat fd)) new (λ c. refl) (λ c. refl) (λ c. ap Shown (shown-veil c (the_descriptor c.process fd).ino)))
 
 pub access_confined : (path : List ℕ) (want : Perms) → Confines (Access path want)
 unfolding row_of
@@ -127,7 +127,7 @@ readlink_confined path = look_at (Readlink path) (λ new. looks (row_of (Readlin
 pub readdir_confined : (fd : ℕ) → Confines (Readdir fd)
 unfolding row_of
 readdir_confined fd = look_at (Readdir fd) (λ new. looks (row_of (Readdir fd)) new (λ c. refl) (λ c. refl) (λ c.
-    let n = (the_descriptor c.process fd).number in
+    let n = (the_descriptor c.process fd).ino in
     ap (λ up. Names ((46 ∷ [], n) ∷ (46 ∷ 46 ∷ [], up) ∷ names_of_body (the_node (veil c.state.tree) n).body)) (parent-veil c.state.tree n)
     ∙ ap (λ names. Names ((46 ∷ [], n) ∷ (46 ∷ 46 ∷ [], parent c.state.tree n) ∷ names)) (listed-veil c n)))
 

@@ -27,59 +27,59 @@ use Rattle.fs_model.proofs.ConfinedLooks.{by_veil}
 module _ (p : Process) where
   -- ---- names in what is seen
 
-  module _ (g : List (List ℕ × ℕ) → List (List ℕ × ℕ)) (dir : ℕ) where
+  module _ (g : List (List ℕ × ℕ) → List (List ℕ × ℕ)) (dir_ino : ℕ) where
     abbrev renamed : Node → Node
     renamed node = record node { body = with_names (g (names_of_body node.body)) node.body }
 
     renamed_seen : (owner group : ℕ) (stamps : Stamps) (body : Body)
-        → node_seen p dir (renamed (record { owner = owner; group = group; stamps = stamps; body = body })) ≡ renamed (node_seen p dir (record { owner = owner; group = group; stamps = stamps; body = body }))
-    renamed_seen owner group stamps (File a bytes) = go (sees_into p dir (record { owner = owner; group = group; stamps = stamps; body = File a bytes }))
+        → node_seen p dir_ino (renamed (record { owner = owner; group = group; stamps = stamps; body = body })) ≡ renamed (node_seen p dir_ino (record { owner = owner; group = group; stamps = stamps; body = body }))
+    renamed_seen owner group stamps (File a bytes) = go (sees_into p dir_ino (record { owner = owner; group = group; stamps = stamps; body = File a bytes }))
       where
         go : (b : Bool) → cond b (record { owner = owner; group = group; stamps = stamps; body = File a bytes }) (veiled (record { owner = owner; group = group; stamps = stamps; body = File a bytes }))
             ≡ renamed (cond b (record { owner = owner; group = group; stamps = stamps; body = File a bytes }) (veiled (record { owner = owner; group = group; stamps = stamps; body = File a bytes })))
         go true = refl
         go false = refl
-    renamed_seen owner group stamps (Dir a d) = go (sees_into p dir (record { owner = owner; group = group; stamps = stamps; body = Dir a d }))
+    renamed_seen owner group stamps (Dir a d) = go (sees_into p dir_ino (record { owner = owner; group = group; stamps = stamps; body = Dir a d }))
       where
         go : (b : Bool) → cond b (renamed (record { owner = owner; group = group; stamps = stamps; body = Dir a d })) (veiled (renamed (record { owner = owner; group = group; stamps = stamps; body = Dir a d })))
             ≡ renamed (cond b (record { owner = owner; group = group; stamps = stamps; body = Dir a d }) (veiled (record { owner = owner; group = group; stamps = stamps; body = Dir a d })))
         go true = refl
         go false = refl
-    renamed_seen owner group stamps (Link target) = go (sees_into p dir (record { owner = owner; group = group; stamps = stamps; body = Link target }))
+    renamed_seen owner group stamps (Link target) = go (sees_into p dir_ino (record { owner = owner; group = group; stamps = stamps; body = Link target }))
       where
         go : (b : Bool) → cond b (record { owner = owner; group = group; stamps = stamps; body = Link target }) (veiled (record { owner = owner; group = group; stamps = stamps; body = Link target }))
             ≡ renamed (cond b (record { owner = owner; group = group; stamps = stamps; body = Link target }) (veiled (record { owner = owner; group = group; stamps = stamps; body = Link target })))
         go true = refl
         go false = refl
 
-    names_seen : (t : Tree) → with_names_at (tree_seen p t) dir g (node_at (tree_seen p t) dir) ≡ tree_seen p (with_names_at t dir g (node_at t dir))
-    names_seen t = ap (with_names_at (tree_seen p t) dir g) (node_at-seen p t dir) ∙ go (node_at t dir)
+    names_seen : (t : Tree) → with_names_at (tree_seen p t) dir_ino g (node_at (tree_seen p t) dir_ino) ≡ tree_seen p (with_names_at t dir_ino g (node_at t dir_ino))
+    names_seen t = ap (with_names_at (tree_seen p t) dir_ino g) (node_at-seen p t dir_ino) ∙ go (node_at t dir_ino)
       where
-        go : (o : Option Node) → with_names_at (tree_seen p t) dir g (option_map (node_seen p dir) o) ≡ tree_seen p (with_names_at t dir g o)
+        go : (o : Option Node) → with_names_at (tree_seen p t) dir_ino g (option_map (node_seen p dir_ino) o) ≡ tree_seen p (with_names_at t dir_ino g o)
         go None = refl
-        go (Some x) = ap (with_node (tree_seen p t) dir) (sym (renamed_seen x.owner x.group x.stamps x.body)) ∙ sym (with_node-seen p t dir (renamed x))
+        go (Some x) = ap (with_node (tree_seen p t) dir_ino) (sym (renamed_seen x.owner x.group x.stamps x.body)) ∙ sym (with_node-seen p t dir_ino (renamed x))
 
-  lookup_seen : (t : Tree) (dir : ℕ) (name : List ℕ) → lookup (tree_seen p t) dir name ≡ lookup t dir name
-  lookup_seen t dir name = ap (λ o. lookup_in o name) (node_at-seen p t dir) ∙ go (node_at t dir)
+  lookup_seen : (t : Tree) (dir_ino : ℕ) (name : List ℕ) → lookup (tree_seen p t) dir_ino name ≡ lookup t dir_ino name
+  lookup_seen t dir_ino name = ap (λ o. lookup_in o name) (node_at-seen p t dir_ino) ∙ go (node_at t dir_ino)
     where
       at : (b : Bool) (x : Node) → lookup_in (Some (cond b x (veiled x))) name ≡ lookup_in (Some x) name
       at true x = refl
       at false x = ap (λ ns. Rattle.fs_layout.specs.Maps.get name_cmp ns name) (names_in-blotted x.body)
 
-      go : (o : Option Node) → lookup_in (option_map (node_seen p dir) o) name ≡ lookup_in o name
+      go : (o : Option Node) → lookup_in (option_map (node_seen p dir_ino) o) name ≡ lookup_in o name
       go None = refl
-      go (Some x) = at (sees_into p dir x) x
+      go (Some x) = at (sees_into p dir_ino x) x
 
   -- whose times move depends on no byte
   touches_seen : (room : Room) (t : Tree) (change : Change) → touches room (tree_seen p t) change ≡ touches room t change
   touches_seen room t Same = refl
   touches_seen room t (Rewrite touch n node) = refl
-  touches_seen room t (Make dir name n node) = refl
-  touches_seen room t (AddName dir name n) = refl
-  touches_seen room t (TakeName dir name) = ap (λ o. if room.keeps_times then (dir, Modified) ∷ changed_at o else []) (lookup_seen t dir name)
-  touches_seen room t (MoveName dir name to_dir to_name) =
-      ap (λ o. if room.keeps_times then (dir, Modified) ∷ (to_dir, Modified) ∷ (changed_at o ++ changed_at (lookup (tree_seen p t) to_dir to_name)) else []) (lookup_seen t dir name)
-      ∙ ap (λ o. if room.keeps_times then (dir, Modified) ∷ (to_dir, Modified) ∷ (changed_at (lookup t dir name) ++ changed_at o) else []) (lookup_seen t to_dir to_name)
+  touches_seen room t (Make dir_ino name n node) = refl
+  touches_seen room t (AddName dir_ino name n) = refl
+  touches_seen room t (TakeName dir_ino name) = ap (λ o. if room.keeps_times then (dir_ino, Modified) ∷ changed_at o else []) (lookup_seen t dir_ino name)
+  touches_seen room t (MoveName dir_ino name to_dir_ino to_name) =
+      ap (λ o. if room.keeps_times then (dir_ino, Modified) ∷ (to_dir_ino, Modified) ∷ (changed_at o ++ changed_at (lookup (tree_seen p t) to_dir_ino to_name)) else []) (lookup_seen t dir_ino name)
+      ∙ ap (λ o. if room.keeps_times then (dir_ino, Modified) ∷ (to_dir_ino, Modified) ∷ (changed_at (lookup t dir_ino name) ++ changed_at o) else []) (lookup_seen t to_dir_ino to_name)
 
   -- ---- changes in what is seen
 
@@ -92,33 +92,33 @@ module _ (p : Process) where
   same_kept : IsKept Same
   same_kept t = twice t
 
-  taken_kept : (dir : ℕ) (name : List ℕ) → IsKept (TakeName dir name)
-  taken_kept dir name t = ap (tree_seen p) (names_seen (λ names. without name_cmp names name) dir t) ∙ twice (unnamed t dir name)
+  taken_kept : (dir_ino : ℕ) (name : List ℕ) → IsKept (TakeName dir_ino name)
+  taken_kept dir_ino name t = ap (tree_seen p) (names_seen (λ names. without name_cmp names name) dir_ino t) ∙ twice (unnamed t dir_ino name)
 
-  added_kept : (dir : ℕ) (name : List ℕ) (n : ℕ) → IsKept (AddName dir name n)
-  added_kept dir name n t = ap (tree_seen p) (names_seen (λ names. with_entry name_cmp names name n) dir t) ∙ twice (named t dir name n)
+  added_kept : (dir_ino : ℕ) (name : List ℕ) (n : ℕ) → IsKept (AddName dir_ino name n)
+  added_kept dir_ino name n t = ap (tree_seen p) (names_seen (λ names. with_entry name_cmp names name n) dir_ino t) ∙ twice (named t dir_ino name n)
 
-  moved_kept : (dir : ℕ) (name : List ℕ) (to_dir : ℕ) (to_name : List ℕ) → IsKept (MoveName dir name to_dir to_name)
-  moved_kept dir name to_dir to_name t =
-      let n = unwrap_or (lookup t dir name) 0 in
-      ap (λ o. tree_seen p (named (unnamed (tree_seen p t) dir name) to_dir to_name (unwrap_or o 0))) (lookup_seen t dir name)
-      ∙ ap (λ u. tree_seen p (named u to_dir to_name n)) (names_seen (λ names. without name_cmp names name) dir t)
-      ∙ added_kept to_dir to_name n (unnamed t dir name)
+  moved_kept : (dir_ino : ℕ) (name : List ℕ) (to_dir_ino : ℕ) (to_name : List ℕ) → IsKept (MoveName dir_ino name to_dir_ino to_name)
+  moved_kept dir_ino name to_dir_ino to_name t =
+      let n = unwrap_or (lookup t dir_ino name) 0 in
+      ap (λ o. tree_seen p (named (unnamed (tree_seen p t) dir_ino name) to_dir_ino to_name (unwrap_or o 0))) (lookup_seen t dir_ino name)
+      ∙ ap (λ u. tree_seen p (named u to_dir_ino to_name n)) (names_seen (λ names. without name_cmp names name) dir_ino t)
+      ∙ added_kept to_dir_ino to_name n (unnamed t dir_ino name)
 
   -- a node without bytes is made
-  pub made_seen : (dir : ℕ) (name : List ℕ) (n : ℕ) (node : Node) (t : Tree) → veiled node ≡ node
-      → changed (tree_seen p t) (Make dir name n node) ≡ tree_seen p (changed t (Make dir name n node))
-  made_seen dir name n node t bare =
-      ap (λ x. named (with_node (tree_seen p t) n x) dir name n) (sym (go (sees_into p n node)))
-      ∙ ap (λ u. named u dir name n) (sym (with_node-seen p t n node))
-      ∙ names_seen (λ names. with_entry name_cmp names name n) dir (with_node t n node)
+  pub made_seen : (dir_ino : ℕ) (name : List ℕ) (n : ℕ) (node : Node) (t : Tree) → veiled node ≡ node
+      → changed (tree_seen p t) (Make dir_ino name n node) ≡ tree_seen p (changed t (Make dir_ino name n node))
+  made_seen dir_ino name n node t bare =
+      ap (λ x. named (with_node (tree_seen p t) n x) dir_ino name n) (sym (go (sees_into p n node)))
+      ∙ ap (λ u. named u dir_ino name n) (sym (with_node-seen p t n node))
+      ∙ names_seen (λ names. with_entry name_cmp names name n) dir_ino (with_node t n node)
     where
       go : (b : Bool) → cond b node (veiled node) ≡ node
       go true = refl
       go false = bare
 
-  made_kept : (dir : ℕ) (name : List ℕ) (n : ℕ) (node : Node) → veiled node ≡ node → IsKept (Make dir name n node)
-  made_kept dir name n node bare t = ap (tree_seen p) (made_seen dir name n node t bare) ∙ twice (changed t (Make dir name n node))
+  made_kept : (dir_ino : ℕ) (name : List ℕ) (n : ℕ) (node : Node) → veiled node ≡ node → IsKept (Make dir_ino name n node)
+  made_kept dir_ino name n node bare t = ap (tree_seen p) (made_seen dir_ino name n node t bare) ∙ twice (changed t (Make dir_ino name n node))
 
 -- a row that changes names only, as no byte says
 pub record IsNaming (row : Row) (number : ℕ) : Type 0 where
@@ -147,46 +147,46 @@ name_by call is u pid p new free _ _ _ _ _ _ _ _ = naming_confined u pid p (row_
 
 pub unlink_confined : (path : List ℕ) → Confines (Unlink path)
 unfolding row_of
-unlink_confined path = name_by (Unlink path) (λ new. record { change = λ c. refl; process = λ c. refl; reply = λ c. refl; kept = λ p c. taken_kept p c.first.dir c.first.name })
+unlink_confined path = name_by (Unlink path) (λ new. record { change = λ c. refl; process = λ c. refl; reply = λ c. refl; kept = λ p c. taken_kept p c.first.dir_ino c.first.name })
 
 pub rmdir_confined : (path : List ℕ) → Confines (Rmdir path)
 unfolding row_of
-rmdir_confined path = name_by (Rmdir path) (λ new. record { change = λ c. refl; process = λ c. refl; reply = λ c. refl; kept = λ p c. taken_kept p c.first.dir c.first.name })
+rmdir_confined path = name_by (Rmdir path) (λ new. record { change = λ c. refl; process = λ c. refl; reply = λ c. refl; kept = λ p c. taken_kept p c.first.dir_ino c.first.name })
 
 pub link_confined : (old to : List ℕ) → Confines (LinkCall old to)
 unfolding row_of
-link_confined old to = name_by (LinkCall old to) (λ new. record { change = λ c. refl; process = λ c. refl; reply = λ c. refl; kept = λ p c. added_kept p c.second.dir c.second.name (unwrap_or c.first.ino 0) })
+link_confined old to = name_by (LinkCall old to) (λ new. record { change = λ c. refl; process = λ c. refl; reply = λ c. refl; kept = λ p c. added_kept p c.second.dir_ino c.second.name (unwrap_or c.first.ino 0) })
 
 pub rename_confined : (old to : List ℕ) → Confines (Rename old to)
 unfolding row_of
 rename_confined old to = name_by (Rename old to) (λ new. record { change = λ c. refl; process = λ c. refl; reply = λ c. refl; kept = λ p c. either p c (is_same c) })
   where
-    either : (p : Process) (c : Scene) (b : Bool) → IsKept p (cond b Same (MoveName c.first.dir c.first.name c.second.dir c.second.name))
+    either : (p : Process) (c : Scene) (b : Bool) → IsKept p (cond b Same (MoveName c.first.dir_ino c.first.name c.second.dir_ino c.second.name))
     either p c true = same_kept p
-    either p c false = moved_kept p c.first.dir c.first.name c.second.dir c.second.name
+    either p c false = moved_kept p c.first.dir_ino c.first.name c.second.dir_ino c.second.name
 
 pub dir_veil : (c : Scene) → the_directory (dir_node (veiled_scene c) c.first) ≡ the_directory (dir_node c c.first)
 dir_veil c =
-    ap the_directory (the_node-veil c.state.tree c.first.dir)
+    ap the_directory (the_node-veil c.state.tree c.first.dir_ino)
     ∙ ap (λ o. unwrap_or o Rattle.fs_model.specs.Births.no_directory) (directory_in-blotted (dir_node c c.first).body)
 
 pub group_veil : (c : Scene) → (dir_node (veiled_scene c) c.first).group ≡ (dir_node c c.first).group
-group_veil c = ap (λ x. x.group) (the_node-veil c.state.tree c.first.dir)
+group_veil c = ap (λ x. x.group) (the_node-veil c.state.tree c.first.dir_ino)
 
 pub mkdir_confined : (path : List ℕ) (mode : ℕ) → Confines (Mkdir path mode)
 unfolding row_of
 mkdir_confined path mode = name_by (Mkdir path mode) (λ new. record {
-  change = λ c. ap (Make c.first.dir c.first.name new) (let a = dir_veil c in let b = group_veil c in cc);
+  change = λ c. ap (Make c.first.dir_ino c.first.name new) (let a = dir_veil c in let b = group_veil c in cc);
   process = λ c. refl;
   reply = λ c. refl;
-  kept = λ p c. made_kept p c.first.dir c.first.name new (born_directory c.process.cred c.process.umask mode (dir_node c c.first)) refl;
+  kept = λ p c. made_kept p c.first.dir_ino c.first.name new (born_directory c.process.cred c.process.umask mode (dir_node c c.first)) refl;
 })
 
 pub symlink_confined : (target path : List ℕ) → Confines (Symlink target path)
 unfolding row_of
 symlink_confined target path = name_by (Symlink target path) (λ new. record {
-  change = λ c. ap (Make c.first.dir c.first.name new) (let a = dir_veil c in let b = group_veil c in cc);
+  change = λ c. ap (Make c.first.dir_ino c.first.name new) (let a = dir_veil c in let b = group_veil c in cc);
   process = λ c. refl;
   reply = λ c. refl;
-  kept = λ p c. made_kept p c.first.dir c.first.name new (born_link c.process.cred target (dir_node c c.first)) refl;
+  kept = λ p c. made_kept p c.first.dir_ino c.first.name new (born_link c.process.cred target (dir_node c c.first)) refl;
 })

@@ -21,7 +21,7 @@ use Rattle.fs_model.specs.TreeChanges.{Change, Same, Rewrite, Make, changed, tou
 use Rattle.fs_model.specs.Alike.{may_read, sees_into, node_seen, tree_seen, seen_by}
 use Rattle.fs_model.specs.Demands.{Demand, perms, permission_of, accessed_at, decided}
 use Rattle.fs_model.specs.Rows.{row_of}
-use Rattle.fs_model.specs.Scenes.{is_found, number, dir_node}
+use Rattle.fs_model.specs.Scenes.{is_found, found_ino, dir_node}
 use Rattle.fs_model.specs.Steps.{scene_of}
 use Rattle.fs_model.specs.OpenCall.{open_row, open_found_demands, open_new_demands, open_process}
 use Rattle.fs_model.proofs.Swept.{at_first, at_rest}
@@ -52,15 +52,15 @@ emptied node = record node { body = with_bytes [] node.body }
 
 -- what open changes: a new node is made, or what is there is emptied, or nothing
 abbrev open_to : Bool → Bool → ℕ → List ℕ → ℕ → Node → ℕ → Node → Change
-open_to found empties dir name new node n there =
-    cond (not found) (Make dir name new node) (cond empties (Rewrite Modified n (emptied there)) Same)
+open_to found empties dir_ino name new node n there =
+    cond (not found) (Make dir_ino name new node) (cond empties (Rewrite Modified n (emptied there)) Same)
 
 -- whose times that moves
-open_touches : (room : Room) (t u : Tree) (found empties : Bool) (dir : ℕ) (name : List ℕ) (new : ℕ) (x y : Node) (n : ℕ) (v w : Node)
-    → touches room t (open_to found empties dir name new x n v) ≡ touches room u (open_to found empties dir name new y n w)
-open_touches room t u true true dir name new x y n v w = refl
-open_touches room t u true false dir name new x y n v w = refl
-open_touches room t u false empties dir name new x y n v w = refl
+open_touches : (room : Room) (t u : Tree) (found empties : Bool) (dir_ino : ℕ) (name : List ℕ) (new : ℕ) (x y : Node) (n : ℕ) (v w : Node)
+    → touches room t (open_to found empties dir_ino name new x n v) ≡ touches room u (open_to found empties dir_ino name new y n w)
+open_touches room t u true true dir_ino name new x y n v w = refl
+open_touches room t u true false dir_ino name new x y n v w = refl
+open_touches room t u false empties dir_ino name new x y n v w = refl
 
 module _ (p : Process) (flags : Flags) (n : ℕ) where
   abbrev opener : Process
@@ -107,7 +107,7 @@ module _ (p : Process) (flags : Flags) (n : ℕ) where
 
   -- ---- what is new
 
-  module _ (t : Tree) (is : IsMap nat_cmp t) (node : Node) (own : node.owner ≡ p.cred.uid) (bare : veiled node ≡ node) (dir : ℕ) (name : List ℕ) where
+  module _ (t : Tree) (is : IsMap nat_cmp t) (node : Node) (own : node.owner ≡ p.cred.uid) (bare : veiled node ≡ node) (dir_ino : ℕ) (name : List ℕ) where
     abbrev IsOwn : ℕ → Node → Type 0
     IsOwn m x = m ≡ n → x.owner ≡ p.cred.uid
 
@@ -117,23 +117,23 @@ module _ (p : Process) (flags : Flags) (n : ℕ) where
         let same : node ≡ x = cc in
         ap (λ y. y.owner) (sym same) ∙ own
 
-    made_own : (f : List (List ℕ × ℕ) → List (List ℕ × ℕ)) (o : Option Node) → node_at (with_node t n node) dir ≡ o
-        → (m : ℕ) (x : Node) → node_at (with_names_at (with_node t n node) dir f o) m ≡ Some x → IsOwn m x
+    made_own : (f : List (List ℕ × ℕ) → List (List ℕ × ℕ)) (o : Option Node) → node_at (with_node t n node) dir_ino ≡ o
+        → (m : ℕ) (x : Node) → node_at (with_names_at (with_node t n node) dir_ino f o) m ≡ Some x → IsOwn m x
     made_own f None at = added_own
-    made_own f (Some v) at = in_with_entry IsOwn (with_node t n node) dir (record v { body = with_names (f (names_of_body v.body)) v.body }) (added_own dir v at) added_own
+    made_own f (Some v) at = in_with_entry IsOwn (with_node t n node) dir_ino (record v { body = with_names (f (names_of_body v.body)) v.body }) (added_own dir_ino v at) added_own
 
-    made_is : (f : List (List ℕ × ℕ) → List (List ℕ × ℕ)) (o : Option Node) → IsMap nat_cmp (with_names_at (with_node t n node) dir f o)
+    made_is : (f : List (List ℕ × ℕ) → List (List ℕ × ℕ)) (o : Option Node) → IsMap nat_cmp (with_names_at (with_node t n node) dir_ino f o)
     made_is f None = with_entry-IsMap t n node is
-    made_is f (Some v) = with_entry-IsMap (with_node t n node) dir (record v { body = with_names (f (names_of_body v.body)) v.body }) (with_entry-IsMap t n node is)
+    made_is f (Some v) = with_entry-IsMap (with_node t n node) dir_ino (record v { body = with_names (f (names_of_body v.body)) v.body }) (with_entry-IsMap t n node is)
 
-    pub new_tree : tree_seen opener (changed (tree_seen p t) (Make dir name n node)) ≡ tree_seen opener (changed t (Make dir name n node))
+    pub new_tree : tree_seen opener (changed (tree_seen p t) (Make dir_ino name n node)) ≡ tree_seen opener (changed t (Make dir_ino name n node))
     new_tree =
         let f : List (List ℕ × ℕ) → List (List ℕ × ℕ) = λ names. with_entry name_cmp names name n in
-        let made = changed t (Make dir name n node) in
-        ap (tree_seen opener) (made_seen p dir name n node t bare)
-        ∙ tree_seen-less p opener made (sees_no_more_at p opener made (made_is f (node_at (with_node t n node) dir)) (λ m x at.
+        let made = changed t (Make dir_ino name n node) in
+        ap (tree_seen opener) (made_seen p dir_ino name n node t bare)
+        ∙ tree_seen-less p opener made (sees_no_more_at p opener made (made_is f (node_at (with_node t n node) dir_ino)) (λ m x at.
         opener_sees m x (λ e _.
-        let owner : x.owner ≡ p.cred.uid = made_own f (node_at (with_node t n node) dir) refl m x at e in
+        let owner : x.owner ≡ p.cred.uid = made_own f (node_at (with_node t n node) dir_ino) refl m x at e in
         owner_sees p m x (let k = owner in grind (arith, nat_tests)))))
 
 -- ---- what was granted
@@ -158,13 +158,13 @@ accessed_the (Some node) = refl
 -- ---- open
 
 -- where something was found, and where nothing was
-opened_tree : (p : Process) (flags : Flags) (t : Tree) → IsMap nat_cmp t → (new : ℕ) (o : Option ℕ) (dir : ℕ) (name : List ℕ) (node : Node)
+opened_tree : (p : Process) (flags : Flags) (t : Tree) → IsMap nat_cmp t → (new : ℕ) (o : Option ℕ) (dir_ino : ℕ) (name : List ℕ) (node : Node)
     → node.owner ≡ p.cred.uid → veiled node ≡ node
     → (is_some o ≡ true → flags.read ≡ true → may_read p (accessed (the_node t (unwrap_or o 0))) ≡ true) → (empties : Bool)
-    → tree_seen (open_process p flags (unwrap_or o new)) (changed (tree_seen p t) (open_to (is_some o) empties dir name new node (unwrap_or o 0) (node_seen p (unwrap_or o 0) (the_node t (unwrap_or o 0)))))
-    ≡ tree_seen (open_process p flags (unwrap_or o new)) (changed t (open_to (is_some o) empties dir name new node (unwrap_or o 0) (the_node t (unwrap_or o 0))))
-opened_tree p flags t is new None dir name node own bare reads empties = new_tree p flags new t is node own bare dir name
-opened_tree p flags t is new (Some n) dir name node own bare reads empties = found_tree p flags n t is (reads refl) empties
+    → tree_seen (open_process p flags (unwrap_or o new)) (changed (tree_seen p t) (open_to (is_some o) empties dir_ino name new node (unwrap_or o 0) (node_seen p (unwrap_or o 0) (the_node t (unwrap_or o 0)))))
+    ≡ tree_seen (open_process p flags (unwrap_or o new)) (changed t (open_to (is_some o) empties dir_ino name new node (unwrap_or o 0) (the_node t (unwrap_or o 0))))
+opened_tree p flags t is new None dir_ino name node own bare reads empties = new_tree p flags new t is node own bare dir_ino name
+opened_tree p flags t is new (Some n) dir_ino name node own bare reads empties = found_tree p flags n t is (reads refl) empties
 
 pub open_confined : (path : List ℕ) (flags : Flags) (mode : ℕ) → Confines (Open path flags mode)
 unfolding row_of
@@ -176,22 +176,22 @@ open_confined path flags mode u pid p new free is runs here confined fits asked 
     let seen = tree_seen p u.tree in
     let empties = flags.trunc && flags.write in
     let first : v.first ≡ f = by_veil (λ c. c.first) (λ c. refl) u p row in
-    let made : born_file p.cred p.umask mode (the_node seen f.dir) ≡ born_file p.cred p.umask mode (the_node u.tree f.dir) =
-    ap (λ g. born_file p.cred p.umask mode (the_node seen g.dir)) (sym first)
+    let made : born_file p.cred p.umask mode (the_node seen f.dir_ino) ≡ born_file p.cred p.umask mode (the_node u.tree f.dir_ino) =
+    ap (λ g. born_file p.cred p.umask mode (the_node seen g.dir_ino)) (sym first)
     ∙ by_veil (λ c. born_file c.process.cred c.process.umask mode (dir_node c c.first)) (λ c. let a = dir_veil c in let b = group_veil c in cc) u p row in
     let q = open_process p flags (unwrap_or f.ino new) in
-    let reads : is_found f ≡ true → flags.read ≡ true → may_read p (accessed (the_node u.tree (number f))) ≡ true = λ found r. (
+    let reads : is_found f ≡ true → flags.read ≡ true → may_read p (accessed (the_node u.tree (found_ino f))) ≡ true = λ found r. (
     let asks = subst (λ b. AreMet (cond b (open_found_demands flags c) (open_new_demands flags c))) found (demands_met u p row met) in
-    ap (may_read p) (sym (accessed_the (node_at u.tree (number f)))) ∙ granted_reads p (accessed_at u.tree (number f)) flags.read flags.write f.step asks.1.1.1.1.0 r) in
+    ap (may_read p) (sym (accessed_the (node_at u.tree (found_ino f)))) ∙ granted_reads p (accessed_at u.tree (found_ino f)) flags.read flags.write f.step asks.1.1.1.1.0 r) in
     record {
       process = ap (λ g. open_process p flags (unwrap_or g.ino new)) first;
       reply = refl;
       moved =
-          ap (λ g. touches u.room seen (open_to (is_found g) empties g.dir g.name new (born_file p.cred p.umask mode (the_node seen g.dir)) (number g) (the_node seen (number g)))) first
-          ∙ open_touches u.room seen u.tree (is_found f) empties f.dir f.name new _ _ (number f) _ _;
+          ap (λ g. touches u.room seen (open_to (is_found g) empties g.dir_ino g.name new (born_file p.cred p.umask mode (the_node seen g.dir_ino)) (found_ino g) (the_node seen (found_ino g)))) first
+          ∙ open_touches u.room seen u.tree (is_found f) empties f.dir_ino f.name new _ _ (found_ino f) _ _;
       tree =
-          ap (λ g. tree_seen q (changed seen (open_to (is_found g) empties g.dir g.name new (born_file p.cred p.umask mode (the_node seen g.dir)) (number g) (the_node seen (number g))))) first
-          ∙ ap (λ x. tree_seen q (changed seen (open_to (is_found f) empties f.dir f.name new x (number f) (the_node seen (number f))))) made
-          ∙ ap (λ x. tree_seen q (changed seen (open_to (is_found f) empties f.dir f.name new (born_file p.cred p.umask mode (the_node u.tree f.dir)) (number f) x))) (the_node-seen p u.tree (number f))
-          ∙ opened_tree p flags u.tree is.tree.numbers new f.ino f.dir f.name (born_file p.cred p.umask mode (the_node u.tree f.dir)) refl refl reads empties;
+          ap (λ g. tree_seen q (changed seen (open_to (is_found g) empties g.dir_ino g.name new (born_file p.cred p.umask mode (the_node seen g.dir_ino)) (found_ino g) (the_node seen (found_ino g))))) first
+          ∙ ap (λ x. tree_seen q (changed seen (open_to (is_found f) empties f.dir_ino f.name new x (found_ino f) (the_node seen (found_ino f))))) made
+          ∙ ap (λ x. tree_seen q (changed seen (open_to (is_found f) empties f.dir_ino f.name new (born_file p.cred p.umask mode (the_node u.tree f.dir_ino)) (found_ino f) x))) (the_node-seen p u.tree (found_ino f))
+          ∙ opened_tree p flags u.tree is.tree.numbers new f.ino f.dir_ino f.name (born_file p.cred p.umask mode (the_node u.tree f.dir_ino)) refl refl reads empties;
     }

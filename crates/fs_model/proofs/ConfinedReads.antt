@@ -79,7 +79,7 @@ module _ (f : Descriptor → Bool) where
       go false ih h = more (f e.1) true (any ds) (λ _. ih h) (go2 (f e.1))
 
 abbrev pub is_for : ℕ → Descriptor → Bool
-is_for n d = d.number == n && d.read
+is_for n d = d.ino == n && d.read
 
 pub less_by : (a b x y : Bool) → (x ≡ true → y ≡ true) → (a || b || x) ≡ true → (a || b || y) ≡ true
 less_by true b x y k h = refl
@@ -94,7 +94,7 @@ either false b h k = h
 pub offset_less : (p : Process) (fd to n : ℕ) (node : Node) → sees_into (with_offset p fd to) n node ≡ true → sees_into p n node ≡ true
 offset_less p fd to n node =
     less_by (node.owner == p.cred.uid) (may_read p (accessed node))
-    (list_any (λ d. d.1.number == n && d.1.read) (with_offset p fd to).descriptors) (list_any (λ d. d.1.number == n && d.1.read) p.descriptors)
+    (list_any (λ d. d.1.ino == n && d.1.read) (with_offset p fd to).descriptors) (list_any (λ d. d.1.ino == n && d.1.read) p.descriptors)
     (λ h. either (is_for n (the_descriptor p fd)) (any (is_for n) p.descriptors)
     (any-put (is_for n) p.descriptors fd (record (the_descriptor p fd) { offset = to }) h) (λ k. go (descriptor p fd) refl k))
   where
@@ -109,7 +109,7 @@ offset_less p fd to n node =
 pub closed_less : (p : Process) (fd n : ℕ) (node : Node) → sees_into (record p { descriptors = without nat_cmp p.descriptors fd }) n node ≡ true → sees_into p n node ≡ true
 closed_less p fd n node =
     less_by (node.owner == p.cred.uid) (may_read p (accessed node))
-    (list_any (λ d. d.1.number == n && d.1.read) (without nat_cmp p.descriptors fd)) (list_any (λ d. d.1.number == n && d.1.read) p.descriptors)
+    (list_any (λ d. d.1.ino == n && d.1.read) (without nat_cmp p.descriptors fd)) (list_any (λ d. d.1.ino == n && d.1.read) p.descriptors)
     (any-filter (is_for n) (λ e. not (eq_by_cmp nat_cmp fd e.0)) p.descriptors)
 
 pub lseek_confined : (fd : ℕ) (whence : Whence) (by : ℤ) → Confines (Lseek fd whence by)
@@ -126,9 +126,9 @@ unfolding row_of
 close_confined fd = look_at (Close fd) (λ new. record { change = λ c. refl; process = λ c. refl; reply = λ c. refl; less = λ c n node. closed_less c.process fd n node })
 
 -- what is open for reading is seen into
-pub open_sees : (p : Process) (fd : ℕ) (node : Node) → (the_descriptor p fd).read ≡ true → sees_into p (the_descriptor p fd).number node ≡ true
+pub open_sees : (p : Process) (fd : ℕ) (node : Node) → (the_descriptor p fd).read ≡ true → sees_into p (the_descriptor p fd).ino node ≡ true
 open_sees p fd node r =
-    let n = (the_descriptor p fd).number in
+    let n = (the_descriptor p fd).ino in
     let same : (n == n) ≡ true = grind (arith, nat_tests) in
     let here : is_for n (the_descriptor p fd) ≡ true = ap (λ b. b && (the_descriptor p fd).read) same ∙ r in
     last (node.owner == p.cred.uid) (may_read p (accessed node)) _ (any-get (is_for n) p.descriptors fd (the_descriptor p fd) (is_read_here p fd r) here)
@@ -141,7 +141,7 @@ open_sees p fd node r =
 pub read_confined : (fd len : ℕ) → Confines (Read fd len)
 unfolding row_of
 read_confined fd len u pid p new free is runs here confined fits asked met fresh =
-    let n = (the_descriptor p fd).number in
+    let n = (the_descriptor p fd).ino in
     let met = early_met p (read_row fd len) asked in
     let r : (the_descriptor p fd).read ≡ true = not-false _ (unrefused EBADF (not (the_descriptor p fd).read) met.0) in
     let node = the_node u.tree n in

@@ -35,7 +35,7 @@ use Rattle.fs_model.specs.Confinement.{IsConfined}
 use Rattle.fs_model.specs.Rows.{row_of}
 use Rattle.fs_layout.specs.Bytes.{resized, overwritten}
 use Rattle.fs_model.specs.DescriptorCalls.{resized_node, written, write_offset}
-use Rattle.fs_model.specs.Scenes.{Row, number, node_found}
+use Rattle.fs_model.specs.Scenes.{Row, found_ino, node_found}
 use Rattle.fs_model.specs.Steps.{scene_of}
 use Rattle.fs_model.proofs.StepsBodies.{length-resized, length-overwritten_all}
 use Rattle.fs_model.proofs.Veils.{veiled}
@@ -93,7 +93,7 @@ even_resized size bytes = length-resized (replicate (length bytes) 0) size ∙ s
 pub ftruncate_confined : (fd size : ℕ) → Confines (Ftruncate fd size)
 unfolding row_of
 ftruncate_confined fd size u pid p new free is runs here confined fits asked met fresh =
-    let n = (the_descriptor p fd).number in
+    let n = (the_descriptor p fd).ino in
     let x = the_node u.tree n in
     record {
       process = refl;
@@ -109,14 +109,14 @@ pub truncate_confined : (path : List ℕ) (size : ℕ) → Confines (Truncate pa
 unfolding row_of
 truncate_confined path size u pid p new free is runs here confined fits asked met fresh =
     let row = row_of (Truncate path size) in
-    let n = number (scene_of u p row).first in
+    let n = found_ino (scene_of u p row).first in
     let x = the_node u.tree n in
     record {
       process = refl;
       reply = refl;
-      moved = ap (λ k. if u.room.keeps_times then (k, Modified) ∷ [] else []) (by_veil (λ c. number c.first) (λ c. refl) u p row);
+      moved = ap (λ k. if u.room.keeps_times then (k, Modified) ∷ [] else []) (by_veil (λ c. found_ino c.first) (λ c. refl) u p row);
       tree =
-          ap (λ m. tree_seen p (with_node (tree_seen p u.tree) m (resized_node size (the_node (tree_seen p u.tree) m)))) (by_veil (λ c. number c.first) (λ c. refl) u p row)
+          ap (λ m. tree_seen p (with_node (tree_seen p u.tree) m (resized_node size (the_node (tree_seen p u.tree) m)))) (by_veil (λ c. found_ino c.first) (λ c. refl) u p row)
           ∙ ap (λ y. tree_seen p (with_node (tree_seen p u.tree) n (resized_node size y))) (the_node-seen p u.tree n)
           ∙ rewritten_seen p p u.tree n (resized_node size (node_seen p n x)) (resized_node size x) (sees_no_more p p (λ n node e. e) u.tree)
           (byted_seen (λ bytes. resized bytes size) (even_resized size) p p n x (λ e. e));
@@ -144,7 +144,7 @@ write_confined fd [] u pid p new free is runs here confined fits asked met fresh
 write_confined fd (b ∷ bs) u pid p new free is runs here confined fits asked met fresh =
     let bytes = b ∷ bs in
     let row = row_of (Write fd bytes) in
-    let n = (the_descriptor p fd).number in
+    let n = (the_descriptor p fd).ino in
     let x = the_node u.tree n in
     let offset = write_offset (scene_of u p row) fd in
     let same : write_offset (scene_of (seen_by (Some p) u) p row) fd ≡ offset = by_veil (λ c. write_offset c fd) (λ c. write_offset-veil c fd) u p row in
@@ -172,7 +172,7 @@ allowed_yes false walk step need rule h = absurd cc
 pub owner_sees : (p : Process) (n : ℕ) (x : Node) → (p.cred.uid == x.owner) ≡ true → sees_into p n x ≡ true
 owner_sees p n x own =
     let back : (x.owner == p.cred.uid) ≡ true = grind (arith, nat_tests) in
-    ap (λ b. b || may_read p (accessed x) || list_any (λ d. d.1.number == n && d.1.read) p.descriptors) back
+    ap (λ b. b || may_read p (accessed x) || list_any (λ d. d.1.ino == n && d.1.read) p.descriptors) back
 
 -- who counts as the owner, without CAP_FOWNER
 may_own_sees : (p : Process) (n : ℕ) (x : Node) (walk step : ℕ) → IsConfined p.cred → allowed_by walk step Own (may_own p.cred x.owner) ≡ None
@@ -198,15 +198,15 @@ may_chown_sees p n x walk step confined met =
     or_first false false lacks h = h
 
 owned_tree : (u : State) (p : Process) (row : Row) (f : Node → Node)
-    → sees_into p (number (scene_of u p row).first) (the_node u.tree (number (scene_of u p row).first)) ≡ true
-    → tree_seen p (with_node (tree_seen p u.tree) (number (scene_of (seen_by (Some p) u) p row).first)
-    (f (the_node (tree_seen p u.tree) (number (scene_of (seen_by (Some p) u) p row).first))))
-    ≡ tree_seen p (with_node u.tree (number (scene_of u p row).first) (f (the_node u.tree (number (scene_of u p row).first))))
+    → sees_into p (found_ino (scene_of u p row).first) (the_node u.tree (found_ino (scene_of u p row).first)) ≡ true
+    → tree_seen p (with_node (tree_seen p u.tree) (found_ino (scene_of (seen_by (Some p) u) p row).first)
+    (f (the_node (tree_seen p u.tree) (found_ino (scene_of (seen_by (Some p) u) p row).first))))
+    ≡ tree_seen p (with_node u.tree (found_ino (scene_of u p row).first) (f (the_node u.tree (found_ino (scene_of u p row).first))))
 owned_tree u p row f sees =
-    let n = number (scene_of u p row).first in
+    let n = found_ino (scene_of u p row).first in
     let x = the_node u.tree n in
     let same : the_node (tree_seen p u.tree) n ≡ x = the_node-seen p u.tree n ∙ ap (λ b. cond b x (veiled x)) sees in
-    ap (λ m. tree_seen p (with_node (tree_seen p u.tree) m (f (the_node (tree_seen p u.tree) m)))) (by_veil (λ c. number c.first) (λ c. refl) u p row)
+    ap (λ m. tree_seen p (with_node (tree_seen p u.tree) m (f (the_node (tree_seen p u.tree) m)))) (by_veil (λ c. found_ino c.first) (λ c. refl) u p row)
     ∙ ap (λ y. tree_seen p (with_node (tree_seen p u.tree) n (f y))) same
     ∙ rewritten_seen p p u.tree n (f x) (f x) (sees_no_more p p (λ n node e. e) u.tree) refl
 
@@ -215,18 +215,18 @@ unfolding row_of
 chmod_confined path mode u pid p new free is runs here confined fits asked met fresh =
     let row = chmod_row path mode in
     let asks = demands_met u p row met in
-    record { process = refl; reply = refl; moved = ap (λ k. if u.room.keeps_times then (k, Changed) ∷ [] else []) (by_veil (λ c. number c.first) (λ c. refl) u p row); tree = owned_tree u p row (moded p.cred mode) (may_own_sees p _ (node_found (scene_of u p row) (scene_of u p row).first) 1 (scene_of u p row).first.step confined asks.1.0) }
+    record { process = refl; reply = refl; moved = ap (λ k. if u.room.keeps_times then (k, Changed) ∷ [] else []) (by_veil (λ c. found_ino c.first) (λ c. refl) u p row); tree = owned_tree u p row (moded p.cred mode) (may_own_sees p _ (node_found (scene_of u p row) (scene_of u p row).first) 1 (scene_of u p row).first.step confined asks.1.0) }
 
 pub chown_confined : (path : List ℕ) (owner group : Option ℕ) → Confines (Chown path owner group)
 unfolding row_of
 chown_confined path owner group u pid p new free is runs here confined fits asked met fresh =
     let row = chown_row path owner group in
     let asks = demands_met u p row met in
-    record { process = refl; reply = refl; moved = ap (λ k. if u.room.keeps_times then (k, Changed) ∷ [] else []) (by_veil (λ c. number c.first) (λ c. refl) u p row); tree = owned_tree u p row (owned owner group) (may_chown_sees p _ (node_found (scene_of u p row) (scene_of u p row).first) 1 (scene_of u p row).first.step confined asks.1.0) }
+    record { process = refl; reply = refl; moved = ap (λ k. if u.room.keeps_times then (k, Changed) ∷ [] else []) (by_veil (λ c. found_ino c.first) (λ c. refl) u p row); tree = owned_tree u p row (owned owner group) (may_chown_sees p _ (node_found (scene_of u p row) (scene_of u p row).first) 1 (scene_of u p row).first.step confined asks.1.0) }
 
 pub set_acl_confined : (path : List ℕ) (which : AclType) (acl : Option AccessList) → Confines (SetAcl path which acl)
 unfolding row_of
 set_acl_confined path which acl u pid p new free is runs here confined fits asked met fresh =
     let row = set_acl_row path which acl in
     let asks = demands_met u p row met in
-    record { process = refl; reply = refl; moved = ap (λ k. if u.room.keeps_times then (k, Changed) ∷ [] else []) (by_veil (λ c. number c.first) (λ c. refl) u p row); tree = owned_tree u p row (λ node. record node { body = with_set_acl which acl node.body }) (may_own_sees p _ (node_found (scene_of u p row) (scene_of u p row).first) 1 (scene_of u p row).first.step confined asks.1.0) }
+    record { process = refl; reply = refl; moved = ap (λ k. if u.room.keeps_times then (k, Changed) ∷ [] else []) (by_veil (λ c. found_ino c.first) (λ c. refl) u p row); tree = owned_tree u p row (λ node. record node { body = with_set_acl which acl node.body }) (may_own_sees p _ (node_found (scene_of u p row) (scene_of u p row).first) 1 (scene_of u p row).first.step confined asks.1.0) }

@@ -28,14 +28,14 @@ use Rattle.fs_model.proofs.ConfinedStepsOf.{steps_by}
 
 module _ (pid : ℕ) (p q : Process) (s : State) (here : get nat_cmp s.processes pid ≡ Some p) where
   called_cred : (call : Call) (choice : Choice)
-      → get nat_cmp (after_call s pid (row_of call) choice.number (get nat_cmp s.processes pid)).processes pid ≡ Some q → q.cred ≡ p.cred
+      → get nat_cmp (after_call s pid (row_of call) choice.ino (get nat_cmp s.processes pid)).processes pid ≡ Some q → q.cred ≡ p.cred
   called_cred call choice there =
-      let effect = effect_in pid p (row_of call) choice.number choice.free s in
-      let now : get nat_cmp (after_call s pid (row_of call) choice.number (Some p)).processes pid ≡ Some q =
-      ap (λ o. get nat_cmp (after_call s pid (row_of call) choice.number o).processes pid) (sym here) ∙ there in
-      let same : Some effect.process ≡ Some q = sym (here_after pid p (row_of call) choice.number choice.free s.processes effect.process) ∙ now in
+      let effect = effect_in pid p (row_of call) choice.ino choice.free s in
+      let now : get nat_cmp (after_call s pid (row_of call) choice.ino (Some p)).processes pid ≡ Some q =
+      ap (λ o. get nat_cmp (after_call s pid (row_of call) choice.ino o).processes pid) (sym here) ∙ there in
+      let same : Some effect.process ≡ Some q = sym (here_after pid p (row_of call) choice.ino choice.free s.processes effect.process) ∙ now in
       let is : effect.process ≡ q = cc in
-      ap (λ x. x.cred) (sym is) ∙ (each_call call).keeps (scene_of s p (row_of call)) choice.number
+      ap (λ x. x.cred) (sym is) ∙ (each_call call).keeps (scene_of s p (row_of call)) choice.ino
 
   same_cred : get nat_cmp s.processes pid ≡ Some q → q.cred ≡ p.cred
   same_cred there = let is : Some p ≡ Some q = sym here ∙ there in let same : p ≡ q = cc in ap (λ x. x.cred) (sym same)
@@ -43,7 +43,7 @@ module _ (pid : ℕ) (p q : Process) (s : State) (here : get nat_cmp s.processes
   acted_cred : IsState s → (e : Event) (choice : Choice) → IsOf pid e → get nat_cmp (after s e choice).processes pid ≡ Some q → q.cred ≡ p.cred
   unfolding after
   acted_cred is (Calls by call) choice of there =
-      called_cred call choice (subst (λ b. get nat_cmp (after_call s b (row_of call) choice.number (get nat_cmp s.processes b)).processes pid ≡ Some q) of there)
+      called_cred call choice (subst (λ b. get nat_cmp (after_call s b (row_of call) choice.ino (get nat_cmp s.processes b)).processes pid ≡ Some q) of there)
   acted_cred is (Fsync by fd) choice of there = same_cred there
   acted_cred is (Exit by) choice of there = absurd (let none = gone_by s.processes by pid is.pids of in let both : None ≡ Some q = sym none ∙ there in cc)
   acted_cred is (Spawn cred) choice of there = absurd of

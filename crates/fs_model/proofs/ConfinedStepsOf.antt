@@ -10,7 +10,7 @@ use Rattle.fs_model.specs.Steps.{Choice, Answers, is_halted, refuses_early, refu
 use Rattle.fs_model.specs.Confinement.{StepBy, early, late, done, StepsAreBy, StepsBy}
 
 no_choice : Choice
-no_choice = record { number = 0; pid = 0; free = 0 }
+no_choice = record { ino = 0; pid = 0; free = 0 }
 
 answered_by : (s t : State) (e : Event) (r : Reply) → r ≢ Refused (Failed ENOMEM) → r ≢ Refused (Failed EIO)
     → Answers s e r t → (choice : Choice) × StepBy choice s e r t

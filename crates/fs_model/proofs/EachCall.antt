@@ -19,7 +19,7 @@ use Rattle.fs_model.specs.Nodes.{Node, with_bytes}
 use Rattle.fs_model.specs.Processes.{the_descriptor, with_offset, least_unused}
 use Rattle.fs_model.specs.Demands.{refuse, perms}
 use Rattle.fs_model.specs.Parts.{is_empty}
-use Rattle.fs_model.specs.Scenes.{Scene, Effect, number, no_blocks, check_of_mode, is_bad, is_bad_to_read, is_bad_to_write, nothing_asked, answers, node_open, node_found, body_found, dir_node}
+use Rattle.fs_model.specs.Scenes.{Scene, Effect, found_ino, no_blocks, check_of_mode, is_bad, is_bad_to_read, is_bad_to_write, nothing_asked, answers, node_open, node_found, body_found, dir_node}
 use Rattle.fs_model.specs.OpenCall.{open_form, open_process}
 use Rattle.fs_model.specs.DescriptorCalls.{read_demands, read_effect, write_offset, write_demands, write_effect, lseek_demands, lseek_effect, close_effect, fstat_effect, ftruncate_demands, ftruncate_effect, readdir_demands, readdir_effect, write_count, written}
 use Rattle.fs_model.specs.AttributeCalls.{stat_demands, stat_effect, access_demands, access_effect, truncate_demands, truncate_effect, chmod_demands, chmod_effect, chown_demands, chown_effect, get_acl_effect, needs_sector, set_acl_arguments, set_acl_demands, set_acl_effect, chdir_demands, chdir_effect, granted_by}
@@ -56,14 +56,14 @@ use Rattle.fs_model.proofs.ConfinedSteps.{Confines}
 abbrev pub UsesNumber : Scene → (ℕ → Effect) → Type 0
 UsesNumber c effect =
     ((n m : ℕ) → effect n ≡ effect m)
-    ⊎ (IsNameAt c.state.room c.state.tree c.first.dir c.first.name None × ((node : Node) × ((n : ℕ) → (effect n).change ≡ Make c.first.dir c.first.name n node)))
+    ⊎ (IsNameAt c.state.room c.state.tree c.first.dir_ino c.first.name None × ((node : Node) × ((n : ℕ) → (effect n).change ≡ Make c.first.dir_ino c.first.name n node)))
 
 module _ (c : Scene) where
   abbrev open_as : Flags → ℕ → Option ℕ → ℕ → Effect
   open_as flags mode o n = record {
     change =
-        cond (not (is_some o)) (Make c.first.dir c.first.name n (born_file c.process.cred c.process.umask mode (dir_node c c.first)))
-        (cond (flags.trunc && flags.write) (Rewrite Modified (number c.first) (record (node_found c c.first) { body = with_bytes [] (body_found c c.first) })) Same);
+        cond (not (is_some o)) (Make c.first.dir_ino c.first.name n (born_file c.process.cred c.process.umask mode (dir_node c c.first)))
+        (cond (flags.trunc && flags.write) (Rewrite Modified (found_ino c.first) (record (node_found c c.first) { body = with_bytes [] (body_found c c.first) })) Same);
     process = open_process c.process flags (unwrap_or o n);
     reply = Fd (least_unused 0 c.process.descriptors);
   }
@@ -104,7 +104,7 @@ write_spares : (fd : ℕ) (bytes : List ℕ) (s : Scene) → is_io_error (write_
 write_spares fd bytes s = go (is_empty bytes)
   where
     go : (b : Bool) → is_io_error (if b then answers s (Wrote 0) else record {
-      change = Rewrite Modified (the_descriptor s.process fd).number (written (node_open s fd) (write_offset s fd) (take (write_count s fd bytes) bytes));
+      change = Rewrite Modified (the_descriptor s.process fd).ino (written (node_open s fd) (write_offset s fd) (take (write_count s fd bytes) bytes));
       process = with_offset s.process fd (write_offset s fd + write_count s fd bytes);
       reply = Wrote (write_count s fd bytes);
     }).reply ≡ false
@@ -356,7 +356,7 @@ each_call (Rename old to) = record {
 }
 each_call (Chdir path) = record {
   paths = λ is. (is, tt);
-  spares = of_path [] Follow path chdir_demands chdir_effect tt (λ s. (there s.first, (refused ENOTDIR _ refl, (searched s.process.cred s.state.tree (number s.first) 1 s.first.step, tt))));
+  spares = of_path [] Follow path chdir_demands chdir_effect tt (λ s. (there s.first, (refused ENOTDIR _ refl, (searched s.process.cred s.state.tree (found_ino s.first) 1 s.first.step, tt))));
   replies = λ c new. refl;
   asks = λ c. chdir_asks c;
   leaves = λ c is pid here new met fresh. fits_leave c is pid here _ (chdir_fits c is new met.demands);

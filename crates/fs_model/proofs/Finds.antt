@@ -41,10 +41,10 @@ module _ (room : Room) (t : Tree) (is : IsTree room t) where
     | inr ne ↦ named_by t d is.numbers ne
   ]
 
-  pub start_there : (parts : Parts) (dir : ℕ) → IsThere t dir → IsThere t (start_of parts dir)
-  start_there parts dir there = go parts.absolute
+  pub start_there : (parts : Parts) (dir_ino : ℕ) → IsThere t dir_ino → IsThere t (start_of parts dir_ino)
+  start_there parts dir_ino there = go parts.absolute
     where
-      go : (b : Bool) → IsThere t (cond b root dir)
+      go : (b : Bool) → IsThere t (cond b root dir_ino)
       go true = root_there
       go false = there
 
@@ -54,14 +54,14 @@ module _ (room : Room) (t : Tree) (is : IsTree room t) where
   entry_there (Dir a d) name n h e = (h.2.each name n e).leads.1
   entry_there (Link target) name n h e = absurd cc
 
-  pub number_there : (dir : ℕ) (node : Node) (name : List ℕ) (n : ℕ) → node_at t dir ≡ Some node
-      → named_inode t dir (names_of_body node.body) name ≡ Some n → IsThere t n
-  number_there dir node name n at e = go (is_dot name) (is_dot_dot name) e
+  pub number_there : (dir_ino : ℕ) (node : Node) (name : List ℕ) (n : ℕ) → node_at t dir_ino ≡ Some node
+      → named_inode t dir_ino (names_of_body node.body) name ≡ Some n → IsThere t n
+  number_there dir_ino node name n at e = go (is_dot name) (is_dot_dot name) e
     where
-      go : (dot dots : Bool) → cond dot (Some dir) (cond dots (Some (parent t dir)) (get name_cmp (names_of_body node.body) name)) ≡ Some n → IsThere t n
-      go true dots f = let same : dir ≡ n = cc in subst (IsThere t) same (ap is_some at)
-      go false true f = let same : parent t dir ≡ n = cc in subst (IsThere t) same (parent_there dir)
-      go false false f = entry_there node.body name n (is.each dir node at).body f
+      go : (dot dots : Bool) → cond dot (Some dir_ino) (cond dots (Some (parent t dir_ino)) (get name_cmp (names_of_body node.body) name)) ≡ Some n → IsThere t n
+      go true dots f = let same : dir_ino ≡ n = cc in subst (IsThere t) same (ap is_some at)
+      go false true f = let same : parent t dir_ino ≡ n = cc in subst (IsThere t) same (parent_there dir_ino)
+      go false false f = entry_there node.body name n (is.each dir_ino node at).body f
 
   -- what is reached is there
   abbrev pub Reached : Outcome → Type 0
@@ -85,10 +85,10 @@ module _ (room : Room) (t : Tree) (is : IsTree room t) where
   arrival_reached false follow None h = tt
   arrival_reached is_last follow (Some n) h = node_reached (follow || not is_last) n (node_at t n) (h n refl)
 
-  pub lookup_reached : (is_last follow : Bool) (dir : ℕ) (name : List ℕ) (o : Option Node) → node_at t dir ≡ o
-      → Reached (looked_up room t is_last follow dir name o)
-  lookup_reached is_last follow dir name o at = looked_up_is Reached room t is_last follow dir name o tt tt (λ node e.
-      arrival_reached is_last follow (named_inode t dir (names_of_body node.body) name) (λ n f. number_there dir node name n (at ∙ e) f))
+  pub lookup_reached : (is_last follow : Bool) (dir_ino : ℕ) (name : List ℕ) (o : Option Node) → node_at t dir_ino ≡ o
+      → Reached (looked_up room t is_last follow dir_ino name o)
+  lookup_reached is_last follow dir_ino name o at = looked_up_is Reached room t is_last follow dir_ino name o tt tt (λ node e.
+      arrival_reached is_last follow (named_inode t dir_ino (names_of_body node.body) name) (λ n f. number_there dir_ino node name n (at ∙ e) f))
 
   -- what the trail found is there
   pub finds_are_there : (cwd : ℕ) (form : Form) (path : List ℕ) → IsThere t cwd → (n : ℕ) → (trail_of room t cwd form path).found ≡ Some n → IsThere t n
@@ -96,5 +96,5 @@ module _ (room : Room) (t : Tree) (is : IsTree room t) where
   finds_are_there cwd form path there =
       let parts = parts_of path in
       let follow = follows_last form parts in
-      finds_such room t (IsThere t) start_there follow (λ is_last dir name at. lookup_reached is_last follow dir name (node_at t dir) refl) links_limit
+      finds_such room t (IsThere t) start_there follow (λ is_last dir_ino name at. lookup_reached is_last follow dir_ino name (node_at t dir_ino) refl) links_limit
       (start_of parts cwd) parts.names parts.slash_at_end (start_there parts cwd there)

@@ -21,14 +21,14 @@ directory_no_link t n d node at =
   where
     go : (b : Body) → is_directory b ≡ true → is_link b ≡ false
     go (File a bytes) e = refl
-    go (Dir a dir) e = refl
+    go (Dir a dir_ino) e = refl
     go (Link target) e = absurd (cc)
 
 module _ (room : Room) (t : Tree) (is : IsTree room t) where
-  start_no_link : (parts : Parts) (dir : ℕ) → NoLink t dir → NoLink t (start_of parts dir)
-  start_no_link parts dir none = go parts.absolute
+  start_no_link : (parts : Parts) (dir_ino : ℕ) → NoLink t dir_ino → NoLink t (start_of parts dir_ino)
+  start_no_link parts dir_ino none = go parts.absolute
     where
-      go : (b : Bool) → NoLink t (cond b root dir)
+      go : (b : Bool) → NoLink t (cond b root dir_ino)
       go true = directory_no_link t root is.root_is_there
       go false = none
 
@@ -55,13 +55,13 @@ module _ (room : Room) (t : Tree) (is : IsTree room t) where
   arrival_reached false None = tt
   arrival_reached is_last (Some n) = node_reached n (node_at t n) refl
 
-  lookup_reached : (is_last : Bool) (dir : ℕ) (name : List ℕ) (o : Option Node) → Reached (looked_up room t is_last true dir name o)
-  lookup_reached is_last dir name o =
-      looked_up_is Reached room t is_last true dir name o tt tt (λ node e. arrival_reached is_last (named_inode t dir (names_of_body node.body) name))
+  lookup_reached : (is_last : Bool) (dir_ino : ℕ) (name : List ℕ) (o : Option Node) → Reached (looked_up room t is_last true dir_ino name o)
+  lookup_reached is_last dir_ino name o =
+      looked_up_is Reached room t is_last true dir_ino name o tt tt (λ node e. arrival_reached is_last (named_inode t dir_ino (names_of_body node.body) name))
 
   pub followed_no_link : (cwd : ℕ) (path : List ℕ) → IsDirectoryAt t cwd → (n : ℕ) → (trail_of room t cwd Follow path).found ≡ Some n → NoLink t n
   unfolding trail_of
   followed_no_link cwd path d =
       let parts = parts_of path in
-      finds_such room t (NoLink t) start_no_link true (λ is_last dir name at. lookup_reached is_last dir name (node_at t dir)) links_limit
+      finds_such room t (NoLink t) start_no_link true (λ is_last dir_ino name at. lookup_reached is_last dir_ino name (node_at t dir_ino)) links_limit
       (start_of parts cwd) parts.names parts.slash_at_end (start_no_link parts cwd (directory_no_link t cwd d))

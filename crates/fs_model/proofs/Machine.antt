@@ -43,7 +43,7 @@ fresh = record {
 }
 
 abbrev pub least_choice : State → Choice
-least_choice s = record { number = least_unused 1 s.tree; pid = least_unused 1 s.processes; free = 0 }
+least_choice s = record { ino = least_unused 1 s.tree; pid = least_unused 1 s.processes; free = 0 }
 
 abbrev pub filled : State → State
 filled s = record s { free = s.room.sectors - sectors_needed s.room s.tree }
@@ -89,13 +89,13 @@ failed e = Refused (Failed e)
 
 -- inode, mode, links, owner, group, size
 abbrev pub shows_file : ℕ → ℕ → ℕ → ℕ → ℕ → ℕ → Reply
-shows_file inode mode links owner group size =
-    Shown (record { inode = inode; kind = File; mode = mode; links = links; owner = owner; group = group; size = size })
+shows_file ino mode links owner group size =
+    Shown (record { ino = ino; kind = File; mode = mode; links = links; owner = owner; group = group; size = size })
 
 -- inode, mode, owner, group, size
 abbrev pub shows_directory : ℕ → ℕ → ℕ → ℕ → ℕ → Reply
-shows_directory inode mode owner group size =
-    Shown (record { inode = inode; kind = Directory; mode = mode; links = 1; owner = owner; group = group; size = size })
+shows_directory ino mode owner group size =
+    Shown (record { ino = ino; kind = Directory; mode = mode; links = 1; owner = owner; group = group; size = size })
 
 abbrev pub last_one : List Reply → List Reply
 last_one [] = []

@@ -25,7 +25,7 @@ use Rattle.fs_model.specs.Demands.{Demand, refuse, or_else, first_of, only_if, d
 use Rattle.fs_model.specs.Parts.{is_empty, parts_of, start_of, path_checks}
 use Rattle.fs_model.specs.Trails.{Lookup, Trail, Outcome, Faulty, Absent, Reaches, Through, GoesOn, reached_body, reached, named_inode, arrival, looked_up, through_if, onward, lookups_from, trail_with, follows_last, trail_of}
 use Rattle.fs_model.specs.Walks.{lookup_refusal, least_refusal, slash_refusal, first_refusal}
-use Rattle.fs_model.specs.Scenes.{Scene, Effect, Row, is_found, number, permission_at_end, permission_at_dir, sticky_at_dir, own_at_end, no_blocks, no_names, space_to_make, must_be_there, must_be_new, by_descriptor, by_path, by_two_paths}
+use Rattle.fs_model.specs.Scenes.{Scene, Effect, Row, is_found, found_ino, permission_at_end, permission_at_dir, sticky_at_dir, own_at_end, no_blocks, no_names, space_to_make, must_be_there, must_be_new, by_descriptor, by_path, by_two_paths}
 use Rattle.fs_model.specs.OpenCall.{open_row, open_found_demands, open_new_demands}
 use Rattle.fs_model.specs.RenameCall.{is_same, rename_name_demands, rename_permissions, rename_kinds, rename_directories, rename_moved, rename_space, rename_demands}
 use Rattle.fs_model.specs.Steps.{walk_refusals}
@@ -131,40 +131,40 @@ module _ (room : Room) (t : Tree) (follow : Bool) where
   arrival_spares false None = refl
   arrival_spares is_last (Some n) = node_spares (follow || not is_last) n (node_at t n)
 
-  lookup_spares : (is_last : Bool) (dir : ℕ) (name : List ℕ) (o : Option Node) → OutcomeSpares (looked_up room t is_last follow dir name o)
-  lookup_spares is_last dir name o =
-      looked_up_is OutcomeSpares room t is_last follow dir name o refl refl (λ node e. arrival_spares is_last (named_inode t dir (names_of_body node.body) name))
+  lookup_spares : (is_last : Bool) (dir_ino : ℕ) (name : List ℕ) (o : Option Node) → OutcomeSpares (looked_up room t is_last follow dir_ino name o)
+  lookup_spares is_last dir_ino name o =
+      looked_up_is OutcomeSpares room t is_last follow dir_ino name o refl refl (λ node e. arrival_spares is_last (named_inode t dir_ino (names_of_body node.body) name))
 
   abbrev GoesSpared : Option GoesOn → Type 0
   GoesSpared None = Unit {0}
-  GoesSpared (Some go_on) = (dir : ℕ) (names : List (List ℕ)) (slash : Bool) → LookupsSpare (go_on dir names slash).lookups
+  GoesSpared (Some go_on) = (dir_ino : ℕ) (names : List (List ℕ)) (slash : Bool) → LookupsSpare (go_on dir_ino names slash).lookups
 
-  through_spares : (behind : Option GoesOn) (dir : ℕ) (name : List ℕ) (names : List (List ℕ)) (slash : Bool) (target : List ℕ)
-      → GoesSpared behind → LookupsSpare (through_if behind dir name names slash target).lookups
-  through_spares None dir name names slash target on = (refl, tt)
-  through_spares (Some go_on) dir name names slash target on =
-      (refl, on (start_of (parts_of target) dir) ((parts_of target).names ++ names) (slash || (is_empty names && (parts_of target).slash_at_end)))
+  through_spares : (behind : Option GoesOn) (dir_ino : ℕ) (name : List ℕ) (names : List (List ℕ)) (slash : Bool) (target : List ℕ)
+      → GoesSpared behind → LookupsSpare (through_if behind dir_ino name names slash target).lookups
+  through_spares None dir_ino name names slash target on = (refl, tt)
+  through_spares (Some go_on) dir_ino name names slash target on =
+      (refl, on (start_of (parts_of target) dir_ino) ((parts_of target).names ++ names) (slash || (is_empty names && (parts_of target).slash_at_end)))
 
-  onward_spares : (behind : Option GoesOn) (rest : ℕ → Trail) (dir : ℕ) (name : List ℕ) (names : List (List ℕ)) (slash : Bool) (o : Outcome)
+  onward_spares : (behind : Option GoesOn) (rest : ℕ → Trail) (dir_ino : ℕ) (name : List ℕ) (names : List (List ℕ)) (slash : Bool) (o : Outcome)
       → GoesSpared behind → ((n : ℕ) → LookupsSpare (rest n).lookups) → OutcomeSpares o
-      → LookupsSpare (onward behind rest dir name names slash o).lookups
-  onward_spares behind rest dir name names slash (Faulty e) on more spares = (spares, tt)
-  onward_spares behind rest dir name names slash Absent on more spares = (refl, tt)
-  onward_spares behind rest dir name names slash (Reaches n) on more spares = (refl, more n)
-  onward_spares behind rest dir name names slash (Through target) on more spares = through_spares behind dir name names slash target on
+      → LookupsSpare (onward behind rest dir_ino name names slash o).lookups
+  onward_spares behind rest dir_ino name names slash (Faulty e) on more spares = (spares, tt)
+  onward_spares behind rest dir_ino name names slash Absent on more spares = (refl, tt)
+  onward_spares behind rest dir_ino name names slash (Reaches n) on more spares = (refl, more n)
+  onward_spares behind rest dir_ino name names slash (Through target) on more spares = through_spares behind dir_ino name names slash target on
 
-  names_spare : (behind : Option GoesOn) (dir : ℕ) (names : List (List ℕ)) (slash : Bool) → GoesSpared behind
-      → LookupsSpare (lookups_from room t follow behind dir names slash).lookups
-  names_spare behind dir [] slash on = tt
-  names_spare behind dir (name ∷ names) slash on =
-      onward_spares behind (λ n. lookups_from room t follow behind n names slash) dir name names slash
-      (looked_up room t (is_empty names) follow dir name (node_at t dir)) on (λ n. names_spare behind n names slash on)
-      (lookup_spares (is_empty names) dir name (node_at t dir))
+  names_spare : (behind : Option GoesOn) (dir_ino : ℕ) (names : List (List ℕ)) (slash : Bool) → GoesSpared behind
+      → LookupsSpare (lookups_from room t follow behind dir_ino names slash).lookups
+  names_spare behind dir_ino [] slash on = tt
+  names_spare behind dir_ino (name ∷ names) slash on =
+      onward_spares behind (λ n. lookups_from room t follow behind n names slash) dir_ino name names slash
+      (looked_up room t (is_empty names) follow dir_ino name (node_at t dir_ino)) on (λ n. names_spare behind n names slash on)
+      (lookup_spares (is_empty names) dir_ino name (node_at t dir_ino))
 
-  links_spare : (links dir : ℕ) (names : List (List ℕ)) (slash : Bool) → LookupsSpare (trail_with room t follow links dir names slash).lookups
-  links_spare zero dir names slash = names_spare None dir names slash tt
-  links_spare (suc links) dir names slash =
-      names_spare (Some (trail_with room t follow links)) dir names slash (λ d ns s. links_spare links d ns s)
+  links_spare : (links dir_ino : ℕ) (names : List (List ℕ)) (slash : Bool) → LookupsSpare (trail_with room t follow links dir_ino names slash).lookups
+  links_spare zero dir_ino names slash = names_spare None dir_ino names slash tt
+  links_spare (suc links) dir_ino names slash =
+      names_spare (Some (trail_with room t follow links)) dir_ino names slash (λ d ns s. links_spare links d ns s)
 
 trail_spares : (room : Room) (t : Tree) (cwd : ℕ) (form : Form) (path : List ℕ) → LookupsSpare (trail_of room t cwd form path).lookups
 unfolding trail_of
@@ -176,7 +176,7 @@ lookups_spare : (cred : Credential) (t : Tree) (walk k : ℕ) (lookups : List Lo
 lookups_spare cred t walk k [] all = refl
 lookups_spare cred t walk k (l ∷ lookups) all =
     either (lookup_refusal cred t walk k l) (least_refusal cred t walk (k + 1) lookups)
-    (either (search_on cred t l.dir walk k) (failed_with l.fault) (searched cred t l.dir walk k) all.0)
+    (either (search_on cred t l.dir_ino walk k) (failed_with l.fault) (searched cred t l.dir_ino walk k) all.0)
     (lookups_spare cred t walk (k + 1) lookups all.1)
 
 pub walk_spares : (room : Room) (t : Tree) (cred : Credential) (walk cwd : ℕ) (form : Form) (path : List ℕ)
@@ -223,10 +223,10 @@ pub fresh : (f : Found) → Spares (must_be_new f)
 fresh f = refused EEXIST _ refl
 
 pub at_end : (s : Scene) (walk : ℕ) (want : Perms) → Spares (permission_at_end s s.first walk want)
-at_end s walk want = permitted s.process.cred s.state.tree (number s.first) want walk s.first.step
+at_end s walk want = permitted s.process.cred s.state.tree (found_ino s.first) want walk s.first.step
 
 pub at_dir : (s : Scene) (f : Found) (walk : ℕ) → Spares (permission_at_dir s f walk)
-at_dir s f walk = permitted s.process.cred s.state.tree f.dir write_and_search walk (f.step - 1)
+at_dir s f walk = permitted s.process.cred s.state.tree f.dir_ino write_and_search walk (f.step - 1)
 
 pub sticky : (s : Scene) (f : Found) (walk : ℕ) → Spares (sticky_at_dir s f walk)
 sticky s f walk = answered walk (f.step - 1) Remove _

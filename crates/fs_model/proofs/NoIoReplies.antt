@@ -30,7 +30,7 @@ entering_answers s pid directory second (Some p) = refl
 
 pub event_answers : (s : State) (e : Event) (choice : Choice) → is_io_error (after s e choice).reply ≡ false
 unfolding after
-event_answers s (Calls pid call) choice = process_answers s pid call choice.number (get nat_cmp s.processes pid)
+event_answers s (Calls pid call) choice = process_answers s pid call choice.ino (get nat_cmp s.processes pid)
 event_answers s (Fsync pid fd) choice = refl
 event_answers s (Exit pid) choice = refl
 event_answers s (Spawn cred) choice = refl

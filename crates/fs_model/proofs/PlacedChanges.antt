@@ -34,8 +34,8 @@ use Rattle.fs_model.proofs.Unchanged.{open_stays}
 
 -- ---- what making a node asks
 
-pub record MakesNode (s : State) (dir : ℕ) (directory : Node) (name : List ℕ) (n : ℕ) (now : Node) : Type 0 where
-  pub takes : TakesNewName s.room s.tree dir directory name
+pub record MakesNode (s : State) (dir_ino : ℕ) (directory : Node) (name : List ℕ) (n : ℕ) (now : Node) : Type 0 where
+  pub takes : TakesNewName s.room s.tree dir_ino directory name
   pub positive : 1 ≤ n
   pub below : n < s.room.inodes
   pub unused : node_at s.tree n ≡ None
@@ -70,137 +70,137 @@ module _ (s : State) (is : IsState s) (up : IsFalse s.halted) (processes : Proce
         (one_replaced p n old new (placed s.tree) held (node_below s p is room n was at) changes _ _ (placed_from s.tree n (Some was) _ _ at refl refl) here used)
         (placed_once (placed s.tree) (placed (with_node s.tree n now)) n _ there (placed_elsewhere s.tree n was now is.tree.numbers at may.names)))
 
-  module _ (mid new : SectorMap) (dir : ℕ) (directory : Node) (name : List ℕ) (n : ℕ) (now : Node) (makes : MakesNode s dir directory name n now)
-      (first : ChangesInode p n old mid) (taken : IsTrue (bit mid p.inode_bitmap n)) (born : HoldsNode p.version mid (inode_at p mid n) (record { node = now; names = 1; parent = dir }))
-      (second : ChangesInode p dir mid new) (used : bit new p.inode_bitmap dir ≡ bit mid p.inode_bitmap dir)
-      (here : HoldsNode p.version new (inode_at p new dir) (record { node = renamed_node directory (with_entry name_cmp (names_of_body directory.body) name n); names = names_of s.tree dir; parent = parent s.tree dir })) where
+  module _ (mid new : SectorMap) (dir_ino : ℕ) (directory : Node) (name : List ℕ) (n : ℕ) (now : Node) (makes : MakesNode s dir_ino directory name n now)
+      (first : ChangesInode p n old mid) (taken : IsTrue (bit mid p.inode_bitmap n)) (born : HoldsNode p.version mid (inode_at p mid n) (record { node = now; names = 1; parent = dir_ino }))
+      (second : ChangesInode p dir_ino mid new) (used : bit new p.inode_bitmap dir_ino ≡ bit mid p.inode_bitmap dir_ino)
+      (here : HoldsNode p.version new (inode_at p new dir_ino) (record { node = renamed_node directory (with_entry name_cmp (names_of_body directory.body) name n); names = names_of s.tree dir_ino; parent = parent s.tree dir_ino })) where
     abbrev w : Tree
     w = with_node s.tree n now
 
     abbrev made : Tree
-    made = renamed (with_node s.tree n now) dir directory (with_entry name_cmp (names_of_body directory.body) name n)
+    made = renamed (with_node s.tree n now) dir_ino directory (with_entry name_cmp (names_of_body directory.body) name n)
 
-    adds : AddsName s.room s.tree w dir directory name n now
+    adds : AddsName s.room s.tree w dir_ino directory name n now
     adds =
-        makes_name s.room is.room.some_names s.tree dir directory name n now is.tree makes.takes makes.positive makes.below makes.unused makes.newborn
+        makes_name s.room is.room.some_names s.tree dir_ino directory name n now is.tree makes.takes makes.positive makes.below makes.unused makes.newborn
 
     parents : (x : ℕ) → parent w x ≡ parent s.tree x
     parents x =
         parent-with_node s.tree n now is.tree.numbers x (ap (leading x) makes.newborn.no_names ∙ sym (ap (λ o. leading x (names_or o)) makes.unused))
 
-    apart : dir ≢ n
-    apart = dir_apart s.room s.tree w dir directory name n now is.tree adds
+    apart : dir_ino ≢ n
+    apart = dir_apart s.room s.tree w dir_ino directory name n now is.tree adds
 
-    tree_is : changed s.tree (Make dir name n now) ≡ made
-    tree_is = named_is w dir directory name n (stands_then s.room s.tree w dir directory name n now is.tree adds)
+    tree_is : changed s.tree (Make dir_ino name n now) ≡ made
+    tree_is = named_is w dir_ino directory name n (stands_then s.room s.tree w dir_ino directory name n now is.tree adds)
 
-    make_stays : swept (changed s.tree (Make dir name n now)) processes ≡ made
+    make_stays : swept (changed s.tree (Make dir_ino name n now)) processes ≡ made
     make_stays =
         ap (λ u. swept u processes) tree_is
-        ∙ nothing_goes s is up processes still made (added_is_tree s.room s.tree w dir directory name n now is.tree adds) (added_keeps_types s.room s.tree w dir directory name n now is.tree adds)
-        (added_nameless s.room s.tree w dir directory name n now is.tree adds parents)
+        ∙ nothing_goes s is up processes still made (added_is_tree s.room s.tree w dir_ino directory name n now is.tree adds) (added_keeps_types s.room s.tree w dir_ino directory name n now is.tree adds)
+        (added_nameless s.room s.tree w dir_ino directory name n now is.tree adds parents)
 
-    node_now : placed made n ≡ Some (record { node = now; names = 1; parent = dir })
+    node_now : placed made n ≡ Some (record { node = now; names = 1; parent = dir_ino })
     node_now =
         let none = nothing_leads s.room s.tree n is.tree makes.unused in
-        added_node s.room s.tree w dir directory name n now is.tree adds parents
+        added_node s.room s.tree w dir_ino directory name n now is.tree adds parents
         ∙ ap (λ k. Some (record { node = now; names = k + 1; parent = parent made n })) none
-        ∙ ap (λ k. Some (record { node = now; names = 1; parent = k })) (new_parent s.room s.tree w dir directory name n now is.tree adds none)
+        ∙ ap (λ k. Some (record { node = now; names = 1; parent = k })) (new_parent s.room s.tree w dir_ino directory name n now is.tree adds none)
 
-    held_then : HoldsAll p mid (placing n (Some (record { node = now; names = 1; parent = dir })) (placed s.tree))
+    held_then : HoldsAll p mid (placing n (Some (record { node = now; names = 1; parent = dir_ino })) (placed s.tree))
     held_then =
-        one_placed p n old mid (placed s.tree) held (below_inodes s p room n makes.below) first (Some (record { node = now; names = 1; parent = dir })) born
+        one_placed p n old mid (placed s.tree) held (below_inodes s p room n makes.below) first (Some (record { node = now; names = 1; parent = dir_ino })) born
         (taken ∙ sym (or_right (nat_eq n 0 || nat_le p.inodes n) true refl))
 
     -- a node was made, and named
-    pub make_held : HoldsAll p new (placed (swept (changed s.tree (Make dir name n now)) processes))
+    pub make_held : HoldsAll p new (placed (swept (changed s.tree (Make dir_ino name n now)) processes))
     make_held =
         subst (λ u. HoldsAll p new (placed u)) (sym make_stays)
         (same_placed p new _ (placed made)
-        (one_replaced p dir mid new (placing n (Some (record { node = now; names = 1; parent = dir })) (placed s.tree)) held_then (node_below s p is room dir directory makes.takes.stands) second _ _
-        (placing_other n _ (placed s.tree) dir apart ∙ placed_from s.tree dir (Some directory) _ _ makes.takes.stands refl refl) here used)
-        (placed_twice (placed s.tree) (placed made) n dir _ _ node_now (added_dir s.room s.tree w dir directory name n now is.tree adds parents)
-        (added_others s.room s.tree w dir directory name n now is.tree adds parents)))
+        (one_replaced p dir_ino mid new (placing n (Some (record { node = now; names = 1; parent = dir_ino })) (placed s.tree)) held_then (node_below s p is room dir_ino directory makes.takes.stands) second _ _
+        (placing_other n _ (placed s.tree) dir_ino apart ∙ placed_from s.tree dir_ino (Some directory) _ _ makes.takes.stands refl refl) here used)
+        (placed_twice (placed s.tree) (placed made) n dir_ino _ _ node_now (added_dir s.room s.tree w dir_ino directory name n now is.tree adds parents)
+        (added_others s.room s.tree w dir_ino directory name n now is.tree adds parents)))
 
-  module _ (mid new : SectorMap) (dir : ℕ) (directory : Node) (name : List ℕ) (n : ℕ) (target : Node)
-      (gives : GivesName s.room s.tree dir directory name n target)
+  module _ (mid new : SectorMap) (dir_ino : ℕ) (directory : Node) (name : List ℕ) (n : ℕ) (target : Node)
+      (gives : GivesName s.room s.tree dir_ino directory name n target)
       (first : ChangesInode p n old mid) (taken : bit mid p.inode_bitmap n ≡ bit old p.inode_bitmap n)
-      (counted : HoldsNode p.version mid (inode_at p mid n) (record { node = target; names = names_of s.tree n + 1; parent = parent (changed s.tree (AddName dir name n)) n }))
-      (second : ChangesInode p dir mid new) (used : bit new p.inode_bitmap dir ≡ bit mid p.inode_bitmap dir)
-      (here : HoldsNode p.version new (inode_at p new dir) (record { node = renamed_node directory (with_entry name_cmp (names_of_body directory.body) name n); names = names_of s.tree dir; parent = parent s.tree dir })) where
-    given : AddsName s.room s.tree s.tree dir directory name n target
-    given = gives_name s.room s.tree dir directory name n target is.tree gives
+      (counted : HoldsNode p.version mid (inode_at p mid n) (record { node = target; names = names_of s.tree n + 1; parent = parent (changed s.tree (AddName dir_ino name n)) n }))
+      (second : ChangesInode p dir_ino mid new) (used : bit new p.inode_bitmap dir_ino ≡ bit mid p.inode_bitmap dir_ino)
+      (here : HoldsNode p.version new (inode_at p new dir_ino) (record { node = renamed_node directory (with_entry name_cmp (names_of_body directory.body) name n); names = names_of s.tree dir_ino; parent = parent s.tree dir_ino })) where
+    given : AddsName s.room s.tree s.tree dir_ino directory name n target
+    given = gives_name s.room s.tree dir_ino directory name n target is.tree gives
 
     abbrev linked : Tree
-    linked = renamed s.tree dir directory (with_entry name_cmp (names_of_body directory.body) name n)
+    linked = renamed s.tree dir_ino directory (with_entry name_cmp (names_of_body directory.body) name n)
 
-    linked_is : changed s.tree (AddName dir name n) ≡ linked
-    linked_is = named_is s.tree dir directory name n gives.takes.stands
+    linked_is : changed s.tree (AddName dir_ino name n) ≡ linked
+    linked_is = named_is s.tree dir_ino directory name n gives.takes.stands
 
-    add_stays : swept (changed s.tree (AddName dir name n)) processes ≡ linked
+    add_stays : swept (changed s.tree (AddName dir_ino name n)) processes ≡ linked
     add_stays =
         ap (λ u. swept u processes) linked_is
-        ∙ nothing_goes s is up processes still linked (added_is_tree s.room s.tree s.tree dir directory name n target is.tree given) (added_keeps_types s.room s.tree s.tree dir directory name n target is.tree given)
-        (added_nameless s.room s.tree s.tree dir directory name n target is.tree given (λ x. refl))
+        ∙ nothing_goes s is up processes still linked (added_is_tree s.room s.tree s.tree dir_ino directory name n target is.tree given) (added_keeps_types s.room s.tree s.tree dir_ino directory name n target is.tree given)
+        (added_nameless s.room s.tree s.tree dir_ino directory name n target is.tree given (λ x. refl))
 
     counted_then : HoldsNode p.version mid (inode_at p mid n) (record { node = target; names = names_of s.tree n + 1; parent = parent linked n })
     counted_then = subst (λ u. HoldsNode p.version mid (inode_at p mid n) (record { node = target; names = names_of s.tree n + 1; parent = parent u n })) linked_is counted
 
     -- what is no directory was named once more
-    pub add_held : HoldsAll p new (placed (swept (changed s.tree (AddName dir name n)) processes))
+    pub add_held : HoldsAll p new (placed (swept (changed s.tree (AddName dir_ino name n)) processes))
     add_held =
         subst (λ u. HoldsAll p new (placed u)) (sym add_stays)
         (same_placed p new _ (placed linked)
-        (one_replaced p dir mid new _
+        (one_replaced p dir_ino mid new _
         (one_replaced p n old mid (placed s.tree) held (node_below s p is room n target gives.there) first _ _ (placed_from s.tree n (Some target) _ _ gives.there refl refl) counted_then taken)
-        (node_below s p is room dir directory gives.takes.stands) second _ _
-        (placing_other n _ (placed s.tree) dir (dir_apart s.room s.tree s.tree dir directory name n target is.tree given) ∙ placed_from s.tree dir (Some directory) _ _ gives.takes.stands refl refl) here used)
-        (placed_twice (placed s.tree) (placed linked) n dir _ _ (added_node s.room s.tree s.tree dir directory name n target is.tree given (λ x. refl))
-        (added_dir s.room s.tree s.tree dir directory name n target is.tree given (λ x. refl))
-        (added_others s.room s.tree s.tree dir directory name n target is.tree given (λ x. refl))))
+        (node_below s p is room dir_ino directory gives.takes.stands) second _ _
+        (placing_other n _ (placed s.tree) dir_ino (dir_apart s.room s.tree s.tree dir_ino directory name n target is.tree given) ∙ placed_from s.tree dir_ino (Some directory) _ _ gives.takes.stands refl refl) here used)
+        (placed_twice (placed s.tree) (placed linked) n dir_ino _ _ (added_node s.room s.tree s.tree dir_ino directory name n target is.tree given (λ x. refl))
+        (added_dir s.room s.tree s.tree dir_ino directory name n target is.tree given (λ x. refl))
+        (added_others s.room s.tree s.tree dir_ino directory name n target is.tree given (λ x. refl))))
 
-  module _ (mid new : SectorMap) (dir : ℕ) (directory : Node) (name : List ℕ) (m : ℕ) (target : Node) (takes : TakesName s.tree s.processes dir directory name m)
-      (at : node_at s.tree m ≡ Some target) (first : ChangesInode p dir old mid) (used : bit mid p.inode_bitmap dir ≡ bit old p.inode_bitmap dir)
-      (here : HoldsNode p.version mid (inode_at p mid dir) (record { node = renamed_node directory (without name_cmp (names_of_body directory.body) name); names = names_of s.tree dir; parent = parent s.tree dir }))
+  module _ (mid new : SectorMap) (dir_ino : ℕ) (directory : Node) (name : List ℕ) (m : ℕ) (target : Node) (takes : TakesName s.tree s.processes dir_ino directory name m)
+      (at : node_at s.tree m ≡ Some target) (first : ChangesInode p dir_ino old mid) (used : bit mid p.inode_bitmap dir_ino ≡ bit old p.inode_bitmap dir_ino)
+      (here : HoldsNode p.version mid (inode_at p mid dir_ino) (record { node = renamed_node directory (without name_cmp (names_of_body directory.body) name); names = names_of s.tree dir_ino; parent = parent s.tree dir_ino }))
       (second : ChangesInode p m mid new) where
     abbrev taken_tree : Tree
-    taken_tree = renamed s.tree dir directory (without name_cmp (names_of_body directory.body) name)
+    taken_tree = renamed s.tree dir_ino directory (without name_cmp (names_of_body directory.body) name)
 
-    taken_is : changed s.tree (TakeName dir name) ≡ taken_tree
-    taken_is = ap (with_names_at s.tree dir (λ names. without name_cmp names name)) takes.stands
+    taken_is : changed s.tree (TakeName dir_ino name) ≡ taken_tree
+    taken_is = ap (with_names_at s.tree dir_ino (λ names. without name_cmp names name)) takes.stands
 
     abbrev between : ℕ → Option Placed
-    between = placing dir (Some (record { node = renamed_node directory (without name_cmp (names_of_body directory.body) name); names = names_of s.tree dir; parent = parent s.tree dir })) (placed s.tree)
+    between = placing dir_ino (Some (record { node = renamed_node directory (without name_cmp (names_of_body directory.body) name); names = names_of s.tree dir_ino; parent = parent s.tree dir_ino })) (placed s.tree)
 
     between_held : HoldsAll p mid between
     between_held =
-        one_replaced p dir old mid (placed s.tree) held (node_below s p is room dir directory takes.stands) first _ _
-        (placed_from s.tree dir (Some directory) _ _ takes.stands refl refl) here used
+        one_replaced p dir_ino old mid (placed s.tree) held (node_below s p is room dir_ino directory takes.stands) first _ _
+        (placed_from s.tree dir_ino (Some directory) _ _ takes.stands refl refl) here used
 
     below : m < p.inodes
     below = node_below s p is room m target at
 
     taken_then : (o : Option Placed) → placed (swept taken_tree processes) m ≡ o → HoldsAll p new (placing m o between)
-        → HoldsAll p new (placed (swept (changed s.tree (TakeName dir name)) processes))
+        → HoldsAll p new (placed (swept (changed s.tree (TakeName dir_ino name)) processes))
     taken_then o is_o all =
         subst (λ u. HoldsAll p new (placed (swept u processes))) (sym taken_is)
         (same_placed p new (placing m o between) (placed (swept taken_tree processes)) all
-        (placed_twice (placed s.tree) (placed (swept taken_tree processes)) dir m _ o (taken_dir s is up processes still dir directory name m takes) is_o
-        (taken_others s is up processes still dir directory name m takes)))
+        (placed_twice (placed s.tree) (placed (swept taken_tree processes)) dir_ino m _ o (taken_dir s is up processes still dir_ino directory name m takes) is_o
+        (taken_others s is up processes still dir_ino directory name m takes)))
 
     -- a name was taken from what stays
     pub take_held : (not (names_of s.tree m - 1 == 0) || lives_nameless processes m target.body) ≡ true → bit new p.inode_bitmap m ≡ bit mid p.inode_bitmap m
-        → HoldsNode p.version new (inode_at p new m) (record { node = target; names = names_of s.tree m - 1; parent = parent (changed s.tree (TakeName dir name)) m })
-        → HoldsAll p new (placed (swept (changed s.tree (TakeName dir name)) processes))
+        → HoldsNode p.version new (inode_at p new m) (record { node = target; names = names_of s.tree m - 1; parent = parent (changed s.tree (TakeName dir_ino name)) m })
+        → HoldsAll p new (placed (swept (changed s.tree (TakeName dir_ino name)) processes))
     take_held stay marked counted =
-        taken_then _ (taken_stays s is up processes still dir directory name m takes target at stay)
+        taken_then _ (taken_stays s is up processes still dir_ino directory name m takes target at stay)
         (one_replaced p m mid new between between_held below second _ _
-        (placing_other dir _ (placed s.tree) m (taken_apart s is up processes still dir directory name m takes) ∙ placed_from s.tree m (Some target) _ _ at refl refl)
+        (placing_other dir_ino _ (placed s.tree) m (taken_apart s is up processes still dir_ino directory name m takes) ∙ placed_from s.tree m (Some target) _ _ at refl refl)
         (subst (λ u. HoldsNode p.version new (inode_at p new m) (record { node = target; names = names_of s.tree m - 1; parent = parent u m })) taken_is counted) marked)
 
     -- the last name was taken
     pub drop_held : (not (names_of s.tree m - 1 == 0) || lives_nameless processes m target.body) ≡ false → bit new p.inode_bitmap m ≡ false
-        → inode_at p new m ≡ free_inode → HoldsAll p new (placed (swept (changed s.tree (TakeName dir name)) processes))
+        → inode_at p new m ≡ free_inode → HoldsAll p new (placed (swept (changed s.tree (TakeName dir_ino name)) processes))
     drop_held goes clear free =
-        taken_then None (taken_goes s is up processes still dir directory name m takes target at goes)
+        taken_then None (taken_goes s is up processes still dir_ino directory name m takes target at goes)
         (one_dropped p m mid new between between_held below second (is.tree.each m target at).positive free clear)

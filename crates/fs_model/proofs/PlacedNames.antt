@@ -24,53 +24,53 @@ use Rattle.fs_model.proofs.Swept.{DropsNoNames, stays}
 
 -- ---- a name more: the tree w is t, or has the new node besides
 
-module _ (room : Room) (t w : Tree) (dir : ℕ) (directory : Node) (name : List ℕ) (n : ℕ) (target : Node) (is : IsTree room t)
-    (adds : AddsName room t w dir directory name n target) (parents : (x : ℕ) → parent w x ≡ parent t x) where
+module _ (room : Room) (t w : Tree) (dir_ino : ℕ) (directory : Node) (name : List ℕ) (n : ℕ) (target : Node) (is : IsTree room t)
+    (adds : AddsName room t w dir_ino directory name n target) (parents : (x : ℕ) → parent w x ≡ parent t x) where
   abbrev new : Names
   new = with_entry name_cmp (names_of_body directory.body) name n
 
   abbrev u : Tree
-  u = renamed w dir directory (with_entry name_cmp (names_of_body directory.body) name n)
+  u = renamed w dir_ino directory (with_entry name_cmp (names_of_body directory.body) name n)
 
   parent_other : (x : ℕ) → x ≢ n → parent u x ≡ parent t x
   parent_other x ne =
-      let all = more room t w dir directory name n target is adds x in
+      let all = more room t w dir_ino directory name n target is adds x in
       let none = once_other n x (λ e. ne (sym e)) in
       let now : leading x (names_of_body (renamed_node directory new).body) ≡ leading x new = ap (leading x) (names_with_names new directory.body adds.takes.is_dir) in
-      let was : leading x (names_or (node_at w dir)) ≡ leading x (names_of_body directory.body) = ap (λ o. leading x (names_or o)) (stands_then room t w dir directory name n target is adds) in
-      parent-with_node w dir (renamed_node directory new) adds.numbers x (omega (arith, all, none, now, was)) ∙ parents x
+      let was : leading x (names_or (node_at w dir_ino)) ≡ leading x (names_of_body directory.body) = ap (λ o. leading x (names_or o)) (stands_then room t w dir_ino directory name n target is adds) in
+      parent-with_node w dir_ino (renamed_node directory new) adds.numbers x (omega (arith, all, none, now, was)) ∙ parents x
 
   -- the directory with the name
-  pub added_dir : placed u dir ≡ Some (record { node = renamed_node directory new; names = names_of t dir; parent = parent t dir })
+  pub added_dir : placed u dir_ino ≡ Some (record { node = renamed_node directory new; names = names_of t dir_ino; parent = parent t dir_ino })
   added_dir =
-      let apart = dir_apart room t w dir directory name n target is adds in
-      placed_from u dir (Some (renamed_node directory new)) _ _ (at_it w dir (renamed_node directory new))
-      (count_other room t w dir directory name n target is adds dir apart) (parent_other dir apart)
+      let apart = dir_apart room t w dir_ino directory name n target is adds in
+      placed_from u dir_ino (Some (renamed_node directory new)) _ _ (at_it w dir_ino (renamed_node directory new))
+      (count_other room t w dir_ino directory name n target is adds dir_ino apart) (parent_other dir_ino apart)
 
   -- what it leads to
   pub added_node : placed u n ≡ Some (record { node = target; names = names_of t n + 1; parent = parent u n })
   added_node =
       let one = once_same n n refl in
-      let all = count room t w dir directory name n target is adds n in
-      placed_from u n (Some target) _ _ (at_others w dir (renamed_node directory new) n (λ e. dir_apart room t w dir directory name n target is adds (sym e)) ∙ adds.here)
+      let all = count room t w dir_ino directory name n target is adds n in
+      placed_from u n (Some target) _ _ (at_others w dir_ino (renamed_node directory new) n (λ e. dir_apart room t w dir_ino directory name n target is adds (sym e)) ∙ adds.here)
       (omega (arith, one, all)) refl
 
   -- and all else
-  pub added_others : (x : ℕ) → x ≢ n → x ≢ dir → placed u x ≡ placed t x
+  pub added_others : (x : ℕ) → x ≢ n → x ≢ dir_ino → placed u x ≡ placed t x
   added_others x ne other =
-      placed_from u x (node_at t x) _ _ (at_others w dir (renamed_node directory new) x other ∙ adds.others x ne)
-      (count_other room t w dir directory name n target is adds x ne) (parent_other x ne)
+      placed_from u x (node_at t x) _ _ (at_others w dir_ino (renamed_node directory new) x other ∙ adds.others x ne)
+      (count_other room t w dir_ino directory name n target is adds x ne) (parent_other x ne)
 
   -- what has no name then had none
   pub added_nameless : (x : ℕ) → IsThere u x → names_of u x ≡ 0 → IsThere t x × (names_of t x ≡ 0)
   added_nameless x there none =
-      let all = count room t w dir directory name n target is adds x in
+      let all = count room t w dir_ino directory name n target is adds x in
       elim (cases_eq x n) [
         | inl e ↦ absurd (let one = once_same n x (sym e) in omega (arith, all, none, one))
         | inr ne ↦ (
-          elim (cases_eq x dir) [
+          elim (cases_eq x dir_ino) [
             | inl e ↦ ap (λ k. is_some (node_at t k)) e ∙ ap is_some adds.takes.stands
-            | inr other ↦ ap is_some (sym (at_others w dir (renamed_node directory new) x other ∙ adds.others x ne)) ∙ there
+            | inr other ↦ ap is_some (sym (at_others w dir_ino (renamed_node directory new) x other ∙ adds.others x ne)) ∙ there
           ],
           omega (arith, all, none),
         )
@@ -79,15 +79,15 @@ module _ (room : Room) (t w : Tree) (dir : ℕ) (directory : Node) (name : List 
 -- ---- a name less
 
 module _ (s : State) (is : IsState s) (up : IsFalse s.halted) (processes : ProcessTable) (still : (n : ℕ) → IsTrue (is_open s.processes n) → IsTrue (is_open processes n))
-    (dir : ℕ) (directory : Node) (name : List ℕ) (m : ℕ) (takes : TakesName s.tree s.processes dir directory name m) where
+    (dir_ino : ℕ) (directory : Node) (name : List ℕ) (m : ℕ) (takes : TakesName s.tree s.processes dir_ino directory name m) where
   abbrev less : Names
   less = without name_cmp (names_of_body directory.body) name
 
   abbrev left : Tree
-  left = renamed s.tree dir directory (without name_cmp (names_of_body directory.body) name)
+  left = renamed s.tree dir_ino directory (without name_cmp (names_of_body directory.body) name)
 
   loses : LosesNames s.room s.tree left s.processes (once_if m)
-  loses = takes_loses s.room s.tree s.processes dir directory name m is.tree takes
+  loses = takes_loses s.room s.tree s.processes dir_ino directory name m is.tree takes
 
   gone : DropsNoNames (stays left processes) left left
   gone = gone_empty s.room s.tree left s.processes (once_if m) is.tree loses processes
@@ -100,35 +100,35 @@ module _ (s : State) (is : IsState s) (up : IsFalse s.halted) (processes : Proce
 
   parent_same : (x : ℕ) → x ≢ m → parent left x ≡ parent s.tree x
   parent_same x other =
-      let all = fewer s.room s.tree s.processes dir directory name m is.tree takes x in
+      let all = fewer s.room s.tree s.processes dir_ino directory name m is.tree takes x in
       let none = once_other m x (λ e. other (sym e)) in
       let now : leading x (names_of_body (renamed_node directory less).body) ≡ leading x less = ap (leading x) (names_with_names less directory.body takes.is_dir) in
-      let was : leading x (names_or (node_at s.tree dir)) ≡ leading x (names_of_body directory.body) = ap (λ o. leading x (names_or o)) takes.stands in
-      parent-with_node s.tree dir (renamed_node directory less) is.tree.numbers x (omega (arith, all, none, now, was))
+      let was : leading x (names_or (node_at s.tree dir_ino)) ≡ leading x (names_of_body directory.body) = ap (λ o. leading x (names_or o)) takes.stands in
+      parent-with_node s.tree dir_ino (renamed_node directory less) is.tree.numbers x (omega (arith, all, none, now, was))
 
   -- the name doesn't lead to its directory
-  pub taken_apart : m ≢ dir
+  pub taken_apart : m ≢ dir_ino
   taken_apart e =
-      not_dir s.room s.tree s.processes dir directory name m is.tree takes
+      not_dir s.room s.tree s.processes dir_ino directory name m is.tree takes
       (record { node = directory; is_there = ap (node_at s.tree) e ∙ takes.stands; directory = takes.is_dir }) e
 
   -- the directory without the name
-  pub taken_dir : placed (swept left processes) dir ≡ Some (record { node = renamed_node directory less; names = names_of s.tree dir; parent = parent s.tree dir })
+  pub taken_dir : placed (swept left processes) dir_ino ≡ Some (record { node = renamed_node directory less; names = names_of s.tree dir_ino; parent = parent s.tree dir_ino })
   taken_dir =
-      let other : dir ≢ m = λ e. taken_apart (sym e) in
-      placed_stays left processes loses.numbers gone dir (renamed_node directory less) (at_it s.tree dir (renamed_node directory less))
-      (stays_if s is up processes still left dir (renamed_node directory less) directory takes.stands (type_with_names less directory.body) (names_same dir other))
-      ∙ ap (λ k. Some (record { node = renamed_node directory less; names = k; parent = parent left dir })) (names_same dir other)
-      ∙ ap (λ k. Some (record { node = renamed_node directory less; names = names_of s.tree dir; parent = k })) (parent_same dir other)
+      let other : dir_ino ≢ m = λ e. taken_apart (sym e) in
+      placed_stays left processes loses.numbers gone dir_ino (renamed_node directory less) (at_it s.tree dir_ino (renamed_node directory less))
+      (stays_if s is up processes still left dir_ino (renamed_node directory less) directory takes.stands (type_with_names less directory.body) (names_same dir_ino other))
+      ∙ ap (λ k. Some (record { node = renamed_node directory less; names = k; parent = parent left dir_ino })) (names_same dir_ino other)
+      ∙ ap (λ k. Some (record { node = renamed_node directory less; names = names_of s.tree dir_ino; parent = k })) (parent_same dir_ino other)
 
   -- all else
-  pub taken_others : (x : ℕ) → x ≢ dir → x ≢ m → placed (swept left processes) x ≡ placed s.tree x
+  pub taken_others : (x : ℕ) → x ≢ dir_ino → x ≢ m → placed (swept left processes) x ≡ placed s.tree x
   taken_others x other_dir other =
-      placed_again s is up processes still left loses.numbers gone x (at_others s.tree dir (renamed_node directory less) x other_dir) (names_same x other) (parent_same x other)
+      placed_again s is up processes still left loses.numbers gone x (at_others s.tree dir_ino (renamed_node directory less) x other_dir) (names_same x other) (parent_same x other)
 
   module _ (target : Node) (at : node_at s.tree m ≡ Some target) where
     at_then : node_at left m ≡ Some target
-    at_then = at_others s.tree dir (renamed_node directory less) m taken_apart ∙ at
+    at_then = at_others s.tree dir_ino (renamed_node directory less) m taken_apart ∙ at
 
     -- what it led to has a name less, or is gone
     pub taken_stays : (not (names_of s.tree m - 1 == 0) || lives_nameless processes m target.body) ≡ true

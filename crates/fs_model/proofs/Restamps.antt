@@ -214,11 +214,11 @@ touched-append now (e ∷ es) later t = touched-append now es later (restamped (
 pub none_touched : (room : Room) (t : Tree) (change : Change) → room.keeps_times ≡ false → touches room t change ≡ []
 none_touched room t Same none = refl
 none_touched room t (Rewrite touch n node) none = ap (λ b. if b then touches_of t (Rewrite touch n node) else []) none
-none_touched room t (Make dir name n node) none = ap (λ b. if b then touches_of t (Make dir name n node) else []) none
-none_touched room t (AddName dir name n) none = ap (λ b. if b then touches_of t (AddName dir name n) else []) none
-none_touched room t (TakeName dir name) none = ap (λ b. if b then touches_of t (TakeName dir name) else []) none
-none_touched room t (MoveName dir name to_dir to_name) none =
-    ap (λ b. if b then touches_of t (MoveName dir name to_dir to_name) else []) none
+none_touched room t (Make dir_ino name n node) none = ap (λ b. if b then touches_of t (Make dir_ino name n node) else []) none
+none_touched room t (AddName dir_ino name n) none = ap (λ b. if b then touches_of t (AddName dir_ino name n) else []) none
+none_touched room t (TakeName dir_ino name) none = ap (λ b. if b then touches_of t (TakeName dir_ino name) else []) none
+none_touched room t (MoveName dir_ino name to_dir_ino to_name) none =
+    ap (λ b. if b then touches_of t (MoveName dir_ino name to_dir_ino to_name) else []) none
 
 -- where nothing moves, or nothing stands, the tree stays
 pub untouched_stays : (now n : ℕ) (t : Tree) → restamped (touch_one now (n, Untouched)) t ≡ t

@@ -84,10 +84,10 @@ a_named_user = refl
 -- ---- descriptors
 
 abbrev to_read : ℕ → Descriptor
-to_read n = record no_descriptor { number = n; read = true }
+to_read n = record no_descriptor { ino = n; read = true }
 
 abbrev to_write : ℕ → Descriptor
-to_write n = record no_descriptor { number = n; write = true }
+to_write n = record no_descriptor { ino = n; write = true }
 
 -- with these two descriptors it sees into file 2, which has this mode
 abbrev sees_with : Descriptor → Descriptor → ℕ → Bool

@@ -161,10 +161,10 @@ a_file_with_an_acl = node_held One image file_inode _ refl refl refl refl refl r
 -- ---- a directory: the slots stand in any order, and the names in theirs
 
 abbrev slot_b : NamedInode
-slot_b = record { inode = 3; name = codes "b" }
+slot_b = record { ino = 3; name = codes "b" }
 
 abbrev slot_a : NamedInode
-slot_a = record { inode = 2; name = codes "a" }
+slot_a = record { ino = 2; name = codes "a" }
 
 abbrev slots : List NamedInode
 slots = slot_b ∷ slot_a ∷ []
@@ -183,9 +183,9 @@ slots_are_apart =
 abbrev IsPlain : ℕ → Type 0
 IsPlain b = (b ≢ 0) × (b ≢ 47)
 
-letter_fits : (n b : ℕ) → n < 2 ^ 32 → b < 256 → b ≢ 0 → b ≢ 47 → b ≢ 46 → FitsSlot One (record { inode = n; name = b ∷ [] })
+letter_fits : (n b : ℕ) → n < 2 ^ 32 → b < 256 → b ≢ 0 → b ≢ 47 → b ≢ 46 → FitsSlot One (record { ino = n; name = b ∷ [] })
 letter_fits n b fits byte none slash dot = record {
-  inode = fits;
+  ino = fits;
   name = record {
     not_empty = omega arith;
     short = omega arith;

@@ -317,12 +317,12 @@ module _ (p : Geometry) (m : SectorMap) (t : Tree) (held : HoldsAll p m (placed 
       let none = slot_at p.version m (inode_at p m n) k in
       let r = read_slot n lt x k none below in
       let s = get_or x.names.slots k none in
-      let leads : get name_cmp x.dir.names s.name ≡ Some s.inode =
+      let leads : get name_cmp x.dir.names s.name ≡ Some s.ino =
       ap (λ q. get name_cmp q s.name) x.names.are ∙ slot_leads x.names.slots none k x.names.apart r.0 in
-      let entry = (x.valid.each s.name s.inode leads).leads in
-      let number : s.inode ≡ (slot_at p.version m (inode_at p m n) k).inode = ap (λ (q : NamedInode). q.inode) (sym r.2) in
-      let few : s.inode < p.inodes = there s.inode entry.1 in
-      let used : is_used (inode_at p m s.inode).kind ≡ true = sym (used_is p m t stores s.inode few) ∙ entry.1 in
+      let entry = (x.valid.each s.name s.ino leads).leads in
+      let number : s.ino ≡ (slot_at p.version m (inode_at p m n) k).ino = ap (λ (q : NamedInode). q.ino) (sym r.2) in
+      let few : s.ino < p.inodes = there s.ino entry.1 in
+      let used : is_used (inode_at p m s.ino).kind ≡ true = sym (used_is p m t stores s.ino few) ∙ entry.1 in
       record {
         is = r.1;
         below = subst (λ q. q < p.inodes) number few;

@@ -54,7 +54,7 @@ swept-seen p t processes =
 
 pub sees-veiled : (p : Process) (n : ℕ) (node : Node) → sees_into p n (veiled node) ≡ sees_into p n node
 sees-veiled p n node =
-    ap (λ o. node.owner == p.cred.uid || may_read p o || list_any (λ d. d.1.number == n && d.1.read) p.descriptors)
+    ap (λ o. node.owner == p.cred.uid || may_read p o || list_any (λ d. d.1.ino == n && d.1.read) p.descriptors)
     (accessed-blotted node.owner node.group node.body)
 
 -- a process that sees no more of a node than another

@@ -19,8 +19,8 @@ use Rattle.fs_model.proofs.StepsNaming.{leading_stays, renamed_node, renamed, at
 use Rattle.fs_model.proofs.StepsParents.{names_at, parent_is, parent_kept, under_all, directory_named, parent_at, under_root}
 
 -- a directory takes a name: it is new there, and there is room
-pub record TakesNewName (room : Room) (t : Tree) (dir : ℕ) (directory : Node) (name : List ℕ) : Type 0 where
-  pub stands : node_at t dir ≡ Some directory
+pub record TakesNewName (room : Room) (t : Tree) (dir_ino : ℕ) (directory : Node) (name : List ℕ) : Type 0 where
+  pub stands : node_at t dir_ino ≡ Some directory
   pub is_dir : IsTrue (is_directory directory.body)
   pub is_new : get name_cmp (names_of_body directory.body) name ≡ None
   pub has_room : length (names_of_body directory.body) < room.entries_limit
@@ -29,12 +29,12 @@ pub record TakesNewName (room : Room) (t : Tree) (dir : ℕ) (directory : Node) 
   pub bytes : IsBytes name
 
 -- as it does where no entry of it has the name
-pub takes_new : {room : Room} {t : Tree} {dir : ℕ} {name : List ℕ} (x : IsNameAt room t dir name None)
-    → length (names_of_body x.node.body) < room.entries_limit → TakesNewName room t dir x.node name
+pub takes_new : {room : Room} {t : Tree} {dir_ino : ℕ} {name : List ℕ} (x : IsNameAt room t dir_ino name None)
+    → length (names_of_body x.node.body) < room.entries_limit → TakesNewName room t dir_ino x.node name
 takes_new x few = record { stands = x.stands; is_dir = x.directory; is_new = x.leads; has_room = few; is_name = x.is_name; short = x.short; bytes = x.bytes }
 
 -- From t, or from t with a new node in it, which is w: a name is added in a directory.
-pub record AddsName (room : Room) (t w : Tree) (dir : ℕ) (directory : Node) (name : List ℕ) (n : ℕ) (target : Node) : Type 0 where
+pub record AddsName (room : Room) (t w : Tree) (dir_ino : ℕ) (directory : Node) (name : List ℕ) (n : ℕ) (target : Node) : Type 0 where
   pub numbers : IsMap nat_cmp w
   pub here : node_at w n ≡ Some target
   pub others : (m : ℕ) → m ≢ n → node_at w m ≡ node_at t m
@@ -42,31 +42,31 @@ pub record AddsName (room : Room) (t w : Tree) (dir : ℕ) (directory : Node) (n
   pub names : (k : ℕ) → names_at w k ≡ names_at t k
   pub counts : (x : ℕ) → names_of w x ≡ names_of t x
   pub types : KeepsTypes t w
-  pub takes : TakesNewName room t dir directory name
+  pub takes : TakesNewName room t dir_ino directory name
   pub apart : (d : ℕ) → IsDirectoryAt t d → d ≢ n
   pub shape : IsShape room t n target
   pub fits : NamesFit room n target.body (names_of t n + 1)
   pub unnamed : IsTrue (is_directory target.body) → names_of t n ≡ 0
 
-module _ (room : Room) (t w : Tree) (dir : ℕ) (directory : Node) (name : List ℕ) (n : ℕ) (target : Node) (is : IsTree room t) (adds : AddsName room t w dir directory name n target) where
+module _ (room : Room) (t w : Tree) (dir_ino : ℕ) (directory : Node) (name : List ℕ) (n : ℕ) (target : Node) (is : IsTree room t) (adds : AddsName room t w dir_ino directory name n target) where
   abbrev new : Names
   new = with_entry name_cmp (names_of_body directory.body) name n
 
   abbrev u : Tree
-  u = renamed w dir directory (with_entry name_cmp (names_of_body directory.body) name n)
+  u = renamed w dir_ino directory (with_entry name_cmp (names_of_body directory.body) name n)
 
-  pub dir_apart : dir ≢ n
-  dir_apart = adds.apart dir (record { node = directory; is_there = adds.takes.stands; directory = adds.takes.is_dir })
+  pub dir_apart : dir_ino ≢ n
+  dir_apart = adds.apart dir_ino (record { node = directory; is_there = adds.takes.stands; directory = adds.takes.is_dir })
 
-  pub stands_then : node_at w dir ≡ Some directory
-  stands_then = adds.others dir dir_apart ∙ adds.takes.stands
+  pub stands_then : node_at w dir_ino ≡ Some directory
+  stands_then = adds.others dir_ino dir_apart ∙ adds.takes.stands
 
   pub more : (x : ℕ) → leading x new ≡ leading x (names_of_body directory.body) + once_if n x
   more x = leading-with_name (names_of_body directory.body) name n x adds.takes.is_new
 
   pub count : (x : ℕ) → names_of u x ≡ names_of t x + once_if n x
   count x =
-      let all = names_of-renamed w dir directory new adds.takes.is_dir adds.numbers stands_then x in
+      let all = names_of-renamed w dir_ino directory new adds.takes.is_dir adds.numbers stands_then x in
       let was = adds.counts x in
       let one = more x in
       omega (arith, all, was, one)
@@ -75,18 +75,18 @@ module _ (room : Room) (t w : Tree) (dir : ℕ) (directory : Node) (name : List 
   count_other x ne = let all = count x in let none = once_other n x (λ e. ne (sym e)) in omega (arith, all, none)
 
   there : (m : ℕ) → IsThere t m → IsThere u m
-  there m h = still_there w dir (renamed_node directory new) m (adds.still m h)
+  there m h = still_there w dir_ino (renamed_node directory new) m (adds.still m h)
 
   pub added_keeps_types : KeepsTypes t u
-  added_keeps_types = types_compose t w u adds.types (renamed_keeps_types w dir directory new stands_then)
+  added_keeps_types = types_compose t w u adds.types (renamed_keeps_types w dir_ino directory new stands_then)
 
   -- ---- names
 
   names_kept : (x k : ℕ) → 1 ≤ leading x (names_at t k) → 1 ≤ leading x (names_at u k)
-  names_kept x k some = elim (cases_eq k dir) [
-    | inl e ↦ leading_stays w dir directory new adds.takes.is_dir t x k e adds.takes.stands (λ some. let one = more x in omega (arith, one, some)) some
+  names_kept x k some = elim (cases_eq k dir_ino) [
+    | inl e ↦ leading_stays w dir_ino directory new adds.takes.is_dir t x k e adds.takes.stands (λ some. let one = more x in omega (arith, one, some)) some
     | inr ne ↦
-        let same : names_at u k ≡ names_at t k = names_elsewhere w dir directory new adds.takes.is_dir k ne ∙ adds.names k in
+        let same : names_at u k ≡ names_at t k = names_elsewhere w dir_ino directory new adds.takes.is_dir k ne ∙ adds.names k in
         subst (λ q. 1 ≤ leading x q) (sym same) some
   ]
 
@@ -103,15 +103,15 @@ module _ (room : Room) (t w : Tree) (dir : ℕ) (directory : Node) (name : List 
             bytes = adds.takes.bytes;
             leads = (
               (λ e. adds.apart root is.root_is_there (sym e)),
-              still_there w dir (renamed_node directory new) n (ap is_some adds.here),
+              still_there w dir_ino (renamed_node directory new) n (ap is_some adds.here),
             );
           }))
       go false f i =
-          entry_moves room t u q k (there k) ((are_names room t directory.body (is.each dir directory adds.takes.stands).body).each q k i)
+          entry_moves room t u q k (there k) ((are_names room t directory.body (is.each dir_ino directory adds.takes.stands).body).each q k i)
 
   are_new : AreNames room u new
   are_new =
-      let were = are_names room t directory.body (is.each dir directory adds.takes.stands).body in
+      let were = are_names room t directory.body (is.each dir_ino directory adds.takes.stands).body in
       record {
         rising = with_name-IsMap (names_of_body directory.body) name n were.rising;
         few =
@@ -136,18 +136,18 @@ module _ (room : Room) (t w : Tree) (dir : ℕ) (directory : Node) (name : List 
   climbs x d = under_all t u (IsDirectoryAt t) step d (under_root room t is x d)
 
   -- what had no name is named here
-  pub new_parent : names_of t n ≡ 0 → parent u n ≡ dir
+  pub new_parent : names_of t n ≡ 0 → parent u n ≡ dir_ino
   new_parent none =
       let one = once_same n n refl in
       let all = count n in
       let led = more n in
-      let names : names_at u dir ≡ new = names_there w dir directory new adds.takes.is_dir in
-      let some : 1 ≤ leading n (names_at u dir) = (let same : leading n (names_at u dir) ≡ leading n new = ap (leading n) names in omega (arith, same, led, one)) in
-      parent_is u dir n some (omega (arith, all, none, one))
+      let names : names_at u dir_ino ≡ new = names_there w dir_ino directory new adds.takes.is_dir in
+      let some : 1 ≤ leading n (names_at u dir_ino) = (let same : leading n (names_at u dir_ino) ≡ leading n new = ap (leading n) names in omega (arith, same, led, one)) in
+      parent_is u dir_ino n some (omega (arith, all, none, one))
 
   new_climbs : IsTrue (is_directory target.body) → IsUnderRoot u n
   new_climbs d =
-      is_in n (subst (IsUnderRoot u) (sym (new_parent (adds.unnamed d))) (climbs dir (record { node = directory; is_there = adds.takes.stands; directory = adds.takes.is_dir })))
+      is_in n (subst (IsUnderRoot u) (sym (new_parent (adds.unnamed d))) (climbs dir_ino (record { node = directory; is_there = adds.takes.stands; directory = adds.takes.is_dir })))
 
   -- ---- all nodes
 
@@ -161,11 +161,11 @@ module _ (room : Room) (t w : Tree) (dir : ℕ) (directory : Node) (name : List 
     body = body_moves room t u node.body there was.body;
   }
 
-  dir_is : IsNode room u dir (renamed_node directory new)
+  dir_is : IsNode room u dir_ino (renamed_node directory new)
   dir_is =
-      let was = is.each dir directory adds.takes.stands in
+      let was = is.each dir_ino directory adds.takes.stands in
       let type = type_with_names new directory.body in
-      node_from_shape room u dir (renamed_node directory new)
+      node_from_shape room u dir_ino (renamed_node directory new)
       (record {
         positive = was.positive;
         below = was.below;
@@ -174,8 +174,8 @@ module _ (room : Room) (t w : Tree) (dir : ℕ) (directory : Node) (name : List 
         stamps = was.stamps;
         body = body_renamed room t u directory.body new adds.takes.is_dir are_new was.body;
       })
-      (same_fit room dir (names_of u dir) (with_names new directory.body) directory.body type (subst (NamesFit room dir directory.body) (sym (count_other dir dir_apart)) was.names))
-      (λ d. climbs dir (record { node = directory; is_there = adds.takes.stands; directory = adds.takes.is_dir }))
+      (same_fit room dir_ino (names_of u dir_ino) (with_names new directory.body) directory.body type (subst (NamesFit room dir_ino directory.body) (sym (count_other dir_ino dir_apart)) was.names))
+      (λ d. climbs dir_ino (record { node = directory; is_there = adds.takes.stands; directory = adds.takes.is_dir }))
 
   target_is : IsNode room u n target
   target_is =
@@ -198,13 +198,13 @@ module _ (room : Room) (t w : Tree) (dir : ℕ) (directory : Node) (name : List 
       (λ d. climbs m (record { node = node; is_there = at; directory = d }))
 
   node_is : (m : ℕ) (node : Node) → node_at u m ≡ Some node → IsNode room u m node
-  node_is m node at = elim (cases_eq m dir) [
+  node_is m node at = elim (cases_eq m dir_ino) [
     | inl e ↦
-        let here : node_at u m ≡ Some (renamed_node directory new) = ap (node_at u) e ∙ at_it w dir (renamed_node directory new) in
+        let here : node_at u m ≡ Some (renamed_node directory new) = ap (node_at u) e ∙ at_it w dir_ino (renamed_node directory new) in
         let same : renamed_node directory new ≡ node = cc in
         subst (IsNode room u m) same (subst (λ k. IsNode room u k (renamed_node directory new)) (sym e) dir_is)
     | inr ne ↦
-        let was : node_at w m ≡ Some node = sym (at_others w dir (renamed_node directory new) m ne) ∙ at in
+        let was : node_at w m ≡ Some node = sym (at_others w dir_ino (renamed_node directory new) m ne) ∙ at in
         elim (cases_eq m n) [
           | inl e ↦
               let here : node_at w m ≡ Some target = ap (node_at w) e ∙ adds.here in
@@ -216,27 +216,27 @@ module _ (room : Room) (t w : Tree) (dir : ℕ) (directory : Node) (name : List 
 
   pub added_is_tree : IsTree room u
   added_is_tree = record {
-    numbers = with_entry-IsMap w dir (renamed_node directory new) adds.numbers;
+    numbers = with_entry-IsMap w dir_ino (renamed_node directory new) adds.numbers;
     root_is_there = directory_moves t u added_keeps_types root is.root_is_there;
     each = node_is;
   }
 
 -- ---- a name for what is no directory
 
-pub record GivesName (room : Room) (t : Tree) (dir : ℕ) (directory : Node) (name : List ℕ) (n : ℕ) (target : Node) : Type 0 where
-  pub takes : TakesNewName room t dir directory name
+pub record GivesName (room : Room) (t : Tree) (dir_ino : ℕ) (directory : Node) (name : List ℕ) (n : ℕ) (target : Node) : Type 0 where
+  pub takes : TakesNewName room t dir_ino directory name
   pub there : node_at t n ≡ Some target
   pub no_directory : IsFalse (is_directory target.body)
   pub few : names_of t n < room.names_limit
 
 one_name_more : (room : Room) (n : ℕ) (b : Body) (names : ℕ) → IsFalse (is_directory b) → names < room.names_limit → NamesFit room n b (names + 1)
 one_name_more room n (File a bytes) names d few = omega (arith, few)
-one_name_more room n (Dir a dir) names d few = absurd cc
+one_name_more room n (Dir a dir_ino) names d few = absurd cc
 one_name_more room n (Link target) names d few = (omega arith, omega (arith, few))
 
-pub gives_name : (room : Room) (t : Tree) (dir : ℕ) (directory : Node) (name : List ℕ) (n : ℕ) (target : Node) → IsTree room t
-    → GivesName room t dir directory name n target → AddsName room t t dir directory name n target
-gives_name room t dir directory name n target is gives =
+pub gives_name : (room : Room) (t : Tree) (dir_ino : ℕ) (directory : Node) (name : List ℕ) (n : ℕ) (target : Node) → IsTree room t
+    → GivesName room t dir_ino directory name n target → AddsName room t t dir_ino directory name n target
+gives_name room t dir_ino directory name n target is gives =
     let node = is.each n target gives.there in
     record {
       numbers = is.numbers;

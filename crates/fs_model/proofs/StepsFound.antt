@@ -23,9 +23,9 @@ use Rattle.fs_model.proofs.StepsComponents.{IsComponent, path_bytes, component_i
 use Rattle.fs_model.proofs.StepsTrails.{HaveNoFault, unrefused_walk, WasLookedUp, IsEnd, EndsIn, trail_ends}
 
 -- a name in a directory, and what it leads to there
-pub record IsNameAt (room : Room) (t : Tree) (dir : ℕ) (name : List ℕ) (o : Option ℕ) : Type 0 where
+pub record IsNameAt (room : Room) (t : Tree) (dir_ino : ℕ) (name : List ℕ) (o : Option ℕ) : Type 0 where
   pub node : Node
-  pub stands : node_at t dir ≡ Some node
+  pub stands : node_at t dir_ino ≡ Some node
   pub directory : IsTrue (is_directory node.body)
   pub is_name : IsName name
   pub short : length name ≤ room.name_limit
@@ -34,23 +34,23 @@ pub record IsNameAt (room : Room) (t : Tree) (dir : ℕ) (name : List ℕ) (o : 
 
 -- a name that isn't there is new; and the last name of a walk that ends before it leads to what was found
 pub record IsWalked (room : Room) (t : Tree) (form : Form) (f : Found) : Type 0 where
-  pub new : f.ino ≡ None → IsNameAt room t f.dir f.name None
-  pub old : form ≡ Parent → is_special f ≡ false → IsNameAt room t f.dir f.name f.ino
+  pub new : f.ino ≡ None → IsNameAt room t f.dir_ino f.name None
+  pub old : form ≡ Parent → is_special f ≡ false → IsNameAt room t f.dir_ino f.name f.ino
 
 -- ---- the last component
 
 -- neither `.` nor `..`
-other_number : (t : Tree) (dir : ℕ) (names : List (List ℕ × ℕ)) (name : List ℕ) (o : Option ℕ) → is_dot name ≡ false → is_dot_dot name ≡ false
-    → named_inode t dir names name ≡ o → get name_cmp names name ≡ o
-other_number t dir names name o dot dots e =
-    sym (ap (λ b. cond b (Some dir) (cond (is_dot_dot name) (Some (parent t dir)) (get name_cmp names name))) dot
-    ∙ ap (λ b. cond b (Some (parent t dir)) (get name_cmp names name)) dots) ∙ e
+other_number : (t : Tree) (dir_ino : ℕ) (names : List (List ℕ × ℕ)) (name : List ℕ) (o : Option ℕ) → is_dot name ≡ false → is_dot_dot name ≡ false
+    → named_inode t dir_ino names name ≡ o → get name_cmp names name ≡ o
+other_number t dir_ino names name o dot dots e =
+    sym (ap (λ b. cond b (Some dir_ino) (cond (is_dot_dot name) (Some (parent t dir_ino)) (get name_cmp names name))) dot
+    ∙ ap (λ b. cond b (Some (parent t dir_ino)) (get name_cmp names name)) dots) ∙ e
 
-absent_dots : (t : Tree) (dir : ℕ) (names : List (List ℕ × ℕ)) (name : List ℕ) → named_inode t dir names name ≡ None
+absent_dots : (t : Tree) (dir_ino : ℕ) (names : List (List ℕ × ℕ)) (name : List ℕ) → named_inode t dir_ino names name ≡ None
     → (is_dot name ≡ false) × (is_dot_dot name ≡ false)
-absent_dots t dir names name e = go (is_dot name) (is_dot_dot name) e
+absent_dots t dir_ino names name e = go (is_dot name) (is_dot_dot name) e
   where
-    go : (a b : Bool) → cond a (Some dir) (cond b (Some (parent t dir)) (get name_cmp names name)) ≡ None → (a ≡ false) × (b ≡ false)
+    go : (a b : Bool) → cond a (Some dir_ino) (cond b (Some (parent t dir_ino)) (get name_cmp names name)) ≡ None → (a ≡ false) × (b ≡ false)
     go true b h = absurd cc
     go false true h = absurd cc
     go false false h = (refl, refl)
@@ -79,8 +79,8 @@ module _ (room : Room) (limit : room.name_limit ≤ MAX_NAME) (t : Tree) (is : I
   last_some (l ∷ []) found ends some = ends
   last_some (_ ∷ l ∷ lookups) found ends some = last_some (l ∷ lookups) found ends refl
 
-  name_at : (l : Lookup) (o : Option ℕ) → IsComponent l.name → WasLookedUp room t l.dir l.name o → (is_dot l.name ≡ false) × (is_dot_dot l.name ≡ false)
-      → IsNameAt room t l.dir l.name o
+  name_at : (l : Lookup) (o : Option ℕ) → IsComponent l.name → WasLookedUp room t l.dir_ino l.name o → (is_dot l.name ≡ false) × (is_dot_dot l.name ≡ false)
+      → IsNameAt room t l.dir_ino l.name o
   name_at l o component was dots = record {
     node = was.node;
     stands = was.stands;
@@ -88,34 +88,34 @@ module _ (room : Room) (limit : room.name_limit ≤ MAX_NAME) (t : Tree) (is : I
     is_name = component_is_name l.name component (let few = was.short in omega (arith, few, limit)) dots.0 dots.1;
     short = was.short;
     bytes = component.bytes;
-    leads = other_number t l.dir (names_of_body was.node.body) l.name o dots.0 dots.1 was.leads;
+    leads = other_number t l.dir_ino (names_of_body was.node.body) l.name o dots.0 dots.1 was.leads;
   }
 
   new_at_end : (lookups : List Lookup) (found : Option ℕ) → EndsIn room t is follow lookups found → found ≡ None
-      → IsNameAt room t (last_lookup start lookups).dir (last_lookup start lookups).name None
+      → IsNameAt room t (last_lookup start lookups).dir_ino (last_lookup start lookups).name None
   new_at_end lookups found ends none =
       let l = last_lookup start lookups in
       let end = last_absent lookups found ends none in
       let absent : end.led ≡ None = end.absent none in
-      let was : WasLookedUp room t l.dir l.name None = subst (WasLookedUp room t l.dir l.name) absent end.was in
-      name_at l None end.name was (absent_dots t l.dir (names_of_body was.node.body) l.name was.leads)
+      let was : WasLookedUp room t l.dir_ino l.name None = subst (WasLookedUp room t l.dir_ino l.name) absent end.was in
+      name_at l None end.name was (absent_dots t l.dir_ino (names_of_body was.node.body) l.name was.leads)
 
   old_at_end : (lookups : List Lookup) (found : Option ℕ) → EndsIn room t is follow lookups found → follow ≡ false
       → (is_top (cond (is_empty lookups) Top (last_of_name (last_lookup start lookups).name))
       || is_last_dot (cond (is_empty lookups) Top (last_of_name (last_lookup start lookups).name))
       || is_last_dot_dot (cond (is_empty lookups) Top (last_of_name (last_lookup start lookups).name))) ≡ false
-      → IsNameAt room t (last_lookup start lookups).dir (last_lookup start lookups).name found
+      → IsNameAt room t (last_lookup start lookups).dir_ino (last_lookup start lookups).name found
   old_at_end lookups found ends unfollowed special = go (is_empty lookups) refl special
     where
       go : (b : Bool) → is_empty lookups ≡ b
           → (is_top (cond b Top (last_of_name (last_lookup start lookups).name)) || is_last_dot (cond b Top (last_of_name (last_lookup start lookups).name))
           || is_last_dot_dot (cond b Top (last_of_name (last_lookup start lookups).name))) ≡ false
-          → IsNameAt room t (last_lookup start lookups).dir (last_lookup start lookups).name found
+          → IsNameAt room t (last_lookup start lookups).dir_ino (last_lookup start lookups).name found
       go true empty h = absurd cc
       go false some h =
           let l = last_lookup start lookups in
           let end = last_some lookups found ends some in
-          let was : WasLookedUp room t l.dir l.name found = subst (WasLookedUp room t l.dir l.name) (end.exact unfollowed) end.was in
+          let was : WasLookedUp room t l.dir_ino l.name found = subst (WasLookedUp room t l.dir_ino l.name) (end.exact unfollowed) end.was in
           name_at l found end.name was (special_dots l.name h)
 
 -- ---- a walk

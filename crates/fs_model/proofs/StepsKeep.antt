@@ -70,7 +70,7 @@ processes_after_enter s pid directory second (Some p) here are =
 
 processes_after : (s : State) (e : Event) (choice : Choice) → IsProcessTable s.processes → firm_refusal s e ≡ None → IsProcessTable (after s e choice).processes
 unfolding after firm_refusal
-processes_after s (Calls pid call) choice are firm = processes_after_call s pid choice.number (row_of call) (get nat_cmp s.processes pid) refl are
+processes_after s (Calls pid call) choice are firm = processes_after_call s pid choice.ino (row_of call) (get nat_cmp s.processes pid) refl are
 processes_after s (Spawn cred) choice are firm = (
   with_entry-IsMap s.processes choice.pid (new_process cred) are.0,
   (let more = length-new s.processes choice.pid (new_process cred) are.0 in let room = room_for_one s.processes firm in omega (arith, more, room)),
@@ -144,7 +144,7 @@ module _ (s : State) (is : IsState s) (runs : IsFalse s.halted) where
       → HasNewNumber s (after s e choice).change → Leaves (after s e choice)
   unfolding after firm_refusal other_refusal
   event_leaves (Calls pid call) choice in_range firm other fresh =
-      call_leaves pid choice.number call (get nat_cmp s.processes pid) refl in_range.1 firm other fresh
+      call_leaves pid choice.ino call (get nat_cmp s.processes pid) refl in_range.1 firm other fresh
   event_leaves (Spawn cred) choice in_range firm other fresh =
       tree_may_be_left s.room s.tree (with_entry nat_cmp s.processes choice.pid (new_process cred)) is.tree
       (with_entry-IsMap s.processes choice.pid (new_process cred) is.pids)
@@ -192,7 +192,7 @@ now_after : (s : State) (e : Event) (choice : Choice) → IsState s → IsEvent 
 unfolding after
 now_after s (Calls pid call) choice is fits = go (get nat_cmp s.processes pid)
   where
-    go : (o : Option Process) → (after_call s pid (row_of call) choice.number o).now < 2 ^ 64
+    go : (o : Option Process) → (after_call s pid (row_of call) choice.ino o).now < 2 ^ 64
     go None = is.now
     go (Some p) = is.now
 now_after s (Enter pid directory second) choice is fits = go (get nat_cmp s.processes pid)

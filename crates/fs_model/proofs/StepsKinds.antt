@@ -71,7 +71,7 @@ module _ (t u : Tree) (keeps : KeepsTypes t u) where
 
   descriptor_moves : (fd : ℕ) (d : Descriptor) → IsDescriptor t fd d → IsDescriptor u fd d
   descriptor_moves fd d x =
-      let now = keeps d.number x.node x.is_there in
+      let now = keeps d.ino x.node x.is_there in
       record {
         below = x.below;
         offset = x.offset;

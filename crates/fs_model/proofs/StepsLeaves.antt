@@ -20,7 +20,7 @@ use Rattle.fs_model.specs.States.{State, IsState}
 use Rattle.fs_model.specs.declared.walk.Form.{Form}
 use Rattle.fs_model.specs.declared.walk.Form.TheVariants.{Parent}
 use Rattle.fs_model.specs.Parts.{path_checks}
-use Rattle.fs_model.specs.Scenes.{Scene, Effect, Row, is_found, number, node_found, body_found, dir_node, answers, changes}
+use Rattle.fs_model.specs.Scenes.{Scene, Effect, Row, is_found, found_ino, node_found, body_found, dir_node, answers, changes}
 use Rattle.fs_model.specs.OpenCall.{open_form, open_early, open_found_demands, open_new_demands, open_demands, open_change, open_effect}
 use Rattle.fs_model.specs.RenameCall.{is_same, rename_demands, rename_effect}
 use Rattle.fs_model.specs.Rows.{row_of}
@@ -119,10 +119,10 @@ module _ (c : Scene) (is : IsScene c) (pid : ℕ) (here : get nat_cmp c.state.pr
           let none = no_find c.first.ino e in
           let asks : AreMet (open_new_demands flags c) = subst (λ b. AreMet (cond b (open_found_demands flags c) (open_new_demands flags c))) e met in
           let file = born_file c.process.cred c.process.umask mode (dir_node c c.first) in
-          let makes : open_change flags mode c new ≡ Make c.first.dir c.first.name new file =
-          ap (λ b. cond (not b) (Make c.first.dir c.first.name new file)
-          (cond (flags.trunc && flags.write) (Rewrite Modified (number c.first) (record (node_found c c.first) { body = with_bytes [] (body_found c c.first) })) Same)) e in
-          let number : HasNewNumber c.state (Make c.first.dir c.first.name new file) = subst (HasNewNumber c.state) makes fresh in
+          let makes : open_change flags mode c new ≡ Make c.first.dir_ino c.first.name new file =
+          ap (λ b. cond (not b) (Make c.first.dir_ino c.first.name new file)
+          (cond (flags.trunc && flags.write) (Rewrite Modified (found_ino c.first) (record (node_found c c.first) { body = with_bytes [] (body_found c c.first) })) Same)) e in
+          let number : HasNewNumber c.state (Make c.first.dir_ino c.first.name new file) = subst (HasNewNumber c.state) makes fresh in
           fits_leave (open_effect flags mode c new)
           (open_new_fits c is (walked.new none) asks.1.1.1.1.0 new number.0 number.1 number.2 flags mode path none asked)
 
@@ -130,6 +130,6 @@ module _ (c : Scene) (is : IsScene c) (pid : ℕ) (here : get nat_cmp c.state.pr
       → AreMet (rename_demands c) → Leaves (rename_effect c)
   renames_leave first second met = go (is_same c) refl
     where
-      go : (b : Bool) → is_same c ≡ b → Leaves (changes c (cond b Same (MoveName c.first.dir c.first.name c.second.dir c.second.name)))
+      go : (b : Bool) → is_same c ≡ b → Leaves (changes c (cond b Same (MoveName c.first.dir_ino c.first.name c.second.dir_ino c.second.name)))
       go true e = answer_leaves
       go false e = rename_leaves c is pid here first second met e

@@ -64,7 +64,7 @@ module _ (room : Room) (t u : Tree) (processes : ProcessTable) (lost : ℕ → �
 
   goes : (n : ℕ) (b : Body) (names : ℕ) → IsTrue (is_directory b) → n ≢ root → names ≡ 0 → (not (names == 0) || lives_nameless processes n b) ≡ false
   goes n (File a bytes) names d ne none = absurd cc
-  goes n (Dir a dir) names d ne none =
+  goes n (Dir a dir_ino) names d ne none =
       let z : (names == 0) ≡ true = grind (arith, nat_tests) in
       let other : (n == root) ≡ false = grind (arith, nat_tests) in
       ap (λ q. not q || n == root) z ∙ other
@@ -74,7 +74,7 @@ module _ (room : Room) (t u : Tree) (processes : ProcessTable) (lost : ℕ → �
   lives : (left : ProcessTable) (n : ℕ) (b : Body) (names : ℕ) → IsTrue (is_directory b) → (n ≢ root → names ≡ 1)
       → (not (names == 0) || lives_nameless left n b) ≡ true
   lives left n (File a bytes) names d one = absurd cc
-  lives left n (Dir a dir) names d one = elim (cases_eq n root) [
+  lives left n (Dir a dir_ino) names d one = elim (cases_eq n root) [
     | inl e ↦ or_right (not (names == 0)) (n == root) (let k : (n == root) ≡ true = grind (arith, nat_tests) in k)
     | inr ne ↦ let some : names ≡ 1 = one ne in let z : (names == 0) ≡ false = grind (arith, nat_tests) in ap (λ q. not q || n == root) z
   ]

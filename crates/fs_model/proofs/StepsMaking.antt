@@ -106,8 +106,8 @@ first_fits room some n (File a bytes) ne = some
 first_fits room some n (Dir a d) ne = let other : (n == root) ≡ false = grind (arith, nat_tests) in sym (ap (λ q. cond q 0 1) other)
 first_fits room some n (Link target) ne = (omega arith, some)
 
-module _ (room : Room) (some : 1 ≤ room.names_limit) (t : Tree) (dir : ℕ) (directory : Node) (name : List ℕ) (n : ℕ) (new : Node) (is : IsTree room t)
-    (takes : TakesNewName room t dir directory name) (positive : 1 ≤ n) (below : n < room.inodes) (none : node_at t n ≡ None)
+module _ (room : Room) (some : 1 ≤ room.names_limit) (t : Tree) (dir_ino : ℕ) (directory : Node) (name : List ℕ) (n : ℕ) (new : Node) (is : IsTree room t)
+    (takes : TakesNewName room t dir_ino directory name) (positive : 1 ≤ n) (below : n < room.inodes) (none : node_at t n ≡ None)
     (newborn : IsNewborn room t new) where
   apart_from : (d : ℕ) → IsDirectoryAt t d → d ≢ n
   apart_from d there e =
@@ -135,7 +135,7 @@ module _ (room : Room) (some : 1 ≤ room.names_limit) (t : Tree) (dir : ℕ) (d
       let ne : m ≢ n = (λ e. let gone : node_at t m ≡ None = ap (node_at t) e ∙ none in let both : None ≡ Some node = sym gone ∙ at in cc) in
       record { node = node; is_there = at_others t n new m ne ∙ at; same = refl }
 
-  pub makes_name : AddsName room t (with_node t n new) dir directory name n new
+  pub makes_name : AddsName room t (with_node t n new) dir_ino directory name n new
   makes_name =
       let nameless = nothing_leads room t n is none in
       record {

@@ -23,50 +23,50 @@ use Rattle.fs_model.proofs.StepsTaking.{once_is, are_names_without}
 use Rattle.fs_model.proofs.StepsUp.{IsOutside, outside_differs, outside_above}
 
 -- from a directory a name that leads to n goes to another directory, or another name
-pub record MovesName (room : Room) (t : Tree) (processes : ProcessTable) (dir : ℕ) (directory : Node) (name : List ℕ) (n : ℕ) (to_dir : ℕ) (to_directory : Node) (to_name : List ℕ) (o : Option ℕ) : Type 0 where
-  pub stands : node_at t dir ≡ Some directory
+pub record MovesName (room : Room) (t : Tree) (processes : ProcessTable) (dir_ino : ℕ) (directory : Node) (name : List ℕ) (n : ℕ) (to_dir_ino : ℕ) (to_directory : Node) (to_name : List ℕ) (o : Option ℕ) : Type 0 where
+  pub stands : node_at t dir_ino ≡ Some directory
   pub is_dir : IsTrue (is_directory directory.body)
   pub leads : get name_cmp (names_of_body directory.body) name ≡ Some n
-  pub to_stands : node_at t to_dir ≡ Some to_directory
+  pub to_stands : node_at t to_dir_ino ≡ Some to_directory
   pub is_to_dir : IsTrue (is_directory to_directory.body)
   pub to_leads : get name_cmp (names_of_body to_directory.body) to_name ≡ o
   pub is_name : IsName to_name
   pub short : length to_name ≤ room.name_limit
   pub bytes : IsBytes to_name
   pub other : (m : ℕ) → o ≡ Some m → m ≢ n
-  pub has_room : o ≡ None → dir ≢ to_dir → length (names_of_body to_directory.body) < room.entries_limit
+  pub has_room : o ≡ None → dir_ino ≢ to_dir_ino → length (names_of_body to_directory.body) < room.entries_limit
   pub empty : (m : ℕ) → o ≡ Some m → IsDirectoryAt t m → names_at t m ≡ []
   pub unused : (m : ℕ) → o ≡ Some m → IsDirectoryAt t m → is_in_use processes m ≡ false
-  pub outside : IsDirectoryAt t n → IsOutside t n to_dir
+  pub outside : IsDirectoryAt t n → IsOutside t n to_dir_ino
 
 -- the directory to which it goes, once the name is taken: as it was, or without the name
-pub record Between (room : Room) (t v : Tree) (to_dir : ℕ) (to_name : List ℕ) (o : Option ℕ) : Type 0 where
+pub record Between (room : Room) (t v : Tree) (to_dir_ino : ℕ) (to_name : List ℕ) (o : Option ℕ) : Type 0 where
   pub node : Node
-  pub here : node_at v to_dir ≡ Some node
+  pub here : node_at v to_dir_ino ≡ Some node
   pub directory : IsTrue (is_directory node.body)
-  pub stood : Stood room t t to_dir node
+  pub stood : Stood room t t to_dir_ino node
   pub leads : get name_cmp (names_of_body node.body) to_name ≡ o
   pub short : o ≡ None → length (names_of_body node.body) + 1 ≤ room.entries_limit
 
-module _ (room : Room) (t : Tree) (processes : ProcessTable) (dir : ℕ) (directory : Node) (name : List ℕ) (n : ℕ) (to_dir : ℕ) (to_directory : Node) (to_name : List ℕ) (o : Option ℕ)
-    (is : IsTree room t) (moves : MovesName room t processes dir directory name n to_dir to_directory to_name o) where
+module _ (room : Room) (t : Tree) (processes : ProcessTable) (dir_ino : ℕ) (directory : Node) (name : List ℕ) (n : ℕ) (to_dir_ino : ℕ) (to_directory : Node) (to_name : List ℕ) (o : Option ℕ)
+    (is : IsTree room t) (moves : MovesName room t processes dir_ino directory name n to_dir_ino to_directory to_name o) where
   abbrev less : Names
   less = without name_cmp (names_of_body directory.body) name
 
   abbrev v : Tree
-  v = renamed t dir directory (without name_cmp (names_of_body directory.body) name)
+  v = renamed t dir_ino directory (without name_cmp (names_of_body directory.body) name)
 
   pub were : AreNames room t (names_of_body directory.body)
-  were = are_names room t directory.body (is.each dir directory moves.stands).body
+  were = are_names room t directory.body (is.each dir_ino directory moves.stands).body
 
   v_there : (q : ℕ) → IsThere t q → IsThere v q
-  v_there q h = still_there t dir (renamed_node directory less) q h
+  v_there q h = still_there t dir_ino (renamed_node directory less) q h
 
   pub v_numbers : IsMap nat_cmp v
-  v_numbers = with_entry-IsMap t dir (renamed_node directory less) is.numbers
+  v_numbers = with_entry-IsMap t dir_ino (renamed_node directory less) is.numbers
 
   -- the directory without the name
-  stood_less : Stood room t t dir (renamed_node directory less)
+  stood_less : Stood room t t dir_ino (renamed_node directory less)
   stood_less = record {
     old = directory;
     was = moves.stands;
@@ -76,29 +76,29 @@ module _ (room : Room) (t : Tree) (processes : ProcessTable) (dir : ℕ) (direct
     stamps = refl;
     body =
         body_renamed room t t directory.body less moves.is_dir (are_names_without room t (names_of_body directory.body) name n were moves.leads)
-        (is.each dir directory moves.stands).body;
+        (is.each dir_ino directory moves.stands).body;
   }
 
   stood_itself : (q : ℕ) (node : Node) → node_at t q ≡ Some node → Stood room t t q node
   stood_itself q node at = record { old = node; was = at; same = refl; owner = refl; group = refl; stamps = refl; body = (is.each q node at).body }
 
   v_stood : (q : ℕ) (node : Node) → node_at v q ≡ Some node → Stood room t t q node
-  v_stood q node at = elim (cases_eq q dir) [
+  v_stood q node at = elim (cases_eq q dir_ino) [
     | inl e ↦
-        let here : node_at v q ≡ Some (renamed_node directory less) = ap (node_at v) e ∙ at_it t dir (renamed_node directory less) in
+        let here : node_at v q ≡ Some (renamed_node directory less) = ap (node_at v) e ∙ at_it t dir_ino (renamed_node directory less) in
         let same : renamed_node directory less ≡ node = cc in
         subst (Stood room t t q) same (subst (λ k. Stood room t t k (renamed_node directory less)) (sym e) stood_less)
-    | inr ne ↦ stood_itself q node (sym (at_others t dir (renamed_node directory less) q ne) ∙ at)
+    | inr ne ↦ stood_itself q node (sym (at_others t dir_ino (renamed_node directory less) q ne) ∙ at)
   ]
 
   names_less : names_of_body (with_names less directory.body) ≡ less
-  names_less = sym (ap names_or (at_it t dir (renamed_node directory less))) ∙ names_there t dir directory less moves.is_dir
+  names_less = sym (ap names_or (at_it t dir_ino (renamed_node directory less))) ∙ names_there t dir_ino directory less moves.is_dir
 
   -- in the same directory the name isn't the one that goes
-  other_name : dir ≡ to_dir → get name_cmp less to_name ≡ o
+  other_name : dir_ino ≡ to_dir_ino → get name_cmp less to_name ≡ o
   other_name e = get-without_name (names_of_body directory.body) name to_name ∙ go (eq_by_cmp name_cmp name to_name) refl
     where
-      both : node_at t dir ≡ Some to_directory
+      both : node_at t dir_ino ≡ Some to_directory
       both = ap (node_at t) e ∙ moves.to_stands
 
       leads_there : get name_cmp (names_of_body directory.body) to_name ≡ o
@@ -115,11 +115,11 @@ module _ (room : Room) (t : Tree) (processes : ProcessTable) (dir : ℕ) (direct
           let it : o ≡ Some n = sym leads_there ∙ ap (get name_cmp (names_of_body directory.body)) (sym same) ∙ moves.leads in
           absurd (moves.other n it refl)
 
-  pub between : Between room t v to_dir to_name o
-  between = elim (cases_eq dir to_dir) [
+  pub between : Between room t v to_dir_ino to_name o
+  between = elim (cases_eq dir_ino to_dir_ino) [
     | inl e ↦ record {
       node = renamed_node directory less;
-      here = ap (node_at v) (sym e) ∙ at_it t dir (renamed_node directory less);
+      here = ap (node_at v) (sym e) ∙ at_it t dir_ino (renamed_node directory less);
       directory = same_directory (with_names less directory.body) directory.body (type_with_names less directory.body) ∙ moves.is_dir;
       stood = subst (λ k. Stood room t t k (renamed_node directory less)) e stood_less;
       leads = ap (λ ns. get name_cmp ns to_name) names_less ∙ other_name e;
@@ -131,9 +131,9 @@ module _ (room : Room) (t : Tree) (processes : ProcessTable) (dir : ℕ) (direct
     }
     | inr ne ↦ record {
       node = to_directory;
-      here = at_others t dir (renamed_node directory less) to_dir (λ e. ne (sym e)) ∙ moves.to_stands;
+      here = at_others t dir_ino (renamed_node directory less) to_dir_ino (λ e. ne (sym e)) ∙ moves.to_stands;
       directory = moves.is_to_dir;
-      stood = stood_itself to_dir to_directory moves.to_stands;
+      stood = stood_itself to_dir_ino to_directory moves.to_stands;
       leads = moves.to_leads;
       short = λ none. (let free = moves.has_room none ne in omega (arith, free));
     }
@@ -143,10 +143,10 @@ module _ (room : Room) (t : Tree) (processes : ProcessTable) (dir : ℕ) (direct
   new = with_entry name_cmp (names_of_body between.node.body) to_name n
 
   abbrev pub moved : Tree
-  moved = renamed v to_dir between.node (with_entry name_cmp (names_of_body between.node.body) to_name n)
+  moved = renamed v to_dir_ino between.node (with_entry name_cmp (names_of_body between.node.body) to_name n)
 
   there : (q : ℕ) → IsThere t q → IsThere moved q
-  there q h = still_there v to_dir (renamed_node between.node new) q (v_there q h)
+  there q h = still_there v to_dir_ino (renamed_node between.node new) q (v_there q h)
 
   between_are : AreNames room t (names_of_body between.node.body)
   between_are = are_names room t between.node.body between.stood.body
@@ -161,9 +161,9 @@ module _ (room : Room) (t : Tree) (processes : ProcessTable) (dir : ℕ) (direct
 
   count : (x : ℕ) → names_of moved x + lost_of o x ≡ names_of t x
   count x =
-      let first = names_of-renamed t dir directory less moves.is_dir is.numbers moves.stands x in
+      let first = names_of-renamed t dir_ino directory less moves.is_dir is.numbers moves.stands x in
       let one = fewer x in
-      let then = names_of-renamed v to_dir between.node new between.directory v_numbers between.here x in
+      let then = names_of-renamed v to_dir_ino between.node new between.directory v_numbers between.here x in
       let two = set x in
       omega (arith, first, one, then, two)
 
@@ -198,9 +198,9 @@ module _ (room : Room) (t : Tree) (processes : ProcessTable) (dir : ℕ) (direct
   }
 
   stood : (q : ℕ) (node : Node) → node_at moved q ≡ Some node → Stood room t moved q node
-  stood q node at = elim (cases_eq q to_dir) [
+  stood q node at = elim (cases_eq q to_dir_ino) [
     | inl e ↦
-        let here : node_at moved q ≡ Some (renamed_node between.node new) = ap (node_at moved) e ∙ at_it v to_dir (renamed_node between.node new) in
+        let here : node_at moved q ≡ Some (renamed_node between.node new) = ap (node_at moved) e ∙ at_it v to_dir_ino (renamed_node between.node new) in
         let same : renamed_node between.node new ≡ node = cc in
         subst (Stood room t moved q) same (record {
           old = between.stood.old;
@@ -212,7 +212,7 @@ module _ (room : Room) (t : Tree) (processes : ProcessTable) (dir : ℕ) (direct
           body = body_renamed room t moved between.node.body new between.directory are_new between.stood.body;
         })
     | inr ne ↦
-        let s = v_stood q node (sym (at_others v to_dir (renamed_node between.node new) q ne) ∙ at) in
+        let s = v_stood q node (sym (at_others v to_dir_ino (renamed_node between.node new) q ne) ∙ at) in
         record {
           old = s.old;
           was = s.was;
@@ -227,20 +227,20 @@ module _ (room : Room) (t : Tree) (processes : ProcessTable) (dir : ℕ) (direct
   -- ---- names that stay
 
   kept_less : (x k : ℕ) → x ≢ n → 1 ≤ leading x (names_at t k) → 1 ≤ leading x (names_at v k)
-  kept_less x k other some = elim (cases_eq k dir) [
-    | inl e ↦ leading_stays t dir directory less moves.is_dir t x k e moves.stands (λ some. let one = fewer x in let none = once_other n x (λ e. other (sym e)) in omega (arith, one, none, some)) some
-    | inr ne ↦ subst (λ q. 1 ≤ leading x q) (sym (names_elsewhere t dir directory less moves.is_dir k ne)) some
+  kept_less x k other some = elim (cases_eq k dir_ino) [
+    | inl e ↦ leading_stays t dir_ino directory less moves.is_dir t x k e moves.stands (λ some. let one = fewer x in let none = once_other n x (λ e. other (sym e)) in omega (arith, one, none, some)) some
+    | inr ne ↦ subst (λ q. 1 ≤ leading x q) (sym (names_elsewhere t dir_ino directory less moves.is_dir k ne)) some
   ]
 
-  names_to : names_at moved to_dir ≡ new
-  names_to = names_there v to_dir between.node new between.directory
+  names_to : names_at moved to_dir_ino ≡ new
+  names_to = names_there v to_dir_ino between.node new between.directory
 
   kept : (x k : ℕ) → x ≢ n → lost_of o x ≡ 0 → 1 ≤ leading x (names_at t k) → 1 ≤ leading x (names_at moved k)
-  kept x k other none some = elim (cases_eq k to_dir) [
+  kept x k other none some = elim (cases_eq k to_dir_ino) [
     | inl e ↦
-        leading_stays v to_dir between.node new between.directory v x k e between.here (λ some. let one = set x in omega (arith, one, some, none))
+        leading_stays v to_dir_ino between.node new between.directory v x k e between.here (λ some. let one = set x in omega (arith, one, some, none))
         (kept_less x k other some)
-    | inr ne ↦ subst (λ q. 1 ≤ leading x q) (sym (names_elsewhere v to_dir between.node new between.directory k ne)) (kept_less x k other some)
+    | inr ne ↦ subst (λ q. 1 ≤ leading x q) (sym (names_elsewhere v to_dir_ino between.node new between.directory k ne)) (kept_less x k other some)
   ]
 
   -- ---- what is lost
@@ -254,22 +254,22 @@ module _ (room : Room) (t : Tree) (processes : ProcessTable) (dir : ℕ) (direct
       let none : leading x (names_at t k) ≡ 0 = ap (λ q. leading x (names_at t q)) (sym same) ∙ ap (leading x) (moves.empty m e at_m) in
       omega (arith, none, some))
 
-  to_dir_at : IsDirectoryAt t to_dir
+  to_dir_at : IsDirectoryAt t to_dir_ino
   to_dir_at = record { node = to_directory; is_there = moves.to_stands; directory = moves.is_to_dir }
 
-  pub to_dir_kept : (p : Option ℕ) → o ≡ p → lost_of p to_dir ≡ 0
+  pub to_dir_kept : (p : Option ℕ) → o ≡ p → lost_of p to_dir_ino ≡ 0
   to_dir_kept None e = refl
   to_dir_kept (Some m) e =
-      let are = are_names room t to_directory.body (is.each to_dir to_directory moves.to_stands).body in
+      let are = are_names room t to_directory.body (is.each to_dir_ino to_directory moves.to_stands).body in
       let some : 1 ≤ leading m (names_of_body to_directory.body) = leading_if (names_of_body to_directory.body) to_name m are.rising (moves.to_leads ∙ e) in
-      let at : names_at t to_dir ≡ names_of_body to_directory.body = ap names_or moves.to_stands in
-      keeps_if (Some m) e m to_dir to_dir_at (subst (λ q. 1 ≤ leading m q) (sym at) some)
+      let at : names_at t to_dir_ino ≡ names_of_body to_directory.body = ap names_or moves.to_stands in
+      keeps_if (Some m) e m to_dir_ino to_dir_at (subst (λ q. 1 ≤ leading m q) (sym at) some)
 
-  pub dir_kept : (p : Option ℕ) → o ≡ p → lost_of p dir ≡ 0
+  pub dir_kept : (p : Option ℕ) → o ≡ p → lost_of p dir_ino ≡ 0
   dir_kept p e =
       let some : 1 ≤ leading n (names_of_body directory.body) = leading_if (names_of_body directory.body) name n were.rising moves.leads in
-      let at : names_at t dir ≡ names_of_body directory.body = ap names_or moves.stands in
-      keeps_if p e n dir (record { node = directory; is_there = moves.stands; directory = moves.is_dir }) (subst (λ q. 1 ≤ leading n q) (sym at) some)
+      let at : names_at t dir_ino ≡ names_of_body directory.body = ap names_or moves.stands in
+      keeps_if p e n dir_ino (record { node = directory; is_there = moves.stands; directory = moves.is_dir }) (subst (λ q. 1 ≤ leading n q) (sym at) some)
 
   pub n_kept : (p : Option ℕ) → o ≡ p → lost_of p n ≡ 0
   n_kept None e = refl
@@ -298,20 +298,20 @@ module _ (room : Room) (t : Tree) (processes : ProcessTable) (dir : ℕ) (direct
       let up = up_once x (q.0, q.1) (outside_differs t n x q.2) ne in
       inr (up.0, (up.1.0, up.1.1, outside_above t n x ne q.2))
 
-  to_dir_climbs : IsDirectoryAt t n → IsUnderRoot moved to_dir
+  to_dir_climbs : IsDirectoryAt t n → IsUnderRoot moved to_dir_ino
   to_dir_climbs d =
-      under_all t moved IsOut out_step (to_dir_at, to_dir_kept o refl, moves.outside d) (under_root room t is to_dir to_dir_at)
+      under_all t moved IsOut out_step (to_dir_at, to_dir_kept o refl, moves.outside d) (under_root room t is to_dir_ino to_dir_at)
 
   -- a directory that is moved is named there alone
-  pub moved_parent : IsDirectoryAt t n → n ≢ root → parent moved n ≡ to_dir
+  pub moved_parent : IsDirectoryAt t n → n ≢ root → parent moved n ≡ to_dir_ino
   moved_parent d ne =
       let one = directory_named room t is n d ne in
       let all = count n in
       let none = n_kept o refl in
       let single = once_same n n refl in
       let led = set n in
-      let some : 1 ≤ leading n (names_at moved to_dir) = (let same : leading n (names_at moved to_dir) ≡ leading n new = ap (leading n) names_to in omega (arith, same, led, none, single)) in
-      parent_is moved to_dir n some (omega (arith, one, all, none))
+      let some : 1 ≤ leading n (names_at moved to_dir_ino) = (let same : leading n (names_at moved to_dir_ino) ≡ leading n new = ap (leading n) names_to in omega (arith, same, led, none, single)) in
+      parent_is moved to_dir_ino n some (omega (arith, one, all, none))
 
   n_climbs : IsDirectoryAt t n → n ≢ root → IsUnderRoot moved n
   n_climbs d ne = is_in n (subst (IsUnderRoot moved) (sym (moved_parent d ne)) (to_dir_climbs d))
@@ -327,7 +327,7 @@ module _ (room : Room) (t : Tree) (processes : ProcessTable) (dir : ℕ) (direct
   not_root : (p : Option ℕ) → o ≡ p → (x : ℕ) → 1 ≤ lost_of p x → x ≢ root
   not_root None e x some r = absurd (omega (arith, some))
   not_root (Some m) e x some r =
-      let are = are_names room t to_directory.body (is.each to_dir to_directory moves.to_stands).body in
+      let are = are_names room t to_directory.body (is.each to_dir_ino to_directory moves.to_stands).body in
       (are.each to_name m (moves.to_leads ∙ e)).leads.0 (sym (once_is m x some) ∙ r)
 
   empty_then : (p : Option ℕ) → o ≡ p → (x : ℕ) → IsDirectoryAt t x → 1 ≤ lost_of p x → names_at moved x ≡ []
@@ -336,10 +336,10 @@ module _ (room : Room) (t : Tree) (processes : ProcessTable) (dir : ℕ) (direct
       let here = once_is m x some in
       let at_m : IsDirectoryAt t m = subst (IsDirectoryAt t) here d in
       let self = once_same m m refl in
-      let not_to : m ≢ to_dir = (λ q. let none : once_if m m ≡ 0 = ap (once_if m) q ∙ to_dir_kept (Some m) e in omega (arith, none, self)) in
-      let not_from : m ≢ dir = (λ q. let none : once_if m m ≡ 0 = ap (once_if m) q ∙ dir_kept (Some m) e in omega (arith, none, self)) in
-      ap (names_at moved) here ∙ names_elsewhere v to_dir between.node new between.directory m not_to
-      ∙ names_elsewhere t dir directory less moves.is_dir m not_from ∙ moves.empty m e at_m
+      let not_to : m ≢ to_dir_ino = (λ q. let none : once_if m m ≡ 0 = ap (once_if m) q ∙ to_dir_kept (Some m) e in omega (arith, none, self)) in
+      let not_from : m ≢ dir_ino = (λ q. let none : once_if m m ≡ 0 = ap (once_if m) q ∙ dir_kept (Some m) e in omega (arith, none, self)) in
+      ap (names_at moved) here ∙ names_elsewhere v to_dir_ino between.node new between.directory m not_to
+      ∙ names_elsewhere t dir_ino directory less moves.is_dir m not_from ∙ moves.empty m e at_m
 
   unused_then : (p : Option ℕ) → o ≡ p → (x : ℕ) → IsDirectoryAt t x → 1 ≤ lost_of p x → is_in_use processes x ≡ false
   unused_then None e x d some = absurd (omega (arith, some))
@@ -349,10 +349,10 @@ module _ (room : Room) (t : Tree) (processes : ProcessTable) (dir : ℕ) (direct
 
   pub moves_loses : LosesNames room t moved processes (lost_of o)
   moves_loses = record {
-    numbers = with_entry-IsMap v to_dir (renamed_node between.node new) v_numbers;
+    numbers = with_entry-IsMap v to_dir_ino (renamed_node between.node new) v_numbers;
     types =
-        types_compose t v moved (renamed_keeps_types t dir directory less moves.stands)
-        (renamed_keeps_types v to_dir between.node new between.here);
+        types_compose t v moved (renamed_keeps_types t dir_ino directory less moves.stands)
+        (renamed_keeps_types v to_dir_ino between.node new between.here);
     each = stood;
     counts = count;
     not_root = not_root o refl;
@@ -361,10 +361,10 @@ module _ (room : Room) (t : Tree) (processes : ProcessTable) (dir : ℕ) (direct
     under = λ x d none. under_all t moved Stays step (d, none) (under_root room t is x d);
   }
 
-  pub moved_is : changed t (MoveName dir name to_dir to_name) ≡ moved
+  pub moved_is : changed t (MoveName dir_ino name to_dir_ino to_name) ≡ moved
   moved_is =
-      let gone : unnamed t dir name ≡ v = ap (with_names_at t dir (λ names. without name_cmp names name)) moves.stands in
-      let led : lookup t dir name ≡ Some n = ap (λ q. lookup_in q name) moves.stands ∙ moves.leads in
-      ap (λ w. named w to_dir to_name (unwrap_or (lookup t dir name) 0)) gone
-      ∙ ap (λ q. named v to_dir to_name (unwrap_or q 0)) led
-      ∙ ap (with_names_at v to_dir (λ names. with_entry name_cmp names to_name n)) between.here
+      let gone : unnamed t dir_ino name ≡ v = ap (with_names_at t dir_ino (λ names. without name_cmp names name)) moves.stands in
+      let led : lookup t dir_ino name ≡ Some n = ap (λ q. lookup_in q name) moves.stands ∙ moves.leads in
+      ap (λ w. named w to_dir_ino to_name (unwrap_or (lookup t dir_ino name) 0)) gone
+      ∙ ap (λ q. named v to_dir_ino to_name (unwrap_or q 0)) led
+      ∙ ap (with_names_at v to_dir_ino (λ names. with_entry name_cmp names to_name n)) between.here

@@ -17,7 +17,7 @@ abbrev pub renamed_node : Node → Names → Node
 renamed_node node names = record node { body = with_names names node.body }
 
 abbrev pub renamed : Tree → ℕ → Node → Names → Tree
-renamed t dir node names = with_node t dir (renamed_node node names)
+renamed t dir_ino node names = with_node t dir_ino (renamed_node node names)
 
 pub type_with_names : (names : Names) (b : Body) → type_of (with_names names b) ≡ type_of b
 type_with_names names (File a s) = refl
@@ -26,7 +26,7 @@ type_with_names names (Link target) = refl
 
 pub names_with_names : (names : Names) (b : Body) → IsTrue (is_directory b) → names_of_body (with_names names b) ≡ names
 names_with_names names (File a s) d = absurd cc
-names_with_names names (Dir a dir) d = refl
+names_with_names names (Dir a dir_ino) d = refl
 names_with_names names (Link target) d = absurd cc
 
 -- ---- what stands where
@@ -44,34 +44,34 @@ module _ (t : Tree) (k : ℕ) (node : Node) where
     | inr ne ↦ ap is_some (at_others m ne) ∙ there
   ]
 
-module _ (t : Tree) (dir : ℕ) (node : Node) (names : Names) (directory : IsTrue (is_directory node.body)) where
-  pub names_there : names_at (renamed t dir node names) dir ≡ names
-  names_there = ap names_or (at_it t dir (renamed_node node names)) ∙ names_with_names names node.body directory
+module _ (t : Tree) (dir_ino : ℕ) (node : Node) (names : Names) (directory : IsTrue (is_directory node.body)) where
+  pub names_there : names_at (renamed t dir_ino node names) dir_ino ≡ names
+  names_there = ap names_or (at_it t dir_ino (renamed_node node names)) ∙ names_with_names names node.body directory
 
-  pub names_elsewhere : (k : ℕ) → k ≢ dir → names_at (renamed t dir node names) k ≡ names_at t k
-  names_elsewhere k ne = ap names_or (at_others t dir (renamed_node node names) k ne)
+  pub names_elsewhere : (k : ℕ) → k ≢ dir_ino → names_at (renamed t dir_ino node names) k ≡ names_at t k
+  names_elsewhere k ne = ap names_or (at_others t dir_ino (renamed_node node names) k ne)
 
   -- a node that those of a directory led to, which has other names now
-  pub leading_stays : (was : Tree) (x k : ℕ) → k ≡ dir → node_at was dir ≡ Some node → (1 ≤ leading x (names_of_body node.body) → 1 ≤ leading x names)
-      → 1 ≤ leading x (names_at was k) → 1 ≤ leading x (names_at (renamed t dir node names) k)
+  pub leading_stays : (was : Tree) (x k : ℕ) → k ≡ dir_ino → node_at was dir_ino ≡ Some node → (1 ≤ leading x (names_of_body node.body) → 1 ≤ leading x names)
+      → 1 ≤ leading x (names_at was k) → 1 ≤ leading x (names_at (renamed t dir_ino node names) k)
   leading_stays was x k e stands more some =
       let before : leading x (names_at was k) ≡ leading x (names_of_body node.body) = ap (leading x) (ap (names_at was) e ∙ ap names_or stands) in
-      let after : leading x (names_at (renamed t dir node names) k) ≡ leading x names = ap (leading x) (ap (names_at (renamed t dir node names)) e ∙ names_there) in
+      let after : leading x (names_at (renamed t dir_ino node names) k) ≡ leading x names = ap (leading x) (ap (names_at (renamed t dir_ino node names)) e ∙ names_there) in
       subst (λ q. 1 ≤ q) (sym after) (more (subst (λ q. 1 ≤ q) before some))
 
   -- how many names lead to a node
-  pub names_of-renamed : IsMap nat_cmp t → node_at t dir ≡ Some node → (x : ℕ)
-      → names_of (renamed t dir node names) x + leading x (names_of_body node.body) ≡ names_of t x + leading x names
+  pub names_of-renamed : IsMap nat_cmp t → node_at t dir_ino ≡ Some node → (x : ℕ)
+      → names_of (renamed t dir_ino node names) x + leading x (names_of_body node.body) ≡ names_of t x + leading x names
   names_of-renamed m at x =
       let f : ℕ × Node → ℕ = λ e. names_for x e.1.body in
-      let new : f (dir, renamed_node node names) ≡ leading x names = ap (leading x) (names_with_names names node.body directory) in
-      let old : summand f dir (get nat_cmp t dir) ≡ leading x (names_of_body node.body) = ap (summand f dir) at in
-      omega (arith, sum-with_entry f t dir (renamed_node node names) m, new, old)
+      let new : f (dir_ino, renamed_node node names) ≡ leading x names = ap (leading x) (names_with_names names node.body directory) in
+      let old : summand f dir_ino (get nat_cmp t dir_ino) ≡ leading x (names_of_body node.body) = ap (summand f dir_ino) at in
+      omega (arith, sum-with_entry f t dir_ino (renamed_node node names) m, new, old)
 
-pub renamed_keeps_types : (t : Tree) (dir : ℕ) (node : Node) (names : Names) → node_at t dir ≡ Some node
-    → KeepsTypes t (renamed t dir node names)
-renamed_keeps_types t dir node names at =
-    replaced_keeps_types t dir node (renamed_node node names) at (type_with_names names node.body)
+pub renamed_keeps_types : (t : Tree) (dir_ino : ℕ) (node : Node) (names : Names) → node_at t dir_ino ≡ Some node
+    → KeepsTypes t (renamed t dir_ino node names)
+renamed_keeps_types t dir_ino node names at =
+    replaced_keeps_types t dir_ino node (renamed_node node names) at (type_with_names names node.body)
 
 pub types_compose : (t u v : Tree) → KeepsTypes t u → KeepsTypes u v → KeepsTypes t v
 types_compose t u v first second n node at =
@@ -111,7 +111,7 @@ pub record AreNames (room : Room) (u : Tree) (names : Names) : Type 0 where
 pub body_renamed : (room : Room) (t u : Tree) (b : Body) (names : Names) → IsTrue (is_directory b) → AreNames room u names → IsBody room t b
     → IsBody room u (with_names names b)
 body_renamed room t u (File a s) names d are is = absurd cc
-body_renamed room t u (Dir a dir) names d are is = (is.0, is.1, record { names = are.rising; few = are.few; each = are.each })
+body_renamed room t u (Dir a dir_ino) names d are is = (is.0, is.1, record { names = are.rising; few = are.few; each = are.each })
 body_renamed room t u (Link target) names d are is = absurd cc
 
 -- the names of a directory in a tree

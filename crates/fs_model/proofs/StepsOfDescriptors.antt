@@ -39,13 +39,13 @@ module _ (c : Scene) (is : IsScene c) where
   answer_fits reply = no_change_fits c.state c.process reply is.state is.process
 
   module _ (fd : ℕ) (here : descriptor c.process fd ≡ Some (the_descriptor c.process fd)) where
-    pub open_at : node_at c.state.tree (the_descriptor c.process fd).number ≡ Some (node_open c fd)
+    pub open_at : node_at c.state.tree (the_descriptor c.process fd).ino ≡ Some (node_open c fd)
     open_at =
         let x = is.process.each fd (the_descriptor c.process fd) here in
-        node_is_there c.state.tree (the_descriptor c.process fd).number (ap is_some x.is_there)
+        node_is_there c.state.tree (the_descriptor c.process fd).ino (ap is_some x.is_there)
 
-    open_is : IsNode c.state.room c.state.tree (the_descriptor c.process fd).number (node_open c fd)
-    open_is = is.state.tree.each (the_descriptor c.process fd).number (node_open c fd) open_at
+    open_is : IsNode c.state.room c.state.tree (the_descriptor c.process fd).ino (node_open c fd)
+    open_is = is.state.tree.each (the_descriptor c.process fd).ino (node_open c fd) open_at
 
     open_few : length (bytes_in (node_open c fd).body) ≤ c.state.room.file_limit
     open_few = bytes_are_few c.state.room c.state.tree (node_open c fd).body open_is.body
@@ -71,7 +71,7 @@ module _ (c : Scene) (is : IsScene c) where
 
     ftruncate_fits_here : (size : ℕ) → size ≤ c.state.room.file_limit → EffectFits c.state (ftruncate_effect fd size c)
     ftruncate_fits_here size low =
-        let n = (the_descriptor c.process fd).number in
+        let n = (the_descriptor c.process fd).ino in
         let node = node_open c fd in
         let bytes = bytes_in node.body in
         rewrite_fits c.state Modified n node (resized_node size node) c.process Done is.state open_at
@@ -83,12 +83,12 @@ module _ (c : Scene) (is : IsScene c) where
     -- at an offset below the limit
     write_fits_here : (bytes : List ℕ) → IsBytes bytes → write_offset c fd < c.state.room.file_limit
         → EffectFits c.state (record {
-          change = Rewrite Modified (the_descriptor c.process fd).number (written (node_open c fd) (write_offset c fd) (take (write_count c fd bytes) bytes));
+          change = Rewrite Modified (the_descriptor c.process fd).ino (written (node_open c fd) (write_offset c fd) (take (write_count c fd bytes) bytes));
           process = with_offset c.process fd (write_offset c fd + write_count c fd bytes);
           reply = Wrote (write_count c fd bytes);
         })
     write_fits_here bytes are below =
-        let n = (the_descriptor c.process fd).number in
+        let n = (the_descriptor c.process fd).ino in
         let node = node_open c fd in
         let old = bytes_in node.body in
         let offset = write_offset c fd in
@@ -132,7 +132,7 @@ module _ (c : Scene) (is : IsScene c) where
     where
       go : (b : Bool) → AreMet (only_if (not b) (refuse EFBIG (nat_le c.state.room.file_limit (write_offset c fd)) ∷ no_blocks c ∷ []))
           → EffectFits c.state (cond b (answers c (Wrote 0)) (record {
-            change = Rewrite Modified (the_descriptor c.process fd).number (written (node_open c fd) (write_offset c fd) (take (write_count c fd bytes) bytes));
+            change = Rewrite Modified (the_descriptor c.process fd).ino (written (node_open c fd) (write_offset c fd) (take (write_count c fd bytes) bytes));
             process = with_offset c.process fd (write_offset c fd + write_count c fd bytes);
             reply = Wrote (write_count c fd bytes);
           }))

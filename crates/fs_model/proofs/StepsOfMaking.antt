@@ -21,7 +21,7 @@ use Rattle.fs_model.specs.TreeChanges.{Same, Rewrite, Make, AddName, with_names_
 use Rattle.fs_model.specs.States.{IsProcess}
 use Rattle.fs_model.specs.Parts.{is_empty}
 use Rattle.fs_model.specs.declared.walk.Found.{Found}
-use Rattle.fs_model.specs.Scenes.{Scene, is_found, is_special, number, node_found, body_found, dir_node, is_directory_found, must_be_new, no_names}
+use Rattle.fs_model.specs.Scenes.{Scene, is_found, is_special, found_ino, node_found, body_found, dir_node, is_directory_found, must_be_new, no_names}
 use Rattle.fs_model.specs.OpenCall.{open_early, open_process, open_effect}
 use Rattle.fs_model.specs.NameCalls.{mkdir_effect, symlink_arguments, symlink_effect, link_demands, link_effect}
 use Rattle.fs_model.proofs.StepsAdding.{AddsName, gives_name, added_is_tree, added_keeps_types}
@@ -38,16 +38,16 @@ use Rattle.fs_model.proofs.StepsProcesses.{with_descriptor_fits, least_is_low}
 -- ---- what a name stands in
 
 -- the directory is what stands at the number
-pub dir_is_there : {room : Room} (t : Tree) (dir : ℕ) (name : List ℕ) (o : Option ℕ) → IsNameAt room t dir name o
-    → (node_at t dir ≡ Some (the_node t dir)) × IsTrue (is_directory (the_node t dir).body) × (get name_cmp (names_of_body (the_node t dir).body) name ≡ o)
-dir_is_there t dir name o x =
-    let at = node_is_there t dir (ap is_some x.stands) in
-    let same : x.node ≡ the_node t dir = cc in
+pub dir_is_there : {room : Room} (t : Tree) (dir_ino : ℕ) (name : List ℕ) (o : Option ℕ) → IsNameAt room t dir_ino name o
+    → (node_at t dir_ino ≡ Some (the_node t dir_ino)) × IsTrue (is_directory (the_node t dir_ino).body) × (get name_cmp (names_of_body (the_node t dir_ino).body) name ≡ o)
+dir_is_there t dir_ino name o x =
+    let at = node_is_there t dir_ino (ap is_some x.stands) in
+    let same : x.node ≡ the_node t dir_ino = cc in
     (at, subst (λ v. IsTrue (is_directory v.body)) same x.directory, subst (λ v. get name_cmp (names_of_body v.body) name ≡ o) same x.leads)
 
-pub named_is : (t : Tree) (dir : ℕ) (directory : Node) (name : List ℕ) (n : ℕ) → node_at t dir ≡ Some directory
-    → named t dir name n ≡ renamed t dir directory (with_entry name_cmp (names_of_body directory.body) name n)
-named_is t dir directory name n at = ap (with_names_at t dir (λ names. with_entry name_cmp names name n)) at
+pub named_is : (t : Tree) (dir_ino : ℕ) (directory : Node) (name : List ℕ) (n : ℕ) → node_at t dir_ino ≡ Some directory
+    → named t dir_ino name n ≡ renamed t dir_ino directory (with_entry name_cmp (names_of_body directory.body) name n)
+named_is t dir_ino directory name n at = ap (with_names_at t dir_ino (λ names. with_entry name_cmp names name n)) at
 
 pub no_find : (o : Option ℕ) → is_some o ≡ false → o ≡ None
 no_find None h = refl
@@ -58,13 +58,13 @@ is_new_if f met = no_find f.ino (or_parts (is_found f) (is_special f) (unrefused
 
 -- ---- a new node
 
-module _ (c : Scene) (is : IsScene c) (name : IsNameAt c.state.room c.state.tree c.first.dir c.first.name None) (met : no_names c c.first ≡ None)
+module _ (c : Scene) (is : IsScene c) (name : IsNameAt c.state.room c.state.tree c.first.dir_ino c.first.name None) (met : no_names c c.first ≡ None)
     (n : ℕ) (positive : 1 ≤ n) (below : n < c.state.room.inodes) (none : node_at c.state.tree n ≡ None) where
   abbrev Geometry : Node
   Geometry = dir_node c c.first
 
-  pub dir_at : node_at c.state.tree c.first.dir ≡ Some (dir_node c c.first)
-  dir_at = (dir_is_there c.state.tree c.first.dir c.first.name None name).0
+  pub dir_at : node_at c.state.tree c.first.dir_ino ≡ Some (dir_node c c.first)
+  dir_at = (dir_is_there c.state.tree c.first.dir_ino c.first.name None name).0
 
   has_room : length (names_of_body (dir_node c c.first).body) < c.state.room.entries_limit
   has_room =
@@ -72,56 +72,56 @@ module _ (c : Scene) (is : IsScene c) (name : IsNameAt c.state.room c.state.tree
       grind (arith, nat_tests)
 
   pub adds : (new : Node) → IsNewborn c.state.room c.state.tree new
-      → AddsName c.state.room c.state.tree (with_node c.state.tree n new) c.first.dir (dir_node c c.first) c.first.name n new
+      → AddsName c.state.room c.state.tree (with_node c.state.tree n new) c.first.dir_ino (dir_node c c.first) c.first.name n new
   adds new newborn =
-      let x = dir_is_there c.state.tree c.first.dir c.first.name None name in
-      makes_name c.state.room is.state.room.some_names c.state.tree c.first.dir (dir_node c c.first) c.first.name n new is.state.tree
+      let x = dir_is_there c.state.tree c.first.dir_ino c.first.name None name in
+      makes_name c.state.room is.state.room.some_names c.state.tree c.first.dir_ino (dir_node c c.first) c.first.name n new is.state.tree
       (record { stands = x.0; is_dir = x.1; is_new = x.2; has_room = has_room; is_name = name.is_name; short = name.short; bytes = name.bytes })
       positive below none newborn
 
   abbrev made : Node → Tree
-  made new = changed c.state.tree (Make c.first.dir c.first.name n new)
+  made new = changed c.state.tree (Make c.first.dir_ino c.first.name n new)
 
   pub made_is : (new : Node) → IsNewborn c.state.room c.state.tree new
-      → made new ≡ renamed (with_node c.state.tree n new) c.first.dir (dir_node c c.first) (with_entry name_cmp (names_of_body (dir_node c c.first).body) c.first.name n)
+      → made new ≡ renamed (with_node c.state.tree n new) c.first.dir_ino (dir_node c c.first) (with_entry name_cmp (names_of_body (dir_node c c.first).body) c.first.name n)
   made_is new newborn =
       let a = adds new newborn in
-      let ne : c.first.dir ≢ n = a.apart c.first.dir (record { node = dir_node c c.first; is_there = a.takes.stands; directory = a.takes.is_dir }) in
-      named_is (with_node c.state.tree n new) c.first.dir (dir_node c c.first) c.first.name n (at_others c.state.tree n new c.first.dir ne ∙ dir_at)
+      let ne : c.first.dir_ino ≢ n = a.apart c.first.dir_ino (record { node = dir_node c c.first; is_there = a.takes.stands; directory = a.takes.is_dir }) in
+      named_is (with_node c.state.tree n new) c.first.dir_ino (dir_node c c.first) c.first.name n (at_others c.state.tree n new c.first.dir_ino ne ∙ dir_at)
 
   made_is_tree : (new : Node) → IsNewborn c.state.room c.state.tree new → IsTree c.state.room (made new)
   made_is_tree new newborn =
       subst (IsTree c.state.room) (sym (made_is new newborn))
-      (added_is_tree c.state.room c.state.tree (with_node c.state.tree n new) c.first.dir (dir_node c c.first) c.first.name n new is.state.tree (adds new newborn))
+      (added_is_tree c.state.room c.state.tree (with_node c.state.tree n new) c.first.dir_ino (dir_node c c.first) c.first.name n new is.state.tree (adds new newborn))
 
   made_keeps_types : (new : Node) → IsNewborn c.state.room c.state.tree new → KeepsTypes c.state.tree (made new)
   made_keeps_types new newborn =
       subst (KeepsTypes c.state.tree) (sym (made_is new newborn))
-      (added_keeps_types c.state.room c.state.tree (with_node c.state.tree n new) c.first.dir (dir_node c c.first) c.first.name n new is.state.tree (adds new newborn))
+      (added_keeps_types c.state.room c.state.tree (with_node c.state.tree n new) c.first.dir_ino (dir_node c c.first) c.first.name n new is.state.tree (adds new newborn))
 
   -- the new node stands in the tree
   made_at : (new : Node) → IsNewborn c.state.room c.state.tree new → node_at (made new) n ≡ Some new
   made_at new newborn =
       let a = adds new newborn in
-      let ne : n ≢ c.first.dir = (λ e. a.apart c.first.dir (record { node = dir_node c c.first; is_there = a.takes.stands; directory = a.takes.is_dir }) (sym e)) in
+      let ne : n ≢ c.first.dir_ino = (λ e. a.apart c.first.dir_ino (record { node = dir_node c c.first; is_there = a.takes.stands; directory = a.takes.is_dir }) (sym e)) in
       ap (λ t. node_at t n) (made_is new newborn)
-      ∙ at_others (with_node c.state.tree n new) c.first.dir (renamed_node (dir_node c c.first) (with_entry name_cmp (names_of_body (dir_node c c.first).body) c.first.name n)) n ne
+      ∙ at_others (with_node c.state.tree n new) c.first.dir_ino (renamed_node (dir_node c c.first) (with_entry name_cmp (names_of_body (dir_node c c.first).body) c.first.name n)) n ne
       ∙ at_it c.state.tree n new
 
   made_fits : (new : Node) (reply : Reply) → IsNewborn c.state.room c.state.tree new
-      → EffectFits c.state (record { change = Make c.first.dir c.first.name n new; process = c.process; reply = reply })
+      → EffectFits c.state (record { change = Make c.first.dir_ino c.first.name n new; process = c.process; reply = reply })
   made_fits new reply newborn =
       let types = made_keeps_types new newborn in
       record { tree = made_is_tree new newborn; types = types; process = process_moves c.state.tree (made new) types c.process is.process }
 
   pub small_group : (dir_node c c.first).group < 2 ^ 32
-  small_group = (is.state.tree.each c.first.dir (dir_node c c.first) dir_at).group
+  small_group = (is.state.tree.each c.first.dir_ino (dir_node c c.first) dir_at).group
 
   pub mkdir_fits : (mode : ℕ) → EffectFits c.state (mkdir_effect mode c n)
   mkdir_fits mode =
       made_fits (born_directory c.process.cred c.process.umask mode (dir_node c c.first)) Done
       (directory_is_born c.state.room c.state.tree c.process.cred is.process.cred (dir_node c c.first) small_group c.process.umask mode
-      (is.state.tree.each c.first.dir (dir_node c c.first) dir_at).body)
+      (is.state.tree.each c.first.dir_ino (dir_node c c.first) dir_at).body)
 
   pub symlink_fits : (target : List ℕ) → IsTarget target → EffectFits c.state (symlink_effect target c n)
   symlink_fits target valid =
@@ -135,7 +135,7 @@ module _ (c : Scene) (is : IsScene c) (name : IsNameAt c.state.room c.state.tree
       let file = born_file c.process.cred c.process.umask mode (dir_node c c.first) in
       let newborn =
       file_is_born c.state.room c.state.tree c.process.cred is.process.cred (dir_node c c.first) small_group c.process.umask mode
-      (is.state.tree.each c.first.dir (dir_node c c.first) dir_at).body in
+      (is.state.tree.each c.first.dir_ino (dir_node c c.first) dir_at).body in
       let types = made_keeps_types file newborn in
       let moved = process_moves c.state.tree (made file) types c.process is.process in
       let full : nat_le descriptors_limit (length c.process.descriptors) ≡ false = unrefused EMFILE _ asked.1.0 in
@@ -143,7 +143,7 @@ module _ (c : Scene) (is : IsScene c) (name : IsNameAt c.state.room c.state.tree
       let least = least_is_low 0 c.process.descriptors in
       let process : IsProcess (made file) (open_process c.process flags n) =
       with_descriptor_fits (made file) c.process moved (least_unused 0 c.process.descriptors)
-      (record { number = n; offset = 0; read = flags.read; write = flags.write; append = flags.append })
+      (record { ino = n; offset = 0; read = flags.read; write = flags.write; append = flags.append })
       (record {
         below = omega (arith, least, few);
         offset = omega arith;
@@ -152,10 +152,10 @@ module _ (c : Scene) (is : IsScene c) (name : IsNameAt c.state.room c.state.tree
         no_link = refl;
         no_writes = λ directory. absurd cc;
       }) in
-      fits_as c.state (record { change = Make c.first.dir c.first.name n file; process = open_process c.process flags n; reply = Fd 0 })
+      fits_as c.state (record { change = Make c.first.dir_ino c.first.name n file; process = open_process c.process flags n; reply = Fd 0 })
       (open_effect flags mode c n)
-      (ap (λ o. cond (not (is_some o)) (Make c.first.dir c.first.name n file)
-      (cond (flags.trunc && flags.write) (Rewrite Modified (number c.first) (record (node_found c c.first) { body = with_bytes [] (body_found c c.first) })) Same)) absent)
+      (ap (λ o. cond (not (is_some o)) (Make c.first.dir_ino c.first.name n file)
+      (cond (flags.trunc && flags.write) (Rewrite Modified (found_ino c.first) (record (node_found c c.first) { body = with_bytes [] (body_found c c.first) })) Same)) absent)
       (ap (λ o. open_process c.process flags (unwrap_or o n)) absent)
       (record { tree = made_is_tree file newborn; types = types; process = process })
 
@@ -189,32 +189,32 @@ target_is target bytes met =
 
 -- ---- link
 
-pub link_fits : (c : Scene) → IsScene c → IsNameAt c.state.room c.state.tree c.second.dir c.second.name None → AreMet (link_demands c)
+pub link_fits : (c : Scene) → IsScene c → IsNameAt c.state.room c.state.tree c.second.dir_ino c.second.name None → AreMet (link_demands c)
     → EffectFits c.state (link_effect c)
 link_fits c is name met =
     let t = c.state.tree in
-    let n = number c.first in
+    let n = found_ino c.first in
     let found = is_found_if c.first met.1.0 in
     let target = node_found c c.first in
-    let dir = c.second.dir in
+    let dir_ino = c.second.dir_ino in
     let directory = dir_node c c.second in
-    let x = dir_is_there t dir c.second.name None name in
+    let x = dir_is_there t dir_ino c.second.name None name in
     let no_directory : is_directory target.body ≡ false = and_false (is_found c.first) (is_directory target.body) (unrefused EPERM (is_directory_found c c.first) met.1.1.1.0) found in
     let many : nat_le c.state.room.names_limit (names_of t n) ≡ false = unrefused EMLINK _ met.1.1.1.1.1.1.1.0 in
     let few : names_of t n < c.state.room.names_limit = grind (arith, nat_tests) in
     let full : nat_le c.state.room.entries_limit (length (names_of_body directory.body)) ≡ false = unrefused ENOSPC _ met.1.1.1.1.1.1.1.1.1.0 in
     let free : length (names_of_body directory.body) < c.state.room.entries_limit = grind (arith, nat_tests) in
     let adds =
-    gives_name c.state.room t dir directory c.second.name n target is.state.tree (record {
+    gives_name c.state.room t dir_ino directory c.second.name n target is.state.tree (record {
       takes = record { stands = x.0; is_dir = x.1; is_new = x.2; has_room = free; is_name = name.is_name; short = name.short; bytes = name.bytes };
       there = first_at c is found;
       no_directory = no_directory;
       few = few;
     }) in
-    let u : changed t (AddName dir c.second.name n) ≡ renamed t dir directory (with_entry name_cmp (names_of_body directory.body) c.second.name n) =
-    named_is t dir directory c.second.name n x.0 in
-    let tree : IsTree c.state.room (changed t (AddName dir c.second.name n)) =
-    subst (IsTree c.state.room) (sym u) (added_is_tree c.state.room t t dir directory c.second.name n target is.state.tree adds) in
-    let types : KeepsTypes t (changed t (AddName dir c.second.name n)) =
-    subst (KeepsTypes t) (sym u) (added_keeps_types c.state.room t t dir directory c.second.name n target is.state.tree adds) in
-    record { tree = tree; types = types; process = process_moves t (changed t (AddName dir c.second.name n)) types c.process is.process }
+    let u : changed t (AddName dir_ino c.second.name n) ≡ renamed t dir_ino directory (with_entry name_cmp (names_of_body directory.body) c.second.name n) =
+    named_is t dir_ino directory c.second.name n x.0 in
+    let tree : IsTree c.state.room (changed t (AddName dir_ino c.second.name n)) =
+    subst (IsTree c.state.room) (sym u) (added_is_tree c.state.room t t dir_ino directory c.second.name n target is.state.tree adds) in
+    let types : KeepsTypes t (changed t (AddName dir_ino c.second.name n)) =
+    subst (KeepsTypes t) (sym u) (added_keeps_types c.state.room t t dir_ino directory c.second.name n target is.state.tree adds) in
+    record { tree = tree; types = types; process = process_moves t (changed t (AddName dir_ino c.second.name n)) types c.process is.process }

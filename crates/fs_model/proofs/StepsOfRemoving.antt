@@ -11,7 +11,7 @@ use Rattle.fs_model.specs.Processes.{is_in_use}
 use Rattle.fs_model.specs.TreeChanges.{Change, TakeName, with_names_at, changed}
 use Rattle.fs_model.specs.Parts.{is_empty}
 use Rattle.fs_model.specs.declared.walk.Form.TheVariants.{Parent}
-use Rattle.fs_model.specs.Scenes.{Scene, is_found, is_special, number, node_found, body_found, dir_node, is_directory_found, has_names, ends_top, ends_dot, ends_dot_dot}
+use Rattle.fs_model.specs.Scenes.{Scene, is_found, is_special, found_ino, node_found, body_found, dir_node, is_directory_found, has_names, ends_top, ends_dot, ends_dot_dot}
 use Rattle.fs_model.specs.NameCalls.{unlink_demands, rmdir_demands}
 use Rattle.fs_model.proofs.StepsDemands.{AreMet, unrefused, and_false}
 use Rattle.fs_layout.proofs.NameMaps.{once_if}
@@ -33,7 +33,7 @@ empty_if [] h = refl
 empty_if (x ∷ xs) h = absurd cc
 
 -- the node that was found is a directory, where one stands there
-pub found_directory : (c : Scene) → IsScene c → is_found c.first ≡ true → IsDirectoryAt c.state.tree (number c.first)
+pub found_directory : (c : Scene) → IsScene c → is_found c.first ≡ true → IsDirectoryAt c.state.tree (found_ino c.first)
     → is_directory (body_found c c.first) ≡ true
 found_directory c is found d =
     let at = first_at c is found in
@@ -56,19 +56,19 @@ module _ (c : Scene) (is : IsScene c) (pid : ℕ) (here : get nat_cmp c.state.pr
 
   -- ---- unlink and rmdir
 
-  taken_leaves : IsNameAt c.state.room c.state.tree c.first.dir c.first.name c.first.ino → is_found c.first ≡ true
-      → (IsDirectoryAt c.state.tree (number c.first) → names_at c.state.tree (number c.first) ≡ [])
-      → (IsDirectoryAt c.state.tree (number c.first) → is_in_use c.state.processes (number c.first) ≡ false)
-      → MayBeLeft c.state.room (changed c.state.tree (TakeName c.first.dir c.first.name)) (with_entry nat_cmp c.state.processes pid c.process)
+  taken_leaves : IsNameAt c.state.room c.state.tree c.first.dir_ino c.first.name c.first.ino → is_found c.first ≡ true
+      → (IsDirectoryAt c.state.tree (found_ino c.first) → names_at c.state.tree (found_ino c.first) ≡ [])
+      → (IsDirectoryAt c.state.tree (found_ino c.first) → is_in_use c.state.processes (found_ino c.first) ≡ false)
+      → MayBeLeft c.state.room (changed c.state.tree (TakeName c.first.dir_ino c.first.name)) (with_entry nat_cmp c.state.processes pid c.process)
   taken_leaves name found empty unused =
       let t = c.state.tree in
-      let x = dir_is_there t c.first.dir c.first.name c.first.ino name in
+      let x = dir_is_there t c.first.dir_ino c.first.name c.first.ino name in
       let directory = dir_node c c.first in
-      let u : changed t (TakeName c.first.dir c.first.name) ≡ renamed t c.first.dir directory (without name_cmp (names_of_body directory.body) c.first.name) =
-      ap (with_names_at t c.first.dir (λ names. without name_cmp names c.first.name)) x.0 in
-      loses_leaves (TakeName c.first.dir c.first.name) (once_if (number c.first))
-      (subst (λ w. LosesNames c.state.room t w c.state.processes (once_if (number c.first))) (sym u)
-      (takes_loses c.state.room t c.state.processes c.first.dir directory c.first.name (number c.first) is.state.tree (record {
+      let u : changed t (TakeName c.first.dir_ino c.first.name) ≡ renamed t c.first.dir_ino directory (without name_cmp (names_of_body directory.body) c.first.name) =
+      ap (with_names_at t c.first.dir_ino (λ names. without name_cmp names c.first.name)) x.0 in
+      loses_leaves (TakeName c.first.dir_ino c.first.name) (once_if (found_ino c.first))
+      (subst (λ w. LosesNames c.state.room t w c.state.processes (once_if (found_ino c.first))) (sym u)
+      (takes_loses c.state.room t c.state.processes c.first.dir_ino directory c.first.name (found_ino c.first) is.state.tree (record {
         stands = x.0;
         is_dir = x.1;
         leads = x.2 ∙ found_number c.first.ino found;
@@ -77,7 +77,7 @@ module _ (c : Scene) (is : IsScene c) (pid : ℕ) (here : get nat_cmp c.state.pr
       })))
 
   pub unlink_leaves : IsWalked c.state.room c.state.tree Parent c.first → AreMet (unlink_demands c)
-      → MayBeLeft c.state.room (changed c.state.tree (TakeName c.first.dir c.first.name)) (with_entry nat_cmp c.state.processes pid c.process)
+      → MayBeLeft c.state.room (changed c.state.tree (TakeName c.first.dir_ino c.first.name)) (with_entry nat_cmp c.state.processes pid c.process)
   unlink_leaves walked met =
       let special : is_special c.first ≡ false = unrefused EISDIR (is_special c.first) met.0 in
       let found = is_found_if c.first met.1.0 in
@@ -87,13 +87,13 @@ module _ (c : Scene) (is : IsScene c) (pid : ℕ) (here : get nat_cmp c.state.pr
       (λ d. absurd (let yes = found_directory c is found d in cc))
 
   pub rmdir_leaves : IsWalked c.state.room c.state.tree Parent c.first → AreMet (rmdir_demands c)
-      → MayBeLeft c.state.room (changed c.state.tree (TakeName c.first.dir c.first.name)) (with_entry nat_cmp c.state.processes pid c.process)
+      → MayBeLeft c.state.room (changed c.state.tree (TakeName c.first.dir_ino c.first.name)) (with_entry nat_cmp c.state.processes pid c.process)
   rmdir_leaves walked met =
       let top : ends_top c.first ≡ false = unrefused EBUSY (ends_top c.first) met.0 in
       let dot : ends_dot c.first ≡ false = unrefused EINVAL (ends_dot c.first) met.1.0 in
       let dots : ends_dot_dot c.first ≡ false = unrefused ENOTEMPTY (ends_dot_dot c.first) met.1.1.0 in
       let found = is_found_if c.first met.1.1.1.0 in
-      let used : is_in_use c.state.processes (number c.first) ≡ false = unrefused EBUSY (is_in_use c.state.processes (number c.first)) met.1.1.1.1.1.1.1.1.0 in
+      let used : is_in_use c.state.processes (found_ino c.first) ≡ false = unrefused EBUSY (is_in_use c.state.processes (found_ino c.first)) met.1.1.1.1.1.1.1.1.0 in
       let has : has_names c c.first ≡ false = unrefused ENOTEMPTY (has_names c c.first) met.1.1.1.1.1.1.1.1.1.0 in
       taken_leaves (walked.old refl (or_from (ends_top c.first || ends_dot c.first) (ends_dot_dot c.first) (or_from (ends_top c.first) (ends_dot c.first) top dot) dots)) found
       (λ d. ap names_or (first_at c is found) ∙ empty_if (names_of_body (body_found c c.first)) has)

@@ -16,7 +16,7 @@ use Rattle.fs_model.specs.Processes.{is_in_use}
 use Rattle.fs_model.specs.TreeChanges.{MoveName, changed}
 use Rattle.fs_model.specs.declared.walk.Form.TheVariants.{Parent}
 use Rattle.fs_model.specs.Demands.{only_if}
-use Rattle.fs_model.specs.Scenes.{Scene, is_found, is_special, number, node_found, body_found, dir_node, is_directory_found, has_names, ends_top, ends_dot, ends_dot_dot, no_blocks, no_names}
+use Rattle.fs_model.specs.Scenes.{Scene, is_found, is_special, found_ino, node_found, body_found, dir_node, is_directory_found, has_names, ends_top, ends_dot, ends_dot_dot, no_blocks, no_names}
 use Rattle.fs_model.specs.RenameCall.{is_same, moves, rename_name_demands, rename_permissions, rename_kinds, rename_directories, rename_moved, rename_space, rename_demands}
 use Rattle.fs_model.proofs.StepsDemands.{AreMet, unrefused, and_false, met_left, met_right}
 use Rattle.fs_layout.proofs.NameMaps.{lost_of}
@@ -79,31 +79,31 @@ differ : (x y : ℕ) → x ≢ y → (x == y) ≡ false
 differ x y ne = grind (arith, nat_tests)
 
 module _ (c : Scene) (is : IsScene c) (asks : IsRenamed c) (same : is_same c ≡ false) where
-  second_number : (m : ℕ) → c.second.ino ≡ Some m → number c.second ≡ m
+  second_number : (m : ℕ) → c.second.ino ≡ Some m → found_ino c.second ≡ m
   second_number m e = ap (λ o. unwrap_or o 0) e
 
   second_found : (m : ℕ) → c.second.ino ≡ Some m → is_found c.second ≡ true
   second_found m e = ap is_some e
 
-  second_at : (m : ℕ) → c.second.ino ≡ Some m → node_at c.state.tree (number c.second) ≡ Some (node_found c c.second)
+  second_at : (m : ℕ) → c.second.ino ≡ Some m → node_at c.state.tree (found_ino c.second) ≡ Some (node_found c c.second)
   second_at m e =
-      let it : c.second.ino ≡ Some (number c.second) = found_number c.second.ino (second_found m e) in
-      node_is_there c.state.tree (number c.second) (is.second (number c.second) it)
+      let it : c.second.ino ≡ Some (found_ino c.second) = found_number c.second.ino (second_found m e) in
+      node_is_there c.state.tree (found_ino c.second) (is.second (found_ino c.second) it)
 
-  pub others : (m : ℕ) → c.second.ino ≡ Some m → m ≢ number c.first
+  pub others : (m : ℕ) → c.second.ino ≡ Some m → m ≢ found_ino c.first
   others m e same_one =
       let both : (is_found c.first && is_found c.second) ≡ true = (let f = asks.found in let s = second_found m e in ap (λ b. b && is_found c.second) f ∙ s) in
-      let apart : (number c.first == number c.second) ≡ false = and_false (is_found c.first && is_found c.second) (number c.first == number c.second) same both in
-      differs (number c.first) (number c.second) apart (sym same_one ∙ sym (second_number m e))
+      let apart : (found_ino c.first == found_ino c.second) ≡ false = and_false (is_found c.first && is_found c.second) (found_ino c.first == found_ino c.second) same both in
+      differs (found_ino c.first) (found_ino c.second) apart (sym same_one ∙ sym (second_number m e))
 
-  pub space_met : c.second.ino ≡ None → c.first.dir ≢ c.second.dir → AreMet (no_blocks c ∷ no_names c c.second ∷ [])
+  pub space_met : c.second.ino ≡ None → c.first.dir_ino ≢ c.second.dir_ino → AreMet (no_blocks c ∷ no_names c c.second ∷ [])
   space_met none ne =
       let new : not (is_found c.second) ≡ true = ap (λ o. not (is_some o)) none in
-      let goes : moves c ≡ true = ap not (differ c.first.dir c.second.dir ne) in
+      let goes : moves c ≡ true = ap not (differ c.first.dir_ino c.second.dir_ino ne) in
       let both : (not (is_found c.second) && moves c) ≡ true = ap (λ b. b && moves c) new ∙ goes in
       subst (λ b. AreMet (only_if b (no_blocks c ∷ no_names c c.second ∷ []))) both asks.space
 
-  pub has_room : c.second.ino ≡ None → c.first.dir ≢ c.second.dir → length (names_of_body (dir_node c c.second).body) < c.state.room.entries_limit
+  pub has_room : c.second.ino ≡ None → c.first.dir_ino ≢ c.second.dir_ino → length (names_of_body (dir_node c c.second).body) < c.state.room.entries_limit
   has_room none ne =
       let full : nat_le c.state.room.entries_limit (length (names_of_body (dir_node c c.second).body)) ≡ false = unrefused ENOSPC _ (space_met none ne).1.0 in
       grind (arith, nat_tests)
@@ -122,21 +122,21 @@ module _ (c : Scene) (is : IsScene c) (asks : IsRenamed c) (same : is_same c ≡
       let directory : is_directory (body_found c c.second) ≡ true = ap (λ v. is_directory v.body) (sym node) ∙ d.directory in
       let both : is_directory_found c c.second ≡ true = ap (λ b. b && is_directory (body_found c c.second)) (second_found m e) ∙ directory in
       ap (is_in_use c.state.processes) (sym (second_number m e))
-      ∙ and_false (is_directory_found c c.second) (is_in_use c.state.processes (number c.second))
-      (unrefused EBUSY (is_directory_found c c.second && is_in_use c.state.processes (number c.second)) asks.directories.1.0) both
+      ∙ and_false (is_directory_found c c.second) (is_in_use c.state.processes (found_ino c.second))
+      (unrefused EBUSY (is_directory_found c c.second && is_in_use c.state.processes (found_ino c.second)) asks.directories.1.0) both
 
-  pub outside : IsDirectoryAt c.state.tree (number c.first) → is_within (length c.state.tree) c.state.tree (number c.first) c.second.dir ≡ false
+  pub outside : IsDirectoryAt c.state.tree (found_ino c.first) → is_within (length c.state.tree) c.state.tree (found_ino c.first) c.second.dir_ino ≡ false
   outside d =
       let directory = found_directory c is asks.found d in
       let both : is_directory_found c c.first ≡ true = ap (λ b. b && is_directory (body_found c c.first)) asks.found ∙ directory in
-      and_false (is_directory_found c c.first) (is_within (length c.state.tree) c.state.tree (number c.first) c.second.dir)
-      (unrefused EINVAL (is_directory_found c c.first && is_within (length c.state.tree) c.state.tree (number c.first) c.second.dir) asks.directories.0) both
+      and_false (is_directory_found c c.first) (is_within (length c.state.tree) c.state.tree (found_ino c.first) c.second.dir_ino)
+      (unrefused EINVAL (is_directory_found c c.first && is_within (length c.state.tree) c.state.tree (found_ino c.first) c.second.dir_ino) asks.directories.0) both
 
-  moves_name : IsNameAt c.state.room c.state.tree c.first.dir c.first.name c.first.ino → IsNameAt c.state.room c.state.tree c.second.dir c.second.name c.second.ino
-      → MovesName c.state.room c.state.tree c.state.processes c.first.dir (dir_node c c.first) c.first.name (number c.first) c.second.dir (dir_node c c.second) c.second.name c.second.ino
+  moves_name : IsNameAt c.state.room c.state.tree c.first.dir_ino c.first.name c.first.ino → IsNameAt c.state.room c.state.tree c.second.dir_ino c.second.name c.second.ino
+      → MovesName c.state.room c.state.tree c.state.processes c.first.dir_ino (dir_node c c.first) c.first.name (found_ino c.first) c.second.dir_ino (dir_node c c.second) c.second.name c.second.ino
   moves_name from to =
-      let x = dir_is_there c.state.tree c.first.dir c.first.name c.first.ino from in
-      let y = dir_is_there c.state.tree c.second.dir c.second.name c.second.ino to in
+      let x = dir_is_there c.state.tree c.first.dir_ino c.first.name c.first.ino from in
+      let y = dir_is_there c.state.tree c.second.dir_ino c.second.name c.second.ino to in
       record {
         stands = x.0;
         is_dir = x.1;
@@ -152,24 +152,24 @@ module _ (c : Scene) (is : IsScene c) (asks : IsRenamed c) (same : is_same c ≡
         empty = λ m e d. replaced_empty m e;
         unused = replaced_unused;
         outside = λ d.
-            is_outside c.state.room c.state.tree (number c.first) c.second.dir is.state.tree
+            is_outside c.state.room c.state.tree (found_ino c.first) c.second.dir_ino is.state.tree
             (record { node = dir_node c c.second; is_there = y.0; directory = y.1 }) (outside d);
       }
 
   rename_loses : IsWalked c.state.room c.state.tree Parent c.first → IsWalked c.state.room c.state.tree Parent c.second
-      → LosesNames c.state.room c.state.tree (changed c.state.tree (MoveName c.first.dir c.first.name c.second.dir c.second.name)) c.state.processes (lost_of c.second.ino)
+      → LosesNames c.state.room c.state.tree (changed c.state.tree (MoveName c.first.dir_ino c.first.name c.second.dir_ino c.second.name)) c.state.processes (lost_of c.second.ino)
   rename_loses from to =
       let a = from.old refl asks.first in
       let b = to.old refl asks.second in
       subst (λ u. LosesNames c.state.room c.state.tree u c.state.processes (lost_of c.second.ino))
-      (sym (moved_is c.state.room c.state.tree c.state.processes c.first.dir (dir_node c c.first) c.first.name (number c.first) c.second.dir (dir_node c c.second)
+      (sym (moved_is c.state.room c.state.tree c.state.processes c.first.dir_ino (dir_node c c.first) c.first.name (found_ino c.first) c.second.dir_ino (dir_node c c.second)
       c.second.name c.second.ino is.state.tree (moves_name a b)))
-      (moves_loses c.state.room c.state.tree c.state.processes c.first.dir (dir_node c c.first) c.first.name (number c.first) c.second.dir (dir_node c c.second)
+      (moves_loses c.state.room c.state.tree c.state.processes c.first.dir_ino (dir_node c c.first) c.first.name (found_ino c.first) c.second.dir_ino (dir_node c c.second)
       c.second.name c.second.ino is.state.tree (moves_name a b))
 
 pub rename_leaves : (c : Scene) (is : IsScene c) (pid : ℕ) → get nat_cmp c.state.processes pid ≡ Some c.process
     → IsWalked c.state.room c.state.tree Parent c.first → IsWalked c.state.room c.state.tree Parent c.second → AreMet (rename_demands c) → is_same c ≡ false
-    → MayBeLeft c.state.room (changed c.state.tree (MoveName c.first.dir c.first.name c.second.dir c.second.name)) (with_entry nat_cmp c.state.processes pid c.process)
+    → MayBeLeft c.state.room (changed c.state.tree (MoveName c.first.dir_ino c.first.name c.second.dir_ino c.second.name)) (with_entry nat_cmp c.state.processes pid c.process)
 rename_leaves c is pid here from to met same =
-    loses_leaves c is pid here (MoveName c.first.dir c.first.name c.second.dir c.second.name) (lost_of c.second.ino)
+    loses_leaves c is pid here (MoveName c.first.dir_ino c.first.name c.second.dir_ino c.second.name) (lost_of c.second.ino)
     (rename_loses c is (rename_asks c met same) same from to)

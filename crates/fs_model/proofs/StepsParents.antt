@@ -117,7 +117,7 @@ directory_if t k x some = go (node_at t k) refl some
 
 once_named : (room : Room) (n : ℕ) (b : Body) (names : ℕ) → IsTrue (is_directory b) → n ≢ root → NamesFit room n b names → names ≡ 1
 once_named room n (File a bytes) names d ne fits = absurd cc
-once_named room n (Dir a dir) names d ne fits = let other : (n == root) ≡ false = grind (arith, nat_tests) in fits ∙ ap (λ q. cond q 0 1) other
+once_named room n (Dir a dir_ino) names d ne fits = let other : (n == root) ≡ false = grind (arith, nat_tests) in fits ∙ ap (λ q. cond q 0 1) other
 once_named room n (Link target) names d ne fits = absurd cc
 
 module _ (room : Room) (t : Tree) (is : IsTree room t) where

@@ -43,10 +43,10 @@ same_is n = grind (arith, nat_tests)
 -- ---- what is open or in use
 
 open_by : (processes : ProcessTable) (pid : ℕ) (p : Process) (fd : ℕ) (d : Descriptor) → get nat_cmp processes pid ≡ Some p
-    → get nat_cmp p.descriptors fd ≡ Some d → is_open processes d.number ≡ true
+    → get nat_cmp p.descriptors fd ≡ Some d → is_open processes d.ino ≡ true
 open_by processes pid p fd d here there =
-    any_entry (λ q. list_any (λ e. e.1.number == d.number) q.1.descriptors) processes pid p here
-    (any_entry (λ e. e.1.number == d.number) p.descriptors fd d there (same_is d.number))
+    any_entry (λ q. list_any (λ e. e.1.ino == d.ino) q.1.descriptors) processes pid p here
+    (any_entry (λ e. e.1.ino == d.ino) p.descriptors fd d there (same_is d.ino))
 
 used_if_open : (processes : ProcessTable) (n : ℕ) → is_open processes n ≡ true → is_in_use processes n ≡ true
 used_if_open processes n h = or_right (n == root || list_any (λ q. starts_at n q.1) processes) (is_open processes n) h
@@ -90,12 +90,12 @@ module _ (room : Room) (u : Tree) (processes : ProcessTable) (h : MayBeLeft room
   open_stays n node (Dir a d) is at opened no_link = h.used n node at (ap is_directory is) (used_if_open processes n opened)
   open_stays n node (Link target) is at opened no_link = absurd cc
 
-  descriptor_stays : (fd : ℕ) (d : Descriptor) → IsDescriptor u fd d → is_open processes d.number ≡ true → IsDescriptor (swept u processes) fd d
+  descriptor_stays : (fd : ℕ) (d : Descriptor) → IsDescriptor u fd d → is_open processes d.ino ≡ true → IsDescriptor (swept u processes) fd d
   descriptor_stays fd d x opened = record {
     below = x.below;
     offset = x.offset;
     node = x.node;
-    is_there = stays_there d.number x.node x.is_there (open_stays d.number x.node x.node.body refl x.is_there opened x.no_link);
+    is_there = stays_there d.ino x.node x.is_there (open_stays d.ino x.node x.node.body refl x.is_there opened x.no_link);
     no_link = x.no_link;
     no_writes = x.no_writes;
   }
@@ -154,7 +154,7 @@ directory_lives : (room : Room) (processes : ProcessTable) (n : ℕ) (b : Body) 
     → (not (names == 0) || lives_nameless processes n b) ≡ true
 directory_lives room processes n (File a bytes) names fits d = absurd cc
 directory_lives room processes n (Link target) names fits d = absurd cc
-directory_lives room processes n (Dir a dir) names fits d = elim (cases_eq n root) [
+directory_lives room processes n (Dir a dir_ino) names fits d = elim (cases_eq n root) [
   | inl e ↦ or_right (not (names == 0)) (n == root) (let k : (n == root) ≡ true = grind (arith, nat_tests) in k)
   | inr ne ↦
       let other : (n == root) ≡ false = grind (arith, nat_tests) in

@@ -44,39 +44,39 @@ names_move room t u names still are = record {
 }
 
 -- a name that leads to m is taken
-pub record TakesName (t : Tree) (processes : ProcessTable) (dir : ℕ) (directory : Node) (name : List ℕ) (m : ℕ) : Type 0 where
-  pub stands : node_at t dir ≡ Some directory
+pub record TakesName (t : Tree) (processes : ProcessTable) (dir_ino : ℕ) (directory : Node) (name : List ℕ) (m : ℕ) : Type 0 where
+  pub stands : node_at t dir_ino ≡ Some directory
   pub is_dir : IsTrue (is_directory directory.body)
   pub leads : get name_cmp (names_of_body directory.body) name ≡ Some m
   pub empty : IsDirectoryAt t m → names_at t m ≡ []
   pub unused : IsDirectoryAt t m → is_in_use processes m ≡ false
 
-module _ (room : Room) (t : Tree) (processes : ProcessTable) (dir : ℕ) (directory : Node) (name : List ℕ) (m : ℕ) (is : IsTree room t) (takes : TakesName t processes dir directory name m) where
+module _ (room : Room) (t : Tree) (processes : ProcessTable) (dir_ino : ℕ) (directory : Node) (name : List ℕ) (m : ℕ) (is : IsTree room t) (takes : TakesName t processes dir_ino directory name m) where
   abbrev new : Names
   new = without name_cmp (names_of_body directory.body) name
 
   abbrev u : Tree
-  u = renamed t dir directory (without name_cmp (names_of_body directory.body) name)
+  u = renamed t dir_ino directory (without name_cmp (names_of_body directory.body) name)
 
   were : AreNames room t (names_of_body directory.body)
-  were = are_names room t directory.body (is.each dir directory takes.stands).body
+  were = are_names room t directory.body (is.each dir_ino directory takes.stands).body
 
   pub fewer : (x : ℕ) → leading x new + once_if m x ≡ leading x (names_of_body directory.body)
   fewer x = leading-without_name (names_of_body directory.body) name m x were.rising takes.leads
 
   pub count : (x : ℕ) → names_of u x + once_if m x ≡ names_of t x
   count x =
-      let all = names_of-renamed t dir directory new takes.is_dir is.numbers takes.stands x in
+      let all = names_of-renamed t dir_ino directory new takes.is_dir is.numbers takes.stands x in
       let one = fewer x in
       omega (arith, all, one)
 
   there : (n : ℕ) → IsThere t n → IsThere u n
-  there n h = still_there t dir (renamed_node directory new) n h
+  there n h = still_there t dir_ino (renamed_node directory new) n h
 
   stood : (n : ℕ) (node : Node) → node_at u n ≡ Some node → Stood room t u n node
-  stood n node at = elim (cases_eq n dir) [
+  stood n node at = elim (cases_eq n dir_ino) [
     | inl e ↦
-        let here : node_at u n ≡ Some (renamed_node directory new) = ap (node_at u) e ∙ at_it t dir (renamed_node directory new) in
+        let here : node_at u n ≡ Some (renamed_node directory new) = ap (node_at u) e ∙ at_it t dir_ino (renamed_node directory new) in
         let same : renamed_node directory new ≡ node = cc in
         subst (Stood room t u n) same (record {
           old = directory;
@@ -88,10 +88,10 @@ module _ (room : Room) (t : Tree) (processes : ProcessTable) (dir : ℕ) (direct
           body =
               body_renamed room t u directory.body new takes.is_dir
               (names_move room t u new there (are_names_without room t (names_of_body directory.body) name m were takes.leads))
-              (is.each dir directory takes.stands).body;
+              (is.each dir_ino directory takes.stands).body;
         })
     | inr ne ↦
-        let was : node_at t n ≡ Some node = sym (at_others t dir (renamed_node directory new) n ne) ∙ at in
+        let was : node_at t n ≡ Some node = sym (at_others t dir_ino (renamed_node directory new) n ne) ∙ at in
         record {
           old = node;
           was = was;
@@ -108,7 +108,7 @@ module _ (room : Room) (t : Tree) (processes : ProcessTable) (dir : ℕ) (direct
   names_nothing x d some = (let none : leading x (names_at t m) ≡ 0 = ap (leading x) (takes.empty d) in omega (arith, none, some))
 
   -- and is not the directory
-  pub not_dir : IsDirectoryAt t m → m ≢ dir
+  pub not_dir : IsDirectoryAt t m → m ≢ dir_ino
   not_dir d e =
       let names : names_at t m ≡ names_of_body directory.body = ap (names_at t) e ∙ ap names_or takes.stands in
       let none : names_of_body directory.body ≡ [] = sym names ∙ takes.empty d in
@@ -117,9 +117,9 @@ module _ (room : Room) (t : Tree) (processes : ProcessTable) (dir : ℕ) (direct
       cc
 
   names_kept : (x k : ℕ) → once_if m x ≡ 0 → 1 ≤ leading x (names_at t k) → 1 ≤ leading x (names_at u k)
-  names_kept x k none some = elim (cases_eq k dir) [
-    | inl e ↦ leading_stays t dir directory new takes.is_dir t x k e takes.stands (λ some. let one = fewer x in omega (arith, one, some, none)) some
-    | inr ne ↦ subst (λ q. 1 ≤ leading x q) (sym (names_elsewhere t dir directory new takes.is_dir k ne)) some
+  names_kept x k none some = elim (cases_eq k dir_ino) [
+    | inl e ↦ leading_stays t dir_ino directory new takes.is_dir t x k e takes.stands (λ some. let one = fewer x in omega (arith, one, some, none)) some
+    | inr ne ↦ subst (λ q. 1 ≤ leading x q) (sym (names_elsewhere t dir_ino directory new takes.is_dir k ne)) some
   ]
 
   abbrev Stays : ℕ → Type 0
@@ -143,15 +143,15 @@ module _ (room : Room) (t : Tree) (processes : ProcessTable) (dir : ℕ) (direct
 
   pub takes_loses : LosesNames room t u processes (once_if m)
   takes_loses = record {
-    numbers = with_entry-IsMap t dir (renamed_node directory new) is.numbers;
-    types = renamed_keeps_types t dir directory new takes.stands;
+    numbers = with_entry-IsMap t dir_ino (renamed_node directory new) is.numbers;
+    types = renamed_keeps_types t dir_ino directory new takes.stands;
     each = stood;
     counts = count;
     not_root = λ n some e. (were.each name m takes.leads).leads.0 (sym (once_is m n some) ∙ e);
     empty = λ n d some.
         let here = once_is m n some in
         let at_m : IsDirectoryAt t m = subst (IsDirectoryAt t) here d in
-        ap (names_at u) here ∙ names_elsewhere t dir directory new takes.is_dir m (not_dir at_m) ∙ takes.empty at_m;
+        ap (names_at u) here ∙ names_elsewhere t dir_ino directory new takes.is_dir m (not_dir at_m) ∙ takes.empty at_m;
     unused = λ n d some.
         let here = once_is m n some in
         ap (is_in_use processes) here ∙ takes.unused (subst (IsDirectoryAt t) here d);

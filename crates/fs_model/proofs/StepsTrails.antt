@@ -30,59 +30,59 @@ pub unrefused_walk : (cred : Credential) (t : Tree) (walk k : ℕ) (lookups : Li
 unrefused_walk cred t walk k [] h = tt
 unrefused_walk cred t walk k (l ∷ lookups) h =
     let here = first_met (lookup_refusal cred t walk k l) (least_refusal cred t walk (k + 1) lookups) h in (
-      no_fault l.fault (then_met (search_on cred t l.dir walk k) (failed_with l.fault) here),
+      no_fault l.fault (then_met (search_on cred t l.dir_ino walk k) (failed_with l.fault) here),
       unrefused_walk cred t walk (k + 1) lookups (then_met (lookup_refusal cred t walk k l) (least_refusal cred t walk (k + 1) lookups) h),
     )
 
 -- ---- one lookup
 
 -- the name was looked up in a directory, and led to this
-pub record WasLookedUp (room : Room) (t : Tree) (dir : ℕ) (name : List ℕ) (o : Option ℕ) : Type 0 where
+pub record WasLookedUp (room : Room) (t : Tree) (dir_ino : ℕ) (name : List ℕ) (o : Option ℕ) : Type 0 where
   pub node : Node
-  pub stands : node_at t dir ≡ Some node
+  pub stands : node_at t dir_ino ≡ Some node
   pub directory : IsTrue (is_directory node.body)
   pub short : length name ≤ room.name_limit
-  pub leads : named_inode t dir (names_of_body node.body) name ≡ o
+  pub leads : named_inode t dir_ino (names_of_body node.body) name ≡ o
 
 module _ (room : Room) (t : Tree) (is : IsTree room t) (follow : Bool) where
   abbrev LooksUp : Bool → ℕ → List ℕ → Outcome → Type 0
-  LooksUp is_last dir name (Faulty e) = Unit {0}
-  LooksUp is_last dir name Absent = WasLookedUp room t dir name None
-  LooksUp is_last dir name (Reaches n) = WasLookedUp room t dir name (Some n)
-  LooksUp is_last dir name (Through target) = (n : ℕ) × WasLookedUp room t dir name (Some n) × IsTarget target × ((follow || not is_last) ≡ true)
+  LooksUp is_last dir_ino name (Faulty e) = Unit {0}
+  LooksUp is_last dir_ino name Absent = WasLookedUp room t dir_ino name None
+  LooksUp is_last dir_ino name (Reaches n) = WasLookedUp room t dir_ino name (Some n)
+  LooksUp is_last dir_ino name (Through target) = (n : ℕ) × WasLookedUp room t dir_ino name (Some n) × IsTarget target × ((follow || not is_last) ≡ true)
 
-  reaches_body : (is_last goes : Bool) (dir : ℕ) (name : List ℕ) (n : ℕ) (b : Body) → goes ≡ (follow || not is_last) → IsBody room t b
-      → WasLookedUp room t dir name (Some n) → LooksUp is_last dir name (reached_body goes n b)
-  reaches_body is_last true dir name n (File a bytes) e body was = was
-  reaches_body is_last true dir name n (Dir a d) e body was = was
-  reaches_body is_last true dir name n (Link target) e body was = (n, was, body, sym e)
-  reaches_body is_last false dir name n (File a bytes) e body was = was
-  reaches_body is_last false dir name n (Dir a d) e body was = was
-  reaches_body is_last false dir name n (Link target) e body was = was
+  reaches_body : (is_last goes : Bool) (dir_ino : ℕ) (name : List ℕ) (n : ℕ) (b : Body) → goes ≡ (follow || not is_last) → IsBody room t b
+      → WasLookedUp room t dir_ino name (Some n) → LooksUp is_last dir_ino name (reached_body goes n b)
+  reaches_body is_last true dir_ino name n (File a bytes) e body was = was
+  reaches_body is_last true dir_ino name n (Dir a d) e body was = was
+  reaches_body is_last true dir_ino name n (Link target) e body was = (n, was, body, sym e)
+  reaches_body is_last false dir_ino name n (File a bytes) e body was = was
+  reaches_body is_last false dir_ino name n (Dir a d) e body was = was
+  reaches_body is_last false dir_ino name n (Link target) e body was = was
 
-  reaches_node : (is_last : Bool) (dir : ℕ) (name : List ℕ) (n : ℕ) (o : Option Node) → node_at t n ≡ o
-      → WasLookedUp room t dir name (Some n) → LooksUp is_last dir name (reached (follow || not is_last) n o)
-  reaches_node is_last dir name n None at was = was
-  reaches_node is_last dir name n (Some node) at was =
-      reaches_body is_last (follow || not is_last) dir name n node.body refl (is.each n node at).body was
+  reaches_node : (is_last : Bool) (dir_ino : ℕ) (name : List ℕ) (n : ℕ) (o : Option Node) → node_at t n ≡ o
+      → WasLookedUp room t dir_ino name (Some n) → LooksUp is_last dir_ino name (reached (follow || not is_last) n o)
+  reaches_node is_last dir_ino name n None at was = was
+  reaches_node is_last dir_ino name n (Some node) at was =
+      reaches_body is_last (follow || not is_last) dir_ino name n node.body refl (is.each n node at).body was
 
-  arrives : (is_last : Bool) (dir : ℕ) (name : List ℕ) (o : Option ℕ) → WasLookedUp room t dir name o
-      → LooksUp is_last dir name (arrival t is_last follow o)
-  arrives true dir name None was = was
-  arrives false dir name None was = tt
-  arrives is_last dir name (Some n) was = reaches_node is_last dir name n (node_at t n) refl was
+  arrives : (is_last : Bool) (dir_ino : ℕ) (name : List ℕ) (o : Option ℕ) → WasLookedUp room t dir_ino name o
+      → LooksUp is_last dir_ino name (arrival t is_last follow o)
+  arrives true dir_ino name None was = was
+  arrives false dir_ino name None was = tt
+  arrives is_last dir_ino name (Some n) was = reaches_node is_last dir_ino name n (node_at t n) refl was
 
-  looks_up : (is_last : Bool) (dir : ℕ) (name : List ℕ) (o : Option Node) → node_at t dir ≡ o
-      → LooksUp is_last dir name (looked_up room t is_last follow dir name o)
-  looks_up is_last dir name None at = tt
-  looks_up is_last dir name (Some node) at = go (is_directory node.body) refl (nat_lt room.name_limit (length name)) refl
+  looks_up : (is_last : Bool) (dir_ino : ℕ) (name : List ℕ) (o : Option Node) → node_at t dir_ino ≡ o
+      → LooksUp is_last dir_ino name (looked_up room t is_last follow dir_ino name o)
+  looks_up is_last dir_ino name None at = tt
+  looks_up is_last dir_ino name (Some node) at = go (is_directory node.body) refl (nat_lt room.name_limit (length name)) refl
     where
       go : (directory : Bool) → is_directory node.body ≡ directory → (long : Bool) → nat_lt room.name_limit (length name) ≡ long
-          → LooksUp is_last dir name (cond (not directory) (Faulty ENOTDIR) (cond long (Faulty ENAMETOOLONG) (arrival t is_last follow (named_inode t dir (names_of_body node.body) name))))
+          → LooksUp is_last dir_ino name (cond (not directory) (Faulty ENOTDIR) (cond long (Faulty ENAMETOOLONG) (arrival t is_last follow (named_inode t dir_ino (names_of_body node.body) name))))
       go false d long l = tt
       go true d true l = tt
       go true d false l =
-          arrives is_last dir name (named_inode t dir (names_of_body node.body) name)
+          arrives is_last dir_ino name (named_inode t dir_ino (names_of_body node.body) name)
           (record { node = node; stands = at; directory = d; short = grind (arith, nat_tests); leads = refl })
 
   -- ---- the last lookup
@@ -91,7 +91,7 @@ module _ (room : Room) (t : Tree) (is : IsTree room t) (follow : Bool) where
   pub record IsEnd (l : Lookup) (found : Option ℕ) : Type 0 where
     pub name : IsComponent l.name
     pub led : Option ℕ
-    pub was : WasLookedUp room t l.dir l.name led
+    pub was : WasLookedUp room t l.dir_ino l.name led
     pub absent : found ≡ None → led ≡ None
     pub exact : follow ≡ false → led ≡ found
 
@@ -108,28 +108,28 @@ module _ (room : Room) (t : Tree) (is : IsTree room t) (follow : Bool) where
   -- how a trail goes on well: its last lookup is an end, and it looks nothing up where no names remain
   abbrev GoesWell : GoesOn → Type 0
   GoesWell go_on =
-      (dir : ℕ) (names : List (List ℕ)) (slash : Bool) → AreComponents names → HaveNoFault (go_on dir names slash).lookups
-      → EndsIn (go_on dir names slash).lookups (go_on dir names slash).found
+      (dir_ino : ℕ) (names : List (List ℕ)) (slash : Bool) → AreComponents names → HaveNoFault (go_on dir_ino names slash).lookups
+      → EndsIn (go_on dir_ino names slash).lookups (go_on dir_ino names slash).found
 
   abbrev LooksUpAll : GoesOn → Type 0
-  LooksUpAll go_on = (dir : ℕ) (names : List (List ℕ)) (slash : Bool) → is_empty (go_on dir names slash).lookups ≡ is_empty names
+  LooksUpAll go_on = (dir_ino : ℕ) (names : List (List ℕ)) (slash : Bool) → is_empty (go_on dir_ino names slash).lookups ≡ is_empty names
 
   abbrev IfGoes : (GoesOn → Type 0) → Option GoesOn → Type 0
   IfGoes P None = Unit {0}
   IfGoes P (Some go_on) = P go_on
 
-  something : (behind : Option GoesOn) (rest : ℕ → Trail) (dir : ℕ) (name : List ℕ) (names : List (List ℕ)) (slash : Bool) (o : Outcome)
-      → is_empty (onward behind rest dir name names slash o).lookups ≡ false
-  something behind rest dir name names slash (Faulty e) = refl
-  something behind rest dir name names slash Absent = refl
-  something behind rest dir name names slash (Reaches n) = refl
-  something None rest dir name names slash (Through target) = refl
-  something (Some go_on) rest dir name names slash (Through target) = refl
+  something : (behind : Option GoesOn) (rest : ℕ → Trail) (dir_ino : ℕ) (name : List ℕ) (names : List (List ℕ)) (slash : Bool) (o : Outcome)
+      → is_empty (onward behind rest dir_ino name names slash o).lookups ≡ false
+  something behind rest dir_ino name names slash (Faulty e) = refl
+  something behind rest dir_ino name names slash Absent = refl
+  something behind rest dir_ino name names slash (Reaches n) = refl
+  something None rest dir_ino name names slash (Through target) = refl
+  something (Some go_on) rest dir_ino name names slash (Through target) = refl
 
   all_looked_up : (behind : Option GoesOn) → LooksUpAll (lookups_from room t follow behind)
-  all_looked_up behind dir [] slash = refl
-  all_looked_up behind dir (name ∷ names) slash =
-      something behind (λ n. lookups_from room t follow behind n names slash) dir name names slash (looked_up room t (is_empty names) follow dir name (node_at t dir))
+  all_looked_up behind dir_ino [] slash = refl
+  all_looked_up behind dir_ino (name ∷ names) slash =
+      something behind (λ n. lookups_from room t follow behind n names slash) dir_ino name names slash (looked_up room t (is_empty names) follow dir_ino name (node_at t dir_ino))
 
   not_empty_append : (xs ys : List (List ℕ)) → is_empty ys ≡ false → is_empty (xs ++ ys) ≡ false
   not_empty_append [] ys h = h
@@ -140,26 +140,26 @@ module _ (room : Room) (t : Tree) (is : IsTree room t) (follow : Bool) where
   or_not false true h e = absurd cc
   or_not false false h e = refl
 
-  through_ends : (behind : Option GoesOn) (dir : ℕ) (name : List ℕ) (names : List (List ℕ)) (slash : Bool) (target : List ℕ)
+  through_ends : (behind : Option GoesOn) (dir_ino : ℕ) (name : List ℕ) (names : List (List ℕ)) (slash : Bool) (target : List ℕ)
       → IfGoes GoesWell behind → IfGoes LooksUpAll behind → IsComponent name → AreComponents names → IsTarget target
-      → (follow || not (is_empty names)) ≡ true → (o : Option ℕ) → WasLookedUp room t dir name o
-      → HaveNoFault (through_if behind dir name names slash target).lookups
-      → EndsIn (through_if behind dir name names slash target).lookups (through_if behind dir name names slash target).found
-  through_ends None dir name names slash target goes all is_name are is_target followed o was none = absurd (let h = none.0 in cc)
-  through_ends (Some go_on) dir name names slash target goes all is_name are is_target followed o was none =
+      → (follow || not (is_empty names)) ≡ true → (o : Option ℕ) → WasLookedUp room t dir_ino name o
+      → HaveNoFault (through_if behind dir_ino name names slash target).lookups
+      → EndsIn (through_if behind dir_ino name names slash target).lookups (through_if behind dir_ino name names slash target).found
+  through_ends None dir_ino name names slash target goes all is_name are is_target followed o was none = absurd (let h = none.0 in cc)
+  through_ends (Some go_on) dir_ino name names slash target goes all is_name are is_target followed o was none =
       let parts = parts_of target in
-      let from = start_of parts dir in
+      let from = start_of parts dir_ino in
       let ahead = parts.names ++ names in
       let at_end = slash || (is_empty names && parts.slash_at_end) in
       let good = components_append parts.names names (parts_are target (target_bytes target is_target)) are in
       let rest = go_on from ahead at_end in
-      end_after (record { dir = dir; name = name; fault = None }) rest.lookups rest.found
+      end_after (record { dir_ino = dir_ino; name = name; fault = None }) rest.lookups rest.found
       (λ empty. ended rest empty (goes from ahead at_end good none.1) (all from ahead at_end))
       (goes from ahead at_end good none.1)
     where
       -- where nothing is looked up behind the link, it was followed as the last name
       ended : (rest : Trail) → is_empty rest.lookups ≡ true → EndsIn rest.lookups rest.found
-          → is_empty rest.lookups ≡ is_empty ((parts_of target).names ++ names) → IsEnd (record { dir = dir; name = name; fault = None }) rest.found
+          → is_empty rest.lookups ≡ is_empty ((parts_of target).names ++ names) → IsEnd (record { dir_ino = dir_ino; name = name; fault = None }) rest.found
       ended rest empty ends same = record {
         name = is_name;
         led = o;
@@ -175,30 +175,30 @@ module _ (room : Room) (t : Tree) (is : IsTree room t) (follow : Bool) where
           none_found [] found empty there gone = let g : is_some found ≡ false = ap is_some gone in cc
           none_found (l ∷ lookups) found empty there gone = cc
 
-  onward_ends : (behind : Option GoesOn) (rest : ℕ → Trail) (dir : ℕ) (name : List ℕ) (names : List (List ℕ)) (slash : Bool) (o : Outcome)
-      → IfGoes GoesWell behind → IfGoes LooksUpAll behind → IsComponent name → AreComponents names → LooksUp (is_empty names) dir name o
+  onward_ends : (behind : Option GoesOn) (rest : ℕ → Trail) (dir_ino : ℕ) (name : List ℕ) (names : List (List ℕ)) (slash : Bool) (o : Outcome)
+      → IfGoes GoesWell behind → IfGoes LooksUpAll behind → IsComponent name → AreComponents names → LooksUp (is_empty names) dir_ino name o
       → ((n : ℕ) → HaveNoFault (rest n).lookups → EndsIn (rest n).lookups (rest n).found)
       → ((n : ℕ) → is_empty (rest n).lookups ≡ true → (rest n).found ≡ Some n)
-      → HaveNoFault (onward behind rest dir name names slash o).lookups
-      → EndsIn (onward behind rest dir name names slash o).lookups (onward behind rest dir name names slash o).found
-  onward_ends behind rest dir name names slash (Faulty e) goes all is_name are was on last none = absurd (let h = none.0 in cc)
-  onward_ends behind rest dir name names slash Absent goes all is_name are was on last none =
+      → HaveNoFault (onward behind rest dir_ino name names slash o).lookups
+      → EndsIn (onward behind rest dir_ino name names slash o).lookups (onward behind rest dir_ino name names slash o).found
+  onward_ends behind rest dir_ino name names slash (Faulty e) goes all is_name are was on last none = absurd (let h = none.0 in cc)
+  onward_ends behind rest dir_ino name names slash Absent goes all is_name are was on last none =
       record { name = is_name; led = None; was = was; absent = λ e. refl; exact = λ e. refl }
-  onward_ends behind rest dir name names slash (Reaches n) goes all is_name are was on last none =
-      end_after (record { dir = dir; name = name; fault = None }) (rest n).lookups (rest n).found
+  onward_ends behind rest dir_ino name names slash (Reaches n) goes all is_name are was on last none =
+      end_after (record { dir_ino = dir_ino; name = name; fault = None }) (rest n).lookups (rest n).found
       (λ empty.
       let found : (rest n).found ≡ Some n = last n empty in
       record { name = is_name; led = Some n; was = was; absent = λ e. sym found ∙ e; exact = λ e. sym found })
       (on n none.1)
-  onward_ends behind rest dir name names slash (Through target) goes all is_name are was on last none =
-      through_ends behind dir name names slash target goes all is_name are was.2 was.3 (Some was.0) was.1 none
+  onward_ends behind rest dir_ino name names slash (Through target) goes all is_name are was on last none =
+      through_ends behind dir_ino name names slash target goes all is_name are was.2 was.3 (Some was.0) was.1 none
 
   names_end : (behind : Option GoesOn) → IfGoes GoesWell behind → IfGoes LooksUpAll behind → GoesWell (lookups_from room t follow behind)
-  names_end behind goes all dir [] slash are none = refl
-  names_end behind goes all dir (name ∷ names) slash are none =
-      onward_ends behind (λ n. lookups_from room t follow behind n names slash) dir name names slash
-      (looked_up room t (is_empty names) follow dir name (node_at t dir)) goes all are.0 are.1
-      (looks_up (is_empty names) dir name (node_at t dir) refl)
+  names_end behind goes all dir_ino [] slash are none = refl
+  names_end behind goes all dir_ino (name ∷ names) slash are none =
+      onward_ends behind (λ n. lookups_from room t follow behind n names slash) dir_ino name names slash
+      (looked_up room t (is_empty names) follow dir_ino name (node_at t dir_ino)) goes all are.0 are.1
+      (looks_up (is_empty names) dir_ino name (node_at t dir_ino) refl)
       (λ n clean. names_end behind goes all n names slash are.1 clean)
       (λ n empty. found_here names slash n empty)
       none

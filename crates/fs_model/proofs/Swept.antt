@@ -146,7 +146,7 @@ module _ (room : Room) (t : Tree) (processes : ProcessTable) (h : MayBeSwept roo
 
   body-swept : (d : ℕ) (node : Node) → node_at t d ≡ Some node → (b : Body) → node.body ≡ b → IsBody room t b → IsBody room (swept t processes) b
   body-swept d node e (File a bytes) is w = w
-  body-swept d node e (Dir a dir) is w = (
+  body-swept d node e (Dir a dir_ino) is w = (
     w.0,
     w.1,
     record {
@@ -154,9 +154,9 @@ module _ (room : Room) (t : Tree) (processes : ProcessTable) (h : MayBeSwept roo
       few = w.2.few;
       each = λ name n g.
           let old = w.2.each name n g in
-          let here : 1 ≤ names_for n (Dir a dir) = counted dir.names name n g in
+          let here : 1 ≤ names_for n (Dir a dir_ino) = counted dir_ino.names name n g in
           let all : names_for n node.body ≤ names_of t n = among t d node n e in
-          let same : names_for n node.body ≡ names_for n (Dir a dir) = ap (names_for n) is in
+          let same : names_for n node.body ≡ names_for n (Dir a dir_ino) = ap (names_for n) is in
           let some : 1 ≤ names_of t n = omega arith in
           record { is_name = old.is_name; short = old.short; bytes = old.bytes; leads = (old.leads.0, still_there n old.leads.1 some) };
     },
@@ -165,7 +165,7 @@ module _ (room : Room) (t : Tree) (processes : ProcessTable) (h : MayBeSwept roo
 
   root_stays : (b : Body) → IsTrue (is_directory b) → (names_of t root == 0) ≡ true → lives_nameless processes root b ≡ true
   root_stays (File a bytes) d z = absurd (cc)
-  root_stays (Dir a dir) d z = refl
+  root_stays (Dir a dir_ino) d z = refl
   root_stays (Link target) d z = absurd (cc)
 
   stays-root : stays t processes (root, h.root_is_there.node) ≡ true

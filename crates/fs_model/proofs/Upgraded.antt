@@ -136,7 +136,7 @@ module _ (version : Version) (p : Geometry) (image : SectorMap) where
     apart = h.apart;
     each = λ k d lt.
         let fits = h.each k d lt in
-        record { inode = fits.inode; name = fits.name; short = subst (λ n. length (get_or h.slots k d).name ≤ n) same.name fits.short; bytes = fits.bytes };
+        record { ino = fits.ino; name = fits.name; short = subst (λ n. length (get_or h.slots k d).name ≤ n) same.name fits.short; bytes = fits.bytes };
     few = subst (λ n. length h.slots ≤ n) same.names h.few;
     holds = subst (Holds image v) (same_slots p.version version h.slots same) h.holds;
     whole = h.whole;

@@ -14,7 +14,7 @@ use Rattle.fs_model.specs.Processes.{the_descriptor}
 use Rattle.fs_model.specs.Births.{the_node}
 use Rattle.fs_model.specs.Demands.{refuse, perms, only_if}
 use Rattle.fs_model.specs.declared.walk.Found.{Found}
-use Rattle.fs_model.specs.Scenes.{Scene, number, permission_at_end, permission_at_dir, sticky_at_dir, own_at_end, no_inodes, no_names, space_to_make}
+use Rattle.fs_model.specs.Scenes.{Scene, found_ino, permission_at_end, permission_at_dir, sticky_at_dir, own_at_end, no_inodes, no_names, space_to_make}
 use Rattle.fs_model.specs.OpenCall.{open_demands, open_found_demands, open_new_demands}
 use Rattle.fs_model.specs.DescriptorCalls.{read_demands, write_demands, write_offset, lseek_demands, sought, readdir_demands}
 use Rattle.fs_model.specs.AttributeCalls.{access_demands, truncate_demands, chmod_demands, chown_demands, set_acl_demands, chdir_demands}
@@ -54,20 +54,20 @@ module _ (c : Scene) where
   -- ---- demands
 
   end : (f : Found) (walk : ℕ) (want : Perms) → permission_at_end v f walk want ≡ permission_at_end c f walk want
-  end f walk want = permission_on-veil c.process.cred c.state.tree (number f) want walk f.step
+  end f walk want = permission_on-veil c.process.cred c.state.tree (found_ino f) want walk f.step
 
-  dir : (f : Found) (walk : ℕ) → permission_at_dir v f walk ≡ permission_at_dir c f walk
-  dir f walk = permission_on-veil c.process.cred c.state.tree f.dir (perms false true true) walk (f.step - 1)
+  dir_ino : (f : Found) (walk : ℕ) → permission_at_dir v f walk ≡ permission_at_dir c f walk
+  dir_ino f walk = permission_on-veil c.process.cred c.state.tree f.dir_ino (perms false true true) walk (f.step - 1)
 
   full : (f : Found) → no_names v f ≡ no_names c f
-  full f = ap (λ ns. refuse ENOSPC (nat_le c.state.room.entries_limit (length ns))) (names_at f.dir)
+  full f = ap (λ ns. refuse ENOSPC (nat_le c.state.room.entries_limit (length ns))) (names_at f.dir_ino)
 
   no_room : no_inodes v ≡ no_inodes c
   no_room = ap (λ k. refuse ENOSPC (c.state.room.inodes - 1 - k == 0)) (length-veil c.state.tree)
 
   pub truncate_asks : (size : ℕ) → truncate_demands size v ≡ truncate_demands size c
   truncate_asks size =
-      let a = is_directory_at (number c.first) in
+      let a = is_directory_at (found_ino c.first) in
       let b = end c.first 1 (perms false true false) in
       cc
 
@@ -75,45 +75,45 @@ module _ (c : Scene) where
   space = let a = full c.first in let b = no_room in cc
 
   pub mkdir_asks : mkdir_demands v ≡ mkdir_demands c
-  mkdir_asks = let a = dir c.first 1 in let b = space in cc
+  mkdir_asks = let a = dir_ino c.first 1 in let b = space in cc
 
   sticky : (f : Found) (walk : ℕ) → sticky_at_dir v f walk ≡ sticky_at_dir c f walk
   sticky f walk =
-      let a = directory_at f.dir in
-      let b = owner_at f.dir in
-      let d = owner_at (number f) in
+      let a = directory_at f.dir_ino in
+      let b = owner_at f.dir_ino in
+      let d = owner_at (found_ino f) in
       cc
 
   own : own_at_end v ≡ own_at_end c
-  own = let a = owner_at (number c.first) in cc
+  own = let a = owner_at (found_ino c.first) in cc
 
   pub unlink_asks : unlink_demands v ≡ unlink_demands c
   unlink_asks =
-      let a = is_directory_at (number c.first) in
-      let b = dir c.first 1 in
+      let a = is_directory_at (found_ino c.first) in
+      let b = dir_ino c.first 1 in
       let d = sticky c.first 1 in
       cc
 
   pub link_asks : link_demands v ≡ link_demands c
   link_asks =
-      let a = is_directory_at (number c.first) in
-      let b = dir c.second 2 in
-      let d = names_of-veil c.state.tree (number c.first) in
+      let a = is_directory_at (found_ino c.first) in
+      let b = dir_ino c.second 2 in
+      let d = names_of-veil c.state.tree (found_ino c.first) in
       let e = full c.second in
       cc
 
   pub symlink_asks : symlink_demands v ≡ symlink_demands c
-  symlink_asks = let a = dir c.first 1 in let b = space in cc
+  symlink_asks = let a = dir_ino c.first 1 in let b = space in cc
 
   pub readlink_asks : readlink_demands v ≡ readlink_demands c
-  readlink_asks = let a = link_at (number c.first) in cc
+  readlink_asks = let a = link_at (found_ino c.first) in cc
 
   pub rmdir_asks : rmdir_demands v ≡ rmdir_demands c
   rmdir_asks =
-      let a = is_directory_at (number c.first) in
-      let b = dir c.first 1 in
+      let a = is_directory_at (found_ino c.first) in
+      let b = dir_ino c.first 1 in
       let d = sticky c.first 1 in
-      let e = names_at (number c.first) in
+      let e = names_at (found_ino c.first) in
       cc
 
   pub access_asks : (want : Perms) → access_demands want v ≡ access_demands want c
@@ -124,30 +124,30 @@ module _ (c : Scene) where
 
   pub chown_asks : (owner group : Option ℕ) → chown_demands owner group v ≡ chown_demands owner group c
   chown_asks owner group =
-      let a = owner_at (number c.first) in
-      let b = group_at (number c.first) in
+      let a = owner_at (found_ino c.first) in
+      let b = group_at (found_ino c.first) in
       cc
 
   pub set_acl_asks : (which : AclType) (acl : Option AccessList) → set_acl_demands which acl v ≡ set_acl_demands which acl c
   set_acl_asks which acl =
-      let a = is_directory_at (number c.first) in
+      let a = is_directory_at (found_ino c.first) in
       let b = own in
       cc
 
   pub chdir_asks : chdir_demands v ≡ chdir_demands c
   chdir_asks =
-      let a = is_directory_at (number c.first) in
-      let b = search_on-veil c.process.cred c.state.tree (number c.first) 1 c.first.step in
+      let a = is_directory_at (found_ino c.first) in
+      let b = search_on-veil c.process.cred c.state.tree (found_ino c.first) 1 c.first.step in
       cc
 
   pub read_asks : (fd : ℕ) → read_demands fd v ≡ read_demands fd c
-  read_asks fd = let a = is_directory_at (the_descriptor c.process fd).number in cc
+  read_asks fd = let a = is_directory_at (the_descriptor c.process fd).ino in cc
 
   pub readdir_asks : (fd : ℕ) → readdir_demands fd v ≡ readdir_demands fd c
-  readdir_asks fd = let a = is_directory_at (the_descriptor c.process fd).number in cc
+  readdir_asks fd = let a = is_directory_at (the_descriptor c.process fd).ino in cc
 
   pub write_offset-veil : (fd : ℕ) → write_offset v fd ≡ write_offset c fd
-  write_offset-veil fd = let a = size_at (the_descriptor c.process fd).number in cc
+  write_offset-veil fd = let a = size_at (the_descriptor c.process fd).ino in cc
 
   pub write_asks : (fd : ℕ) (bytes : List ℕ) → write_demands fd bytes v ≡ write_demands fd bytes c
   write_asks fd bytes = let a = write_offset-veil fd in cc
@@ -155,63 +155,63 @@ module _ (c : Scene) where
   pub sought-veil : (fd : ℕ) (whence : Whence) (by : ℤ) → sought v fd whence by ≡ sought c fd whence by
   sought-veil fd Set by = refl
   sought-veil fd Cur by = refl
-  sought-veil fd End by = let a = size_at (the_descriptor c.process fd).number in cc
+  sought-veil fd End by = let a = size_at (the_descriptor c.process fd).ino in cc
 
   pub lseek_asks : (fd : ℕ) (whence : Whence) (by : ℤ) → lseek_demands fd whence by v ≡ lseek_demands fd whence by c
   lseek_asks fd whence by =
-      let a = is_directory_at (the_descriptor c.process fd).number in
+      let a = is_directory_at (the_descriptor c.process fd).ino in
       let b = sought-veil fd whence by in
       cc
 
   open_found_asks : (flags : Flags) → open_found_demands flags v ≡ open_found_demands flags c
   open_found_asks flags =
-      let a = is_directory_at (number c.first) in
-      let b = link_at (number c.first) in
+      let a = is_directory_at (found_ino c.first) in
+      let b = link_at (found_ino c.first) in
       let d = end c.first 1 (perms flags.read flags.write false) in
       cc
 
   open_new_asks : (flags : Flags) → open_new_demands flags v ≡ open_new_demands flags c
-  open_new_asks flags = let a = dir c.first 1 in let b = space in cc
+  open_new_asks flags = let a = dir_ino c.first 1 in let b = space in cc
 
   pub open_asks : (flags : Flags) → open_demands flags v ≡ open_demands flags c
   open_asks flags = let a = open_found_asks flags in let b = open_new_asks flags in cc
 
   rename_names_ask : rename_name_demands v ≡ rename_name_demands c
   rename_names_ask =
-      let a = is_directory_at (number c.first) in
-      let b = is_directory_at (number c.second) in
+      let a = is_directory_at (found_ino c.first) in
+      let b = is_directory_at (found_ino c.second) in
       cc
 
   rename_permissions_ask : rename_permissions v ≡ rename_permissions c
   rename_permissions_ask =
-      let a = dir c.first 1 in
-      let b = dir c.second 2 in
+      let a = dir_ino c.first 1 in
+      let b = dir_ino c.second 2 in
       let d = sticky c.first 1 in
       let e = sticky c.second 2 in
       cc
 
   rename_kinds_ask : rename_kinds v ≡ rename_kinds c
   rename_kinds_ask =
-      let a = is_directory_at (number c.first) in
-      let b = is_directory_at (number c.second) in
+      let a = is_directory_at (found_ino c.first) in
+      let b = is_directory_at (found_ino c.second) in
       cc
 
-  within : (far : ℕ) → is_within far v.state.tree (number c.first) c.second.dir ≡ is_within far c.state.tree (number c.first) c.second.dir
-  within far = is_within-veil far c.state.tree (number c.first) c.second.dir
+  within : (far : ℕ) → is_within far v.state.tree (found_ino c.first) c.second.dir_ino ≡ is_within far c.state.tree (found_ino c.first) c.second.dir_ino
+  within far = is_within-veil far c.state.tree (found_ino c.first) c.second.dir_ino
 
   rename_directories_ask : rename_directories v ≡ rename_directories c
   rename_directories_ask =
-      let a = is_directory_at (number c.first) in
-      let b = is_directory_at (number c.second) in
-      let d = names_at (number c.second) in
-      let e : is_within (length v.state.tree) v.state.tree (number c.first) c.second.dir
-      ≡ is_within (length c.state.tree) c.state.tree (number c.first) c.second.dir =
-      ap (λ k. is_within k v.state.tree (number c.first) c.second.dir) (length-veil c.state.tree) ∙ within (length c.state.tree) in
+      let a = is_directory_at (found_ino c.first) in
+      let b = is_directory_at (found_ino c.second) in
+      let d = names_at (found_ino c.second) in
+      let e : is_within (length v.state.tree) v.state.tree (found_ino c.first) c.second.dir_ino
+      ≡ is_within (length c.state.tree) c.state.tree (found_ino c.first) c.second.dir_ino =
+      ap (λ k. is_within k v.state.tree (found_ino c.first) c.second.dir_ino) (length-veil c.state.tree) ∙ within (length c.state.tree) in
       cc
 
   rename_moved_ask : rename_moved v ≡ rename_moved c
   rename_moved_ask =
-      let a = is_directory_at (number c.first) in
+      let a = is_directory_at (found_ino c.first) in
       let b = end c.first 1 (perms false true false) in
       cc
 

@@ -69,9 +69,9 @@ parent-veil (e ∷ t) d =
 
 -- ---- trails
 
-named_inode-veil : (t : Tree) (dir : ℕ) (names : List (List ℕ × ℕ)) (name : List ℕ) → named_inode (veil t) dir names name ≡ named_inode t dir names name
-named_inode-veil t dir names name =
-    ap (λ p. if is_dot name then Some dir else (if is_dot_dot name then Some p else get name_cmp names name)) (parent-veil t dir)
+named_inode-veil : (t : Tree) (dir_ino : ℕ) (names : List (List ℕ × ℕ)) (name : List ℕ) → named_inode (veil t) dir_ino names name ≡ named_inode t dir_ino names name
+named_inode-veil t dir_ino names name =
+    ap (λ p. if is_dot name then Some dir_ino else (if is_dot_dot name then Some p else get name_cmp names name)) (parent-veil t dir_ino)
 
 reached-veiled : (follow : Bool) (n : ℕ) (o : Option Node) → reached follow n (option_map veiled o) ≡ reached follow n o
 reached-veiled follow n None = refl
@@ -90,61 +90,61 @@ arrival-veil t is_last follow None = refl
 arrival-veil t is_last follow (Some n) =
     ap (reached (follow || not is_last) n) (node_at-veil t n) ∙ reached-veiled (follow || not is_last) n (node_at t n)
 
-looked_up-veiled : (room : Room) (t : Tree) (is_last follow : Bool) (dir : ℕ) (name : List ℕ) (o : Option Node)
-    → looked_up room (veil t) is_last follow dir name (option_map veiled o) ≡ looked_up room t is_last follow dir name o
-looked_up-veiled room t is_last follow dir name None = refl
-looked_up-veiled room t is_last follow dir name (Some node) =
-    ap (λ o. look (is_some o) (arrival (veil t) is_last follow (named_inode (veil t) dir (names_of_body (blotted node.body)) name))) (directory_in-blotted node.body)
-    ∙ ap (λ ns. look (is_directory node.body) (arrival (veil t) is_last follow (named_inode (veil t) dir ns name))) (names_in-blotted node.body)
-    ∙ ap (λ o. look (is_directory node.body) (arrival (veil t) is_last follow o)) (named_inode-veil t dir (names_of_body node.body) name)
-    ∙ ap (look (is_directory node.body)) (arrival-veil t is_last follow (named_inode t dir (names_of_body node.body) name))
+looked_up-veiled : (room : Room) (t : Tree) (is_last follow : Bool) (dir_ino : ℕ) (name : List ℕ) (o : Option Node)
+    → looked_up room (veil t) is_last follow dir_ino name (option_map veiled o) ≡ looked_up room t is_last follow dir_ino name o
+looked_up-veiled room t is_last follow dir_ino name None = refl
+looked_up-veiled room t is_last follow dir_ino name (Some node) =
+    ap (λ o. look (is_some o) (arrival (veil t) is_last follow (named_inode (veil t) dir_ino (names_of_body (blotted node.body)) name))) (directory_in-blotted node.body)
+    ∙ ap (λ ns. look (is_directory node.body) (arrival (veil t) is_last follow (named_inode (veil t) dir_ino ns name))) (names_in-blotted node.body)
+    ∙ ap (λ o. look (is_directory node.body) (arrival (veil t) is_last follow o)) (named_inode-veil t dir_ino (names_of_body node.body) name)
+    ∙ ap (look (is_directory node.body)) (arrival-veil t is_last follow (named_inode t dir_ino (names_of_body node.body) name))
   where
     look : Bool → Outcome → Outcome
     look b o = if not b then Faulty ENOTDIR else (if nat_lt room.name_limit (length name) then Faulty ENAMETOOLONG else o)
 
-pub looked_up-veil : (room : Room) (t : Tree) (is_last follow : Bool) (dir : ℕ) (name : List ℕ)
-    → looked_up room (veil t) is_last follow dir name (node_at (veil t) dir) ≡ looked_up room t is_last follow dir name (node_at t dir)
-looked_up-veil room t is_last follow dir name =
-    ap (looked_up room (veil t) is_last follow dir name) (node_at-veil t dir) ∙ looked_up-veiled room t is_last follow dir name (node_at t dir)
+pub looked_up-veil : (room : Room) (t : Tree) (is_last follow : Bool) (dir_ino : ℕ) (name : List ℕ)
+    → looked_up room (veil t) is_last follow dir_ino name (node_at (veil t) dir_ino) ≡ looked_up room t is_last follow dir_ino name (node_at t dir_ino)
+looked_up-veil room t is_last follow dir_ino name =
+    ap (looked_up room (veil t) is_last follow dir_ino name) (node_at-veil t dir_ino) ∙ looked_up-veiled room t is_last follow dir_ino name (node_at t dir_ino)
 
 -- what goes on behind a link is the same from everywhere
 abbrev pub SameBehind : Option GoesOn → Option GoesOn → Type 0
 SameBehind None None = Unit {0}
-SameBehind (Some g) (Some h) = (dir : ℕ) (names : List (List ℕ)) (slash : Bool) → g dir names slash ≡ h dir names slash
+SameBehind (Some g) (Some h) = (dir_ino : ℕ) (names : List (List ℕ)) (slash : Bool) → g dir_ino names slash ≡ h dir_ino names slash
 SameBehind _ _ = ⊥
 
-through-same : (g h : Option GoesOn) → SameBehind g h → (dir : ℕ) (name : List ℕ) (names : List (List ℕ)) (slash : Bool) (target : List ℕ)
-    → through_if g dir name names slash target ≡ through_if h dir name names slash target
-through-same None None same dir name names slash target = refl
-through-same (Some g) (Some h) same dir name names slash target =
+through-same : (g h : Option GoesOn) → SameBehind g h → (dir_ino : ℕ) (name : List ℕ) (names : List (List ℕ)) (slash : Bool) (target : List ℕ)
+    → through_if g dir_ino name names slash target ≡ through_if h dir_ino name names slash target
+through-same None None same dir_ino name names slash target = refl
+through-same (Some g) (Some h) same dir_ino name names slash target =
     let parts = parts_of target in
-    ap (after_lookup dir name) (same (start_of parts dir) (parts.names ++ names) (slash || (is_empty names && parts.slash_at_end)))
-through-same None (Some h) same dir name names slash target = absurd same
-through-same (Some g) None same dir name names slash target = absurd same
+    ap (after_lookup dir_ino name) (same (start_of parts dir_ino) (parts.names ++ names) (slash || (is_empty names && parts.slash_at_end)))
+through-same None (Some h) same dir_ino name names slash target = absurd same
+through-same (Some g) None same dir_ino name names slash target = absurd same
 
 onward-same : (g h : Option GoesOn) → SameBehind g h → (rest rest' : ℕ → Trail) → ((n : ℕ) → rest n ≡ rest' n)
-    → (dir : ℕ) (name : List ℕ) (names : List (List ℕ)) (slash : Bool) (o : Outcome)
-    → onward g rest dir name names slash o ≡ onward h rest' dir name names slash o
-onward-same g h same rest rest' on dir name names slash (Faulty e) = refl
-onward-same g h same rest rest' on dir name names slash Absent = refl
-onward-same g h same rest rest' on dir name names slash (Reaches n) = ap (after_lookup dir name) (on n)
-onward-same g h same rest rest' on dir name names slash (Through target) = through-same g h same dir name names slash target
+    → (dir_ino : ℕ) (name : List ℕ) (names : List (List ℕ)) (slash : Bool) (o : Outcome)
+    → onward g rest dir_ino name names slash o ≡ onward h rest' dir_ino name names slash o
+onward-same g h same rest rest' on dir_ino name names slash (Faulty e) = refl
+onward-same g h same rest rest' on dir_ino name names slash Absent = refl
+onward-same g h same rest rest' on dir_ino name names slash (Reaches n) = ap (after_lookup dir_ino name) (on n)
+onward-same g h same rest rest' on dir_ino name names slash (Through target) = through-same g h same dir_ino name names slash target
 
-lookups_from-veil : (room : Room) (t : Tree) (follow : Bool) (g h : Option GoesOn) → SameBehind g h → (names : List (List ℕ)) (dir : ℕ) (slash : Bool)
-    → lookups_from room (veil t) follow g dir names slash ≡ lookups_from room t follow h dir names slash
-lookups_from-veil room t follow g h same [] dir slash = refl
-lookups_from-veil room t follow g h same (name ∷ names) dir slash =
-    ap (onward g (λ n. lookups_from room (veil t) follow g n names slash) dir name names slash) (looked_up-veil room t (is_empty names) follow dir name)
+lookups_from-veil : (room : Room) (t : Tree) (follow : Bool) (g h : Option GoesOn) → SameBehind g h → (names : List (List ℕ)) (dir_ino : ℕ) (slash : Bool)
+    → lookups_from room (veil t) follow g dir_ino names slash ≡ lookups_from room t follow h dir_ino names slash
+lookups_from-veil room t follow g h same [] dir_ino slash = refl
+lookups_from-veil room t follow g h same (name ∷ names) dir_ino slash =
+    ap (onward g (λ n. lookups_from room (veil t) follow g n names slash) dir_ino name names slash) (looked_up-veil room t (is_empty names) follow dir_ino name)
     ∙ onward-same g h same (λ n. lookups_from room (veil t) follow g n names slash) (λ n. lookups_from room t follow h n names slash)
-    (λ n. lookups_from-veil room t follow g h same names n slash) dir name names slash
-    (looked_up room t (is_empty names) follow dir name (node_at t dir))
+    (λ n. lookups_from-veil room t follow g h same names n slash) dir_ino name names slash
+    (looked_up room t (is_empty names) follow dir_ino name (node_at t dir_ino))
 
-trail_with-veil : (room : Room) (t : Tree) (follow : Bool) (links dir : ℕ) (names : List (List ℕ)) (slash : Bool)
-    → trail_with room (veil t) follow links dir names slash ≡ trail_with room t follow links dir names slash
-trail_with-veil room t follow zero dir names slash = lookups_from-veil room t follow None None tt names dir slash
-trail_with-veil room t follow (suc links) dir names slash =
+trail_with-veil : (room : Room) (t : Tree) (follow : Bool) (links dir_ino : ℕ) (names : List (List ℕ)) (slash : Bool)
+    → trail_with room (veil t) follow links dir_ino names slash ≡ trail_with room t follow links dir_ino names slash
+trail_with-veil room t follow zero dir_ino names slash = lookups_from-veil room t follow None None tt names dir_ino slash
+trail_with-veil room t follow (suc links) dir_ino names slash =
     lookups_from-veil room t follow (Some (trail_with room (veil t) follow links)) (Some (trail_with room t follow links))
-    (λ dir names slash. trail_with-veil room t follow links dir names slash) names dir slash
+    (λ dir_ino names slash. trail_with-veil room t follow links dir_ino names slash) names dir_ino slash
 
 pub trail_of-veil : (room : Room) (t : Tree) (cwd : ℕ) (form : Form) (path : List ℕ) → trail_of room (veil t) cwd form path ≡ trail_of room t cwd form path
 unfolding trail_of
@@ -174,7 +174,7 @@ least_refusal-veil : (cred : Credential) (t : Tree) (walk k : ℕ) (lookups : Li
     → least_refusal cred (veil t) walk k lookups ≡ least_refusal cred t walk k lookups
 least_refusal-veil cred t walk k [] = refl
 least_refusal-veil cred t walk k (l ∷ lookups) =
-    ap (λ d. or_else (or_else d (failed_with l.fault)) (least_refusal cred (veil t) walk (k + 1) lookups)) (search_on-veil cred t l.dir walk k)
+    ap (λ d. or_else (or_else d (failed_with l.fault)) (least_refusal cred (veil t) walk (k + 1) lookups)) (search_on-veil cred t l.dir_ino walk k)
     ∙ ap (or_else (lookup_refusal cred t walk k l)) (least_refusal-veil cred t walk (k + 1) lookups)
 
 pub is_nondirectory-veil : (t : Tree) (o : Option ℕ) → is_nondirectory (veil t) o ≡ is_nondirectory t o

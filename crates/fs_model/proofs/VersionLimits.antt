@@ -44,7 +44,7 @@ same_times Three Three e = refl
 -- so slots are spelled alike
 pub same_slots : (old new : Version) (slots : List NamedInode) → HasSameNames old new → slots_bytes old slots ≡ slots_bytes new slots
 same_slots old new slots same =
-    ap (λ n. flat_map (λ v. le32 v.inode ++ (length v.name ∷ (zeros 3 ++ (v.name ++ zeros (n - length v.name))))) slots) same.name
+    ap (λ n. flat_map (λ v. le32 v.ino ++ (length v.name ∷ (zeros 3 ++ (v.name ++ zeros (n - length v.name))))) slots) same.name
 
 -- a disk of the one may have the numbers of one of the other, and its superblock as many of them
 pub record HasSameRange (old new : Version) : Type 0 where

@@ -23,7 +23,7 @@ abbrev pub sees_into : Process → ℕ → Node → Bool
 sees_into p n node =
     node.owner == p.cred.uid
     || may_read p (accessed node)
-    || list_any (λ d. d.1.number == n && d.1.read) p.descriptors
+    || list_any (λ d. d.1.ino == n && d.1.read) p.descriptors
 
 -- a file's bytes, all of them made zero
 abbrev pub blotted : Body → Body

@@ -20,7 +20,7 @@ use Rattle.fs_model.specs.Processes.{standing_at}
 use Rattle.fs_model.specs.declared.touch.Touch.TheVariants.{Changed, Modified}
 use Rattle.fs_model.specs.Demands.{Demand, refuse, only_if, perms, allowed_by, search_on}
 use Rattle.fs_model.specs.declared.walk.Form.TheVariants.{Follow, NoFollow}
-use Rattle.fs_model.specs.Scenes.{Scene, Effect, Row, number, node_found, body_found, permission_at_end, own_at_end, must_be_there, no_blocks, check_of_mode, nothing_asked, answers, with_process, rewrites, none_early, by_path}
+use Rattle.fs_model.specs.Scenes.{Scene, Effect, Row, found_ino, node_found, body_found, permission_at_end, own_at_end, must_be_there, no_blocks, check_of_mode, nothing_asked, answers, with_process, rewrites, none_early, by_path}
 use Rattle.fs_model.specs.DescriptorCalls.{shown, resized_node}
 use Rattle.fs_layout.specs.declared.inode.TheConstants.{S_ISGID, S_ISVTX}
 
@@ -30,7 +30,7 @@ abbrev pub stat_demands : Scene → List Demand
 stat_demands s = must_be_there s.first ∷ []
 
 abbrev pub stat_effect : Scene → ℕ → Effect
-stat_effect s new = answers s (Shown (shown s.state.tree (number s.first)))
+stat_effect s new = answers s (Shown (shown s.state.tree (found_ino s.first)))
 
 abbrev pub stat_row : List ℕ → Row
 stat_row path = by_path [] Follow path stat_demands stat_effect
@@ -64,7 +64,7 @@ truncate_demands size s =
     ∷ []
 
 abbrev pub truncate_effect : ℕ → Scene → ℕ → Effect
-truncate_effect size s new = rewrites s Modified (number s.first) (resized_node size)
+truncate_effect size s new = rewrites s Modified (found_ino s.first) (resized_node size)
 
 abbrev pub truncate_row : List ℕ → ℕ → Row
 truncate_row path size = by_path [] Follow path (truncate_demands size) (truncate_effect size)
@@ -87,7 +87,7 @@ abbrev pub moded : Credential → ℕ → Node → Node
 moded cred mode node = record node { body = with_mode cred node.group mode node.body }
 
 abbrev pub chmod_effect : ℕ → Scene → ℕ → Effect
-chmod_effect mode s new = rewrites s Changed (number s.first) (moded s.process.cred mode)
+chmod_effect mode s new = rewrites s Changed (found_ino s.first) (moded s.process.cred mode)
 
 abbrev pub chmod_row : List ℕ → ℕ → Row
 chmod_row path mode = by_path (check_of_mode mode ∷ []) Follow path chmod_demands (chmod_effect mode)
@@ -107,7 +107,7 @@ abbrev pub owned : Option ℕ → Option ℕ → Node → Node
 owned owner group node = record node { owner = unwrap_or owner node.owner; group = unwrap_or group node.group }
 
 abbrev pub chown_effect : Option ℕ → Option ℕ → Scene → ℕ → Effect
-chown_effect owner group s new = rewrites s Changed (number s.first) (owned owner group)
+chown_effect owner group s new = rewrites s Changed (found_ino s.first) (owned owner group)
 
 abbrev pub chown_row : List ℕ → Option ℕ → Option ℕ → Row
 chown_row path owner group = by_path [] Follow path (chown_demands owner group) (chown_effect owner group)
@@ -149,7 +149,7 @@ with_set_acl Access None b = b
 with_set_acl Access (Some acl) b = with_acl acl b
 
 abbrev pub set_acl_effect : AclType → Option AccessList → Scene → ℕ → Effect
-set_acl_effect which acl s new = rewrites s Changed (number s.first) (λ node. record node { body = with_set_acl which acl node.body })
+set_acl_effect which acl s new = rewrites s Changed (found_ino s.first) (λ node. record node { body = with_set_acl which acl node.body })
 
 abbrev pub set_acl_row : List ℕ → AclType → Option AccessList → Row
 set_acl_row path which acl =
@@ -161,11 +161,11 @@ abbrev pub chdir_demands : Scene → List Demand
 chdir_demands s =
     must_be_there s.first
     ∷ refuse ENOTDIR (not (is_directory (body_found s s.first)))
-    ∷ search_on s.process.cred s.state.tree (number s.first) 1 s.first.step
+    ∷ search_on s.process.cred s.state.tree (found_ino s.first) 1 s.first.step
     ∷ []
 
 abbrev pub chdir_effect : Scene → ℕ → Effect
-chdir_effect s new = with_process (standing_at (number s.first) (number s.first) s.process) Done
+chdir_effect s new = with_process (standing_at (found_ino s.first) (found_ino s.first) s.process) Done
 
 abbrev pub chdir_row : List ℕ → Row
 chdir_row path = by_path [] Follow path chdir_demands chdir_effect

@@ -62,7 +62,7 @@ write_effect fd bytes s =
     let count = write_count s fd bytes in
     if is_empty bytes then answers s (Wrote 0)
     else record {
-      change = Rewrite Modified (the_descriptor s.process fd).number (written (node_open s fd) offset (take count bytes));
+      change = Rewrite Modified (the_descriptor s.process fd).ino (written (node_open s fd) offset (take count bytes));
       process = with_offset s.process fd (offset + count);
       reply = Wrote count;
     }
@@ -112,7 +112,7 @@ abbrev pub shown : Tree → ℕ → Status
 shown t n =
     let node = the_node t n in
     record {
-      inode = n;
+      ino = n;
       kind = type_of node.body;
       mode = shown_mode node.body;
       links = if is_directory node.body then 1 else names_of t n;
@@ -122,7 +122,7 @@ shown t n =
     }
 
 abbrev pub fstat_effect : ℕ → Scene → Effect
-fstat_effect fd s = answers s (Shown (shown s.state.tree (the_descriptor s.process fd).number))
+fstat_effect fd s = answers s (Shown (shown s.state.tree (the_descriptor s.process fd).ino))
 
 abbrev pub fstat_row : ℕ → Row
 fstat_row fd = by_descriptor (is_bad fd) nothing_asked (fstat_effect fd)
@@ -136,7 +136,7 @@ abbrev pub ftruncate_demands : ℕ → Scene → List Demand
 ftruncate_demands size s = refuse EFBIG (nat_lt s.state.room.file_limit size) ∷ []
 
 abbrev pub ftruncate_effect : ℕ → ℕ → Scene → Effect
-ftruncate_effect fd size s = rewrites s Modified (the_descriptor s.process fd).number (resized_node size)
+ftruncate_effect fd size s = rewrites s Modified (the_descriptor s.process fd).ino (resized_node size)
 
 abbrev pub ftruncate_row : ℕ → ℕ → Row
 ftruncate_row fd size = by_descriptor (is_bad_to_write fd) (ftruncate_demands size) (ftruncate_effect fd size)
@@ -148,7 +148,7 @@ readdir_demands fd s = refuse ENOTDIR (not (is_directory (node_open s fd).body))
 
 abbrev pub readdir_effect : ℕ → Scene → Effect
 readdir_effect fd s =
-    let n = (the_descriptor s.process fd).number in
+    let n = (the_descriptor s.process fd).ino in
     answers s (Names ((46 ∷ [], n) ∷ (46 ∷ 46 ∷ [], parent s.state.tree n) ∷ names_of_body (node_open s fd).body))
 
 abbrev pub readdir_row : ℕ → Row

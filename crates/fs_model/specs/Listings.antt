@@ -4,4 +4,4 @@ use Rattle.std.specs.Prelude.{ℕ, List, map}
 use Rattle.fs_model.specs.declared.listing.Named.{Named}
 
 abbrev pub pairs : List Named → List (List ℕ × ℕ)
-pairs names = map (λ n. (n.name, n.inode)) names
+pairs names = map (λ n. (n.name, n.ino)) names

@@ -14,7 +14,7 @@ use Rattle.fs_model.specs.TreeChanges.{Make, AddName, TakeName}
 use Rattle.fs_model.specs.Demands.{Demand, refuse}
 use Rattle.fs_model.specs.Parts.{is_empty}
 use Rattle.fs_model.specs.declared.walk.Form.TheVariants.{NoFollow, Parent}
-use Rattle.fs_model.specs.Scenes.{Scene, Effect, Row, number, body_found, dir_node, is_directory_found, is_nondirectory_found, has_names, is_special, ends_top, ends_dot, ends_dot_dot, permission_at_dir, sticky_at_dir, no_blocks, no_names, space_to_make, must_be_there, must_be_new, check_of_mode, answers, changes, by_path, by_two_paths}
+use Rattle.fs_model.specs.Scenes.{Scene, Effect, Row, found_ino, body_found, dir_node, is_directory_found, is_nondirectory_found, has_names, is_special, ends_top, ends_dot, ends_dot_dot, permission_at_dir, sticky_at_dir, no_blocks, no_names, space_to_make, must_be_there, must_be_new, check_of_mode, answers, changes, by_path, by_two_paths}
 
 -- ---- mkdir
 
@@ -23,7 +23,7 @@ mkdir_demands s = must_be_new s.first ∷ permission_at_dir s s.first 1 ∷ spac
 
 abbrev pub mkdir_effect : ℕ → Scene → ℕ → Effect
 mkdir_effect mode s new =
-    changes s (Make s.first.dir s.first.name new (born_directory s.process.cred s.process.umask mode (dir_node s s.first)))
+    changes s (Make s.first.dir_ino s.first.name new (born_directory s.process.cred s.process.umask mode (dir_node s s.first)))
 
 abbrev pub mkdir_row : List ℕ → ℕ → Row
 mkdir_row path mode = by_path (check_of_mode mode ∷ []) Parent path mkdir_demands (mkdir_effect mode)
@@ -40,13 +40,13 @@ rmdir_demands s =
     ∷ permission_at_dir s s.first 1
     ∷ sticky_at_dir s s.first 1
     ∷ refuse ENOTDIR (is_nondirectory_found s s.first)
-    ∷ refuse EBUSY (is_in_use s.state.processes (number s.first))
+    ∷ refuse EBUSY (is_in_use s.state.processes (found_ino s.first))
     ∷ refuse ENOTEMPTY (has_names s s.first)
     ∷ []
 
 -- the name goes
 abbrev pub takes_name : Scene → ℕ → Effect
-takes_name s new = changes s (TakeName s.first.dir s.first.name)
+takes_name s new = changes s (TakeName s.first.dir_ino s.first.name)
 
 abbrev pub rmdir_row : List ℕ → Row
 rmdir_row path = by_path [] Parent path rmdir_demands takes_name
@@ -77,13 +77,13 @@ link_demands s =
     ∷ must_be_new s.second
     ∷ refuse ENOENT s.second.slash
     ∷ permission_at_dir s s.second 2
-    ∷ refuse EMLINK (nat_le s.state.room.names_limit (names_of s.state.tree (number s.first)))
+    ∷ refuse EMLINK (nat_le s.state.room.names_limit (names_of s.state.tree (found_ino s.first)))
     ∷ no_blocks s
     ∷ no_names s s.second
     ∷ []
 
 abbrev pub link_effect : Scene → Effect
-link_effect s = changes s (AddName s.second.dir s.second.name (number s.first))
+link_effect s = changes s (AddName s.second.dir_ino s.second.name (found_ino s.first))
 
 abbrev pub link_row : List ℕ → List ℕ → Row
 link_row old new = by_two_paths old new link_demands link_effect
@@ -106,7 +106,7 @@ symlink_demands s =
 
 abbrev pub symlink_effect : List ℕ → Scene → ℕ → Effect
 symlink_effect target s new =
-    changes s (Make s.first.dir s.first.name new (born_link s.process.cred target (dir_node s s.first)))
+    changes s (Make s.first.dir_ino s.first.name new (born_link s.process.cred target (dir_node s s.first)))
 
 abbrev pub symlink_row : List ℕ → List ℕ → Row
 symlink_row target path = by_path (symlink_arguments target) Parent path symlink_demands (symlink_effect target)

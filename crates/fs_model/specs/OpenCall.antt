@@ -15,7 +15,7 @@ use Rattle.fs_model.specs.Demands.{Demand, refuse, perms}
 use Rattle.fs_model.specs.Parts.{ends_with_slash}
 use Rattle.fs_model.specs.declared.walk.Form.{Form}
 use Rattle.fs_model.specs.declared.walk.Form.TheVariants.{Follow, NoFollow}
-use Rattle.fs_model.specs.Scenes.{Scene, Effect, Row, is_found, number, node_found, body_found, dir_node, permission_at_end, permission_at_dir, space_to_make, check_of_mode}
+use Rattle.fs_model.specs.Scenes.{Scene, Effect, Row, is_found, found_ino, node_found, body_found, dir_node, permission_at_end, permission_at_dir, space_to_make, check_of_mode}
 
 -- with O_CREAT and O_EXCL a final link isn't followed
 abbrev pub open_form : Flags → Form
@@ -53,16 +53,16 @@ open_demands f s = if is_found s.first then open_found_demands f s else open_new
 abbrev pub open_change : Flags → ℕ → Scene → ℕ → Change
 open_change f mode s new =
     if not (is_found s.first)
-    then Make s.first.dir s.first.name new (born_file s.process.cred s.process.umask mode (dir_node s s.first))
+    then Make s.first.dir_ino s.first.name new (born_file s.process.cred s.process.umask mode (dir_node s s.first))
     else (if f.trunc && f.write
-    then Rewrite Modified (number s.first) (record (node_found s s.first) { body = with_bytes [] (body_found s s.first) })
+    then Rewrite Modified (found_ino s.first) (record (node_found s s.first) { body = with_bytes [] (body_found s s.first) })
     else Same)
 
 -- the least unused descriptor, at offset 0
 abbrev pub open_process : Process → Flags → ℕ → Process
 open_process p f n =
     with_descriptor p (least_unused 0 p.descriptors)
-    (record { number = n; offset = 0; read = f.read; write = f.write; append = f.append })
+    (record { ino = n; offset = 0; read = f.read; write = f.write; append = f.append })
 
 abbrev pub open_effect : Flags → ℕ → Scene → ℕ → Effect
 open_effect f mode s new = record {

@@ -38,7 +38,7 @@ parts_of path = record { names = components_of path; absolute = begins_with_slas
 
 -- an absolute pathname starts at the root, any other at the directory given: 4.13 (Pathname Resolution)
 abbrev pub start_of : Parts → ℕ → ℕ
-start_of parts dir = if parts.absolute then root else dir
+start_of parts dir_ino = if parts.absolute then root else dir_ino
 
 -- Before any lookup: an empty pathname is ENOENT, a zero byte EINVAL, one that is too long ENAMETOOLONG.
 abbrev pub path_checks : List ℕ → List Demand

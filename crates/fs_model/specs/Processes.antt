@@ -14,7 +14,7 @@ use Rattle.fs_layout.specs.Maps.{get, with_entry}
 
 -- the node, the offset, what it was opened for, and O_APPEND
 pub record Descriptor : Type 0 where
-  pub number : ℕ
+  pub ino : ℕ
   pub offset : ℕ
   pub read : Bool
   pub write : Bool
@@ -48,7 +48,7 @@ abbrev pub descriptor : Process → ℕ → Option Descriptor
 descriptor p fd = get nat_cmp p.descriptors fd
 
 abbrev pub no_descriptor : Descriptor
-no_descriptor = record { number = 0; offset = 0; read = false; write = false; append = false }
+no_descriptor = record { ino = 0; offset = 0; read = false; write = false; append = false }
 
 -- where one is known to be there
 abbrev pub the_descriptor : Process → ℕ → Descriptor
@@ -67,7 +67,7 @@ least_unused k (e ∷ es) = if e.0 == k then least_unused (k + 1) es else k
 
 -- some descriptor is for n
 abbrev pub is_open : ProcessTable → ℕ → Bool
-is_open processes n = list_any (λ p. list_any (λ d. d.1.number == n) p.1.descriptors) processes
+is_open processes n = list_any (λ p. list_any (λ d. d.1.ino == n) p.1.descriptors) processes
 
 -- one of its walks starts at n
 abbrev pub starts_at : ℕ → Process → Bool

@@ -8,14 +8,14 @@ use Rattle.fs_model.specs.Trees.{is_within}
 use Rattle.fs_model.specs.Processes.{is_in_use}
 use Rattle.fs_model.specs.TreeChanges.{Same, MoveName}
 use Rattle.fs_model.specs.Demands.{Demand, refuse, only_if, perms}
-use Rattle.fs_model.specs.Scenes.{Scene, Effect, Row, is_found, number, is_directory_found, is_nondirectory_found, has_names, ends_top, ends_dot, ends_dot_dot, permission_at_end, permission_at_dir, sticky_at_dir, no_blocks, no_names, must_be_there, changes, by_two_paths}
+use Rattle.fs_model.specs.Scenes.{Scene, Effect, Row, is_found, found_ino, is_directory_found, is_nondirectory_found, has_names, ends_top, ends_dot, ends_dot_dot, permission_at_end, permission_at_dir, sticky_at_dir, no_blocks, no_names, must_be_there, changes, by_two_paths}
 
 abbrev pub is_same : Scene → Bool
-is_same s = is_found s.first && is_found s.second && number s.first == number s.second
+is_same s = is_found s.first && is_found s.second && found_ino s.first == found_ino s.second
 
 -- the name goes to another directory
 abbrev pub moves : Scene → Bool
-moves s = not (s.first.dir == s.second.dir)
+moves s = not (s.first.dir_ino == s.second.dir_ino)
 
 -- the names: `.`, `..` and the root can't be renamed, and a slash at the end asks for a directory
 abbrev pub rename_name_demands : Scene → List Demand
@@ -44,8 +44,8 @@ rename_kinds s =
 -- a directory doesn't go below itself, and one that is replaced is empty and not in use
 abbrev pub rename_directories : Scene → List Demand
 rename_directories s =
-    refuse EINVAL (is_directory_found s s.first && is_within (length s.state.tree) s.state.tree (number s.first) s.second.dir)
-    ∷ refuse EBUSY (is_directory_found s s.second && is_in_use s.state.processes (number s.second))
+    refuse EINVAL (is_directory_found s s.first && is_within (length s.state.tree) s.state.tree (found_ino s.first) s.second.dir_ino)
+    ∷ refuse EBUSY (is_directory_found s s.second && is_in_use s.state.processes (found_ino s.second))
     ∷ refuse ENOTEMPTY (is_found s.second && has_names s s.second)
     ∷ []
 
@@ -65,7 +65,7 @@ rename_demands s =
 -- what the new name led to loses it
 abbrev pub rename_effect : Scene → Effect
 rename_effect s =
-    changes s (if is_same s then Same else MoveName s.first.dir s.first.name s.second.dir s.second.name)
+    changes s (if is_same s then Same else MoveName s.first.dir_ino s.first.name s.second.dir_ino s.second.name)
 
 abbrev pub rename_row : List ℕ → List ℕ → Row
 rename_row old new = by_two_paths old new rename_demands rename_effect

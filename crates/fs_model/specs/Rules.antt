@@ -54,7 +54,7 @@ is_directory_kind kinds.Link = false
 -- how many slots of an inode name n; none, if it is no directory
 abbrev pub namings_in : Version → SectorMap → Inode → ℕ → ℕ
 namings_in version m v n =
-    if is_directory_kind v.kind then count_by (λ k. (slot_at version m v k).inode == n) (range_with_len 0 (slot_count version v)) else 0
+    if is_directory_kind v.kind then count_by (λ k. (slot_at version m v k).ino == n) (range_with_len 0 (slot_count version v)) else 0
 
 -- how many slots of the disk name n
 abbrev pub namings : Geometry → SectorMap → ℕ → ℕ
@@ -130,9 +130,9 @@ pub record HasAcls (m : SectorMap) (v : Inode) : Type 0 where
 -- Rule 10, of one slot. It is valid, and its inode is in use and isn't the root.
 pub record IsGoodSlot (p : Geometry) (m : SectorMap) (v : Inode) (k : ℕ) : Type 0 where
   pub is : slot_of p.version (stored_slot p.version m v k) ≡ Ok (slot_at p.version m v k)
-  pub below : (slot_at p.version m v k).inode < p.inodes
-  pub used : (inode_at p m (slot_at p.version m v k).inode).kind ≢ kinds.Free
-  pub not_root : (slot_at p.version m v k).inode ≢ root
+  pub below : (slot_at p.version m v k).ino < p.inodes
+  pub used : (inode_at p m (slot_at p.version m v k).ino).kind ≢ kinds.Free
+  pub not_root : (slot_at p.version m v k).ino ≢ root
 
 -- Rule 11. No two slots have one name.
 abbrev pub AreNamesApart : Version → SectorMap → Inode → Type 0

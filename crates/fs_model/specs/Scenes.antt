@@ -59,8 +59,8 @@ pub record Row : Type 0 where
 abbrev pub is_found : Found → Bool
 is_found f = is_some f.ino
 
-abbrev pub number : Found → ℕ
-number f = unwrap_or f.ino 0
+abbrev pub found_ino : Found → ℕ
+found_ino f = unwrap_or f.ino 0
 
 abbrev pub is_top : Last → Bool
 is_top Top = true
@@ -88,14 +88,14 @@ abbrev pub is_special : Found → Bool
 is_special f = ends_top f || ends_dot f || ends_dot_dot f
 
 abbrev pub node_found : Scene → Found → Node
-node_found s f = the_node s.state.tree (number f)
+node_found s f = the_node s.state.tree (found_ino f)
 
 abbrev pub body_found : Scene → Found → Body
 body_found s f = (node_found s f).body
 
 -- the directory in which the last name was looked up
 abbrev pub dir_node : Scene → Found → Node
-dir_node s f = the_node s.state.tree f.dir
+dir_node s f = the_node s.state.tree f.dir_ino
 
 abbrev pub is_directory_found : Scene → Found → Bool
 is_directory_found s f = is_found f && is_directory (body_found s f)
@@ -108,17 +108,17 @@ has_names s f = not (is_empty (names_of_body (body_found s f)))
 
 -- what a descriptor is for
 abbrev pub node_open : Scene → ℕ → Node
-node_open s fd = the_node s.state.tree (the_descriptor s.process fd).number
+node_open s fd = the_node s.state.tree (the_descriptor s.process fd).ino
 
 -- ---- demands
 
 -- on what was found: as many lookups were done as the trail has
 abbrev pub permission_at_end : Scene → Found → ℕ → Perms → Demand
-permission_at_end s f walk want = permission_on s.process.cred s.state.tree (number f) want walk f.step
+permission_at_end s f walk want = permission_on s.process.cred s.state.tree (found_ino f) want walk f.step
 
 -- to add, remove or rename a name in the directory of the last lookup: one lookup less was done
 abbrev pub permission_at_dir : Scene → Found → ℕ → Demand
-permission_at_dir s f walk = permission_on s.process.cred s.state.tree f.dir write_and_search walk (f.step - 1)
+permission_at_dir s f walk = permission_on s.process.cred s.state.tree f.dir_ino write_and_search walk (f.step - 1)
 
 -- in a directory with S_ISVTX the caller owns the directory or the object: unlink(), rmdir(), rename()
 abbrev pub sticky_at_dir : Scene → Found → ℕ → Demand

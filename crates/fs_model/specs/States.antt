@@ -44,7 +44,7 @@ pub record IsDescriptor (t : Tree) (fd : ℕ) (d : Descriptor) : Type 0 where
   pub below : fd < descriptors_limit
   pub offset : d.offset < 2 ^ 64
   pub node : Node
-  pub is_there : node_at t d.number ≡ Some node
+  pub is_there : node_at t d.ino ≡ Some node
   pub no_link : IsFalse (is_link node.body)
   pub no_writes : IsTrue (is_directory node.body) → IsFalse d.write
 

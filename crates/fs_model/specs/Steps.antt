@@ -49,7 +49,7 @@ walk_refusals room t p k (walk ∷ walks) =
     first_refusal t p.cred k walk.0 (trail_in room t (cwd_of p k) walk) ∷ walk_refusals room t p (k + 1) walks
 
 abbrev pub nothing_found : Found
-nothing_found = record { dir = 0; name = []; last = Top; ino = None; slash = false; step = 0 }
+nothing_found = record { dir_ino = 0; name = []; last = Top; ino = None; slash = false; step = 0 }
 
 abbrev pub found_by : Room → Tree → ℕ → Form × List ℕ → Found
 found_by room t cwd walk = found_of (trail_in room t cwd walk) (start_of (parts_of walk.1) cwd)
@@ -117,7 +117,7 @@ other_refusal s _ = None
 
 -- the number of a new node, the number of a new process, and how many data sectors are free afterwards
 pub record Choice : Type 0 where
-  pub number : ℕ
+  pub ino : ℕ
   pub pid : ℕ
   pub free : ℕ
 
@@ -158,7 +158,7 @@ after_stamp s n f =
     record { change = Rewrite Untouched n (with_stamps x node); processes = s.processes; reply = Stamped x; now = s.now }
 
 unfoldable pub after : State → Event → Choice → After
-after s (Calls pid call) choice = after_call s pid (row_of call) choice.number (get nat_cmp s.processes pid)
+after s (Calls pid call) choice = after_call s pid (row_of call) choice.ino (get nat_cmp s.processes pid)
 after s (Exit pid) choice = record { change = Same; processes = without nat_cmp s.processes pid; reply = Done; now = s.now }
 after s (Spawn cred) choice =
     record { change = Same; processes = with_entry nat_cmp s.processes choice.pid (new_process cred); reply = Pid choice.pid; now = s.now }
@@ -177,7 +177,7 @@ state_after s a free = record s { tree = tree_after s a; processes = a.processes
 
 -- a new node gets a number that the tree lacks
 abbrev pub HasNewNumber : State → Change → Type 0
-HasNewNumber s (Make dir name n node) = (1 ≤ n) × (n < s.room.inodes) × (node_at s.tree n ≡ None)
+HasNewNumber s (Make dir_ino name n node) = (1 ≤ n) × (n < s.room.inodes) × (node_at s.tree n ≡ None)
 HasNewNumber s _ = Unit {0}
 
 -- a new process gets an unused number

@@ -39,24 +39,24 @@ pub data Change : Type 0 where
 
 -- the tree in which the names of a directory are changed so
 abbrev pub with_names_at : Tree → ℕ → (List (List ℕ × ℕ) → List (List ℕ × ℕ)) → Option Node → Tree
-with_names_at t dir f None = t
-with_names_at t dir f (Some node) = with_node t dir (record node { body = with_names (f (names_of_body node.body)) node.body })
+with_names_at t dir_ino f None = t
+with_names_at t dir_ino f (Some node) = with_node t dir_ino (record node { body = with_names (f (names_of_body node.body)) node.body })
 
 abbrev pub named : Tree → ℕ → List ℕ → ℕ → Tree
-named t dir name n = with_names_at t dir (λ names. with_entry name_cmp names name n) (node_at t dir)
+named t dir_ino name n = with_names_at t dir_ino (λ names. with_entry name_cmp names name n) (node_at t dir_ino)
 
 abbrev pub unnamed : Tree → ℕ → List ℕ → Tree
-unnamed t dir name = with_names_at t dir (λ names. without name_cmp names name) (node_at t dir)
+unnamed t dir_ino name = with_names_at t dir_ino (λ names. without name_cmp names name) (node_at t dir_ino)
 
 -- the tree after a change, before anything is dropped
 abbrev pub changed : Tree → Change → Tree
 changed t Same = t
 changed t (Rewrite touch n node) = with_node t n node
-changed t (Make dir name n node) = named (with_node t n node) dir name n
-changed t (AddName dir name n) = named t dir name n
-changed t (TakeName dir name) = unnamed t dir name
-changed t (MoveName dir name to_dir to_name) =
-    named (unnamed t dir name) to_dir to_name (unwrap_or (lookup t dir name) 0)
+changed t (Make dir_ino name n node) = named (with_node t n node) dir_ino name n
+changed t (AddName dir_ino name n) = named t dir_ino name n
+changed t (TakeName dir_ino name) = unnamed t dir_ino name
+changed t (MoveName dir_ino name to_dir_ino to_name) =
+    named (unnamed t dir_ino name) to_dir_ino to_name (unwrap_or (lookup t dir_ino name) 0)
 
 -- ---- times
 
@@ -69,11 +69,11 @@ changed_at (Some n) = (n, Changed) ∷ []
 abbrev pub touches_of : Tree → Change → List (ℕ × Touch)
 touches_of t Same = []
 touches_of t (Rewrite touch n node) = (n, touch) ∷ []
-touches_of t (Make dir name n node) = (dir, Modified) ∷ (n, Born) ∷ []
-touches_of t (AddName dir name n) = (dir, Modified) ∷ (n, Changed) ∷ []
-touches_of t (TakeName dir name) = (dir, Modified) ∷ changed_at (lookup t dir name)
-touches_of t (MoveName dir name to_dir to_name) =
-    (dir, Modified) ∷ (to_dir, Modified) ∷ (changed_at (lookup t dir name) ++ changed_at (lookup t to_dir to_name))
+touches_of t (Make dir_ino name n node) = (dir_ino, Modified) ∷ (n, Born) ∷ []
+touches_of t (AddName dir_ino name n) = (dir_ino, Modified) ∷ (n, Changed) ∷ []
+touches_of t (TakeName dir_ino name) = (dir_ino, Modified) ∷ changed_at (lookup t dir_ino name)
+touches_of t (MoveName dir_ino name to_dir_ino to_name) =
+    (dir_ino, Modified) ∷ (to_dir_ino, Modified) ∷ (changed_at (lookup t dir_ino name) ++ changed_at (lookup t to_dir_ino to_name))
 
 -- the times that a change moves, on a disk that keeps times
 abbrev pub touches : Room → Tree → Change → List (ℕ × Touch)

@@ -42,7 +42,7 @@ lookup_in None name = None
 lookup_in (Some node) name = get name_cmp (names_of_body node.body) name
 
 abbrev pub lookup : Tree → ℕ → List ℕ → Option ℕ
-lookup t dir name = lookup_in (node_at t dir) name
+lookup t dir_ino name = lookup_in (node_at t dir_ino) name
 
 -- d is the directory m or lies below it; `far` bounds how far up it is looked
 abbrev pub is_within : ℕ → Tree → ℕ → ℕ → Bool

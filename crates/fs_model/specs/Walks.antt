@@ -21,7 +21,7 @@ use Rattle.fs_model.specs.Trails.{Lookup, Trail, is_dot, is_dot_dot}
 -- what lookup k refuses with: its directory refuses search, or it has a fault. What is no directory has that
 -- for its fault, and is asked nothing else.
 abbrev pub lookup_refusal : Credential → Tree → ℕ → ℕ → Lookup → Demand
-lookup_refusal cred t walk k l = or_else (search_on cred t l.dir walk k) (failed_with l.fault)
+lookup_refusal cred t walk k l = or_else (search_on cred t l.dir_ino walk k) (failed_with l.fault)
 
 -- the refusal of the least lookup that refuses; the first of the list has number k
 abbrev pub least_refusal : Credential → Tree → ℕ → ℕ → List Lookup → Demand
@@ -60,7 +60,7 @@ abbrev pub last_of_name : List ℕ → Last
 last_of_name name = if is_dot name then Dot else (if is_dot_dot name then DotDot else Name)
 
 abbrev pub last_lookup : ℕ → List Lookup → Lookup
-last_lookup start [] = record { dir = start; name = []; fault = None }
+last_lookup start [] = record { dir_ino = start; name = []; fault = None }
 last_lookup start (l ∷ []) = l
 last_lookup start (_ ∷ l ∷ lookups) = last_lookup start (l ∷ lookups)
 
@@ -69,7 +69,7 @@ unfoldable pub found_of : Trail → ℕ → Found
 found_of trail start =
     let l = last_lookup start trail.lookups in
     record {
-      dir = l.dir;
+      dir_ino = l.dir_ino;
       name = l.name;
       last = if is_empty trail.lookups then Top else last_of_name l.name;
       ino = trail.found;

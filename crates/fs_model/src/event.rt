@@ -18,13 +18,13 @@ pub enum Event {
     /// another. Nothing is asked of its permissions.
     Enter {
         pid: usize,
-        directory: u32,
-        second: u32,
+        dir_ino: u32,
+        second_ino: u32,
     },
     /// The times of a node are set to those that are given, and answered as they are then. It is trusted: nothing is asked of
     /// anyone's permissions.
     Stamp {
-        inode: u32,
+        ino: u32,
         atime: Option<u64>,
         mtime: Option<u64>,
         ctime: Option<u64>,

@@ -8,7 +8,7 @@ use std::marker::Model;
 #[derive(Drop)]
 pub struct Named {
     pub name: Name,
-    pub inode: u32,
+    pub ino: u32,
 }
 
 /// Names with inode numbers, in the order in which they are shown. Contracts see a list of pairs.

@@ -63,7 +63,7 @@ impl From<FileType> for Kind {
 #[derive(Clone, Copy)]
 pub struct Status {
     /// The number of the inode.
-    pub inode: u32,
+    pub ino: u32,
     pub kind: FileType,
     /// The permission bits, and of a directory S_ISGID and S_ISVTX.
     pub mode: u16,

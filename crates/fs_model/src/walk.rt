@@ -31,7 +31,7 @@ pub enum Last {
 pub struct Found {
     /// The inode of the directory in which the last name was looked up; of a walk without lookups the one from which it
     /// starts.
-    pub dir: u32,
+    pub dir_ino: u32,
     /// The last name, empty where there is none.
     pub name: Name,
     pub last: Last,

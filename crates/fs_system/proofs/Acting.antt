@@ -39,11 +39,11 @@ module _ (s : State) (is : IsState s) (up : IsFalse s.halted) where
   none_dropped processes still = open_stays s.room s.tree s.processes processes is.tree (is.processes up) still
 
   abbrev pub choice_of : ℕ → Choice
-  choice_of pid = record { number = 0; pid = pid; free = s.free }
+  choice_of pid = record { ino = 0; pid = pid; free = s.free }
 
   module _ (e : Event) (pid : ℕ) (reply : Reply) (processes : ProcessTable) (time : ℕ) (still : StaysOpen s.processes processes) (machine : IsTrue (is_of_machine e))
       (firm : firm_refusal s e ≡ None) (other : other_refusal s e ≡ None)
-      (does : after s e (record { number = 0; pid = pid; free = s.free }) ≡ record { change = Same; processes = processes; reply = reply; now = time }) (new : HasNewPid s e pid) where
+      (does : after s e (record { ino = 0; pid = pid; free = s.free }) ≡ record { change = Same; processes = processes; reply = reply; now = time }) (new : HasNewPid s e pid) where
     same_tree : tree_after s (after s e (choice_of pid)) ≡ s.tree
     same_tree = ap (tree_after s) does ∙ none_dropped processes still
 
@@ -83,7 +83,7 @@ module _ (s : State) (up : IsFalse s.halted) (cred : Credential) where
   unfolding other_refusal
   spawn_other = refl
 
-  spawn_after : (pid : ℕ) → after s (Spawn cred) (record { number = 0; pid = pid; free = s.free })
+  spawn_after : (pid : ℕ) → after s (Spawn cred) (record { ino = 0; pid = pid; free = s.free })
       ≡ record { change = Same; processes = with_entry nat_cmp s.processes pid (new_process cred); reply = Pid pid; now = s.now }
   unfolding after
   spawn_after pid = refl
@@ -134,10 +134,10 @@ module _ (s : State) where
   unfolding other_refusal
   flush_other = flush_case (λ e. other_refusal s e ≡ None) (λ pid fd. refl) refl
 
-  flush_after : (e : Event) → IsTrue (asks_stable e) → after s e (record { number = 0; pid = 0; free = s.free }) ≡ record { change = Same; processes = s.processes; reply = Done; now = s.now }
+  flush_after : (e : Event) → IsTrue (asks_stable e) → after s e (record { ino = 0; pid = 0; free = s.free }) ≡ record { change = Same; processes = s.processes; reply = Done; now = s.now }
   unfolding after
   flush_after =
-      flush_case (λ e. after s e (record { number = 0; pid = 0; free = s.free }) ≡ record { change = Same; processes = s.processes; reply = Done; now = s.now }) (λ pid fd. refl) refl
+      flush_case (λ e. after s e (record { ino = 0; pid = 0; free = s.free }) ≡ record { change = Same; processes = s.processes; reply = Done; now = s.now }) (λ pid fd. refl) refl
 
   flush_pid : (e : Event) → IsTrue (asks_stable e) → HasNewPid s e 0
   flush_pid = flush_case (λ e. HasNewPid s e 0) (λ pid fd. tt) tt
@@ -184,7 +184,7 @@ module _ (s : State) (up : IsFalse s.halted) (time : ℕ) where
   unfolding other_refusal
   time_other = refl
 
-  time_after : after s (Clock time) (record { number = 0; pid = 0; free = s.free }) ≡ record { change = Same; processes = s.processes; reply = Done; now = time }
+  time_after : after s (Clock time) (record { ino = 0; pid = 0; free = s.free }) ≡ record { change = Same; processes = s.processes; reply = Done; now = time }
   unfolding after
   time_after = refl
 
@@ -202,7 +202,7 @@ module _ (s : State) (up : IsFalse s.halted) where
   unfolding other_refusal
   space_other = refl
 
-  space_after : after s Statfs (record { number = 0; pid = 0; free = s.free })
+  space_after : after s Statfs (record { ino = 0; pid = 0; free = s.free })
       ≡ record { change = Same; processes = s.processes; reply = Space s.free (free_inodes s.room s.tree); now = s.now }
   unfolding after
   space_after = refl

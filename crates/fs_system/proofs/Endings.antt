@@ -56,7 +56,7 @@ module _ (s : State) (pid : ℕ) (q : Process) (call : Call) (there : get nat_cm
   unfolding other_refusal
   late_is = rw there refl
 
-  after_is : (choice : Choice) → after s (Calls pid call) choice ≡ after_call s pid (row_of call) choice.number (Some q)
+  after_is : (choice : Choice) → after s (Calls pid call) choice ≡ after_call s pid (row_of call) choice.ino (Some q)
   unfolding after
   after_is choice = rw there refl
 

@@ -78,7 +78,7 @@ named_all room t k is all named = nothing_to_drop room t [] is (record {
 -- ---- a table in which all is open but for one number
 
 abbrev file_of : ℕ → ℕ × Descriptor
-file_of m = (m, record { number = m; offset = 0; read = false; write = false; append = false })
+file_of m = (m, record { ino = m; offset = 0; read = false; write = false; append = false })
 
 -- the numbers below k, without n
 files_but : ℕ → ℕ → List (ℕ × Descriptor)
@@ -86,7 +86,7 @@ files_but zero n = []
 files_but (suc k) n = if k == n then files_but k n else file_of k ∷ files_but k n
 
 abbrev has : ℕ → List (ℕ × Descriptor) → Bool
-has m ds = list_any (λ d. d.1.number == m) ds
+has m ds = list_any (λ d. d.1.ino == m) ds
 
 has_others : (k n m : ℕ) → m < k → m ≢ n → has m (files_but k n) ≡ true
 unfolding files_but

@@ -282,8 +282,8 @@ impl<D: Disk + Drop> Fs<D> {
     ///
     /// EIO where a read failed or the file system is halted, ESRCH where there is no such process, ENOENT where one of both
     /// isn't there, and ENOTDIR where one is no directory.
-    pub fn enter(&mut self, pid: usize, directory: u32, second: u32) -> Result<(), Errno>
-        ensures does { Happens D.state self.old self.new (Enter pid directory second) (finished result) }
+    pub fn enter(&mut self, pid: usize, dir_ino: u32, second_ino: u32) -> Result<(), Errno>
+        ensures does { Happens D.state self.old self.new (Enter pid dir_ino second_ino) (finished result) }
         ensures halted { LeavesHalted self.old self.new }
     {
         if self.is_halted() {
@@ -295,8 +295,8 @@ impl<D: Disk + Drop> Fs<D> {
             self.geometry,
             &mut self.procs,
             pid,
-            directory,
-            second,
+            dir_ino,
+            second_ino,
         );
         put_base(&mut self.base, Ok(store));
         done
@@ -330,12 +330,12 @@ impl<D: Disk + Drop> Fs<D> {
     /// EIO where the device failed or the file system is halted, and ENOENT where the inode isn't there.
     pub fn stamp(
         &mut self,
-        inode: u32,
+        ino: u32,
         atime: Option<u64>,
         mtime: Option<u64>,
         ctime: Option<u64>,
     ) -> Result<Stamps, Errno>
-        ensures does { Happens D.state self.old self.new (Stamp inode atime mtime ctime) (stamped_reply result) }
+        ensures does { Happens D.state self.old self.new (Stamp ino atime mtime ctime) (stamped_reply result) }
         ensures halted { LeavesHalted self.old self.new }
     {
         if self.is_halted() {
@@ -346,7 +346,7 @@ impl<D: Disk + Drop> Fs<D> {
             store,
             self.geometry,
             &self.procs,
-            inode,
+            ino,
             atime,
             mtime,
             ctime,

@@ -75,7 +75,7 @@ fn with_given(inode: &Inode, atime: Option<u64>, mtime: Option<u64>, ctime: Opti
 pub(crate) fn stamp<S: Sectors>(
     s: &mut S,
     geometry: Geometry,
-    n: u32,
+    ino: u32,
     atime: Option<u64>,
     mtime: Option<u64>,
     ctime: Option<u64>,
@@ -86,13 +86,13 @@ pub(crate) fn stamp<S: Sectors>(
     ensures store { SameStore (S.state s.old) (S.state s.new) }
     ensures superblock { OnOk result ((S.state s.new).sectors 0 ≡ (S.state s.old).sectors 0) }
     ensures each { (processes : ProcessTable) (t : State) → IsStateOf geometry (S.state s.old).sectors processes t
-        → MatchResult result (λ stamps. IsStamped geometry (S.state s.new).sectors t n atime mtime ctime stamps)
-        (λ errno. IsNotStamped (S.state s.old).disk (S.state s.new).disk t n atime mtime ctime errno) }
+        → MatchResult result (λ stamps. IsStamped geometry (S.state s.new).sectors t ino atime mtime ctime stamps)
+        (λ errno. IsNotStamped (S.state s.old).disk (S.state s.new).disk t ino atime mtime ctime errno) }
 {
-    if n >= geometry.inodes {
+    if ino >= geometry.inodes {
         return Err(Errno::ENOENT);
     }
-    let Ok(inode) = load(s, geometry, n) else {
+    let Ok(inode) = load(s, geometry, ino) else {
         return Err(Errno::EIO);
     };
     if inode.kind == Kind::Free {
@@ -102,7 +102,7 @@ pub(crate) fn stamp<S: Sectors>(
         return Ok(stamps_in(&inode));
     }
     let given = with_given(&inode, atime, mtime, ctime);
-    let Ok(()) = save(s, geometry, n, &given) else {
+    let Ok(()) = save(s, geometry, ino, &given) else {
         return Err(Errno::EIO);
     };
     Ok(stamps_in(&given))

@@ -92,16 +92,16 @@ pub(crate) fn enter_kept<D: Disk>(
     geometry: Geometry,
     procs: &mut Procs,
     pid: usize,
-    directory: u32,
-    second: u32,
+    dir_ino: u32,
+    second_ino: u32,
 ) -> (Result<(), Errno>, CountedStore<D>)
     requires running { (s : State) × IsRunning (D.state store.disk).size geometry (present D.state store) procs.old s }
     ensures does { (s : State) → IsRunning (D.state store.disk).size geometry (present D.state store) procs.old s
         → (t : State) × IsOn D.state geometry s.now procs.new (Some (Ok result.1)) t
-        × Does (D.state store.disk) (D.state result.1.disk) s (Enter pid directory second) (finished result.0) t }
+        × Does (D.state store.disk) (D.state result.1.disk) s (Enter pid dir_ino second_ino) (finished result.0) t }
 {
     let mut txn = store.begin();
-    let done = enter(&mut txn, geometry, procs, pid, directory, second);
+    let done = enter(&mut txn, geometry, procs, pid, dir_ino, second_ino);
     (done, txn.drop_delta())
 }
 
@@ -110,7 +110,7 @@ pub(crate) fn stamp_kept<D: Disk>(
     store: CountedStore<D>,
     geometry: Geometry,
     procs: &Procs,
-    inode: u32,
+    ino: u32,
     atime: Option<u64>,
     mtime: Option<u64>,
     ctime: Option<u64>,
@@ -118,12 +118,12 @@ pub(crate) fn stamp_kept<D: Disk>(
     requires running { (s : State) × IsRunning (D.state store.disk).size geometry (present D.state store) procs.now s }
     ensures does { (s : State) → IsRunning (D.state store.disk).size geometry (present D.state store) procs.now s
         → (t : State) × IsOn D.state geometry s.now procs.now (Some result.1) t
-        × Does (D.state store.disk) (D.state (disk_after result.1)) s (Stamp inode atime mtime ctime) (stamped_reply result.0) t }
+        × Does (D.state store.disk) (D.state (disk_after result.1)) s (Stamp ino atime mtime ctime) (stamped_reply result.0) t }
 {
     let _processes = procs;
     times_are_in_range(atime, mtime, ctime);
     let mut txn = store.begin();
-    match stamp(&mut txn, geometry, inode, atime, mtime, ctime) {
+    match stamp(&mut txn, geometry, ino, atime, mtime, ctime) {
         Ok(stamps) => match txn.keep() {
             Ok(store) => (Ok(stamps), Ok(store)),
             Err(broken) => (Err(Errno::EIO), Err(broken)),

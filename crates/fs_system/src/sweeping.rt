@@ -17,19 +17,19 @@ use fs_layout::{Geometry, ROOT};
 use sector_disk::Disk;
 use sector_txn::Store;
 
-// Frees inode n where it is that of a file without a name. At `Err` a read or a commit has failed.
-fn free_nameless<D: Disk>(store: Store<D>, geometry: Geometry, n: u32) -> Result<Store<D>, D>
-    requires number { IsNumber geometry Inodes n }
+// Frees inode `ino` where it is that of a file without a name. At `Err` a read or a commit has failed.
+fn free_nameless<D: Disk>(store: Store<D>, geometry: Geometry, ino: u32) -> Result<Store<D>, D>
+    requires number { IsNumber geometry Inodes ino }
     requires tree { (t : Tree) × HasTree geometry (present D.state store) (D.state store.disk) t }
     ensures frees { IfOk result (λ after.
-        FreesNameless geometry n (present D.state store) (D.state store.disk) (present D.state after) (D.state after.disk)) }
+        FreesNameless geometry ino (present D.state store) (D.state store.disk) (present D.state after) (D.state after.disk)) }
     ensures any_moment { KeepsTree geometry (present D.state store) (D.state store.disk) (D.state (disk_after result)) }
     ensures size { (D.state (disk_after result)).size ≡ (D.state store.disk).size }
     ensures cause { HasCause (D.state store.disk) (D.state (disk_after result)) result }
     ensures quiet { IfOk result (λ after. (D.state after.disk).failed_writes ≡ (D.state store.disk).failed_writes) }
 {
     let mut txn = store.begin();
-    match leave(&mut txn, geometry, n, false) {
+    match leave(&mut txn, geometry, ino, false) {
         Ok(()) => match txn.keep() {
             Ok(store) => Ok(store),
             Err(broken) => Err(broken.into_disk()),
@@ -66,8 +66,8 @@ fn free_all_nameless<D: Disk>(store: Store<D>, geometry: Geometry) -> Result<Sto
     ensures quiet { IfOk result (λ after. (D.state after.disk).failed_writes ≡ (D.state store.disk).failed_writes) }
 {
     let mut store = store;
-    for n in ROOT + 1..geometry.inodes {
-        let freed = free_nameless(store, geometry, n)?;
+    for ino in ROOT + 1..geometry.inodes {
+        let freed = free_nameless(store, geometry, ino)?;
         store = make_stable(freed)?;
     }
     Ok(store)

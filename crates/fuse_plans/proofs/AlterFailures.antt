@@ -25,7 +25,7 @@ use Rattle.fuse_plans.specs.declared.mode.Mode.{Mode}
 use Rattle.fuse_plans.specs.Plans.{Plan, Finish, Ask, followed_by, IsRunOf, IsAsked, at_once, later}
 use Rattle.fuse_plans.specs.Requests.{asked_of}
 use Rattle.fuse_plans.specs.Works.{Work, give, fail, kept, keep, goes_on, ◌>>=◌, attempt, or_closed, ask, give_unless, refusal_in, unless_refused, obtain}
-use Rattle.fuse_plans.specs.Callers.{between, done_between, standing_refusal, by_places, on}
+use Rattle.fuse_plans.specs.Callers.{between, done_between, standing_refusal, by_dentries, on}
 use Rattle.fuse_plans.specs.NamePlans.{removal, remove, move_name}
 use Rattle.fuse_plans.specs.AclPlans.{set_acl, set_xattr, remove_xattr}
 use Rattle.fuse_plans.specs.FilePlans.{when, done, confirm_shown, confirm_open, open_object, open_file}
@@ -219,20 +219,20 @@ clean-between pid directory second call = quiet->>= (search pieces) (λ entered.
 clean-done_between : (pid directory second : ℕ) (call : Call) → Clean (done_between pid directory second call)
 clean-done_between pid directory second call = clean->>= (clean-between pid directory second call) (λ reply. sure-give tt)
 
-clean-by_places : (pid : ℕ) (second : Option ℕ) (call : List ℕ → Call) (before : RequestError) (places : List Dentry) → Clean (by_places pid second call before places)
-unfolding by_places
-clean-by_places pid second call before [] = clean-fail before
-clean-by_places pid second call before (p ∷ others) =
-    clean-attempt _ (clean-between pid p.directory _ (call p.name)) (λ reply. sure-give reply)
-    (λ e. clean-if _ _ _ (clean-by_places pid second call (standing_refusal before e) others) (clean-fail e))
+clean-by_dentries : (pid : ℕ) (second : Option ℕ) (call : List ℕ → Call) (before : RequestError) (dentries : List Dentry) → Clean (by_dentries pid second call before dentries)
+unfolding by_dentries
+clean-by_dentries pid second call before [] = clean-fail before
+clean-by_dentries pid second call before (p ∷ others) =
+    clean-attempt _ (clean-between pid p.dir_ino _ (call p.name)) (λ reply. sure-give reply)
+    (λ e. clean-if _ _ _ (clean-by_dentries pid second call (standing_refusal before e) others) (clean-fail e))
 
 clean-on : (pid n : ℕ) (call : List ℕ → Call) → Clean (on pid n call)
 unfolding on
 clean-on pid n call =
     clean-if (n == root) _ _ (clean-obtain _)
     (quiet->>= (search pieces) (λ kind.
-    quiet->>= (search pieces) (λ places.
-    clean-attempt _ (clean-by_places pid None call _ places) (λ reply. sure-give reply)
+    quiet->>= (search pieces) (λ dentries.
+    clean-attempt _ (clean-by_dentries pid None call _ dentries) (λ reply. sure-give reply)
     (λ e. clean-if _ _ _ (clean-between pid n n _) (clean-fail e)))))
 
 -- ---- requests

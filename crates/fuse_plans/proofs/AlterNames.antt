@@ -9,7 +9,7 @@ use Rattle.fuse_plans.specs.declared.request.Asked.{Asked}
 use Rattle.fuse_plans.specs.declared.request_error.RequestError.{RequestError}
 use Rattle.fuse_plans.specs.declared.request_error.RequestError.TheVariants.{Refuses, Lacks}
 use Rattle.fuse_plans.specs.declared.request_error.OtherErrno.TheVariants.{ENFILE, ERANGE, ENOSYS, ENODATA, EPROTO, EOPNOTSUPP, ESTALE}
-use Rattle.fuse_plans.specs.NamePlans.{plain_name, or_absent, found_or_absent, find_name, made, open_and_close, directory_and_caller, make_link, make_directory, make_file, remove, none_there, move_name, link_by_place, add_link}
+use Rattle.fuse_plans.specs.NamePlans.{plain_name, or_absent, found_or_absent, find_name, made, open_and_close, directory_and_caller, make_link, make_directory, make_file, remove, none_there, move_name, link_by_dentry, add_link}
 use Rattle.fuse_plans.specs.Alterations.{adds_name, moves_name, IsToldIn}
 use Rattle.fuse_plans.proofs.AlterPieces.{pieces, Asks, IsTold, asks-give, asks-fail}
 use Rattle.fuse_plans.proofs.AlterMasks.{asks-new_valid}
@@ -66,9 +66,9 @@ module _ {o : Option Operation} where
       → Asks o (move_name r name new_node new_name flags)
   asks-move_name r name new_node new_name flags told = search (pieces, asks-none_there, told) depth 20
 
-  asks-link_by_place : (pid n d : ℕ) (name : List ℕ) → IsToldIn o (adds_name name) → Asks o (link_by_place pid n d name)
-  unfolding link_by_place
-  asks-link_by_place pid n d name told = search (pieces, told) depth 12
+  asks-link_by_dentry : (pid n d : ℕ) (name : List ℕ) → IsToldIn o (adds_name name) → Asks o (link_by_dentry pid n d name)
+  unfolding link_by_dentry
+  asks-link_by_dentry pid n d name told = search (pieces, told) depth 12
 
   pub asks-add_link : (r : Asked) (old_node : ℕ) (name : List ℕ) → IsToldIn o (adds_name name) → Asks o (add_link r old_node name)
-  asks-add_link r old_node name told = search (pieces, asks-link_by_place, told) depth 20
+  asks-add_link r old_node name told = search (pieces, asks-link_by_dentry, told) depth 20

@@ -25,7 +25,7 @@ use Rattle.fuse_state.specs.Servers.{Server}
 use Rattle.fuse_plans.specs.declared.request_error.RequestError.{RequestError}
 use Rattle.fuse_plans.specs.Plans.{Plan, Finish, Ask, followed_by}
 use Rattle.fuse_plans.specs.Works.{Work, give, fail, kept, keep, goes_on, ◌>>=◌, attempt, needed, ask, give_unless, refusal_in, unless_refused, obtain, or_closed}
-use Rattle.fuse_plans.specs.Callers.{settle_new, settle, retire_next, retire, settle_first, begin_process, or_spawned, caller, unused_of, or_unused, caller_with_room, the_server_process, between, done_between, look_inside, or_inside, standing_refusal, or_next, by_places, by_place, on, by_server_process, look_at, look, is_known_directory, the_number, directory_number, standing_directory}
+use Rattle.fuse_plans.specs.Callers.{settle_new, settle, retire_next, retire, settle_first, begin_process, or_spawned, caller, unused_of, or_unused, caller_with_room, the_server_process, between, done_between, look_inside, or_inside, standing_refusal, or_next, by_dentries, by_dentry, on, by_server_process, look_at, look, is_known_directory, the_number, directory_number, standing_directory}
 use Rattle.fuse_plans.specs.FilePlans.{when, done}
 use Rattle.fuse_plans.specs.Times.{tell_time_if, tell_time, told_stamps_if, told_stamps}
 use Rattle.fuse_plans.proofs.AllEnds.{AllEnd, all-followed_by}
@@ -209,23 +209,23 @@ module _ {o : Option Operation} where
   asks-or_next rest (Ok reply) = asks-give reply
   asks-or_next rest (Err e) = asks-if _ _ _ (rest e) (asks-fail e)
 
-  pub asks-by_places : (pid : ℕ) (second : Option ℕ) (call : List ℕ → Call) (before : RequestError) (places : List Dentry) → ((path : List ℕ) → IsTold o pid (call path))
-      → Asks o (by_places pid second call before places)
-  unfolding by_places
-  asks-by_places pid second call before [] told = asks-fail before
-  asks-by_places pid second call before (p ∷ others) told =
-      asks->>= (asks-attempt (asks-between pid p.directory _ (call p.name) (told p.name)))
-      (asks-or_next (λ e. asks-by_places pid second call (standing_refusal before e) others told))
+  pub asks-by_dentries : (pid : ℕ) (second : Option ℕ) (call : List ℕ → Call) (before : RequestError) (dentries : List Dentry) → ((path : List ℕ) → IsTold o pid (call path))
+      → Asks o (by_dentries pid second call before dentries)
+  unfolding by_dentries
+  asks-by_dentries pid second call before [] told = asks-fail before
+  asks-by_dentries pid second call before (p ∷ others) told =
+      asks->>= (asks-attempt (asks-between pid p.dir_ino _ (call p.name) (told p.name)))
+      (asks-or_next (λ e. asks-by_dentries pid second call (standing_refusal before e) others told))
 
-  asks-by_place : (pid n : ℕ) (call : List ℕ → Call) → ((path : List ℕ) → IsTold o pid (call path)) → Asks o (by_place pid n call)
-  asks-by_place pid n call told =
+  asks-by_dentry : (pid n : ℕ) (call : List ℕ → Call) → ((path : List ℕ) → IsTold o pid (call path)) → Asks o (by_dentry pid n call)
+  asks-by_dentry pid n call told =
       asks->>= (asks-kept _) (λ kind.
-      asks->>= (asks-kept _) (λ places.
-      asks->>= (asks-attempt (asks-by_places pid None call _ places told)) (λ reply. asks-or_inside pid n call kind reply told)))
+      asks->>= (asks-kept _) (λ dentries.
+      asks->>= (asks-attempt (asks-by_dentries pid None call _ dentries told)) (λ reply. asks-or_inside pid n call kind reply told)))
 
   pub asks-on : (pid n : ℕ) (call : List ℕ → Call) → ((path : List ℕ) → IsTold o pid (call path)) → Asks o (on pid n call)
   unfolding on
-  asks-on pid n call told = asks-if (n == root) _ _ (asks-obtain (Calls pid (call (codes "/"))) (told (codes "/"))) (asks-by_place pid n call told)
+  asks-on pid n call told = asks-if (n == root) _ _ (asks-obtain (Calls pid (call (codes "/"))) (told (codes "/"))) (asks-by_dentry pid n call told)
 
   pub asks-by_server_process : (n : ℕ) (call : List ℕ → Call) → ((pid : ℕ) (path : List ℕ) → IsTold o pid (call path)) → Asks o (by_server_process n call)
   asks-by_server_process n call told = asks->>= asks-the_server_process (λ pid. asks-on pid n call (told pid))
@@ -273,7 +273,7 @@ module _ {o : Option Operation} where
   asks-told_stamps n = asks->>= (asks-kept _) (λ keeps. asks-told_stamps_if keeps n)
 
 -- each piece, for a search
-pub ruleset pieces = (asks->>=, asks-give, asks-fail, asks-kept, asks-keep, asks-attempt, asks-if, asks-when, asks-done, asks-needed, asks-ask, asks-obtain, asks-or_closed, asks-caller, asks-caller_with_room, asks-the_server_process, asks-between, asks-done_between, asks-look_inside, asks-by_places, asks-on, asks-by_server_process, asks-look, asks-the_number, asks-directory_number, asks-standing_directory, asks-told_stamps)
+pub ruleset pieces = (asks->>=, asks-give, asks-fail, asks-kept, asks-keep, asks-attempt, asks-if, asks-when, asks-done, asks-needed, asks-ask, asks-obtain, asks-or_closed, asks-caller, asks-caller_with_room, asks-the_server_process, asks-between, asks-done_between, asks-look_inside, asks-by_dentries, asks-on, asks-by_server_process, asks-look, asks-the_number, asks-directory_number, asks-standing_directory, asks-told_stamps)
 
 -- ---- what is known of a value
 

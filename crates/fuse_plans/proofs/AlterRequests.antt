@@ -172,8 +172,8 @@ module _ {o : Option Operation} where
 
   asks-listed : (node handle : ℕ) (d : OpenDirectory) (anew : Bool) (known : Option (List (List ℕ × ℕ))) → Asks o (listed node handle d anew known)
   asks-listed node handle d false (Some names) = asks-give names
-  asks-listed node handle d false None = asks-list_now node handle d.number
-  asks-listed node handle d true known = asks-list_now node handle d.number
+  asks-listed node handle d false None = asks-list_now node handle d.ino
+  asks-listed node handle d true known = asks-list_now node handle d.ino
 
   asks-read_directory : (node : ℕ) (extent : Extent) → Asks o (read_directory node extent)
   unfolding read_directory

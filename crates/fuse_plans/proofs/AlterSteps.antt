@@ -23,7 +23,7 @@ use Rattle.fs_model.specs.Processes.{Process}
 use Rattle.fs_model.specs.RenameCall.{is_same}
 use Rattle.fs_model.specs.Rows.{row_of}
 use Rattle.fs_layout.proofs.FirstEntries.{left}
-use Rattle.fs_model.specs.Scenes.{Scene, is_found, number as number_found, node_found, body_found}
+use Rattle.fs_model.specs.Scenes.{Scene, is_found, found_ino, node_found, body_found}
 use Rattle.fs_model.specs.States.{State}
 use Rattle.fs_model.specs.Steps.{Choice, with_stamps, scene_of, late_refusal, demand_of, other_refusal, after_call, after_enter, after, Answers, is_halted, refuses_early, refuses_late, acts, lacks_memory, read_fails, write_fails}
 use Rattle.fs_model.specs.TreeChanges.{Same, Rewrite, Make, MoveName, changed, swept, touches, touched}
@@ -124,7 +124,7 @@ opens f mode path s number met = choose (is_found s.first) (f.trunc && f.write) 
         → AreMet (if found then open_found_demands f s else open_new_demands f s)
         → AltersOnly (of_open f path) s.state.tree
         (if not found then Make directory name n node
-        else (if cuts then Rewrite Modified (number_found s.first) (record (node_found s s.first) { body = with_bytes [] (body_found s s.first) }) else Same))
+        else (if cuts then Rewrite Modified (found_ino s.first) (record (node_found s s.first) { body = with_bytes [] (body_found s s.first) }) else Same))
     choose false cuts is directory name n node asked = says_added f.create f.trunc path (made_by_flag f.create s.first.slash (unrefused _ _ asked.0))
     choose true true is directory name n node asked = keeps_bytes _ _ _ _ [] _ (says_bytes f.create f.trunc path (left f.trunc f.write is))
     choose true false is directory name n node asked = tt
@@ -182,7 +182,7 @@ says_event : (s : State) (e : Event) (choice : Choice) → other_refusal s e ≡
 unfolding other_refusal after
 says_event s (Spawn cred) choice none = tt
 says_event s (Exit pid) choice none = tt
-says_event s (Calls pid call) choice none = says_call s pid call choice.number (get nat_cmp s.processes pid) none
+says_event s (Calls pid call) choice none = says_call s pid call choice.ino (get nat_cmp s.processes pid) none
 says_event s (Enter pid directory second) choice none = says_enter s pid directory second (get nat_cmp s.processes pid)
 says_event s (Stamp n atime mtime ctime) choice none = keeps_times n s.room.keeps_times atime mtime ctime (the_node s.tree n)
 says_event s (Clock now) choice none = tt

@@ -31,7 +31,7 @@ use Rattle.fuse_plans.specs.declared.request_error.OtherErrno.TheVariants.{ENFIL
 use Rattle.fuse_plans.specs.Plans.{Finish}
 use Rattle.fuse_plans.specs.Requests.{asked_of}
 use Rattle.fuse_plans.specs.Works.{Work, give, fail, kept, keep, goes_on, ◌>>=◌, attempt, needed, ask, give_unless, refusal_in, unless_refused, or_closed}
-use Rattle.fuse_plans.specs.Callers.{settle_new, settle, retire_next, retire, settle_first, begin_process, or_spawned, caller, unused_of, or_unused, caller_with_room, the_server_process, between, look_inside, or_inside, standing_refusal, or_next, by_places, on, look_at, look, the_number, directory_number, standing_directory}
+use Rattle.fuse_plans.specs.Callers.{settle_new, settle, retire_next, retire, settle_first, begin_process, or_spawned, caller, unused_of, or_unused, caller_with_room, the_server_process, between, look_inside, or_inside, standing_refusal, or_next, by_dentries, on, look_at, look, the_number, directory_number, standing_directory}
 use Rattle.fuse_plans.specs.Flags.{is_trunc}
 use Rattle.fuse_plans.specs.NamePlans.{or_absent, found_or_absent, find_name}
 use Rattle.fuse_plans.specs.FilePlans.{when, touched_if, show_open, confirm_shown, confirm_open, open_file, the_open, seek, read_piece, read_pieces, read_file, close_file, sync_file}
@@ -190,16 +190,16 @@ keeps-or_next : {next : RequestError → Work Reply} → ((e : RequestError) →
 keeps-or_next rest (Ok reply) = keeps-give reply
 keeps-or_next rest (Err e) = keeps-if _ _ _ (rest e) (keeps-fail e)
 
-keeps-by_places : (pid : ℕ) (second : Option ℕ) (call : List ℕ → Call) (before : RequestError) (places : List Dentry) → Timeless (by_places pid second call before places)
-unfolding by_places
-keeps-by_places pid second call before [] = keeps-fail before
-keeps-by_places pid second call before (p ∷ others) =
-    keeps->>= (keeps-attempt (keeps-between pid p.directory _ (call p.name)))
-    (keeps-or_next (λ e. keeps-by_places pid second call (standing_refusal before e) others))
+keeps-by_dentries : (pid : ℕ) (second : Option ℕ) (call : List ℕ → Call) (before : RequestError) (dentries : List Dentry) → Timeless (by_dentries pid second call before dentries)
+unfolding by_dentries
+keeps-by_dentries pid second call before [] = keeps-fail before
+keeps-by_dentries pid second call before (p ∷ others) =
+    keeps->>= (keeps-attempt (keeps-between pid p.dir_ino _ (call p.name)))
+    (keeps-or_next (λ e. keeps-by_dentries pid second call (standing_refusal before e) others))
 
 keeps-on : (pid n : ℕ) (call : List ℕ → Call) → Timeless (on pid n call)
 unfolding on
-keeps-on pid n call = search (basics, keeps-by_places, keeps-or_inside) depth 16
+keeps-on pid n call = search (basics, keeps-by_dentries, keeps-or_inside) depth 16
 
 keeps-look_at : (n : ℕ) (placed : Bool) → Timeless (look_at n placed)
 keeps-look_at n true = search (basics, keeps-the_server_process, keeps-on) depth 12
@@ -350,8 +350,8 @@ keeps-list_now node handle number = search (pieces, keeps-list_all, listing-keep
 
 keeps-listed : (node handle : ℕ) (d : OpenDirectory) (anew : Bool) (known : Option (List (List ℕ × ℕ))) → Timeless (listed node handle d anew known)
 keeps-listed node handle d false (Some names) = keeps-give names
-keeps-listed node handle d false None = keeps-list_now node handle d.number
-keeps-listed node handle d true known = keeps-list_now node handle d.number
+keeps-listed node handle d false None = keeps-list_now node handle d.ino
+keeps-listed node handle d true known = keeps-list_now node handle d.ino
 
 keeps-read_directory : (node : ℕ) (extent : Extent) → Timeless (read_directory node extent)
 unfolding read_directory

@@ -17,13 +17,13 @@ use Rattle.fuse_plans.specs.declared.request_error.RequestError.TheVariants.{Lac
 use Rattle.fuse_plans.specs.declared.request_error.OtherErrno.TheVariants.{ESTALE}
 use Rattle.fuse_plans.specs.RequestErrors.{failed, is_for}
 use Rattle.fuse_state.specs.declared.dentry.Dentry.{Dentry}
-use Rattle.fuse_state.specs.Servers.{Server, number_of_node, kind_known, places_of, head_of, WithinShares}
+use Rattle.fuse_state.specs.Servers.{Server, number_of_node, kind_known, dentries_of, head_of, WithinShares}
 use Rattle.fuse_plans.specs.Works.{Work, give, fail, kept, goes_on, ◌>>=◌, ◌>>◌, attempt, needed, ask, refusal_in, unless_refused, obtain, or_closed, replied_status, unexpected}
-use Rattle.fuse_plans.specs.Callers.{between, inside, done_between, look_inside, on, or_inside, standing_refusal, or_next, by_places, by_place, the_server_process, by_server_process, look, look_at, is_known_directory, the_number, directory_number, only_directory, standing_directory, has_place}
-use Rattle.fuse_plans.specs.Acts.{Subject, Away, gone_to, node_of_object, own_directory, second_directory, IsStandingDirectory, IsObject, IsKnownPlace, IsOfRequest, is_known, is_itself, named_in, path_kept, ActsWithin, on_one, Concerns, acts, on_root, without_path}
+use Rattle.fuse_plans.specs.Callers.{between, inside, done_between, look_inside, on, or_inside, standing_refusal, or_next, by_dentries, by_dentry, the_server_process, by_server_process, look, look_at, is_known_directory, the_number, directory_number, only_directory, standing_directory, has_dentry}
+use Rattle.fuse_plans.specs.Acts.{Subject, Away, gone_to, node_of_object, own_directory, second_directory, IsStandingDirectory, IsObject, IsKnownDentry, IsOfRequest, is_known, is_itself, named_in, path_kept, ActsWithin, on_one, Concerns, acts, on_root, without_path}
 use Rattle.fuse_plans.specs.Conduct
 use Rattle.fuse_plans.specs.Conduct.{Known, Rights, MayCall, as_caller, as_server_process, shows, MayAsk, conduct, known_after, away_after, Fits, IsNobodyElse, MayEnter, IsCaller, only_looks}
-use Rattle.fuse_plans.proofs.Conducts.{Any, Still, still-number, still-places, Left, LeftTo, Does, Lasts, Gives, then-does_to, does-does_to, gives-give, gives-fail, does-give, does-fail, does-kept, does->>=, does-attempt, does-needed, does-unless_refused, fits-any}
+use Rattle.fuse_plans.proofs.Conducts.{Any, Still, still-number, still-dentries, Left, LeftTo, Does, Lasts, Gives, then-does_to, does-does_to, gives-give, gives-fail, does-give, does-fail, does-kept, does->>=, does-attempt, does-needed, does-unless_refused, fits-any}
 
 -- where P holds, the process may make the call
 abbrev pub CanCall : Rights → (Server → Type 0) → ℕ → Call → Type 0
@@ -36,11 +36,11 @@ IsPathOf call = (path : List ℕ) → path_kept (call path) ≡ Some path
 -- the object of the request, whose dentries are ones that may be used
 pub record About (rights : Rights) (P : Server → Type 0) (n : ℕ) : Type 0 where
   pub object : IsObject rights.subject n
-  pub places : (s : Server) → P s → All (IsOfRequest rights.subject) (places_of s n)
+  pub dentries : (s : Server) → P s → All (IsOfRequest rights.subject) (dentries_of s n)
 
 -- by this dentry, what is acted on is of the request
 abbrev pub ActsAt : Subject → Option ℕ → (List ℕ → Call) → Dentry → Type 0
-ActsAt r second call p = ActsWithin r p.directory (unwrap_or second p.directory) (call p.name)
+ActsAt r second call p = ActsWithin r p.dir_ino (unwrap_or second p.dir_ino) (call p.name)
 
 -- what is known while the process is away
 record Out (rights : Rights) (P : Server → Type 0) (pid : ℕ) (known : Known) (s : Server) : Type 0 where
@@ -63,16 +63,16 @@ back pid call = do
 -- who has entered a directory is the one who is away, and stands there
 record There (there : Away) (away : Option Away) : Type 0 where
   free : IsNobodyElse away there.pid
-  directory : own_directory away ≡ there.directory
+  directory : own_directory away ≡ there.dir_ino
   second : second_directory away ≡ there.second
 
 is_root : (directory second : ℕ) → (directory == root && second == root) ≡ true → (root ≡ directory) × (root ≡ second)
 is_root directory second is = (grind (arith, nat_tests), grind (arith, nat_tests))
 
-there_after : (away : Option Away) (there : Away) (at_root : Bool) (reply : Reply) → (there.directory == root && there.second == root) ≡ at_root → refusal_in reply ≡ None
+there_after : (away : Option Away) (there : Away) (at_root : Bool) (reply : Reply) → (there.dir_ino == root && there.second == root) ≡ at_root → refusal_in reply ≡ None
     → There there (away_after away there at_root reply)
 there_after away there true reply is fine =
-    let same = is_root there.directory there.second is in
+    let same = is_root there.dir_ino there.second is in
     record { free = tt; directory = same.0; second = same.1 }
 there_after away there false (Refused r) is fine = absurd (let no : Some r ≡ None = fine in cc)
 there_after away there false Done is fine = record { free = refl; directory = refl; second = refl }
@@ -95,10 +95,10 @@ still-home away there true r home = refl
 still-home away there false r home = home
 
 -- what is acted on in these directories
-acts_there : {r : Subject} {there : Away} {away : Option Away} {call : Call} → There there away → ActsWithin r there.directory there.second call → Concerns r away call
+acts_there : {r : Subject} {there : Away} {away : Option Away} {call : Call} → There there away → ActsWithin r there.dir_ino there.second call → Concerns r away call
 acts_there {r} {there} {away} {call} is act =
     acts (subst (λ d. ActsWithin r d (second_directory away) call) (sym is.directory)
-    (subst (λ d. ActsWithin r there.directory d call) (sym is.second) act))
+    (subst (λ d. ActsWithin r there.dir_ino d call) (sym is.second) act))
 
 module _ {rights : Rights} {P : Server → Type 0} where
   at_home : {known : Known} {s : Server} (pid : ℕ) → Fits rights P known s → IsNobodyElse known.away pid
@@ -213,34 +213,34 @@ module _ {rights : Rights} {P : Server → Type 0} where
       choose true = rest e
       choose false = does-fail e
 
-  pub does-by_places : (pid : ℕ) (second : Option ℕ) (call : List ℕ → Call) (before : RequestError) (places : List Dentry) → ((path : List ℕ) → CanCall rights P pid (call path))
-      → All (ActsAt rights.subject second call) places → Does rights P (by_places pid second call before places)
-  unfolding by_places
-  does-by_places pid second call before [] may act = does-fail before
-  does-by_places pid second call before (p ∷ others) may act =
-      does->>= (does-attempt (does-between pid p.directory _ (call p.name) (may p.name) (All-head (ActsAt rights.subject second call) p others act)))
-      (does-or_next (λ e. does-by_places pid second call (standing_refusal before e) others may (All-tail (ActsAt rights.subject second call) p others act)))
+  pub does-by_dentries : (pid : ℕ) (second : Option ℕ) (call : List ℕ → Call) (before : RequestError) (dentries : List Dentry) → ((path : List ℕ) → CanCall rights P pid (call path))
+      → All (ActsAt rights.subject second call) dentries → Does rights P (by_dentries pid second call before dentries)
+  unfolding by_dentries
+  does-by_dentries pid second call before [] may act = does-fail before
+  does-by_dentries pid second call before (p ∷ others) may act =
+      does->>= (does-attempt (does-between pid p.dir_ino _ (call p.name) (may p.name) (All-head (ActsAt rights.subject second call) p others act)))
+      (does-or_next (λ e. does-by_dentries pid second call (standing_refusal before e) others may (All-tail (ActsAt rights.subject second call) p others act)))
 
-  does-by_place : (pid n : ℕ) (call : List ℕ → Call) → ((path : List ℕ) → CanCall rights P pid (call path)) → IsPathOf call → About rights P n
-      → Does rights P (by_place pid n call)
+  does-by_dentry : (pid n : ℕ) (call : List ℕ → Call) → ((path : List ℕ) → CanCall rights P pid (call path)) → IsPathOf call → About rights P n
+      → Does rights P (by_dentry pid n call)
   unfolding kept ◌>>=◌
-  does-by_place pid n call may takes about = record { goes = λ known s fits. (by s fits.holds).goes known s fits }
+  does-by_dentry pid n call may takes about = record { goes = λ known s fits. (by s fits.holds).goes known s fits }
     where
-      by : (s : Server) → P s → Does rights P (attempt (by_places pid None call (Lacks ESTALE) (places_of s n)) >>= or_inside pid n call (kind_known s n))
+      by : (s : Server) → P s → Does rights P (attempt (by_dentries pid None call (Lacks ESTALE) (dentries_of s n)) >>= or_inside pid n call (kind_known s n))
       by s holds =
-          let act = All-weaker (IsOfRequest rights.subject) (ActsAt rights.subject None call) (λ p is. on_one p.name refl (takes p.name) is) (places_of s n) (about.places s holds) in
-          does->>= (does-attempt (does-by_places pid None call (Lacks ESTALE) (places_of s n) may act)) (λ r. does-or_inside pid n call (kind_known s n) r may takes about.object)
+          let act = All-weaker (IsOfRequest rights.subject) (ActsAt rights.subject None call) (λ p is. on_one p.name refl (takes p.name) is) (dentries_of s n) (about.dentries s holds) in
+          does->>= (does-attempt (does-by_dentries pid None call (Lacks ESTALE) (dentries_of s n) may act)) (λ r. does-or_inside pid n call (kind_known s n) r may takes about.object)
 
   pub does-on : (pid n : ℕ) (call : List ℕ → Call) → ((path : List ℕ) → CanCall rights P pid (call path)) → IsPathOf call → About rights P n
       → Does rights P (on pid n call)
   unfolding on
   does-on pid n call may takes about = choose (n == root) refl
     where
-      choose : (b : Bool) → (n == root) ≡ b → Does rights P (if b then obtain (Calls pid (call (codes "/"))) else by_place pid n call)
+      choose : (b : Bool) → (n == root) ≡ b → Does rights P (if b then obtain (Calls pid (call (codes "/"))) else by_dentry pid n call)
       choose true is =
           let same : n ≡ root = grind (arith, nat_tests) in
           does-obtain pid (call (codes "/")) (may (codes "/")) (on_root refl (takes (codes "/")) (subst (λ k. IsObject rights.subject k) same about.object))
-      choose false is = does-by_place pid n call may takes about
+      choose false is = does-by_dentry pid n call may takes about
 
   -- ---- the server's own process
 
@@ -302,17 +302,17 @@ is-object rights node asks n was = subst (λ k. number_of_node rights.subject.st
 
 module _ {rights : Rights} where
   -- where names are as they were, each dentry is a known one
-  pub known-places : {s : Server} → Still rights s → (n : ℕ) → All (IsKnownPlace rights.subject.start n) (places_of s n)
-  known-places {s} still n =
-      All-same (IsKnownPlace rights.subject.start n) (places_of s n) (places_of rights.subject.start n) (still-places still n)
-      (All-contains_itself (places_of rights.subject.start n))
+  pub known-dentries : {s : Server} → Still rights s → (n : ℕ) → All (IsKnownDentry rights.subject.start n) (dentries_of s n)
+  known-dentries {s} still n =
+      All-same (IsKnownDentry rights.subject.start n) (dentries_of s n) (dentries_of rights.subject.start n) (still-dentries still n)
+      (All-contains_itself (dentries_of rights.subject.start n))
 
   -- of an object, where names are as they were
   pub about-still : (n : ℕ) → IsObject rights.subject n → About rights (Still rights) n
   about-still n object = record {
     object = object;
-    places = λ s still.
-        All-weaker (IsKnownPlace rights.subject.start n) (IsOfRequest rights.subject) (λ p is. is_known n object is) (places_of s n) (known-places still n);
+    dentries = λ s still.
+        All-weaker (IsKnownDentry rights.subject.start n) (IsOfRequest rights.subject) (λ p is. is_known n object is) (dentries_of s n) (known-dentries still n);
   }
 
   pub gives-number : {F : ℕ → Type 0} (node : ℕ) → ((n : ℕ) → WasNumber rights node n → F n) → Gives rights F (the_number node)
@@ -338,10 +338,10 @@ module _ {rights : Rights} where
   -- the node led to the number, and that had a name
   pub gives-standing_directory : {F : ℕ → Type 0} (node : ℕ) → ((n : ℕ) → IsStandingDirectory rights.subject.start node n → F n) → Gives rights F (standing_directory node)
   unfolding standing_directory kept give fail ◌>>=◌
-  gives-standing_directory {F} node says = then-does_to (gives-directory_number node (λ n was. was)) (λ n was. record { goes = λ known s fits. placed n was known s fits (has_place s n) refl })
+  gives-standing_directory {F} node says = then-does_to (gives-directory_number node (λ n was. was)) (λ n was. record { goes = λ known s fits. placed n was known s fits (has_dentry s n) refl })
     where
-      placed : (n : ℕ) → WasNumber rights node n → (known : Known) (s : Server) → Fits rights (Still rights) known s → (b : Bool) → has_place s n ≡ b
+      placed : (n : ℕ) → WasNumber rights node n → (known : Known) (s : Server) → Fits rights (Still rights) known s → (b : Bool) → has_dentry s n ≡ b
           → KeepsTo (conduct rights) (LeftTo rights (λ n. Still rights) F) known ((if b then give n else fail (Lacks ESTALE)) s)
       placed n was known s fits true is =
-          (fits, says n (record { of_node = was; has_place = ap (λ l. n == root || is_some (head_of l)) (sym (still-places fits.holds n)) ∙ is }))
+          (fits, says n (record { of_node = was; has_dentry = ap (λ l. n == root || is_some (head_of l)) (sym (still-dentries fits.holds n)) ∙ is }))
       placed n was known s fits false is = fits-any fits

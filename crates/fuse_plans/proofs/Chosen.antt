@@ -142,7 +142,7 @@ weaker_chosen rights weaker known (Err e, s) is = is
 
 module _ {rights : Rights} where
   pub about-caller : (pid n : ℕ) → IsObject rights.subject n → About rights (OfCaller rights pid) n
-  about-caller pid n object = let about = about-still n object in record { object = object; places = λ s of. about.places s of.still }
+  about-caller pid n object = let about = about-still n object in record { object = object; dentries = λ s of. about.dentries s of.still }
 
   pub gives-with : {X Y : Type 0} {Q : X → Server → Type 0} {F : X → Type 0} {w : Work X} (G : Y → Type 0) (y : Y)
       → G y → DoesTo rights Q F w → DoesTo rights (λ (p : Y × X). Q p.1) (λ (p : Y × X). G p.0) (w >>= (λ x. give (y, x)))

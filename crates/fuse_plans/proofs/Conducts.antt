@@ -8,7 +8,7 @@ use Rattle.fuse_plans.specs.Plans.{Plan, Finish, Ask, followed_by, Restraint, Ke
 use Rattle.fuse_plans.specs.declared.request_error.RequestError.{RequestError}
 use Rattle.fuse_protocol.specs.declared.reply.Time.{Time}
 use Rattle.fuse_state.specs.Stamps.{stamp_of}
-use Rattle.fuse_state.specs.Servers.{Server, number_of_node, places_in, places_of, WithinShares}
+use Rattle.fuse_state.specs.Servers.{Server, number_of_node, dentries_in, dentries_of, WithinShares}
 use Rattle.fuse_state.proofs.Holders.{holding_of, same_within}
 use Rattle.fuse_plans.specs.Works.{Work, give, fail, kept, keep, goes_on, ◌>>=◌, attempt, of_result, needed, ask, unless_refused}
 use Rattle.fuse_plans.specs.Conduct.{Known, Rights, MayStamp, asks, conduct, Fits, IsHome}
@@ -85,8 +85,8 @@ still-number {rights} {s} still node =
     ∙ ap (λ g. number_of_node (record s { kinds = t.kinds; generations = g }) node) still.generations
 
 -- and an object has the dentries that it had
-pub still-places : {rights : Rights} {s : Server} → Still rights s → (n : ℕ) → places_of s n ≡ places_of rights.subject.start n
-still-places {rights} {s} still n = ap (λ l. places_in l n) still.names
+pub still-dentries : {rights : Rights} {s : Server} → Still rights s → (n : ℕ) → dentries_of s n ≡ dentries_of rights.subject.start n
+still-dentries {rights} {s} still n = ap (λ l. dentries_in l n) still.names
 
 -- ---- pieces
 

@@ -99,9 +99,9 @@ module _ {rights : Rights} (r : Asked) (is : rights.cred ≡ r.cred) (node : rig
       → Lasts rights (OfOpener rights pid) (tell_created now name_valid p is_new is_cut handle seen)
   unfolding tell_created
   lasts-tell_created now name_valid p is_new is_cut pid handle seen owner =
-      let same = told-same now p seen.0.inode seen.0.kind is_new is_cut in
-      keep-lasts _ same (λ s of. may_open-as s (told now p seen.0.inode seen.0.kind is_new is_cut s) (same s).0 of.may)
-      (does-lasts (does->>= (does-keep_opened pid handle seen.0.inode owner) (λ done. does-kept _)))
+      let same = told-same now p seen.0.ino seen.0.kind is_new is_cut in
+      keep-lasts _ same (λ s of. may_open-as s (told now p seen.0.ino seen.0.kind is_new is_cut s) (same s).0 of.may)
+      (does-lasts (does->>= (does-keep_opened pid handle seen.0.ino owner) (λ done. does-kept _)))
 
   pub lasts-create_file : AsksOf rights r.node → (name : List ℕ) (flags mode umask : ℕ) → given_name rights.subject.operation ≡ Some name
       → Lasts rights (Still rights) (create_file r name flags mode umask)

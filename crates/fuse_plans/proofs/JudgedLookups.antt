@@ -32,7 +32,7 @@ use Rattle.fuse_plans.specs.declared.request_error.OtherErrno.TheVariants.{ENFIL
 use Rattle.fuse_plans.specs.RequestErrors.{failed, is_for}
 use Rattle.fuse_plans.specs.Plans.{Plan, Finish, Ask, followed_by, IsRunOf, IsAsked, at_once, later, Restraint, KeepsTo, after_all}
 use Rattle.fuse_plans.specs.Works.{Work, give, fail, kept, keep, goes_on, ◌>>=◌, attempt, needed, ask, give_unless, refusal_in, unless_refused, obtain, unexpected, status_of_reply, stamps_of_reply, acl_of_reply}
-use Rattle.fuse_plans.specs.Callers.{caller, the_server_process, between, or_inside, standing_refusal, or_next, by_places, on, by_server_process, look_inside, is_known_directory, the_number, directory_number, standing_directory}
+use Rattle.fuse_plans.specs.Callers.{caller, the_server_process, between, or_inside, standing_refusal, or_next, by_dentries, on, by_server_process, look_inside, is_known_directory, the_number, directory_number, standing_directory}
 use Rattle.fuse_plans.specs.NamePlans.{or_absent, searched_directory, keeps_absent, found_or_absent, find_inside, find_name, dentry}
 use Rattle.fuse_plans.specs.Times.{told_stamps_if, told_stamps}
 use Rattle.fuse_plans.specs.Masks.{told_acl, acl_of, may_hide, hides, seen_by_server_process, asks_list, is_masked}
@@ -225,13 +225,13 @@ module _ (who : Event → Bool) (what : Reply → Bool) (server_process : Option
   goes-or_next next rest (Ok reply) = goes-give reply (λ m told. told)
   goes-or_next next rest (Err e) = goes-if (is_for EACCES e) _ _ (rest e) (goes-fail e (λ m told. told))
 
-  goes-by_places : (pid : ℕ) (second : Option ℕ) (call : List ℕ → Call) (before : RequestError) (places : List Dentry) {T : Bool → Result Reply RequestError → Type 0}
-      → ((path : List ℕ) → Tells pid (call path) T) → ((m : Bool) (e : RequestError) → T m (Err e)) → Goes Anyhow T (by_places pid second call before places)
-  unfolding by_places
-  goes-by_places pid second call before [] tells err = goes-fail before (λ m any. err m before)
-  goes-by_places pid second call before (p ∷ others) tells err =
-      goes-attempt (goes-between pid p.directory _ (call p.name) (tells p.name))
-      (goes-or_next _ (λ e. goes-from (goes-by_places pid second call (standing_refusal before e) others tells err)))
+  goes-by_dentries : (pid : ℕ) (second : Option ℕ) (call : List ℕ → Call) (before : RequestError) (dentries : List Dentry) {T : Bool → Result Reply RequestError → Type 0}
+      → ((path : List ℕ) → Tells pid (call path) T) → ((m : Bool) (e : RequestError) → T m (Err e)) → Goes Anyhow T (by_dentries pid second call before dentries)
+  unfolding by_dentries
+  goes-by_dentries pid second call before [] tells err = goes-fail before (λ m any. err m before)
+  goes-by_dentries pid second call before (p ∷ others) tells err =
+      goes-attempt (goes-between pid p.dir_ino _ (call p.name) (tells p.name))
+      (goes-or_next _ (λ e. goes-from (goes-by_dentries pid second call (standing_refusal before e) others tells err)))
 
   goes-on : (pid n : ℕ) (call : List ℕ → Call) {T : Bool → Result Reply RequestError → Type 0} → ((path : List ℕ) → Tells pid (call path) T)
       → ((m : Bool) (e : RequestError) → T m (Err e)) → Goes Anyhow T (on pid n call)
@@ -239,8 +239,8 @@ module _ (who : Event → Bool) (what : Reply → Bool) (server_process : Option
   goes-on pid n call {T} tells err =
       goes-if (n == root) _ _ (goes-obtain pid _ (tells (codes "/")))
       (goes-kept _ (λ kind.
-      goes-kept _ (λ places.
-      goes-attempt (goes-by_places pid None call _ places tells err) (goes-or_inside pid n call kind tells))))
+      goes-kept _ (λ dentries.
+      goes-attempt (goes-by_dentries pid None call _ dentries tells err) (goes-or_inside pid n call kind tells))))
 
   goes-by_server_process : (n : ℕ) (call : List ℕ → Call) {T : Bool → Result Reply RequestError → Type 0}
       → ((pid : ℕ) (path : List ℕ) → server_process ≡ Some pid → Tells pid (call path) T) → ((m : Bool) (e : RequestError) → T m (Err e)) → Goes Anyhow T (by_server_process n call)
@@ -393,15 +393,15 @@ module _ (server_process : Option ℕ) where
   unfolding told_stamps
   blames-told_stamps n = goes-kept _ _ _ _ (λ keeps. blames-told_stamps_if keeps n)
 
-  blames-tell : (p : Dentry) (status : Status) (f : Server → ReplyBody) → Blames (keep (with_found p status.inode status.kind) >>= (λ _. kept f))
+  blames-tell : (p : Dentry) (status : Status) (f : Server → ReplyBody) → Blames (keep (with_found p status.ino status.kind) >>= (λ _. kept f))
   unfolding keep kept ◌>>=◌
-  blames-tell p status f = record { goes = λ m s any own. (tt, (found-same p status.inode status.kind s).1 ∙ own) }
+  blames-tell p status f = record { goes = λ m s any own. (tt, (found-same p status.ino status.kind s).1 ∙ own) }
 
   -- what failed fails, or is told as absent
   blames-found_or_absent : (nobody : Bool) (d : ℕ) (name : List ℕ) (seen : Result Status RequestError)
       → Goes (is_by server_process) denies server_process (λ m. Blamed m seen) Blamed (found_or_absent nobody d name seen)
   blames-found_or_absent nobody d name (Ok status) =
-      goes-from _ _ _ (blames->>= (blames-told_stamps status.inode) (λ stamps. blames-tell (dentry d name) status _))
+      goes-from _ _ _ (blames->>= (blames-told_stamps status.ino) (λ stamps. blames-tell (dentry d name) status _))
   blames-found_or_absent nobody d name (Err e) =
       goes-kept _ _ _ _ (λ settings. goes-if _ _ _ (keeps_absent nobody settings e) _ _ (goes-give _ _ _ _ (λ m blamed. tt)) (goes-fail _ _ _ e (λ m blamed. blamed)))
 
@@ -650,8 +650,8 @@ is-masked s node es replies runs =
     same-own : (server_process : Option ℕ) (m n : ℕ) → server_process ≡ Some m → server_process ≡ Some n → m ≡ n
     same-own server_process m n is other = let same : Some m ≡ Some n = sym is ∙ other in cc
 
-is-denied_looker : (server_process : Option ℕ) (es : List Event) (replies : List Reply) → WasSeen (is_by server_process) denies es replies → MayBeRefused server_process es replies
-is-denied_looker server_process es replies seen =
+is-denied_server_process : (server_process : Option ℕ) (es : List Event) (replies : List Reply) → WasSeen (is_by server_process) denies es replies → MayBeRefused server_process es replies
+is-denied_server_process server_process es replies seen =
     let own = is-own server_process seen.event seen.of_event in
     let denied = is-denied seen.reply seen.of_reply in
     server_process_refused own.pid seen.event denied.refusal seen.after own.own own.is (subst (λ q. IsAsked seen.event q seen.after es replies) denied.is seen.asked) denied.for_access
@@ -675,7 +675,7 @@ in_parts : (r : Request) (s t : Server) (name : List ℕ) (e : RequestError) →
     → MayBeRefused s.server_process (first ++ after) (replied ++ rest)
 in_parts r s t name e for true first after replied rest with_found ran =
     may_be_later (is_judged r.node true s) first replied true with_found
-    (is-denied_looker s.server_process after rest
+    (is-denied_server_process s.server_process after rest
     (was_seen (is_by s.server_process) denies after rest
     ((keeps-follows (watching (is_by s.server_process) denies) AnswerBlamed (answered r.memory (Replying (find_name (asked_of r true) name)) s) after rest (Fails e, t) false
     (answer-blames (asked_of r true) name s r.memory refl) ran).1 for)))

@@ -32,7 +32,7 @@ use Rattle.fuse_plans.specs.declared.request_error.OtherErrno.TheVariants.{ENFIL
 use Rattle.fuse_plans.specs.RequestErrors.{failed, is_for}
 use Rattle.fuse_plans.specs.Plans.{Plan, Finish, Ask, followed_by, IsRunOf, IsAsked, at_once, later}
 use Rattle.fuse_plans.specs.Works.{Work, give, fail, kept, goes_on, ◌>>=◌, ◌>>◌, attempt, needed, ask, give_unless, refusal_in, unless_refused, unexpected, status_of_reply, replied_status}
-use Rattle.fuse_plans.specs.Callers.{caller, caller_with_room, the_server_process, between, look_inside, the_number, is_known_directory, directory_number, standing_directory, has_place}
+use Rattle.fuse_plans.specs.Callers.{caller, caller_with_room, the_server_process, between, look_inside, the_number, is_known_directory, directory_number, standing_directory, has_dentry}
 use Rattle.fuse_plans.specs.Flags.{mode_in, making}
 use Rattle.fuse_plans.specs.Masks.{list_hides}
 use Rattle.fuse_plans.specs.Times.{tell_time}
@@ -317,7 +317,7 @@ once-directory_number node s =
 once-standing_directory : (node : ℕ) (s : Server) → OnceAt (IsOfNode node s) s (standing_directory node s)
 unfolding standing_directory kept ◌>>=◌
 once-standing_directory node s =
-    once-then (IsOfNode node s) (IsOfNode node s) (directory_number node s) _ s (once-directory_number node s) (λ n is. once-or (has_place s n) n _ (IsOfNode node s) s is)
+    once-then (IsOfNode node s) (IsOfNode node s) (directory_number node s) _ s (once-directory_number node s) (λ n is. once-or (has_dentry s n) n _ (IsOfNode node s) s is)
 
 once-directory_for : (node : ℕ) (name : List ℕ) (s : Server) → OnceAt (IsOfNode node s) s (directory_for node name s)
 unfolding ◌>>=◌

@@ -27,7 +27,7 @@ pub mod RowsOfAlterations
 pub mod RowsOfBytes
 pub mod RowsOfCuts
 pub mod RowsOfNames
-pub mod RowsOfPlaces
+pub mod RowsOfDentries
 pub mod RowsOfStale
 pub mod RowsOfTimes
 pub mod ShareRuns

@@ -19,16 +19,16 @@ use Rattle.fuse_plans.specs.declared.reply.ReplyBody.{ReplyBody}
 use Rattle.fuse_protocol.specs.declared.operation.Operation.TheVariants.{Rename, Link}
 use Rattle.fuse_protocol.specs.declared.reply.Time.{Time}
 use Rattle.fuse_state.specs.declared.dentry.Dentry.{Dentry}
-use Rattle.fuse_state.specs.Servers.{once_more, Server, places_of, number_named, kind_known, with_generation, with_dentry, without_name}
+use Rattle.fuse_state.specs.Servers.{once_more, Server, dentries_of, number_named, kind_known, with_generation, with_dentry, without_name}
 use Rattle.fuse_state.specs.Changes.{is_gone, with_found, changed_if, removed, named_if, moved_to, moved, linked}
-use Rattle.fuse_state.proofs.StateLaws.{all_places_then}
-use Rattle.fuse_plans.specs.Acts.{Subject, given_name, node_of_object, IsGivenName, IsNewName, is_new, IsStandingDirectory, IsObject, IsKnownPlace, IsOfRequest, is_given, is_new_name, named_in, path_changed, ActsWithin, on_one, changes, moves, links, without_path}
+use Rattle.fuse_state.proofs.StateLaws.{all_dentries_then}
+use Rattle.fuse_plans.specs.Acts.{Subject, given_name, node_of_object, IsGivenName, IsNewName, is_new, IsStandingDirectory, IsObject, IsKnownDentry, IsOfRequest, is_given, is_new_name, named_in, path_changed, ActsWithin, on_one, changes, moves, links, without_path}
 use Rattle.fuse_plans.specs.Conduct.{Known, Rights, conduct, Fits, stays}
 use Rattle.fuse_plans.specs.Works.{give, fail, kept, keep, ◌>>=◌, ◌>>◌}
-use Rattle.fuse_plans.specs.Callers.{caller, the_server_process, by_places}
-use Rattle.fuse_plans.specs.NamePlans.{dentry, plain_name, directory_for, tell_entry, found_or_absent, or_absent, new_valid, searched_directory, find_inside, find_name, made, directory_and_caller, make_link, make_directory, open_and_close, make_file, remove, none_there, may_move, rename, move_name, link_by_place, add_link}
+use Rattle.fuse_plans.specs.Callers.{caller, the_server_process, by_dentries}
+use Rattle.fuse_plans.specs.NamePlans.{dentry, plain_name, directory_for, tell_entry, found_or_absent, or_absent, new_valid, searched_directory, find_inside, find_name, made, directory_and_caller, make_link, make_directory, open_and_close, make_file, remove, none_there, may_move, rename, move_name, link_by_dentry, add_link}
 use Rattle.fuse_plans.proofs.Conducts.{Any, Still, SameOwn, LeftTo, Does, Lasts, DoesTo, Gives, does-give, does-fail, does-kept, does-keep, does-told_stamps, does->>=, does-attempt, does-lasts, lasts->>=, ends->>=, keep-lasts, then-lasts, then-does_to, does-does_to, attempt-does_to, gives-give}
-use Rattle.fuse_plans.proofs.Calls.{AsksOf, CanCall, ActsAt, does-obtain, does-between, does-done_between, does-by_places, known-places, does-look_inside, lasts-with_server_process, looks, does-look, is-object, gives-number, gives-standing_directory}
+use Rattle.fuse_plans.proofs.Calls.{AsksOf, CanCall, ActsAt, does-obtain, does-between, does-done_between, does-by_dentries, known-dentries, does-look_inside, lasts-with_server_process, looks, does-look, is-object, gives-number, gives-standing_directory}
 use Rattle.fuse_plans.proofs.MaskConducts.{does-new_valid_of}
 use Rattle.fuse_plans.proofs.Chosen.{OfCaller, about-caller, gives-with, does-caller, does-caller_with_room}
 use Rattle.fuse_state.proofs.Holders.{holding_of}
@@ -81,7 +81,7 @@ module _ {rights : Rights} {P : Server → Type 0} where
 
   lasts-found_or_absent : (nobody : Bool) (d : ℕ) (name : List ℕ) (seen : Result Status RequestError) → Lasts rights P (found_or_absent nobody d name seen)
   lasts-found_or_absent nobody d name (Ok status) =
-      lasts->>= (does-told_stamps _) (λ stamps. tells-entry _ (found-same (dentry d name) status.inode status.kind) _)
+      lasts->>= (does-told_stamps _) (λ stamps. tells-entry _ (found-same (dentry d name) status.ino status.kind) _)
   lasts-found_or_absent nobody d name (Err e) = does-lasts (does->>= (does-kept _) (λ settings. does-if _ _ _ (does-give _) (does-fail _)))
 
   pub lasts-find_inside : (nobody : Bool) (pid d : ℕ) (name : List ℕ) → CanCall rights P pid (Lstat name) → IsOfRequest rights.subject (named_in d name)
@@ -156,7 +156,7 @@ module _ {rights : Rights} (r : Asked) (node : rights.subject.node ≡ r.node) w
 
 -- where the object may be looked at once it has one more name
 abbrev Leads : Rights → ℕ → Server → Type 0
-Leads rights n s = All (IsOfRequest rights.subject) (places_of s n)
+Leads rights n s = All (IsOfRequest rights.subject) (dentries_of s n)
 
 module _ {rights : Rights} (r : Asked) (is : rights.cred ≡ r.cred) (node : rights.subject.node ≡ r.node) where
   lasts-search : (judged nobody : Bool) (d : ℕ) (name : List ℕ) → IsNameIn rights.subject name d
@@ -229,31 +229,31 @@ module _ {rights : Rights} (r : Asked) (is : rights.cred ≡ r.cred) (node : rig
 
   linked-leads : (now : Time) (pid d n : ℕ) (name : List ℕ) (kind : Option FileType) → IsObject rights.subject n → IsNameIn rights.subject name d
       → (s : Server) → OfCaller rights pid s → Leads rights n (linked now (named_in d name) n kind s)
-  linked-leads now pid d n name None object in_it s of = (about-caller pid n object).places s of
+  linked-leads now pid d n name None object in_it s of = (about-caller pid n object).dentries s of
   linked-leads now pid d n name (Some kind) object in_it s of =
-      all_places_then (IsOfRequest rights.subject) s (named_in d name) n kind (is_given in_it) ((about-caller pid n object).places s of)
+      all_dentries_then (IsOfRequest rights.subject) s (named_in d name) n kind (is_given in_it) ((about-caller pid n object).dentries s of)
 
-  does-link_by_place : (pid n d : ℕ) (name : List ℕ) → IsObject rights.subject n → IsNameIn rights.subject name d
-      → Does rights (OfCaller rights pid) (link_by_place pid n d name)
-  unfolding link_by_place kept ◌>>=◌
-  does-link_by_place pid n d name object in_it = record { goes = λ known s fits. (by s fits.holds.still).goes known s fits }
+  does-link_by_dentry : (pid n d : ℕ) (name : List ℕ) → IsObject rights.subject n → IsNameIn rights.subject name d
+      → Does rights (OfCaller rights pid) (link_by_dentry pid n d name)
+  unfolding link_by_dentry kept ◌>>=◌
+  does-link_by_dentry pid n d name object in_it = record { goes = λ known s fits. (by s fits.holds.still).goes known s fits }
     where
       linked_from : List ℕ → Call
       linked_from old = LinkCall old name
 
-      by : (s : Server) → Still rights s → Does rights (OfCaller rights pid) (by_places pid (Some d) linked_from (failed ENOENT) (places_of s n) >>= (λ _. give {X = Unit {0}} tt))
+      by : (s : Server) → Still rights s → Does rights (OfCaller rights pid) (by_dentries pid (Some d) linked_from (failed ENOENT) (dentries_of s n) >>= (λ _. give {X = Unit {0}} tt))
       by s still =
-          let act = All-weaker (IsKnownPlace rights.subject.start n) (ActsAt rights.subject (Some d) linked_from) (λ p is. links n p.name name refl object is in_it) (places_of s n) (known-places still n) in
-          does->>= (does-by_places pid (Some d) linked_from (failed ENOENT) (places_of s n) (λ path. caller-can pid _ refl) act) (λ reply. does-give tt)
+          let act = All-weaker (IsKnownDentry rights.subject.start n) (ActsAt rights.subject (Some d) linked_from) (λ p is. links n p.name name refl object is in_it) (dentries_of s n) (known-dentries still n) in
+          does->>= (does-by_dentries pid (Some d) linked_from (failed ENOENT) (dentries_of s n) (λ path. caller-can pid _ refl) act) (λ reply. does-give tt)
 
   pub lasts-add_link : (old_node : ℕ) (name : List ℕ) → rights.subject.operation ≡ Some (Link old_node name) → Lasts rights (Still rights) (add_link r old_node name)
   lasts-add_link old_node name asks =
       then-lasts (gives-directory_for r node name (ap given_name asks)) (λ d in_it.
       then-lasts (gives-number old_node (is-object rights old_node (ap (λ o. node_of_object o rights.subject.node) asks))) (λ n object.
       then-lasts (does-caller _ is) (λ pid more.
-      lasts->>= (does-link_by_place pid n d name object in_it) (λ done.
+      lasts->>= (does-link_by_dentry pid n d name object in_it) (λ done.
       lasts->>= (does-kept _) (λ kind.
       keep-lasts {Q = Leads rights n} (linked r.now (named_in d name) n kind) (linked-same r.now (named_in d name) n kind) (linked-leads r.now pid d n name kind object in_it)
-      (does-lasts (does->>= (does-look n (record { object = object; places = λ s leads. leads })) (λ status.
+      (does-lasts (does->>= (does-look n (record { object = object; dentries = λ s leads. leads })) (λ status.
       does->>= (does-told_stamps _) (λ stamps.
-      does->>= (does-keep (once_more status.inode) (λ s. (refl, refl)) (λ s leads. leads)) (λ counted. does-tell_entry 0 status stamps))))))))))
+      does->>= (does-keep (once_more status.ino) (λ s. (refl, refl)) (λ s leads. leads)) (λ counted. does-tell_entry 0 status stamps))))))))))

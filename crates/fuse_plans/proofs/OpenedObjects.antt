@@ -181,7 +181,7 @@ empties pid fd true x s t (e ∷ es) (reply ∷ replies) runs =
 -- what is open is shown, and is the object
 record Confirmed (pid fd n : ℕ) (s t : Server) (es : List Event) (replies : List Reply) : Type 0 where
   status : Status
-  same : status.inode ≡ n
+  same : status.ino ≡ n
   after : List Event
   shown : IsAsked (Calls pid (Fstat fd)) (Shown status) after es replies
   emptied : Emptied pid fd s t after
@@ -191,9 +191,9 @@ confirms : (pid fd n : ℕ) (cuts : Bool) (x : Unit {0}) (s t : Server) (es : Li
 unfolding ask give fail ◌>>=◌ attempt show_open confirm_shown confirm_open
 confirms pid fd n cuts x s t [] replies runs = elim runs [ ]
 confirms pid fd n cuts x s t (e ∷ es) [] runs = elim runs [ ]
-confirms pid fd n cuts x s t (e ∷ es) ((Shown status) ∷ replies) runs = choose (status.inode == n) refl runs.1
+confirms pid fd n cuts x s t (e ∷ es) ((Shown status) ∷ replies) runs = choose (status.ino == n) refl runs.1
   where
-    choose : (b : Bool) → (status.inode == n) ≡ b
+    choose : (b : Bool) → (status.ino == n) ≡ b
         → EndsWell ((attempt ((if b then give {X = Unit {0}} tt else fail (Lacks ESTALE)) >>= (λ _. when cuts (done (obtain (cut pid fd))))) >>= or_closed pid fd) s) es replies x t
         → Confirmed pid fd n s t (e ∷ es) ((Shown status) ∷ replies)
     choose true is ran = record {
@@ -241,7 +241,7 @@ held_then s handle n =
 -- of the handle of an object with this number
 record Held (n handle : ℕ) (t : Server) (es : List Event) (replies : List Reply) : Type 0 where
   status : Status
-  is_object : status.inode ≡ n
+  is_object : status.ino ≡ n
   after : List Event
   shown : IsAsked (Calls (owner_of handle) (Fstat (descriptor_of handle))) (Shown status) after es replies
   emptied : All (λ e. e ≡ cut (owner_of handle) (descriptor_of handle)) after

@@ -33,7 +33,7 @@ may_open-as {rights} {pid} s t same may = record {
 module _ {rights : Rights} where
   pub about-opener : (pid n : ℕ) → IsObject rights.subject n → About rights (OfOpener rights pid) n
   about-opener pid n object =
-      let about = about-still n object in record { object = object; places = λ s of. about.places s of.caller.still }
+      let about = about-still n object in record { object = object; dentries = λ s of. about.dentries s of.caller.still }
 
   pub does-keep_opener : {pid : ℕ} (f : Server → Server) → SameAll f → Does rights (OfOpener rights pid) (keep f)
   does-keep_opener {pid} f same =

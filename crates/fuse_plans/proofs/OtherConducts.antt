@@ -229,8 +229,8 @@ module _ {rights : Rights} (r : Asked) (is : rights.cred ≡ r.cred) (asks : Ask
 
   lasts-listed_anew : (handle : ℕ) (d : OpenDirectory) (anew : Bool) (known : Option (List (List ℕ × ℕ))) → Lasts rights (Still rights) (listed r.node handle d anew known)
   lasts-listed_anew handle d false (Some names) = does-lasts (does-give names)
-  lasts-listed_anew handle d false None = lasts-list_now handle d.number
-  lasts-listed_anew handle d true known = lasts-list_now handle d.number
+  lasts-listed_anew handle d false None = lasts-list_now handle d.ino
+  lasts-listed_anew handle d true known = lasts-list_now handle d.ino
 
   pub lasts-read_directory : (extent : Extent) → Lasts rights (Still rights) (read_directory r.node extent)
   unfolding read_directory

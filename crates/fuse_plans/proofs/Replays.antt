@@ -45,10 +45,10 @@ use Rattle.fuse_plans.specs.declared.reply.Response.TheVariants.{Silence, Says, 
 use Rattle.fuse_state.specs.Keepings.{nothing_kept}
 use Rattle.fuse_state.specs.Servers.{Server, new_server}
 use Rattle.fuse_plans.specs.Works.{give, fail, kept, keep, ◌>>=◌, attempt, ask}
-use Rattle.fuse_plans.specs.Callers.{retire, begin_process, caller, caller_with_room, the_server_process, between, look_inside, by_places, on, look, the_number, directory_number, standing_directory}
+use Rattle.fuse_plans.specs.Callers.{retire, begin_process, caller, caller_with_room, the_server_process, between, look_inside, by_dentries, on, look, the_number, directory_number, standing_directory}
 use Rattle.fuse_plans.specs.declared.mode.Mode.{Mode}
 use Rattle.fuse_plans.specs.Flags.{only}
-use Rattle.fuse_plans.specs.NamePlans.{new_valid, made, link_by_place}
+use Rattle.fuse_plans.specs.NamePlans.{new_valid, made, link_by_dentry}
 use Rattle.fuse_plans.specs.FilePlans.{open_or_make, show_open, confirm_shown, confirm_open, look_open, tell_created, the_open, seek, read_piece, read_pieces, write_piece, write_pieces}
 use Rattle.fuse_plans.specs.DirectoryPlans.{take_directory, entry_kind, tell_names, list_open, read_directory, close_directory, sync_all}
 use Rattle.fuse_plans.specs.Masks.{is_masked}
@@ -95,7 +95,7 @@ played s (step ∷ steps) =
 
 -- all that a plan computes with
 unfoldable pub all_plans : Unit {0}
-unfolding give fail kept keep ◌>>=◌ attempt ask retire begin_process caller caller_with_room the_server_process between look_inside by_places on look the_number directory_number standing_directory new_valid made is_masked link_by_place open_or_make show_open confirm_shown confirm_open look_open tell_created the_open seek read_piece read_pieces write_piece write_pieces tell_names list_open read_directory close_directory sync_all begin count_space end request_plan take_directory tell_time told_stamps set_stamps
+unfolding give fail kept keep ◌>>=◌ attempt ask retire begin_process caller caller_with_room the_server_process between look_inside by_dentries on look the_number directory_number standing_directory new_valid made is_masked link_by_dentry open_or_make show_open confirm_shown confirm_open look_open tell_created the_open seek read_piece read_pieces write_piece write_pieces tell_names list_open read_directory close_directory sync_all begin count_space end request_plan take_directory tell_time told_stamps set_stamps
 all_plans = tt
 
 -- ---- words
@@ -147,8 +147,8 @@ abbrev pub AtOffset : ℕ → Reply
 AtOffset k = At k
 
 abbrev pub status : ℕ → FileType → ℕ → ℕ → ℕ → ℕ → ℕ → Status
-status inode kind mode links owner group size =
-    record { inode = inode; kind = kind; mode = mode; links = links; owner = owner; group = group; size = size }
+status ino kind mode links owner group size =
+    record { ino = ino; kind = kind; mode = mode; links = links; owner = owner; group = group; size = size }
 
 abbrev pub stamped : ℕ → ℕ → ℕ → Reply
 stamped atime mtime ctime = Stamped (record { atime = atime; mtime = mtime; ctime = ctime })
@@ -161,7 +161,7 @@ abbrev pub none_kept : OpenedFlags
 none_kept = record { 0 = 0 }
 
 abbrev pub entry : List ℕ → ℕ → ℕ → DirectoryEntry
-entry name inode next = record { inode = inode; next = next; kind = entry_kind name; name = name }
+entry name ino next = record { ino = ino; next = next; kind = entry_kind name; name = name }
 
 abbrev pub entries : List DirectoryEntry → ReplyBody
 entries es = Bytes (flat_map directory_entry_bytes es)

@@ -18,7 +18,7 @@ use Rattle.fuse_plans.specs.declared.request_error.RequestError.{RequestError}
 use Rattle.fuse_plans.specs.RequestErrors.{is_for}
 use Rattle.fuse_plans.specs.Plans.{Finish}
 use Rattle.fuse_plans.specs.Works.{Work, give, fail, kept, goes_on, ◌>>=◌, attempt, needed, ask, give_unless, refusal_in, unless_refused, obtain}
-use Rattle.fuse_plans.specs.Callers.{the_server_process, between, or_inside, standing_refusal, or_next, by_places, on, by_server_process, is_known_directory, the_number, directory_number}
+use Rattle.fuse_plans.specs.Callers.{the_server_process, between, or_inside, standing_refusal, or_next, by_dentries, on, by_server_process, is_known_directory, the_number, directory_number}
 use Rattle.fuse_plans.specs.NamePlans.{new_valid_if, new_valid}
 use Rattle.fuse_plans.specs.Masks.{may_hide, asks_list, list_hides, is_masked}
 use Rattle.fuse_plans.proofs.AllEnds.{AllEnd, all-followed_by}
@@ -89,20 +89,20 @@ stays-or_next : (next : RequestError → Work Reply) → ((e : RequestError) →
 stays-or_next next rest (Ok reply) = stays-give reply
 stays-or_next next rest (Err e) = stays-if (is_for EACCES e) _ _ (rest e) (stays-fail e)
 
-stays-by_places : (pid : ℕ) (second : Option ℕ) (call : List ℕ → Call) (before : RequestError) (places : List Dentry) → Stays (by_places pid second call before places)
-unfolding by_places
-stays-by_places pid second call before [] = stays-fail before
-stays-by_places pid second call before (p ∷ others) =
-    stays->>= (stays-attempt (stays-between pid p.directory _ (call p.name)))
-    (stays-or_next _ (λ e. stays-by_places pid second call (standing_refusal before e) others))
+stays-by_dentries : (pid : ℕ) (second : Option ℕ) (call : List ℕ → Call) (before : RequestError) (dentries : List Dentry) → Stays (by_dentries pid second call before dentries)
+unfolding by_dentries
+stays-by_dentries pid second call before [] = stays-fail before
+stays-by_dentries pid second call before (p ∷ others) =
+    stays->>= (stays-attempt (stays-between pid p.dir_ino _ (call p.name)))
+    (stays-or_next _ (λ e. stays-by_dentries pid second call (standing_refusal before e) others))
 
 stays-on : (pid n : ℕ) (call : List ℕ → Call) → Stays (on pid n call)
 unfolding on
 stays-on pid n call =
     stays-if (n == root) _ _ (stays-obtain _)
     (stays->>= (stays-kept _) (λ kind.
-    stays->>= (stays-kept _) (λ places.
-    stays->>= (stays-attempt (stays-by_places pid None call _ places)) (stays-or_inside pid n call kind))))
+    stays->>= (stays-kept _) (λ dentries.
+    stays->>= (stays-attempt (stays-by_dentries pid None call _ dentries)) (stays-or_inside pid n call kind))))
 
 stays-by_server_process : (n : ℕ) (call : List ℕ → Call) → Stays (by_server_process n call)
 unfolding the_server_process

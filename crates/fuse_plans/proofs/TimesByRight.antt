@@ -39,7 +39,7 @@ use Rattle.fuse_plans.specs.RequestErrors.{failed, is_for}
 use Rattle.fuse_plans.specs.Plans.{Plan, Finish, Ask, followed_by, IsRunOf, IsAsked, at_once, later, Restraint, KeepsTo, after_all, MayAskAll}
 use Rattle.fuse_plans.specs.Requests.{Request, asked_of}
 use Rattle.fuse_plans.specs.Works.{Work, give, fail, kept, keep, goes_on, ◌>>=◌, ◌>>◌, attempt, needed, ask, give_unless, refusal_in, is_refused_for, unless_refused, obtain, pid_of_reply, status_of_reply}
-use Rattle.fuse_plans.specs.Callers.{settle_new, settled, settle, retire_idle, settle_first, begin_process, or_spawned, caller, between, or_inside, standing_refusal, or_next, by_places, on, look_at, look, is_known_directory, the_number}
+use Rattle.fuse_plans.specs.Callers.{settle_new, settled, settle, retire_idle, settle_first, begin_process, or_spawned, caller, between, or_inside, standing_refusal, or_next, by_dentries, on, look_at, look, is_known_directory, the_number}
 use Rattle.fuse_plans.specs.AttributePlans.{is_now, stamp_set, may_set_times, set_stamps_if, set_stamps, set_times, change_attributes, tell_times, set_attributes}
 use Rattle.fuse_plans.specs.Alterations.{sets_times, sets_some, where_so, IsToldIn, AreTold, MayBeAsked, AsksOnly}
 use Rattle.fuse_plans.specs.FilePlans.{when}
@@ -272,13 +272,13 @@ module _ (r : Request) (s : Server) where
   leads-or_next pid call next rest (Ok reply) = leads-give reply (λ m t known. known)
   leads-or_next pid call next rest (Err e) = leads-if (is_for EACCES e) _ _ (rest e) (leads-fail e)
 
-  leads-by_places : (pid : ℕ) (second : Option ℕ) (call : List ℕ → Call) (first : RequestError) (places : List Dentry)
-      → Leads Anyhow (λ reply m t. ByName pid call reply m) (by_places pid second call first places)
-  unfolding by_places
-  leads-by_places pid second call first [] = leads-fail first
-  leads-by_places pid second call first (p ∷ others) =
-      leads->>= (leads-attempt (leads-named pid call p.name (leads-between pid p.directory _ (call p.name))))
-      (leads-or_next pid call _ (λ e. leads-by_places pid second call (standing_refusal first e) others))
+  leads-by_dentries : (pid : ℕ) (second : Option ℕ) (call : List ℕ → Call) (first : RequestError) (dentries : List Dentry)
+      → Leads Anyhow (λ reply m t. ByName pid call reply m) (by_dentries pid second call first dentries)
+  unfolding by_dentries
+  leads-by_dentries pid second call first [] = leads-fail first
+  leads-by_dentries pid second call first (p ∷ others) =
+      leads->>= (leads-attempt (leads-named pid call p.name (leads-between pid p.dir_ino _ (call p.name))))
+      (leads-or_next pid call _ (λ e. leads-by_dentries pid second call (standing_refusal first e) others))
 
   leads-or_inside : (pid n : ℕ) (call : List ℕ → Call) (kind : Option FileType) (q : Result Reply RequestError)
       → Leads (Known (λ reply m t. ByName pid call reply m) q) (λ reply m t. ByName pid call reply m) (or_inside pid n call kind q)
@@ -291,8 +291,8 @@ module _ (r : Request) (s : Server) where
   leads-on pid n call =
       leads-if (n == root) _ _ (leads-named pid call (codes "/") (leads-obtain _ (λ m. tt)))
       (leads->>= (leads-kept _) (λ kind.
-      leads->>= (leads-kept _) (λ places.
-      leads->>= (leads-from (λ m t known. tt) (leads-attempt (leads-by_places pid None call _ places))) (leads-or_inside pid n call kind))))
+      leads->>= (leads-kept _) (λ dentries.
+      leads->>= (leads-from (λ m t known. tt) (leads-attempt (leads-by_dentries pid None call _ dentries))) (leads-or_inside pid n call kind))))
 
   -- ---- what is shown
 
@@ -419,7 +419,7 @@ module _ (r : Request) (s : Server) where
       own : Own pid m
       may : May pid (counts_as_owner cred status.owner) m
 
-    rightly : (pid n : ℕ) (cred : Credential) (status : Status) (m : History) → r.cred ≡ Some cred → status.inode ≡ n → Seen pid cred status m
+    rightly : (pid n : ℕ) (cred : Credential) (status : Status) (m : History) → r.cred ≡ Some cred → status.ino ≡ n → Seen pid cred status m
         → MaySetTimes r s n (stamp_set r.now c.atime) (stamp_set r.now c.mtime) (Some (stamp_of r.now)) (events m) (replies_in m)
     rightly pid n cred status m is same seen = record {
       event = seen.shown.event;
@@ -439,7 +439,7 @@ module _ (r : Request) (s : Server) where
             seen.own answered.was.asked answered.granted
 
     asks_stamps : (pid n : ℕ) (cred : Credential) (status : Status) → r.cred ≡ Some cred
-        → Leads (λ m t. Seen pid cred status m × (status.inode ≡ n)) Anything (ask (Stamp n (stamp_set r.now c.atime) (stamp_set r.now c.mtime) (Some (stamp_of r.now))))
+        → Leads (λ m t. Seen pid cred status m × (status.ino ≡ n)) Anything (ask (Stamp n (stamp_set r.now c.atime) (stamp_set r.now c.mtime) (Some (stamp_of r.now))))
     unfolding ask
     asks_stamps pid n cred status is = record { at = λ m t known. ((λ sets. rightly pid n cred status m is known.1 known.0), λ reply. tt) }
 
@@ -448,12 +448,12 @@ module _ (r : Request) (s : Server) where
     unfolding keep
     leads-set_stamps_if false pid n cred status is = record { at = λ m t seen. tt }
     leads-set_stamps_if true pid n cred status is =
-        leads->>= (only (status.inode == n) refl) (λ same.
+        leads->>= (only (status.ino == n) refl) (λ same.
         leads->>= (asks_stamps pid n cred status is) (λ reply.
         leads->>= (leads-needed _ _) (λ told. leads-give tt (λ m t known. tt))))
       where
-        only : (b : Bool) → (status.inode == n) ≡ b
-            → Leads (λ m t. Seen pid cred status m) (λ done m t. Seen pid cred status m × (status.inode ≡ n)) (if b then give {X = Unit {0}} tt else fail (Lacks ESTALE))
+        only : (b : Bool) → (status.ino == n) ≡ b
+            → Leads (λ m t. Seen pid cred status m) (λ done m t. Seen pid cred status m × (status.ino ≡ n)) (if b then give {X = Unit {0}} tt else fail (Lacks ESTALE))
         only true same = leads-give tt (λ m t seen. (seen, grind (arith, nat_tests)))
         only false differs = leads-fail _
 

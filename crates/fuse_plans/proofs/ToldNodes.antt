@@ -247,7 +247,7 @@ unfolding show_open
 leaves-show_open pid fd = leaves->>= (leaves-obtain _) (λ reply. leaves-needed _ _)
 
 leaves-show_timed : (pid fd : ℕ) → Leaves (show_timed pid fd)
-leaves-show_timed pid fd = leaves->>= (leaves-show_open pid fd) (λ status. leaves->>= (leaves-told_stamps status.inode) (λ stamps. leaves-give (status, stamps)))
+leaves-show_timed pid fd = leaves->>= (leaves-show_open pid fd) (λ status. leaves->>= (leaves-told_stamps status.ino) (λ stamps. leaves-give (status, stamps)))
 
 leaves-look_open : (pid fd : ℕ) → Leaves (look_open pid fd)
 unfolding look_open
@@ -298,7 +298,7 @@ leaves-directory_for node name = leaves->>= (leaves-plain_name name) (λ plain. 
 -- ---- what is told
 
 abbrev ToldOf : Server → Result ReplyBody RequestError × Server → Type 0
-ToldOf s (Ok body, t) = (node : ℕ) (shown : Attributes) → told_entry body ≡ Some (node, shown) → shown.status.inode < 2 ^ 32 → LeadsToShown s t node shown.status.inode
+ToldOf s (Ok body, t) = (node : ℕ) (shown : Attributes) → told_entry body ≡ Some (node, shown) → shown.status.ino < 2 ^ 32 → LeadsToShown s t node shown.status.ino
 ToldOf s (Err e, t) = Unit {0}
 
 -- where it ends well, what it tells leads to the object
@@ -308,7 +308,7 @@ record Tells (w : Work ReplyBody) : Type 0 where
 told-before : {s t : Server} → Same s t → (r : Result ReplyBody RequestError × Server) → ToldOf t r → ToldOf s r
 told-before {s} {t} same (Ok body, u) of_body = λ node shown is lt.
     let leads = of_body node shown is lt in
-    record { leads = leads.leads; fresh = λ gone. sym (same-number same node) ∙ leads.fresh (same-gone same shown.status.inode ∙ gone) }
+    record { leads = leads.leads; fresh = λ gone. sym (same-number same node) ∙ leads.fresh (same-gone same shown.status.ino ∙ gone) }
 told-before same (Err e, u) nothing = tt
 
 tells-after : {X : Type 0} {w : Work X} {f : X → Work ReplyBody} → Leaves w → ((x : X) → Tells (f x)) → Tells (w >>= f)
@@ -321,10 +321,10 @@ tells-after {X} {w} {f} first rest = record { at = λ s. all-followed_by (λ r. 
 
 -- the entry is that which was told
 entry-is : (s t : Server) (told_node node : ℕ) (told_shown shown : Attributes) → ◌≡◌ {A = Option (ℕ × Attributes)} (Some (told_node, told_shown)) (Some (node, shown))
-    → shown.status.inode < 2 ^ 32 → (told_shown.status.inode < 2 ^ 32 → LeadsToShown s t told_node told_shown.status.inode)
-    → LeadsToShown s t node shown.status.inode
+    → shown.status.ino < 2 ^ 32 → (told_shown.status.ino < 2 ^ 32 → LeadsToShown s t told_node told_shown.status.ino)
+    → LeadsToShown s t node shown.status.ino
 entry-is s t told_node node told_shown shown is lt leads =
-    subst (λ (e : ℕ × Attributes). e.1.status.inode < 2 ^ 32 → LeadsToShown s t e.0 e.1.status.inode)
+    subst (λ (e : ℕ × Attributes). e.1.status.ino < 2 ^ 32 → LeadsToShown s t e.0 e.1.status.ino)
     (ap (λ (o : Option (ℕ × Attributes)). unwrap_or o (node, shown)) is) leads lt
 
 found-leads : (s : Server) (p : Dentry) (n : ℕ) (kind : FileType) → n < 2 ^ 32 → LeadsToShown s (with_found p n kind s) (node_of (with_found p n kind s) n) n
@@ -362,14 +362,14 @@ tells-unless_absent nobody e =
     tells-after (leaves-kept (λ s. s.settings)) (λ settings. tells-if (keeps_absent nobody settings e) _ _ (tells-none (Absent settings.keeping.absent) refl) (tells-fail e))
 
 tells-found : (nobody : Bool) (p : Dentry) (status : Status) (stamps : Option Stamps)
-    → Tells (keep (with_found p status.inode status.kind) >> kept (looked_up_body nobody status stamps))
+    → Tells (keep (with_found p status.ino status.kind) >> kept (looked_up_body nobody status stamps))
 unfolding kept keep ◌>>=◌
 tells-found nobody p status stamps = record {
-  at = λ s node shown is lt. entry-is s _ _ node _ shown is lt (λ low. found-leads s _ status.inode status.kind low);
+  at = λ s node shown is lt. entry-is s _ _ node _ shown is lt (λ low. found-leads s _ status.ino status.kind low);
 }
 
 tells-found_or_absent : (nobody : Bool) (d : ℕ) (name : List ℕ) (seen : Result Status RequestError) → Tells (found_or_absent nobody d name seen)
-tells-found_or_absent nobody d name (Ok status) = tells-after (leaves-told_stamps status.inode) (tells-found nobody (dentry d name) status)
+tells-found_or_absent nobody d name (Ok status) = tells-after (leaves-told_stamps status.ino) (tells-found nobody (dentry d name) status)
 tells-found_or_absent nobody d name (Err e) = tells-unless_absent nobody e
 
 tells-find_inside : (nobody : Bool) (pid d : ℕ) (name : List ℕ) → Tells (find_inside nobody pid d name)
@@ -381,10 +381,10 @@ tells-find_name r name =
     tells-after (leaves-if r.needs_nobody _ _ leaves-the_server_process (leaves-caller r.cred)) (λ pid. tells-find_inside r.needs_nobody pid d name))
 
 tells-born : (now : Time) (name_valid : ℕ) (p : Dentry) (status : Status) (stamps : Option Stamps)
-    → Tells (keep (with_new_object now p status.inode status.kind) >> tell_entry name_valid status stamps)
+    → Tells (keep (with_new_object now p status.ino status.kind) >> tell_entry name_valid status stamps)
 unfolding kept keep ◌>>=◌
 tells-born now name_valid p status stamps = record {
-  at = λ s node shown is lt. entry-is s _ _ node _ shown is lt (λ low. born-leads s now _ status.inode status.kind low);
+  at = λ s node shown is lt. entry-is s _ _ node _ shown is lt (λ low. born-leads s now _ status.ino status.kind low);
 }
 
 tells-made : (now : Time) (name_valid d : ℕ) (name : List ℕ) → Tells (made now name_valid d name)
@@ -392,7 +392,7 @@ unfolding made
 tells-made now name_valid d name =
     tells-after leaves-the_server_process (λ pid.
     tells-after (leaves-look_inside pid d name) (λ status.
-    tells-after (leaves-told_stamps status.inode) (tells-born now name_valid (dentry d name) status)))
+    tells-after (leaves-told_stamps status.ino) (tells-born now name_valid (dentry d name) status)))
 
 tells-make_by : (now : Time) (name_valid pid d : ℕ) (call : Call) (name : List ℕ) → Tells (make_by now name_valid pid d call name)
 tells-make_by now name_valid pid d call name = tells-after (leaves-done_closed pid d call) (λ done. tells-made now name_valid d name)
@@ -423,7 +423,7 @@ tells-create_file r name flags file_mode umask =
     tells-after (leaves-needed _ _) (λ handle.
     tells-after (leaves-look_open pid (descriptor_of handle)) (λ seen. record {
       at = λ s node shown is lt.
-          entry-is s _ _ node _ shown is lt (λ low. told-leads s r.now _ seen.0.inode seen.0.kind opened.1 (is_trunc flags) handle low);
+          entry-is s _ _ node _ shown is lt (λ low. told-leads s r.now _ seen.0.ino seen.0.kind opened.1 (is_trunc flags) handle low);
     })))))))))
 
 -- ---- each request

@@ -16,7 +16,7 @@ use Rattle.fuse_plans.specs.declared.reply.ReplyBody.{ReplyBody}
 use Rattle.fuse_plans.specs.declared.reply.ReplyBody.TheVariants.{Nothing, Bytes, Acl, Size}
 use Rattle.fuse_state.specs.Servers.{Server, kind_known, with_change_time}
 use Rattle.fuse_plans.specs.Works.{Work, give, fail, kept, keep, ◌>>=◌, ◌>>◌, needed}
-use Rattle.fuse_plans.specs.Callers.{caller, is_known_directory, has_place, on, look, the_number}
+use Rattle.fuse_plans.specs.Callers.{caller, is_known_directory, has_dentry, on, look, the_number}
 use Rattle.fuse_plans.specs.Masks.{acl_of}
 use Rattle.fuse_plans.specs.AttributePlans.{is_known_link}
 use Rattle.fuse_plans.specs.FilePlans.{when}
@@ -36,7 +36,7 @@ the_acl name = needed (Lacks EOPNOTSUPP) (acl_named name)
 
 -- the object is no link, and has a name
 abbrev pub has_acls : Server → ℕ → Bool
-has_acls s n = not (is_known_link (kind_known s n)) && has_place s n
+has_acls s n = not (is_known_link (kind_known s n)) && has_dentry s n
 
 abbrev pub an_object : Asked → Work ℕ
 an_object r = do

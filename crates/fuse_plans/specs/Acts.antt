@@ -12,8 +12,8 @@ use Rattle.fs_model.specs.declared.call.Call.TheVariants.{Link as LinkCall, Rena
 use Rattle.fuse_protocol.specs.declared.operation.Operation.{Operation}
 use Rattle.fuse_protocol.specs.declared.operation.Operation.TheVariants.{Lookup, SymLink, MkNod, MkDir, Unlink, RmDir, Rename, Link, Create}
 use Rattle.fuse_state.specs.declared.dentry.Dentry.{Dentry}
-use Rattle.fuse_state.specs.Servers.{Server, number_of_node, places_of}
-use Rattle.fuse_plans.specs.Callers.{has_place}
+use Rattle.fuse_state.specs.Servers.{Server, number_of_node, dentries_of}
+use Rattle.fuse_plans.specs.Callers.{has_dentry}
 use Rattle.fuse_plans.specs.Paths.{only_path, names_in, changes_name}
 
 -- the node that a request is asked of, what it asks, and what the server knew when it began
@@ -44,17 +44,17 @@ given_name (Some operation) = name_of_operation operation
 -- a directory that stands: it is the root, or a name leads to it
 pub record IsStandingDirectory (s : Server) (node directory : ℕ) : Type 0 where
   pub of_node : number_of_node s node ≡ Some directory
-  pub has_place : IsTrue (has_place s directory)
+  pub has_dentry : IsTrue (has_dentry s directory)
 
 -- the name that is given, in the directory of the node
 pub record IsGivenName (r : Subject) (p : Dentry) : Type 0 where
   pub name : given_name r.operation ≡ Some p.name
-  pub directory : IsStandingDirectory r.start r.node p.directory
+  pub directory : IsStandingDirectory r.start r.node p.dir_ino
 
 -- the new name of a rename, in the directory of its other node
 pub data IsNewName (r : Subject) (p : Dentry) : Type 0 where
   is_new : (name : List ℕ) (new_node flags : ℕ) → r.operation ≡ Some (Rename name new_node p.name flags)
-      → IsStandingDirectory r.start new_node p.directory → IsNewName r p
+      → IsStandingDirectory r.start new_node p.dir_ino → IsNewName r p
 
 -- ---- the object
 
@@ -72,8 +72,8 @@ abbrev pub IsObject : Subject → ℕ → Type 0
 IsObject r n = number_of_node r.start (node_of_object r.operation r.node) ≡ Some n
 
 -- where the server knows an object: one of its names
-abbrev pub IsKnownPlace : Server → ℕ → Dentry → Type 0
-IsKnownPlace s n p = Contains (places_of s n) p
+abbrev pub IsKnownDentry : Server → ℕ → Dentry → Type 0
+IsKnownDentry s n p = Contains (dentries_of s n) p
 
 -- ---- what is acted on
 
@@ -81,11 +81,11 @@ IsKnownPlace s n p = Contains (places_of s n) p
 pub data IsOfRequest (r : Subject) (p : Dentry) : Type 0 where
   is_given : IsGivenName r p → IsOfRequest r p
   is_new_name : IsNewName r p → IsOfRequest r p
-  is_known : (n : ℕ) → IsObject r n → IsKnownPlace r.start n p → IsOfRequest r p
-  is_itself : IsObject r p.directory → p.name ≡ codes "." → IsOfRequest r p
+  is_known : (n : ℕ) → IsObject r n → IsKnownDentry r.start n p → IsOfRequest r p
+  is_itself : IsObject r p.dir_ino → p.name ≡ codes "." → IsOfRequest r p
 
 abbrev pub named_in : ℕ → List ℕ → Dentry
-named_in directory name = record { directory = directory; name = name }
+named_in directory name = record { dir_ino = directory; name = name }
 
 -- The path of a call on what has the name, which that keeps; or of one that adds or takes the name.
 abbrev pub path_kept : Call → Option (List ℕ)
@@ -104,22 +104,22 @@ pub data ActsWithin (r : Subject) (directory second : ℕ) (call : Call) : Type 
       → ActsWithin r directory second call
   moves : (old new : List ℕ) → call ≡ RenameCall old new → IsGivenName r (named_in directory old) → IsNewName r (named_in second new)
       → ActsWithin r directory second call
-  links : (n : ℕ) (old new : List ℕ) → call ≡ LinkCall old new → IsObject r n → IsKnownPlace r.start n (named_in directory old)
+  links : (n : ℕ) (old new : List ℕ) → call ≡ LinkCall old new → IsObject r n → IsKnownDentry r.start n (named_in directory old)
       → IsGivenName r (named_in second new) → ActsWithin r directory second call
 
 -- A process that has entered a directory, and with the second names of its calls another.
 pub record Away : Type 0 where
   pub pid : ℕ
-  pub directory : ℕ
+  pub dir_ino : ℕ
   pub second : ℕ
 
 abbrev pub gone_to : ℕ → ℕ → ℕ → Away
-gone_to pid directory second = record { pid = pid; directory = directory; second = second }
+gone_to pid directory second = record { pid = pid; dir_ino = directory; second = second }
 
 -- who hasn't entered one stands at the root
 abbrev pub own_directory : Option Away → ℕ
 own_directory None = root
-own_directory (Some away) = away.directory
+own_directory (Some away) = away.dir_ino
 
 abbrev pub second_directory : Option Away → ℕ
 second_directory None = root

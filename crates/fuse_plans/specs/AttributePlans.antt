@@ -33,7 +33,7 @@ use Rattle.fuse_plans.specs.Times.{disk_keeps_times, told_stamps}
 
 abbrev pub tell_attributes : Status → Work ReplyBody
 tell_attributes status = do
-  stamps ← told_stamps status.inode
+  stamps ← told_stamps status.ino
   kept (λ s. Shown (attributes s status stamps))
 
 abbrev pub get_attributes : Asked → Work ReplyBody

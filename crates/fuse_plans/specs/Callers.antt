@@ -18,7 +18,7 @@ use Rattle.fuse_plans.specs.declared.request_error.RequestError.{RequestError}
 use Rattle.fuse_plans.specs.declared.request_error.RequestError.TheVariants.{Lacks}
 use Rattle.fuse_plans.specs.RequestErrors.{failed, is_for}
 use Rattle.fuse_plans.specs.declared.request_error.OtherErrno.TheVariants.{ENFILE, ESTALE}
-use Rattle.fuse_state.specs.Servers.{Server, number_of_node, kind_known, places_of, place_of, first_process, partly_used, idle_process, is_process, may_take_process, next_idle, with_known_process, without_process, owner_of, descriptor_of, handle_for}
+use Rattle.fuse_state.specs.Servers.{Server, number_of_node, kind_known, dentries_of, dentry_of, first_process, partly_used, idle_process, is_process, may_take_process, next_idle, with_known_process, without_process, owner_of, descriptor_of, handle_for}
 use Rattle.fuse_state.specs.declared.dentry.Dentry.{Dentry}
 use Rattle.fuse_plans.specs.Works.{Work, give, fail, kept, keep, ◌>>=◌, ◌>>◌, attempt, needed, ask, is_refused_for, unless_refused, obtain, unexpected, replied_pid, replied_status}
 
@@ -145,8 +145,8 @@ or_inside pid n call kind (Ok reply) = give reply
 or_inside pid n call kind (Err e) = if is_for EACCES e && is_known_directory kind then inside pid n (call (codes ".")) else fail e
 
 -- a call with this name; a second name of the call may be one of another directory
-abbrev pub at_place : ℕ → Option ℕ → (List ℕ → Call) → Dentry → Work Reply
-at_place pid second call p = between pid p.directory (unwrap_or second p.directory) (call p.name)
+abbrev pub at_dentry : ℕ → Option ℕ → (List ℕ → Call) → Dentry → Work Reply
+at_dentry pid second call p = between pid p.dir_ino (unwrap_or second p.dir_ino) (call p.name)
 
 -- the refusal that stands where each dentry is refused for permission: the first
 abbrev pub standing_refusal : RequestError → RequestError → RequestError
@@ -158,24 +158,24 @@ or_next next (Ok reply) = give reply
 or_next next (Err e) = if is_for EACCES e then next e else fail e
 
 -- By one dentry after another, until the call isn't refused for permission. Where none is left it fails, as it would have before.
-unfoldable pub by_places : ℕ → Option ℕ → (List ℕ → Call) → RequestError → List Dentry → Work Reply
-by_places pid second call before [] = fail before
-by_places pid second call before (p ∷ others) =
-    attempt (at_place pid second call p) >>= or_next (λ e. by_places pid second call (standing_refusal before e) others)
+unfoldable pub by_dentries : ℕ → Option ℕ → (List ℕ → Call) → RequestError → List Dentry → Work Reply
+by_dentries pid second call before [] = fail before
+by_dentries pid second call before (p ∷ others) =
+    attempt (at_dentry pid second call p) >>= or_next (λ e. by_dentries pid second call (standing_refusal before e) others)
 
-abbrev pub by_place : ℕ → ℕ → (List ℕ → Call) → Work Reply
-by_place pid n call = do
+abbrev pub by_dentry : ℕ → ℕ → (List ℕ → Call) → Work Reply
+by_dentry pid n call = do
   kind ← kept (λ s. kind_known s n)
-  places ← kept (λ s. places_of s n)
-  reply ← attempt (by_places pid None call (Lacks ESTALE) places)
+  dentries ← kept (λ s. dentries_of s n)
+  reply ← attempt (by_dentries pid None call (Lacks ESTALE) dentries)
   or_inside pid n call kind reply
 
 unfoldable pub on : ℕ → ℕ → (List ℕ → Call) → Work Reply
-on pid n call = if n == root then obtain (Calls pid (call (codes "/"))) else by_place pid n call
+on pid n call = if n == root then obtain (Calls pid (call (codes "/"))) else by_dentry pid n call
 
 -- the object has a name that is known, or needs none
-abbrev pub has_place : Server → ℕ → Bool
-has_place s n = n == root || is_some (place_of s n)
+abbrev pub has_dentry : Server → ℕ → Bool
+has_dentry s n = n == root || is_some (dentry_of s n)
 
 abbrev pub by_handle : ℕ → Work Reply
 by_handle n = do
@@ -196,7 +196,7 @@ look_at n false = by_handle n
 -- No permission is asked: the kernel holds the object.
 unfoldable pub look : ℕ → Work Status
 look n = do
-  placed ← kept (λ s. has_place s n)
+  placed ← kept (λ s. has_dentry s n)
   reply ← look_at n placed
   replied_status reply
 
@@ -220,5 +220,5 @@ directory_number node = do
 unfoldable pub standing_directory : ℕ → Work ℕ
 standing_directory node = do
   n ← directory_number node
-  placed ← kept (λ s. has_place s n)
+  placed ← kept (λ s. has_dentry s n)
   if placed then give n else fail (Lacks ESTALE)

@@ -22,7 +22,7 @@ use Rattle.fuse_state.specs.declared.settings.Settings.{Settings}
 use Rattle.fuse_state.specs.Servers.{Server, may_open_directory, directory_of, with_opened, with_listing, without_directory}
 use Rattle.fuse_state.specs.declared.directory.OpenDirectory.{OpenDirectory}
 use Rattle.fuse_plans.specs.Works.{Work, give, fail, kept, keep, ◌>>=◌, ◌>>◌, attempt, needed, obtain, or_closed, replied_fd, replied_names}
-use Rattle.fuse_plans.specs.Callers.{the_server_process, has_place, on, the_number, directory_number}
+use Rattle.fuse_plans.specs.Callers.{the_server_process, has_dentry, on, the_number, directory_number}
 use Rattle.fuse_plans.specs.Flags.{listing}
 use Rattle.fuse_plans.specs.FilePlans.{when}
 use Rattle.fuse_plans.specs.AttributePlans.{access_as}
@@ -52,7 +52,7 @@ abbrev pub open_directory : Asked → Work ReplyBody
 open_directory r = do
   n ← directory_number r.node
   cred ← needed (failed EACCES) r.cred
-  placed ← kept (λ s. has_place s n)
+  placed ← kept (λ s. has_dentry s n)
   when placed (access_as r.cred n (perms_of 4))
   take_directory cred.uid n
 
@@ -64,7 +64,7 @@ entry_kind name = if bytes_eq name (codes ".") || bytes_eq name (codes "..") the
 
 -- a name, its inode, and the offset behind it
 abbrev pub listed_entry : ℕ → List ℕ × ℕ → DirectoryEntry
-listed_entry offset e = record { inode = e.1; next = offset + 1; kind = entry_kind e.0; name = e.0 }
+listed_entry offset e = record { ino = e.1; next = offset + 1; kind = entry_kind e.0; name = e.0 }
 
 -- the entries that fit, the first of them with this offset
 abbrev pub fitting : ℕ → ℕ → List (List ℕ × ℕ) → List DirectoryEntry
@@ -112,7 +112,7 @@ abbrev pub list_now : ℕ → ℕ → ℕ → Work (List (List ℕ × ℕ))
 list_now node handle number = do
   n ← the_number node
   only_number number n
-  placed ← kept (λ s. has_place s n)
+  placed ← kept (λ s. has_dentry s n)
   names ← list_all n placed
   keep (with_listing handle names)
   give names
@@ -120,7 +120,7 @@ list_now node handle number = do
 -- at the beginning it is listed anew
 abbrev pub listed : ℕ → ℕ → OpenDirectory → Bool → Option (List (List ℕ × ℕ)) → Work (List (List ℕ × ℕ))
 listed node handle d false (Some names) = give names
-listed node handle d _ _ = list_now node handle d.number
+listed node handle d _ _ = list_now node handle d.ino
 
 abbrev pub tell_listed : Extent → List (List ℕ × ℕ) → Work ReplyBody
 tell_listed extent names = give (Bytes (listing_bytes extent.offset extent.size (drop extent.offset names)))

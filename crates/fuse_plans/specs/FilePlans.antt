@@ -65,7 +65,7 @@ show_open pid fd = do
 
 -- a name may lead to another object by now
 abbrev pub only_inode : ℕ → Status → Work (Unit {0})
-only_inode n status = if status.inode == n then give tt else fail (Lacks ESTALE)
+only_inode n status = if status.ino == n then give tt else fail (Lacks ESTALE)
 
 -- What is open is this object, and loses its bytes, if it is to.
 unfoldable pub confirm_shown : ℕ → ℕ → ℕ → Bool → Work (Unit {0})
@@ -128,7 +128,7 @@ open_or_make pid d name mode flags file_mode = do
 abbrev pub show_timed : ℕ → ℕ → Work (Status × Option Stamps)
 show_timed pid fd = do
   status ← show_open pid fd
-  stamps ← told_stamps status.inode
+  stamps ← told_stamps status.ino
   give (status, stamps)
 
 -- what stat(2) shows of what is open, and its times; where nothing is shown that is closed
@@ -139,13 +139,13 @@ look_open pid fd = do
 
 abbrev pub created_body : ℕ → ℕ → Status → Option Stamps → Server → ReplyBody
 created_body name_valid handle status stamps s =
-    Created (node_of s status.inode) name_valid (attributes s status stamps) handle (file_flags s.settings)
+    Created (node_of s status.ino) name_valid (attributes s status stamps) handle (file_flags s.settings)
 
 -- the file is new, or it was found, with its bytes or without them
 unfoldable pub tell_created : Time → ℕ → Dentry → Bool → Bool → ℕ → Status × Option Stamps → Work ReplyBody
 tell_created now name_valid p is_new is_cut handle seen = do
-  keep (told now p seen.0.inode seen.0.kind is_new is_cut)
-  keep (with_handle handle seen.0.inode)
+  keep (told now p seen.0.ino seen.0.kind is_new is_cut)
+  keep (with_handle handle seen.0.ino)
   kept (created_body name_valid handle seen.0 seen.1)
 
 -- a process makes the file, or opens it

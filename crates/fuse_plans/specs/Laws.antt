@@ -155,7 +155,7 @@ pub record OpenedObject (r : Request) (s t : Server) (es : List Event) (replies 
   pub number : ℕ
   pub of_node : number_of_node s r.node ≡ Some number
   pub status : Status
-  pub is_object : status.inode ≡ number
+  pub is_object : status.ino ≡ number
   pub after : List Event
   pub shown : IsAsked (Calls (owner_of handle) (Fstat (descriptor_of handle))) (Shown status) after es replies
   pub emptied : All (λ e. e ≡ Calls (owner_of handle) (Ftruncate (descriptor_of handle) 0)) after
@@ -185,16 +185,16 @@ told_entry (Created node name_valid shown handle flags) = Some (node, shown)
 told_entry _ = None
 
 -- The node leads to the inode that was shown. Where the object that had its number may have been no more, it led nowhere before.
-pub record LeadsToShown (s t : Server) (node inode : ℕ) : Type 0 where
-  pub leads : number_of_node t node ≡ Some inode
-  pub fresh : IsTrue (is_gone s inode) → number_of_node s node ≡ None
+pub record LeadsToShown (s t : Server) (node ino : ℕ) : Type 0 where
+  pub leads : number_of_node t node ≡ Some ino
+  pub fresh : IsTrue (is_gone s ino) → number_of_node s node ≡ None
 
 -- Whatever was replied, and whatever was answered before.
 abbrev pub ToldNodesLeadToObjects : Type 0
 ToldNodesLeadToObjects =
     (r : Request) (s t : Server) (operation : Operation) (body : ReplyBody) (es : List Event) (replies : List Reply) (node : ℕ) (shown : Attributes)
-    → r.operation ≡ Some operation → IsTrue (names_an_object operation) → shown.status.inode < 2 ^ 32 → told_entry body ≡ Some (node, shown)
-    → IsRunOf (request_plan r s) es replies (Says body, t) → LeadsToShown s t node shown.status.inode
+    → r.operation ≡ Some operation → IsTrue (names_an_object operation) → shown.status.ino < 2 ^ 32 → told_entry body ≡ Some (node, shown)
+    → IsRunOf (request_plan r s) es replies (Says body, t) → LeadsToShown s t node shown.status.ino
 
 -- ---- who asks
 

@@ -17,19 +17,19 @@ use Rattle.fuse_protocol.specs.declared.reply.Time.{Time}
 use Rattle.fuse_plans.specs.declared.reply.ReplyBody.{ReplyBody}
 use Rattle.fuse_plans.specs.declared.reply.ReplyBody.TheVariants.{Nothing, Found, Absent}
 use Rattle.fuse_plans.specs.declared.reply.Attributes.{Attributes}
-use Rattle.fuse_state.specs.Servers.{Server, node_of, kind_known, places_of, once_more, with_new_object}
+use Rattle.fuse_state.specs.Servers.{Server, node_of, kind_known, dentries_of, once_more, with_new_object}
 use Rattle.fuse_state.specs.Changes.{with_found, removed, moved, linked}
 use Rattle.fuse_state.specs.declared.dentry.Dentry.{Dentry}
 use Rattle.fuse_state.specs.declared.settings.Settings.{Settings}
 use Rattle.fuse_plans.specs.Works.{Work, give, fail, kept, keep, ◌>>=◌, ◌>>◌, attempt, obtain, replied_fd}
-use Rattle.fuse_plans.specs.Callers.{caller, caller_with_room, the_server_process, inside, done_between, by_places, look_inside, look, the_number, standing_directory}
+use Rattle.fuse_plans.specs.Callers.{caller, caller_with_room, the_server_process, inside, done_between, by_dentries, look_inside, look, the_number, standing_directory}
 use Rattle.fuse_plans.specs.Flags.{making}
 use Rattle.fuse_plans.specs.Times.{told_stamps, times_in}
 use Rattle.fuse_plans.specs.Masks.{list_hides}
 
 -- the directory and a name in it
 abbrev pub dentry : ℕ → List ℕ → Dentry
-dentry directory name = record { directory = directory; name = name }
+dentry directory name = record { dir_ino = directory; name = name }
 
 -- Nobody asks for `.` or `..` by name.
 abbrev pub plain_name : List ℕ → Work (Unit {0})
@@ -43,11 +43,11 @@ directory_for node name = do
 
 -- the times are the machine's, where it has any
 abbrev pub attributes : Server → Status → Option Stamps → Attributes
-attributes s status stamps = record { status = status; times = times_in s status.inode stamps; valid = s.settings.keeping.attributes }
+attributes s status stamps = record { status = status; times = times_in s status.ino stamps; valid = s.settings.keeping.attributes }
 
 -- the name may be kept for so many seconds
 abbrev pub found_body : ℕ → Status → Option Stamps → Server → ReplyBody
-found_body name_valid status stamps s = Found (node_of s status.inode) name_valid (attributes s status stamps)
+found_body name_valid status stamps s = Found (node_of s status.ino) name_valid (attributes s status stamps)
 
 abbrev pub tell_entry : ℕ → Status → Option Stamps → Work ReplyBody
 tell_entry name_valid status stamps = kept (found_body name_valid status stamps)
@@ -83,8 +83,8 @@ or_keep_absent nobody settings e = if keeps_absent nobody settings e then give (
 
 abbrev pub found_or_absent : Bool → ℕ → List ℕ → Result Status RequestError → Work ReplyBody
 found_or_absent nobody d name (Ok status) = do
-  stamps ← told_stamps status.inode
-  keep (with_found (dentry d name) status.inode status.kind)
+  stamps ← told_stamps status.ino
+  keep (with_found (dentry d name) status.ino status.kind)
   kept (looked_up_body nobody status stamps)
 found_or_absent nobody d name (Err e) = do
   settings ← kept (λ s. s.settings)
@@ -134,8 +134,8 @@ unfoldable pub made : Time → ℕ → ℕ → List ℕ → Work ReplyBody
 made now name_valid d name = do
   pid ← the_server_process
   status ← look_inside pid d name
-  stamps ← told_stamps status.inode
-  keep (with_new_object now (dentry d name) status.inode status.kind)
+  stamps ← told_stamps status.ino
+  keep (with_new_object now (dentry d name) status.ino status.kind)
   tell_entry name_valid status stamps
 
 abbrev pub close : ℕ → ℕ → Work (Unit {0})
@@ -248,7 +248,7 @@ may_move name new_name flags = do
 -- what has the one dentry gets the other
 abbrev pub rename : Time → ℕ → Dentry → Dentry → Work ReplyBody
 rename now pid old new = do
-  done_between pid old.directory new.directory (RenameCall old.name new.name)
+  done_between pid old.dir_ino new.dir_ino (RenameCall old.name new.name)
   keep (moved now old new)
   give Nothing
 
@@ -267,10 +267,10 @@ move_name r name new_node new_name flags = do
   move_to r.now flags pid (dentry d name) new new_name
 
 -- an object gets one more name, by one of those that are known
-unfoldable pub link_by_place : ℕ → ℕ → ℕ → List ℕ → Work (Unit {0})
-link_by_place pid n d name = do
-  places ← kept (λ s. places_of s n)
-  by_places pid (Some d) (λ old. LinkCall old name) (failed ENOENT) places
+unfoldable pub link_by_dentry : ℕ → ℕ → ℕ → List ℕ → Work (Unit {0})
+link_by_dentry pid n d name = do
+  dentries ← kept (λ s. dentries_of s n)
+  by_dentries pid (Some d) (λ old. LinkCall old name) (failed ENOENT) dentries
   give tt
 
 -- Once the object has the name too. The kernel may not keep that: of the directory nothing was seen.
@@ -279,15 +279,15 @@ tell_linked now p n = do
   kind ← kept (λ s. kind_known s n)
   keep (linked now p n kind)
   status ← look n
-  stamps ← told_stamps status.inode
-  keep (once_more status.inode)
+  stamps ← told_stamps status.ino
+  keep (once_more status.ino)
   tell_entry 0 status stamps
 
 -- who asks gives an object one more name
 abbrev pub link_as : Asked → ℕ → ℕ → List ℕ → Work ReplyBody
 link_as r n d name = do
   pid ← caller r.cred
-  link_by_place pid n d name
+  link_by_dentry pid n d name
   tell_linked r.now (dentry d name) n
 
 abbrev pub add_link : Asked → ℕ → List ℕ → Work ReplyBody

@@ -80,7 +80,7 @@ type_bits LinkType = 0o120000
 -- blocks have 512 bytes, and 4,096 bytes are best moved at once
 abbrev pub attr_of : Attributes → Attr
 attr_of a = record {
-  inode = a.status.inode;
+  ino = a.status.ino;
   size = a.status.size;
   blocks = (a.status.size + 511) / 512;
   atime = a.times.atime;

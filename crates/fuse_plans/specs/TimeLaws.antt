@@ -47,7 +47,7 @@ pub record MaySetTimes (r : Request) (s : Server) (n : ℕ) (atime mtime ctime :
   pub status : Status
   pub after : List Event
   pub shown : IsAsked event (Shown status) after es replies
-  pub is_object : status.inode ≡ n
+  pub is_object : status.ino ≡ n
   pub may : MaySet r s status atime mtime es replies
   pub is_changed : IsPresent r.now ctime
 

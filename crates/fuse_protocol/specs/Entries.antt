@@ -20,5 +20,5 @@ entry_size name = 24 + name + padding name
 -- inode, offset of the next, length of the name, kind, name, zeros
 unfoldable pub directory_entry_bytes : DirectoryEntry → List ℕ
 directory_entry_bytes e =
-    bytes_of_u64s (e.inode ∷ e.next ∷ [])
+    bytes_of_u64s (e.ino ∷ e.next ∷ [])
     ++ (bytes_of_u32s (length e.name ∷ entry_kind_number e.kind ∷ []) ++ (e.name ++ zeros_of (padding (length e.name))))

@@ -15,7 +15,7 @@ use Rattle.fuse_protocol.specs.Bytes.{bytes_of_u16s, bytes_of_u32s, bytes_of_u64
 -- 88 bytes: the device and the flags are 0
 abbrev pub attr_bytes : Attr → List ℕ
 attr_bytes a =
-    bytes_of_u64s (a.inode ∷ a.size ∷ a.blocks ∷ a.atime.seconds ∷ a.mtime.seconds ∷ a.ctime.seconds ∷ [])
+    bytes_of_u64s (a.ino ∷ a.size ∷ a.blocks ∷ a.atime.seconds ∷ a.mtime.seconds ∷ a.ctime.seconds ∷ [])
     ++ bytes_of_u32s (a.atime.nanoseconds ∷ a.mtime.nanoseconds ∷ a.ctime.nanoseconds ∷ a.mode ∷ a.links ∷ a.uid ∷ a.gid ∷ 0 ∷ a.block_size ∷ 0 ∷ [])
 
 -- 128 bytes: the node, its generation, for how many seconds name and attributes are valid, and the attributes

@@ -20,7 +20,7 @@ pub enum EntryKind {
 /// An entry of a directory: its inode, the offset of the entry behind it, and its name.
 #[derive(Drop)]
 pub struct DirectoryEntry<'a> {
-    pub inode: u64,
+    pub ino: u64,
     pub next: u64,
     pub kind: EntryKind,
     pub name: Piece<'a>,
@@ -63,7 +63,7 @@ pub fn push_entry(
     if most < size || most - size < to.len() {
         return Ok(false);
     }
-    push_u64s(to, &[entry.inode, entry.next])?;
+    push_u64s(to, &[entry.ino, entry.next])?;
     push_u32s(to, &[name.len() as u32, entry.kind as u32])?;
     to.extend_from_slice(name)?;
     push_zeros(to, size - 24 - name.len())?;

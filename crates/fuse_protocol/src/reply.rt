@@ -18,7 +18,7 @@ pub struct Time {
 /// The attributes of an object. The mode has the object's type too.
 #[derive(Clone, Copy)]
 pub struct Attr {
-    pub inode: u64,
+    pub ino: u64,
     pub size: u64,
     /// Of 512 bytes.
     pub blocks: u64,
@@ -125,7 +125,7 @@ fn push_attr(to: &mut Vec<u8>, attr: Attr) -> Result<(), AllocError>
     push_u64s(
         to,
         &[
-            attr.inode,
+            attr.ino,
             attr.size,
             attr.blocks,
             atime.seconds,

@@ -61,7 +61,7 @@ fn attr_of(attributes: &Attributes) -> Attr
 {
     let Attributes { status, times, .. } = *attributes;
     Attr {
-        inode: u64::from(status.inode),
+        ino: u64::from(status.ino),
         size: status.size,
         blocks: status.size.div_ceil(512),
         atime: times.atime,

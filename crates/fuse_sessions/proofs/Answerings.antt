@@ -23,7 +23,7 @@ use Rattle.fuse_plans.specs.Works.{Work, give, fail, ◌>>=◌, ◌>>◌}
 use Rattle.fuse_plans.specs.Serving.{Task, Replying, Silently, told_first, answered, response_of}
 use Rattle.fuse_sessions.specs.Performing.{Did, Answered}
 use Rattle.fuse_steps.proofs.Steps.{carries-followed_by}
-use Rattle.fuse_sessions.proofs.Doings.{stops, then-ok}
+use Rattle.fuse_sessions.proofs.Doings.{has-failed, then-ok}
 
 told-when : (b : Bool) (now : Time) (w : Work ReplyBody) → told_first b now (Replying w) ≡ Replying (when b (tell_time now) >> w)
 unfolding give ◌>>=◌
@@ -67,7 +67,7 @@ module _ {M : Type 0} {Serves : M → Event → Reply → M → Type 0} where
   told-if b now {w} is first rest says = answers (is ∙ told-when b now w) (told first rest) says
 
   pub refuses : {plan : Task} {s : Session M} (e : RequestError) → plan ≡ Replying (fail e) → Answered Serves plan s s (Fails e)
-  refuses {plan} {s} e is = same-plan is (did-answers {r = Err e} (stops e s))
+  refuses {plan} {s} e is = same-plan is (did-answers {r = Err e} (has-failed e s))
 
   -- the server keeps what it is to keep then, and nothing is asked
   pub is-silent : {plan : Task} (f : Server → Server) {old new : Session M} → plan ≡ Silently f → new.machine ≡ old.machine

@@ -1,7 +1,7 @@
 -- Work that is done, step by step: a function that performs a plan is proved by a chain of these, which follows the plan.
 --     then-ok, then-fails        after the first step goes the rest, or nothing
 --     then-matches        after the first goes one that asks nothing
---     of-result, gives, stops        steps that ask nothing and read nothing
+--     of-result, gives, has-failed        steps that ask nothing and read nothing
 --     reads, reads-needed, keeps, needs-some, needs-none, where-true, where-false        steps that ask nothing, before the rest
 --     attempts        a step of which it is told whether it failed
 --     by-machine        a step for which nothing that is kept is read
@@ -115,9 +115,9 @@ module _ {M : Type 0} {Serves : M → Event → Reply → M → Type 0} where
   pub gives-as : {X : Type 0} {x y : X} {s : Session M} → y ≡ x → Did Serves (give x) s s (Ok y)
   gives-as {X} {x} {y} {s} is = subst (λ (z : X). Did Serves (give z) s s (Ok y)) is (gives y s)
 
-  pub stops : {X : Type 0} (e : RequestError) (s : Session M) → Did Serves (fail {X = X} e) s s (Err e)
+  pub has-failed : {X : Type 0} (e : RequestError) (s : Session M) → Did Serves (fail {X = X} e) s s (Err e)
   unfolding fail
-  stops e s = record { performs = finishes (Err e, s.server.server) s.machine }
+  has-failed e s = record { performs = finishes (Err e, s.server.server) s.machine }
 
   -- what is read of what is kept
   pub reads : {X Y : Type 0} (h : Server → X) (f : X → Work Y) {old new : Session M} {x : X} {r : Result Y RequestError}
@@ -172,7 +172,7 @@ module _ {M : Type 0} {Serves : M → Event → Reply → M → Type 0} where
       same-work (ap (λ (p : Option X). needed e p >>= f) is) (then-ok f (gives x old) rest)
 
   pub needs-none : {X Y : Type 0} (e : RequestError) (f : X → Work Y) {o : Option X} (s : Session M) → o ≡ None → Did Serves (needed e o >>= f) s s (Err e)
-  needs-none {X} {Y} e f {o} s is = same-work (ap (λ (p : Option X). needed e p >>= f) is) (then-err f (stops e s))
+  needs-none {X} {Y} e f {o} s is = same-work (ap (λ (p : Option X). needed e p >>= f) is) (then-err f (has-failed e s))
 
   pub needs-last : {X : Type 0} (e : RequestError) {o : Option X} {s : Session M} {x : X} → o ≡ Some x → Did Serves (needed e o) s s (Ok x)
   needs-last {X} e {o} {s} {x} is = same-work (ap (λ (p : Option X). needed e p) is) (gives x s)
@@ -181,7 +181,7 @@ module _ {M : Type 0} {Serves : M → Event → Reply → M → Type 0} where
   needs-was {X} e o {s} {r} is = of-result (needed-is e o ∙ ap of_result (sym is))
 
   pub lacks-last : {X : Type 0} (e : RequestError) {o : Option X} {s : Session M} → o ≡ None → Did Serves (needed e o) s s (Err e)
-  lacks-last {X} e {o} {s} is = same-work (ap (λ (p : Option X). needed e p) is) (stops e s)
+  lacks-last {X} e {o} {s} is = same-work (ap (λ (p : Option X). needed e p) is) (has-failed e s)
 
   -- ---- choices
 

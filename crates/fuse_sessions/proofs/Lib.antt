@@ -1,5 +1,5 @@
 mod Answerings
-mod ByPlaces
+mod ByDentries
 mod Doings
 mod Judging
 mod Pieces

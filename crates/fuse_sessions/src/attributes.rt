@@ -95,7 +95,7 @@ impl<M: Machine> Session<M> {
     fn tell_attributes(&mut self, status: Status) -> Result<ReplyBody, RequestError>
         ensures { Did M.Serves (tell_attributes status) self.old self.new result }
     {
-        let stamps = self.told_stamps(status.inode)?;
+        let stamps = self.told_stamps(status.ino)?;
         Ok(ReplyBody::Shown(attributes(&self.server, status, stamps)))
     }
 
@@ -103,8 +103,8 @@ impl<M: Machine> Session<M> {
     pub(crate) fn get_attributes(&mut self, asked: &Asked) -> Result<ReplyBody, RequestError>
         ensures { Did M.Serves (get_attributes asked.entry.now) self.old self.new result }
     {
-        let inode = self.the_number(asked.node)?;
-        let status = self.look(inode)?;
+        let ino = self.the_number(asked.node)?;
+        let status = self.look(ino)?;
         self.tell_attributes(status)
     }
 
@@ -112,10 +112,10 @@ impl<M: Machine> Session<M> {
     fn new_owners(
         &mut self,
         changes: &AttrChanges,
-        inode: u32,
+        ino: u32,
         link: bool,
     ) -> Result<(Option<u32>, Option<u32>), RequestError>
-        ensures did { Did M.Serves (new_owners changes.now inode link) self.old self.new result }
+        ensures did { Did M.Serves (new_owners changes.now ino link) self.old self.new result }
         ensures kept { self.new.server ≡ self.old.server }
     {
         if !link {
@@ -124,7 +124,7 @@ impl<M: Machine> Session<M> {
         if changes_more(changes) {
             return Err(RequestError::EOPNOTSUPP);
         }
-        let status = self.look(inode)?;
+        let status = self.look(ino)?;
         owners_stay(changes, status)
     }
 
@@ -132,16 +132,16 @@ impl<M: Machine> Session<M> {
     fn resize_object(
         &mut self,
         pid: usize,
-        inode: u32,
+        ino: u32,
         size: u64,
         handle: Option<u64>,
     ) -> Result<Reply, RequestError>
-        ensures did { Did M.Serves (resize_object pid inode size handle) self.old self.new result }
+        ensures did { Did M.Serves (resize_object pid ino size handle) self.old self.new result }
         ensures kept { self.new.server ≡ self.old.server }
     {
         let Some(handle) = handle else {
             let call = Call::Truncate(self.blank_path(), size);
-            return self.on_once(pid, inode, call);
+            return self.on_once(pid, ino, call);
         };
         self.call_open(handle, Call::Ftruncate(descriptor_of(handle), size))
     }
@@ -150,19 +150,19 @@ impl<M: Machine> Session<M> {
         &mut self,
         now: Time,
         pid: usize,
-        inode: u32,
+        ino: u32,
         handle: Option<u64>,
         size: Option<u64>,
     ) -> Result<(), RequestError>
         requires { 1 ≤ self.old.server.room }
-        ensures did { Did M.Serves (set_size now pid inode handle size) self.old self.new result }
+        ensures did { Did M.Serves (set_size now pid ino handle size) self.old self.new result }
         ensures room { self.old.server.room ≤ self.new.server.room + 1 }
     {
         let Some(size) = size else {
             return Ok(());
         };
-        self.resize_object(pid, inode, size, handle)?.discard();
-        self.server.touch(now, inode);
+        self.resize_object(pid, ino, size, handle)?.discard();
+        self.server.touch(now, ino);
         Ok(())
     }
 
@@ -170,11 +170,11 @@ impl<M: Machine> Session<M> {
         &mut self,
         now: Time,
         pid: usize,
-        inode: u32,
+        ino: u32,
         owners: (Option<u32>, Option<u32>),
     ) -> Result<(), RequestError>
         requires { 1 ≤ self.old.server.room }
-        ensures did { Did M.Serves (set_owners now pid inode owners) self.old self.new result }
+        ensures did { Did M.Serves (set_owners now pid ino owners) self.old self.new result }
         ensures room { self.old.server.room ≤ self.new.server.room + 1 }
     {
         if !sets_owners(owners) {
@@ -183,8 +183,8 @@ impl<M: Machine> Session<M> {
         let (owner, group) = owners;
         let path = self.blank_path();
         let call = Call::Chown { path, owner, group };
-        self.on_once(pid, inode, call)?.discard();
-        self.server.change(now, inode);
+        self.on_once(pid, ino, call)?.discard();
+        self.server.change(now, ino);
         Ok(())
     }
 
@@ -192,19 +192,19 @@ impl<M: Machine> Session<M> {
         &mut self,
         now: Time,
         pid: usize,
-        inode: u32,
+        ino: u32,
         mode: Option<u32>,
     ) -> Result<(), RequestError>
         requires { 1 ≤ self.old.server.room }
-        ensures did { Did M.Serves (set_mode now pid inode mode) self.old self.new result }
+        ensures did { Did M.Serves (set_mode now pid ino mode) self.old self.new result }
         ensures room { self.old.server.room ≤ self.new.server.room + 1 }
     {
         let Some(mode) = mode else {
             return Ok(());
         };
         let call = Call::Chmod(self.blank_path(), (mode & 0o7777) as u16);
-        self.on_once(pid, inode, call)?.discard();
-        self.server.change(now, inode);
+        self.on_once(pid, ino, call)?.discard();
+        self.server.change(now, ino);
         Ok(())
     }
 
@@ -213,30 +213,30 @@ impl<M: Machine> Session<M> {
         &mut self,
         now: Time,
         pid: usize,
-        inode: u32,
+        ino: u32,
         link: bool,
         changes: &AttrChanges,
     ) -> Result<(), RequestError>
         requires { 3 ≤ self.old.server.room }
-        ensures did { Did M.Serves (change_attributes now pid inode link changes.now) self.old self.new result }
+        ensures did { Did M.Serves (change_attributes now pid ino link changes.now) self.old self.new result }
         ensures room { self.old.server.room ≤ self.new.server.room + 3 }
     {
-        let owners = self.new_owners(changes, inode, link)?;
-        self.set_size(now, pid, inode, changes.handle, changes.size)?;
-        self.set_owners(now, pid, inode, owners)?;
-        self.set_mode(now, pid, inode, changes.mode)
+        let owners = self.new_owners(changes, ino, link)?;
+        self.set_size(now, pid, ino, changes.handle, changes.size)?;
+        self.set_owners(now, pid, ino, owners)?;
+        self.set_mode(now, pid, ino, changes.mode)
     }
 
     // The owner may; and who may write may set both to the present time.
     fn may_set_times(
         &mut self,
         pid: usize,
-        inode: u32,
+        ino: u32,
         link: bool,
         is_owner: bool,
         changes: &AttrChanges,
     ) -> Result<(), RequestError>
-        ensures did { Did M.Serves (may_set_times pid inode link is_owner changes.now) self.old self.new result }
+        ensures did { Did M.Serves (may_set_times pid ino link is_owner changes.now) self.old self.new result }
         ensures kept { self.new.server ≡ self.old.server }
     {
         if is_owner {
@@ -246,7 +246,7 @@ impl<M: Machine> Session<M> {
             return Err(RequestError::EPERM);
         }
         let call = Call::Access(self.blank_path(), Perms::from_digit(2));
-        self.on_once(pid, inode, call)?.discard();
+        self.on_once(pid, ino, call)?.discard();
         Ok(())
     }
 
@@ -254,13 +254,13 @@ impl<M: Machine> Session<M> {
         &mut self,
         asked: &Asked,
         pid: usize,
-        inode: u32,
+        ino: u32,
         link: bool,
         status: Status,
         changes: &AttrChanges,
     ) -> Result<(), RequestError>
         requires { 1 ≤ self.old.server.room }
-        ensures { Did M.Serves (set_times asked.entry.now pid inode link status changes.now) self.old self.new result }
+        ensures { Did M.Serves (set_times asked.entry.now pid ino link status changes.now) self.old self.new result }
     {
         if !sets_times(changes) {
             return Ok(());
@@ -269,8 +269,8 @@ impl<M: Machine> Session<M> {
             return Err(RequestError::EACCES);
         };
         let is_owner = counts_as_owner(cred, status.owner);
-        self.may_set_times(pid, inode, link, is_owner, changes)?;
-        self.set_stamps(asked.now, inode, status, changes)
+        self.may_set_times(pid, ino, link, is_owner, changes)?;
+        self.set_stamps(asked.now, ino, status, changes)
     }
 
     /// Changes attributes.
@@ -284,11 +284,11 @@ impl<M: Machine> Session<M> {
         requires room { 5 ≤ self.old.server.room }
         ensures { Did M.Serves (set_attributes asked.entry.now changes.now) self.old self.new result }
     {
-        let inode = self.the_number(asked.node)?;
+        let ino = self.the_number(asked.node)?;
         let pid = self.caller(copy)?;
-        let link = is_known_link(self.server.kind_of(inode));
-        self.change_attributes(asked.now, pid, inode, link, changes)?;
-        self.tell_times(asked, pid, inode, link, changes)
+        let link = is_known_link(self.server.kind_of(ino));
+        self.change_attributes(asked.now, pid, ino, link, changes)?;
+        self.tell_times(asked, pid, ino, link, changes)
     }
 
     // Times, and what is there then.
@@ -296,15 +296,15 @@ impl<M: Machine> Session<M> {
         &mut self,
         asked: &Asked,
         pid: usize,
-        inode: u32,
+        ino: u32,
         link: bool,
         changes: &AttrChanges,
     ) -> Result<ReplyBody, RequestError>
         requires { 1 ≤ self.old.server.room }
-        ensures { Did M.Serves (tell_times asked.entry.now pid inode link changes.now) self.old self.new result }
+        ensures { Did M.Serves (tell_times asked.entry.now pid ino link changes.now) self.old self.new result }
     {
-        let status = self.look(inode)?;
-        self.set_times(asked, pid, inode, link, status, changes)?;
+        let status = self.look(ino)?;
+        self.set_times(asked, pid, ino, link, status, changes)?;
         self.tell_attributes(status)
     }
 
@@ -312,15 +312,15 @@ impl<M: Machine> Session<M> {
     pub(crate) fn read_link(&mut self, asked: &Asked) -> Result<ReplyBody, RequestError>
         ensures { Did M.Serves (read_link asked.entry.now) self.old self.new result }
     {
-        let inode = self.the_number(asked.node)?;
-        self.tell_target(inode)
+        let ino = self.the_number(asked.node)?;
+        self.tell_target(ino)
     }
 
-    fn tell_target(&mut self, inode: u32) -> Result<ReplyBody, RequestError>
-        ensures { Did M.Serves (tell_target inode) self.old self.new result }
+    fn tell_target(&mut self, ino: u32) -> Result<ReplyBody, RequestError>
+        ensures { Did M.Serves (tell_target ino) self.old self.new result }
     {
         let call = Call::Readlink(self.blank_path());
-        let reply = self.by_server_process(inode, call)?;
+        let reply = self.by_server_process(ino, call)?;
         let Some(target) = target_of_reply(reply) else {
             return Err(RequestError::EIO);
         };
@@ -328,14 +328,14 @@ impl<M: Machine> Session<M> {
     }
 
     // A process of who asks may do so much.
-    fn access_as(&mut self, who: Option<Cred>, inode: u32, perms: Perms) -> Result<(), RequestError>
+    fn access_as(&mut self, who: Option<Cred>, ino: u32, perms: Perms) -> Result<(), RequestError>
         requires { 1 ≤ self.old.server.room }
-        ensures did { Did M.Serves (access_as who inode perms) self.old self.new result }
+        ensures did { Did M.Serves (access_as who ino perms) self.old self.new result }
         ensures room { self.old.server.room ≤ self.new.server.room + 1 }
     {
         let pid = self.caller(who)?;
         let call = Call::Access(self.blank_path(), perms);
-        self.on_once(pid, inode, call)?.discard();
+        self.on_once(pid, ino, call)?.discard();
         Ok(())
     }
 
@@ -344,17 +344,17 @@ impl<M: Machine> Session<M> {
         &mut self,
         condition: bool,
         who: Option<Cred>,
-        inode: u32,
+        ino: u32,
         perms: Perms,
     ) -> Result<(), RequestError>
         requires { 1 ≤ self.old.server.room }
-        ensures did { Did M.Serves (when condition (access_as who inode perms)) self.old self.new result }
+        ensures did { Did M.Serves (when condition (access_as who ino perms)) self.old self.new result }
         ensures room { self.old.server.room ≤ self.new.server.room + 1 }
     {
         if !condition {
             return Ok(());
         }
-        self.access_as(who, inode, perms)
+        self.access_as(who, ino, perms)
     }
 
     /// Whether permissions are granted: on a link each.
@@ -368,10 +368,10 @@ impl<M: Machine> Session<M> {
         requires room { 1 ≤ self.old.server.room }
         ensures { Did M.Serves (ask_access asked.entry.now mask) self.old self.new result }
     {
-        let inode = self.the_number(asked.node)?;
-        let link = is_known_link(self.server.kind_of(inode));
+        let ino = self.the_number(asked.node)?;
+        let link = is_known_link(self.server.kind_of(ino));
         let perms = Perms::from_digit((mask & 7) as u16);
-        self.access_if(!link, copy, inode, perms)?;
+        self.access_if(!link, copy, ino, perms)?;
         Ok(ReplyBody::Nothing)
     }
 }

@@ -1,11 +1,11 @@
 //! Requests for directories. An open one holds no descriptor of the machine.
 ghost use Rattle.std.specs.Prelude.{◌≡◌, ◌≤◌, [], vec_capacity, true};
-ghost use Rattle.fuse_plans.specs.Callers.{has_place};
+ghost use Rattle.fuse_plans.specs.Callers.{has_dentry};
 ghost use Rattle.fuse_plans.specs.DirectoryPlans.{open_directory, directory_flags, opened_directory_body, take_directory, tell_names, list_open, list_and_close, list_all, tell_now, read_directory, close_directory};
 ghost use Rattle.fuse_sessions.specs.Performing.{Did};
 ghost use Rattle.fuse_steps.specs.Performing.{DidByMachine};
 
-use crate::object::has_place;
+use crate::object::has_dentry;
 use crate::session::Session;
 use bitflags::Flags as _;
 use fs_cred::Cred;
@@ -79,37 +79,37 @@ impl<M: Machine> Session<M> {
         requires room { 2 ≤ self.old.server.room }
         ensures { Did M.Serves (open_directory asked.entry.now) self.old self.new result }
     {
-        let inode = self.directory_number(asked.node)?;
+        let ino = self.directory_number(asked.node)?;
         let Some(cred) = &copy else {
             return Err(RequestError::EACCES);
         };
         let owner = cred.uid();
-        let is_placed = has_place(&self.server, inode);
-        self.access_if(is_placed, copy, inode, Perms::from_digit(4))?;
-        self.take_directory(owner, inode)
+        let has_name = has_dentry(&self.server, ino);
+        self.access_if(has_name, copy, ino, Perms::from_digit(4))?;
+        self.take_directory(owner, ino)
     }
 
     // Where the user may open one more.
-    fn take_directory(&mut self, owner: u32, inode: u32) -> Result<ReplyBody, RequestError>
+    fn take_directory(&mut self, owner: u32, ino: u32) -> Result<ReplyBody, RequestError>
         requires { 1 ≤ self.old.server.room }
-        ensures { Did M.Serves (take_directory owner inode) self.old self.new result }
+        ensures { Did M.Serves (take_directory owner ino) self.old self.new result }
     {
         if !self.server.may_open_directory(owner) {
             return Err(RequestError::ENFILE);
         }
         let handle = self.server.next_directory();
-        self.server.add_directory(owner, inode);
+        self.server.add_directory(owner, ino);
         Ok(opened_body(&self.server, handle))
     }
 
     // The names in a directory, as the server's own process sees them.
-    fn list_all(&mut self, inode: u32) -> Result<Listing, RequestError>
-        ensures did { Did M.Serves (list_all inode true) self.old self.new result }
+    fn list_all(&mut self, ino: u32) -> Result<Listing, RequestError>
+        ensures did { Did M.Serves (list_all ino true) self.old self.new result }
         ensures kept { self.new.server ≡ self.old.server }
     {
         let pid = self.the_server_process()?;
         let call = Call::Open(self.blank_path(), listing(), 0);
-        let opened = self.on_once(pid, inode, call)?;
+        let opened = self.on_once(pid, ino, call)?;
         let fd = fd_of_reply(&opened);
         opened.discard();
         let Some(fd) = fd else {
@@ -119,12 +119,12 @@ impl<M: Machine> Session<M> {
     }
 
     // A directory that was removed has no names.
-    fn list_placed(&mut self, inode: u32) -> Result<Listing, RequestError>
-        ensures did { Did M.Serves (list_all inode (has_place self.old.server.server inode)) self.old self.new result }
+    fn list_by_dentries(&mut self, ino: u32) -> Result<Listing, RequestError>
+        ensures did { Did M.Serves (list_all ino (has_dentry self.old.server.server ino)) self.old self.new result }
         ensures kept { self.new.server ≡ self.old.server }
     {
-        if has_place(&self.server, inode) {
-            self.list_all(inode)
+        if has_dentry(&self.server, ino) {
+            self.list_all(ino)
         } else {
             Ok(Listing::new(Vec::new(self.alloc)))
         }
@@ -151,8 +151,8 @@ impl<M: Machine> Session<M> {
                 return Ok(ReplyBody::Bytes(bytes));
             }
         }
-        let number = open.number;
-        self.tell_now(node, extent, number, room)
+        let open_ino = open.ino;
+        self.tell_now(node, extent, open_ino, room)
     }
 
     // The entries that are there now, in the directory of the node, if that is the one that is open.
@@ -160,19 +160,19 @@ impl<M: Machine> Session<M> {
         &mut self,
         node: u64,
         extent: Extent,
-        number: u32,
+        open_ino: u32,
         room: Vec<u8>,
     ) -> Result<ReplyBody, RequestError>
         requires empty { room.items ≡ [] }
         requires capacity { extent.size ≤ vec_capacity room }
         requires room { 1 ≤ self.old.server.room }
-        ensures { Did M.Serves (tell_now node extent number) self.old self.new result }
+        ensures { Did M.Serves (tell_now node extent open_ino) self.old self.new result }
     {
-        let inode = self.the_number(node)?;
-        if inode != number {
+        let ino = self.the_number(node)?;
+        if ino != open_ino {
             return Err(RequestError::ESTALE);
         }
-        let names = self.list_placed(inode)?;
+        let names = self.list_by_dentries(ino)?;
         let bytes = listing_bytes(extent, &names, room);
         self.server.set_listing(extent.handle, names);
         Ok(ReplyBody::Bytes(bytes))

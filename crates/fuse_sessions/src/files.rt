@@ -34,13 +34,13 @@ fn asked_mode(flags: OpenFlags, mode: Mode) -> Mode
 }
 
 // The contents of an object have changed, if they have.
-fn touch_if(server: &mut Server, is_cut: bool, now: Time, inode: u32)
+fn touch_if(server: &mut Server, is_cut: bool, now: Time, ino: u32)
     requires { 1 ≤ server.old.room }
-    ensures kept { server.new.server ≡ touched_if is_cut now inode server.old.server }
+    ensures kept { server.new.server ≡ touched_if is_cut now ino server.old.server }
     ensures room { server.old.room ≤ server.new.room + 1 }
 {
     if is_cut {
-        server.touch(now, inode);
+        server.touch(now, ino);
     }
 }
 
@@ -73,7 +73,7 @@ fn created_body(
     ensures { result ≡ created_body name_valid handle status stamps server.now.server }
 {
     ReplyBody::Created {
-        node: server.node_of(status.inode),
+        node: server.node_of(status.ino),
         name_valid,
         shown: attributes(server, status, stamps),
         handle,
@@ -92,20 +92,20 @@ fn may_be_found(error: RequestError, flags: OpenFlags) -> bool
 fn or_opened<M: Machine>(
     machine: &mut M,
     pid: usize,
-    directory: u32,
+    dir_ino: u32,
     name: Path,
     mode: Mode,
     flags: OpenFlags,
     error: RequestError,
 ) -> (Result<(Reply, bool), RequestError>, Path)
-    ensures did { DidByMachine M.Serves (or_opened pid directory name mode flags.0 (Err error)) machine.old machine.new result.0 }
+    ensures did { DidByMachine M.Serves (or_opened pid dir_ino name mode flags.0 (Err error)) machine.old machine.new result.0 }
     ensures name { result.1 ≡ name }
 {
     if !may_be_found(error, flags) {
         return (Err(error), name);
     }
     let call = Call::Open(name, opening(asked_mode(flags, mode), is_trunc(flags)), 0);
-    let (opened, name) = inside(machine, pid, directory, call);
+    let (opened, name) = inside(machine, pid, dir_ino, call);
     match opened {
         Ok(reply) => (Ok((reply, false)), name),
         Err(error) => (Err(error), name),
@@ -116,20 +116,20 @@ fn or_opened<M: Machine>(
 fn open_or_make<M: Machine>(
     machine: &mut M,
     pid: usize,
-    directory: u32,
+    dir_ino: u32,
     name: Path,
     mode: Mode,
     flags: OpenFlags,
     file_mode: u32,
 ) -> (Result<(Reply, bool), RequestError>, Path)
-    ensures did { DidByMachine M.Serves (open_or_make pid directory name mode flags.0 file_mode) machine.old machine.new result.0 }
+    ensures did { DidByMachine M.Serves (open_or_make pid dir_ino name mode flags.0 file_mode) machine.old machine.new result.0 }
     ensures name { result.1 ≡ name }
 {
     let call = Call::Open(name, creating(mode), (file_mode & 0o777) as u16);
-    let (first, name) = inside(machine, pid, directory, call);
+    let (first, name) = inside(machine, pid, dir_ino, call);
     match first {
         Ok(reply) => (Ok((reply, true)), name),
-        Err(error) => or_opened(machine, pid, directory, name, mode, flags, error),
+        Err(error) => or_opened(machine, pid, dir_ino, name, mode, flags, error),
     }
 }
 
@@ -145,13 +145,13 @@ fn confirm_shown<M: Machine>(
     machine: &mut M,
     pid: usize,
     fd: usize,
-    inode: u32,
+    ino: u32,
     is_cut: bool,
 ) -> Result<(), RequestError>
-    ensures { DidByMachine M.Serves (confirm_shown pid fd inode is_cut) machine.old machine.new result }
+    ensures { DidByMachine M.Serves (confirm_shown pid fd ino is_cut) machine.old machine.new result }
 {
     let status = show_open(machine, pid, fd)?;
-    only_inode(inode, status)?;
+    only_inode(ino, status)?;
     if !is_cut {
         return Ok(());
     }
@@ -163,23 +163,23 @@ fn confirm_open<M: Machine>(
     machine: &mut M,
     pid: usize,
     fd: usize,
-    inode: u32,
+    ino: u32,
     is_cut: bool,
 ) -> Result<(), RequestError>
-    ensures { DidByMachine M.Serves (confirm_open pid fd inode is_cut) machine.old machine.new result }
+    ensures { DidByMachine M.Serves (confirm_open pid fd ino is_cut) machine.old machine.new result }
 {
-    let confirmed = confirm_shown(machine, pid, fd, inode, is_cut);
+    let confirmed = confirm_shown(machine, pid, fd, ino, is_cut);
     or_closed(machine, pid, fd, confirmed)
 }
 
 impl<M: Machine> Session<M> {
     // What open(2) doesn't ask is asked first.
-    fn ask_first(&mut self, pid: usize, inode: u32, flags: OpenFlags) -> Result<(), RequestError>
-        ensures did { Did M.Serves (ask_first pid inode flags.0) self.old self.new result }
+    fn ask_first(&mut self, pid: usize, ino: u32, flags: OpenFlags) -> Result<(), RequestError>
+        ensures did { Did M.Serves (ask_first pid ino flags.0) self.old self.new result }
         ensures kept { self.new.server ≡ self.old.server }
     {
         let run = Call::Access(self.blank_path(), Perms::from_digit(1));
-        self.on_if(is_exec(flags), pid, inode, run)
+        self.on_if(is_exec(flags), pid, ino, run)
     }
 
     // Opens an object, and no other that its name may lead to: its handle.
@@ -187,28 +187,28 @@ impl<M: Machine> Session<M> {
         &mut self,
         now: Time,
         pid: usize,
-        inode: u32,
+        ino: u32,
         flags: OpenFlags,
         mode: Mode,
     ) -> Result<u64, RequestError>
         requires { 2 ≤ self.old.server.room }
-        ensures { Did M.Serves (open_object now pid inode flags.0 mode) self.old self.new result }
+        ensures { Did M.Serves (open_object now pid ino flags.0 mode) self.old self.new result }
     {
         let call = Call::Open(
             self.blank_path(),
             opening(asked_mode(flags, mode), false),
             0,
         );
-        let reply = self.on_once(pid, inode, call)?;
+        let reply = self.on_once(pid, ino, call)?;
         let fd = fd_of_reply(&reply);
         reply.discard();
         let Some(handle) = handle_within(pid, fd) else {
             return Err(RequestError::EIO);
         };
         let (fd, is_cut) = (descriptor_of(handle), is_trunc(flags));
-        confirm_open(&mut self.machine, pid, fd, inode, is_cut)?;
-        touch_if(&mut self.server, is_cut, now, inode);
-        self.server.add_handle(handle, inode);
+        confirm_open(&mut self.machine, pid, fd, ino, is_cut)?;
+        touch_if(&mut self.server, is_cut, now, ino);
+        self.server.add_handle(handle, ino);
         Ok(handle)
     }
 
@@ -223,12 +223,12 @@ impl<M: Machine> Session<M> {
         requires room { 3 ≤ self.old.server.room }
         ensures { Did M.Serves (open_file asked.entry.now flags.0) self.old self.new result }
     {
-        let inode = self.the_number(asked.node)?;
+        let ino = self.the_number(asked.node)?;
         let Some(mode) = Mode::of_flags(flags) else {
             return Err(RequestError::EINVAL);
         };
         let pid = self.caller_with_room(copy)?;
-        self.open_granted(asked.now, pid, inode, flags, mode)
+        self.open_granted(asked.now, pid, ino, flags, mode)
     }
 
     // Opens a file, once it is granted.
@@ -236,15 +236,15 @@ impl<M: Machine> Session<M> {
         &mut self,
         now: Time,
         pid: usize,
-        inode: u32,
+        ino: u32,
         flags: OpenFlags,
         mode: Mode,
     ) -> Result<ReplyBody, RequestError>
         requires { 2 ≤ self.old.server.room }
-        ensures { Did M.Serves (open_granted now pid inode flags.0 mode) self.old self.new result }
+        ensures { Did M.Serves (open_granted now pid ino flags.0 mode) self.old self.new result }
     {
-        self.ask_first(pid, inode, flags)?;
-        let handle = self.open_object(now, pid, inode, flags, mode)?;
+        self.ask_first(pid, ino, flags)?;
+        let handle = self.open_object(now, pid, ino, flags, mode)?;
         Ok(opened_body(&self.server, handle))
     }
 
@@ -258,7 +258,7 @@ impl<M: Machine> Session<M> {
         ensures kept { self.new.server ≡ self.old.server }
     {
         let status = show_open(&mut self.machine, pid, fd)?;
-        let stamps = self.told_stamps(status.inode)?;
+        let stamps = self.told_stamps(status.ino)?;
         Ok((status, stamps))
     }
 
@@ -287,8 +287,8 @@ impl<M: Machine> Session<M> {
     {
         let (status, stamps) = seen;
         self.server
-            .note_opened(now, dentry, status.inode, status.kind, is_new, is_cut);
-        self.server.add_handle(handle, status.inode);
+            .note_opened(now, dentry, status.ino, status.kind, is_new, is_cut);
+        self.server.add_handle(handle, status.ino);
         Ok(created_body(&self.server, name_valid, handle, status, stamps))
     }
 
@@ -310,14 +310,12 @@ impl<M: Machine> Session<M> {
         let Some(mode) = Mode::of_flags(flags) else {
             return Err(RequestError::EINVAL);
         };
-        let directory = self.standing_directory(asked.node)?;
-        let name_valid = self.new_valid(directory);
+        let dir_ino = self.standing_directory(asked.node)?;
+        let name_valid = self.new_valid(dir_ino);
         let pid = self.caller_with_room(copy)?;
         set_umask(&mut self.machine, pid, umask)?.discard();
         let now = asked.now;
-        self.create_by(
-            now, name_valid, pid, directory, name, mode, flags, file_mode,
-        )
+        self.create_by(now, name_valid, pid, dir_ino, name, mode, flags, file_mode)
     }
 
     // A process makes the file, or opens it.
@@ -326,19 +324,19 @@ impl<M: Machine> Session<M> {
         now: Time,
         name_valid: u64,
         pid: usize,
-        directory: u32,
+        dir_ino: u32,
         name: Path,
         mode: Mode,
         flags: OpenFlags,
         file_mode: u32,
     ) -> Result<ReplyBody, RequestError>
         requires { 5 ≤ self.old.server.room }
-        ensures { Did M.Serves (create_by now name_valid pid directory name mode flags.0 file_mode) self.old self.new result }
+        ensures { Did M.Serves (create_by now name_valid pid dir_ino name mode flags.0 file_mode) self.old self.new result }
     {
         let (opened, name) = open_or_make(
             &mut self.machine,
             pid,
-            directory,
+            dir_ino,
             name,
             mode,
             flags,
@@ -351,7 +349,7 @@ impl<M: Machine> Session<M> {
             return Err(RequestError::EIO);
         };
         let seen = self.look_open(pid, descriptor_of(handle))?;
-        let dentry = dentry(directory, name);
+        let dentry = dentry(dir_ino, name);
         let is_cut = is_trunc(flags);
         self.tell_created(now, name_valid, dentry, is_new, is_cut, handle, seen)
     }

@@ -220,7 +220,7 @@ impl<M: Machine> Session<M> {
         ensures did { Did M.Serves (seek_open handle offset) self.old self.new result }
         ensures kept { self.new.server ≡ self.old.server }
     {
-        let inode = self.the_open(handle)?;
+        let ino = self.the_open(handle)?;
         seek(
             &mut self.machine,
             owner_of(handle),
@@ -228,7 +228,7 @@ impl<M: Machine> Session<M> {
             offset,
         )?
         .discard();
-        Ok(inode)
+        Ok(ino)
     }
 
     /// Reads what is open, with room for so many bytes.
@@ -261,11 +261,11 @@ impl<M: Machine> Session<M> {
         requires pieces { min (length bytes.now) move_limit ≤ length room }
         ensures { Did M.Serves (write_by now handle offset (writes_of (descriptor_of handle) bytes.now)) self.old self.new result }
     {
-        let inode = self.seek_open(handle, offset)?;
+        let ino = self.seek_open(handle, offset)?;
         let pid = owner_of(handle);
         let fd = descriptor_of(handle);
         let count = write_pieces(&mut self.machine, pid, fd, bytes, room)?;
-        self.server.touch(now, inode);
+        self.server.touch(now, ino);
         Ok(ReplyBody::Wrote(count))
     }
 

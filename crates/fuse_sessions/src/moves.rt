@@ -1,7 +1,7 @@
 //! Requests for names that go, and for further names.
 ghost use Rattle.std.specs.Prelude.{◌≡◌, ◌≤◌};
 ghost use Rattle.fuse_plans.specs.Callers.{done_between};
-ghost use Rattle.fuse_plans.specs.NamePlans.{remove, removal, nothing_to_replace, may_move, rename, move_to, move_name, link_by_place, tell_linked, link_as, add_link};
+ghost use Rattle.fuse_plans.specs.NamePlans.{remove, removal, nothing_to_replace, may_move, rename, move_to, move_name, link_by_dentry, tell_linked, link_as, add_link};
 ghost use Rattle.fuse_sessions.specs.Performing.{Did};
 ghost use Rattle.fuse_steps.specs.Performing.{DidByMachine};
 
@@ -31,16 +31,16 @@ fn removal(of_directory: bool, name: Path) -> Call
 fn remove_inside<M: Machine>(
     machine: &mut M,
     pid: usize,
-    directory: u32,
+    dir_ino: u32,
     of_directory: bool,
     name: Path,
 ) -> (Result<(), RequestError>, Path)
     ensures did { let call = removal of_directory name in
-        DidByMachine M.Serves (done_between pid directory directory call) machine.old machine.new result.0 }
+        DidByMachine M.Serves (done_between pid dir_ino dir_ino call) machine.old machine.new result.0 }
     ensures name { result.1 ≡ name }
 {
     let call = removal(of_directory, name);
-    let (tried, name) = inside(machine, pid, directory, call);
+    let (tried, name) = inside(machine, pid, dir_ino, call);
     (done(tried), name)
 }
 
@@ -49,16 +49,16 @@ fn nothing_to_replace<M: Machine>(
     machine: &mut M,
     flags: u32,
     pid: usize,
-    directory: u32,
+    dir_ino: u32,
     name: Path,
 ) -> (Result<(), RequestError>, Path)
-    ensures did { DidByMachine M.Serves (nothing_to_replace flags pid directory name) machine.old machine.new result.0 }
+    ensures did { DidByMachine M.Serves (nothing_to_replace flags pid dir_ino name) machine.old machine.new result.0 }
     ensures name { result.1 ≡ name }
 {
     if flags == 0 {
         return (Ok(()), name);
     }
-    let (there, name) = inside(machine, pid, directory, Call::Lstat(name));
+    let (there, name) = inside(machine, pid, dir_ino, Call::Lstat(name));
     (none_there(there), name)
 }
 
@@ -75,11 +75,10 @@ impl<M: Machine> Session<M> {
         requires room { 3 ≤ self.old.server.room }
         ensures { Did M.Serves (remove asked.entry.now (removal of_directory) name) self.old self.new result }
     {
-        let (directory, pid) = self.directory_and_caller(asked, copy, &name)?;
-        let (tried, name) = remove_inside(&mut self.machine, pid, directory, of_directory, name);
+        let (dir_ino, pid) = self.directory_and_caller(asked, copy, &name)?;
+        let (tried, name) = remove_inside(&mut self.machine, pid, dir_ino, of_directory, name);
         tried?;
-        self.server
-            .note_removed(asked.now, &dentry(directory, name));
+        self.server.note_removed(asked.now, &dentry(dir_ino, name));
         Ok(ReplyBody::Nothing)
     }
 
@@ -103,25 +102,22 @@ impl<M: Machine> Session<M> {
         requires { 5 ≤ self.old.server.room }
         ensures { Did M.Serves (rename now pid old new) self.old self.new result }
     {
-        let Dentry { directory, name } = old;
+        let Dentry { dir_ino, name } = old;
         let Dentry {
-            directory: new_directory,
+            dir_ino: new_dir_ino,
             name: new_name,
         } = new;
         let call = Call::Rename {
             old: Path::new(name.into_bytes()),
             new: Path::new(new_name.into_bytes()),
         };
-        let tried = done_between(&mut self.machine, pid, directory, new_directory, &call);
+        let tried = done_between(&mut self.machine, pid, dir_ino, new_dir_ino, &call);
         let Some((name, new_name)) = names_in(call) else {
             unreachable!()
         };
         tried?;
-        self.server.note_moved(
-            now,
-            &dentry(directory, name),
-            dentry(new_directory, new_name),
-        );
+        self.server
+            .note_moved(now, &dentry(dir_ino, name), dentry(new_dir_ino, new_name));
         Ok(ReplyBody::Nothing)
     }
 
@@ -140,17 +136,10 @@ impl<M: Machine> Session<M> {
         ensures { Did M.Serves (move_name asked.entry.now name new_node new_name flags) self.old self.new result }
     {
         self.may_move(&name, &new_name, flags)?;
-        let directory = self.standing_directory(asked.node)?;
+        let dir_ino = self.standing_directory(asked.node)?;
         let new = self.standing_directory(new_node)?;
         let pid = self.caller(copy)?;
-        self.move_to(
-            asked.now,
-            flags,
-            pid,
-            dentry(directory, name),
-            new,
-            new_name,
-        )
+        self.move_to(asked.now, flags, pid, dentry(dir_ino, name), new, new_name)
     }
 
     // What has a name gets another, if it may replace what is there.
@@ -172,20 +161,20 @@ impl<M: Machine> Session<M> {
     }
 
     // An object gets one more name, by one of those that are known. The new one comes back.
-    fn link_by_place(
+    fn link_by_dentry(
         &mut self,
         pid: usize,
-        inode: u32,
-        directory: u32,
+        ino: u32,
+        dir_ino: u32,
         name: Path,
     ) -> (Result<(), RequestError>, Path)
-        ensures did { Did M.Serves (link_by_place pid inode directory name) self.old self.new result.0 }
+        ensures did { Did M.Serves (link_by_dentry pid ino dir_ino name) self.old self.new result.0 }
         ensures name { result.1 ≡ name }
         ensures kept { self.new.server ≡ self.old.server }
     {
         let old = self.blank_path();
         let mut call = Call::Link { old, new: name };
-        let tried = self.by_places(pid, inode, Some(directory), RequestError::ENOENT, &mut call);
+        let tried = self.by_dentries(pid, ino, Some(dir_ino), RequestError::ENOENT, &mut call);
         let Some((_blank, name)) = names_in(call) else {
             unreachable!()
         };
@@ -197,16 +186,16 @@ impl<M: Machine> Session<M> {
         &mut self,
         now: Time,
         dentry: Dentry,
-        inode: u32,
+        ino: u32,
     ) -> Result<ReplyBody, RequestError>
         requires { 4 ≤ self.old.server.room }
-        ensures { Did M.Serves (tell_linked now dentry inode) self.old self.new result }
+        ensures { Did M.Serves (tell_linked now dentry ino) self.old self.new result }
     {
-        let kind = self.server.kind_of(inode);
-        self.server.note_linked(now, dentry, inode, kind);
-        let status = self.look(inode)?;
-        let stamps = self.told_stamps(status.inode)?;
-        self.server.note_told(status.inode);
+        let kind = self.server.kind_of(ino);
+        self.server.note_linked(now, dentry, ino, kind);
+        let status = self.look(ino)?;
+        let stamps = self.told_stamps(status.ino)?;
+        self.server.note_told(status.ino);
         Ok(found_body(&self.server, 0, status, stamps))
     }
 
@@ -222,9 +211,9 @@ impl<M: Machine> Session<M> {
         requires room { 5 ≤ self.old.server.room }
         ensures { Did M.Serves (add_link asked.entry.now old_node name) self.old self.new result }
     {
-        let directory = self.directory_for(asked.node, &name)?;
-        let inode = self.the_number(old_node)?;
-        self.link_as(asked, copy, inode, directory, name)
+        let dir_ino = self.directory_for(asked.node, &name)?;
+        let ino = self.the_number(old_node)?;
+        self.link_as(asked, copy, ino, dir_ino, name)
     }
 
     // Who asks gives an object one more name.
@@ -232,17 +221,17 @@ impl<M: Machine> Session<M> {
         &mut self,
         asked: &Asked,
         copy: Option<Cred>,
-        inode: u32,
-        directory: u32,
+        ino: u32,
+        dir_ino: u32,
         name: Path,
     ) -> Result<ReplyBody, RequestError>
         requires copy { copy ≡ asked.now.cred }
         requires room { 5 ≤ self.old.server.room }
-        ensures { Did M.Serves (link_as asked.entry.now inode directory name) self.old self.new result }
+        ensures { Did M.Serves (link_as asked.entry.now ino dir_ino name) self.old self.new result }
     {
         let pid = self.caller(copy)?;
-        let (tried, name) = self.link_by_place(pid, inode, directory, name);
+        let (tried, name) = self.link_by_dentry(pid, ino, dir_ino, name);
         tried?;
-        self.tell_linked(asked.now, dentry(directory, name), inode)
+        self.tell_linked(asked.now, dentry(dir_ino, name), ino)
     }
 }

@@ -44,12 +44,12 @@ fn close<M: Machine>(machine: &mut M, pid: usize, fd: usize) -> Result<(), Reque
 fn open_and_close<M: Machine>(
     machine: &mut M,
     pid: usize,
-    directory: u32,
+    dir_ino: u32,
     call: &Call,
 ) -> Result<(), RequestError>
-    ensures { DidByMachine M.Serves (open_and_close pid directory call.now) machine.old machine.new result }
+    ensures { DidByMachine M.Serves (open_and_close pid dir_ino call.now) machine.old machine.new result }
 {
-    let reply = between(machine, pid, directory, directory, call)?;
+    let reply = between(machine, pid, dir_ino, dir_ino, call)?;
     let fd = fd_of_reply(&reply);
     reply.discard();
     let Some(fd) = fd else {
@@ -69,15 +69,15 @@ fn opens(call: &Call) -> bool
 fn done_closed<M: Machine>(
     machine: &mut M,
     pid: usize,
-    directory: u32,
+    dir_ino: u32,
     call: &Call,
 ) -> Result<(), RequestError>
-    ensures { DidByMachine M.Serves (done_closed pid directory call.now) machine.old machine.new result }
+    ensures { DidByMachine M.Serves (done_closed pid dir_ino call.now) machine.old machine.new result }
 {
     if opens(call) {
-        open_and_close(machine, pid, directory, call)
+        open_and_close(machine, pid, dir_ino, call)
     } else {
-        done_between(machine, pid, directory, directory, call)
+        done_between(machine, pid, dir_ino, dir_ino, call)
     }
 }
 
@@ -93,9 +93,9 @@ impl<M: Machine> Session<M> {
         requires room { 3 ≤ self.old.server.room }
         ensures { Did M.Serves (find_name asked.entry.now name) self.old self.new result }
     {
-        let directory = self.searched_directory(asked.node, &name)?;
+        let dir_ino = self.searched_directory(asked.node, &name)?;
         let pid = self.searcher(asked, copy)?;
-        self.find_inside(asked.needs_nobody, pid, directory, name)
+        self.find_inside(asked.needs_nobody, pid, dir_ino, name)
     }
 
     // By whom a name is looked up: by the server's own process where nobody is needed.
@@ -124,15 +124,15 @@ impl<M: Machine> Session<M> {
         &mut self,
         needs_nobody: bool,
         pid: usize,
-        directory: u32,
+        dir_ino: u32,
         name: Path,
     ) -> Result<ReplyBody, RequestError>
         requires { 2 ≤ self.old.server.room }
-        ensures { Did M.Serves (find_inside needs_nobody pid directory name) self.old self.new result }
+        ensures { Did M.Serves (find_inside needs_nobody pid dir_ino name) self.old self.new result }
     {
-        let (seen, name) = look_inside(&mut self.machine, pid, directory, name);
+        let (seen, name) = look_inside(&mut self.machine, pid, dir_ino, name);
         match seen {
-            Ok(status) => self.tell_found(needs_nobody, directory, name, status),
+            Ok(status) => self.tell_found(needs_nobody, dir_ino, name, status),
             Err(error) => or_keep_absent(self.server.settings(), needs_nobody, error),
         }
     }
@@ -141,29 +141,29 @@ impl<M: Machine> Session<M> {
     fn tell_found(
         &mut self,
         needs_nobody: bool,
-        directory: u32,
+        dir_ino: u32,
         name: Path,
         status: Status,
     ) -> Result<ReplyBody, RequestError>
         requires { 2 ≤ self.old.server.room }
-        ensures { Did M.Serves (found_or_absent needs_nobody directory name (Ok status)) self.old self.new result }
+        ensures { Did M.Serves (found_or_absent needs_nobody dir_ino name (Ok status)) self.old self.new result }
     {
-        let stamps = self.told_stamps(status.inode)?;
+        let stamps = self.told_stamps(status.ino)?;
         self.server
-            .note_found(dentry(directory, name), status.inode, status.kind);
+            .note_found(dentry(dir_ino, name), status.ino, status.kind);
         Ok(looked_up_body(&self.server, needs_nobody, status, stamps))
     }
 
     /// For how many seconds the kernel may keep a new name in a directory.
-    pub(crate) fn new_valid(&mut self, directory: u32) -> u64
-        ensures did { Did M.Serves (new_valid directory) self.old self.new (Ok result) }
+    pub(crate) fn new_valid(&mut self, dir_ino: u32) -> u64
+        ensures did { Did M.Serves (new_valid dir_ino) self.old self.new (Ok result) }
         ensures kept { self.new.server ≡ self.old.server }
     {
         let settings = self.server.settings();
         if !keeps_names(settings) {
             return 0;
         }
-        let hides = self.list_hides(directory);
+        let hides = self.list_hides(dir_ino);
         unless_hidden(settings.keeping.names, hides)
     }
 
@@ -187,9 +187,9 @@ impl<M: Machine> Session<M> {
         ensures did { Did M.Serves (directory_and_caller asked.entry.now name.now) self.old self.new result }
         ensures room { self.old.server.room ≤ self.new.server.room + 1 }
     {
-        let directory = self.directory_for(asked.node, name)?;
+        let dir_ino = self.directory_for(asked.node, name)?;
         let pid = self.caller(copy)?;
-        Ok((directory, pid))
+        Ok((dir_ino, pid))
     }
 
     // What has just been made, as the server's own process sees it.
@@ -197,18 +197,18 @@ impl<M: Machine> Session<M> {
         &mut self,
         now: Time,
         name_valid: u64,
-        directory: u32,
+        dir_ino: u32,
         name: Path,
     ) -> Result<ReplyBody, RequestError>
         requires { 4 ≤ self.old.server.room }
-        ensures { Did M.Serves (made now name_valid directory name) self.old self.new result }
+        ensures { Did M.Serves (made now name_valid dir_ino name) self.old self.new result }
     {
         let pid = self.the_server_process()?;
-        let (shown, name) = look_inside(&mut self.machine, pid, directory, name);
+        let (shown, name) = look_inside(&mut self.machine, pid, dir_ino, name);
         let status = shown?;
-        let stamps = self.told_stamps(status.inode)?;
+        let stamps = self.told_stamps(status.ino)?;
         self.server
-            .add_object(now, dentry(directory, name), status.inode, status.kind);
+            .add_object(now, dentry(dir_ino, name), status.ino, status.kind);
         Ok(found_body(&self.server, name_valid, status, stamps))
     }
 
@@ -218,20 +218,20 @@ impl<M: Machine> Session<M> {
         now: Time,
         name_valid: u64,
         pid: usize,
-        directory: u32,
+        dir_ino: u32,
         call: Call,
     ) -> Result<ReplyBody, RequestError>
         requires name { IsSome (name_in call) }
         requires room { 4 ≤ self.old.server.room }
         ensures { (name : List ℕ) → name_in call ≡ Some name →
-            Did M.Serves (make_by now name_valid pid directory call name) self.old self.new result }
+            Did M.Serves (make_by now name_valid pid dir_ino call name) self.old self.new result }
     {
-        let tried = done_closed(&mut self.machine, pid, directory, &call);
+        let tried = done_closed(&mut self.machine, pid, dir_ino, &call);
         let Some(name) = name_in(call) else {
             unreachable!()
         };
         tried?;
-        self.made(now, name_valid, directory, name)
+        self.made(now, name_valid, dir_ino, name)
     }
 
     // A call makes what has the name in it, once new objects of the process are made with a mask.
@@ -241,16 +241,16 @@ impl<M: Machine> Session<M> {
         name_valid: u64,
         umask: u32,
         pid: usize,
-        directory: u32,
+        dir_ino: u32,
         call: Call,
     ) -> Result<ReplyBody, RequestError>
         requires name { IsSome (name_in call) }
         requires room { 4 ≤ self.old.server.room }
         ensures { (name : List ℕ) → name_in call ≡ Some name →
-            Did M.Serves (make_masked now name_valid umask pid directory call name) self.old self.new result }
+            Did M.Serves (make_masked now name_valid umask pid dir_ino call name) self.old self.new result }
     {
         set_umask(&mut self.machine, pid, umask)?.discard();
-        self.make_by(now, name_valid, pid, directory, call)
+        self.make_by(now, name_valid, pid, dir_ino, call)
     }
 
     /// Makes a symbolic link.
@@ -265,11 +265,11 @@ impl<M: Machine> Session<M> {
         requires room { 5 ≤ self.old.server.room }
         ensures { Did M.Serves (make_link asked.entry.now name target) self.old self.new result }
     {
-        let directory = self.directory_for(asked.node, &name)?;
-        let name_valid = self.new_valid(directory);
+        let dir_ino = self.directory_for(asked.node, &name)?;
+        let name_valid = self.new_valid(dir_ino);
         let pid = self.caller(copy)?;
         let call = Call::Symlink { target, path: name };
-        self.make_by(asked.now, name_valid, pid, directory, call)
+        self.make_by(asked.now, name_valid, pid, dir_ino, call)
     }
 
     /// Makes a directory.
@@ -285,11 +285,11 @@ impl<M: Machine> Session<M> {
         requires room { 5 ≤ self.old.server.room }
         ensures { Did M.Serves (make_directory asked.entry.now name mode umask) self.old self.new result }
     {
-        let directory = self.directory_for(asked.node, &name)?;
-        let name_valid = self.new_valid(directory);
+        let dir_ino = self.directory_for(asked.node, &name)?;
+        let name_valid = self.new_valid(dir_ino);
         let pid = self.caller(copy)?;
         let call = Call::Mkdir(name, (mode & 0o7777) as u16);
-        self.make_masked(asked.now, name_valid, umask, pid, directory, call)
+        self.make_masked(asked.now, name_valid, umask, pid, dir_ino, call)
     }
 
     /// Makes a file.
@@ -306,10 +306,10 @@ impl<M: Machine> Session<M> {
         ensures { Did M.Serves (make_file asked.entry.now name mode umask) self.old self.new result }
     {
         only_file(mode)?;
-        let directory = self.directory_for(asked.node, &name)?;
-        let name_valid = self.new_valid(directory);
+        let dir_ino = self.directory_for(asked.node, &name)?;
+        let name_valid = self.new_valid(dir_ino);
         let pid = self.caller_with_room(copy)?;
         let call = Call::Open(name, making(), (mode & 0o777) as u16);
-        self.make_masked(asked.now, name_valid, umask, pid, directory, call)
+        self.make_masked(asked.now, name_valid, umask, pid, dir_ino, call)
     }
 }

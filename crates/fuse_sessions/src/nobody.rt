@@ -78,37 +78,37 @@ impl<M: Machine> Session<M> {
         ensures did { Did M.Serves (is_masked node) self.old self.new result }
         ensures kept { self.new.server ≡ self.old.server }
     {
-        let inode = self.directory_number(node)?;
-        self.list_hides(inode)
+        let ino = self.directory_number(node)?;
+        self.list_hides(ino)
     }
 
     /// Whether Linux doesn't follow the access list of a directory.
-    pub(crate) fn list_hides(&mut self, inode: u32) -> Result<bool, RequestError>
-        ensures did { Did M.Serves (list_hides inode) self.old self.new result }
+    pub(crate) fn list_hides(&mut self, ino: u32) -> Result<bool, RequestError>
+        ensures did { Did M.Serves (list_hides ino) self.old self.new result }
         ensures kept { self.new.server ≡ self.old.server }
     {
-        let status = self.seen_by_server_process(inode)?;
-        self.asks_list(inode, status)
+        let status = self.seen_by_server_process(ino)?;
+        self.asks_list(ino, status)
     }
 
     // What stat(2) shows the server's own process.
-    fn seen_by_server_process(&mut self, inode: u32) -> Result<Status, RequestError>
-        ensures did { Did M.Serves (seen_by_server_process inode) self.old self.new result }
+    fn seen_by_server_process(&mut self, ino: u32) -> Result<Status, RequestError>
+        ensures did { Did M.Serves (seen_by_server_process ino) self.old self.new result }
         ensures kept { self.new.server ≡ self.old.server }
     {
-        let reply = self.by_server_process(inode, Call::Lstat(self.blank_path()));
+        let reply = self.by_server_process(ino, Call::Lstat(self.blank_path()));
         shown(reply)
     }
 
     // The list is asked for only where the mode may come from such a one.
-    fn asks_list(&mut self, inode: u32, status: Status) -> Result<bool, RequestError>
-        ensures did { Did M.Serves (asks_list inode status) self.old self.new result }
+    fn asks_list(&mut self, ino: u32, status: Status) -> Result<bool, RequestError>
+        ensures did { Did M.Serves (asks_list ino status) self.old self.new result }
         ensures kept { self.new.server ≡ self.old.server }
     {
         if !may_hide(status.mode) {
             return Ok(false);
         }
-        let acl = self.acl_of(inode, AclType::Access)?;
+        let acl = self.acl_of(ino, AclType::Access)?;
         Ok(hides(&acl))
     }
 }

@@ -4,7 +4,7 @@ ghost use Rattle.fuse_plans.specs.Callers.{is_known_directory, the_number, direc
 ghost use Rattle.fuse_plans.specs.FilePlans.{the_open};
 ghost use Rattle.fuse_sessions.specs.Performing.{Did};
 
-use crate::object::has_place;
+use crate::object::has_dentry;
 use crate::session::Session;
 use fs_model::FileType;
 use fuse_plans::RequestError;
@@ -29,9 +29,9 @@ impl<M: Machine> Session<M> {
     pub(crate) fn directory_number(&self, node: u64) -> Result<u32, RequestError>
         ensures { Did M.Serves (directory_number node) self.now self.now result }
     {
-        let inode = self.the_number(node)?;
-        if is_known_directory(self.server.kind_of(inode)) {
-            Ok(inode)
+        let ino = self.the_number(node)?;
+        if is_known_directory(self.server.kind_of(ino)) {
+            Ok(ino)
         } else {
             Err(RequestError::ENOTDIR)
         }
@@ -41,9 +41,9 @@ impl<M: Machine> Session<M> {
     pub(crate) fn standing_directory(&self, node: u64) -> Result<u32, RequestError>
         ensures { Did M.Serves (standing_directory node) self.now self.now result }
     {
-        let inode = self.directory_number(node)?;
-        if has_place(&self.server, inode) {
-            Ok(inode)
+        let ino = self.directory_number(node)?;
+        if has_dentry(&self.server, ino) {
+            Ok(ino)
         } else {
             Err(RequestError::ESTALE)
         }

@@ -1,8 +1,8 @@
 //! Calls on objects, by the names under which they were found.
 ghost use Rattle.std.specs.Prelude.{◌≡◌, ◌+◌, ◌^◌, ◌<◌, Err, None, Some, IsNone, IsSome, IfSome, IsTrue, MatchResult, slice_get};
-ghost use Rattle.fuse_state.specs.declared.dentry.Dentry.{Dentry as PlaceOf};
-ghost use Rattle.fuse_state.specs.Servers.{kind_known, places_of};
-ghost use Rattle.fuse_plans.specs.Callers.{inside, at_place, standing_refusal, by_places, or_inside, on, by_server_process, has_place, by_handle, look_at, look, look_inside};
+ghost use Rattle.fuse_state.specs.declared.dentry.Dentry.{Dentry as DentryOf};
+ghost use Rattle.fuse_state.specs.Servers.{kind_known, dentries_of};
+ghost use Rattle.fuse_plans.specs.Callers.{inside, at_dentry, standing_refusal, by_dentries, or_inside, on, by_server_process, has_dentry, by_handle, look_at, look, look_inside};
 ghost use Rattle.fuse_plans.specs.FilePlans.{when, done};
 ghost use Rattle.fuse_plans.specs.Paths.{at_path, takes_path};
 ghost use Rattle.fuse_sessions.specs.Performing.{Did};
@@ -48,21 +48,21 @@ pub(crate) fn shown(reply: Result<Reply, RequestError>) -> Result<Status, Reques
 pub(crate) fn look_inside<M: Machine>(
     machine: &mut M,
     pid: usize,
-    directory: u32,
+    dir_ino: u32,
     name: Path,
 ) -> (Result<Status, RequestError>, Path)
-    ensures did { DidByMachine M.Serves (look_inside pid directory name) machine.old machine.new result.0 }
+    ensures did { DidByMachine M.Serves (look_inside pid dir_ino name) machine.old machine.new result.0 }
     ensures name { result.1 ≡ name }
 {
-    let (reply, name) = inside(machine, pid, directory, Call::Lstat(name));
+    let (reply, name) = inside(machine, pid, dir_ino, Call::Lstat(name));
     (shown(reply), name)
 }
 
 /// Whether it has a name that is known, or needs none.
-pub(crate) fn has_place(server: &Server, inode: u32) -> bool
-    ensures { result ≡ has_place server.now.server inode }
+pub(crate) fn has_dentry(server: &Server, ino: u32) -> bool
+    ensures { result ≡ has_dentry server.now.server ino }
 {
-    inode == ROOT || server.place_of(inode).is_some()
+    ino == ROOT || server.dentry_of(ino).is_some()
 }
 
 impl<M: Machine> Session<M> {
@@ -76,18 +76,18 @@ impl<M: Machine> Session<M> {
         &mut self,
         condition: bool,
         pid: usize,
-        inode: u32,
+        ino: u32,
         call: Call,
     ) -> Result<(), RequestError>
         requires { IsTrue (takes_path call) }
-        ensures did { Did M.Serves (when condition (done (on pid inode (at_path call)))) self.old self.new result }
+        ensures did { Did M.Serves (when condition (done (on pid ino (at_path call)))) self.old self.new result }
         ensures kept { self.new.server ≡ self.old.server }
     {
         if !condition {
             call.discard();
             return Ok(());
         }
-        done(self.on_once(pid, inode, call))
+        done(self.on_once(pid, ino, call))
     }
 
     // A call by one of the dentries of an object, counted from 0 in their order, if there are so many.
@@ -96,13 +96,13 @@ impl<M: Machine> Session<M> {
         pid: usize,
         second: Option<u32>,
         call: &mut Call,
-        inode: u32,
+        ino: u32,
         at: usize,
     ) -> Option<Result<Reply, RequestError>>
         requires { IsTrue (takes_path call.old) }
-        ensures made { IfSome result (λ tried. (p : PlaceOf) × (slice_get (places_of self.old.server.server inode) at ≡ Some p)
-            × Did M.Serves (at_place pid second (at_path call.old) p) self.old self.new tried) }
-        ensures none { IsNone result → slice_get (places_of self.old.server.server inode) at ≡ None }
+        ensures made { IfSome result (λ tried. (p : DentryOf) × (slice_get (dentries_of self.old.server.server ino) at ≡ Some p)
+            × Did M.Serves (at_dentry pid second (at_path call.old) p) self.old self.new tried) }
+        ensures none { IsNone result → slice_get (dentries_of self.old.server.server ino) at ≡ None }
         ensures idle { IsNone result → self.new.machine ≡ self.old.machine }
         ensures next { IsSome result → at + 1 < 2 ^ 64 }
         ensures kept { self.new.server ≡ self.old.server }
@@ -110,29 +110,29 @@ impl<M: Machine> Session<M> {
     {
         let blank = Name::new(Vec::new(self.alloc));
         self.server
-            .call_at(&mut self.machine, pid, second, call, inode, at, blank)
+            .call_at(&mut self.machine, pid, second, call, ino, at, blank)
     }
 
     /// A call by the dentries of an object in their order, until it isn't refused for permission. The error is what comes
     /// where the object has none. A second name of the call may be one of another directory. The path of the call isn't looked
     /// at, and stays.
-    pub(crate) fn by_places(
+    pub(crate) fn by_dentries(
         &mut self,
         pid: usize,
-        inode: u32,
+        ino: u32,
         second: Option<u32>,
-        unplaced: RequestError,
+        nameless: RequestError,
         call: &mut Call,
     ) -> Result<Reply, RequestError>
         requires { IsTrue (takes_path call.old) }
-        ensures did { let places = places_of self.old.server.server inode in
-            Did M.Serves (by_places pid second (at_path call.old) unplaced places) self.old self.new result }
+        ensures did { let dentries = dentries_of self.old.server.server ino in
+            Did M.Serves (by_dentries pid second (at_path call.old) nameless dentries) self.old self.new result }
         ensures kept { self.new.server ≡ self.old.server }
         ensures call { call.new ≡ call.old }
     {
-        let mut error = unplaced;
+        let mut error = nameless;
         let mut at = 0;
-        while let Some(tried) = self.call_at(pid, second, call, inode, at) {
+        while let Some(tried) = self.call_at(pid, second, call, ino, at) {
             at += 1;
             match tried {
                 Ok(reply) => return Ok(reply),
@@ -151,20 +151,20 @@ impl<M: Machine> Session<M> {
     pub(crate) fn on(
         &mut self,
         pid: usize,
-        inode: u32,
+        ino: u32,
         call: &mut Call,
     ) -> Result<Reply, RequestError>
         requires { IsTrue (takes_path call.old) }
-        ensures did { Did M.Serves (on pid inode (at_path call.old)) self.old self.new result }
+        ensures did { Did M.Serves (on pid ino (at_path call.old)) self.old self.new result }
         ensures kept { self.new.server ≡ self.old.server }
         ensures call { call.new ≡ call.old }
     {
-        if inode == ROOT {
+        if ino == ROOT {
             return self.machine.obtain_at_root(pid, call);
         }
-        match self.by_places(pid, inode, None, RequestError::ESTALE, call) {
+        match self.by_dentries(pid, ino, None, RequestError::ESTALE, call) {
             Ok(reply) => Ok(reply),
-            Err(error) => self.or_inside(pid, inode, call, error),
+            Err(error) => self.or_inside(pid, ino, call, error),
         }
     }
 
@@ -172,82 +172,78 @@ impl<M: Machine> Session<M> {
     pub(crate) fn on_once(
         &mut self,
         pid: usize,
-        inode: u32,
+        ino: u32,
         call: Call,
     ) -> Result<Reply, RequestError>
         requires { IsTrue (takes_path call) }
-        ensures did { Did M.Serves (on pid inode (at_path call)) self.old self.new result }
+        ensures did { Did M.Serves (on pid ino (at_path call)) self.old self.new result }
         ensures kept { self.new.server ≡ self.old.server }
     {
         let mut call = call;
-        let reply = self.on(pid, inode, &mut call);
+        let reply = self.on(pid, ino, &mut call);
         call.discard();
         reply
     }
 
     /// A call on an object by the server's own process, made once.
-    pub(crate) fn by_server_process(
-        &mut self,
-        inode: u32,
-        call: Call,
-    ) -> Result<Reply, RequestError>
+    pub(crate) fn by_server_process(&mut self, ino: u32, call: Call) -> Result<Reply, RequestError>
         requires { IsTrue (takes_path call) }
-        ensures did { Did M.Serves (by_server_process inode (at_path call)) self.old self.new result }
+        ensures did { Did M.Serves (by_server_process ino (at_path call)) self.old self.new result }
         ensures kept { self.new.server ≡ self.old.server }
     {
         let pid = self.the_server_process()?;
-        self.on_once(pid, inode, call)
+        self.on_once(pid, ino, call)
     }
 
     // In a directory that the caller may not search it may stand all the same.
     fn or_inside(
         &mut self,
         pid: usize,
-        inode: u32,
+        ino: u32,
         call: &mut Call,
         error: RequestError,
     ) -> Result<Reply, RequestError>
         requires { IsTrue (takes_path call.old) }
-        ensures did { let kind = kind_known self.old.server.server inode in
-            Did M.Serves (or_inside pid inode (at_path call.old) kind (Err error)) self.old self.new result }
+        ensures did { let kind = kind_known self.old.server.server ino in
+            Did M.Serves (or_inside pid ino (at_path call.old) kind (Err error)) self.old self.new result }
         ensures kept { self.new.server ≡ self.old.server }
         ensures call { call.new ≡ call.old }
     {
         if !error.is_for(Errno::EACCES) {
             return Err(error);
         }
-        if !is_known_directory(self.server.kind_of(inode)) {
+        if !is_known_directory(self.server.kind_of(ino)) {
             return Err(error);
         }
-        self.machine.obtain_inside(pid, inode, call)
+        self.machine.obtain_inside(pid, ino, call)
     }
 
     /// What stat(2) shows of an object. No permission is asked: the kernel holds it.
-    pub(crate) fn look(&mut self, inode: u32) -> Result<Status, RequestError>
-        ensures did { Did M.Serves (look inode) self.old self.new result }
+    pub(crate) fn look(&mut self, ino: u32) -> Result<Status, RequestError>
+        ensures did { Did M.Serves (look ino) self.old self.new result }
         ensures kept { self.new.server ≡ self.old.server }
     {
-        let reply = self.look_at(inode);
+        let reply = self.look_at(ino);
         shown(reply)
     }
 
     // By the server's own process where the object has a dentry, else by a handle.
-    fn look_at(&mut self, inode: u32) -> Result<Reply, RequestError>
-        ensures did { Did M.Serves (look_at inode (has_place self.old.server.server inode)) self.old self.new result }
+    fn look_at(&mut self, ino: u32) -> Result<Reply, RequestError>
+        ensures did { Did M.Serves (look_at ino (has_dentry self.old.server.server ino)) self.old self.new result }
         ensures kept { self.new.server ≡ self.old.server }
     {
-        if has_place(&self.server, inode) {
-            self.by_server_process(inode, Call::Lstat(self.blank_path()))
+        if has_dentry(&self.server, ino) {
+            self.by_server_process(ino, Call::Lstat(self.blank_path()))
         } else {
-            self.by_handle(inode)
+            self.by_handle(ino)
         }
     }
 
-    fn by_handle(&mut self, inode: u32) -> Result<Reply, RequestError>
-        ensures did { Did M.Serves (by_handle inode) self.old self.new result }
+    fn by_handle(&mut self, ino: u32) -> Result<Reply, RequestError>
+        ensures did { Did M.Serves (by_handle ino) self.old self.new result }
         ensures kept { self.new.server ≡ self.old.server }
     {
-        let Some(handle) = self.server.handle_for(inode) else {
+        let Some(handle) = self.server.handle_for(ino) else {
             return Err(RequestError::ESTALE);
         };
         let call = Call::Fstat(descriptor_of(handle));

@@ -33,18 +33,18 @@ fn time_after(now: Time, old: Time, new: Option<NewTime>) -> Time
 }
 
 // An object gets the new times.
-fn note_times(server: &mut Server, now: Time, inode: u32, changes: &AttrChanges)
+fn note_times(server: &mut Server, now: Time, ino: u32, changes: &AttrChanges)
     requires { 1 ≤ server.old.room }
-    ensures kept { server.new.server ≡ timed now inode changes.now server.old.server }
+    ensures kept { server.new.server ≡ timed now ino changes.now server.old.server }
     ensures room { server.old.room ≤ server.new.room + 1 }
 {
-    let old = server.times_of(inode);
+    let old = server.times_of(ino);
     let times = Times {
         atime: time_after(now, old.atime, changes.atime),
         mtime: time_after(now, old.mtime, changes.mtime),
         ctime: now,
     };
-    server.set_times(inode, times);
+    server.set_times(ino, times);
 }
 
 // What the machine is to have.
@@ -78,34 +78,34 @@ impl<M: Machine> Session<M> {
     }
 
     /// The times that the machine has for an object, where the disk keeps times.
-    pub(crate) fn told_stamps(&mut self, inode: u32) -> Result<Option<Stamps>, RequestError>
-        ensures did { Did M.Serves (told_stamps inode) self.old self.new result }
+    pub(crate) fn told_stamps(&mut self, ino: u32) -> Result<Option<Stamps>, RequestError>
+        ensures did { Did M.Serves (told_stamps ino) self.old self.new result }
         ensures kept { self.new.server ≡ self.old.server }
     {
         let keeps_times = self.server.settings().keeps_times;
-        told_stamps(&mut self.machine, keeps_times, inode)
+        told_stamps(&mut self.machine, keeps_times, ino)
     }
 
     /// Sets times of an object. Where the disk keeps times it has to be what was shown.
     pub(crate) fn set_stamps(
         &mut self,
         now: Time,
-        inode: u32,
+        ino: u32,
         status: Status,
         changes: &AttrChanges,
     ) -> Result<(), RequestError>
         requires { 1 ≤ self.old.server.room }
-        ensures { Did M.Serves (set_stamps now inode status changes.now) self.old self.new result }
+        ensures { Did M.Serves (set_stamps now ino status changes.now) self.old self.new result }
     {
         let keeps_times = self.server.settings().keeps_times;
         if !keeps_times {
-            note_times(&mut self.server, now, inode, changes);
+            note_times(&mut self.server, now, ino, changes);
             return Ok(());
         }
-        only_inode(inode, status)?;
+        only_inode(ino, status)?;
         let atime = stamp_set(now, changes.atime);
         let mtime = stamp_set(now, changes.mtime);
-        let reply = ask_stamp(&mut self.machine, inode, atime, mtime, Some(stamp_of(now)));
+        let reply = ask_stamp(&mut self.machine, ino, atime, mtime, Some(stamp_of(now)));
         let _stamps = replied_stamps(reply)?;
         Ok(())
     }

@@ -9,7 +9,7 @@ ghost use Rattle.fuse_plans.specs.Works.{of_result};
 
 use crate::attributes::is_known_link;
 use crate::number::is_known_directory;
-use crate::object::has_place;
+use crate::object::has_dentry;
 use crate::session::Session;
 use fs_cred::Cred;
 use fs_model::{AclType, Bytes, Call, FileType};
@@ -35,10 +35,10 @@ fn the_acl(name: &[u8]) -> Result<AclType, RequestError>
 }
 
 // Whether an object is no link, and has a name.
-fn has_acls(server: &Server, inode: u32) -> bool
-    ensures { result ≡ has_acls server.now.server inode }
+fn has_acls(server: &Server, ino: u32) -> bool
+    ensures { result ≡ has_acls server.now.server ino }
 {
-    !is_known_link(server.kind_of(inode)) && has_place(server, inode)
+    !is_known_link(server.kind_of(ino)) && has_dentry(server, ino)
 }
 
 // An access ACL with three entries says no more than the mode.
@@ -135,21 +135,21 @@ impl<M: Machine> Session<M> {
     fn an_object(&self, asked: &Asked) -> Result<u32, RequestError>
         ensures { Did M.Serves (an_object asked.entry.now) self.now self.now result }
     {
-        let inode = self.the_number(asked.node)?;
-        if has_acls(&self.server, inode) {
-            Ok(inode)
+        let ino = self.the_number(asked.node)?;
+        if has_acls(&self.server, ino) {
+            Ok(ino)
         } else {
             Err(RequestError::EOPNOTSUPP)
         }
     }
 
     /// An ACL, where it says more than the mode.
-    pub(crate) fn acl_of(&mut self, inode: u32, which: AclType) -> Result<Option<Acl>, RequestError>
-        ensures did { Did M.Serves (acl_of inode which) self.old self.new result }
+    pub(crate) fn acl_of(&mut self, ino: u32, which: AclType) -> Result<Option<Acl>, RequestError>
+        ensures did { Did M.Serves (acl_of ino which) self.old self.new result }
         ensures kept { self.new.server ≡ self.old.server }
     {
         let call = Call::GetAcl(self.blank_path(), which);
-        let reply = self.by_server_process(inode, call)?;
+        let reply = self.by_server_process(ino, call)?;
         match acl_of_reply(reply) {
             Some(acl) => Ok(told_acl(which, acl)),
             None => Err(RequestError::EIO),
@@ -166,15 +166,15 @@ impl<M: Machine> Session<M> {
         ensures { Did M.Serves (get_xattr asked.entry.now name.now size) self.old self.new result }
     {
         let which = the_acl(name)?;
-        let inode = self.an_object(asked)?;
-        self.tell_acl(inode, which, size)
+        let ino = self.an_object(asked)?;
+        self.tell_acl(ino, which, size)
     }
 
     // An ACL that is there, or how many bytes it has.
-    fn tell_acl(&mut self, inode: u32, which: AclType, size: u32) -> Result<ReplyBody, RequestError>
-        ensures { Did M.Serves (tell_acl inode which size) self.old self.new result }
+    fn tell_acl(&mut self, ino: u32, which: AclType, size: u32) -> Result<ReplyBody, RequestError>
+        ensures { Did M.Serves (tell_acl ino which size) self.old self.new result }
     {
-        let found = self.acl_of(inode, which)?;
+        let found = self.acl_of(ino, which)?;
         let Some(acl) = found else {
             return Err(RequestError::ENODATA);
         };
@@ -185,19 +185,19 @@ impl<M: Machine> Session<M> {
     // The names of an object's ACLs.
     fn attribute_names(
         &mut self,
-        inode: u32,
+        ino: u32,
         has: bool,
         names: AclNames,
     ) -> Result<Bytes, RequestError>
-        ensures did { Did M.Serves (attribute_names inode has) self.old self.new result }
+        ensures did { Did M.Serves (attribute_names ino has) self.old self.new result }
         ensures kept { self.new.server ≡ self.old.server }
     {
         if !has {
             let none = names.told(false, false);
             return Ok(none);
         }
-        let access = self.acl_of(inode, AclType::Access)?;
-        let default = self.acl_of(inode, AclType::Default)?;
+        let access = self.acl_of(ino, AclType::Access)?;
+        let default = self.acl_of(ino, AclType::Default)?;
         let told = names.told(access.is_some(), default.is_some());
         Ok(told)
     }
@@ -211,9 +211,9 @@ impl<M: Machine> Session<M> {
     ) -> Result<ReplyBody, RequestError>
         ensures { Did M.Serves (list_xattrs asked.entry.now size) self.old self.new result }
     {
-        let inode = self.the_number(asked.node)?;
-        let has = has_acls(&self.server, inode);
-        let names = self.attribute_names(inode, has, names)?;
+        let ino = self.the_number(asked.node)?;
+        let has = has_acls(&self.server, ino);
+        let names = self.attribute_names(ino, has, names)?;
         let count = names.bytes().len();
         sized(size, count, ReplyBody::Bytes(names))
     }
@@ -221,19 +221,19 @@ impl<M: Machine> Session<M> {
     // No access ACL: the three entries of the present mode, for which there is memory.
     fn acl_set(
         &mut self,
-        inode: u32,
+        ino: u32,
         which: AclType,
         wanted: Option<Acl>,
         spare: Acl,
     ) -> Result<Option<Acl>, RequestError>
         requires { spare ≡ minimal 0 }
-        ensures did { Did M.Serves (acl_set inode which wanted) self.old self.new result }
+        ensures did { Did M.Serves (acl_set ino which wanted) self.old self.new result }
         ensures kept { self.new.server ≡ self.old.server }
     {
         if !is_plain(which, &wanted) {
             return Ok(wanted);
         }
-        let status = self.look(inode)?;
+        let status = self.look(ino)?;
         Ok(Some(spare.with_mode_bits(status.mode)))
     }
 
@@ -251,12 +251,12 @@ impl<M: Machine> Session<M> {
         requires room { 2 ≤ self.old.server.room }
         ensures { Did M.Serves (set_acl asked.entry.now which wanted) self.old self.new result }
     {
-        let inode = self.an_object(asked)?;
-        if is_misplaced(which, self.server.kind_of(inode)) {
+        let ino = self.an_object(asked)?;
+        if is_misplaced(which, self.server.kind_of(ino)) {
             return Err(RequestError::EACCES);
         }
         let pid = self.caller(copy)?;
-        self.set_by(asked.now, pid, inode, which, wanted, spare)
+        self.set_by(asked.now, pid, ino, which, wanted, spare)
     }
 
     // A process sets it.
@@ -264,19 +264,19 @@ impl<M: Machine> Session<M> {
         &mut self,
         now: Time,
         pid: usize,
-        inode: u32,
+        ino: u32,
         which: AclType,
         wanted: Option<Acl>,
         spare: Acl,
     ) -> Result<ReplyBody, RequestError>
         requires spare { spare ≡ minimal 0 }
         requires room { 1 ≤ self.old.server.room }
-        ensures { Did M.Serves (set_by now pid inode which wanted) self.old self.new result }
+        ensures { Did M.Serves (set_by now pid ino which wanted) self.old self.new result }
     {
-        let acl = self.acl_set(inode, which, wanted, spare)?;
+        let acl = self.acl_set(ino, which, wanted, spare)?;
         let call = Call::SetAcl(self.blank_path(), which, acl);
-        self.on_once(pid, inode, call)?.discard();
-        self.server.change(now, inode);
+        self.on_once(pid, ino, call)?.discard();
+        self.server.change(now, ino);
         Ok(ReplyBody::Nothing)
     }
 

@@ -13,7 +13,7 @@ use Rattle.fs_layout.proofs.FirstEntries.{apart}
 use Rattle.fs_model.specs.Limits.{root}
 use Rattle.fs_model.specs.declared.reply.FileType.{FileType}
 use Rattle.fuse_state.specs.declared.dentry.Dentry.{Dentry}
-use Rattle.fuse_state.specs.Servers.{Server, generation_of, with_generation, kind_known, node_of, number_of_node, with_dentry, with_times_of, once_more, dentry_cmp, places_in, names_elsewhere, lookups_of, most_lookups, with_lookups, without_object, without_object_of, without_node, left_of, forgotten, all_forgotten}
+use Rattle.fuse_state.specs.Servers.{Server, generation_of, with_generation, kind_known, node_of, number_of_node, with_dentry, with_times_of, once_more, dentry_cmp, dentries_in, names_elsewhere, lookups_of, most_lookups, with_lookups, without_object, without_object_of, without_node, left_of, forgotten, all_forgotten}
 use Rattle.fuse_state.specs.Changes.{is_gone, renewed}
 use Rattle.fuse_state.specs.Laws.{CountsOnce, ToldNodesAreCounted, StaysKnown, NodesStayUntilForgotten, IsForgotten, ForgottenNodesAreFree, Spares, ForgettingSparesOthers}
 use Rattle.fuse_state.proofs.Keyed.{get-without, get-gone}
@@ -92,12 +92,12 @@ left_none : (told most count : ℕ) → told ≤ count → told < most → ((if 
 left_none told most count le lt =
     ap (λ b. (if b then told else told - count) == 0) (unequal told most (λ is. omega (arith, is, lt))) ∙ equal_numbers (told - count) 0 (omega (arith, le))
 
-none_elsewhere : (m : List (Dentry × ℕ)) (n : ℕ) → places_in (names_elsewhere m n) n ≡ []
+none_elsewhere : (m : List (Dentry × ℕ)) (n : ℕ) → dentries_in (names_elsewhere m n) n ≡ []
 none_elsewhere [] n = refl
 none_elsewhere (e ∷ m) n = go (e.1 == n) refl (none_elsewhere m n)
   where
-    go : (b : Bool) → (e.1 == n) ≡ b → places_in (names_elsewhere m n) n ≡ []
-        → places_in (cond (not b) (e ∷ names_elsewhere m n) (names_elsewhere m n)) n ≡ []
+    go : (b : Bool) → (e.1 == n) ≡ b → dentries_in (names_elsewhere m n) n ≡ []
+        → dentries_in (cond (not b) (e ∷ names_elsewhere m n) (names_elsewhere m n)) n ≡ []
     go true is rest = rest
     go false is rest = ap (λ b. map (λ (f : Dentry × ℕ). f.0) (cond b (e ∷ filter (λ f. f.1 == n) (names_elsewhere m n)) (filter (λ f. f.1 == n) (names_elsewhere m n)))) is ∙ rest
 
@@ -128,7 +128,7 @@ forgotten_are_free s node n count leads other le lt =
     (record {
       node_leads = not_known _ _ _ (ap (λ m. is_some (get nat_cmp (without nat_cmp s.kinds n) m)) (number_is s node n leads).0 ∙ ap is_some no_kind);
       kind = no_kind;
-      places = none_elsewhere s.names n;
+      dentries = none_elsewhere s.names n;
       count = ap (λ o. unwrap_or o 0) (get-gone nat_cmp_total nat_cmp-IsAntisymmetric s.lookups node);
     })
 

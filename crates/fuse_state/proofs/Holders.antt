@@ -454,7 +454,7 @@ opened_within s uid n may w = record {
 }
   where
     new : OpenDirectory
-    new = record { number = n; owner = uid; listing = None }
+    new = record { ino = n; owner = uid; listing = None }
 
 pub released_within : (s : Server) (handle : ℕ) → WithinShares s → WithinShares (without_directory handle s)
 released_within s handle w = record {

@@ -6,7 +6,7 @@ pub mod Keyed
 pub mod Orders
 pub mod NamesKept
 pub mod Indexed
-pub mod HeldPlaces
+pub mod HeldDentries
 pub mod StateLaws
 pub mod Forgotten
 pub mod KeptShares

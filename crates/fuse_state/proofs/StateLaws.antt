@@ -14,10 +14,10 @@ use Rattle.fs_layout.proofs.MapLaws.{get-with_entry}
 use Rattle.fs_model.specs.declared.reply.FileType.{FileType}
 use Rattle.fuse_state.specs.Changes.{is_gone, renewed, with_found}
 use Rattle.fuse_state.specs.declared.dentry.Dentry.{Dentry}
-use Rattle.fuse_state.specs.Laws.{HandlesTellDescriptors, NodesLeadBack, StaleNodesLeadNowhere, NewNodesLedNowhere, OtherNodesStay, FoundNodesLeadBack, GoneNodesLeadNowhere, FoundNodesLedNowhere, KnownNodesStay, OtherNodesStayThen, NamesAreKept, AddedNamesArePlaces}
-use Rattle.fuse_state.specs.Servers.{Server, generation_of, with_generation, kind_known, node_of, number_of_node, dentry_cmp, places_in, places_of, with_dentry, with_new_object}
+use Rattle.fuse_state.specs.Laws.{HandlesTellDescriptors, NodesLeadBack, StaleNodesLeadNowhere, NewNodesLedNowhere, OtherNodesStay, FoundNodesLeadBack, GoneNodesLeadNowhere, FoundNodesLedNowhere, KnownNodesStay, OtherNodesStayThen, NamesAreKept, AddedNamesAreDentries}
+use Rattle.fuse_state.specs.Servers.{Server, generation_of, with_generation, kind_known, node_of, number_of_node, dentry_cmp, dentries_in, dentries_of, with_dentry, with_new_object}
 use Rattle.fuse_state.proofs.Keyed.{equal as tied_is, get-put, get-without, get-gone}
-use Rattle.fuse_state.proofs.Orders.{place_total, place_anti}
+use Rattle.fuse_state.proofs.Orders.{dentry_total, dentry_anti}
 use Rattle.fuse_state.proofs.Searched.{ties as tie}
 
 pub handles_tell : HandlesTellDescriptors
@@ -130,30 +130,30 @@ others_stay_then s p n m kind other = go (is_gone s n)
 -- ---- names
 
 set_name : (m : List (Dentry × ℕ)) (p : Dentry) (n : ℕ) → get dentry_cmp (with_entry dentry_cmp m p n) p ≡ Some n
-set_name m p n = get-put place_total place_anti m p n p ∙ ap (λ b. cond b (Some n) (get dentry_cmp m p)) (tie place_total p p refl)
+set_name m p n = get-put dentry_total dentry_anti m p n p ∙ ap (λ b. cond b (Some n) (get dentry_cmp m p)) (tie dentry_total p p refl)
 
 elsewhere : (q p : Dentry) → q ≢ p → eq_by_cmp dentry_cmp q p ≡ false
 elsewhere q p other = go (eq_by_cmp dentry_cmp q p) refl
   where
     go : (b : Bool) → eq_by_cmp dentry_cmp q p ≡ b → b ≡ false
-    go true is = absurd (other (place_anti q p (tied_is _ is)))
+    go true is = absurd (other (dentry_anti q p (tied_is _ is)))
     go false is = refl
 
 pub names_are_kept : NamesAreKept
 names_are_kept s p n kind = record {
   added = set_name s.names p n;
-  removed = get-gone place_total place_anti s.names p;
+  removed = get-gone dentry_total dentry_anti s.names p;
   besides_added = λ q other.
-      get-put place_total place_anti s.names p n q ∙ ap (λ b. cond b (Some n) (get dentry_cmp s.names q)) (elsewhere q p other);
+      get-put dentry_total dentry_anti s.names p n q ∙ ap (λ b. cond b (Some n) (get dentry_cmp s.names q)) (elsewhere q p other);
   besides_removed = λ q other.
-      get-without place_total place_anti s.names p q ∙ ap (λ b. cond b None (get dentry_cmp s.names q)) (elsewhere p q (λ same. other (sym same)));
+      get-without dentry_total dentry_anti s.names p q ∙ ap (λ b. cond b None (get dentry_cmp s.names q)) (elsewhere p q (λ same. other (sym same)));
 }
 
 -- ---- dentries
 
 module _ (P : Dentry → Type 0) (n : ℕ) where
   abbrev led : List (Dentry × ℕ) → List Dentry
-  led m = places_in m n
+  led m = dentries_in m n
 
   -- with one more entry
   first_then : (e : Dentry × ℕ) (m : List (Dentry × ℕ)) → P e.0 → All P (led m) → All P (led (e ∷ m))
@@ -186,41 +186,41 @@ module _ (P : Dentry → Type 0) (n : ℕ) where
       go : (o : Ordering) → dentry_cmp p e.0 ≡ o → All P (led (with_entry dentry_cmp m p n))
           → All P (led (by_order o ((p, n) ∷ e ∷ m) ((e.0, n) ∷ m) (e ∷ with_entry dentry_cmp m p n)))
       go Less cmp rest = first_then (p, n) (e ∷ m) is all
-      go Equal cmp rest = first_then (e.0, n) m (subst P (place_anti p e.0 cmp) is) (if_first e m all (λ rest. rest))
+      go Equal cmp rest = first_then (e.0, n) m (subst P (dentry_anti p e.0 cmp) is) (if_first e m all (λ rest. rest))
       go Greater cmp rest = same_first e m (with_entry dentry_cmp m p n) all rest
 
 -- what holds of the new name and of each dentry, holds of each dentry then
-pub all_places_then : (P : Dentry → Type 0) (s : Server) (p : Dentry) (n : ℕ) (kind : FileType) → P p → All P (places_of s n) → All P (places_of (with_dentry p n kind s) n)
-all_places_then P s p n kind new all = all_then P n s.names p new all
+pub all_dentries_then : (P : Dentry → Type 0) (s : Server) (p : Dentry) (n : ℕ) (kind : FileType) → P p → All P (dentries_of s n) → All P (dentries_of (with_dentry p n kind s) n)
+all_dentries_then P s p n kind new all = all_then P n s.names p new all
 
 -- a name that was added is among them
 module _ (n : ℕ) where
-  led_first : (p : Dentry) (m : List (Dentry × ℕ)) → Contains (places_in ((p, n) ∷ m) n) p
+  led_first : (p : Dentry) (m : List (Dentry × ℕ)) → Contains (dentries_in ((p, n) ∷ m) n) p
   led_first p m = ap-contains (unequal_or (n == n) (equal n n refl))
     where
-      ap-contains : places_in ((p, n) ∷ m) n ≡ p ∷ places_in m n → Contains (places_in ((p, n) ∷ m) n) p
+      ap-contains : dentries_in ((p, n) ∷ m) n ≡ p ∷ dentries_in m n → Contains (dentries_in ((p, n) ∷ m) n) p
       ap-contains is = subst (λ l. Contains l p) (sym is) (0, omega arith, refl)
 
-      unequal_or : (b : Bool) → b ≡ true → map (λ (f : Dentry × ℕ). f.0) (cond b ((p, n) ∷ filter (λ f. f.1 == n) m) (filter (λ f. f.1 == n) m)) ≡ p ∷ places_in m n
+      unequal_or : (b : Bool) → b ≡ true → map (λ (f : Dentry × ℕ). f.0) (cond b ((p, n) ∷ filter (λ f. f.1 == n) m) (filter (λ f. f.1 == n) m)) ≡ p ∷ dentries_in m n
       unequal_or true is = refl
       unequal_or false is = absurd (cc)
 
-  led_later : (e : Dentry × ℕ) (m : List (Dentry × ℕ)) (p : Dentry) → Contains (places_in m n) p → Contains (places_in (e ∷ m) n) p
+  led_later : (e : Dentry × ℕ) (m : List (Dentry × ℕ)) (p : Dentry) → Contains (dentries_in m n) p → Contains (dentries_in (e ∷ m) n) p
   led_later e m p there = go (e.1 == n)
     where
       go : (b : Bool) → Contains (map (λ f. f.0) (cond b (e ∷ filter (λ f. f.1 == n) m) (filter (λ f. f.1 == n) m))) p
       go true = (suc there.0, omega (arith, there.1), there.2)
       go false = there
 
-  added_led : (m : List (Dentry × ℕ)) (p : Dentry) → Contains (places_in (with_entry dentry_cmp m p n) n) p
+  added_led : (m : List (Dentry × ℕ)) (p : Dentry) → Contains (dentries_in (with_entry dentry_cmp m p n) n) p
   added_led [] p = led_first p []
   added_led (e ∷ m) p = go (dentry_cmp p e.0) refl (added_led m p)
     where
-      go : (o : Ordering) → dentry_cmp p e.0 ≡ o → Contains (places_in (with_entry dentry_cmp m p n) n) p
-          → Contains (places_in (by_order o ((p, n) ∷ e ∷ m) ((e.0, n) ∷ m) (e ∷ with_entry dentry_cmp m p n)) n) p
+      go : (o : Ordering) → dentry_cmp p e.0 ≡ o → Contains (dentries_in (with_entry dentry_cmp m p n) n) p
+          → Contains (dentries_in (by_order o ((p, n) ∷ e ∷ m) ((e.0, n) ∷ m) (e ∷ with_entry dentry_cmp m p n)) n) p
       go Less cmp rest = led_first p (e ∷ m)
-      go Equal cmp rest = subst (λ q. Contains (places_in ((q, n) ∷ m) n) p) (place_anti p e.0 cmp) (led_first p m)
+      go Equal cmp rest = subst (λ q. Contains (dentries_in ((q, n) ∷ m) n) p) (dentry_anti p e.0 cmp) (led_first p m)
       go Greater cmp rest = led_later e (with_entry dentry_cmp m p n) p rest
 
-pub added_are_places : AddedNamesArePlaces
-added_are_places s p n kind = added_led n s.names p
+pub added_are_dentries : AddedNamesAreDentries
+added_are_dentries s p n kind = added_led n s.names p

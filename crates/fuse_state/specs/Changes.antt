@@ -7,12 +7,12 @@ use Rattle.fs_model.specs.Limits.{root}
 use Rattle.fs_model.specs.declared.reply.FileType.{FileType}
 use Rattle.fuse_protocol.specs.declared.reply.Time.{Time}
 use Rattle.fuse_state.specs.declared.dentry.Dentry.{Dentry}
-use Rattle.fuse_state.specs.Servers.{Server, with_generation, kind_known, number_named, place_of, with_dentry, without_name, once_more, with_new_contents, with_change_time, with_new_object, handle_for}
+use Rattle.fuse_state.specs.Servers.{Server, with_generation, kind_known, number_named, dentry_of, with_dentry, without_name, once_more, with_new_contents, with_change_time, with_new_object, handle_for}
 
 -- The kernel was told of an object with this number, but none of its names is left, and it isn't open. So it may be no more, and
 -- what has the number from now on may be another object. The root always stays.
 abbrev pub is_gone : Server → ℕ → Bool
-is_gone s n = not (n == root) && (is_some (kind_known s n) && (is_none (place_of s n) && is_none (handle_for s n)))
+is_gone s n = not (n == root) && (is_some (kind_known s n) && (is_none (dentry_of s n) && is_none (handle_for s n)))
 
 -- what is found under such a number counts as a new object
 abbrev pub renewed : ℕ → Server → Server
@@ -27,7 +27,7 @@ changed_if now None s = s
 changed_if now (Some n) s = with_change_time now n s
 
 abbrev pub removed : Time → Dentry → Server → Server
-removed now p s = with_new_contents now p.directory (changed_if now (number_named s p) (without_name p s))
+removed now p s = with_new_contents now p.dir_ino (changed_if now (number_named s p) (without_name p s))
 
 -- of a kind that is known
 abbrev pub named_if : Dentry → ℕ → Option FileType → Server → Server
@@ -43,10 +43,10 @@ abbrev pub moved : Time → Dentry → Dentry → Server → Server
 moved now old new s =
     let replaced = changed_if now (number_named s new) (without_name new s) in
     let placed = moved_to now new (number_named replaced old) (without_name old replaced) in
-    with_new_contents now new.directory (with_new_contents now old.directory placed)
+    with_new_contents now new.dir_ino (with_new_contents now old.dir_ino placed)
 
 abbrev pub linked : Time → Dentry → ℕ → Option FileType → Server → Server
-linked now p n kind s = with_new_contents now p.directory (with_change_time now n (named_if p n kind s))
+linked now p n kind s = with_new_contents now p.dir_ino (with_change_time now n (named_if p n kind s))
 
 -- what was opened by a name is new, or lost its bytes, or is as it was
 abbrev pub told : Time → Dentry → ℕ → FileType → Bool → Bool → Server → Server

@@ -15,7 +15,7 @@ use Rattle.fuse_state.specs.declared.settings.Settings.{Settings}
 use Rattle.fuse_state.specs.declared.shares.Shares.{Shares}
 use Rattle.fuse_state.specs.Shares.{count_of, may_hold, HasEach, KeepsShares, OneMore}
 use Rattle.fuse_state.specs.Changes.{is_gone, with_found}
-use Rattle.fuse_state.specs.Servers.{Server, new_server, WithinShares, generation_of, kind_known, node_of, number_of_node, lookups_of, most_lookups, once_more, left_of, forgotten, number_named, places_of, with_dentry, without_name, with_new_object, handle_of, owner_of, descriptor_of}
+use Rattle.fuse_state.specs.Servers.{Server, new_server, WithinShares, generation_of, kind_known, node_of, number_of_node, lookups_of, most_lookups, once_more, left_of, forgotten, number_named, dentries_of, with_dentry, without_name, with_new_object, handle_of, owner_of, descriptor_of}
 
 abbrev pub HandlesTellDescriptors : Type 0
 HandlesTellDescriptors = (pid fd : ℕ) → fd < descriptors_limit → (owner_of (handle_of pid fd) ≡ pid) × (descriptor_of (handle_of pid fd) ≡ fd)
@@ -80,8 +80,8 @@ abbrev pub NamesAreKept : Type 0
 NamesAreKept = (s : Server) (p : Dentry) (n : ℕ) (kind : FileType) → KeepsNames s p n kind
 
 -- a name that was added is among the dentries of its object
-abbrev pub AddedNamesArePlaces : Type 0
-AddedNamesArePlaces = (s : Server) (p : Dentry) (n : ℕ) (kind : FileType) → Contains (places_of (with_dentry p n kind s) n) p
+abbrev pub AddedNamesAreDentries : Type 0
+AddedNamesAreDentries = (s : Server) (p : Dentry) (n : ℕ) (kind : FileType) → Contains (dentries_of (with_dentry p n kind s) n) p
 
 -- ---- what the kernel forgets
 
@@ -117,7 +117,7 @@ NodesStayUntilForgotten =
 pub record IsForgotten (t : Server) (node n : ℕ) : Type 0 where
   pub node_leads : number_of_node t node ≡ None
   pub kind : kind_known t n ≡ None
-  pub places : places_of t n ≡ []
+  pub dentries : dentries_of t n ≡ []
   pub count : lookups_of t node ≡ 0
 
 abbrev pub ForgottenNodesAreFree : Type 0

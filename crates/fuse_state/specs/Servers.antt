@@ -113,30 +113,30 @@ once_more n s = with_lookups (node_of s n) (min most_lookups (lookups_of s (node
 
 -- the order of dentries: by directories, and in each by names
 abbrev pub dentry_cmp : Dentry → Dentry → Ordering
-dentry_cmp p q = ordering_then (nat_cmp p.directory q.directory) (name_cmp p.name q.name)
+dentry_cmp p q = ordering_then (nat_cmp p.dir_ino q.dir_ino) (name_cmp p.name q.name)
 
 -- the number that a name leads to
 abbrev pub number_named : Server → Dentry → Option ℕ
 number_named s p = get dentry_cmp s.names p
 
 -- where an object is known by these names, in the order of dentries
-abbrev pub places_in : List (Dentry × ℕ) → ℕ → List Dentry
-places_in names n = map (λ e. e.0) (filter (λ e. e.1 == n) names)
+abbrev pub dentries_in : List (Dentry × ℕ) → ℕ → List Dentry
+dentries_in names n = map (λ e. e.0) (filter (λ e. e.1 == n) names)
 
 -- the names that lead to others
 abbrev pub names_elsewhere : List (Dentry × ℕ) → ℕ → List (Dentry × ℕ)
 names_elsewhere names n = filter (λ e. not (e.1 == n)) names
 
-abbrev pub places_of : Server → ℕ → List Dentry
-places_of s n = places_in s.names n
+abbrev pub dentries_of : Server → ℕ → List Dentry
+dentries_of s n = dentries_in s.names n
 
 abbrev pub head_of : {X : Type 0} → List X → Option X
 head_of [] = None
 head_of (x ∷ xs) = Some x
 
 -- the first of them
-abbrev pub place_of : Server → ℕ → Option Dentry
-place_of s n = head_of (places_of s n)
+abbrev pub dentry_of : Server → ℕ → Option Dentry
+dentry_of s n = head_of (dentries_of s n)
 
 abbrev pub without_name : Dentry → Server → Server
 without_name p s = record s { names = without dentry_cmp s.names p }
@@ -175,7 +175,7 @@ with_change_time now n s = with_times_of n (record (times_of s n) { ctime = now 
 abbrev pub with_new_object : Time → Dentry → ℕ → FileType → Server → Server
 with_new_object now p n kind s =
     let u = with_times_of n (record { atime = now; mtime = now; ctime = now }) (with_generation n s) in
-    with_new_contents now p.directory (once_more n (with_dentry p n kind u))
+    with_new_contents now p.dir_ino (once_more n (with_dentry p n kind u))
 
 -- ---- what the kernel forgets
 
@@ -321,7 +321,7 @@ with_directory handle d s = record s { directories = with_entry nat_cmp s.direct
 -- a user opens it
 abbrev pub with_opened : ℕ → ℕ → Server → Server
 with_opened uid n s =
-    record (with_directory s.next_directory (record { number = n; owner = uid; listing = None }) s) { next_directory = s.next_directory + 1 }
+    record (with_directory s.next_directory (record { ino = n; owner = uid; listing = None }) s) { next_directory = s.next_directory + 1 }
 
 abbrev pub with_listing_of : ℕ → List (List ℕ × ℕ) → Option OpenDirectory → Server → Server
 with_listing_of handle names None s = s

@@ -8,7 +8,7 @@ use std::cmp::Ordering;
 #[derive(Drop)]
 pub struct Dentry {
     /// The number of the directory's inode.
-    pub directory: u32,
+    pub dir_ino: u32,
     pub name: Name,
 }
 
@@ -16,7 +16,7 @@ pub struct Dentry {
 #[derive(Drop)]
 pub(crate) struct Found {
     pub(crate) dentry: Dentry,
-    pub(crate) inode: u32,
+    pub(crate) ino: u32,
 }
 
 impl Dentry {
@@ -26,8 +26,8 @@ impl Dentry {
     pub(crate) fn compare(&self, other: &Dentry) -> Ordering
         ensures { result ≡ dentry_cmp self.now other.now }
     {
-        self.directory
-            .cmp(&other.directory)
+        self.dir_ino
+            .cmp(&other.dir_ino)
             .then_with(|| self.name.bytes().cmp(other.name.bytes()))
     }
 }

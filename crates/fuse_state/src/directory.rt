@@ -6,7 +6,7 @@ use fs_model::Listing;
 #[derive(Drop)]
 pub struct OpenDirectory {
     /// The number of its inode.
-    pub number: u32,
+    pub ino: u32,
     /// The user who opened it.
     pub owner: u32,
     /// The listing that was made of it last.

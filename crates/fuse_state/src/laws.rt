@@ -1,5 +1,5 @@
 //! Laws of what a server keeps, each proved by a function that does nothing: its contract is the law.
-ghost use Rattle.fuse_state.specs.Laws.{HandlesTellDescriptors, NodesLeadBack, StaleNodesLeadNowhere, NewNodesLedNowhere, OtherNodesStay, FoundNodesLeadBack, GoneNodesLeadNowhere, FoundNodesLedNowhere, KnownNodesStay, OtherNodesStayThen, NamesAreKept, AddedNamesArePlaces, ToldNodesAreCounted, NodesStayUntilForgotten, ForgottenNodesAreFree, ForgettingSparesOthers, NewServersKeepShares, OneMoreKeepsShares, OneFewerKeepsShares, FurtherUsersMayHold, RootMayHold};
+ghost use Rattle.fuse_state.specs.Laws.{HandlesTellDescriptors, NodesLeadBack, StaleNodesLeadNowhere, NewNodesLedNowhere, OtherNodesStay, FoundNodesLeadBack, GoneNodesLeadNowhere, FoundNodesLedNowhere, KnownNodesStay, OtherNodesStayThen, NamesAreKept, AddedNamesAreDentries, ToldNodesAreCounted, NodesStayUntilForgotten, ForgottenNodesAreFree, ForgettingSparesOthers, NewServersKeepShares, OneMoreKeepsShares, OneFewerKeepsShares, FurtherUsersMayHold, RootMayHold};
 
 /// A handle tells its process and its descriptor: no two of these have the same.
 pub fn handles_tell_descriptors()
@@ -32,7 +32,7 @@ pub fn found_nodes_lead_to_objects()
 /// did.
 pub fn names_are_kept()
     ensures names { NamesAreKept }
-    ensures dentry { AddedNamesArePlaces }
+    ensures dentry { AddedNamesAreDentries }
 {}
 
 /// Each time that a node is told - its object is found, is new, or got one more name - it is counted once more, and no other is.

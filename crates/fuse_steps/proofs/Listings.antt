@@ -27,19 +27,19 @@ entry-length e =
     omega (arith, length-append e.name (zeros_of (padding (length e.name))), zeroes)
 
 pub next-name : {shown : List (List ℕ × ℕ)} (names : List Named) (i : ℕ) (n : Named) → pairs names ≡ shown → i < length names → n ≡ get_or names i n
-    → drop i shown ≡ (n.name, n.inode) ∷ drop (i + 1) shown
+    → drop i shown ≡ (n.name, n.ino) ∷ drop (i + 1) shown
 next-name {shown} names i n all lt is =
-    let pair : Named → List ℕ × ℕ = λ m. (m.name, m.inode) in
+    let pair : Named → List ℕ × ℕ = λ m. (m.name, m.ino) in
     let within : i < length (pairs names) = omega (arith, lt, length-map names pair) in
-    let first : get_or (pairs names) i (n.name, n.inode) ≡ (n.name, n.inode) = get_or-map pair names i n (n.name, n.inode) lt ∙ ap pair (sym is) in
-    let after : drop i (pairs names) ≡ (n.name, n.inode) ∷ drop (suc i) (pairs names) =
-    drop-cons (pairs names) i (n.name, n.inode) within ∙ ap (λ (p : List ℕ × ℕ). p ∷ drop (suc i) (pairs names)) first in
-    subst (λ (s : List (List ℕ × ℕ)). drop i s ≡ (n.name, n.inode) ∷ drop (i + 1) s) all
-    (subst (λ (k : ℕ). drop i (pairs names) ≡ (n.name, n.inode) ∷ drop k (pairs names)) (sym (add-one i)) after)
+    let first : get_or (pairs names) i (n.name, n.ino) ≡ (n.name, n.ino) = get_or-map pair names i n (n.name, n.ino) lt ∙ ap pair (sym is) in
+    let after : drop i (pairs names) ≡ (n.name, n.ino) ∷ drop (suc i) (pairs names) =
+    drop-cons (pairs names) i (n.name, n.ino) within ∙ ap (λ (p : List ℕ × ℕ). p ∷ drop (suc i) (pairs names)) first in
+    subst (λ (s : List (List ℕ × ℕ)). drop i s ≡ (n.name, n.ino) ∷ drop (i + 1) s) all
+    (subst (λ (k : ℕ). drop i (pairs names) ≡ (n.name, n.ino) ∷ drop k (pairs names)) (sym (add-one i)) after)
 
 pub shown-length : {shown : List (List ℕ × ℕ)} (names : List Named) → pairs names ≡ shown → length shown ≡ length names
 shown-length {shown} names all =
-    let pair : Named → List ℕ × ℕ = λ m. (m.name, m.inode) in
+    let pair : Named → List ℕ × ℕ = λ m. (m.name, m.ino) in
     sym (ap length all) ∙ length-map names pair
 
 fits-left : (len needs size : ℕ) → nat_le (len + needs) size ≡ true → nat_le needs (size - len) ≡ true
@@ -110,9 +110,9 @@ module _ (node handle : ℕ) (d : OpenDirectory) where
       → anew ≡ false → known ≡ Some names → listed node handle d anew known ≡ give names
   listed-before {anew} {known} {names} is there = ap (λ (b : Bool). listed node handle d b known) is ∙ ap (listed node handle d false) there
 
-  pub listed-anew : {anew : Bool} (known : Option (List (List ℕ × ℕ))) → anew ≡ true → listed node handle d anew known ≡ list_now node handle d.number
+  pub listed-anew : {anew : Bool} (known : Option (List (List ℕ × ℕ))) → anew ≡ true → listed node handle d anew known ≡ list_now node handle d.ino
   listed-anew {anew} known is = ap (λ (b : Bool). listed node handle d b known) is
 
-  pub listed-first : (anew : Bool) {known : Option (List (List ℕ × ℕ))} → known ≡ None → listed node handle d anew known ≡ list_now node handle d.number
+  pub listed-first : (anew : Bool) {known : Option (List (List ℕ × ℕ))} → known ≡ None → listed node handle d anew known ≡ list_now node handle d.ino
   listed-first true {known} is = refl
   listed-first false {known} is = ap (listed node handle d false) is

@@ -1,7 +1,7 @@
 -- Work that is done by a machine alone, step by step: a function that performs a piece of a plan is proved by a chain of these.
 --     machine-ok, machine-fails        after the first step goes the rest, or nothing
 --     machine-then        after the first goes one that asks nothing
---     machine-result, machine-gives, machine-stops        steps that ask nothing
+--     machine-result, machine-gives, machine-has-failed        steps that ask nothing
 --     machine-needs-some, machine-needs-none, machine-true, machine-false        steps that ask nothing, before the rest
 --     machine-attempts        a step of which it is told whether it failed
 --     either, PassedOn        a result, and what `?` makes of an error
@@ -120,8 +120,8 @@ module _ {M : Type 0} {Serves : M → Event → Reply → M → Type 0} where
   pub machine-gives-as : {X : Type 0} {x y : X} {m : M} → y ≡ x → DidByMachine Serves (give x) m m (Ok y)
   machine-gives-as {X} {x} {y} {m} is = subst (λ (z : X). DidByMachine Serves (give z) m m (Ok y)) is (machine-gives y m)
 
-  pub machine-stops : {X : Type 0} (e : RequestError) (m : M) → DidByMachine Serves (fail {X = X} e) m m (Err e)
-  machine-stops {X} e m = machine-result {X = X} {r = Err e} refl
+  pub machine-has-failed : {X : Type 0} (e : RequestError) (m : M) → DidByMachine Serves (fail {X = X} e) m m (Err e)
+  machine-has-failed {X} e m = machine-result {X = X} {r = Err e} refl
 
   pub machine-attempts : {X : Type 0} (w : Work X) {old new : M} {r : Result X RequestError} → DidByMachine Serves w old new r → DidByMachine Serves (attempt w) old new (Ok r)
   unfolding attempt
@@ -140,7 +140,7 @@ module _ {M : Type 0} {Serves : M → Event → Reply → M → Type 0} where
       machine-same (ap (λ (p : Option X). needed e p >>= f) is) (machine-ok f (machine-gives x old) rest)
 
   pub machine-needs-none : {X Y : Type 0} (e : RequestError) (f : X → Work Y) {o : Option X} (m : M) → o ≡ None → DidByMachine Serves (needed e o >>= f) m m (Err e)
-  machine-needs-none {X} {Y} e f {o} m is = machine-same (ap (λ (p : Option X). needed e p >>= f) is) (machine-err f (machine-stops e m))
+  machine-needs-none {X} {Y} e f {o} m is = machine-same (ap (λ (p : Option X). needed e p >>= f) is) (machine-err f (machine-has-failed e m))
 
   pub machine-needs-last : {X : Type 0} (e : RequestError) {o : Option X} {m : M} {x : X} → o ≡ Some x → DidByMachine Serves (needed e o) m m (Ok x)
   machine-needs-last {X} e {o} {m} {x} is = machine-same (ap (λ (p : Option X). needed e p) is) (machine-gives x m)
@@ -149,7 +149,7 @@ module _ {M : Type 0} {Serves : M → Event → Reply → M → Type 0} where
   machine-needed {X} e o {m} {r} is = machine-result (needed-is e o ∙ ap of_result (sym is))
 
   pub machine-lacks-last : {X : Type 0} (e : RequestError) {o : Option X} {m : M} → o ≡ None → DidByMachine Serves (needed e o) m m (Err e)
-  machine-lacks-last {X} e {o} {m} is = machine-same (ap (λ (p : Option X). needed e p) is) (machine-stops e m)
+  machine-lacks-last {X} e {o} {m} is = machine-same (ap (λ (p : Option X). needed e p) is) (machine-has-failed e m)
 
   pub machine-true : {X : Type 0} {b : Bool} (w v : Work X) {old new : M} {r : Result X RequestError}
       → b ≡ true → DidByMachine Serves w old new r → DidByMachine Serves (if b then w else v) old new r

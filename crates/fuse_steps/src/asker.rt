@@ -88,13 +88,13 @@ pub fn obtain_once<M: Machine>(
 }
 
 // A process goes to a directory, and with the second names of its calls to another.
-fn enter<M: Machine>(machine: &mut M, pid: usize, directory: u32, second: u32) -> Reply
-    ensures { DidByMachine M.Serves (ask (Enter pid directory second)) machine.old machine.new (Ok result) }
+fn enter<M: Machine>(machine: &mut M, pid: usize, dir_ino: u32, second_ino: u32) -> Reply
+    ensures { DidByMachine M.Serves (ask (Enter pid dir_ino second_ino)) machine.old machine.new (Ok result) }
 {
     let event = Event::Enter {
         pid,
-        directory,
-        second,
+        dir_ino,
+        second_ino,
     };
     let reply = ask(machine, &event);
     event.discard();
@@ -107,13 +107,13 @@ fn enter<M: Machine>(machine: &mut M, pid: usize, directory: u32, second: u32) -
 pub fn between<M: Machine>(
     machine: &mut M,
     pid: usize,
-    directory: u32,
-    second: u32,
+    dir_ino: u32,
+    second_ino: u32,
     call: &Call,
 ) -> Result<Reply, RequestError>
-    ensures { DidByMachine M.Serves (between pid directory second call.now) machine.old machine.new result }
+    ensures { DidByMachine M.Serves (between pid dir_ino second_ino call.now) machine.old machine.new result }
 {
-    unless_refused(enter(machine, pid, directory, second))?.discard();
+    unless_refused(enter(machine, pid, dir_ino, second_ino))?.discard();
     let reply = ask_call(machine, pid, call);
     let back = enter(machine, pid, ROOT, ROOT);
     back.discard();
@@ -124,14 +124,14 @@ pub fn between<M: Machine>(
 pub fn inside<M: Machine>(
     machine: &mut M,
     pid: usize,
-    directory: u32,
+    dir_ino: u32,
     call: Call,
 ) -> (Result<Reply, RequestError>, Path)
     requires { IsSome (name_in call) }
-    ensures did { DidByMachine M.Serves (inside pid directory call) machine.old machine.new result.0 }
+    ensures did { DidByMachine M.Serves (inside pid dir_ino call) machine.old machine.new result.0 }
     ensures name { name_in call ≡ Some result.1 }
 {
-    let reply = between(machine, pid, directory, directory, &call);
+    let reply = between(machine, pid, dir_ino, dir_ino, &call);
     let Some(name) = name_in(call) else {
         unreachable!()
     };
@@ -175,11 +175,11 @@ pub fn or_closed<M: Machine, T>(
 pub fn done_between<M: Machine>(
     machine: &mut M,
     pid: usize,
-    directory: u32,
-    second: u32,
+    dir_ino: u32,
+    second_ino: u32,
     call: &Call,
 ) -> Result<(), RequestError>
-    ensures { DidByMachine M.Serves (done_between pid directory second call.now) machine.old machine.new result }
+    ensures { DidByMachine M.Serves (done_between pid dir_ino second_ino call.now) machine.old machine.new result }
 {
-    done(between(machine, pid, directory, second, call))
+    done(between(machine, pid, dir_ino, second_ino, call))
 }

@@ -24,7 +24,7 @@ fn push_named(to: &mut Vec<u8>, most: usize, offset: u64, named: &Named) -> bool
     requires offset { offset + 1 < 2 ^ 64 }
     ensures fits { result ≡ nat_le (vec_len to.old + entry_size (length named.entry.now.name)) most }
     ensures bytes { let n = named.entry.now in
-        to.new.items ≡ to.old.items ++ (if result then directory_entry_bytes (listed_entry offset (n.name, n.inode)) else []) }
+        to.new.items ≡ to.old.items ++ (if result then directory_entry_bytes (listed_entry offset (n.name, n.ino)) else []) }
     ensures capacity { most ≤ vec_capacity to.new }
 {
     let name = named.name.bytes();
@@ -32,7 +32,7 @@ fn push_named(to: &mut Vec<u8>, most: usize, offset: u64, named: &Named) -> bool
         return false;
     }
     let entry = DirectoryEntry {
-        inode: u64::from(named.inode),
+        ino: u64::from(named.ino),
         next: offset + 1,
         kind: entry_kind(name),
         name: Piece::new(name),

@@ -11,11 +11,11 @@ use fuse_plans::{Attributes, OtherErrno, ReplyBody, RequestError};
 use fuse_state::{Dentry, Server, Settings};
 
 /// The name of a path in a directory.
-pub fn dentry(directory: u32, path: Path) -> Dentry
-    ensures { result ≡ dentry directory path }
+pub fn dentry(dir_ino: u32, path: Path) -> Dentry
+    ensures { result ≡ dentry dir_ino path }
 {
     Dentry {
-        directory,
+        dir_ino,
         name: Name::new(path.into_bytes()),
     }
 }
@@ -33,10 +33,10 @@ pub fn plain_name(name: &Path) -> Result<(), RequestError>
 }
 
 /// What was shown is this object: a name may lead to another by now. ESTALE then.
-pub fn only_inode(inode: u32, status: Status) -> Result<(), RequestError>
-    ensures { only_inode inode status ≡ of_result result }
+pub fn only_inode(ino: u32, status: Status) -> Result<(), RequestError>
+    ensures { only_inode ino status ≡ of_result result }
 {
-    if status.inode == inode {
+    if status.ino == ino {
         Ok(())
     } else {
         Err(RequestError::ESTALE)
@@ -49,7 +49,7 @@ pub fn attributes(server: &Server, status: Status, stamps: Option<Stamps>) -> At
 {
     Attributes {
         status,
-        times: times_in(server, status.inode, stamps),
+        times: times_in(server, status.ino, stamps),
         valid: server.settings().keeping.attributes,
     }
 }
@@ -64,7 +64,7 @@ pub fn found_body(
     ensures { result ≡ found_body name_valid status stamps server.now.server }
 {
     ReplyBody::Found {
-        node: server.node_of(status.inode),
+        node: server.node_of(status.ino),
         name_valid,
         shown: attributes(server, status, stamps),
     }

@@ -4,7 +4,7 @@
 ghost use Rattle.std.specs.Prelude.{◌≡◌, codes, IsTrue, MatchResult};
 ghost use Rattle.fs_model.specs.Steps.{is_of_machine};
 ghost use Rattle.fs_model.specs.declared.event.Event.TheVariants.{Call as Calls};
-ghost use Rattle.fuse_plans.specs.Callers.{at_place, inside};
+ghost use Rattle.fuse_plans.specs.Callers.{at_dentry, inside};
 ghost use Rattle.fuse_plans.specs.Paths.{at_path, takes_path};
 ghost use Rattle.fuse_steps.specs.Performing.{DidByMachine};
 ghost use Rattle.fuse_plans.specs.Works.{obtain};
@@ -56,7 +56,7 @@ impl<M: Machine> Machine for WithPaths<M> {
 impl<M: Machine> Borrower<Result<Reply, RequestError>> for WithPaths<M> {
     ghost Takes = { λ call. IsTrue (takes_path call) };
 
-    ghost Calls = { λ old pid second call dentry reply new. DidByMachine M.Serves (at_place pid second (at_path call) dentry) old new reply };
+    ghost Calls = { λ old pid second call dentry reply new. DidByMachine M.Serves (at_dentry pid second (at_path call) dentry) old new reply };
 
     fn call_at(
         &mut self,
@@ -65,19 +65,19 @@ impl<M: Machine> Borrower<Result<Reply, RequestError>> for WithPaths<M> {
         call: &mut Call,
         dentry: Dentry,
     ) -> (Result<Reply, RequestError>, Dentry) {
-        let Dentry { directory, name } = dentry;
+        let Dentry { dir_ino, name } = dentry;
         let mut path = Path::new(name.into_bytes());
         swap_path(call, &mut path);
         let reply = between(
             &mut self.machine,
             pid,
-            directory,
-            second.unwrap_or(directory),
+            dir_ino,
+            second.unwrap_or(dir_ino),
             call,
         );
         swap_path(call, &mut path);
         let dentry = Dentry {
-            directory,
+            dir_ino,
             name: Name::new(path.into_bytes()),
         };
         (reply, dentry)
@@ -130,15 +130,15 @@ impl<M: Machine> WithPaths<M> {
     pub fn obtain_inside(
         &mut self,
         pid: usize,
-        directory: u32,
+        dir_ino: u32,
         call: &mut Call,
     ) -> Result<Reply, RequestError>
         requires { IsTrue (takes_path call.old) }
-        ensures did { DidByMachine M.Serves (inside pid directory (at_path call.old (codes "."))) self.old self.new result }
+        ensures did { DidByMachine M.Serves (inside pid dir_ino (at_path call.old (codes "."))) self.old self.new result }
         ensures call { call.new ≡ call.old }
     {
         swap_path(call, &mut self.dot);
-        let reply = between(&mut self.machine, pid, directory, directory, call);
+        let reply = between(&mut self.machine, pid, dir_ino, dir_ino, call);
         swap_path(call, &mut self.dot);
         reply
     }

@@ -28,15 +28,15 @@ pub fn tell_time<M: Machine>(machine: &mut M, keeps_times: bool, now: Time)
 /// The reply to times of an object: those that are given are set.
 pub fn ask_stamp<M: Machine>(
     machine: &mut M,
-    inode: u32,
+    ino: u32,
     atime: Option<u64>,
     mtime: Option<u64>,
     ctime: Option<u64>,
 ) -> Reply
-    ensures { DidByMachine M.Serves (ask (Stamp inode atime mtime ctime)) machine.old machine.new (Ok result) }
+    ensures { DidByMachine M.Serves (ask (Stamp ino atime mtime ctime)) machine.old machine.new (Ok result) }
 {
     let event = Event::Stamp {
-        inode,
+        ino,
         atime,
         mtime,
         ctime,
@@ -62,24 +62,24 @@ pub fn replied_stamps(reply: Reply) -> Result<Stamps, RequestError>
 pub fn told_stamps<M: Machine>(
     machine: &mut M,
     keeps_times: bool,
-    inode: u32,
+    ino: u32,
 ) -> Result<Option<Stamps>, RequestError>
-    ensures { DidByMachine M.Serves (told_stamps_if keeps_times inode) machine.old machine.new result }
+    ensures { DidByMachine M.Serves (told_stamps_if keeps_times ino) machine.old machine.new result }
 {
     if !keeps_times {
         return Ok(None);
     }
-    let reply = ask_stamp(machine, inode, None, None, None);
+    let reply = ask_stamp(machine, ino, None, None, None);
     let stamps = replied_stamps(reply)?;
     Ok(Some(stamps))
 }
 
 /// The times that are shown of an object: the machine's, where it has any.
-pub fn times_in(server: &Server, inode: u32, stamps: Option<Stamps>) -> Times
-    ensures { result ≡ times_in server.now.server inode stamps }
+pub fn times_in(server: &Server, ino: u32, stamps: Option<Stamps>) -> Times
+    ensures { result ≡ times_in server.now.server ino stamps }
 {
     match stamps {
         Some(stamps) => times_shown(server.settings().start, stamps),
-        None => server.times_of(inode),
+        None => server.times_of(ino),
     }
 }

@@ -159,7 +159,7 @@ pub of_machine : (event : Event) → IsOfCopying event → IsTrue (is_of_machine
 of_machine (Spawn cred) own = refl
 of_machine (Exit pid) own = refl
 of_machine (Calls pid call) own = refl
-of_machine (Stamp inode atime mtime ctime) own = refl
+of_machine (Stamp ino atime mtime ctime) own = refl
 of_machine Sync own = refl
 of_machine (Enter pid directory second) own = absurd own
 of_machine (Clock now) own = absurd own

@@ -22,7 +22,7 @@ abbrev pub IsOfCopying : Event → Type 0
 IsOfCopying (Spawn cred) = Unit {0}
 IsOfCopying (Exit pid) = Unit {0}
 IsOfCopying (Calls pid call) = Unit {0}
-IsOfCopying (Stamp inode atime mtime ctime) = Unit {0}
+IsOfCopying (Stamp ino atime mtime ctime) = Unit {0}
 IsOfCopying Sync = Unit {0}
 IsOfCopying event = ⊥
 

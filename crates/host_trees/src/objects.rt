@@ -28,8 +28,8 @@ pub(crate) fn pack_directory<M: FileSystem>(
     let pid = hand_for(asker, work, entry.owner)?;
     let path = path_of(work.alloc, object.inside.as_str())?;
     asker.perform(pid, Call::Mkdir(path, entry.first_mode()))?;
-    let inode = inode_at(asker, work.alloc, pid, object.inside.as_str())?;
-    work.keep_directory(object, inode, entry)
+    let ino = inode_at(asker, work.alloc, pid, object.inside.as_str())?;
+    work.keep_directory(object, ino, entry)
 }
 
 /// Makes a file, with what one of the host holds.
@@ -140,7 +140,7 @@ fn inode_at<M: FileSystem>(
 {
     let path = path_of(alloc, inside)?;
     let status = status_in(asker.call(pid, Call::Lstat(path))?)?;
-    Ok(status.inode)
+    Ok(status.ino)
 }
 
 // Gives what stands at a path its times.
@@ -153,8 +153,8 @@ fn stamp_at<M: FileSystem>(
 ) -> Result<(), Lack>
     ensures { Asks M.Serves asker.old.machine asker.new.machine asker.old.is_whole asker.new.is_whole }
 {
-    let inode = inode_at(asker, alloc, pid, inside)?;
-    stamp(asker, inode, times)
+    let ino = inode_at(asker, alloc, pid, inside)?;
+    stamp(asker, ino, times)
 }
 
 // Gives an open file its times.
@@ -167,24 +167,24 @@ fn stamp_open<M: FileSystem>(
     ensures { Asks M.Serves asker.old.machine asker.new.machine asker.old.is_whole asker.new.is_whole }
 {
     let status = status_in(asker.call(pid, Call::Fstat(fd))?)?;
-    stamp(asker, status.inode, times)
+    stamp(asker, status.ino, times)
 }
 
 // Gives an object its times, if they are known.
-fn stamp<M: FileSystem>(asker: &mut Asker<M>, inode: u32, times: Option<Times>) -> Result<(), Lack>
+fn stamp<M: FileSystem>(asker: &mut Asker<M>, ino: u32, times: Option<Times>) -> Result<(), Lack>
     ensures { Asks M.Serves asker.old.machine asker.new.machine asker.old.is_whole asker.new.is_whole }
 {
     match times {
-        Some(times) => set_times(asker, inode, times),
+        Some(times) => set_times(asker, ino, times),
         None => Ok(()),
     }
 }
 
-fn set_times<M: FileSystem>(asker: &mut Asker<M>, inode: u32, times: Times) -> Result<(), Lack>
+fn set_times<M: FileSystem>(asker: &mut Asker<M>, ino: u32, times: Times) -> Result<(), Lack>
     ensures { Asks M.Serves asker.old.machine asker.new.machine asker.old.is_whole asker.new.is_whole }
 {
     let event = Event::Stamp {
-        inode,
+        ino,
         atime: Some(times.accessed),
         mtime: Some(times.modified),
         ctime: Some(times.changed),
@@ -204,13 +204,13 @@ pub(crate) fn finish_directory<M: FileSystem>(
     ensures { Asks M.Serves asker.old.machine asker.new.machine asker.old.is_whole asker.new.is_whole }
 {
     give_bits(asker, work, made)?;
-    stamp(asker, made.inode, made.entry.times)?;
+    stamp(asker, made.ino, made.entry.times)?;
     root_lack(made)
 }
 
 // What the root has and can't have there; of others that is told where they are made.
 fn root_lack(made: &Made) -> Result<(), Lack> {
-    if made.inode == ROOT {
+    if made.ino == ROOT {
         made.entry.lack(OF_DIRECTORIES)
     } else {
         Ok(())
@@ -220,7 +220,7 @@ fn root_lack(made: &Made) -> Result<(), Lack> {
 fn give_bits<M: FileSystem>(asker: &mut Asker<M>, work: &mut Work, made: &Made) -> Result<(), Lack>
     ensures { Asks M.Serves asker.old.machine asker.new.machine asker.old.is_whole asker.new.is_whole }
 {
-    if made.inode == ROOT {
+    if made.ino == ROOT {
         return give_root(asker, work, made);
     }
     if made.entry.waits() {

@@ -35,7 +35,7 @@ struct Pending {
 #[derive(Drop)]
 struct Made {
     host: String,
-    inode: u32,
+    ino: u32,
     grants: Grants,
 }
 
@@ -155,7 +155,7 @@ fn unpack_root<R: Files, M: FileSystem>(
     let grants = grants_of(asker, work.alloc, work.pid, b"/", status)?;
     let host = String::from_str(work.alloc, to)?;
     let inside = Vec::new(work.alloc);
-    make_directory(rt, work, Pending { inside, host }, status.inode, grants)
+    make_directory(rt, work, Pending { inside, host }, status.ino, grants)
 }
 
 // Copies all that is below the root, and finishes the directories.
@@ -176,18 +176,14 @@ fn make_directory<R: Files>(
     rt: &R,
     work: &mut Work,
     object: Pending,
-    inode: u32,
+    ino: u32,
     grants: Grants,
 ) -> Result<(), Lack> {
     DirBuilder::new()
         .mode(PRIVATE_DIRECTORY)
         .create(rt, object.host.as_str())?;
     let host = String::from_str(work.alloc, object.host.as_str())?;
-    work.made.push(Made {
-        host,
-        inode,
-        grants,
-    })?;
+    work.made.push(Made { host, ino, grants })?;
     work.pending.push(object)?;
     Ok(())
 }
@@ -304,7 +300,7 @@ fn unpack_object<R: Files + AllocGlobal, M: FileSystem>(
     let grants = grants_of(asker, work.alloc, work.pid, &object.inside, status)?;
     if let FileType::Directory = status.kind {
         let directory = copy_of(work.alloc, object)?;
-        return make_directory(rt, work, directory, status.inode, grants);
+        return make_directory(rt, work, directory, status.ino, grants);
     }
     unpack_nondirectory(rt, asker, work, object, status, grants)
 }
@@ -329,7 +325,7 @@ fn unpack_nondirectory<R: Files + AllocGlobal, M: FileSystem>(
 ) -> Result<(), Lack>
     ensures { Asks M.Serves asker.old.machine asker.new.machine asker.old.is_whole asker.new.is_whole }
 {
-    if let Some(first) = work.names.get(&status.inode) {
+    if let Some(first) = work.names.get(&status.ino) {
         return Ok(fs::hard_link(rt, first.as_str(), object.host.as_str())?);
     }
     unpack_new(rt, asker, work, object, status, grants)?;
@@ -343,7 +339,7 @@ fn keep_name(work: &mut Work, object: &Pending, status: Status) -> Result<(), La
         return Ok(());
     }
     let name = String::from_str(work.alloc, object.host.as_str())?;
-    work.names.insert(status.inode, name)?;
+    work.names.insert(status.ino, name)?;
     Ok(())
 }
 
@@ -360,7 +356,7 @@ fn unpack_new<R: Files, M: FileSystem>(
     if let FileType::Link = status.kind {
         return unpack_link(rt, asker, work, object);
     }
-    unpack_file(rt, asker, work, object, status.inode, grants)
+    unpack_file(rt, asker, work, object, status.ino, grants)
 }
 
 // Makes a file of the host, with what one holds.
@@ -369,7 +365,7 @@ fn unpack_file<R: Files, M: FileSystem>(
     asker: &mut Asker<M>,
     work: &Work,
     object: &Pending,
-    inode: u32,
+    ino: u32,
     grants: Grants,
 ) -> Result<(), Lack>
     ensures { Asks M.Serves asker.old.machine asker.new.machine asker.old.is_whole asker.new.is_whole }
@@ -380,7 +376,7 @@ fn unpack_file<R: Files, M: FileSystem>(
         .mode(PRIVATE_FILE)
         .open(rt, object.host.as_str())?;
     read_file(asker, work, object, &mut file)?;
-    let stamps = stamps_of(asker, inode)?;
+    let stamps = stamps_of(asker, ino)?;
     Ok(finish_file(&file, grants.mode, stamps)?)
 }
 
@@ -407,11 +403,11 @@ fn finish_file<F: OpenFile>(file: &F, mode: u16, stamps: Stamps) -> io::Result<(
 }
 
 // The times of an object.
-fn stamps_of<M: FileSystem>(asker: &mut Asker<M>, inode: u32) -> Result<Stamps, Lack>
+fn stamps_of<M: FileSystem>(asker: &mut Asker<M>, ino: u32) -> Result<Stamps, Lack>
     ensures { Asks M.Serves asker.old.machine asker.new.machine asker.old.is_whole asker.new.is_whole }
 {
     let event = Event::Stamp {
-        inode,
+        ino,
         atime: None,
         mtime: None,
         ctime: None,
@@ -519,7 +515,7 @@ fn finish_directory<R: Files, M: FileSystem>(
 ) -> Result<(), Lack>
     ensures { Asks M.Serves asker.old.machine asker.new.machine asker.old.is_whole asker.new.is_whole }
 {
-    let stamps = stamps_of(asker, made.inode)?;
+    let stamps = stamps_of(asker, made.ino)?;
     let directory = fs::open(rt, made.host.as_str())?;
     finish_file(&directory, made.grants.mode, stamps)?;
     made.grants.lack()

@@ -32,7 +32,7 @@ pub(crate) struct Pending {
 #[derive(Drop)]
 pub(crate) struct Made {
     pub(crate) inside: String,
-    pub(crate) inode: u32,
+    pub(crate) ino: u32,
     pub(crate) entry: Entry,
 }
 
@@ -81,7 +81,7 @@ impl Work {
         })?;
         work.made.push(Made {
             inside: String::from_str(alloc, "/")?,
-            inode: ROOT,
+            ino: ROOT,
             entry,
         })?;
         Ok(work)
@@ -91,12 +91,12 @@ impl Work {
     pub(crate) fn keep_directory(
         &mut self,
         object: &Pending,
-        inode: u32,
+        ino: u32,
         entry: Entry,
     ) -> Result<(), Lack> {
         self.made.push(Made {
             inside: String::from_str(self.alloc, object.inside.as_str())?,
-            inode,
+            ino,
             entry,
         })?;
         self.pending.push(Pending {

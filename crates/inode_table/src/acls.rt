@@ -73,36 +73,37 @@ pub fn load_default_acl<S: Sectors>(
     Ok(Some(acl))
 }
 
-/// Saves inode n, a file or a directory, with other attributes and this access ACL, whose bits become the mode's low
+/// Saves inode `ino`, a file or a directory, with other attributes and this access ACL, whose bits become the mode's low
 /// nine. An ACL that is no more than mode bits has no sector; another one has the sector that is there, or takes one.
 pub fn save_acl<S: Sectors>(
     s: &mut S,
     geometry: Geometry,
-    n: u32,
+    ino: u32,
     inode: &Inode,
     acl: &Acl,
 ) -> Result<(), TakeFault>
     requires sound { IsSound geometry (S.state s.old) }
-    requires below { n < geometry.inodes }
-    requires attributes { DiffersInAttributes (inode_at geometry (S.state s.old).sectors n) inode.now }
+    requires below { ino < geometry.inodes }
+    requires attributes { DiffersInAttributes (inode_at geometry (S.state s.old).sectors ino) inode.now }
     requires fits { FitsInode inode.now }
     requires used { inode.now.kind ≢ Kind.Free }
     requires no_link { inode.now.kind ≢ Kind.Link }
     requires spare { HasSpare geometry 2 (S.state s.old) }
     ensures store { SameStore (S.state s.old) (S.state s.new) }
     ensures sound { OnOk result (IsSound geometry (S.state s.new)) }
-    ensures touches { OnOk result (Touches geometry n (acl_takes inode.now.acl (kept_acl acl.now)) 2 (S.state s.old) (S.state s.new)) }
-    ensures puts { OnOk result (PutsOnly (IsForSaving geometry n (inode_at geometry (S.state s.new).sectors n).acl) (bitmaps geometry) 2
+    ensures touches { OnOk result (Touches geometry ino (acl_takes inode.now.acl (kept_acl acl.now)) 2 (S.state s.old) (S.state s.new)) }
+    ensures puts { OnOk result (PutsOnly (IsForSaving geometry ino (inode_at geometry (S.state s.new).sectors ino).acl) (bitmaps geometry) 2
         (S.state s.old) (S.state s.new)) }
-    ensures none { OnOk result ((inode_at geometry (S.state s.new).sectors n).acl ≡ 0
+    ensures none { OnOk result ((inode_at geometry (S.state s.new).sectors ino).acl ≡ 0
         → TakesSpare geometry 1 (S.state s.old) (S.state s.new)) }
-    ensures fields { OnOk result (KeepsFields (with_acl_bits inode.now acl.now) (inode_at geometry (S.state s.new).sectors n)) }
+    ensures fields { OnOk result (KeepsFields (with_acl_bits inode.now acl.now) (inode_at geometry (S.state s.new).sectors ino)) }
     ensures bytes { OnOk result (KeepsBytes (S.state s.old).sectors (S.state s.new).sectors
-        (inode_at geometry (S.state s.old).sectors n) (inode_at geometry (S.state s.new).sectors n)) }
-    ensures access { OnOk result (HasAcl (S.state s.new).sectors (inode_at geometry (S.state s.new).sectors n) acl.now) }
+        (inode_at geometry (S.state s.old).sectors ino) (inode_at geometry (S.state s.new).sectors ino)) }
+    ensures access { OnOk result (HasAcl (S.state s.new).sectors (inode_at geometry (S.state s.new).sectors ino) acl.now) }
     ensures default { OnOk result (KeepsDefault (S.state s.old).sectors (S.state s.new).sectors
-        (inode_at geometry (S.state s.old).sectors n) (inode_at geometry (S.state s.new).sectors n)) }
-    ensures used { OnOk result (bit (S.state s.new).sectors geometry.inode_bitmap n ≡ bit (S.state s.old).sectors geometry.inode_bitmap n) }
+        (inode_at geometry (S.state s.old).sectors ino) (inode_at geometry (S.state s.new).sectors ino)) }
+    ensures used { OnOk result (bit (S.state s.new).sectors geometry.inode_bitmap ino
+        ≡ bit (S.state s.old).sectors geometry.inode_bitmap ino) }
     ensures full { IfErr result (λ e. e ≡ TakeFault.Full
         → free_sectors geometry (S.state s.old).sectors < acl_takes inode.now.acl (kept_acl acl.now)) }
     ensures cause { HasCauseOf TakeFault.DiskFault (S.state s.old).disk (S.state s.new).disk result }
@@ -113,41 +114,42 @@ pub fn save_acl<S: Sectors>(
         acl: sector,
         ..*inode
     };
-    write_inode(s, geometry, n, &saved)?;
+    write_inode(s, geometry, ino, &saved)?;
     Ok(())
 }
 
-/// Saves inode n with other attributes and this default ACL, or none. An ACL has the sector that is there, or takes one;
-/// without one the sector is given back.
+/// Saves inode `ino` with other attributes and this default ACL, or none. An ACL has the sector that is there, or takes
+/// one; without one the sector is given back.
 pub fn save_default_acl<S: Sectors>(
     s: &mut S,
     geometry: Geometry,
-    n: u32,
+    ino: u32,
     inode: &Inode,
     acl: Option<&Acl>,
 ) -> Result<(), TakeFault>
     requires sound { IsSound geometry (S.state s.old) }
-    requires below { n < geometry.inodes }
-    requires attributes { DiffersInAttributes (inode_at geometry (S.state s.old).sectors n) inode.now }
+    requires below { ino < geometry.inodes }
+    requires attributes { DiffersInAttributes (inode_at geometry (S.state s.old).sectors ino) inode.now }
     requires fits { FitsInode inode.now }
     requires used { inode.now.kind ≢ Kind.Free }
     requires spare { HasSpare geometry 2 (S.state s.old) }
     ensures store { SameStore (S.state s.old) (S.state s.new) }
     ensures sound { OnOk result (IsSound geometry (S.state s.new)) }
-    ensures touches { OnOk result (Touches geometry n (acl_takes inode.now.default_acl (option_copied acl.entry)) 2
+    ensures touches { OnOk result (Touches geometry ino (acl_takes inode.now.default_acl (option_copied acl.entry)) 2
         (S.state s.old) (S.state s.new)) }
-    ensures puts { OnOk result (PutsOnly (IsForSaving geometry n (inode_at geometry (S.state s.new).sectors n).default_acl)
+    ensures puts { OnOk result (PutsOnly (IsForSaving geometry ino (inode_at geometry (S.state s.new).sectors ino).default_acl)
         (bitmaps geometry) 2 (S.state s.old) (S.state s.new)) }
-    ensures none { OnOk result ((inode_at geometry (S.state s.new).sectors n).default_acl ≡ 0
+    ensures none { OnOk result ((inode_at geometry (S.state s.new).sectors ino).default_acl ≡ 0
         → TakesSpare geometry 1 (S.state s.old) (S.state s.new)) }
-    ensures fields { OnOk result (KeepsFields inode.now (inode_at geometry (S.state s.new).sectors n)) }
+    ensures fields { OnOk result (KeepsFields inode.now (inode_at geometry (S.state s.new).sectors ino)) }
     ensures bytes { OnOk result (KeepsBytes (S.state s.old).sectors (S.state s.new).sectors
-        (inode_at geometry (S.state s.old).sectors n) (inode_at geometry (S.state s.new).sectors n)) }
+        (inode_at geometry (S.state s.old).sectors ino) (inode_at geometry (S.state s.new).sectors ino)) }
     ensures access { OnOk result (KeepsAccess (S.state s.old).sectors (S.state s.new).sectors
-        (inode_at geometry (S.state s.old).sectors n) (inode_at geometry (S.state s.new).sectors n)) }
-    ensures default { OnOk result (HasDefaultAcl (S.state s.new).sectors (inode_at geometry (S.state s.new).sectors n)
+        (inode_at geometry (S.state s.old).sectors ino) (inode_at geometry (S.state s.new).sectors ino)) }
+    ensures default { OnOk result (HasDefaultAcl (S.state s.new).sectors (inode_at geometry (S.state s.new).sectors ino)
         (option_copied acl.entry)) }
-    ensures used { OnOk result (bit (S.state s.new).sectors geometry.inode_bitmap n ≡ bit (S.state s.old).sectors geometry.inode_bitmap n) }
+    ensures used { OnOk result (bit (S.state s.new).sectors geometry.inode_bitmap ino
+        ≡ bit (S.state s.old).sectors geometry.inode_bitmap ino) }
     ensures full { IfErr result (λ e. e ≡ TakeFault.Full
         → free_sectors geometry (S.state s.old).sectors < acl_takes inode.now.default_acl (option_copied acl.entry)) }
     ensures cause { HasCauseOf TakeFault.DiskFault (S.state s.old).disk (S.state s.new).disk result }
@@ -157,6 +159,6 @@ pub fn save_default_acl<S: Sectors>(
         default_acl: sector,
         ..*inode
     };
-    write_inode(s, geometry, n, &saved)?;
+    write_inode(s, geometry, ino, &saved)?;
     Ok(())
 }

@@ -27,123 +27,124 @@ use posix_acl::Acl;
 use sector_disk::DiskFault;
 use sector_txn::Sectors;
 
-/// Reads inode n.
-pub fn load<S: Sectors>(s: &mut S, geometry: Geometry, n: u32) -> Result<Inode, DiskFault>
+/// Reads inode `ino`.
+pub fn load<S: Sectors>(s: &mut S, geometry: Geometry, ino: u32) -> Result<Inode, DiskFault>
     requires sound { IsSound geometry (S.state s.old) }
-    requires below { n < geometry.inodes }
-    ensures found { IfOk result (λ v. v ≡ inode_at geometry (S.state s.old).sectors n) }
+    requires below { ino < geometry.inodes }
+    ensures found { IfOk result (λ v. v ≡ inode_at geometry (S.state s.old).sectors ino) }
     ensures fits { IfOk result FitsInode }
     ensures same { IsUnchanged (S.state s.old) (S.state s.new) }
     ensures cause { HasCause (S.state s.old).disk (S.state s.new).disk result }
 {
-    let at = geometry.inode_offset(n);
+    let at = geometry.inode_offset(ino);
     let inode = s.read_with(
-        geometry.inode_sector(n),
+        geometry.inode_sector(ino),
         |content| Inode::read_valid(content, at),
     )?;
     Ok(inode)
 }
 
-/// Reads inode n, and the content of its sector.
+/// Reads inode `ino`, and the content of its sector.
 pub fn load_with_content<S: Sectors>(
     s: &mut S,
     geometry: Geometry,
-    n: u32,
+    ino: u32,
     content: &mut [u8; 512],
 ) -> Result<Inode, DiskFault>
     requires sound { IsSound geometry (S.state s.old) }
-    requires below { n < geometry.inodes }
-    ensures found { IfOk result (λ v. v ≡ inode_at geometry (S.state s.old).sectors n) }
+    requires below { ino < geometry.inodes }
+    ensures found { IfOk result (λ v. v ≡ inode_at geometry (S.state s.old).sectors ino) }
     ensures fits { IfOk result FitsInode }
-    ensures content { OnOk result (content.new ≡ (S.state s.old).sectors (geometry.table + n / 4)) }
+    ensures content { OnOk result (content.new ≡ (S.state s.old).sectors (geometry.table + ino / 4)) }
     ensures same { IsUnchanged (S.state s.old) (S.state s.new) }
     ensures cause { HasCause (S.state s.old).disk (S.state s.new).disk result }
 {
-    s.get(geometry.inode_sector(n), content)?;
-    Ok(Inode::read_valid(content, geometry.inode_offset(n)))
+    s.get(geometry.inode_sector(ino), content)?;
+    Ok(Inode::read_valid(content, geometry.inode_offset(ino)))
 }
 
-/// Writes inode n into the table, whatever it was. The image need not be consistent, as where sectors of the inode have
-/// changed and the inode hasn't yet.
+/// Writes inode `ino` into the table, whatever it was. The image need not be consistent, as where sectors of the inode
+/// have changed and the inode hasn't yet.
 pub fn write_inode<S: Sectors>(
     s: &mut S,
     geometry: Geometry,
-    n: u32,
+    ino: u32,
     inode: &Inode,
 ) -> Result<(), DiskFault>
     requires geometry { IsGeometry geometry }
     requires on_disk { geometry.sectors ≤ (S.state s.old).disk.size }
     requires header { log_end (S.state s.old).header ≤ geometry.inode_bitmap }
     requires tables { HasWholeTables geometry (S.state s.old).sectors }
-    requires below { n < geometry.inodes }
+    requires below { ino < geometry.inodes }
     requires fits { FitsInode inode.now }
-    requires room { (S.state s.old).has_put (geometry.table + n / 4) ≡ false → 0 < (S.state s.old).room }
-    ensures saved { OnOk result (Saves geometry n inode.now (S.state s.old).sectors (S.state s.new).sectors) }
-    ensures puts { OnOk result (PutsOnly (λ t. t ≡ geometry.table + n / 4) [] 1 (S.state s.old) (S.state s.new)) }
+    requires room { (S.state s.old).has_put (geometry.table + ino / 4) ≡ false → 0 < (S.state s.old).room }
+    ensures saved { OnOk result (Saves geometry ino inode.now (S.state s.old).sectors (S.state s.new).sectors) }
+    ensures puts { OnOk result (PutsOnly (λ t. t ≡ geometry.table + ino / 4) [] 1 (S.state s.old) (S.state s.new)) }
     ensures store { SameStore (S.state s.old) (S.state s.new) }
     ensures cause { HasCause (S.state s.old).disk (S.state s.new).disk result }
 {
-    let at = geometry.inode_sector(n);
+    let at = geometry.inode_sector(ino);
     let mut content = [0; 512];
     s.get(at, &mut content)?;
-    inode.write_to(&mut content, geometry.inode_offset(n));
+    inode.write_to(&mut content, geometry.inode_offset(ino));
     s.put(at, &content);
     Ok(())
 }
 
-/// Saves inode n with other attributes: mode, owner, group, count of names, parent.
+/// Saves inode `ino` with other attributes: mode, owner, group, count of names, parent.
 pub fn save<S: Sectors>(
     s: &mut S,
     geometry: Geometry,
-    n: u32,
+    ino: u32,
     inode: &Inode,
 ) -> Result<(), DiskFault>
     requires sound { IsSound geometry (S.state s.old) }
-    requires below { n < geometry.inodes }
-    requires attributes { DiffersInAttributes (inode_at geometry (S.state s.old).sectors n) inode.now }
+    requires below { ino < geometry.inodes }
+    requires attributes { DiffersInAttributes (inode_at geometry (S.state s.old).sectors ino) inode.now }
     requires fits { FitsInode inode.now }
     requires spare { HasSpare geometry 1 (S.state s.old) }
     ensures store { SameStore (S.state s.old) (S.state s.new) }
     ensures sound { OnOk result (IsSound geometry (S.state s.new)) }
-    ensures touches { OnOk result (Touches geometry n 0 1 (S.state s.old) (S.state s.new)) }
-    ensures saved { OnOk result (inode_at geometry (S.state s.new).sectors n ≡ inode.now) }
+    ensures touches { OnOk result (Touches geometry ino 0 1 (S.state s.old) (S.state s.new)) }
+    ensures saved { OnOk result (inode_at geometry (S.state s.new).sectors ino ≡ inode.now) }
     ensures bytes { OnOk result (KeepsBytes (S.state s.old).sectors (S.state s.new).sectors
-        (inode_at geometry (S.state s.old).sectors n) (inode_at geometry (S.state s.new).sectors n)) }
+        (inode_at geometry (S.state s.old).sectors ino) (inode_at geometry (S.state s.new).sectors ino)) }
     ensures acls { OnOk result (KeepsAcls (S.state s.old).sectors (S.state s.new).sectors
-        (inode_at geometry (S.state s.old).sectors n) (inode_at geometry (S.state s.new).sectors n)) }
-    ensures used { OnOk result (bit (S.state s.new).sectors geometry.inode_bitmap n ≡ bit (S.state s.old).sectors geometry.inode_bitmap n) }
+        (inode_at geometry (S.state s.old).sectors ino) (inode_at geometry (S.state s.new).sectors ino)) }
+    ensures used { OnOk result (bit (S.state s.new).sectors geometry.inode_bitmap ino
+        ≡ bit (S.state s.old).sectors geometry.inode_bitmap ino) }
     ensures cause { HasCause (S.state s.old).disk (S.state s.new).disk result }
 {
-    write_inode(s, geometry, n, inode)?;
+    write_inode(s, geometry, ino, inode)?;
     Ok(())
 }
 
-/// Saves inode n with other times. The content is that of its sector, and becomes what that has then.
+/// Saves inode `ino` with other times. The content is that of its sector, and becomes what that has then.
 pub fn save_times<S: Sectors>(
     s: &mut S,
     geometry: Geometry,
-    n: u32,
+    ino: u32,
     inode: &Inode,
     content: &mut [u8; 512],
 )
     requires sound { IsSound geometry (S.state s.old) }
-    requires below { n < geometry.inodes }
-    requires times { DiffersInTimes (inode_at geometry (S.state s.old).sectors n) inode.now }
+    requires below { ino < geometry.inodes }
+    requires times { DiffersInTimes (inode_at geometry (S.state s.old).sectors ino) inode.now }
     requires fits { FitsInode inode.now }
     requires spare { HasSpare geometry 1 (S.state s.old) }
-    requires content { content.old ≡ (S.state s.old).sectors (geometry.table + n / 4) }
+    requires content { content.old ≡ (S.state s.old).sectors (geometry.table + ino / 4) }
     ensures store { SameStore (S.state s.old) (S.state s.new) }
     ensures sound { IsSound geometry (S.state s.new) }
-    ensures touches { Touches geometry n 0 1 (S.state s.old) (S.state s.new) }
-    ensures saved { inode_at geometry (S.state s.new).sectors n ≡ inode.now }
+    ensures touches { Touches geometry ino 0 1 (S.state s.old) (S.state s.new) }
+    ensures saved { inode_at geometry (S.state s.new).sectors ino ≡ inode.now }
     ensures bytes { KeepsBytes (S.state s.old).sectors (S.state s.new).sectors
-        (inode_at geometry (S.state s.old).sectors n) (inode_at geometry (S.state s.new).sectors n) }
+        (inode_at geometry (S.state s.old).sectors ino) (inode_at geometry (S.state s.new).sectors ino) }
     ensures acls { KeepsAcls (S.state s.old).sectors (S.state s.new).sectors
-        (inode_at geometry (S.state s.old).sectors n) (inode_at geometry (S.state s.new).sectors n) }
-    ensures used { bit (S.state s.new).sectors geometry.inode_bitmap n ≡ bit (S.state s.old).sectors geometry.inode_bitmap n }
+        (inode_at geometry (S.state s.old).sectors ino) (inode_at geometry (S.state s.new).sectors ino) }
+    ensures used { bit (S.state s.new).sectors geometry.inode_bitmap ino ≡ bit (S.state s.old).sectors geometry.inode_bitmap ino }
 {
-    inode.write_times(content, geometry.inode_offset(n));
-    s.put(geometry.inode_sector(n), content);
+    inode.write_times(content, geometry.inode_offset(ino));
+    s.put(geometry.inode_sector(ino), content);
 }
 
 /// Makes an inode, a file or a directory, which holds nothing: a free one gets the fields and takes the sectors that its
@@ -176,7 +177,7 @@ pub fn new_inode<S: Sectors>(
         ⊎ (free_sectors geometry (S.state s.old).sectors < acls_take access.now (option_copied default.entry))) }
     ensures cause { HasCauseOf TakeFault.DiskFault (S.state s.old).disk (S.state s.new).disk result }
 {
-    let n = take(s, geometry, Bitmap::Inodes, 0)?;
+    let ino = take(s, geometry, Bitmap::Inodes, 0)?;
     let acl = store(s, geometry, 0, kept_content(access))?;
     let default_acl = store(s, geometry, 0, content_of(default))?;
     let made = Inode {
@@ -185,29 +186,29 @@ pub fn new_inode<S: Sectors>(
         default_acl,
         ..*inode
     };
-    write_inode(s, geometry, n, &made)?;
-    Ok(n)
+    write_inode(s, geometry, ino, &made)?;
+    Ok(ino)
 }
 
-/// Frees inode n, which holds no bytes any more, with the sectors of its ACLs: its 128 bytes become zero, and its bit is
-/// cleared.
-pub fn free_inode<S: Sectors>(s: &mut S, geometry: Geometry, n: u32) -> Result<(), DiskFault>
+/// Frees inode `ino`, which holds no bytes any more, with the sectors of its ACLs: its 128 bytes become zero, and its
+/// bit is cleared.
+pub fn free_inode<S: Sectors>(s: &mut S, geometry: Geometry, ino: u32) -> Result<(), DiskFault>
     requires sound { IsSound geometry (S.state s.old) }
-    requires number { IsNumber geometry Inodes n }
-    requires empty { Holds (S.state s.old).sectors (inode_at geometry (S.state s.old).sectors n) [] }
+    requires number { IsNumber geometry Inodes ino }
+    requires empty { Holds (S.state s.old).sectors (inode_at geometry (S.state s.old).sectors ino) [] }
     requires spare { HasSpare geometry 1 (S.state s.old) }
     ensures store { SameStore (S.state s.old) (S.state s.new) }
     ensures sound { OnOk result (IsSound geometry (S.state s.new)) }
-    ensures touches { OnOk result (Touches geometry n 0 1 (S.state s.old) (S.state s.new)) }
-    ensures puts { OnOk result (PutsOnly (IsForSaving geometry n 0) (bitmaps geometry) 1 (S.state s.old) (S.state s.new)) }
-    ensures free { OnOk result (inode_at geometry (S.state s.new).sectors n ≡ free_inode) }
-    ensures unused { OnOk result (bit (S.state s.new).sectors geometry.inode_bitmap n ≡ false) }
+    ensures touches { OnOk result (Touches geometry ino 0 1 (S.state s.old) (S.state s.new)) }
+    ensures puts { OnOk result (PutsOnly (IsForSaving geometry ino 0) (bitmaps geometry) 1 (S.state s.old) (S.state s.new)) }
+    ensures free { OnOk result (inode_at geometry (S.state s.new).sectors ino ≡ free_inode) }
+    ensures unused { OnOk result (bit (S.state s.new).sectors geometry.inode_bitmap ino ≡ false) }
     ensures cause { HasCause (S.state s.old).disk (S.state s.new).disk result }
 {
-    let inode = load(s, geometry, n)?;
-    give(s, geometry, Bitmap::Inodes, n)?;
+    let inode = load(s, geometry, ino)?;
+    give(s, geometry, Bitmap::Inodes, ino)?;
     give_sector(s, geometry, inode.acl)?;
     give_sector(s, geometry, inode.default_acl)?;
-    write_inode(s, geometry, n, &Inode::FREE)?;
+    write_inode(s, geometry, ino, &Inode::FREE)?;
     Ok(())
 }

@@ -49,10 +49,10 @@ use Rattle.call_parts.proofs.NewNames.{caller_fits, parent_fits, space_met, node
 
 -- named once, in directory dir
 abbrev pub new_directory : ℕ → ℕ → ℕ → ℕ → Inode
-new_directory dir uid gid bits = record free_inode { kind = kinds.Directory; mode = bits; uid = uid; gid = gid; names = 1; parent = dir }
+new_directory dir_ino uid gid bits = record free_inode { kind = kinds.Directory; mode = bits; uid = uid; gid = gid; names = 1; parent = dir_ino }
 
-pub directory_fits : (dir uid gid bits : ℕ) → dir < 2 ^ 32 → uid < 2 ^ 32 → gid < 2 ^ 32 → bits < 2048 → FitsInode (new_directory dir uid gid bits)
-directory_fits dir uid gid bits small_dir small_uid small_gid few =
+pub directory_fits : (dir_ino uid gid bits : ℕ) → dir_ino < 2 ^ 32 → uid < 2 ^ 32 → gid < 2 ^ 32 → bits < 2048 → FitsInode (new_directory dir_ino uid gid bits)
+directory_fits dir_ino uid gid bits small_dir small_uid small_gid few =
     let low : nat_le bits 0o3777 ≡ true = grind (arith, nat_tests) in
     made_fits (λ e. cc) (ap (λ (b : Bool). (b && nat_le 0 MAX_DIRECTORY_SIZE) && nat_eq (0 % SLOT_SIZE) 0) low) small_uid small_gid (omega arith) small_dir
 
@@ -70,16 +70,16 @@ both_bits bits few = go (bits / S_ISVTX % 2 == 1) (bits / S_ISGID % 2 == 1) refl
 
 module _ {p : Geometry} {n taken more : ℕ} {old new : TxnState} (free : IsFreeNumber p Inodes old.sectors n) (touches : Touches p n taken more old new)
     (used : IsTrue (bit new.sectors p.inode_bitmap n)) where
-  pub directory_taken : (dir uid gid bits : ℕ) → bits < 2048 → (a : AccessList) (default : Option AccessList)
-      → KeepsFields (with_acl_bits (new_directory dir uid gid bits) a) (inode_at p new.sectors n) → Holds new.sectors (inode_at p new.sectors n) []
+  pub directory_taken : (dir_ino uid gid bits : ℕ) → bits < 2048 → (a : AccessList) (default : Option AccessList)
+      → KeepsFields (with_acl_bits (new_directory dir_ino uid gid bits) a) (inode_at p new.sectors n) → Holds new.sectors (inode_at p new.sectors n) []
       → HasAcl new.sectors (inode_at p new.sectors n) a → HasDefaultAcl new.sectors (inode_at p new.sectors n) default
-      → TakesInode p n (record { node = directory_made uid gid bits a default; names = 1; parent = dir }) old.sectors new.sectors
-  directory_taken dir uid gid bits few a default fields empty access has = record {
+      → TakesInode p n (record { node = directory_made uid gid bits a default; names = 1; parent = dir_ino }) old.sectors new.sectors
+  directory_taken dir_ino uid gid bits few a default fields empty access has = record {
     super = touches.super;
     free = free;
     change = touches.inode;
     taken = used;
-    holds = new_directory_held new.sectors (new_directory dir uid gid bits) (inode_at p new.sectors n) uid gid refl refl refl (refl, refl, refl) a fields empty access dir default
+    holds = new_directory_held new.sectors (new_directory dir_ino uid gid bits) (inode_at p new.sectors n) uid gid refl refl refl (refl, refl, refl) a fields empty access dir_ino default
         (bits / S_ISVTX % 2 == 1) (bits / S_ISGID % 2 == 1) refl (both_bits bits few) refl has;
   }
 
@@ -106,12 +106,12 @@ is_new_name f is =
 
 module _ {p : Geometry} {map : SectorMap} {processes : ProcessTable} {s : State} (at : IsStateOf p map processes s) (q : Process) (f : Found) {pid : ℕ} {path : List ℕ}
     (has : HasFound s pid q Parent path f) (bytes : IsBytes path) (is : refused_or {A = Unit {0}} (must_be_new f) (Ok tt) ≡ Ok tt) where
-  pub directory_changes : (mode : ℕ) (new : SectorMap) (n : ℕ) → first_of (make_asked p map q.cred s.tree f.dir (f.step - 1)) ≡ None
-      → MakesNode p f.dir f.name n (born_directory q.cred q.umask mode (the_node s.tree f.dir)) map new
-      → IsChange p new processes s q (mkdir_demands (scene_at s q f)) (mkdir_effect mode (scene_at s q f)) Done ((f.dir, Modified) ∷ (n, Born) ∷ [])
+  pub directory_changes : (mode : ℕ) (new : SectorMap) (n : ℕ) → first_of (make_asked p map q.cred s.tree f.dir_ino (f.step - 1)) ≡ None
+      → MakesNode p f.dir_ino f.name n (born_directory q.cred q.umask mode (the_node s.tree f.dir_ino)) map new
+      → IsChange p new processes s q (mkdir_demands (scene_at s q f)) (mkdir_effect mode (scene_at s q f)) Done ((f.dir_ino, Modified) ∷ (n, Born) ∷ [])
   directory_changes mode new n allows made =
       let x = is_new_name f is in
       let fits = parent_fits at q f has bytes x.1 in
-      node_made at q f has bytes x.1 (born_directory q.cred q.umask mode (the_node s.tree f.dir))
-      (directory_is_born s.room s.tree q.cred (caller_fits at has).cred (the_node s.tree f.dir) fits.group q.umask mode fits.body)
+      node_made at q f has bytes x.1 (born_directory q.cred q.umask mode (the_node s.tree f.dir_ino))
+      (directory_is_born s.room s.tree q.cred (caller_fits at has).cred (the_node s.tree f.dir_ino) fits.group q.umask mode fits.body)
       new made (mkdir_demands (scene_at s q f)) (space_met at q f (must_be_new f ∷ []) x.0 allows) allows

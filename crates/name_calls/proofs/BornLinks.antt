@@ -58,18 +58,18 @@ none_free why = elim why [ inl x ↦ inl x | inr none ↦ inr (omega (arith, non
 
 module _ {p : Geometry} {n taken more : ℕ} {old new : TxnState} (free : IsFreeNumber p Inodes old.sectors n) (touches : Touches p n taken more old new)
     (used : IsTrue (bit new.sectors p.inode_bitmap n)) where
-  pub link_taken : (dir uid gid : ℕ) (directory : Inode) (cred : Credential) (target : List ℕ) → uid ≡ cred.uid
+  pub link_taken : (dir_ino uid gid : ℕ) (directory : Inode) (cred : Credential) (target : List ℕ) → uid ≡ cred.uid
       → gid ≡ (if directory.mode / S_ISGID % 2 == 1 then directory.gid else cred.gid) → IsNewLink uid gid (inode_at p new.sectors n)
       → HasNoAcls (inode_at p new.sectors n) → Holds new.sectors (inode_at p new.sectors n) target → HasNoHole new.sectors (inode_at p new.sectors n)
-      → TakesInode p n (record { node = link_made directory cred target; names = 1; parent = dir }) old.sectors new.sectors
-  link_taken dir uid gid directory cred target owner group is acls holds whole =
+      → TakesInode p n (record { node = link_made directory cred target; names = 1; parent = dir_ino }) old.sectors new.sectors
+  link_taken dir_ino uid gid directory cred target owner group is acls holds whole =
       let group_made : ℕ = if directory.mode / S_ISGID % 2 == 1 then directory.gid else cred.gid in
       record {
         super = touches.super;
         free = free;
         change = touches.inode;
         taken = used;
-        holds = new_link_held new.sectors (inode_at p new.sectors n) cred.uid group_made dir target
+        holds = new_link_held new.sectors (inode_at p new.sectors n) cred.uid group_made dir_ino target
             (subst (λ (k : ℕ). IsNewLink cred.uid k (inode_at p new.sectors n)) group (subst (λ (k : ℕ). IsNewLink k gid (inode_at p new.sectors n)) owner is))
             acls holds whole;
       }
@@ -104,12 +104,12 @@ is_link_name f is =
 
 module _ {p : Geometry} {map : SectorMap} {processes : ProcessTable} {s : State} (at : IsStateOf p map processes s) (q : Process) (f : Found) {pid : ℕ} {path : List ℕ}
     (has : HasFound s pid q Parent path f) (bytes : IsBytes path) (is : refused_or {A = Unit {0}} (first_of (link_name_asked f)) (Ok tt) ≡ Ok tt) where
-  pub link_changes : (target : List ℕ) → IsTarget target → (new : SectorMap) (n : ℕ) → first_of (make_asked p map q.cred s.tree f.dir (f.step - 1)) ≡ None
-      → MakesNode p f.dir f.name n (born_link q.cred target (the_node s.tree f.dir)) map new
-      → IsChange p new processes s q (symlink_demands (scene_at s q f)) (symlink_effect target (scene_at s q f)) Done ((f.dir, Modified) ∷ (n, Born) ∷ [])
+  pub link_changes : (target : List ℕ) → IsTarget target → (new : SectorMap) (n : ℕ) → first_of (make_asked p map q.cred s.tree f.dir_ino (f.step - 1)) ≡ None
+      → MakesNode p f.dir_ino f.name n (born_link q.cred target (the_node s.tree f.dir_ino)) map new
+      → IsChange p new processes s q (symlink_demands (scene_at s q f)) (symlink_effect target (scene_at s q f)) Done ((f.dir_ino, Modified) ∷ (n, Born) ∷ [])
   link_changes target valid new n allows made =
       let x = is_link_name f is in
       let fits = parent_fits at q f has bytes x.1 in
-      node_made at q f has bytes x.1 (born_link q.cred target (the_node s.tree f.dir))
-      (link_is_born s.room s.tree q.cred (caller_fits at has).cred (the_node s.tree f.dir) fits.group target valid)
+      node_made at q f has bytes x.1 (born_link q.cred target (the_node s.tree f.dir_ino))
+      (link_is_born s.room s.tree q.cred (caller_fits at has).cred (the_node s.tree f.dir_ino) fits.group target valid)
       new made (symlink_demands (scene_at s q f)) (space_met at q f (link_name_asked f) x.0 allows) allows

@@ -24,7 +24,7 @@ use Rattle.fs_model.specs.Demands.{Demand, refuse, first_of, decided, search_of,
 use Rattle.fs_model.specs.Nodes.{Node, Body, File, Dir, Link, is_directory, accessed_body}
 use Rattle.fs_model.specs.Rows.{row_of}
 use Rattle.fs_model.specs.Rules.{is_directory_kind}
-use Rattle.fs_model.specs.Scenes.{number, must_be_there}
+use Rattle.fs_model.specs.Scenes.{found_ino, must_be_there}
 use Rattle.fs_model.specs.Trees.{Tree, IsDirectoryAt}
 use Rattle.fs_model.proofs.StepsDemands.{unrefused}
 use Rattle.path_walk.specs.Answers.{refused_or, IsAnswered}
@@ -66,7 +66,7 @@ no_file owner group (Link target) x is e = absurd (cc)
 -- nothing is there
 pub absent_refuses : (cred : Credential) (t : Tree) (f : Found) → Refuses (must_be_there f) (first_of (enter_asked cred t f))
 absent_refuses cred t f =
-    refuses_first (must_be_there f) (refuse ENOTDIR (not (is_directory (the_node t (number f)).body)) ∷ search_on cred t (number f) 1 f.step ∷ [])
+    refuses_first (must_be_there f) (refuse ENOTDIR (not (is_directory (the_node t (found_ino f)).body)) ∷ search_on cred t (found_ino f) 1 f.step ∷ [])
 
 directory_access : (t : Tree) (n : ℕ) (a : IsAccessed t n) → IsDirectoryAt t n → is_file a.access.kind ≡ false
 directory_access t n a d =
@@ -78,10 +78,10 @@ module _ {p : Geometry} {map : SectorMap} {t : Tree} (h : HoldsTree p map t) (f 
   node = node_of h f n v i.number i.inode there
 
   abbrev other_kind : Demand
-  other_kind = refuse ENOTDIR (not (is_directory (the_node t (number f)).body))
+  other_kind = refuse ENOTDIR (not (is_directory (the_node t (found_ino f)).body))
 
   abbrev searched : Demand
-  searched = search_on cred t (number f) 1 f.step
+  searched = search_on cred t (found_ino f) 1 f.step
 
   kind_is : refuse ENOTDIR (not (is_directory_kind v.kind)) ≡ other_kind
   kind_is = ap (λ (b : Bool). refuse ENOTDIR (not b))
@@ -101,7 +101,7 @@ module _ {p : Geometry} {map : SectorMap} {t : Tree} (h : HoldsTree p map t) (f 
       node = node.node;
       is_there = node.at;
       directory = not_not (is_directory node.node.body)
-          (ap (λ (u : Node). not (is_directory u.body)) (sym node.is) ∙ unrefused ENOTDIR (not (is_directory (the_node t (number f)).body)) kind_met);
+          (ap (λ (u : Node). not (is_directory u.body)) (sym node.is) ∙ unrefused ENOTDIR (not (is_directory (the_node t (found_ino f)).body)) kind_met);
     }
 
     abbrev pub access : AccessNode
@@ -141,13 +141,13 @@ searchable {p} {t} {old} {mid} {f} {n} {v} same h i there cred is =
 -- as the process' credential
 module _ (t : Tree) (f : Found) {cred who : Credential} where
   pub entering_as : (e : Refusal) (old new : DiskState) → cred ≡ who
-      → IsAnswered old new (refused_or {A = ℕ} (first_of (enter_asked cred t f)) (Ok (number f))) (Err e)
-      → IsAnswered old new (refused_or {A = ℕ} (first_of (enter_asked who t f)) (Ok (number f))) (Err e)
+      → IsAnswered old new (refused_or {A = ℕ} (first_of (enter_asked cred t f)) (Ok (found_ino f))) (Err e)
+      → IsAnswered old new (refused_or {A = ℕ} (first_of (enter_asked who t f)) (Ok (found_ino f))) (Err e)
   entering_as e old new same is =
-      subst (λ (k : Credential). IsAnswered old new (refused_or {A = ℕ} (first_of (enter_asked k t f)) (Ok (number f))) (Err e)) same is
+      subst (λ (k : Credential). IsAnswered old new (refused_or {A = ℕ} (first_of (enter_asked k t f)) (Ok (found_ino f))) (Err e)) same is
 
-  pub entered_as : (n : ℕ) → cred ≡ who → refused_or {A = ℕ} (first_of (enter_asked cred t f)) (Ok (number f)) ≡ Ok n
-      → (first_of (enter_asked who t f) ≡ None) × (number f ≡ n)
+  pub entered_as : (n : ℕ) → cred ≡ who → refused_or {A = ℕ} (first_of (enter_asked cred t f)) (Ok (found_ino f)) ≡ Ok n
+      → (first_of (enter_asked who t f) ≡ None) × (found_ino f ≡ n)
   entered_as n same is =
-      met_ok {A = ℕ} (first_of (enter_asked who t f)) (number f) n
-      (subst (λ (k : Credential). refused_or {A = ℕ} (first_of (enter_asked k t f)) (Ok (number f)) ≡ Ok n) same is)
+      met_ok {A = ℕ} (first_of (enter_asked who t f)) (found_ino f) n
+      (subst (λ (k : Credential). refused_or {A = ℕ} (first_of (enter_asked k t f)) (Ok (found_ino f)) ≡ Ok n) same is)

@@ -47,34 +47,34 @@ bits_below true false = omega arith
 bits_below false true = omega arith
 bits_below false false = omega arith
 
-module _ {p : Geometry} {map : SectorMap} {t : Tree} (h : HoldsTree p map t) {dir : ℕ} {name : List ℕ} (i : IsNewIn p t dir name) (v : Inode) (is : v ≡ inode_at p map dir) where
+module _ {p : Geometry} {map : SectorMap} {t : Tree} (h : HoldsTree p map t) {dir_ino : ℕ} {name : List ℕ} (i : IsNewIn p t dir_ino name) (v : Inode) (is : v ≡ inode_at p map dir_ino) where
   abbrev node : Node
   node = i.directory.node
 
-  held : HoldsNode p.version map v (record { node = node; names = names_of t dir; parent = parent t dir })
-  held = subst (λ (w : Inode). HoldsNode p.version map w (record { node = node; names = names_of t dir; parent = parent t dir })) (sym is) (held_node h dir node i.directory.is_there)
+  held : HoldsNode p.version map v (record { node = node; names = names_of t dir_ino; parent = parent t dir_ino })
+  held = subst (λ (w : Inode). HoldsNode p.version map w (record { node = node; names = names_of t dir_ino; parent = parent t dir_ino })) (sym is) (held_node h dir_ino node i.directory.is_there)
 
-  it_is : the_node t dir ≡ node
-  it_is = the_node_is t dir node i.directory.is_there
+  it_is : the_node t dir_ino ≡ node
+  it_is = the_node_is t dir_ino node i.directory.is_there
 
-  pub set_group_is : (v.mode / S_ISGID % 2 == 1) ≡ (the_directory (the_node t dir)).set_group_id
+  pub set_group_is : (v.mode / S_ISGID % 2 == 1) ≡ (the_directory (the_node t dir_ino)).set_group_id
   set_group_is =
       set_group_says node.owner node.group node.body node.stamps v.mode i.directory.directory held.mode
       ∙ sym (ap (λ (u : Node). (the_directory u).set_group_id) it_is)
 
   abbrev group_of : Credential → ℕ
-  group_of cred = if (the_directory (the_node t dir)).set_group_id then (the_node t dir).group else cred.gid
+  group_of cred = if (the_directory (the_node t dir_ino)).set_group_id then (the_node t dir_ino).group else cred.gid
 
   pub group_is : (cred : Credential) → (if v.mode / S_ISGID % 2 == 1 then v.gid else cred.gid)
-      ≡ (if (the_directory (the_node t dir)).set_group_id then (the_node t dir).group else cred.gid)
+      ≡ (if (the_directory (the_node t dir_ino)).set_group_id then (the_node t dir_ino).group else cred.gid)
   group_is cred =
       ap (λ (b : Bool). if b then v.gid else cred.gid) set_group_is
-      ∙ ap (λ (k : ℕ). if (the_directory (the_node t dir)).set_group_id then k else cred.gid) (held.group ∙ sym (ap (λ (u : Node). u.group) it_is))
+      ∙ ap (λ (k : ℕ). if (the_directory (the_node t dir_ino)).set_group_id then k else cred.gid) (held.group ∙ sym (ap (λ (u : Node). u.group) it_is))
 
   pub default_held : HasDefaultAcl map v (default_in node.body)
   default_held = default_says p.version map v node.body i.directory.directory held.body
 
-  default_given : default_in node.body ≡ (the_directory (the_node t dir)).default
+  default_given : default_in node.body ≡ (the_directory (the_node t dir_ino)).default
   default_given = default_is node.owner node.group node.body node.stamps i.directory.directory ∙ sym (ap (λ (u : Node). (the_directory u).default) it_is)
 
   abbrev directory_of : ℕ → ℕ → Bool → Bool → AccessList → Option AccessList → Node
@@ -88,44 +88,44 @@ module _ {p : Geometry} {map : SectorMap} {t : Tree} (h : HoldsTree p map t) {di
   pub directory_is : (cred : Credential) (umask mode uid gid bits : ℕ) (access : AccessList) (default : Option AccessList) → uid ≡ cred.uid
       → gid ≡ (if v.mode / S_ISGID % 2 == 1 then v.gid else cred.gid) → bits ≡ cond (mode / S_ISVTX % 2 == 1) S_ISVTX 0 + cond (v.mode / S_ISGID % 2 == 1) S_ISGID 0
       → default ≡ default_in node.body → access ≡ born_acl default mode umask
-      → directory_made uid gid bits access default ≡ born_directory cred umask mode (the_node t dir)
+      → directory_made uid gid bits access default ≡ born_directory cred umask mode (the_node t dir_ino)
   directory_is cred umask mode uid gid bits access default owner group both inherits born =
       let s = mode / S_ISVTX % 2 == 1 in
       let g = v.mode / S_ISGID % 2 == 1 in
-      let d = (the_directory (the_node t dir)).default in
+      let d = (the_directory (the_node t dir_ino)).default in
       let given = inherits ∙ default_given in
       let sticky : (bits / S_ISVTX % 2 == 1) ≡ s = ap (λ (k : ℕ). k / S_ISVTX % 2 == 1) both ∙ sticky_says s g in
-      let set_group : (bits / S_ISGID % 2 == 1) ≡ (the_directory (the_node t dir)).set_group_id = ap (λ (k : ℕ). k / S_ISGID % 2 == 1) both ∙ group_says s g ∙ set_group_is in
+      let set_group : (bits / S_ISGID % 2 == 1) ≡ (the_directory (the_node t dir_ino)).set_group_id = ap (λ (k : ℕ). k / S_ISGID % 2 == 1) both ∙ group_says s g ∙ set_group_is in
       ap (λ (k : ℕ). directory_of k gid (bits / S_ISVTX % 2 == 1) (bits / S_ISGID % 2 == 1) access default) owner
       ∙ ap (λ (k : ℕ). directory_of cred.uid k (bits / S_ISVTX % 2 == 1) (bits / S_ISGID % 2 == 1) access default) (group ∙ group_is cred)
       ∙ ap (λ (b : Bool). directory_of cred.uid (group_of cred) b (bits / S_ISGID % 2 == 1) access default) sticky
       ∙ ap (λ (b : Bool). directory_of cred.uid (group_of cred) s b access default) set_group
-      ∙ ap (λ (a : AccessList). directory_of cred.uid (group_of cred) s (the_directory (the_node t dir)).set_group_id a default)
+      ∙ ap (λ (a : AccessList). directory_of cred.uid (group_of cred) s (the_directory (the_node t dir_ino)).set_group_id a default)
       (born ∙ ap (λ (o : Option AccessList). born_acl o mode umask) given)
-      ∙ ap (λ (o : Option AccessList). directory_of cred.uid (group_of cred) s (the_directory (the_node t dir)).set_group_id (born_acl d mode umask) o) given
+      ∙ ap (λ (o : Option AccessList). directory_of cred.uid (group_of cred) s (the_directory (the_node t dir_ino)).set_group_id (born_acl d mode umask) o) given
 
   abbrev link_of : ℕ → ℕ → List ℕ → Node
   link_of uid gid target = record { owner = uid; group = gid; body = Link target; stamps = no_stamps }
 
-  pub link_is : (cred : Credential) (target : List ℕ) → link_made v cred target ≡ born_link cred target (the_node t dir)
+  pub link_is : (cred : Credential) (target : List ℕ) → link_made v cred target ≡ born_link cred target (the_node t dir_ino)
   link_is cred target = ap (λ (k : ℕ). link_of cred.uid k target) (group_is cred)
 
 -- ---- since before reads
 
-module _ (p : Geometry) {old mid : TxnState} {t : Tree} (h : HoldsTree p old.sectors t) (f : Found) (i : IsNewIn p t f.dir f.name) (same : IsUnchanged old mid)
+module _ (p : Geometry) {old mid : TxnState} {t : Tree} (h : HoldsTree p old.sectors t) (f : Found) (i : IsNewIn p t f.dir_ino f.name) (same : IsUnchanged old mid)
     (name : List ℕ) (named : name ≡ f.name) where
-  pub may_then : (cred : Credential) → first_of (make_asked p old.sectors cred t f.dir (f.step - 1)) ≡ None → (u : Tree) × CanMake p mid.sectors u f.dir name
+  pub may_then : (cred : Credential) → first_of (make_asked p old.sectors cred t f.dir_ino (f.step - 1)) ≡ None → (u : Tree) × CanMake p mid.sectors u f.dir_ino name
   may_then cred met = (
     t,
-    subst (CanMake p mid.sectors t f.dir) (sym named)
-        (kept (λ (m : SectorMap). CanMake p m t f.dir f.name) same (may_make cred (f.step - 1) met h i.directory f.name i.is_name i.short i.is_new)),
+    subst (CanMake p mid.sectors t f.dir_ino) (sym named)
+        (kept (λ (m : SectorMap). CanMake p m t f.dir_ino f.name) same (may_make cred (f.step - 1) met h i.directory f.name i.is_name i.short i.is_new)),
   )
 
-  pub link_placed : (v : Inode) → v ≡ inode_at p old.sectors f.dir → (cred who : Credential) (target bytes : List ℕ) → who ≡ cred → bytes ≡ target → (new : SectorMap) (n : ℕ)
-      → MakesNode p f.dir name n (link_made v who bytes) mid.sectors new → MakesNode p f.dir f.name n (born_link cred target (the_node t f.dir)) old.sectors new
+  pub link_placed : (v : Inode) → v ≡ inode_at p old.sectors f.dir_ino → (cred who : Credential) (target bytes : List ℕ) → who ≡ cred → bytes ≡ target → (new : SectorMap) (n : ℕ)
+      → MakesNode p f.dir_ino name n (link_made v who bytes) mid.sectors new → MakesNode p f.dir_ino f.name n (born_link cred target (the_node t f.dir_ino)) old.sectors new
   link_placed v is cred who target bytes caller told new n made =
-      kept_back (λ (m : SectorMap). MakesNode p f.dir f.name n (born_link cred target (the_node t f.dir)) m new) same
-      (subst (λ (x : Node). MakesNode p f.dir f.name n x mid.sectors new) (link_is h i v is cred target)
-      (subst (λ (k : Credential). MakesNode p f.dir f.name n (link_made v k target) mid.sectors new) caller
-      (subst (λ (b : List ℕ). MakesNode p f.dir f.name n (link_made v who b) mid.sectors new) told
-      (subst (λ (l : List ℕ). MakesNode p f.dir l n (link_made v who bytes) mid.sectors new) named made))))
+      kept_back (λ (m : SectorMap). MakesNode p f.dir_ino f.name n (born_link cred target (the_node t f.dir_ino)) m new) same
+      (subst (λ (x : Node). MakesNode p f.dir_ino f.name n x mid.sectors new) (link_is h i v is cred target)
+      (subst (λ (k : Credential). MakesNode p f.dir_ino f.name n (link_made v k target) mid.sectors new) caller
+      (subst (λ (b : List ℕ). MakesNode p f.dir_ino f.name n (link_made v who b) mid.sectors new) told
+      (subst (λ (l : List ℕ). MakesNode p f.dir_ino l n (link_made v who bytes) mid.sectors new) named made))))

@@ -20,7 +20,7 @@ use Rattle.fs_model.specs.NameCalls.{link_demands}
 use Rattle.fs_model.specs.Nodes.{Node, is_directory, names_of_body}
 use Rattle.fs_model.specs.Processes.{Process, ProcessTable}
 use Rattle.fs_model.specs.Rules.{is_directory_kind}
-use Rattle.fs_model.specs.Scenes.{is_found, is_special, number, must_be_there}
+use Rattle.fs_model.specs.Scenes.{is_found, is_special, found_ino, must_be_there}
 use Rattle.fs_model.specs.States.{State}
 use Rattle.fs_model.specs.Trees.{Room, Tree, names_of}
 use Rattle.fs_model.proofs.StepsDemands.{first_met, then_met, unrefused, and_false}
@@ -41,31 +41,31 @@ use Rattle.call_parts.specs.Reaching.{checked, IsInodeFound}
 
 -- ---- all of the directory
 
-module _ (p : Geometry) (map : SectorMap) (cred : Credential) (t : Tree) (dir step names : ℕ) where
+module _ (p : Geometry) (map : SectorMap) (cred : Credential) (t : Tree) (dir_ino step names : ℕ) where
   abbrev allowed : Demand
-  allowed = permission_on cred t dir write_and_search 2 step
+  allowed = permission_on cred t dir_ino write_and_search 2 step
 
   abbrev many : Demand
   many = refuse EMLINK (nat_le (max_inode_names p.version) names)
 
-  pub place_denied : Refuses (permission_on cred t dir write_and_search 2 step) (first_of (place_asked p map cred t dir step names))
-  place_denied = refuses_first allowed (many ∷ room_asked p map t dir)
+  pub place_denied : Refuses (permission_on cred t dir_ino write_and_search 2 step) (first_of (place_asked p map cred t dir_ino step names))
+  place_denied = refuses_first allowed (many ∷ room_asked p map t dir_ino)
 
-  module _ (granted : permission_on cred t dir write_and_search 2 step ≡ None) where
-    pub place_many : Refuses (refuse EMLINK (nat_le (max_inode_names p.version) names)) (first_of (place_asked p map cred t dir step names))
-    place_many = refuses_next allowed (many ∷ room_asked p map t dir) granted (refuses_first many (room_asked p map t dir))
+  module _ (granted : permission_on cred t dir_ino write_and_search 2 step ≡ None) where
+    pub place_many : Refuses (refuse EMLINK (nat_le (max_inode_names p.version) names)) (first_of (place_asked p map cred t dir_ino step names))
+    place_many = refuses_next allowed (many ∷ room_asked p map t dir_ino) granted (refuses_first many (room_asked p map t dir_ino))
 
     pub place_full : checked (refuse EMLINK (nat_le (max_inode_names p.version) names)) ≡ Ok tt
-        → Refuses (first_of (room_asked p map t dir)) (first_of (place_asked p map cred t dir step names))
+        → Refuses (first_of (room_asked p map t dir_ino)) (first_of (place_asked p map cred t dir_ino step names))
     place_full few =
-        refuses_next allowed (many ∷ room_asked p map t dir) granted
-        (refuses_next many (room_asked p map t dir) (demand_met many few) (λ (e : Refusal) is. is))
+        refuses_next allowed (many ∷ room_asked p map t dir_ino) granted
+        (refuses_next many (room_asked p map t dir_ino) (demand_met many few) (λ (e : Refusal) is. is))
 
-  pub place_met : permission_on cred t dir write_and_search 2 step ≡ None → checked (refuse EMLINK (nat_le (max_inode_names p.version) names)) ≡ Ok tt
-      → checked (first_of (room_asked p map t dir)) ≡ Ok tt → first_of (place_asked p map cred t dir step names) ≡ None
+  pub place_met : permission_on cred t dir_ino write_and_search 2 step ≡ None → checked (refuse EMLINK (nat_le (max_inode_names p.version) names)) ≡ Ok tt
+      → checked (first_of (room_asked p map t dir_ino)) ≡ Ok tt → first_of (place_asked p map cred t dir_ino step names) ≡ None
   place_met granted few free =
-      both_met allowed (many ∷ room_asked p map t dir) granted
-      (both_met many (room_asked p map t dir) (demand_met many few) (demand_met (first_of (room_asked p map t dir)) free))
+      both_met allowed (many ∷ room_asked p map t dir_ino) granted
+      (both_met many (room_asked p map t dir_ino) (demand_met many few) (demand_met (first_of (room_asked p map t dir_ino)) free))
 
 -- ---- what is to get the name
 
@@ -78,13 +78,13 @@ module _ {p : Geometry} {map : SectorMap} {t : Tree} {f : Found} {n : ℕ} {v : 
   kinds_asked b = refuse ENOTDIR (f.slash && not b) ∷ refuse EPERM b ∷ []
 
   pub kind_says : (refuse ENOTDIR (f.slash && not (is_directory_kind v.kind)) ∷ refuse EPERM (is_directory_kind v.kind) ∷ [])
-      ≡ (refuse ENOTDIR (f.slash && (is_found f && not (is_directory (the_node t (number f)).body)))
-      ∷ refuse EPERM (is_found f && is_directory (the_node t (number f)).body) ∷ [])
+      ≡ (refuse ENOTDIR (f.slash && (is_found f && not (is_directory (the_node t (found_ino f)).body)))
+      ∷ refuse EPERM (is_found f && is_directory (the_node t (found_ino f)).body) ∷ [])
   kind_says =
       ap kinds_asked (body_kind_is p.version map v node.node.body node.holds.body)
       ∙ ap (λ (u : Node). kinds_asked (is_directory u.body)) (sym node.is)
-      ∙ ap (λ (o : Option ℕ). refuse ENOTDIR (f.slash && (is_some o && not (is_directory (the_node t (number f)).body)))
-      ∷ refuse EPERM (is_some o && is_directory (the_node t (number f)).body) ∷ []) (sym k.some)
+      ∙ ap (λ (o : Option ℕ). refuse ENOTDIR (f.slash && (is_some o && not (is_directory (the_node t (found_ino f)).body)))
+      ∷ refuse EPERM (is_some o && is_directory (the_node t (found_ino f)).body) ∷ []) (sym k.some)
 
 module _ (t : Tree) (f : Found) where
   abbrev special : List Demand
@@ -92,8 +92,8 @@ module _ (t : Tree) (f : Found) where
 
   abbrev others : List Demand
   others =
-      refuse ENOTDIR (f.slash && (is_found f && not (is_directory (the_node t (number f)).body)))
-      ∷ refuse EPERM (is_found f && is_directory (the_node t (number f)).body) ∷ []
+      refuse ENOTDIR (f.slash && (is_found f && not (is_directory (the_node t (found_ino f)).body)))
+      ∷ refuse EPERM (is_found f && is_directory (the_node t (found_ino f)).body) ∷ []
 
   pub source_special : Refuses (first_of (refuse EPERM (is_special f) ∷ [])) (first_of (source_asked t f))
   source_special = refuses_some special (must_be_there f ∷ others)
@@ -118,13 +118,13 @@ module _ (t : Tree) (f : Found) where
 
   -- where all is met, it is there
   pub source_inode : (p : Geometry) (map : SectorMap) {n : ℕ} {v : Inode}
-      → refused_or {A = ℕ × Inode} (first_of (source_asked t f)) (Ok (number f, inode_at p map (number f))) ≡ Ok (n, v) → (first_of (source_asked t f) ≡ None) × IsInodeFound p map f n v
+      → refused_or {A = ℕ × Inode} (first_of (source_asked t f)) (Ok (found_ino f, inode_at p map (found_ino f))) ≡ Ok (n, v) → (first_of (source_asked t f) ≡ None) × IsInodeFound p map f n v
   source_inode p map {n} {v} is =
-      let both = met_ok {A = ℕ × Inode} (first_of (source_asked t f)) (number f, inode_at p map (number f)) (n, v) is in
+      let both = met_ok {A = ℕ × Inode} (first_of (source_asked t f)) (found_ino f, inode_at p map (found_ino f)) (n, v) is in
       let there = first_met (must_be_there f) _ (then_met (refuse EPERM (is_special f)) _ both.0) in (
         both.0,
         is_inode p map f n v
-            (ap (λ (e : Demand). refused_or {A = ℕ × Inode} e (Ok (number f, inode_at p map (number f)))) there ∙ ap (λ (x : ℕ × Inode). Ok x) both.1),
+            (ap (λ (e : Demand). refused_or {A = ℕ × Inode} e (Ok (found_ino f, inode_at p map (found_ino f)))) there ∙ ap (λ (x : ℕ × Inode). Ok x) both.1),
       )
 
 -- ---- the whole
@@ -138,10 +138,10 @@ module _ {p : Geometry} {map : SectorMap} {processes : ProcessTable} {q : Proces
 
   abbrev last : List Demand
   last =
-      permission_on q.cred s.tree g.dir write_and_search 2 (g.step - 1)
-      ∷ refuse EMLINK (nat_le s.room.names_limit (names_of s.tree (number f)))
+      permission_on q.cred s.tree g.dir_ino write_and_search 2 (g.step - 1)
+      ∷ refuse EMLINK (nat_le s.room.names_limit (names_of s.tree (found_ino f)))
       ∷ refuse ENOSPC (nat_lt s.free least_free)
-      ∷ refuse ENOSPC (nat_le s.room.entries_limit (length (names_of_body (the_node s.tree g.dir).body)))
+      ∷ refuse ENOSPC (nat_le s.room.entries_limit (length (names_of_body (the_node s.tree g.dir_ino).body)))
       ∷ []
 
   pub source_refuses : Refuses (first_of (source_asked s.tree f)) (first_of (link_demands (scene_with s q f g)))
@@ -158,33 +158,33 @@ module _ {p : Geometry} {map : SectorMap} {processes : ProcessTable} {q : Proces
     pub source_kind : IsFalse (is_directory source_node.node.body)
     source_kind =
         let rest = then_met (must_be_there f) _ (then_met (refuse EPERM (is_special f)) _ source_met) in
-        let last = then_met (refuse ENOTDIR (f.slash && (is_found f && not (is_directory (the_node s.tree (number f)).body)))) _ rest in
-        let other = unrefused EPERM (is_found f && is_directory (the_node s.tree (number f)).body)
-        (first_met (refuse EPERM (is_found f && is_directory (the_node s.tree (number f)).body)) None last) in
-        ap (λ (u : Node). is_directory u.body) (sym source_node.is) ∙ and_false (is_found f) (is_directory (the_node s.tree (number f)).body) other (ap is_some k.some)
+        let last = then_met (refuse ENOTDIR (f.slash && (is_found f && not (is_directory (the_node s.tree (found_ino f)).body)))) _ rest in
+        let other = unrefused EPERM (is_found f && is_directory (the_node s.tree (found_ino f)).body)
+        (first_met (refuse EPERM (is_found f && is_directory (the_node s.tree (found_ino f)).body)) None last) in
+        ap (λ (u : Node). is_directory u.body) (sym source_node.is) ∙ and_false (is_found f) (is_directory (the_node s.tree (found_ino f)).body) other (ap is_some k.some)
 
     -- the inode of what is linked says how many names it has
     pub source_names : v.names ≡ names_of s.tree n
     source_names = source_node.holds.names ∙ field_is source_node.node.body (names_of s.tree n) source_kind
 
-    last_is : place_asked p map q.cred s.tree g.dir (g.step - 1) v.names ≡ last
+    last_is : place_asked p map q.cred s.tree g.dir_ino (g.step - 1) v.names ≡ last
     last_is =
-        ap (λ (c : ℕ). place_asked p map q.cred s.tree g.dir (g.step - 1) c) (source_names ∙ ap (names_of s.tree) (sym k.number))
-        ∙ ap (λ (c : ℕ). permission_on q.cred s.tree g.dir write_and_search 2 (g.step - 1)
-        ∷ refuse EMLINK (nat_le (max_inode_names p.version) (names_of s.tree (number f)))
+        ap (λ (c : ℕ). place_asked p map q.cred s.tree g.dir_ino (g.step - 1) c) (source_names ∙ ap (names_of s.tree) (sym k.number))
+        ∙ ap (λ (c : ℕ). permission_on q.cred s.tree g.dir_ino write_and_search 2 (g.step - 1)
+        ∷ refuse EMLINK (nat_le (max_inode_names p.version) (names_of s.tree (found_ino f)))
         ∷ refuse ENOSPC (nat_lt c least_free)
-        ∷ refuse ENOSPC (nat_le (max_names p.version) (length (names_of_body (the_node s.tree g.dir).body)))
+        ∷ refuse ENOSPC (nat_le (max_names p.version) (length (names_of_body (the_node s.tree g.dir_ino).body)))
         ∷ []) (sym i.is_state.free_is)
-        ∙ ap (λ (r : Room). permission_on q.cred s.tree g.dir write_and_search 2 (g.step - 1)
-        ∷ refuse EMLINK (nat_le r.names_limit (names_of s.tree (number f)))
+        ∙ ap (λ (r : Room). permission_on q.cred s.tree g.dir_ino write_and_search 2 (g.step - 1)
+        ∷ refuse EMLINK (nat_le r.names_limit (names_of s.tree (found_ino f)))
         ∷ refuse ENOSPC (nat_lt s.free least_free)
-        ∷ refuse ENOSPC (nat_le r.entries_limit (length (names_of_body (the_node s.tree g.dir).body)))
+        ∷ refuse ENOSPC (nat_le r.entries_limit (length (names_of_body (the_node s.tree g.dir_ino).body)))
         ∷ []) (sym i.is_state.same_room)
 
-    pub place_refuses : Refuses (first_of (place_asked p map q.cred s.tree g.dir (g.step - 1) v.names)) (first_of (link_demands (scene_with s q f g)))
+    pub place_refuses : Refuses (first_of (place_asked p map q.cred s.tree g.dir_ino (g.step - 1) v.names)) (first_of (link_demands (scene_with s q f g)))
     place_refuses =
         refuses_others source (name ++ last) source_met
         (refuses_others name last name_met (λ (e : Refusal) is. ap first_of (sym last_is) ∙ is))
 
-    pub link_asked_met : first_of (place_asked p map q.cred s.tree g.dir (g.step - 1) v.names) ≡ None → first_of (link_demands (scene_with s q f g)) ≡ None
+    pub link_asked_met : first_of (place_asked p map q.cred s.tree g.dir_ino (g.step - 1) v.names) ≡ None → first_of (link_demands (scene_with s q f g)) ≡ None
     link_asked_met met = all_met source (name ++ last) source_met (all_met name last name_met (ap first_of (sym last_is) ∙ met))

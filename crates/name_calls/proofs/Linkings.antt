@@ -31,7 +31,7 @@ use Rattle.fs_model.specs.NameCalls.{link_demands, link_effect}
 use Rattle.fs_model.specs.Nodes.{Node, is_directory, names_of_body}
 use Rattle.fs_model.specs.Processes.{Process, ProcessTable, is_open}
 use Rattle.fs_model.specs.Rows.{row_of}
-use Rattle.fs_model.specs.Scenes.{number}
+use Rattle.fs_model.specs.Scenes.{found_ino}
 use Rattle.fs_model.specs.Stands.{HoldsAll, placed}
 use Rattle.fs_model.specs.States.{State}
 use Rattle.fs_model.specs.StoredNodes.{Placed, HoldsNode}
@@ -73,15 +73,15 @@ pub record IsLinkable (p : Geometry) (map : SectorMap) (s : State) (q : Process)
   pub source_met : first_of (source_asked s.tree f) ≡ None
   pub name_met : first_of (link_name_asked g) ≡ None
   pub inode : IsInodeFound p map f n v
-  pub directory : d ≡ inode_at p map g.dir
+  pub directory : d ≡ inode_at p map g.dir_ino
 
 -- what is asked of the directory of the second path
 abbrev place_demands : State → Process → Found → Found → List Demand
 place_demands s q f g =
-    permission_on q.cred s.tree g.dir write_and_search 2 (g.step - 1)
-    ∷ refuse EMLINK (nat_le s.room.names_limit (names_of s.tree (number f)))
+    permission_on q.cred s.tree g.dir_ino write_and_search 2 (g.step - 1)
+    ∷ refuse EMLINK (nat_le s.room.names_limit (names_of s.tree (found_ino f)))
     ∷ refuse ENOSPC (nat_lt s.free least_free)
-    ∷ refuse ENOSPC (nat_le s.room.entries_limit (length (names_of_body (the_node s.tree g.dir).body)))
+    ∷ refuse ENOSPC (nat_le s.room.entries_limit (length (names_of_body (the_node s.tree g.dir_ino).body)))
     ∷ []
 
 parts : (s : State) (q : Process) (f g : Found) → first_of (link_demands (scene_with s q f g)) ≡ None
@@ -97,13 +97,13 @@ parts s q f g met =
 
 module _ {p : Geometry} {map : SectorMap} {q : Process} {f g : Found} (s : State) {n : ℕ} {v d : Inode} where
   pub link_told : refused_or {A = ℕ × Inode × Inode} (first_of (link_demands (scene_with s q f g)))
-      (Ok (number f, inode_at p map (number f), inode_at p map g.dir)) ≡ Ok (n, v, d) → IsLinkable p map s q f g n v d
+      (Ok (found_ino f, inode_at p map (found_ino f), inode_at p map g.dir_ino)) ≡ Ok (n, v, d) → IsLinkable p map s q f g n v d
   link_told is =
       let both = met_ok {A = ℕ × Inode × Inode} (first_of (link_demands (scene_with s q f g)))
-      (number f, inode_at p map (number f), inode_at p map g.dir) (n, v, d) is in
+      (found_ino f, inode_at p map (found_ino f), inode_at p map g.dir_ino) (n, v, d) is in
       let all = parts s q f g both.0 in
       let k = source_inode s.tree f p map {n = n} {v = v}
-      (ap (λ (o : Demand). refused_or {A = ℕ × Inode} o (Ok (number f, inode_at p map (number f)))) all.0
+      (ap (λ (o : Demand). refused_or {A = ℕ × Inode} o (Ok (found_ino f, inode_at p map (found_ino f)))) all.0
       ∙ ap (λ (x : ℕ × Inode × Inode). Ok (x.0, x.1)) both.1) in
       record {
         met = both.0;
@@ -115,10 +115,10 @@ module _ {p : Geometry} {map : SectorMap} {q : Process} {f g : Found} (s : State
 
 module _ {p : Geometry} {map : SectorMap} {processes : ProcessTable} {q : Process} {f g : Found} {s : State} (i : FindsBoth p map processes q f g s) where
   -- the name is new in a directory
-  pub name_at : first_of (link_name_asked g) ≡ None → IsNameAt s.room s.tree g.dir g.name None
+  pub name_at : first_of (link_name_asked g) ≡ None → IsNameAt s.room s.tree g.dir_ino g.name None
   name_at met = (second_walked i).new (is_link_name g (ap (λ (o : Demand). refused_or {A = Unit {0}} o (Ok tt)) met)).1
 
-  pub name_dir : first_of (link_name_asked g) ≡ None → IsDirectoryAt s.tree g.dir
+  pub name_dir : first_of (link_name_asked g) ≡ None → IsDirectoryAt s.tree g.dir_ino
   name_dir met = let x = name_at met in record { node = x.node; is_there = x.stands; directory = x.directory }
 
   module _ {n : ℕ} {v d : Inode} (l : IsLinkable p map s q f g n v d) where
@@ -127,29 +127,29 @@ module _ {p : Geometry} {map : SectorMap} {processes : ProcessTable} {q : Proces
 
     few_are : names_of s.tree n < max_inode_names p.version
     few_are =
-        let two = then_met (permission_on q.cred s.tree g.dir write_and_search 2 (g.step - 1)) _ last_met in
-        let many : nat_le s.room.names_limit (names_of s.tree (number f)) ≡ false =
-        unrefused EMLINK (nat_le s.room.names_limit (names_of s.tree (number f))) (first_met (refuse EMLINK (nat_le s.room.names_limit (names_of s.tree (number f)))) _ two) in
-        let few : names_of s.tree (number f) < s.room.names_limit = grind (arith, nat_tests) in
+        let two = then_met (permission_on q.cred s.tree g.dir_ino write_and_search 2 (g.step - 1)) _ last_met in
+        let many : nat_le s.room.names_limit (names_of s.tree (found_ino f)) ≡ false =
+        unrefused EMLINK (nat_le s.room.names_limit (names_of s.tree (found_ino f))) (first_met (refuse EMLINK (nat_le s.room.names_limit (names_of s.tree (found_ino f)))) _ two) in
+        let few : names_of s.tree (found_ino f) < s.room.names_limit = grind (arith, nat_tests) in
         subst (λ (r : Room). names_of s.tree n < r.names_limit) i.is_state.same_room
         (subst (λ (m : ℕ). names_of s.tree m < s.room.names_limit) l.inode.number few)
 
     pub few_names : v.names < max_inode_names p.version
     few_names = subst (λ (m : ℕ). m < max_inode_names p.version) (sym (source_names i l.source_met l.name_met l.inode)) few_are
 
-    pub link_may : MayLink p map s.tree g.dir g.name n
+    pub link_may : MayLink p map s.tree g.dir_ino g.name n
     unfolding name_at name_dir
     link_may =
         let x = name_at l.name_met in
         let node = source_node i l.source_met l.name_met l.inode in
-        let two = then_met (permission_on q.cred s.tree g.dir write_and_search 2 (g.step - 1)) _ last_met in
-        let three = then_met (refuse EMLINK (nat_le s.room.names_limit (names_of s.tree (number f)))) _ two in
+        let two = then_met (permission_on q.cred s.tree g.dir_ino write_and_search 2 (g.step - 1)) _ last_met in
+        let three = then_met (refuse EMLINK (nat_le s.room.names_limit (names_of s.tree (found_ino f)))) _ two in
         let low : nat_lt s.free least_free ≡ false = unrefused ENOSPC (nat_lt s.free least_free) (first_met (refuse ENOSPC (nat_lt s.free least_free)) _ three) in
         let four = then_met (refuse ENOSPC (nat_lt s.free least_free)) _ three in
-        let full : nat_le s.room.entries_limit (length (names_of_body (the_node s.tree g.dir).body)) ≡ false =
-        unrefused ENOSPC (nat_le s.room.entries_limit (length (names_of_body (the_node s.tree g.dir).body)))
-        (first_met (refuse ENOSPC (nat_le s.room.entries_limit (length (names_of_body (the_node s.tree g.dir).body)))) None four) in
-        let some : length (names_of_body (the_node s.tree g.dir).body) < s.room.entries_limit = grind (arith, nat_tests) in
+        let full : nat_le s.room.entries_limit (length (names_of_body (the_node s.tree g.dir_ino).body)) ≡ false =
+        unrefused ENOSPC (nat_le s.room.entries_limit (length (names_of_body (the_node s.tree g.dir_ino).body)))
+        (first_met (refuse ENOSPC (nat_le s.room.entries_limit (length (names_of_body (the_node s.tree g.dir_ino).body)))) None four) in
+        let some : length (names_of_body (the_node s.tree g.dir_ino).body) < s.room.entries_limit = grind (arith, nat_tests) in
         let enough : least_free ≤ s.free = grind (arith, nat_tests) in
         record {
           directory = name_dir l.name_met;
@@ -158,7 +158,7 @@ module _ {p : Geometry} {map : SectorMap} {processes : ProcessTable} {q : Proces
           bytes = x.bytes;
           is_new = x.leads;
           has_room = subst (λ (r : Room). length (names_of_body x.node.body) < r.entries_limit) i.is_state.same_room
-              (subst (λ (u : Node). length (names_of_body u.body) < s.room.entries_limit) (the_node_is s.tree g.dir x.node x.stands) some);
+              (subst (λ (u : Node). length (names_of_body u.body) < s.room.entries_limit) (the_node_is s.tree g.dir_ino x.node x.stands) some);
           enough = subst (λ (k : ℕ). least_free ≤ k) i.is_state.free_is enough;
           target = node.node;
           there = node.at;
@@ -168,8 +168,8 @@ module _ {p : Geometry} {map : SectorMap} {processes : ProcessTable} {q : Proces
 
 -- ---- the name is given
 
-module _ {p : Geometry} (old : TxnState) {processes : ProcessTable} {s : State} (at : IsStateOf p old.sectors processes s) {dir : ℕ} {name : List ℕ} {n : ℕ}
-    (may : MayLink p old.sectors s.tree dir name n) where
+module _ {p : Geometry} (old : TxnState) {processes : ProcessTable} {s : State} (at : IsStateOf p old.sectors processes s) {dir_ino : ℕ} {name : List ℕ} {n : ℕ}
+    (may : MayLink p old.sectors s.tree dir_ino name n) where
   abbrev directory : Node
   directory = may.directory.node
 
@@ -177,15 +177,15 @@ module _ {p : Geometry} (old : TxnState) {processes : ProcessTable} {s : State} 
   is_target = record { node = may.target; names = names_of s.tree n; parent = parent s.tree n }
 
   abbrev is_dir : Placed
-  is_dir = record { node = directory; names = names_of s.tree dir; parent = parent s.tree dir }
+  is_dir = record { node = directory; names = names_of s.tree dir_ino; parent = parent s.tree dir_ino }
 
   pub target_below : n < p.inodes
   target_below = node_below s p at.is_state at.same_room n may.target may.there
 
-  pub dir_below : dir < p.inodes
-  dir_below = node_below s p at.is_state at.same_room dir directory may.directory.is_there
+  pub dir_below : dir_ino < p.inodes
+  dir_below = node_below s p at.is_state at.same_room dir_ino directory may.directory.is_there
 
-  apart : dir ≢ n
+  apart : dir_ino ≢ n
   apart e =
       let stands = may.directory.is_there in
       let there = may.there in
@@ -199,7 +199,7 @@ module _ {p : Geometry} (old : TxnState) {processes : ProcessTable} {s : State} 
   pub target_used : (inode_at p old.sectors n).kind ≢ kinds.Free
   target_used e = body_not_free p.version old.sectors (inode_at p old.sectors n) may.target.body target_held.body e
 
-  gives : GivesName s.room s.tree dir directory name n may.target
+  gives : GivesName s.room s.tree dir_ino directory name n may.target
   gives = record {
     takes = record {
       stands = may.directory.is_there;
@@ -228,22 +228,22 @@ module _ {p : Geometry} (old : TxnState) {processes : ProcessTable} {s : State} 
         (counts.saved ∙ ap (λ (k : ℕ). record v { names = k }) count_is) counts.bytes counts.acls
 
     -- the directory stands as before
-    pub dir_same : inode_at p mid.sectors dir ≡ inode_at p old.sectors dir
-    dir_same = inode_kept p dir old.sectors mid.sectors (counts.touches.inode.table dir dir_below apart)
+    pub dir_same : inode_at p mid.sectors dir_ino ≡ inode_at p old.sectors dir_ino
+    dir_same = inode_kept p dir_ino old.sectors mid.sectors (counts.touches.inode.table dir_ino dir_below apart)
 
-    dir_held : HoldsNode p.version mid.sectors (inode_at p mid.sectors dir) is_dir
+    dir_held : HoldsNode p.version mid.sectors (inode_at p mid.sectors dir_ino) is_dir
     dir_held =
         held_at p mid.sectors (placing n (Some (record { node = may.target; names = names_of s.tree n + 1; parent = 0 })) (placed s.tree))
         (one_replaced p n old.sectors mid.sectors (placed s.tree) at.holds target_below counts.touches.inode _ _
         (placed_from s.tree n (Some may.target) _ _ may.there refl refl) (counted 0) counts.used)
-        dir dir_below is_dir
-        (placing_other n (Some (record { node = may.target; names = names_of s.tree n + 1; parent = 0 })) (placed s.tree) dir apart
-        ∙ placed_from s.tree dir (Some directory) _ _ may.directory.is_there refl refl)
+        dir_ino dir_below is_dir
+        (placing_other n (Some (record { node = may.target; names = names_of s.tree n + 1; parent = 0 })) (placed s.tree) dir_ino apart
+        ∙ placed_from s.tree dir_ino (Some directory) _ _ may.directory.is_there refl refl)
 
-    dir_names : HasNames p.version mid.sectors (inode_at p mid.sectors dir) (names_of_body directory.body)
-    dir_names = names_say p.version mid.sectors (inode_at p mid.sectors dir) directory.body may.directory.directory dir_held.body
+    dir_names : HasNames p.version mid.sectors (inode_at p mid.sectors dir_ino) (names_of_body directory.body)
+    dir_names = names_say p.version mid.sectors (inode_at p mid.sectors dir_ino) directory.body may.directory.directory dir_held.body
 
-    pub dir_room : MayBeNamed p mid.sectors dir name
+    pub dir_room : MayBeNamed p mid.sectors dir_ino name
     dir_room =
         let left = counts.touches.free in
         let enough = may.enough in
@@ -258,26 +258,26 @@ module _ {p : Geometry} (old : TxnState) {processes : ProcessTable} {s : State} 
           enough = omega (arith, enough, left);
         }
 
-    module _ (new : SectorMap) (named : NamesInode p dir name n mid.sectors new) where
-      pub link_holds : HoldsAll p new (placed (swept (changed s.tree (AddName dir name n)) processes))
+    module _ (new : SectorMap) (named : NamesInode p dir_ino name n mid.sectors new) where
+      pub link_holds : HoldsAll p new (placed (swept (changed s.tree (AddName dir_ino name n)) processes))
       link_holds =
           add_held s at.is_state at.up processes (λ k is. subst (λ (d : ProcessTable). IsTrue (is_open d k)) at.same_processes is) p old.sectors at.holds at.same_room
-          mid.sectors new dir directory name n may.target gives counts.touches.inode counts.used (counted (parent (changed s.tree (AddName dir name n)) n))
+          mid.sectors new dir_ino directory name n may.target gives counts.touches.inode counts.used (counted (parent (changed s.tree (AddName dir_ino name n)) n))
           named.change named.used
-          (names_held mid.sectors new (inode_at p mid.sectors dir) (inode_at p new dir) is_dir dir_held (with_entry name_cmp (names_of_body directory.body) name n)
+          (names_held mid.sectors new (inode_at p mid.sectors dir_ino) (inode_at p new dir_ino) is_dir dir_held (with_entry name_cmp (names_of_body directory.body) name n)
           may.directory.directory named.kept named.acls (named.named (names_of_body directory.body) dir_names))
 
 -- ---- the step
 
-pub link_changes : {p : Geometry} {new : SectorMap} {processes : ProcessTable} (s : State) (q : Process) (f g : Found) (n : ℕ) → number f ≡ n
-    → first_of (link_demands (scene_with s q f g)) ≡ None → HoldsAll p new (placed (swept (changed s.tree (AddName g.dir g.name n)) processes))
-    → IsChange p new processes s q (link_demands (scene_with s q f g)) (λ k. link_effect (scene_with s q f g)) Done ((g.dir, Modified) ∷ (n, Changed) ∷ [])
+pub link_changes : {p : Geometry} {new : SectorMap} {processes : ProcessTable} (s : State) (q : Process) (f g : Found) (n : ℕ) → found_ino f ≡ n
+    → first_of (link_demands (scene_with s q f g)) ≡ None → HoldsAll p new (placed (swept (changed s.tree (AddName g.dir_ino g.name n)) processes))
+    → IsChange p new processes s q (link_demands (scene_with s q f g)) (λ k. link_effect (scene_with s q f g)) Done ((g.dir_ino, Modified) ∷ (n, Changed) ∷ [])
 link_changes {p} {new} {processes} s q f g n is met holds = record {
   met = met;
   number = 0;
-  change = AddName g.dir g.name (number f);
+  change = AddName g.dir_ino g.name (found_ino f);
   is = refl;
   new_number = tt;
-  times = ap (λ (k : ℕ). touches_of s.tree (AddName g.dir g.name k)) is;
-  holds = subst (λ (k : ℕ). HoldsAll p new (placed (swept (changed s.tree (AddName g.dir g.name k)) processes))) (sym is) holds;
+  times = ap (λ (k : ℕ). touches_of s.tree (AddName g.dir_ino g.name k)) is;
+  holds = subst (λ (k : ℕ). HoldsAll p new (placed (swept (changed s.tree (AddName g.dir_ino g.name k)) processes))) (sym is) holds;
 }

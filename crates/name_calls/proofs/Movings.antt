@@ -63,7 +63,7 @@ other_kind_is kinds.File ne = refl
 other_kind_is kinds.Directory ne = absurd (ne refl)
 other_kind_is kinds.Link ne = refl
 
-pub follow_super : {p : Geometry} {n dir to_dir : ℕ} {old new : SectorMap} → ParentFollows p n dir to_dir old new → new 0 ≡ old 0
+pub follow_super : {p : Geometry} {n dir_ino to_dir_ino : ℕ} {old new : SectorMap} → ParentFollows p n dir_ino to_dir_ino old new → new 0 ≡ old 0
 follow_super (goes ne kind gets) = gets.super
 follow_super (stays why same) = ap (λ (m : SectorMap). m 0) same
 
@@ -91,14 +91,14 @@ is_something None b is clear none = let both : false ≡ true = is ∙ ap not cl
 is_something (Some m) b is clear none = cc
 
 -- four at most
-pub few_renamed : (dir to_dir n : ℕ) (o : Option ℕ) → length (renamed_touches dir to_dir n o) + 11 ≤ 47
-few_renamed dir to_dir n None = omega arith
-few_renamed dir to_dir n (Some m) = omega arith
+pub few_renamed : (dir_ino to_dir_ino n : ℕ) (o : Option ℕ) → length (renamed_touches dir_ino to_dir_ino n o) + 11 ≤ 47
+few_renamed dir_ino to_dir_ino n None = omega arith
+few_renamed dir_ino to_dir_ino n (Some m) = omega arith
 
 -- ---- a name that may move
 
-module _ {p : Geometry} (old : TxnState) {processes : ProcessTable} {s : State} (at : IsStateOf p old.sectors processes s) {dir : ℕ} {name : List ℕ} {n to_dir : ℕ} {to_name : List ℕ}
-    {o : Option ℕ} (may : MayMove p old.sectors s dir name n to_dir to_name o) where
+module _ {p : Geometry} (old : TxnState) {processes : ProcessTable} {s : State} (at : IsStateOf p old.sectors processes s) {dir_ino : ℕ} {name : List ℕ} {n to_dir_ino : ℕ} {to_name : List ℕ}
+    {o : Option ℕ} (may : MayMove p old.sectors s dir_ino name n to_dir_ino to_name o) where
   abbrev directory : Node
   directory = may.directory.node
 
@@ -108,7 +108,7 @@ module _ {p : Geometry} (old : TxnState) {processes : ProcessTable} {s : State} 
   still : (k : ℕ) → IsTrue (is_open s.processes k) → IsTrue (is_open processes k)
   still k is = subst (λ (d : ProcessTable). IsTrue (is_open d k)) at.same_processes is
 
-  moves : MovesName s.room s.tree s.processes dir directory name n to_dir to_directory to_name o
+  moves : MovesName s.room s.tree s.processes dir_ino directory name n to_dir_ino to_directory to_name o
   moves = record {
     stands = may.directory.is_there;
     is_dir = may.directory.directory;
@@ -123,70 +123,70 @@ module _ {p : Geometry} (old : TxnState) {processes : ProcessTable} {s : State} 
     has_room = λ none ne. subst (λ (r : Room). length (names_of_body to_directory.body) < r.entries_limit) (sym at.same_room) (may.has_room none ne).0;
     empty = λ m led d. ap names_or d.is_there ∙ may.empty m led d;
     unused = may.unused;
-    outside = λ d. is_outside s.room s.tree n to_dir at.is_state.tree may.to_directory (may.outside d);
+    outside = λ d. is_outside s.room s.tree n to_dir_ino at.is_state.tree may.to_directory (may.outside d);
   }
 
   target : Stands s.tree n
   target =
       stands s.tree n
-      ((are_names s.room s.tree directory.body (at.is_state.tree.each dir directory may.directory.is_there).body).each name n may.leads).leads.1
+      ((are_names s.room s.tree directory.body (at.is_state.tree.each dir_ino directory may.directory.is_there).body).each name n may.leads).leads.1
 
   abbrev is_dir : Placed
-  is_dir = record { node = directory; names = names_of s.tree dir; parent = parent s.tree dir }
+  is_dir = record { node = directory; names = names_of s.tree dir_ino; parent = parent s.tree dir_ino }
 
   abbrev is_target : Placed
   is_target = record { node = target.node; names = names_of s.tree n; parent = parent s.tree n }
 
-  abbrev between : Between s.room s.tree (renamed s.tree dir directory (without name_cmp (names_of_body directory.body) name)) to_dir to_name o
-  between = middle s at.is_state at.up processes still dir directory name n to_dir to_directory to_name o moves target.node target.at
+  abbrev between : Between s.room s.tree (renamed s.tree dir_ino directory (without name_cmp (names_of_body directory.body) name)) to_dir_ino to_name o
+  between = middle s at.is_state at.up processes still dir_ino directory name n to_dir_ino to_directory to_name o moves target.node target.at
 
   abbrev fewer : List (List ℕ × ℕ)
   fewer = without name_cmp (names_of_body directory.body) name
 
   abbrev then_begun : ℕ → Option Placed
-  then_begun = begun s at.is_state at.up processes still dir directory name n to_dir to_directory to_name o moves target.node target.at
+  then_begun = begun s at.is_state at.up processes still dir_ino directory name n to_dir_ino to_directory to_name o moves target.node target.at
 
   abbrev then_arrived : ℕ → Option Placed
-  then_arrived = arrived s at.is_state at.up processes still dir directory name n to_dir to_directory to_name o moves target.node target.at
+  then_arrived = arrived s at.is_state at.up processes still dir_ino directory name n to_dir_ino to_directory to_name o moves target.node target.at
 
-  pub dir_below : dir < p.inodes
-  dir_below = node_below s p at.is_state at.same_room dir directory may.directory.is_there
+  pub dir_below : dir_ino < p.inodes
+  dir_below = node_below s p at.is_state at.same_room dir_ino directory may.directory.is_there
 
-  pub to_below : to_dir < p.inodes
-  to_below = node_below s p at.is_state at.same_room to_dir to_directory may.to_directory.is_there
+  pub to_below : to_dir_ino < p.inodes
+  to_below = node_below s p at.is_state at.same_room to_dir_ino to_directory may.to_directory.is_there
 
   pub moved_below : n < p.inodes
   moved_below = node_below s p at.is_state at.same_room n target.node target.at
 
   -- and so are those of all whose times move
-  pub touched_below : AreBelow p.inodes (renamed_touches dir to_dir n o)
+  pub touched_below : AreBelow p.inodes (renamed_touches dir_ino to_dir_ino n o)
   touched_below = (dir_below, (to_below, (moved_below, go o refl)))
     where
       go : (x : Option ℕ) → o ≡ x → AreBelow p.inodes (changed_at x)
       go None e = tt
       go (Some m) e =
-          let entry = (are_names s.room s.tree to_directory.body (at.is_state.tree.each to_dir to_directory may.to_directory.is_there).body).each to_name m (may.to_leads ∙ e) in
+          let entry = (are_names s.room s.tree to_directory.body (at.is_state.tree.each to_dir_ino to_directory may.to_directory.is_there).body).each to_name m (may.to_leads ∙ e) in
           (number_below (state_tree at) m entry.leads.1, tt)
 
-  dir_held : HoldsNode p.version old.sectors (inode_at p old.sectors dir) is_dir
-  dir_held = held_node (state_tree at) dir directory may.directory.is_there
+  dir_held : HoldsNode p.version old.sectors (inode_at p old.sectors dir_ino) is_dir
+  dir_held = held_node (state_tree at) dir_ino directory may.directory.is_there
 
   pub moved_used : (inode_at p old.sectors n).kind ≢ kinds.Free
   moved_used e = body_not_free p.version old.sectors (inode_at p old.sectors n) target.node.body (held_node (state_tree at) n target.node target.at).body e
 
-  dir_names : HasNames p.version old.sectors (inode_at p old.sectors dir) (names_of_body directory.body)
-  dir_names = held_names (state_tree at) dir may.directory
+  dir_names : HasNames p.version old.sectors (inode_at p old.sectors dir_ino) (names_of_body directory.body)
+  dir_names = held_names (state_tree at) dir_ino may.directory
 
   has_first : get name_cmp (names_of_body directory.body) name ≢ None
   has_first none = let both : None ≡ Some n = sym none ∙ may.leads in cc
 
   -- the directory has the name
-  pub named_first : HasName p old.sectors dir name
+  pub named_first : HasName p old.sectors dir_ino name
   named_first = (names_of_body directory.body, dir_names, has_first)
 
   -- and not the other one, where nothing is to be replaced in it
-  pub named_here : dir ≡ to_dir → o ≡ None
-      → (names : List (List ℕ × ℕ)) × HasNames p.version old.sectors (inode_at p old.sectors dir) names × (get name_cmp names name ≢ None) × (get name_cmp names to_name ≡ None)
+  pub named_here : dir_ino ≡ to_dir_ino → o ≡ None
+      → (names : List (List ℕ × ℕ)) × HasNames p.version old.sectors (inode_at p old.sectors dir_ino) names × (get name_cmp names name ≢ None) × (get name_cmp names to_name ≡ None)
   named_here one none =
       let stands = may.directory.is_there in
       let also = may.to_directory.is_there in
@@ -197,30 +197,30 @@ module _ {p : Geometry} (old : TxnState) {processes : ProcessTable} {s : State} 
         ap (λ (u : Node). get name_cmp (names_of_body u.body) to_name) same ∙ may.to_leads ∙ none,
       )
 
-  pub leads_first : HasNames p.version old.sectors (inode_at p old.sectors dir) (names_of_body directory.body) × (get name_cmp (names_of_body directory.body) name ≡ Some n)
+  pub leads_first : HasNames p.version old.sectors (inode_at p old.sectors dir_ino) (names_of_body directory.body) × (get name_cmp (names_of_body directory.body) name ≡ Some n)
   leads_first = (dir_names, may.leads)
 
   -- ---- the name is gone from the directory
 
-  module _ {mid : SectorMap} (removes : ChangesNames p dir (λ names. without name_cmp names name) old.sectors mid) where
-    here : HoldsNode p.version mid (inode_at p mid dir) (record is_dir { node = renamed_node directory fewer })
+  module _ {mid : SectorMap} (removes : ChangesNames p dir_ino (λ names. without name_cmp names name) old.sectors mid) where
+    here : HoldsNode p.version mid (inode_at p mid dir_ino) (record is_dir { node = renamed_node directory fewer })
     here =
-        names_held old.sectors mid (inode_at p old.sectors dir) (inode_at p mid dir) is_dir dir_held fewer may.directory.directory
+        names_held old.sectors mid (inode_at p old.sectors dir_ino) (inode_at p mid dir_ino) is_dir dir_held fewer may.directory.directory
         removes.kept removes.acls (removes.named (names_of_body directory.body) dir_names)
 
-    to_held : HoldsNode p.version mid (inode_at p mid to_dir) (record { node = between.node; names = names_of s.tree to_dir; parent = parent s.tree to_dir })
+    to_held : HoldsNode p.version mid (inode_at p mid to_dir_ino) (record { node = between.node; names = names_of s.tree to_dir_ino; parent = parent s.tree to_dir_ino })
     to_held =
-        middle_held s at.is_state at.up processes still dir directory name n to_dir to_directory to_name o moves target.node target.at p at.same_room
+        middle_held s at.is_state at.up processes still dir_ino directory name n to_dir_ino to_directory to_name o moves target.node target.at p at.same_room
         old.sectors mid at.holds removes.change removes.used here
 
-    to_names : HasNames p.version mid (inode_at p mid to_dir) (names_of_body between.node.body)
-    to_names = names_say p.version mid (inode_at p mid to_dir) between.node.body between.directory to_held.body
+    to_names : HasNames p.version mid (inode_at p mid to_dir_ino) (names_of_body between.node.body)
+    to_names = names_say p.version mid (inode_at p mid to_dir_ino) between.node.body between.directory to_held.body
 
     -- the other name may lead to what it led to
-    pub may_lead : free_sectors p old.sectors ≤ free_sectors p mid + 0 → (o ≡ None → dir ≢ to_dir) → MayLead p mid to_dir to_name o
+    pub may_lead : free_sectors p old.sectors ≤ free_sectors p mid + 0 → (o ≡ None → dir_ino ≢ to_dir_ino) → MayLead p mid to_dir_ino to_name o
     may_lead left differ = go o refl
       where
-        go : (q : Option ℕ) → o ≡ q → MayLead p mid to_dir to_name q
+        go : (q : Option ℕ) → o ≡ q → MayLead p mid to_dir_ino to_name q
         go None e =
             let few = between.short e in
             let room = may.has_room e (differ e) in
@@ -240,84 +240,84 @@ module _ {p : Geometry} (old : TxnState) {processes : ProcessTable} {s : State} 
 
   -- ---- both directories have their names
 
-  entry_held : (new : SectorMap) → MovesEntry p dir name n to_dir to_name o old.sectors new → HoldsAll p new then_begun
+  entry_held : (new : SectorMap) → MovesEntry p dir_ino name n to_dir_ino to_name o old.sectors new → HoldsAll p new then_begun
   entry_held new (within one none c) =
-      begun_here s at.is_state at.up processes still dir directory name n to_dir to_directory to_name o moves target.node target.at p at.same_room
+      begun_here s at.is_state at.up processes still dir_ino directory name n to_dir_ino to_directory to_name o moves target.node target.at p at.same_room
       old.sectors new at.holds one c.change c.used
-      (names_held old.sectors new (inode_at p old.sectors dir) (inode_at p new dir) is_dir dir_held (with_entry name_cmp fewer to_name n) may.directory.directory
+      (names_held old.sectors new (inode_at p old.sectors dir_ino) (inode_at p new dir_ino) is_dir dir_held (with_entry name_cmp fewer to_name n) may.directory.directory
       c.kept c.acls (c.named (names_of_body directory.body) dir_names))
   entry_held new (across mid removes leads) =
-      begun_held s at.is_state at.up processes still dir directory name n to_dir to_directory to_name o moves target.node target.at p at.same_room
+      begun_held s at.is_state at.up processes still dir_ino directory name n to_dir_ino to_directory to_name o moves target.node target.at p at.same_room
       old.sectors mid at.holds removes.change removes.used (here removes) new leads.change leads.used
-      (names_held mid new (inode_at p mid to_dir) (inode_at p new to_dir) _ (to_held removes) (with_entry name_cmp (names_of_body between.node.body) to_name n)
+      (names_held mid new (inode_at p mid to_dir_ino) (inode_at p new to_dir_ino) _ (to_held removes) (with_entry name_cmp (names_of_body between.node.body) to_name n)
       between.directory leads.kept leads.acls (leads.named (names_of_body between.node.body) (to_names removes)))
 
-  pub entry_super : {new : SectorMap} → MovesEntry p dir name n to_dir to_name o old.sectors new → new 0 ≡ old.sectors 0
+  pub entry_super : {new : SectorMap} → MovesEntry p dir_ino name n to_dir_ino to_name o old.sectors new → new 0 ≡ old.sectors 0
   entry_super (within one none c) = c.super
   entry_super (across mid removes leads) = leads.super ∙ removes.super
 
   -- no other inode changes
-  entry_same : {new : SectorMap} → MovesEntry p dir name n to_dir to_name o old.sectors new → (x : ℕ) → x < p.inodes → x ≢ dir → x ≢ to_dir
+  entry_same : {new : SectorMap} → MovesEntry p dir_ino name n to_dir_ino to_name o old.sectors new → (x : ℕ) → x < p.inodes → x ≢ dir_ino → x ≢ to_dir_ino
       → inode_at p new x ≡ inode_at p old.sectors x
   entry_same {new} (within one none c) x below from to = inode_kept p x old.sectors new (c.change.table x below from)
   entry_same {new} (across mid removes leads) x below from to =
       inode_kept p x mid new (leads.change.table x below to) ∙ inode_kept p x old.sectors mid (removes.change.table x below from)
 
-  module _ {mid : SectorMap} (entry : MovesEntry p dir name n to_dir to_name o old.sectors mid) where
+  module _ {mid : SectorMap} (entry : MovesEntry p dir_ino name n to_dir_ino to_name o old.sectors mid) where
     -- what was moved stands as before
     pub moved_same : inode_at p mid n ≡ inode_at p old.sectors n
     moved_same =
         entry_same entry n moved_below
-        (apart_from s at.is_state at.up processes still dir directory name n to_dir to_directory to_name o moves target.node target.at)
-        (apart_to s at.is_state at.up processes still dir directory name n to_dir to_directory to_name o moves target.node target.at)
+        (apart_from s at.is_state at.up processes still dir_ino directory name n to_dir_ino to_directory to_name o moves target.node target.at)
+        (apart_to s at.is_state at.up processes still dir_ino directory name n to_dir_ino to_directory to_name o moves target.node target.at)
 
     target_held : HoldsNode p.version mid (inode_at p mid n) is_target
     target_held =
         held_at p mid then_begun (entry_held mid entry) n moved_below is_target
-        (begun_n s at.is_state at.up processes still dir directory name n to_dir to_directory to_name o moves target.node target.at p at.same_room)
+        (begun_n s at.is_state at.up processes still dir_ino directory name n to_dir_ino to_directory to_name o moves target.node target.at p at.same_room)
 
     target_kind : is_directory_kind (inode_at p mid n).kind ≡ is_directory target.node.body
     target_kind = ap (λ (v : Inode). is_directory_kind v.kind) moved_same ∙ held_kind (state_tree at) n target.node target.at
 
     -- ---- and what was moved has its parent
 
-    module _ {now : SectorMap} (follows : ParentFollows p n dir to_dir mid now) where
+    module _ {now : SectorMap} (follows : ParentFollows p n dir_ino to_dir_ino mid now) where
       followed : HoldsAll p now then_arrived
       followed = go follows
         where
-          go : ParentFollows p n dir to_dir mid now → HoldsAll p now then_arrived
+          go : ParentFollows p n dir_ino to_dir_ino mid now → HoldsAll p now then_arrived
           go (goes ne kind gets) =
               let is : IsTrue (is_directory target.node.body) = sym target_kind ∙ ap is_directory_kind kind in
-              parent_held s at.is_state at.up processes still dir directory name n to_dir to_directory to_name o moves target.node target.at p at.same_room
+              parent_held s at.is_state at.up processes still dir_ino directory name n to_dir_ino to_directory to_name o moves target.node target.at p at.same_room
               mid now (entry_held mid entry) is gets.change gets.used
-              (moved_held mid now (inode_at p mid n) (inode_at p now n) is_target target_held to_dir is gets.saved gets.bytes gets.acls)
+              (moved_held mid now (inode_at p mid n) (inode_at p now n) is_target target_held to_dir_ino is gets.saved gets.bytes gets.acls)
           go (stays why same) =
-              let none : IsFalse (is_directory target.node.body) ⊎ (dir ≡ to_dir) = elim why [
+              let none : IsFalse (is_directory target.node.body) ⊎ (dir_ino ≡ to_dir_ino) = elim why [
                 | inl ne ↦ inl (sym target_kind ∙ other_kind_is (inode_at p mid n).kind ne)
                 | inr one ↦ inr one
               ] in
               subst (λ (m : SectorMap). HoldsAll p m then_arrived) (sym same)
-              (no_parent_held s at.is_state at.up processes still dir directory name n to_dir to_directory to_name o moves target.node target.at p at.same_room
+              (no_parent_held s at.is_state at.up processes still dir_ino directory name n to_dir_ino to_directory to_name o moves target.node target.at p at.same_room
               mid (entry_held mid entry) none)
 
       follow_same : (x : ℕ) → x < p.inodes → x ≢ n → inode_at p now x ≡ inode_at p mid x
       follow_same x below other = go follows
         where
-          go : ParentFollows p n dir to_dir mid now → inode_at p now x ≡ inode_at p mid x
+          go : ParentFollows p n dir_ino to_dir_ino mid now → inode_at p now x ≡ inode_at p mid x
           go (goes ne kind gets) = inode_kept p x mid now (gets.change.table x below other)
           go (stays why same) = ap (λ (m : SectorMap). inode_at p m x) same
 
       -- nothing was replaced
-      pub moved_none : o ≡ None → HoldsAll p now (placed (swept (changed s.tree (MoveName dir name to_dir to_name)) processes))
+      pub moved_none : o ≡ None → HoldsAll p now (placed (swept (changed s.tree (MoveName dir_ino name to_dir_ino to_name)) processes))
       moved_none =
-          move_held s at.is_state at.up processes still dir directory name n to_dir to_directory to_name o moves target.node target.at p at.same_room now followed
+          move_held s at.is_state at.up processes still dir_ino directory name n to_dir_ino to_directory to_name o moves target.node target.at p at.same_room now followed
 
       -- ---- what was replaced
 
       module _ {m : ℕ} (led : o ≡ Some m) where
         entry_is : IsEntry s.room s.tree to_name m
         entry_is =
-            (are_names s.room s.tree to_directory.body (at.is_state.tree.each to_dir to_directory may.to_directory.is_there).body).each to_name m
+            (are_names s.room s.tree to_directory.body (at.is_state.tree.each to_dir_ino to_directory may.to_directory.is_there).body).each to_name m
             (may.to_leads ∙ led)
 
         replaced : Stands s.tree m
@@ -334,8 +334,8 @@ module _ {p : Geometry} (old : TxnState) {processes : ProcessTable} {s : State} 
         replaced_same =
             follow_same m replaced_number.1 (may.other m led)
             ∙ entry_same entry m replaced_number.1
-            (m_not_from s at.is_state at.up processes still dir directory name n to_dir to_directory to_name o moves target.node target.at p at.same_room m led replaced.node replaced.at)
-            (m_not_to s at.is_state at.up processes still dir directory name n to_dir to_directory to_name o moves target.node target.at p at.same_room m led replaced.node replaced.at)
+            (m_not_from s at.is_state at.up processes still dir_ino directory name n to_dir_ino to_directory to_name o moves target.node target.at p at.same_room m led replaced.node replaced.at)
+            (m_not_to s at.is_state at.up processes still dir_ino directory name n to_dir_ino to_directory to_name o moves target.node target.at p at.same_room m led replaced.node replaced.at)
 
         was_held : HoldsNode p.version old.sectors (inode_at p old.sectors m) is_replaced
         was_held = held_node (state_tree at) m replaced.node replaced.at
@@ -345,7 +345,7 @@ module _ {p : Geometry} (old : TxnState) {processes : ProcessTable} {s : State} 
 
         some_name : 1 ≤ names_of s.tree m
         some_name =
-            let all = (moves_loses s.room s.tree s.processes dir directory name n to_dir to_directory to_name o at.is_state.tree moves).counts m in
+            let all = (moves_loses s.room s.tree s.processes dir_ino directory name n to_dir_ino to_directory to_name o at.is_state.tree moves).counts m in
             let one : lost_of o m ≡ 1 = ap (λ q. lost_of q m) led ∙ once_same m m refl in
             omega (arith, all, one)
 
@@ -362,27 +362,27 @@ module _ {p : Geometry} (old : TxnState) {processes : ProcessTable} {s : State} 
         replaced_held : HoldsNode p.version now (inode_at p now m) is_replaced
         replaced_held =
             held_at p now then_arrived followed m replaced_number.1 is_replaced
-            (arrived_m s at.is_state at.up processes still dir directory name n to_dir to_directory to_name o moves target.node target.at p at.same_room m led replaced.node replaced.at)
+            (arrived_m s at.is_state at.up processes still dir_ino directory name n to_dir_ino to_directory to_name o moves target.node target.at p at.same_room m led replaced.node replaced.at)
 
   -- ---- and what was replaced loses its name
 
-  module _ {mid : SectorMap} (entry : MovesEntry p dir name n to_dir to_name o old.sectors mid) {now : TxnState} (follows : ParentFollows p n dir to_dir mid now.sectors) {m : ℕ}
+  module _ {mid : SectorMap} (entry : MovesEntry p dir_ino name n to_dir_ino to_name o old.sectors mid) {now : TxnState} (follows : ParentFollows p n dir_ino to_dir_ino mid now.sectors) {m : ℕ}
       (led : o ≡ Some m) {new : TxnState} (opened : Bool) (is : opened ≡ is_open processes m) (loses : LosesName p m opened now new) where
     abbrev node : Node
     node = (replaced entry follows led).node
 
-    pub replaced_holds : HoldsAll p new.sectors (placed (swept (changed s.tree (MoveName dir name to_dir to_name)) processes))
+    pub replaced_holds : HoldsAll p new.sectors (placed (swept (changed s.tree (MoveName dir_ino name to_dir_ino to_name)) processes))
     replaced_holds = go (not (names_of s.tree m - 1 == 0) || lives_nameless processes m node.body) refl
       where
         go : (b : Bool) → (not (names_of s.tree m - 1 == 0) || lives_nameless processes m node.body) ≡ b
-            → HoldsAll p new.sectors (placed (swept (changed s.tree (MoveName dir name to_dir to_name)) processes))
+            → HoldsAll p new.sectors (placed (swept (changed s.tree (MoveName dir_ino name to_dir_ino to_name)) processes))
         go true stay =
             let counts = left_counts processes (replaced_held entry follows led) (one_name entry follows led) (other entry follows led) opened is loses stay in
-            move_take_held s at.is_state at.up processes still dir directory name n to_dir to_directory to_name o moves target.node target.at p at.same_room
+            move_take_held s at.is_state at.up processes still dir_ino directory name n to_dir_ino to_directory to_name o moves target.node target.at p at.same_room
             m led node (replaced entry follows led).at now.sectors new.sectors (followed entry follows) counts.touches.inode stay counts.used
             (left_held processes (replaced_held entry follows led) (one_name entry follows led) (other entry follows led) opened is loses stay
-            (parent (changed s.tree (MoveName dir name to_dir to_name)) m))
+            (parent (changed s.tree (MoveName dir_ino name to_dir_ino to_name)) m))
         go false gone =
             let drops = left_drops processes (replaced_held entry follows led) (one_name entry follows led) (other entry follows led) opened is loses gone in
-            move_drop_held s at.is_state at.up processes still dir directory name n to_dir to_directory to_name o moves target.node target.at p at.same_room
+            move_drop_held s at.is_state at.up processes still dir_ino directory name n to_dir_ino to_directory to_name o moves target.node target.at p at.same_room
             m led node (replaced entry follows led).at now.sectors new.sectors (followed entry follows) drops.touches.inode gone drops.clear drops.free

@@ -29,7 +29,7 @@ use Rattle.fs_model.specs.declared.reply.Stamps.{Stamps}
 use Rattle.fs_model.specs.Nodes.{Node, Body, File, Dir, Link, is_directory, type_of, shown_mode}
 use Rattle.fs_model.specs.Parts.{is_empty}
 use Rattle.fs_model.specs.Rules.{is_directory_kind}
-use Rattle.fs_model.specs.Scenes.{is_found, number, must_be_there}
+use Rattle.fs_model.specs.Scenes.{is_found, found_ino, must_be_there}
 use Rattle.fs_model.specs.StoredNodes.{HoldsBody}
 use Rattle.fs_model.specs.Trees.{Tree, IsDirectoryAt}
 use Rattle.path_walk.specs.HeldTrees.{HoldsTree}
@@ -66,22 +66,22 @@ sticky_says owner group (Dir a d) stamps m is e = ap (λ (k : ℕ). k / S_ISVTX 
 sticky_says owner group (Link target) stamps m is e = absurd (cc)
 
 -- what S_ISVTX of a directory asks
-pub yields : {p : Geometry} {map : SectorMap} {t : Tree} (h : HoldsTree p map t) (cred : Credential) {f : Found} (directory : IsDirectoryAt t f.dir)
-    {n : ℕ} {v : Inode} (node : IsNode p.version map t f n v) {d : Inode} → d ≡ inode_at p map f.dir → (walk : ℕ)
-    → allowed_by walk (f.step - 1) Remove (sticky_allows cred (the_directory (the_node t f.dir)).sticky (the_node t f.dir).owner (the_node t (number f)).owner)
+pub yields : {p : Geometry} {map : SectorMap} {t : Tree} (h : HoldsTree p map t) (cred : Credential) {f : Found} (directory : IsDirectoryAt t f.dir_ino)
+    {n : ℕ} {v : Inode} (node : IsNode p.version map t f n v) {d : Inode} → d ≡ inode_at p map f.dir_ino → (walk : ℕ)
+    → allowed_by walk (f.step - 1) Remove (sticky_allows cred (the_directory (the_node t f.dir_ino)).sticky (the_node t f.dir_ino).owner (the_node t (found_ino f)).owner)
     ≡ sticky_asked cred d v walk (f.step - 1)
 yields {p} {map} {t} h cred {f} directory {n} {v} node {d} d_is walk =
     let step = f.step - 1 in
-    let dir = directory.node in
-    let held = held_node h f.dir dir directory.is_there in
-    let w = inode_at p map f.dir in
-    let here = the_node_is t f.dir dir directory.is_there in
-    ap (λ (u : Node). allowed_by walk step Remove (sticky_allows cred (the_directory u).sticky u.owner (the_node t (number f)).owner)) here
-    ∙ ap (λ (u : Node). allowed_by walk step Remove (sticky_allows cred (the_directory dir).sticky dir.owner u.owner)) node.is
-    ∙ ap (λ (k : ℕ). allowed_by walk step Remove (sticky_allows cred (the_directory dir).sticky dir.owner k)) (sym node.holds.owner)
-    ∙ ap (λ (k : ℕ). allowed_by walk step Remove (sticky_allows cred (the_directory dir).sticky k v.uid)) (sym held.owner)
+    let dir_ino = directory.node in
+    let held = held_node h f.dir_ino dir_ino directory.is_there in
+    let w = inode_at p map f.dir_ino in
+    let here = the_node_is t f.dir_ino dir_ino directory.is_there in
+    ap (λ (u : Node). allowed_by walk step Remove (sticky_allows cred (the_directory u).sticky u.owner (the_node t (found_ino f)).owner)) here
+    ∙ ap (λ (u : Node). allowed_by walk step Remove (sticky_allows cred (the_directory dir_ino).sticky dir_ino.owner u.owner)) node.is
+    ∙ ap (λ (k : ℕ). allowed_by walk step Remove (sticky_allows cred (the_directory dir_ino).sticky dir_ino.owner k)) (sym node.holds.owner)
+    ∙ ap (λ (k : ℕ). allowed_by walk step Remove (sticky_allows cred (the_directory dir_ino).sticky k v.uid)) (sym held.owner)
     ∙ ap (λ (b : Bool). allowed_by walk step Remove (sticky_allows cred b w.uid v.uid))
-    (sym (sticky_says dir.owner dir.group dir.body dir.stamps w.mode directory.directory held.mode))
+    (sym (sticky_says dir_ino.owner dir_ino.group dir_ino.body dir_ino.stamps w.mode directory.directory held.mode))
     ∙ ap (λ (u : Inode). sticky_asked cred u v walk step) (sym d_is)
 
 -- ---- what is asked
@@ -91,14 +91,14 @@ module _ {p : Geometry} {map : SectorMap} {t : Tree} (h : HoldsTree p map t) {f 
   absent = must_be_there f
 
   abbrev slashed : Demand
-  slashed = refuse ENOTDIR (f.slash && (is_found f && not (is_directory (the_node t (number f)).body)))
+  slashed = refuse ENOTDIR (f.slash && (is_found f && not (is_directory (the_node t (found_ino f)).body)))
 
   abbrev allowed : Demand
-  allowed = permission_on cred t f.dir write_and_search 1 (f.step - 1)
+  allowed = permission_on cred t f.dir_ino write_and_search 1 (f.step - 1)
 
   abbrev yielded : Demand
   yielded =
-      allowed_by 1 (f.step - 1) Remove (sticky_allows cred (the_directory (the_node t f.dir)).sticky (the_node t f.dir).owner (the_node t (number f)).owner)
+      allowed_by 1 (f.step - 1) Remove (sticky_allows cred (the_directory (the_node t f.dir_ino)).sticky (the_node t f.dir_ino).owner (the_node t (found_ino f)).owner)
 
   -- nothing is there
   pub removal_absent : Refuses absent (first_of (removal_asked cred t f))
@@ -110,7 +110,7 @@ module _ {p : Geometry} {map : SectorMap} {t : Tree} (h : HoldsTree p map t) {f 
 
     slash_is : slashed ≡ refuse ENOTDIR (f.slash && not (is_directory_kind v.kind))
     slash_is =
-        ap (λ (o : Option ℕ). refuse ENOTDIR (f.slash && (is_some o && not (is_directory (the_node t (number f)).body)))) i.some
+        ap (λ (o : Option ℕ). refuse ENOTDIR (f.slash && (is_some o && not (is_directory (the_node t (found_ino f)).body)))) i.some
         ∙ ap (λ (u : Node). refuse ENOTDIR (f.slash && not (is_directory u.body))) node.is
         ∙ ap (λ (b : Bool). refuse ENOTDIR (f.slash && not b)) (sym (body_kind_is p.version map v node.node.body node.holds.body))
 
@@ -125,12 +125,12 @@ module _ {p : Geometry} {map : SectorMap} {t : Tree} (h : HoldsTree p map t) {f 
       slash_met = slash_is ∙ demand_met (refuse ENOTDIR (f.slash && not (is_directory_kind v.kind))) no_slash
 
       -- the directory may not be written, or not searched
-      pub removal_denied : Refuses (permission_on cred t f.dir write_and_search 1 (f.step - 1)) (first_of (removal_asked cred t f))
+      pub removal_denied : Refuses (permission_on cred t f.dir_ino write_and_search 1 (f.step - 1)) (first_of (removal_asked cred t f))
       removal_denied =
           refuses_next absent (slashed ∷ allowed ∷ yielded ∷ []) i.met
           (refuses_next slashed (allowed ∷ yielded ∷ []) slash_met (refuses_first allowed (yielded ∷ [])))
 
-      module _ (granted : permission_on cred t f.dir write_and_search 1 (f.step - 1) ≡ None) {d : Inode} (d_is : d ≡ inode_at p map f.dir) where
+      module _ (granted : permission_on cred t f.dir_ino write_and_search 1 (f.step - 1) ≡ None) {d : Inode} (d_is : d ≡ inode_at p map f.dir_ino) where
         yielded_is : yielded ≡ sticky_asked cred d v 1 (f.step - 1)
         yielded_is = yields h cred named.directory node d_is 1
 

@@ -27,7 +27,7 @@ use Rattle.fs_model.specs.Nodes.{Node, is_directory, names_of_body}
 use Rattle.fs_model.specs.Parts.{is_empty}
 use Rattle.fs_model.specs.Processes.{Process, ProcessTable, is_in_use}
 use Rattle.fs_model.specs.Rows.{row_of}
-use Rattle.fs_model.specs.Scenes.{is_found, is_special, ends_top, ends_dot, ends_dot_dot, number, must_be_there, by_path}
+use Rattle.fs_model.specs.Scenes.{is_found, is_special, ends_top, ends_dot, ends_dot_dot, found_ino, must_be_there, by_path}
 use Rattle.fs_model.specs.Stands.{HoldsAll, placed}
 use Rattle.fs_model.specs.States.{State}
 use Rattle.fs_model.specs.Trees.{lookup_in}
@@ -88,7 +88,7 @@ last_is_name targets.Directory f none =
     ap (λ (b : Bool). b || ends_dot f || ends_dot_dot f) top ∙ ap (λ (b : Bool). b || ends_dot_dot f) dot ∙ dots
 
 module _ {p : Geometry} {map : SectorMap} {processes : ProcessTable} {q : Process} {f : Found} {s : State} (i : FindsName p map processes q f s) where
-  name_at : is_special f ≡ false → IsNameAt s.room s.tree f.dir f.name f.ino
+  name_at : is_special f ≡ false → IsNameAt s.room s.tree f.dir_ino f.name f.ino
   name_at special =
       let later = then_met (refuse ENOENT (is_empty i.path)) _ i.found.checked in
       let no_zero = unrefused EINVAL (list_any (λ b. b == 0) i.path) (first_met (refuse EINVAL (list_any (λ b. b == 0) i.path)) _ later) in
@@ -138,13 +138,13 @@ module _ {p : Geometry} {map : SectorMap} {processes : ProcessTable} {q : Proces
     pub target_told : (what : Target) → kind_asked what node.node.body (is_in_use processes n) ≡ target_asked what (scene_at s q f)
     target_told targets.NoDirectory =
         ap (λ (u : Node). refuse EISDIR (is_directory u.body) ∷ []) (sym node.is)
-        ∙ ap (λ (o : Option ℕ). refuse EISDIR (is_some o && is_directory (the_node s.tree (number f)).body) ∷ []) (sym k.some)
+        ∙ ap (λ (o : Option ℕ). refuse EISDIR (is_some o && is_directory (the_node s.tree (found_ino f)).body) ∷ []) (sym k.some)
     target_told targets.Directory =
         ap (λ (u : Node). directory_asked u.body (is_in_use processes n)) (sym node.is)
-        ∙ ap (λ (m : ℕ). directory_asked (the_node s.tree (number f)).body (is_in_use processes m)) (sym k.number)
-        ∙ ap (λ (d : ProcessTable). directory_asked (the_node s.tree (number f)).body (is_in_use d (number f))) (sym i.is_state.same_processes)
-        ∙ ap (λ (o : Option ℕ). refuse ENOTDIR (is_some o && not (is_directory (the_node s.tree (number f)).body)) ∷ refuse EBUSY (is_in_use s.processes (number f))
-        ∷ refuse ENOTEMPTY (not (is_empty (names_of_body (the_node s.tree (number f)).body))) ∷ []) (sym k.some)
+        ∙ ap (λ (m : ℕ). directory_asked (the_node s.tree (found_ino f)).body (is_in_use processes m)) (sym k.number)
+        ∙ ap (λ (d : ProcessTable). directory_asked (the_node s.tree (found_ino f)).body (is_in_use d (found_ino f))) (sym i.is_state.same_processes)
+        ∙ ap (λ (o : Option ℕ). refuse ENOTDIR (is_some o && not (is_directory (the_node s.tree (found_ino f)).body)) ∷ refuse EBUSY (is_in_use s.processes (found_ino f))
+        ∷ refuse ENOTEMPTY (not (is_empty (names_of_body (the_node s.tree (found_ino f)).body))) ∷ []) (sym k.some)
 
     module _ (what : Target) (first : checked (first_of (last_asked what f)) ≡ Ok tt) (met : first_of (removal_asked q.cred s.tree f) ≡ None) where
       pub target_refuses : Refuses (first_of (kind_asked what node.node.body (is_in_use processes n))) (first_of (removal_demands what (scene_at s q f)))
@@ -162,21 +162,21 @@ module _ {p : Geometry} {map : SectorMap} {processes : ProcessTable} {q : Proces
     free : (what : Target) → first_of (target_asked what (scene_at s q f)) ≡ None → IsTrue (is_directory node.node.body)
         → (names_of_body node.node.body ≡ []) × (is_in_use s.processes n ≡ false)
     free targets.NoDirectory none is_dir =
-        let other = unrefused EISDIR (is_found f && is_directory (the_node s.tree (number f)).body)
-        (first_met (refuse EISDIR (is_found f && is_directory (the_node s.tree (number f)).body)) None none) in
-        let no = and_false (is_found f) (is_directory (the_node s.tree (number f)).body) other (ap is_some k.some) in
+        let other = unrefused EISDIR (is_found f && is_directory (the_node s.tree (found_ino f)).body)
+        (first_met (refuse EISDIR (is_found f && is_directory (the_node s.tree (found_ino f)).body)) None none) in
+        let no = and_false (is_found f) (is_directory (the_node s.tree (found_ino f)).body) other (ap is_some k.some) in
         let here : is_directory node.node.body ≡ false = ap (λ (u : Node). is_directory u.body) (sym node.is) ∙ no in
         absurd (let both : true ≡ false = sym is_dir ∙ here in cc)
     free targets.Directory none is_dir =
-        let rest = then_met (refuse ENOTDIR (is_found f && not (is_directory (the_node s.tree (number f)).body))) _ none in
-        let used = unrefused EBUSY (is_in_use s.processes (number f)) (first_met (refuse EBUSY (is_in_use s.processes (number f))) _ rest) in
-        let names = unrefused ENOTEMPTY (not (is_empty (names_of_body (the_node s.tree (number f)).body)))
-        (first_met (refuse ENOTEMPTY (not (is_empty (names_of_body (the_node s.tree (number f)).body)))) None (then_met (refuse EBUSY (is_in_use s.processes (number f))) _ rest)) in (
-          ap (λ (u : Node). names_of_body u.body) (sym node.is) ∙ empty_if (names_of_body (the_node s.tree (number f)).body) names,
+        let rest = then_met (refuse ENOTDIR (is_found f && not (is_directory (the_node s.tree (found_ino f)).body))) _ none in
+        let used = unrefused EBUSY (is_in_use s.processes (found_ino f)) (first_met (refuse EBUSY (is_in_use s.processes (found_ino f))) _ rest) in
+        let names = unrefused ENOTEMPTY (not (is_empty (names_of_body (the_node s.tree (found_ino f)).body)))
+        (first_met (refuse ENOTEMPTY (not (is_empty (names_of_body (the_node s.tree (found_ino f)).body)))) None (then_met (refuse EBUSY (is_in_use s.processes (found_ino f))) _ rest)) in (
+          ap (λ (u : Node). names_of_body u.body) (sym node.is) ∙ empty_if (names_of_body (the_node s.tree (found_ino f)).body) names,
           ap (is_in_use s.processes) (sym k.number) ∙ used,
         )
 
-    may_go : is_special f ≡ false → (IsTrue (is_directory node.node.body) → (names_of_body node.node.body ≡ []) × (is_in_use s.processes n ≡ false)) → MayGo s f.dir f.name n
+    may_go : is_special f ≡ false → (IsTrue (is_directory node.node.body) → (names_of_body node.node.body ≡ []) × (is_in_use s.processes n ≡ false)) → MayGo s f.dir_ino f.name n
     may_go special free =
         let x = name_at special in
         record {
@@ -190,25 +190,25 @@ module _ {p : Geometry} {map : SectorMap} {processes : ProcessTable} {q : Proces
 
   -- where all is asked, what was found is there
   pub inode_told : {n : ℕ} {v : Inode} (a c : List Demand)
-      → refused_or {A = ℕ × Inode} (first_of (a ++ (removal_asked q.cred s.tree f ++ c))) (Ok (number f, inode_at p map (number f))) ≡ Ok (n, v)
+      → refused_or {A = ℕ × Inode} (first_of (a ++ (removal_asked q.cred s.tree f ++ c))) (Ok (found_ino f, inode_at p map (found_ino f))) ≡ Ok (n, v)
       → IsInodeFound p map f n v
   inode_told {n} {v} a c is =
       let d = first_of (a ++ (removal_asked q.cred s.tree f ++ c)) in
-      let both = met_ok {A = ℕ × Inode} d (number f, inode_at p map (number f)) (n, v) is in
+      let both = met_ok {A = ℕ × Inode} d (found_ino f, inode_at p map (found_ino f)) (n, v) is in
       let there = first_met (must_be_there f) _ (parts_met a (removal_asked q.cred s.tree f) c both.0).1 in
       is_inode p map f n v
-      (ap (λ (e : Demand). refused_or {A = ℕ × Inode} e (Ok (number f, inode_at p map (number f)))) there ∙ ap (λ (x : ℕ × Inode). Ok x) both.1)
+      (ap (λ (e : Demand). refused_or {A = ℕ × Inode} e (Ok (found_ino f, inode_at p map (found_ino f)))) there ∙ ap (λ (x : ℕ × Inode). Ok x) both.1)
 
   module _ (what : Target) {n : ℕ} {v : Inode}
-      (is : refused_or {A = ℕ × Inode} (first_of (removal_demands what (scene_at s q f))) (Ok (number f, inode_at p map (number f))) ≡ Ok (n, v)) where
+      (is : refused_or {A = ℕ × Inode} (first_of (removal_demands what (scene_at s q f))) (Ok (found_ino f, inode_at p map (found_ino f))) ≡ Ok (n, v)) where
     pub target_found : IsInodeFound p map f n v
     target_found = inode_told (last_asked what f) (target_asked what (scene_at s q f)) is
 
     pub target_met : first_of (removal_demands what (scene_at s q f)) ≡ None
-    target_met = (met_ok {A = ℕ × Inode} (first_of (removal_demands what (scene_at s q f))) (number f, inode_at p map (number f)) (n, v) is).0
+    target_met = (met_ok {A = ℕ × Inode} (first_of (removal_demands what (scene_at s q f))) (found_ino f, inode_at p map (found_ino f)) (n, v) is).0
 
     -- what may be removed
-    pub target_may : MayGo s f.dir f.name n
+    pub target_may : MayGo s f.dir_ino f.name n
     target_may =
         let parts = parts_met (last_asked what f) (removal_asked q.cred s.tree f) (target_asked what (scene_at s q f)) target_met in
         may_go target_found (last_is_name what f parts.0) (free target_found what parts.2)
@@ -217,17 +217,17 @@ module _ {p : Geometry} {map : SectorMap} {processes : ProcessTable} {q : Proces
 
 -- whose times move
 abbrev taken_touches : ℕ → Option ℕ → List (ℕ × Touch)
-taken_touches dir o = (dir, Modified) ∷ changed_at o
+taken_touches dir_ino o = (dir_ino, Modified) ∷ changed_at o
 
-pub name_gone : {p : Geometry} {new : SectorMap} {processes : ProcessTable} (s : State) (q : Process) (f : Found) (n : ℕ) (asked : List Demand) → first_of asked ≡ None → MayGo s f.dir f.name n
-    → HoldsAll p new (placed (swept (changed s.tree (TakeName f.dir f.name)) processes))
-    → IsChange p new processes s q asked (takes_name (scene_at s q f)) Done ((f.dir, Modified) ∷ (n, Changed) ∷ [])
+pub name_gone : {p : Geometry} {new : SectorMap} {processes : ProcessTable} (s : State) (q : Process) (f : Found) (n : ℕ) (asked : List Demand) → first_of asked ≡ None → MayGo s f.dir_ino f.name n
+    → HoldsAll p new (placed (swept (changed s.tree (TakeName f.dir_ino f.name)) processes))
+    → IsChange p new processes s q asked (takes_name (scene_at s q f)) Done ((f.dir_ino, Modified) ∷ (n, Changed) ∷ [])
 name_gone {p} {new} {processes} s q f n asked met may holds = record {
   met = met;
   number = 0;
-  change = TakeName f.dir f.name;
+  change = TakeName f.dir_ino f.name;
   is = refl;
   new_number = tt;
-  times = ap (taken_touches f.dir) (ap (λ (o : Option Node). lookup_in o f.name) may.directory.is_there ∙ may.leads);
+  times = ap (taken_touches f.dir_ino) (ap (λ (o : Option Node). lookup_in o f.name) may.directory.is_there ∙ may.leads);
   holds = holds;
 }

@@ -15,7 +15,7 @@ use Rattle.fs_model.specs.Births.{the_node}
 use Rattle.fs_model.specs.Demands.{refuse, first_of}
 use Rattle.fs_model.specs.Nodes.{Node, is_directory}
 use Rattle.fs_model.specs.Rules.{is_directory_kind}
-use Rattle.fs_model.specs.Scenes.{is_found, number, must_be_there}
+use Rattle.fs_model.specs.Scenes.{is_found, found_ino, must_be_there}
 use Rattle.fs_model.specs.Trees.{Tree}
 use Rattle.path_walk.specs.HeldTrees.{HoldsTree, IsThere}
 use Rattle.call_parts.proofs.Calling.{or_else-none, both_met}
@@ -42,26 +42,26 @@ module _ {p : Geometry} {map : SectorMap} {t : Tree} (h : HoldsTree p map t) whe
       where
         go : (o : Option ℕ) → g.ino ≡ o → is_other t g ≡ other_kind (inode_there p map g.ino)
         go None e =
-            ap (λ (o : Option ℕ). is_some o && not (is_directory (the_node t (number g)).body)) e
+            ap (λ (o : Option ℕ). is_some o && not (is_directory (the_node t (found_ino g)).body)) e
             ∙ sym (ap (λ (o : Option ℕ). other_kind (inode_there p map o)) e)
         go (Some m) e =
             ap (λ (o : Option ℕ). is_some o && not (is_directory (the_node t (unwrap_or o 0)).body)) e
             ∙ ap not (kind_at m (there m e)) ∙ sym (ap (λ (o : Option ℕ). other_kind (inode_there p map o)) e)
 
     -- whether it leads to a directory
-    pub second_directory : (is_found g && is_directory (the_node t (number g)).body) ≡ directory_kind (inode_there p map g.ino)
+    pub second_directory : (is_found g && is_directory (the_node t (found_ino g)).body) ≡ directory_kind (inode_there p map g.ino)
     second_directory = go g.ino refl
       where
-        go : (o : Option ℕ) → g.ino ≡ o → (is_found g && is_directory (the_node t (number g)).body) ≡ directory_kind (inode_there p map g.ino)
+        go : (o : Option ℕ) → g.ino ≡ o → (is_found g && is_directory (the_node t (found_ino g)).body) ≡ directory_kind (inode_there p map g.ino)
         go None e =
-            ap (λ (o : Option ℕ). is_some o && is_directory (the_node t (number g)).body) e
+            ap (λ (o : Option ℕ). is_some o && is_directory (the_node t (found_ino g)).body) e
             ∙ sym (ap (λ (o : Option ℕ). directory_kind (inode_there p map o)) e)
         go (Some m) e =
             ap (λ (o : Option ℕ). is_some o && is_directory (the_node t (unwrap_or o 0)).body) e
             ∙ kind_at m (there m e) ∙ sym (ap (λ (o : Option ℕ). directory_kind (inode_there p map o)) e)
 
   module _ {f : Found} {n : ℕ} {v : Inode} (k : IsInodeFound p map f n v) (first : (m : ℕ) → f.ino ≡ Some m → IsThere t m) where
-    pub first_kind : (is_found f && is_directory (the_node t (number f)).body) ≡ is_directory_kind v.kind
+    pub first_kind : (is_found f && is_directory (the_node t (found_ino f)).body) ≡ is_directory_kind v.kind
     first_kind =
         ap (λ (o : Option ℕ). is_some o && is_directory (the_node t (unwrap_or o 0)).body) k.some
         ∙ kind_at n (first n k.some) ∙ ap (λ (w : Inode). is_directory_kind w.kind) (sym k.inode)
@@ -80,10 +80,10 @@ module _ {p : Geometry} {map : SectorMap} {t : Tree} (h : HoldsTree p map t) whe
       -- what is replaced, and what replaces it
       pub kinds_are : kinds_asked t f g ≡ replacing_asked v.kind replaced
       kinds_are =
-          ap (λ (b : Bool). refuse EISDIR (b && (is_found g && is_directory (the_node t (number g)).body))
-          ∷ refuse ENOTDIR ((is_found f && is_directory (the_node t (number f)).body) && is_other t g) ∷ []) first_other
+          ap (λ (b : Bool). refuse EISDIR (b && (is_found g && is_directory (the_node t (found_ino g)).body))
+          ∷ refuse ENOTDIR ((is_found f && is_directory (the_node t (found_ino f)).body) && is_other t g) ∷ []) first_other
           ∙ ap (λ (b : Bool). refuse EISDIR (not (is_directory_kind v.kind) && b)
-          ∷ refuse ENOTDIR ((is_found f && is_directory (the_node t (number f)).body) && is_other t g) ∷ []) (second_directory g second ∙ ap directory_kind (sym is))
+          ∷ refuse ENOTDIR ((is_found f && is_directory (the_node t (found_ino f)).body) && is_other t g) ∷ []) (second_directory g second ∙ ap directory_kind (sym is))
           ∙ ap (λ (b : Bool). refuse EISDIR (not (is_directory_kind v.kind) && directory_kind replaced) ∷ refuse ENOTDIR (b && is_other t g) ∷ []) first_kind
           ∙ ap (λ (b : Bool). refuse EISDIR (not (is_directory_kind v.kind) && directory_kind replaced) ∷ refuse ENOTDIR (is_directory_kind v.kind && b) ∷ [])
           (second_other g second ∙ ap other_kind (sym is))

@@ -26,7 +26,7 @@ use Rattle.fs_model.specs.Nodes.{Node, names_of_body}
 use Rattle.fs_model.specs.Processes.{Process, ProcessTable, is_open}
 use Rattle.fs_model.specs.RenameCall.{is_same, rename_demands, rename_effect}
 use Rattle.fs_model.specs.Rows.{row_of}
-use Rattle.fs_model.specs.Scenes.{Scene, is_found, number, changes}
+use Rattle.fs_model.specs.Scenes.{Scene, is_found, found_ino, changes}
 use Rattle.fs_model.specs.Stands.{HoldsAll, placed}
 use Rattle.fs_model.specs.States.{State}
 use Rattle.fs_model.specs.Trees.{Room, Tree, lookup, lookup_in, is_within, IsDirectoryAt}
@@ -90,7 +90,7 @@ module _ (s : State) (q : Process) (f g : Found) where
 abbrev pub Renamed : Type 0
 Renamed = ℕ × Inode × Option (ℕ × Inode)
 
-named_there : (room : Room) (t : Tree) (x : Found) → IsNameAt room t x.dir x.name x.ino → ((m : ℕ) → x.ino ≡ Some m → IsThere t m) → IsNamedThere t x
+named_there : (room : Room) (t : Tree) (x : Found) → IsNameAt room t x.dir_ino x.name x.ino → ((m : ℕ) → x.ino ≡ Some m → IsThere t m) → IsNamedThere t x
 named_there room t x at there = record { directory = record { node = at.node; is_there = at.stands; directory = at.directory }; found = there }
 
 pub record IsRenamable (p : Geometry) (map : SectorMap) (processes : ProcessTable) (q : Process) (f g : Found) (n : ℕ) (v : Inode) (there : Option (ℕ × Inode)) (s : State) : Type 0 where
@@ -100,11 +100,11 @@ pub record IsRenamable (p : Geometry) (map : SectorMap) (processes : ProcessTabl
 module _ {p : Geometry} {map : SectorMap} {processes : ProcessTable} {q : Process} {f g : Found} {s : State} (i : FindsBoth p map processes q f g s) where
   module _ {n : ℕ} {v : Inode} {there : Option (ℕ × Inode)} where
     found_to_rename : first_of (names_asked s.tree f g) ≡ None
-        → ◌≡◌ {A = Renamed} (number f, inode_at p map (number f), inode_there p map g.ino) (n, v, there)
+        → ◌≡◌ {A = Renamed} (found_ino f, inode_at p map (found_ino f), inode_there p map g.ino) (n, v, there)
         → IsToRename p map processes f g n v there s
     found_to_rename met is =
         let named = names_say (scene_with s q f g) (demands.all_met (names_asked s.tree f g) met) in
-        let same : number f ≡ n = ap (λ (x : Renamed). x.0) is in
+        let same : found_ino f ≡ n = ap (λ (x : Renamed). x.0) is in
         record {
           is_state = i.is_state;
           first = named_there s.room s.tree f ((first_walked i).old refl named.first) (first_there i);
@@ -114,22 +114,22 @@ module _ {p : Geometry} {map : SectorMap} {processes : ProcessTable} {q : Proces
           replaced_is = sym (ap (λ (x : Renamed). x.2) is);
         }
 
-    names_told : refused_or {A = Renamed} (first_of (names_asked s.tree f g)) (Ok (number f, inode_at p map (number f), inode_there p map g.ino)) ≡ Ok (n, v, there)
+    names_told : refused_or {A = Renamed} (first_of (names_asked s.tree f g)) (Ok (found_ino f, inode_at p map (found_ino f), inode_there p map g.ino)) ≡ Ok (n, v, there)
         → first_of (names_asked s.tree f g) ≡ None
-    names_told told = (met_ok {A = Renamed} (first_of (names_asked s.tree f g)) (number f, inode_at p map (number f), inode_there p map g.ino) (n, v, there) told).0
+    names_told told = (met_ok {A = Renamed} (first_of (names_asked s.tree f g)) (found_ino f, inode_at p map (found_ino f), inode_there p map g.ino) (n, v, there) told).0
 
     -- the names ask nothing more
-    pub to_rename : refused_or {A = Renamed} (first_of (names_asked s.tree f g)) (Ok (number f, inode_at p map (number f), inode_there p map g.ino)) ≡ Ok (n, v, there)
+    pub to_rename : refused_or {A = Renamed} (first_of (names_asked s.tree f g)) (Ok (found_ino f, inode_at p map (found_ino f), inode_there p map g.ino)) ≡ Ok (n, v, there)
         → (first_of (names_asked s.tree f g) ≡ None) × IsToRename p map processes f g n v there s
     to_rename told = (
       names_told told,
-      found_to_rename (names_told told) (met_ok {A = Renamed} (first_of (names_asked s.tree f g)) (number f, inode_at p map (number f), inode_there p map g.ino) (n, v, there) told).1,
+      found_to_rename (names_told told) (met_ok {A = Renamed} (first_of (names_asked s.tree f g)) (found_ino f, inode_at p map (found_ino f), inode_there p map g.ino) (n, v, there) told).1,
     )
 
-    pub rename_told : refused_or {A = Renamed} (first_of (rename_demands (scene_with s q f g))) (Ok (number f, inode_at p map (number f), inode_there p map g.ino)) ≡ Ok (n, v, there)
+    pub rename_told : refused_or {A = Renamed} (first_of (rename_demands (scene_with s q f g))) (Ok (found_ino f, inode_at p map (found_ino f), inode_there p map g.ino)) ≡ Ok (n, v, there)
         → IsRenamable p map processes q f g n v there s
     rename_told told =
-        let both = met_ok {A = Renamed} (first_of (rename_demands (scene_with s q f g))) (number f, inode_at p map (number f), inode_there p map g.ino) (n, v, there) told in
+        let both = met_ok {A = Renamed} (first_of (rename_demands (scene_with s q f g))) (found_ino f, inode_at p map (found_ino f), inode_there p map g.ino) (n, v, there) told in
         record { met = both.0; found = found_to_rename (names_of_all s q f g both.0) both.1 }
 
 -- ---- whether both are one object
@@ -138,8 +138,8 @@ pub same_is : {p : Geometry} {map : SectorMap} {processes : ProcessTable} (q : P
     → IsToRename p map processes f g n v there s → is_same (scene_with s q f g) ≡ same_number n there
 same_is {p} {map} {processes} q {f} {g} {n} {v} {there} {s} r = go g.ino refl
   where
-    first : is_same (scene_with s q f g) ≡ (is_found g && n == number g)
-    first = ap (λ (o : Option ℕ). is_some o && is_found g && unwrap_or o 0 == number g) r.leads
+    first : is_same (scene_with s q f g) ≡ (is_found g && n == found_ino g)
+    first = ap (λ (o : Option ℕ). is_some o && is_found g && unwrap_or o 0 == found_ino g) r.leads
 
     go : (o : Option ℕ) → g.ino ≡ o → is_same (scene_with s q f g) ≡ same_number n there
     go None e =
@@ -162,22 +162,22 @@ module _ {p : Geometry} {map : SectorMap} {processes : ProcessTable} {q : Proces
   asks : IsRenamed (scene_with s q f g)
   asks = rename_asks (scene_with s q f g) (demands.all_met (rename_demands (scene_with s q f g)) r.met) differ
 
-  from : IsNameAt s.room s.tree f.dir f.name f.ino
+  from : IsNameAt s.room s.tree f.dir_ino f.name f.ino
   from = (first_walked i).old refl asks.first
 
-  to : IsNameAt s.room s.tree g.dir g.name g.ino
+  to : IsNameAt s.room s.tree g.dir_ino g.name g.ino
   to = (second_walked i).old refl asks.second
 
-  number_is : number f ≡ n
+  number_is : found_ino f ≡ n
   number_is = ap (λ (o : Option ℕ). unwrap_or o 0) r.found.leads
 
-  enough : g.ino ≡ None → f.dir ≢ g.dir → least_free ≤ free_sectors p map
+  enough : g.ino ≡ None → f.dir_ino ≢ g.dir_ino → least_free ≤ free_sectors p map
   enough none ne =
       let low : nat_lt s.free least_free ≡ false = unrefused ENOSPC (nat_lt s.free least_free) (space_met scene (is_scene i) asks differ none ne).0 in
       let left : least_free ≤ s.free = grind (arith, nat_tests) in
       subst (λ (k : ℕ). least_free ≤ k) i.is_state.free_is left
 
-  pub may_move : MayMove p map s f.dir f.name n g.dir g.name g.ino
+  pub may_move : MayMove p map s f.dir_ino f.name n g.dir_ino g.name g.ino
   unfolding from to
   may_move = record {
     directory = record { node = from.node; is_there = from.stands; directory = from.directory };
@@ -190,13 +190,13 @@ module _ {p : Geometry} {map : SectorMap} {processes : ProcessTable} {q : Proces
     other = λ m some same. others scene (is_scene i) asks differ m some (same ∙ sym number_is);
     has_room = λ none ne. (
       subst (λ (k : Room). length (names_of_body to.node.body) < k.entries_limit) i.is_state.same_room
-          (subst (λ (u : Node). length (names_of_body u.body) < s.room.entries_limit) (the_node_is s.tree g.dir to.node to.stands) (has_room scene (is_scene i) asks differ none ne)),
+          (subst (λ (u : Node). length (names_of_body u.body) < s.room.entries_limit) (the_node_is s.tree g.dir_ino to.node to.stands) (has_room scene (is_scene i) asks differ none ne)),
       enough none ne,
     );
     empty = λ m some d. sym (ap names_or d.is_there) ∙ replaced_empty scene (is_scene i) asks differ m some;
     unused = λ m some d. replaced_unused scene (is_scene i) asks differ m some d;
     outside = λ d.
-        ap (λ (k : ℕ). is_within (length s.tree) s.tree k g.dir) (sym number_is)
+        ap (λ (k : ℕ). is_within (length s.tree) s.tree k g.dir_ino) (sym number_is)
         ∙ outside scene (is_scene i) asks differ (subst (λ (k : ℕ). IsDirectoryAt s.tree k) (sym number_is) d);
   }
 
@@ -204,21 +204,21 @@ module _ {p : Geometry} {map : SectorMap} {processes : ProcessTable} {q : Proces
 
 -- whose times move, where the names lead to these
 abbrev both_touches : ℕ → ℕ → Option ℕ → Option ℕ → List (ℕ × Touch)
-both_touches dir to_dir o replaced = (dir, Modified) ∷ (to_dir, Modified) ∷ (changed_at o ++ changed_at replaced)
+both_touches dir_ino to_dir_ino o replaced = (dir_ino, Modified) ∷ (to_dir_ino, Modified) ∷ (changed_at o ++ changed_at replaced)
 
 module _ {p : Geometry} {new : SectorMap} {processes : ProcessTable} (s : State) (q : Process) (f g : Found) (met : first_of (rename_demands (scene_with s q f g)) ≡ None) where
-  pub rename_changes : {map : SectorMap} (n : ℕ) → MayMove p map s f.dir f.name n g.dir g.name g.ino → is_same (scene_with s q f g) ≡ false
-      → HoldsAll p new (placed (swept (changed s.tree (MoveName f.dir f.name g.dir g.name)) processes))
-      → IsChange p new processes s q (rename_demands (scene_with s q f g)) (λ k. rename_effect (scene_with s q f g)) Done (renamed_touches f.dir g.dir n g.ino)
+  pub rename_changes : {map : SectorMap} (n : ℕ) → MayMove p map s f.dir_ino f.name n g.dir_ino g.name g.ino → is_same (scene_with s q f g) ≡ false
+      → HoldsAll p new (placed (swept (changed s.tree (MoveName f.dir_ino f.name g.dir_ino g.name)) processes))
+      → IsChange p new processes s q (rename_demands (scene_with s q f g)) (λ k. rename_effect (scene_with s q f g)) Done (renamed_touches f.dir_ino g.dir_ino n g.ino)
   rename_changes n may apart holds = record {
     met = met;
     number = 0;
-    change = MoveName f.dir f.name g.dir g.name;
-    is = ap (λ (b : Bool). changes (scene_with s q f g) (if b then Same else MoveName f.dir f.name g.dir g.name)) apart;
+    change = MoveName f.dir_ino f.name g.dir_ino g.name;
+    is = ap (λ (b : Bool). changes (scene_with s q f g) (if b then Same else MoveName f.dir_ino f.name g.dir_ino g.name)) apart;
     new_number = tt;
     times =
-        ap (λ (o : Option ℕ). both_touches f.dir g.dir o (lookup s.tree g.dir g.name)) (ap (λ (o : Option Node). lookup_in o f.name) may.directory.is_there ∙ may.leads)
-        ∙ ap (both_touches f.dir g.dir (Some n)) (ap (λ (o : Option Node). lookup_in o g.name) may.to_directory.is_there ∙ may.to_leads);
+        ap (λ (o : Option ℕ). both_touches f.dir_ino g.dir_ino o (lookup s.tree g.dir_ino g.name)) (ap (λ (o : Option Node). lookup_in o f.name) may.directory.is_there ∙ may.leads)
+        ∙ ap (both_touches f.dir_ino g.dir_ino (Some n)) (ap (λ (o : Option Node). lookup_in o g.name) may.to_directory.is_there ∙ may.to_leads);
     holds = holds;
   }
 
@@ -229,7 +229,7 @@ module _ {p : Geometry} {new : SectorMap} {processes : ProcessTable} (s : State)
     met = met;
     number = 0;
     change = Same;
-    is = ap (λ (b : Bool). changes (scene_with s q f g) (if b then Same else MoveName f.dir f.name g.dir g.name)) same;
+    is = ap (λ (b : Bool). changes (scene_with s q f g) (if b then Same else MoveName f.dir_ino f.name g.dir_ino g.name)) same;
     new_number = tt;
     times = refl;
     holds = same_held s at.is_state at.up processes (λ k is. subst (λ (d : ProcessTable). IsTrue (is_open d k)) at.same_processes is) p new at.holds at.same_room;

@@ -39,7 +39,7 @@ use Rattle.fs_model.specs.Parts.{is_empty}
 use Rattle.fs_model.specs.Processes.{Process, ProcessTable, is_in_use}
 use Rattle.fs_model.specs.RenameCall.{rename_permissions, rename_kinds, rename_directories, rename_moved, rename_space}
 use Rattle.fs_model.specs.Rules.{is_directory_kind}
-use Rattle.fs_model.specs.Scenes.{Scene, is_found, number}
+use Rattle.fs_model.specs.Scenes.{Scene, is_found, found_ino}
 use Rattle.fs_model.specs.States.{State}
 use Rattle.fs_model.specs.Trees.{Room, Tree, is_within, IsDirectoryAt}
 use Rattle.path_walk.specs.Answers.{refused_or}
@@ -62,18 +62,18 @@ use Rattle.name_calls.proofs.RenameAsked.{kind_at, first_kind, kinds_are}
 
 -- both directories grant it, and these are their inodes
 pub record IsGranted (p : Geometry) (map : SectorMap) (t : Tree) (q : Process) (f g : Found) (d to : Inode) : Type 0 where
-  pub first : permission_on q.cred t f.dir write_and_search 1 (f.step - 1) ≡ None
-  pub second : permission_on q.cred t g.dir write_and_search 2 (g.step - 1) ≡ None
-  pub from_is : d ≡ inode_at p map f.dir
-  pub to_is : to ≡ inode_at p map g.dir
+  pub first : permission_on q.cred t f.dir_ino write_and_search 1 (f.step - 1) ≡ None
+  pub second : permission_on q.cred t g.dir_ino write_and_search 2 (g.step - 1) ≡ None
+  pub from_is : d ≡ inode_at p map f.dir_ino
+  pub to_is : to ≡ inode_at p map g.dir_ino
 
 pub both_grant : (p : Geometry) {old mid : TxnState} (t : Tree) (q : Process) (f g : Found) (d to : Inode) → IsUnchanged old mid
-    → refused_or {A = Inode} (permission_on q.cred t f.dir write_and_search 1 (f.step - 1)) (Ok (inode_at p old.sectors f.dir)) ≡ Ok d
-    → refused_or {A = Inode} (permission_on q.cred t g.dir write_and_search 2 (g.step - 1)) (Ok (inode_at p mid.sectors g.dir)) ≡ Ok to
+    → refused_or {A = Inode} (permission_on q.cred t f.dir_ino write_and_search 1 (f.step - 1)) (Ok (inode_at p old.sectors f.dir_ino)) ≡ Ok d
+    → refused_or {A = Inode} (permission_on q.cred t g.dir_ino write_and_search 2 (g.step - 1)) (Ok (inode_at p mid.sectors g.dir_ino)) ≡ Ok to
     → IsGranted p old.sectors t q f g d to
 both_grant p {old} {mid} t q f g d to same told then_told =
-    let one = met_ok {A = Inode} (permission_on q.cred t f.dir write_and_search 1 (f.step - 1)) (inode_at p old.sectors f.dir) d told in
-    let two = directory_met p g.dir (permission_on q.cred t g.dir write_and_search 2 (g.step - 1)) same then_told in
+    let one = met_ok {A = Inode} (permission_on q.cred t f.dir_ino write_and_search 1 (f.step - 1)) (inode_at p old.sectors f.dir_ino) d told in
+    let two = directory_met p g.dir_ino (permission_on q.cred t g.dir_ino write_and_search 2 (g.step - 1)) same then_told in
     record { first = one.0; second = two.0; from_is = sym one.1; to_is = two.1 }
 
 -- nothing is refused by the first three parts
@@ -166,24 +166,24 @@ module _ {p : Geometry} {map : SectorMap} {processes : ProcessTable} {f g : Foun
 
   module _ (q : Process) where
     abbrev one : Demand
-    one = permission_on q.cred s.tree f.dir write_and_search 1 (f.step - 1)
+    one = permission_on q.cred s.tree f.dir_ino write_and_search 1 (f.step - 1)
 
     abbrev two : Demand
-    two = permission_on q.cred s.tree g.dir write_and_search 2 (g.step - 1)
+    two = permission_on q.cred s.tree g.dir_ino write_and_search 2 (g.step - 1)
 
     abbrev three : Demand
-    three = allowed_by 1 (f.step - 1) Remove (sticky_allows q.cred (the_directory (the_node s.tree f.dir)).sticky (the_node s.tree f.dir).owner (the_node s.tree (number f)).owner)
+    three = allowed_by 1 (f.step - 1) Remove (sticky_allows q.cred (the_directory (the_node s.tree f.dir_ino)).sticky (the_node s.tree f.dir_ino).owner (the_node s.tree (found_ino f)).owner)
 
     abbrev last : Demand
-    last = allowed_by 2 (g.step - 1) Remove (sticky_allows q.cred (the_directory (the_node s.tree g.dir)).sticky (the_node s.tree g.dir).owner (the_node s.tree (number g)).owner)
+    last = allowed_by 2 (g.step - 1) Remove (sticky_allows q.cred (the_directory (the_node s.tree g.dir_ino)).sticky (the_node s.tree g.dir_ino).owner (the_node s.tree (found_ino g)).owner)
 
     abbrev four : List Demand
     four = only_if (is_found g) (last ∷ [])
 
-    three_is : {d : Inode} → d ≡ inode_at p map f.dir → three ≡ sticky_asked q.cred d v 1 (f.step - 1)
+    three_is : {d : Inode} → d ≡ inode_at p map f.dir_ino → three ≡ sticky_asked q.cred d v 1 (f.step - 1)
     three_is d_is = yields (state_tree r.is_state) q.cred r.first.directory node_first d_is 1
 
-    four_is : {d : Inode} → d ≡ inode_at p map g.dir → four ≡ sticky_there q.cred d there (g.step - 1)
+    four_is : {d : Inode} → d ≡ inode_at p map g.dir_ino → four ≡ sticky_there q.cred d there (g.step - 1)
     four_is {d} d_is = go g.ino refl
       where
         go : (o : Option ℕ) → g.ino ≡ o → four ≡ sticky_there q.cred d there (g.step - 1)
@@ -196,11 +196,11 @@ module _ {p : Geometry} {map : SectorMap} {processes : ProcessTable} {f g : Foun
             ∙ ap (λ (x : Demand). x ∷ []) (yields (state_tree r.is_state) q.cred r.second.directory node d_is 2)
             ∙ sym (ap (λ (o : Option (ℕ × Inode)). sticky_there q.cred d o (g.step - 1)) (r.replaced_is ∙ ap (inode_there p map) e))
 
-    pub first_denied : Refuses (permission_on q.cred s.tree f.dir write_and_search 1 (f.step - 1)) (first_of (rename_permissions (scene_with s q f g)))
+    pub first_denied : Refuses (permission_on q.cred s.tree f.dir_ino write_and_search 1 (f.step - 1)) (first_of (rename_permissions (scene_with s q f g)))
     first_denied = refuses_first one (two ∷ three ∷ four)
 
-    pub second_denied : permission_on q.cred s.tree f.dir write_and_search 1 (f.step - 1) ≡ None
-        → Refuses (permission_on q.cred s.tree g.dir write_and_search 2 (g.step - 1)) (first_of (rename_permissions (scene_with s q f g)))
+    pub second_denied : permission_on q.cred s.tree f.dir_ino write_and_search 1 (f.step - 1) ≡ None
+        → Refuses (permission_on q.cred s.tree g.dir_ino write_and_search 2 (g.step - 1)) (first_of (rename_permissions (scene_with s q f g)))
     second_denied first = refuses_next one (two ∷ three ∷ four) first (refuses_first two (three ∷ four))
 
     module _ {d to : Inode} (x : IsGranted p map s.tree q f g d to) where
@@ -230,16 +230,16 @@ module _ {p : Geometry} {map : SectorMap} {processes : ProcessTable} {f g : Foun
 
     -- ---- a directory below itself
 
-    pub below_is : refuse EINVAL ((is_found f && is_directory (the_node s.tree (number f)).body) && is_within (length s.tree) s.tree (number f) g.dir)
-        ≡ below_asked s.tree v.kind n g.dir
+    pub below_is : refuse EINVAL ((is_found f && is_directory (the_node s.tree (found_ino f)).body) && is_within (length s.tree) s.tree (found_ino f) g.dir_ino)
+        ≡ below_asked s.tree v.kind n g.dir_ino
     below_is =
-        ap (λ (b : Bool). refuse EINVAL (b && is_within (length s.tree) s.tree (number f) g.dir)) (first_kind (state_tree r.is_state) inode_of r.first.found)
-        ∙ ap (λ (m : ℕ). refuse EINVAL (is_directory_kind v.kind && is_within (length s.tree) s.tree m g.dir)) inode_of.number
+        ap (λ (b : Bool). refuse EINVAL (b && is_within (length s.tree) s.tree (found_ino f) g.dir_ino)) (first_kind (state_tree r.is_state) inode_of r.first.found)
+        ∙ ap (λ (m : ℕ). refuse EINVAL (is_directory_kind v.kind && is_within (length s.tree) s.tree m g.dir_ino)) inode_of.number
 
-    pub directories_are : rename_directories (scene_with s q f g) ≡ below_asked s.tree v.kind n g.dir ∷ replaced_asked s.tree processes g
+    pub directories_are : rename_directories (scene_with s q f g) ≡ below_asked s.tree v.kind n g.dir_ino ∷ replaced_asked s.tree processes g
     directories_are =
         ap (λ (d : Demand). d ∷ replaced_asked s.tree s.processes g) below_is
-        ∙ ap (λ (d : ProcessTable). below_asked s.tree v.kind n g.dir ∷ replaced_asked s.tree d g) r.is_state.same_processes
+        ∙ ap (λ (d : ProcessTable). below_asked s.tree v.kind n g.dir_ino ∷ replaced_asked s.tree d g) r.is_state.same_processes
 
     -- ---- the kinds of both
 
@@ -254,13 +254,13 @@ module _ {p : Geometry} {map : SectorMap} {processes : ProcessTable} {f g : Foun
     pub permissions_refuse : Refuses (first_of (rename_permissions (scene_with s q f g))) (first_of (move_asked (scene_with s q f g)))
     permissions_refuse = first_part (rename_permissions sc) (rename_kinds sc) (rename_directories sc) (rename_moved sc) (rename_space sc)
 
-    module _ {d : Inode} (permitted : refused_or {A = Inode} (first_of (rename_permissions (scene_with s q f g))) (Ok (inode_at p map g.dir)) ≡ Ok d) where
+    module _ {d : Inode} (permitted : refused_or {A = Inode} (first_of (rename_permissions (scene_with s q f g))) (Ok (inode_at p map g.dir_ino)) ≡ Ok d) where
       one_met : first_of (rename_permissions sc) ≡ None
-      one_met = (met_ok {A = Inode} (first_of (rename_permissions sc)) (inode_at p map g.dir) d permitted).0
+      one_met = (met_ok {A = Inode} (first_of (rename_permissions sc)) (inode_at p map g.dir_ino) d permitted).0
 
       -- the inode of the second directory
-      pub directory_told : d ≡ inode_at p map g.dir
-      directory_told = sym (met_ok {A = Inode} (first_of (rename_permissions sc)) (inode_at p map g.dir) d permitted).1
+      pub directory_told : d ≡ inode_at p map g.dir_ino
+      directory_told = sym (met_ok {A = Inode} (first_of (rename_permissions sc)) (inode_at p map g.dir_ino) d permitted).1
 
       pub kinds_refuse : Refuses (first_of (replacing_asked v.kind there)) (first_of (move_asked (scene_with s q f g)))
       kinds_refuse e is =
@@ -270,31 +270,31 @@ module _ {p : Geometry} {map : SectorMap} {processes : ProcessTable} {f g : Foun
         two_met : first_of (rename_kinds sc) ≡ None
         two_met = ap first_of told_kinds ∙ demand_met (first_of (replacing_asked v.kind there)) kinds
 
-        pub below_refuses : Refuses (below_asked s.tree v.kind n g.dir) (first_of (move_asked (scene_with s q f g)))
+        pub below_refuses : Refuses (below_asked s.tree v.kind n g.dir_ino) (first_of (move_asked (scene_with s q f g)))
         below_refuses e is =
             third_part (rename_permissions sc) (rename_kinds sc) (rename_directories sc) (rename_moved sc) (rename_space sc) one_met two_met e
-            (ap first_of directories_are ∙ refuses_first (below_asked s.tree v.kind n g.dir) (replaced_asked s.tree processes g) e is)
+            (ap first_of directories_are ∙ refuses_first (below_asked s.tree v.kind n g.dir_ino) (replaced_asked s.tree processes g) e is)
 
-        module _ (apart : checked (below_asked s.tree v.kind n g.dir) ≡ Ok tt) where
+        module _ (apart : checked (below_asked s.tree v.kind n g.dir_ino) ≡ Ok tt) where
           pub replaced_refuses : Refuses (first_of (replaced_asked s.tree processes g)) (first_of (move_asked (scene_with s q f g)))
           replaced_refuses e is =
               third_part (rename_permissions sc) (rename_kinds sc) (rename_directories sc) (rename_moved sc) (rename_space sc) one_met two_met e
               (ap first_of directories_are
-              ∙ refuses_next (below_asked s.tree v.kind n g.dir) (replaced_asked s.tree processes g) (demand_met (below_asked s.tree v.kind n g.dir) apart) (λ (k : Refusal) h. h) e is)
+              ∙ refuses_next (below_asked s.tree v.kind n g.dir_ino) (replaced_asked s.tree processes g) (demand_met (below_asked s.tree v.kind n g.dir_ino) apart) (λ (k : Refusal) h. h) e is)
 
           pub three_parts : checked (first_of (replaced_asked s.tree processes g)) ≡ Ok tt → MeetsThree s q f g
           three_parts is = record {
             permissions = one_met;
             kinds = two_met;
             directories = ap first_of directories_are
-                ∙ both_met (below_asked s.tree v.kind n g.dir) (replaced_asked s.tree processes g) (demand_met (below_asked s.tree v.kind n g.dir) apart)
+                ∙ both_met (below_asked s.tree v.kind n g.dir_ino) (replaced_asked s.tree processes g) (demand_met (below_asked s.tree v.kind n g.dir_ino) apart)
                 (demand_met (first_of (replaced_asked s.tree processes g)) is);
           }
 
     -- ---- a directory that goes to another
 
     abbrev written : Demand
-    written = permission_on q.cred s.tree (number f) (perms false true false) 1 f.step
+    written = permission_on q.cred s.tree (found_ino f) (perms false true false) 1 f.step
 
     and_none : (b : Bool) → (b && false) ≡ false
     and_none true = refl
@@ -302,12 +302,12 @@ module _ {p : Geometry} {map : SectorMap} {processes : ProcessTable} {f g : Foun
 
     pub other_moved : is_directory_kind v.kind ≡ false → first_of (rename_moved (scene_with s q f g)) ≡ None
     other_moved no_dir =
-        ap (λ (b : Bool). first_of (only_if (b && not (f.dir == g.dir)) (written ∷ []))) (first_kind (state_tree r.is_state) inode_of r.first.found ∙ no_dir)
+        ap (λ (b : Bool). first_of (only_if (b && not (f.dir_ino == g.dir_ino)) (written ∷ []))) (first_kind (state_tree r.is_state) inode_of r.first.found ∙ no_dir)
 
-    pub same_moved : f.dir ≡ g.dir → first_of (rename_moved (scene_with s q f g)) ≡ None
+    pub same_moved : f.dir_ino ≡ g.dir_ino → first_of (rename_moved (scene_with s q f g)) ≡ None
     same_moved same =
-        ap (λ (b : Bool). first_of (only_if ((is_found f && is_directory (the_node s.tree (number f)).body) && not b) (written ∷ []))) (same_number_is f.dir g.dir same)
-        ∙ ap (λ (b : Bool). first_of (only_if b (written ∷ []))) (and_none (is_found f && is_directory (the_node s.tree (number f)).body))
+        ap (λ (b : Bool). first_of (only_if ((is_found f && is_directory (the_node s.tree (found_ino f)).body) && not b) (written ∷ []))) (same_number_is f.dir_ino g.dir_ino same)
+        ∙ ap (λ (b : Bool). first_of (only_if b (written ∷ []))) (and_none (is_found f && is_directory (the_node s.tree (found_ino f)).body))
 
     module _ (is : v.kind ≡ kinds.Directory) where
       abbrev pub moved_access : AccessNode
@@ -320,12 +320,12 @@ module _ {p : Geometry} {map : SectorMap} {processes : ProcessTable} {f g : Foun
       abbrev want : Perms
       want = perms false true false
 
-      module _ (goes : f.dir ≢ g.dir) where
+      module _ (goes : f.dir_ino ≢ g.dir_ino) where
         moved_is : first_of (rename_moved (scene_with s q f g)) ≡ decided 1 f.step (Perm want) (verdict q.cred moved_access want)
         moved_is =
             let h = state_tree r.is_state in
-            ap (λ (b : Bool). first_of (only_if (b && not (f.dir == g.dir)) (written ∷ []))) (first_kind h inode_of r.first.found ∙ ap is_directory_kind is)
-            ∙ ap (λ (b : Bool). first_of (only_if (not b) (written ∷ []))) (other_number_is f.dir g.dir goes)
+            ap (λ (b : Bool). first_of (only_if (b && not (f.dir_ino == g.dir_ino)) (written ∷ []))) (first_kind h inode_of r.first.found ∙ ap is_directory_kind is)
+            ∙ ap (λ (b : Bool). first_of (only_if (not b) (written ∷ []))) (other_number_is f.dir_ino g.dir_ino goes)
             ∙ or_else-none written
             ∙ ap (λ (k : ℕ). permission_on q.cred s.tree k want 1 f.step) inode_of.number
             ∙ ap (permission_of q.cred want 1 f.step) (accessed_is s.tree n (dir_access h n (directory_of is) q.cred f.step))
@@ -345,14 +345,14 @@ module _ {p : Geometry} {map : SectorMap} {processes : ProcessTable} {f g : Foun
     -- ---- room for a name
 
     abbrev space : List Demand
-    space = refuse ENOSPC (nat_lt s.free least_free) ∷ refuse ENOSPC (nat_le s.room.entries_limit (length (names_of_body (the_node s.tree g.dir).body))) ∷ []
+    space = refuse ENOSPC (nat_lt s.free least_free) ∷ refuse ENOSPC (nat_le s.room.entries_limit (length (names_of_body (the_node s.tree g.dir_ino).body))) ∷ []
 
-    pub room_is : is_some g.ino ≡ false → f.dir ≢ g.dir → rename_space (scene_with s q f g) ≡ room_asked p map s.tree g.dir
+    pub room_is : is_some g.ino ≡ false → f.dir_ino ≢ g.dir_ino → rename_space (scene_with s q f g) ≡ room_asked p map s.tree g.dir_ino
     room_is none goes =
-        ap (λ (b : Bool). only_if (not b && not (f.dir == g.dir)) space) none
-        ∙ ap (λ (b : Bool). only_if (not b) space) (other_number_is f.dir g.dir goes)
-        ∙ ap (λ (c : ℕ). refuse ENOSPC (nat_lt c least_free) ∷ refuse ENOSPC (nat_le s.room.entries_limit (length (names_of_body (the_node s.tree g.dir).body))) ∷ []) r.is_state.free_is
-        ∙ ap (λ (k : Room). refuse ENOSPC (nat_lt (free_sectors p map) least_free) ∷ refuse ENOSPC (nat_le k.entries_limit (length (names_of_body (the_node s.tree g.dir).body))) ∷ []) r.is_state.same_room
+        ap (λ (b : Bool). only_if (not b && not (f.dir_ino == g.dir_ino)) space) none
+        ∙ ap (λ (b : Bool). only_if (not b) space) (other_number_is f.dir_ino g.dir_ino goes)
+        ∙ ap (λ (c : ℕ). refuse ENOSPC (nat_lt c least_free) ∷ refuse ENOSPC (nat_le s.room.entries_limit (length (names_of_body (the_node s.tree g.dir_ino).body))) ∷ []) r.is_state.free_is
+        ∙ ap (λ (k : Room). refuse ENOSPC (nat_lt (free_sectors p map) least_free) ∷ refuse ENOSPC (nat_le k.entries_limit (length (names_of_body (the_node s.tree g.dir_ino).body))) ∷ []) r.is_state.same_room
 
 -- what is asked of a rename holds after reads too
 pub to_rename_kept : {p : Geometry} {old new : TxnState} {processes : ProcessTable} {f g : Found} {n : ℕ} {v : Inode} {there : Option (ℕ × Inode)} {s : State} → IsUnchanged old new
@@ -361,8 +361,8 @@ to_rename_kept {p} {old} {new} {processes} {f} {g} {n} {v} {there} {s} same r = 
 
 -- ---- below itself
 
-pub below_told : (t : Tree) (kind : Kind) (n dir : ℕ) (b : Bool) → kind ≡ kinds.Directory → is_within (length t) t n dir ≡ b → below_asked t kind n dir ≡ refuse EINVAL b
-below_told t kind n dir b is within = ap (λ (k : Kind). refuse EINVAL (is_directory_kind k && is_within (length t) t n dir)) is ∙ ap (refuse EINVAL) within
+pub below_told : (t : Tree) (kind : Kind) (n dir_ino : ℕ) (b : Bool) → kind ≡ kinds.Directory → is_within (length t) t n dir_ino ≡ b → below_asked t kind n dir_ino ≡ refuse EINVAL b
+below_told t kind n dir_ino b is within = ap (λ (k : Kind). refuse EINVAL (is_directory_kind k && is_within (length t) t n dir_ino)) is ∙ ap (refuse EINVAL) within
 
 -- ---- what is replaced
 
@@ -383,7 +383,7 @@ no_names (Link target) e = refl
 
 module _ {p : Geometry} {map : SectorMap} {t : Tree} (h : HoldsTree p map t) (g : Found) (there : (m : ℕ) → g.ino ≡ Some m → IsThere t m) (processes : ProcessTable) where
   abbrev body : Body
-  body = (the_node t (number g)).body
+  body = (the_node t (found_ino g)).body
 
   module _ (m : ℕ) (some : g.ino ≡ Some m) where
     kind_is : is_directory body ≡ is_directory_kind (inode_at p map m).kind
@@ -391,8 +391,8 @@ module _ {p : Geometry} {map : SectorMap} {t : Tree} (h : HoldsTree p map t) (g 
 
     here : (d : Bool) → is_directory body ≡ d → replaced_asked t processes g ≡ refuse EBUSY (d && is_in_use processes m) ∷ refuse ENOTEMPTY (not (is_empty (names_of_body body))) ∷ []
     here d is =
-        ap (λ (o : Option ℕ). refuse EBUSY ((is_some o && is_directory body) && is_in_use processes (number g)) ∷ refuse ENOTEMPTY (is_some o && not (is_empty (names_of_body body))) ∷ []) some
-        ∙ ap (λ (b : Bool). refuse EBUSY (b && is_in_use processes (number g)) ∷ refuse ENOTEMPTY (not (is_empty (names_of_body body))) ∷ []) is
+        ap (λ (o : Option ℕ). refuse EBUSY ((is_some o && is_directory body) && is_in_use processes (found_ino g)) ∷ refuse ENOTEMPTY (is_some o && not (is_empty (names_of_body body))) ∷ []) some
+        ∙ ap (λ (b : Bool). refuse EBUSY (b && is_in_use processes (found_ino g)) ∷ refuse ENOTEMPTY (not (is_empty (names_of_body body))) ∷ []) is
         ∙ ap (λ (o : Option ℕ). refuse EBUSY (d && is_in_use processes (unwrap_or o 0)) ∷ refuse ENOTEMPTY (not (is_empty (names_of_body body))) ∷ []) some
 
     -- what is replaced is no directory
@@ -410,7 +410,7 @@ module _ {p : Geometry} {map : SectorMap} {t : Tree} (h : HoldsTree p map t) (g 
         → first_of (directory_asked (there_body v is).node.body (is_in_use processes m)) ≡ first_of (replaced_asked t processes g)
     directory_replaced v is kind =
         let x = there_body v is in
-        let dir : is_directory body ≡ true = kind_is ∙ ap (λ (w : Inode). is_directory_kind w.kind) (sym is) ∙ ap is_directory_kind kind in
+        let dir_ino : is_directory body ≡ true = kind_is ∙ ap (λ (w : Inode). is_directory_kind w.kind) (sym is) ∙ ap is_directory_kind kind in
         ap (λ (u : Node). first_of (directory_asked u.body (is_in_use processes m))) (sym x.is)
-        ∙ ap (λ (b : Bool). first_of (refuse ENOTDIR (not b) ∷ refuse EBUSY (is_in_use processes m) ∷ refuse ENOTEMPTY (not (is_empty (names_of_body body))) ∷ [])) dir
-        ∙ sym (ap first_of (here true dir))
+        ∙ ap (λ (b : Bool). first_of (refuse ENOTDIR (not b) ∷ refuse EBUSY (is_in_use processes m) ∷ refuse ENOTEMPTY (not (is_empty (names_of_body body))) ∷ [])) dir_ino
+        ∙ sym (ap first_of (here true dir_ino))

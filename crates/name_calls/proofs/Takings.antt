@@ -107,7 +107,7 @@ module _ {p : Geometry} {n : ℕ} (processes : ProcessTable) {mid new : TxnState
   pub left_drops : (not (names - 1 == 0) || lives_nameless processes n node.body) ≡ false → Drops p n mid new
   left_drops goes = loses.goes (stays_is ∙ goes)
 
-module _ {p : Geometry} (old : TxnState) {processes : ProcessTable} {s : State} (at : IsStateOf p old.sectors processes s) {dir : ℕ} {name : List ℕ} {n : ℕ} (may : MayGo s dir name n) where
+module _ {p : Geometry} (old : TxnState) {processes : ProcessTable} {s : State} (at : IsStateOf p old.sectors processes s) {dir_ino : ℕ} {name : List ℕ} {n : ℕ} (may : MayGo s dir_ino name n) where
   abbrev directory : Node
   directory = may.directory.node
 
@@ -120,7 +120,7 @@ module _ {p : Geometry} (old : TxnState) {processes : ProcessTable} {s : State} 
       let same : d.node ≡ may.target = cc in
       ap (λ (u : Node). is_directory u.body) (sym same) ∙ d.directory
 
-  takes : TakesName s.tree s.processes dir directory name n
+  takes : TakesName s.tree s.processes dir_ino directory name n
   takes = record {
     stands = may.directory.is_there;
     is_dir = may.directory.directory;
@@ -132,27 +132,27 @@ module _ {p : Geometry} (old : TxnState) {processes : ProcessTable} {s : State} 
   still : (k : ℕ) → IsTrue (is_open s.processes k) → IsTrue (is_open processes k)
   still k is = subst (λ (d : ProcessTable). IsTrue (is_open d k)) at.same_processes is
 
-  pub dir_below : dir < p.inodes
-  dir_below = node_below s p at.is_state at.same_room dir directory may.directory.is_there
+  pub dir_below : dir_ino < p.inodes
+  dir_below = node_below s p at.is_state at.same_room dir_ino directory may.directory.is_there
 
   pub is_number : IsNumber p Inodes n
   is_number = ((at.is_state.tree.each n may.target may.there).positive, node_below s p at.is_state at.same_room n may.target may.there)
 
-  apart : n ≢ dir
-  apart = taken_apart s at.is_state at.up processes still dir directory name n takes
+  apart : n ≢ dir_ino
+  apart = taken_apart s at.is_state at.up processes still dir_ino directory name n takes
 
-  dir_held : HoldsNode p.version old.sectors (inode_at p old.sectors dir) (record { node = directory; names = names_of s.tree dir; parent = parent s.tree dir })
-  dir_held = held_node (state_tree at) dir directory may.directory.is_there
+  dir_held : HoldsNode p.version old.sectors (inode_at p old.sectors dir_ino) (record { node = directory; names = names_of s.tree dir_ino; parent = parent s.tree dir_ino })
+  dir_held = held_node (state_tree at) dir_ino directory may.directory.is_there
 
-  dir_names : HasNames p.version old.sectors (inode_at p old.sectors dir) (names_of_body directory.body)
-  dir_names = held_names (state_tree at) dir may.directory
+  dir_names : HasNames p.version old.sectors (inode_at p old.sectors dir_ino) (names_of_body directory.body)
+  dir_names = held_names (state_tree at) dir_ino may.directory
 
   -- the directory has the name
-  pub named_there : HasName p old.sectors dir name
+  pub named_there : HasName p old.sectors dir_ino name
   named_there = (names_of_body directory.body, dir_names, λ none. let both : None ≡ Some n = sym none ∙ may.leads in cc)
 
   not_root : n ≢ root
-  not_root = ((are_names s.room s.tree directory.body (at.is_state.tree.each dir directory may.directory.is_there).body).each name n may.leads).leads.0
+  not_root = ((are_names s.room s.tree directory.body (at.is_state.tree.each dir_ino directory may.directory.is_there).body).each name n may.leads).leads.0
 
   other : (n == root) ≡ false
   other = ne_eqb n root not_root
@@ -162,20 +162,20 @@ module _ {p : Geometry} (old : TxnState) {processes : ProcessTable} {s : State} 
 
   some_name : 1 ≤ names_of s.tree n
   some_name =
-      let all = (takes_loses s.room s.tree s.processes dir directory name n at.is_state.tree takes).counts n in
+      let all = (takes_loses s.room s.tree s.processes dir_ino directory name n at.is_state.tree takes).counts n in
       let one = once_same n n refl in
       omega (arith, all, one)
 
   -- ---- the name is gone from the directory
 
-  module _ {mid : TxnState} (removes : RemovesName p dir name old mid) where
+  module _ {mid : TxnState} (removes : RemovesName p dir_ino name old mid) where
     abbrev fewer : Placed
-    fewer = record { node = renamed_node directory (without name_cmp (names_of_body directory.body) name); names = names_of s.tree dir; parent = parent s.tree dir }
+    fewer = record { node = renamed_node directory (without name_cmp (names_of_body directory.body) name); names = names_of s.tree dir_ino; parent = parent s.tree dir_ino }
 
-    here : HoldsNode p.version mid.sectors (inode_at p mid.sectors dir) fewer
+    here : HoldsNode p.version mid.sectors (inode_at p mid.sectors dir_ino) fewer
     here =
-        names_held old.sectors mid.sectors (inode_at p old.sectors dir) (inode_at p mid.sectors dir)
-        (record { node = directory; names = names_of s.tree dir; parent = parent s.tree dir }) dir_held (without name_cmp (names_of_body directory.body) name)
+        names_held old.sectors mid.sectors (inode_at p old.sectors dir_ino) (inode_at p mid.sectors dir_ino)
+        (record { node = directory; names = names_of s.tree dir_ino; parent = parent s.tree dir_ino }) dir_held (without name_cmp (names_of_body directory.body) name)
         may.directory.directory removes.names.kept removes.names.acls (removes.names.named (names_of_body directory.body) dir_names)
 
     -- what it led to stands as before
@@ -184,11 +184,11 @@ module _ {p : Geometry} (old : TxnState) {processes : ProcessTable} {s : State} 
 
     pub target_held : HoldsNode p.version mid.sectors (inode_at p mid.sectors n) (record { node = may.target; names = names_of s.tree n; parent = parent s.tree n })
     target_held =
-        held_at p mid.sectors (placing dir (Some fewer) (placed s.tree))
-        (one_replaced p dir old.sectors mid.sectors (placed s.tree) at.holds dir_below removes.touches.inode _ _
-        (placed_from s.tree dir (Some directory) _ _ may.directory.is_there refl refl) here removes.names.used)
+        held_at p mid.sectors (placing dir_ino (Some fewer) (placed s.tree))
+        (one_replaced p dir_ino old.sectors mid.sectors (placed s.tree) at.holds dir_below removes.touches.inode _ _
+        (placed_from s.tree dir_ino (Some directory) _ _ may.directory.is_there refl refl) here removes.names.used)
         n is_number.1 (record { node = may.target; names = names_of s.tree n; parent = parent s.tree n })
-        (placing_other dir (Some fewer) (placed s.tree) n apart ∙ placed_from s.tree n (Some may.target) _ _ may.there refl refl)
+        (placing_other dir_ino (Some fewer) (placed s.tree) n apart ∙ placed_from s.tree n (Some may.target) _ _ may.there refl refl)
 
     pub target_named : 1 ≤ (inode_at p mid.sectors n).names
     target_named = subst (λ (k : ℕ). 1 ≤ k) (sym target_held.names) (field_named may.target.body (names_of s.tree n) some_name)
@@ -196,17 +196,17 @@ module _ {p : Geometry} (old : TxnState) {processes : ProcessTable} {s : State} 
     -- ---- and it loses the name
 
     module _ {new : TxnState} (opened : Bool) (is : opened ≡ is_open processes n) (loses : LosesName p n opened mid new) where
-      pub taken_holds : HoldsAll p new.sectors (placed (swept (changed s.tree (TakeName dir name)) processes))
+      pub taken_holds : HoldsAll p new.sectors (placed (swept (changed s.tree (TakeName dir_ino name)) processes))
       taken_holds = go (not (names_of s.tree n - 1 == 0) || lives_nameless processes n may.target.body) refl
         where
           go : (b : Bool) → (not (names_of s.tree n - 1 == 0) || lives_nameless processes n may.target.body) ≡ b
-              → HoldsAll p new.sectors (placed (swept (changed s.tree (TakeName dir name)) processes))
+              → HoldsAll p new.sectors (placed (swept (changed s.tree (TakeName dir_ino name)) processes))
           go true stay =
               let counts = left_counts processes target_held one_name other opened is loses stay in
-              take_held s at.is_state at.up processes still p old.sectors at.holds at.same_room mid.sectors new.sectors dir directory name n may.target takes may.there
+              take_held s at.is_state at.up processes still p old.sectors at.holds at.same_room mid.sectors new.sectors dir_ino directory name n may.target takes may.there
               removes.touches.inode removes.names.used here counts.touches.inode stay counts.used
-              (left_held processes target_held one_name other opened is loses stay (parent (changed s.tree (TakeName dir name)) n))
+              (left_held processes target_held one_name other opened is loses stay (parent (changed s.tree (TakeName dir_ino name)) n))
           go false goes =
               let drops = left_drops processes target_held one_name other opened is loses goes in
-              drop_held s at.is_state at.up processes still p old.sectors at.holds at.same_room mid.sectors new.sectors dir directory name n may.target takes may.there
+              drop_held s at.is_state at.up processes still p old.sectors at.holds at.same_room mid.sectors new.sectors dir_ino directory name n may.target takes may.there
               removes.touches.inode removes.names.used here drops.touches.inode goes drops.clear drops.free

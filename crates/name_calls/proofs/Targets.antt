@@ -21,7 +21,7 @@ use Rattle.fs_model.specs.Demands.{Demand, refuse, first_of}
 use Rattle.fs_model.specs.NameCalls.{readlink_row, readlink_demands, readlink_effect}
 use Rattle.fs_model.specs.Nodes.{Node, Body, File, Dir, Link, is_link, target_in}
 use Rattle.fs_model.specs.Rows.{row_of}
-use Rattle.fs_model.specs.Scenes.{number, must_be_there}
+use Rattle.fs_model.specs.Scenes.{found_ino, must_be_there}
 use Rattle.fs_model.specs.StoredNodes.{HoldsBody}
 use Rattle.fs_model.specs.Trees.{Tree}
 use Rattle.fs_model.specs.Summaries.{is_link_kind}
@@ -63,7 +63,7 @@ target_says version map v (Link target) is h = h.holds
 
 -- what is asked after it is there
 abbrev pub readlink_rest : Tree → Found → List Demand
-readlink_rest t f = refuse EINVAL (not (is_link (the_node t (number f)).body)) ∷ []
+readlink_rest t f = refuse EINVAL (not (is_link (the_node t (found_ino f)).body)) ∷ []
 
 module _ {p : Geometry} {map : SectorMap} {t : Tree} (h : HoldsTree p map t) (f : Found) (n : ℕ) (v : Inode) (i : IsInodeFound p map f n v) (there : IsThere t n) where
   -- the node that was found
@@ -74,7 +74,7 @@ module _ {p : Geometry} {map : SectorMap} {t : Tree} (h : HoldsTree p map t) (f 
   target_of = target_in node.node.body
 
   abbrev other_kind : Demand
-  other_kind = refuse EINVAL (not (is_link (the_node t (number f)).body))
+  other_kind = refuse EINVAL (not (is_link (the_node t (found_ino f)).body))
 
   kind_is : refuse EINVAL (not (is_link_kind v.kind)) ≡ other_kind
   kind_is = ap (λ (b : Bool). refuse EINVAL (not b)) (link_says p.version map v node.node.body node.holds.body ∙ sym (ap (λ (u : Node). is_link u.body) node.is))
@@ -94,10 +94,10 @@ module _ {p : Geometry} {map : SectorMap} {t : Tree} (h : HoldsTree p map t) (f 
     pub target_holds : Holds map v target_of
     target_holds =
         target_says p.version map v node.node.body
-        (ap (λ (u : Node). is_link u.body) (sym node.is) ∙ no_other (is_link (the_node t (number f)).body) kind_met) node.holds.body
+        (ap (λ (u : Node). is_link u.body) (sym node.is) ∙ no_other (is_link (the_node t (found_ino f)).body) kind_met) node.holds.body
 
     pub target_told : (target : List ℕ) → target_of ≡ target
-        → (first_of (must_be_there f ∷ other_kind ∷ []) ≡ None) × (target_in (the_node t (number f)).body ≡ target)
+        → (first_of (must_be_there f ∷ other_kind ∷ []) ≡ None) × (target_in (the_node t (found_ino f)).body ≡ target)
     target_told target same = (
       both_met (must_be_there f) (other_kind ∷ []) i.met (or_else-none other_kind ∙ kind_met),
       ap (λ (u : Node). target_in u.body) node.is ∙ same,

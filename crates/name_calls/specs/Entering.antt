@@ -7,12 +7,12 @@ use Rattle.fs_model.specs.declared.walk.Found.{Found}
 use Rattle.fs_model.specs.Births.{the_node}
 use Rattle.fs_model.specs.Demands.{Demand, refuse, search_on}
 use Rattle.fs_model.specs.Nodes.{is_directory}
-use Rattle.fs_model.specs.Scenes.{number, must_be_there}
+use Rattle.fs_model.specs.Scenes.{found_ino, must_be_there}
 use Rattle.fs_model.specs.Trees.{Tree}
 
 abbrev pub enter_asked : Credential → Tree → Found → List Demand
 enter_asked cred t f =
     must_be_there f
-    ∷ refuse ENOTDIR (not (is_directory (the_node t (number f)).body))
-    ∷ search_on cred t (number f) 1 f.step
+    ∷ refuse ENOTDIR (not (is_directory (the_node t (found_ino f)).body))
+    ∷ search_on cred t (found_ino f) 1 f.step
     ∷ []

@@ -16,7 +16,7 @@ use Rattle.fs_model.specs.Births.{the_node}
 use Rattle.fs_model.specs.Demands.{Demand, refuse, permission_on, write_and_search}
 use Rattle.fs_model.specs.Limits.{least_free}
 use Rattle.fs_model.specs.Nodes.{Node, is_directory, names_of_body}
-use Rattle.fs_model.specs.Scenes.{is_found, is_special, number, must_be_there}
+use Rattle.fs_model.specs.Scenes.{is_found, is_special, found_ino, must_be_there}
 use Rattle.fs_model.specs.Trees.{Tree, node_at, names_of, IsDirectoryAt}
 use Rattle.call_parts.specs.Makings.{room_asked}
 
@@ -25,18 +25,18 @@ abbrev pub source_asked : Tree → Found → List Demand
 source_asked t f =
     refuse EPERM (is_special f)
     ∷ must_be_there f
-    ∷ refuse ENOTDIR (f.slash && (is_found f && not (is_directory (the_node t (number f)).body)))
-    ∷ refuse EPERM (is_found f && is_directory (the_node t (number f)).body)
+    ∷ refuse ENOTDIR (f.slash && (is_found f && not (is_directory (the_node t (found_ino f)).body)))
+    ∷ refuse EPERM (is_found f && is_directory (the_node t (found_ino f)).body)
     ∷ []
 
 -- asked of the directory of the second path, for what has so many names
 abbrev pub place_asked : Geometry → SectorMap → Credential → Tree → ℕ → ℕ → ℕ → List Demand
-place_asked p map cred t dir step names =
-    permission_on cred t dir write_and_search 2 step ∷ refuse EMLINK (nat_le (max_inode_names p.version) names) ∷ room_asked p map t dir
+place_asked p map cred t dir_ino step names =
+    permission_on cred t dir_ino write_and_search 2 step ∷ refuse EMLINK (nat_le (max_inode_names p.version) names) ∷ room_asked p map t dir_ino
 
 -- the name is new in directory dir, there is room for it, and n is no directory and has room for one more name
-pub record MayLink (p : Geometry) (map : SectorMap) (t : Tree) (dir : ℕ) (name : List ℕ) (n : ℕ) : Type 0 where
-  pub directory : IsDirectoryAt t dir
+pub record MayLink (p : Geometry) (map : SectorMap) (t : Tree) (dir_ino : ℕ) (name : List ℕ) (n : ℕ) : Type 0 where
+  pub directory : IsDirectoryAt t dir_ino
   pub is_name : IsName name
   pub short : length name ≤ max_name p.version
   pub bytes : IsBytes name

@@ -27,32 +27,35 @@ use Rattle.call_parts.specs.NewNodes.{HasName, MayBeNamed}
 
 -- The name leads from directory dir to n, and n may get to_name in directory to_dir, which leads to what is replaced, or to
 -- nothing.
-pub record MayMove (p : Geometry) (map : SectorMap) (s : State) (dir : ℕ) (name : List ℕ) (n to_dir : ℕ) (to_name : List ℕ) (replaced : Option ℕ) : Type 0 where
-  pub directory : IsDirectoryAt s.tree dir
+pub record MayMove (p : Geometry) (map : SectorMap) (s : State) (dir_ino : ℕ) (name : List ℕ) (n to_dir_ino : ℕ) (to_name : List ℕ)
+    (replaced : Option ℕ) : Type 0 where
+  pub directory : IsDirectoryAt s.tree dir_ino
   pub leads : get name_cmp (names_of_body directory.node.body) name ≡ Some n
-  pub to_directory : IsDirectoryAt s.tree to_dir
+  pub to_directory : IsDirectoryAt s.tree to_dir_ino
   pub to_leads : get name_cmp (names_of_body to_directory.node.body) to_name ≡ replaced
   pub is_name : IsName to_name
   pub short : length to_name ≤ max_name p.version
   pub bytes : IsBytes to_name
   pub other : (m : ℕ) → replaced ≡ Some m → m ≢ n
-  pub has_room : replaced ≡ None → dir ≢ to_dir → (length (names_of_body to_directory.node.body) < max_names p.version) × (least_free ≤ free_sectors p map)
+  pub has_room : replaced ≡ None → dir_ino ≢ to_dir_ino
+      → (length (names_of_body to_directory.node.body) < max_names p.version) × (least_free ≤ free_sectors p map)
   pub empty : (m : ℕ) → replaced ≡ Some m → (d : IsDirectoryAt s.tree m) → names_of_body d.node.body ≡ []
   pub unused : (m : ℕ) → replaced ≡ Some m → IsDirectoryAt s.tree m → IsFalse (is_in_use s.processes m)
-  pub outside : IsDirectoryAt s.tree n → is_within (length s.tree) s.tree n to_dir ≡ false
+  pub outside : IsDirectoryAt s.tree n → is_within (length s.tree) s.tree n to_dir_ino ≡ false
 
 -- In directory dir the name may lead to another inode: it leads to one, or there is room for it.
 abbrev pub MayLead : Geometry → SectorMap → ℕ → List ℕ → Option ℕ → Type 0
-MayLead p map dir name None = MayBeNamed p map dir name
-MayLead p map dir name (Some m) = (dir < p.inodes) × HasName p map dir name
+MayLead p map dir_ino name None = MayBeNamed p map dir_ino name
+MayLead p map dir_ino name (Some m) = (dir_ino < p.inodes) × HasName p map dir_ino name
 
 -- A directory leads to_name to n, and the name no longer; or it has lost the name, and then another one, or itself, leads
 -- to_name to n.
-pub data MovesEntry (p : Geometry) (dir : ℕ) (name : List ℕ) (n to_dir : ℕ) (to_name : List ℕ) (replaced : Option ℕ) (old new : SectorMap) : Type 0 where
-  within : dir ≡ to_dir → replaced ≡ None → ChangesNames p dir (λ names. with_entry name_cmp (without name_cmp names name) to_name n) old new
-      → MovesEntry p dir name n to_dir to_name replaced old new
-  across : (mid : SectorMap) → ChangesNames p dir (λ names. without name_cmp names name) old mid
-      → ChangesNames p to_dir (λ names. with_entry name_cmp names to_name n) mid new → MovesEntry p dir name n to_dir to_name replaced old new
+pub data MovesEntry (p : Geometry) (dir_ino : ℕ) (name : List ℕ) (n to_dir_ino : ℕ) (to_name : List ℕ)
+    (replaced : Option ℕ) (old new : SectorMap) : Type 0 where
+  within : dir_ino ≡ to_dir_ino → replaced ≡ None → ChangesNames p dir_ino (λ names. with_entry name_cmp (without name_cmp names name) to_name n) old new
+      → MovesEntry p dir_ino name n to_dir_ino to_name replaced old new
+  across : (mid : SectorMap) → ChangesNames p dir_ino (λ names. without name_cmp names name) old mid
+      → ChangesNames p to_dir_ino (λ names. with_entry name_cmp names to_name n) mid new → MovesEntry p dir_ino name n to_dir_ino to_name replaced old new
 
 -- inode n has this parent, and all else that it had
 pub record GetsParent (p : Geometry) (n parent : ℕ) (old new : SectorMap) : Type 0 where
@@ -64,10 +67,10 @@ pub record GetsParent (p : Geometry) (n parent : ℕ) (old new : SectorMap) : Ty
   pub used : bit new p.inode_bitmap n ≡ bit old p.inode_bitmap n
 
 -- what goes from directory dir to to_dir: a directory gets another one as its parent, and nothing else changes
-pub data ParentFollows (p : Geometry) (n dir to_dir : ℕ) (old new : SectorMap) : Type 0 where
-  goes : dir ≢ to_dir → (inode_at p old n).kind ≡ kinds.Directory → GetsParent p n to_dir old new → ParentFollows p n dir to_dir old new
-  stays : ((inode_at p old n).kind ≢ kinds.Directory) ⊎ (dir ≡ to_dir) → new ≡ old → ParentFollows p n dir to_dir old new
+pub data ParentFollows (p : Geometry) (n dir_ino to_dir_ino : ℕ) (old new : SectorMap) : Type 0 where
+  goes : dir_ino ≢ to_dir_ino → (inode_at p old n).kind ≡ kinds.Directory → GetsParent p n to_dir_ino old new → ParentFollows p n dir_ino to_dir_ino old new
+  stays : ((inode_at p old n).kind ≢ kinds.Directory) ⊎ (dir_ino ≡ to_dir_ino) → new ≡ old → ParentFollows p n dir_ino to_dir_ino old new
 
 -- both directories, what has the name, and what was replaced, if anything was
 abbrev pub renamed_touches : ℕ → ℕ → ℕ → Option ℕ → List (ℕ × Touch)
-renamed_touches dir to_dir n replaced = (dir, Modified) ∷ (to_dir, Modified) ∷ (n, Changed) ∷ changed_at replaced
+renamed_touches dir_ino to_dir_ino n replaced = (dir_ino, Modified) ∷ (to_dir_ino, Modified) ∷ (n, Changed) ∷ changed_at replaced

@@ -21,7 +21,7 @@ use Rattle.fs_model.specs.Demands.{Demand, refuse, permission_on, allowed_by, wr
 use Rattle.fs_model.specs.Nodes.{Node, Body, is_directory, names_of_body}
 use Rattle.fs_model.specs.Parts.{is_empty}
 use Rattle.fs_model.specs.Processes.{Process, ProcessTable, is_in_use}
-use Rattle.fs_model.specs.Scenes.{Scene, is_found, is_special, is_directory_found, is_nondirectory_found, has_names, number, ends_top, ends_dot, ends_dot_dot, must_be_there}
+use Rattle.fs_model.specs.Scenes.{Scene, is_found, is_special, is_directory_found, is_nondirectory_found, has_names, found_ino, ends_top, ends_dot, ends_dot_dot, must_be_there}
 use Rattle.fs_model.specs.States.{State}
 use Rattle.fs_model.specs.Trees.{Tree, node_at, IsDirectoryAt}
 use Rattle.path_walk.specs.HeldTrees.{IsThere}
@@ -40,17 +40,17 @@ pub record FindsName (p : Geometry) (map : SectorMap) (processes : ProcessTable)
 
 -- the directory that names what was found is there, and so is what was found
 pub record IsNamedThere (t : Tree) (f : Found) : Type 0 where
-  pub directory : IsDirectoryAt t f.dir
+  pub directory : IsDirectoryAt t f.dir_ino
   pub found : (n : ℕ) → f.ino ≡ Some n → IsThere t n
 
 -- asked of what was found and of its directory, whatever it is
 abbrev pub removal_asked : Credential → Tree → Found → List Demand
 removal_asked cred t f =
     must_be_there f
-    ∷ refuse ENOTDIR (f.slash && (is_found f && not (is_directory (the_node t (number f)).body)))
-    ∷ permission_on cred t f.dir write_and_search 1 (f.step - 1)
+    ∷ refuse ENOTDIR (f.slash && (is_found f && not (is_directory (the_node t (found_ino f)).body)))
+    ∷ permission_on cred t f.dir_ino write_and_search 1 (f.step - 1)
     ∷ allowed_by 1 (f.step - 1) Remove
-    (sticky_allows cred (the_directory (the_node t f.dir)).sticky (the_node t f.dir).owner (the_node t (number f)).owner)
+    (sticky_allows cred (the_directory (the_node t f.dir_ino)).sticky (the_node t f.dir_ino).owner (the_node t (found_ino f)).owner)
     ∷ []
 
 -- asked of the last component
@@ -72,7 +72,7 @@ abbrev pub target_asked : Target → Scene → List Demand
 target_asked NoDirectory s = refuse EISDIR (is_directory_found s s.first) ∷ []
 target_asked Directory s =
     refuse ENOTDIR (is_nondirectory_found s s.first)
-    ∷ refuse EBUSY (is_in_use s.state.processes (number s.first))
+    ∷ refuse EBUSY (is_in_use s.state.processes (found_ino s.first))
     ∷ refuse ENOTEMPTY (has_names s s.first)
     ∷ []
 
@@ -84,8 +84,8 @@ removal_call NoDirectory path = Unlink path
 removal_call Directory path = Rmdir path
 
 -- the name leads from directory dir to n, which is no directory, or an empty one that isn't in use
-pub record MayGo (s : State) (dir : ℕ) (name : List ℕ) (n : ℕ) : Type 0 where
-  pub directory : IsDirectoryAt s.tree dir
+pub record MayGo (s : State) (dir_ino : ℕ) (name : List ℕ) (n : ℕ) : Type 0 where
+  pub directory : IsDirectoryAt s.tree dir_ino
   pub leads : get name_cmp (names_of_body directory.node.body) name ≡ Some n
   pub target : Node
   pub there : node_at s.tree n ≡ Some target

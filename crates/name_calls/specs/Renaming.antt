@@ -15,7 +15,7 @@ use Rattle.fs_model.specs.Births.{the_node}
 use Rattle.fs_model.specs.Demands.{Demand, refuse}
 use Rattle.fs_model.specs.Nodes.{is_directory}
 use Rattle.fs_model.specs.Rules.{is_directory_kind}
-use Rattle.fs_model.specs.Scenes.{is_found, number, ends_top, ends_dot, ends_dot_dot, must_be_there}
+use Rattle.fs_model.specs.Scenes.{is_found, found_ino, ends_top, ends_dot, ends_dot_dot, must_be_there}
 use Rattle.fs_model.specs.Trees.{Tree}
 
 -- both paths end in names
@@ -24,7 +24,7 @@ ends_asked f g = refuse EINVAL (ends_dot f || ends_dot_dot f || ends_dot g || en
 
 -- what was found is there, and is no directory
 abbrev pub is_other : Tree → Found → Bool
-is_other t f = is_found f && not (is_directory (the_node t (number f)).body)
+is_other t f = is_found f && not (is_directory (the_node t (found_ino f)).body)
 
 -- a slash at the end asks for a directory
 abbrev pub slash_asked : Tree → Found → Found → Demand
@@ -33,8 +33,8 @@ slash_asked t f g = refuse ENOTDIR ((is_other t f && (f.slash || g.slash)) || (i
 -- a directory replaces a directory, and nothing else does
 abbrev pub kinds_asked : Tree → Found → Found → List Demand
 kinds_asked t f g =
-    refuse EISDIR (is_other t f && (is_found g && is_directory (the_node t (number g)).body))
-    ∷ refuse ENOTDIR ((is_found f && is_directory (the_node t (number f)).body) && is_other t g)
+    refuse EISDIR (is_other t f && (is_found g && is_directory (the_node t (found_ino g)).body))
+    ∷ refuse ENOTDIR ((is_found f && is_directory (the_node t (found_ino f)).body) && is_other t g)
     ∷ []
 
 -- what stands at a number, with its inode

@@ -20,7 +20,7 @@ use Rattle.fs_model.specs.Parts.{is_empty}
 use Rattle.fs_model.specs.Processes.{ProcessTable, is_in_use}
 use Rattle.fs_model.specs.RenameCall.{rename_permissions, rename_kinds, rename_directories, rename_moved, rename_space}
 use Rattle.fs_model.specs.Rules.{is_directory_kind}
-use Rattle.fs_model.specs.Scenes.{Scene, is_found, number}
+use Rattle.fs_model.specs.Scenes.{Scene, is_found, found_ino}
 use Rattle.fs_model.specs.States.{State}
 use Rattle.fs_model.specs.Trees.{Tree, is_within}
 use Rattle.call_parts.specs.Performing.{IsStateOf}
@@ -49,13 +49,13 @@ sticky_there cred d (Some x) step = sticky_asked cred d x.1 2 step ∷ []
 
 -- a directory doesn't go below itself
 abbrev pub below_asked : Tree → Kind → ℕ → ℕ → Demand
-below_asked t kind n dir = refuse EINVAL (is_directory_kind kind && is_within (length t) t n dir)
+below_asked t kind n dir_ino = refuse EINVAL (is_directory_kind kind && is_within (length t) t n dir_ino)
 
 -- a directory that is replaced is empty and not in use
 abbrev pub replaced_asked : Tree → ProcessTable → Found → List Demand
 replaced_asked t processes g =
-    refuse EBUSY ((is_found g && is_directory (the_node t (number g)).body) && is_in_use processes (number g))
-    ∷ refuse ENOTEMPTY (is_found g && not (is_empty (names_of_body (the_node t (number g)).body)))
+    refuse EBUSY ((is_found g && is_directory (the_node t (found_ino g)).body) && is_in_use processes (found_ino g))
+    ∷ refuse ENOTEMPTY (is_found g && not (is_empty (names_of_body (the_node t (found_ino g)).body)))
     ∷ []
 
 abbrev pub move_asked : Scene → List Demand

@@ -2,8 +2,20 @@
 
 ghost use Rattle.std.specs.Prelude.{◌≡◌, ◌+◌, ◌/◌, ◌%◌, ◌<◌, ◌==◌, ℕ, cond, not, Some, Ok, option_copied, Err, OnOk, IfOk, IfErr, IsSome};
 ghost use Rattle.std.specs.Ordering.{nat_cmp};
-ghost use Rattle.call_parts.specs.DiskWords.{get, inode_at, SameStore, IsUnchanged, IsSound, HasSpare, TakesSpare};
-ghost use Rattle.call_parts.specs.ModelWords.{Done, ProcessTable, with_changed, standing_at, born_directory, the_node, refuse, first_of, number, must_be_new, Tree, refused_or, FailsToRead, IsAnswered, HoldsTree, IsThere};
+ghost use Rattle.fs_layout.specs.Maps.{get};
+ghost use Rattle.fs_layout.specs.Images.{inode_at};
+ghost use Rattle.sector_txn.specs.Sectors.{SameStore, IsUnchanged};
+ghost use Rattle.bit_alloc.specs.Inodes.{IsSound};
+ghost use Rattle.bit_alloc.specs.Room.{HasSpare, TakesSpare};
+ghost use Rattle.fs_model.specs.declared.reply.Reply.TheVariants.{Done};
+ghost use Rattle.fs_model.specs.Processes.{ProcessTable, standing_at};
+ghost use Rattle.open_files.specs.Tables.{with_changed};
+ghost use Rattle.fs_model.specs.Births.{born_directory, the_node};
+ghost use Rattle.fs_model.specs.Demands.{refuse, first_of};
+ghost use Rattle.fs_model.specs.Scenes.{found_ino, must_be_new};
+ghost use Rattle.fs_model.specs.Trees.{Tree};
+ghost use Rattle.path_walk.specs.Answers.{refused_or, FailsToRead, IsAnswered};
+ghost use Rattle.path_walk.specs.HeldTrees.{HoldsTree, IsThere};
 ghost use Rattle.fs_model.specs.declared.call.Call.TheVariants.{Mkdir, Chdir};
 ghost use Rattle.call_parts.specs.Performing.{MayPerform, Performs, IsReadyFor, PerformsFor};
 ghost use Rattle.call_parts.specs.Makings.{CanMake};
@@ -37,11 +49,12 @@ fn special_bits(directory: &Inode, mode: u16) -> u16
     sticky + set_group_id
 }
 
-// Makes a directory with this owner, group, ACLs and bits of the mode, and names it in directory dir. EIO: the disk has failed.
+// Makes a directory with this owner, group, ACLs and bits of the mode, and names it in directory `dir_ino`. EIO: the
+// disk has failed.
 fn place_directory<S: Sectors>(
     s: &mut S,
     geometry: Geometry,
-    dir: u32,
+    dir_ino: u32,
     directory: Inode,
     name: &[u8],
     uid: u32,
@@ -51,12 +64,12 @@ fn place_directory<S: Sectors>(
     default: Option<&Acl>,
 ) -> Result<u32, Refusal>
     requires sound { IsSound geometry (S.state s.old) }
-    requires directory { directory ≡ inode_at geometry (S.state s.old).sectors dir }
-    requires may { (t : Tree) × CanMake geometry (S.state s.old).sectors t dir name.now }
+    requires directory { directory ≡ inode_at geometry (S.state s.old).sectors dir_ino }
+    requires may { (t : Tree) × CanMake geometry (S.state s.old).sectors t dir_ino name.now }
     requires bits { bits < 2048 }
     requires spare { HasSpare geometry 47 (S.state s.old) }
     ensures store { SameStore (S.state s.old) (S.state s.new) }
-    ensures made { IfOk result (λ n. MakesNode geometry dir name.now n
+    ensures made { IfOk result (λ n. MakesNode geometry dir_ino name.now n
         (directory_made uid gid bits access.now (option_copied default.entry))
         (S.state s.old).sectors (S.state s.new).sectors) }
     ensures taken { OnOk result (TakesSpare geometry 7 (S.state s.old) (S.state s.new)) }
@@ -68,14 +81,14 @@ fn place_directory<S: Sectors>(
         uid,
         gid,
         names: 1,
-        parent: dir,
+        parent: dir_ino,
         ..Inode::FREE
     };
-    let Ok(n) = new_inode(s, geometry, &made, access, default) else {
+    let Ok(ino) = new_inode(s, geometry, &made, access, default) else {
         return Err(Refusal::Failed(Errno::EIO));
     };
-    name_inode(s, geometry, dir, directory, name, n)?;
-    Ok(n)
+    name_inode(s, geometry, dir_ino, directory, name, ino)?;
+    Ok(ino)
 }
 
 // Asks what is asked of the directory of the last lookup, and makes a directory of the last name in it, whose number it answers.
@@ -88,13 +101,13 @@ fn make_directory<S: Sectors>(
     requires sound { IsSound caller.now.geometry (S.state s.old) }
     requires spare { HasSpare caller.now.geometry 47 (S.state s.old) }
     requires name { (t : Tree) × HoldsTree caller.now.geometry (S.state s.old).sectors t
-        × IsNewIn caller.now.geometry t walked.now.found.dir walked.now.found.name }
+        × IsNewIn caller.now.geometry t walked.now.found.dir_ino walked.now.found.name }
     ensures store { SameStore (S.state s.old) (S.state s.new) }
     ensures each { (t : Tree) → HoldsTree caller.now.geometry (S.state s.old).sectors t
-        → IsNewIn caller.now.geometry t walked.now.found.dir walked.now.found.name
+        → IsNewIn caller.now.geometry t walked.now.found.dir_ino walked.now.found.name
         → IsMade caller.now.geometry (S.state s.old) (S.state s.new) walked.now.process.now.cred t walked.now.found
         (born_directory walked.now.process.now.cred walked.now.process.now.umask mode
-        (the_node t walked.now.found.dir)) result }
+        (the_node t walked.now.found.dir_ino)) result }
     ensures taken { OnOk result (TakesSpare caller.now.geometry 7 (S.state s.old) (S.state s.new)) }
 {
     let geometry = caller.geometry;
@@ -102,7 +115,7 @@ fn make_directory<S: Sectors>(
     let found = &walked.found;
     let cred = process.cred();
     let step = found.step.saturating_sub(1);
-    let directory = check_make(s, caller, cred, found.dir, step)?;
+    let directory = check_make(s, caller, cred, found.dir_ino, step)?;
     let inherits = default_of(s, caller, &directory)?;
     let default = inherits.as_ref();
     let access = inherited(caller.alloc, default, mode, process.umask())?;
@@ -110,10 +123,19 @@ fn make_directory<S: Sectors>(
     let gid = new_group(&directory, cred);
     let name = found.name.bytes();
     let uid = cred.uid();
-    let n = place_directory(
-        s, geometry, found.dir, directory, name, uid, gid, bits, &access, default,
+    let ino = place_directory(
+        s,
+        geometry,
+        found.dir_ino,
+        directory,
+        name,
+        uid,
+        gid,
+        bits,
+        &access,
+        default,
     )?;
-    Ok(n)
+    Ok(ino)
 }
 
 // Asks whether nothing was found where something is to be made.
@@ -137,13 +159,13 @@ pub fn mkdir<S: Sectors>(s: &mut S, caller: &Caller, path: &Path, mode: u16) -> 
     let checks = check_mode(mode);
     let walked = walk_path(s, caller, checks, path, Form::Parent)?;
     check_new(&walked.found)?;
-    let n = make_directory(s, caller, &walked, mode)?;
-    let dir = walked.found.dir;
+    let ino = make_directory(s, caller, &walked, mode)?;
+    let dir_ino = walked.found.dir_ino;
     touch(
         s,
         caller.geometry,
         caller.time,
-        &[(dir, Touch::Modified), (n, Touch::Born)],
+        &[(dir_ino, Touch::Modified), (ino, Touch::Born)],
     )?;
     Ok(Reply::Done)
 }
@@ -161,10 +183,10 @@ fn directory_found<S: Sectors>(
     ensures each { (t : Tree) → HoldsTree caller.now.geometry (S.state s.old).sectors t
         → ((n : ℕ) → found.now.ino ≡ Some n → IsThere t n)
         → IsAnswered (S.state s.old).disk (S.state s.new).disk
-        (refused_or (first_of (enter_asked cred.now t found.now)) (Ok (number found.now))) result }
+        (refused_or (first_of (enter_asked cred.now t found.now)) (Ok (found_ino found.now))) result }
     ensures same { IsUnchanged (S.state s.old) (S.state s.new) }
 {
-    let (n, inode) = inode_found(s, caller.geometry, found)?;
+    let (ino, inode) = inode_found(s, caller.geometry, found)?;
     check_is_directory(inode.kind)?;
     search(
         caller.alloc,
@@ -175,7 +197,7 @@ fn directory_found<S: Sectors>(
         1,
         found.step,
     )?;
-    Ok(n)
+    Ok(ino)
 }
 
 // The directory that the path of chdir leads to. At `Err` that is its refusal; else it is performed once the process stands
@@ -192,8 +214,8 @@ fn directory_at<S: Sectors>(s: &mut S, caller: &Caller, path: &Path) -> Result<u
 {
     let walked = walk_path(s, caller, Ok(()), path, Form::Follow)?;
     let cred = walked.process.cred();
-    let n = directory_found(s, caller, cred, &walked.found)?;
-    Ok(n)
+    let ino = directory_found(s, caller, cred, &walked.found)?;
+    Ok(ino)
 }
 
 /// Makes what a path leads to the current directory of the process, in which all its paths start. ENOENT: the path leads to
@@ -218,7 +240,7 @@ pub fn chdir<S: Sectors>(
         procs,
         pid,
     };
-    let n = directory_at(s, &caller, path)?;
-    procs.stand_at(pid, n, n);
+    let ino = directory_at(s, &caller, path)?;
+    procs.stand_at(pid, ino, ino);
     Ok(Reply::Done)
 }

@@ -1,8 +1,14 @@
 //! What becomes of a node that loses a name: POSIX.1-2017, unlink().
 
 ghost use Rattle.std.specs.Prelude.{◌≡◌, ◌≢◌, ◌≤◌, ◌<◌, OnOk, IfErr};
-ghost use Rattle.call_parts.specs.DiskWords.{inode_at, SameStore, Inodes, IsNumber, IsSound, HasSpare};
-ghost use Rattle.call_parts.specs.ModelWords.{is_open, FailsToRead};
+ghost use Rattle.fs_layout.specs.Images.{inode_at};
+ghost use Rattle.sector_txn.specs.Sectors.{SameStore};
+ghost use Rattle.bit_alloc.specs.declared.bitmap.Bitmap.TheVariants.{Inodes};
+ghost use Rattle.bit_alloc.specs.Bitmaps.{IsNumber};
+ghost use Rattle.bit_alloc.specs.Inodes.{IsSound};
+ghost use Rattle.bit_alloc.specs.Room.{HasSpare};
+ghost use Rattle.fs_model.specs.Processes.{is_open};
+ghost use Rattle.path_walk.specs.Answers.{FailsToRead};
 ghost use Rattle.name_calls.specs.Dropping.{LosesName, stays_with};
 
 use call_parts::{drop_node, set_names};
@@ -11,38 +17,38 @@ use fs_layout::{Geometry, Inode, Kind};
 use open_files::Procs;
 use sector_txn::Sectors;
 
-// Whether inode n, of this kind and with so many names left, stays.
-fn stays(procs: &Procs, n: u32, kind: Kind, names: u32) -> bool
-    ensures { result ≡ stays_with kind names (is_open procs.now n) }
+// Whether inode `ino`, of this kind and with so many names left, stays.
+fn stays(procs: &Procs, ino: u32, kind: Kind, names: u32) -> bool
+    ensures { result ≡ stays_with kind names (is_open procs.now ino) }
 {
-    names != 0 || kind == Kind::File && procs.is_open(n)
+    names != 0 || kind == Kind::File && procs.is_open(ino)
 }
 
-/// Takes one name from the count of inode n; where that was its last, and it is no file that is open, it is dropped. EIO:
-/// the disk has failed.
+/// Takes one name from the count of inode `ino`; where that was its last, and it is no file that is open, it is
+/// dropped. EIO: the disk has failed.
 pub(crate) fn lose_name<S: Sectors>(
     s: &mut S,
     geometry: Geometry,
     procs: &Procs,
-    n: u32,
+    ino: u32,
     inode: &Inode,
 ) -> Result<(), Refusal>
     requires sound { IsSound geometry (S.state s.old) }
-    requires number { IsNumber geometry Inodes n }
-    requires inode { inode.now ≡ inode_at geometry (S.state s.old).sectors n }
+    requires number { IsNumber geometry Inodes ino }
+    requires inode { inode.now ≡ inode_at geometry (S.state s.old).sectors ino }
     requires used { inode.now.kind ≢ Kind.Free }
     requires named { 1 ≤ inode.now.names }
     requires spare { HasSpare geometry 1 (S.state s.old) }
     ensures store { SameStore (S.state s.old) (S.state s.new) }
-    ensures loses { OnOk result (LosesName geometry n (is_open procs.now n) (S.state s.old) (S.state s.new)) }
+    ensures loses { OnOk result (LosesName geometry ino (is_open procs.now ino) (S.state s.old) (S.state s.new)) }
     ensures fault { IfErr result (FailsToRead (S.state s.old).disk (S.state s.new).disk) }
 {
     let names = inode.names - 1;
-    let stays = stays(procs, n, inode.kind, names);
+    let stays = stays(procs, ino, inode.kind, names);
     if !stays {
-        drop_node(s, geometry, n)?;
+        drop_node(s, geometry, ino)?;
         return Ok(());
     }
-    set_names(s, geometry, n, inode, names)?;
+    set_names(s, geometry, ino, inode, names)?;
     Ok(())
 }

@@ -4,8 +4,11 @@ ghost use Rattle.std.specs.Prelude.{◌≡◌, IfOk, IfErr};
 ghost use Rattle.sector_disk.specs.Disk.{HasFailed};
 ghost use Rattle.fs_cred.specs.declared.errno.Errno.TheVariants.{EIO};
 ghost use Rattle.fs_model.specs.Steps.{enter_demands};
-ghost use Rattle.call_parts.specs.DiskWords.{IsUnchanged, IsSound};
-ghost use Rattle.call_parts.specs.ModelWords.{first_of, Tree, HoldsTree};
+ghost use Rattle.sector_txn.specs.Sectors.{IsUnchanged};
+ghost use Rattle.bit_alloc.specs.Inodes.{IsSound};
+ghost use Rattle.fs_model.specs.Demands.{first_of};
+ghost use Rattle.fs_model.specs.Trees.{Tree};
+ghost use Rattle.path_walk.specs.HeldTrees.{HoldsTree};
 ghost use Rattle.call_parts.specs.Performing.{MayPerform};
 ghost use Rattle.name_calls.specs.Enters.{type_in, both_directories, IsAskedOfBoth, Enters};
 
@@ -17,16 +20,16 @@ use open_files::Procs;
 use sector_txn::Sectors;
 
 // The type of what stands at a number; `None` where nothing does. EIO: the disk has failed.
-fn type_at<S: Sectors>(s: &mut S, geometry: Geometry, n: u32) -> Result<Option<FileType>, Errno>
+fn type_at<S: Sectors>(s: &mut S, geometry: Geometry, ino: u32) -> Result<Option<FileType>, Errno>
     requires { IsSound geometry (S.state s.old) }
-    ensures found { IfOk result (λ found. (t : Tree) → HoldsTree geometry (S.state s.old).sectors t → found ≡ type_in t n) }
+    ensures found { IfOk result (λ found. (t : Tree) → HoldsTree geometry (S.state s.old).sectors t → found ≡ type_in t ino) }
     ensures fault { IfErr result (λ errno. (errno ≡ EIO) × HasFailed (S.state s.old).disk (S.state s.new).disk) }
     ensures same { IsUnchanged (S.state s.old) (S.state s.new) }
 {
-    if n >= geometry.inodes {
+    if ino >= geometry.inodes {
         return Ok(None);
     }
-    match load(s, geometry, n) {
+    match load(s, geometry, ino) {
         Ok(inode) => Ok(FileType::of_kind(inode.kind)),
         Err(_) => Err(Errno::EIO),
     }
@@ -47,16 +50,16 @@ fn both_directories(first: Option<FileType>, second: Option<FileType>) -> Result
 fn ask_of_both<S: Sectors>(
     s: &mut S,
     geometry: Geometry,
-    directory: u32,
-    second: u32,
+    dir_ino: u32,
+    second_ino: u32,
 ) -> Result<(), Errno>
     requires { IsSound geometry (S.state s.old) }
     ensures each { (t : Tree) → HoldsTree geometry (S.state s.old).sectors t
-        → IsAskedOfBoth (S.state s.old).disk (S.state s.new).disk (first_of (enter_demands t directory second)) result }
+        → IsAskedOfBoth (S.state s.old).disk (S.state s.new).disk (first_of (enter_demands t dir_ino second_ino)) result }
     ensures same { IsUnchanged (S.state s.old) (S.state s.new) }
 {
-    let first = type_at(s, geometry, directory)?;
-    let other = type_at(s, geometry, second)?;
+    let first = type_at(s, geometry, dir_ino)?;
+    let other = type_at(s, geometry, second_ino)?;
     both_directories(first, other)
 }
 
@@ -68,14 +71,14 @@ pub fn enter<S: Sectors>(
     geometry: Geometry,
     procs: &mut Procs,
     pid: usize,
-    directory: u32,
-    second: u32,
+    dir_ino: u32,
+    second_ino: u32,
 ) -> Result<(), Errno>
     requires ready { MayPerform geometry (S.state s.old) procs.old }
-    ensures { Enters geometry pid directory second (S.state s.old) (S.state s.new) procs.old procs.new result }
+    ensures { Enters geometry pid dir_ino second_ino (S.state s.old) (S.state s.new) procs.old procs.new result }
 {
     procs.process(pid)?;
-    ask_of_both(s, geometry, directory, second)?;
-    procs.stand_at(pid, directory, second);
+    ask_of_both(s, geometry, dir_ino, second_ino)?;
+    procs.stand_at(pid, dir_ino, second_ino);
     Ok(())
 }

@@ -1,8 +1,22 @@
 //! More names for what is there: POSIX.1-2017, link().
 
 ghost use Rattle.std.specs.Prelude.{◌≡◌, ◌-◌, ◌<◌, nat_le, ℕ, [], ◌∷◌, not, ◌&&◌, Some, Ok, OnOk, IfErr};
-ghost use Rattle.call_parts.specs.DiskWords.{inode_at, max_inode_names, SameStore, IsUnchanged, IsSound, HasSpare, TakesSpare};
-ghost use Rattle.call_parts.specs.ModelWords.{AddName, changed, swept, refuse, first_of, link_demands, ProcessTable, is_directory_kind, number, is_special, HoldsAll, placed, State, Tree, IsDirectoryAt, refused_or, FailsToRead, IsAnswered, HoldsTree, IsThere};
+ghost use Rattle.fs_layout.specs.Images.{inode_at};
+ghost use Rattle.fs_layout.specs.Version.{max_inode_names};
+ghost use Rattle.sector_txn.specs.Sectors.{SameStore, IsUnchanged};
+ghost use Rattle.bit_alloc.specs.Inodes.{IsSound};
+ghost use Rattle.bit_alloc.specs.Room.{HasSpare, TakesSpare};
+ghost use Rattle.fs_model.specs.TreeChanges.{AddName, changed, swept};
+ghost use Rattle.fs_model.specs.Demands.{refuse, first_of};
+ghost use Rattle.fs_model.specs.NameCalls.{link_demands};
+ghost use Rattle.fs_model.specs.Processes.{ProcessTable};
+ghost use Rattle.fs_model.specs.Rules.{is_directory_kind};
+ghost use Rattle.fs_model.specs.Scenes.{found_ino, is_special};
+ghost use Rattle.fs_model.specs.Stands.{HoldsAll, placed};
+ghost use Rattle.fs_model.specs.States.{State};
+ghost use Rattle.fs_model.specs.Trees.{Tree, IsDirectoryAt};
+ghost use Rattle.path_walk.specs.Answers.{refused_or, FailsToRead, IsAnswered};
+ghost use Rattle.path_walk.specs.HeldTrees.{HoldsTree, IsThere};
 ghost use Rattle.fs_model.specs.declared.call.Call.TheVariants.{Link};
 ghost use Rattle.call_parts.specs.Performing.{IsStateOf, IsReadyFor, PerformsFor};
 ghost use Rattle.name_calls.specs.Linking.{source_asked, place_asked, MayLink};
@@ -53,13 +67,13 @@ fn check_source<S: Sectors>(
     ensures each { (t : Tree) → HoldsTree geometry (S.state s.old).sectors t → ((n : ℕ) → found.now.ino ≡ Some n → IsThere t n)
         → IsAnswered (S.state s.old).disk (S.state s.new).disk
         (refused_or (first_of (source_asked t found.now))
-        (Ok (number found.now, inode_at geometry (S.state s.old).sectors (number found.now)))) result }
+        (Ok (found_ino found.now, inode_at geometry (S.state s.old).sectors (found_ino found.now)))) result }
     ensures same { IsUnchanged (S.state s.old) (S.state s.new) }
 {
     check_last(found)?;
-    let (n, inode) = inode_found(s, geometry, found)?;
+    let (ino, inode) = inode_found(s, geometry, found)?;
     check_kind(found, inode.kind)?;
-    Ok((n, inode))
+    Ok((ino, inode))
 }
 
 // Asks whether what has so many names may have one more.
@@ -82,13 +96,13 @@ fn check_place<S: Sectors>(
     names: u32,
 ) -> Result<Inode, Refusal>
     requires sound { IsSound caller.now.geometry (S.state s.old) }
-    requires there { (t : Tree) × HoldsTree caller.now.geometry (S.state s.old).sectors t × IsDirectoryAt t found.now.dir }
-    ensures each { (t : Tree) → HoldsTree caller.now.geometry (S.state s.old).sectors t → IsDirectoryAt t found.now.dir
+    requires there { (t : Tree) × HoldsTree caller.now.geometry (S.state s.old).sectors t × IsDirectoryAt t found.now.dir_ino }
+    ensures each { (t : Tree) → HoldsTree caller.now.geometry (S.state s.old).sectors t → IsDirectoryAt t found.now.dir_ino
         → IsAnswered (S.state s.old).disk (S.state s.new).disk
         (refused_or
         (first_of (place_asked caller.now.geometry (S.state s.old).sectors process.now.cred t
-        found.now.dir (found.now.step - 1) names))
-        (Ok (inode_at caller.now.geometry (S.state s.old).sectors found.now.dir))) result }
+        found.now.dir_ino (found.now.step - 1) names))
+        (Ok (inode_at caller.now.geometry (S.state s.old).sectors found.now.dir_ino))) result }
     ensures same { IsUnchanged (S.state s.old) (S.state s.new) }
 {
     let directory = ask_directory(s, caller, process, found, 2)?;
@@ -115,47 +129,47 @@ fn check_link<S: Sectors>(
         (refused_or (first_of (link_demands
         (scene_with st walked.now.process.now walked.now.first walked.now.second)))
         (Ok (
-          number walked.now.first,
-          inode_at caller.now.geometry (S.state s.old).sectors (number walked.now.first),
-          inode_at caller.now.geometry (S.state s.old).sectors walked.now.second.dir,
+          found_ino walked.now.first,
+          inode_at caller.now.geometry (S.state s.old).sectors (found_ino walked.now.first),
+          inode_at caller.now.geometry (S.state s.old).sectors walked.now.second.dir_ino,
         ))) result }
     ensures same { IsUnchanged (S.state s.old) (S.state s.new) }
 {
-    let (n, inode) = check_source(s, caller.geometry, &walked.first)?;
+    let (ino, inode) = check_source(s, caller.geometry, &walked.first)?;
     let second = &walked.second;
     check_link_name(second)?;
     let process = walked.process;
     let directory = check_place(s, caller, process, second, inode.names)?;
-    Ok((n, inode, directory))
+    Ok((ino, inode, directory))
 }
 
-// Names inode n, which is no directory, once more, in directory dir. EIO: the disk has failed.
+// Names inode `ino`, which is no directory, once more, in directory `dir_ino`. EIO: the disk has failed.
 fn add_name<S: Sectors>(
     s: &mut S,
     geometry: Geometry,
-    dir: u32,
+    dir_ino: u32,
     directory: Inode,
     name: &[u8],
-    n: u32,
+    ino: u32,
     inode: &Inode,
 ) -> Result<(), Refusal>
     requires sound { IsSound geometry (S.state s.old) }
-    requires inode { inode.now ≡ inode_at geometry (S.state s.old).sectors n }
+    requires inode { inode.now ≡ inode_at geometry (S.state s.old).sectors ino }
     requires few { inode.now.names < max_inode_names geometry.version }
-    requires directory { directory ≡ inode_at geometry (S.state s.old).sectors dir }
+    requires directory { directory ≡ inode_at geometry (S.state s.old).sectors dir_ino }
     requires may { (processes : ProcessTable) × (st : State) × IsStateOf geometry (S.state s.old).sectors processes st
-        × MayLink geometry (S.state s.old).sectors st.tree dir name.now n }
+        × MayLink geometry (S.state s.old).sectors st.tree dir_ino name.now ino }
     requires spare { HasSpare geometry 47 (S.state s.old) }
     ensures store { SameStore (S.state s.old) (S.state s.new) }
     ensures superblock { OnOk result ((S.state s.new).sectors 0 ≡ (S.state s.old).sectors 0) }
     ensures added { OnOk result ((processes : ProcessTable) (st : State) → IsStateOf geometry (S.state s.old).sectors processes st
-        → MayLink geometry (S.state s.old).sectors st.tree dir name.now n
-        → HoldsAll geometry (S.state s.new).sectors (placed (swept (changed st.tree (AddName dir name.now n)) processes))) }
+        → MayLink geometry (S.state s.old).sectors st.tree dir_ino name.now ino
+        → HoldsAll geometry (S.state s.new).sectors (placed (swept (changed st.tree (AddName dir_ino name.now ino)) processes))) }
     ensures room { OnOk result (TakesSpare geometry 5 (S.state s.old) (S.state s.new)) }
     ensures fault { IfErr result (FailsToRead (S.state s.old).disk (S.state s.new).disk) }
 {
-    set_names(s, geometry, n, inode, inode.names + 1)?;
-    name_inode(s, geometry, dir, directory, name, n)?;
+    set_names(s, geometry, ino, inode, inode.names + 1)?;
+    name_inode(s, geometry, dir_ino, directory, name, ino)?;
     Ok(())
 }
 
@@ -169,16 +183,16 @@ pub fn link<S: Sectors>(s: &mut S, caller: &Caller, old: &Path, new: &Path) -> C
     ensures { PerformsFor caller.now (Link old.now new.now) (S.state s.old) (S.state s.new) result }
 {
     let walked = walk_both(s, caller, old, new)?;
-    let (n, inode, directory) = check_link(s, caller, &walked)?;
+    let (ino, inode, directory) = check_link(s, caller, &walked)?;
     let second = &walked.second;
     let name = second.name.bytes();
-    let dir = second.dir;
-    add_name(s, caller.geometry, dir, directory, name, n, &inode)?;
+    let dir_ino = second.dir_ino;
+    add_name(s, caller.geometry, dir_ino, directory, name, ino, &inode)?;
     touch(
         s,
         caller.geometry,
         caller.time,
-        &[(dir, Touch::Modified), (n, Touch::Changed)],
+        &[(dir_ino, Touch::Modified), (ino, Touch::Changed)],
     )?;
     Ok(Reply::Done)
 }

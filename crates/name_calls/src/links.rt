@@ -1,8 +1,18 @@
 //! Symbolic links: POSIX.1-2017, symlink() and readlink().
 
 ghost use Rattle.std.specs.Prelude.{◌≡◌, ℕ, not, Ok, OnOk, IfOk, IfErr};
-ghost use Rattle.call_parts.specs.DiskWords.{IsBytes, inode_at, SameStore, IsUnchanged, IsSound, HasSpare, TakesSpare};
-ghost use Rattle.call_parts.specs.ModelWords.{born_link, the_node, refuse, first_of, symlink_arguments, is_link_kind, Tree, IsTarget, refused_or, FailsToRead, HoldsTree};
+ghost use Rattle.fs_layout.specs.Bytes.{IsBytes};
+ghost use Rattle.fs_layout.specs.Images.{inode_at};
+ghost use Rattle.sector_txn.specs.Sectors.{SameStore, IsUnchanged};
+ghost use Rattle.bit_alloc.specs.Inodes.{IsSound};
+ghost use Rattle.bit_alloc.specs.Room.{HasSpare, TakesSpare};
+ghost use Rattle.fs_model.specs.Births.{born_link, the_node};
+ghost use Rattle.fs_model.specs.Demands.{refuse, first_of};
+ghost use Rattle.fs_model.specs.NameCalls.{symlink_arguments};
+ghost use Rattle.fs_model.specs.Summaries.{is_link_kind};
+ghost use Rattle.fs_model.specs.Trees.{Tree, IsTarget};
+ghost use Rattle.path_walk.specs.Answers.{refused_or, FailsToRead};
+ghost use Rattle.path_walk.specs.HeldTrees.{HoldsTree};
 ghost use Rattle.fs_model.specs.declared.call.Call.TheVariants.{Symlink, Readlink};
 ghost use Rattle.call_parts.specs.Performing.{IsReadyFor, PerformsFor};
 ghost use Rattle.call_parts.specs.Makings.{CanMake};
@@ -49,34 +59,34 @@ pub(crate) fn check_link_name(found: &Found) -> Result<(), Refusal>
     Ok(())
 }
 
-// Makes a link with this target, and names it in directory dir. EIO: the disk has failed.
+// Makes a link with this target, and names it in directory `dir_ino`. EIO: the disk has failed.
 fn place_link<S: Sectors>(
     s: &mut S,
     geometry: Geometry,
-    dir: u32,
+    dir_ino: u32,
     directory: Inode,
     name: &[u8],
     cred: &Cred,
     target: &[u8],
 ) -> Result<u32, Refusal>
     requires sound { IsSound geometry (S.state s.old) }
-    requires directory { directory ≡ inode_at geometry (S.state s.old).sectors dir }
-    requires may { (t : Tree) × CanMake geometry (S.state s.old).sectors t dir name.now }
+    requires directory { directory ≡ inode_at geometry (S.state s.old).sectors dir_ino }
+    requires may { (t : Tree) × CanMake geometry (S.state s.old).sectors t dir_ino name.now }
     requires target { IsTarget target.now }
     requires spare { HasSpare geometry 47 (S.state s.old) }
     ensures store { SameStore (S.state s.old) (S.state s.new) }
-    ensures made { IfOk result (λ n. MakesNode geometry dir name.now n (link_made directory cred.now target.now)
+    ensures made { IfOk result (λ n. MakesNode geometry dir_ino name.now n (link_made directory cred.now target.now)
         (S.state s.old).sectors (S.state s.new).sectors) }
     ensures taken { OnOk result (TakesSpare geometry 7 (S.state s.old) (S.state s.new)) }
     ensures err { IfErr result (FailsToRead (S.state s.old).disk (S.state s.new).disk) }
 {
     let uid = cred.uid();
     let gid = new_group(&directory, cred);
-    let Ok(n) = new_link(s, geometry, uid, gid, target) else {
+    let Ok(ino) = new_link(s, geometry, uid, gid, target) else {
         return Err(Refusal::Failed(Errno::EIO));
     };
-    name_inode(s, geometry, dir, directory, name, n)?;
-    Ok(n)
+    name_inode(s, geometry, dir_ino, directory, name, ino)?;
+    Ok(ino)
 }
 
 // Asks what is asked of the directory of the last lookup, and makes a link of the last name in it, whose number it answers.
@@ -89,23 +99,31 @@ fn make_link<S: Sectors>(
     requires sound { IsSound caller.now.geometry (S.state s.old) }
     requires spare { HasSpare caller.now.geometry 47 (S.state s.old) }
     requires name { (t : Tree) × HoldsTree caller.now.geometry (S.state s.old).sectors t
-        × IsNewIn caller.now.geometry t walked.now.found.dir walked.now.found.name }
+        × IsNewIn caller.now.geometry t walked.now.found.dir_ino walked.now.found.name }
     requires target { IsTarget target.now }
     ensures store { SameStore (S.state s.old) (S.state s.new) }
     ensures each { (t : Tree) → HoldsTree caller.now.geometry (S.state s.old).sectors t
-        → IsNewIn caller.now.geometry t walked.now.found.dir walked.now.found.name
+        → IsNewIn caller.now.geometry t walked.now.found.dir_ino walked.now.found.name
         → IsMade caller.now.geometry (S.state s.old) (S.state s.new) walked.now.process.now.cred t walked.now.found
-        (born_link walked.now.process.now.cred target.now (the_node t walked.now.found.dir)) result }
+        (born_link walked.now.process.now.cred target.now (the_node t walked.now.found.dir_ino)) result }
     ensures taken { OnOk result (TakesSpare caller.now.geometry 7 (S.state s.old) (S.state s.new)) }
 {
     let found = &walked.found;
     let cred = walked.process.cred();
     let step = found.step.saturating_sub(1);
-    let directory = check_make(s, caller, cred, found.dir, step)?;
+    let directory = check_make(s, caller, cred, found.dir_ino, step)?;
     let name = found.name.bytes();
     let bytes = target.bytes();
-    let n = place_link(s, caller.geometry, found.dir, directory, name, cred, bytes)?;
-    Ok(n)
+    let ino = place_link(
+        s,
+        caller.geometry,
+        found.dir_ino,
+        directory,
+        name,
+        cred,
+        bytes,
+    )?;
+    Ok(ino)
 }
 
 /// Makes a symbolic link. ENOENT: the target is empty, or the path ends in a slash. EINVAL: the target has a zero byte.
@@ -117,13 +135,13 @@ pub fn symlink<S: Sectors>(s: &mut S, caller: &Caller, target: &Path, path: &Pat
     let checks = check_target(target);
     let walked = walk_path(s, caller, checks, path, Form::Parent)?;
     check_link_name(&walked.found)?;
-    let n = make_link(s, caller, &walked, target)?;
-    let dir = walked.found.dir;
+    let ino = make_link(s, caller, &walked, target)?;
+    let dir_ino = walked.found.dir_ino;
     touch(
         s,
         caller.geometry,
         caller.time,
-        &[(dir, Touch::Modified), (n, Touch::Born)],
+        &[(dir_ino, Touch::Modified), (ino, Touch::Born)],
     )?;
     Ok(Reply::Done)
 }

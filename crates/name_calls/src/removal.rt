@@ -1,8 +1,22 @@
 //! Removing names: POSIX.1-2017, unlink() and rmdir().
 
 ghost use Rattle.std.specs.Prelude.{◌≡◌, ◌<◌, Ok, OnOk, IfErr};
-ghost use Rattle.call_parts.specs.DiskWords.{SectorMap, inode_at, SameStore, IsUnchanged, IsSound, HasSpare, TakesSpare};
-ghost use Rattle.call_parts.specs.ModelWords.{TakeName, changed, swept, first_of, Body, is_in_use, number, HoldsAll, placed, State, HoldsBody, Tree, refused_or, FailsToRead, IsAnswered, HoldsTree};
+ghost use Rattle.fs_layout.specs.Bytes.{SectorMap};
+ghost use Rattle.fs_layout.specs.Images.{inode_at};
+ghost use Rattle.sector_txn.specs.Sectors.{SameStore, IsUnchanged};
+ghost use Rattle.bit_alloc.specs.Inodes.{IsSound};
+ghost use Rattle.bit_alloc.specs.Room.{HasSpare, TakesSpare};
+ghost use Rattle.fs_model.specs.TreeChanges.{TakeName, changed, swept};
+ghost use Rattle.fs_model.specs.Demands.{first_of};
+ghost use Rattle.fs_model.specs.Nodes.{Body};
+ghost use Rattle.fs_model.specs.Processes.{is_in_use};
+ghost use Rattle.fs_model.specs.Scenes.{found_ino};
+ghost use Rattle.fs_model.specs.Stands.{HoldsAll, placed};
+ghost use Rattle.fs_model.specs.States.{State};
+ghost use Rattle.fs_model.specs.StoredNodes.{HoldsBody};
+ghost use Rattle.fs_model.specs.Trees.{Tree};
+ghost use Rattle.path_walk.specs.Answers.{refused_or, FailsToRead, IsAnswered};
+ghost use Rattle.path_walk.specs.HeldTrees.{HoldsTree};
 ghost use Rattle.fs_layout.specs.declared.version.Version.{Version};
 ghost use Rattle.fs_model.specs.declared.call.Call.TheVariants.{Unlink, Rmdir};
 ghost use Rattle.call_parts.specs.Paths.{scene_at};
@@ -72,27 +86,27 @@ fn check_removal<S: Sectors>(
     ensures each { (t : Tree) → HoldsTree caller.now.geometry (S.state s.old).sectors t → IsNamedThere t walked.now.found
         → IsAnswered (S.state s.old).disk (S.state s.new).disk
         (refused_or (first_of (removal_asked walked.now.process.now.cred t walked.now.found))
-        (Ok (number walked.now.found, inode_at caller.now.geometry (S.state s.old).sectors (number walked.now.found)))) result }
+        (Ok (found_ino walked.now.found, inode_at caller.now.geometry (S.state s.old).sectors (found_ino walked.now.found)))) result }
     ensures same { IsUnchanged (S.state s.old) (S.state s.new) }
 {
     let process = walked.process;
     let found = &walked.found;
-    let (n, inode) = inode_found(s, caller.geometry, found)?;
+    let (ino, inode) = inode_found(s, caller.geometry, found)?;
     check_slash(found, inode.kind)?;
     let directory = ask_directory(s, caller, process, found, 1)?;
     check_sticky(process, found, &directory, &inode, 1)?;
-    Ok((n, inode))
+    Ok((ino, inode))
 }
 
 /// Asks whether what is to go is an empty directory that isn't in use.
-pub(crate) fn check_directory(procs: &Procs, n: u32, inode: &Inode) -> Result<(), Refusal>
+pub(crate) fn check_directory(procs: &Procs, ino: u32, inode: &Inode) -> Result<(), Refusal>
     ensures { (version : Version) (image : SectorMap) (b : Body) → HoldsBody version image inode.now b
-        → result ≡ refused_or (first_of (directory_asked b (is_in_use procs.now n))) (Ok tt) }
+        → result ≡ refused_or (first_of (directory_asked b (is_in_use procs.now ino))) (Ok tt) }
 {
     if inode.kind != Kind::Directory {
         return Err(Refusal::Failed(Errno::ENOTDIR));
     }
-    if procs.in_use(n) {
+    if procs.in_use(ino) {
         return Err(Refusal::Failed(Errno::EBUSY));
     }
     if !is_empty(inode) {
@@ -102,13 +116,13 @@ pub(crate) fn check_directory(procs: &Procs, n: u32, inode: &Inode) -> Result<()
 }
 
 // Asks whether what is to go is what the call removes.
-fn check_kind(procs: &Procs, n: u32, inode: &Inode, what: Target) -> Result<(), Refusal>
+fn check_kind(procs: &Procs, ino: u32, inode: &Inode, what: Target) -> Result<(), Refusal>
     ensures { (version : Version) (image : SectorMap) (b : Body) → HoldsBody version image inode.now b
-        → result ≡ refused_or (first_of (kind_asked what b (is_in_use procs.now n))) (Ok tt) }
+        → result ≡ refused_or (first_of (kind_asked what b (is_in_use procs.now ino))) (Ok tt) }
 {
     match what {
         Target::NoDirectory => check_no_directory(inode.kind),
-        Target::Directory => check_directory(procs, n, inode),
+        Target::Directory => check_directory(procs, ino, inode),
     }
 }
 
@@ -126,39 +140,39 @@ fn check_target<S: Sectors>(
         → FindsName caller.now.geometry (S.state s.old).sectors caller.now.procs.now walked.now.process.now walked.now.found st
         → IsAnswered (S.state s.old).disk (S.state s.new).disk
         (refused_or (first_of (removal_demands what (scene_at st walked.now.process.now walked.now.found)))
-        (Ok (number walked.now.found, inode_at caller.now.geometry (S.state s.old).sectors (number walked.now.found)))) result }
+        (Ok (found_ino walked.now.found, inode_at caller.now.geometry (S.state s.old).sectors (found_ino walked.now.found)))) result }
     ensures same { IsUnchanged (S.state s.old) (S.state s.new) }
 {
     check_last(&walked.found, what)?;
-    let (n, inode) = check_removal(s, caller, walked)?;
-    check_kind(caller.procs, n, &inode, what)?;
-    Ok((n, inode))
+    let (ino, inode) = check_removal(s, caller, walked)?;
+    check_kind(caller.procs, ino, &inode, what)?;
+    Ok((ino, inode))
 }
 
-// Takes a name from directory dir, where it leads to inode n, which goes with its last name unless it is open. EIO: the
-// disk has failed.
+// Takes a name from directory `dir_ino`, where it leads to inode `ino`, which goes with its last name unless it is
+// open. EIO: the disk has failed.
 fn take_name<S: Sectors>(
     s: &mut S,
     geometry: Geometry,
     procs: &Procs,
-    dir: u32,
+    dir_ino: u32,
     name: &[u8],
-    n: u32,
+    ino: u32,
     inode: Inode,
 ) -> Result<(), Refusal>
     requires sound { IsSound geometry (S.state s.old) }
-    requires inode { inode ≡ inode_at geometry (S.state s.old).sectors n }
-    requires may { (st : State) × IsStateOf geometry (S.state s.old).sectors procs.now st × MayGo st dir name.now n }
+    requires inode { inode ≡ inode_at geometry (S.state s.old).sectors ino }
+    requires may { (st : State) × IsStateOf geometry (S.state s.old).sectors procs.now st × MayGo st dir_ino name.now ino }
     requires spare { HasSpare geometry 47 (S.state s.old) }
     ensures store { SameStore (S.state s.old) (S.state s.new) }
     ensures superblock { OnOk result ((S.state s.new).sectors 0 ≡ (S.state s.old).sectors 0) }
-    ensures taken { OnOk result ((st : State) → IsStateOf geometry (S.state s.old).sectors procs.now st → MayGo st dir name.now n
-        → HoldsAll geometry (S.state s.new).sectors (placed (swept (changed st.tree (TakeName dir name.now)) procs.now))) }
+    ensures taken { OnOk result ((st : State) → IsStateOf geometry (S.state s.old).sectors procs.now st → MayGo st dir_ino name.now ino
+        → HoldsAll geometry (S.state s.new).sectors (placed (swept (changed st.tree (TakeName dir_ino name.now)) procs.now))) }
     ensures room { OnOk result (TakesSpare geometry 6 (S.state s.old) (S.state s.new)) }
     ensures fault { IfErr result (FailsToRead (S.state s.old).disk (S.state s.new).disk) }
 {
-    remove_name(s, geometry, dir, name)?;
-    lose_name(s, geometry, procs, n, &inode)?;
+    remove_name(s, geometry, dir_ino, name)?;
+    lose_name(s, geometry, procs, ino, &inode)?;
     Ok(())
 }
 
@@ -168,16 +182,16 @@ fn remove_target<S: Sectors>(s: &mut S, caller: &Caller, path: &Path, what: Targ
     ensures { PerformsFor caller.now (removal_call what path.now) (S.state s.old) (S.state s.new) result }
 {
     let walked = walk_path(s, caller, Ok(()), path, Form::Parent)?;
-    let (n, inode) = check_target(s, caller, &walked, what)?;
+    let (ino, inode) = check_target(s, caller, &walked, what)?;
     let found = &walked.found;
     let name = found.name.bytes();
-    let dir = found.dir;
-    take_name(s, caller.geometry, caller.procs, dir, name, n, inode)?;
+    let dir_ino = found.dir_ino;
+    take_name(s, caller.geometry, caller.procs, dir_ino, name, ino, inode)?;
     touch(
         s,
         caller.geometry,
         caller.time,
-        &[(dir, Touch::Modified), (n, Touch::Changed)],
+        &[(dir_ino, Touch::Modified), (ino, Touch::Changed)],
     )?;
     Ok(Reply::Done)
 }

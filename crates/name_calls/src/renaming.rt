@@ -1,8 +1,16 @@
 //! Names that change: POSIX.1-2017, rename().
 
 ghost use Rattle.std.specs.Prelude.{◌≡◌, ◌<◌, ◌||◌, ℕ, Some, Ok};
-ghost use Rattle.call_parts.specs.DiskWords.{inode_at, IsUnchanged, IsSound};
-ghost use Rattle.call_parts.specs.ModelWords.{first_of, rename_demands, number, ends_top, ends_dot, ends_dot_dot, State, Tree, refused_or, IsAnswered, HoldsTree, IsThere};
+ghost use Rattle.fs_layout.specs.Images.{inode_at};
+ghost use Rattle.sector_txn.specs.Sectors.{IsUnchanged};
+ghost use Rattle.bit_alloc.specs.Inodes.{IsSound};
+ghost use Rattle.fs_model.specs.Demands.{first_of};
+ghost use Rattle.fs_model.specs.RenameCall.{rename_demands};
+ghost use Rattle.fs_model.specs.Scenes.{found_ino, ends_top, ends_dot, ends_dot_dot};
+ghost use Rattle.fs_model.specs.States.{State};
+ghost use Rattle.fs_model.specs.Trees.{Tree};
+ghost use Rattle.path_walk.specs.Answers.{refused_or, IsAnswered};
+ghost use Rattle.path_walk.specs.HeldTrees.{HoldsTree, IsThere};
 ghost use Rattle.fs_model.specs.declared.call.Call.TheVariants.{Rename};
 ghost use Rattle.call_parts.specs.Performing.{IsReadyFor, PerformsFor};
 ghost use Rattle.name_calls.specs.Renaming.{ends_asked, names_asked, inode_there, other_kind, directory_kind, slash_told, replacing_asked};
@@ -67,11 +75,11 @@ fn inode_replaced<S: Sectors>(
         (Ok (inode_there geometry (S.state s.old).sectors found.now.ino)) result }
     ensures same { IsUnchanged (S.state s.old) (S.state s.new) }
 {
-    let Some(n) = found.ino else {
+    let Some(ino) = found.ino else {
         return Ok(None);
     };
-    let inode = load_inode(s, geometry, n)?;
-    Ok(Some((n, inode)))
+    let inode = load_inode(s, geometry, ino)?;
+    Ok(Some((ino, inode)))
 }
 
 // Whether something is there that is no directory.
@@ -143,25 +151,25 @@ fn check_renamed<S: Sectors>(
         → IsAnswered (S.state s.old).disk (S.state s.new).disk
         (refused_or (first_of (names_asked t first.now second.now))
         (Ok (
-          number first.now,
-          inode_at geometry (S.state s.old).sectors (number first.now),
+          found_ino first.now,
+          inode_at geometry (S.state s.old).sectors (found_ino first.now),
           inode_there geometry (S.state s.old).sectors second.now.ino,
         ))) result }
     ensures same { IsUnchanged (S.state s.old) (S.state s.new) }
 {
     check_ends(first, second)?;
-    let (n, inode) = inode_found(s, geometry, first)?;
+    let (ino, inode) = inode_found(s, geometry, first)?;
     let replaced = inode_replaced(s, geometry, second)?;
     check_slashes(first, second, inode.kind, &replaced)?;
-    Ok((n, inode, replaced))
+    Ok((ino, inode, replaced))
 }
 
-// Whether what is replaced is inode n itself.
-fn is_same(n: u32, replaced: &Option<(u32, Inode)>) -> bool
-    ensures { result ≡ same_number n replaced.now }
+// Whether what is replaced is inode `ino` itself.
+fn is_same(ino: u32, replaced: &Option<(u32, Inode)>) -> bool
+    ensures { result ≡ same_number ino replaced.now }
 {
     match replaced {
-        Some((m, _)) => n == *m,
+        Some((m, _)) => ino == *m,
         None => false,
     }
 }
@@ -183,18 +191,18 @@ fn check_rename<S: Sectors>(
         → IsAnswered (S.state s.old).disk (S.state s.new).disk
         (refused_or (first_of (rename_demands (scene_with st walked.now.process.now walked.now.first walked.now.second)))
         (Ok (
-          number walked.now.first,
-          inode_at caller.now.geometry (S.state s.old).sectors (number walked.now.first),
+          found_ino walked.now.first,
+          inode_at caller.now.geometry (S.state s.old).sectors (found_ino walked.now.first),
           inode_there caller.now.geometry (S.state s.old).sectors walked.now.second.ino,
         ))) result }
     ensures same { IsUnchanged (S.state s.old) (S.state s.new) }
 {
-    let (n, inode, replaced) = check_renamed(s, caller.geometry, &walked.first, &walked.second)?;
-    if is_same(n, &replaced) {
-        return Ok((n, inode, replaced));
+    let (ino, inode, replaced) = check_renamed(s, caller.geometry, &walked.first, &walked.second)?;
+    if is_same(ino, &replaced) {
+        return Ok((ino, inode, replaced));
     }
-    check_move(s, caller, walked, n, &inode, &replaced)?;
-    Ok((n, inode, replaced))
+    check_move(s, caller, walked, ino, &inode, &replaced)?;
+    Ok((ino, inode, replaced))
 }
 
 /// Gives what the path `old` leads to the name that the path `new` ends in, in place of what that led to: a file, a symbolic
@@ -209,11 +217,11 @@ pub fn rename<S: Sectors>(s: &mut S, caller: &Caller, old: &Path, new: &Path) ->
     ensures { PerformsFor caller.now (Rename old.now new.now) (S.state s.old) (S.state s.new) result }
 {
     let walked = walk_both(s, caller, old, new)?;
-    let (n, inode, replaced) = check_rename(s, caller, &walked)?;
-    if is_same(n, &replaced) {
+    let (ino, inode, replaced) = check_rename(s, caller, &walked)?;
+    if is_same(ino, &replaced) {
         return Ok(Reply::Done);
     }
-    move_name(s, caller, &walked, n, &inode, &replaced)?;
-    touch_moved(s, caller, &walked, n)?;
+    move_name(s, caller, &walked, ino, &inode, &replaced)?;
+    touch_moved(s, caller, &walked, ino)?;
     Ok(Reply::Done)
 }

@@ -1,9 +1,17 @@
 //! What rename asks of both directories, and of what it replaces.
 
 ghost use Rattle.std.specs.Prelude.{◌≡◌, ◌-◌, ℕ, Option, Some, Ok};
-ghost use Rattle.call_parts.specs.DiskWords.{SectorMap, inode_at, IsUnchanged, IsSound};
-ghost use Rattle.call_parts.specs.ModelWords.{first_of, ProcessTable, rename_permissions, rename_moved, rename_space, State, Tree, IsDirectoryAt, refused_or, IsAnswered, HoldsTree, IsThere};
-ghost use Rattle.fs_model.specs.Processes.{Process as Asking};
+ghost use Rattle.fs_layout.specs.Bytes.{SectorMap};
+ghost use Rattle.fs_layout.specs.Images.{inode_at};
+ghost use Rattle.sector_txn.specs.Sectors.{IsUnchanged};
+ghost use Rattle.bit_alloc.specs.Inodes.{IsSound};
+ghost use Rattle.fs_model.specs.Demands.{first_of};
+ghost use Rattle.fs_model.specs.Processes.{ProcessTable, Process as Asking};
+ghost use Rattle.fs_model.specs.RenameCall.{rename_permissions, rename_moved, rename_space};
+ghost use Rattle.fs_model.specs.States.{State};
+ghost use Rattle.fs_model.specs.Trees.{Tree, IsDirectoryAt};
+ghost use Rattle.path_walk.specs.Answers.{refused_or, IsAnswered};
+ghost use Rattle.path_walk.specs.HeldTrees.{HoldsTree, IsThere};
 ghost use Rattle.name_calls.specs.Renaming.{inode_there};
 ghost use Rattle.name_calls.specs.Replacing.{IsToRename, sticky_there, below_asked, replaced_asked, move_asked};
 ghost use Rattle.call_parts.specs.TwoPaths.{scene_with};
@@ -60,7 +68,7 @@ fn check_permissions<S: Sectors>(
         n inode.now replaced.now st
         → IsAnswered (S.state s.old).disk (S.state s.new).disk
         (refused_or (first_of (rename_permissions (scene_with st walked.now.process.now walked.now.first walked.now.second)))
-        (Ok (inode_at caller.now.geometry (S.state s.old).sectors walked.now.second.dir))) result }
+        (Ok (inode_at caller.now.geometry (S.state s.old).sectors walked.now.second.dir_ino))) result }
     ensures same { IsUnchanged (S.state s.old) (S.state s.new) }
 {
     let process = walked.process;
@@ -73,24 +81,24 @@ fn check_permissions<S: Sectors>(
     Ok(to_directory)
 }
 
-// Asks whether what has this kind may go to directory dir: a directory doesn't go below itself.
+// Asks whether what has this kind may go to directory `dir_ino`: a directory doesn't go below itself.
 fn check_below<S: Sectors>(
     s: &mut S,
     geometry: Geometry,
-    n: u32,
+    ino: u32,
     kind: Kind,
-    dir: u32,
+    dir_ino: u32,
 ) -> Result<(), Refusal>
     requires sound { IsSound geometry (S.state s.old) }
-    requires there { (t : Tree) × HoldsTree geometry (S.state s.old).sectors t × IsDirectoryAt t dir }
-    ensures each { (t : Tree) → HoldsTree geometry (S.state s.old).sectors t → IsDirectoryAt t dir
-        → IsAnswered (S.state s.old).disk (S.state s.new).disk (refused_or (below_asked t kind n dir) (Ok tt)) result }
+    requires there { (t : Tree) × HoldsTree geometry (S.state s.old).sectors t × IsDirectoryAt t dir_ino }
+    ensures each { (t : Tree) → HoldsTree geometry (S.state s.old).sectors t → IsDirectoryAt t dir_ino
+        → IsAnswered (S.state s.old).disk (S.state s.new).disk (refused_or (below_asked t kind ino dir_ino) (Ok tt)) result }
     ensures same { IsUnchanged (S.state s.old) (S.state s.new) }
 {
     if kind != Kind::Directory {
         return Ok(());
     }
-    let below = is_below(s, geometry, n, dir)?;
+    let below = is_below(s, geometry, ino, dir_ino)?;
     if below {
         return Err(Refusal::Failed(Errno::EINVAL));
     }
@@ -104,13 +112,13 @@ fn check_replaced(procs: &Procs, replaced: &Option<(u32, Inode)>) -> Result<(), 
         → replaced.now ≡ inode_there p map g.ino
         → result ≡ refused_or (first_of (replaced_asked t procs.now g)) (Ok tt) }
 {
-    let Some((n, inode)) = replaced else {
+    let Some((ino, inode)) = replaced else {
         return Ok(());
     };
     if inode.kind != Kind::Directory {
         return Ok(());
     }
-    check_directory(procs, *n, inode)?;
+    check_directory(procs, *ino, inode)?;
     Ok(())
 }
 
@@ -138,7 +146,7 @@ fn check_moved<S: Sectors>(
     if inode.kind != Kind::Directory {
         return Ok(());
     }
-    if first.dir == second.dir {
+    if first.dir_ino == second.dir_ino {
         return Ok(());
     }
     let cred = walked.process.cred();
@@ -157,7 +165,7 @@ fn check_space<S: Sectors>(
     requires sound { IsSound geometry (S.state s.old) }
     ensures each { (processes : ProcessTable) (q : Asking) (n : ℕ) (v : Inode) (there : Option (ℕ × Inode)) (st : State)
         → IsToRename geometry (S.state s.old).sectors processes walked.now.first walked.now.second n v there st
-        → to_directory.now ≡ inode_at geometry (S.state s.old).sectors walked.now.second.dir
+        → to_directory.now ≡ inode_at geometry (S.state s.old).sectors walked.now.second.dir_ino
         → IsAnswered (S.state s.old).disk (S.state s.new).disk
         (refused_or (first_of (rename_space (scene_with st q walked.now.first walked.now.second))) (Ok tt)) result }
     ensures same { IsUnchanged (S.state s.old) (S.state s.new) }
@@ -165,7 +173,7 @@ fn check_space<S: Sectors>(
     if walked.second.ino.is_some() {
         return Ok(());
     }
-    if walked.first.dir == walked.second.dir {
+    if walked.first.dir_ino == walked.second.dir_ino {
         return Ok(());
     }
     ask_for_name(s, geometry, to_directory)?;
@@ -177,17 +185,17 @@ pub(crate) fn check_move<S: Sectors>(
     s: &mut S,
     caller: &Caller,
     walked: &WalkedBoth,
-    n: u32,
+    ino: u32,
     inode: &Inode,
     replaced: &Option<(u32, Inode)>,
 ) -> Result<(), Refusal>
     requires sound { IsSound caller.now.geometry (S.state s.old) }
     requires names { (st : State)
         × IsToRename caller.now.geometry (S.state s.old).sectors caller.now.procs.now
-        walked.now.first walked.now.second n inode.now replaced.now st }
+        walked.now.first walked.now.second ino inode.now replaced.now st }
     ensures each { (st : State)
         → IsToRename caller.now.geometry (S.state s.old).sectors caller.now.procs.now
-        walked.now.first walked.now.second n inode.now replaced.now st
+        walked.now.first walked.now.second ino inode.now replaced.now st
         → IsAnswered (S.state s.old).disk (S.state s.new).disk
         (refused_or (first_of (move_asked
         (scene_with st walked.now.process.now walked.now.first walked.now.second))) (Ok tt)) result }
@@ -195,7 +203,7 @@ pub(crate) fn check_move<S: Sectors>(
 {
     let to_directory = check_permissions(s, caller, walked, inode, replaced)?;
     check_kinds(inode.kind, replaced)?;
-    check_below(s, caller.geometry, n, inode.kind, walked.second.dir)?;
+    check_below(s, caller.geometry, ino, inode.kind, walked.second.dir_ino)?;
     check_replaced(caller.procs, replaced)?;
     check_moved(s, caller, walked, inode)?;
     check_space(s, caller.geometry, walked, &to_directory)?;

@@ -111,7 +111,7 @@ set_is_table slots pid p q t some here runs =
 -- ---- who has an inode open
 
 abbrev pub has_open : ℕ → Process → Bool
-has_open ino p = list_any (λ d. d.1.number == ino) p.descriptors
+has_open ino p = list_any (λ d. d.1.ino == ino) p.descriptors
 
 pub open_by_some : (slots : List (Option Process)) (ino : ℕ)
     → list_any (λ (e : ℕ × Process). has_open ino e.1) (entries_from 0 slots) ≡ is_open (entries_from 1 slots) ino

@@ -70,33 +70,33 @@ empty_unused slots (Some fd) e = at_fd slots fd ∙ nothing (get_or slots fd Non
 -- ---- an inode that is open
 
 abbrev pub has_number : ℕ → Descriptor → Bool
-has_number ino d = d.number == ino
+has_number ino d = d.ino == ino
 
 pub found_in : (slots : List (Option Descriptor)) (i : ℕ) (x : Option Descriptor) (d : Descriptor) (ino : ℕ) → i < length slots
-    → x ≡ get_or slots i x → x ≡ Some d → d.number ≡ ino → true ≡ list_any (λ (e : ℕ × Descriptor). e.1.number == ino) (entries_from 0 slots)
+    → x ≡ get_or slots i x → x ≡ Some d → d.ino ≡ ino → true ≡ list_any (λ (e : ℕ × Descriptor). e.1.ino == ino) (entries_from 0 slots)
 found_in slots i x d ino lt is some same =
-    let tests : (d.number == ino) ≡ true = grind (arith, nat_tests) in
+    let tests : (d.ino == ino) ≡ true = grind (arith, nat_tests) in
     let here : get_or slots i None ≡ Some d = sym (get_or_default slots i x None lt) ∙ sym is ∙ some in
     let holds_here : holds (has_number ino) (get_or slots i None) ≡ true = ap (holds (has_number ino)) here ∙ tests in
     sym (sym (any_slot (has_number ino) 0 slots) ∙ list_any_at (holds (has_number ino)) slots i None lt holds_here)
 
 pub found_nowhere : (slots : List (Option Descriptor)) (i ino : ℕ) → length slots ≤ i → list_any (holds (has_number ino)) (take i slots) ≡ false
-    → false ≡ list_any (λ (e : ℕ × Descriptor). e.1.number == ino) (entries_from 0 slots)
+    → false ≡ list_any (λ (e : ℕ × Descriptor). e.1.ino == ino) (entries_from 0 slots)
 found_nowhere slots i ino le none =
     sym (sym (any_slot (has_number ino) 0 slots) ∙ ap (list_any (holds (has_number ino))) (sym (take_all i slots le)) ∙ none)
 
 -- before a slot or after it
 pub found_besides : (slots : List (Option Descriptor)) (fd ino : ℕ) → fd < length slots
-    → (list_any (λ (e : ℕ × Descriptor). e.1.number == ino) (entries_from 0 (take fd slots))
-    || list_any (λ (e : ℕ × Descriptor). e.1.number == ino) (entries_from 0 (drop (fd + 1) slots)))
-    ≡ list_any (λ (e : ℕ × Descriptor). e.1.number == ino) (without nat_cmp (entries_from 0 slots) fd)
+    → (list_any (λ (e : ℕ × Descriptor). e.1.ino == ino) (entries_from 0 (take fd slots))
+    || list_any (λ (e : ℕ × Descriptor). e.1.ino == ino) (entries_from 0 (drop (fd + 1) slots)))
+    ≡ list_any (λ (e : ℕ × Descriptor). e.1.ino == ino) (without nat_cmp (entries_from 0 slots) fd)
 found_besides slots fd ino lt =
-    ap (λ b. b || list_any (λ (e : ℕ × Descriptor). e.1.number == ino) (entries_from 0 (drop (fd + 1) slots)))
+    ap (λ b. b || list_any (λ (e : ℕ × Descriptor). e.1.ino == ino) (entries_from 0 (drop (fd + 1) slots)))
     (sym (any_slot (has_number ino) 0 (take fd slots)))
     ∙ ap (λ b. list_any (holds (has_number ino)) (take fd slots) || b) (sym (any_slot (has_number ino) 0 (drop (fd + 1) slots)))
     ∙ ap (λ n. list_any (holds (has_number ino)) (take fd slots) || list_any (holds (has_number ino)) (drop n slots)) (add-one fd)
     ∙ sym (any_split (has_number ino) fd slots lt) ∙ any_slot (has_number ino) 0 (set slots fd None)
-    ∙ ap (list_any (λ (e : ℕ × Descriptor). e.1.number == ino)) (taken_out slots fd lt)
+    ∙ ap (list_any (λ (e : ℕ × Descriptor). e.1.ino == ino)) (taken_out slots fd lt)
 
 pub besides_before : (a b w r : Bool) → r ≡ a → r ≡ true → (a || b) ≡ w → r ≡ w
 besides_before true b w r e t h = e ∙ h

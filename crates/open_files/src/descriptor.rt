@@ -6,7 +6,7 @@ use std::marker::Model;
 #[derive(Clone, Copy)]
 pub struct Descriptor {
     /// The inode.
-    pub number: u32,
+    pub ino: u32,
     /// The byte at which the next read or write begins.
     pub offset: u64,
     /// The file was opened for reading.
@@ -22,8 +22,8 @@ impl Model for Descriptor {
 
     ghost Value = { OpenFile };
 
-    ghost view = { λ d. record { number = d.number; offset = d.offset; read = d.read; write = d.write; append = d.append } };
+    ghost view = { λ d. record { ino = d.ino; offset = d.offset; read = d.read; write = d.write; append = d.append } };
 
     // A descriptor is told by what a contract sees of it.
-    ghost inverse = { λ d. record { number = d.number; offset = d.offset; read = d.read; write = d.write; append = d.append } };
+    ghost inverse = { λ d. record { ino = d.ino; offset = d.offset; read = d.read; write = d.write; append = d.append } };
 }

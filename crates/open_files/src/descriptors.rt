@@ -85,7 +85,7 @@ impl Descriptors {
 
     /// Whether an inode is open at some descriptor.
     pub(crate) fn has(&self, ino: u32) -> bool
-        ensures { result ≡ list_any (λ d. d.1.number == ino) self.now }
+        ensures { result ≡ list_any (λ d. d.1.ino == ino) self.now }
     {
         is_in(&self.slots, ino)
     }
@@ -93,7 +93,7 @@ impl Descriptors {
     /// Whether an inode is open at a descriptor other than this one.
     pub(crate) fn has_besides(&self, fd: usize, ino: u32) -> bool
         requires { fd < descriptors_limit }
-        ensures { result ≡ list_any (λ d. d.1.number == ino) (without nat_cmp self.now fd) }
+        ensures { result ≡ list_any (λ d. d.1.ino == ino) (without nat_cmp self.now fd) }
     {
         let slots = &self.slots[..];
         is_in(&slots[..fd], ino) || is_in(&slots[fd + 1..], ino)
@@ -109,11 +109,11 @@ fn first_empty(slots: &[Option<Descriptor>]) -> Option<usize>
 
 // Whether an inode is open in one of these slots.
 fn is_in(slots: &[Option<Descriptor>], ino: u32) -> bool
-    ensures { result ≡ list_any (λ d. d.1.number == ino) (entries_from 0 slots.now) }
+    ensures { result ≡ list_any (λ d. d.1.ino == ino) (entries_from 0 slots.now) }
 {
     for slot in slots {
         if let Some(descriptor) = slot
-            && descriptor.number == ino
+            && descriptor.ino == ino
         {
             return true;
         }

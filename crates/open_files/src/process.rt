@@ -96,12 +96,12 @@ impl Process {
         old
     }
 
-    pub(crate) fn stand_at(&mut self, directory: u32, second: u32)
-        ensures set { self.new ≡ standing_at directory second self.old }
+    pub(crate) fn stand_at(&mut self, dir_ino: u32, second_ino: u32)
+        ensures set { self.new ≡ standing_at dir_ino second_ino self.old }
         ensures kept { IsKeptProcess self.new }
     {
-        self.cwd = directory;
-        self.second_cwd = second;
+        self.cwd = dir_ino;
+        self.second_cwd = second_ino;
     }
 
     // The lowest unused descriptor; `None` where all are used.
@@ -159,7 +159,7 @@ impl Process {
 
     // Whether the process has an inode open.
     pub(crate) fn has_open(&self, ino: u32) -> bool
-        ensures { result ≡ list_any (λ d. d.1.number == ino) self.now.descriptors }
+        ensures { result ≡ list_any (λ d. d.1.ino == ino) self.now.descriptors }
     {
         self.descriptors.has(ino)
     }
@@ -167,7 +167,7 @@ impl Process {
     // Whether the process has an inode open at a descriptor other than this one.
     pub(crate) fn has_open_besides(&self, fd: usize, ino: u32) -> bool
         requires { IsSome (descriptor self.now fd) }
-        ensures { result ≡ list_any (λ d. d.1.number == ino) (without nat_cmp self.now.descriptors fd) }
+        ensures { result ≡ list_any (λ d. d.1.ino == ino) (without nat_cmp self.now.descriptors fd) }
     {
         self.descriptors.has_besides(fd, ino)
     }

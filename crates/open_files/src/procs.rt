@@ -126,14 +126,14 @@ impl Procs {
     }
 
     /// A process that is there stands in a directory from now on, and the second path of its rename and link starts at another.
-    pub fn stand_at(&mut self, pid: usize, directory: u32, second: u32)
+    pub fn stand_at(&mut self, pid: usize, dir_ino: u32, second_ino: u32)
         requires found { IsSome (get nat_cmp self.old pid) }
-        ensures set { self.new ≡ with_changed self.old pid (standing_at directory second) }
+        ensures set { self.new ≡ with_changed self.old pid (standing_at dir_ino second_ino) }
     {
         let Some(process) = self.slab.get_mut(pid - 1) else {
             return;
         };
-        process.stand_at(directory, second);
+        process.stand_at(dir_ino, second_ino);
     }
 
     /// The lowest unused descriptor of a process, which its next open gets. `ESRCH`: there is no such process. `EMFILE`: all

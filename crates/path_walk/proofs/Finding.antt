@@ -30,20 +30,20 @@ use Rattle.path_walk.proofs.HeldNodes.{Stands, stands, held_kind, held_access}
 use Rattle.path_walk.proofs.Onward.{alone_reaches}
 
 -- ---- names
-pub dot_is : (t : Tree) (dir : ℕ) (names : List (List ℕ × ℕ)) (name : List ℕ) → is_dot name ≡ true → named_inode t dir names name ≡ Some dir
-dot_is t dir names name e = ap (λ (b : Bool). if b then Some dir else (if is_dot_dot name then Some (parent t dir) else get name_cmp names name)) e
+pub dot_is : (t : Tree) (dir_ino : ℕ) (names : List (List ℕ × ℕ)) (name : List ℕ) → is_dot name ≡ true → named_inode t dir_ino names name ≡ Some dir_ino
+dot_is t dir_ino names name e = ap (λ (b : Bool). if b then Some dir_ino else (if is_dot_dot name then Some (parent t dir_ino) else get name_cmp names name)) e
 
-other_is : (t : Tree) (dir : ℕ) (names : List (List ℕ × ℕ)) (name : List ℕ) → is_dot name ≡ false
-    → named_inode t dir names name ≡ (if is_dot_dot name then Some (parent t dir) else get name_cmp names name)
-other_is t dir names name e = ap (λ (b : Bool). if b then Some dir else (if is_dot_dot name then Some (parent t dir) else get name_cmp names name)) e
+other_is : (t : Tree) (dir_ino : ℕ) (names : List (List ℕ × ℕ)) (name : List ℕ) → is_dot name ≡ false
+    → named_inode t dir_ino names name ≡ (if is_dot_dot name then Some (parent t dir_ino) else get name_cmp names name)
+other_is t dir_ino names name e = ap (λ (b : Bool). if b then Some dir_ino else (if is_dot_dot name then Some (parent t dir_ino) else get name_cmp names name)) e
 
-pub dots_are : (t : Tree) (dir : ℕ) (names : List (List ℕ × ℕ)) (name : List ℕ) → is_dot name ≡ false → is_dot_dot name ≡ true
-    → named_inode t dir names name ≡ Some (parent t dir)
-dots_are t dir names name e f = other_is t dir names name e ∙ ap (λ (b : Bool). if b then Some (parent t dir) else get name_cmp names name) f
+pub dots_are : (t : Tree) (dir_ino : ℕ) (names : List (List ℕ × ℕ)) (name : List ℕ) → is_dot name ≡ false → is_dot_dot name ≡ true
+    → named_inode t dir_ino names name ≡ Some (parent t dir_ino)
+dots_are t dir_ino names name e f = other_is t dir_ino names name e ∙ ap (λ (b : Bool). if b then Some (parent t dir_ino) else get name_cmp names name) f
 
-pub name_is : (t : Tree) (dir : ℕ) (names : List (List ℕ × ℕ)) (name : List ℕ) → is_dot name ≡ false → is_dot_dot name ≡ false
-    → named_inode t dir names name ≡ get name_cmp names name
-name_is t dir names name e f = other_is t dir names name e ∙ ap (λ (b : Bool). if b then Some (parent t dir) else get name_cmp names name) f
+pub name_is : (t : Tree) (dir_ino : ℕ) (names : List (List ℕ × ℕ)) (name : List ℕ) → is_dot name ≡ false → is_dot_dot name ≡ false
+    → named_inode t dir_ino names name ≡ get name_cmp names name
+name_is t dir_ino names name e f = other_is t dir_ino names name e ∙ ap (λ (b : Bool). if b then Some (parent t dir_ino) else get name_cmp names name) f
 
 -- ---- a lookup
 found_alone : (t : Tree) (o : Option ℕ) → found_as (arrival t true false o) ≡ Ok o

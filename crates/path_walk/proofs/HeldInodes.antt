@@ -34,7 +34,7 @@ free_is_sound p image v free = record {
   directory = λ e. absurd (let same : kinds.Free ≡ kinds.Directory = sym (ap (λ (u : Inode). u.kind) free) ∙ e in cc);
   acl = λ e. elim e [
     | inl file ↦ absurd (let same : kinds.Free ≡ kinds.File = sym (ap (λ (u : Inode). u.kind) free) ∙ file in cc)
-    | inr dir ↦ absurd (let same : kinds.Free ≡ kinds.Directory = sym (ap (λ (u : Inode). u.kind) free) ∙ dir in cc)
+    | inr dir_ino ↦ absurd (let same : kinds.Free ≡ kinds.Directory = sym (ap (λ (u : Inode). u.kind) free) ∙ dir_ino in cc)
   ];
 }
 
@@ -61,19 +61,19 @@ module _ {p : Geometry} {image : SectorMap} {t : Tree} (h : HoldsTree p image t)
     acl = λ e. (a, acl_says (File a bytes) (record { kind = nodes.File; owner = v.uid; group = v.gid; acl = a }) is held refl);
   }
   body_says (Dir a d) is held fits =
-      let dir : IsDirectoryAt t n = record { node = node; is_there = at; directory = ap is_directory is } in record {
+      let dir_ino : IsDirectoryAt t n = record { node = node; is_there = at; directory = ap is_directory is } in record {
         directory = λ e. record {
           names = d.names;
           has = held.names;
           inside = λ name m found. number_below h m ((fits.2.each name m found).leads.1);
-          parent = subst (λ (m : ℕ). m < p.inodes) (sym (held_parent h n dir))
-              (number_below h (parent t n) (named_there h n dir (46 ∷ 46 ∷ []) (parent t n) refl));
+          parent = subst (λ (m : ℕ). m < p.inodes) (sym (held_parent h n dir_ino))
+              (number_below h (parent t n) (named_there h n dir_ino (46 ∷ 46 ∷ []) (parent t n) refl));
         };
         acl = λ e. (a, acl_says (Dir a d) (record { kind = nodes.Directory; owner = v.uid; group = v.gid; acl = a }) is held refl);
       }
   body_says (Link target) is held fits = record {
     directory = λ e. absurd (no_link_directory v held.kind e);
-    acl = λ e. elim e [ inl file ↦ absurd (no_link_file v held.kind file) | inr dir ↦ absurd (no_link_directory v held.kind dir) ];
+    acl = λ e. elim e [ inl file ↦ absurd (no_link_file v held.kind file) | inr dir_ino ↦ absurd (no_link_directory v held.kind dir_ino) ];
   }
 
   pub node_is_sound : IsSoundInode p image v

@@ -19,7 +19,7 @@ use Rattle.path_walk.specs.Lookups.{looked_up_alone, found_as, lookup_of}
 use Rattle.path_walk.specs.Rests.{last_from, found_at, rest_of}
 
 abbrev pub done : ℕ → List ℕ → Lookup
-done dir name = record { dir = dir; name = name; fault = None }
+done dir_ino name = record { dir_ino = dir_ino; name = name; fault = None }
 
 no_slash : (b : Bool) → refuse ENOTDIR (b && false) ≡ None
 no_slash true = refl
@@ -38,41 +38,41 @@ alone_reaches n (Some node) = by_body n node.body
 -- ---- one lookup and the rest
 module _ (t : Tree) (cred : Credential) (walk : ℕ) (form : Form) where
   -- a lookup without a fault, and what comes after it
-  goes_on : (k : ℕ) (m : Lookup) (dir : ℕ) (name : List ℕ) (rest : Trail)
-      → rest_of t cred walk form k m (after_lookup dir name rest) ≡ refused_or (search_on cred t dir walk k) (rest_of t cred walk form (k + 1) (done dir name) rest)
+  goes_on : (k : ℕ) (m : Lookup) (dir_ino : ℕ) (name : List ℕ) (rest : Trail)
+      → rest_of t cred walk form k m (after_lookup dir_ino name rest) ≡ refused_or (search_on cred t dir_ino walk k) (rest_of t cred walk form (k + 1) (done dir_ino name) rest)
   unfolding rest_of
-  goes_on k m dir name rest = go (search_on cred t dir walk k)
+  goes_on k m dir_ino name rest = go (search_on cred t dir_ino walk k)
     where
-      more : k + length (done dir name ∷ rest.lookups) ≡ k + 1 + length rest.lookups
+      more : k + length (done dir_ino name ∷ rest.lookups) ≡ k + 1 + length rest.lookups
       more = omega arith
 
       go : (d : Demand) → refused_or (or_else (or_else (or_else d None) (least_refusal cred t walk (k + 1) rest.lookups)) (slash_refusal t form rest))
-          (Ok (found_at (k + length (done dir name ∷ rest.lookups)) (last_from (done dir name) rest.lookups) rest.found rest.slash))
+          (Ok (found_at (k + length (done dir_ino name ∷ rest.lookups)) (last_from (done dir_ino name) rest.lookups) rest.found rest.slash))
           ≡ refused_or d (refused_or (or_else (least_refusal cred t walk (k + 1) rest.lookups) (slash_refusal t form rest))
-          (Ok (found_at (k + 1 + length rest.lookups) (last_from (done dir name) rest.lookups) rest.found rest.slash)))
+          (Ok (found_at (k + 1 + length rest.lookups) (last_from (done dir_ino name) rest.lookups) rest.found rest.slash)))
       go (Some r) = refl
       go None =
           ap (λ (n : ℕ). refused_or (or_else (least_refusal cred t walk (k + 1) rest.lookups) (slash_refusal t form rest))
-          (Ok (found_at n (last_from (done dir name) rest.lookups) rest.found rest.slash))) more
+          (Ok (found_at n (last_from (done dir_ino name) rest.lookups) rest.found rest.slash))) more
 
   -- a lookup with a fault
-  stops : (k : ℕ) (m : Lookup) (dir : ℕ) (name : List ℕ) (e : Errno) (slash : Bool)
-      → rest_of t cred walk form k m (ends_at dir name (Some e) slash) ≡ refused_or (search_on cred t dir walk k) (Err (Failed e))
+  stops : (k : ℕ) (m : Lookup) (dir_ino : ℕ) (name : List ℕ) (e : Errno) (slash : Bool)
+      → rest_of t cred walk form k m (ends_at dir_ino name (Some e) slash) ≡ refused_or (search_on cred t dir_ino walk k) (Err (Failed e))
   unfolding rest_of
-  stops k m dir name e slash = elim (search_on cred t dir walk k) as (λ (d : Demand).
-      refused_or (or_else (or_else (or_else d (Some (Failed e))) None) (slash_refusal t form (ends_at dir name (Some e) slash)))
-      (Ok (found_at (k + 1) (record { dir = dir; name = name; fault = Some e }) None slash)) ≡ refused_or d (Err (Failed e))) [ None ↦ refl | Some r ↦ refl ]
+  stops k m dir_ino name e slash = elim (search_on cred t dir_ino walk k) as (λ (d : Demand).
+      refused_or (or_else (or_else (or_else d (Some (Failed e))) None) (slash_refusal t form (ends_at dir_ino name (Some e) slash)))
+      (Ok (found_at (k + 1) (record { dir_ino = dir_ino; name = name; fault = Some e }) None slash)) ≡ refused_or d (Err (Failed e))) [ None ↦ refl | Some r ↦ refl ]
 
   -- the last one, without a find
-  absent : (k : ℕ) (m : Lookup) (dir : ℕ) (name : List ℕ) (slash : Bool)
-      → rest_of t cred walk form k m (ends_at dir name None slash) ≡ refused_or (search_on cred t dir walk k) (Ok (found_at (k + 1) (done dir name) None slash))
+  absent : (k : ℕ) (m : Lookup) (dir_ino : ℕ) (name : List ℕ) (slash : Bool)
+      → rest_of t cred walk form k m (ends_at dir_ino name None slash) ≡ refused_or (search_on cred t dir_ino walk k) (Ok (found_at (k + 1) (done dir_ino name) None slash))
   unfolding rest_of
-  absent k m dir name slash = goes_on k m dir name (record { lookups = []; found = None; slash = slash }) ∙ ap (refused_or (search_on cred t dir walk k)) ended
+  absent k m dir_ino name slash = goes_on k m dir_ino name (record { lookups = []; found = None; slash = slash }) ∙ ap (refused_or (search_on cred t dir_ino walk k)) ended
     where
-      ended : rest_of t cred walk form (k + 1) (done dir name) (record { lookups = []; found = None; slash = slash }) ≡ Ok (found_at (k + 1) (done dir name) None slash)
+      ended : rest_of t cred walk form (k + 1) (done dir_ino name) (record { lookups = []; found = None; slash = slash }) ≡ Ok (found_at (k + 1) (done dir_ino name) None slash)
       ended =
-          ap (λ (d : Demand). refused_or d (Ok (found_at (k + 1 + 0) (done dir name) None slash))) (no_slash (not (is_parent_form form) && slash))
-          ∙ ap (λ (n : ℕ). Ok (found_at n (done dir name) None slash)) (omega arith)
+          ap (λ (d : Demand). refused_or d (Ok (found_at (k + 1 + 0) (done dir_ino name) None slash))) (no_slash (not (is_parent_form form) && slash))
+          ∙ ap (λ (n : ℕ). Ok (found_at n (done dir_ino name) None slash)) (omega arith)
 
   -- at the end of the names
   pub arrived : (k : ℕ) (m : Lookup) (here : ℕ) (slash : Bool)
@@ -87,32 +87,32 @@ module _ (t : Tree) (cred : Credential) (walk : ℕ) (form : Form) where
 
   -- behind a link, if one more may be followed
   abbrev pub behind : ℕ → List ℕ → List (List ℕ) → Bool → ℕ → Option GoesOn → List ℕ → Result Found Refusal
-  behind dir name names slash k None target = Err (Failed ELOOP)
-  behind dir name names slash k (Some go_on) target =
-      rest_of t cred walk form (k + 1) (done dir name)
-      (go_on (start_of (parts_of target) dir) ((parts_of target).names ++ names) (slash || (is_empty names && (parts_of target).slash_at_end)))
+  behind dir_ino name names slash k None target = Err (Failed ELOOP)
+  behind dir_ino name names slash k (Some go_on) target =
+      rest_of t cred walk form (k + 1) (done dir_ino name)
+      (go_on (start_of (parts_of target) dir_ino) ((parts_of target).names ++ names) (slash || (is_empty names && (parts_of target).slash_at_end)))
 
   abbrev pub after : ℕ → List ℕ → List (List ℕ) → Bool → ℕ → Option GoesOn → (ℕ → Trail) → Outcome → Result Found Refusal
-  after dir name names slash k links rest (Faulty e) = Err (Failed e)
-  after dir name names slash k links rest Absent = Ok (found_at (k + 1) (done dir name) None slash)
-  after dir name names slash k links rest (Reaches n) = rest_of t cred walk form (k + 1) (done dir name) (rest n)
-  after dir name names slash k links rest (Through target) = behind dir name names slash k links target
+  after dir_ino name names slash k links rest (Faulty e) = Err (Failed e)
+  after dir_ino name names slash k links rest Absent = Ok (found_at (k + 1) (done dir_ino name) None slash)
+  after dir_ino name names slash k links rest (Reaches n) = rest_of t cred walk form (k + 1) (done dir_ino name) (rest n)
+  after dir_ino name names slash k links rest (Through target) = behind dir_ino name names slash k links target
 
-  by_link : (k : ℕ) (m : Lookup) (links : Option GoesOn) (dir : ℕ) (name : List ℕ) (names : List (List ℕ)) (slash : Bool) (target : List ℕ)
-      → rest_of t cred walk form k m (through_if links dir name names slash target)
-      ≡ refused_or (search_on cred t dir walk k) (behind dir name names slash k links target)
-  by_link k m None dir name names slash target = stops k m dir name ELOOP slash
-  by_link k m (Some go_on) dir name names slash target =
-      goes_on k m dir name
-      (go_on (start_of (parts_of target) dir) ((parts_of target).names ++ names) (slash || (is_empty names && (parts_of target).slash_at_end)))
+  by_link : (k : ℕ) (m : Lookup) (links : Option GoesOn) (dir_ino : ℕ) (name : List ℕ) (names : List (List ℕ)) (slash : Bool) (target : List ℕ)
+      → rest_of t cred walk form k m (through_if links dir_ino name names slash target)
+      ≡ refused_or (search_on cred t dir_ino walk k) (behind dir_ino name names slash k links target)
+  by_link k m None dir_ino name names slash target = stops k m dir_ino name ELOOP slash
+  by_link k m (Some go_on) dir_ino name names slash target =
+      goes_on k m dir_ino name
+      (go_on (start_of (parts_of target) dir_ino) ((parts_of target).names ++ names) (slash || (is_empty names && (parts_of target).slash_at_end)))
 
-  by_outcome : (k : ℕ) (m : Lookup) (links : Option GoesOn) (rest : ℕ → Trail) (dir : ℕ) (name : List ℕ) (names : List (List ℕ)) (slash : Bool) (o : Outcome)
-      → rest_of t cred walk form k m (onward links rest dir name names slash o)
-      ≡ refused_or (search_on cred t dir walk k) (after dir name names slash k links rest o)
-  by_outcome k m links rest dir name names slash (Faulty e) = stops k m dir name e slash
-  by_outcome k m links rest dir name names slash Absent = absent k m dir name slash
-  by_outcome k m links rest dir name names slash (Reaches n) = goes_on k m dir name (rest n)
-  by_outcome k m links rest dir name names slash (Through target) = by_link k m links dir name names slash target
+  by_outcome : (k : ℕ) (m : Lookup) (links : Option GoesOn) (rest : ℕ → Trail) (dir_ino : ℕ) (name : List ℕ) (names : List (List ℕ)) (slash : Bool) (o : Outcome)
+      → rest_of t cred walk form k m (onward links rest dir_ino name names slash o)
+      ≡ refused_or (search_on cred t dir_ino walk k) (after dir_ino name names slash k links rest o)
+  by_outcome k m links rest dir_ino name names slash (Faulty e) = stops k m dir_ino name e slash
+  by_outcome k m links rest dir_ino name names slash Absent = absent k m dir_ino name slash
+  by_outcome k m links rest dir_ino name names slash (Reaches n) = goes_on k m dir_ino name (rest n)
+  by_outcome k m links rest dir_ino name names slash (Through target) = by_link k m links dir_ino name names slash target
 
   -- ---- a name alone, and with what comes after it
   abbrev pub widened : Bool → Bool → Outcome → Outcome
@@ -125,32 +125,32 @@ module _ (t : Tree) (cred : Credential) (walk : ℕ) (form : Form) where
   by_arrival is_last follow None = refl
   by_arrival is_last follow (Some n) = sym (ap (widened is_last follow) (alone_reaches n (node_at t n)))
 
-  by_node : (room : Room) (is_last follow : Bool) (dir : ℕ) (name : List ℕ) (o : Option Node)
-      → looked_up room t is_last follow dir name o ≡ widened is_last follow (looked_up room t true false dir name o)
-  by_node room is_last follow dir name None = refl
-  by_node room is_last follow dir name (Some node) = go (is_directory node.body) (nat_lt room.name_limit (length name))
+  by_node : (room : Room) (is_last follow : Bool) (dir_ino : ℕ) (name : List ℕ) (o : Option Node)
+      → looked_up room t is_last follow dir_ino name o ≡ widened is_last follow (looked_up room t true false dir_ino name o)
+  by_node room is_last follow dir_ino name None = refl
+  by_node room is_last follow dir_ino name (Some node) = go (is_directory node.body) (nat_lt room.name_limit (length name))
     where
       go : (directory long : Bool)
-          → cond (not directory) (Faulty ENOTDIR) (cond long (Faulty ENAMETOOLONG) (arrival t is_last follow (named_inode t dir (names_of_body node.body) name)))
-          ≡ widened is_last follow (cond (not directory) (Faulty ENOTDIR) (cond long (Faulty ENAMETOOLONG) (arrival t true false (named_inode t dir (names_of_body node.body) name))))
+          → cond (not directory) (Faulty ENOTDIR) (cond long (Faulty ENAMETOOLONG) (arrival t is_last follow (named_inode t dir_ino (names_of_body node.body) name)))
+          ≡ widened is_last follow (cond (not directory) (Faulty ENOTDIR) (cond long (Faulty ENAMETOOLONG) (arrival t true false (named_inode t dir_ino (names_of_body node.body) name))))
       go false long = refl
       go true true = refl
-      go true false = by_arrival is_last follow (named_inode t dir (names_of_body node.body) name)
+      go true false = by_arrival is_last follow (named_inode t dir_ino (names_of_body node.body) name)
 
   -- alone it never leads through a link
   is_arrival_through : (o : Option ℕ) (target : List ℕ) → arrival t true false o ≢ Through target
   is_arrival_through None target e = cc
   is_arrival_through (Some n) target e = let r : reached false n (node_at t n) ≡ Reaches n = alone_reaches n (node_at t n) in cc
 
-  never_through : (room : Room) (dir : ℕ) (name : List ℕ) (o : Option Node) (target : List ℕ) → looked_up room t true false dir name o ≢ Through target
-  never_through room dir name None target e = cc
-  never_through room dir name (Some node) target e = go (is_directory node.body) (nat_lt room.name_limit (length name)) e
+  never_through : (room : Room) (dir_ino : ℕ) (name : List ℕ) (o : Option Node) (target : List ℕ) → looked_up room t true false dir_ino name o ≢ Through target
+  never_through room dir_ino name None target e = cc
+  never_through room dir_ino name (Some node) target e = go (is_directory node.body) (nat_lt room.name_limit (length name)) e
     where
       go : (directory long : Bool)
-          → cond (not directory) (Faulty ENOTDIR) (cond long (Faulty ENAMETOOLONG) (arrival t true false (named_inode t dir (names_of_body node.body) name))) ≡ Through target → ⊥
+          → cond (not directory) (Faulty ENOTDIR) (cond long (Faulty ENAMETOOLONG) (arrival t true false (named_inode t dir_ino (names_of_body node.body) name))) ≡ Through target → ⊥
       go false long e = cc
       go true true e = cc
-      go true false e = is_arrival_through (named_inode t dir (names_of_body node.body) name) target e
+      go true false e = is_arrival_through (named_inode t dir_ino (names_of_body node.body) name) target e
 
   -- ---- the walk with so many links
   abbrev pub links_behind : Room → Bool → ℕ → Option GoesOn
@@ -161,31 +161,31 @@ module _ (t : Tree) (cred : Credential) (walk : ℕ) (form : Form) where
   with_links room follow zero = refl
   with_links room follow (suc links) = refl
 
-  module _ (room : Room) (follow : Bool) (links k : ℕ) (m : Lookup) (dir : ℕ) (name : List ℕ) (names : List (List ℕ)) (slash : Bool) where
+  module _ (room : Room) (follow : Bool) (links k : ℕ) (m : Lookup) (dir_ino : ℕ) (name : List ℕ) (names : List (List ℕ)) (slash : Bool) where
     abbrev whole : Result Found Refusal
-    whole = rest_of t cred walk form k m (trail_with room t follow links dir (name ∷ names) slash)
+    whole = rest_of t cred walk form k m (trail_with room t follow links dir_ino (name ∷ names) slash)
 
     abbrev rest : ℕ → Trail
     rest n = trail_with room t follow links n names slash
 
     abbrev then_after : Outcome → Result Found Refusal
-    then_after o = after dir name names slash k (links_behind room follow links) rest (widened (is_empty names) follow o)
+    then_after o = after dir_ino name names slash k (links_behind room follow links) rest (widened (is_empty names) follow o)
 
-    pub one_lookup : whole ≡ refused_or (search_on cred t dir walk k) (then_after (looked_up_alone room t dir name))
+    pub one_lookup : whole ≡ refused_or (search_on cred t dir_ino walk k) (then_after (looked_up_alone room t dir_ino name))
     one_lookup =
-        ap (λ (go_on : GoesOn). rest_of t cred walk form k m (go_on dir (name ∷ names) slash)) (with_links room follow links)
-        ∙ by_outcome k m (links_behind room follow links) (λ n. lookups_from room t follow (links_behind room follow links) n names slash) dir name names slash
-        (looked_up room t (is_empty names) follow dir name (node_at t dir))
-        ∙ ap (λ (o : Outcome). refused_or (search_on cred t dir walk k)
-        (after dir name names slash k (links_behind room follow links) (λ n. lookups_from room t follow (links_behind room follow links) n names slash) o))
-        (by_node room (is_empty names) follow dir name (node_at t dir))
-        ∙ ap (λ (go_on : GoesOn). refused_or (search_on cred t dir walk k)
-        (after dir name names slash k (links_behind room follow links) (λ n. go_on n names slash) (widened (is_empty names) follow (looked_up_alone room t dir name))))
+        ap (λ (go_on : GoesOn). rest_of t cred walk form k m (go_on dir_ino (name ∷ names) slash)) (with_links room follow links)
+        ∙ by_outcome k m (links_behind room follow links) (λ n. lookups_from room t follow (links_behind room follow links) n names slash) dir_ino name names slash
+        (looked_up room t (is_empty names) follow dir_ino name (node_at t dir_ino))
+        ∙ ap (λ (o : Outcome). refused_or (search_on cred t dir_ino walk k)
+        (after dir_ino name names slash k (links_behind room follow links) (λ n. lookups_from room t follow (links_behind room follow links) n names slash) o))
+        (by_node room (is_empty names) follow dir_ino name (node_at t dir_ino))
+        ∙ ap (λ (go_on : GoesOn). refused_or (search_on cred t dir_ino walk k)
+        (after dir_ino name names slash k (links_behind room follow links) (λ n. go_on n names slash) (widened (is_empty names) follow (looked_up_alone room t dir_ino name))))
         (sym (with_links room follow links))
 
     -- the lookup is refused
-    pub is_refused : (e : Refusal) → lookup_of room t cred walk k dir name ≡ Err e → whole ≡ Err e
-    is_refused e h = one_lookup ∙ go (search_on cred t dir walk k) (looked_up_alone room t dir name) (never_through room dir name (node_at t dir)) h
+    pub is_refused : (e : Refusal) → lookup_of room t cred walk k dir_ino name ≡ Err e → whole ≡ Err e
+    is_refused e h = one_lookup ∙ go (search_on cred t dir_ino walk k) (looked_up_alone room t dir_ino name) (never_through room dir_ino name (node_at t dir_ino)) h
       where
         go : (d : Demand) (o : Outcome) → ((target : List ℕ) → o ≢ Through target) → refused_or d (found_as o) ≡ Err e → refused_or d (then_after o) ≡ Err e
         go (Some r) o never h = let same : r ≡ e = cc in ap (λ (x : Refusal). Err x) same
@@ -195,17 +195,17 @@ module _ (t : Tree) (cred : Credential) (walk : ℕ) (form : Form) where
         go None (Through target) never h = absurd (never target refl)
 
     -- the name leads to nothing
-    pub is_absent : lookup_of room t cred walk k dir name ≡ Ok None
-        → whole ≡ (if is_empty names then Ok (found_at (k + 1) (done dir name) None slash) else Err (Failed ENOENT))
-    is_absent h = one_lookup ∙ go (search_on cred t dir walk k) (looked_up_alone room t dir name) (never_through room dir name (node_at t dir)) h
+    pub is_absent : lookup_of room t cred walk k dir_ino name ≡ Ok None
+        → whole ≡ (if is_empty names then Ok (found_at (k + 1) (done dir_ino name) None slash) else Err (Failed ENOENT))
+    is_absent h = one_lookup ∙ go (search_on cred t dir_ino walk k) (looked_up_alone room t dir_ino name) (never_through room dir_ino name (node_at t dir_ino)) h
       where
-        last : (b : Bool) → after dir name names slash k (links_behind room follow links) rest (if b then Absent else Faulty ENOENT)
-            ≡ (if b then Ok (found_at (k + 1) (done dir name) None slash) else Err (Failed ENOENT))
+        last : (b : Bool) → after dir_ino name names slash k (links_behind room follow links) rest (if b then Absent else Faulty ENOENT)
+            ≡ (if b then Ok (found_at (k + 1) (done dir_ino name) None slash) else Err (Failed ENOENT))
         last true = refl
         last false = refl
 
         go : (d : Demand) (o : Outcome) → ((target : List ℕ) → o ≢ Through target) → refused_or d (found_as o) ≡ Ok None
-            → refused_or d (then_after o) ≡ (if is_empty names then Ok (found_at (k + 1) (done dir name) None slash) else Err (Failed ENOENT))
+            → refused_or d (then_after o) ≡ (if is_empty names then Ok (found_at (k + 1) (done dir_ino name) None slash) else Err (Failed ENOENT))
         go (Some r) o never h = absurd (cc)
         go None (Faulty f) never h = absurd (cc)
         go None Absent never h = last (is_empty names)
@@ -213,9 +213,9 @@ module _ (t : Tree) (cred : Credential) (walk : ℕ) (form : Form) where
         go None (Through target) never h = absurd (never target refl)
 
     -- the name leads to inode n
-    pub is_found : (n : ℕ) → lookup_of room t cred walk k dir name ≡ Ok (Some n)
-        → whole ≡ after dir name names slash k (links_behind room follow links) rest (reached (follow || not (is_empty names)) n (node_at t n))
-    is_found n h = one_lookup ∙ go (search_on cred t dir walk k) (looked_up_alone room t dir name) (never_through room dir name (node_at t dir)) h
+    pub is_found : (n : ℕ) → lookup_of room t cred walk k dir_ino name ≡ Ok (Some n)
+        → whole ≡ after dir_ino name names slash k (links_behind room follow links) rest (reached (follow || not (is_empty names)) n (node_at t n))
+    is_found n h = one_lookup ∙ go (search_on cred t dir_ino walk k) (looked_up_alone room t dir_ino name) (never_through room dir_ino name (node_at t dir_ino)) h
       where
         go : (d : Demand) (o : Outcome) → ((target : List ℕ) → o ≢ Through target) → refused_or d (found_as o) ≡ Ok (Some n)
             → refused_or d (then_after o) ≡ then_after (Reaches n)

@@ -53,7 +53,7 @@ module _ (t : Tree) (cred : Credential) (number : ℕ) (form : Form) where
   started start trail =
       let found : Lookup → Bool → ℕ → Result Found Refusal = λ l none n. refused_or (or_else (least_refusal cred t number 0 trail.lookups) (slash_refusal t form trail))
       (Ok (record {
-        dir = l.dir;
+        dir_ino = l.dir_ino;
         name = l.name;
         last = if none then Top else last_of_name l.name;
         ino = trail.found;
@@ -77,17 +77,17 @@ module _ (room : Room) (t : Tree) (cred : Credential) (form : Form) where
   unfolding trail_of
   start_stage number cwd path follow w start is =
       let from : ℕ = start_of (parts_of path) cwd in
-      let last : done from [] ≡ last_done w = ap (λ (d : ℕ). done d []) (sym start.here ∙ sym start.dir) ∙ ap (done w.dir) (sym start.name) in
+      let last : done from [] ≡ last_done w = ap (λ (d : ℕ). done d []) (sym start.here ∙ sym start.dir_ino) ∙ ap (done w.dir_ino) (sym start.name) in
       let names : components_of path ≡ names_ahead w = ap components_of (sym start.rest) ∙ ap (λ (n : ℕ). components_of (drop n w.rest.items)) (sym start.at) in
       started t cred number form from (trail_with room t (follows_last form (parts_of path)) links_limit from (components_of path) (parts_of path).slash_at_end)
       ∙ same_rest room t cred form (sym start.number_is) (sym start.step) last (sym is) (sym start.links) (sym start.here) names (sym start.slash)
 
   -- a component is taken
-  any_last : (number : ℕ) (follow : Bool) (links k : ℕ) (m m' : Lookup) (dir : ℕ) (name : List ℕ) (names : List (List ℕ)) (slash : Bool)
-      → rest_of t cred number form k m (trail_with room t follow links dir (name ∷ names) slash)
-      ≡ rest_of t cred number form k m' (trail_with room t follow links dir (name ∷ names) slash)
-  any_last number follow links k m m' dir name names slash =
-      one_lookup t cred number form room follow links k m dir name names slash ∙ sym (one_lookup t cred number form room follow links k m' dir name names slash)
+  any_last : (number : ℕ) (follow : Bool) (links k : ℕ) (m m' : Lookup) (dir_ino : ℕ) (name : List ℕ) (names : List (List ℕ)) (slash : Bool)
+      → rest_of t cred number form k m (trail_with room t follow links dir_ino (name ∷ names) slash)
+      ≡ rest_of t cred number form k m' (trail_with room t follow links dir_ino (name ∷ names) slash)
+  any_last number follow links k m m' dir_ino name names slash =
+      one_lookup t cred number form room follow links k m dir_ino name names slash ∙ sym (one_lookup t cred number form room follow links k m' dir_ino name names slash)
 
   pub taken_stage : (follow : Bool) (old new : Walker) → HasTaken old new
       → stage_of room t cred form follow old (names_ahead old) ≡ stage_of room t cred form follow new (new.name.items ∷ names_ahead new)
@@ -110,7 +110,7 @@ module _ (room : Room) (t : Tree) (cred : Credential) (form : Form) where
       ∙ ap (λ (b : Bool). refused_or (refuse ENOTDIR (not (is_parent_form form) && w.slash && b)) (Ok (found_at w.step (last_done w) (Some w.here) w.slash))) kind
 
   -- ---- a lookup
-  module _ (follow : Bool) (w : Walker) (taken : w.dir ≡ w.here) where
+  module _ (follow : Bool) (w : Walker) (taken : w.dir_ino ≡ w.here) where
     abbrev stage : Result Found Refusal
     stage = stage_of room t cred form follow w (w.name.items ∷ names_ahead w)
 

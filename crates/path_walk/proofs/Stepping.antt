@@ -20,10 +20,10 @@ use Rattle.path_walk.specs.Lookups.{looked_up_alone, found_as, lookup_of}
 use Rattle.path_walk.specs.Stages.{IsBehind, IsWay}
 
 -- what a lookup finds is there
-pub found_there : {p : Geometry} {image : SectorMap} {t : Tree} → HoldsTree p image t → (cred : Credential) (walk k dir : ℕ) (name : List ℕ) (n : ℕ)
-    → lookup_of (room_of p) t cred walk k dir name ≡ Ok (Some n) → IsThere t n
-found_there {p} {image} {t} h cred walk k dir name n e =
-    go (search_on cred t dir walk k) (looked_up_alone (room_of p) t dir name) (lookup_reached (room_of p) t h.tree true false dir name (node_at t dir) refl) e
+pub found_there : {p : Geometry} {image : SectorMap} {t : Tree} → HoldsTree p image t → (cred : Credential) (walk k dir_ino : ℕ) (name : List ℕ) (n : ℕ)
+    → lookup_of (room_of p) t cred walk k dir_ino name ≡ Ok (Some n) → IsThere t n
+found_there {p} {image} {t} h cred walk k dir_ino name n e =
+    go (search_on cred t dir_ino walk k) (looked_up_alone (room_of p) t dir_ino name) (lookup_reached (room_of p) t h.tree true false dir_ino name (node_at t dir_ino) refl) e
   where
     go : (d : Demand) (o : Outcome) → Reached (room_of p) t h.tree o → refused_or d (found_as o) ≡ Ok (Some n) → IsThere t n
     go (Some f) o r e = absurd (cc)

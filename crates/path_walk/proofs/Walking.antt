@@ -79,8 +79,8 @@ pub at_taken : (p : Geometry) (image : SectorMap) (old mid : Walker) → HasTake
 at_taken p image old mid taken at =
     subst (StandsAt p image) (sym taken.is) (record { below = at.below; inode = at.inode })
 
-pub dir_taken : (old mid : Walker) → HasTaken old mid → mid.dir ≡ mid.here
-dir_taken old mid taken = ap (λ (w : Walker). w.dir) taken.is ∙ sym (ap (λ (w : Walker). w.here) taken.is)
+pub dir_taken : (old mid : Walker) → HasTaken old mid → mid.dir_ino ≡ mid.here
+dir_taken old mid taken = ap (λ (w : Walker). w.dir_ino) taken.is ∙ sym (ap (λ (w : Walker). w.here) taken.is)
 
 pub here_taken : (old mid : Walker) (t : Tree) → HasTaken old mid → IsThere t old.here → IsThere t mid.here
 here_taken old mid t taken there = subst (IsThere t) (sym (ap (λ (w : Walker). w.here) taken.is)) there

@@ -1,5 +1,4 @@
 pub mod Answers
-pub mod Words
 pub mod HeldTrees
 pub mod SoundInodes
 pub mod Walked

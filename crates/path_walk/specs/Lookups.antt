@@ -13,7 +13,7 @@ use Rattle.path_walk.specs.Answers.{refused_or}
 
 -- As the last name, where a link isn't followed: that a name is absent, or a link, is no fault yet.
 abbrev pub looked_up_alone : Room → Tree → ℕ → List ℕ → Outcome
-looked_up_alone room t dir name = looked_up room t true false dir name (node_at t dir)
+looked_up_alone room t dir_ino name = looked_up room t true false dir_ino name (node_at t dir_ino)
 
 -- the inode that it leads to, if any
 abbrev pub found_as : Outcome → Result (Option ℕ) Refusal
@@ -24,4 +24,4 @@ found_as (Through target) = Ok None
 
 -- lookup number k of a walk
 abbrev pub lookup_of : Room → Tree → Credential → ℕ → ℕ → ℕ → List ℕ → Result (Option ℕ) Refusal
-lookup_of room t cred walk k dir name = refused_or (search_on cred t dir walk k) (found_as (looked_up_alone room t dir name))
+lookup_of room t cred walk k dir_ino name = refused_or (search_on cred t dir_ino walk k) (found_as (looked_up_alone room t dir_ino name))

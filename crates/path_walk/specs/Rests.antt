@@ -26,7 +26,7 @@ last_of_walk step name = if nat_eq step 0 then Top else last_of_name name
 -- what was found after so many lookups, the last of them l
 abbrev pub found_at : ℕ → Lookup → Option ℕ → Bool → Found
 found_at step l found slash = record {
-  dir = l.dir;
+  dir_ino = l.dir_ino;
   name = l.name;
   last = last_of_walk step l.name;
   ino = found;

@@ -31,7 +31,7 @@ abbrev pub names_ahead : Walker → List (List ℕ)
 names_ahead w = components_of (drop w.at w.rest.items)
 
 abbrev pub last_done : Walker → Lookup
-last_done w = record { dir = w.dir; name = w.name.items; fault = None }
+last_done w = record { dir_ino = w.dir_ino; name = w.name.items; fault = None }
 
 -- what the walk answers, where these names are still to be looked up
 abbrev pub stage_of : Room → Tree → Credential → Form → Bool → Walker → List (List ℕ) → Result Found Refusal
@@ -62,7 +62,7 @@ pub record IsStart (cwd : ℕ) (path : List ℕ) (number : ℕ) (w : Walker) : T
   pub slash : w.slash ≡ (parts_of path).slash_at_end
   pub links : w.links ≡ links_limit
   pub step : w.step ≡ 0
-  pub dir : w.dir ≡ w.here
+  pub dir_ino : w.dir_ino ≡ w.here
   pub name : w.name.items ≡ []
 
 -- the next component was taken, or there is none
@@ -70,7 +70,7 @@ pub record HasTaken (old new : Walker) : Type 0 where
   pub names : names_ahead old ≡ new.name.items ∷ names_ahead new
   pub later : old.at < new.at
   pub inside : new.at ≤ length new.rest.items
-  pub is : new ≡ (record old { dir = old.here; name = new.name; at = new.at })
+  pub is : new ≡ (record old { dir_ino = old.here; name = new.name; at = new.at })
 
 abbrev pub IsNextOf : Walker → Walker → Bool → Type 0
 IsNextOf old new true = HasTaken old new

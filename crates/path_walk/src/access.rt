@@ -6,7 +6,11 @@ ghost use Rattle.fs_cred.specs.declared.refusal.Need.TheVariants.{Search};
 ghost use Rattle.fs_cred.specs.declared.node.NodeKind.{NodeKind};
 ghost use Rattle.fs_cred.specs.Verdicts.{verdict};
 ghost use Rattle.fs_model.specs.Demands.{decided, search_only};
-ghost use Rattle.path_walk.specs.Words.{IsUnchanged, HasCauseOf, IsSound, IsInodeOf, refused_or, IsCaused, IsAnswered};
+ghost use Rattle.sector_txn.specs.Sectors.{IsUnchanged};
+ghost use Rattle.bit_alloc.specs.Faults.{HasCauseOf};
+ghost use Rattle.bit_alloc.specs.Inodes.{IsSound};
+ghost use Rattle.inode_table.specs.Inodes.{IsInodeOf};
+ghost use Rattle.path_walk.specs.Answers.{refused_or, IsCaused, IsAnswered};
 ghost use Rattle.path_walk.specs.HeldTrees.{HasAccess, stored_kind};
 
 use fs_cred::{

@@ -4,7 +4,10 @@ ghost use Rattle.std.specs.Prelude.{◌≡◌, ◌<◌, ℕ, Some, Ok, IfOk, IfE
 ghost use Rattle.fs_model.specs.Nodes.{names_of_body};
 ghost use Rattle.fs_model.specs.Trails.{named_inode};
 ghost use Rattle.fs_model.specs.Trees.{Tree, IsDirectoryAt};
-ghost use Rattle.path_walk.specs.Words.{inode_at, IsUnchanged, IsSound, FailsToRead, Interrupts, IsAnswered};
+ghost use Rattle.fs_layout.specs.Images.{inode_at};
+ghost use Rattle.sector_txn.specs.Sectors.{IsUnchanged};
+ghost use Rattle.bit_alloc.specs.Inodes.{IsSound};
+ghost use Rattle.path_walk.specs.Answers.{FailsToRead, Interrupts, IsAnswered};
 ghost use Rattle.path_walk.specs.HeldTrees.{HoldsTree};
 ghost use Rattle.path_walk.specs.SoundInodes.{LeadsOn};
 
@@ -15,16 +18,16 @@ use fs_layout::{Geometry, Inode};
 use inode_table::load;
 use sector_txn::Sectors;
 
-/// Reads inode n. EIO: the disk has failed.
-pub fn load_inode<S: Sectors>(s: &mut S, geometry: Geometry, n: u32) -> Result<Inode, Refusal>
+/// Reads inode `ino`. EIO: the disk has failed.
+pub fn load_inode<S: Sectors>(s: &mut S, geometry: Geometry, ino: u32) -> Result<Inode, Refusal>
     requires sound { IsSound geometry (S.state s.old) }
-    requires below { n < geometry.inodes }
-    ensures each { IsAnswered (S.state s.old).disk (S.state s.new).disk (Ok (inode_at geometry (S.state s.old).sectors n)) result }
-    ensures found { IfOk result (λ inode. inode ≡ inode_at geometry (S.state s.old).sectors n) }
+    requires below { ino < geometry.inodes }
+    ensures each { IsAnswered (S.state s.old).disk (S.state s.new).disk (Ok (inode_at geometry (S.state s.old).sectors ino)) result }
+    ensures found { IfOk result (λ inode. inode ≡ inode_at geometry (S.state s.old).sectors ino) }
     ensures fault { IfErr result (FailsToRead (S.state s.old).disk (S.state s.new).disk) }
     ensures same { IsUnchanged (S.state s.old) (S.state s.new) }
 {
-    match load(s, geometry, n) {
+    match load(s, geometry, ino) {
         Ok(inode) => Ok(inode),
         Err(_) => Err(Refusal::Failed(Errno::EIO)),
     }
@@ -34,22 +37,22 @@ pub fn load_inode<S: Sectors>(s: &mut S, geometry: Geometry, n: u32) -> Result<I
 pub(crate) fn find<S: Sectors>(
     s: &mut S,
     geometry: Geometry,
-    n: u32,
+    ino: u32,
     inode: &Inode,
     name: &[u8],
 ) -> Result<Option<u32>, Refusal>
     requires sound { IsSound geometry (S.state s.old) }
-    requires below { n < geometry.inodes }
-    requires inode { inode.now ≡ inode_at geometry (S.state s.old).sectors n }
+    requires below { ino < geometry.inodes }
+    requires inode { inode.now ≡ inode_at geometry (S.state s.old).sectors ino }
     requires leads { LeadsOn geometry (S.state s.old).sectors inode.now }
-    ensures each { (t : Tree) → HoldsTree geometry (S.state s.old).sectors t → (d : IsDirectoryAt t n)
-        → IsAnswered (S.state s.old).disk (S.state s.new).disk (Ok (named_inode t n (names_of_body d.node.body) name.now)) result }
+    ensures each { (t : Tree) → HoldsTree geometry (S.state s.old).sectors t → (d : IsDirectoryAt t ino)
+        → IsAnswered (S.state s.old).disk (S.state s.new).disk (Ok (named_inode t ino (names_of_body d.node.body) name.now)) result }
     ensures below { IfOk result (λ found. (m : ℕ) → found ≡ Some m → m < geometry.inodes) }
     ensures err { IfErr result (Interrupts (S.state s.old).disk (S.state s.new).disk) }
     ensures same { IsUnchanged (S.state s.old) (S.state s.new) }
 {
     if is_dot(name) {
-        return Ok(Some(n));
+        return Ok(Some(ino));
     }
     if is_dot_dot(name) {
         return Ok(Some(inode.parent));

@@ -8,7 +8,11 @@ ghost use Rattle.fs_model.specs.Trees.{Tree};
 ghost use Rattle.fs_model.specs.Stands.{room_of};
 ghost use Rattle.fs_model.specs.Summaries.{is_link_kind};
 ghost use Rattle.fs_model.specs.Rules.{is_directory_kind};
-ghost use Rattle.path_walk.specs.Words.{Holds, IsUnchanged, IsSound, IsInodeOf, Interrupts, IsCaused, IsAnswered};
+ghost use Rattle.fs_layout.specs.Images.{Holds};
+ghost use Rattle.sector_txn.specs.Sectors.{IsUnchanged};
+ghost use Rattle.bit_alloc.specs.Inodes.{IsSound};
+ghost use Rattle.inode_table.specs.Inodes.{IsInodeOf};
+ghost use Rattle.path_walk.specs.Answers.{Interrupts, IsCaused, IsAnswered};
 ghost use Rattle.path_walk.specs.HeldTrees.{HoldsTree, IsThere};
 ghost use Rattle.path_walk.specs.Lookups.{lookup_of};
 ghost use Rattle.path_walk.specs.SoundInodes.{HasSoundInodes};
@@ -49,7 +53,7 @@ pub(crate) struct Walker {
     /// How many lookups were done.
     pub step: usize,
     /// The last of them: its directory, and its name.
-    pub dir: u32,
+    pub dir_ino: u32,
     pub name: Vec<u8>,
 }
 
@@ -135,7 +139,7 @@ impl Walker {
             slash: ends_with_slash(bytes),
             links: MAX_LINKS,
             step: 0,
-            dir: here,
+            dir_ino: here,
             name: Vec::new(alloc),
         })
     }
@@ -152,7 +156,7 @@ impl Walker {
         if self.name.extend_from_slice(&self.rest[start..end]).is_err() {
             return Err(out_of_memory());
         }
-        self.dir = self.here;
+        self.dir_ino = self.here;
         self.at = end;
         Ok(true)
     }
@@ -253,7 +257,7 @@ impl Walker {
         requires sound { IsSound geometry (S.state s.old) }
         requires at { StandsAt geometry (S.state s.old).sectors self.old }
         requires inside { self.old.at ≤ length self.old.rest.items }
-        requires taken { self.old.dir ≡ self.old.here }
+        requires taken { self.old.dir_ino ≡ self.old.here }
         requires steps { self.old.step + 1 < 2 ^ 64 }
         requires inodes { HasSoundInodes geometry (S.state s.old).sectors }
         ensures each { (t : Tree) → HoldsTree geometry (S.state s.old).sectors t → IsThere t self.old.here
@@ -267,18 +271,18 @@ impl Walker {
         let is_last = self.is_last();
         let found = self.look_up(alloc, s, geometry, cred)?;
         self.step += 1;
-        let Some(n) = found else {
+        let Some(ino) = found else {
             return if is_last {
                 Ok(false)
             } else {
                 Err(Refusal::Failed(Errno::ENOENT))
             };
         };
-        let inode = load_inode(s, geometry, n)?;
+        let inode = load_inode(s, geometry, ino)?;
         if is_followed(inode.kind, follow, is_last) {
             self.follow(alloc, s, geometry, &inode, is_last)?;
         } else {
-            self.here = n;
+            self.here = ino;
             self.inode = inode;
         }
         Ok(true)
@@ -290,7 +294,7 @@ impl Walker {
     {
         Found {
             last: last_of(self.step, &self.name),
-            dir: self.dir,
+            dir_ino: self.dir_ino,
             name: Name::new(self.name),
             ino,
             slash: self.slash,

@@ -74,7 +74,7 @@ impl Machine for Played {
 
 // What the machine shows of its file.
 const STATUS: Status = Status {
-    inode: 1,
+    ino: 1,
     kind: FileType::File,
     mode: 0o222,
     links: 1,

@@ -44,7 +44,7 @@ enum Step {
 fn dentry(alloc: Global, entry: Entry) -> Result<Dentry, AllocError> {
     let name = Name::from_slice(alloc, &[entry.1])?;
     Ok(Dentry {
-        directory: entry.0,
+        dir_ino: entry.0,
         name,
     })
 }
@@ -79,16 +79,16 @@ fn made(
     alloc: Global,
     now: u64,
     name: Entry,
-    inode: u32,
+    ino: u32,
 ) -> Result<u64, AllocError> {
     server.prepare()?;
-    server.add_object(at(now), dentry(alloc, name)?, inode, FileType::File);
+    server.add_object(at(now), dentry(alloc, name)?, ino, FileType::File);
     Ok(0)
 }
 
-fn found(server: &mut Server, alloc: Global, name: Entry, inode: u32) -> Result<u64, AllocError> {
+fn found(server: &mut Server, alloc: Global, name: Entry, ino: u32) -> Result<u64, AllocError> {
     server.prepare()?;
-    server.note_found(dentry(alloc, name)?, inode, FileType::Directory);
+    server.note_found(dentry(alloc, name)?, ino, FileType::Directory);
     Ok(0)
 }
 
@@ -121,11 +121,11 @@ fn linked(
     alloc: Global,
     now: u64,
     name: Entry,
-    inode: u32,
+    ino: u32,
 ) -> Result<u64, AllocError> {
     server.prepare()?;
-    let kind = server.kind_of(inode);
-    server.note_linked(at(now), dentry(alloc, name)?, inode, kind);
+    let kind = server.kind_of(ino);
+    server.note_linked(at(now), dentry(alloc, name)?, ino, kind);
     Ok(0)
 }
 
@@ -134,14 +134,14 @@ fn opened(
     alloc: Global,
     now: u64,
     name: Entry,
-    inode: u32,
+    ino: u32,
     is: (bool, bool),
 ) -> Result<u64, AllocError> {
     server.prepare()?;
     server.note_opened(
         at(now),
         dentry(alloc, name)?,
-        inode,
+        ino,
         FileType::File,
         is.0,
         is.1,
@@ -149,9 +149,9 @@ fn opened(
     Ok(0)
 }
 
-fn held(server: &mut Server, inode: u32) -> Result<u64, AllocError> {
+fn held(server: &mut Server, ino: u32) -> Result<u64, AllocError> {
     server.prepare()?;
-    server.add_handle(handle_of(1, 0), inode);
+    server.add_handle(handle_of(1, 0), ino);
     Ok(0)
 }
 
@@ -177,10 +177,10 @@ impl Borrower<u64> for Noter {
 }
 
 // The letter of the name that is lent and given back: of so many in their order.
-fn lent(server: &mut Server, alloc: Global, inode: u32, at: usize) -> Result<u64, AllocError> {
+fn lent(server: &mut Server, alloc: Global, ino: u32, at: usize) -> Result<u64, AllocError> {
     let blank = Name::from_slice(alloc, b"")?;
     let mut call = Call::Umask(0);
-    let letter = server.call_at(&mut Noter, 1, None, &mut call, inode, at, blank);
+    let letter = server.call_at(&mut Noter, 1, None, &mut call, ino, at, blank);
     Ok(letter.unwrap_or(0))
 }
 
@@ -191,23 +191,23 @@ fn letter_of(dentry: &Dentry) -> u64 {
     }
 }
 
-fn written(server: &mut Server, now: u64, inode: u32) -> Result<u64, AllocError> {
+fn written(server: &mut Server, now: u64, ino: u32) -> Result<u64, AllocError> {
     server.prepare()?;
-    server.touch(at(now), inode);
+    server.touch(at(now), ino);
     Ok(0)
 }
 
-fn changed(server: &mut Server, now: u64, inode: u32) -> Result<u64, AllocError> {
+fn changed(server: &mut Server, now: u64, ino: u32) -> Result<u64, AllocError> {
     server.prepare()?;
-    server.change(at(now), inode);
+    server.change(at(now), ino);
     Ok(0)
 }
 
-fn times_set(server: &mut Server, time: u64, inode: u32) -> Result<u64, AllocError> {
+fn times_set(server: &mut Server, time: u64, ino: u32) -> Result<u64, AllocError> {
     server.prepare()?;
-    let times = server.times_of(inode);
+    let times = server.times_of(ino);
     let mtime = at(time);
-    server.set_times(inode, Times { mtime, ..times });
+    server.set_times(ino, Times { mtime, ..times });
     Ok(0)
 }
 
@@ -215,15 +215,15 @@ fn named(server: &Server, alloc: Global, name: Entry) -> Result<u64, AllocError>
     Ok(number(server.named(&dentry(alloc, name)?)))
 }
 
-fn directory(server: &Server, inode: u32) -> u64 {
-    match server.place_of(inode) {
-        Some(dentry) => u64::from(dentry.directory),
+fn directory(server: &Server, ino: u32) -> u64 {
+    match server.dentry_of(ino) {
+        Some(dentry) => u64::from(dentry.dir_ino),
         None => 0,
     }
 }
 
-fn letter(server: &Server, inode: u32) -> u64 {
-    match server.place_of(inode) {
+fn letter(server: &Server, ino: u32) -> u64 {
+    match server.dentry_of(ino) {
         Some(dentry) => letter_of(dentry),
         None => 0,
     }
@@ -249,34 +249,27 @@ fn heard(server: &mut Server, bytes: &[u8]) -> Result<u64, AllocError> {
 // The answer: 0 for nothing, and where something happens.
 fn answered(server: &mut Server, alloc: Global, step: Step) -> Result<u64, AllocError> {
     match step {
-        Step::Made(now, name, inode) => made(server, alloc, now, name, inode),
-        Step::Found(name, inode) => found(server, alloc, name, inode),
+        Step::Made(now, name, ino) => made(server, alloc, now, name, ino),
+        Step::Found(name, ino) => found(server, alloc, name, ino),
         Step::Gone(name) => gone(server, alloc, name),
         Step::Removed(now, name) => removed(server, alloc, now, name),
         Step::Moved(now, old, new) => moved(server, alloc, now, old, new),
-        Step::Linked(now, name, inode) => linked(server, alloc, now, name, inode),
-        Step::Opened(now, name, inode, new, cut) => opened(
-            server,
-            alloc,
-            now,
-            name,
-            inode,
-            (new, cut),
-        ),
-        Step::Held(inode) => held(server, inode),
-        Step::Lent(inode, at) => lent(server, alloc, inode, at),
-        Step::Written(now, inode) => written(server, now, inode),
-        Step::Changed(now, inode) => changed(server, now, inode),
-        Step::TimesSet(time, inode) => times_set(server, time, inode),
+        Step::Linked(now, name, ino) => linked(server, alloc, now, name, ino),
+        Step::Opened(now, name, ino, new, cut) => opened(server, alloc, now, name, ino, (new, cut)),
+        Step::Held(ino) => held(server, ino),
+        Step::Lent(ino, at) => lent(server, alloc, ino, at),
+        Step::Written(now, ino) => written(server, now, ino),
+        Step::Changed(now, ino) => changed(server, now, ino),
+        Step::TimesSet(time, ino) => times_set(server, time, ino),
         Step::Forgotten(node, count) => forgotten(server, node, count),
         Step::Heard(bytes) => heard(server, bytes),
         Step::Named(name) => named(server, alloc, name),
-        Step::Directory(inode) => Ok(directory(server, inode)),
-        Step::Letter(inode) => Ok(letter(server, inode)),
-        Step::Node(inode) => Ok(server.node_of(inode)),
+        Step::Directory(ino) => Ok(directory(server, ino)),
+        Step::Letter(ino) => Ok(letter(server, ino)),
+        Step::Node(ino) => Ok(server.node_of(ino)),
         Step::Number(node) => Ok(number(server.number_of(node))),
-        Step::Mtime(inode) => Ok(server.times_of(inode).mtime.seconds),
-        Step::Ctime(inode) => Ok(server.times_of(inode).ctime.seconds),
+        Step::Mtime(ino) => Ok(server.times_of(ino).mtime.seconds),
+        Step::Ctime(ino) => Ok(server.times_of(ino).ctime.seconds),
     }
 }
 
@@ -541,10 +534,10 @@ fn begun(server: &mut Server, alloc: Global, pid: u32, uid: u32) -> Result<u64, 
     Ok(0)
 }
 
-fn opens(server: &mut Server, pid: u32, count: u32, inode: u32) -> Result<u64, CredFault> {
+fn opens(server: &mut Server, pid: u32, count: u32, ino: u32) -> Result<u64, CredFault> {
     for fd in 0..count {
         server.prepare()?;
-        server.add_handle(handle_of(pid as usize, fd as usize), inode);
+        server.add_handle(handle_of(pid as usize, fd as usize), ino);
     }
     Ok(0)
 }
@@ -585,17 +578,12 @@ fn asked(server: &Server, alloc: Global, step: Use, uid: u32) -> Result<u64, Cre
     })
 }
 
-fn opens_directory(
-    server: &mut Server,
-    uid: u32,
-    count: u32,
-    inode: u32,
-) -> Result<u64, CredFault> {
+fn opens_directory(server: &mut Server, uid: u32, count: u32, ino: u32) -> Result<u64, CredFault> {
     let mut handle = 0;
     for _ in 0..count {
         server.prepare()?;
         handle = server.next_directory();
-        server.add_directory(uid, inode);
+        server.add_directory(uid, ino);
     }
     Ok(handle)
 }
@@ -620,7 +608,7 @@ fn closes_directory(server: &mut Server, handle: u64) -> Result<u64, CredFault> 
 
 fn directory_at(server: &Server, handle: u64) -> u64 {
     match server.directory_of(handle) {
-        Some(directory) => u64::from(directory.number),
+        Some(directory) => u64::from(directory.ino),
         None => 0,
     }
 }
@@ -644,7 +632,7 @@ fn used(server: &mut Server, alloc: Global, step: Use) -> Result<u64, CredFault>
     match step {
         Use::Begun(pid, uid) => begun(server, alloc, pid, uid),
         Use::Ended(pid) => ended(server, pid),
-        Use::Opens(pid, count, inode) => opens(server, pid, count, inode),
+        Use::Opens(pid, count, ino) => opens(server, pid, count, ino),
         Use::Closes(pid, fd) => closes(server, pid, fd),
         Use::Crowd(uid, first, count) => crowd(server, alloc, uid, first, count),
         Use::First(uid) => asked(server, alloc, step, uid),
@@ -653,8 +641,8 @@ fn used(server: &mut Server, alloc: Global, step: Use) -> Result<u64, CredFault>
         Use::MayTake(uid) => Ok(u64::from(server.may_take_process(uid))),
         Use::NextIdle(least) => Ok(process(server.next_idle(least as usize))),
         Use::Object(pid, fd) => Ok(number(server.object_of(handle_of(pid as usize, fd as usize)))),
-        Use::HandleFor(inode) => Ok(server.handle_for(inode).unwrap_or(0)),
-        Use::OpensDirectory(uid, count, inode) => opens_directory(server, uid, count, inode),
+        Use::HandleFor(ino) => Ok(server.handle_for(ino).unwrap_or(0)),
+        Use::OpensDirectory(uid, count, ino) => opens_directory(server, uid, count, ino),
         Use::ListsDirectory(handle) => lists_directory(server, alloc, handle),
         Use::ClosesDirectory(handle) => closes_directory(server, handle),
         Use::DirectoryAt(handle) => Ok(directory_at(server, handle)),

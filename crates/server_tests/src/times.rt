@@ -22,7 +22,7 @@ type Heard = (Option<u64>, u32, Option<Three<Option<u64>>>);
 // A machine whose one object is a directory. It shows this inode, and has these times for it, unless it refuses.
 #[derive(Drop)]
 struct Played {
-    inode: u32,
+    ino: u32,
     stamps: Option<Stamps>,
     processes: usize,
     heard: Heard,
@@ -31,7 +31,7 @@ struct Played {
 impl Played {
     fn status(&self) -> Status {
         Status {
-            inode: self.inode,
+            ino: self.ino,
             kind: FileType::Directory,
             mode: 0o755,
             links: 1,
@@ -199,9 +199,9 @@ type Disk = (bool, u32, Option<Stamps>);
 
 // The answer to a request of a server that has just begun, and what the machine heard.
 fn answered(alloc: Global, disk: Disk, ask: Ask) -> Result<(Answer, Heard), CredFault> {
-    let (keeps_times, inode, stamps) = disk;
+    let (keeps_times, ino, stamps) = disk;
     let machine = Played {
-        inode,
+        ino,
         stamps,
         processes: 0,
         heard: (None, 0, None),

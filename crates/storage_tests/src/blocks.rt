@@ -47,13 +47,13 @@ type Row = (Call, [u8; 4], u32, u32);
 fn overwrite_direct<S: Sectors>(
     s: &mut S,
     geometry: Geometry,
-    n: u32,
+    ino: u32,
     inode: &Inode,
     offset: u64,
 ) -> Result<(), Fail>
     requires sound { IsSound geometry (S.state s.old) }
-    requires below { n < geometry.inodes }
-    requires inode { inode.now ≡ inode_at geometry (S.state s.old).sectors n }
+    requires below { ino < geometry.inodes }
+    requires inode { inode.now ≡ inode_at geometry (S.state s.old).sectors ino }
     requires used { inode.now.kind ≢ Free }
     requires spare { HasSpare geometry 1 (S.state s.old) }
     ensures sound { OnOk result (IsSound geometry (S.state s.new)) }
@@ -64,16 +64,16 @@ fn overwrite_direct<S: Sectors>(
     if inode.direct[(offset / 512) as usize] == 0 {
         return Err(Fail::new("a hole"));
     }
-    overwrite(s, geometry, n, inode, offset, &[5; 4])?;
+    overwrite(s, geometry, ino, inode, offset, &[5; 4])?;
     Ok(())
 }
 
-fn perform<S: Sectors>(s: &mut S, geometry: Geometry, n: u32, call: Call) -> Result<[u8; 4], Fail>
+fn perform<S: Sectors>(s: &mut S, geometry: Geometry, ino: u32, call: Call) -> Result<[u8; 4], Fail>
     requires sound { IsSound geometry (S.state s.old) }
-    requires below { n < geometry.inodes }
+    requires below { ino < geometry.inodes }
     ensures sound { OnOk result (IsSound geometry (S.state s.new)) }
 {
-    let mut inode = load(s, geometry, n)?;
+    let mut inode = load(s, geometry, ino)?;
     if s.room() < (geometry.table - geometry.inode_bitmap) as usize + 16 {
         return Err(Fail::new("no room"));
     }
@@ -90,23 +90,23 @@ fn perform<S: Sectors>(s: &mut S, geometry: Geometry, n: u32, call: Call) -> Res
             if len > 4096 {
                 return Err(Fail::new("too many bytes"));
             }
-            match write_at(s, geometry, n, &mut inode, offset, &[7; 4096][..len]) {
+            match write_at(s, geometry, ino, &mut inode, offset, &[7; 4096][..len]) {
                 Ok(()) => Ok(bytes),
                 Err(MapFault::TooBig) => Ok(TOO_BIG),
                 Err(_) => Err(Fail::new("not written")),
             }
         }
         Call::Overwrite(offset) => {
-            overwrite_direct(s, geometry, n, &inode, offset)?;
+            overwrite_direct(s, geometry, ino, &inode, offset)?;
             Ok(bytes)
         }
-        Call::SetSize(size) => match set_size(s, geometry, n, &mut inode, size) {
+        Call::SetSize(size) => match set_size(s, geometry, ino, &mut inode, size) {
             Ok(()) => Ok(bytes),
             Err(MapFault::TooBig) => Ok(TOO_BIG),
             Err(_) => Err(Fail::new("no other size")),
         },
         Call::Release => {
-            release_all(s, geometry, n, &mut inode)?;
+            release_all(s, geometry, ino, &mut inode)?;
             Ok(bytes)
         }
         Call::HasFree(wanted) => {
@@ -123,16 +123,16 @@ fn perform<S: Sectors>(s: &mut S, geometry: Geometry, n: u32, call: Call) -> Res
 fn agreed<S: Sectors>(
     s: &mut Counted<S>,
     geometry: Geometry,
-    n: u32,
+    ino: u32,
     rows: &[Row],
 ) -> Result<usize, Fail>
     requires sound { IsSound geometry (S.state s.old.inner) }
-    requires below { n < geometry.inodes }
+    requires below { ino < geometry.inodes }
 {
     for (i, (call, bytes, gets, puts)) in rows.iter().enumerate() {
         s.gets = 0;
         s.puts = 0;
-        let seen = perform(s, geometry, n, *call)?;
+        let seen = perform(s, geometry, ino, *call)?;
         // The inode is read before each.
         if seen != *bytes || s.gets.saturating_sub(1) != *gets || s.puts != *puts {
             return Ok(i);
@@ -162,10 +162,10 @@ fn agreed_on_blank<S: Sectors>(
         names: 1,
         ..Inode::FREE
     };
-    let Ok(n) = new_inode(s, geometry, &inode, access, None) else {
+    let Ok(ino) = new_inode(s, geometry, &inode, access, None) else {
         return Err(Fail::new("not made"));
     };
-    agreed(s, geometry, n, rows)
+    agreed(s, geometry, ino, rows)
 }
 
 // How many calls on a new file agree, on a new disk of this version.

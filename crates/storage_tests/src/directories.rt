@@ -78,17 +78,17 @@ fn len_of(version: Version, i: u32) -> usize
 fn fill<S: Sectors>(
     s: &mut S,
     geometry: Geometry,
-    n: u32,
+    ino: u32,
     inode: &mut Inode,
     count: u32,
 ) -> Result<(), Fail>
     requires sound { IsSound geometry (S.state s.old) }
-    requires below { n < geometry.inodes }
-    requires there { inode.old ≡ inode_at geometry (S.state s.old).sectors n }
+    requires below { ino < geometry.inodes }
+    requires there { inode.old ≡ inode_at geometry (S.state s.old).sectors ino }
     requires directory { (names : List (List ℕ × ℕ)) × HasNames geometry.version (S.state s.old).sectors inode.old names }
     requires few { count ≤ 600 }
     ensures sound { OnOk result (IsSound geometry (S.state s.new)) }
-    ensures there { OnOk result (inode.new ≡ inode_at geometry (S.state s.new).sectors n) }
+    ensures there { OnOk result (inode.new ≡ inode_at geometry (S.state s.new).sectors ino) }
     ensures directory { OnOk result ((names : List (List ℕ × ℕ)) × HasNames geometry.version (S.state s.new).sectors inode.new names) }
 {
     for i in 0..count {
@@ -99,7 +99,7 @@ fn fill<S: Sectors>(
         if !is_name(name) {
             return Err(Fail::new("no name"));
         }
-        let Ok(()) = insert(s, geometry, n, inode, name, i + 2) else {
+        let Ok(()) = insert(s, geometry, ino, inode, name, i + 2) else {
             return Err(Fail::new("not added"));
         };
     }
@@ -110,13 +110,13 @@ fn fill<S: Sectors>(
 fn renamed<S: Sectors>(
     s: &mut S,
     geometry: Geometry,
-    n: u32,
+    ino: u32,
     inode: &Inode,
     name: &[u8],
 ) -> Result<(), DirFault>
     requires sound { IsSound geometry (S.state s.old) }
-    requires below { n < geometry.inodes }
-    requires there { inode.now ≡ inode_at geometry (S.state s.old).sectors n }
+    requires below { ino < geometry.inodes }
+    requires there { inode.now ≡ inode_at geometry (S.state s.old).sectors ino }
     requires directory { (names : List (List ℕ × ℕ)) × HasNames geometry.version (S.state s.old).sectors inode.now names }
     requires spare { HasSpare geometry 1 (S.state s.old) }
 {
@@ -127,7 +127,7 @@ fn renamed<S: Sectors>(
     if lookup(s, geometry, inode, new_name)?.is_some() {
         return Err(DirFault::Exists);
     }
-    rename(s, geometry, n, inode, name, new_name)?;
+    rename(s, geometry, ino, inode, name, new_name)?;
     Ok(())
 }
 
@@ -135,14 +135,14 @@ fn perform<S: Sectors>(
     alloc: Global,
     s: &mut S,
     geometry: Geometry,
-    n: u32,
+    ino: u32,
     inode: &mut Inode,
     call: Call,
     name: &[u8],
 ) -> Result<usize, DirFault>
     requires sound { IsSound geometry (S.state s.old) }
-    requires below { n < geometry.inodes }
-    requires there { inode.old ≡ inode_at geometry (S.state s.old).sectors n }
+    requires below { ino < geometry.inodes }
+    requires there { inode.old ≡ inode_at geometry (S.state s.old).sectors ino }
     requires directory { (names : List (List ℕ × ℕ)) × HasNames geometry.version (S.state s.old).sectors inode.old names }
     requires name { IsName name.now }
     requires short { length name.now ≤ max_name geometry.version }
@@ -151,10 +151,10 @@ fn perform<S: Sectors>(
     match call {
         Call::Lookup => return Ok(lookup(s, geometry, inode, name)?.unwrap_or(0) as usize),
         Call::List => return Ok(list(alloc, s, geometry, inode)?.len()),
-        Call::Insert => insert(s, geometry, n, inode, name, 9)?,
-        Call::Remove => remove(s, geometry, n, inode, name)?,
-        Call::Replace => replace(s, geometry, n, inode, name, 9)?,
-        Call::Rename => renamed(s, geometry, n, inode, name)?,
+        Call::Insert => insert(s, geometry, ino, inode, name, 9)?,
+        Call::Remove => remove(s, geometry, ino, inode, name)?,
+        Call::Replace => replace(s, geometry, ino, inode, name, 9)?,
+        Call::Rename => renamed(s, geometry, ino, inode, name)?,
     }
     Ok((inode.size / geometry.version.slot_size() as u64) as usize)
 }
@@ -183,21 +183,21 @@ fn seen_on_blank<S: Sectors>(
         parent: 1,
         ..Inode::FREE
     };
-    let Ok(n) = new_inode(s, geometry, &inode, access, None) else {
+    let Ok(ino) = new_inode(s, geometry, &inode, access, None) else {
         return Err(Fail::new("not made"));
     };
-    let mut inode = load(s, geometry, n)?;
+    let mut inode = load(s, geometry, ino)?;
     if !is_empty(&inode) || count > 600 {
         return Err(Fail::new("not empty"));
     }
-    fill(s, geometry, n, &mut inode, count)?;
+    fill(s, geometry, ino, &mut inode, count)?;
     let name = &name_of(i)[..len_of(geometry.version, i)];
     if !is_name(name) || s.room() < (geometry.table - geometry.inode_bitmap) as usize + 5 {
         return Err(Fail::new("no room"));
     }
     s.gets = 0;
     s.puts = 0;
-    let given = perform(alloc, s, geometry, n, &mut inode, call, name);
+    let given = perform(alloc, s, geometry, ino, &mut inode, call, name);
     Ok((given, s.gets, s.puts))
 }
 

@@ -68,8 +68,8 @@ fn stored<S: Sectors>(
         parent: 1,
         ..Inode::FREE
     };
-    let (n, _, same) = made(alloc, s, geometry, &inode, acl, Some(acl))?;
-    let inode = load(s, geometry, n)?;
+    let (ino, _, same) = made(alloc, s, geometry, &inode, acl, Some(acl))?;
+    let inode = load(s, geometry, ino)?;
     let kept = inode.acl != 0;
     let at = if kept { inode.acl } else { inode.default_acl };
     let first = first_bytes(s, geometry, at)?;

@@ -27,13 +27,13 @@ fn keeps_a_name(alloc: Global) -> Result<bool, AllocError> {
 fn one_name(alloc: Global) -> Result<Vec<Named>, AllocError> {
     let name = Name::from_slice(alloc, b"a")?;
     let mut names = Vec::new(alloc);
-    names.push(Named { name, inode: 3 })?;
+    names.push(Named { name, ino: 3 })?;
     Ok(names)
 }
 
 fn are_one_name(names: &[Named]) -> bool {
     match names {
-        [named] => named.name.bytes() == b"a".as_slice() && named.inode == 3,
+        [named] => named.name.bytes() == b"a".as_slice() && named.ino == 3,
         _ => false,
     }
 }

@@ -37,10 +37,10 @@ fn spawned(procs: &mut Procs, alloc: Global) -> Result<u64, Errno> {
     }
 }
 
-fn opened(procs: &mut Procs, pid: usize, number: u32) -> Result<u64, Errno> {
+fn opened(procs: &mut Procs, pid: usize, ino: u32) -> Result<u64, Errno> {
     let fd = procs.open_slot(pid)?;
     let descriptor = Descriptor {
-        number,
+        ino,
         offset: 0,
         read: true,
         write: false,

@@ -189,7 +189,7 @@ fn reply_of(said: Said) -> Reply {
 
 fn status(kind: FileType) -> Reply {
     Reply::Shown(Status {
-        inode: 3,
+        ino: 3,
         kind,
         mode: 0o644,
         links: 2,
@@ -284,16 +284,16 @@ fn push_named(
     alloc: Global,
     listed: &mut Vec<Named>,
     name: &[u8],
-    inode: u32,
+    ino: u32,
 ) -> Result<(), AllocError> {
     let name = Name::from_slice(alloc, name)?;
-    listed.push(Named { name, inode })?;
+    listed.push(Named { name, ino })?;
     Ok(())
 }
 
 fn push_names(alloc: Global, listed: &mut Vec<Named>) -> Result<(), AllocError> {
-    for &(name, inode) in &NAMES {
-        push_named(alloc, listed, name, inode)?;
+    for &(name, ino) in &NAMES {
+        push_named(alloc, listed, name, ino)?;
     }
     Ok(())
 }

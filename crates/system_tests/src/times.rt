@@ -30,8 +30,8 @@ fn mounted(alloc: Global, version: Version) -> Result<Fs<MemDisk>, Fail> {
 }
 
 // What is told of the times of an inode, once those that are given are set.
-fn stamped(fs: &mut Fs<MemDisk>, inode: u32, atime: Option<u64>, ctime: Option<u64>) -> Times {
-    match fs.stamp(inode, atime, None, ctime) {
+fn stamped(fs: &mut Fs<MemDisk>, ino: u32, atime: Option<u64>, ctime: Option<u64>) -> Times {
+    match fs.stamp(ino, atime, None, ctime) {
         Ok(stamps) => [stamps.atime, stamps.mtime, stamps.ctime],
         Err(_) => ABSENT,
     }
@@ -39,7 +39,7 @@ fn stamped(fs: &mut Fs<MemDisk>, inode: u32, atime: Option<u64>, ctime: Option<u
 
 // The times of the root, of the directory `/d` and of the file that is made in it.
 fn seen(fs: &mut Fs<MemDisk>) -> [Times; 3] {
-    [1, 2, 3].map(|inode| stamped(fs, inode, None, None))
+    [1, 2, 3].map(|ino| stamped(fs, ino, None, None))
 }
 
 // What a line asks for happens at this time.

@@ -54,13 +54,13 @@ impl Server {
     }
 
     /// A user has opened a directory at [`Server::next_directory`].
-    pub fn add_directory(&mut self, owner: u32, inode: u32)
+    pub fn add_directory(&mut self, owner: u32, ino: u32)
         requires { 1 ≤ self.old.room }
-        ensures kept { self.new.server ≡ with_opened owner inode self.old.server }
+        ensures kept { self.new.server ≡ with_opened owner ino self.old.server }
         ensures room { self.old.room ≤ self.new.room + 1 }
     {
         let directory = OpenDirectory {
-            number: inode,
+            ino,
             owner,
             listing: None,
         };
@@ -79,7 +79,7 @@ impl Server {
             return;
         };
         let listed = OpenDirectory {
-            number: open.number,
+            ino: open.ino,
             owner: open.owner,
             listing: Some(listing),
         };

@@ -32,24 +32,24 @@ impl Server {
     }
 
     /// The kernel is told the node of an object.
-    pub fn note_told(&mut self, inode: u32)
+    pub fn note_told(&mut self, ino: u32)
         requires { 1 ≤ self.old.room }
-        ensures kept { self.new.server ≡ once_more inode self.old.server }
+        ensures kept { self.new.server ≡ once_more ino self.old.server }
         ensures room { self.old.room ≤ self.new.room + 1 }
     {
-        let node = self.node_of(inode);
+        let node = self.node_of(ino);
         let count = self.next_lookups(node);
         self.lookups.put(node, count);
         self.room -= 1;
     }
 
     // Neither an object nor its names are known any more.
-    fn remove_object(&mut self, inode: u32)
-        ensures kept { self.new.server ≡ without_object inode self.old.server }
+    fn remove_object(&mut self, ino: u32)
+        ensures kept { self.new.server ≡ without_object ino self.old.server }
         ensures room { self.new.room ≡ self.old.room }
     {
-        self.kinds.remove(u64::from(inode));
-        self.names.remove_all(inode);
+        self.kinds.remove(u64::from(ino));
+        self.names.remove_all(ino);
     }
 
     // A node that isn't known any more, and what it leads to, but for the root.
@@ -57,10 +57,10 @@ impl Server {
         ensures kept { self.new.server ≡ without_node node self.old.server }
         ensures room { self.new.room ≡ self.old.room }
     {
-        let inode = self.number_of(node);
+        let ino = self.number_of(node);
         self.lookups.remove(node);
-        match inode {
-            Some(inode) if inode != ROOT => self.remove_object(inode),
+        match ino {
+            Some(ino) if ino != ROOT => self.remove_object(ino),
             _ => {}
         }
     }

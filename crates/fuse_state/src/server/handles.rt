@@ -13,23 +13,23 @@ impl Server {
     }
 
     /// The first handle of an inode.
-    pub fn handle_for(&self, inode: u32) -> Option<u64>
-        ensures { result ≡ handle_for self.now.server inode }
+    pub fn handle_for(&self, ino: u32) -> Option<u64>
+        ensures { result ≡ handle_for self.now.server ino }
     {
         self.handles
             .entries()
             .iter()
-            .find(|(_, open)| *open == inode)
+            .find(|(_, open)| *open == ino)
             .map(|(handle, _)| *handle)
     }
 
     /// An inode is open at a handle.
-    pub fn add_handle(&mut self, handle: u64, inode: u32)
+    pub fn add_handle(&mut self, handle: u64, ino: u32)
         requires { 1 ≤ self.old.room }
-        ensures kept { self.new.server ≡ with_handle handle inode self.old.server }
+        ensures kept { self.new.server ≡ with_handle handle ino self.old.server }
         ensures room { self.old.room ≤ self.new.room + 1 }
     {
-        self.handles.put(handle, inode);
+        self.handles.put(handle, ino);
         self.room -= 1;
     }
 

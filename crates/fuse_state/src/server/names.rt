@@ -1,7 +1,7 @@
 //! Names that were found and still stand.
 ghost use Rattle.std.specs.Prelude.{◌≡◌, ◌+◌, ◌^◌, ◌<◌, ◌≤◌, slice_get, option_copied, Some, None, IsNone, IsSome, IfSome};
-ghost use Rattle.fuse_state.specs.declared.dentry.Dentry.{Dentry as PlaceOf};
-ghost use Rattle.fuse_state.specs.Servers.{number_named, places_of, place_of, with_dentry, without_name, once_more, with_new_object};
+ghost use Rattle.fuse_state.specs.declared.dentry.Dentry.{Dentry as DentryOf};
+ghost use Rattle.fuse_state.specs.Servers.{number_named, dentries_of, dentry_of, with_dentry, without_name, once_more, with_new_object};
 
 use super::Server;
 use crate::borrower::Borrower;
@@ -19,34 +19,34 @@ impl Server {
     }
 
     /// The first name by which an object is known.
-    pub fn place_of(&self, inode: u32) -> Option<&Dentry>
-        ensures { option_copied result ≡ place_of self.now.server inode }
+    pub fn dentry_of(&self, ino: u32) -> Option<&Dentry>
+        ensures { option_copied result ≡ dentry_of self.now.server ino }
     {
-        self.names.place_of(inode, 0)
+        self.names.dentry_of(ino, 0)
     }
 
     // A name leads to an object of this kind, and to no other.
-    pub(super) fn add_name(&mut self, dentry: Dentry, inode: u32, kind: FileType)
+    pub(super) fn add_name(&mut self, dentry: Dentry, ino: u32, kind: FileType)
         requires { 1 ≤ self.old.room }
-        ensures kept { self.new.server ≡ with_dentry dentry inode kind self.old.server }
+        ensures kept { self.new.server ≡ with_dentry dentry ino kind self.old.server }
         ensures room { self.old.room ≤ self.new.room + 1 }
     {
-        self.kinds.put(u64::from(inode), kind);
-        self.names.put(dentry, inode);
+        self.kinds.put(u64::from(ino), kind);
+        self.names.put(dentry, ino);
         self.room -= 1;
     }
 
     // A name leads to an object of this kind, and the kernel is told of the object.
-    pub(super) fn add_found(&mut self, dentry: Dentry, inode: u32, kind: FileType)
+    pub(super) fn add_found(&mut self, dentry: Dentry, ino: u32, kind: FileType)
         requires { 1 ≤ self.old.room }
-        ensures kept { self.new.server ≡ once_more inode (with_dentry dentry inode kind self.old.server) }
+        ensures kept { self.new.server ≡ once_more ino (with_dentry dentry ino kind self.old.server) }
         ensures room { self.old.room ≤ self.new.room + 1 }
     {
-        let node = self.node_of(inode);
+        let node = self.node_of(ino);
         let count = self.next_lookups(node);
         self.lookups.put(node, count);
-        self.kinds.put(u64::from(inode), kind);
-        self.names.put(dentry, inode);
+        self.kinds.put(u64::from(ino), kind);
+        self.names.put(dentry, ino);
         self.room -= 1;
     }
 
@@ -59,23 +59,23 @@ impl Server {
     }
 
     /// A new object has the inode, and a name.
-    pub fn add_object(&mut self, now: Time, dentry: Dentry, inode: u32, kind: FileType)
+    pub fn add_object(&mut self, now: Time, dentry: Dentry, ino: u32, kind: FileType)
         requires { 4 ≤ self.old.room }
-        ensures kept { self.new.server ≡ with_new_object now dentry inode kind self.old.server }
+        ensures kept { self.new.server ≡ with_new_object now dentry ino kind self.old.server }
         ensures room { self.old.room ≤ self.new.room + 4 }
     {
-        self.add_generation(inode);
+        self.add_generation(ino);
         self.set_times(
-            inode,
+            ino,
             Times {
                 atime: now,
                 mtime: now,
                 ctime: now,
             },
         );
-        let directory = dentry.directory;
-        self.add_found(dentry, inode, kind);
-        self.touch(now, directory);
+        let dir_ino = dentry.dir_ino;
+        self.add_found(dentry, ino, kind);
+        self.touch(now, dir_ino);
     }
 
     /// A call of a process by one of the names that lead to an object: by so many in the order of their dentries, counted from 0.
@@ -86,20 +86,20 @@ impl Server {
         pid: usize,
         second: Option<u32>,
         call: &mut Call,
-        inode: u32,
+        ino: u32,
         at: usize,
         blank: Name,
     ) -> Option<Reply>
         requires { B.Takes call.old }
-        ensures made { IfSome result (λ reply. (p : PlaceOf) × (slice_get (places_of self.old.server inode) at ≡ Some p)
+        ensures made { IfSome result (λ reply. (p : DentryOf) × (slice_get (dentries_of self.old.server ino) at ≡ Some p)
             × B.Calls borrower.old pid second call.old p reply borrower.new) }
-        ensures none { IsNone result → slice_get (places_of self.old.server inode) at ≡ None }
+        ensures none { IsNone result → slice_get (dentries_of self.old.server ino) at ≡ None }
         ensures next { IsSome result → at + 1 < 2 ^ 64 }
         ensures idle { IsNone result → borrower.new ≡ borrower.old }
         ensures call { call.new ≡ call.old }
         ensures kept { self.new ≡ self.old }
     {
         self.names
-            .call_at(borrower, pid, second, call, inode, at, blank)
+            .call_at(borrower, pid, second, call, ino, at, blank)
     }
 }

@@ -12,56 +12,56 @@ const NUMBERS: u64 = 4_294_967_296;
 
 impl Server {
     // How often the number was given to a new object, modulo 2^32.
-    pub(super) fn generation_of(&self, inode: u32) -> u32
-        ensures { result ≡ generation_of self.now.server inode }
+    pub(super) fn generation_of(&self, ino: u32) -> u32
+        ensures { result ≡ generation_of self.now.server ino }
     {
-        self.generations.get(u64::from(inode)).copied().unwrap_or(0)
+        self.generations.get(u64::from(ino)).copied().unwrap_or(0)
     }
 
     // A number is given to one more new object.
-    pub(super) fn add_generation(&mut self, inode: u32)
+    pub(super) fn add_generation(&mut self, ino: u32)
         requires { 1 ≤ self.old.room }
-        ensures kept { self.new.server ≡ with_generation inode self.old.server }
+        ensures kept { self.new.server ≡ with_generation ino self.old.server }
         ensures room { self.old.room ≤ self.new.room + 1 }
     {
-        let generation = self.generation_of(inode).wrapping_add(1);
-        self.generations.put(u64::from(inode), generation);
+        let generation = self.generation_of(ino).wrapping_add(1);
+        self.generations.put(u64::from(ino), generation);
         self.room -= 1;
     }
 
     // Whether the object that had the number may be no more: none of its names is left, and it isn't open.
-    fn is_gone(&self, inode: u32) -> bool
-        ensures { result ≡ is_gone self.now.server inode }
+    fn is_gone(&self, ino: u32) -> bool
+        ensures { result ≡ is_gone self.now.server ino }
     {
-        inode != ROOT
-            && self.kind_of(inode).is_some()
-            && self.place_of(inode).is_none()
-            && self.handle_for(inode).is_none()
+        ino != ROOT
+            && self.kind_of(ino).is_some()
+            && self.dentry_of(ino).is_none()
+            && self.handle_for(ino).is_none()
     }
 
     // What is found under the number of an object that may be no more counts as a new object.
-    pub(super) fn renew(&mut self, inode: u32)
+    pub(super) fn renew(&mut self, ino: u32)
         requires { 1 ≤ self.old.room }
-        ensures kept { self.new.server ≡ renewed inode self.old.server }
+        ensures kept { self.new.server ≡ renewed ino self.old.server }
         ensures room { self.old.room ≤ self.new.room + 1 }
     {
-        if self.is_gone(inode) {
-            self.add_generation(inode);
+        if self.is_gone(ino) {
+            self.add_generation(ino);
         }
     }
 
     /// The node of an inode.
-    pub fn node_of(&self, inode: u32) -> u64
-        ensures { result ≡ node_of self.now.server inode }
+    pub fn node_of(&self, ino: u32) -> u64
+        ensures { result ≡ node_of self.now.server ino }
     {
-        NUMBERS * u64::from(self.generation_of(inode)) + u64::from(inode)
+        NUMBERS * u64::from(self.generation_of(ino)) + u64::from(ino)
     }
 
     /// What the inode holds, if the kernel was told of it.
-    pub fn kind_of(&self, inode: u32) -> Option<FileType>
-        ensures { result ≡ kind_known self.now.server inode }
+    pub fn kind_of(&self, ino: u32) -> Option<FileType>
+        ensures { result ≡ kind_known self.now.server ino }
     {
-        self.kinds.get(u64::from(inode)).copied()
+        self.kinds.get(u64::from(ino)).copied()
     }
 
     /// What the kernel was told of, by rising inodes: each with what it holds.
@@ -75,10 +75,10 @@ impl Server {
     pub fn number_of(&self, node: u64) -> Option<u32>
         ensures { result ≡ number_of_node self.now.server node }
     {
-        let inode = (node % NUMBERS) as u32;
-        let is_known = self.kind_of(inode).is_some();
-        if is_known && u64::from(self.generation_of(inode)) == node / NUMBERS {
-            Some(inode)
+        let ino = (node % NUMBERS) as u32;
+        let is_known = self.kind_of(ino).is_some();
+        if is_known && u64::from(self.generation_of(ino)) == node / NUMBERS {
+            Some(ino)
         } else {
             None
         }

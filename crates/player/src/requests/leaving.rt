@@ -13,7 +13,7 @@ use std::alloc::{AllocError, Global};
 use std::mem;
 
 // The server's own process, which has all capabilities.
-const LOOKER: usize = 1;
+const SERVER_PROCESS: usize = 1;
 
 // The most processes that there may be.
 const MAX_PROCESSES: usize = 64;
@@ -100,7 +100,7 @@ fn asked(fs: &mut Fs<MemDisk>, pid: usize, call: Call) -> Reply {
 fn answer_in(reply: &Reply) -> Answer {
     match reply {
         Reply::Done => Answer::Done,
-        Reply::Shown(status) if status.inode == ROOT => Answer::AtRoot,
+        Reply::Shown(status) if status.ino == ROOT => Answer::AtRoot,
         Reply::Refused(Refusal::Failed(errno)) => Answer::Failed(*errno),
         _ => Answer::Other,
     }
@@ -123,7 +123,7 @@ fn unexpected(alloc: Global, asked: &str, reply: Reply) -> anyhow::Error {
 fn open_root(alloc: Global, fs: &mut Fs<MemDisk>) -> anyhow::Result<()> {
     let acl = everything(alloc)?;
     let call = Call::SetAcl(path(alloc, b"/")?, AclType::Access, Some(acl));
-    match asked(fs, LOOKER, call) {
+    match asked(fs, SERVER_PROCESS, call) {
         Reply::Done => Ok(()),
         other => Err(unexpected(alloc, "setacl", other)),
     }
@@ -188,7 +188,7 @@ fn remove_below(alloc: Global, fs: &mut Fs<MemDisk>, above: &mut Vec<u32>) -> an
 
 // Whether the server process stands in this directory from now on.
 fn enters(fs: &mut Fs<MemDisk>, directory: u32) -> bool {
-    fs.enter(LOOKER, directory, directory).is_ok()
+    fs.enter(SERVER_PROCESS, directory, directory).is_ok()
 }
 
 // Removes the first name in the last of these directories, goes below it, or goes up again where there is none.
@@ -197,11 +197,11 @@ fn remove_first(alloc: Global, fs: &mut Fs<MemDisk>, above: &mut Vec<u32>) -> an
         above.pop();
         return Ok(());
     };
-    let inode = named.inode;
+    let ino = named.ino;
     let removed = remove(alloc, fs, &named);
     mem::drop(named);
     if !removed? {
-        above.push(inode)?;
+        above.push(ino)?;
     }
     Ok(())
 }
@@ -209,14 +209,14 @@ fn remove_first(alloc: Global, fs: &mut Fs<MemDisk>, above: &mut Vec<u32>) -> an
 // Opens the directory that the server process stands in.
 fn open_here(alloc: Global, fs: &mut Fs<MemDisk>) -> anyhow::Result<usize> {
     let call = Call::Open(path(alloc, b".")?, LISTED, 0);
-    match asked(fs, LOOKER, call) {
+    match asked(fs, SERVER_PROCESS, call) {
         Reply::Fd(fd) => Ok(fd),
         other => Err(unexpected(alloc, "open", other)),
     }
 }
 
 fn names_in(alloc: Global, fs: &mut Fs<MemDisk>, fd: usize) -> anyhow::Result<Listing> {
-    match asked(fs, LOOKER, Call::Readdir(fd)) {
+    match asked(fs, SERVER_PROCESS, Call::Readdir(fd)) {
         Reply::Names(listing) => Ok(listing),
         other => Err(unexpected(alloc, "readdir", other)),
     }
@@ -238,14 +238,14 @@ fn is_own(named: &Named) -> bool {
 fn first_named(alloc: Global, fs: &mut Fs<MemDisk>) -> anyhow::Result<Option<Named>> {
     let fd = open_here(alloc, fs)?;
     let listing = names_in(alloc, fs, fd)?;
-    close(fs, LOOKER, fd);
+    close(fs, SERVER_PROCESS, fd);
     Ok(first_of(listing))
 }
 
 // Removes a name there; false where it leads to a directory that isn't empty.
 fn remove(alloc: Global, fs: &mut Fs<MemDisk>, named: &Named) -> anyhow::Result<bool> {
     let call = Call::Rmdir(path(alloc, named.name.bytes())?);
-    let reply = asked(fs, LOOKER, call);
+    let reply = asked(fs, SERVER_PROCESS, call);
     match answer_in(&reply) {
         Answer::Failed(Errno::ENOTDIR) => {
             mem::drop(reply);
@@ -257,7 +257,7 @@ fn remove(alloc: Global, fs: &mut Fs<MemDisk>, named: &Named) -> anyhow::Result<
 
 fn unlink(alloc: Global, fs: &mut Fs<MemDisk>, named: &Named) -> anyhow::Result<bool> {
     let call = Call::Unlink(path(alloc, named.name.bytes())?);
-    is_removed(alloc, asked(fs, LOOKER, call))
+    is_removed(alloc, asked(fs, SERVER_PROCESS, call))
 }
 
 fn is_removed(alloc: Global, reply: Reply) -> anyhow::Result<bool> {

@@ -85,13 +85,13 @@ pub(super) fn made<S: Sectors>(
     let mut counts = [(0, 0); 4];
     s.gets = 0;
     s.puts = 0;
-    let Ok(n) = new_inode(s, geometry, inode, access, default) else {
+    let Ok(ino) = new_inode(s, geometry, inode, access, default) else {
         return Err(Fail::new("not made"));
     };
     counts[0] = (s.gets, s.puts);
     s.gets = 0;
     s.puts = 0;
-    let made = load(s, geometry, n)?;
+    let made = load(s, geometry, ino)?;
     counts[1] = (s.gets, s.puts);
     s.gets = 0;
     s.puts = 0;
@@ -106,8 +106,8 @@ pub(super) fn made<S: Sectors>(
         return Err(Fail::new("no default ACL"));
     };
     counts[3] = (s.gets, s.puts);
-    let same = is_first(n, &made, same, is_as_if_any(read_default, default));
-    Ok((n, counts, same))
+    let same = is_first(ino, &made, same, is_as_if_any(read_default, default));
+    Ok((ino, counts, same))
 }
 
 #[derive(Clone, Copy)]
@@ -122,18 +122,18 @@ enum Save {
 fn saved<S: Sectors>(
     s: &mut Counted<S>,
     geometry: Geometry,
-    n: u32,
+    ino: u32,
     save_as: Save,
     access: &Acl,
     default: Option<&Acl>,
 ) -> Result<Counts, Fail>
     requires sound { IsSound geometry (S.state s.old.inner) }
-    requires below { n < geometry.inodes }
+    requires below { ino < geometry.inodes }
     ensures sound { OnOk result (IsSound geometry (S.state s.new.inner)) }
-    ensures empty { OnOk result (Holds (S.state s.old.inner).sectors (inode_at geometry (S.state s.old.inner).sectors n) []
-        → Holds (S.state s.new.inner).sectors (inode_at geometry (S.state s.new.inner).sectors n) []) }
+    ensures empty { OnOk result (Holds (S.state s.old.inner).sectors (inode_at geometry (S.state s.old.inner).sectors ino) []
+        → Holds (S.state s.new.inner).sectors (inode_at geometry (S.state s.new.inner).sectors ino) []) }
 {
-    let inode = load(s, geometry, n)?;
+    let inode = load(s, geometry, ino)?;
     if s.room() < (geometry.table - geometry.inode_bitmap) as usize + 2 {
         return Err(Fail::new("no room"));
     }
@@ -144,19 +144,19 @@ fn saved<S: Sectors>(
     s.puts = 0;
     match save_as {
         Save::Inode => {
-            write_inode(s, geometry, n, &inode)?;
+            write_inode(s, geometry, ino, &inode)?;
             Ok((s.gets, s.puts))
         }
         Save::Attributes => {
-            save(s, geometry, n, &inode)?;
+            save(s, geometry, ino, &inode)?;
             Ok((s.gets, s.puts))
         }
         Save::Access => {
-            save_acl(s, geometry, n, &inode, access)?;
+            save_acl(s, geometry, ino, &inode, access)?;
             Ok((s.gets, s.puts))
         }
         Save::Default => {
-            save_default_acl(s, geometry, n, &inode, default)?;
+            save_default_acl(s, geometry, ino, &inode, default)?;
             Ok((s.gets, s.puts))
         }
     }
@@ -166,21 +166,21 @@ fn saved<S: Sectors>(
 fn saves<S: Sectors>(
     s: &mut Counted<S>,
     geometry: Geometry,
-    n: u32,
+    ino: u32,
     access: &Acl,
     default: Option<&Acl>,
 ) -> Result<[Counts; 4], Fail>
     requires sound { IsSound geometry (S.state s.old.inner) }
-    requires below { n < geometry.inodes }
+    requires below { ino < geometry.inodes }
     ensures sound { OnOk result (IsSound geometry (S.state s.new.inner)) }
-    ensures empty { OnOk result (Holds (S.state s.old.inner).sectors (inode_at geometry (S.state s.old.inner).sectors n) []
-        → Holds (S.state s.new.inner).sectors (inode_at geometry (S.state s.new.inner).sectors n) []) }
+    ensures empty { OnOk result (Holds (S.state s.old.inner).sectors (inode_at geometry (S.state s.old.inner).sectors ino) []
+        → Holds (S.state s.new.inner).sectors (inode_at geometry (S.state s.new.inner).sectors ino) []) }
 {
     Ok([
-        saved(s, geometry, n, Save::Inode, access, default)?,
-        saved(s, geometry, n, Save::Attributes, access, default)?,
-        saved(s, geometry, n, Save::Access, access, default)?,
-        saved(s, geometry, n, Save::Default, access, default)?,
+        saved(s, geometry, ino, Save::Inode, access, default)?,
+        saved(s, geometry, ino, Save::Attributes, access, default)?,
+        saved(s, geometry, ino, Save::Access, access, default)?,
+        saved(s, geometry, ino, Save::Default, access, default)?,
     ])
 }
 
@@ -208,14 +208,14 @@ fn life<S: Sectors>(
         names: 1,
         ..Inode::FREE
     };
-    let (n, made, same) = made(alloc, s, geometry, &inode, first.0, first.1)?;
-    let saved = saves(s, geometry, n, then.0, then.1)?;
+    let (ino, made, same) = made(alloc, s, geometry, &inode, first.0, first.1)?;
+    let saved = saves(s, geometry, ino, then.0, then.1)?;
     if s.room() <= (geometry.table - geometry.inode_bitmap) as usize {
         return Err(Fail::new("no room"));
     }
     s.gets = 0;
     s.puts = 0;
-    free_inode(s, geometry, n)?;
+    free_inode(s, geometry, ino)?;
     Ok((made, saved, (s.gets, s.puts), same))
 }
 

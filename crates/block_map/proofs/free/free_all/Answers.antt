@@ -51,7 +51,7 @@ write_inode-requires-clause-room g c = λ none.
     room_left c.args.geometry 1 t5 (spare_then c.args.geometry 0 1 (g.S.Sectors.state c.args.s.now) t5 (omega (arith, c.requires.spare)) puts) (omega arith)
 
 -- all that has come of it
-is_freed : (g : _) (c : goal.In_ok-write_inode g) → IsFreed c.args.geometry c.args.n (g.S.Sectors.state c.args.s.now) (g.S.Sectors.state c.write_inode.new.s)
+is_freed : (g : _) (c : goal.In_ok-write_inode g) → IsFreed c.args.geometry c.args.ino (g.S.Sectors.state c.args.s.now) (g.S.Sectors.state c.write_inode.new.s)
 is_freed g c =
     let may = may_change_then c.requires.sound c.requires.number c.in_ok-inode.ensures.found c.in_ok-inode.ensures.same c.in_ok-give.ensures.given c.in_ok-give.ensures.puts c.requires.used c.in_ok-give.ensures.bitmaps in
     all_freed c.requires.sound c.requires.number c.in_ok-inode.ensures.found c.in_ok-inode.ensures.same c.in_ok-give.ensures.given c.in_ok-give.ensures.puts c.in_ok-give_from.ensures.given
@@ -63,7 +63,7 @@ returns-clause-store g c = (is_freed g c).touches.puts.store
 
 pub returns-clause-sound : goal.returns-clause-sound
 returns-clause-sound g c =
-    sound_then c.args.geometry c.args.n 0 1 (g.S.Sectors.state c.args.s.now) (g.S.Sectors.state c.write_inode.new.s) c.requires.sound c.requires.number
+    sound_then c.args.geometry c.args.ino 0 1 (g.S.Sectors.state c.args.s.now) (g.S.Sectors.state c.write_inode.new.s) c.requires.sound c.requires.number
     (is_freed g c).touches
 
 pub returns-clause-touches : goal.returns-clause-touches

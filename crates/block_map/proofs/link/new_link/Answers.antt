@@ -10,25 +10,25 @@ returns-in_err-link-clause-full g c =
     let t0 = g.S.Sectors.state c.args.s.now in
     let t1 = g.S.Sectors.state c.take.new.s in
     through_try _ c.from_residual-in_err-link.result c.in_err-link.field-0.0 c.from_residual-in_err-link.ensures
-    (λ full. inr (sym (free_kept c.args.geometry c.in_ok-n.n t0.sectors t1.sectors c.in_ok-n.ensures.taken.mark) ∙ c.in_err-link.ensures.full full))
+    (λ full. inr (sym (free_kept c.args.geometry c.in_ok-ino.ino t0.sectors t1.sectors c.in_ok-ino.ensures.taken.mark) ∙ c.in_err-link.ensures.full full))
 
 pub write_inode-requires-clause-fits : goal.write_inode-requires-clause-fits
 write_inode-requires-clause-fits g c =
     link_fits c.args.uid c.args.gid (length c.args.target.now) c.in_ok-link.field-0 (omega arith) (omega arith) c.requires.target.0 c.requires.target.1 (omega arith)
 
 -- all that the number returned stands for
-is_made : (g : _) (c : goal.In_ok-write_inode g) → IsMade c.args.geometry c.in_ok-n.n c.args.uid c.args.gid c.args.target.now
+is_made : (g : _) (c : goal.In_ok-write_inode g) → IsMade c.args.geometry c.in_ok-ino.ino c.args.uid c.args.gid c.args.target.now
     (g.S.Sectors.state c.args.s.now) (g.S.Sectors.state c.write_inode.new.s)
 is_made g c =
     let fits = link_fits c.args.uid c.args.gid (length c.args.target.now) c.in_ok-link.field-0 (omega arith) (omega arith) c.requires.target.0 c.requires.target.1
     (omega arith) in
-    link_made c.requires.sound c.in_ok-n.ensures.taken c.in_ok-n.ensures.puts c.in_ok-link.ensures.puts c.args.uid c.args.gid c.args.target.now _ c.requires.clear c.requires.target
+    link_made c.requires.sound c.in_ok-ino.ensures.taken c.in_ok-ino.ensures.puts c.in_ok-link.ensures.puts c.args.uid c.args.gid c.args.target.now _ c.requires.clear c.requires.target
     (filled 0 c.copy_from_slice.ensures.after refl) c.in_ok-link.ensures.taken.1 fits c.in_ok-write_inode.ensures.saved c.in_ok-link.ensures.free c.in_ok-write_inode.ensures.puts
 
 pub returns-clause-sound : goal.returns-clause-sound
 returns-clause-sound g c =
-    sound_then c.args.geometry c.in_ok-n.n 1 2 (g.S.Sectors.state c.args.s.now) (g.S.Sectors.state c.write_inode.new.s) c.requires.sound
-    (c.in_ok-n.ensures.taken.free.0, c.in_ok-n.ensures.taken.free.1) (is_made g c).touches
+    sound_then c.args.geometry c.in_ok-ino.ino 1 2 (g.S.Sectors.state c.args.s.now) (g.S.Sectors.state c.write_inode.new.s) c.requires.sound
+    (c.in_ok-ino.ensures.taken.free.0, c.in_ok-ino.ensures.taken.free.1) (is_made g c).touches
 
 pub returns-clause-touches : goal.returns-clause-touches
 returns-clause-touches g c = (is_made g c).touches

@@ -22,7 +22,7 @@ pub write_inode-requires-clause-room : goal.write_inode-requires-clause-room
 write_inode-requires-clause-room g c = λ none. spare_last c.args.geometry (1 + cut_by (blocks_to c.args.size)) c.requires.spare c.in_ok-resize.ensures.resized.puts
 
 -- the steps and the save
-ended : (g : _) (c : goal.In_ok-write_inode g) → IsEnded c.args.geometry c.args.n 0 (put_to c.args.size) (g.S.Sectors.state c.args.s.now) (g.S.Sectors.state c.resize.new.s)
+ended : (g : _) (c : goal.In_ok-write_inode g) → IsEnded c.args.geometry c.args.ino 0 (put_to c.args.size) (g.S.Sectors.state c.args.s.now) (g.S.Sectors.state c.resize.new.s)
     (g.S.Sectors.state c.write_inode.new.s) c.args.inode.now c.resize.new.inode
 ended g c =
     let r = c.in_ok-resize.ensures.resized in

@@ -61,7 +61,7 @@ limited : (g : _) (c : goal.After-inode-1 g) → c.max-blocks.result ≤ MAX_FIL
 limited g c =
     limit_at c.max-blocks.result c.args.inode.now.size c.args.offset (length c.args.bytes.now) c.max_file_size.result c.max-blocks.ensures c.if-offset-max_file_size.false c.requires.few (omega (arith, c.max_file_size.ensures.least)) c.max_file_size.ensures.most (size_limit c.max-blocks.result c.requires.sound c.requires.below c.requires.inode (allowed g c))
 
-ended : (g : _) (c : goal.After-inode-1 g) → IsEnded c.args.geometry c.args.n (taken_by (g.S.Sectors.state c.args.s.now).sectors c.args.inode.now c.args.offset (length c.args.bytes.now)) (put_by c.args.offset (length c.args.bytes.now))
+ended : (g : _) (c : goal.After-inode-1 g) → IsEnded c.args.geometry c.args.ino (taken_by (g.S.Sectors.state c.args.s.now).sectors c.args.inode.now c.args.offset (length c.args.bytes.now)) (put_by c.args.offset (length c.args.bytes.now))
     (g.S.Sectors.state c.args.s.now) (g.S.Sectors.state c.write_blocks.new.s) (g.S.Sectors.state c.write_inode.new.s) c.args.inode.now c.write_blocks.new.blocks.inode
 ended g c =
     wrote c.requires.sound c.requires.below c.requires.inode (allowed g c) (limited g c) c.requires.few c.max-blocks.ensures unchanged_nothing c.new-blocks.ensures.inode

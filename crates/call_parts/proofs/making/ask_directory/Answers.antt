@@ -4,7 +4,7 @@ use Rattle.call_parts.proofs.making.ask_directory.Goals as goal
 
 pub returns-clause-each : goal.returns-clause-each
 returns-clause-each g c = λ t h d.
-    let dir = c.args.found.now.dir in
+    let dir_ino = c.args.found.now.dir_ino in
     let old = g.S.Sectors.state c.args.s.now in
-    asked_as t dir c.args.walk (inode_at c.args.caller.now.geometry old.sectors dir) c.ask_in_directory.result old.disk (g.S.Sectors.state c.ask_in_directory.new.s).disk
+    asked_as t dir_ino c.args.walk (inode_at c.args.caller.now.geometry old.sectors dir_ino) c.ask_in_directory.result old.disk (g.S.Sectors.state c.ask_in_directory.new.s).disk
     c.cred-cred.ensures c.saturating_sub-step.ensures (c.ask_in_directory.ensures.each t h d)

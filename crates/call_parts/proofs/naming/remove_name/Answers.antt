@@ -15,5 +15,5 @@ returns-in-Ok-clause-removes g c =
 
 pub returns-in-Err-clause-fault : goal.returns-in-Err-clause-fault
 returns-in-Err-clause-fault g c =
-    fails_to_change c.args.geometry c.args.dir c.args.name.now (g.S.Sectors.state c.remove.new.s).disk c.in-Err.field-0 c.requires.named c.in_ok-directory.ensures.same c.in_ok-directory.ensures.found
+    fails_to_change c.args.geometry c.args.dir_ino c.args.name.now (g.S.Sectors.state c.remove.new.s).disk c.in-Err.field-0 c.requires.named c.in_ok-directory.ensures.same c.in_ok-directory.ensures.found
     c.in-Err.ensures.why c.in-Err.ensures.cause.failed

@@ -2,7 +2,7 @@ use Rattle.std.proofs.Common.{ℕ}
 use Rattle.fs_cred.specs.declared.refusal.Refusal.{Refusal}
 use Rattle.fs_layout.specs.declared.inode.Inode.{Inode}
 use Rattle.fs_layout.specs.Images.{inode_at}
-use Rattle.fs_model.specs.Scenes.{number}
+use Rattle.fs_model.specs.Scenes.{found_ino}
 use Rattle.fs_model.specs.States.{State}
 use Rattle.path_walk.proofs.Kept.{failed_with}
 use Rattle.call_parts.specs.Performing.{IsStateOf}
@@ -27,31 +27,31 @@ inode_found-requires g c =
     let w = c.in_ok-process.ensures.walked in
     record { sound = w.ready.sound; below = walked_below w }
 
-pub returns-in_err-number-clause-refused : goal.returns-in_err-number-clause-refused
-returns-in_err-number-clause-refused g c =
-    let r = c.from_residual-in_err-number.ensures in
+pub returns-in_err-ino-clause-refused : goal.returns-in_err-ino-clause-refused
+returns-in_err-ino-clause-refused g c =
+    let r = c.from_residual-in_err-ino.ensures in
     let old = g.S.Sectors.state c.args.s.now in
     let mid = g.S.Sectors.state c.walk_path.new.s in
     let new = g.S.Sectors.state c.inode_found.new.s in
     let f = c.in_ok-process.field-0.found in
-    let e = c.in_err-number.field-0.0 in
-    failed_with c.from_residual-in_err-number.result e
+    let e = c.in_err-ino.field-0.0 in
+    failed_with c.from_residual-in_err-ino.result e
     (λ (e : Refusal). (s : State) → IsStateOf c.args.caller.now.geometry old.sectors c.args.caller.now.procs.now s
     → RefusesReach old.disk new.disk s c.args.caller.now.pid c.args.checks c.args.form c.args.path.now e) r.0 r.1
-    (unreached new.disk e {A = ℕ × Inode} (number f, inode_at c.args.caller.now.geometry mid.sectors (number f)) c.in_ok-process.ensures.same c.in_ok-process.ensures.walked
-    c.in_err-number.ensures.each)
+    (unreached new.disk e {A = ℕ × Inode} (found_ino f, inode_at c.args.caller.now.geometry mid.sectors (found_ino f)) c.in_ok-process.ensures.same c.in_ok-process.ensures.walked
+    c.in_err-ino.ensures.each)
 
 pub returns-clause-reached : goal.returns-clause-reached
 returns-clause-reached g c =
-    let same = c.in_ok-number.ensures.same in
+    let same = c.in_ok-ino.ensures.same in
     let mid = g.S.Sectors.state c.walk_path.new.s in
     record {
       walked = walk_kept same c.in_ok-process.ensures.walked;
-      inode = inode_later same (is_inode c.args.caller.now.geometry mid.sectors c.in_ok-process.field-0.found c.in_ok-number.number c.in_ok-number.inode c.in_ok-number.ensures.each);
+      inode = inode_later same (is_inode c.args.caller.now.geometry mid.sectors c.in_ok-process.field-0.found c.in_ok-ino.ino c.in_ok-ino.inode c.in_ok-ino.ensures.each);
     }
 
-pub returns-in_err-number-clause-same : goal.returns-in_err-number-clause-same
-returns-in_err-number-clause-same g c = unchanged_joined c.in_ok-process.ensures.same c.in_err-number.ensures.same
+pub returns-in_err-ino-clause-same : goal.returns-in_err-ino-clause-same
+returns-in_err-ino-clause-same g c = unchanged_joined c.in_ok-process.ensures.same c.in_err-ino.ensures.same
 
 pub returns-clause-same : goal.returns-clause-same
-returns-clause-same g c = unchanged_joined c.in_ok-process.ensures.same c.in_ok-number.ensures.same
+returns-clause-same g c = unchanged_joined c.in_ok-process.ensures.same c.in_ok-ino.ensures.same

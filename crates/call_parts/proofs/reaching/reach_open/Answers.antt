@@ -43,6 +43,6 @@ returns-clause-opened g c =
       ready = ready_kept same c.requires.ready;
       table = c.in_ok-descriptor.ensures.table;
       is_open = c.in_ok-descriptor.ensures.is_open;
-      inode = kept (λ (m : SectorMap). c.in_ok-inode.inode ≡ inode_at c.args.caller.now.geometry m c.in_ok-descriptor.descriptor.number) same
-          (c.in_ok-inode.ensures.found ∙ ap (λ (d : Descriptor). inode_at c.args.caller.now.geometry (g.S.Sectors.state c.args.s.now).sectors d.number) c.descriptor.view_is);
+      inode = kept (λ (m : SectorMap). c.in_ok-inode.inode ≡ inode_at c.args.caller.now.geometry m c.in_ok-descriptor.descriptor.ino) same
+          (c.in_ok-inode.ensures.found ∙ ap (λ (d : Descriptor). inode_at c.args.caller.now.geometry (g.S.Sectors.state c.args.s.now).sectors d.ino) c.descriptor.view_is);
     }

@@ -19,8 +19,8 @@ pub returns-then-eq-clause-held : goal.returns-then-eq-clause-held
 returns-then-eq-clause-held g c =
     let is_free : c.in-Ok.inode.kind ≡ kinds.Free = search rules in
     λ t held.
-    kept (λ (m : SectorMap). HoldsAll c.args.geometry m (placed (restamped (touch_one c.args.now (c.args.n, c.args.touch)) t))) c.in-Ok.ensures.same
-    (free_held c.args.geometry c.args.now c.args.n c.args.touch t (g.S.Sectors.state c.args.s.now).sectors held c.requires.below
+    kept (λ (m : SectorMap). HoldsAll c.args.geometry m (placed (restamped (touch_one c.args.now (c.args.ino, c.args.touch)) t))) c.in-Ok.ensures.same
+    (free_held c.args.geometry c.args.now c.args.ino c.args.touch t (g.S.Sectors.state c.args.s.now).sectors held c.requires.below
     (sym (ap (λ (v : Inode). v.kind) c.in-Ok.ensures.found) ∙ is_free))
 
 pub save_times-requires-clause-sound : goal.save_times-requires-clause-sound
@@ -40,8 +40,8 @@ returns-clause-held g c =
     let same = c.in-Ok.ensures.same in
     let e = c.save_times.ensures in
     let mid = g.S.Sectors.state c.load_with_content.new.s in
-    let found : c.in-Ok.inode ≡ inode_at c.args.geometry mid.sectors c.args.n = kept (λ (m : SectorMap). c.in-Ok.inode ≡ inode_at c.args.geometry m c.args.n) same c.in-Ok.ensures.found in
-    let saves : SavesTimes c.args.geometry c.args.now c.args.n c.args.touch mid (g.S.Sectors.state c.save_times.new.s) = record {
+    let found : c.in-Ok.inode ≡ inode_at c.args.geometry mid.sectors c.args.ino = kept (λ (m : SectorMap). c.in-Ok.inode ≡ inode_at c.args.geometry m c.args.ino) same c.in-Ok.ensures.found in
+    let saves : SavesTimes c.args.geometry c.args.now c.args.ino c.args.touch mid (g.S.Sectors.state c.save_times.new.s) = record {
       sound = e.sound;
       touches = e.touches;
       saved = e.saved ∙ c.with_touch-touched.ensures ∙ ap (λ (v : Inode). with_times v (touch_at c.args.now c.args.touch (stamps_in v))) found;
@@ -50,4 +50,4 @@ returns-clause-held g c =
       used = e.used;
     } in
     λ t held.
-    used_held_after c.args.geometry c.args.now c.args.n c.args.touch t same held c.requires.below (λ free. used (ap (λ (v : Inode). v.kind) found ∙ free)) saves
+    used_held_after c.args.geometry c.args.now c.args.ino c.args.touch t same held c.requires.below (λ free. used (ap (λ (v : Inode). v.kind) found ∙ free)) saves

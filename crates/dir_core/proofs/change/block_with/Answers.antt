@@ -11,8 +11,8 @@ use Rattle.dir_core.proofs.change.block_with.Goals as goal
 pub returns : goal.returns
 returns c =
     let version = c.args.version in
-    let x : List ℕ = slot_bytes version (record { inode = c.args.inode; name = c.args.name.now }) in
+    let x : List ℕ = slot_bytes version (record { ino = c.args.ino; name = c.args.name.now }) in
     let most = (slot_bounds version).1 in
     ap (take (slot_size version)) (c.write_in.ensures ∙ ap (λ v. splice (replicate 512 0) 0 (slot_bytes version v)) c.new.ensures)
-    ∙ window_same (replicate 512 0) x 0 (slot_size version) (length-slot_bytes version (record { inode = c.args.inode; name = c.args.name.now }) c.requires.short)
+    ∙ window_same (replicate 512 0) x 0 (slot_size version) (length-slot_bytes version (record { ino = c.args.ino; name = c.args.name.now }) c.requires.short)
     (omega (arith, most, length-replicate {A = ℕ} 512 0))

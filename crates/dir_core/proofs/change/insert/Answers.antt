@@ -28,7 +28,7 @@ insert_new-requires-clause-directory g c =
     let mid = (g.S.Sectors.state c.find_slot.new.s).sectors in
     let none = not_there h.slots c.args.name.now h.apart c.in_ok-find_slot.field-0 (c.in_ok-find_slot.ensures.found h.slots (slots_there h)) (sym c.is_some.ensures ∙ c.if-is_some.false) in (
       c.requires.directory.0,
-      subst (λ (image : SectorMap). HasNames c.args.place.version image c.args.inode.now c.requires.directory.0) (map_unchanged c.in_ok-find_slot.ensures.same) h,
+      subst (λ (image : SectorMap). HasNames c.args.geometry.version image c.args.inode.now c.requires.directory.0) (map_unchanged c.in_ok-find_slot.ensures.same) h,
       said_by_names c.args.name.now h none,
     )
 
@@ -38,7 +38,7 @@ returns-in_err-insert_new-clause-why g c =
     let v = c.args.inode.now in
     let r = c.from_residual-in_err-insert_new.result in
     let exit = err_from_is_err_and r c.from_residual-in_err-insert_new.ensures.1 in
-    let Why : SectorMap → DirFault → Type 0 = λ image e. (names : List (List ℕ × ℕ)) → HasNames c.args.place.version image v names → WhyNotAdded c.args.place image v names name e in
+    let Why : SectorMap → DirFault → Type 0 = λ image e. (names : List (List ℕ × ℕ)) → HasNames c.args.geometry.version image v names → WhyNotAdded c.args.geometry image v names name e in
     let mid = (g.S.Sectors.state c.find_slot.new.s).sectors in
     let why : IfErr r (Why mid) = subst (λ (result : Result (Unit {0}) DirFault). IfErr result (Why mid)) (sym exit.1) (subst (Why mid) (sym exit.2) c.in_err-insert_new.ensures.why) in
     subst (λ (image : SectorMap). IfErr r (Why image)) (sym (map_unchanged c.in_ok-find_slot.ensures.same)) why
@@ -49,7 +49,7 @@ returns-clause-change g c = content_after_reads c.in_ok-find_slot.ensures.same c
 pub returns-clause-names : goal.returns-clause-names
 returns-clause-names g c = λ names h.
     let none = not_there h.slots c.args.name.now h.apart c.in_ok-find_slot.field-0 (c.in_ok-find_slot.ensures.found h.slots (slots_there h)) (sym c.is_some.ensures ∙ c.if-is_some.false) in
-    let now = subst (λ (image : SectorMap). HasNames c.args.place.version image c.args.inode.now names) (map_unchanged c.in_ok-find_slot.ensures.same) h in
+    let now = subst (λ (image : SectorMap). HasNames c.args.geometry.version image c.args.inode.now names) (map_unchanged c.in_ok-find_slot.ensures.same) h in
     let r = c.in_ok-insert_new.ensures.names names now in
     (said_by_names c.args.name.now h none, r.0, r.1)
 

@@ -27,12 +27,12 @@ not_full end limit most lt is = omega (arith, lt, is)
 
 pub write_at-requires-clause-size : goal.write_at-requires-clause-size
 write_at-requires-clause-size g c =
-    let version = c.args.place.version in
+    let version = c.args.geometry.version in
     let v = c.args.inode.now in
     let names = c.requires.directory.1 in
     let h = slots_there names in
     let len =
-    length-written c.args.place.version (added c.args.name.now c.args.to) c.slot_size.result c.block_with-block.result c.slot_size.ensures
+    length-written c.args.geometry.version (added c.args.name.now c.args.to) c.slot_size.result c.block_with-block.result c.slot_size.ensures
     c.block_with-block.ensures c.requires.short in
     let few = slots_few h (not_full _ _ _ c.if-end-max_directory_size.false c.max_directory_size.ensures) in
     let most = directory_most version in
@@ -43,9 +43,9 @@ write_at-requires-clause-size g c =
 pub write_at-requires-clause-few : goal.write_at-requires-clause-few
 write_at-requires-clause-few g c =
     let len =
-    length-written c.args.place.version (added c.args.name.now c.args.to) c.slot_size.result c.block_with-block.result c.slot_size.ensures
+    length-written c.args.geometry.version (added c.args.name.now c.args.to) c.slot_size.result c.block_with-block.result c.slot_size.ensures
     c.block_with-block.ensures c.requires.short in
-    let most = (slot_bounds c.args.place.version).1 in
+    let most = (slot_bounds c.args.geometry.version).1 in
     omega (arith, len, most)
 
 -- how many sectors are put
@@ -59,7 +59,7 @@ puts_few {version} {v = v} {slots} h n len few =
 pub write_at-requires-clause-spare : goal.write_at-requires-clause-spare
 write_at-requires-clause-spare g c =
     let len =
-    length-written c.args.place.version (added c.args.name.now c.args.to) c.slot_size.result c.block_with-block.result c.slot_size.ensures
+    length-written c.args.geometry.version (added c.args.name.now c.args.to) c.slot_size.result c.block_with-block.result c.slot_size.ensures
     c.block_with-block.ensures c.requires.short in
     let there = slots_there c.requires.directory.1 in
     let room = (slots_few there (not_full _ _ _ c.if-end-max_directory_size.false c.max_directory_size.ensures)).0 in
@@ -70,7 +70,7 @@ write_at-requires-clause-spare g c =
 pub returns-then-end-max_directory_size-clause-why : goal.returns-then-end-max_directory_size-clause-why
 returns-then-end-max_directory_size-clause-why g c = λ names h.
     let old = g.S.Sectors.state c.args.s.now in
-    let p = c.args.place in
+    let p = c.args.geometry in
     let v = c.args.inode.now in
     let name = c.args.name.now in
     let none : get name_cmp names name ≡ None =
@@ -86,14 +86,14 @@ takes_so {version} {image} {v} h n len few = ap (taken_by image v v.size) len �
 pub returns-in_err-write_at-clause-why : goal.returns-in_err-write_at-clause-why
 returns-in_err-write_at-clause-why g c =
     let old = g.S.Sectors.state c.args.s.now in
-    let p = c.args.place in
+    let p = c.args.geometry in
     let v = c.args.inode.now in
     let name = c.args.name.now in
     let e = c.from_residual.ensures in
     let r = c.in_err-write_at.ensures in
     let there = slots_there c.requires.directory.1 in
     let len =
-    length-written c.args.place.version (added c.args.name.now c.args.to) c.slot_size.result c.block_with-block.result c.slot_size.ensures
+    length-written c.args.geometry.version (added c.args.name.now c.args.to) c.slot_size.result c.block_with-block.result c.slot_size.ensures
     c.block_with-block.ensures c.requires.short in
     let room = (slots_few there (not_full _ _ _ c.if-end-max_directory_size.false c.max_directory_size.ensures)).0 in
     let takes = takes_so there (length (take c.slot_size.result c.block_with-block.result)) len room in
@@ -112,23 +112,23 @@ pub returns-clause-change : goal.returns-clause-change
 returns-clause-change g c =
     let old = g.S.Sectors.state c.args.s.now in
     let new = g.S.Sectors.state c.write_at.new.s in
-    let p = c.args.place in
+    let p = c.args.geometry in
     let v = c.args.inode.now in
     let there = slots_there c.requires.directory.1 in
     let len =
-    length-written c.args.place.version (added c.args.name.now c.args.to) c.slot_size.result c.block_with-block.result c.slot_size.ensures
+    length-written c.args.geometry.version (added c.args.name.now c.args.to) c.slot_size.result c.block_with-block.result c.slot_size.ensures
     c.block_with-block.ensures c.requires.short in
     let room = (slots_few there (not_full _ _ _ c.if-end-max_directory_size.false c.max_directory_size.ensures)).0 in
     let takes = takes_so there (length (take c.slot_size.result c.block_with-block.result)) len room in
     content_at_most (puts_few there (length (take c.slot_size.result c.block_with-block.result)) len room)
-    (subst (λ (k : ℕ). ChangesContent p c.args.n k (put_by v.size (length (take c.slot_size.result c.block_with-block.result))) old new v c.write_at.new.inode) takes
+    (subst (λ (k : ℕ). ChangesContent p c.args.ino k (put_by v.size (length (take c.slot_size.result c.block_with-block.result))) old new v c.write_at.new.inode) takes
     c.in_ok-write_at.ensures.change)
 
 pub returns-clause-names : goal.returns-clause-names
 returns-clause-names g c = λ names h.
     let old = g.S.Sectors.state c.args.s.now in
     let new = g.S.Sectors.state c.write_at.new.s in
-    let version = c.args.place.version in
+    let version = c.args.geometry.version in
     let v = c.args.inode.now in
     let w = c.write_at.new.inode in
     let name = c.args.name.now in

@@ -10,13 +10,13 @@ use Rattle.dir_core.proofs.change.move_last.Goals as goal
 pub overflow_mul-at : goal.overflow_mul-at
 overflow_mul-at g c =
     let below = slot_below c.requires.directory.1 c.args.slot c.requires.directory.2 in
-    let is : c.args.slot * c.slot_size-slot_size.result ≡ c.args.slot * slot_size c.args.place.version =
+    let is : c.args.slot * c.slot_size-slot_size.result ≡ c.args.slot * slot_size c.args.geometry.version =
     ap (λ (w : ℕ). c.args.slot * w) c.slot_size-slot_size.ensures in
     omega (arith, below, is)
 
 pub overflow_sub-last : goal.overflow_sub-last
 overflow_sub-last g c =
-    let inside = slot_inside c.requires.directory.1 c.args.slot c.requires.directory.2 {at = c.args.slot * slot_size c.args.place.version} refl in
+    let inside = slot_inside c.requires.directory.1 c.args.slot c.requires.directory.2 {at = c.args.slot * slot_size c.args.geometry.version} refl in
     let is = c.slot_size-slot_size.ensures in
     omega (arith, inside, is)
 
@@ -25,7 +25,7 @@ returns-then-at-last-clause-change g c = same_content c.requires.sound c.require
 
 pub returns-then-at-last-clause-moved : goal.returns-then-at-last-clause-moved
 returns-then-at-last-clause-moved g c = λ slots d h.
-    let version = c.args.place.version in
+    let version = c.args.geometry.version in
     let is = c.slot_size-slot_size.ensures in
     let last : c.args.slot ≡ length slots - 1 =
     slot_is_last version c.args.slot (length slots) (sym (slot_start version c.args.slot) ∙ sym (ap (λ (w : ℕ). c.args.slot * w) is) ∙ c.if-at-last.true

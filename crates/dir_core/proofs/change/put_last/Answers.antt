@@ -14,12 +14,12 @@ use Rattle.dir_core.proofs.change.put_last.Goals as goal
 pub overflow_mul-at : goal.overflow_mul-at
 overflow_mul-at g c =
     let below = slot_below c.requires.directory.1 c.args.slot c.requires.directory.2 in
-    let is : c.args.slot * length c.args.bytes.now ≡ c.args.slot * slot_size c.args.place.version = ap (λ (w : ℕ). c.args.slot * w) c.requires.room in
+    let is : c.args.slot * length c.args.bytes.now ≡ c.args.slot * slot_size c.args.geometry.version = ap (λ (w : ℕ). c.args.slot * w) c.requires.room in
     omega (arith, below, is)
 
 pub overflow_sub-last : goal.overflow_sub-last
 overflow_sub-last g c =
-    let inside = slot_inside c.requires.directory.1 c.args.slot c.requires.directory.2 {at = c.args.slot * slot_size c.args.place.version} refl in
+    let inside = slot_inside c.requires.directory.1 c.args.slot c.requires.directory.2 {at = c.args.slot * slot_size c.args.geometry.version} refl in
     let is = c.requires.room in
     omega (arith, inside, is)
 
@@ -31,10 +31,10 @@ overwrite-requires-clause-sound g c = sound_after_reads c.requires.sound c.in_ok
 
 pub overwrite-requires-clause-inode : goal.overwrite-requires-clause-inode
 overwrite-requires-clause-inode g c =
-    c.requires.inode ∙ ap (λ (image : SectorMap). inode_at c.args.place image c.args.n) (map_unchanged c.in_ok-read_at.ensures.same)
+    c.requires.inode ∙ ap (λ (image : SectorMap). inode_at c.args.geometry image c.args.ino) (map_unchanged c.in_ok-read_at.ensures.same)
 
 pub overwrite-requires-clause-spare : goal.overwrite-requires-clause-spare
-overwrite-requires-clause-spare g c = spare_unchanged c.args.place 1 _ _ c.requires.spare c.in_ok-read_at.ensures.same
+overwrite-requires-clause-spare g c = spare_unchanged c.args.geometry 1 _ _ c.requires.spare c.in_ok-read_at.ensures.same
 
 pub overwrite-requires-clause-inside : goal.overwrite-requires-clause-inside
 overwrite-requires-clause-inside g c =
@@ -60,7 +60,7 @@ returns-clause-change g c = content_after_reads c.in_ok-read_at.ensures.same c.i
 
 pub returns-clause-moved : goal.returns-clause-moved
 returns-clause-moved g c = λ slots d h.
-    let version = c.args.place.version in
+    let version = c.args.geometry.version in
     let here = c.requires.directory.1 in
     let count : length slots ≡ length c.requires.directory.0 =
     as_many version (length slots) (length c.requires.directory.0) (sym (size_of_slots h) ∙ size_of_slots here) in

@@ -32,7 +32,7 @@ overflow_sub-size g c =
 
 pub set_size-requires-clause-kind : goal.set_size-requires-clause-kind
 set_size-requires-clause-kind g c =
-    let version = c.args.place.version in
+    let version = c.args.geometry.version in
     let v = c.args.inode.now in
     let h = c.requires.directory.1 in
     let there = slots_there h in
@@ -45,17 +45,17 @@ set_size-requires-clause-kind g c =
 pub set_size-requires-clause-spare : goal.set_size-requires-clause-spare
 set_size-requires-clause-spare g c =
     let limit = directory_limit (slots_there c.requires.directory.1) in
-    let most = directory_most c.args.place.version in
+    let most = directory_most c.args.geometry.version in
     let few = put_to_fewer (c.args.inode.now.size - c.slot_size.result) (omega (arith, limit, most)) in
     let spare =
-    spare_then c.args.place 1 4 (g.S.Sectors.state c.named_slot.new.s) (g.S.Sectors.state c.move_last.new.s)
-    (spare_unchanged c.args.place 5 _ _ c.requires.spare c.in_ok-found.ensures.same) c.in_ok-move_last.ensures.change.touches.puts in
+    spare_then c.args.geometry 1 4 (g.S.Sectors.state c.named_slot.new.s) (g.S.Sectors.state c.move_last.new.s)
+    (spare_unchanged c.args.geometry 5 _ _ c.requires.spare c.in_ok-found.ensures.same) c.in_ok-move_last.ensures.change.touches.puts in
     omega (arith, few, spare)
 
 pub returns-in_err-set_size-clause-why : goal.returns-in_err-set_size-clause-why
 returns-in_err-set_size-clause-why g c =
     let old = g.S.Sectors.state c.args.s.now in
-    let version = c.args.place.version in
+    let version = c.args.geometry.version in
     let v = c.args.inode.now in
     let e = c.from_residual-in_err-set_size.ensures in
     let r = c.in_err-set_size.ensures in
@@ -70,16 +70,16 @@ returns-in_err-set_size-clause-store g c = store_joined (store_joined c.in_ok-fo
 pub returns-clause-change : goal.returns-clause-change
 returns-clause-change g c =
     let limit = directory_limit (slots_there c.requires.directory.1) in
-    let most = directory_most c.args.place.version in
+    let most = directory_most c.args.geometry.version in
     content_joined (content_after_reads c.in_ok-found.ensures.same c.in_ok-move_last.ensures.change)
     (content_at_most (put_to_fewer (c.args.inode.now.size - c.slot_size.result) (omega (arith, limit, most))) c.in_ok-set_size.ensures.change)
 
 pub returns-clause-names : goal.returns-clause-names
 returns-clause-names g c = λ names h.
-    let version = c.args.place.version in
+    let version = c.args.geometry.version in
     let name = c.args.name.now in
     let found = c.in_ok-found.found in
-    let x : NamedInode = added name found.inode in
+    let x : NamedInode = added name found.ino in
     let v = c.args.inode.now in
     let at = c.in_ok-found.ensures.found h.slots (slots_there h) in
     let mid = slots_after_reads c.in_ok-found.ensures.same (slots_there h) in

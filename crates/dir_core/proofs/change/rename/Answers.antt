@@ -29,14 +29,14 @@ returns-clause-names g c = λ names to h leads.
     let name = c.args.name.now in
     let new_name = c.args.new_name.now in
     let found = c.in_ok-found.found in
-    let x : NamedInode = added name found.inode in
-    let y : NamedInode = added new_name found.inode in
+    let x : NamedInode = added name found.ino in
+    let y : NamedInode = added new_name found.ino in
     let at = c.in_ok-found.ensures.found h.slots (slots_there h) in
     let mid = slots_after_reads c.in_ok-found.ensures.same (slots_there h) in
     let none : get name_cmp names new_name ≡ None =
-    ap (λ (m : List (List ℕ × ℕ)). get name_cmp m new_name) (names_same c.args.place.version old v names c.requires.directory.0 h c.requires.directory.1) ∙ c.requires.directory.2 in
-    let same : found.inode ≡ to = leads_to_found h name found at leads in
-    subst (λ (k : ℕ). HasNames c.args.place.version new v (with_entry name_cmp (without name_cmp names name) new_name k)) same
+    ap (λ (m : List (List ℕ × ℕ)). get name_cmp m new_name) (names_same c.args.geometry.version old v names c.requires.directory.0 h c.requires.directory.1) ∙ c.requires.directory.2 in
+    let same : found.ino ≡ to = leads_to_found h name found at leads in
+    subst (λ (k : ℕ). HasNames c.args.geometry.version new v (with_entry name_cmp (without name_cmp names name) new_name k)) same
     (names_renamed h found.slot x y at.0 (at.1 x) none (c.in_ok-set_slot.ensures.slots h.slots mid (apart_renamed h found.slot x y at.0 (at.1 x) none)))
 
 pub returns-clause-store : goal.returns-clause-store

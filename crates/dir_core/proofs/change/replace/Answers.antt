@@ -28,7 +28,7 @@ pub returns-clause-names : goal.returns-clause-names
 returns-clause-names g c = λ names h.
     let name = c.args.name.now in
     let found = c.in_ok-found.found in
-    let x : NamedInode = added name found.inode in
+    let x : NamedInode = added name found.ino in
     let y : NamedInode = added name c.args.to in
     let at = c.in_ok-found.ensures.found h.slots (slots_there h) in
     let mid = slots_after_reads c.in_ok-found.ensures.same (slots_there h) in (

@@ -11,14 +11,14 @@ use Rattle.dir_core.proofs.change.set_slot.Goals as goal
 pub overflow_mul-at : goal.overflow_mul-at
 overflow_mul-at g c =
     let below = slot_below c.requires.directory.1 c.args.slot c.requires.directory.2 in
-    let is : c.args.slot * c.slot_size-slot_size.result ≡ c.args.slot * slot_size c.args.place.version =
+    let is : c.args.slot * c.slot_size-slot_size.result ≡ c.args.slot * slot_size c.args.geometry.version =
     ap (λ (w : ℕ). c.args.slot * w) c.slot_size-slot_size.ensures in
     omega (arith, below, is)
 
 pub overwrite-requires-clause-inside : goal.overwrite-requires-clause-inside
 overwrite-requires-clause-inside g c =
     let len =
-    length-written c.args.place.version (added c.args.name.now c.args.to) c.slot_size-slot_size.result c.block_with-block.result
+    length-written c.args.geometry.version (added c.args.name.now c.args.to) c.slot_size-slot_size.result c.block_with-block.result
     c.slot_size-slot_size.ensures c.block_with-block.ensures c.requires.short in
     let inside = slot_inside c.requires.directory.1 c.args.slot c.requires.directory.2 (ap (λ (w : ℕ). c.args.slot * w) c.slot_size-slot_size.ensures) in
     omega (arith, inside, len)
@@ -26,7 +26,7 @@ overwrite-requires-clause-inside g c =
 pub overwrite-requires-clause-one_block : goal.overwrite-requires-clause-one_block
 overwrite-requires-clause-one_block g c =
     let len =
-    length-written c.args.place.version (added c.args.name.now c.args.to) c.slot_size-slot_size.result c.block_with-block.result
+    length-written c.args.geometry.version (added c.args.name.now c.args.to) c.slot_size-slot_size.result c.block_with-block.result
     c.slot_size-slot_size.ensures c.block_with-block.ensures c.requires.short in
     let one = slot_within_block c.requires.directory.1 c.args.slot c.requires.directory.2 (ap (λ (w : ℕ). c.args.slot * w) c.slot_size-slot_size.ensures) in
     omega (arith, one, len)
@@ -40,7 +40,7 @@ returns-clause-change g c = c.in_ok-overwrite.ensures.change
 
 pub returns-clause-slots : goal.returns-clause-slots
 returns-clause-slots g c = λ slots h apart.
-    let version = c.args.place.version in
+    let version = c.args.geometry.version in
     let bytes =
     written version (added c.args.name.now c.args.to) c.slot_size-slot_size.result c.block_with-block.result
     c.slot_size-slot_size.ensures c.block_with-block.ensures in
@@ -50,7 +50,7 @@ returns-clause-slots g c = λ slots h apart.
     let few : c.args.slot < length slots = omega (arith, count, c.requires.directory.2) in
     let fit : FitsSlot version (added c.args.name.now c.args.to) =
     record {
-      inode = let f = c.ranges.to.fits in omega (arith, f);
+      ino = let f = c.ranges.to.fits in omega (arith, f);
       name = c.requires.name;
       short = c.requires.short;
       bytes = λ i. let f = c.type_inv.name i in search rules;

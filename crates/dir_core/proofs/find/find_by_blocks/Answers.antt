@@ -41,7 +41,7 @@ returns-in-Some-clause-found g c = λ slots h.
     let said : (length block ≡ 512) × IsFoundInBlock c.args.version block c.args.name.now c.in_ok-found.found = search rules in
     let is =
     found_in_block h block c.args.name.now k c.in-Some.found said.0 c.requires.len.0 here (subst (IsFoundInBlock c.args.version block c.args.name.now) c.in-Some.is said.1) in
-    subst (λ (b : ℕ). IsFoundIn slots c.args.name.now (Some (record { slot = b * k + c.in-Some.found.slot; inode = c.in-Some.found.inode })))
+    subst (λ (b : ℕ). IsFoundIn slots c.args.name.now (Some (record { slot = b * k + c.in-Some.found.slot; ino = c.in-Some.found.ino })))
     (sym c.block_slots-block_slots.ensures) is
 
 pub returns-clause-found : goal.returns-clause-found

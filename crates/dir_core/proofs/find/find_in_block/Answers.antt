@@ -23,8 +23,8 @@ returns-then-is_named-clause-found c =
       subst (λ (w : ℕ). get_or c.args.block.now (w * c.loop-slot.slot + 4) 0 ≡ length c.args.name.now) size (c.is_named.ensures.len c.if-is_named.true),
       λ x there.
           let here = subst (λ (w : ℕ). IsSlotAt c.args.version c.args.block.now (w * c.loop-slot.slot) x) (sym size) there in
-          slot_parts x c.args.name.now c.slot_inode-inode.result ((c.is_named.ensures.named x here).0 c.if-is_named.true)
-          (sym (c.slot_inode-inode.ensures c.args.version x here)),
+          slot_parts x c.args.name.now c.slot_ino-ino.result ((c.is_named.ensures.named x here).0 c.if-is_named.true)
+          (sym (c.slot_ino-ino.ensures c.args.version x here)),
     )
 
 pub returns-clause-found : goal.returns-clause-found

@@ -47,7 +47,7 @@ unreachable-requires g c =
     let h = c.requires.directory.1 in
     let k = c.loop-k.k in
     let block = c.read_block_of.new.block in
-    let none : NamedInode = record { inode = 0; name = [] } in
+    let none : NamedInode = record { ino = 0; name = [] } in
     let here = block_before c.loop-k.invariant.same c.args.inode.now c.loop-k.blocks.inode (k / block_slots c.args.version) block
     c.loop-k.invariant.inode c.in_ok-read_block_of.ensures.block in
     let count = ap (λ (w : ℕ). c.args.inode.now.size / w) c.slot_size-slot_size.ensures ∙ slots_are h in

@@ -14,7 +14,7 @@ find_slot-requires-clause-directory g c = let h = c.requires.directory.1 in (h.s
 
 pub returns-clause-found : goal.returns-clause-found
 returns-clause-found g c = λ names h.
-    let is : c.map.result ≡ option_map (λ (f : FoundSlot). f.inode) c.in_ok-found.found = search rules in
+    let is : c.map.result ≡ option_map (λ (f : FoundSlot). f.ino) c.in_ok-found.found = search rules in
     is
     ∙ found_is_entry h.slots c.args.name.now c.in_ok-found.found h.apart (c.in_ok-found.ensures.found h.slots (slots_of_names h))
     ∙ ap (λ m. get name_cmp m c.args.name.now) (sym h.are)

@@ -45,9 +45,9 @@ returns-clause-performs g c =
     told (get_acl_by_path c.args.path.now c.args.which) x.same x.reached.walked (g.S.Sectors.state c.shown_acl.new.s) c.in_ok-acl.ensures.same (Acl c.in_ok-acl.acl)
     (λ s has at.
     let i = x.reached.inode in
-    let a = followed_access c.in_ok-reached.reached.number at has i.some in (
+    let a = followed_access c.in_ok-reached.reached.ino at has i.some in (
       both_met (must_be_there f) [] i.met refl,
-      ap (λ (node : Node). answers (scene_at s q f) (Acl (acl_shown c.args.which node.body))) (node_is s q f c.in_ok-reached.reached.number i.number a)
+      ap (λ (node : Node). answers (scene_at s q f) (Acl (acl_shown c.args.which node.body))) (node_is s q f c.in_ok-reached.reached.ino i.number a)
           ∙ ap (λ (y : Option AccessList). answers (scene_at s q f) (Acl y))
           (sym (c.in_ok-acl.ensures.found a.node.body (body_found_held {mid = g.S.Sectors.state c.reach.new.s} {new = g.S.Sectors.state c.reach.new.s} at has i unchanged_nothing))),
     ))

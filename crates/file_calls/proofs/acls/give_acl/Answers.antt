@@ -5,7 +5,7 @@ use Rattle.file_calls.proofs.acls.give_acl.Goals as goal
 pub save_acl-requires-clause-attributes : goal.save_acl-requires-clause-attributes
 save_acl-requires-clause-attributes g c =
     let old = g.S.Sectors.state c.args.s.now in
-    attributes_of (inode_at c.args.geometry old.sectors c.args.n) c.args.inode.now c.requires.inode
+    attributes_of (inode_at c.args.geometry old.sectors c.args.ino) c.args.inode.now c.requires.inode
 
 pub returns-in-Ok-clause-taken : goal.returns-in-Ok-clause-taken
 returns-in-Ok-clause-taken g c = c.in-Ok.ensures.touches.puts.room

@@ -16,7 +16,7 @@ use Rattle.file_calls.proofs.Moded.{mode_fits, mode_takes_none}
 use Rattle.file_calls.proofs.attributes.give_mode.Goals as goal
 
 pub acl_of-requires-clause-there : goal.acl_of-requires-clause-there
-acl_of-requires-clause-there g c = (c.args.n, c.requires.loaded.below, c.requires.loaded.inode)
+acl_of-requires-clause-there g c = (c.args.ino, c.requires.loaded.below, c.requires.loaded.inode)
 
 pub give_acl-requires-clause-sound : goal.give_acl-requires-clause-sound
 give_acl-requires-clause-sound g c = sound_kept c.in_ok-had.ensures.same c.requires.loaded.sound
@@ -24,13 +24,13 @@ give_acl-requires-clause-sound g c = sound_kept c.in_ok-had.ensures.same c.requi
 pub give_acl-requires-clause-inode : goal.give_acl-requires-clause-inode
 give_acl-requires-clause-inode g c =
     ap (λ (v : Inode). record v { mode = c.special_bits.result })
-    (kept (λ m. c.args.inode.now ≡ inode_at c.args.caller.now.geometry m c.args.n) c.in_ok-had.ensures.same c.requires.loaded.inode)
+    (kept (λ m. c.args.inode.now ≡ inode_at c.args.caller.now.geometry m c.args.ino) c.in_ok-had.ensures.same c.requires.loaded.inode)
 
 pub give_acl-requires-clause-fits : goal.give_acl-requires-clause-fits
 give_acl-requires-clause-fits g c =
     subst (λ k. FitsInode (record c.args.inode.now { mode = k })) (sym c.special_bits.ensures)
     (mode_fits c.args.inode.now c.args.cred.now c.args.mode
-    (subst FitsInode (sym c.requires.loaded.inode) (inode_fits_there c.requires.loaded.sound.consistent c.args.n c.requires.loaded.below)) c.requires.loaded.used c.requires.no_link)
+    (subst FitsInode (sym c.requires.loaded.inode) (inode_fits_there c.requires.loaded.sound.consistent c.args.ino c.requires.loaded.below)) c.requires.loaded.used c.requires.no_link)
 
 pub give_acl-requires-clause-spare : goal.give_acl-requires-clause-spare
 give_acl-requires-clause-spare g c =
@@ -48,9 +48,9 @@ pub returns-clause-given : goal.returns-clause-given
 returns-clause-given g c = λ a h.
     let new = g.S.Sectors.state c.give_acl.new.s in
     let then = g.S.Sectors.state c.acl_of.new.s in
-    kept_back (λ m. SavesAcl c.args.caller.now.geometry c.args.n (special_mode c.args.cred.now c.args.inode.now.kind c.args.inode.now.gid c.args.mode) (with_mode_bits a c.args.mode) m new.sectors) c.in_ok-had.ensures.same
-    (subst (λ k. SavesAcl c.args.caller.now.geometry c.args.n k (with_mode_bits a c.args.mode) then.sectors new.sectors) c.special_bits.ensures
-    (subst (λ (x : AccessList). SavesAcl c.args.caller.now.geometry c.args.n c.special_bits.result x then.sectors new.sectors)
+    kept_back (λ m. SavesAcl c.args.caller.now.geometry c.args.ino (special_mode c.args.cred.now c.args.inode.now.kind c.args.inode.now.gid c.args.mode) (with_mode_bits a c.args.mode) m new.sectors) c.in_ok-had.ensures.same
+    (subst (λ k. SavesAcl c.args.caller.now.geometry c.args.ino k (with_mode_bits a c.args.mode) then.sectors new.sectors) c.special_bits.ensures
+    (subst (λ (x : AccessList). SavesAcl c.args.caller.now.geometry c.args.ino c.special_bits.result x then.sectors new.sectors)
     (c.with_mode_bits-acl.ensures ∙ ap (λ (x : AccessList). with_mode_bits x c.args.mode) (c.in_ok-had.ensures.found a h)) c.in_ok-give_acl.ensures.given))
 
 pub returns-clause-taken : goal.returns-clause-taken

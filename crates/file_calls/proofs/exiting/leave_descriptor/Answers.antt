@@ -16,5 +16,5 @@ returns-clause-leaves g c =
     let new = g.S.Sectors.state c.leave.new.s in
     was_open c.in-Ok.descriptor (sym c.in-Ok.ensures.answer)
     (subst (λ (n : ℕ). LeavesInode c.args.geometry n (is_open (without nat_cmp c.args.procs.now c.args.pid) n) old new)
-    (ap (λ (d : Descriptor). d.number) c.descriptor.view_is)
-    (subst (λ b. LeavesInode c.args.geometry c.descriptor.inside.number b old new) c.is_open_by_others-stays_open.ensures c.in_ok-leave.ensures.leaves))
+    (ap (λ (d : Descriptor). d.ino) c.descriptor.view_is)
+    (subst (λ b. LeavesInode c.args.geometry c.descriptor.inside.ino b old new) c.is_open_by_others-stays_open.ensures c.in_ok-leave.ensures.leaves))

@@ -28,7 +28,7 @@ list_names-requires g c =
     let at = x.ready.is_state in
     record {
       sound = x.ready.sound;
-      there = (c.in_ok-descriptor.descriptor.number, open_below o x.ready.state at, x.inode);
+      there = (c.in_ok-descriptor.descriptor.ino, open_below o x.ready.state at, x.inode);
       directory = has_names o x.ready.state at c.in_ok-descriptor.inode x.inode (a_directory c.in_ok-descriptor.inode.kind c.in_ok-check_is_directory.ensures);
     }
 

@@ -28,15 +28,15 @@ returns-in_default-clause-err g c =
 pub name_inode-requires-clause-inode : goal.name_inode-requires-clause-inode
 name_inode-requires-clause-inode g c =
     let e = c.in-Ok.ensures in
-    c.requires.directory ∙ sym (dir_kept c.requires.may.1.holds c.requires.may.1.directory c.in-Ok.n e.free e.touches.inode)
+    c.requires.directory ∙ sym (dir_kept c.requires.may.1.holds c.requires.may.1.directory c.in-Ok.ino e.free e.touches.inode)
 
 pub name_inode-requires-clause-room : goal.name_inode-requires-clause-room
 name_inode-requires-clause-room g c =
     let e = c.in-Ok.ensures in
     let few = takes_few c.args.acl.now in
     let left = e.touches.free in
-    room_then c.requires.may.1 (g.S.Sectors.state c.new_inode.new.s).sectors c.in-Ok.n (record { node = file_made c.args.uid c.args.gid c.args.acl.now; names = 1; parent = c.args.dir })
-    (file_taken e.free e.touches e.used c.args.dir c.args.uid c.args.gid c.args.acl.now e.fields e.empty e.access e.default) (omega (arith, few, left))
+    room_then c.requires.may.1 (g.S.Sectors.state c.new_inode.new.s).sectors c.in-Ok.ino (record { node = file_made c.args.uid c.args.gid c.args.acl.now; names = 1; parent = c.args.dir_ino })
+    (file_taken e.free e.touches e.used c.args.dir_ino c.args.uid c.args.gid c.args.acl.now e.fields e.empty e.access e.default) (omega (arith, few, left))
 
 pub returns-in_err-name_inode-clause-store : goal.returns-in_err-name_inode-clause-store
 returns-in_err-name_inode-clause-store g c = store_joined c.in-Ok.ensures.store c.in_err-name_inode.ensures.store
@@ -55,7 +55,7 @@ returns-clause-made g c =
     let e = c.in-Ok.ensures in
     record {
       mid = (g.S.Sectors.state c.new_inode.new.s).sectors;
-      takes = file_taken e.free e.touches e.used c.args.dir c.args.uid c.args.gid c.args.acl.now e.fields e.empty e.access e.default;
+      takes = file_taken e.free e.touches e.used c.args.dir_ino c.args.uid c.args.gid c.args.acl.now e.fields e.empty e.access e.default;
       names = c.in_ok-name_inode.ensures.named;
     }
 

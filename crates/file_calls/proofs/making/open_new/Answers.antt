@@ -40,7 +40,7 @@ returns-in_err-directory-clause-each g c = λ st i.
     let new = g.S.Sectors.state c.check_make.new.s in
     let e = c.in_err-directory.field-0.0 in
     refusing i c.args.caller.now.time new.sectors c.args.mode old.disk new.disk c.from_residual-in_err-directory.result e r.0 r.1
-    (make_refused i c.requires.none (sym c.in_ok-check_new.ensures) (inode_at c.args.caller.now.geometry old.sectors c.args.found.now.dir) c.cred-cred.result.now c.saturating_sub-step.result
+    (make_refused i c.requires.none (sym c.in_ok-check_new.ensures) (inode_at c.args.caller.now.geometry old.sectors c.args.found.now.dir_ino) c.cred-cred.result.now c.saturating_sub-step.result
     c.cred-cred.ensures c.saturating_sub-step.ensures old.disk new.disk e
     (c.in_err-directory.ensures.each st.tree (state_tree i.is_state) (directory_there i c.requires.none)))
 
@@ -50,15 +50,15 @@ new_acl-requires g c =
     let old = g.S.Sectors.state c.args.s.now in
     let same = c.in_ok-directory.ensures.same in
     let v = c.in_ok-directory.directory in
-    let dir = c.args.found.now.dir in
+    let dir_ino = c.args.found.now.dir_ino in
     let x = c.requires.found in
     let d = directory_there x.1 c.requires.none in
     let h = state_tree x.1.is_state in
-    let is = asked_of_it x.1 c.requires.none (sym c.in_ok-check_new.ensures) (inode_at p old.sectors dir) c.cred-cred.result.now c.saturating_sub-step.result
+    let is = asked_of_it x.1 c.requires.none (sym c.in_ok-check_new.ensures) (inode_at p old.sectors dir_ino) c.cred-cred.result.now c.saturating_sub-step.result
     c.cred-cred.ensures c.saturating_sub-step.ensures v (c.in_ok-directory.ensures.each x.0.tree h d) in
     record {
       sound = sound_kept same c.requires.sound;
-      there = (dir, number_below h dir (is_there x.0.tree dir d.node d.is_there), kept (λ (m : SectorMap). v ≡ inode_at p m dir) same is);
+      there = (dir_ino, number_below h dir_ino (is_there x.0.tree dir_ino d.node d.is_there), kept (λ (m : SectorMap). v ≡ inode_at p m dir_ino) same is);
       has = (default_in d.node.body, kept (λ (m : SectorMap). HasDefaultAcl m v (default_in d.node.body)) same (dir_default x.1 c.requires.none v is));
     }
 
@@ -79,34 +79,34 @@ make_file-requires g c =
     let mid = g.S.Sectors.state c.new_acl.new.s in
     let joined = unchanged_joined c.in_ok-directory.ensures.same c.in_ok-acl.ensures.same in
     let v = c.in_ok-directory.directory in
-    let dir = c.args.found.now.dir in
+    let dir_ino = c.args.found.now.dir_ino in
     let x = c.requires.found in
     let i = finds_kept joined x.1 in
     let may = sym c.in_ok-check_new.ensures in
-    let is = asked_later p x.0.tree dir c.saturating_sub-step.result c.cred-cred.result.now v joined (c.in_ok-directory.ensures.each x.0.tree (state_tree x.1.is_state) (directory_there x.1 c.requires.none)) in
+    let is = asked_later p x.0.tree dir_ino c.saturating_sub-step.result c.cred-cred.result.now v joined (c.in_ok-directory.ensures.each x.0.tree (state_tree x.1.is_state) (directory_there x.1 c.requires.none)) in
     record {
       sound = sound_kept joined c.requires.sound;
-      directory = asked_of_it i c.requires.none may (inode_at p mid.sectors dir) c.cred-cred.result.now c.saturating_sub-step.result
+      directory = asked_of_it i c.requires.none may (inode_at p mid.sectors dir_ino) c.cred-cred.result.now c.saturating_sub-step.result
           c.cred-cred.ensures c.saturating_sub-step.ensures v is;
       may = (
         x.0.tree,
-        subst (CanMake p mid.sectors x.0.tree dir) (sym c.bytes-name.ensures.all)
-            (can_make i c.requires.none may (inode_at p mid.sectors dir) c.cred-cred.result.now c.saturating_sub-step.result c.cred-cred.ensures c.saturating_sub-step.ensures v is),
+        subst (CanMake p mid.sectors x.0.tree dir_ino) (sym c.bytes-name.ensures.all)
+            (can_make i c.requires.none may (inode_at p mid.sectors dir_ino) c.cred-cred.result.now c.saturating_sub-step.result c.cred-cred.ensures c.saturating_sub-step.ensures v is),
       );
       spare = spare_unchanged p 47 old mid c.requires.spare joined;
     }
 
-pub returns-in_err-n-clause-store : goal.returns-in_err-n-clause-store
-returns-in_err-n-clause-store g c =
-    store_joined (unchanged_joined c.in_ok-directory.ensures.same c.in_ok-acl.ensures.same).store c.in_err-n.ensures.store
+pub returns-in_err-ino-clause-store : goal.returns-in_err-ino-clause-store
+returns-in_err-ino-clause-store g c =
+    store_joined (unchanged_joined c.in_ok-directory.ensures.same c.in_ok-acl.ensures.same).store c.in_err-ino.ensures.store
 
-pub returns-in_err-n-clause-each : goal.returns-in_err-n-clause-each
-returns-in_err-n-clause-each g c = λ st i.
-    let r = c.from_residual-in_err-n.ensures in
+pub returns-in_err-ino-clause-each : goal.returns-in_err-ino-clause-each
+returns-in_err-ino-clause-each g c = λ st i.
+    let r = c.from_residual-in_err-ino.ensures in
     let old = g.S.Sectors.state c.args.s.now in
     let new = g.S.Sectors.state c.make_file.new.s in
-    refusing i c.args.caller.now.time new.sectors c.args.mode old.disk new.disk c.from_residual-in_err-n.result c.in_err-n.field-0.0 r.0 r.1
-    (inr (interrupts_later new.disk (unchanged_joined c.in_ok-directory.ensures.same c.in_ok-acl.ensures.same) (inr c.in_err-n.ensures.err)))
+    refusing i c.args.caller.now.time new.sectors c.args.mode old.disk new.disk c.from_residual-in_err-ino.result c.in_err-ino.field-0.0 r.0 r.1
+    (inr (interrupts_later new.disk (unchanged_joined c.in_ok-directory.ensures.same c.in_ok-acl.ensures.same) (inr c.in_err-ino.ensures.err)))
 
 pub touch-requires : goal.touch-requires
 touch-requires g c =
@@ -119,18 +119,18 @@ touch-requires g c =
     let v = c.in_ok-directory.directory in
     let a = c.in_ok-acl.acl in
     let gid = c.new_group-gid.result in
-    let n = c.in_ok-n.n in
+    let n = c.in_ok-ino.ino in
     let later = finds_kept joined x.1 in
     let may = sym c.in_ok-check_new.ensures in
     let cred = c.cred-cred.result.now in
     let step = c.saturating_sub-step.result in
-    let is = asked_later p x.0.tree f.dir step cred v joined (c.in_ok-directory.ensures.each x.0.tree (state_tree x.1.is_state) (directory_there x.1 c.requires.none)) in
-    let y = inode_at p mid.sectors f.dir in
+    let is = asked_later p x.0.tree f.dir_ino step cred v joined (c.in_ok-directory.ensures.each x.0.tree (state_tree x.1.is_state) (directory_there x.1 c.requires.none)) in
+    let y = inode_at p mid.sectors f.dir_ino in
     let made =
-    subst (λ u. MakesNode p f.dir f.name n (file_made u gid a) mid.sectors new.sectors) (c.uid-uid.ensures ∙ ap (λ (k : Credential). k.uid) c.cred-cred.ensures)
-    (subst (λ name. MakesNode p f.dir name n (file_made c.uid-uid.result gid a) mid.sectors new.sectors) c.bytes-name.ensures.all c.in_ok-n.ensures.made) in
+    subst (λ u. MakesNode p f.dir_ino f.name n (file_made u gid a) mid.sectors new.sectors) (c.uid-uid.ensures ∙ ap (λ (k : Credential). k.uid) c.cred-cred.ensures)
+    (subst (λ name. MakesNode p f.dir_ino name n (file_made c.uid-uid.result gid a) mid.sectors new.sectors) c.bytes-name.ensures.all c.in_ok-ino.ensures.made) in
     let old = g.S.Sectors.state c.args.s.now in
-    let done = c.in_ok-n.ensures in
+    let done = c.in_ok-ino.ensures in
     let h = state_tree x.1.is_state in
     let d = directory_there x.1 c.requires.none in
     prepared_may_touch old new c.requires.sound c.requires.spare (store_joined joined.store done.store)
@@ -140,11 +140,11 @@ touch-requires g c =
     (λ d has. c.in_ok-acl.ensures.born d (kept_back (λ (m : SectorMap). HasDefaultAcl m v d) c.in_ok-acl.ensures.same has) ∙ ap (born_acl d c.args.mode) c.umask.ensures)
     (make_met later c.requires.none may y cred step c.cred-cred.ensures c.saturating_sub-step.ensures v is)
     (few_names later c.requires.none may y cred step c.cred-cred.ensures c.saturating_sub-step.ensures v is))
-    (number_below h f.dir (is_there x.0.tree f.dir d.node d.is_there), (made.takes.free.1, tt)) 7 (taken_after p 7 new joined done.taken) (omega arith)
+    (number_below h f.dir_ino (is_there x.0.tree f.dir_ino d.node d.is_there), (made.takes.free.1, tt)) 7 (taken_after p 7 new joined done.taken) (omega arith)
 
 pub returns-in_err-touch-clause-store : goal.returns-in_err-touch-clause-store
 returns-in_err-touch-clause-store g c =
-    store_joined (store_joined (unchanged_joined c.in_ok-directory.ensures.same c.in_ok-acl.ensures.same).store c.in_ok-n.ensures.store) c.in_err-touch.ensures.store
+    store_joined (store_joined (unchanged_joined c.in_ok-directory.ensures.same c.in_ok-acl.ensures.same).store c.in_ok-ino.ensures.store) c.in_err-touch.ensures.store
 
 pub returns-in_err-touch-clause-each : goal.returns-in_err-touch-clause-each
 returns-in_err-touch-clause-each g c = λ st i.
@@ -152,18 +152,18 @@ returns-in_err-touch-clause-each g c = λ st i.
     let old = g.S.Sectors.state c.args.s.now in
     let mid = g.S.Sectors.state c.make_file.new.s in
     let new = g.S.Sectors.state c.touch.new.s in
-    let first = store_joined (unchanged_joined c.in_ok-directory.ensures.same c.in_ok-acl.ensures.same).store c.in_ok-n.ensures.store in
+    let first = store_joined (unchanged_joined c.in_ok-directory.ensures.same c.in_ok-acl.ensures.same).store c.in_ok-ino.ensures.store in
     let fault = c.in_err-touch.ensures.fault in
     refusing i c.args.caller.now.time new.sectors c.args.mode old.disk new.disk c.from_residual-in_err-touch.result c.in_err-touch.field-0.0 r.0 r.1
     (inr (inr (fault.0, failed_later old.disk mid.disk new.disk first.reads.failures fault.1)))
 
 pub returns-clause-store : goal.returns-clause-store
 returns-clause-store g c =
-    store_joined (store_joined (unchanged_joined c.in_ok-directory.ensures.same c.in_ok-acl.ensures.same).store c.in_ok-n.ensures.store) c.in_ok-touch.ensures.store
+    store_joined (store_joined (unchanged_joined c.in_ok-directory.ensures.same c.in_ok-acl.ensures.same).store c.in_ok-ino.ensures.store) c.in_ok-touch.ensures.store
 
 pub returns-clause-superblock : goal.returns-clause-superblock
 returns-clause-superblock g c =
-    let made = c.in_ok-n.ensures.made in
+    let made = c.in_ok-ino.ensures.made in
     c.in_ok-touch.ensures.moved.super ∙ made.names.super ∙ made.takes.super ∙ (unchanged_joined c.in_ok-directory.ensures.same c.in_ok-acl.ensures.same).sectors 0
 
 pub returns-clause-each : goal.returns-clause-each
@@ -176,16 +176,16 @@ returns-clause-each g c = λ st i.
     let v = c.in_ok-directory.directory in
     let a = c.in_ok-acl.acl in
     let gid = c.new_group-gid.result in
-    let n = c.in_ok-n.n in
+    let n = c.in_ok-ino.ino in
     let later = finds_kept joined i in
     let may = sym c.in_ok-check_new.ensures in
     let cred = c.cred-cred.result.now in
     let step = c.saturating_sub-step.result in
-    let is = asked_later p st.tree f.dir step cred v joined (c.in_ok-directory.ensures.each st.tree (state_tree i.is_state) (directory_there i c.requires.none)) in
-    let y = inode_at p mid.sectors f.dir in
+    let is = asked_later p st.tree f.dir_ino step cred v joined (c.in_ok-directory.ensures.each st.tree (state_tree i.is_state) (directory_there i c.requires.none)) in
+    let y = inode_at p mid.sectors f.dir_ino in
     let made =
-    subst (λ u. MakesNode p f.dir f.name n (file_made u gid a) mid.sectors new.sectors) (c.uid-uid.ensures ∙ ap (λ (k : Credential). k.uid) c.cred-cred.ensures)
-    (subst (λ name. MakesNode p f.dir name n (file_made c.uid-uid.result gid a) mid.sectors new.sectors) c.bytes-name.ensures.all c.in_ok-n.ensures.made) in
+    subst (λ u. MakesNode p f.dir_ino f.name n (file_made u gid a) mid.sectors new.sectors) (c.uid-uid.ensures ∙ ap (λ (k : Credential). k.uid) c.cred-cred.ensures)
+    (subst (λ name. MakesNode p f.dir_ino name n (file_made c.uid-uid.result gid a) mid.sectors new.sectors) c.bytes-name.ensures.all c.in_ok-ino.ensures.made) in
     reached i
     (made_prepares later c.requires.none c.args.mode gid a new.sectors n made v
     (asked_of_it later c.requires.none may y cred step c.cred-cred.ensures c.saturating_sub-step.ensures v is)

@@ -73,9 +73,9 @@ open_inode-requires g c =
       );
     }
 
-pub returns-in_err-n : goal.returns-in_err-n
-returns-in_err-n g c =
-    let r = c.from_residual-in_err-n.ensures in
+pub returns-in_err-ino : goal.returns-in_err-ino
+returns-in_err-ino g c =
+    let r = c.from_residual-in_err-ino.ensures in
     let old = g.S.Sectors.state c.args.s.now in
     let mid = g.S.Sectors.state c.walk.new.s in
     let asked = asked_met c.args.path.now c.args.flags c.args.mode (sym c.in_ok-check_open.ensures.answer) in
@@ -84,7 +84,7 @@ returns-in_err-n g c =
     demands_refuse c.args.pid c.args.path.now c.args.flags c.args.mode old c.in_ok-process.process.now there asked c.in_ok-fd.fd c.in_ok-fd.ensures.answer mid c.in_ok-found.ensures.same f
     (walks_as c.args.geometry old mid c.args.procs.now c.args.pid c.in_ok-process.process.now there c.args.flags c.args.path.now (Ok f) c.cred-cred.result.now c.form_of-form.result c.cwd-cwd.result
     c.cred-cred.ensures c.form_of-form.ensures c.cwd-cwd.ensures c.in_ok-found.ensures.each)
-    c.in_ok-check_open.ensures.bytes (g.S.Sectors.state c.open_inode.new.s) c.from_residual-in_err-n.result c.in_err-n.field-0.0 r.0 r.1 c.in_err-n.ensures.store c.in_err-n.ensures.each
+    c.in_ok-check_open.ensures.bytes (g.S.Sectors.state c.open_inode.new.s) c.from_residual-in_err-ino.result c.in_err-ino.field-0.0 r.0 r.1 c.in_err-ino.ensures.store c.in_err-ino.ensures.each
 
 pub open-requires : goal.open-requires
 open-requires g c = record { unused = c.in_ok-fd.ensures.unused }
@@ -98,9 +98,9 @@ returns g c =
     let asked = asked_met c.args.path.now c.args.flags c.args.mode (sym c.in_ok-check_open.ensures.answer) in
     let f = c.in_ok-found.found in
     let flags = c.args.flags in
-    let n = c.in_ok-n.n in
+    let n = c.in_ok-ino.ino in
     opens c.args.pid c.args.path.now c.args.flags c.args.mode old c.in_ok-process.process.now there asked c.in_ok-fd.fd c.in_ok-fd.ensures.answer mid c.in_ok-found.ensures.same f
     (walks_as c.args.geometry old mid c.args.procs.now c.args.pid c.in_ok-process.process.now there c.args.flags c.args.path.now (Ok f) c.cred-cred.result.now c.form_of-form.result c.cwd-cwd.result
     c.cred-cred.ensures c.form_of-form.ensures c.cwd-cwd.ensures c.in_ok-found.ensures.each)
-    c.in_ok-check_open.ensures.bytes c.in_ok-process.ensures.table new c.open.new.self c.in_ok-n.ensures.store c.in_ok-n.ensures.superblock n
-    (record { number = n; offset = 0; read = flags.read; write = flags.write; append = flags.append }) c.in_ok-fd.ensures.unused refl c.open.ensures.opened c.in_ok-n.ensures.each
+    c.in_ok-check_open.ensures.bytes c.in_ok-process.ensures.table new c.open.new.self c.in_ok-ino.ensures.store c.in_ok-ino.ensures.superblock n
+    (record { ino = n; offset = 0; read = flags.read; write = flags.write; append = flags.append }) c.in_ok-fd.ensures.unused refl c.open.ensures.opened c.in_ok-ino.ensures.each

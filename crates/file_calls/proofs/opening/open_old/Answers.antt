@@ -14,7 +14,7 @@ use Rattle.file_calls.proofs.OpenFound.{old_there, old_refused, old_inode, old_f
 use Rattle.file_calls.proofs.opening.open_old.Goals as goal
 
 pub check_found-requires-clause-there : goal.check_found-requires-clause-there
-check_found-requires-clause-there g c = let x = c.requires.found in (x.0.tree, state_tree x.1.is_state, old_there x.1 c.args.n c.requires.some)
+check_found-requires-clause-there g c = let x = c.requires.found in (x.0.tree, state_tree x.1.is_state, old_there x.1 c.args.ino c.requires.some)
 
 pub returns-in_err-inode-clause-each : goal.returns-in_err-inode-clause-each
 returns-in_err-inode-clause-each g c = λ mode st i.
@@ -22,15 +22,15 @@ returns-in_err-inode-clause-each g c = λ mode st i.
     let old = g.S.Sectors.state c.args.s.now in
     let new = g.S.Sectors.state c.check_found.new.s in
     refusing i c.args.caller.now.time new.sectors mode old.disk new.disk c.from_residual.result c.in_err-inode.field-0.0 r.0 r.1
-    (old_refused i c.args.n c.requires.some (inode_at c.args.caller.now.geometry old.sectors c.args.n) c.cred.result.now c.in_err-inode.field-0.0 old.disk new.disk c.cred.ensures
-    (c.in_err-inode.ensures.each st.tree (state_tree i.is_state) (old_there i c.args.n c.requires.some)))
+    (old_refused i c.args.ino c.requires.some (inode_at c.args.caller.now.geometry old.sectors c.args.ino) c.cred.result.now c.in_err-inode.field-0.0 old.disk new.disk c.cred.ensures
+    (c.in_err-inode.ensures.each st.tree (state_tree i.is_state) (old_there i c.args.ino c.requires.some)))
 
 pub returns-then-not-cuts-clause-each : goal.returns-then-not-cuts-clause-each
 returns-then-not-cuts-clause-each g c = λ mode st i.
     let new = g.S.Sectors.state c.check_found.new.s in
     reached i
-    (old_reached i c.args.n c.requires.some c.cred.result.now c.in_ok-inode.inode c.cred.ensures
-    (c.in_ok-inode.ensures.each st.tree (state_tree i.is_state) (old_there i c.args.n c.requires.some))
+    (old_reached i c.args.ino c.requires.some c.cred.result.now c.in_ok-inode.inode c.cred.ensures
+    (c.in_ok-inode.ensures.each st.tree (state_tree i.is_state) (old_there i c.args.ino c.requires.some))
     mode new.sectors (sym c.cuts-cuts.ensures ∙ c.if-not-cuts.true) (same_map c.in_ok-inode.ensures.same))
     (none_moved new)
 
@@ -40,15 +40,15 @@ give_size-requires g c =
     let new = g.S.Sectors.state c.check_found.new.s in
     let same = c.in_ok-inode.ensures.same in
     let x = c.requires.found in
-    let there = old_there x.1 c.args.n c.requires.some in
+    let there = old_there x.1 c.args.ino c.requires.some in
     let is = c.in_ok-inode.ensures.each x.0.tree (state_tree x.1.is_state) there in
     let v = c.in_ok-inode.inode in
     let spare = spare_unchanged c.args.caller.now.geometry 47 old new c.requires.spare same in
     record {
       sound = sound_kept same c.requires.sound;
-      below = number_below (state_tree x.1.is_state) c.args.n there;
-      inode = kept (λ (m : SectorMap). v ≡ inode_at c.args.caller.now.geometry m c.args.n) same (old_inode x.1 c.args.n c.requires.some c.cred.result.now v c.cred.ensures is);
-      file = old_file x.1 c.args.n c.requires.some c.cred.result.now v c.cred.ensures is (sym c.cuts-cuts.ensures ∙ c.if-not-cuts.false);
+      below = number_below (state_tree x.1.is_state) c.args.ino there;
+      inode = kept (λ (m : SectorMap). v ≡ inode_at c.args.caller.now.geometry m c.args.ino) same (old_inode x.1 c.args.ino c.requires.some c.cred.result.now v c.cred.ensures is);
+      file = old_file x.1 c.args.ino c.requires.some c.cred.result.now v c.cred.ensures is (sym c.cuts-cuts.ensures ∙ c.if-not-cuts.false);
       fits = omega arith;
       spare = omega (arith, spare);
     }
@@ -72,11 +72,11 @@ touch-requires g c =
     let same = c.in_ok-inode.ensures.same in
     let done = c.in_ok-give_size.ensures in
     let i = c.requires.found.1 in
-    let there = old_there i c.args.n c.requires.some in
+    let there = old_there i c.args.ino c.requires.some in
     prepared_may_touch old new c.requires.sound c.requires.spare (store_joined same.store done.store)
-    (old_emptied i c.args.n c.requires.some c.cred.result.now c.in_ok-inode.inode c.cred.ensures (c.in_ok-inode.ensures.each c.requires.found.0.tree (state_tree i.is_state) there)
+    (old_emptied i c.args.ino c.requires.some c.cred.result.now c.in_ok-inode.inode c.cred.ensures (c.in_ok-inode.ensures.each c.requires.found.0.tree (state_tree i.is_state) there)
     0 mid new (same_map same) (sym c.cuts-cuts.ensures ∙ c.if-not-cuts.false) done.change)
-    (number_below (state_tree i.is_state) c.args.n there, tt) 5 (taken_after c.args.caller.now.geometry 5 new same done.taken) (omega arith)
+    (number_below (state_tree i.is_state) c.args.ino there, tt) 5 (taken_after c.args.caller.now.geometry 5 new same done.taken) (omega arith)
 
 pub returns-in_err-touch-clause-store : goal.returns-in_err-touch-clause-store
 returns-in_err-touch-clause-store g c =
@@ -105,7 +105,7 @@ returns-clause-each g c = λ mode st i.
     let mid = g.S.Sectors.state c.check_found.new.s in
     let new = g.S.Sectors.state c.give_size.new.s in
     reached i
-    (old_emptied i c.args.n c.requires.some c.cred.result.now c.in_ok-inode.inode c.cred.ensures
-    (c.in_ok-inode.ensures.each st.tree (state_tree i.is_state) (old_there i c.args.n c.requires.some))
+    (old_emptied i c.args.ino c.requires.some c.cred.result.now c.in_ok-inode.inode c.cred.ensures
+    (c.in_ok-inode.ensures.each st.tree (state_tree i.is_state) (old_there i c.args.ino c.requires.some))
     mode mid new (same_map c.in_ok-inode.ensures.same) (sym c.cuts-cuts.ensures ∙ c.if-not-cuts.false) c.in_ok-give_size.ensures.change)
     c.in_ok-touch.ensures.moved

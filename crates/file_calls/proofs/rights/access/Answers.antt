@@ -35,7 +35,7 @@ returns-in_err-rule-clause-performs g c =
     c.in_err-rule.ensures.same.store {A = ℕ} 0
     (λ s has at.
     let i = x.reached.inode in
-    let a = followed_access c.in_ok-reached.reached.number at has i.some in
+    let a = followed_access c.in_ok-reached.reached.ino at has i.some in
     next_asked (must_be_there f) (permission_at_end (scene_at s q f) f 1 c.args.want ∷ []) 0 e mid.disk last.disk i.met
     (first_asked {B = Rule} (permission_at_end (scene_at s q f) f 1 c.args.want) [] (verdict q.cred a.access c.args.want).rule 0 e mid.disk last.disk
     (permission_refused {mid = mid} {new = mid} at has i unchanged_nothing c.cred-cred.result.now c.cred-cred.ensures c.args.want e last.disk
@@ -47,7 +47,7 @@ returns-clause-performs g c =
     let x = c.in_ok-reached.ensures in
     let f = c.in_ok-reached.reached.found in
     let q = c.in_ok-reached.reached.process.now in
-    let n = c.in_ok-reached.reached.number in
+    let n = c.in_ok-reached.reached.ino in
     let rule = c.in_ok-rule.rule in
     told (access_by_path c.args.path.now c.args.want) x.same x.reached.walked (g.S.Sectors.state c.permitted.new.s) c.in_ok-rule.ensures.same (Granted rule)
     (λ s has at.

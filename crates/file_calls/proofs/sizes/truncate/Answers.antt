@@ -51,7 +51,7 @@ returns-in_err-permitted g c =
     let e = c.in_err-permitted.field-0.0 in
     asked_refused (truncate_by_path c.args.path.now c.args.size) x.same x.reached.walked new c.from_residual-in_err-permitted.result e r.0 r.1 c.in_err-permitted.ensures.same.store {A = ℕ} 0
     (λ s has at.
-    let a = followed_access c.in_ok-reached.reached.number at has i.some in
+    let a = followed_access c.in_ok-reached.reached.ino at has i.some in
     write_refused at has i.some i.number i.inode c.args.size i.met file (verdict c.in_ok-reached.reached.process.now.cred a.access (perms false true false)).rule 0 e mid.disk new.disk
     (permission_refused {mid = mid} {new = mid} at has i unchanged_nothing c.cred-cred.result.now c.cred-cred.ensures (perms false true false) e new.disk
     (c.in_err-permitted.ensures.each a.access (access_held {mid = mid} {new = mid} at has i unchanged_nothing))))
@@ -66,7 +66,7 @@ returns-in_err-check_size g c =
     asked_refused (truncate_by_path c.args.path.now c.args.size) x.same x.reached.walked new c.from_residual-in_err-check_size.result
     c.in_err-check_size.field-0.0 c.from_residual-in_err-check_size.ensures.0 c.from_residual-in_err-check_size.ensures.1 c.in_ok-permitted.ensures.same.store {A = ℕ} 0
     (λ s has at.
-    let a = followed_access c.in_ok-reached.reached.number at has i.some in
+    let a = followed_access c.in_ok-reached.reached.ino at has i.some in
     let granted = permission_granted {mid = mid} {new = mid} at has i unchanged_nothing c.cred-cred.result.now c.cred-cred.ensures (perms false true false) c.in_ok-permitted.field-0
     (c.in_ok-permitted.ensures.each a.access (access_held {mid = mid} {new = mid} at has i unchanged_nothing)) in
     size_refused at has i.some i.number i.inode c.args.size i.met file granted.0 tt 0 c.in_err-check_size.field-0.0 mid.disk new.disk (sym c.in_err-check_size.ensures))
@@ -80,7 +80,7 @@ give_size-requires g c =
     record {
       sound = sound_kept same x.walked.ready.sound;
       below = reached_below x;
-      inode = kept (λ m. v ≡ inode_at c.args.caller.now.geometry m c.in_ok-reached.reached.number) same x.inode.inode;
+      inode = kept (λ m. v ≡ inode_at c.args.caller.now.geometry m c.in_ok-reached.reached.ino) same x.inode.inode;
       file = file_kind _ v.kind (reached_access x).kind (met_ok (refuse EISDIR (is_directory_kind v.kind)) tt tt (sym c.in_ok-check_no_directory.ensures)).0;
       fits = few_enough (max_file_size c.args.caller.now.geometry.version) c.args.size (met_ok (refuse EFBIG (nat_lt (max_file_size c.args.caller.now.geometry.version) c.args.size)) tt tt (sym c.in_ok-check_size.ensures)).0;
       spare = omega (arith, spare);
@@ -101,7 +101,7 @@ touch-requires g c =
     let x = c.in_ok-reached.ensures in
     let i = x.reached.inode in
     let v = c.in_ok-reached.reached.inode in
-    let n = c.in_ok-reached.reached.number in
+    let n = c.in_ok-reached.reached.ino in
     let file = (met_ok (refuse EISDIR (is_directory_kind v.kind)) tt tt (sym c.in_ok-check_no_directory.ensures)).0 in
     let fits = (met_ok (refuse EFBIG (nat_lt (max_file_size c.args.caller.now.geometry.version) c.args.size)) tt tt (sym c.in_ok-check_size.ensures)).0 in
     let same = c.in_ok-permitted.ensures.same in
@@ -129,7 +129,7 @@ returns g c =
     let x = c.in_ok-reached.ensures in
     let i = x.reached.inode in
     let v = c.in_ok-reached.reached.inode in
-    let n = c.in_ok-reached.reached.number in
+    let n = c.in_ok-reached.reached.ino in
     let file = (met_ok (refuse EISDIR (is_directory_kind v.kind)) tt tt (sym c.in_ok-check_no_directory.ensures)).0 in
     let fits = (met_ok (refuse EFBIG (nat_lt (max_file_size c.args.caller.now.geometry.version) c.args.size)) tt tt (sym c.in_ok-check_size.ensures)).0 in
     let same = c.in_ok-permitted.ensures.same in

@@ -27,7 +27,7 @@ returns-in_err-check_no_directory-clause-performs g c =
 pub read_bytes-requires : goal.read_bytes-requires
 read_bytes-requires g c =
     let x = c.in_ok-descriptor.ensures.opened in
-    record { within = inode_within x.ready.sound (c.in_ok-descriptor.descriptor.number, open_below x.is_open.opened x.ready.state x.ready.is_state, x.inode) }
+    record { within = inode_within x.ready.sound (c.in_ok-descriptor.descriptor.ino, open_below x.is_open.opened x.ready.state x.ready.is_state, x.inode) }
 
 pub returns-in_err-bytes-clause-performs : goal.returns-in_err-bytes-clause-performs
 returns-in_err-bytes-clause-performs g c =

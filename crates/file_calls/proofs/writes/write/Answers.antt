@@ -66,7 +66,7 @@ returns-in_err-ask_for_sectors g c =
     let some = some_if c.args.bytes.now c.bytes-bytes.result.now c.bytes-bytes.ensures.all c.if-is_empty.ensures in
     let v = c.in_ok-inode.inode in
     let first = c.in_ok-inode.ensures.same in
-    let is = kept (λ (m : SectorMap). v ≡ inode_at c.args.geometry m c.descriptor.inside.number) first c.in_ok-inode.ensures.found in
+    let is = kept (λ (m : SectorMap). v ≡ inode_at c.args.geometry m c.descriptor.inside.ino) first c.in_ok-inode.ensures.found in
     let offset = c.write_offset-offset.result in
     let from = subst (λ (x : Descriptor). offset ≡ (if x.append then v.size else x.offset)) (sym c.descriptor.view_is) c.write_offset-offset.ensures in
     let r = c.from_residual-in_err-ask_for_sectors.ensures in
@@ -94,7 +94,7 @@ write_bytes-requires g c =
     record {
       sound = sound_kept same c.requires.ready.sound;
       below = open_below w.opened c.requires.ready.state c.requires.ready.is_state;
-      inode = kept (λ (m : SectorMap). v ≡ inode_at c.args.geometry m c.descriptor.inside.number) same is;
+      inode = kept (λ (m : SectorMap). v ≡ inode_at c.args.geometry m c.descriptor.inside.ino) same is;
       file = ap (λ (i : Inode). i.kind) is ∙ file_kind w.opened c.requires.ready.state c.requires.ready.is_state (open_to_write w);
       few = omega (arith, len, counted);
       fits = omega (arith, len, counted, near);
@@ -125,10 +125,10 @@ touch-requires g c =
     let asked = g.S.Sectors.state c.ask_for_sectors.new.s in
     let new = g.S.Sectors.state c.write_bytes.new.s in
     let same = unchanged_joined c.in_ok-inode.ensures.same c.in_ok-ask_for_sectors.ensures.same in
-    let is = kept (λ (m : SectorMap). v ≡ inode_at c.args.geometry m c.descriptor.inside.number) same c.in_ok-inode.ensures.found in
+    let is = kept (λ (m : SectorMap). v ≡ inode_at c.args.geometry m c.descriptor.inside.ino) same c.in_ok-inode.ensures.found in
     let count = c.write_count-count.result in
     let done = c.in_ok-write_bytes.ensures in
-    let change = subst (λ (l : List ℕ). ChangesBytes c.args.geometry c.descriptor.inside.number asked new (λ held. overwritten held offset (take count l))) all done.change in
+    let change = subst (λ (l : List ℕ). ChangesBytes c.args.geometry c.descriptor.inside.ino asked new (λ held. overwritten held offset (take count l))) all done.change in
     let enough = kept (λ (m : SectorMap). least_free ≤ free_sectors c.args.geometry m) c.in_ok-ask_for_sectors.ensures.same
     (is_enough (free_sectors c.args.geometry mid.sectors) least_free c.in_ok-ask_for_sectors.ensures.each) in
     let counted = c.write_count-count.ensures ∙ ap (λ (l : List ℕ). min (length l) (min move_limit ((max_file_size c.args.geometry.version) - offset))) all in
@@ -162,10 +162,10 @@ returns g c =
     let asked = g.S.Sectors.state c.ask_for_sectors.new.s in
     let new = g.S.Sectors.state c.write_bytes.new.s in
     let same = unchanged_joined c.in_ok-inode.ensures.same c.in_ok-ask_for_sectors.ensures.same in
-    let is = kept (λ (m : SectorMap). v ≡ inode_at c.args.geometry m c.descriptor.inside.number) same c.in_ok-inode.ensures.found in
+    let is = kept (λ (m : SectorMap). v ≡ inode_at c.args.geometry m c.descriptor.inside.ino) same c.in_ok-inode.ensures.found in
     let count = c.write_count-count.result in
     let to = offset + count in
-    let change = subst (λ (l : List ℕ). ChangesBytes c.args.geometry c.descriptor.inside.number asked new (λ held. overwritten held offset (take count l))) all
+    let change = subst (λ (l : List ℕ). ChangesBytes c.args.geometry c.descriptor.inside.ino asked new (λ held. overwritten held offset (take count l))) all
     c.in_ok-write_bytes.ensures.change in
     let enough = kept (λ (m : SectorMap). least_free ≤ free_sectors c.args.geometry m) c.in_ok-ask_for_sectors.ensures.same
     (is_enough (free_sectors c.args.geometry mid.sectors) least_free c.in_ok-ask_for_sectors.ensures.each) in

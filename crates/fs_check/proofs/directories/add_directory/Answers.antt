@@ -20,7 +20,7 @@ pub returns-then-ne-clause-names : goal.returns-then-ne-clause-names
 returns-then-ne-clause-names g c =
     let m = meaning (g.D.Disk.state c.args.disk.now) in
     let p = c.args.opened.now.geometry in
-    let d = c.args.d in
+    let d = c.args.dir_ino in
     let here = inode_here p m c.args.inodes.now d blank c.requires.table c.requires.below in
     let other : (get_or c.args.inodes.now d blank).kind ≢ Directory = search rules in
     λ t. same_naming p m d c.args.names.now.counts.items c.args.names.now.directories.items c.args.names.now.repeated
@@ -29,15 +29,15 @@ returns-then-ne-clause-names g c =
 pub read_good_slots-requires-clause-in_data : goal.read_good_slots-requires-clause-in_data
 read_good_slots-requires-clause-in_data g c =
     let m = meaning (g.D.Disk.state c.args.disk.now) in
-    let here = inode_here c.args.opened.now.geometry m c.args.inodes.now c.args.d blank c.requires.table c.requires.below in
-    subst (λ v. (s : ℕ) → Owns m v s → IsData c.args.opened.now.geometry s) (sym here) (c.requires.before InData (omega arith) c.args.d
-    (within c.args.opened.now.geometry m c.args.inodes.now c.args.d c.requires.table c.requires.below))
+    let here = inode_here c.args.opened.now.geometry m c.args.inodes.now c.args.dir_ino blank c.requires.table c.requires.below in
+    subst (λ v. (s : ℕ) → Owns m v s → IsData c.args.opened.now.geometry s) (sym here) (c.requires.before InData (omega arith) c.args.dir_ino
+    (within c.args.opened.now.geometry m c.args.inodes.now c.args.dir_ino c.requires.table c.requires.below))
 
 pub read_good_slots-requires-clause-size : goal.read_good_slots-requires-clause-size
 read_good_slots-requires-clause-size g c =
     let m = meaning (g.D.Disk.state c.args.disk.now) in
     let p = c.args.opened.now.geometry in
-    let d = c.args.d in
+    let d = c.args.dir_ino in
     let here = inode_here p m c.args.inodes.now d blank c.requires.table c.requires.below in
     let is : (get_or c.args.inodes.now d blank).kind ≡ Directory = search rules in
     subst (λ (v : Inode). v.size ≤ MAX_DIRECTORY_SIZE) (sym here) (directory_size p m d (c.requires.before Inodes (omega arith) d (within p m c.args.inodes.now d c.requires.table c.requires.below))
@@ -48,7 +48,7 @@ add_slots-requires-clause-room g c =
     let s0 = g.D.Disk.state c.args.disk.now in
     let m = meaning s0 in
     let p = c.args.opened.now.geometry in
-    let d = c.args.d in
+    let d = c.args.dir_ino in
     let below = within p m c.args.inodes.now d c.requires.table c.requires.below in
     let at = table_geometry _ _ p d c.requires.opened.geometry below in
     let some = at.few in
@@ -69,8 +69,8 @@ pub returns-clause-test : goal.returns-clause-test
 returns-clause-test g c =
     let m = meaning (g.D.Disk.state c.args.disk.now) in
     let p = c.args.opened.now.geometry in
-    let here = inode_here p m c.args.inodes.now c.args.d blank c.requires.table c.requires.below in
-    let good : HasGoodSlots p m (get_or c.args.inodes.now c.args.d blank) =
+    let here = inode_here p m c.args.inodes.now c.args.dir_ino blank c.requires.table c.requires.below in
+    let good : HasGoodSlots p m (get_or c.args.inodes.now c.args.dir_ino blank) =
     (MatchOption-at_some _ _ c.in-Some.slots c.in-Some.is c.in_ok-slots.ensures.slots).0 in
     ((λ t lt kind. subst (HasGoodSlots p m) here good), (λ o. refl))
 
@@ -78,7 +78,7 @@ pub returns-clause-names : goal.returns-clause-names
 returns-clause-names g c =
     let m = meaning (g.D.Disk.state c.args.disk.now) in
     let p = c.args.opened.now.geometry in
-    let d = c.args.d in
+    let d = c.args.dir_ino in
     let names = c.args.names.now in
     let slots = c.in-Some.slots.items in
     let here = inode_here p m c.args.inodes.now d blank c.requires.table c.requires.below in

@@ -10,13 +10,13 @@ loop-slot-preserved c =
     let slots = c.args.slots.now in
     let x = c.slot-item.result in
     let lt = c.loop-slot-test.true in
-    let who = sym (ap (λ (y : NamedInode). y.inode) c.slot-item.is) ∙ sym c.inode.ensures in
+    let who = sym (ap (λ (y : NamedInode). y.ino) c.slot-item.is) ∙ sym c.ino.ensures in
     let low = c.requires.counts k x lt in
     let wide = c.requires.directories k x lt in
     let same = c.loop-slot.invariant.counts_len in
     let also = c.loop-slot.invariant.directories_len in
-    let one = add_one c.args.d slots k c.inode.result x c.args.counts.now c.args.directories.now c.loop-slot.counts c.loop-slot.directories lt who
+    let one = add_one c.args.dir_ino slots k c.ino.result x c.args.counts.now c.args.directories.now c.loop-slot.counts c.loop-slot.directories lt who
     (omega (arith, low, who, same)) (omega (arith, wide, who, also)) c.loop-slot.invariant in
-    subst (λ l. AddsSlots c.args.d (take (k + 1) slots) c.args.counts.now c.args.directories.now l c.add_name.new.directories) (sym c.add_name.ensures.counts)
-    (subst (λ l. AddsSlots c.args.d (take (k + 1) slots) c.args.counts.now c.args.directories.now
-    (set c.loop-slot.counts c.inode.result (get_or c.loop-slot.counts c.inode.result 0 + 1)) l) (sym c.add_name.ensures.directories) one)
+    subst (λ l. AddsSlots c.args.dir_ino (take (k + 1) slots) c.args.counts.now c.args.directories.now l c.add_name.new.directories) (sym c.add_name.ensures.counts)
+    (subst (λ l. AddsSlots c.args.dir_ino (take (k + 1) slots) c.args.counts.now c.args.directories.now
+    (set c.loop-slot.counts c.ino.result (get_or c.loop-slot.counts c.ino.result 0 + 1)) l) (sym c.add_name.ensures.directories) one)

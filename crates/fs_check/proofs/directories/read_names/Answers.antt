@@ -14,20 +14,20 @@ use Rattle.fs_check.proofs.directories.read_names.Goals as goal
 
 pub add_directory-requires-clause-names : goal.add_directory-requires-clause-names
 add_directory-requires-clause-names g c =
-    subst (λ m. IsNaming c.args.opened.now.geometry m c.loop-d.d c.loop-d.names.counts.items c.loop-d.names.directories.items c.loop-d.names.repeated)
-    (sym (meaning_same c.loop-d.invariant.reads)) c.loop-d.invariant.naming
+    subst (λ m. IsNaming c.args.opened.now.geometry m c.loop-dir_ino.dir_ino c.loop-dir_ino.names.counts.items c.loop-dir_ino.names.directories.items c.loop-dir_ino.names.repeated)
+    (sym (meaning_same c.loop-dir_ino.invariant.reads)) c.loop-dir_ino.invariant.naming
 
-pub loop-d-preserved : goal.loop-d-preserved
-loop-d-preserved g c =
+pub loop-dir_ino-preserved : goal.loop-dir_ino-preserved
+loop-dir_ino-preserved g c =
     let s0 = g.D.Disk.state c.args.disk.now in
     let p = c.args.opened.now.geometry in
-    let d = c.loop-d.d in
+    let d = c.loop-dir_ino.dir_ino in
     let new = c.add_directory.new.names in
-    let same = meaning_same c.loop-d.invariant.reads in
+    let same = meaning_same c.loop-dir_ino.invariant.reads in
     let is = c.if-not-branch.false in
     record {
-      reads = reads_joined c.loop-d.invariant.reads c.in_ok-add_directory.ensures.passed.reads;
-      good = more_good (Obeys p (meaning s0) Slots) d c.loop-d.invariant.good (subst (λ m. Obeys p m Slots d) same (c.in_ok-add_directory.ensures.test.0 is));
+      reads = reads_joined c.loop-dir_ino.invariant.reads c.in_ok-add_directory.ensures.passed.reads;
+      good = more_good (Obeys p (meaning s0) Slots) d c.loop-dir_ino.invariant.good (subst (λ m. Obeys p m Slots d) same (c.in_ok-add_directory.ensures.test.0 is));
       naming = subst (λ m. IsNaming p m (d + 1) new.counts.items new.directories.items new.repeated) same (c.in_ok-add_directory.ensures.names is);
     }
 
@@ -35,14 +35,14 @@ pub returns-then-not-branch-clause-passed : goal.returns-then-not-branch-clause-
 returns-then-not-branch-clause-passed g c =
     let added = c.in_ok-add_directory.ensures in
     record {
-      reads = reads_joined c.loop-d.invariant.reads added.passed.reads;
+      reads = reads_joined c.loop-dir_ino.invariant.reads added.passed.reads;
       reason = (
         refl,
         record {
           fails = λ h.
-              refuses (Obeys c.args.opened.now.geometry (meaning (g.D.Disk.state c.loop-d.disk)) Slots c.loop-d.d) c.in_ok-add_directory.field-0 c.if-not-branch.true added.test
-              (subst (λ m. Obeys c.args.opened.now.geometry m Slots c.loop-d.d) (sym (meaning_same c.loop-d.invariant.reads)) h);
-          least = c.loop-d.invariant.good;
+              refuses (Obeys c.args.opened.now.geometry (meaning (g.D.Disk.state c.loop-dir_ino.disk)) Slots c.loop-dir_ino.dir_ino) c.in_ok-add_directory.field-0 c.if-not-branch.true added.test
+              (subst (λ m. Obeys c.args.opened.now.geometry m Slots c.loop-dir_ino.dir_ino) (sym (meaning_same c.loop-dir_ino.invariant.reads)) h);
+          least = c.loop-dir_ino.invariant.good;
         },
       );
     }
@@ -50,10 +50,10 @@ returns-then-not-branch-clause-passed g c =
 pub returns-clause-each : goal.returns-clause-each
 returns-clause-each g c = λ n lt is.
     let m = meaning (g.D.Disk.state c.args.disk.now) in
-    elim (cases_lt n c.loop-d.d) [
-      | inl low ↦ c.loop-d.invariant.good n low lt is
+    elim (cases_lt n c.loop-dir_ino.dir_ino) [
+      | inl low ↦ c.loop-dir_ino.invariant.good n low lt is
       | inr ge ↦
-          let past = c.loop-d-test.false in
+          let past = c.loop-dir_ino-test.false in
           let free = free_behind c.args.opened.now.geometry m c.args.inodes.now n c.requires.table (omega (arith, ge, past)) lt in
           absurd (let e : Free ≡ Directory = sym (ap (λ (v : Inode). v.kind) free) ∙ is in cc)
     ]
@@ -63,40 +63,40 @@ returns-clause-names g c =
     let p = c.args.opened.now.geometry in
     let m = meaning (g.D.Disk.state c.args.disk.now) in
     let len = c.requires.table.len in
-    let end = c.loop-d.auto.d-end in
-    all_named p m p.inodes c.loop-d.names.counts.items c.loop-d.names.directories.items refl
-    (whole_naming p m c.args.inodes.now c.requires.table c.loop-d.d c.loop-d.names.counts.items c.loop-d.names.directories.items c.loop-d.names.repeated
-    c.loop-d-test.false (omega (arith, end, len)) c.loop-d.invariant.naming).tally
+    let end = c.loop-dir_ino.auto.dir_ino-end in
+    all_named p m p.inodes c.loop-dir_ino.names.counts.items c.loop-dir_ino.names.directories.items refl
+    (whole_naming p m c.args.inodes.now c.requires.table c.loop-dir_ino.dir_ino c.loop-dir_ino.names.counts.items c.loop-dir_ino.names.directories.items c.loop-dir_ino.names.repeated
+    c.loop-dir_ino-test.false (omega (arith, end, len)) c.loop-dir_ino.invariant.naming).tally
 
 pub returns-clause-repeated : goal.returns-clause-repeated
 returns-clause-repeated g c =
     let p = c.args.opened.now.geometry in
     let m = meaning (g.D.Disk.state c.args.disk.now) in
     let len = c.requires.table.len in
-    let end = c.loop-d.auto.d-end in
-    all_repeated p m p.inodes c.loop-d.names.repeated (omega arith)
-    (whole_naming p m c.args.inodes.now c.requires.table c.loop-d.d c.loop-d.names.counts.items c.loop-d.names.directories.items c.loop-d.names.repeated
-    c.loop-d-test.false (omega (arith, end, len)) c.loop-d.invariant.naming).repeated
+    let end = c.loop-dir_ino.auto.dir_ino-end in
+    all_repeated p m p.inodes c.loop-dir_ino.names.repeated (omega arith)
+    (whole_naming p m c.args.inodes.now c.requires.table c.loop-dir_ino.dir_ino c.loop-dir_ino.names.counts.items c.loop-dir_ino.names.directories.items c.loop-dir_ino.names.repeated
+    c.loop-dir_ino-test.false (omega (arith, end, len)) c.loop-dir_ino.invariant.naming).repeated
 
-pub overflow_cast-d-end : goal.overflow_cast-d-end
-overflow_cast-d-end g c =
+pub overflow_cast-dir_ino-end : goal.overflow_cast-dir_ino-end
+overflow_cast-dir_ino-end g c =
     let few = few_inodes _ _ c.args.opened.now.geometry _ c.args.inodes.now c.requires.opened.geometry c.requires.table in
     omega (arith, few)
 
 pub add_directory-requires-clause-opened : goal.add_directory-requires-clause-opened
-add_directory-requires-clause-opened g c = opened_still c.loop-d.invariant.reads c.requires.opened
+add_directory-requires-clause-opened g c = opened_still c.loop-dir_ino.invariant.reads c.requires.opened
 
 pub add_directory-requires-clause-table : goal.add_directory-requires-clause-table
-add_directory-requires-clause-table g c = table_still c.loop-d.invariant.reads c.requires.table
+add_directory-requires-clause-table g c = table_still c.loop-dir_ino.invariant.reads c.requires.table
 
 pub add_directory-requires-clause-before : goal.add_directory-requires-clause-before
-add_directory-requires-clause-before g c = before_still c.loop-d.invariant.reads c.requires.before
+add_directory-requires-clause-before g c = before_still c.loop-dir_ino.invariant.reads c.requires.before
 
 pub returns-in_err-add_directory-clause-passed : goal.returns-in_err-add_directory-clause-passed
 returns-in_err-add_directory-clause-passed g c =
     let left = c.from_residual-in_err-add_directory in
-    read_error (g.D.Disk.state c.args.disk.now) (g.D.Disk.state c.loop-d.disk) (g.D.Disk.state c.add_directory.new.disk) c.loop-d.invariant.reads left.result left.ensures.1
+    read_error (g.D.Disk.state c.args.disk.now) (g.D.Disk.state c.loop-dir_ino.disk) (g.D.Disk.state c.add_directory.new.disk) c.loop-dir_ino.invariant.reads left.result left.ensures.1
     c.in_err-add_directory.ensures.passed
 
 pub returns-clause-passed : goal.returns-clause-passed
-returns-clause-passed g c = record { reads = c.loop-d.invariant.reads; reason = tt }
+returns-clause-passed g c = record { reads = c.loop-dir_ino.invariant.reads; reason = tt }

@@ -35,5 +35,5 @@ returns-clause-there c =
     let len = c.loop-k.invariant.len in
     let past = c.loop-k-test.false in
     let end = c.loop-k.auto._k-end in
-    ap (λ l. get_or l c.args.n free_inode) c.in_ok-push-2.ensures.items
-    ∙ get_or_push c.loop-k.inodes.items c.args.inode free_inode c.args.n (omega (arith, len, past, end))
+    ap (λ l. get_or l c.args.ino free_inode) c.in_ok-push-2.ensures.items
+    ∙ get_or_push c.loop-k.inodes.items c.args.inode free_inode c.args.ino (omega (arith, len, past, end))

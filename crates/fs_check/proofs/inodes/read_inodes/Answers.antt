@@ -12,20 +12,20 @@ use Rattle.fs_check.proofs.inodes.read_inodes.Goals as goal
 
 pub read_table-requires-clause-kept : goal.read_table-requires-clause-kept
 read_table-requires-clause-kept g c = λ inside.
-    sector_still _ _ c.args.opened.now.geometry c.loop-n.n c.loop-n.table c.loop-n.invariant.reads (c.loop-n.invariant.kept inside)
+    sector_still _ _ c.args.opened.now.geometry c.loop-ino.ino c.loop-ino.table c.loop-ino.invariant.reads (c.loop-ino.invariant.kept inside)
 
-pub loop-n-preserved : goal.loop-n-preserved
-loop-n-preserved g c =
+pub loop-ino-preserved : goal.loop-ino-preserved
+loop-ino-preserved g c =
     let s0 = g.D.Disk.state c.args.disk.now in
-    let s1 = g.D.Disk.state c.loop-n.disk in
+    let s1 = g.D.Disk.state c.loop-ino.disk in
     let p = c.args.opened.now.geometry in
-    let n = c.loop-n.n in
-    let so_far = c.loop-n.invariant in
+    let n = c.loop-ino.ino in
+    let so_far = c.loop-ino.invariant in
     let here = sector_back s0 s1 p n c.read_table.new.table so_far.reads c.in_ok-read_table.ensures.table in
     let v = c.in-Some.inode in
     let told = c.in-Some.ensures in
     let kept = c.in_ok-keep_inode-in-Some.ensures in
-    let good = good_is p (meaning s0) n c.read_table.new.table (Some v) (here c.loop-n-test.true)
+    let good = good_is p (meaning s0) n c.read_table.new.table (Some v) (here c.loop-ino-test.true)
     told.is told.allowed told.free told.top told.none in
     record {
       reads = reads_joined so_far.reads c.in_ok-read_table.ensures.passed.reads;
@@ -39,12 +39,12 @@ loop-n-preserved g c =
 pub returns-in-None-clause-passed : goal.returns-in-None-clause-passed
 returns-in-None-clause-passed g c =
     let p = c.args.opened.now.geometry in
-    let so_far = c.loop-n.invariant in
-    let lt = c.loop-n-test.true in
-    let here = sector_back (g.D.Disk.state c.args.disk.now) (g.D.Disk.state c.loop-n.disk) p c.loop-n.n c.read_table.new.table so_far.reads
+    let so_far = c.loop-ino.invariant in
+    let lt = c.loop-ino-test.true in
+    let here = sector_back (g.D.Disk.state c.args.disk.now) (g.D.Disk.state c.loop-ino.disk) p c.loop-ino.ino c.read_table.new.table so_far.reads
     c.in_ok-read_table.ensures.table in
     let told = c.in-None.ensures in
-    let bad = good_is p (meaning (g.D.Disk.state c.args.disk.now)) c.loop-n.n c.read_table.new.table None (here lt)
+    let bad = good_is p (meaning (g.D.Disk.state c.args.disk.now)) c.loop-ino.ino c.read_table.new.table None (here lt)
     told.is told.allowed told.free told.top told.none in
     record {
       reads = reads_joined so_far.reads c.in_ok-read_table.ensures.passed.reads;
@@ -52,7 +52,7 @@ returns-in-None-clause-passed g c =
     }
 
 pub read_table-requires-clause-opened : goal.read_table-requires-clause-opened
-read_table-requires-clause-opened g c = opened_still c.loop-n.invariant.reads c.requires.opened
+read_table-requires-clause-opened g c = opened_still c.loop-ino.invariant.reads c.requires.opened
 
 pub returns-in_err-inodes-clause-passed : goal.returns-in_err-inodes-clause-passed
 returns-in_err-inodes-clause-passed g c =
@@ -61,24 +61,24 @@ returns-in_err-inodes-clause-passed g c =
 pub returns-in_err-read_table-clause-passed : goal.returns-in_err-read_table-clause-passed
 returns-in_err-read_table-clause-passed g c =
     let left = c.from_residual-in_err-read_table in
-    read_error (g.D.Disk.state c.args.disk.now) (g.D.Disk.state c.loop-n.disk) (g.D.Disk.state c.read_table.new.disk) c.loop-n.invariant.reads left.result left.ensures.1
+    read_error (g.D.Disk.state c.args.disk.now) (g.D.Disk.state c.loop-ino.disk) (g.D.Disk.state c.read_table.new.disk) c.loop-ino.invariant.reads left.result left.ensures.1
     c.in_err-read_table.ensures.passed
 
 pub returns-in_err-keep_inode-in-Some-clause-passed : goal.returns-in_err-keep_inode-in-Some-clause-passed
 returns-in_err-keep_inode-in-Some-clause-passed g c =
     let left = c.from_residual-in_err-keep_inode-in-Some in
-    memory_error (g.D.Disk.state c.args.disk.now) (g.D.Disk.state c.read_table.new.disk) (reads_joined c.loop-n.invariant.reads c.in_ok-read_table.ensures.passed.reads)
+    memory_error (g.D.Disk.state c.args.disk.now) (g.D.Disk.state c.read_table.new.disk) (reads_joined c.loop-ino.invariant.reads c.in_ok-read_table.ensures.passed.reads)
     left.result (subst (λ e. IsErrAnd left.result (λ y. y ≡ e)) c.in_err-keep_inode-in-Some.ensures.memory left.ensures.1)
 
 pub returns-clause-each : goal.returns-clause-each
-returns-clause-each g c = λ n lt. c.loop-n.invariant.good n (let past = c.loop-n-test.false in omega (arith, lt, past))
+returns-clause-each g c = λ n lt. c.loop-ino.invariant.good n (let past = c.loop-ino-test.false in omega (arith, lt, past))
 
 pub returns-clause-table : goal.returns-clause-table
 returns-clause-table g c =
-    let past = c.loop-n-test.false in
-    let end = c.loop-n.auto.n-end in
-    let len = c.loop-n.invariant.len in
-    record { len = omega (arith, len, past, end); each = λ n lt. c.loop-n.invariant.each n (omega (arith, lt, past)) }
+    let past = c.loop-ino-test.false in
+    let end = c.loop-ino.auto.ino-end in
+    let len = c.loop-ino.invariant.len in
+    record { len = omega (arith, len, past, end); each = λ n lt. c.loop-ino.invariant.each n (omega (arith, lt, past)) }
 
 pub returns-clause-passed : goal.returns-clause-passed
-returns-clause-passed g c = record { reads = c.loop-n.invariant.reads; reason = tt }
+returns-clause-passed g c = record { reads = c.loop-ino.invariant.reads; reason = tt }

@@ -15,57 +15,57 @@ use Rattle.fs_check.proofs.marking.mark_all.Goals as goal
 pub returns-then-not-branch-clause-passed : goal.returns-then-not-branch-clause-passed
 returns-then-not-branch-clause-passed g c =
     let s0 = g.D.Disk.state c.args.disk.now in
-    let s1 = g.D.Disk.state c.loop-n.disk in
+    let s1 = g.D.Disk.state c.loop-ino.disk in
     let p = c.args.opened.now.geometry in
     record {
-      reads = reads_joined c.loop-n.invariant.reads c.in_ok-mark_inode.ensures.passed.reads;
+      reads = reads_joined c.loop-ino.invariant.reads c.in_ok-mark_inode.ensures.passed.reads;
       reason = (
         refl,
         record {
           fails = λ h.
-              known_of (λ m v. OwnsData p m v → ⊥) s0 s1 p c.args.inodes.now c.loop-n.n blank c.loop-n.invariant.reads c.requires.table c.loop-n-test.true
-              (refuses (OwnsData p (meaning s1) (get_or c.args.inodes.now c.loop-n.n blank)) c.in_ok-mark_inode.field-0 c.if-not-branch.true c.in_ok-mark_inode.ensures.test)
-              (h (within p (meaning s0) c.args.inodes.now c.loop-n.n c.requires.table c.loop-n-test.true));
-          least = λ k low below. c.loop-n.invariant.good k low;
+              known_of (λ m v. OwnsData p m v → ⊥) s0 s1 p c.args.inodes.now c.loop-ino.ino blank c.loop-ino.invariant.reads c.requires.table c.loop-ino-test.true
+              (refuses (OwnsData p (meaning s1) (get_or c.args.inodes.now c.loop-ino.ino blank)) c.in_ok-mark_inode.field-0 c.if-not-branch.true c.in_ok-mark_inode.ensures.test)
+              (h (within p (meaning s0) c.args.inodes.now c.loop-ino.ino c.requires.table c.loop-ino-test.true));
+          least = λ k low below. c.loop-ino.invariant.good k low;
         },
       );
     }
 
-pub loop-n-init : goal.loop-n-init
-loop-n-init g c = record {
+pub loop-ino-init : goal.loop-ino-init
+loop-ino-init g c = record {
   reads = reads_nothing;
   good = λ k lt. absurd (omega (arith, lt));
   at_hand = c.new-pointers.ensures (meaning (g.D.Disk.state c.args.disk.now));
   marked = c.requires.none;
 }
 
-pub loop-n-preserved : goal.loop-n-preserved
-loop-n-preserved g c =
+pub loop-ino-preserved : goal.loop-ino-preserved
+loop-ino-preserved g c =
     let s0 = g.D.Disk.state c.args.disk.now in
-    let s1 = g.D.Disk.state c.loop-n.disk in
-    let lt = c.loop-n-test.true in
+    let s1 = g.D.Disk.state c.loop-ino.disk in
+    let lt = c.loop-ino-test.true in
     let p = c.args.opened.now.geometry in
-    let n = c.loop-n.n in
-    let reads = c.loop-n.invariant.reads in
+    let n = c.loop-ino.ino in
+    let reads = c.loop-ino.invariant.reads in
     let here = inode_here p (meaning s0) c.args.inodes.now n blank c.requires.table lt in
     record {
       reads = reads_joined reads c.in_ok-mark_inode.ensures.passed.reads;
-      good = more_good (IsInData p (meaning s0)) n c.loop-n.invariant.good
+      good = more_good (IsInData p (meaning s0)) n c.loop-ino.invariant.good
           (known_of (OwnsData p) s0 s1 p c.args.inodes.now n blank reads c.requires.table lt (c.in_ok-mark_inode.ensures.test.0 c.if-not-branch.false));
       at_hand = hand_back reads c.mark_inode.new.pointers c.in_ok-mark_inode.ensures.at_hand;
       marked =
-          step_marked p s0 s1 (get_or c.args.inodes.now n blank) n 0 (n + 1) 0 c.loop-n.owned c.loop-n.twice c.mark_inode.new.owned c.mark_inode.new.twice reads here
-          (c.in_ok-mark_inode.ensures.marked c.if-not-branch.false n) c.loop-n.invariant.marked;
+          step_marked p s0 s1 (get_or c.args.inodes.now n blank) n 0 (n + 1) 0 c.loop-ino.owned c.loop-ino.twice c.mark_inode.new.owned c.mark_inode.new.twice reads here
+          (c.in_ok-mark_inode.ensures.marked c.if-not-branch.false n) c.loop-ino.invariant.marked;
     }
 
 pub returns-clause-each : goal.returns-clause-each
 returns-clause-each g c = λ n lt.
     let m = meaning (g.D.Disk.state c.args.disk.now) in
     let p = c.args.opened.now.geometry in
-    elim (cases_lt n c.loop-n.n) [
-      | inl low ↦ c.loop-n.invariant.good n low
+    elim (cases_lt n c.loop-ino.ino) [
+      | inl low ↦ c.loop-ino.invariant.good n low
       | inr ge ↦
-          let past = c.loop-n-test.false in
+          let past = c.loop-ino-test.false in
           let free = free_behind p m c.args.inodes.now n c.requires.table (omega (arith, ge, past)) lt in
           λ s owns. absurd (free_owns_nothing m s (subst (λ v. Owns m v s) free owns))
     ]
@@ -73,11 +73,11 @@ returns-clause-each g c = λ n lt.
 pub returns-clause-marked : goal.returns-clause-marked
 returns-clause-marked g c =
     let len = c.requires.table.len in
-    let end = c.loop-n.auto.n-end in
-    all_marked c.args.opened.now.geometry (meaning (g.D.Disk.state c.args.disk.now)) c.args.inodes.now c.loop-n.n c.loop-n.owned c.loop-n.twice c.requires.table
-    c.loop-n-test.false (omega (arith, end, len)) c.loop-n.invariant.marked
+    let end = c.loop-ino.auto.ino-end in
+    all_marked c.args.opened.now.geometry (meaning (g.D.Disk.state c.args.disk.now)) c.args.inodes.now c.loop-ino.ino c.loop-ino.owned c.loop-ino.twice c.requires.table
+    c.loop-ino-test.false (omega (arith, end, len)) c.loop-ino.invariant.marked
 
-pub overflow_cast-n-end : goal.overflow_cast-n-end
-overflow_cast-n-end g c =
+pub overflow_cast-ino-end : goal.overflow_cast-ino-end
+overflow_cast-ino-end g c =
     let few = few_inodes _ _ c.args.opened.now.geometry _ c.args.inodes.now c.requires.opened.geometry c.requires.table in
     omega (arith, few)

@@ -11,8 +11,8 @@ pub returns-then-not-has_parent-clause-some : goal.returns-then-not-has_parent-c
 returns-then-not-has_parent-clause-some c = λ m table named before.
     let p = c.args.geometry in
     let directories = c.args.names.now.directories.items in
-    let n = c.loop-n.n in
-    let lt = c.loop-n-test.true in
+    let n = c.loop-ino.ino in
+    let lt = c.loop-ino-test.true in
     record {
       fails = λ all.
           let below = within p m c.args.inodes.now n table lt in
@@ -21,17 +21,17 @@ returns-then-not-has_parent-clause-some c = λ m table named before.
           (parent_must p m c.args.names.now.counts.items directories named before n below (all below)) in
           refuses _ c.has_parent.result c.if-not-has_parent.true c.has_parent.ensures (has ∙ ap (the_parent n (get_or c.args.inodes.now n blank).kind) there);
       least = λ k low below. parent_good p m c.args.names.now.counts.items directories named before k below
-          (subst (IsPlaced directories k) (table.each k below) (c.loop-n.invariant k low));
+          (subst (IsPlaced directories k) (table.each k below) (c.loop-ino.invariant k low));
     }
 
 pub returns-clause-none : goal.returns-clause-none
 returns-clause-none c = λ m table named before n lt.
     let p = c.args.geometry in
     let directories = c.args.names.now.directories.items in
-    elim (cases_lt n c.loop-n.n) [
+    elim (cases_lt n c.loop-ino.ino) [
       | inl low ↦
-          parent_good p m c.args.names.now.counts.items directories named before n lt (subst (IsPlaced directories n) (table.each n lt) (c.loop-n.invariant n low))
+          parent_good p m c.args.names.now.counts.items directories named before n lt (subst (IsPlaced directories n) (table.each n lt) (c.loop-ino.invariant n low))
       | inr ge ↦
-          let past = c.loop-n-test.false in
+          let past = c.loop-ino-test.false in
           free_parent p m n ((before Inodes (omega arith) n lt).top) (free_behind p m c.args.inodes.now n table (omega (arith, ge, past)) lt)
     ]

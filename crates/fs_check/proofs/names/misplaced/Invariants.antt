@@ -3,5 +3,5 @@ use Rattle.fs_layout.specs.Inode.{free_inode}
 use Rattle.fs_check.proofs.Namings.{IsPlaced}
 use Rattle.fs_check.proofs.names.misplaced.Given as goal
 
-abbrev pub invariant-loop-n : goal.invariant-loop-n
-invariant-loop-n l = (k : ℕ) → k < l.n → IsPlaced l.names.directories.items k (get_or l.inodes k free_inode)
+abbrev pub invariant-loop-ino : goal.invariant-loop-ino
+invariant-loop-ino l = (k : ℕ) → k < l.ino → IsPlaced l.names.directories.items k (get_or l.inodes k free_inode)

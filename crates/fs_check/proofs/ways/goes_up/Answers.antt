@@ -8,25 +8,25 @@ use Rattle.fs_check.proofs.Climbing.{IsOnWay, way_begins, way_goes_on, way_reach
 use Rattle.fs_check.proofs.ways.goes_up.Goals as goal
 
 pub loop-at-init : goal.loop-at-init
-loop-at-init c = way_begins c.args.inodes.now c.args.marks.now c.args.d c.requires.len c.requires.earlier c.requires.climb
+loop-at-init c = way_begins c.args.inodes.now c.args.marks.now c.args.dir_ino c.requires.len c.requires.earlier c.requires.climb
 
 pub returns-then-marks-i-ne0-clause-reaches : goal.returns-then-marks-i-ne0-clause-reaches
-returns-then-marks-i-ne0-clause-reaches c = way_meets c.args.inodes.now c.loop-at.marks c.args.d c.loop-at.at c.loop-at.invariant c.if-marks-i-ne0.true
+returns-then-marks-i-ne0-clause-reaches c = way_meets c.args.inodes.now c.loop-at.marks c.args.dir_ino c.loop-at.at c.loop-at.invariant c.if-marks-i-ne0.true
 
 pub loop-at-preserved : goal.loop-at-preserved
 loop-at-preserved c =
     let inodes = c.args.inodes.now in
     let at = c.loop-at.at in
     let lt = c.if-i-inodes.false in
-    subst (λ (v : Inode). IsOnWay inodes (set c.loop-at.marks at c.args.d) c.args.d v.parent) (get_or_default inodes at free_inode blank lt)
-    (way_goes_on inodes c.loop-at.marks c.args.d at c.loop-at.invariant c.loop-at-test.true lt c.if-marks-i-ne0.false)
+    subst (λ (v : Inode). IsOnWay inodes (set c.loop-at.marks at c.args.dir_ino) c.args.dir_ino v.parent) (get_or_default inodes at free_inode blank lt)
+    (way_goes_on inodes c.loop-at.marks c.args.dir_ino at c.loop-at.invariant c.loop-at-test.true lt c.if-marks-i-ne0.false)
 
 pub returns-clause-reaches : goal.returns-clause-reaches
 returns-clause-reaches c =
     let top : Climbs c.args.inodes.now c.loop-at.at = subst (Climbs c.args.inodes.now) (sym c.loop-at-test.false) at_top in
-    ((λ t. (way_reaches c.args.inodes.now c.loop-at.marks c.args.d c.loop-at.at c.loop-at.invariant top).0), (λ x. refl))
+    ((λ t. (way_reaches c.args.inodes.now c.loop-at.marks c.args.dir_ino c.loop-at.at c.loop-at.invariant top).0), (λ x. refl))
 
 pub returns-clause-climb : goal.returns-clause-climb
 returns-clause-climb c = λ t.
     let top : Climbs c.args.inodes.now c.loop-at.at = subst (Climbs c.args.inodes.now) (sym c.loop-at-test.false) at_top in
-    (way_reaches c.args.inodes.now c.loop-at.marks c.args.d c.loop-at.at c.loop-at.invariant top).1
+    (way_reaches c.args.inodes.now c.loop-at.marks c.args.dir_ino c.loop-at.at c.loop-at.invariant top).1

@@ -14,28 +14,28 @@ use Rattle.fs_system.proofs.StampedNodes.{given_fits, stamps_given}
 use Rattle.fs_system.proofs.stamping.stamp.Goals.{then-not-keeps_times-via-then-not-keeps_times, then-not-keeps_times-via-else-not-keeps_times+then-gives_none}
 use Rattle.fs_system.proofs.stamping.stamp.Goals as goal
 
-pub returns-then-n-geometry-clause-each : goal.returns-then-n-geometry-clause-each
-returns-then-n-geometry-clause-each g c = λ processes t at.
-    absent (stamp_absent at c.args.n c.args.atime c.args.mtime c.args.ctime
-    (none_past at c.args.n c.args.atime c.args.mtime c.args.ctime c.if-n-geometry.true))
+pub returns-then-ino-geometry-clause-each : goal.returns-then-ino-geometry-clause-each
+returns-then-ino-geometry-clause-each g c = λ processes t at.
+    absent (stamp_absent at c.args.ino c.args.atime c.args.mtime c.args.ctime
+    (none_past at c.args.ino c.args.atime c.args.mtime c.args.ctime c.if-ino-geometry.true))
 
 pub returns-then-eq-clause-each : goal.returns-then-eq-clause-each
 returns-then-eq-clause-each g c =
     let is_free : c.in-Ok.inode.kind ≡ kinds.Free = search rules in
     λ processes t at.
-    absent (stamp_absent at c.args.n c.args.atime c.args.mtime c.args.ctime
-    (none_free at c.args.n c.args.atime c.args.mtime c.args.ctime (sym (ap (λ (v : Inode). v.kind) c.in-Ok.ensures.found) ∙ is_free)))
+    absent (stamp_absent at c.args.ino c.args.atime c.args.mtime c.args.ctime
+    (none_free at c.args.ino c.args.atime c.args.mtime c.args.ctime (sym (ap (λ (v : Inode). v.kind) c.in-Ok.ensures.found) ∙ is_free)))
 
 pub returns-then-not-keeps_times-clause-each : goal.returns-then-not-keeps_times-clause-each
 returns-then-not-keeps_times-clause-each g c =
     let used : c.in-Ok.inode.kind ≢ kinds.Free = search rules in
     let p = c.args.geometry in
-    let n = c.args.n in
+    let n = c.args.ino in
     let same = c.in-Ok.ensures.same in
     let found = kept (λ (m : SectorMap). c.in-Ok.inode ≡ inode_at p m n) same c.in-Ok.ensures.found in
     λ processes t at.
     let mid : IsStateOf p (g.S.Sectors.state c.load.new.s).sectors processes t = kept (λ (m : SectorMap). IsStateOf p m processes t) same at in
-    let h = here mid n c.args.atime c.args.mtime c.args.ctime c.if-n-geometry.false (λ free. used (ap (λ (v : Inode). v.kind) found ∙ free)) in
+    let h = here mid n c.args.atime c.args.mtime c.args.ctime c.if-ino-geometry.false (λ free. used (ap (λ (v : Inode). v.kind) found ∙ free)) in
     same_stamped mid n c.args.atime c.args.mtime c.args.ctime h
     (elim c.then-not-keeps_times.branch [
       | then-not-keeps_times-via-then-not-keeps_times w ↦
@@ -57,7 +57,7 @@ pub returns-clause-each : goal.returns-clause-each
 returns-clause-each g c =
     let used : c.in-Ok.inode.kind ≢ kinds.Free = search rules in
     let p = c.args.geometry in
-    let n = c.args.n in
+    let n = c.args.ino in
     let same = c.in-Ok.ensures.same in
     let first = (g.S.Sectors.state c.load.new.s).sectors in
     let last = (g.S.Sectors.state c.save.new.s).sectors in
@@ -66,7 +66,7 @@ returns-clause-each g c =
     let given = c.with_given-given.ensures ∙ ap (λ (v : Inode). with_times v (stamped c.args.atime c.args.mtime c.args.ctime (stamps_in v))) found in
     λ processes t at.
     let mid : IsStateOf p first processes t = kept (λ (m : SectorMap). IsStateOf p m processes t) same at in
-    let h = here mid n c.args.atime c.args.mtime c.args.ctime c.if-n-geometry.false (λ free. used (ap (λ (v : Inode). v.kind) found ∙ free)) in
+    let h = here mid n c.args.atime c.args.mtime c.args.ctime c.if-ino-geometry.false (λ free. used (ap (λ (v : Inode). v.kind) found ∙ free)) in
     let saved = c.in-Ok-save.ensures in
     saved_stamped mid n c.args.atime c.args.mtime c.args.ctime h last (sym c.keeps_times.ensures ∙ c.if-not-keeps_times.false) counts.0 counts.1 counts.2
     (record { super = saved.touches.super; inode = saved.touches.inode; used = saved.used })

@@ -23,12 +23,12 @@ returns g c = record {
       let at = state_begun state c.args.geometry c.args.store c.args.procs.now c.begin-txn.result begun.disk begun.map begun.before s r in
       let answered =
       of_stores state c.args.store c.begin-txn.result begun.disk begun.before c.enter-done.new.s said.same.store c.drop_delta.result.disk dropped.disk
-      (λ (o n : DiskState). MatchResult c.enter-done.result (λ done. IsEntered s c.args.pid c.args.directory c.args.second c.enter-done.new.procs)
-      (λ e. IsNotEntered o n s c.args.pid c.args.directory c.args.second e)) (said.each s at) in
+      (λ (o n : DiskState). MatchResult c.enter-done.result (λ done. IsEntered s c.args.pid c.args.dir_ino c.args.second_ino c.enter-done.new.procs)
+      (λ e. IsNotEntered o n s c.args.pid c.args.dir_ino c.args.second_ino e)) (said.each s at) in
       enter_does (state c.args.store.disk) (state c.drop_delta.result.disk) (g.met.D.Disk.only_now c.args.store.disk)
       (reads_alone state c.args.store c.begin-txn.result begun.disk begun.before c.enter-done.new.s said.same.store c.drop_delta.result.disk dropped.disk)
       (state c.drop_delta.result.disk).size c.args.geometry (present state c.drop_delta.result) c.args.procs.now c.enter-done.new.procs s
-      c.args.pid c.args.directory c.args.second c.enter-done.result (c.ranges.pid.fits, c.ranges.directory.fits, c.ranges.second.fits)
+      c.args.pid c.args.dir_ino c.args.second_ino c.enter-done.result (c.ranges.pid.fits, c.ranges.dir_ino.fits, c.ranges.second_ino.fits)
       (runs_on state c.args.geometry c.args.store c.args.procs.now c.begin-txn.result begun.disk begun.map begun.before c.enter-done.new.s said.same.store
       c.drop_delta.result dropped.disk dropped.map s r c.args.procs.now refl)
       said.table answered;

@@ -24,7 +24,7 @@ returns-in-Ok-keep g c = record {
       let kept = c.in-Ok-keep.ensures in
       kept_does g.D.Disk.state c.args.geometry c.args.store c.args.procs.now c.begin-txn.result c.begin-txn.ensures.disk c.begin-txn.ensures.map c.begin-txn.ensures.before
       c.stamp.new.s c.in-Ok.ensures.store s r (g.met.D.Disk.only_now c.args.store.disk) c.in-Ok.ensures.superblock c.args.procs.now
-      (Stamp c.args.inode c.args.atime c.args.mtime c.args.ctime) (Stamped c.in-Ok.stamps)
+      (Stamp c.args.ino c.args.atime c.args.mtime c.args.ctime) (Stamped c.in-Ok.stamps)
       (stamp_performed at counts.0 counts.1 counts.2 (c.in-Ok.ensures.each c.args.procs.now s at))
       c.in-Ok-keep.store kept.map kept.images kept.cause.later kept.told.quiet;
 }
@@ -37,7 +37,7 @@ returns-in-Err-keep g c = record {
       let broke = c.in-Err-keep.ensures in
       broken_does g.D.Disk.state c.args.geometry c.args.store c.args.procs.now c.begin-txn.result c.begin-txn.ensures.disk c.begin-txn.ensures.map c.begin-txn.ensures.before
       c.stamp.new.s c.in-Ok.ensures.store s r (g.met.D.Disk.only_now c.args.store.disk) c.in-Ok.ensures.superblock c.args.procs.now
-      (Stamp c.args.inode c.args.atime c.args.mtime c.args.ctime) (Stamped c.in-Ok.stamps)
+      (Stamp c.args.ino c.args.atime c.args.mtime c.args.ctime) (Stamped c.in-Ok.stamps)
       (stamp_performed at counts.0 counts.1 counts.2 (c.in-Ok.ensures.each c.args.procs.now s at))
       c.in-Err-keep.broken broke.images broke.cause.later broke.cause.fault broke.told.fault _ refl;
 }
@@ -51,10 +51,10 @@ returns-in-Err g c = record {
       let why = c.in-Err.errno in
       let said = c.in-Err.ensures in
       let at = state_begun state c.args.geometry c.args.store c.args.procs.now c.begin-txn.result c.begin-txn.ensures.disk c.begin-txn.ensures.map c.begin-txn.ensures.before s r in
-      let refused : IsNotStamped old new s c.args.inode c.args.atime c.args.mtime c.args.ctime why =
+      let refused : IsNotStamped old new s c.args.ino c.args.atime c.args.mtime c.args.ctime why =
       of_stores state c.args.store c.begin-txn.result c.begin-txn.ensures.disk c.begin-txn.ensures.before c.stamp.new.s said.store
       c.drop_delta.result.disk c.drop_delta.ensures.disk
-      (λ (o n : DiskState). IsNotStamped o n s c.args.inode c.args.atime c.args.mtime c.args.ctime why) (said.each c.args.procs.now s at) in (
+      (λ (o n : DiskState). IsNotStamped o n s c.args.ino c.args.atime c.args.mtime c.args.ctime why) (said.each c.args.procs.now s at) in (
         s,
         (
           runs_on state c.args.geometry c.args.store c.args.procs.now c.begin-txn.result c.begin-txn.ensures.disk c.begin-txn.ensures.map c.begin-txn.ensures.before
@@ -64,8 +64,8 @@ returns-in-Err g c = record {
         does_reading old new (g.met.D.Disk.only_now c.args.store.disk)
             (reads_alone state c.args.store c.begin-txn.result c.begin-txn.ensures.disk c.begin-txn.ensures.before c.stamp.new.s said.store
             c.drop_delta.result.disk c.drop_delta.ensures.disk)
-            s s (Stamp c.args.inode c.args.atime c.args.mtime c.args.ctime) (Refused (Failed why)) r.state_of.up r.state_of.up
-            (stamp_refused_steps old new s c.args.inode c.args.atime c.args.mtime c.args.ctime why r.state_of.up refused) refl
-            (why_not_stamped old new s c.args.inode c.args.atime c.args.mtime c.args.ctime why refused),
+            s s (Stamp c.args.ino c.args.atime c.args.mtime c.args.ctime) (Refused (Failed why)) r.state_of.up r.state_of.up
+            (stamp_refused_steps old new s c.args.ino c.args.atime c.args.mtime c.args.ctime why r.state_of.up refused) refl
+            (why_not_stamped old new s c.args.ino c.args.atime c.args.mtime c.args.ctime why refused),
       );
 }

@@ -26,7 +26,7 @@ leave-requires-clause-spare g c =
 pub returns-in-Ok-keep-clause-frees : goal.returns-in-Ok-keep-clause-frees
 returns-in-Ok-keep-clause-frees g c = λ t h.
     let store = c.in-Ok.ensures.store in
-    commit_frees (g.D.Disk.state c.args.store.disk) (g.D.Disk.state c.leave.new.s.disk) (g.D.Disk.state c.in-Ok-keep.store.disk) (g.met.D.Disk.only_now c.args.store.disk) c.args.geometry c.args.n
+    commit_frees (g.D.Disk.state c.args.store.disk) (g.D.Disk.state c.leave.new.s.disk) (g.D.Disk.state c.in-Ok-keep.store.disk) (g.met.D.Disk.only_now c.args.store.disk) c.args.geometry c.args.ino
     c.requires.number.1 (present g.D.Disk.state c.args.store) (txn_state g.D.Disk.state c.begin-txn.result) (txn_state g.D.Disk.state c.leave.new.s)
     c.begin-txn.ensures.map c.in-Ok.ensures.leaves (only_read g.D.Disk.state c.args.store c.begin-txn.result c.begin-txn.ensures.disk c.begin-txn.ensures.before c.leave.new.s store)
     (leaves_from g.D.Disk.state c.args.store c.begin-txn.result c.begin-txn.ensures.disk c.begin-txn.ensures.before c.leave.new.s store _ c.in-Ok-keep.ensures.images) t h
@@ -35,7 +35,7 @@ returns-in-Ok-keep-clause-frees g c = λ t h.
 pub returns-in-Ok-keep-clause-any_moment : goal.returns-in-Ok-keep-clause-any_moment
 returns-in-Ok-keep-clause-any_moment g c = λ t h.
     let store = c.in-Ok.ensures.store in
-    commit_images (g.D.Disk.state c.args.store.disk) (g.D.Disk.state c.leave.new.s.disk) (g.D.Disk.state c.in-Ok-keep.store.disk) (g.met.D.Disk.only_now c.args.store.disk) c.args.geometry c.args.n
+    commit_images (g.D.Disk.state c.args.store.disk) (g.D.Disk.state c.leave.new.s.disk) (g.D.Disk.state c.in-Ok-keep.store.disk) (g.met.D.Disk.only_now c.args.store.disk) c.args.geometry c.args.ino
     c.requires.number.1 (present g.D.Disk.state c.args.store) (txn_state g.D.Disk.state c.begin-txn.result) (txn_state g.D.Disk.state c.leave.new.s)
     c.begin-txn.ensures.map c.in-Ok.ensures.leaves (only_read g.D.Disk.state c.args.store c.begin-txn.result c.begin-txn.ensures.disk c.begin-txn.ensures.before c.leave.new.s store)
     (leaves_from g.D.Disk.state c.args.store c.begin-txn.result c.begin-txn.ensures.disk c.begin-txn.ensures.before c.leave.new.s store _ c.in-Ok-keep.ensures.images) t h
@@ -47,7 +47,7 @@ returns-in-Err-keep-clause-any_moment g c = λ t h.
     let store = c.in-Ok.ensures.store in
     let broken = c.in-Err-keep.broken in
     let run = leaves_from g.D.Disk.state c.args.store c.begin-txn.result c.begin-txn.ensures.disk c.begin-txn.ensures.before c.leave.new.s store (state broken) c.in-Err-keep.ensures.images in
-    let left = commit_images old (state c.leave.new.s.disk) (state broken) (g.met.D.Disk.only_now c.args.store.disk) c.args.geometry c.args.n c.requires.number.1
+    let left = commit_images old (state c.leave.new.s.disk) (state broken) (g.met.D.Disk.only_now c.args.store.disk) c.args.geometry c.args.ino c.requires.number.1
     (present state c.args.store) (txn_state state c.begin-txn.result) (txn_state state c.leave.new.s) c.begin-txn.ensures.map c.in-Ok.ensures.leaves
     (only_read g.D.Disk.state c.args.store c.begin-txn.result c.begin-txn.ensures.disk c.begin-txn.ensures.before c.leave.new.s store) run t h in
     subst (λ k. LeavesOnly old (state k) (StandsPruned (room_of c.args.geometry) t)) (sym c.into_disk.ensures) left

@@ -1,9 +1,9 @@
 use Rattle.std.proofs.Common.{sym, ◌∙◌}
-use Rattle.fuse_steps.proofs.Steps.{machine-false, machine-gives, machine-stops, machine-true, machine-was, machine-was-err}
+use Rattle.fuse_steps.proofs.Steps.{machine-false, machine-gives, machine-has-failed, machine-true, machine-was, machine-was-err}
 use Rattle.fuse_sessions.proofs.files.or_opened.Goals as goal
 
 pub returns-then-not-may_be_found-clause-did : goal.returns-then-not-may_be_found-clause-did
-returns-then-not-may_be_found-clause-did g c = machine-false _ _ (sym c.may_be_found.ensures ∙ c.if-not-may_be_found.true) (machine-stops _ _)
+returns-then-not-may_be_found-clause-did g c = machine-false _ _ (sym c.may_be_found.ensures ∙ c.if-not-may_be_found.true) (machine-has-failed _ _)
 
 pub returns-in-Ok-clause-did : goal.returns-in-Ok-clause-did
 returns-in-Ok-clause-did g c =

@@ -18,7 +18,7 @@ push_named-requires-clause-capacity c = c.loop-i.invariant.room
 pub returns-then-not-push_named : goal.returns-then-not-push_named
 returns-then-not-push_named c =
     let names : List (List ℕ × ℕ) = c.args.listing.now in
-    let entry : List ℕ × ℕ = (c.index-names-i.result.name, c.index-names-i.result.inode) in
+    let entry : List ℕ × ℕ = (c.index-names-i.result.name, c.index-names-i.result.ino) in
     let next : drop c.loop-i.i names ≡ entry ∷ drop (c.loop-i.i + 1) names =
     next-name c.names-names.result.now c.loop-i.i c.index-names-i.result c.names-names.ensures c.loop-i-test.true c.index-names-i.is in
     c.new.ensures ∙ told-crowded c.loop-i.bytes.items c.args.extent.size c.loop-i.i (vec_len c.loop-i.bytes) names entry next c.loop-i.invariant.told
@@ -27,7 +27,7 @@ returns-then-not-push_named c =
 pub loop-i-preserved : goal.loop-i-preserved
 loop-i-preserved c =
     let names : List (List ℕ × ℕ) = c.args.listing.now in
-    let entry : List ℕ × ℕ = (c.index-names-i.result.name, c.index-names-i.result.inode) in
+    let entry : List ℕ × ℕ = (c.index-names-i.result.name, c.index-names-i.result.ino) in
     let next : drop c.loop-i.i names ≡ entry ∷ drop (c.loop-i.i + 1) names =
     next-name c.names-names.result.now c.loop-i.i c.index-names-i.result c.names-names.ensures c.loop-i-test.true c.index-names-i.is in
     let added = c.push_named.ensures in

@@ -20,7 +20,7 @@ write_inode-requires-clause-fits g c =
     subst (λ (m : ℕ). FitsInode (record v { mode = m; acl = c.in_ok-sector.sector })) (sym c.with_bits.ensures)
     (with_bits_fits v _ c.in_ok-sector.sector v.default_acl c.requires.fits c.requires.used c.requires.no_link (mode_small c.args.acl.now) small c.requires.fits.default_acl)
 
-is_saved : (g : _) (c : goal.In_ok-write_inode g) → IsAccessSaved c.args.geometry c.args.n c.args.inode.now c.args.acl.now (g.S.Sectors.state c.args.s.now) (g.S.Sectors.state c.write_inode.new.s)
+is_saved : (g : _) (c : goal.In_ok-write_inode g) → IsAccessSaved c.args.geometry c.args.ino c.args.inode.now c.args.acl.now (g.S.Sectors.state c.args.s.now) (g.S.Sectors.state c.write_inode.new.s)
 is_saved g c =
     let p = c.args.geometry in
     let v = c.args.inode.now in
@@ -32,8 +32,8 @@ is_saved g c =
     let small : y < 2 ^ 32 = omega arith in
     let way = subst (λ content. Stores p v.acl y content t0.sectors t1.sectors) c.kept_content.ensures.content c.in_ok-sector.ensures.stored in
     let fits = with_bits_fits v _ y v.default_acl c.requires.fits c.requires.used c.requires.no_link (mode_small a) small c.requires.fits.default_acl in
-    let saves = subst (λ (m : ℕ). Saves p c.args.n (record v { mode = m; acl = y }) t1.sectors t2.sectors) c.with_bits.ensures c.in_ok-write_inode.ensures.saved in
-    access_is_saved p c.args.n v a y t0 t1 t2 c.requires.sound c.requires.below c.requires.attributes c.kept_content.ensures.valid way fits saves
+    let saves = subst (λ (m : ℕ). Saves p c.args.ino (record v { mode = m; acl = y }) t1.sectors t2.sectors) c.with_bits.ensures c.in_ok-write_inode.ensures.saved in
+    access_is_saved p c.args.ino v a y t0 t1 t2 c.requires.sound c.requires.below c.requires.attributes c.kept_content.ensures.valid way fits saves
     (store_joined c.in_ok-sector.ensures.store c.in_ok-write_inode.ensures.store) c.in_ok-sector.ensures.puts c.in_ok-sector.ensures.none c.in_ok-write_inode.ensures.puts
 
 pub returns : goal.returns

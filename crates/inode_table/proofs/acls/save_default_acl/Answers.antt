@@ -17,7 +17,7 @@ write_inode-requires-clause-fits g c =
     let small : c.in_ok-sector.sector < 2 ^ 32 = omega arith in
     with_mode_fits v v.acl c.in_ok-sector.sector c.requires.fits c.requires.used c.requires.fits.acl small
 
-is_saved : (g : _) (c : goal.In_ok-write_inode g) → IsDefaultSaved c.args.geometry c.args.n c.args.inode.now (option_copied c.args.acl) (g.S.Sectors.state c.args.s.now) (g.S.Sectors.state c.write_inode.new.s)
+is_saved : (g : _) (c : goal.In_ok-write_inode g) → IsDefaultSaved c.args.geometry c.args.ino c.args.inode.now (option_copied c.args.acl) (g.S.Sectors.state c.args.s.now) (g.S.Sectors.state c.write_inode.new.s)
 is_saved g c =
     let p = c.args.geometry in
     let v = c.args.inode.now in
@@ -28,7 +28,7 @@ is_saved g c =
     let small : y < 2 ^ 32 = omega arith in
     let way = subst (λ content. Stores p v.default_acl y content t0.sectors t1.sectors) c.content_of.ensures.content c.in_ok-sector.ensures.stored in
     let fits = with_mode_fits v v.acl y c.requires.fits c.requires.used c.requires.fits.acl small in
-    default_is_saved p c.args.n v (option_copied c.args.acl) y t0 t1 t2 c.requires.sound c.requires.below c.requires.attributes c.content_of.ensures.valid way fits c.in_ok-write_inode.ensures.saved
+    default_is_saved p c.args.ino v (option_copied c.args.acl) y t0 t1 t2 c.requires.sound c.requires.below c.requires.attributes c.content_of.ensures.valid way fits c.in_ok-write_inode.ensures.saved
     (store_joined c.in_ok-sector.ensures.store c.in_ok-write_inode.ensures.store) c.in_ok-sector.ensures.puts c.in_ok-sector.ensures.none c.in_ok-write_inode.ensures.puts
 
 pub returns : goal.returns

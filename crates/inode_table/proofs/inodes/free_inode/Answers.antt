@@ -20,7 +20,7 @@ give_sector-requires-clause-room g c =
     let t0 = g.S.Sectors.state c.args.s.now in
     let t1 = g.S.Sectors.state c.load.new.s in
     let t2 = g.S.Sectors.state c.give.new.s in
-    let puts = puts_2 p c.args.n t0 t1 t2 c.requires.sound c.requires.number c.in_ok-inode.ensures.same c.in_ok-give.ensures.puts in
+    let puts = puts_2 p c.args.ino t0 t1 t2 c.requires.sound c.requires.number c.in_ok-inode.ensures.same c.in_ok-give.ensures.puts in
     spare_then p 0 0 t0 t2 (omega (arith, c.requires.spare)) puts
 
 pub give_sector-requires-2-clause-owned : goal.give_sector-requires-2-clause-owned
@@ -35,7 +35,7 @@ give_sector-requires-2-clause-room g c =
     let t1 = g.S.Sectors.state c.load.new.s in
     let t2 = g.S.Sectors.state c.give.new.s in
     let t3 = g.S.Sectors.state c.give_sector.new.s in
-    let puts = puts_3 p c.args.n t0 t1 t2 c.requires.sound c.requires.number c.in_ok-inode.ensures.same c.in_ok-give.ensures.puts
+    let puts = puts_3 p c.args.ino t0 t1 t2 c.requires.sound c.requires.number c.in_ok-inode.ensures.same c.in_ok-give.ensures.puts
     t3 c.in_ok-give_sector.ensures.puts in
     spare_then p 0 0 t0 t3 (omega (arith, c.requires.spare)) puts
 
@@ -50,15 +50,15 @@ write_inode-requires-clause-room g c = λ none.
     let t2 = g.S.Sectors.state c.give.new.s in
     let t3 = g.S.Sectors.state c.give_sector.new.s in
     let t4 = g.S.Sectors.state c.give_sector-2.new.s in
-    let puts = puts_4 p c.args.n t0 t1 t2 c.requires.sound c.requires.number c.in_ok-inode.ensures.same c.in_ok-give.ensures.puts
+    let puts = puts_4 p c.args.ino t0 t1 t2 c.requires.sound c.requires.number c.in_ok-inode.ensures.same c.in_ok-give.ensures.puts
     t3 c.in_ok-give_sector.ensures.puts t4 c.in_ok-give_sector-2.ensures.puts in
     room_left p 1 t4 (spare_then p 0 1 t0 t4 (omega (arith, c.requires.spare)) puts) (omega arith)
 
 -- all that has come of it
-is_freed : (g : _) (c : goal.In_ok-write_inode g) → IsFreed c.args.geometry c.args.n (g.S.Sectors.state c.args.s.now) (g.S.Sectors.state c.write_inode.new.s)
+is_freed : (g : _) (c : goal.In_ok-write_inode g) → IsFreed c.args.geometry c.args.ino (g.S.Sectors.state c.args.s.now) (g.S.Sectors.state c.write_inode.new.s)
 is_freed g c =
     let p = c.args.geometry in
-    let n = c.args.n in
+    let n = c.args.ino in
     let t0 = g.S.Sectors.state c.args.s.now in
     let t1 = g.S.Sectors.state c.load.new.s in
     let t2 = g.S.Sectors.state c.give.new.s in

@@ -17,4 +17,4 @@ returns-clause-found g c =
     read _ (inode_stands c.requires.sound.consistent c.requires.below c.inode_sector.ensures c.inode_offset-at.ensures.value refl)
 
 pub returns-clause-fits : goal.returns-clause-fits
-returns-clause-fits g c = subst FitsInode (sym (returns-clause-found g c)) (inode_fits_there c.requires.sound.consistent c.args.n c.requires.below)
+returns-clause-fits g c = subst FitsInode (sym (returns-clause-found g c)) (inode_fits_there c.requires.sound.consistent c.args.ino c.requires.below)

@@ -13,7 +13,7 @@ returns-clause-found g c =
     (inode_stands c.requires.sound.consistent c.requires.below c.inode_sector.ensures c.inode_offset.ensures.value c.in_ok-get.ensures.content)
 
 pub returns-clause-fits : goal.returns-clause-fits
-returns-clause-fits g c = subst FitsInode (sym (returns-clause-found g c)) (inode_fits_there c.requires.sound.consistent c.args.n c.requires.below)
+returns-clause-fits g c = subst FitsInode (sym (returns-clause-found g c)) (inode_fits_there c.requires.sound.consistent c.args.ino c.requires.below)
 
 pub returns-clause-content : goal.returns-clause-content
 returns-clause-content g c = c.in_ok-get.ensures.content ∙ ap (g.S.Sectors.state c.args.s.now).sectors c.inode_sector.ensures

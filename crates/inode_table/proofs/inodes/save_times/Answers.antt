@@ -15,17 +15,17 @@ put-requires-clause-on_disk g c = inode_on_disk c.inode_sector.ensures c.require
 pub put-requires-clause-room : goal.put-requires-clause-room
 put-requires-clause-room g c = λ none. room_left c.args.geometry 1 (g.S.Sectors.state c.args.s.now) c.requires.spare (omega arith)
 
-attributes : (g : _) (c : goal.After-put g) → DiffersInAttributes (inode_at c.args.geometry (g.S.Sectors.state c.args.s.now).sectors c.args.n) c.args.inode.now
-attributes g c = times_are_attributes (inode_at c.args.geometry (g.S.Sectors.state c.args.s.now).sectors c.args.n) c.args.inode.now c.requires.times
+attributes : (g : _) (c : goal.After-put g) → DiffersInAttributes (inode_at c.args.geometry (g.S.Sectors.state c.args.s.now).sectors c.args.ino) c.args.inode.now
+attributes g c = times_are_attributes (inode_at c.args.geometry (g.S.Sectors.state c.args.s.now).sectors c.args.ino) c.args.inode.now c.requires.times
 
 -- the inode is written
-saves : (g : _) (c : goal.After-put g) → Saves c.args.geometry c.args.n c.args.inode.now (g.S.Sectors.state c.args.s.now).sectors (g.S.Sectors.state c.put.new.self).sectors
+saves : (g : _) (c : goal.After-put g) → Saves c.args.geometry c.args.ino c.args.inode.now (g.S.Sectors.state c.args.s.now).sectors (g.S.Sectors.state c.put.new.self).sectors
 saves g c =
     let content = c.requires.content ∙ ap (g.S.Sectors.state c.args.s.now).sectors (sym c.inode_sector.ensures) in
     let there = inode_spelled c.requires.sound.consistent c.requires.below c.inode_sector.ensures c.inode_offset.ensures.value content in
     sector_saves c.inode_sector.ensures c.inode_offset.ensures.value (λ m. refl) content (c.write_times.ensures _ c.requires.times there) c.put.ensures.sectors
 
-puts : (g : _) (c : goal.After-put g) → PutsOnly (λ t. t ≡ c.args.geometry.table + c.args.n / 4) [] 1 (g.S.Sectors.state c.args.s.now) (g.S.Sectors.state c.put.new.self)
+puts : (g : _) (c : goal.After-put g) → PutsOnly (λ t. t ≡ c.args.geometry.table + c.args.ino / 4) [] 1 (g.S.Sectors.state c.args.s.now) (g.S.Sectors.state c.put.new.self)
 puts g c =
     subst (λ (at : ℕ). PutsOnly (λ t. t ≡ at) [] 1 (g.S.Sectors.state c.args.s.now) (g.S.Sectors.state c.put.new.self)) c.inode_sector.ensures
     (reads_and_puts unchanged_nothing c.put.ensures)
@@ -35,30 +35,30 @@ returns-clause-store g c = (puts g c).store
 
 pub returns-clause-sound : goal.returns-clause-sound
 returns-clause-sound g c =
-    attributes_sound c.args.geometry c.args.n c.args.inode.now (g.S.Sectors.state c.args.s.now) (g.S.Sectors.state c.put.new.self) c.requires.sound c.requires.below
+    attributes_sound c.args.geometry c.args.ino c.args.inode.now (g.S.Sectors.state c.args.s.now) (g.S.Sectors.state c.put.new.self) c.requires.sound c.requires.below
     (attributes g c) c.requires.fits (saves g c) (puts g c).store
 
 pub returns-clause-touches : goal.returns-clause-touches
 returns-clause-touches g c =
-    attributes_touch c.args.geometry c.args.n c.args.inode.now (g.S.Sectors.state c.args.s.now) (g.S.Sectors.state c.put.new.self) c.requires.sound c.requires.below
+    attributes_touch c.args.geometry c.args.ino c.args.inode.now (g.S.Sectors.state c.args.s.now) (g.S.Sectors.state c.put.new.self) c.requires.sound c.requires.below
     (attributes g c) c.requires.fits (saves g c) (puts g c)
 
 pub returns-clause-saved : goal.returns-clause-saved
 returns-clause-saved g c =
-    attributes_saved c.args.geometry c.args.n c.args.inode.now (g.S.Sectors.state c.args.s.now) (g.S.Sectors.state c.put.new.self) c.requires.sound c.requires.below
+    attributes_saved c.args.geometry c.args.ino c.args.inode.now (g.S.Sectors.state c.args.s.now) (g.S.Sectors.state c.put.new.self) c.requires.sound c.requires.below
     (attributes g c) c.requires.fits (saves g c)
 
 pub returns-clause-bytes : goal.returns-clause-bytes
 returns-clause-bytes g c =
-    attributes_keep_bytes c.args.geometry c.args.n c.args.inode.now (g.S.Sectors.state c.args.s.now) (g.S.Sectors.state c.put.new.self) c.requires.sound c.requires.below
+    attributes_keep_bytes c.args.geometry c.args.ino c.args.inode.now (g.S.Sectors.state c.args.s.now) (g.S.Sectors.state c.put.new.self) c.requires.sound c.requires.below
     (attributes g c) c.requires.fits (saves g c)
 
 pub returns-clause-acls : goal.returns-clause-acls
 returns-clause-acls g c =
-    attributes_keep_acls c.args.geometry c.args.n c.args.inode.now (g.S.Sectors.state c.args.s.now) (g.S.Sectors.state c.put.new.self) c.requires.sound c.requires.below
+    attributes_keep_acls c.args.geometry c.args.ino c.args.inode.now (g.S.Sectors.state c.args.s.now) (g.S.Sectors.state c.put.new.self) c.requires.sound c.requires.below
     (attributes g c) c.requires.fits (saves g c)
 
 pub returns-clause-used : goal.returns-clause-used
 returns-clause-used g c =
-    attributes_keep_bit c.args.geometry c.args.n c.args.inode.now (g.S.Sectors.state c.args.s.now) (g.S.Sectors.state c.put.new.self) c.requires.sound c.requires.below
+    attributes_keep_bit c.args.geometry c.args.ino c.args.inode.now (g.S.Sectors.state c.args.s.now) (g.S.Sectors.state c.put.new.self) c.requires.sound c.requires.below
     (attributes g c) c.requires.fits (saves g c)

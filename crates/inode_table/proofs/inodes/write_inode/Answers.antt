@@ -17,7 +17,7 @@ returns-clause-puts g c =
     (reads_and_puts c.in_ok-get.ensures.same c.put.ensures)
 
 pub get-requires-clause-part : goal.get-requires-clause-part
-get-requires-clause-part g c = inr (omega (arith, c.inode_sector-at.ensures, inode_above c.args.n c.requires.geometry, c.requires.header))
+get-requires-clause-part g c = inr (omega (arith, c.inode_sector-at.ensures, inode_above c.args.ino c.requires.geometry, c.requires.header))
 
 pub put-requires-clause-part : goal.put-requires-clause-part
-put-requires-clause-part g c = omega (arith, c.inode_sector-at.ensures, inode_above c.args.n c.requires.geometry, c.requires.header, ap log_end c.in_ok-get.ensures.same.store.header)
+put-requires-clause-part g c = omega (arith, c.inode_sector-at.ensures, inode_above c.args.ino c.requires.geometry, c.requires.header, ap log_end c.in_ok-get.ensures.same.store.header)

@@ -7,13 +7,13 @@ use Rattle.path_walk.proofs.Kept.{is_err}
 use Rattle.call_parts.specs.Performing.{Performs}
 use Rattle.name_calls.proofs.directories.chdir.Goals as goal
 
-pub returns-in_err-n-clause-performs : goal.returns-in_err-n-clause-performs
-returns-in_err-n-clause-performs g c =
+pub returns-in_err-ino-clause-performs : goal.returns-in_err-ino-clause-performs
+returns-in_err-ino-clause-performs g c =
     let r = c.from_residual.ensures in
     let old = g.S.Sectors.state c.args.s.now in
     let new = g.S.Sectors.state c.directory_at.new.s in
     subst (λ (x : Result Reply Refusal). Performs c.args.geometry c.args.now c.args.pid (Chdir c.args.path.now) old new c.args.procs.now c.args.procs.now x)
-    (sym (is_err c.from_residual.result c.in_err-n.field-0.0 r.0 r.1)) c.in_err-n.ensures.refused
+    (sym (is_err c.from_residual.result c.in_err-ino.field-0.0 r.0 r.1)) c.in_err-ino.ensures.refused
 
 pub returns-clause-performs : goal.returns-clause-performs
-returns-clause-performs g c = c.in_ok-n.ensures.entered c.stand_at.new.self c.stand_at.ensures.set
+returns-clause-performs g c = c.in_ok-ino.ensures.entered c.stand_at.new.self c.stand_at.ensures.set

@@ -4,7 +4,7 @@ use Rattle.fs_cred.specs.declared.refusal.Refusal.{Refusal}
 use Rattle.fs_model.specs.declared.call.Call.TheVariants.{Chdir}
 use Rattle.fs_model.specs.declared.reply.Reply.TheVariants.{Done}
 use Rattle.fs_model.specs.Processes.{Process, standing_at}
-use Rattle.fs_model.specs.Scenes.{number, with_process}
+use Rattle.fs_model.specs.Scenes.{found_ino, with_process}
 use Rattle.block_map.proofs.Runs.{unchanged_joined}
 use Rattle.path_walk.proofs.Kept.{failed_with}
 use Rattle.call_parts.specs.Performing.{Performs}
@@ -31,22 +31,22 @@ directory_found-requires g c =
     let at = w.ready.is_state in
     record { sound = w.ready.sound; there = (w.ready.state.tree, state_tree at, λ n some. found_there n at (w.found w.ready.state at) some) }
 
-pub returns-in_err-n-clause-refused : goal.returns-in_err-n-clause-refused
-returns-in_err-n-clause-refused g c =
-    let r = c.from_residual-in_err-n.ensures in
+pub returns-in_err-ino-clause-refused : goal.returns-in_err-ino-clause-refused
+returns-in_err-ino-clause-refused g c =
+    let r = c.from_residual-in_err-ino.ensures in
     let x = c.in_ok-walked.ensures in
     let f = c.in_ok-walked.walked.found in
-    let e = c.in_err-n.field-0.0 in
+    let e = c.in_err-ino.field-0.0 in
     let old = g.S.Sectors.state c.args.s.now in
     let mid = g.S.Sectors.state c.walk_path.new.s in
     let new = g.S.Sectors.state c.directory_found.new.s in
-    failed_with c.from_residual-in_err-n.result e
+    failed_with c.from_residual-in_err-ino.result e
     (λ (e : Refusal). Performs c.args.caller.now.geometry c.args.caller.now.time c.args.caller.now.pid (Chdir c.args.path.now) old new c.args.caller.now.procs.now c.args.caller.now.procs.now (Err e)) r.0 r.1
-    (asked_refused (chdir_by_path c.args.path.now) x.same x.walked new (Err e) e refl refl c.in_err-n.ensures.same.store {A = ℕ} (number f)
-    (λ s has at. entering_as s.tree f e mid.disk new.disk c.cred-cred.ensures (c.in_err-n.ensures.each s.tree (state_tree at) (λ n some. found_there n at has some))))
+    (asked_refused (chdir_by_path c.args.path.now) x.same x.walked new (Err e) e refl refl c.in_err-ino.ensures.same.store {A = ℕ} (found_ino f)
+    (λ s has at. entering_as s.tree f e mid.disk new.disk c.cred-cred.ensures (c.in_err-ino.ensures.each s.tree (state_tree at) (λ n some. found_there n at has some))))
 
-pub returns-in_err-n-clause-same : goal.returns-in_err-n-clause-same
-returns-in_err-n-clause-same g c = unchanged_joined c.in_ok-walked.ensures.same c.in_err-n.ensures.same
+pub returns-in_err-ino-clause-same : goal.returns-in_err-ino-clause-same
+returns-in_err-ino-clause-same g c = unchanged_joined c.in_ok-walked.ensures.same c.in_err-ino.ensures.same
 
 pub returns-clause-there : goal.returns-clause-there
 returns-clause-there g c = subst (λ (o : Option Process). IsSome o) (sym c.in_ok-walked.ensures.walked.there) refl
@@ -56,12 +56,12 @@ returns-clause-entered g c = λ now is_now.
     let x = c.in_ok-walked.ensures in
     let f = c.in_ok-walked.walked.found in
     let q = c.in_ok-walked.walked.process.now in
-    let n = c.in_ok-n.n in
-    process_changed (chdir_by_path c.args.path.now) x.same x.walked (g.S.Sectors.state c.directory_found.new.s) now c.in_ok-n.ensures.same
+    let n = c.in_ok-ino.ino in
+    process_changed (chdir_by_path c.args.path.now) x.same x.walked (g.S.Sectors.state c.directory_found.new.s) now c.in_ok-ino.ensures.same
     (standing_at n n q) Done (is_now ∙ changed_there _ c.args.caller.now.pid q (standing_at n n) x.walked.there) refl
     (λ s has at.
-    let met = entered_as s.tree f n c.cred-cred.ensures (c.in_ok-n.ensures.each s.tree (state_tree at) (λ k some. found_there k at has some)) in
+    let met = entered_as s.tree f n c.cred-cred.ensures (c.in_ok-ino.ensures.each s.tree (state_tree at) (λ k some. found_there k at has some)) in
     (met.0, ap (λ (k : ℕ). with_process (standing_at k k q) Done) met.1))
 
 pub returns-clause-same : goal.returns-clause-same
-returns-clause-same g c = unchanged_joined c.in_ok-walked.ensures.same c.in_ok-n.ensures.same
+returns-clause-same g c = unchanged_joined c.in_ok-walked.ensures.same c.in_ok-ino.ensures.same

@@ -34,10 +34,10 @@ default_of-requires g c =
     let v = c.in_ok-directory.directory in
     let f = c.args.walked.now.found in
     let x = c.requires.name in
-    let is = (allowed p old.sectors x.0 f c.cred-cred.ensures c.saturating_sub-step.ensures (inode_at p old.sectors f.dir) v (c.in_ok-directory.ensures.each x.0 x.1 x.2.directory)).1 in
+    let is = (allowed p old.sectors x.0 f c.cred-cred.ensures c.saturating_sub-step.ensures (inode_at p old.sectors f.dir_ino) v (c.in_ok-directory.ensures.each x.0 x.1 x.2.directory)).1 in
     record {
       sound = sound_kept same c.requires.sound;
-      there = (f.dir, number_below x.1 f.dir (is_there x.0 f.dir x.2.directory.node x.2.directory.is_there), kept (λ (m : SectorMap). v ≡ inode_at p m f.dir) same is);
+      there = (f.dir_ino, number_below x.1 f.dir_ino (is_there x.0 f.dir_ino x.2.directory.node x.2.directory.is_there), kept (λ (m : SectorMap). v ≡ inode_at p m f.dir_ino) same is);
       has = (default_in x.2.directory.node.body, kept (λ (m : SectorMap). HasDefaultAcl m v (default_in x.2.directory.node.body)) same (default_held x.1 x.2 v is));
     }
 
@@ -66,26 +66,26 @@ place_directory-requires g c =
     let met = allowed c.args.caller.now.geometry (g.S.Sectors.state c.args.s.now).sectors x.0 c.args.walked.now.found c.cred-cred.ensures c.saturating_sub-step.ensures _ _ (c.in_ok-directory.ensures.each x.0 x.1 x.2.directory) in
     record {
       sound = sound_kept joined c.requires.sound;
-      directory = kept (λ (m : SectorMap). v ≡ inode_at c.args.caller.now.geometry m c.args.walked.now.found.dir) joined met.1;
+      directory = kept (λ (m : SectorMap). v ≡ inode_at c.args.caller.now.geometry m c.args.walked.now.found.dir_ino) joined met.1;
       may = may_then c.args.caller.now.geometry x.1 c.args.walked.now.found x.2 joined c.bytes-name.result.now c.bytes-name.ensures.all c.args.walked.now.process.now.cred met.0;
       bits = subst (λ (k : ℕ). k < 2048) (sym c.special_bits-bits.ensures) (bits_below (c.args.mode / S_ISVTX % 2 == 1) (v.mode / S_ISGID % 2 == 1));
       spare = spare_unchanged c.args.caller.now.geometry 47 (g.S.Sectors.state c.args.s.now) (g.S.Sectors.state c.default_of.new.s) c.requires.spare joined;
     }
 
-pub returns-in_err-n-clause-store : goal.returns-in_err-n-clause-store
-returns-in_err-n-clause-store g c =
-    store_joined (unchanged_joined c.in_ok-directory.ensures.same c.in_ok-inherits.ensures.same).store c.in_err-n.ensures.store
+pub returns-in_err-ino-clause-store : goal.returns-in_err-ino-clause-store
+returns-in_err-ino-clause-store g c =
+    store_joined (unchanged_joined c.in_ok-directory.ensures.same c.in_ok-inherits.ensures.same).store c.in_err-ino.ensures.store
 
-pub returns-in_err-n-clause-each : goal.returns-in_err-n-clause-each
-returns-in_err-n-clause-each g c = λ t h i.
+pub returns-in_err-ino-clause-each : goal.returns-in_err-ino-clause-each
+returns-in_err-ino-clause-each g c = λ t h i.
     let new = g.S.Sectors.state c.place_directory.new.s in
     let joined = unchanged_joined c.in_ok-directory.ensures.same c.in_ok-inherits.ensures.same in
-    not_made c.args.caller.now.geometry (g.S.Sectors.state c.args.s.now) new c.args.walked.now.process.now.cred t c.args.walked.now.found _ _ _ c.from_residual-in_err-n.ensures
-    (inr (interrupts_later new.disk joined (inr c.in_err-n.ensures.err)))
+    not_made c.args.caller.now.geometry (g.S.Sectors.state c.args.s.now) new c.args.walked.now.process.now.cred t c.args.walked.now.found _ _ _ c.from_residual-in_err-ino.ensures
+    (inr (interrupts_later new.disk joined (inr c.in_err-ino.ensures.err)))
 
 pub returns-clause-store : goal.returns-clause-store
 returns-clause-store g c =
-    store_joined (unchanged_joined c.in_ok-directory.ensures.same c.in_ok-inherits.ensures.same).store c.in_ok-n.ensures.store
+    store_joined (unchanged_joined c.in_ok-directory.ensures.same c.in_ok-inherits.ensures.same).store c.in_ok-ino.ensures.store
 
 pub returns-clause-each : goal.returns-clause-each
 returns-clause-each g c = λ t h i.
@@ -100,21 +100,21 @@ returns-clause-each g c = λ t h i.
     let bits = c.special_bits-bits.result in
     let gid = c.new_group-gid.result in
     let a = c.in_ok-access.access in
-    let met = allowed p old.sectors t f c.cred-cred.ensures c.saturating_sub-step.ensures (inode_at p old.sectors f.dir) v (c.in_ok-directory.ensures.each t h i.directory) in
+    let met = allowed p old.sectors t f c.cred-cred.ensures c.saturating_sub-step.ensures (inode_at p old.sectors f.dir_ino) v (c.in_ok-directory.ensures.each t h i.directory) in
     let d = option_copied c.as_ref-default.result in
     let has = kept (λ (m : SectorMap). HasDefaultAcl m v (default_in i.directory.node.body)) c.in_ok-directory.ensures.same (default_held h i v met.1) in
     let given : d ≡ default_in i.directory.node.body = c.as_ref-default.ensures.value ∙ c.in_ok-inherits.ensures.found (default_in i.directory.node.body) has in
-    let node : directory_made c.uid-uid.result gid bits a d ≡ born_directory q.cred q.umask mode (the_node t f.dir) =
+    let node : directory_made c.uid-uid.result gid bits a d ≡ born_directory q.cred q.umask mode (the_node t f.dir_ino) =
     directory_is h i v met.1 q.cred q.umask mode c.uid-uid.result gid bits a d (c.uid-uid.ensures ∙ ap (λ (k : Credential). k.uid) c.cred-cred.ensures)
     (c.new_group-gid.ensures ∙ ap (λ (k : Credential). if v.mode / S_ISGID % 2 == 1 then v.gid else k.gid) c.cred-cred.ensures) c.special_bits-bits.ensures
     given (c.in_ok-access.ensures.born ∙ ap (born_acl d mode) c.umask.ensures) in (
       met.0,
-      kept_back (λ (m : SectorMap). MakesNode p f.dir f.name c.in_ok-n.n (born_directory q.cred q.umask mode (the_node t f.dir)) m new.sectors) joined
-          (subst (λ (x : Node). MakesNode p f.dir f.name c.in_ok-n.n x (g.S.Sectors.state c.default_of.new.s).sectors new.sectors) node
-          (subst (λ (name : List ℕ). MakesNode p f.dir name c.in_ok-n.n (directory_made c.uid-uid.result gid bits a d) (g.S.Sectors.state c.default_of.new.s).sectors new.sectors)
-          c.bytes-name.ensures.all c.in_ok-n.ensures.made)),
+      kept_back (λ (m : SectorMap). MakesNode p f.dir_ino f.name c.in_ok-ino.ino (born_directory q.cred q.umask mode (the_node t f.dir_ino)) m new.sectors) joined
+          (subst (λ (x : Node). MakesNode p f.dir_ino f.name c.in_ok-ino.ino x (g.S.Sectors.state c.default_of.new.s).sectors new.sectors) node
+          (subst (λ (name : List ℕ). MakesNode p f.dir_ino name c.in_ok-ino.ino (directory_made c.uid-uid.result gid bits a d) (g.S.Sectors.state c.default_of.new.s).sectors new.sectors)
+          c.bytes-name.ensures.all c.in_ok-ino.ensures.made)),
     )
 
 pub returns-clause-taken : goal.returns-clause-taken
 returns-clause-taken g c =
-    taken_after c.args.caller.now.geometry 7 (g.S.Sectors.state c.place_directory.new.s) (unchanged_joined c.in_ok-directory.ensures.same c.in_ok-inherits.ensures.same) c.in_ok-n.ensures.taken
+    taken_after c.args.caller.now.geometry 7 (g.S.Sectors.state c.place_directory.new.s) (unchanged_joined c.in_ok-directory.ensures.same c.in_ok-inherits.ensures.same) c.in_ok-ino.ensures.taken

@@ -33,12 +33,12 @@ make_directory-requires g c =
     let name = name_found asked (mkdir_by_path c.args.path.now c.args.mode c.check_mode-checks.result c.check_mode-checks.ensures) x.same x.walked in
     record { sound = x.walked.ready.sound; spare = x.walked.ready.spare; name = name (is_new_name c.in_ok-walked.walked.found (sym c.in_ok-check_new.ensures)).1 }
 
-pub returns-in_err-n : goal.returns-in_err-n
-returns-in_err-n g c =
+pub returns-in_err-ino : goal.returns-in_err-ino
+returns-in_err-ino g c =
     let x = c.in_ok-walked.ensures in
     let is = is_new_name c.in_ok-walked.walked.found (sym c.in_ok-check_new.ensures) in
     made_refused asked (mkdir_by_path c.args.path.now c.args.mode c.check_mode-checks.result c.check_mode-checks.ensures) x.same x.walked is.1 (g.S.Sectors.state c.make_directory.new.s)
-    _ _ c.from_residual-in_err-n.ensures c.in_err-n.ensures.store is.0 c.in_err-n.ensures.each
+    _ _ c.from_residual-in_err-ino.ensures c.in_err-ino.ensures.store is.0 c.in_err-ino.ensures.each
 
 pub touch-requires : goal.touch-requires
 touch-requires g c =
@@ -47,15 +47,15 @@ touch-requires g c =
     let q = c.in_ok-walked.walked.process.now in
     let last = g.S.Sectors.state c.make_directory.new.s in
     made_may_touch asked (mkdir_by_path c.args.path.now c.args.mode c.check_mode-checks.result c.check_mode-checks.ensures) x.same x.walked (is_new_name f (sym c.in_ok-check_new.ensures)).1
-    last c.in_ok-n.n (λ (t : Tree). born_directory q.cred q.umask c.args.mode (the_node t f.dir)) c.in_ok-n.ensures.each
-    (λ s has at. directory_changes at q f has x.walked.bytes (sym c.in_ok-check_new.ensures) c.args.mode last.sectors c.in_ok-n.n)
-    c.in_ok-n.ensures.store 7 (omega arith) c.in_ok-n.ensures.taken
+    last c.in_ok-ino.ino (λ (t : Tree). born_directory q.cred q.umask c.args.mode (the_node t f.dir_ino)) c.in_ok-ino.ensures.each
+    (λ s has at. directory_changes at q f has x.walked.bytes (sym c.in_ok-check_new.ensures) c.args.mode last.sectors c.in_ok-ino.ino)
+    c.in_ok-ino.ensures.store 7 (omega arith) c.in_ok-ino.ensures.taken
 
 pub returns-in_err-touch : goal.returns-in_err-touch
 returns-in_err-touch g c =
     let x = c.in_ok-walked.ensures in
     broken_later (mkdir_by_path c.args.path.now c.args.mode c.check_mode-checks.result c.check_mode-checks.ensures) x.same x.walked (g.S.Sectors.state c.touch.new.s) _ _ c.from_residual-in_err-touch.ensures
-    c.in_ok-n.ensures.store c.in_err-touch.ensures.store c.in_err-touch.ensures.fault
+    c.in_ok-ino.ensures.store c.in_err-touch.ensures.store c.in_err-touch.ensures.fault
 
 pub returns : goal.returns
 returns g c =
@@ -64,6 +64,6 @@ returns g c =
     let q = c.in_ok-walked.walked.process.now in
     let last = g.S.Sectors.state c.make_directory.new.s in
     made_done asked (mkdir_by_path c.args.path.now c.args.mode c.check_mode-checks.result c.check_mode-checks.ensures) x.same x.walked (is_new_name f (sym c.in_ok-check_new.ensures)).1
-    last c.in_ok-n.n (λ (t : Tree). born_directory q.cred q.umask c.args.mode (the_node t f.dir)) c.in_ok-n.ensures.each
-    (λ s has at. directory_changes at q f has x.walked.bytes (sym c.in_ok-check_new.ensures) c.args.mode last.sectors c.in_ok-n.n)
-    c.in_ok-n.ensures.store c.in_ok-touch.ensures.moved
+    last c.in_ok-ino.ino (λ (t : Tree). born_directory q.cred q.umask c.args.mode (the_node t f.dir_ino)) c.in_ok-ino.ensures.each
+    (λ s has at. directory_changes at q f has x.walked.bytes (sym c.in_ok-check_new.ensures) c.args.mode last.sectors c.in_ok-ino.ino)
+    c.in_ok-ino.ensures.store c.in_ok-touch.ensures.moved

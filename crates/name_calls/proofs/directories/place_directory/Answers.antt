@@ -12,10 +12,10 @@ use Rattle.name_calls.proofs.directories.place_directory.Goals as goal
 
 pub new_inode-requires-clause-fits : goal.new_inode-requires-clause-fits
 new_inode-requires-clause-fits g c =
-    let small_dir = c.ranges.dir.fits in
+    let small_dir = c.ranges.dir_ino.fits in
     let small_uid = c.ranges.uid.fits in
     let small_gid = c.ranges.gid.fits in
-    directory_fits c.args.dir c.args.uid c.args.gid c.args.bits (omega (arith, small_dir)) (omega (arith, small_uid)) (omega (arith, small_gid)) c.requires.bits
+    directory_fits c.args.dir_ino c.args.uid c.args.gid c.args.bits (omega (arith, small_dir)) (omega (arith, small_uid)) (omega (arith, small_gid)) c.requires.bits
 
 pub returns-in_default-clause-err : goal.returns-in_default-clause-err
 returns-in_default-clause-err g c =
@@ -31,7 +31,7 @@ pub name_inode-requires-clause-inode : goal.name_inode-requires-clause-inode
 name_inode-requires-clause-inode g c =
     let can = c.requires.may.1 in
     let e = c.in-Ok.ensures in
-    c.requires.directory ∙ sym (dir_kept can.holds can.directory c.in-Ok.n e.free e.touches.inode)
+    c.requires.directory ∙ sym (dir_kept can.holds can.directory c.in-Ok.ino e.free e.touches.inode)
 
 pub name_inode-requires-clause-room : goal.name_inode-requires-clause-room
 name_inode-requires-clause-room g c =
@@ -40,8 +40,8 @@ name_inode-requires-clause-room g c =
     let default = option_copied c.args.default in
     let few = acls_few c.args.access.now default in
     let left = e.touches.free in
-    room_then c.requires.may.1 mid.sectors c.in-Ok.n (record { node = directory_made c.args.uid c.args.gid c.args.bits c.args.access.now default; names = 1; parent = c.args.dir })
-    (directory_taken e.free e.touches e.used c.args.dir c.args.uid c.args.gid c.args.bits c.requires.bits c.args.access.now default e.fields e.empty e.access e.default)
+    room_then c.requires.may.1 mid.sectors c.in-Ok.ino (record { node = directory_made c.args.uid c.args.gid c.args.bits c.args.access.now default; names = 1; parent = c.args.dir_ino })
+    (directory_taken e.free e.touches e.used c.args.dir_ino c.args.uid c.args.gid c.args.bits c.requires.bits c.args.access.now default e.fields e.empty e.access e.default)
     (omega (arith, few, left))
 
 pub returns-in_err-name_inode-clause-store : goal.returns-in_err-name_inode-clause-store
@@ -60,7 +60,7 @@ returns-clause-made g c =
     let default = option_copied c.args.default in
     record {
       mid = (g.S.Sectors.state c.new_inode.new.s).sectors;
-      takes = directory_taken e.free e.touches e.used c.args.dir c.args.uid c.args.gid c.args.bits c.requires.bits c.args.access.now default e.fields e.empty e.access e.default;
+      takes = directory_taken e.free e.touches e.used c.args.dir_ino c.args.uid c.args.gid c.args.bits c.requires.bits c.args.access.now default e.fields e.empty e.access e.default;
       names = c.in_ok-name_inode.ensures.named;
     }
 

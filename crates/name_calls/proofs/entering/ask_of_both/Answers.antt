@@ -13,8 +13,8 @@ type_at-requires-2 g c = sound_kept c.in_ok-first.ensures.same c.requires
 pub returns-clause-each : goal.returns-clause-each
 returns-clause-each g c = λ t h.
     let held = kept (λ m. HoldsTree c.args.geometry m t) c.in_ok-first.ensures.same h in
-    asked_of_both (g.S.Sectors.state c.args.s.now).disk (g.S.Sectors.state c.type_at-2.new.s).disk t c.args.directory c.args.second
+    asked_of_both (g.S.Sectors.state c.args.s.now).disk (g.S.Sectors.state c.type_at-2.new.s).disk t c.args.dir_ino c.args.second_ino
     c.both_directories.result
     (c.both_directories.ensures
     ∙ ap (λ (o : Option FileType). both_directories o c.in_ok-other.other) (c.in_ok-first.ensures.found t h)
-    ∙ ap (λ (o : Option FileType). both_directories (type_in t c.args.directory) o) (c.in_ok-other.ensures.found t held))
+    ∙ ap (λ (o : Option FileType). both_directories (type_in t c.args.dir_ino) o) (c.in_ok-other.ensures.found t held))

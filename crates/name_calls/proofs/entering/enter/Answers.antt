@@ -19,7 +19,7 @@ returns-in_err-ask_of_both g c =
     let asked = c.in_err-ask_of_both.ensures in
     not_put c.from_residual-in_err-ask_of_both.result e r.0 r.1 asked.same
     (λ s at.
-    entering_refused at c.args.pid c.in_ok-process.field-0.now c.in_ok-process.ensures.found c.args.directory c.args.second old.disk new.disk e
+    entering_refused at c.args.pid c.in_ok-process.field-0.now c.in_ok-process.ensures.found c.args.dir_ino c.args.second_ino old.disk new.disk e
     (asked.each s.tree (state_tree at)))
 
 pub returns : goal.returns
@@ -27,6 +27,6 @@ returns g c = record {
   same = c.in_ok-ask_of_both.ensures.same;
   table = tt;
   each = λ s at.
-      entered at c.args.pid c.in_ok-process.field-0.now c.in_ok-process.ensures.found c.args.directory c.args.second c.stand_at.new.self
+      entered at c.args.pid c.in_ok-process.field-0.now c.in_ok-process.ensures.found c.args.dir_ino c.args.second_ino c.stand_at.new.self
       c.stand_at.ensures.set (c.in_ok-ask_of_both.ensures.each s.tree (state_tree at));
 }

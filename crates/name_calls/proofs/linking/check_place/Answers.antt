@@ -19,7 +19,7 @@ returns-in_err-directory-clause-each g c = λ t h d.
     let f = c.args.found.now in
     let old = g.S.Sectors.state c.args.s.now in
     passed old.disk (g.S.Sectors.state c.ask_directory.new.s).disk _ _ _ c.from_residual.ensures
-    (place_denied c.args.caller.now.geometry old.sectors c.args.process.now.cred t f.dir (f.step - 1) c.args.names) _ (c.in_err-directory.ensures.each t h d)
+    (place_denied c.args.caller.now.geometry old.sectors c.args.process.now.cred t f.dir_ino (f.step - 1) c.args.names) _ (c.in_err-directory.ensures.each t h d)
 
 pub returns-in_err-check_count-clause-each : goal.returns-in_err-check_count-clause-each
 returns-in_err-check_count-clause-each g c = λ t h d.
@@ -27,7 +27,7 @@ returns-in_err-check_count-clause-each g c = λ t h d.
     let old = g.S.Sectors.state c.args.s.now in
     let granted = (met_ok _ _ _ (c.in_ok-directory.ensures.each t h d)).0 in
     refused_by old.disk (g.S.Sectors.state c.ask_directory.new.s).disk _ _ _ c.from_residual-in_err-check_count.ensures
-    (place_many c.args.caller.now.geometry old.sectors c.args.process.now.cred t f.dir (f.step - 1) c.args.names granted) (sym c.in_err-check_count.ensures)
+    (place_many c.args.caller.now.geometry old.sectors c.args.process.now.cred t f.dir_ino (f.step - 1) c.args.names granted) (sym c.in_err-check_count.ensures)
 
 pub ask_for_name-requires : goal.ask_for_name-requires
 ask_for_name-requires g c = (sound_kept c.in_ok-directory.ensures.same c.requires.sound).bitmaps
@@ -41,9 +41,9 @@ returns-in_err-ask_for_name-clause-each g c = λ t h d.
     let same = c.in_ok-directory.ensures.same in
     let both = met_ok _ _ _ (c.in_ok-directory.ensures.each t h d) in
     passed_later (g.S.Sectors.state c.ask_for_name.new.s).disk _ _ _ c.from_residual-in_err-ask_for_name.ensures same
-    (kept (λ (m : SectorMap). Refuses (first_of (room_asked p m t f.dir)) (first_of (place_asked p old.sectors cred t f.dir (f.step - 1) c.args.names))) same
-    (place_full p old.sectors cred t f.dir (f.step - 1) c.args.names both.0 (sym c.in_ok-check_count.ensures))) tt
-    (c.in_err-ask_for_name.ensures.each t f.dir (tree_kept same h) d (kept (λ (m : SectorMap). c.in_ok-directory.directory ≡ inode_at p m f.dir) same (sym both.1)))
+    (kept (λ (m : SectorMap). Refuses (first_of (room_asked p m t f.dir_ino)) (first_of (place_asked p old.sectors cred t f.dir_ino (f.step - 1) c.args.names))) same
+    (place_full p old.sectors cred t f.dir_ino (f.step - 1) c.args.names both.0 (sym c.in_ok-check_count.ensures))) tt
+    (c.in_err-ask_for_name.ensures.each t f.dir_ino (tree_kept same h) d (kept (λ (m : SectorMap). c.in_ok-directory.directory ≡ inode_at p m f.dir_ino) same (sym both.1)))
 
 pub returns-clause-each : goal.returns-clause-each
 returns-clause-each g c = λ t h d.
@@ -52,7 +52,7 @@ returns-clause-each g c = λ t h d.
     let same = c.in_ok-directory.ensures.same in
     let both = met_ok _ _ _ (c.in_ok-directory.ensures.each t h d) in
     answered_ok
-    (place_met p (g.S.Sectors.state c.args.s.now).sectors c.args.process.now.cred t f.dir (f.step - 1) c.args.names both.0 (sym c.in_ok-check_count.ensures)
-    (kept_back (λ (m : SectorMap). checked (first_of (room_asked p m t f.dir)) ≡ Ok tt) same
-    (c.in_ok-ask_for_name.ensures.each t f.dir (tree_kept same h) d (kept (λ (m : SectorMap). c.in_ok-directory.directory ≡ inode_at p m f.dir) same (sym both.1)))))
+    (place_met p (g.S.Sectors.state c.args.s.now).sectors c.args.process.now.cred t f.dir_ino (f.step - 1) c.args.names both.0 (sym c.in_ok-check_count.ensures)
+    (kept_back (λ (m : SectorMap). checked (first_of (room_asked p m t f.dir_ino)) ≡ Ok tt) same
+    (c.in_ok-ask_for_name.ensures.each t f.dir_ino (tree_kept same h) d (kept (λ (m : SectorMap). c.in_ok-directory.directory ≡ inode_at p m f.dir_ino) same (sym both.1)))))
     both.1

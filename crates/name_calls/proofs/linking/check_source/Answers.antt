@@ -14,20 +14,20 @@ returns-in_err-check_last-clause-each g c = λ t h there.
 pub inode_found-requires-clause-below : goal.inode_found-requires-clause-below
 inode_found-requires-clause-below g c = λ n some. let x = c.requires.there in number_below x.1 n (x.2 n some)
 
-pub returns-in_err-n-clause-each : goal.returns-in_err-n-clause-each
-returns-in_err-n-clause-each g c = λ t h there.
-    passed (g.S.Sectors.state c.args.s.now).disk (g.S.Sectors.state c.inode_found.new.s).disk _ _ _ c.from_residual-in_err-n.ensures
-    (source_absent t c.args.found.now (sym c.in_ok-check_last.ensures)) _ c.in_err-n.ensures.each
+pub returns-in_err-ino-clause-each : goal.returns-in_err-ino-clause-each
+returns-in_err-ino-clause-each g c = λ t h there.
+    passed (g.S.Sectors.state c.args.s.now).disk (g.S.Sectors.state c.inode_found.new.s).disk _ _ _ c.from_residual-in_err-ino.ensures
+    (source_absent t c.args.found.now (sym c.in_ok-check_last.ensures)) _ c.in_err-ino.ensures.each
 
 pub returns-in_err-check_kind-clause-each : goal.returns-in_err-check_kind-clause-each
 returns-in_err-check_kind-clause-each g c = λ t h there.
     let old = g.S.Sectors.state c.args.s.now in
-    let i = is_inode c.args.geometry old.sectors c.args.found.now c.in_ok-n.n c.in_ok-n.inode c.in_ok-n.ensures.each in
+    let i = is_inode c.args.geometry old.sectors c.args.found.now c.in_ok-ino.ino c.in_ok-ino.inode c.in_ok-ino.ensures.each in
     refused_by old.disk (g.S.Sectors.state c.inode_found.new.s).disk _ _ _ c.from_residual-in_err-check_kind.ensures
     (source_other t c.args.found.now (sym c.in_ok-check_last.ensures) i (node_found h i there)) (sym c.in_err-check_kind.ensures)
 
 pub returns-clause-each : goal.returns-clause-each
 returns-clause-each g c = λ t h there.
     let f = c.args.found.now in
-    let i = is_inode c.args.geometry (g.S.Sectors.state c.args.s.now).sectors f c.in_ok-n.n c.in_ok-n.inode c.in_ok-n.ensures.each in
-    answered_ok (source_all_met t f (sym c.in_ok-check_last.ensures) i (node_found h i there) (sym c.in_ok-check_kind.ensures)) (met_ok _ _ _ c.in_ok-n.ensures.each).1
+    let i = is_inode c.args.geometry (g.S.Sectors.state c.args.s.now).sectors f c.in_ok-ino.ino c.in_ok-ino.inode c.in_ok-ino.ensures.each in
+    answered_ok (source_all_met t f (sym c.in_ok-check_last.ensures) i (node_found h i there) (sym c.in_ok-check_kind.ensures)) (met_ok _ _ _ c.in_ok-ino.ensures.each).1

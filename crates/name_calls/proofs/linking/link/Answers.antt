@@ -32,39 +32,39 @@ pub returns-in_err-add_name : goal.returns-in_err-add_name
 returns-in_err-add_name g c =
     let x = c.in_ok-walked.ensures in
     both_broken (link_by_two c.args.old.now c.args.new.now) x.same x.walked (g.S.Sectors.state c.add_name.new.s) _ _ c.from_residual-in_err-add_name.ensures
-    c.in_ok-n.ensures.same c.in_err-add_name.ensures.store c.in_err-add_name.ensures.fault
+    c.in_ok-ino.ensures.same c.in_err-add_name.ensures.store c.in_err-add_name.ensures.fault
 
 pub add_name-requires : goal.add_name-requires
 add_name-requires g c =
-    let same = c.in_ok-n.ensures.same in
+    let same = c.in_ok-ino.ensures.same in
     let w = c.in_ok-walked.ensures.walked in
     let ready = w.ready in
     let h = c.in_ok-walked.walked.second in
     let p = c.args.caller.now.geometry in
     let mid = g.S.Sectors.state c.walk_both.new.s in
     let finds = finds_each w ready.state ready.is_state in
-    let told = link_told ready.state (c.in_ok-n.ensures.each c.args.caller.now.procs.now ready.state finds) in
+    let told = link_told ready.state (c.in_ok-ino.ensures.each c.args.caller.now.procs.now ready.state finds) in
     record {
       sound = sound_kept same ready.sound;
-      inode = kept (λ (m : SectorMap). c.in_ok-n.inode ≡ inode_at p m c.in_ok-n.n) same told.inode.inode;
+      inode = kept (λ (m : SectorMap). c.in_ok-ino.inode ≡ inode_at p m c.in_ok-ino.ino) same told.inode.inode;
       few = few_names finds told;
-      directory = kept (λ (m : SectorMap). c.in_ok-n.directory ≡ inode_at p m h.dir) same told.directory;
+      directory = kept (λ (m : SectorMap). c.in_ok-ino.directory ≡ inode_at p m h.dir_ino) same told.directory;
       may = (
         c.args.caller.now.procs.now,
         ready.state,
         state_kept same ready.is_state,
-        kept (λ (m : SectorMap). MayLink p m ready.state.tree h.dir c.bytes-name.result.now c.in_ok-n.n) same
-            (subst (λ (name : List ℕ). MayLink p mid.sectors ready.state.tree h.dir name c.in_ok-n.n) (sym c.bytes-name.ensures.all) (link_may finds told)),
+        kept (λ (m : SectorMap). MayLink p m ready.state.tree h.dir_ino c.bytes-name.result.now c.in_ok-ino.ino) same
+            (subst (λ (name : List ℕ). MayLink p mid.sectors ready.state.tree h.dir_ino name c.in_ok-ino.ino) (sym c.bytes-name.ensures.all) (link_may finds told)),
       );
       spare = spare_unchanged p 47 mid (g.S.Sectors.state c.check_link.new.s) ready.spare same;
     }
 
-pub returns-in_err-n : goal.returns-in_err-n
-returns-in_err-n g c =
-    let r = c.from_residual-in_err-n.ensures in
+pub returns-in_err-ino : goal.returns-in_err-ino
+returns-in_err-ino g c =
+    let r = c.from_residual-in_err-ino.ensures in
     let x = c.in_ok-walked.ensures in
-    both_refused (link_by_two c.args.old.now c.args.new.now) x.same x.walked (g.S.Sectors.state c.check_link.new.s) _ _ r.0 r.1 c.in_err-n.ensures.same.store _
-    (λ s has at. c.in_err-n.ensures.each c.args.caller.now.procs.now s (finds_each x.walked s at))
+    both_refused (link_by_two c.args.old.now c.args.new.now) x.same x.walked (g.S.Sectors.state c.check_link.new.s) _ _ r.0 r.1 c.in_err-ino.ensures.same.store _
+    (λ s has at. c.in_err-ino.ensures.each c.args.caller.now.procs.now s (finds_each x.walked s at))
 
 pub touch-requires : goal.touch-requires
 touch-requires g c =
@@ -74,18 +74,18 @@ touch-requires g c =
     let h = c.in_ok-walked.walked.second in
     let mid = g.S.Sectors.state c.walk_both.new.s in
     let new = g.S.Sectors.state c.add_name.new.s in
-    let same = c.in_ok-n.ensures.same in
+    let same = c.in_ok-ino.ensures.same in
     let added = c.in_ok-add_name.ensures in
     let s = w.ready.state in
     let at = w.ready.is_state in
     let finds = finds_each w s at in
-    let told = link_told s (c.in_ok-n.ensures.each c.args.caller.now.procs.now s finds) in
+    let told = link_told s (c.in_ok-ino.ensures.each c.args.caller.now.procs.now s finds) in
     let linked = link_may finds told in
-    let may = kept (λ (m : SectorMap). MayLink p m s.tree h.dir c.bytes-name.result.now c.in_ok-n.n) same
-    (subst (λ (name : List ℕ). MayLink p mid.sectors s.tree h.dir name c.in_ok-n.n) (sym c.bytes-name.ensures.all) linked) in
+    let may = kept (λ (m : SectorMap). MayLink p m s.tree h.dir_ino c.bytes-name.result.now c.in_ok-ino.ino) same
+    (subst (λ (name : List ℕ). MayLink p mid.sectors s.tree h.dir_ino name c.in_ok-ino.ino) (sym c.bytes-name.ensures.all) linked) in
     may_touch {now = c.args.caller.now.procs.now} w.ready (store_joined same.store added.store)
-    (link_changes s c.in_ok-walked.walked.process.now f h c.in_ok-n.n told.inode.number told.met
-    (subst (λ (name : List ℕ). HoldsAll p new.sectors (placed (swept (changed s.tree (AddName h.dir name c.in_ok-n.n)) c.args.caller.now.procs.now))) c.bytes-name.ensures.all
+    (link_changes s c.in_ok-walked.walked.process.now f h c.in_ok-ino.ino told.inode.number told.met
+    (subst (λ (name : List ℕ). HoldsAll p new.sectors (placed (swept (changed s.tree (AddName h.dir_ino name c.in_ok-ino.ino)) c.args.caller.now.procs.now))) c.bytes-name.ensures.all
     (added.added c.args.caller.now.procs.now s (state_kept same at) may)))
     (dir_below mid at linked, (target_below mid at linked, tt)) 5 (taken_after p 5 new same added.room) (omega arith)
 
@@ -93,7 +93,7 @@ pub returns-in_err-touch : goal.returns-in_err-touch
 returns-in_err-touch g c =
     let x = c.in_ok-walked.ensures in
     both_broken_later (link_by_two c.args.old.now c.args.new.now) x.same x.walked (g.S.Sectors.state c.touch.new.s) _ _ c.from_residual-in_err-touch.ensures
-    (store_joined c.in_ok-n.ensures.same.store c.in_ok-add_name.ensures.store) c.in_err-touch.ensures.store c.in_err-touch.ensures.fault
+    (store_joined c.in_ok-ino.ensures.same.store c.in_ok-add_name.ensures.store) c.in_err-touch.ensures.store c.in_err-touch.ensures.fault
 
 pub returns : goal.returns
 returns g c =
@@ -103,14 +103,14 @@ returns g c =
     let h = c.in_ok-walked.walked.second in
     let mid = (g.S.Sectors.state c.walk_both.new.s).sectors in
     let new = g.S.Sectors.state c.add_name.new.s in
-    let same = c.in_ok-n.ensures.same in
+    let same = c.in_ok-ino.ensures.same in
     let added = c.in_ok-add_name.ensures in
     both_performs (link_by_two c.args.old.now c.args.new.now) x.same x.walked new (store_joined same.store added.store) (added.superblock ∙ same.sectors 0) c.in_ok-touch.ensures.moved Done
     (λ s has at.
     let finds = finds_each x.walked s at in
-    let told = link_told s (c.in_ok-n.ensures.each c.args.caller.now.procs.now s finds) in
-    let may = kept (λ (m : SectorMap). MayLink p m s.tree h.dir c.bytes-name.result.now c.in_ok-n.n) same
-    (subst (λ (name : List ℕ). MayLink p mid s.tree h.dir name c.in_ok-n.n) (sym c.bytes-name.ensures.all) (link_may finds told)) in
-    link_changes s c.in_ok-walked.walked.process.now f h c.in_ok-n.n told.inode.number told.met
-    (subst (λ (name : List ℕ). HoldsAll p new.sectors (placed (swept (changed s.tree (AddName h.dir name c.in_ok-n.n)) c.args.caller.now.procs.now))) c.bytes-name.ensures.all
+    let told = link_told s (c.in_ok-ino.ensures.each c.args.caller.now.procs.now s finds) in
+    let may = kept (λ (m : SectorMap). MayLink p m s.tree h.dir_ino c.bytes-name.result.now c.in_ok-ino.ino) same
+    (subst (λ (name : List ℕ). MayLink p mid s.tree h.dir_ino name c.in_ok-ino.ino) (sym c.bytes-name.ensures.all) (link_may finds told)) in
+    link_changes s c.in_ok-walked.walked.process.now f h c.in_ok-ino.ino told.inode.number told.met
+    (subst (λ (name : List ℕ). HoldsAll p new.sectors (placed (swept (changed s.tree (AddName h.dir_ino name c.in_ok-ino.ino)) c.args.caller.now.procs.now))) c.bytes-name.ensures.all
     (added.added c.args.caller.now.procs.now s (state_kept same at) may)))

@@ -22,19 +22,19 @@ place_link-requires g c =
     record {
       target = subst IsTarget (sym c.bytes-bytes.ensures.all) c.requires.target;
       sound = sound_kept same c.requires.sound;
-      directory = kept (λ (m : SectorMap). c.in_ok-directory.directory ≡ inode_at c.args.caller.now.geometry m f.dir) same met.1;
+      directory = kept (λ (m : SectorMap). c.in_ok-directory.directory ≡ inode_at c.args.caller.now.geometry m f.dir_ino) same met.1;
       may = may_then c.args.caller.now.geometry x.1 f x.2 same c.bytes-name.result.now c.bytes-name.ensures.all c.args.walked.now.process.now.cred met.0;
       spare = spare_unchanged c.args.caller.now.geometry 47 (g.S.Sectors.state c.args.s.now) (g.S.Sectors.state c.check_make.new.s) c.requires.spare same;
     }
 
-pub returns-in_err-n-clause-store : goal.returns-in_err-n-clause-store
-returns-in_err-n-clause-store g c = store_joined c.in_ok-directory.ensures.same.store c.in_err-n.ensures.store
+pub returns-in_err-ino-clause-store : goal.returns-in_err-ino-clause-store
+returns-in_err-ino-clause-store g c = store_joined c.in_ok-directory.ensures.same.store c.in_err-ino.ensures.store
 
-pub returns-in_err-n-clause-each : goal.returns-in_err-n-clause-each
-returns-in_err-n-clause-each g c = λ t h i.
+pub returns-in_err-ino-clause-each : goal.returns-in_err-ino-clause-each
+returns-in_err-ino-clause-each g c = λ t h i.
     let new = g.S.Sectors.state c.place_link.new.s in
-    not_made c.args.caller.now.geometry (g.S.Sectors.state c.args.s.now) new c.args.walked.now.process.now.cred t c.args.walked.now.found _ _ _ c.from_residual-in_err-n.ensures
-    (inr (interrupts_later new.disk c.in_ok-directory.ensures.same (inr c.in_err-n.ensures.err)))
+    not_made c.args.caller.now.geometry (g.S.Sectors.state c.args.s.now) new c.args.walked.now.process.now.cred t c.args.walked.now.found _ _ _ c.from_residual-in_err-ino.ensures
+    (inr (interrupts_later new.disk c.in_ok-directory.ensures.same (inr c.in_err-ino.ensures.err)))
 
 pub returns-in_err-directory-clause-each : goal.returns-in_err-directory-clause-each
 returns-in_err-directory-clause-each g c = λ t h i.
@@ -42,7 +42,7 @@ returns-in_err-directory-clause-each g c = λ t h i.
     _ _ c.from_residual.ensures _ (c.in_err-directory.ensures.each t h i.directory)
 
 pub returns-clause-store : goal.returns-clause-store
-returns-clause-store g c = store_joined c.in_ok-directory.ensures.same.store c.in_ok-n.ensures.store
+returns-clause-store g c = store_joined c.in_ok-directory.ensures.same.store c.in_ok-ino.ensures.store
 
 pub returns-clause-each : goal.returns-clause-each
 returns-clause-each g c = λ t h i.
@@ -51,9 +51,9 @@ returns-clause-each g c = λ t h i.
       met.0,
       link_placed c.args.caller.now.geometry h f i c.in_ok-directory.ensures.same c.bytes-name.result.now c.bytes-name.ensures.all c.in_ok-directory.directory met.1
           c.args.walked.now.process.now.cred c.cred-cred.result.now c.args.target.now c.bytes-bytes.result.now c.cred-cred.ensures c.bytes-bytes.ensures.all
-          (g.S.Sectors.state c.place_link.new.s).sectors c.in_ok-n.n c.in_ok-n.ensures.made,
+          (g.S.Sectors.state c.place_link.new.s).sectors c.in_ok-ino.ino c.in_ok-ino.ensures.made,
     )
 
 pub returns-clause-taken : goal.returns-clause-taken
 returns-clause-taken g c =
-    taken_after c.args.caller.now.geometry 7 (g.S.Sectors.state c.place_link.new.s) c.in_ok-directory.ensures.same c.in_ok-n.ensures.taken
+    taken_after c.args.caller.now.geometry 7 (g.S.Sectors.state c.place_link.new.s) c.in_ok-directory.ensures.same c.in_ok-ino.ensures.taken

@@ -25,8 +25,8 @@ name_inode-requires-clause-room g c =
     let mid = g.S.Sectors.state c.new_link.new.s in
     let e = c.in-Ok.ensures in
     let left = e.touches.free in
-    room_then c.requires.may.1 mid.sectors c.in-Ok.n (record { node = link_made c.args.directory c.args.cred.now c.args.target.now; names = 1; parent = c.args.dir })
-    (link_taken e.free e.touches e.used c.args.dir c.uid-uid.result c.new_group-gid.result c.args.directory c.args.cred.now c.args.target.now c.uid-uid.ensures c.new_group-gid.ensures
+    room_then c.requires.may.1 mid.sectors c.in-Ok.ino (record { node = link_made c.args.directory c.args.cred.now c.args.target.now; names = 1; parent = c.args.dir_ino })
+    (link_taken e.free e.touches e.used c.args.dir_ino c.uid-uid.result c.new_group-gid.result c.args.directory c.args.cred.now c.args.target.now c.uid-uid.ensures c.new_group-gid.ensures
     e.fields e.acls e.holds e.whole) (omega (arith, left))
 
 pub returns-clause-store : goal.returns-clause-store
@@ -36,7 +36,7 @@ pub name_inode-requires-clause-inode : goal.name_inode-requires-clause-inode
 name_inode-requires-clause-inode g c =
     let can = c.requires.may.1 in
     let e = c.in-Ok.ensures in
-    c.requires.directory ∙ sym (dir_kept can.holds can.directory c.in-Ok.n e.free e.touches.inode)
+    c.requires.directory ∙ sym (dir_kept can.holds can.directory c.in-Ok.ino e.free e.touches.inode)
 
 pub returns-in_err-name_inode-clause-err : goal.returns-in_err-name_inode-clause-err
 returns-in_err-name_inode-clause-err g c =
@@ -47,7 +47,7 @@ returns-clause-made g c =
     let e = c.in-Ok.ensures in
     record {
       mid = (g.S.Sectors.state c.new_link.new.s).sectors;
-      takes = link_taken e.free e.touches e.used c.args.dir c.uid-uid.result c.new_group-gid.result c.args.directory c.args.cred.now c.args.target.now c.uid-uid.ensures c.new_group-gid.ensures
+      takes = link_taken e.free e.touches e.used c.args.dir_ino c.uid-uid.result c.new_group-gid.result c.args.directory c.args.cred.now c.args.target.now c.uid-uid.ensures c.new_group-gid.ensures
           e.fields e.acls e.holds e.whole;
       names = c.in_ok-name_inode.ensures.named;
     }

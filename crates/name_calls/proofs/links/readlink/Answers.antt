@@ -24,7 +24,7 @@ returns-in_err-check_link-clause-performs g c =
     let mid = g.S.Sectors.state c.reach.new.s in
     let e = c.in_err-check_link.field-0.0 in
     asked_refused (readlink_by_path c.args.path.now) x.same x.reached.walked mid c.from_residual-in_err-check_link.result e r.0 r.1 store_same {A = ℕ} 0
-    (λ s has at. other_kind_refused (state_tree at) v.found v.number v.inode x.reached.inode (reached_there x.reached s at) {A = ℕ} 0 e mid.disk mid.disk
+    (λ s has at. other_kind_refused (state_tree at) v.found v.ino v.inode x.reached.inode (reached_there x.reached s at) {A = ℕ} 0 e mid.disk mid.disk
     (sym c.in_err-check_link.ensures))
 
 pub read_target-requires : goal.read_target-requires
@@ -56,9 +56,9 @@ returns-clause-performs g c =
     (λ s has at.
     let i = x.reached.inode in
     let there = reached_there x.reached s at in
-    let right = target_of (state_tree at) v.found v.number v.inode i there in
-    let answer = target_told (state_tree at) v.found v.number v.inode i there is target
-    (same_ok right target (c.in_ok-target.ensures.each right (target_holds (state_tree at) v.found v.number v.inode i there is))) in
+    let right = target_of (state_tree at) v.found v.ino v.inode i there in
+    let answer = target_told (state_tree at) v.found v.ino v.inode i there is target
+    (same_ok right target (c.in_ok-target.ensures.each right (target_holds (state_tree at) v.found v.ino v.inode i there is))) in
     (answer.0, ap (λ (y : List ℕ). answers (scene_at s v.process.now v.found) (Target y)) answer.1))
 
 pub returns-clause-same : goal.returns-clause-same

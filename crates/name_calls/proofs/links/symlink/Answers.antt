@@ -32,12 +32,12 @@ make_link-requires g c =
           (is_link_name c.in_ok-walked.walked.found (sym c.in_ok-check_link_name.ensures)).1;
     }
 
-pub returns-in_err-n : goal.returns-in_err-n
-returns-in_err-n g c =
+pub returns-in_err-ino : goal.returns-in_err-ino
+returns-in_err-ino g c =
     let x = c.in_ok-walked.ensures in
     let is = is_link_name c.in_ok-walked.walked.found (sym c.in_ok-check_link_name.ensures) in
     made_refused link_name_asked (symlink_by_path c.args.target.now c.args.path.now c.check_target-checks.result c.check_target-checks.ensures.answer) x.same x.walked is.1
-    (g.S.Sectors.state c.make_link.new.s) _ _ c.from_residual-in_err-n.ensures c.in_err-n.ensures.store is.0 c.in_err-n.ensures.each
+    (g.S.Sectors.state c.make_link.new.s) _ _ c.from_residual-in_err-ino.ensures c.in_err-ino.ensures.store is.0 c.in_err-ino.ensures.each
 
 pub touch-requires : goal.touch-requires
 touch-requires g c =
@@ -46,16 +46,16 @@ touch-requires g c =
     let q = c.in_ok-walked.walked.process.now in
     let last = g.S.Sectors.state c.make_link.new.s in
     made_may_touch link_name_asked (symlink_by_path c.args.target.now c.args.path.now c.check_target-checks.result c.check_target-checks.ensures.answer) x.same x.walked
-    (is_link_name f (sym c.in_ok-check_link_name.ensures)).1 last c.in_ok-n.n (λ (t : Tree). born_link q.cred c.args.target.now (the_node t f.dir)) c.in_ok-n.ensures.each
+    (is_link_name f (sym c.in_ok-check_link_name.ensures)).1 last c.in_ok-ino.ino (λ (t : Tree). born_link q.cred c.args.target.now (the_node t f.dir_ino)) c.in_ok-ino.ensures.each
     (λ s has at. link_changes at q f has x.walked.bytes (sym c.in_ok-check_link_name.ensures) c.args.target.now
-    (is_target c.args.target.now c.check_target-checks.result c.check_target-checks.ensures.answer x.walked.fine c.check_target-checks.ensures.bytes) last.sectors c.in_ok-n.n)
-    c.in_ok-n.ensures.store 7 (omega arith) c.in_ok-n.ensures.taken
+    (is_target c.args.target.now c.check_target-checks.result c.check_target-checks.ensures.answer x.walked.fine c.check_target-checks.ensures.bytes) last.sectors c.in_ok-ino.ino)
+    c.in_ok-ino.ensures.store 7 (omega arith) c.in_ok-ino.ensures.taken
 
 pub returns-in_err-touch : goal.returns-in_err-touch
 returns-in_err-touch g c =
     let x = c.in_ok-walked.ensures in
     broken_later (symlink_by_path c.args.target.now c.args.path.now c.check_target-checks.result c.check_target-checks.ensures.answer) x.same x.walked
-    (g.S.Sectors.state c.touch.new.s) _ _ c.from_residual-in_err-touch.ensures c.in_ok-n.ensures.store c.in_err-touch.ensures.store c.in_err-touch.ensures.fault
+    (g.S.Sectors.state c.touch.new.s) _ _ c.from_residual-in_err-touch.ensures c.in_ok-ino.ensures.store c.in_err-touch.ensures.store c.in_err-touch.ensures.fault
 
 pub returns : goal.returns
 returns g c =
@@ -64,7 +64,7 @@ returns g c =
     let q = c.in_ok-walked.walked.process.now in
     let last = g.S.Sectors.state c.make_link.new.s in
     made_done link_name_asked (symlink_by_path c.args.target.now c.args.path.now c.check_target-checks.result c.check_target-checks.ensures.answer) x.same x.walked
-    (is_link_name f (sym c.in_ok-check_link_name.ensures)).1 last c.in_ok-n.n (λ (t : Tree). born_link q.cred c.args.target.now (the_node t f.dir)) c.in_ok-n.ensures.each
+    (is_link_name f (sym c.in_ok-check_link_name.ensures)).1 last c.in_ok-ino.ino (λ (t : Tree). born_link q.cred c.args.target.now (the_node t f.dir_ino)) c.in_ok-ino.ensures.each
     (λ s has at. link_changes at q f has x.walked.bytes (sym c.in_ok-check_link_name.ensures) c.args.target.now
-    (is_target c.args.target.now c.check_target-checks.result c.check_target-checks.ensures.answer x.walked.fine c.check_target-checks.ensures.bytes) last.sectors c.in_ok-n.n)
-    c.in_ok-n.ensures.store c.in_ok-touch.ensures.moved
+    (is_target c.args.target.now c.check_target-checks.result c.check_target-checks.ensures.answer x.walked.fine c.check_target-checks.ensures.bytes) last.sectors c.in_ok-ino.ino)
+    c.in_ok-ino.ensures.store c.in_ok-touch.ensures.moved

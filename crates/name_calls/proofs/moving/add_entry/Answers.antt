@@ -15,11 +15,11 @@ name_inode-requires-clause-sound g c = sound_kept c.in_ok-directory.ensures.same
 
 pub name_inode-requires-clause-inode : goal.name_inode-requires-clause-inode
 name_inode-requires-clause-inode g c =
-    kept (λ (m : SectorMap). c.in_ok-directory.directory ≡ inode_at c.args.geometry m c.args.dir) c.in_ok-directory.ensures.same c.in_ok-directory.ensures.found
+    kept (λ (m : SectorMap). c.in_ok-directory.directory ≡ inode_at c.args.geometry m c.args.dir_ino) c.in_ok-directory.ensures.same c.in_ok-directory.ensures.found
 
 pub name_inode-requires-clause-room : goal.name_inode-requires-clause-room
 name_inode-requires-clause-room g c =
-    kept (λ (m : SectorMap). MayBeNamed c.args.geometry m c.args.dir c.args.name.now) c.in_ok-directory.ensures.same c.requires.room
+    kept (λ (m : SectorMap). MayBeNamed c.args.geometry m c.args.dir_ino c.args.name.now) c.in_ok-directory.ensures.same c.requires.room
 
 pub name_inode-requires-clause-spare : goal.name_inode-requires-clause-spare
 name_inode-requires-clause-spare g c =
@@ -39,5 +39,5 @@ returns-clause-taken g c = taken_after c.args.geometry 4 (g.S.Sectors.state c.na
 
 pub returns-clause-leads : goal.returns-clause-leads
 returns-clause-leads g c =
-    kept_back (λ (m : SectorMap). ChangesNames c.args.geometry c.args.dir (λ names. with_entry name_cmp names c.args.name.now c.args.n) m (g.S.Sectors.state c.name_inode.new.s).sectors)
+    kept_back (λ (m : SectorMap). ChangesNames c.args.geometry c.args.dir_ino (λ names. with_entry name_cmp names c.args.name.now c.args.ino) m (g.S.Sectors.state c.name_inode.new.s).sectors)
     c.in_ok-directory.ensures.same c.in_ok-name_inode.ensures.named

@@ -22,5 +22,5 @@ returns-in-Ok-clause-leads g c =
 
 pub returns-in-Err-clause-fault : goal.returns-in-Err-clause-fault
 returns-in-Err-clause-fault g c =
-    fails_to_change c.args.geometry c.args.dir c.args.name.now (g.S.Sectors.state c.replace.new.s).disk c.in-Err.field-0 c.requires.named c.in_ok-directory.ensures.same
+    fails_to_change c.args.geometry c.args.dir_ino c.args.name.now (g.S.Sectors.state c.replace.new.s).disk c.in-Err.field-0 c.requires.named c.in_ok-directory.ensures.same
     c.in_ok-directory.ensures.found c.in-Err.ensures.why c.in-Err.ensures.cause.failed

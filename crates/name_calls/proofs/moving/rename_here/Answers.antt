@@ -46,5 +46,5 @@ returns-in-Ok-clause-renames g c = λ names n has leads.
 
 pub returns-in-Err-clause-fault : goal.returns-in-Err-clause-fault
 returns-in-Err-clause-fault g c =
-    fails_to_change c.args.geometry c.args.dir c.args.name.now (g.S.Sectors.state c.rename.new.s).disk c.in-Err.field-0 (let named = c.requires.named in (named.0, named.1, named.2)) c.in_ok-directory.ensures.same
+    fails_to_change c.args.geometry c.args.dir_ino c.args.name.now (g.S.Sectors.state c.rename.new.s).disk c.in-Err.field-0 (let named = c.requires.named in (named.0, named.1, named.2)) c.in_ok-directory.ensures.same
     c.in_ok-directory.ensures.found c.in-Err.ensures.why c.in-Err.ensures.cause.failed

@@ -15,9 +15,9 @@ returns-in-NoDirectory c = λ version image b h.
     c.check_no_directory.ensures
     ∙ ap (λ (d : Bool). checked (refuse EISDIR d)) (body_kind_is version image c.args.inode.now b h)
     ∙ ap checked (sym (or_else-none (refuse EISDIR (is_directory b))))
-    ∙ ap (λ (w : Target). checked (first_of (kind_asked w b (is_in_use c.args.procs.now c.args.n)))) (sym c.in-NoDirectory.is)
+    ∙ ap (λ (w : Target). checked (first_of (kind_asked w b (is_in_use c.args.procs.now c.args.ino)))) (sym c.in-NoDirectory.is)
 
 pub returns-in-Directory : goal.returns-in-Directory
 returns-in-Directory c = λ version image b h.
     c.check_directory.ensures version image b h
-    ∙ ap (λ (w : Target). checked (first_of (kind_asked w b (is_in_use c.args.procs.now c.args.n)))) (sym c.in-Directory.is)
+    ∙ ap (λ (w : Target). checked (first_of (kind_asked w b (is_in_use c.args.procs.now c.args.ino)))) (sym c.in-Directory.is)

@@ -14,17 +14,17 @@ check_removal-requires-clause-there g c =
     let x = c.requires.found in
     (x.0.tree, state_tree x.1.is_state, name_told x.1 c.args.what (sym c.in_ok-check_last.ensures))
 
-pub returns-in_err-n-clause-each : goal.returns-in_err-n-clause-each
-returns-in_err-n-clause-each g c = λ st i.
+pub returns-in_err-ino-clause-each : goal.returns-in_err-ino-clause-each
+returns-in_err-ino-clause-each g c = λ st i.
     let first = sym c.in_ok-check_last.ensures in
-    passed (g.S.Sectors.state c.args.s.now).disk (g.S.Sectors.state c.check_removal.new.s).disk _ _ _ c.from_residual-in_err-n.ensures
-    (removal_refuses i c.args.what first) _ (c.in_err-n.ensures.each st.tree (state_tree i.is_state) (name_told i c.args.what first))
+    passed (g.S.Sectors.state c.args.s.now).disk (g.S.Sectors.state c.check_removal.new.s).disk _ _ _ c.from_residual-in_err-ino.ensures
+    (removal_refuses i c.args.what first) _ (c.in_err-ino.ensures.each st.tree (state_tree i.is_state) (name_told i c.args.what first))
 
 pub returns-in_err-check_kind-clause-each : goal.returns-in_err-check_kind-clause-each
 returns-in_err-check_kind-clause-each g c = λ st i.
     let old = g.S.Sectors.state c.args.s.now in
     let first = sym c.in_ok-check_last.ensures in
-    let told = c.in_ok-n.ensures.each st.tree (state_tree i.is_state) (name_told i c.args.what first) in
+    let told = c.in_ok-ino.ensures.each st.tree (state_tree i.is_state) (name_told i c.args.what first) in
     let k = inode_told i [] [] told in
     refused_by old.disk (g.S.Sectors.state c.check_removal.new.s).disk _ _ _ c.from_residual-in_err-check_kind.ensures
     (target_refuses i k c.args.what first (met_ok _ _ _ told).0) (sym (c.in_err-check_kind.ensures c.args.caller.now.geometry.version old.sectors _ (node_held i k)))
@@ -32,7 +32,7 @@ returns-in_err-check_kind-clause-each g c = λ st i.
 pub returns-clause-each : goal.returns-clause-each
 returns-clause-each g c = λ st i.
     let first = sym c.in_ok-check_last.ensures in
-    let told = c.in_ok-n.ensures.each st.tree (state_tree i.is_state) (name_told i c.args.what first) in
+    let told = c.in_ok-ino.ensures.each st.tree (state_tree i.is_state) (name_told i c.args.what first) in
     let k = inode_told i [] [] told in
     answered_ok (all_told i k c.args.what first (met_ok _ _ _ told).0 (sym (c.in_ok-check_kind.ensures c.args.caller.now.geometry.version (g.S.Sectors.state c.args.s.now).sectors _ (node_held i k))))
     (met_ok _ _ _ told).1

@@ -29,28 +29,28 @@ check_target-requires g c =
     let ready = w.ready in
     record { sound = ready.sound; found = (ready.state, finds_name w.bytes ready.is_state (w.found ready.state ready.is_state)) }
 
-pub returns-in_err-n : goal.returns-in_err-n
-returns-in_err-n g c =
-    let r = c.from_residual-in_err-n.ensures in
+pub returns-in_err-ino : goal.returns-in_err-ino
+returns-in_err-ino g c =
+    let r = c.from_residual-in_err-ino.ensures in
     let x = c.in_ok-walked.ensures in
-    asked_refused (removes_by_path c.args.what c.args.path.now) x.same x.walked (g.S.Sectors.state c.check_target.new.s) _ _ r.0 r.1 c.in_err-n.ensures.same.store _
-    (λ s has at. c.in_err-n.ensures.each s (finds_name x.walked.bytes at has))
+    asked_refused (removes_by_path c.args.what c.args.path.now) x.same x.walked (g.S.Sectors.state c.check_target.new.s) _ _ r.0 r.1 c.in_err-ino.ensures.same.store _
+    (λ s has at. c.in_err-ino.ensures.each s (finds_name x.walked.bytes at has))
 
 pub take_name-requires : goal.take_name-requires
 take_name-requires g c =
     let w = c.in_ok-walked.ensures.walked in
     let ready = w.ready in
-    let same = c.in_ok-n.ensures.same in
+    let same = c.in_ok-ino.ensures.same in
     let f = c.in_ok-walked.walked.found in
     let finds = finds_name w.bytes ready.is_state (w.found ready.state ready.is_state) in
-    let asked = c.in_ok-n.ensures.each ready.state finds in
+    let asked = c.in_ok-ino.ensures.each ready.state finds in
     record {
       sound = sound_kept same ready.sound;
-      inode = kept (λ (m : SectorMap). c.in_ok-n.inode ≡ inode_at c.args.caller.now.geometry m c.in_ok-n.n) same (target_found finds c.args.what asked).inode;
+      inode = kept (λ (m : SectorMap). c.in_ok-ino.inode ≡ inode_at c.args.caller.now.geometry m c.in_ok-ino.ino) same (target_found finds c.args.what asked).inode;
       may = (
         ready.state,
         state_kept same ready.is_state,
-        subst (λ (name : List ℕ). MayGo ready.state f.dir name c.in_ok-n.n) (sym c.bytes-name.ensures.all) (target_may finds c.args.what asked),
+        subst (λ (name : List ℕ). MayGo ready.state f.dir_ino name c.in_ok-ino.ino) (sym c.bytes-name.ensures.all) (target_may finds c.args.what asked),
       );
       spare = spare_unchanged c.args.caller.now.geometry 47 (g.S.Sectors.state c.walk_path.new.s) (g.S.Sectors.state c.check_target.new.s) ready.spare same;
     }
@@ -59,7 +59,7 @@ pub returns-in_err-take_name : goal.returns-in_err-take_name
 returns-in_err-take_name g c =
     let x = c.in_ok-walked.ensures in
     asked_broken (removes_by_path c.args.what c.args.path.now) x.same x.walked (g.S.Sectors.state c.take_name.new.s) _ _ c.from_residual-in_err-take_name.ensures
-    c.in_ok-n.ensures.same c.in_err-take_name.ensures.store c.in_err-take_name.ensures.fault
+    c.in_ok-ino.ensures.same c.in_err-take_name.ensures.store c.in_err-take_name.ensures.fault
 
 pub touch-requires : goal.touch-requires
 touch-requires g c =
@@ -69,24 +69,24 @@ touch-requires g c =
     let q = c.in_ok-walked.walked.process.now in
     let mid = g.S.Sectors.state c.walk_path.new.s in
     let new = g.S.Sectors.state c.take_name.new.s in
-    let same = c.in_ok-n.ensures.same in
+    let same = c.in_ok-ino.ensures.same in
     let taken = c.in_ok-take_name.ensures in
     let s = w.ready.state in
     let at = w.ready.is_state in
     let finds = finds_name w.bytes at (w.found s at) in
-    let asked = c.in_ok-n.ensures.each s finds in
+    let asked = c.in_ok-ino.ensures.each s finds in
     let may = target_may finds c.args.what asked in
     may_touch {now = c.args.caller.now.procs.now} w.ready (store_joined same.store taken.store)
-    (name_gone s q f c.in_ok-n.n (removal_demands c.args.what (scene_at s q f)) (target_met finds c.args.what asked) may
-    (subst (λ (name : List ℕ). HoldsAll p new.sectors (placed (swept (changed s.tree (TakeName f.dir name)) c.args.caller.now.procs.now))) c.bytes-name.ensures.all
-    (taken.taken s (state_kept same at) (subst (λ (name : List ℕ). MayGo s f.dir name c.in_ok-n.n) (sym c.bytes-name.ensures.all) may))))
+    (name_gone s q f c.in_ok-ino.ino (removal_demands c.args.what (scene_at s q f)) (target_met finds c.args.what asked) may
+    (subst (λ (name : List ℕ). HoldsAll p new.sectors (placed (swept (changed s.tree (TakeName f.dir_ino name)) c.args.caller.now.procs.now))) c.bytes-name.ensures.all
+    (taken.taken s (state_kept same at) (subst (λ (name : List ℕ). MayGo s f.dir_ino name c.in_ok-ino.ino) (sym c.bytes-name.ensures.all) may))))
     (dir_below mid at may, ((is_number mid at may).1, tt)) 6 (taken_after p 6 new same taken.room) (omega arith)
 
 pub returns-in_err-touch : goal.returns-in_err-touch
 returns-in_err-touch g c =
     let x = c.in_ok-walked.ensures in
     broken_later (removes_by_path c.args.what c.args.path.now) x.same x.walked (g.S.Sectors.state c.touch.new.s) _ _ c.from_residual-in_err-touch.ensures
-    (store_joined c.in_ok-n.ensures.same.store c.in_ok-take_name.ensures.store) c.in_err-touch.ensures.store c.in_err-touch.ensures.fault
+    (store_joined c.in_ok-ino.ensures.same.store c.in_ok-take_name.ensures.store) c.in_err-touch.ensures.store c.in_err-touch.ensures.fault
 
 pub returns : goal.returns
 returns g c =
@@ -94,14 +94,14 @@ returns g c =
     let f = c.in_ok-walked.walked.found in
     let q = c.in_ok-walked.walked.process.now in
     let new = g.S.Sectors.state c.take_name.new.s in
-    let same = c.in_ok-n.ensures.same in
+    let same = c.in_ok-ino.ensures.same in
     let taken = c.in_ok-take_name.ensures in
     has_changed (removes_by_path c.args.what c.args.path.now) x.same x.walked new (store_joined same.store taken.store) (taken.superblock ∙ same.sectors 0)
     c.in_ok-touch.ensures.moved Done
     (λ s has at.
     let finds = finds_name x.walked.bytes at has in
-    let asked = c.in_ok-n.ensures.each s finds in
+    let asked = c.in_ok-ino.ensures.each s finds in
     let may = target_may finds c.args.what asked in
-    name_gone s q f c.in_ok-n.n (removal_demands c.args.what (scene_at s q f)) (target_met finds c.args.what asked) may
-    (subst (λ (name : List ℕ). HoldsAll c.args.caller.now.geometry new.sectors (placed (swept (changed s.tree (TakeName f.dir name)) c.args.caller.now.procs.now))) c.bytes-name.ensures.all
-    (taken.taken s (state_kept same at) (subst (λ (name : List ℕ). MayGo s f.dir name c.in_ok-n.n) (sym c.bytes-name.ensures.all) may))))
+    name_gone s q f c.in_ok-ino.ino (removal_demands c.args.what (scene_at s q f)) (target_met finds c.args.what asked) may
+    (subst (λ (name : List ℕ). HoldsAll c.args.caller.now.geometry new.sectors (placed (swept (changed s.tree (TakeName f.dir_ino name)) c.args.caller.now.procs.now))) c.bytes-name.ensures.all
+    (taken.taken s (state_kept same at) (subst (λ (name : List ℕ). MayGo s f.dir_ino name c.in_ok-ino.ino) (sym c.bytes-name.ensures.all) may))))

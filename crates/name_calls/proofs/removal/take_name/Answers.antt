@@ -29,7 +29,7 @@ lose_name-requires-clause-used g c =
     let mid = g.S.Sectors.state c.remove_name.new.s in
     let removes = c.in_ok-remove_name.ensures.removes in
     subst (λ (v : Inode). v.kind ≢ kinds.Free) (sym (c.requires.inode ∙ sym (target_same old x.1 x.2 removes)))
-    (λ e. body_not_free c.args.geometry.version mid.sectors (inode_at c.args.geometry mid.sectors c.args.n) x.2.target.body (target_held old x.1 x.2 removes).body e)
+    (λ e. body_not_free c.args.geometry.version mid.sectors (inode_at c.args.geometry mid.sectors c.args.ino) x.2.target.body (target_held old x.1 x.2 removes).body e)
 
 pub lose_name-requires-clause-number : goal.lose_name-requires-clause-number
 lose_name-requires-clause-number g c = let x = c.requires.may in is_number (g.S.Sectors.state c.args.s.now) x.1 x.2
@@ -56,7 +56,7 @@ returns-clause-superblock g c = lost_super c.in_ok-lose_name.ensures.loses ∙ c
 
 pub returns-clause-taken : goal.returns-clause-taken
 returns-clause-taken g c = λ st at may.
-    taken_holds (g.S.Sectors.state c.args.s.now) at may c.in_ok-remove_name.ensures.removes (is_open c.args.procs.now c.args.n) refl c.in_ok-lose_name.ensures.loses
+    taken_holds (g.S.Sectors.state c.args.s.now) at may c.in_ok-remove_name.ensures.removes (is_open c.args.procs.now c.args.ino) refl c.in_ok-lose_name.ensures.loses
 
 pub returns-clause-room : goal.returns-clause-room
 returns-clause-room g c =

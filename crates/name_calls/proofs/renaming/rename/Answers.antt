@@ -29,22 +29,22 @@ check_rename-requires g c =
     let ready = w.ready in
     record { sound = ready.sound; found = (ready.state, finds_each w ready.state ready.is_state) }
 
-pub returns-in_err-n : goal.returns-in_err-n
-returns-in_err-n g c =
-    let r = c.from_residual-in_err-n.ensures in
+pub returns-in_err-ino : goal.returns-in_err-ino
+returns-in_err-ino g c =
+    let r = c.from_residual-in_err-ino.ensures in
     let x = c.in_ok-walked.ensures in
-    both_refused (rename_by_two c.args.old.now c.args.new.now) x.same x.walked (g.S.Sectors.state c.check_rename.new.s) _ _ r.0 r.1 c.in_err-n.ensures.same.store _
-    (λ s has at. c.in_err-n.ensures.each s (finds_each x.walked s at))
+    both_refused (rename_by_two c.args.old.now c.args.new.now) x.same x.walked (g.S.Sectors.state c.check_rename.new.s) _ _ r.0 r.1 c.in_err-ino.ensures.same.store _
+    (λ s has at. c.in_err-ino.ensures.each s (finds_each x.walked s at))
 
 pub returns-then-is_same : goal.returns-then-is_same
 returns-then-is_same g c =
     let x = c.in_ok-walked.ensures in
     let q = c.in_ok-walked.walked.process.now in
-    let same = c.in_ok-n.ensures.same in
+    let same = c.in_ok-ino.ensures.same in
     both_performs (rename_by_two c.args.old.now c.args.new.now) x.same x.walked (g.S.Sectors.state c.check_rename.new.s) same.store (same.sectors 0)
     (none_moved (g.S.Sectors.state c.check_rename.new.s)) Done
     (λ s has at.
-    let told = rename_told (finds_each x.walked s at) (c.in_ok-n.ensures.each s (finds_each x.walked s at)) in
+    let told = rename_told (finds_each x.walked s at) (c.in_ok-ino.ensures.each s (finds_each x.walked s at)) in
     rename_stays s q c.in_ok-walked.walked.first c.in_ok-walked.walked.second told.met (same_is q told.found ∙ sym c.is_same.ensures ∙ c.if-is_same.true) (state_kept same at))
 
 pub move_name-requires : goal.move_name-requires
@@ -54,18 +54,18 @@ move_name-requires g c =
     let ready = w.ready in
     let a = c.in_ok-walked.walked.first in
     let b = c.in_ok-walked.walked.second in
-    let same = c.in_ok-n.ensures.same in
+    let same = c.in_ok-ino.ensures.same in
     let finds = finds_each w ready.state ready.is_state in
-    let told = rename_told finds (c.in_ok-n.ensures.each ready.state finds) in
-    let apart : same_number c.in_ok-n.n c.in_ok-n.replaced ≡ false = sym c.is_same.ensures ∙ c.if-is_same.false in
+    let told = rename_told finds (c.in_ok-ino.ensures.each ready.state finds) in
+    let apart : same_number c.in_ok-ino.ino c.in_ok-ino.replaced ≡ false = sym c.is_same.ensures ∙ c.if-is_same.false in
     record {
       sound = sound_kept same ready.sound;
-      inode = kept (λ (m : SectorMap). c.in_ok-n.inode ≡ inode_at p m c.in_ok-n.n) same told.found.inode;
-      replaced = kept (λ (m : SectorMap). c.in_ok-n.replaced ≡ inode_there p m b.ino) same told.found.replaced_is;
+      inode = kept (λ (m : SectorMap). c.in_ok-ino.inode ≡ inode_at p m c.in_ok-ino.ino) same told.found.inode;
+      replaced = kept (λ (m : SectorMap). c.in_ok-ino.replaced ≡ inode_there p m b.ino) same told.found.replaced_is;
       may = (
         ready.state,
         state_kept same ready.is_state,
-        kept (λ (m : SectorMap). MayMove p m ready.state a.dir a.name c.in_ok-n.n b.dir b.name b.ino) same (may_move finds told apart),
+        kept (λ (m : SectorMap). MayMove p m ready.state a.dir_ino a.name c.in_ok-ino.ino b.dir_ino b.name b.ino) same (may_move finds told apart),
       );
       spare = spare_unchanged p 47 (g.S.Sectors.state c.walk_both.new.s) (g.S.Sectors.state c.check_rename.new.s) ready.spare same;
     }
@@ -74,7 +74,7 @@ pub returns-in_err-move_name : goal.returns-in_err-move_name
 returns-in_err-move_name g c =
     let x = c.in_ok-walked.ensures in
     both_broken (rename_by_two c.args.old.now c.args.new.now) x.same x.walked (g.S.Sectors.state c.move_name.new.s) _ _ c.from_residual-in_err-move_name.ensures
-    c.in_ok-n.ensures.same c.in_err-move_name.ensures.store c.in_err-move_name.ensures.fault
+    c.in_ok-ino.ensures.same c.in_err-move_name.ensures.store c.in_err-move_name.ensures.fault
 
 pub touch_moved-requires : goal.touch_moved-requires
 touch_moved-requires g c =
@@ -85,24 +85,24 @@ touch_moved-requires g c =
     let q = c.in_ok-walked.walked.process.now in
     let mid = g.S.Sectors.state c.walk_both.new.s in
     let new = g.S.Sectors.state c.move_name.new.s in
-    let same = c.in_ok-n.ensures.same in
+    let same = c.in_ok-ino.ensures.same in
     let moved = c.in_ok-move_name.ensures in
-    let apart : same_number c.in_ok-n.n c.in_ok-n.replaced ≡ false = sym c.is_same.ensures ∙ c.if-is_same.false in
+    let apart : same_number c.in_ok-ino.ino c.in_ok-ino.replaced ≡ false = sym c.is_same.ensures ∙ c.if-is_same.false in
     let s = w.ready.state in
     let at = w.ready.is_state in
     let finds = finds_each w s at in
-    let told = rename_told finds (c.in_ok-n.ensures.each s finds) in
+    let told = rename_told finds (c.in_ok-ino.ensures.each s finds) in
     let may = may_move finds told apart in
     may_touch {now = c.args.caller.now.procs.now} w.ready (store_joined same.store moved.store)
-    (rename_changes s q a b told.met c.in_ok-n.n may (same_is q told.found ∙ apart)
-    (moved.moved s (state_kept same at) (kept (λ (m : SectorMap). MayMove p m s a.dir a.name c.in_ok-n.n b.dir b.name b.ino) same may)))
-    (touched_below mid at may) 11 (taken_after p 11 new same moved.room) (few_renamed a.dir b.dir c.in_ok-n.n b.ino)
+    (rename_changes s q a b told.met c.in_ok-ino.ino may (same_is q told.found ∙ apart)
+    (moved.moved s (state_kept same at) (kept (λ (m : SectorMap). MayMove p m s a.dir_ino a.name c.in_ok-ino.ino b.dir_ino b.name b.ino) same may)))
+    (touched_below mid at may) 11 (taken_after p 11 new same moved.room) (few_renamed a.dir_ino b.dir_ino c.in_ok-ino.ino b.ino)
 
 pub returns-in_err-touch_moved : goal.returns-in_err-touch_moved
 returns-in_err-touch_moved g c =
     let x = c.in_ok-walked.ensures in
     both_broken_later (rename_by_two c.args.old.now c.args.new.now) x.same x.walked (g.S.Sectors.state c.touch_moved.new.s) _ _ c.from_residual-in_err-touch_moved.ensures
-    (store_joined c.in_ok-n.ensures.same.store c.in_ok-move_name.ensures.store) c.in_err-touch_moved.ensures.store c.in_err-touch_moved.ensures.fault
+    (store_joined c.in_ok-ino.ensures.same.store c.in_ok-move_name.ensures.store) c.in_err-touch_moved.ensures.store c.in_err-touch_moved.ensures.fault
 
 pub returns : goal.returns
 returns g c =
@@ -111,14 +111,14 @@ returns g c =
     let a = c.in_ok-walked.walked.first in
     let b = c.in_ok-walked.walked.second in
     let q = c.in_ok-walked.walked.process.now in
-    let same = c.in_ok-n.ensures.same in
+    let same = c.in_ok-ino.ensures.same in
     let moved = c.in_ok-move_name.ensures in
-    let apart : same_number c.in_ok-n.n c.in_ok-n.replaced ≡ false = sym c.is_same.ensures ∙ c.if-is_same.false in
+    let apart : same_number c.in_ok-ino.ino c.in_ok-ino.replaced ≡ false = sym c.is_same.ensures ∙ c.if-is_same.false in
     both_performs (rename_by_two c.args.old.now c.args.new.now) x.same x.walked (g.S.Sectors.state c.move_name.new.s)
     (store_joined same.store moved.store) (moved.superblock ∙ same.sectors 0) c.in_ok-touch_moved.ensures.moved Done
     (λ s has at.
     let finds = finds_each x.walked s at in
-    let told = rename_told finds (c.in_ok-n.ensures.each s finds) in
+    let told = rename_told finds (c.in_ok-ino.ensures.each s finds) in
     let may = may_move finds told apart in
-    rename_changes s q a b told.met c.in_ok-n.n may (same_is q told.found ∙ apart)
-    (moved.moved s (state_kept same at) (kept (λ (m : SectorMap). MayMove p m s a.dir a.name c.in_ok-n.n b.dir b.name b.ino) same may)))
+    rename_changes s q a b told.met c.in_ok-ino.ino may (same_is q told.found ∙ apart)
+    (moved.moved s (state_kept same at) (kept (λ (m : SectorMap). MayMove p m s a.dir_ino a.name c.in_ok-ino.ino b.dir_ino b.name b.ino) same may)))

@@ -21,11 +21,11 @@ returns-in_err-ask_for_name-clause-each g c = λ processes q n v there st r is.
     let none : is_some b.ino ≡ false = sym c.is_some.ensures ∙ c.if-is_some.false in
     answered_err {A = Unit {0}} old.disk new.disk (checked (first_of (rename_space sc))) c.from_residual.result e k.0 k.1
     (subst (λ (ds : List Demand). IsAnswered {A = Unit {0}} old.disk new.disk (checked (first_of ds)) (Err e)) (sym (room_is r q none c.if-walked.false))
-    (c.in_err-ask_for_name.ensures.each st.tree b.dir (state_tree r.is_state) r.second.directory is))
+    (c.in_err-ask_for_name.ensures.each st.tree b.dir_ino (state_tree r.is_state) r.second.directory is))
 
 pub returns-clause-each : goal.returns-clause-each
 returns-clause-each g c = λ processes q n v there st r is.
     let b = c.args.walked.now.second in
     let none : is_some b.ino ≡ false = sym c.is_some.ensures ∙ c.if-is_some.false in
     ap (λ (ds : List Demand). checked (first_of ds)) (room_is r q none c.if-walked.false)
-    ∙ c.in_ok-ask_for_name.ensures.each st.tree b.dir (state_tree r.is_state) r.second.directory is
+    ∙ c.in_ok-ask_for_name.ensures.each st.tree b.dir_ino (state_tree r.is_state) r.second.directory is

@@ -43,8 +43,8 @@ loop-at-preserved g c =
       each = λ t h d.
           let e = inv.each t h d in (
             subst (λ (w : Inode). IsDirectoryAt t w.parent) (sym is) (field_up h at e.0 c.if-at-ne-ROOT.true),
-            e.1 ∙ field_one_up h c.args.n at e.0 c.loop-at-test.true c.if-at-ne-ROOT.true
-                ∙ ap (λ (w : Inode). is_within (length t) t c.args.n w.parent) (sym is),
+            e.1 ∙ field_one_up h c.args.ino at e.0 c.loop-at-test.true c.if-at-ne-ROOT.true
+                ∙ ap (λ (w : Inode). is_within (length t) t c.args.ino w.parent) (sym is),
           );
     }
 
@@ -54,8 +54,8 @@ returns-in_err-at-clause-same g c = unchanged_joined c.loop-at.invariant.same c.
 pub returns-clause-each : goal.returns-clause-each
 returns-clause-each g c = λ t h d.
     let at = c.loop-at.at in
-    let end : (at ≡ c.args.n) ⊎ (at ≡ root) = elim c.loop-at-test.branch [
+    let end : (at ≡ c.args.ino) ⊎ (at ≡ root) = elim c.loop-at-test.branch [
       | then-loop-at-test+else-at-ne-ROOT w ↦ inr w.if-at-ne-ROOT.false
       | else-loop-at-test w ↦ inl w.loop-at-test.false
     ] in
-    ap (λ (b : Bool). Ok b) ((c.loop-at.invariant.each t h d).1 ∙ way_ends t c.args.n (length t) at end)
+    ap (λ (b : Bool). Ok b) ((c.loop-at.invariant.each t h d).1 ∙ way_ends t c.args.ino (length t) at end)

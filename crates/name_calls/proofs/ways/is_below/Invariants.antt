@@ -8,8 +8,8 @@ use Rattle.name_calls.proofs.ways.is_below.Given as goal
 abbrev pub invariant-loop-at : goal.invariant-loop-at
 invariant-loop-at g l = record {
   same : IsUnchanged (g.S.Sectors.state l.fn.s) (g.S.Sectors.state l.s);
-  each : (t : Tree) → HoldsTree l.geometry (g.S.Sectors.state l.fn.s).sectors t → IsDirectoryAt t l.dir
-      → IsDirectoryAt t l.at × (is_within (length t) t l.n l.dir ≡ is_within (length t) t l.n l.at);
+  each : (t : Tree) → HoldsTree l.geometry (g.S.Sectors.state l.fn.s).sectors t → IsDirectoryAt t l.dir_ino
+      → IsDirectoryAt t l.at × (is_within (length t) t l.ino l.dir_ino ≡ is_within (length t) t l.ino l.at);
 }
 
 abbrev pub decreases-loop-at : goal.decreases-loop-at

@@ -5,4 +5,4 @@ use Rattle.open_files.proofs.descriptors.is_in.Given as goal
 
 -- the inode is open in none of the slots so far
 abbrev pub invariant-loop-slot : goal.invariant-loop-slot
-invariant-loop-slot l = list_any (holds (λ d. d.number == l.ino)) (take l.slot-index l.slots) ≡ false
+invariant-loop-slot l = list_any (holds (λ d. d.ino == l.ino)) (take l.slot-index l.slots) ≡ false

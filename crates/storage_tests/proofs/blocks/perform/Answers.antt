@@ -19,7 +19,7 @@ read_at-requires g c =
     let mid = g.S.Sectors.state c.load.new.s in
     record {
       within = λ s o.
-          let d = (owned_is_apart sound.consistent c.args.n c.requires.below).each s (subst (λ (u : Inode). Owns mid.sectors u s) (c.in_ok-inode.ensures.found ∙ ap (λ image. inode_at c.args.geometry image c.args.n) (map_unchanged c.in_ok-inode.ensures.same)) o) in
+          let d = (owned_is_apart sound.consistent c.args.ino c.requires.below).each s (subst (λ (u : Inode). Owns mid.sectors u s) (c.in_ok-inode.ensures.found ∙ ap (λ image. inode_at c.args.geometry image c.args.ino) (map_unchanged c.in_ok-inode.ensures.same)) o) in
           let m = after_map sound.bitmaps.geometry in
           let b = before_data sound.bitmaps.geometry in
           let k = sound.bitmaps.disk in
@@ -36,7 +36,7 @@ pub write_at-requires-clause-sound : goal.write_at-requires-clause-sound
 write_at-requires-clause-sound g c = sound_after_reads c.requires.sound c.in_ok-inode.ensures.same
 
 pub write_at-requires-clause-inode : goal.write_at-requires-clause-inode
-write_at-requires-clause-inode g c = c.in_ok-inode.ensures.found ∙ ap (λ image. inode_at c.args.geometry image c.args.n) (map_unchanged c.in_ok-inode.ensures.same)
+write_at-requires-clause-inode g c = c.in_ok-inode.ensures.found ∙ ap (λ image. inode_at c.args.geometry image c.args.ino) (map_unchanged c.in_ok-inode.ensures.same)
 
 pub write_at-requires-clause-spare : goal.write_at-requires-clause-spare
 write_at-requires-clause-spare g c =
@@ -68,7 +68,7 @@ pub set_size-requires-clause-sound : goal.set_size-requires-clause-sound
 set_size-requires-clause-sound g c = sound_after_reads c.requires.sound c.in_ok-inode.ensures.same
 
 pub set_size-requires-clause-inode : goal.set_size-requires-clause-inode
-set_size-requires-clause-inode g c = c.in_ok-inode.ensures.found ∙ ap (λ image. inode_at c.args.geometry image c.args.n) (map_unchanged c.in_ok-inode.ensures.same)
+set_size-requires-clause-inode g c = c.in_ok-inode.ensures.found ∙ ap (λ image. inode_at c.args.geometry image c.args.ino) (map_unchanged c.in_ok-inode.ensures.same)
 
 pub set_size-requires-clause-spare : goal.set_size-requires-clause-spare
 set_size-requires-clause-spare g c =
@@ -84,7 +84,7 @@ pub release_all-requires-clause-sound : goal.release_all-requires-clause-sound
 release_all-requires-clause-sound g c = sound_after_reads c.requires.sound c.in_ok-inode.ensures.same
 
 pub release_all-requires-clause-inode : goal.release_all-requires-clause-inode
-release_all-requires-clause-inode g c = c.in_ok-inode.ensures.found ∙ ap (λ image. inode_at c.args.geometry image c.args.n) (map_unchanged c.in_ok-inode.ensures.same)
+release_all-requires-clause-inode g c = c.in_ok-inode.ensures.found ∙ ap (λ image. inode_at c.args.geometry image c.args.ino) (map_unchanged c.in_ok-inode.ensures.same)
 
 pub release_all-requires-clause-spare : goal.release_all-requires-clause-spare
 release_all-requires-clause-spare g c =

@@ -7,6 +7,6 @@ use Rattle.storage_tests.proofs.directories.fill.Given as goal
 abbrev pub invariant-loop-i : goal.invariant-loop-i
 invariant-loop-i g l = record {
   sound : IsSound l.geometry (g.S.Sectors.state l.s);
-  there : l.inode ≡ inode_at l.geometry (g.S.Sectors.state l.s).sectors l.n;
+  there : l.inode ≡ inode_at l.geometry (g.S.Sectors.state l.s).sectors l.ino;
   directory : (names : List (List ℕ × ℕ)) × HasNames l.geometry.version (g.S.Sectors.state l.s).sectors l.inode names;
 }

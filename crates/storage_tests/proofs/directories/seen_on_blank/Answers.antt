@@ -22,16 +22,16 @@ fill-requires-clause-sound g c =
 
 pub fill-requires-clause-there : goal.fill-requires-clause-there
 fill-requires-clause-there g c =
-    c.in_ok-inode.ensures.found ∙ ap (λ image. inode_at c.args.geometry image c.in-Ok.n) (map_unchanged c.in_ok-inode.ensures.same)
+    c.in_ok-inode.ensures.found ∙ ap (λ image. inode_at c.args.geometry image c.in-Ok.ino) (map_unchanged c.in_ok-inode.ensures.same)
 
 pub fill-requires-clause-directory : goal.fill-requires-clause-directory
 fill-requires-clause-directory g c =
     let made = (g.S.Sectors.state c.new_inode.new.s.inner).sectors in
     let read = (g.S.Sectors.state c.load.new.s.inner).sectors in
-    let at_first : HasNames c.args.geometry.version made (inode_at c.args.geometry made c.in-Ok.n) [] = no_names c.in-Ok.ensures.fields.kind c.in-Ok.ensures.empty in (
+    let at_first : HasNames c.args.geometry.version made (inode_at c.args.geometry made c.in-Ok.ino) [] = no_names c.in-Ok.ensures.fields.kind c.in-Ok.ensures.empty in (
       [],
       subst (λ v. HasNames c.args.geometry.version read v []) (sym c.in_ok-inode.ensures.found)
-          (subst (λ image. HasNames c.args.geometry.version image (inode_at c.args.geometry made c.in-Ok.n) []) (map_unchanged c.in_ok-inode.ensures.same) at_first),
+          (subst (λ image. HasNames c.args.geometry.version image (inode_at c.args.geometry made c.in-Ok.ino) []) (map_unchanged c.in_ok-inode.ensures.same) at_first),
     )
 
 pub perform-given-requires-clause-spare : goal.perform-given-requires-clause-spare

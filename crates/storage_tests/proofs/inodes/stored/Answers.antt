@@ -10,4 +10,4 @@ made-requires-clause-fits g c = made_fits (λ e. cc) refl (omega arith) (omega a
 
 pub first_bytes-requires : goal.first_bytes-requires
 first_bytes-requires g c =
-    omega (arith, c.in_ok-n.ensures.sound.bitmaps.disk, c.in_ok-n.ensures.sound.bitmaps.header, c.in_ok-inode.ensures.same.store.reads.narrowed.size, ap log_end c.in_ok-inode.ensures.same.store.header)
+    omega (arith, c.in_ok-ino.ensures.sound.bitmaps.disk, c.in_ok-ino.ensures.sound.bitmaps.header, c.in_ok-inode.ensures.same.store.reads.narrowed.size, ap log_end c.in_ok-inode.ensures.same.store.header)

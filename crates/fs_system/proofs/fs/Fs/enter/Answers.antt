@@ -6,7 +6,7 @@ use Rattle.fs_system.proofs.fs.Fs.enter.Goals as goal
 
 pub returns-then-is_halted-clause-does : goal.returns-then-is_halted-clause-does
 returns-then-is_halted-clause-does g c =
-    halted_happens g.D.Disk.state g.met.D.Disk.only_now c.args.self.now (Enter c.args.pid c.args.directory c.args.second) (sym c.is_halted.ensures ∙ c.if-is_halted.true) refl
+    halted_happens g.D.Disk.state g.met.D.Disk.only_now c.args.self.now (Enter c.args.pid c.args.dir_ino c.args.second_ino) (sym c.is_halted.ensures ∙ c.if-is_halted.true) refl
 
 pub take_store-store-requires : goal.take_store-store-requires
 take_store-store-requires g c =
@@ -23,12 +23,12 @@ pub invariant_of-self : goal.invariant_of-self
 invariant_of-self g c =
     system_put g.D.Disk.state c.self.inside.geometry c.enter_kept-done.new.procs c.self.inside.time c.put_base.ensures
     (kept_system g.D.Disk.state g.met.D.Disk.only_now c.self.inside.base c.self.inside.geometry c.self.inside.procs c.self.inside.time c.args.self.now c.self.view_is c.take_store-store.result
-    c.take_store-store.ensures (Ok c.enter_kept-done.result.1) c.enter_kept-done.new.procs (Enter c.args.pid c.args.directory c.args.second) (finished c.enter_kept-done.result.0)
+    c.take_store-store.ensures (Ok c.enter_kept-done.result.1) c.enter_kept-done.new.procs (Enter c.args.pid c.args.dir_ino c.args.second_ino) (finished c.enter_kept-done.result.0)
     (λ s r told. c.enter_kept-done.ensures.does s r) (g.met.D.Disk.counts_now c.enter_kept-done.result.1.disk) c.self.invariant)
 
 pub returns-clause-does : goal.returns-clause-does
 returns-clause-does g c =
-    happens_put g.D.Disk.state c.self.inside.geometry c.enter_kept-done.new.procs c.self.inside.time c.put_base.ensures c.args.self.now (Enter c.args.pid c.args.directory c.args.second) (finished c.enter_kept-done.result.0)
+    happens_put g.D.Disk.state c.self.inside.geometry c.enter_kept-done.new.procs c.self.inside.time c.put_base.ensures c.args.self.now (Enter c.args.pid c.args.dir_ino c.args.second_ino) (finished c.enter_kept-done.result.0)
     (kept_returns g.D.Disk.state g.met.D.Disk.only_now c.self.inside.base c.self.inside.geometry c.self.inside.procs c.self.inside.time c.args.self.now c.self.view_is c.take_store-store.result
-    c.take_store-store.ensures (Ok c.enter_kept-done.result.1) c.enter_kept-done.new.procs (Enter c.args.pid c.args.directory c.args.second) (finished c.enter_kept-done.result.0)
+    c.take_store-store.ensures (Ok c.enter_kept-done.result.1) c.enter_kept-done.new.procs (Enter c.args.pid c.args.dir_ino c.args.second_ino) (finished c.enter_kept-done.result.0)
     (λ s r told. c.enter_kept-done.ensures.does s r))

@@ -1,11 +1,11 @@
 use Rattle.fuse_sessions.proofs.Doings.{then-fails, then-ok}
 use Rattle.fuse_sessions.proofs.session.Session.add_link.Goals as goal
 
-pub returns-in_err-directory : goal.returns-in_err-directory
-returns-in_err-directory g c = then-fails _ c.from_residual.ensures c.in_err-directory.ensures
+pub returns-in_err-dir_ino : goal.returns-in_err-dir_ino
+returns-in_err-dir_ino g c = then-fails _ c.from_residual.ensures c.in_err-dir_ino.ensures
 
-pub returns-in_err-inode : goal.returns-in_err-inode
-returns-in_err-inode g c = then-ok _ c.in_ok-directory.ensures (then-fails _ c.from_residual-in_err-inode.ensures c.in_err-inode.ensures)
+pub returns-in_err-ino : goal.returns-in_err-ino
+returns-in_err-ino g c = then-ok _ c.in_ok-dir_ino.ensures (then-fails _ c.from_residual-in_err-ino.ensures c.in_err-ino.ensures)
 
 pub returns : goal.returns
-returns g c = then-ok _ c.in_ok-directory.ensures (then-ok _ c.in_ok-inode.ensures c.link_as.ensures)
+returns g c = then-ok _ c.in_ok-dir_ino.ensures (then-ok _ c.in_ok-ino.ensures c.link_as.ensures)

@@ -4,12 +4,12 @@ use Rattle.std.proofs.lemmas.Bool.{le-ltb, lt-ltb}
 use Rattle.fuse_state.specs.declared.settings.Settings.{Settings}
 use Rattle.fuse_state.specs.Servers.{with_acls_offered}
 use Rattle.fuse_plans.specs.Serving.{begin, agreed}
-use Rattle.fuse_sessions.proofs.Doings.{then-ok, then-fails, keeps, reads, reads-last, where-true, where-false, gives-as, stops}
+use Rattle.fuse_sessions.proofs.Doings.{then-ok, then-fails, keeps, reads, reads-last, where-true, where-false, gives-as, has-failed}
 use Rattle.fuse_sessions.proofs.session.Session.begin.Goals as goal
 
 pub returns-then-offer-lt-VERSION : goal.returns-then-offer-lt-VERSION
 unfolding begin
-returns-then-offer-lt-VERSION g c = where-true _ _ (lt-ltb _ _ c.if-offer-lt-VERSION.true) (stops _ _)
+returns-then-offer-lt-VERSION g c = where-true _ _ (lt-ltb _ _ c.if-offer-lt-VERSION.true) (has-failed _ _)
 
 pub returns-then-offer-gt-VERSION : goal.returns-then-offer-gt-VERSION
 unfolding begin

@@ -8,27 +8,27 @@ returns-in_err-plain_name g c = then-fails _ c.from_residual.ensures (of-result 
 pub returns-in_default : goal.returns-in_default
 returns-in_default g c = then-ok _ (of-result c.in_ok-plain_name.ensures) (needs-none _ _ _ (sym c.in_default.ensures))
 
-pub returns-in_err-directory : goal.returns-in_err-directory
-returns-in_err-directory g c =
+pub returns-in_err-dir_ino : goal.returns-in_err-dir_ino
+returns-in_err-dir_ino g c =
     then-ok _ (of-result c.in_ok-plain_name.ensures)
-    (needs-some _ _ (sym c.in-Some.ensures) (then-fails _ c.from_residual-in_err-directory.ensures c.in_err-directory.ensures))
+    (needs-some _ _ (sym c.in-Some.ensures) (then-fails _ c.from_residual-in_err-dir_ino.ensures c.in_err-dir_ino.ensures))
 
 pub returns-in_err-pid : goal.returns-in_err-pid
 returns-in_err-pid g c =
     then-ok _ (of-result c.in_ok-plain_name.ensures)
-    (needs-some _ _ (sym c.in-Some.ensures) (then-ok _ c.in_ok-directory.ensures (then-ok _ c.new_valid-name_valid.ensures.did
+    (needs-some _ _ (sym c.in-Some.ensures) (then-ok _ c.in_ok-dir_ino.ensures (then-ok _ c.new_valid-name_valid.ensures.did
     (then-fails _ c.from_residual-in_err-pid.ensures (rw c.requires.copy at c.in_err-pid.ensures.did)))))
 
 pub returns-in_err-set_umask : goal.returns-in_err-set_umask
 returns-in_err-set_umask g c =
     then-ok _ (of-result c.in_ok-plain_name.ensures)
-    (needs-some _ _ (sym c.in-Some.ensures) (then-ok _ c.in_ok-directory.ensures (then-ok _ c.new_valid-name_valid.ensures.did
+    (needs-some _ _ (sym c.in-Some.ensures) (then-ok _ c.in_ok-dir_ino.ensures (then-ok _ c.new_valid-name_valid.ensures.did
     (then-ok _ (rw c.requires.copy at c.in_ok-pid.ensures.did)
     (then-fails _ c.from_residual-in_err-set_umask.ensures (on-machine c.in_err-set_umask.ensures))))))
 
 pub returns : goal.returns
 returns g c =
     then-ok _ (of-result c.in_ok-plain_name.ensures)
-    (needs-some _ _ (sym c.in-Some.ensures) (then-ok _ c.in_ok-directory.ensures (then-ok _ c.new_valid-name_valid.ensures.did
+    (needs-some _ _ (sym c.in-Some.ensures) (then-ok _ c.in_ok-dir_ino.ensures (then-ok _ c.new_valid-name_valid.ensures.did
     (then-ok _ (rw c.requires.copy at c.in_ok-pid.ensures.did)
     (then-ok _ (on-machine c.in_ok-set_umask.ensures) c.create_by.ensures)))))

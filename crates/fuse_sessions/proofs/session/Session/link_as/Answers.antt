@@ -7,10 +7,10 @@ returns-in_err-pid g c = then-fails _ c.from_residual.ensures (rw c.requires.cop
 pub returns-in_err-tried : goal.returns-in_err-tried
 returns-in_err-tried g c =
     then-ok _ (rw c.requires.copy at c.in_ok-pid.ensures.did)
-    (was-fails _ c.from_residual-in_err-tried.ensures c.link_by_place-tried.ensures.did c.in_err-tried.was)
+    (was-fails _ c.from_residual-in_err-tried.ensures c.link_by_dentry-tried.ensures.did c.in_err-tried.was)
 
 pub returns : goal.returns
 returns g c =
     then-ok _ (rw c.requires.copy at c.in_ok-pid.ensures.did)
-    (then-was _ c.link_by_place-tried.ensures.did c.in_ok-tried.was
-    (rw (c.dentry.ensures, c.link_by_place-tried.ensures.name) at c.tell_linked.ensures))
+    (then-was _ c.link_by_dentry-tried.ensures.did c.in_ok-tried.was
+    (rw (c.dentry.ensures, c.link_by_dentry-tried.ensures.name) at c.tell_linked.ensures))

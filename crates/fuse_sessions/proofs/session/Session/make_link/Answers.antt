@@ -2,15 +2,15 @@ use Rattle.std.proofs.Common.{refl}
 use Rattle.fuse_sessions.proofs.Doings.{then-fails, then-ok}
 use Rattle.fuse_sessions.proofs.session.Session.make_link.Goals as goal
 
-pub returns-in_err-directory : goal.returns-in_err-directory
-returns-in_err-directory g c = then-fails _ c.from_residual.ensures c.in_err-directory.ensures
+pub returns-in_err-dir_ino : goal.returns-in_err-dir_ino
+returns-in_err-dir_ino g c = then-fails _ c.from_residual.ensures c.in_err-dir_ino.ensures
 
 pub returns-in_err-pid : goal.returns-in_err-pid
 returns-in_err-pid g c =
-    then-ok _ c.in_ok-directory.ensures
+    then-ok _ c.in_ok-dir_ino.ensures
     (then-ok _ c.new_valid-name_valid.ensures.did (then-fails _ c.from_residual-in_err-pid.ensures (rw c.requires.copy at c.in_err-pid.ensures.did)))
 
 pub returns : goal.returns
 returns g c =
-    then-ok _ c.in_ok-directory.ensures
+    then-ok _ c.in_ok-dir_ino.ensures
     (then-ok _ c.new_valid-name_valid.ensures.did (then-ok _ (rw c.requires.copy at c.in_ok-pid.ensures.did) (c.make_by.ensures _ refl)))

@@ -4,20 +4,20 @@ use Rattle.fuse_sessions.proofs.session.Session.move_name.Goals as goal
 pub returns-in_err-may_move : goal.returns-in_err-may_move
 returns-in_err-may_move g c = then-fails _ c.from_residual.ensures c.in_err-may_move.ensures
 
-pub returns-in_err-directory : goal.returns-in_err-directory
-returns-in_err-directory g c =
-    then-ok _ c.in_ok-may_move.ensures (then-fails _ c.from_residual-in_err-directory.ensures c.in_err-directory.ensures)
+pub returns-in_err-dir_ino : goal.returns-in_err-dir_ino
+returns-in_err-dir_ino g c =
+    then-ok _ c.in_ok-may_move.ensures (then-fails _ c.from_residual-in_err-dir_ino.ensures c.in_err-dir_ino.ensures)
 
 pub returns-in_err-new : goal.returns-in_err-new
 returns-in_err-new g c =
-    then-ok _ c.in_ok-may_move.ensures (then-ok _ c.in_ok-directory.ensures (then-fails _ c.from_residual-in_err-new.ensures c.in_err-new.ensures))
+    then-ok _ c.in_ok-may_move.ensures (then-ok _ c.in_ok-dir_ino.ensures (then-fails _ c.from_residual-in_err-new.ensures c.in_err-new.ensures))
 
 pub returns-in_err-pid : goal.returns-in_err-pid
 returns-in_err-pid g c =
-    then-ok _ c.in_ok-may_move.ensures (then-ok _ c.in_ok-directory.ensures
+    then-ok _ c.in_ok-may_move.ensures (then-ok _ c.in_ok-dir_ino.ensures
     (then-ok _ c.in_ok-new.ensures (then-fails _ c.from_residual-in_err-pid.ensures (rw c.requires.copy at c.in_err-pid.ensures.did))))
 
 pub returns : goal.returns
 returns g c =
-    then-ok _ c.in_ok-may_move.ensures (then-ok _ c.in_ok-directory.ensures
+    then-ok _ c.in_ok-may_move.ensures (then-ok _ c.in_ok-dir_ino.ensures
     (then-ok _ c.in_ok-new.ensures (then-ok _ (rw c.requires.copy at c.in_ok-pid.ensures.did) (rw c.dentry.ensures at c.move_to.ensures))))

@@ -8,11 +8,11 @@ pub returns-then-not-keeps_names-clause-did : goal.returns-then-not-keeps_names-
 unfolding new_valid
 returns-then-not-keeps_names-clause-did g c =
     reads _ _ c.settings-settings.ensures
-    (same-work (ap (λ (b : Bool). new_valid_if c.args.directory c.settings-settings.result.keeping.names b) (sym c.keeps_names.ensures ∙ c.if-not-keeps_names.true)) (gives _ _))
+    (same-work (ap (λ (b : Bool). new_valid_if c.args.dir_ino c.settings-settings.result.keeping.names b) (sym c.keeps_names.ensures ∙ c.if-not-keeps_names.true)) (gives _ _))
 
 pub returns-clause-did : goal.returns-clause-did
 unfolding new_valid
 returns-clause-did g c =
     reads _ _ c.settings-settings.ensures
-    (same-work (ap (λ (b : Bool). new_valid_if c.args.directory c.settings-settings.result.keeping.names b) (sym c.keeps_names.ensures ∙ c.if-not-keeps_names.false))
+    (same-work (ap (λ (b : Bool). new_valid_if c.args.dir_ino c.settings-settings.result.keeping.names b) (sym c.keeps_names.ensures ∙ c.if-not-keeps_names.false))
     (then-ok _ (attempts _ c.list_hides-hides.ensures.did) (gives-as c.unless_hidden.ensures)))

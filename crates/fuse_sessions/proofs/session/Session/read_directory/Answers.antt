@@ -24,7 +24,7 @@ pub returns : goal.returns
 unfolding read_directory
 returns g c =
     let d = c.in-Some.open.now in
-    let now : listed c.args.node c.args.extent.handle d (c.args.extent.offset == 0) d.listing ≡ list_now c.args.node c.args.extent.handle d.number =
+    let now : listed c.args.node c.args.extent.handle d (c.args.extent.offset == 0) d.listing ≡ list_now c.args.node c.args.extent.handle d.ino =
     elim c.if-extent-ne0.branch [
       | then-extent-ne0+in_default-listing w ↦ listed-first c.args.node c.args.extent.handle d (c.args.extent.offset == 0) w.in_default-listing.is
       | else-extent-ne0 w ↦ listed-anew c.args.node c.args.extent.handle d d.listing (ap (λ n. n == 0) w.if-extent-ne0.false)

@@ -1,8 +1,8 @@
 use Rattle.fuse_sessions.proofs.Doings.{then-fails, then-ok}
 use Rattle.fuse_sessions.proofs.session.Session.read_link.Goals as goal
 
-pub returns-in_err-inode : goal.returns-in_err-inode
-returns-in_err-inode g c = then-fails _ c.from_residual.ensures c.in_err-inode.ensures
+pub returns-in_err-ino : goal.returns-in_err-ino
+returns-in_err-ino g c = then-fails _ c.from_residual.ensures c.in_err-ino.ensures
 
 pub returns : goal.returns
-returns g c = then-ok _ c.in_ok-inode.ensures c.tell_target.ensures
+returns g c = then-ok _ c.in_ok-ino.ensures c.tell_target.ensures

@@ -18,9 +18,9 @@ pub returns : goal.returns
 returns g c =
     let names = some-same c.in-Some.ensures in
     let old : c.dentry.result ≡ c.args.old = c.dentry.ensures
-    ∙ ap (λ (n : List ℕ). dentry c.args.old.directory n) (ap (λ (p : List ℕ × List ℕ). p.0) names ∙ (c.new.ensures ∙ c.into_bytes.ensures)) in
+    ∙ ap (λ (n : List ℕ). dentry c.args.old.dir_ino n) (ap (λ (p : List ℕ × List ℕ). p.0) names ∙ (c.new.ensures ∙ c.into_bytes.ensures)) in
     let new : c.dentry-2.result ≡ c.args.new = c.dentry-2.ensures
-    ∙ ap (λ (n : List ℕ). dentry c.args.new.directory n) (ap (λ (p : List ℕ × List ℕ). p.1) names ∙ (c.new-2.ensures ∙ c.into_bytes-2.ensures)) in
+    ∙ ap (λ (n : List ℕ). dentry c.args.new.dir_ino n) (ap (λ (p : List ℕ × List ℕ). p.1) names ∙ (c.new-2.ensures ∙ c.into_bytes-2.ensures)) in
     let server = c.args.self.now.server.server in
     then-was _
     (on-machine (rw (c.new.ensures, c.new-2.ensures, c.into_bytes.ensures, c.into_bytes-2.ensures) at c.done_between-tried.ensures))

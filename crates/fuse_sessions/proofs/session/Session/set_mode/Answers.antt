@@ -5,13 +5,13 @@ use Rattle.fuse_sessions.proofs.session.Session.set_mode.Goals as goal
 
 pub returns-in_default-clause-did : goal.returns-in_default-clause-did
 returns-in_default-clause-did g c =
-    same-work (ap (set_mode c.args.now c.args.pid c.args.inode) c.in_default.is) (gives _ _)
+    same-work (ap (set_mode c.args.now c.args.pid c.args.ino) c.in_default.is) (gives _ _)
 
 pub returns-in_err-on_once-clause-did : goal.returns-in_err-on_once-clause-did
 returns-in_err-on_once-clause-did g c =
-    same-work (ap (set_mode c.args.now c.args.pid c.args.inode) c.in-Some.is) (then-fails _ c.from_residual.ensures c.in_err-on_once.ensures.did)
+    same-work (ap (set_mode c.args.now c.args.pid c.args.ino) c.in-Some.is) (then-fails _ c.from_residual.ensures c.in_err-on_once.ensures.did)
 
 pub returns-clause-did : goal.returns-clause-did
 returns-clause-did g c =
-    same-work (ap (set_mode c.args.now c.args.pid c.args.inode) c.in-Some.is)
+    same-work (ap (set_mode c.args.now c.args.pid c.args.ino) c.in-Some.is)
     (then-ok _ c.in_ok-on_once.ensures.did (keeps-last _ refl c.change.ensures.kept))

@@ -1,9 +1,9 @@
 use Rattle.std.proofs.Common.{◌≡◌, refl, sym, ap, subst, Some, is_some, count_by, option_map, slice_get, ◌∙◌, arith}
 use Rattle.fuse_state.specs.Names.{Stand, found_under}
-use Rattle.fuse_state.specs.Servers.{places_in}
+use Rattle.fuse_state.specs.Servers.{dentries_in}
 use Rattle.fuse_state.proofs.NamesKept.{still_indexed, given_back}
 use Rattle.fuse_state.proofs.Indexed.{inodes_stand}
-use Rattle.fuse_state.proofs.HeldPlaces.{nth_place}
+use Rattle.fuse_state.proofs.HeldDentries.{nth_dentry}
 use Rattle.fuse_state.proofs.names.Names.call_at.Goals as goal
 
 pub key_of-requires-clause-stand : goal.key_of-requires-clause-stand
@@ -12,8 +12,8 @@ key_of-requires-clause-stand g c =
 
 pub returns-in_err-key-clause-none : goal.returns-in_err-key-clause-none
 returns-in_err-key-clause-none g c =
-    λ _. sym (ap (λ n. slice_get (places_in n.0 c.args.inode) c.args.at) c.self.view_is)
-    ∙ nth_place _ _ _ c.self.invariant.0 c.args.inode c.args.at
+    λ _. sym (ap (λ n. slice_get (dentries_in n.0 c.args.ino) c.args.at) c.self.view_is)
+    ∙ nth_dentry _ _ _ c.self.invariant.0 c.args.ino c.args.at
     ∙ ap (option_map (λ k. (found_under c.self.inside.found.slots k).dentry)) (sym (rw c.deref.ensures.value at c.key_of.ensures.key) ∙ c.in_err-key.was)
 
 pub invariant_of-self-2 : goal.invariant_of-self-2
@@ -24,7 +24,7 @@ invariant_of-self-2 g c =
       still_indexed same refl refl c.self.invariant.0,
       record {
         for_found = omega (arith, c.self.invariant.1.for_found, ap (count_by is_some) same);
-        for_places = c.self.invariant.1.for_places;
+        for_dentries = c.self.invariant.1.for_dentries;
         for_inodes = c.self.invariant.1.for_inodes;
       },
     )
@@ -34,9 +34,9 @@ returns-clause-made g c =
     let f = c.in_ok-found.found.now in
     let there = sym (rw c.in_ok-found.was at c.get_mut.ensures.value) in
     let read : Some f ≡ Some (found_under c.self.inside.found.slots c.in_ok-key.key) = sym there ∙ c.in_ok-key.ensures.stands in (
-      record { directory = f.dentry.directory; name = c.replace-name.result },
-      sym (ap (λ n. slice_get (places_in n.0 c.args.inode) c.args.at) c.self.view_is)
-          ∙ nth_place _ _ _ c.self.invariant.0 c.args.inode c.args.at
+      record { dir_ino = f.dentry.dir_ino; name = c.replace-name.result },
+      sym (ap (λ n. slice_get (dentries_in n.0 c.args.ino) c.args.at) c.self.view_is)
+          ∙ nth_dentry _ _ _ c.self.invariant.0 c.args.ino c.args.at
           ∙ ap (option_map (λ k. (found_under c.self.inside.found.slots k).dentry)) (sym (rw c.deref.ensures.value at c.key_of.ensures.key) ∙ c.in_ok-key.was)
           ∙ ap (option_map (λ g. g.dentry)) (sym read)
           ∙ ap (λ n. Some (record f.dentry { name = n })) (sym c.replace-name.ensures.value),

@@ -5,12 +5,12 @@ use Rattle.fuse_state.specs.Names.{Stand, found_under, names_under, by_inodes, f
 use Rattle.fuse_state.specs.Servers.{dentry_cmp}
 use Rattle.fuse_state.specs.Tables.{IsGap}
 use Rattle.fuse_state.proofs.NamesKept.{still_indexed}
-use Rattle.fuse_state.proofs.Indexed.{places_stand, inodes_stand, key_there, found_there, no_gap, none_removed, gone_indexed, gone_names}
+use Rattle.fuse_state.proofs.Indexed.{dentries_stand, inodes_stand, key_there, found_there, no_gap, none_removed, gone_indexed, gone_names}
 use Rattle.fuse_state.proofs.names.Names.remove.Goals as goal
 
-pub search_places-requires-clause-stand : goal.search_places-requires-clause-stand
-search_places-requires-clause-stand c =
-    subst (Stand c.self.inside.found.slots) (sym c.deref.ensures.value) (places_stand _ _ _ c.self.invariant.0)
+pub search_dentries-requires-clause-stand : goal.search_dentries-requires-clause-stand
+search_dentries-requires-clause-stand c =
+    subst (Stand c.self.inside.found.slots) (sym c.deref.ensures.value) (dentries_stand _ _ _ c.self.invariant.0)
 
 pub returns-in_default-clause-removed : goal.returns-in_default-clause-removed
 returns-in_default-clause-removed c =
@@ -51,7 +51,7 @@ invariant_of-self c =
           c.in-Ok.at c.in-Ok-search_inodes.behind (rw c.deref.ensures.value at c.in-Ok.ensures) (rw c.deref-2.ensures.value at c.in-Ok-search_inodes.ensures)),
       record {
         for_found = omega (arith, rooms.for_found, fewer, c.try_remove-found.ensures.capacity);
-        for_places = omega (arith, rooms.for_places, c.remove-placed.ensures.len, c.remove-placed.ensures.capacity);
+        for_dentries = omega (arith, rooms.for_dentries, c.remove-placed.ensures.len, c.remove-placed.ensures.capacity);
         for_inodes = omega (arith, rooms.for_inodes, c.remove-held.ensures.len, c.remove-held.ensures.capacity);
       },
     )

@@ -8,4 +8,4 @@ abbrev pub invariant-loop-process : goal.invariant-loop-process
 invariant-loop-process l =
     (goal.iterator-loop-process).can_next l.process-iterator ×
     (goal.iterator-loop-process).is_finite l.process-iterator ×
-    (list_any (λ e. list_any (λ d. d.1.number == l.ino) e.1.descriptors) l.process-iterator ≡ is_open l.self l.ino)
+    (list_any (λ e. list_any (λ d. d.1.ino == l.ino) e.1.descriptors) l.process-iterator ≡ is_open l.self l.ino)

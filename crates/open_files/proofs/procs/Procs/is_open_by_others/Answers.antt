@@ -17,7 +17,7 @@ loop-key-init c =
     let some : c.args.pid ≢ 0 = positive c.self.inside.slab.slots c.args.self.now c.self.view_is c.args.pid c.requires.found in (
       tt,
       tt,
-      ap (list_any (λ e. not (e.0 == c.args.pid - 1) && list_any (λ d. d.1.number == c.args.ino) e.1.descriptors)) left
+      ap (list_any (λ e. not (e.0 == c.args.pid - 1) && list_any (λ d. d.1.ino == c.args.ino) e.1.descriptors)) left
           ∙ open_by_others c.self.inside.slab.slots c.args.pid c.args.ino some
           ∙ ap (λ m. is_open (without nat_cmp m c.args.pid) c.args.ino) c.self.view_is,
     )

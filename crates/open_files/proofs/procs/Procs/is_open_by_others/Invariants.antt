@@ -10,4 +10,4 @@ abbrev pub invariant-loop-key : goal.invariant-loop-key
 invariant-loop-key l =
     (goal.iterator-loop-key).can_next l.key-iterator ×
     (goal.iterator-loop-key).is_finite l.key-iterator ×
-    (list_any (λ e. not (e.0 == l.own) && list_any (λ d. d.1.number == l.ino) e.1.descriptors) l.key-iterator ≡ is_open (without nat_cmp l.self l.pid) l.ino)
+    (list_any (λ e. not (e.0 == l.own) && list_any (λ d. d.1.ino == l.ino) e.1.descriptors) l.key-iterator ≡ is_open (without nat_cmp l.self l.pid) l.ino)

@@ -11,7 +11,7 @@ overflow_sub-pid c =
 pub returns-in_default : goal.returns-in_default
 returns-in_default c =
     let some : c.args.pid ≢ 0 = positive c.self.inside.slab.slots c.args.self.now c.self.view_is c.args.pid (c.requires.found) in
-    record { set = unchanged c.self.inside.slab.slots c.args.self.now c.self.view_is c.args.pid (standing_at c.args.directory c.args.second) some (sym c.in_default.ensures.value) }
+    record { set = unchanged c.self.inside.slab.slots c.args.self.now c.self.view_is c.args.pid (standing_at c.args.dir_ino c.args.second_ino) some (sym c.in_default.ensures.value) }
 
 pub invariant_of-self-2 : goal.invariant_of-self-2
 invariant_of-self-2 c =
@@ -22,4 +22,4 @@ invariant_of-self-2 c =
 pub returns : goal.returns
 returns c =
     let some : c.args.pid ≢ 0 = positive c.self.inside.slab.slots c.args.self.now c.self.view_is c.args.pid (c.requires.found) in
-    record { set = changed c.self.inside.slab.slots c.args.self.now c.self.view_is c.args.pid c.in-Some.process.now c.stand_at.new.self (standing_at c.args.directory c.args.second) some (sym c.in-Some.ensures.value) c.stand_at.ensures.set }
+    record { set = changed c.self.inside.slab.slots c.args.self.now c.self.view_is c.args.pid c.in-Some.process.now c.stand_at.new.self (standing_at c.args.dir_ino c.args.second_ino) some (sym c.in-Some.ensures.value) c.stand_at.ensures.set }

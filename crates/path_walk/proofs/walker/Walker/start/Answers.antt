@@ -32,7 +32,7 @@ returns-clause-ok g c = record {
   slash = c.ends_with_slash.ensures ∙ ap (λ (l : List ℕ). (parts_of l).slash_at_end) c.bytes-bytes.ensures.all;
   links = refl;
   step = refl;
-  dir = refl;
+  dir_ino = refl;
   name = c.new.ensures.items;
 }
 

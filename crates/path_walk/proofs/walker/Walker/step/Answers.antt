@@ -46,7 +46,7 @@ pub load_inode-requires-clause-sound : goal.load_inode-requires-clause-sound
 load_inode-requires-clause-sound g c = sound_kept c.in_ok-found.ensures.same c.requires.sound
 
 pub load_inode-requires-clause-below : goal.load_inode-requires-clause-below
-load_inode-requires-clause-below g c = c.in_ok-found.ensures.below c.in-Some.n c.in-Some.is
+load_inode-requires-clause-below g c = c.in_ok-found.ensures.below c.in-Some.ino c.in-Some.is
 
 pub returns-in_err-inode-clause-each : goal.returns-in_err-inode-clause-each
 returns-in_err-inode-clause-each g c = λ t h there form.
@@ -76,7 +76,7 @@ follow-requires-clause-at g c =
 
 pub follow-requires-clause-there : goal.follow-requires-clause-there
 follow-requires-clause-there g c =
-    let n = c.in-Some.n in (
+    let n = c.in-Some.ino in (
       n,
       c.in_ok-found.ensures.below n c.in-Some.is,
       sym (same_ok _ _ c.in_ok-inode.ensures.each) ∙ sym (ap (λ (m : SectorMap). inode_at c.args.geometry m n) (same_map c.in_ok-inode.ensures.same)),
@@ -95,7 +95,7 @@ returns-in_err-follow-clause-each g c = λ t h there form.
     let w = c.args.self.now in
     let old = g.S.Sectors.state c.args.s.now in
     let new = g.S.Sectors.state c.follow.new.s in
-    let n = c.in-Some.n in
+    let n = c.in-Some.ino in
     let a = c.in_ok-found.ensures.each t h there ∙ ap (λ (o : Option ℕ). Ok o) c.in-Some.is in
     let found = found_there h c.args.cred.now w.number w.step w.here w.name.items n a in
     let v = c.in_ok-inode.inode in
@@ -118,7 +118,7 @@ returns-in_err-follow-clause-same g c = unchanged_joined c.in_ok-found.ensures.s
 pub returns-in_ok-follow-clause-each : goal.returns-in_ok-follow-clause-each
 returns-in_ok-follow-clause-each g c = λ t h there form.
     let w = c.args.self.now in
-    let n = c.in-Some.n in
+    let n = c.in-Some.ino in
     let a = c.in_ok-found.ensures.each t h there ∙ ap (λ (o : Option ℕ). Ok o) c.in-Some.is in
     let found = found_there h c.args.cred.now w.number w.step w.here w.name.items n a in
     let v = c.in_ok-inode.inode in
@@ -153,7 +153,7 @@ returns-in_ok-follow-clause-same g c = unchanged_joined c.in_ok-found.ensures.sa
 pub returns-else-is_followed-clause-each : goal.returns-else-is_followed-clause-each
 returns-else-is_followed-clause-each g c = λ t h there form.
     let w = c.args.self.now in
-    let n = c.in-Some.n in
+    let n = c.in-Some.ino in
     let a = c.in_ok-found.ensures.each t h there ∙ ap (λ (o : Option ℕ). Ok o) c.in-Some.is in
     let found = found_there h c.args.cred.now w.number w.step w.here w.name.items n a in
     let v = c.in_ok-inode.inode in
@@ -167,7 +167,7 @@ returns-else-is_followed-clause-each g c = λ t h there form.
 
 pub returns-else-is_followed-clause-at : goal.returns-else-is_followed-clause-at
 returns-else-is_followed-clause-at g c =
-    let n = c.in-Some.n in
+    let n = c.in-Some.ino in
     record {
       below = c.in_ok-found.ensures.below n c.in-Some.is;
       inode = sym (same_ok _ _ c.in_ok-inode.ensures.each) ∙ ap (λ (m : SectorMap). inode_at c.args.geometry m n) (same_map c.in_ok-found.ensures.same);

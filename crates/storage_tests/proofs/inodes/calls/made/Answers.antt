@@ -11,7 +11,7 @@ load_acl-requires-clause-sound g c =
 
 pub load_acl-requires-clause-there : goal.load_acl-requires-clause-there
 load_acl-requires-clause-there g c =
-    (c.in-Ok.n, c.in-Ok.ensures.free.1, c.in_ok-made.ensures.found ∙ ap (λ image. inode_at c.args.geometry image c.in-Ok.n) (map_unchanged c.in_ok-made.ensures.same))
+    (c.in-Ok.ino, c.in-Ok.ensures.free.1, c.in_ok-made.ensures.found ∙ ap (λ image. inode_at c.args.geometry image c.in-Ok.ino) (map_unchanged c.in_ok-made.ensures.same))
 
 pub load_default_acl-requires-clause-sound : goal.load_default_acl-requires-clause-sound
 load_default_acl-requires-clause-sound g c =
@@ -20,9 +20,9 @@ load_default_acl-requires-clause-sound g c =
 
 pub load_default_acl-requires-clause-there : goal.load_default_acl-requires-clause-there
 load_default_acl-requires-clause-there g c = (
-  c.in-Ok.n,
+  c.in-Ok.ino,
   c.in-Ok.ensures.free.1,
-  c.in_ok-made.ensures.found ∙ ap (λ image. inode_at c.args.geometry image c.in-Ok.n)
+  c.in_ok-made.ensures.found ∙ ap (λ image. inode_at c.args.geometry image c.in-Ok.ino)
       (map_unchanged (unchanged_joined c.in_ok-made.ensures.same c.in-Ok-load_acl.ensures.same)),
 )
 
@@ -33,6 +33,6 @@ returns-clause-sound g c =
 
 pub returns-clause-empty : goal.returns-clause-empty
 returns-clause-empty g c =
-    subst (λ (image : SectorMap). Holds image (inode_at c.args.geometry image c.in-Ok.n) [])
+    subst (λ (image : SectorMap). Holds image (inode_at c.args.geometry image c.in-Ok.ino) [])
     (map_unchanged (unchanged_joined (unchanged_joined c.in_ok-made.ensures.same c.in-Ok-load_acl.ensures.same) c.in-Ok-load_default_acl.ensures.same))
     c.in-Ok.ensures.empty

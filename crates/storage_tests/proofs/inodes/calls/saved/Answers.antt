@@ -22,7 +22,7 @@ save-requires-clause-sound g c =
 
 pub save-requires-clause-attributes : goal.save-requires-clause-attributes
 save-requires-clause-attributes g c =
-    same_attributes c.args.geometry c.args.n (g.S.Sectors.state c.args.s.now.inner) (g.S.Sectors.state c.load.new.s.inner) c.in_ok-inode.ensures.same
+    same_attributes c.args.geometry c.args.ino (g.S.Sectors.state c.args.s.now.inner) (g.S.Sectors.state c.load.new.s.inner) c.in_ok-inode.ensures.same
     c.in_ok-inode.inode c.in_ok-inode.ensures.found
 
 pub save-requires-clause-spare : goal.save-requires-clause-spare
@@ -35,7 +35,7 @@ save_acl-requires-clause-sound g c =
 
 pub save_acl-requires-clause-attributes : goal.save_acl-requires-clause-attributes
 save_acl-requires-clause-attributes g c =
-    same_attributes c.args.geometry c.args.n (g.S.Sectors.state c.args.s.now.inner) (g.S.Sectors.state c.load.new.s.inner) c.in_ok-inode.ensures.same
+    same_attributes c.args.geometry c.args.ino (g.S.Sectors.state c.args.s.now.inner) (g.S.Sectors.state c.load.new.s.inner) c.in_ok-inode.ensures.same
     c.in_ok-inode.inode c.in_ok-inode.ensures.found
 
 pub save_acl-requires-clause-spare : goal.save_acl-requires-clause-spare
@@ -48,7 +48,7 @@ save_default_acl-requires-clause-sound g c =
 
 pub save_default_acl-requires-clause-attributes : goal.save_default_acl-requires-clause-attributes
 save_default_acl-requires-clause-attributes g c =
-    same_attributes c.args.geometry c.args.n (g.S.Sectors.state c.args.s.now.inner) (g.S.Sectors.state c.load.new.s.inner) c.in_ok-inode.ensures.same
+    same_attributes c.args.geometry c.args.ino (g.S.Sectors.state c.args.s.now.inner) (g.S.Sectors.state c.load.new.s.inner) c.in_ok-inode.ensures.same
     c.in_ok-inode.inode c.in_ok-inode.ensures.found
 
 pub save_default_acl-requires-clause-spare : goal.save_default_acl-requires-clause-spare
@@ -58,7 +58,7 @@ save_default_acl-requires-clause-spare g c =
 pub returns-in_ok-write_inode-in-Inode-clause-sound : goal.returns-in_ok-write_inode-in-Inode-clause-sound
 returns-in_ok-write_inode-in-Inode-clause-sound g c =
     let p = c.args.geometry in
-    let n = c.args.n in
+    let n = c.args.ino in
     let v = c.in_ok-inode.inode in
     let old = g.S.Sectors.state c.args.s.now.inner in
     let mid = g.S.Sectors.state c.load.new.s.inner in
@@ -70,7 +70,7 @@ returns-in_ok-write_inode-in-Inode-clause-sound g c =
 pub returns-in_ok-write_inode-in-Inode-clause-empty : goal.returns-in_ok-write_inode-in-Inode-clause-empty
 returns-in_ok-write_inode-in-Inode-clause-empty g c =
     let p = c.args.geometry in
-    let n = c.args.n in
+    let n = c.args.ino in
     let v = c.in_ok-inode.inode in
     let old = g.S.Sectors.state c.args.s.now.inner in
     let mid = g.S.Sectors.state c.load.new.s.inner in
@@ -81,15 +81,15 @@ returns-in_ok-write_inode-in-Inode-clause-empty g c =
 
 pub returns-in_ok-save-in-Attributes-clause-empty : goal.returns-in_ok-save-in-Attributes-clause-empty
 returns-in_ok-save-in-Attributes-clause-empty g c =
-    empty_after c.args.geometry c.args.n (g.S.Sectors.state c.args.s.now.inner) (g.S.Sectors.state c.load.new.s.inner) (g.S.Sectors.state c.save.new.s.inner)
+    empty_after c.args.geometry c.args.ino (g.S.Sectors.state c.args.s.now.inner) (g.S.Sectors.state c.load.new.s.inner) (g.S.Sectors.state c.save.new.s.inner)
     c.in_ok-inode.ensures.same c.in_ok-save-in-Attributes.ensures.bytes
 
 pub returns-in_ok-save_acl-in-Access-clause-empty : goal.returns-in_ok-save_acl-in-Access-clause-empty
 returns-in_ok-save_acl-in-Access-clause-empty g c =
-    empty_after c.args.geometry c.args.n (g.S.Sectors.state c.args.s.now.inner) (g.S.Sectors.state c.load.new.s.inner) (g.S.Sectors.state c.save_acl.new.s.inner)
+    empty_after c.args.geometry c.args.ino (g.S.Sectors.state c.args.s.now.inner) (g.S.Sectors.state c.load.new.s.inner) (g.S.Sectors.state c.save_acl.new.s.inner)
     c.in_ok-inode.ensures.same c.in_ok-save_acl-in-Access.ensures.bytes
 
 pub returns-in_ok-save_default_acl-in-Default-clause-empty : goal.returns-in_ok-save_default_acl-in-Default-clause-empty
 returns-in_ok-save_default_acl-in-Default-clause-empty g c =
-    empty_after c.args.geometry c.args.n (g.S.Sectors.state c.args.s.now.inner) (g.S.Sectors.state c.load.new.s.inner)
+    empty_after c.args.geometry c.args.ino (g.S.Sectors.state c.args.s.now.inner) (g.S.Sectors.state c.load.new.s.inner)
     (g.S.Sectors.state c.save_default_acl.new.s.inner) c.in_ok-inode.ensures.same c.in_ok-save_default_acl-in-Default.ensures.bytes

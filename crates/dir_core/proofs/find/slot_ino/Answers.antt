@@ -3,7 +3,7 @@ use Rattle.std.proofs.lemmas.List.{take_all, length-drop}
 use Rattle.byteorder.specs.Endian.{little_number}
 use Rattle.fs_layout.specs.Bytes.{u32_of}
 use Rattle.dir_core.proofs.Pieces.{inode_there}
-use Rattle.dir_core.proofs.find.slot_inode.Goals as goal
+use Rattle.dir_core.proofs.find.slot_ino.Goals as goal
 
 pub returns : goal.returns
 unfolding u32_of
