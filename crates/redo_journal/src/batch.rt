@@ -13,6 +13,7 @@ ghost use Rattle.redo_journal.specs.Batch.{IsBatch, IsOnDisk, targets, contents,
 use indexmap::IndexSet;
 use std::alloc::{AllocError, Global};
 use std::marker::Model;
+use std::slice::from_ref;
 
 // How many marks a batch has.
 const MARKS: usize = 1024;
@@ -96,7 +97,7 @@ fn set_content(contents: &mut Vec<[u8; 512]>, at: usize, from: &[u8; 512])
         contents[at] = *from;
         return;
     }
-    match contents.push(*from) {
+    match contents.extend_from_slice(from_ref(from)) {
         Ok(()) => {}
         Err(_) => unreachable!(),
     }
