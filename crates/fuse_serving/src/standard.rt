@@ -1,4 +1,5 @@
 //! The kernel at the standard input and output of a process.
+ghost use Rattle.std.specs.Prelude.{◌≤◌, length, IfOk};
 
 use crate::caller::Caller;
 use crate::kernel::Kernel;
@@ -8,7 +9,7 @@ use fs_cred::Caps;
 use fuse_protocol::Time;
 use std::alloc::Global;
 use std::fs;
-use std::io::{self, ErrorKind, Read, Write};
+use std::io::{self, ErrorKind, Read, Seek, SeekFrom, Write};
 use std::path::PathBuf;
 use std::rt::{Clock, Files};
 use std::time::{SystemTime, UNIX_EPOCH};
@@ -23,12 +24,19 @@ const ENODEV: i32 = 19;
 // Of /proc/PID/status one read gives so many bytes at least, or all: few processes have groups for more.
 const STATUS_ROOM: usize = 4096;
 
+// The status of a process, which stays open: to open it anew takes longer than to read it.
+#[derive(Drop)]
+struct Seen<F> {
+    pid: u32,
+    status: F,
+}
+
 /// Reads requests from a stream and writes replies to another: who mounts opens /dev/fuse and gives it as both. Of callers
 /// /proc tells, and of the time the system's clock.
 ///
 /// std tells nothing of what is read from a device or written to it, so nothing is claimed of it here.
 #[derive(Drop)]
-pub struct Standard<R, I, O> {
+pub struct Standard<R: Files, I, O> {
     rt: R,
     input: I,
     output: O,
@@ -36,11 +44,13 @@ pub struct Standard<R, I, O> {
     path: String,
     // The status of a process is read into it, over what was read before.
     room: Vec<u8>,
+    // The process that was looked up last.
+    last: Option<Seen<R::File>>,
     // The user namespace of this process, once it was asked for: it stays in it.
     own_users: Option<PathBuf<Global>>,
 }
 
-impl<R: AllocGlobal, I, O> Standard<R, I, O> {
+impl<R: Files + AllocGlobal, I, O> Standard<R, I, O> {
     /// The kernel at these streams.
     pub fn new(rt: R, input: I, output: O) -> Standard<R, I, O> {
         let path = String::new(rt.alloc());
@@ -51,6 +61,7 @@ impl<R: AllocGlobal, I, O> Standard<R, I, O> {
             output,
             path,
             room,
+            last: None,
             own_users: None,
         }
     }
@@ -60,15 +71,25 @@ fn is_errno(fault: &io::Error, errno: i32) -> bool {
     fault.raw_os_error() == Some(errno)
 }
 
-// All of a file of /proc. A read that gives less than was asked for has given its end.
-fn read_all<'a, F: Read>(file: &mut F, room: &'a mut Vec<u8>) -> io::Result<&'a [u8]> {
+// Reads all of a file of /proc, and tells how many bytes that is. A read that gives less than was asked for has given its end.
+fn read_all<F: Read>(file: &mut F, room: &mut Vec<u8>) -> io::Result<usize>
+    ensures { IfOk result (λ size. size ≤ length room.new.items) }
+{
     room.resize(STATUS_ROOM, 0)?;
     let size = file.read(room)?;
     if size < STATUS_ROOM {
-        return Ok(&room[..size]);
+        return Ok(size);
     }
     file.read_to_end(room)?;
-    Ok(room)
+    Ok(room.len())
+}
+
+// Reads a file of /proc that was read before, from its beginning.
+fn read_anew<F: Read + Seek>(file: &mut F, room: &mut Vec<u8>) -> io::Result<usize>
+    ensures { IfOk result (λ size. size ≤ length room.new.items) }
+{
+    file.seek(SeekFrom::Start(0))?;
+    read_all(file, room)
 }
 
 impl<R: Files + AllocGlobal, I, O> Standard<R, I, O> {
@@ -86,13 +107,39 @@ impl<R: Files + AllocGlobal, I, O> Standard<R, I, O> {
         Ok(same)
     }
 
+    // Opens the status of a process, and reads it.
+    fn read_opened(&mut self, pid: u32) -> io::Result<usize>
+        ensures { IfOk result (λ size. size ≤ length self.new.room.items) }
+    {
+        self.path.clear();
+        write!(self.path, "/proc/{pid}/status")?;
+        let mut status = fs::open(&self.rt, self.path.as_str())?;
+        let size = read_all(&mut status, &mut self.room)?;
+        self.last = Some(Seen { pid, status });
+        Ok(size)
+    }
+
+    // Reads the status of a process, and tells how many bytes it has. What is open of the one that was looked up last tells of that
+    // process alone: once it has ended reading fails, also where another has got its number.
+    fn read_status(&mut self, pid: u32) -> io::Result<usize>
+        ensures { IfOk result (λ size. size ≤ length self.new.room.items) }
+    {
+        if let Some(last) = &mut self.last {
+            if last.pid == pid {
+                if let Ok(size) = read_anew(&mut last.status, &mut self.room) {
+                    return Ok(size);
+                }
+            }
+        }
+        self.last = None;
+        self.read_opened(pid)
+    }
+
     // What /proc shows of a process that asks as this user and this group. Capabilities are those of its user namespace, and count
     // here only where that is this one's.
     fn look_up(&mut self, pid: u32, uid: u32, gid: u32) -> io::Result<Caller> {
-        self.path.clear();
-        write!(self.path, "/proc/{pid}/status")?;
-        let mut file = fs::open(&self.rt, self.path.as_str())?;
-        let text = read_all(&mut file, &mut self.room)?;
+        let size = self.read_status(pid)?;
+        let text = &self.room[..size];
         let mut caller = caller_of_status(self.rt.alloc(), text, uid, gid)?;
         if !caller.caps.is_empty() && !self.shares_users(pid)? {
             caller.caps = Caps::empty();
