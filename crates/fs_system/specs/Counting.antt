@@ -1,9 +1,16 @@
 -- How much is free, as a store remembers it.
 --     TellsSpace        these are the numbers of each state in which a map goes on
 --     IsRemembered        they are, where they are known
-use Rattle.std.specs.Prelude.{◌≡◌, ℕ, Option, IfSome}
+--     TellsCounts        the clear bits of each sector of which they are known
+--     HasCounts        they are those of what a transaction's sectors are now
+--     StoreKnows, TxnKnows        what a store remembers, and what a transaction does
+use Rattle.std.specs.Prelude.{◌≡◌, ℕ, Bool, false, Option, IfSome}
+use Rattle.free_counts.specs.Known.{CountList, TellsClear}
 use Rattle.fs_layout.specs.declared.geometry.Geometry.{Geometry}
 use Rattle.fs_layout.specs.Bytes.{SectorMap}
+use Rattle.fs_layout.specs.Header.{header_of}
+use Rattle.redo_journal.specs.Meaning.{SameMap}
+use Rattle.sector_txn.specs.Sectors.{TxnState}
 use Rattle.fs_model.specs.Processes.{ProcessTable}
 use Rattle.fs_model.specs.States.{State}
 use Rattle.fs_model.specs.Trees.{free_inodes}
@@ -17,3 +24,23 @@ pub record TellsSpace (size : ℕ) (map : SectorMap) (free : FreeSpace) : Type 0
 
 abbrev pub IsRemembered : ℕ → SectorMap → Option FreeSpace → Type 0
 IsRemembered size map free = IfSome free (TellsSpace size map)
+
+-- The counts that are known are those of the map, whose sector 0 says where its log ends.
+abbrev pub TellsCounts : SectorMap → CountList → Type 0
+TellsCounts map counts = TellsClear (header_of (map 0)) map counts
+
+-- The same of a transaction. Its disk says where the log ends.
+pub record HasCounts (txn : TxnState) (counts : CountList) : Type 0 where
+  pub told : TellsClear txn.header txn.sectors counts
+
+-- how much is free in a map, and the counts of sectors, as far as they are known
+pub record StoreKnows (size : ℕ) (map : SectorMap) (free : Option FreeSpace) (counts : CountList) : Type 0 where
+  pub space : IsRemembered size map free
+  pub counts_are : TellsCounts map counts
+
+-- How much was free before a transaction. Its counts are those of before and of now: what was put isn't counted.
+pub record TxnKnows (size : ℕ) (before now : SectorMap) (free : Option FreeSpace) (is_changed : Bool) (counts : CountList) : Type 0 where
+  pub space : IsRemembered size before free
+  pub unchanged : is_changed ≡ false → SameMap now before
+  pub counts_before : TellsCounts before counts
+  pub counts_now : TellsCounts now counts

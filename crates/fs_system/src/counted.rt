@@ -1,4 +1,4 @@
-//! A store that remembers how much is free in it, once that was counted.
+//! A store that remembers how much is free in it, once that was counted, and in each sector of the bitmaps.
 
 ghost use Rattle.std.specs.Prelude.{◌≡◌, ℕ, false, Some, IsOk, IfOk};
 ghost use Rattle.fs_layout.specs.Header.{header_of, max_delta};
@@ -7,8 +7,14 @@ ghost use Rattle.redo_journal.specs.States.{IsIdle};
 ghost use Rattle.sector_disk.specs.Disk.{IsSame, ForgetsPast, Elapses, HasCause, HasWriteCause};
 ghost use Rattle.sector_txn.specs.Images.{LeavesOneOf, LeavesOldOr};
 ghost use Rattle.sector_txn.specs.Stores.{present, map_before, map_now, txn_state, disk_after};
-ghost use Rattle.fs_system.specs.Counting.{TellsSpace, IsRemembered};
+ghost use Rattle.sector_txn.specs.Sectors.{IsUnchanged};
+ghost use Rattle.bit_alloc.specs.declared.bitmap.Bitmap.TheVariants.{Blocks, Inodes};
+ghost use Rattle.bit_alloc.specs.Bitmaps.{HasBitmaps, free_numbers};
+ghost use Rattle.fs_system.specs.Counting.{TellsSpace, IsRemembered, TellsCounts, HasCounts};
 
+use bit_alloc::Bitmap;
+use free_counts::FreeCounts;
+use fs_layout::Geometry;
 use redo_journal::Broken;
 use sector_disk::{CrashDisk, Disk, DiskFault};
 use sector_txn::{Sectors, Store, Txn};
@@ -27,48 +33,55 @@ pub(crate) struct FreeSpace {
 pub(crate) struct CountedStore<D: Disk> {
     store: Store<D>,
     free: Option<FreeSpace>,
+    counts: FreeCounts,
 }
 
 impl<D: Disk> Model for CountedStore<D> {
     ghost use Rattle.sector_txn.specs.Stores.{StoreView, present};
-    ghost use Rattle.fs_system.specs.Counting.{IsRemembered};
+    ghost use Rattle.fs_system.specs.Counting.{StoreKnows};
 
     ghost Value = { StoreView D };
 
     ghost view = { λ counted. counted.store };
 
-    ghost invariant = { λ counted. IsRemembered (D.state counted.store.disk).size (present D.state counted.store) counted.free };
+    ghost invariant = { λ counted. StoreKnows (D.state counted.store.disk).size (present D.state counted.store)
+        counted.free counted.counts };
 }
 
-/// A transaction on such a store. What is remembered stays so long as nothing is put, and comes back where that is dropped.
+/// A transaction on such a store. What is remembered stays so long as nothing is put, and comes back where that is dropped. Of a
+/// sector that was put the count is forgotten either way.
 #[must_use = "its changes are to be kept or dropped"]
 pub(crate) struct CountedTxn<D: Disk> {
     txn: Txn<D>,
     // In the store that it began with.
     free: Option<FreeSpace>,
     is_changed: bool,
+    counts: FreeCounts,
 }
 
 impl<D: Disk> Model for CountedTxn<D> {
-    ghost use Rattle.std.specs.Prelude.{◌≡◌, false};
-    ghost use Rattle.redo_journal.specs.Meaning.{SameMap};
     ghost use Rattle.sector_txn.specs.Stores.{TxnView, map_before, map_now};
-    ghost use Rattle.fs_system.specs.Counting.{IsRemembered};
+    ghost use Rattle.fs_system.specs.Counting.{TxnKnows};
 
     ghost Value = { TxnView D };
 
     ghost view = { λ counted. counted.txn };
 
-    ghost invariant = { λ counted. IsRemembered (D.state counted.txn.disk).size (map_before D.state counted.txn) counted.free
-        × (counted.is_changed ≡ false → SameMap (map_now D.state counted.txn) (map_before D.state counted.txn)) };
+    ghost invariant = { λ counted. TxnKnows (D.state counted.txn.disk).size (map_before D.state counted.txn) (map_now D.state counted.txn)
+        counted.free counted.is_changed counted.counts };
 }
 
 impl<D: Disk> CountedStore<D> {
-    /// A store of which nothing is known.
-    pub(crate) fn uncounted(store: Store<D>) -> CountedStore<D>
+    /// A store of which no more is known than these counts.
+    pub(crate) fn uncounted(store: Store<D>, counts: FreeCounts) -> CountedStore<D>
+        requires { TellsCounts (present D.state store) counts }
         ensures { result ≡ store }
     {
-        CountedStore { store, free: None }
+        CountedStore {
+            store,
+            free: None,
+            counts,
+        }
     }
 
     /// How much is free, where that is known.
@@ -95,11 +108,16 @@ impl<D: Disk> CountedStore<D> {
         ensures header { (txn_state D.state result).header ≡ header_of ((txn_state D.state result).sectors 0) }
         ensures room { (txn_state D.state result).room ≡ max_delta (txn_state D.state result).header }
     {
-        let CountedStore { store, free } = self;
+        let CountedStore {
+            store,
+            free,
+            counts,
+        } = self;
         CountedTxn {
             txn: store.begin(),
             free,
             is_changed: false,
+            counts,
         }
     }
 
@@ -111,9 +129,17 @@ impl<D: Disk> CountedStore<D> {
         ensures cause { HasCause (D.state self.disk) (D.state (disk_after result)) result }
         ensures told { HasWriteCause (D.state self.disk) (D.state (disk_after result)) result }
     {
-        let CountedStore { store, free } = self;
+        let CountedStore {
+            store,
+            free,
+            counts,
+        } = self;
         match store.flush() {
-            Ok(store) => Ok(CountedStore { store, free }),
+            Ok(store) => Ok(CountedStore {
+                store,
+                free,
+                counts,
+            }),
             Err(broken) => Err(broken),
         }
     }
@@ -134,7 +160,11 @@ impl<D: Disk> CountedStore<D> {
         ensures cause { HasCause (D.state self.disk) (D.state (disk_of result)) result }
         ensures told { HasWriteCause (D.state self.disk) (D.state (disk_of result)) result }
     {
-        let CountedStore { store, free: _ } = self;
+        let CountedStore {
+            store,
+            free: _,
+            counts: _,
+        } = self;
         store.close()
     }
 
@@ -142,7 +172,11 @@ impl<D: Disk> CountedStore<D> {
     pub(crate) fn into_disk(self) -> D
         ensures { result ≡ self.disk }
     {
-        let CountedStore { store, free: _ } = self;
+        let CountedStore {
+            store,
+            free: _,
+            counts: _,
+        } = self;
         store.into_disk()
     }
 }
@@ -161,6 +195,25 @@ impl<D: CrashDisk> CountedStore<D> {
     }
 }
 
+// How many data sectors and inodes are free. Only sectors of which nothing is known are read.
+fn count_both<S: Sectors>(
+    counts: &mut FreeCounts,
+    s: &mut S,
+    geometry: Geometry,
+) -> Result<FreeSpace, DiskFault>
+    requires bitmaps { HasBitmaps geometry (S.state s.old) }
+    requires told { HasCounts (S.state s.old) counts.old }
+    ensures sectors { IfOk result (λ free. free.sectors ≡ free_numbers geometry Blocks (S.state s.old).sectors) }
+    ensures inodes { IfOk result (λ free. free.inodes ≡ free_numbers geometry Inodes (S.state s.old).sectors) }
+    ensures told { HasCounts (S.state s.old) counts.new }
+    ensures same { IsUnchanged (S.state s.old) (S.state s.new) }
+    ensures cause { HasCause (S.state s.old).disk (S.state s.new).disk result }
+{
+    let sectors = counts.count_free(s, geometry, Bitmap::Blocks)?;
+    let inodes = counts.count_free(s, geometry, Bitmap::Inodes)?;
+    Ok(FreeSpace { sectors, inodes })
+}
+
 impl<D: Disk> CountedTxn<D> {
     /// Makes the changes part of the store, all of them at once.
     pub(crate) fn keep(self) -> Result<CountedStore<D>, Broken<D>>
@@ -175,13 +228,18 @@ impl<D: Disk> CountedTxn<D> {
             txn,
             free,
             is_changed,
+            counts,
         } = self;
         match txn.keep() {
             Ok(store) => {
                 if is_changed {
-                    return Ok(CountedStore::uncounted(store));
+                    return Ok(CountedStore::uncounted(store, counts));
                 }
-                Ok(CountedStore { store, free })
+                Ok(CountedStore {
+                    store,
+                    free,
+                    counts,
+                })
             }
             Err(broken) => Err(broken),
         }
@@ -196,11 +254,26 @@ impl<D: Disk> CountedTxn<D> {
             txn,
             free,
             is_changed: _,
+            counts,
         } = self;
         CountedStore {
             store: txn.drop_delta(),
             free,
+            counts,
         }
+    }
+
+    /// How much is free, before anything was put. Of the bitmaps only sectors of which nothing is known are read.
+    pub(crate) fn count(&mut self, geometry: Geometry) -> Result<FreeSpace, DiskFault>
+        requires bitmaps { HasBitmaps geometry (txn_state D.state self.old) }
+        requires header { (txn_state D.state self.old).header ≡ header_of ((txn_state D.state self.old).sectors 0) }
+        requires nothing_put { SameMap (map_now D.state self.old) (map_before D.state self.old) }
+        ensures sectors { IfOk result (λ free. free.sectors ≡ free_numbers geometry Blocks (txn_state D.state self.old).sectors) }
+        ensures inodes { IfOk result (λ free. free.inodes ≡ free_numbers geometry Inodes (txn_state D.state self.old).sectors) }
+        ensures same { IsUnchanged (txn_state D.state self.old) (txn_state D.state self.new) }
+        ensures cause { HasCause (D.state self.old.disk) (D.state self.new.disk) result }
+    {
+        count_both(&mut self.counts, &mut self.txn, geometry)
     }
 }
 
@@ -221,6 +294,7 @@ impl<D: Disk> Sectors for CountedTxn<D> {
 
     fn put(&mut self, n: u32, from: &[u8; 512]) {
         self.is_changed = true;
+        self.counts.forget(n);
         self.txn.put(n, from);
     }
 

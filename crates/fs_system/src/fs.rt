@@ -22,6 +22,7 @@ use crate::counted::CountedStore;
 use crate::faults::MountFault;
 use crate::stored::{count_space, enter_kept, exit_kept, failed, perform_kept, stamp_kept};
 use crate::sweeping::sweep;
+use free_counts::FreeCounts;
 use fs_check::check;
 use fs_cred::{Cred, Errno};
 use fs_layout::{Geometry, Super};
@@ -162,10 +163,13 @@ impl<D: Disk + Drop> Fs<D> {
         let Ok(geometry) = read_geometry(&mut disk) else {
             return Err((RestartFault::DiskFault, disk));
         };
+        let Ok(counts) = FreeCounts::new(alloc, geometry) else {
+            return Err((RestartFault::OutOfMemory, disk));
+        };
         match open_store(alloc, disk) {
             Ok(store) => match sweep(store, geometry) {
                 Ok(store) => Ok(Fs {
-                    base: Some(Ok(CountedStore::uncounted(store))),
+                    base: Some(Ok(CountedStore::uncounted(store, counts))),
                     geometry,
                     procs: Procs::new(alloc),
                     time: 0,

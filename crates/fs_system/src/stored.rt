@@ -2,10 +2,7 @@
 
 ghost use Rattle.std.specs.Prelude.{◌≡◌, Ok, Err, Some, IsTrue, IfOk};
 ghost use Rattle.sector_disk.specs.Disk.{HasCause};
-ghost use Rattle.sector_txn.specs.Sectors.{IsUnchanged};
 ghost use Rattle.sector_txn.specs.Stores.{present, disk_after};
-ghost use Rattle.bit_alloc.specs.declared.bitmap.Bitmap.TheVariants.{Blocks, Inodes};
-ghost use Rattle.bit_alloc.specs.Bitmaps.{HasBitmaps, free_numbers};
 ghost use Rattle.fs_model.specs.States.{State};
 ghost use Rattle.fs_model.specs.declared.event.Event.TheVariants.{Call as Calls, Enter, Exit, Stamp, Statfs};
 ghost use Rattle.fs_system.specs.Seen.{IsRunning, IsOn};
@@ -15,9 +12,8 @@ ghost use Rattle.fs_model.specs.declared.reply.Reply.TheVariants.{Refused};
 ghost use Rattle.fs_cred.specs.declared.refusal.Refusal.TheVariants.{Failed};
 
 use crate::calls::perform;
-use crate::counted::{CountedStore, FreeSpace};
+use crate::counted::CountedStore;
 use crate::stamping::{stamp, times_are_in_range};
-use bit_alloc::{Bitmap, count_free};
 use file_calls::exit;
 use fs_cred::{Errno, Refusal};
 use fs_layout::Geometry;
@@ -26,7 +22,6 @@ use name_calls::enter;
 use open_files::Procs;
 use redo_journal::Broken;
 use sector_disk::{Disk, DiskFault};
-use sector_txn::Sectors;
 use std::alloc::Global;
 
 /// The reply to a call that fails.
@@ -132,20 +127,7 @@ pub(crate) fn stamp_kept<D: Disk>(
     }
 }
 
-// How many data sectors and inodes are free.
-fn count_both<S: Sectors>(s: &mut S, geometry: Geometry) -> Result<FreeSpace, DiskFault>
-    requires { HasBitmaps geometry (S.state s.old) }
-    ensures sectors { IfOk result (λ free. free.sectors ≡ free_numbers geometry Blocks (S.state s.old).sectors) }
-    ensures inodes { IfOk result (λ free. free.inodes ≡ free_numbers geometry Inodes (S.state s.old).sectors) }
-    ensures same { IsUnchanged (S.state s.old) (S.state s.new) }
-    ensures cause { HasCause (S.state s.old).disk (S.state s.new).disk result }
-{
-    let sectors = count_free(s, geometry, Bitmap::Blocks)?;
-    let inodes = count_free(s, geometry, Bitmap::Inodes)?;
-    Ok(FreeSpace { sectors, inodes })
-}
-
-// Counts how much is free. The store remembers it.
+// Counts how much is free, anew where that isn't known of a sector. The store remembers it.
 fn count_anew<D: Disk>(
     store: CountedStore<D>,
     geometry: Geometry,
@@ -158,7 +140,7 @@ fn count_anew<D: Disk>(
 {
     let _processes = procs;
     let mut txn = store.begin();
-    match count_both(&mut txn, geometry) {
+    match txn.count(geometry) {
         Ok(free) => {
             let mut store = txn.drop_delta();
             store.remember(free);

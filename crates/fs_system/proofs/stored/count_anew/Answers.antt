@@ -1,6 +1,7 @@
 use Rattle.std.proofs.Common.{refl, sym, subst}
 use Rattle.sector_disk.specs.Disk.{HasFailed}
-use Rattle.sector_txn.specs.Stores.{StoreView, present, map_now}
+use Rattle.redo_journal.proofs.Meaning.{same_back, same_chain}
+use Rattle.sector_txn.specs.Stores.{StoreView, present, map_before, map_now}
 use Rattle.fs_model.specs.declared.event.Event.TheVariants.{Statfs}
 use Rattle.fs_model.specs.declared.reply.Reply.TheVariants.{Space}
 use Rattle.fs_system.specs.Doing.{Does}
@@ -10,8 +11,15 @@ use Rattle.fs_system.proofs.Kept.{begins, begun_again, of_stores, reads_alone, r
 use Rattle.fs_system.proofs.Remembered.{counted_tells, tells_after}
 use Rattle.fs_system.proofs.stored.count_anew.Goals as goal
 
-pub count_both-requires : goal.count_both-requires
-count_both-requires g c =
+pub count-requires-clause-nothing_put : goal.count-requires-clause-nothing_put
+count-requires-clause-nothing_put g c =
+    let state = g.D.Disk.state in
+    let begun = c.begin-txn.result in
+    same_chain (map_now state begun) (present state c.args.store) (map_before state begun) c.begin-txn.ensures.map
+    (same_back (map_before state begun) (present state c.args.store) c.begin-txn.ensures.before)
+
+pub count-requires-clause-bitmaps : goal.count-requires-clause-bitmaps
+count-requires-clause-bitmaps g c =
     (begins g.D.Disk.state c.args.geometry c.args.store c.args.procs.now c.begin-txn.result c.begin-txn.ensures.disk c.begin-txn.ensures.map c.begin-txn.ensures.before
     c.requires.running.0 c.requires.running.1 c.begin-txn.ensures.header c.begin-txn.ensures.room).sound.bitmaps
 
@@ -26,8 +34,8 @@ remember-requires g c =
     let dropped = c.drop_delta-store in
     let some = c.requires.running in
     tells_after size (state dropped.result.disk).size first (present state dropped.result) c.in-Ok.free
-    (reads_alone state store c.begin-txn.result begun.disk begun.before c.count_both.new.s same dropped.result.disk dropped.ensures.disk).narrowed.size
-    (begun_again state c.args.geometry store c.args.procs.now c.begin-txn.result begun.disk begun.map begun.before c.count_both.new.s same dropped.result dropped.ensures.map)
+    (reads_alone state store c.begin-txn.result begun.disk begun.before c.count.new.self same dropped.result.disk dropped.ensures.disk).narrowed.size
+    (begun_again state c.args.geometry store c.args.procs.now c.begin-txn.result begun.disk begun.map begun.before c.count.new.self same dropped.result dropped.ensures.map)
     (counted_tells size c.args.geometry first c.args.procs.now some.0
     (running_same size size c.args.geometry (present state store) first c.args.procs.now c.args.procs.now some.0 refl begun.map refl some.1)
     c.in-Ok.free c.in-Ok.ensures.sectors c.in-Ok.ensures.inodes)
@@ -47,10 +55,10 @@ returns-in-Ok g c = record {
       let tells = counted_tells size c.args.geometry first c.args.procs.now s here free c.in-Ok.ensures.sectors c.in-Ok.ensures.inodes in
       subst (λ (after : StoreView g.row.D.Denot). IsRunning (state after.disk).size c.args.geometry (present state after) c.args.procs.now s
       × Does (state store.disk) (state after.disk) s Statfs (Space free.sectors free.inodes) s) (sym c.remember.ensures) (
-        runs_on state c.args.geometry store c.args.procs.now c.begin-txn.result begun.disk begun.map begun.before c.count_both.new.s same
+        runs_on state c.args.geometry store c.args.procs.now c.begin-txn.result begun.disk begun.map begun.before c.count.new.self same
             dropped.result dropped.ensures.disk dropped.ensures.map s r c.args.procs.now refl,
         does_told (state store.disk) (state dropped.result.disk) (g.met.D.Disk.only_now store.disk)
-            (reads_alone state store c.begin-txn.result begun.disk begun.before c.count_both.new.s same dropped.result.disk dropped.ensures.disk)
+            (reads_alone state store c.begin-txn.result begun.disk begun.before c.count.new.self same dropped.result.disk dropped.ensures.disk)
             size c.args.geometry first c.args.procs.now s here free.sectors free.inodes (tells.sectors c.args.geometry c.args.procs.now s here)
             (tells.inodes c.args.geometry c.args.procs.now s here),
       );
@@ -63,12 +71,12 @@ returns-in-Err g c = record {
       let same = c.in-Err.ensures.same.store in
       let dropped = c.drop_delta.ensures in (
         runs_on g.D.Disk.state c.args.geometry c.args.store c.args.procs.now c.begin-txn.result c.begin-txn.ensures.disk c.begin-txn.ensures.map c.begin-txn.ensures.before
-            c.count_both.new.s same c.drop_delta.result dropped.disk dropped.map s r c.args.procs.now refl,
+            c.count.new.self same c.drop_delta.result dropped.disk dropped.map s r c.args.procs.now refl,
         does_uncounted (state c.args.store.disk) (state c.drop_delta.result.disk) (g.met.D.Disk.only_now c.args.store.disk)
-            (reads_alone g.D.Disk.state c.args.store c.begin-txn.result c.begin-txn.ensures.disk c.begin-txn.ensures.before c.count_both.new.s same
+            (reads_alone g.D.Disk.state c.args.store c.begin-txn.result c.begin-txn.ensures.disk c.begin-txn.ensures.before c.count.new.self same
             c.drop_delta.result.disk dropped.disk)
             (state c.args.store.disk).size c.args.geometry (present state c.args.store) c.args.procs.now s r
-            (of_stores g.D.Disk.state c.args.store c.begin-txn.result c.begin-txn.ensures.disk c.begin-txn.ensures.before c.count_both.new.s same
+            (of_stores g.D.Disk.state c.args.store c.begin-txn.result c.begin-txn.ensures.disk c.begin-txn.ensures.before c.count.new.self same
             c.drop_delta.result.disk dropped.disk HasFailed c.in-Err.ensures.cause.fault),
       );
 }
