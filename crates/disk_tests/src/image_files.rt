@@ -1,7 +1,7 @@
 //! Disks in files of this machine, and in files that fail.
 
 use crate::disks::{Call, first_byte, four_calls};
-use sector_disk::{Disk, DiskFile, FileDisk, FileFault, PartFile};
+use sector_disk::{Disk, DiskFile, FileDisk, FileFault, PartDisk, PartFile};
 use std::cell::Cell;
 use std::fs::{self, File, OpenOptions};
 use std::io::{self, ErrorKind};
@@ -436,11 +436,12 @@ fn load_part(rt: &HostRuntime, path: Path<'_>, load: &Load) -> Parted {
         Load::Run(first, count) => part.load(*first, *count)?,
         Load::Each(numbers) => part.load_each(numbers)?,
     };
-    let (mut disk, file) = part.into_disk(rt.alloc());
+    let mut disk = PartDisk::new(part);
     let seen = see(&mut disk);
     let passed = four_calls(&mut disk, CHANGES);
-    let mut whole = FileDisk::over_large(rt.alloc(), file)?;
-    Ok((seen, passed, disk.failures(), see(&mut whole)))
+    let failures = disk.failures();
+    let mut whole = FileDisk::over_large(rt.alloc(), disk.into_file())?;
+    Ok((seen, passed, failures, see(&mut whole)))
 }
 
 // What that comes to for a file of three sectors with 100 bytes behind them.

@@ -1,7 +1,9 @@
 -- What a check finds: a finding's rule is one of the fourteen, and what is told is how the check ends.
-use Rattle.std.proofs.Common.{ℕ, arith}
-use Rattle.std.specs.Prelude.{◌≤◌, Bool, Result, Ok, Err, IfErr, IfOk}
-use Rattle.sector_disk.specs.Disk.{DiskState}
+use Rattle.std.proofs.Common.{ℕ, arith, subst}
+use Rattle.std.specs.Prelude.{◌≤◌, Bool, Option, Result, Ok, Err, IfErr, IfOk, IfSome}
+use Rattle.sector_disk.specs.Disk.{DiskState, Image, OnlyReads}
+use Rattle.sector_disk.specs.Parts.{IsImageOf}
+use Rattle.sector_disk.specs.Record.{Held}
 use Rattle.fs_check.specs.Checks.{IsClean, IsFirst, IsReason, Passed}
 use Rattle.fs_check.specs.declared.faults.CheckFault.{CheckFault}
 use Rattle.fs_check.specs.declared.faults.CheckFault.TheVariants.{Found, DiskFault, OutOfMemory}
@@ -46,5 +48,10 @@ check_ends (Err (Found finding)) old now explain w result clean passed told = ha
 check_ends (Err DiskFault) old now explain w result clean passed told = is_unchecked DiskFault passed.reason told
 check_ends (Err OutOfMemory) old now explain w result clean passed told = is_unchecked OutOfMemory tt told
 
-pub checked_of_rule : {P : Type 0} (part : P → DiskState) (found : Result Summary CheckFault) → HasChecked part found → IfErr found IsOfRule
-checked_of_rule part found checked = is_of_rule found (part checked.old) (part checked.now) checked.passed.reason
+-- a disk that was only read is the same image of a file as before
+pub image_before : (file : Option Held) (old now : DiskState) → OnlyReads old now → IfSome file (IsImageOf now.seen) → IfSome file (IsImageOf old.seen)
+image_before file old now reads is = subst (λ (i : Image). IfSome file (IsImageOf i)) reads.narrowed.seen is
+
+pub checked_of_rule : {P : Type 0} (part : P → DiskState) (file : Option Held) (found : Result Summary CheckFault) → HasChecked part file found
+    → IfErr found IsOfRule
+checked_of_rule part file found checked = is_of_rule found (part checked.old) (part checked.now) checked.passed.reason

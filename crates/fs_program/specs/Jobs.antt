@@ -9,9 +9,11 @@
 --     RunsOn, RunEnds        a script is run on a disk that is mounted for it
 --     MemoryEnds, ImageMkfsEnds, ImageRunEnds, ImageCheckEnds, ImageInfoEnds, ImageUpgradeEnds        the jobs but that of serving
 --     JobEnds, ProgramEnds        a job, and what the program does for its words
-use Rattle.std.specs.Prelude.{◌≡◌, ◌⊎◌, ◌≤◌, ℕ, Bool, List, Option, None, IsSome, IsTrue, Result, Ok, Err, OnOk, IfOk}
+use Rattle.std.specs.Prelude.{◌≡◌, ◌⊎◌, ◌≤◌, ℕ, Bool, List, Option, None, IsSome, IsTrue, Result, Ok, Err, OnOk, IfOk, IfSome}
 use Rattle.std.specs.Io.KnownBytes.{Appends}
 use Rattle.sector_disk.specs.Disk.{DiskState, IsFresh, IsStable, LeavesOnly, OnlyReads}
+use Rattle.sector_disk.specs.Parts.{IsImageOf}
+use Rattle.sector_disk.specs.Record.{Held}
 use Rattle.fs_layout.specs.declared.version.Version.{Version}
 use Rattle.fs_layout.specs.declared.version.Version.TheVariants.{Two, Three}
 use Rattle.fs_layout.specs.Geometry.{laid_out, the_geometry}
@@ -104,10 +106,11 @@ IsCheckTold explain w (Err (Found finding)) result = Tells w (found_text explain
 IsCheckTold explain w (Err DiskFault) result = IsUndone w (failures.Check DiskFault) result
 IsCheckTold explain w (Err OutOfMemory) result = IsUndone w (failures.Check OutOfMemory) result
 
--- A check has found this on a disk that has not failed.
-pub record HasChecked {P : Type 0} (part : P → DiskState) (found : Result Summary CheckFault) : Type 0 where
+-- A check has found this on a disk that has not failed, and that is the image of a file, where it's known what this holds.
+pub record HasChecked {P : Type 0} (part : P → DiskState) (file : Option Held) (found : Result Summary CheckFault) : Type 0 where
   pub old : P
   pub now : P
+  pub is_image : IfSome file (IsImageOf (part old).seen)
   pub fresh : IsFresh (part old) (part old).seen
   pub clean : IfOk found (IsClean (part old))
   pub passed : Passed IsFirst (part old) (part now) found
@@ -167,7 +170,7 @@ pub data RunEnds {D : Type 0} (state : D → DiskState) (disk : D) (r : Reading)
   has_run : (ran : Result Count RunFault) (reply : Reply) → RunsOn state disk r w ran reply → result ≡ run_end ran reply
       → RunEnds state disk r w result
 
--- ---- jobs: of a file nothing is known but that it is some disk
+-- ---- jobs: of a file nothing is known but that it is some disk, and of one that is checked in part what it holds
 
 -- A script is to be run on a new disk in memory.
 pub record MemoryEnds {D : Type 0} (state : D → DiskState) (r : Reading) (w : Writing) (result : Result Status Failure) : Type 0 where
@@ -193,13 +196,16 @@ pub data ImageRunEnds {D : Type 0} (state : D → DiskState) (script : Option (L
   opens : (disk : D) (own : Reading) → IsFresh (state disk) (state disk).seen → (script ≡ None → own ≡ r)
       → RunEnds state disk own w result → ImageRunEnds state script r w result
 
--- Of a disk in part the check has asked for no sector but those that were read from the file: else that disk had failed.
-pub data ImageCheckEnds {D P : Type 0} (state : D → DiskState) (part : P → DiskState) (explain : Bool) (w : Writing) (result : Result Status Failure) : Type 0 where
-  cannot_check : IsUndone w failures.NotOpened result → ImageCheckEnds state part explain w result
+-- Of a disk in part the check has asked for no sector but those that were read of a file: else that disk had failed. What is told is
+-- true of the image of that file, where it's known what it holds.
+pub data ImageCheckEnds {D P F : Type 0} (state : D → DiskState) (part : P → DiskState) (held : F → Option Held) (explain : Bool) (w : Writing)
+    (result : Result Status Failure) : Type 0 where
+  cannot_check : IsUndone w failures.NotOpened result → ImageCheckEnds state part held explain w result
   checks : (old now : D) → IsFresh (state old) (state old).seen → OnlyReads (state old) (state now)
-      → CheckEnds (state old) (state now) explain w result → ImageCheckEnds state part explain w result
-  checks_part : (old now : P) → IsFresh (part old) (part old).seen → OnlyReads (part old) (part now) → (part now).failures ≡ 0
-      → CheckEnds (part old) (part now) explain w result → ImageCheckEnds state part explain w result
+      → CheckEnds (state old) (state now) explain w result → ImageCheckEnds state part held explain w result
+  checks_part : (file : F) (old now : P) → IfSome (held file) (IsImageOf (part old).seen) → IsFresh (part old) (part old).seen
+      → OnlyReads (part old) (part now) → (part now).failures ≡ 0
+      → CheckEnds (part old) (part now) explain w result → ImageCheckEnds state part held explain w result
 
 pub data ImageInfoEnds {D : Type 0} (state : D → DiskState) (json : Bool) (w : Writing) (result : Result Status Failure) : Type 0 where
   cannot_say : IsUndone w failures.NotOpened result → ImageInfoEnds state json w result
@@ -211,26 +217,28 @@ pub data ImageUpgradeEnds {D : Type 0} (state : D → DiskState) (w : Writing) (
   upgrades : (old now : D) → IsFresh (state old) (state old).seen → LeavesOnly (state old) (state now) (IsHalfUpgraded (state old))
       → UpgradeEnds (state old) (state now) w result → ImageUpgradeEnds state w result
 
--- A job ends so, on disks in memory and in files, the latter as wholes and in part.
-abbrev pub JobEnds : {M F P : Type 0} → (M → DiskState) → (F → DiskState) → (P → DiskState) → Reading → Writing → Job → Result Status Failure → Type 0
-JobEnds memory file part r w Memory result = MemoryEnds memory r w result
-JobEnds memory file part r w (Mkfs image sectors inodes) result = ImageMkfsEnds file Two sectors inodes w result
-JobEnds memory file part r w (Format image sectors inodes) result = ImageMkfsEnds file Three sectors inodes w result
-JobEnds memory file part r w (Pack image from sectors inodes user group) result = (w.after ≡ w.before) × ImagePackEnds file sectors inodes result
-JobEnds memory file part r w (Unpack image to) result = (w.after ≡ w.before) × ImageUnpackEnds file result
-JobEnds memory file part r w (Run image script) result = ImageRunEnds file script r w result
-JobEnds memory file part r w (Check image explain) result = ImageCheckEnds file part explain w result
-JobEnds memory file part r w (InfoJob image json) result = ImageInfoEnds file json w result
-JobEnds memory file part r w (Upgrade image) result = ImageUpgradeEnds file w result
-JobEnds memory file part r w (Fuse image denials own_rules) result = ImageFuseEnds file denials own_rules result
+-- A job ends so, on disks in memory and in files, the latter as wholes and in part, by what these hold.
+abbrev pub JobEnds : {M D P F : Type 0} → (M → DiskState) → (D → DiskState) → (P → DiskState) → (F → Option Held) → Reading → Writing → Job
+    → Result Status Failure → Type 0
+JobEnds memory file part held r w Memory result = MemoryEnds memory r w result
+JobEnds memory file part held r w (Mkfs image sectors inodes) result = ImageMkfsEnds file Two sectors inodes w result
+JobEnds memory file part held r w (Format image sectors inodes) result = ImageMkfsEnds file Three sectors inodes w result
+JobEnds memory file part held r w (Pack image from sectors inodes user group) result = (w.after ≡ w.before) × ImagePackEnds file sectors inodes result
+JobEnds memory file part held r w (Unpack image to) result = (w.after ≡ w.before) × ImageUnpackEnds file result
+JobEnds memory file part held r w (Run image script) result = ImageRunEnds file script r w result
+JobEnds memory file part held r w (Check image explain) result = ImageCheckEnds file part held explain w result
+JobEnds memory file part held r w (InfoJob image json) result = ImageInfoEnds file json w result
+JobEnds memory file part held r w (Upgrade image) result = ImageUpgradeEnds file w result
+JobEnds memory file part held r w (Fuse image denials own_rules) result = ImageFuseEnds file denials own_rules result
 
 -- ---- the program
 
 -- What the program does for its words, and the number that it ends with.
-pub data ProgramEnds {M F P : Type 0} (memory : M → DiskState) (file : F → DiskState) (part : P → DiskState) (words : List (List ℕ)) (r : Reading) (w : Writing) (code : ℕ) : Type 0 where
-  does_job : (job : Job) (result : Result Status Failure) → AsksFor words job → JobEnds memory file part r w job result
-      → code ≡ code_of (ended result) → ProgramEnds memory file part words r w code
+pub data ProgramEnds {M D P F : Type 0} (memory : M → DiskState) (file : D → DiskState) (part : P → DiskState) (held : F → Option Held)
+    (words : List (List ℕ)) (r : Reading) (w : Writing) (code : ℕ) : Type 0 where
+  does_job : (job : Job) (result : Result Status Failure) → AsksFor words job → JobEnds memory file part held r w job result
+      → code ≡ code_of (ended result) → ProgramEnds memory file part held words r w code
   -- the help, the version, or what is wrong is printed
-  refuses : (fault : WordsFault) → Refuses words fault → code ≡ code_of (words_status fault) → ProgramEnds memory file part words r w code
+  refuses : (fault : WordsFault) → Refuses words fault → code ≡ code_of (words_status fault) → ProgramEnds memory file part held words r w code
   -- that can't be printed
-  is_mute : (fault : WordsFault) → Refuses words fault → code ≡ code_of Failed → ProgramEnds memory file part words r w code
+  is_mute : (fault : WordsFault) → Refuses words fault → code ≡ code_of Failed → ProgramEnds memory file part held words r w code

@@ -42,8 +42,8 @@ pub fn perform<R: Files<File: DiskFile> + AllocGlobal + Clock, I: Read, O: Write
     err: &mut E,
 ) -> u8
     // The words ask for a job, and it has ended with this status; or they ask for none.
-    ensures performs { ProgramEnds ⟦<MemDisk as Disk>⟧.state ⟦<FileDisk<R::File> as Disk>⟧.state ⟦<PartDisk<MemDisk> as Disk>⟧.state
-        (map string_bytes words.now) (reading I.remaining input.old input.new) (writing O.contents out.old out.new) result }
+    ensures performs { ProgramEnds ⟦<MemDisk as Disk>⟧.state ⟦<FileDisk<R::File> as Disk>⟧.state ⟦<PartDisk<R::File> as Disk>⟧.state
+        R.File.held (map string_bytes words.now) (reading I.remaining input.old input.new) (writing O.contents out.old out.new) result }
     ensures range { result ≤ 3 }
 {
     match parse_words(rt.alloc(), words) {
@@ -72,8 +72,8 @@ fn perform_job<R: Files<File: DiskFile> + AllocGlobal + Clock, I: Read, O: Write
     out: &mut Watched<O>,
     err: &mut E,
 ) -> Result<Status, Failure>
-    ensures { JobEnds ⟦<MemDisk as Disk>⟧.state ⟦<FileDisk<R::File> as Disk>⟧.state ⟦<PartDisk<MemDisk> as Disk>⟧.state
-        (reading I.remaining input.old input.new) (writing O.contents out.old out.new) job.now result }
+    ensures { JobEnds ⟦<MemDisk as Disk>⟧.state ⟦<FileDisk<R::File> as Disk>⟧.state ⟦<PartDisk<R::File> as Disk>⟧.state
+        R.File.held (reading I.remaining input.old input.new) (writing O.contents out.old out.new) job.now result }
 {
     match job {
         Job::Memory => {
@@ -240,7 +240,7 @@ fn check_image<R: Files<File: DiskFile> + AllocGlobal, O: Write>(
     explain: bool,
     out: &mut Watched<O>,
 ) -> Result<Status, Failure>
-    ensures { ImageCheckEnds ⟦<FileDisk<R::File> as Disk>⟧.state ⟦<PartDisk<MemDisk> as Disk>⟧.state explain
+    ensures { ImageCheckEnds ⟦<FileDisk<R::File> as Disk>⟧.state ⟦<PartDisk<R::File> as Disk>⟧.state R.File.held explain
         (writing O.contents out.old out.new) result }
 {
     let (found, file) = check_part(rt, image)?;
@@ -258,7 +258,7 @@ fn check_part<R: Files<File: DiskFile> + AllocGlobal>(
     rt: &R,
     image: &Text,
 ) -> Result<(Option<Result<Summary, CheckFault>>, R::File), Failure>
-    ensures { MatchResult result (λ found. IfSome found.0 (HasChecked ⟦<PartDisk<MemDisk> as Disk>⟧.state))
+    ensures { MatchResult result (λ found. IfSome found.0 (HasChecked ⟦<PartDisk<R::File> as Disk>⟧.state (R.File.held found.1)))
         (λ failure. failure ≡ Failure.NotOpened) }
 {
     let Ok(part) = PartFile::open(rt, rt.alloc(), image.as_str()) else {
@@ -267,12 +267,12 @@ fn check_part<R: Files<File: DiskFile> + AllocGlobal>(
     let Ok(part) = load(rt.alloc(), part) else {
         return Err(Failure::NotOpened);
     };
-    let (mut disk, file) = part.into_disk(rt.alloc());
+    let mut disk = PartDisk::new(part);
     let found = check(rt.alloc(), &mut disk);
     if disk.failures() == 0 {
-        Ok((Some(found), file))
+        Ok((Some(found), disk.into_file()))
     } else {
-        Ok((None, file))
+        Ok((None, disk.into_file()))
     }
 }
 

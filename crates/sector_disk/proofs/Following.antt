@@ -1,17 +1,17 @@
 -- A file that follows its disk: what a run and a sync of the file keep.
 use Rattle.std.proofs.Common.{◌≡◌, ◌⊎◌, inl, inr, ⊎_elim, ℕ, zero, ◌+◌, ◌-◌, ◌<◌, ◌≤◌, Bool, true, false, List, [], ◌∷◌, ◌++◌, length, drop, refl, sym, ◌∙◌, ap, subst, arith, get_or, get_or-set_other, length-drop, length-take, slice_index, replicate}
-use Rattle.std.specs.Prelude.{Option, Some, None, IfSome, All, Contains, Result, Ok, Err, OnOk, IsPermutation, IsTrue, slice_range, if◌then◌else◌}
+use Rattle.std.specs.Prelude.{Option, Some, None, IfSome, All, Contains, Result, Ok, Err, OnOk, IsPermutation, slice_range, if◌then◌else◌}
 use Rattle.std.specs.Result.{is_ok}
 use Rattle.std.proofs.Math.Logic.{∥∥₁_map}
 use Rattle.std.proofs.lemmas.Bool.{cases_lt, cases_eq}
 use Rattle.std.proofs.lemmas.Grind.{merely, get_or_default_zero}
-use Rattle.std.proofs.lemmas.List.{get_or_past, get_or-drop, get_or-take, get_or-replicate, length-replicate}
+use Rattle.std.proofs.lemmas.List.{get_or-drop, get_or-take, get_or-replicate, length-replicate}
 use Rattle.std.proofs.lemmas.List.Elements.{All-push, Contains-append_left, Contains-append_right}
 use Rattle.std.proofs.lemmas.List.Sorted.{Contains-permutation}
 use Rattle.sector_disk.specs.Disk.{DiskState, Image, sector, IsImage, IsSame, ChangesOnly}
 use Rattle.sector_disk.specs.Record.{Past, Held, recorded_state}
 use Rattle.sector_disk.specs.Places.{IsRunSet}
-use Rattle.sector_disk.specs.Files.{file_seen, IfKnown, IsRun, IsRunTried, HasRun, IsHeldNarrowed, IsHeldSynced, IsHeldStable, HasSectors, HasStable, HasLoaded, HasRunMarked, Lacks, KeepsFile, KeepsKnown, KeepsBefore, FollowsBefore}
+use Rattle.sector_disk.specs.Files.{file_seen, IfKnown, IsRun, IsRunTried, HasRun, IsHeldNarrowed, IsHeldSynced, IsHeldStable, HasSectors, HasStable, Lacks, KeepsFile, KeepsKnown, KeepsBefore, FollowsBefore}
 
 -- ---- what may be known
 pub goes : {P : Held → Held → Type 0} {K L : Held → Type 0} (old new : Option Held) → IfKnown P old new → IfSome old K → ((h g : Held) → P h g → K h → L g) → IfSome new L
@@ -333,33 +333,3 @@ read_more at count end piece sectors more first old new was fits is same has set
 
 pub read_all : (at count : ℕ) (sectors : Image) (first file : Option Held) → count ≤ at → IsReadTo at count sectors first file → IfSome file (HasSectors sectors)
 read_all at count sectors first file past was = both file was.read was.read (λ h r s. λ n below. r n (let len = was.len in omega (arith, below, past, len)))
-
--- ---- sectors that are read
-none_among : (count n : ℕ) → get_or (replicate {A = Bool} count false) n false ≡ false
-none_among count n = elim (cases_lt n count) [
-  | inl below ↦ get_or-replicate count n false false below
-  | inr past ↦ get_or_past (replicate {A = Bool} count false) n false (omega (arith, past, length-replicate {A = Bool} count false))
-]
-
-none_loaded : (image : Image) (count : ℕ) (held : Held) → HasLoaded image (replicate count false) held
-none_loaded image count held n here = let is = none_among count n in cc
-
--- at first none is
-pub follows_none : (image : Image) (count : ℕ) (loaded : List Bool) (file : Option Held) → loaded ≡ replicate count false → ∥ IfSome file (HasLoaded image loaded) ∥₁
-follows_none image count loaded None none = merely tt
-follows_none image count loaded (Some h) none = merely (subst (λ (l : List Bool). HasLoaded image l h) (sym none) (none_loaded image count h))
-
-pub more_loaded : (first : ℕ) (run old new : Image) (was is : List Bool) (held : Held) → IsRunSet first run old new → HasRunMarked first (length run) was is → HasRun first run held
-    → HasLoaded old was held → HasLoaded new is held
-more_loaded first run old new was is held set marked has loaded n here = elim (cases_lt n first) [
-  | inl before ↦ loaded n (subst (λ b. IsTrue b) (marked.others n (inl before)) here) ∙ sym (set.before n before)
-  | inr from ↦ elim (cases_lt n (first + length run)) [
-    | inl inside ↦ has n from inside ∙ sym (set.inside n from inside)
-    | inr behind ↦ loaded n (subst (λ b. IsTrue b) (marked.others n (inr behind)) here) ∙ sym (set.behind n behind)
-  ]
-]
-
-pub follows_loaded : (first : ℕ) (run old new : Image) (was is : List Bool) (file : Option Held) → IsRunSet first run old new → HasRunMarked first (length run) was is
-    → IfSome file (HasRun first run) → ∥ IfSome file (HasLoaded old was) ∥₁ → ∥ IfSome file (HasLoaded new is) ∥₁
-follows_loaded first run old new was is file set marked has loaded =
-    ∥∥₁_map loaded (λ l. both file has l (λ h r k. more_loaded first run old new was is h set marked r k))

@@ -1,5 +1,6 @@
 mod Done
 mod Following
+mod Parted
 mod Picking
 mod Placed
 mod Undone

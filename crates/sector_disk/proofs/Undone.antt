@@ -2,8 +2,10 @@
 use Rattle.std.proofs.Common.{◌≡◌, ◌≢◌, ◌⊎◌, inl, inr, ⊎_elim, ℕ, zero, suc, ◌+◌, ◌-◌, ◌<◌, ◌≤◌, ◌^◌, List, [], ◌∷◌, ◌++◌, length, take, drop, refl, sym, ◌∙◌, ap, subst, arith, replicate, slice_set, length-set, get_or-set_other, length-append, length-drop}
 use Rattle.std.specs.Prelude.{Contains}
 use Rattle.std.proofs.lemmas.Bool.{cases_eq, cases_lt}
-use Rattle.std.proofs.lemmas.List.{set-set, set-get_or, get_or-set_same, drop-append-le, drop_all, take-append-le, take_rest}
+use Rattle.std.proofs.lemmas.List.{set-set, set-get_or, get_or-set_same, drop-append-le, drop_all, take_rest}
+use Rattle.std.proofs.lemmas.List.Edits.{take-paste}
 use Rattle.std.proofs.lemmas.List.Sums.{fold_push}
+use Rattle.std.proofs.Math.Seq.{paste}
 use Rattle.std.proofs.lemmas.List.Elements.{Contains-append_right, Contains-append_cases}
 use Rattle.std.proofs.lemmas.Grind.{get_or-set_at}
 use Rattle.sector_disk.specs.Disk.{Image, sector}
@@ -131,11 +133,11 @@ log-forget seen done rest synced is log =
       pending = ap (λ (h : Held). h.pending) held ∙ log.pending;
     })
 
--- the last steps, where they have been turned to the front
-pub kept_end : (steps : List Step) (s n : ℕ) → n ≡ length steps - s → take n (drop s steps ++ take s steps) ≡ drop s steps
-kept_end steps s n is =
-    take-append-le n (drop s steps) (take s steps) (omega (arith, is, length-drop s steps))
-    ∙ ap (λ (k : ℕ). take k (drop s steps)) is ∙ take_rest steps s
+-- the last steps, where they have been moved to the front
+pub moved_end : (steps : List Step) (s n : ℕ) → n ≡ length steps - s → take n (paste steps 0 (drop s steps) (length steps - s)) ≡ drop s steps
+moved_end steps s n is =
+    ap (λ (k : ℕ). take k (paste steps 0 (drop s steps) (length steps - s))) (let same : n ≡ 0 + (length steps - s) = omega (arith, is) in same)
+    ∙ take-paste steps 0 (drop s steps) (length steps - s) (omega arith) (omega (arith, length-drop s steps)) ∙ take_rest steps s
 
 -- ---- a stop
 

@@ -4,12 +4,14 @@
 --     IsRun, IsRunTried, HasRun        a run of sectors that is written
 --     IsHeldNarrowed, IsHeldSynced        a sync
 --     HasSectors, HasStable        what is read from it; what it has at first
---     HasLoaded, HasRunMarked        which sectors were read from it
+--     HasCount, HasFirst        how many sectors it has
+--     HasRunMarked        which sectors are in memory
 --     Lacks, KeepsFile, KeepsKnown        how it follows the disk
 --     KeepsBefore, FollowsBefore        how its first sectors do
-use Rattle.std.specs.Prelude.{◌≡◌, ◌⊎◌, ℕ, ◌+◌, ◌-◌, ◌<◌, ◌≤◌, Bool, true, false, IsTrue, List, length, get_or, Option, Some, None, IfSome, Contains}
+use Rattle.std.specs.Prelude.{◌≡◌, ◌⊎◌, ℕ, ◌+◌, ◌-◌, ◌<◌, ◌≤◌, Bool, true, false, List, length, get_or, min, Option, Some, None, IfSome, Contains}
 use Rattle.sector_disk.specs.Disk.{DiskState, Image, sector}
 use Rattle.sector_disk.specs.Record.{Held, after_events, MayHold}
+use Rattle.sector_disk.specs.Whole.{AreSectors}
 
 -- what reads of the file give
 abbrev pub file_seen : Held → Image
@@ -57,13 +59,20 @@ pub record HasStable (image : Image) (held : Held) : Type 0 where
   pub seen : (n : ℕ) → n < length image → sector (file_seen held) n ≡ sector image n
   pub stable : (n : ℕ) (content : List ℕ) → n < length image → MayHold held n content → content ≡ sector image n
 
--- these sectors of the image are those that reads of the file give
-abbrev pub HasLoaded : Image → List Bool → Held → Type 0
-HasLoaded image loaded held = (n : ℕ) → IsTrue (get_or loaded n false) → sector (file_seen held) n ≡ sector image n
+-- so many sectors are in it, all of them whole
+pub record HasCount (count : ℕ) (held : Held) : Type 0 where
+  pub len : length (file_seen held) ≡ count
+  pub whole : AreSectors (file_seen held)
 
--- so many more from `first` on may be, and no other
+-- all that are in it, but not more than `most`, are so many; and they are whole
+pub record HasFirst (most count : ℕ) (held : Held) : Type 0 where
+  pub len : min most (length (file_seen held)) ≡ count
+  pub whole : AreSectors (file_seen held)
+
+-- so many from `first` on are in memory now, and of the others those that were
 pub record HasRunMarked (first count : ℕ) (old new : List Bool) : Type 0 where
   pub len : length new ≡ length old
+  pub marked : (n : ℕ) → first ≤ n → n < first + count → get_or new n false ≡ true
   pub others : (n : ℕ) → (n < first) ⊎ (first + count ≤ n) → get_or new n false ≡ get_or old n false
 
 -- the file may lack what reads of the disk give in this sector: it's among those that wait, or all are

@@ -1,8 +1,8 @@
 //! Files that a disk can be kept in.
 
-ghost use Rattle.std.specs.Prelude.{◌≡◌, Option, None, IfSome, OnOk, replicate};
+ghost use Rattle.std.specs.Prelude.{◌≡◌, Option, None, IfOk, IfSome, OnOk, replicate};
 ghost use Rattle.sector_disk.specs.Record.{Held};
-ghost use Rattle.sector_disk.specs.Files.{IfKnown, IsRunTried, HasRun, IsHeldNarrowed, IsHeldSynced, HasStable};
+ghost use Rattle.sector_disk.specs.Files.{IfKnown, IsRunTried, HasRun, IsHeldNarrowed, IsHeldSynced, HasStable, HasCount};
 
 use std::fs::File;
 use std::io;
@@ -20,7 +20,8 @@ pub trait DiskFile {
     fn try_lock(&self) -> io::Result<()>;
 
     /// How many whole sectors it has.
-    fn count(&self) -> io::Result<u64>;
+    fn count(&self) -> io::Result<u64>
+        ensures { IfOk result (λ count. IfSome (held self.now) (HasCount count)) };
 
     /// Gives an empty file so many sectors of zeros, and syncs it.
     fn fill(&mut self, sectors: u32) -> io::Result<()>

@@ -5,7 +5,7 @@ ghost use Rattle.sector_disk.specs.Disk.{IsFresh};
 ghost use Rattle.sector_disk.specs.Record.{recorded_state};
 ghost use Rattle.sector_disk.specs.Replay.{seen_is_image, counts_now, only_now};
 ghost use Rattle.sector_disk.specs.Whole.{whole_sectors};
-ghost use Rattle.sector_disk.specs.Files.{KeepsKnown, HasStable, IsHeldStable};
+ghost use Rattle.sector_disk.specs.Files.{KeepsKnown, HasFirst, HasStable, IsHeldStable};
 ghost use Rattle.sector_disk.specs.declared.file_disk.FileFault.TheVariants.{Exists, OutOfMemory};
 
 use crate::reading::read_sectors;
@@ -303,7 +303,8 @@ fn boxed(alloc: Global, disk: MemDisk) -> Result<Box<MemDisk>, AllocError>
 
 /// Locks a file, and tells how many sectors of it a large disk has, once it is synced.
 pub(crate) fn lock_and_count<F: DiskFile>(file: &mut F) -> io::Result<u32>
-    ensures { IfOk result (λ count. count ≤ 16777217) }
+    ensures count { IfOk result (λ count. count ≤ 16777217) }
+    ensures first { IfOk result (λ count. IfSome (F.held file.new) (HasFirst 16777217 count)) }
 {
     file.try_lock()?;
     synced_sectors(file, MAX_LARGE_SECTORS)
@@ -312,6 +313,7 @@ pub(crate) fn lock_and_count<F: DiskFile>(file: &mut F) -> io::Result<u32>
 // How many sectors of the file a disk has, at most so many, once it is synced.
 fn synced_sectors<F: DiskFile>(file: &mut F, most: u32) -> io::Result<u32>
     ensures count { IfOk result (λ count. count ≤ most) }
+    ensures first { IfOk result (λ count. IfSome (F.held file.new) (HasFirst most count)) }
     ensures stable { OnOk result (IfSome (F.held file.new) IsHeldStable) }
 {
     file.sync()?;

@@ -1,6 +1,6 @@
 //! What was done to a disk in memory since it was last stopped.
 
-ghost use Rattle.std.specs.Prelude.{◌≡◌, ◌⊎◌, ◌^◌, ◌<◌, ◌+◌, ◌++◌, [], ◌∷◌, length, ℕ, ◌≤◌, Contains, slice_index_or, slice_range, IfSome, OnOk, OnErr};
+ghost use Rattle.std.specs.Prelude.{◌≡◌, ◌⊎◌, ◌^◌, ◌<◌, ◌+◌, ◌++◌, [], ◌∷◌, drop, length, ℕ, ◌≤◌, Contains, slice_index_or, slice_range, IfSome, OnOk, OnErr};
 ghost use Rattle.sector_disk.specs.Disk.{sector};
 ghost use Rattle.sector_disk.specs.Record.{Written, Synced, after_events, replay, since_sync, Leaves, MayHold};
 ghost use Rattle.sector_disk.specs.Picks.{IsPicked};
@@ -128,9 +128,7 @@ impl History {
     pub fn forget(&mut self)
         ensures { self.new ≡ since_sync self.old }
     {
-        let pending = self.done.len() - self.synced;
-        self.done.rotate_left(self.synced);
-        self.done.truncate(pending);
+        drop_first(&mut self.done, self.synced);
         self.synced = 0;
     }
 
@@ -146,6 +144,19 @@ impl History {
         self.done.clear();
         self.synced = 0;
     }
+}
+
+// Drops so many steps, the first ones. The others alone are moved, and that only where some are dropped.
+fn drop_first(done: &mut Vec<Step>, count: usize)
+    requires { count ≤ length done.old.items }
+    ensures { done.new.items ≡ drop count done.old.items }
+{
+    if count == 0 {
+        return;
+    }
+    let others = done.len() - count;
+    done.copy_within(count.., 0);
+    done.truncate(others);
 }
 
 // Lets go of the places that sectors of zeros had, so that the steps could be undone without memory.

@@ -1,78 +1,51 @@
 //! A disk of which only some sectors can be read.
 
-ghost use Rattle.std.specs.Prelude.{◌≡◌, ◌<◌, ◌-◌, ◌^◌, IsErr, OnOk};
-ghost use Rattle.sector_disk.specs.Disk.{HasCause, HasWriteCause};
-ghost use Rattle.sector_disk.specs.Faults.{faulty_state, failures_fit, seen_is_image, counts_now, only_now};
+ghost use Rattle.std.specs.Prelude.{◌≡◌, ◌+◌, IsErr, IfSome};
+ghost use Rattle.sector_disk.specs.Disk.{IsFresh, HasCause, HasWriteCause};
+ghost use Rattle.sector_disk.specs.Parts.{IsImageOf, file_image, part_state, size_fits, failures_fit, whole_sectors, seen_is_image, counts_now, only_now};
 
-use crate::{Disk, DiskFault};
-use std::marker::Model;
+use crate::{Disk, DiskFault, DiskFile, PartFile};
 
-/// A disk over another, of which only some sectors can be read: a read of any other fails and is counted, and so does each write and
-/// each sync. What was answered without a failure was answered of these sectors alone.
+/// The disk that a file holds, of which only those sectors can be read that are in memory: a read of any other fails and is counted,
+/// and so does each write and each sync.
+///
+/// Where it is known what the file holds, this disk is the file's image, in all of its sectors. So what is answered of it without a
+/// failure is true of the file.
 #[derive(Drop)]
-pub struct PartDisk<D> {
-    disk: D,
-    // For each sector whether it can be read.
-    readable: Vec<bool>,
+pub struct PartDisk<F: DiskFile> {
+    part: PartFile<F>,
     failed_reads: u64,
     // Syncs too.
     failed_writes: u64,
 }
 
-impl<D> Model for PartDisk<D> {
-    ghost use Rattle.sector_disk.specs.Faults.{Faulty};
-
-    ghost Value = { Faulty D };
-
-    ghost view = { λ part. record { disk = part.disk; call = 0; failed_reads = part.failed_reads; failed_writes = part.failed_writes } };
-}
-
-impl<D> PartDisk<D> {
-    /// Of the disk below, those sectors can be read for which this says so.
-    pub fn new(disk: D, readable: Vec<bool>) -> Self
-        ensures { result ≡ record { disk = disk; call = 0; failed_reads = 0; failed_writes = 0 } }
+impl<F: DiskFile + Drop> PartDisk<F> {
+    /// Those sectors can be read that were read of the file.
+    pub fn new(part: PartFile<F>) -> Self
+        ensures { IsFresh (⟦<PartDisk<F> as Disk>⟧.state result) (file_image (F.held part.file) part.sectors.shown) }
     {
         PartDisk {
-            disk,
-            readable,
+            part,
             failed_reads: 0,
             failed_writes: 0,
         }
     }
 
-    fn can_read(&self, n: u32) -> bool {
-        match self.readable.get(n as usize) {
-            Some(readable) => *readable,
-            None => false,
-        }
-    }
-}
-
-impl<D: Disk> PartDisk<D> {
-    // Counts a read that fails. One that is Ok reaches the disk below.
-    fn pass_read(&mut self, n: u32) -> Result<(), DiskFault>
-        ensures disk { self.new.disk ≡ self.old.disk }
-        ensures quiet { self.new.failed_writes ≡ self.old.failed_writes }
-        ensures failures { OnOk result (self.new ≡ self.old) }
-        ensures worn { OnOk result ((faulty_state D.state self.old).failures < 2 ^ 64 - 1) }
-        ensures cause { HasCause (faulty_state D.state self.old) (faulty_state D.state self.new) result }
+    /// The file, whose image the disk was.
+    pub fn into_file(self) -> F
+        ensures { IfSome (F.held result) (IsImageOf (⟦<PartDisk<F> as Disk>⟧.state self).seen) }
     {
-        if self.failures() == u64::MAX {
-            return Err(DiskFault);
-        }
-        if !self.can_read(n) {
-            self.failed_reads += 1;
-            return Err(DiskFault);
-        }
-        Ok(())
+        let PartDisk { part, .. } = self;
+        part.into_file()
     }
 
     // Counts a write or a sync, which fails.
     fn refuse(&mut self) -> Result<(), DiskFault>
-        ensures disk { self.new.disk ≡ self.old.disk }
+        ensures image { file_image (F.held self.new.part.file) self.new.part.sectors.shown
+            ≡ file_image (F.held self.old.part.file) self.old.part.sectors.shown }
         ensures result { IsErr result }
-        ensures cause { HasCause (faulty_state D.state self.old) (faulty_state D.state self.new) result }
-        ensures told { HasWriteCause (faulty_state D.state self.old) (faulty_state D.state self.new) result }
+        ensures cause { HasCause (⟦<PartDisk<F> as Disk>⟧.state self.old) (⟦<PartDisk<F> as Disk>⟧.state self.new) result }
+        ensures told { HasWriteCause (⟦<PartDisk<F> as Disk>⟧.state self.old) (⟦<PartDisk<F> as Disk>⟧.state self.new) result }
     {
         if self.failures() == u64::MAX {
             return Err(DiskFault);
@@ -82,33 +55,39 @@ impl<D: Disk> PartDisk<D> {
     }
 }
 
-impl<D: Disk> Disk for PartDisk<D> {
-    ghost state = { λ part. faulty_state D.state part };
+impl<F: DiskFile + Drop> Disk for PartDisk<F> {
+    ghost state = { λ disk. part_state (F.held disk.part.file) disk.part.sectors.shown disk.failed_reads disk.failed_writes };
 
-    ghost size_fits = { λ part. D.size_fits part.disk };
+    ghost size_fits = { λ disk. size_fits disk.part.follows disk.part.few };
 
-    ghost failures_fit = { λ part. failures_fit (D.state part.disk) part.failed_reads part.failed_writes };
+    ghost failures_fit = { λ disk. failures_fit (F.held disk.part.file) disk.part.sectors.shown disk.failed_reads disk.failed_writes };
 
-    ghost whole_sectors = { λ part. D.whole_sectors part.disk };
+    ghost whole_sectors = { λ disk. whole_sectors disk.part.follows };
 
-    ghost seen_is_image = { λ part. seen_is_image (D.state part.disk) part.failed_reads part.failed_writes (D.seen_is_image part.disk) };
+    ghost seen_is_image = { λ disk. seen_is_image (F.held disk.part.file) disk.part.sectors.shown disk.failed_reads disk.failed_writes };
 
-    ghost counts_now = { λ part. counts_now (D.state part.disk) part.failed_reads part.failed_writes (D.counts_now part.disk) };
+    ghost counts_now = { λ disk. counts_now (F.held disk.part.file) disk.part.sectors.shown disk.failed_reads disk.failed_writes };
 
-    ghost only_now = { λ part. only_now (D.state part.disk) part.failed_reads part.failed_writes (D.only_now part.disk) };
+    ghost only_now = { λ disk. only_now (F.held disk.part.file) disk.part.sectors.shown disk.failed_reads disk.failed_writes };
 
     fn size(&self) -> u32 {
-        self.disk.size()
+        self.part.count()
     }
 
     fn failures(&self) -> u64 {
-        let failed = self.failed_reads.saturating_add(self.failed_writes);
-        self.disk.failures().saturating_add(failed)
+        self.failed_reads.saturating_add(self.failed_writes)
     }
 
     fn read(&mut self, n: u32, to: &mut [u8; 512]) -> Result<(), DiskFault> {
-        self.pass_read(n)?;
-        self.disk.read(n, to)
+        if self.failures() == u64::MAX {
+            return Err(DiskFault);
+        }
+        let Some(content) = self.part.get(n) else {
+            self.failed_reads += 1;
+            return Err(DiskFault);
+        };
+        *to = *content;
+        Ok(())
     }
 
     fn write(&mut self, _n: u32, _from: &[u8; 512]) -> Result<(), DiskFault> {
@@ -120,6 +99,6 @@ impl<D: Disk> Disk for PartDisk<D> {
     }
 
     fn forget(&mut self) {
-        self.disk.forget();
+        // Nothing is known of the past.
     }
 }

@@ -1,18 +1,19 @@
 //! A file of which some sectors are read into memory.
 
-ghost use Rattle.std.specs.Prelude.{◌≡◌, ◌<◌, ◌≤◌, ◌+◌, ◌^◌, length, IfOk, IfSome, OnOk};
-ghost use Rattle.sector_disk.specs.Files.{HasLoaded, HasRunMarked};
-ghost use Rattle.sector_disk.specs.Disk.{IsFresh, sector};
+ghost use Rattle.std.specs.Prelude.{◌≡◌, ◌<◌, ◌≤◌, ◌+◌, ◌^◌, ℕ, false, get_or, length, IfOk, IfSome, OnOk};
+ghost use Rattle.sector_disk.specs.Files.{HasRunMarked};
+ghost use Rattle.sector_disk.specs.Parts.{file_image, IsPart};
+ghost use Rattle.sector_disk.specs.Disk.{sector};
 
 use crate::file_disk::{lock_and_count, new_buffer, open_file};
 use crate::sectors::Sectors;
-use crate::{Disk, DiskFile, FileFault, MemDisk, PartDisk};
+use crate::{DiskFile, FileFault};
 use std::alloc::Global;
 use std::path::AsPath;
 use std::rt::Files;
 
 /// An open file whose sectors are read into memory one run after another, so that of a large one only those are read that are asked
-/// for.
+/// for. What [`get`](PartFile::get) gives is what the file has.
 ///
 /// As long as the file is open, its lock is held.
 #[derive(Drop)]
@@ -27,8 +28,8 @@ pub struct PartFile<F: DiskFile> {
     ghost few: { length sectors.shown < 2 ^ 32 },
     ghost len: { length loaded.items ≡ length sectors.shown },
     ghost room: { 0 < length buffer.items },
-    // What is in memory is what the file has.
-    ghost follows: { ∥ IfSome (F.held file) (HasLoaded sectors.shown loaded.items) ∥₁ },
+    // Where it's known what the file holds, it has so many sectors, and those in memory are as it has them.
+    ghost follows: { IsPart (F.held file) sectors.shown loaded.items },
 }
 
 impl<F: DiskFile + Drop> PartFile<F> {
@@ -38,12 +39,16 @@ impl<F: DiskFile + Drop> PartFile<F> {
         rt: &R,
         alloc: Global,
         path: P,
-    ) -> Result<Self, FileFault> {
+    ) -> Result<Self, FileFault>
+        ensures none { IfOk result (λ part. (n : ℕ) → get_or part.loaded.items n false ≡ false) }
+        ensures small { IfOk result (λ part. length part.sectors.shown ≤ 16777217) }
+    {
         let mut file = open_file(rt, path)?;
         let Ok(count) = lock_and_count(&mut file) else {
             return Err(FileFault::Failed);
         };
         let sectors = Sectors::zeros(alloc, count)?;
+        sectors.tell_whole();
         let loaded = vec![in alloc; false; count as usize]?;
         let buffer = new_buffer(alloc)?;
         Ok(PartFile {
@@ -61,9 +66,9 @@ impl<F: DiskFile + Drop> PartFile<F> {
         self.loaded.len() as u32
     }
 
-    /// The content of a sector, if it was read.
+    /// The content that a sector has in the file, if it was read.
     pub fn get(&self, n: u32) -> Option<&[u8; 512]>
-        ensures { IfSome result (λ content. content.now ≡ sector self.now.sectors.shown n) }
+        ensures { IfSome result (λ content. content.now ≡ sector (file_image (F.held self.now.file) self.now.sectors.shown) n) }
     {
         match self.loaded.get(n as usize) {
             Some(true) => Some(self.sectors.get(n)),
@@ -75,8 +80,9 @@ impl<F: DiskFile + Drop> PartFile<F> {
     fn load_piece(self, first: u32, len: usize) -> Result<Self, FileFault>
         requires fits { first + len ≤ length self.sectors.shown }
         requires room { len ≤ length self.buffer.items }
-        ensures { IfOk result (λ part. (length part.sectors.shown ≡ length self.sectors.shown)
-            × (length part.buffer.items ≡ length self.buffer.items)) }
+        ensures count { IfOk result (λ part. length part.sectors.shown ≡ length self.sectors.shown) }
+        ensures buffer { IfOk result (λ part. length part.buffer.items ≡ length self.buffer.items) }
+        ensures file { IfOk result (λ part. F.held part.file ≡ F.held self.file) }
     {
         let PartFile {
             mut file,
@@ -101,7 +107,10 @@ impl<F: DiskFile + Drop> PartFile<F> {
     }
 
     /// Reads so many sectors from number `first` on; what of them lies behind the end of the file is left out.
-    pub fn load(self, first: u32, count: u32) -> Result<Self, FileFault> {
+    pub fn load(self, first: u32, count: u32) -> Result<Self, FileFault>
+        ensures count { IfOk result (λ part. length part.sectors.shown ≡ length self.sectors.shown) }
+        ensures file { IfOk result (λ part. F.held part.file ≡ F.held self.file) }
+    {
         let end = first.saturating_add(count).min(self.count());
         let mut part = self;
         let mut at = first;
@@ -114,7 +123,10 @@ impl<F: DiskFile + Drop> PartFile<F> {
     }
 
     /// Reads these sectors, neighbours in one call where they stand in rising order.
-    pub fn load_each(self, numbers: &[u32]) -> Result<Self, FileFault> {
+    pub fn load_each(self, numbers: &[u32]) -> Result<Self, FileFault>
+        ensures count { IfOk result (λ part. length part.sectors.shown ≡ length self.sectors.shown) }
+        ensures file { IfOk result (λ part. F.held part.file ≡ F.held self.file) }
+    {
         let mut part = self;
         let mut first = 0;
         let mut end = 0;
@@ -129,18 +141,12 @@ impl<F: DiskFile + Drop> PartFile<F> {
         part.load(first, end.saturating_sub(first))
     }
 
-    /// The disk in memory that has what was read, and of which nothing else can be read; and the file.
-    pub fn into_disk(self, alloc: Global) -> (PartDisk<MemDisk>, F)
-        ensures { IsFresh (⟦<PartDisk<MemDisk> as Disk>⟧.state result.0) self.sectors.shown }
+    /// The file.
+    pub fn into_file(self) -> F
+        ensures { result ≡ self.file }
     {
-        let PartFile {
-            file,
-            sectors,
-            loaded,
-            ..
-        } = self;
-        let disk = MemDisk::with_sectors(alloc, sectors);
-        (PartDisk::new(disk, loaded), file)
+        let PartFile { file, .. } = self;
+        file
     }
 }
 
@@ -157,15 +163,17 @@ fn load_run<F: DiskFile>(
     requires fits { first + len ≤ length sectors.old.shown }
     requires table { length loaded.old ≡ length sectors.old.shown }
     requires room { len ≤ length buffer.old }
+    requires follows { IsPart (F.held file.old) sectors.old.shown loaded.old }
     ensures count { OnOk result (length sectors.new.shown ≡ length sectors.old.shown) }
-    ensures follows { OnOk result (∥ IfSome (F.held file.old) (HasLoaded sectors.old.shown loaded.old) ∥₁
-        → ∥ IfSome (F.held file.new) (HasLoaded sectors.new.shown loaded.new) ∥₁) }
+    ensures file { F.held file.new ≡ F.held file.old }
+    ensures follows { OnOk result (IsPart (F.held file.new) sectors.new.shown loaded.new) }
 {
     let piece = &mut buffer[..len];
     if file.read_run(first, piece).is_err() {
         return Err(FileFault::Failed);
     }
     sectors.set_run(first, piece)?;
+    sectors.tell_whole();
     mark(loaded, first as usize, piece.len());
     Ok(())
 }

@@ -11,8 +11,9 @@ use std::num::NonZeroUsize;
 // How many sectors are kept on a disk without a header: those that were read last,
 const SECTORS: usize = 128;
 
-// and how many more for each sector of the header: a large disk has large directories and bitmaps.
-const SECTORS_A_HEADER: usize = 1024;
+// and how many more for each sector of the header: a large disk has large directories and bitmaps. A disk in a file has all of its
+// sectors in memory besides, so each one here is there twice.
+const SECTORS_A_HEADER: usize = 128;
 
 /// A cache of sectors. It has none where it found no memory.
 #[derive(Drop)]

@@ -1,5 +1,5 @@
-use Rattle.std.proofs.Common.{rules}
+use Rattle.sector_disk.proofs.Parted.{fresh}
 use Rattle.sector_disk.proofs.part_disk.PartDisk.new.Goals as goal
 
 pub returns : goal.returns
-returns g c = search rules
+returns g c = fresh (g.F.DiskFile.held c.args.part.file) c.args.part.sectors.shown
