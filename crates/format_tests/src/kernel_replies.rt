@@ -6,8 +6,9 @@ ghost use Rattle.fuse_protocol.specs.Replies.{IsReply};
 use crate::hex::{Bytes, bytes_of};
 use bitflags::Flags;
 use fuse_protocol::{
-    AclValueFault, Attr, DirectoryEntry, EntryKind, InitFlags, OpenedFlags, Piece, Reply, Room,
-    Terms, Time, push_entry, read_acl_value, write_acl_value, write_reply,
+    AclValueFault, Attr, DirectoryEntry, DirectoryRecord, EntryKind, FoundEntry, InitFlags,
+    OpenedFlags, Piece, Reply, Room, Terms, Time, push_entry, push_record, read_acl_value,
+    write_acl_value, write_reply,
 };
 use posix_acl::{Acl, Entry};
 use std::alloc::{AllocError, Global};
@@ -81,10 +82,12 @@ fn reply_to(unique: u64) -> Reply<'static>
             attr: file(1, 0, 0o40755, 1, [START + 1; 3]),
         },
         26 => Reply::Created {
-            node: NODE,
-            name_valid: 0,
-            valid: 0,
-            attr: file(2, 0, 0o100755, 1, [START + 14; 3]),
+            found: FoundEntry {
+                node: NODE,
+                name_valid: 0,
+                valid: 0,
+                attr: file(2, 0, 0o100755, 1, [START + 14; 3]),
+            },
             handle: 64,
             flags: OpenedFlags::empty(),
         },
@@ -95,12 +98,12 @@ fn reply_to(unique: u64) -> Reply<'static>
             flags: OpenedFlags::empty(),
         },
         126 => Reply::StatFs(ROOM),
-        130 => Reply::Entry {
+        130 => Reply::Entry(FoundEntry {
             node: NODE,
             name_valid: 0,
             valid: 0,
             attr: file(2, 1, 0o100644, 2, [START + 14, START + 18, START + 66]),
-        },
+        }),
         _ => error_to(unique),
     }
 }
@@ -206,6 +209,99 @@ fn listed(alloc: Global) -> Result<([bool; 3], Bytes), AllocError> {
         add(&mut bytes, 2, 3, EntryKind::Unknown, b"f")?,
     ];
     Ok((added, bytes_from(&bytes)))
+}
+
+// What a look-up tells of a file.
+const FOUND: FoundEntry = FoundEntry {
+    node: NODE,
+    name_valid: 1,
+    valid: 2,
+    attr: Attr {
+        ino: 2,
+        size: 513,
+        blocks: 2,
+        atime: Time {
+            seconds: START + 14,
+            nanoseconds: 3,
+        },
+        mtime: Time {
+            seconds: START + 18,
+            nanoseconds: 4,
+        },
+        ctime: Time {
+            seconds: START + 66,
+            nanoseconds: 5,
+        },
+        mode: 0o100644,
+        links: 6,
+        uid: 1000,
+        gid: 100,
+        block_size: 4096,
+    },
+};
+
+// What a look-up tells of a name, if anything; its inode and its kind; the name, and the bytes of its record.
+type RecordRow = (
+    Option<FoundEntry>,
+    u64,
+    EntryKind,
+    &'static str,
+    &'static str,
+);
+
+// No kernel's: put together by the layout of `fuse_direntplus`.
+static RECORDS: [RecordRow; 3] = [
+    (
+        Some(FOUND),
+        2,
+        EntryKind::File,
+        "f",
+        "020000000100000000000000000000000100000000000000020000000000000000000000000000000200000000000000010200000000000002000000000000000eca9a3b0000000012ca9a3b0000000042ca9a3b00000000030000000400000005000000a481000006000000e8030000640000000000000000100000000000000200000000000000090000000000000001000000080000006600000000000000",
+    ),
+    // A name that is as long as a multiple of 8.
+    (
+        Some(FOUND),
+        2,
+        EntryKind::Link,
+        "elsewher",
+        "020000000100000000000000000000000100000000000000020000000000000000000000000000000200000000000000010200000000000002000000000000000eca9a3b0000000012ca9a3b0000000042ca9a3b00000000030000000400000005000000a481000006000000e80300006400000000000000001000000000000002000000000000000900000000000000080000000a000000656c736577686572",
+    ),
+    // Nothing is told of it.
+    (
+        None,
+        1,
+        EntryKind::Directory,
+        "..",
+        "00000000000000000000000000000000000000000000000000000000000000000000000000000000000000000000000000000000000000000000000000000000000000000000000000000000000000000000000000000000000000000000000000000000000000000000000000000000000000000000000000000000000000000100000000000000090000000000000002000000040000002e2e000000000000",
+    ),
+];
+
+// The bytes of a record, behind which stands the offset 9.
+fn recorded(alloc: Global, row: &RecordRow) -> Result<Bytes, AllocError> {
+    let (found, ino, kind, name, _) = *row;
+    let bytes = name.as_bytes();
+    let name = &bytes[..bytes.len().min(8)];
+    let record = DirectoryRecord {
+        found,
+        entry: DirectoryEntry {
+            ino,
+            next: 9,
+            kind,
+            name: Piece::new(name),
+        },
+    };
+    let mut bytes = Vec::new(alloc);
+    push_record(&mut bytes, &record)?;
+    Ok(bytes_from(&bytes))
+}
+
+#[test]
+fn records_of_names(rt: HostRuntime) -> Result<(), AllocError> {
+    for row in &RECORDS {
+        let seen = recorded(rt.alloc(), row)?;
+        assert!(rt; seen == bytes_of(row.4), "{}", row.3);
+    }
+    Ok(())
 }
 
 // user::rwx,user:1001:rwx,group::r-x,mask::rwx,other::---

@@ -15,7 +15,7 @@ struct Said(&'static str, [u64; 4], [&'static str; 2]);
 // A request's bytes; its number, node, uid, gid and pid; and what it says.
 type Row = (&'static str, [u64; 5], Said);
 
-static REQUESTS: [Row; 37] = [
+static REQUESTS: [Row; 38] = [
     (
         "2a0000000100000058000000000000000100000000000000e8030000640000006c760000000000007000",
         [88, 1, 1000, 100, 30316],
@@ -196,7 +196,12 @@ static REQUESTS: [Row; 37] = [
         [32, 4294967299, 0, 0, 29633],
         Said("unknown", [0, 0, 0, 0], ["", ""]),
     ),
-    // No kernel's: an operation that there isn't, without a body.
+    // No kernel's: what it asked with READDIR above, asked with READDIRPLUS, and an operation that there isn't, without a body.
+    (
+        "500000002c000000be000000000000000400000001000000e8030000640000007f7600000000000002000000010000000000000000000000008000000000000000000000000000000088010000000000",
+        [190, 4294967300, 1000, 100, 30335],
+        Said("readdirplus", [4294967298, 0, 32768, 0], ["", ""]),
+    ),
     (
         "28000000001000004d00000000000000000000000000000000000000000000000000000000000000",
         [77, 0, 0, 0, 0],
@@ -296,7 +301,9 @@ fn numbers_of(operation: &Operation<'_>) -> [u64; 4] {
         | Operation::Access(first) => [*first as u64, 0, 0, 0],
         Operation::Open(flags) => [flags.bits() as u64, 0, 0, 0],
         Operation::Write { handle, offset, .. } => [*handle, *offset, 0, 0],
-        Operation::Read(extent) | Operation::ReadDir(extent) => extent_numbers(extent),
+        Operation::Read(extent) | Operation::ReadDir(extent) | Operation::ReadDirPlus(extent) => {
+            extent_numbers(extent)
+        }
         Operation::Init(offer) => offer_numbers(offer),
         _ => [0; 4],
     }
@@ -348,6 +355,7 @@ fn other_word(operation: &Operation<'_>) -> &'static str {
         Operation::Init(_) => "init",
         Operation::OpenDir => "opendir",
         Operation::ReadDir(_) => "readdir",
+        Operation::ReadDirPlus(_) => "readdirplus",
         Operation::ReleaseDir(_) => "releasedir",
         Operation::FSyncDir => "fsyncdir",
         Operation::Access(_) => "access",
@@ -469,7 +477,7 @@ fn outcome_of_zeros(opcode: u8, size: u8, missing: usize) -> Outcome
 }
 
 // Opcodes, and how many zero bytes are a body of their form.
-static SIZES: [(u8, u8); 28] = [
+static SIZES: [(u8, u8); 29] = [
     (1, 1),
     (3, 16),
     (4, 88),
@@ -496,6 +504,7 @@ static SIZES: [(u8, u8); 28] = [
     (30, 16),
     (34, 8),
     (35, 17),
+    (44, 40),
     (45, 18),
     (50, 8),
 ];

@@ -39,7 +39,7 @@ module _ {o : Option Operation} where
   asks-or_absent (Err (Lacks EPROTO)) = asks-fail _
   asks-or_absent (Err (Lacks EOPNOTSUPP)) = asks-fail _
 
-  asks-found_or_absent : (nobody : Bool) (d : ℕ) (name : List ℕ) (seen : Result Status RequestError) → Asks o (found_or_absent nobody d name seen)
+  pub asks-found_or_absent : (nobody : Bool) (d : ℕ) (name : List ℕ) (seen : Result Status RequestError) → Asks o (found_or_absent nobody d name seen)
   asks-found_or_absent nobody d name (Ok status) = search pieces depth 12
   asks-found_or_absent nobody d name (Err e) = search pieces depth 12
 

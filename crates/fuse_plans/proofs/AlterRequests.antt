@@ -1,5 +1,5 @@
 -- No plan of a request changes more than the request says.
-use Rattle.std.specs.Prelude.{◌≡◌, ℕ, Bool, true, false, ◌||◌, List, [], ◌∷◌, All, Option, None, Some, is_some, IsTrue}
+use Rattle.std.specs.Prelude.{◌≡◌, ℕ, Bool, true, false, ◌||◌, List, [], ◌∷◌, All, Option, None, Some, is_some, Result, Ok, Err, IsTrue}
 use Rattle.std.proofs.Common.{refl, sym, subst}
 use Rattle.std.proofs.lemmas.List.Elements.{All-nil, All-cons}
 use Rattle.posix_acl.specs.AccessList.{AccessList}
@@ -13,7 +13,7 @@ use Rattle.fuse_protocol.specs.declared.operation.AttrChanges.{AttrChanges}
 use Rattle.fuse_protocol.specs.declared.operation.Extent.{Extent}
 use Rattle.fuse_protocol.specs.declared.operation.Offer.{Offer}
 use Rattle.fuse_protocol.specs.declared.operation.Operation.{Operation}
-use Rattle.fuse_protocol.specs.declared.operation.Operation.TheVariants.{Lookup, Forget, GetAttr, SetAttr, ReadLink, SymLink, MkNod, MkDir, Unlink, RmDir, Rename, Link, Open, Read, Write, StatFs, Release, FSync, SetXAttr, GetXAttr, ListXAttr, RemoveXAttr, Init, OpenDir, ReadDir, ReleaseDir, FSyncDir, Access, Create, Interrupt, Destroy, BatchForget, SyncFs, Unknown}
+use Rattle.fuse_protocol.specs.declared.operation.Operation.TheVariants.{Lookup, Forget, GetAttr, SetAttr, ReadLink, SymLink, MkNod, MkDir, Unlink, RmDir, Rename, Link, Open, Read, Write, StatFs, Release, FSync, SetXAttr, GetXAttr, ListXAttr, RemoveXAttr, Init, OpenDir, ReadDir, ReadDirPlus, ReleaseDir, FSyncDir, Access, Create, Interrupt, Destroy, BatchForget, SyncFs, Unknown}
 use Rattle.fuse_protocol.specs.declared.reply.Time.{Time}
 use Rattle.fuse_state.specs.declared.directory.OpenDirectory.{OpenDirectory}
 use Rattle.fuse_state.specs.Servers.{Server, owner_of, descriptor_of}
@@ -25,16 +25,19 @@ use Rattle.fuse_plans.specs.Callers.{look}
 use Rattle.fuse_plans.specs.Conduct.{IsOfHandle}
 use Rattle.fuse_plans.specs.NamePlans.{removal}
 use Rattle.fuse_plans.specs.AttributePlans.{get_attributes, no_owners, new_owners, set_size, set_owners, set_mode, may_set_times, set_stamps_if, set_stamps, set_times, change_attributes, set_attributes, read_link, access_as, ask_access}
-use Rattle.fuse_plans.specs.DirectoryPlans.{take_directory_if, take_directory, open_directory, tell_names, list_open, list_all, list_now, listed, read_directory, close_directory, sync_all}
+use Rattle.fuse_plans.specs.declared.request_error.RequestError.{RequestError}
+use Rattle.fuse_plans.specs.Works.{of_result}
+use Rattle.fuse_plans.specs.ListingPlans.{find_listed, look_up_names, read_directory_plus}
+use Rattle.fuse_plans.specs.DirectoryPlans.{take_directory_if, take_directory, open_directory, tell_names, list_open, list_all, list_now, listed, list_kept, read_directory, close_directory, sync_all}
 use Rattle.fuse_plans.specs.AclPlans.{acl_named, an_object, sized, get_xattr, attribute_names, list_xattrs, set_acl, set_xattr, remove_xattr}
 use Rattle.fuse_plans.specs.Nobody.{is_judged, needs_nobody, needs_nobody_in, unless_masked}
 use Rattle.fuse_plans.specs.Masks.{is_masked}
 use Rattle.fuse_plans.specs.Serving.{Task, Replying, Silently, or_server_process, begin, count_space, end, plan_of, told_first, asked_for, response_of, answered, answered_as, request_plan}
 use Rattle.fuse_plans.specs.Alterations.{says_change, sets_times, sets_list, IsToldIn, MayBeAsked, AsksOnly}
 use Rattle.fuse_plans.specs.Laws.{RequestsChangeWhatTheySay, RunsChangeWhatRequestsSay}
-use Rattle.fuse_plans.proofs.AlterPieces.{pieces, Gives, gives-give, gives-fail, gives-if, gives->>=, asks-then, told-where_so, told-two, asks-followed_by, Asks, asks-give, asks-fail, asks-kept, asks-keep, asks->>=, asks-if, asks-when, asks-when_so, asks-needed, asks-ask, asks-needed_then, asks-on, asks-tell_time}
+use Rattle.fuse_plans.proofs.AlterPieces.{pieces, Gives, gives-give, gives-fail, gives-if, gives->>=, asks-then, told-where_so, told-two, asks-followed_by, Asks, asks-give, asks-fail, asks-kept, asks-keep, asks->>=, asks-attempt, asks-if, asks-when, asks-when_so, asks-needed, asks-ask, asks-needed_then, asks-on, asks-tell_time}
 use Rattle.fuse_plans.proofs.AlterMasks.{asks-acl_of, asks-is_masked}
-use Rattle.fuse_plans.proofs.AlterNames.{asks-find_name, asks-make_link, asks-make_directory, asks-make_file, asks-remove, asks-move_name, asks-add_link}
+use Rattle.fuse_plans.proofs.AlterNames.{asks-plain_name, asks-found_or_absent, asks-find_name, asks-make_link, asks-make_directory, asks-make_file, asks-remove, asks-move_name, asks-add_link}
 use Rattle.fuse_plans.proofs.AlterFiles.{asks-call_open, asks-open_file, asks-create_file, asks-read_file, asks-write_file, asks-close_file, asks-sync_file}
 
 -- ---- attributes
@@ -175,9 +178,30 @@ module _ {o : Option Operation} where
   asks-listed node handle d false None = asks-list_now node handle d.ino
   asks-listed node handle d true known = asks-list_now node handle d.ino
 
+  asks-list_kept : (node : ℕ) (extent : Extent) → Asks o (list_kept node extent)
+  unfolding list_kept
+  asks-list_kept node extent = search (pieces, asks-listed) depth 12
+
   asks-read_directory : (node : ℕ) (extent : Extent) → Asks o (read_directory node extent)
   unfolding read_directory
-  asks-read_directory node extent = search (pieces, asks-listed) depth 12
+  asks-read_directory node extent = search (pieces, asks-list_kept) depth 12
+
+  asks-place : (place : Result ℕ RequestError) → Asks o (of_result place)
+  asks-place (Ok d) = asks-give d
+  asks-place (Err e) = asks-fail e
+
+  asks-find_listed : (nobody : Bool) (place : Result ℕ RequestError) (name : List ℕ) → Asks o (find_listed nobody place name)
+  asks-find_listed nobody place name = search (pieces, asks-plain_name, asks-place, asks-found_or_absent) depth 20
+
+  asks-look_up_names : (nobody : Bool) (place : Result ℕ RequestError) (names : List (List ℕ × ℕ)) → Asks o (look_up_names nobody place names)
+  unfolding look_up_names
+  asks-look_up_names nobody place [] = asks-give []
+  asks-look_up_names nobody place (e ∷ es) =
+      asks->>= (asks-attempt (asks-find_listed nobody place e.0)) (λ found. asks->>= (asks-look_up_names nobody place es) (λ others. asks-give _))
+
+  asks-read_directory_plus : (nobody : Bool) (node : ℕ) (extent : Extent) → Asks o (read_directory_plus nobody node extent)
+  unfolding read_directory_plus
+  asks-read_directory_plus nobody node extent = search (pieces, asks-list_kept, asks-look_up_names) depth 16
 
   asks-close_directory : (handle : ℕ) → Asks o (close_directory handle)
   unfolding close_directory
@@ -236,6 +260,7 @@ asks-plan r value (RemoveXAttr name) = asks-remove_xattr r name
 asks-plan r value (Init offer) = asks-begin offer
 asks-plan r value OpenDir = asks-open_directory r
 asks-plan r value (ReadDir extent) = asks-read_directory r.node extent
+asks-plan r value (ReadDirPlus extent) = asks-read_directory_plus r.needs_nobody r.node extent
 asks-plan r value (ReleaseDir handle) = asks-close_directory handle
 asks-plan r value FSyncDir = asks-sync_all
 asks-plan r value (Access mask) = asks-ask_access r mask
@@ -267,6 +292,7 @@ asks-is_judged o node true s = asks-followed_by (MayBeAsked o) (is_masked node s
 
 asks-needs_nobody : (o : Option Operation) (node : ℕ) (operation : Operation) (s : Server) → AsksOnly (MayBeAsked o) (needs_nobody node operation s)
 asks-needs_nobody o node (Lookup name) s = asks-is_judged o node s.settings.posix_acl s
+asks-needs_nobody o node (ReadDirPlus extent) s = asks-is_judged o node s.settings.posix_acl s
 asks-needs_nobody o node _ s = tt
 
 -- whether it needs nobody is found by looking

@@ -17,7 +17,7 @@ use Rattle.fs_model.specs.declared.reply.Status.{Status}
 use Rattle.fuse_protocol.specs.declared.operation.Extent.{Extent}
 use Rattle.fuse_protocol.specs.declared.operation.Offer.{Offer}
 use Rattle.fuse_protocol.specs.declared.operation.Operation.{Operation}
-use Rattle.fuse_protocol.specs.declared.operation.Operation.TheVariants.{Lookup, Forget, GetAttr, SetAttr, ReadLink, SymLink, MkNod, MkDir, Unlink, RmDir, Rename, Link, Open, Read, Write, StatFs, Release, FSync, SetXAttr, GetXAttr, ListXAttr, RemoveXAttr, Init, OpenDir, ReadDir, ReleaseDir, FSyncDir, Access, Create, Interrupt, Destroy, BatchForget, SyncFs, Unknown}
+use Rattle.fuse_protocol.specs.declared.operation.Operation.TheVariants.{Lookup, Forget, GetAttr, SetAttr, ReadLink, SymLink, MkNod, MkDir, Unlink, RmDir, Rename, Link, Open, Read, Write, StatFs, Release, FSync, SetXAttr, GetXAttr, ListXAttr, RemoveXAttr, Init, OpenDir, ReadDir, ReadDirPlus, ReleaseDir, FSyncDir, Access, Create, Interrupt, Destroy, BatchForget, SyncFs, Unknown}
 use Rattle.fuse_protocol.specs.declared.reply.Time.{Time}
 use Rattle.fuse_state.specs.declared.directory.OpenDirectory.{OpenDirectory}
 use Rattle.fuse_state.specs.declared.dentry.Dentry.{Dentry}
@@ -30,13 +30,14 @@ use Rattle.fuse_plans.specs.declared.request_error.RequestError.TheVariants.{Ref
 use Rattle.fuse_plans.specs.declared.request_error.OtherErrno.TheVariants.{ENFILE, ERANGE, ENOSYS, ENODATA, EPROTO, EOPNOTSUPP, ESTALE}
 use Rattle.fuse_plans.specs.Plans.{Finish}
 use Rattle.fuse_plans.specs.Requests.{asked_of}
-use Rattle.fuse_plans.specs.Works.{Work, give, fail, kept, keep, goes_on, ◌>>=◌, attempt, needed, ask, give_unless, refusal_in, unless_refused, or_closed}
+use Rattle.fuse_plans.specs.Works.{Work, give, fail, kept, keep, goes_on, ◌>>=◌, attempt, of_result, needed, ask, give_unless, refusal_in, unless_refused, or_closed}
 use Rattle.fuse_plans.specs.Callers.{settle_new, settle, retire_next, retire, settle_first, begin_process, or_spawned, caller, unused_of, or_unused, caller_with_room, the_server_process, between, look_inside, or_inside, standing_refusal, or_next, by_dentries, on, look_at, look, the_number, directory_number, standing_directory}
 use Rattle.fuse_plans.specs.Flags.{is_trunc}
 use Rattle.fuse_plans.specs.NamePlans.{or_absent, found_or_absent, find_name}
 use Rattle.fuse_plans.specs.FilePlans.{when, touched_if, show_open, confirm_shown, confirm_open, open_file, the_open, seek, read_piece, read_pieces, read_file, close_file, sync_file}
 use Rattle.fuse_plans.specs.AttributePlans.{get_attributes, read_link, access_as, ask_access}
-use Rattle.fuse_plans.specs.DirectoryPlans.{take_directory_if, take_directory, open_directory, tell_names, list_open, list_all, list_now, listed, read_directory, close_directory, sync_all}
+use Rattle.fuse_plans.specs.ListingPlans.{find_listed, look_up_names, read_directory_plus}
+use Rattle.fuse_plans.specs.DirectoryPlans.{take_directory_if, take_directory, open_directory, tell_names, list_open, list_all, list_now, listed, list_kept, read_directory, close_directory, sync_all}
 use Rattle.fuse_plans.specs.Times.{told_stamps_if, told_stamps}
 use Rattle.fuse_plans.specs.AclPlans.{an_object, get_xattr, attribute_names, list_xattrs}
 use Rattle.fuse_plans.specs.Masks.{acl_of}
@@ -353,9 +354,30 @@ keeps-listed node handle d false (Some names) = keeps-give names
 keeps-listed node handle d false None = keeps-list_now node handle d.ino
 keeps-listed node handle d true known = keeps-list_now node handle d.ino
 
+keeps-list_kept : (node : ℕ) (extent : Extent) → Timeless (list_kept node extent)
+unfolding list_kept
+keeps-list_kept node extent = search (pieces, keeps-listed) depth 12
+
 keeps-read_directory : (node : ℕ) (extent : Extent) → Timeless (read_directory node extent)
 unfolding read_directory
-keeps-read_directory node extent = search (pieces, keeps-listed) depth 12
+keeps-read_directory node extent = search (pieces, keeps-list_kept) depth 12
+
+keeps-place : (place : Result ℕ RequestError) → Timeless (of_result place)
+keeps-place (Ok d) = keeps-give d
+keeps-place (Err e) = keeps-fail e
+
+keeps-find_listed : (nobody : Bool) (place : Result ℕ RequestError) (name : List ℕ) → Timeless (find_listed nobody place name)
+keeps-find_listed nobody place name = search (pieces, keeps-place, keeps-found_or_absent) depth 20
+
+keeps-look_up_names : (nobody : Bool) (place : Result ℕ RequestError) (names : List (List ℕ × ℕ)) → Timeless (look_up_names nobody place names)
+unfolding look_up_names
+keeps-look_up_names nobody place [] = keeps-give []
+keeps-look_up_names nobody place (e ∷ es) =
+    keeps->>= (keeps-attempt (keeps-find_listed nobody place e.0)) (λ found. keeps->>= (keeps-look_up_names nobody place es) (λ others. keeps-give _))
+
+keeps-read_directory_plus : (nobody : Bool) (node : ℕ) (extent : Extent) → Timeless (read_directory_plus nobody node extent)
+unfolding read_directory_plus
+keeps-read_directory_plus nobody node extent = search (pieces, keeps-list_kept, keeps-look_up_names) depth 16
 
 without_directory-keeps : (handle : ℕ) → KeepsTimes (without_directory handle)
 without_directory-keeps handle s = record { times = refl; start = refl }
@@ -429,6 +451,7 @@ keeps-plan r value (ListXAttr size) none = keeps-list_xattrs r size
 keeps-plan r value (Init offer) none = keeps-begin offer
 keeps-plan r value OpenDir none = keeps-open_directory r
 keeps-plan r value (ReadDir extent) none = keeps-read_directory r.node extent
+keeps-plan r value (ReadDirPlus extent) none = keeps-read_directory_plus r.needs_nobody r.node extent
 keeps-plan r value (ReleaseDir handle) none = keeps-close_directory handle
 keeps-plan r value FSyncDir none = keeps-sync_all
 keeps-plan r value (Access mask) none = keeps-ask_access r mask

@@ -269,9 +269,12 @@ module _ {rights : Rights} {P : Server → Type 0} where
   pub does-replied_status : (reply : Reply) → Does rights P (replied_status reply)
   does-replied_status reply = does-needed _ _
 
-  pub does-look_inside : (pid d : ℕ) (name : List ℕ) → CanCall rights P pid (Lstat name) → IsOfRequest rights.subject (named_in d name) → Does rights P (look_inside pid d name)
+  pub does-look_within : (pid d : ℕ) (name : List ℕ) → CanCall rights P pid (Lstat name) → ActsWithin rights.subject d d (Lstat name) → Does rights P (look_inside pid d name)
   unfolding look_inside
-  does-look_inside pid d name may is = does->>= (does-between pid d d (Lstat name) may (on_one name refl refl is)) does-replied_status
+  does-look_within pid d name may act = does->>= (does-between pid d d (Lstat name) may act) does-replied_status
+
+  pub does-look_inside : (pid d : ℕ) (name : List ℕ) → CanCall rights P pid (Lstat name) → IsOfRequest rights.subject (named_in d name) → Does rights P (look_inside pid d name)
+  does-look_inside pid d name may is = does-look_within pid d name may (on_one name refl refl is)
 
   pub does-by_server_process : (n : ℕ) (call : List ℕ → Call) → ((path : List ℕ) → IsTrue (only_looks (call path))) → IsPathOf call → About rights P n
       → Does rights P (by_server_process n call)

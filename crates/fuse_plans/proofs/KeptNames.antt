@@ -17,7 +17,7 @@ use Rattle.fs_model.specs.declared.reply.Reply.{Reply}
 use Rattle.fs_model.specs.declared.reply.Reply.TheVariants.{Refused}
 use Rattle.fs_model.specs.declared.reply.Status.{Status}
 use Rattle.fuse_protocol.specs.declared.operation.Operation.{Operation}
-use Rattle.fuse_protocol.specs.declared.operation.Operation.TheVariants.{Lookup, Forget, GetAttr, SetAttr, ReadLink, SymLink, MkNod, MkDir, Unlink, RmDir, Rename, Link, Open, Read, Write, StatFs, Release, FSync, SetXAttr, GetXAttr, ListXAttr, RemoveXAttr, Init, OpenDir, ReadDir, ReleaseDir, FSyncDir, Access, Create, Interrupt, Destroy, BatchForget, SyncFs, Unknown}
+use Rattle.fuse_protocol.specs.declared.operation.Operation.TheVariants.{Lookup, Forget, GetAttr, SetAttr, ReadLink, SymLink, MkNod, MkDir, Unlink, RmDir, Rename, Link, Open, Read, Write, StatFs, Release, FSync, SetXAttr, GetXAttr, ListXAttr, RemoveXAttr, Init, OpenDir, ReadDir, ReadDirPlus, ReleaseDir, FSyncDir, Access, Create, Interrupt, Destroy, BatchForget, SyncFs, Unknown}
 use Rattle.fuse_protocol.specs.declared.reply.Time.{Time}
 use Rattle.fuse_state.specs.Servers.{Server, number_of_node}
 use Rattle.fuse_plans.specs.declared.mode.Mode.{Mode}
@@ -40,6 +40,7 @@ use Rattle.fuse_plans.specs.Alterations.{says_change}
 use Rattle.fuse_plans.specs.AttributePlans.{tell_attributes}
 use Rattle.fuse_plans.specs.NamePlans.{plain_name, directory_for, or_absent, searched_directory, keeps_absent, found_or_absent, find_inside, find_name, keeps_names, unless_hidden, new_valid_if, new_valid, made, make_by, make_link, set_umask, make_masked, make_directory, is_of_file, make_file}
 use Rattle.fuse_plans.specs.FilePlans.{tell_created, create_by, create_file}
+use Rattle.fuse_plans.specs.ListingPlans.{read_directory_plus}
 use Rattle.fuse_plans.specs.DirectoryPlans.{take_directory, take_directory_if, read_directory, close_directory, sync_all}
 use Rattle.fuse_plans.specs.AclPlans.{sized, set_acl}
 use Rattle.fuse_plans.specs.Requests.{Request, asked_of}
@@ -176,7 +177,11 @@ for-take_directory uid n = so-after _ (for-take_directory_if uid n)
 
 for-read_directory : (node : ℕ) (extent : _) → TellsFor 0 (read_directory node extent)
 unfolding read_directory
-for-read_directory node extent = so-after _ (λ known. so-after _ (λ d. so-after _ (λ names. so-give _ (refl, refl))))
+for-read_directory node extent = so-after _ (λ names. so-give _ (refl, refl))
+
+for-read_directory_plus : (nobody : Bool) (node : ℕ) (extent : _) → TellsFor 0 (read_directory_plus nobody node extent)
+unfolding read_directory_plus
+for-read_directory_plus nobody node extent = so-after _ (λ place. so-after _ (λ names. so-after _ (λ found. so-give _ (refl, refl))))
 
 for-close_directory : (handle : ℕ) → TellsFor 0 (close_directory handle)
 unfolding close_directory
@@ -238,6 +243,7 @@ plain-plan r value (RemoveXAttr name) is = so-after _ (λ which. for-set_acl r w
 plain-plan r value (Init offer) is = for-begin offer
 plain-plan r value OpenDir is = so-after _ (λ n. so-after _ (λ cred. so-after _ (λ placed. so-after _ (λ may. for-take_directory cred.uid n))))
 plain-plan r value (ReadDir extent) is = for-read_directory r.node extent
+plain-plan r value (ReadDirPlus extent) is = for-read_directory_plus r.needs_nobody r.node extent
 plain-plan r value (ReleaseDir handle) is = for-close_directory handle
 plain-plan r value FSyncDir is = for-sync_all
 plain-plan r value (Access mask) is = so-after _ (λ n. so-after _ (λ kind. so-after _ (λ may. so-give _ (refl, refl))))

@@ -14,6 +14,7 @@ pub mod FileConducts
 pub mod Forms
 pub mod JudgedLookups
 pub mod MaskConducts
+pub mod ListingConducts
 pub mod KeptNames
 pub mod NameConducts
 pub mod NobodyConducts

@@ -28,7 +28,7 @@ use Rattle.fuse_plans.specs.Works.{give, fail, kept, keep, ◌>>=◌, ◌>>◌}
 use Rattle.fuse_plans.specs.Callers.{caller, the_server_process, by_dentries}
 use Rattle.fuse_plans.specs.NamePlans.{dentry, plain_name, directory_for, tell_entry, found_or_absent, or_absent, new_valid, searched_directory, find_inside, find_name, made, directory_and_caller, make_link, make_directory, open_and_close, make_file, remove, none_there, may_move, rename, move_name, link_by_dentry, add_link}
 use Rattle.fuse_plans.proofs.Conducts.{Any, Still, SameOwn, LeftTo, Does, Lasts, DoesTo, Gives, does-give, does-fail, does-kept, does-keep, does-told_stamps, does->>=, does-attempt, does-lasts, lasts->>=, ends->>=, keep-lasts, then-lasts, then-does_to, does-does_to, attempt-does_to, gives-give}
-use Rattle.fuse_plans.proofs.Calls.{AsksOf, CanCall, ActsAt, does-obtain, does-between, does-done_between, does-by_dentries, known-dentries, does-look_inside, lasts-with_server_process, looks, does-look, is-object, gives-number, gives-standing_directory}
+use Rattle.fuse_plans.proofs.Calls.{AsksOf, CanCall, ActsAt, does-obtain, does-between, does-done_between, does-by_dentries, known-dentries, does-look_within, does-look_inside, lasts-with_server_process, looks, does-look, is-object, gives-number, gives-standing_directory}
 use Rattle.fuse_plans.proofs.MaskConducts.{does-new_valid_of}
 use Rattle.fuse_plans.proofs.Chosen.{OfCaller, about-caller, gives-with, does-caller, does-caller_with_room}
 use Rattle.fuse_state.proofs.Holders.{holding_of}
@@ -84,9 +84,13 @@ module _ {rights : Rights} {P : Server → Type 0} where
       lasts->>= (does-told_stamps _) (λ stamps. tells-entry _ (found-same (dentry d name) status.ino status.kind) _)
   lasts-found_or_absent nobody d name (Err e) = does-lasts (does->>= (does-kept _) (λ settings. does-if _ _ _ (does-give _) (does-fail _)))
 
+  pub lasts-find_within : (nobody : Bool) (pid d : ℕ) (name : List ℕ) → CanCall rights P pid (Lstat name) → ActsWithin rights.subject d d (Lstat name)
+      → Lasts rights P (find_inside nobody pid d name)
+  lasts-find_within nobody pid d name can act = lasts->>= (does-attempt (does-look_within pid d name can act)) (lasts-found_or_absent nobody d name)
+
   pub lasts-find_inside : (nobody : Bool) (pid d : ℕ) (name : List ℕ) → CanCall rights P pid (Lstat name) → IsOfRequest rights.subject (named_in d name)
       → Lasts rights P (find_inside nobody pid d name)
-  lasts-find_inside nobody pid d name can is = lasts->>= (does-attempt (does-look_inside pid d name can is)) (lasts-found_or_absent nobody d name)
+  lasts-find_inside nobody pid d name can is = lasts-find_within nobody pid d name can (on_one name refl refl is)
 
   pub lasts-made : (now : Time) (name_valid d : ℕ) (name : List ℕ) → IsOfRequest rights.subject (named_in d name) → Lasts rights P (made now name_valid d name)
   unfolding made

@@ -8,8 +8,9 @@ use Rattle.posix_acl.specs.AccessList.{AccessList}
 use Rattle.fs_cred.specs.Credentials.{Credential}
 use Rattle.fs_model.specs.declared.event.Event.{Event}
 use Rattle.fs_model.specs.declared.reply.Reply.{Reply}
+use Rattle.fuse_protocol.specs.declared.operation.Extent.{Extent}
 use Rattle.fuse_protocol.specs.declared.operation.Operation.{Operation}
-use Rattle.fuse_protocol.specs.declared.operation.Operation.TheVariants.{Lookup, Forget, GetAttr, SetAttr, ReadLink, SymLink, MkNod, MkDir, Unlink, RmDir, Rename, Link, Open, Read, Write, StatFs, Release, FSync, SetXAttr, GetXAttr, ListXAttr, RemoveXAttr, Init, OpenDir, ReadDir, ReleaseDir, FSyncDir, Access, Create, Interrupt, Destroy, BatchForget, SyncFs, Unknown}
+use Rattle.fuse_protocol.specs.declared.operation.Operation.TheVariants.{Lookup, Forget, GetAttr, SetAttr, ReadLink, SymLink, MkNod, MkDir, Unlink, RmDir, Rename, Link, Open, Read, Write, StatFs, Release, FSync, SetXAttr, GetXAttr, ListXAttr, RemoveXAttr, Init, OpenDir, ReadDir, ReadDirPlus, ReleaseDir, FSyncDir, Access, Create, Interrupt, Destroy, BatchForget, SyncFs, Unknown}
 use Rattle.fuse_state.specs.Servers.{Server, WithinShares}
 use Rattle.fuse_plans.specs.declared.request.Asked.{Asked}
 use Rattle.fuse_plans.specs.Plans.{Plan, Finish, Ask, CarriesOut, finishes, IsRunOf, Restraint, KeepsTo}
@@ -29,7 +30,7 @@ use Rattle.fuse_plans.proofs.Staying.{stays-is_masked}
 
 -- ---- what may be asked
 
-keeps-both : {M X : Type 0} (rule : Restraint M) (E : M → X → Type 0) (Q : X → Type 0) (p : Plan X) (m : M)
+pub keeps-both : {M X : Type 0} (rule : Restraint M) (E : M → X → Type 0) (Q : X → Type 0) (p : Plan X) (m : M)
     → KeepsTo rule E m p → AllEnd Q p → KeepsTo rule (λ n x. E n x × Q x) m p
 keeps-both rule E Q (Finish x) m keeps all = (keeps, all)
 keeps-both rule E Q (Ask e next) m keeps all = (keeps.0, λ reply. keeps-both rule E Q (next reply) (rule.after m e reply) (keeps.1 reply) (all reply))
@@ -42,6 +43,7 @@ pub record AtHome (s : Server) (known : Known) (nobody : Bool) : Type 0 where
 -- of all but look-ups nothing is asked
 abbrev pub is_lookup : Operation → Bool
 is_lookup (Lookup name) = true
+is_lookup (ReadDirPlus extent) = true
 is_lookup _ = false
 
 pub at_once : (node : ℕ) (operation : Operation) (s : Server) → is_lookup operation ≡ false → needs_nobody node operation s ≡ Finish (not (needs_caller operation))
@@ -70,6 +72,7 @@ at_once node (RemoveXAttr name) s is = refl
 at_once node (Init offer) s is = refl
 at_once node OpenDir s is = refl
 at_once node (ReadDir extent) s is = refl
+at_once node (ReadDirPlus extent) s is = absurd (cc)
 at_once node (ReleaseDir handle) s is = refl
 at_once node FSyncDir s is = refl
 at_once node (Access mask) s is = refl
@@ -80,14 +83,17 @@ at_once node (BatchForget batch) s is = refl
 at_once node SyncFs s is = refl
 at_once node Unknown s is = refl
 
-is_lookup_alone : (operation : Operation) → ((name : List ℕ) → operation ≡ Lookup name → ⊥) → is_lookup operation ≡ false
-is_lookup_alone (Lookup name) other = absurd (other name refl)
-is_lookup_alone _ other = refl
+is_lookup_alone : (operation : Operation) → ((name : List ℕ) → operation ≡ Lookup name → ⊥) → ((extent : Extent) → operation ≡ ReadDirPlus extent → ⊥)
+    → is_lookup operation ≡ false
+is_lookup_alone (Lookup name) other others = absurd (other name refl)
+is_lookup_alone (ReadDirPlus extent) other others = absurd (others extent refl)
+is_lookup_alone _ other others = refl
 
 pub decided_at_once : {M : Type 0} {Serves : M → Event → Reply → M → Type 0} (node : ℕ) (operation : Operation) (s : Server) (m : M)
-    → ((name : List ℕ) → operation ≡ Lookup name → ⊥) → CarriesOut Serves (needs_nobody node operation s) m m (not (needs_caller operation))
-decided_at_once {M} {Serves} node operation s m other =
-    subst (λ p. CarriesOut Serves p m m (not (needs_caller operation))) (sym (at_once node operation s (is_lookup_alone operation other)))
+    → ((name : List ℕ) → operation ≡ Lookup name → ⊥) → ((extent : Extent) → operation ≡ ReadDirPlus extent → ⊥)
+    → CarriesOut Serves (needs_nobody node operation s) m m (not (needs_caller operation))
+decided_at_once {M} {Serves} node operation s m other others =
+    subst (λ p. CarriesOut Serves p m m (not (needs_caller operation))) (sym (at_once node operation s (is_lookup_alone operation other others)))
     (finishes (not (needs_caller operation)) m)
 
 module _ (rights : Rights) (node : ℕ) (same : rights.subject.node ≡ node) (s : Server) (start : rights.subject.start ≡ s) (own : rights.server_process ≡ s.server_process) where
@@ -110,6 +116,7 @@ module _ (rights : Rights) (node : ℕ) (same : rights.subject.node ≡ node) (s
   keeps-needs_nobody : (operation : Operation) → rights.subject.operation ≡ Some operation → (b : Bool) → is_lookup operation ≡ b
       → KeepsTo (conduct rights) (AtHome s) (known_in s) (needs_nobody node operation s)
   keeps-needs_nobody (Lookup name) asks b is = keeps-is_judged (ap (λ o. node_of_object o rights.subject.node) asks ∙ same) s.settings.posix_acl
+  keeps-needs_nobody (ReadDirPlus extent) asks b is = keeps-is_judged (ap (λ o. node_of_object o rights.subject.node) asks ∙ same) s.settings.posix_acl
   keeps-needs_nobody operation asks true is = absurd (cc)
   keeps-needs_nobody operation asks false is =
       subst (λ p. KeepsTo (conduct rights) (AtHome s) (known_in s) p) (sym (at_once node operation s is)) (record { home = refl; processes = refl })
@@ -148,6 +155,7 @@ alike-plan r cred value (RemoveXAttr name) is = absurd (cc)
 alike-plan r cred value (Init offer) is = refl
 alike-plan r cred value OpenDir is = absurd (cc)
 alike-plan r cred value (ReadDir extent) is = refl
+alike-plan r cred value (ReadDirPlus extent) is = refl
 alike-plan r cred value (ReleaseDir handle) is = refl
 alike-plan r cred value FSyncDir is = refl
 alike-plan r cred value (Access mask) is = absurd (cc)
@@ -173,6 +181,7 @@ alike-search r s cred (Some operation) es replies runs =
     choose : (o : Operation) (b : Bool) → is_lookup o ≡ b → IsRunOf (needs_nobody r.node o s) es replies true
         → plan_of (asked_of (record r { cred = cred }) true) r.value o ≡ plan_of (asked_of r true) r.value o
     choose (Lookup name) b is ran = refl
+    choose (ReadDirPlus extent) b is ran = refl
     choose o true is ran = absurd (cc)
     choose o false is ran =
         alike-plan (asked_of r true) cred r.value o

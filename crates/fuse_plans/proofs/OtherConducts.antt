@@ -24,7 +24,7 @@ use Rattle.fuse_plans.specs.Plans.{KeepsTo}
 use Rattle.fuse_plans.specs.Conduct.{Known, Rights, sets, conduct, Fits, IsHome, IsOfHandle}
 use Rattle.fuse_plans.specs.FilePlans.{sync_file}
 use Rattle.fuse_plans.specs.AttributePlans.{tell_attributes, get_attributes, new_owners, resize_object, set_size, set_mode, may_set_times, set_stamps_if, set_stamps, set_times, change_attributes, set_attributes, read_link, access_as, ask_access}
-use Rattle.fuse_plans.specs.DirectoryPlans.{open_directory, take_directory, take_directory_if, tell_names, list_open, list_all, list_now, listed, read_directory, close_directory, sync_all}
+use Rattle.fuse_plans.specs.DirectoryPlans.{open_directory, take_directory, take_directory_if, tell_names, list_open, list_all, list_now, listed, list_kept, read_directory, close_directory, sync_all}
 use Rattle.fuse_plans.specs.AclPlans.{an_object, sized, get_xattr, attribute_names, list_xattrs, acl_set, set_acl, set_xattr, remove_xattr}
 use Rattle.fuse_plans.specs.Serving.{count_space, end}
 use Rattle.fuse_plans.proofs.Conducts.{Any, Still, still-as, Left, does-keep_within, Does, Lasts, Gives, does-give, does-fail, does-kept, does-stamp, does-told_stamps, does->>=, does-attempt, does-needed, does-unless_refused, does-lasts, lasts->>=, ends->>=, then-lasts, then-does, then-does_to, does-does_to, gives-give, gives-fail}
@@ -232,12 +232,15 @@ module _ {rights : Rights} (r : Asked) (is : rights.cred ≡ r.cred) (asks : Ask
   lasts-listed_anew handle d false None = lasts-list_now handle d.ino
   lasts-listed_anew handle d true known = lasts-list_now handle d.ino
 
+  pub lasts-list_kept : (extent : Extent) → Lasts rights (Still rights) (list_kept r.node extent)
+  unfolding list_kept
+  lasts-list_kept extent =
+      lasts->>= (does-kept _) (λ known.
+      lasts->>= (does-needed _ known) (λ d. lasts-listed_anew extent.handle d _ _))
+
   pub lasts-read_directory : (extent : Extent) → Lasts rights (Still rights) (read_directory r.node extent)
   unfolding read_directory
-  lasts-read_directory extent =
-      lasts->>= (does-kept _) (λ known.
-      lasts->>= (does-needed _ known) (λ d.
-      ends->>= (lasts-listed_anew extent.handle d _ _) (λ names. does-give _)))
+  lasts-read_directory extent = ends->>= (lasts-list_kept extent) (λ names. does-give _)
 
   -- ---- ACLs that are told
 

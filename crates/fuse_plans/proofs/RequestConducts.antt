@@ -14,7 +14,7 @@ use Rattle.fuse_plans.specs.declared.request_error.OtherErrno.TheVariants.{EPROT
 use Rattle.fuse_plans.specs.declared.request.Asked.{Asked}
 use Rattle.fuse_protocol.specs.declared.operation.Offer.{Offer}
 use Rattle.fuse_protocol.specs.declared.operation.Operation.{Operation}
-use Rattle.fuse_protocol.specs.declared.operation.Operation.TheVariants.{Lookup, Forget, GetAttr, SetAttr, ReadLink, SymLink, MkNod, MkDir, Unlink, RmDir, Rename, Link, Open, Read, Write, StatFs, Release, FSync, SetXAttr, GetXAttr, ListXAttr, RemoveXAttr, Init, OpenDir, ReadDir, ReleaseDir, FSyncDir, Access, Create, Interrupt, Destroy, BatchForget, SyncFs, Unknown}
+use Rattle.fuse_protocol.specs.declared.operation.Operation.TheVariants.{Lookup, Forget, GetAttr, SetAttr, ReadLink, SymLink, MkNod, MkDir, Unlink, RmDir, Rename, Link, Open, Read, Write, StatFs, Release, FSync, SetXAttr, GetXAttr, ListXAttr, RemoveXAttr, Init, OpenDir, ReadDir, ReadDirPlus, ReleaseDir, FSyncDir, Access, Create, Interrupt, Destroy, BatchForget, SyncFs, Unknown}
 use Rattle.fuse_protocol.specs.declared.reply.Time.{Time}
 use Rattle.fuse_plans.specs.declared.reply.ReplyBody.{ReplyBody}
 use Rattle.fuse_state.specs.Servers.{Server, with_the_server_process, with_acls_offered, WithinShares, forgotten, all_forgotten}
@@ -35,6 +35,7 @@ use Rattle.fuse_plans.proofs.Calls.{AsksOf}
 use Rattle.fuse_plans.proofs.NobodyConducts.{AtHome, keeps-needs_nobody_in}
 use Rattle.fuse_plans.proofs.NameConducts.{lasts-find_name, lasts-make_link, lasts-make_directory, lasts-make_file, lasts-remove, lasts-move_name, lasts-add_link}
 use Rattle.fuse_plans.proofs.FileConducts.{lasts-open_file, lasts-create_file, does-read_file, does-write_file, does-close_file}
+use Rattle.fuse_plans.proofs.ListingConducts.{lasts-read_directory_plus}
 use Rattle.fuse_plans.proofs.OtherConducts.{HandleIs, lasts-get_attributes, lasts-set_attributes, lasts-set_xattr, lasts-remove_xattr, lasts-ask_access, lasts-open_directory, lasts-read_link, lasts-read_directory, does-close_directory, lasts-get_xattr, lasts-list_xattrs, does-sync_all, does-sync_file, does-count_space, does-end}
 
 -- the work of a request, if it has a reply
@@ -91,6 +92,7 @@ module _ (rights : Rights) (r : Asked) (is : rights.cred ≡ r.cred) (node : rig
   does-plan value (Init offer) asks other given = absurd (let no : true ≡ false = other in cc)
   does-plan value OpenDir asks other given = lasts-open_directory r is (of_node _ asks (λ k. refl))
   does-plan value (ReadDir extent) asks other given = lasts-read_directory r is (of_node _ asks (λ k. refl)) extent
+  does-plan value (ReadDirPlus extent) asks other given = lasts-read_directory_plus r is node (of_node _ asks (λ k. refl)) extent asks
   does-plan value (ReleaseDir handle) asks other given = does-lasts (does-close_directory handle)
   does-plan value FSyncDir asks other given = does-lasts does-sync_all
   does-plan value (Access mask) asks other given = lasts-ask_access r is (of_node _ asks (λ k. refl)) mask

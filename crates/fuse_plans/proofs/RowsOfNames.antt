@@ -152,7 +152,7 @@ pub judged : played default_way (
     ∷ asks 2 1001 1001 (Some []) 1000000011 (SymLink (codes "l") (codes "f")) (Done ∷ (Shown (status 2 Directory 449 1 0 0 128)) ∷ Done ∷ Done ∷ (Acl (Some masked)) ∷ Done ∷ Done ∷ Done ∷ Done ∷ Done ∷ (Shown (status 4 LinkType 511 1 1001 1001 1)) ∷ Done ∷ [])
     ∷ asks 1 1001 1001 (Some []) 1000000012 (SymLink (codes "l") (codes "f")) ((Shown (status 1 Directory 493 1 0 0 128)) ∷ Done ∷ Done ∷ Done ∷ Done ∷ (Shown (status 5 LinkType 511 1 1001 1001 1)) ∷ Done ∷ [])
     ∷ []) ≡
-    (((user 0 0 []) ∷ []), Told (terms 131072 278659145 4096 0))
+    (((user 0 0 []) ∷ []), Told (terms 131072 278683721 4096 0))
     ∷ (((Calls 1 (Lstat (codes "/"))) ∷ (Enter 1 1 1) ∷ (Calls 1 (Lstat (codes "d"))) ∷ (Enter 1 1 1) ∷ []), Told (Found 2 60 (times_at_start (status 2 Directory 449 1 0 0 128))))
     ∷ (((Enter 1 1 1) ∷ (Calls 1 (Lstat (codes "d"))) ∷ (Enter 1 1 1) ∷ (Enter 1 1 1) ∷ (Calls 1 (GetAcl (codes "d") AccessAcl)) ∷ (Enter 1 1 1) ∷ (user 1001 1001 []) ∷ (Enter 2 2 2) ∷ (Calls 2 (Lstat (codes "f"))) ∷ (Enter 2 1 1) ∷ []), Told (Found 3 0 (times_at_start (status 3 File 420 1 0 0 0))))
     ∷ (((Enter 1 1 1) ∷ (Calls 1 (Lstat (codes "d"))) ∷ (Enter 1 1 1) ∷ (Enter 1 1 1) ∷ (Calls 1 (GetAcl (codes "d") AccessAcl)) ∷ (Enter 1 1 1) ∷ (user 1000 1000 []) ∷ (Enter 3 2 2) ∷ []), Error 13)

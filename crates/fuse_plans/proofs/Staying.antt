@@ -18,7 +18,7 @@ use Rattle.fuse_plans.specs.declared.request_error.RequestError.{RequestError}
 use Rattle.fuse_plans.specs.RequestErrors.{is_for}
 use Rattle.fuse_plans.specs.Plans.{Finish}
 use Rattle.fuse_plans.specs.Works.{Work, give, fail, kept, goes_on, ◌>>=◌, attempt, needed, ask, give_unless, refusal_in, unless_refused, obtain}
-use Rattle.fuse_plans.specs.Callers.{the_server_process, between, or_inside, standing_refusal, or_next, by_dentries, on, by_server_process, is_known_directory, the_number, directory_number}
+use Rattle.fuse_plans.specs.Callers.{the_server_process, between, or_inside, standing_refusal, or_next, by_dentries, on, by_server_process, is_known_directory, the_number, directory_number, standing_directory}
 use Rattle.fuse_plans.specs.NamePlans.{new_valid_if, new_valid}
 use Rattle.fuse_plans.specs.Masks.{may_hide, asks_list, list_hides, is_masked}
 use Rattle.fuse_plans.proofs.AllEnds.{AllEnd, all-followed_by}
@@ -117,11 +117,19 @@ stays-asks_list n status =
 stays-list_hides : (n : ℕ) → Stays (list_hides n)
 stays-list_hides n = stays->>= (stays->>= (stays-by_server_process n Lstat) (λ reply. stays-needed _ _)) (λ status. stays-asks_list n status)
 
+stays-directory_number : (node : ℕ) → Stays (directory_number node)
+unfolding directory_number the_number
+stays-directory_number node =
+    stays->>= (stays->>= (stays-kept _) (stays-needed _)) (λ n. stays->>= (stays-kept _) (λ kind. stays-if (is_known_directory kind) _ _ (stays-give n) (stays-fail _)))
+
+pub stays-standing_directory : (node : ℕ) → Stays (standing_directory node)
+unfolding standing_directory
+stays-standing_directory node =
+    stays->>= (stays-directory_number node) (λ n. stays->>= (stays-kept _) (λ placed. stays-if placed _ _ (stays-give n) (stays-fail _)))
+
 pub stays-is_masked : (node : ℕ) → Stays (is_masked node)
-unfolding is_masked directory_number the_number
-stays-is_masked node =
-    stays->>= (stays->>= (stays->>= (stays-kept _) (stays-needed _)) (λ n. stays->>= (stays-kept _) (λ kind. stays-if (is_known_directory kind) _ _ (stays-give n) (stays-fail _))))
-    stays-list_hides
+unfolding is_masked
+stays-is_masked node = stays->>= (stays-directory_number node) stays-list_hides
 
 stays-new_valid_if : (d name_valid : ℕ) (b : Bool) → Stays (new_valid_if d name_valid b)
 stays-new_valid_if d name_valid false = stays-give 0

@@ -8,9 +8,10 @@ use Rattle.std.specs.Prelude.{◌≡◌, ℕ, List, codes, Option, None, Some, I
 use Rattle.std.specs.List.{Contains}
 use Rattle.fs_model.specs.Limits.{root}
 use Rattle.fs_model.specs.declared.call.Call.{Call}
-use Rattle.fs_model.specs.declared.call.Call.TheVariants.{Link as LinkCall, Rename as RenameCall}
+use Rattle.fs_model.specs.declared.call.Call.TheVariants.{Link as LinkCall, Lstat, Rename as RenameCall}
+use Rattle.fuse_protocol.specs.declared.operation.Extent.{Extent}
 use Rattle.fuse_protocol.specs.declared.operation.Operation.{Operation}
-use Rattle.fuse_protocol.specs.declared.operation.Operation.TheVariants.{Lookup, SymLink, MkNod, MkDir, Unlink, RmDir, Rename, Link, Create}
+use Rattle.fuse_protocol.specs.declared.operation.Operation.TheVariants.{Lookup, SymLink, MkNod, MkDir, Unlink, RmDir, Rename, Link, ReadDirPlus, Create}
 use Rattle.fuse_state.specs.declared.dentry.Dentry.{Dentry}
 use Rattle.fuse_state.specs.Servers.{Server, number_of_node, dentries_of}
 use Rattle.fuse_plans.specs.Callers.{has_dentry}
@@ -95,8 +96,8 @@ abbrev pub path_changed : Call → Option (List ℕ)
 path_changed call = if changes_name call then only_path call else None
 
 -- What may be asked with names of a directory, and with second names of another one: a call on one name that is of the request, which
--- adds or takes it only where it is given; to rename what has the name that is given, to the new one; or to give the object the name
--- that is given too, by a known one.
+-- adds or takes it only where it is given; to rename what has the name that is given, to the new one; to give the object the name
+-- that is given too, by a known one; or what stat(2) shows of a name in a directory whose names are asked for with that.
 pub data ActsWithin (r : Subject) (directory second : ℕ) (call : Call) : Type 0 where
   on_one : (name : List ℕ) → second ≡ directory → path_kept call ≡ Some name → IsOfRequest r (named_in directory name)
       → ActsWithin r directory second call
@@ -106,6 +107,8 @@ pub data ActsWithin (r : Subject) (directory second : ℕ) (call : Call) : Type 
       → ActsWithin r directory second call
   links : (n : ℕ) (old new : List ℕ) → call ≡ LinkCall old new → IsObject r n → IsKnownDentry r.start n (named_in directory old)
       → IsGivenName r (named_in second new) → ActsWithin r directory second call
+  lists : (name : List ℕ) (extent : Extent) → second ≡ directory → call ≡ Lstat name → r.operation ≡ Some (ReadDirPlus extent)
+      → IsStandingDirectory r.start r.node directory → ActsWithin r directory second call
 
 -- A process that has entered a directory, and with the second names of its calls another.
 pub record Away : Type 0 where

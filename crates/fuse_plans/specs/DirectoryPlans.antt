@@ -125,16 +125,16 @@ listed node handle d _ _ = list_now node handle d.ino
 abbrev pub tell_listed : Extent → List (List ℕ × ℕ) → Work ReplyBody
 tell_listed extent names = give (Bytes (listing_bytes extent.offset extent.size (drop extent.offset names)))
 
-abbrev pub tell_now : ℕ → Extent → ℕ → Work ReplyBody
-tell_now node extent number = do
-  names ← list_now node extent.handle number
-  tell_listed extent names
+-- the names of an open directory
+unfoldable pub list_kept : ℕ → Extent → Work (List (List ℕ × ℕ))
+list_kept node extent = do
+  known ← kept (λ s. directory_of s extent.handle)
+  d ← needed (failed EBADF) known
+  listed node extent.handle d (extent.offset == 0) d.listing
 
 unfoldable pub read_directory : ℕ → Extent → Work ReplyBody
 read_directory node extent = do
-  known ← kept (λ s. directory_of s extent.handle)
-  d ← needed (failed EBADF) known
-  names ← listed node extent.handle d (extent.offset == 0) d.listing
+  names ← list_kept node extent
   tell_listed extent names
 
 unfoldable pub close_directory : ℕ → Work ReplyBody

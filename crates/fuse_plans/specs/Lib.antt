@@ -11,6 +11,7 @@ pub mod FilePlans
 pub mod AttributePlans
 pub mod DirectoryPlans
 pub mod AclPlans
+pub mod ListingPlans
 pub mod Masks
 pub mod Nobody
 pub mod Serving

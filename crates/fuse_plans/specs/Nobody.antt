@@ -4,7 +4,7 @@
 --     needs_nobody_in        of a request
 use Rattle.std.specs.Prelude.{ℕ, Bool, true, false, not, Option, None, Some, Result, Ok, Err}
 use Rattle.fuse_protocol.specs.declared.operation.Operation.{Operation}
-use Rattle.fuse_protocol.specs.declared.operation.Operation.TheVariants.{Lookup, SetAttr, SymLink, MkNod, MkDir, Unlink, RmDir, Rename, Link, Open, SetXAttr, RemoveXAttr, OpenDir, Access, Create}
+use Rattle.fuse_protocol.specs.declared.operation.Operation.TheVariants.{Lookup, SetAttr, SymLink, MkNod, MkDir, Unlink, RmDir, Rename, Link, Open, SetXAttr, RemoveXAttr, OpenDir, ReadDirPlus, Access, Create}
 use Rattle.fuse_state.specs.Servers.{Server}
 use Rattle.fuse_plans.specs.declared.request_error.RequestError.{RequestError}
 use Rattle.fuse_plans.specs.Plans.{Plan, Finish, followed_by}
@@ -45,6 +45,7 @@ is_judged node true s = followed_by (is_masked node s) (λ r. Finish (unless_mas
 -- form nothing changes of what the server keeps.
 abbrev pub needs_nobody : ℕ → Operation → Server → Plan Bool
 needs_nobody node (Lookup name) s = is_judged node s.settings.posix_acl s
+needs_nobody node (ReadDirPlus extent) s = is_judged node s.settings.posix_acl s
 needs_nobody node operation s = Finish (not (needs_caller operation))
 
 -- where the body isn't of its form nothing is asked for it

@@ -14,6 +14,7 @@ use Rattle.fuse_protocol.specs.declared.operation.Operation.TheVariants.{SetXAtt
 use Rattle.fuse_protocol.specs.declared.request.Request.{Request as WireRequest}
 use Rattle.fuse_protocol.specs.declared.request.RequestFault.TheVariants as faults
 use Rattle.fuse_protocol.specs.declared.reply.Attr.{Attr}
+use Rattle.fuse_protocol.specs.declared.reply.FoundEntry.{FoundEntry}
 use Rattle.fuse_protocol.specs.declared.reply.Reply.{Reply as WireReply}
 use Rattle.fuse_protocol.specs.declared.reply.Reply.TheVariants as replies
 use Rattle.fuse_protocol.specs.Requests.{request_of}
@@ -93,13 +94,17 @@ attr_of a = record {
   block_size = 4096;
 }
 
+-- what is told of an object that has a name
+abbrev pub looked_up_entry : ℕ → ℕ → Attributes → FoundEntry
+looked_up_entry node name_valid shown = record { node = node; name_valid = name_valid; valid = shown.valid; attr = attr_of shown }
+
 abbrev pub reply_of_body : ReplyBody → WireReply
 reply_of_body Nothing = replies.Done
-reply_of_body (Found node name_valid a) = replies.Entry node name_valid a.valid (attr_of a)
+reply_of_body (Found node name_valid a) = replies.Entry (looked_up_entry node name_valid a)
 reply_of_body (Absent valid) = replies.Absent valid
 reply_of_body (Shown a) = replies.Attr a.valid (attr_of a)
 reply_of_body (Opened handle flags) = replies.Open handle flags
-reply_of_body (Created node name_valid a handle flags) = replies.Created node name_valid a.valid (attr_of a) handle flags
+reply_of_body (Created node name_valid a handle flags) = replies.Created (looked_up_entry node name_valid a) handle flags
 reply_of_body (Bytes bytes) = replies.Bytes bytes
 reply_of_body (Wrote count) = replies.Count count
 reply_of_body (Acl acl) = replies.Bytes (acl_value_bytes (entries_of acl))

@@ -17,7 +17,7 @@ use Rattle.fuse_plans.specs.declared.request.Asked.{Asked}
 use Rattle.fuse_plans.specs.Requests.{Request, asked_of}
 use Rattle.fuse_protocol.specs.declared.operation.Offer.{Offer}
 use Rattle.fuse_protocol.specs.declared.operation.Operation.{Operation}
-use Rattle.fuse_protocol.specs.declared.operation.Operation.TheVariants.{Lookup, Forget, GetAttr, SetAttr, ReadLink, SymLink, MkNod, MkDir, Unlink, RmDir, Rename, Link, Open, Read, Write, StatFs, Release, FSync, SetXAttr, GetXAttr, ListXAttr, RemoveXAttr, Init, OpenDir, ReadDir, ReleaseDir, FSyncDir, Access, Create, Interrupt, Destroy, BatchForget, SyncFs, Unknown}
+use Rattle.fuse_protocol.specs.declared.operation.Operation.TheVariants.{Lookup, Forget, GetAttr, SetAttr, ReadLink, SymLink, MkNod, MkDir, Unlink, RmDir, Rename, Link, Open, Read, Write, StatFs, Release, FSync, SetXAttr, GetXAttr, ListXAttr, RemoveXAttr, Init, OpenDir, ReadDir, ReadDirPlus, ReleaseDir, FSyncDir, Access, Create, Interrupt, Destroy, BatchForget, SyncFs, Unknown}
 use Rattle.fuse_protocol.specs.declared.reply.Time.{Time}
 use Rattle.fuse_plans.specs.declared.reply.ReplyBody.{ReplyBody}
 use Rattle.fuse_plans.specs.declared.reply.ReplyBody.TheVariants.{Space, Agreed}
@@ -33,6 +33,7 @@ use Rattle.fuse_plans.specs.NamePlans.{find_name, make_link, make_file, make_dir
 use Rattle.fuse_plans.specs.FilePlans.{open_file, create_file, read_file, write_file, close_file, sync_file}
 use Rattle.fuse_plans.specs.AttributePlans.{get_attributes, set_attributes, read_link, ask_access}
 use Rattle.fuse_plans.specs.DirectoryPlans.{open_directory, read_directory, close_directory, sync_all}
+use Rattle.fuse_plans.specs.ListingPlans.{read_directory_plus}
 use Rattle.fuse_plans.specs.AclPlans.{get_xattr, list_xattrs, set_xattr, remove_xattr}
 
 -- ---- the whole file system
@@ -41,10 +42,11 @@ use Rattle.fuse_plans.specs.AclPlans.{get_xattr, list_xattrs, set_xattr, remove_
 abbrev pub keeping_flags : Settings → ℕ
 keeping_flags settings = if settings.keeping.pages then 0x10840001 else 0
 
--- ATOMIC_O_TRUNC, DONT_MASK and HANDLE_KILLPRIV; with larger writes BIG_WRITES and MAX_PAGES; POSIX_ACL
+-- ATOMIC_O_TRUNC, DONT_MASK and HANDLE_KILLPRIV; with larger writes BIG_WRITES and MAX_PAGES; where the kernel is to judge POSIX_ACL, and
+-- with it DO_READDIRPLUS and READDIRPLUS_AUTO
 abbrev pub wanted_flags : Settings → ℕ
 wanted_flags settings =
-    0x80048 + (if nat_lt 4096 settings.max_write then 0x400020 else 0) + (if settings.posix_acl then 0x100000 else 0) + keeping_flags settings
+    0x80048 + (if nat_lt 4096 settings.max_write then 0x400020 else 0) + (if settings.posix_acl then 0x106000 else 0) + keeping_flags settings
 
 -- as many as the field holds
 abbrev pub pages : Settings → ℕ
@@ -130,6 +132,7 @@ plan_of r value (RemoveXAttr name) = Replying (remove_xattr r name)
 plan_of r value (Init offer) = Replying (begin offer)
 plan_of r value OpenDir = Replying (open_directory r)
 plan_of r value (ReadDir extent) = Replying (read_directory r.node extent)
+plan_of r value (ReadDirPlus extent) = Replying (read_directory_plus r.needs_nobody r.node extent)
 plan_of r value (ReleaseDir handle) = Replying (close_directory handle)
 plan_of r value FSyncDir = Replying sync_all
 plan_of r value (Access mask) = Replying (ask_access r mask)

@@ -17,6 +17,6 @@ pub use laws::{
     who_asks_counts_only_where_needed,
 };
 pub use mode::Mode;
-pub use reply::{Attributes, ReplyBody, Response};
+pub use reply::{Attributes, ReplyBody, Response, attr_of, looked_up_entry};
 pub use request::{Asked, needs_caller};
 pub use request_error::{OtherErrno, RequestError};

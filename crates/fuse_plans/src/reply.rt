@@ -1,8 +1,10 @@
 //! What is replied.
+ghost use Rattle.std.specs.Prelude.{◌≡◌, ◌+◌};
+ghost use Rattle.fuse_plans.specs.Protocol.{type_bits, attr_of, looked_up_entry};
 
 use crate::request_error::RequestError;
-use fs_model::{Bytes, Status};
-use fuse_protocol::{OpenedFlags, Terms};
+use fs_model::{Bytes, FileType, Status};
+use fuse_protocol::{Attr, FoundEntry, OpenedFlags, Terms};
 use fuse_state::Times;
 use posix_acl::Acl;
 
@@ -63,4 +65,53 @@ pub enum Response {
     Silence,
     Says(ReplyBody),
     Fails(RequestError),
+}
+
+fn type_bits(kind: FileType) -> u32
+    ensures { result ≡ type_bits kind }
+{
+    match kind {
+        FileType::File => 0o100000,
+        FileType::Directory => 0o040000,
+        FileType::Link => 0o120000,
+    }
+}
+
+// The type and the mode of an object.
+fn type_and_mode(kind: FileType, mode: u16) -> u32
+    ensures { result ≡ type_bits kind + mode }
+{
+    type_bits(kind) + u32::from(mode)
+}
+
+/// The attributes as the protocol has them.
+pub fn attr_of(attributes: &Attributes) -> Attr
+    ensures { result ≡ attr_of attributes.now }
+{
+    let Attributes { status, times, .. } = *attributes;
+    Attr {
+        ino: u64::from(status.ino),
+        size: status.size,
+        blocks: status.size.div_ceil(512),
+        atime: times.atime,
+        mtime: times.mtime,
+        ctime: times.ctime,
+        mode: type_and_mode(status.kind, status.mode),
+        links: status.links,
+        uid: status.owner,
+        gid: status.group,
+        block_size: 4096,
+    }
+}
+
+/// What is told of an object that has a name.
+pub fn looked_up_entry(node: u64, name_valid: u64, shown: &Attributes) -> FoundEntry
+    ensures { result ≡ looked_up_entry node name_valid shown.now }
+{
+    FoundEntry {
+        node,
+        name_valid,
+        valid: shown.valid,
+        attr: attr_of(shown),
+    }
 }

@@ -7,8 +7,9 @@ open_flags = (codes "write-only", 1) ∷ (codes "read-write", 2) ∷ (codes "exe
 abbrev pub init_flags : List (List ℕ × ℕ)
 init_flags =
     (codes "async-read", 1) ∷ (codes "atomic-o-trunc", 8) ∷ (codes "big-writes", 32) ∷ (codes "dont-mask", 64)
-    ∷ (codes "parallel-dirops", 262144) ∷ (codes "handle-killpriv", 524288) ∷ (codes "posix-acl", 1048576) ∷ (codes "max-pages", 4194304)
-    ∷ (codes "cache-symlinks", 8388608) ∷ (codes "handle-killpriv-v2", 268435456) ∷ []
+    ∷ (codes "do-readdirplus", 8192) ∷ (codes "readdirplus-auto", 16384) ∷ (codes "parallel-dirops", 262144)
+    ∷ (codes "handle-killpriv", 524288) ∷ (codes "posix-acl", 1048576) ∷ (codes "max-pages", 4194304) ∷ (codes "cache-symlinks", 8388608)
+    ∷ (codes "handle-killpriv-v2", 268435456) ∷ []
 
 abbrev pub opened_flags : List (List ℕ × ℕ)
 opened_flags = (codes "keep-cache", 2) ∷ (codes "cache-dir", 8) ∷ []

@@ -5,14 +5,14 @@
 --     operation_of        the table of the opcodes
 use Rattle.std.specs.Prelude.{ℕ, ◌+◌, ◌==◌, List, length, drop, nat_le, Option, Some, None, option_map, option_and_then, if◌then◌else◌}
 use Rattle.std.specs.Int.RustNames.{bit_and}
-use Rattle.fuse_protocol.specs.declared.opcode.TheConstants.{LOOKUP, FORGET, GETATTR, SETATTR, READLINK, SYMLINK, MKNOD, MKDIR, UNLINK, RMDIR, RENAME, LINK, OPEN, READ, WRITE, STATFS, RELEASE, FSYNC, SETXATTR, GETXATTR, LISTXATTR, REMOVEXATTR, INIT, OPENDIR, READDIR, RELEASEDIR, FSYNCDIR, ACCESS, CREATE, INTERRUPT, DESTROY, BATCH_FORGET, RENAME2, SYNCFS}
+use Rattle.fuse_protocol.specs.declared.opcode.TheConstants.{LOOKUP, FORGET, GETATTR, SETATTR, READLINK, SYMLINK, MKNOD, MKDIR, UNLINK, RMDIR, RENAME, LINK, OPEN, READ, WRITE, STATFS, RELEASE, FSYNC, SETXATTR, GETXATTR, LISTXATTR, REMOVEXATTR, INIT, OPENDIR, READDIR, RELEASEDIR, FSYNCDIR, ACCESS, CREATE, INTERRUPT, DESTROY, BATCH_FORGET, READDIRPLUS, RENAME2, SYNCFS}
 use Rattle.fuse_protocol.specs.declared.operation.TheConstants.{FATTR_MODE, FATTR_UID, FATTR_GID, FATTR_SIZE, FATTR_ATIME, FATTR_MTIME, FATTR_FH, FATTR_ATIME_NOW, FATTR_MTIME_NOW}
 use Rattle.fuse_protocol.specs.declared.operation.AttrChanges.{AttrChanges}
 use Rattle.fuse_protocol.specs.declared.operation.Extent.{Extent}
 use Rattle.fuse_protocol.specs.declared.operation.NewTime.{NewTime}
 use Rattle.fuse_protocol.specs.declared.operation.NewTime.TheVariants.{Now, At}
 use Rattle.fuse_protocol.specs.declared.operation.Operation.{Operation}
-use Rattle.fuse_protocol.specs.declared.operation.Operation.TheVariants.{Lookup, Forget, GetAttr, SetAttr, ReadLink, SymLink, MkNod, MkDir, Unlink, RmDir, Rename, Link, Open, Read, Write, StatFs, Release, FSync, SetXAttr, GetXAttr, ListXAttr, RemoveXAttr, Init, OpenDir, ReadDir, ReleaseDir, FSyncDir, Access, Create, Interrupt, Destroy, BatchForget, SyncFs, Unknown}
+use Rattle.fuse_protocol.specs.declared.operation.Operation.TheVariants.{Lookup, Forget, GetAttr, SetAttr, ReadLink, SymLink, MkNod, MkDir, Unlink, RmDir, Rename, Link, Open, Read, Write, StatFs, Release, FSync, SetXAttr, GetXAttr, ListXAttr, RemoveXAttr, Init, OpenDir, ReadDir, ReadDirPlus, ReleaseDir, FSyncDir, Access, Create, Interrupt, Destroy, BatchForget, SyncFs, Unknown}
 use Rattle.fuse_protocol.specs.Bytes.{word_at, long_at}
 use Rattle.fuse_protocol.specs.Forgets.{forget_count, batch_of}
 use Rattle.fuse_protocol.specs.Names.{text_of, name_from}
@@ -138,9 +138,10 @@ handle_operation code s =
     (if code == RELEASE then option_map Release (first_handle s 24) else
     (if code == FSYNC then option_map FSync (first_handle s 16) else
     (if code == READDIR then option_map ReadDir (extent_of s) else
+    (if code == READDIRPLUS then option_map ReadDirPlus (extent_of s) else
     (if code == RELEASEDIR then option_map ReleaseDir (first_handle s 24) else
     (if code == FSYNCDIR then where_long s 16 FSyncDir else
-    other_operation code s))))))
+    other_operation code s)))))))
 
 unfoldable pub object_operation : ℕ → List ℕ → Option Operation
 object_operation code s =

@@ -5,6 +5,7 @@
 use Rattle.std.specs.Prelude.{ℕ, ◌+◌, ◌-◌, ◌<◌, ◌^◌, List, [], ◌∷◌, ◌++◌, length}
 use Rattle.fuse_protocol.specs.declared.flags.OpenedFlags.{OpenedFlags}
 use Rattle.fuse_protocol.specs.declared.reply.Attr.{Attr}
+use Rattle.fuse_protocol.specs.declared.reply.FoundEntry.{FoundEntry}
 use Rattle.fuse_protocol.specs.declared.reply.Terms.{Terms}
 use Rattle.fuse_protocol.specs.declared.reply.Room.{Room}
 use Rattle.fuse_protocol.specs.declared.reply.Reply.{Reply}
@@ -19,8 +20,8 @@ attr_bytes a =
     ++ bytes_of_u32s (a.atime.nanoseconds ∷ a.mtime.nanoseconds ∷ a.ctime.nanoseconds ∷ a.mode ∷ a.links ∷ a.uid ∷ a.gid ∷ 0 ∷ a.block_size ∷ 0 ∷ [])
 
 -- 128 bytes: the node, its generation, for how many seconds name and attributes are valid, and the attributes
-abbrev pub entry_reply_bytes : ℕ → ℕ → ℕ → Attr → List ℕ
-entry_reply_bytes node name_valid valid a = bytes_of_u64s (node ∷ 0 ∷ name_valid ∷ valid ∷ 0 ∷ []) ++ attr_bytes a
+abbrev pub entry_reply_bytes : FoundEntry → List ℕ
+entry_reply_bytes f = bytes_of_u64s (f.node ∷ 0 ∷ f.name_valid ∷ f.valid ∷ 0 ∷ []) ++ attr_bytes f.attr
 
 -- 128 bytes: no node has the name, and that is valid for so many seconds
 abbrev pub absent_bytes : ℕ → List ℕ
@@ -48,9 +49,9 @@ abbrev pub body_bytes : Reply → List ℕ
 body_bytes (replies.Error number) = []
 body_bytes replies.Done = []
 body_bytes (replies.Attr valid a) = bytes_of_u64s (valid ∷ 0 ∷ []) ++ attr_bytes a
-body_bytes (replies.Entry node name_valid valid a) = entry_reply_bytes node name_valid valid a
+body_bytes (replies.Entry found) = entry_reply_bytes found
 body_bytes (replies.Absent valid) = absent_bytes valid
-body_bytes (replies.Created node name_valid valid a handle flags) = entry_reply_bytes node name_valid valid a ++ open_bytes handle flags
+body_bytes (replies.Created found handle flags) = entry_reply_bytes found ++ open_bytes handle flags
 body_bytes (replies.Open handle flags) = open_bytes handle flags
 body_bytes (replies.Init terms) = terms_bytes terms
 body_bytes (replies.Count count) = bytes_of_u32s (count ∷ 0 ∷ [])

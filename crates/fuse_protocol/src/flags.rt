@@ -88,6 +88,12 @@ impl InitFlags {
     /// The umask isn't applied by the kernel.
     pub const DONT_MASK: InitFlags = InitFlags(1 << 6);
 
+    /// The kernel may ask for the entries of a directory with what look-ups of their names tell: READDIRPLUS.
+    pub const DO_READDIRPLUS: InitFlags = InitFlags(1 << 13);
+
+    /// It asks so where it expects that this is wanted, and for the entries alone elsewhere.
+    pub const READDIRPLUS_AUTO: InitFlags = InitFlags(1 << 14);
+
     /// The kernel may ask for names in one directory side by side.
     pub const PARALLEL_DIROPS: InitFlags = InitFlags(1 << 18);
 
@@ -122,6 +128,14 @@ impl InitFlags {
         Flag {
             name: "dont-mask",
             value: InitFlags::DONT_MASK,
+        },
+        Flag {
+            name: "do-readdirplus",
+            value: InitFlags::DO_READDIRPLUS,
+        },
+        Flag {
+            name: "readdirplus-auto",
+            value: InitFlags::READDIRPLUS_AUTO,
         },
         Flag {
             name: "parallel-dirops",

@@ -64,6 +64,8 @@ pub(crate) const DESTROY: u32 = 38;
 
 pub(crate) const BATCH_FORGET: u32 = 42;
 
+pub(crate) const READDIRPLUS: u32 = 44;
+
 pub(crate) const RENAME2: u32 = 45;
 
 pub(crate) const SYNCFS: u32 = 50;

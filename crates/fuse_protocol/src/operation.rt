@@ -93,6 +93,8 @@ pub enum Operation<'a> {
     OpenDir,
     /// The entries of an open directory.
     ReadDir(Extent),
+    /// The entries of an open directory, each with what a look-up of its name tells.
+    ReadDirPlus(Extent),
     /// An open directory is closed.
     ReleaseDir(u64),
     /// What was done in a directory is to last.
@@ -226,6 +228,7 @@ fn parse_handle_operation(code: u32, body: &[u8]) -> Option<Operation<'_>>
         opcode::RELEASE => Some(Operation::Release(first_handle(body, 24)?)),
         opcode::FSYNC => Some(Operation::FSync(first_handle(body, 16)?)),
         opcode::READDIR => Some(Operation::ReadDir(parse_extent(body)?)),
+        opcode::READDIRPLUS => Some(Operation::ReadDirPlus(parse_extent(body)?)),
         opcode::RELEASEDIR => Some(Operation::ReleaseDir(first_handle(body, 24)?)),
         opcode::FSYNCDIR => where_long(body, 16, Operation::FSyncDir),
         _ => parse_other_operation(code, body),

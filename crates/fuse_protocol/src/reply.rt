@@ -1,6 +1,6 @@
 //! The reply to a request.
 
-ghost use Rattle.std.specs.Prelude.{◌≡◌, ◌<◌, ◌+◌, ◌^◌, ◌++◌, length, IfOk, OnOk};
+ghost use Rattle.std.specs.Prelude.{◌≡◌, ◌<◌, ◌+◌, ◌^◌, ◌++◌, ◌≤◌, length, vec_len, vec_capacity, IsOk, IfOk, OnOk};
 ghost use Rattle.fuse_protocol.specs.Replies.{IsReply, attr_bytes, entry_reply_bytes, absent_bytes, open_bytes, terms_bytes, room_bytes, body_bytes, error_field, reply_bytes};
 
 use crate::bytes::{push_u16s, push_u32s, push_u64s};
@@ -56,6 +56,15 @@ pub struct Room {
     pub max_name: u32,
 }
 
+/// What is told of an object that has a name: its node, for how many seconds the name and the attributes are valid, and these.
+#[derive(Clone, Copy)]
+pub struct FoundEntry {
+    pub node: u64,
+    pub name_valid: u64,
+    pub valid: u64,
+    pub attr: Attr,
+}
+
 /// What is told. Names and attributes are valid for so many seconds: as long the kernel asks for them no more.
 #[derive(Drop)]
 pub enum Reply<'a> {
@@ -68,23 +77,15 @@ pub enum Reply<'a> {
         valid: u64,
         attr: Attr,
     },
-    /// A name was looked up or made: its node, and the node's attributes.
-    Entry {
-        node: u64,
-        name_valid: u64,
-        valid: u64,
-        attr: Attr,
-    },
+    /// A name was looked up or made.
+    Entry(FoundEntry),
     /// Nothing has the name.
     Absent {
         valid: u64,
     },
     /// A file was made and opened.
     Created {
-        node: u64,
-        name_valid: u64,
-        valid: u64,
-        attr: Attr,
+        found: FoundEntry,
         handle: u64,
         flags: OpenedFlags,
     },
@@ -114,7 +115,10 @@ const TIME_GRANULARITY: u32 = 1;
 const REPLY_HEADER_SIZE: usize = 16;
 
 fn push_attr(to: &mut Vec<u8>, attr: Attr) -> Result<(), AllocError>
-    ensures { OnOk result (to.new.items ≡ to.old.items ++ attr_bytes attr) }
+    ensures items { OnOk result (to.new.items ≡ to.old.items ++ attr_bytes attr) }
+    ensures len { OnOk result (vec_len to.new ≡ vec_len to.old + 88) }
+    ensures capacity { vec_capacity to.old ≤ vec_capacity to.new }
+    ensures succeeds { vec_len to.old + 88 ≤ vec_capacity to.old → IsOk result }
 {
     let Attr {
         atime,
@@ -151,22 +155,24 @@ fn push_attr(to: &mut Vec<u8>, attr: Attr) -> Result<(), AllocError>
     Ok(())
 }
 
-fn push_node(
-    to: &mut Vec<u8>,
-    node: u64,
-    name_valid: u64,
-    valid: u64,
-    attr: Attr,
-) -> Result<(), AllocError>
-    ensures { OnOk result (to.new.items ≡ to.old.items ++ entry_reply_bytes node name_valid valid attr) }
+/// Adds what is told of an object that has a name.
+pub(crate) fn push_node(to: &mut Vec<u8>, found: FoundEntry) -> Result<(), AllocError>
+    ensures items { OnOk result (to.new.items ≡ to.old.items ++ entry_reply_bytes found) }
+    ensures len { OnOk result (vec_len to.new ≡ vec_len to.old + 128) }
+    ensures capacity { vec_capacity to.old ≤ vec_capacity to.new }
+    ensures succeeds { vec_len to.old + 128 ≤ vec_capacity to.old → IsOk result }
 {
-    push_u64s(to, &[node, 0, name_valid, valid, 0])?;
-    push_attr(to, attr)?;
+    push_u64s(to, &[found.node, 0, found.name_valid, found.valid, 0])?;
+    push_attr(to, found.attr)?;
     Ok(())
 }
 
-fn push_absent(to: &mut Vec<u8>, valid: u64) -> Result<(), AllocError>
-    ensures { OnOk result (to.new.items ≡ to.old.items ++ absent_bytes valid) }
+/// Adds that nothing has a name.
+pub(crate) fn push_absent(to: &mut Vec<u8>, valid: u64) -> Result<(), AllocError>
+    ensures items { OnOk result (to.new.items ≡ to.old.items ++ absent_bytes valid) }
+    ensures len { OnOk result (vec_len to.new ≡ vec_len to.old + 128) }
+    ensures capacity { vec_capacity to.old ≤ vec_capacity to.new }
+    ensures succeeds { vec_len to.old + 128 ≤ vec_capacity to.old → IsOk result }
 {
     push_u64s(to, &[0, 0, valid, 0, 0, 0, 0, 0, 0, 0, 0, 0, 0, 0, 0, 0])?;
     Ok(())
@@ -217,22 +223,14 @@ fn push_body(to: &mut Vec<u8>, reply: &Reply<'_>) -> Result<(), AllocError>
             push_u64s(to, &[*valid, 0])?;
             push_attr(to, *attr)?;
         }
-        Reply::Entry {
-            node,
-            name_valid,
-            valid,
-            attr,
-        } => push_node(to, *node, *name_valid, *valid, *attr)?,
+        Reply::Entry(found) => push_node(to, *found)?,
         Reply::Absent { valid } => push_absent(to, *valid)?,
         Reply::Created {
-            node,
-            name_valid,
-            valid,
-            attr,
+            found,
             handle,
             flags,
         } => {
-            push_node(to, *node, *name_valid, *valid, *attr)?;
+            push_node(to, *found)?;
             push_open(to, *handle, *flags)?;
         }
         Reply::Open { handle, flags } => push_open(to, *handle, *flags)?,
@@ -254,7 +252,7 @@ fn body_size(reply: &Reply<'_>) -> usize
     match reply {
         Reply::Error(_) | Reply::Done => 0,
         Reply::Attr { .. } => 104,
-        Reply::Entry { .. } | Reply::Absent { .. } => 128,
+        Reply::Entry(_) | Reply::Absent { .. } => 128,
         Reply::Created { .. } => 144,
         Reply::Open { .. } => 16,
         Reply::Init(_) => 64,

@@ -30,7 +30,9 @@ fn refused(operation: &Operation<'_>) -> Response
 // There is no room for the reply.
 fn reads_too_much(operation: &Operation<'_>) -> bool {
     match operation {
-        Operation::Read(extent) | Operation::ReadDir(extent) => extent.size > MAX_READ,
+        Operation::Read(extent) | Operation::ReadDir(extent) | Operation::ReadDirPlus(extent) => {
+            extent.size > MAX_READ
+        }
         _ => false,
     }
 }

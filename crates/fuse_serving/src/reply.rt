@@ -1,18 +1,17 @@
 //! The bytes of replies.
-ghost use Rattle.std.specs.Prelude.{◌≡◌, ◌+◌, IfOk, OnOk, IsTrue};
+ghost use Rattle.std.specs.Prelude.{◌≡◌, IfOk, OnOk, IsTrue};
 ghost use Rattle.posix_acl.specs.AccessList.{entries_of};
 ghost use Rattle.fuse_protocol.specs.AclValues.{acl_value_bytes};
 ghost use Rattle.fuse_protocol.specs.Replies.{IsReply, reply_bytes};
 ghost use Rattle.fuse_protocol.specs.declared.reply.Reply.TheVariants.{Bytes as BytesReply, Count as CountReply, Error as ErrorReply};
-ghost use Rattle.fuse_plans.specs.Protocol.{type_bits, attr_of, reply_of_body, response_bytes};
+ghost use Rattle.fuse_plans.specs.Protocol.{reply_of_body, response_bytes};
 ghost use Rattle.fuse_plans.specs.RequestErrors.{error_number};
 ghost use Rattle.fuse_plans.specs.declared.reply.ReplyBody.TheVariants.{Found, Shown, Created};
 ghost use Rattle.fuse_serving.specs.Rounds.{has_reply};
 
 use crate::room::ReplyRoom;
-use fs_model::FileType;
-use fuse_plans::{Attributes, ReplyBody, RequestError, Response};
-use fuse_protocol::{Attr, OpenedFlags, Piece, Reply, Room, push_acl_value, push_reply};
+use fuse_plans::{Attributes, ReplyBody, RequestError, Response, attr_of, looked_up_entry};
+use fuse_protocol::{OpenedFlags, Piece, Reply, Room, push_acl_value, push_reply};
 use posix_acl::Acl;
 use std::alloc::AllocError;
 
@@ -38,42 +37,6 @@ impl From<AllocError> for ReplyFault {
 
 // The most bytes of a body: with its header a reply has fewer than 2^32.
 const MAX_BODY: usize = 4_294_967_279;
-
-fn type_bits(kind: FileType) -> u32
-    ensures { result ≡ type_bits kind }
-{
-    match kind {
-        FileType::File => 0o100000,
-        FileType::Directory => 0o040000,
-        FileType::Link => 0o120000,
-    }
-}
-
-// The type and the mode of an object.
-fn type_and_mode(kind: FileType, mode: u16) -> u32
-    ensures { result ≡ type_bits kind + mode }
-{
-    type_bits(kind) + u32::from(mode)
-}
-
-fn attr_of(attributes: &Attributes) -> Attr
-    ensures { result ≡ attr_of attributes.now }
-{
-    let Attributes { status, times, .. } = *attributes;
-    Attr {
-        ino: u64::from(status.ino),
-        size: status.size,
-        blocks: status.size.div_ceil(512),
-        atime: times.atime,
-        mtime: times.mtime,
-        ctime: times.ctime,
-        mode: type_and_mode(status.kind, status.mode),
-        links: status.links,
-        uid: status.owner,
-        gid: status.group,
-        block_size: 4096,
-    }
-}
 
 // The reply, and nothing else.
 fn write_one(to: &mut Vec<u8>, unique: u64, reply: &Reply<'_>) -> Result<(), AllocError>
@@ -148,12 +111,7 @@ fn attributes_reply(shown: &Attributes) -> Reply<'static>
 fn found_reply(node: u64, name_valid: u64, shown: &Attributes) -> Reply<'static>
     ensures { result ≡ reply_of_body (Found node name_valid shown.now) }
 {
-    Reply::Entry {
-        node,
-        name_valid,
-        valid: shown.valid,
-        attr: attr_of(shown),
-    }
+    Reply::Entry(looked_up_entry(node, name_valid, shown))
 }
 
 // What is told of a file that was made or found, and opened.
@@ -167,10 +125,7 @@ fn created_reply(
     ensures { result ≡ reply_of_body (Created node name_valid shown.now handle flags) }
 {
     Reply::Created {
-        node,
-        name_valid,
-        valid: shown.valid,
-        attr: attr_of(shown),
+        found: looked_up_entry(node, name_valid, shown),
         handle,
         flags,
     }

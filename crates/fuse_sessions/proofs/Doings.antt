@@ -1,11 +1,12 @@
 -- Work that is done, step by step: a function that performs a plan is proved by a chain of these, which follows the plan.
 --     then-ok, then-fails        after the first step goes the rest, or nothing
 --     then-matches        after the first goes one that asks nothing
+--     if-fails        what failed, where more is promised of a value
 --     of-result, gives, has-failed        steps that ask nothing and read nothing
 --     reads, reads-needed, keeps, needs-some, needs-none, where-true, where-false        steps that ask nothing, before the rest
 --     attempts        a step of which it is told whether it failed
 --     by-machine        a step for which nothing that is kept is read
-use Rattle.std.specs.Prelude.{◌≡◌, Bool, true, false, Option, None, Some, Result, Ok, Err, MatchResult, if◌then◌else◌}
+use Rattle.std.specs.Prelude.{◌≡◌, Bool, true, false, Option, None, Some, Result, Ok, Err, IfErr, MatchResult, if◌then◌else◌}
 use Rattle.std.specs.Option.{ok_or}
 use Rattle.std.proofs.Common.{refl, sym, ap, subst, ◌∙◌}
 use Rattle.fs_model.specs.declared.event.Event.{Event}
@@ -58,6 +59,12 @@ module _ {M : Type 0} {Serves : M → Event → Reply → M → Type 0} where
   pub last-fails : {X : Type 0} {w : Work X} {old new : Session M} {e : RequestError} {r : Result X RequestError}
       → PassedOn r e → Did Serves w old new (Err e) → Did Serves w old new r
   last-fails {X} {w} {old} {new} {e} {r} is first = subst (λ (q : Result X RequestError). Did Serves w old new q) (sym (passed-on r e is)) first
+
+  -- what is passed on by `?` where more is promised of a value
+  pub if-fails : {X Y : Type 0} {w : Work X} {old new : Session M} {e : RequestError} (r : Result Y RequestError)
+      → PassedOn r e → Did Serves w old new (Err e) → IfErr r (λ d. Did Serves w old new (Err d))
+  if-fails {X} {Y} {w} {old} {new} {e} r is first =
+      subst (λ (q : Result Y RequestError). IfErr q (λ d. Did Serves w old new (Err d))) (sym (passed-on r e is)) first
 
   pub of-result : {X : Type 0} {w : Work X} {s : Session M} {r : Result X RequestError} → w ≡ of_result r → Did Serves w s s r
   of-result {X} {w} {s} {r} is = record {

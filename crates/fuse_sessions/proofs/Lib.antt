@@ -2,4 +2,5 @@ mod Answerings
 mod ByDentries
 mod Doings
 mod Judging
+mod Listings
 mod Pieces

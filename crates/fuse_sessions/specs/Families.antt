@@ -1,7 +1,7 @@
 -- Requests by what they are about.
 --     family_of        of an operation
 use Rattle.fuse_protocol.specs.declared.operation.Operation.{Operation}
-use Rattle.fuse_protocol.specs.declared.operation.Operation.TheVariants.{Lookup, Forget, GetAttr, SetAttr, ReadLink, SymLink, MkNod, MkDir, Unlink, RmDir, Rename, Link, Open, Read, Write, Release, FSync, SetXAttr, GetXAttr, ListXAttr, RemoveXAttr, OpenDir, ReadDir, ReleaseDir, Access, Create, Interrupt, BatchForget}
+use Rattle.fuse_protocol.specs.declared.operation.Operation.TheVariants.{Lookup, Forget, GetAttr, SetAttr, ReadLink, SymLink, MkNod, MkDir, Unlink, RmDir, Rename, Link, Open, Read, Write, Release, FSync, SetXAttr, GetXAttr, ListXAttr, RemoveXAttr, OpenDir, ReadDir, ReadDirPlus, ReleaseDir, Access, Create, Interrupt, BatchForget}
 use Rattle.fuse_sessions.specs.declared.family.Family.{Family}
 use Rattle.fuse_sessions.specs.declared.family.Family.TheVariants as families
 
@@ -30,6 +30,7 @@ family_of (Write handle offset bytes) = families.ByHandle
 family_of (Release handle) = families.ByHandle
 family_of (FSync handle) = families.ByHandle
 family_of (ReadDir extent) = families.ByHandle
+family_of (ReadDirPlus extent) = families.ByHandle
 family_of (ReleaseDir handle) = families.ByHandle
 family_of (Forget count) = families.Silent
 family_of Interrupt = families.Silent

@@ -54,6 +54,8 @@ fn wanted_flags(settings: Settings) -> u32
     };
     let acls = if settings.posix_acl {
         InitFlags::POSIX_ACL.bits()
+            + InitFlags::DO_READDIRPLUS.bits()
+            + InitFlags::READDIRPLUS_AUTO.bits()
     } else {
         0
     };

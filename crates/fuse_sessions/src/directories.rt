@@ -1,7 +1,9 @@
 //! Requests for directories. An open one holds no descriptor of the machine.
-ghost use Rattle.std.specs.Prelude.{◌≡◌, ◌≤◌, [], vec_capacity, true};
+ghost use Rattle.std.specs.Prelude.{◌≡◌, ◌+◌, ◌≤◌, [], vec_capacity, true, Err, IsSome, OnOk, IfErr};
 ghost use Rattle.fuse_plans.specs.Callers.{has_dentry};
-ghost use Rattle.fuse_plans.specs.DirectoryPlans.{open_directory, directory_flags, opened_directory_body, take_directory, tell_names, list_open, list_and_close, list_all, tell_now, read_directory, close_directory};
+ghost use Rattle.fuse_plans.specs.DirectoryPlans.{open_directory, directory_flags, opened_directory_body, take_directory, tell_names, list_open, list_and_close, list_all, list_now, list_kept, read_directory, close_directory};
+ghost use Rattle.fuse_state.specs.Servers.{directory_of};
+ghost use Rattle.fuse_sessions.specs.Listings.{Listed};
 ghost use Rattle.fuse_sessions.specs.Performing.{Did};
 ghost use Rattle.fuse_steps.specs.Performing.{DidByMachine};
 
@@ -130,7 +132,41 @@ impl<M: Machine> Session<M> {
         }
     }
 
-    /// The entries of a directory, with room for so many bytes. At the beginning it is listed anew.
+    /// The names of an open directory are those that it was listed with last. At the beginning it is listed anew.
+    pub(crate) fn list_kept(&mut self, node: u64, extent: Extent) -> Result<(), RequestError>
+        requires { 1 ≤ self.old.server.room }
+        ensures listed { OnOk result (Listed M.Serves (list_kept node extent) self.old self.new extent.handle) }
+        ensures failed { IfErr result (λ e. Did M.Serves (list_kept node extent) self.old self.new (Err e)) }
+        ensures room { self.old.server.room ≤ self.new.server.room + 1 }
+    {
+        let Some(open) = self.server.directory_of(extent.handle) else {
+            return Err(RequestError::EBADF);
+        };
+        if extent.offset != 0 && open.listing.is_some() {
+            return Ok(());
+        }
+        let open_ino = open.ino;
+        self.list_now(node, extent.handle, open_ino)
+    }
+
+    // The names that are there now, in the directory of the node, if that is the one that is open.
+    fn list_now(&mut self, node: u64, handle: u64, open_ino: u32) -> Result<(), RequestError>
+        requires known { IsSome (directory_of self.old.server.server handle) }
+        requires room { 1 ≤ self.old.server.room }
+        ensures listed { OnOk result (Listed M.Serves (list_now node handle open_ino) self.old self.new handle) }
+        ensures failed { IfErr result (λ e. Did M.Serves (list_now node handle open_ino) self.old self.new (Err e)) }
+        ensures room { self.old.server.room ≤ self.new.server.room + 1 }
+    {
+        let ino = self.the_number(node)?;
+        if ino != open_ino {
+            return Err(RequestError::ESTALE);
+        }
+        let names = self.list_by_dentries(ino)?;
+        self.server.set_listing(handle, names);
+        Ok(())
+    }
+
+    /// The entries of a directory, with room for so many bytes.
     pub(crate) fn read_directory(
         &mut self,
         node: u64,
@@ -142,40 +178,11 @@ impl<M: Machine> Session<M> {
         requires room { 1 ≤ self.old.server.room }
         ensures { Did M.Serves (read_directory node extent) self.old self.new result }
     {
-        let Some(open) = self.server.directory_of(extent.handle) else {
-            return Err(RequestError::EBADF);
+        self.list_kept(node, extent)?;
+        let Some(names) = self.server.listing_of(extent.handle) else {
+            unreachable!()
         };
-        if extent.offset != 0 {
-            if let Some(names) = &open.listing {
-                let bytes = listing_bytes(extent, names, room);
-                return Ok(ReplyBody::Bytes(bytes));
-            }
-        }
-        let open_ino = open.ino;
-        self.tell_now(node, extent, open_ino, room)
-    }
-
-    // The entries that are there now, in the directory of the node, if that is the one that is open.
-    fn tell_now(
-        &mut self,
-        node: u64,
-        extent: Extent,
-        open_ino: u32,
-        room: Vec<u8>,
-    ) -> Result<ReplyBody, RequestError>
-        requires empty { room.items ≡ [] }
-        requires capacity { extent.size ≤ vec_capacity room }
-        requires room { 1 ≤ self.old.server.room }
-        ensures { Did M.Serves (tell_now node extent open_ino) self.old self.new result }
-    {
-        let ino = self.the_number(node)?;
-        if ino != open_ino {
-            return Err(RequestError::ESTALE);
-        }
-        let names = self.list_by_dentries(ino)?;
-        let bytes = listing_bytes(extent, &names, room);
-        self.server.set_listing(extent.handle, names);
-        Ok(ReplyBody::Bytes(bytes))
+        Ok(ReplyBody::Bytes(listing_bytes(extent, names, room)))
     }
 
     /// A directory is closed.

@@ -3,6 +3,7 @@ ghost use Rattle.std.specs.Prelude.{◌≡◌, ◌≤◌, [], true, Option, Some
 ghost use Rattle.posix_acl.specs.AccessList.{AccessList, minimal};
 ghost use Rattle.fs_cred.specs.Credentials.{usual_credential};
 ghost use Rattle.fuse_plans.specs.FilePlans.{write_file};
+ghost use Rattle.fuse_plans.specs.ListingPlans.{read_directory_plus};
 ghost use Rattle.fuse_sessions.specs.Families.{family_of};
 ghost use Rattle.fuse_sessions.specs.Performing.{Answered};
 ghost use Rattle.fuse_plans.specs.Plans.{CarriesOut};
@@ -12,14 +13,16 @@ ghost use Rattle.fuse_plans.specs.declared.request.Asked.{Asked as AskedBy};
 
 use crate::family::{Family, family_of};
 use crate::handles::room_for_pieces;
+use crate::listing::LEAST_RECORD;
 use crate::session::Session;
 use crate::xattrs::AclNames;
 use fs_cred::Cred;
 use fs_model::Path;
 use fuse_plans::{Asked, ReplyBody, RequestError, Response};
-use fuse_protocol::{Operation, Piece};
+use fuse_protocol::{Extent, Operation, Piece};
 use fuse_steps::Machine;
 use fuse_steps::flags::is_trunc;
+use fuse_steps::name_room::NameRoom;
 use posix_acl::Acl;
 use std::alloc::AllocError;
 
@@ -383,6 +386,20 @@ impl<M: Machine> Session<M> {
         Ok(response_of(wrote))
     }
 
+    // The names of a directory are looked up, as many as have room for their records.
+    fn perform_listing(&mut self, asked: &Asked, extent: Extent) -> Result<Response, AllocError>
+        requires { 8 ≤ self.old.server.room }
+        ensures answered { let asked = asked.entry.now in IfOk result
+            (Answered M.Serves (Replying (read_directory_plus asked.needs_nobody asked.node extent)) self.old self.new) }
+        ensures stays { OnErr result (self.new ≡ self.old) }
+    {
+        let count = extent.size / LEAST_RECORD;
+        let room = Vec::with_capacity(self.alloc, extent.size as usize)?;
+        let names = NameRoom::new(self.alloc, count as usize)?;
+        self.server.prepare_for(count)?;
+        Ok(response_of(self.read_directory_plus(asked, extent, room, names)))
+    }
+
     // Requests by a handle.
     #[tactic(auto, using(crate::proofs::Answerings::answers))]
     fn perform_by_handle(
@@ -412,6 +429,7 @@ impl<M: Machine> Session<M> {
                 let room = Vec::with_capacity(self.alloc, extent.size as usize)?;
                 Ok(response_of(self.read_directory(asked.node, *extent, room)))
             }
+            Operation::ReadDirPlus(extent) => self.perform_listing(asked, *extent),
             Operation::ReleaseDir(handle) => Ok(response_of(self.close_directory(*handle))),
             _ => unreachable!(),
         }

@@ -49,6 +49,7 @@ pub(crate) fn family_of(operation: &Operation<'_>) -> Family
         | Operation::Release(_)
         | Operation::FSync(_)
         | Operation::ReadDir(_)
+        | Operation::ReadDirPlus(_)
         | Operation::ReleaseDir(_) => Family::ByHandle,
         Operation::Forget(_) | Operation::Interrupt | Operation::BatchForget(_) => Family::Silent,
         _ => Family::OnWhole,

@@ -9,6 +9,7 @@ mod dispatch;
 mod family;
 mod files;
 mod handles;
+mod listing;
 mod moves;
 mod names;
 mod nobody;

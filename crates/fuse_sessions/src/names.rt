@@ -119,8 +119,8 @@ impl<M: Machine> Session<M> {
         or_absent(self.standing_directory(node))
     }
 
-    // What a process finds under the name, or that it finds nothing.
-    fn find_inside(
+    /// What a process finds under the name, or that it finds nothing.
+    pub(crate) fn find_inside(
         &mut self,
         needs_nobody: bool,
         pid: usize,
@@ -128,7 +128,9 @@ impl<M: Machine> Session<M> {
         name: Path,
     ) -> Result<ReplyBody, RequestError>
         requires { 2 ≤ self.old.server.room }
-        ensures { Did M.Serves (find_inside needs_nobody pid dir_ino name) self.old self.new result }
+        ensures did { Did M.Serves (find_inside needs_nobody pid dir_ino name) self.old self.new result }
+        ensures room { self.old.server.room ≤ self.new.server.room + 2 }
+        ensures directories { self.new.server.server.directories ≡ self.old.server.server.directories }
     {
         let (seen, name) = look_inside(&mut self.machine, pid, dir_ino, name);
         match seen {
@@ -146,7 +148,9 @@ impl<M: Machine> Session<M> {
         status: Status,
     ) -> Result<ReplyBody, RequestError>
         requires { 2 ≤ self.old.server.room }
-        ensures { Did M.Serves (found_or_absent needs_nobody dir_ino name (Ok status)) self.old self.new result }
+        ensures did { Did M.Serves (found_or_absent needs_nobody dir_ino name (Ok status)) self.old self.new result }
+        ensures room { self.old.server.room ≤ self.new.server.room + 2 }
+        ensures directories { self.new.server.server.directories ≡ self.old.server.server.directories }
     {
         let stamps = self.told_stamps(status.ino)?;
         self.server

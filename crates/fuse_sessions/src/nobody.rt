@@ -53,7 +53,7 @@ impl<M: Machine> Session<M> {
         ensures kept { self.new.server ≡ self.old.server }
     {
         match operation {
-            Operation::Lookup(_) => self.is_judged(node),
+            Operation::Lookup(_) | Operation::ReadDirPlus(_) => self.is_judged(node),
             _ => !needs_caller(operation),
         }
     }

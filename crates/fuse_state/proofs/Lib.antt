@@ -3,6 +3,7 @@ pub mod Edited
 pub mod Elsewhere
 pub mod Chosen
 pub mod Keyed
+pub mod Scattered
 pub mod Orders
 pub mod NamesKept
 pub mod Indexed

@@ -12,7 +12,7 @@
 --     may_take_process, may_open_directory        whether a user may hold one more
 --     with_opened, with_listing, without_directory        open directories
 --     WithinShares        none holds more than it may
-use Rattle.std.specs.Prelude.{◌≡◌, ℕ, ◌+◌, ◌-◌, ◌*◌, min, ◌/◌, ◌%◌, ◌^◌, ◌==◌, ◌≤◌, nat_eq, nat_lt, nat_le, Bool, true, false, not, ◌&&◌, List, [], ◌∷◌, length, map, Option, None, Some, is_some, unwrap_or, if◌then◌else◌}
+use Rattle.std.specs.Prelude.{◌≡◌, ℕ, ◌+◌, ◌-◌, ◌*◌, min, ◌/◌, ◌%◌, ◌^◌, ◌==◌, ◌≤◌, nat_eq, nat_lt, nat_le, Bool, true, false, not, ◌&&◌, List, [], ◌∷◌, length, map, Option, None, Some, is_some, unwrap_or, option_and_then, slice_get, if◌then◌else◌}
 use Rattle.std.specs.declared.cmp.Ordering.{Ordering}
 use Rattle.std.specs.Ordering.{nat_cmp, ordering_then}
 use Rattle.std.specs.List.{filter}
@@ -314,6 +314,18 @@ may_open_directory s uid = may_hold directory_shares (directory_holders s) uid
 
 abbrev pub directory_of : Server → ℕ → Option OpenDirectory
 directory_of s handle = get nat_cmp s.directories handle
+
+abbrev pub listing_in : Option OpenDirectory → Option (List (List ℕ × ℕ))
+listing_in None = None
+listing_in (Some d) = d.listing
+
+-- the listing that was made of it last
+abbrev pub listing_of : Server → ℕ → Option (List (List ℕ × ℕ))
+listing_of s handle = listing_in (directory_of s handle)
+
+-- a name of it, with its inode, counted from 0
+abbrev pub named_at : Server → ℕ → ℕ → Option (List ℕ × ℕ)
+named_at s handle at = option_and_then (λ names. slice_get names at) (listing_of s handle)
 
 abbrev pub with_directory : ℕ → OpenDirectory → Server → Server
 with_directory handle d s = record s { directories = with_entry nat_cmp s.directories handle d }

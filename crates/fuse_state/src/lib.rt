@@ -9,6 +9,7 @@ mod borrower;
 mod dentry;
 mod directory;
 mod handle;
+mod hash_table;
 mod keeping;
 mod laws;
 mod names;

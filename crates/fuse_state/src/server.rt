@@ -1,5 +1,5 @@
 //! A server's state.
-ghost use Rattle.std.specs.Prelude.{◌≡◌, IfOk, OnOk, OnErr};
+ghost use Rattle.std.specs.Prelude.{◌≡◌, ◌+◌, ◌*◌, IfOk, OnOk, OnErr};
 ghost use Rattle.fuse_state.specs.Servers.{new_server, with_the_server_process, with_acls_offered, with_end};
 
 mod changes;
@@ -12,6 +12,7 @@ mod processes;
 mod times;
 
 use crate::directory::OpenDirectory;
+use crate::hash_table::HashTable;
 use crate::names::Names;
 use crate::settings::Settings;
 use crate::table::Table;
@@ -25,6 +26,9 @@ use std::marker::Model;
 /// More than any one request adds.
 pub const REQUEST_ROOM: usize = 8;
 
+// As much as one name adds that is found.
+const FOUND_ROOM: usize = 2;
+
 /// The handle of the first open directory: those of files are lower.
 const FIRST_DIRECTORY: u64 = 4_294_967_296;
 
@@ -32,11 +36,11 @@ const FIRST_DIRECTORY: u64 = 4_294_967_296;
 #[derive(Drop)]
 pub struct Server {
     settings: Settings,
-    generations: Table<u32>,
-    kinds: Table<FileType>,
-    lookups: Table<u64>,
+    generations: HashTable<u32>,
+    kinds: HashTable<FileType>,
+    lookups: HashTable<u64>,
     names: Names,
-    times: Table<Times>,
+    times: HashTable<Times>,
     processes: Table<Cred>,
     server_process: Option<usize>,
     handles: Table<u32>,
@@ -77,16 +81,16 @@ impl Server {
     pub fn new(alloc: Global, settings: Settings) -> Result<Server, AllocError>
         ensures { IfOk result (λ server. server ≡ record { server = new_server settings; room = 0 }) }
     {
-        let mut kinds = Table::new(alloc);
+        let mut kinds = HashTable::new(alloc);
         kinds.reserve(1)?;
         kinds.put(u64::from(ROOT), FileType::Directory);
         Ok(Server {
             settings,
-            generations: Table::new(alloc),
+            generations: HashTable::new(alloc),
             kinds,
-            lookups: Table::new(alloc),
+            lookups: HashTable::new(alloc),
             names: Names::new(alloc),
-            times: Table::new(alloc),
+            times: HashTable::new(alloc),
             processes: Table::new(alloc),
             server_process: None,
             handles: Table::new(alloc),
@@ -97,25 +101,43 @@ impl Server {
         })
     }
 
+    // Reserves room for so much. Fails also where no numbers are left for open directories.
+    fn reserve(&mut self, room: usize) -> Result<(), AllocError>
+        ensures kept { self.new.server ≡ self.old.server }
+        ensures room { OnOk result (self.new.room ≡ room) }
+        ensures same { OnErr result (self.new ≡ self.old) }
+    {
+        self.generations.reserve(room)?;
+        self.kinds.reserve(room)?;
+        self.lookups.reserve(room)?;
+        self.names.reserve(room)?;
+        self.times.reserve(room)?;
+        self.processes.reserve(room)?;
+        self.handles.reserve(room)?;
+        self.directories.reserve(room)?;
+        if self.next_directory >= u64::MAX - room as u64 {
+            return Err(AllocError);
+        }
+        self.room = room;
+        Ok(())
+    }
+
     /// Reserves the room for what one request adds. Fails also where no numbers are left for open directories.
     pub fn prepare(&mut self) -> Result<(), AllocError>
         ensures kept { self.new.server ≡ self.old.server }
         ensures room { OnOk result (self.new.room ≡ REQUEST_ROOM) }
         ensures same { OnErr result (self.new ≡ self.old) }
     {
-        self.generations.reserve(REQUEST_ROOM)?;
-        self.kinds.reserve(REQUEST_ROOM)?;
-        self.lookups.reserve(REQUEST_ROOM)?;
-        self.names.reserve(REQUEST_ROOM)?;
-        self.times.reserve(REQUEST_ROOM)?;
-        self.processes.reserve(REQUEST_ROOM)?;
-        self.handles.reserve(REQUEST_ROOM)?;
-        self.directories.reserve(REQUEST_ROOM)?;
-        if self.next_directory >= u64::MAX - REQUEST_ROOM as u64 {
-            return Err(AllocError);
-        }
-        self.room = REQUEST_ROOM;
-        Ok(())
+        self.reserve(REQUEST_ROOM)
+    }
+
+    /// Reserves the room for what a request adds by which so many names are found.
+    pub fn prepare_for(&mut self, names: u32) -> Result<(), AllocError>
+        ensures kept { self.new.server ≡ self.old.server }
+        ensures room { OnOk result (self.new.room ≡ REQUEST_ROOM + FOUND_ROOM * names) }
+        ensures same { OnErr result (self.new ≡ self.old) }
+    {
+        self.reserve(REQUEST_ROOM + FOUND_ROOM * names as usize)
     }
 
     /// What was agreed on before it serves.

@@ -1,8 +1,8 @@
 //! A finite map from numbers, with room that is reserved.
 //!
 //! The entries stand in one `Vec` in the order of their keys. The first key that passes a test is asked for, so the order counts:
-//! `HashMap` has none, and `BTreeMap` reserves no room.
-ghost use Rattle.std.specs.Prelude.{◌≡◌, ◌+◌, ◌<◌, ◌≤◌, [], option_copied, OnOk, IsSome, MatchResult};
+//! a [`HashTable`](crate::hash_table::HashTable) has none, and `BTreeMap` reserves no room.
+ghost use Rattle.std.specs.Prelude.{◌≡◌, ◌+◌, ◌<◌, ◌≤◌, [], option_copied, OnOk, MatchResult};
 ghost use Rattle.std.specs.Ordering.{nat_cmp};
 ghost use Rattle.fs_layout.specs.Maps.{get, with_entry, without, IsMap};
 ghost use Rattle.fuse_state.specs.Tables.{IsAt, IsGap};
@@ -68,16 +68,6 @@ impl<V: Drop> Table<V> {
             Err(at) => {
                 let _placed = self.entries.insert(at, (key, value));
             }
-        }
-    }
-
-    /// Sets the value at a key that has one.
-    pub(crate) fn replace(&mut self, key: u64, value: V)
-        ensures replaced { IsSome (get nat_cmp self.old.0 key) → self.new.0 ≡ with_entry nat_cmp self.old.0 key value }
-        ensures room { self.new.1 ≡ self.old.1 }
-    {
-        if let Ok(at) = place_of(&self.entries, key) {
-            self.entries[at] = (key, value);
         }
     }
 

@@ -8,6 +8,7 @@ pub mod flags;
 pub mod listing;
 mod machine;
 pub mod name;
+pub mod name_room;
 pub mod path;
 pub mod paths;
 pub mod replies;

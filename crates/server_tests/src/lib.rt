@@ -4,6 +4,8 @@
 #[cfg(test)]
 mod cutting;
 #[cfg(test)]
+mod listings;
+#[cfg(test)]
 mod serving;
 #[cfg(test)]
 mod state;

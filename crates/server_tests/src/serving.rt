@@ -31,6 +31,7 @@ impl Performer for Lacking {
     fn needs_nobody(&mut self, _node: u64, operation: &Operation<'_>) -> bool {
         match operation {
             Operation::Lookup(_) => false,
+            Operation::ReadDirPlus(_) => false,
             _ => !needs_caller(operation),
         }
     }

@@ -1,7 +1,7 @@
 //! Open directories. They hold no descriptors.
 ghost use Rattle.std.specs.Prelude.{◌≡◌, ◌+◌, ◌≤◌, length, option_copied};
 ghost use Rattle.fuse_state.specs.Shares.{count_of};
-ghost use Rattle.fuse_state.specs.Servers.{directory_holders, may_open_directory, directory_of, with_opened, with_listing, without_directory};
+ghost use Rattle.fuse_state.specs.Servers.{directory_holders, may_open_directory, directory_of, listing_of, with_opened, with_listing, without_directory};
 
 use super::Server;
 use crate::directory::OpenDirectory;
@@ -51,6 +51,16 @@ impl Server {
         ensures { option_copied result ≡ directory_of self.now.server handle }
     {
         self.directories.get(handle)
+    }
+
+    /// The listing that was made of an open directory last.
+    pub fn listing_of(&self, handle: u64) -> Option<&Listing>
+        ensures { option_copied result ≡ listing_of self.now.server handle }
+    {
+        match self.directory_of(handle) {
+            Some(open) => open.listing.as_ref(),
+            None => None,
+        }
     }
 
     /// A user has opened a directory at [`Server::next_directory`].

@@ -64,13 +64,6 @@ impl Server {
         self.kinds.get(u64::from(ino)).copied()
     }
 
-    /// What the kernel was told of, by rising inodes: each with what it holds.
-    pub fn known(&self) -> &[(u64, FileType)]
-        ensures { result.now ≡ self.now.server.kinds }
-    {
-        self.kinds.entries()
-    }
-
     /// The inode of a node, unless that is stale.
     pub fn number_of(&self, node: u64) -> Option<u32>
         ensures { result ≡ number_of_node self.now.server node }

@@ -9,4 +9,4 @@ returns-in_err-pid g c =
     then-ok _ c.in_ok-dir_ino.ensures (then-fails _ c.from_residual-in_err-pid.ensures c.in_err-pid.ensures.did)
 
 pub returns : goal.returns
-returns g c = then-ok _ c.in_ok-dir_ino.ensures (then-ok _ c.in_ok-pid.ensures.did c.find_inside.ensures)
+returns g c = then-ok _ c.in_ok-dir_ino.ensures (then-ok _ c.in_ok-pid.ensures.did c.find_inside.ensures.did)

@@ -11,6 +11,6 @@ returns-in_default g c =
     let operation = c.args.operation.now in
     record {
       decided = subst (λ (b : Bool). CarriesOut g.M.Machine.Serves (needs_nobody c.args.node operation s.server.server) s.machine s.machine (not b))
-          (sym c.needs_caller.ensures) (decided_at_once c.args.node operation s.server.server s.machine c.in_default.not-Lookup);
+          (sym c.needs_caller.ensures) (decided_at_once c.args.node operation s.server.server s.machine c.in_default.not-Lookup c.in_default.not-ReadDirPlus);
       kept = refl;
     }

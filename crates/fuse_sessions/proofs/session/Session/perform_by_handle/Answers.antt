@@ -9,3 +9,8 @@ pub returns-in-Write-clause-answered : goal.returns-in-Write-clause-answered
 returns-in-Write-clause-answered g c value =
     subst (λ (plan : Task). IfOk c.perform_write.result (Answered g.M.Machine.Serves plan c.args.self.now c.perform_write.new.self))
     (sym (ap (λ (o : Operation). asked_for c.args.asked.now value (Some o)) c.in-Write.is)) c.perform_write.ensures.answered
+
+pub returns-in-ReadDirPlus-clause-answered : goal.returns-in-ReadDirPlus-clause-answered
+returns-in-ReadDirPlus-clause-answered g c value =
+    subst (λ (plan : Task). IfOk c.perform_listing.result (Answered g.M.Machine.Serves plan c.args.self.now c.perform_listing.new.self))
+    (sym (ap (λ (o : Operation). asked_for c.args.asked.now value (Some o)) c.in-ReadDirPlus.is)) c.perform_listing.ensures.answered

@@ -1,11 +1,19 @@
-use Rattle.std.proofs.Common.{refl}
+use Rattle.std.proofs.Common.{refl, ap, ◌∙◌}
+use Rattle.fuse_state.specs.Servers.{Server}
 use Rattle.fuse_sessions.proofs.Doings.{keeps, reads-last, then-fails, then-ok}
+use Rattle.fuse_sessions.proofs.Listings.{found-directories}
 use Rattle.fuse_sessions.proofs.session.Session.tell_found.Goals as goal
 
-pub returns-in_err-stamps : goal.returns-in_err-stamps
-returns-in_err-stamps g c = then-fails _ c.from_residual.ensures c.in_err-stamps.ensures.did
+pub returns-in_err-stamps-clause-did : goal.returns-in_err-stamps-clause-did
+returns-in_err-stamps-clause-did g c = then-fails _ c.from_residual.ensures c.in_err-stamps.ensures.did
 
-pub returns : goal.returns
-returns g c =
+pub returns-clause-did : goal.returns-clause-did
+returns-clause-did g c =
     then-ok _ c.in_ok-stamps.ensures.did
     (keeps _ _ refl (rw c.dentry.ensures at c.note_found.ensures.kept) (reads-last _ _ c.looked_up_body.ensures))
+
+pub returns-clause-directories : goal.returns-clause-directories
+returns-clause-directories g c =
+    ap (λ (s : Server). s.directories) c.note_found.ensures.kept
+    ∙ found-directories c.dentry.result c.args.status.ino c.args.status.kind c.told_stamps.new.self.server.server
+    ∙ ap (λ k. k.server.directories) c.in_ok-stamps.ensures.kept

@@ -22,9 +22,13 @@ pub returns-in-Lookup-clause-decided : goal.returns-in-Lookup-clause-decided
 returns-in-Lookup-clause-decided c =
     subst (λ (o : Operation). CarriesOut Serves (needs_nobody c.args._node o lacking) tt tt false) (sym c.in-Lookup.is) (finishes false tt)
 
+pub returns-in-ReadDirPlus-clause-decided : goal.returns-in-ReadDirPlus-clause-decided
+returns-in-ReadDirPlus-clause-decided c =
+    subst (λ (o : Operation). CarriesOut Serves (needs_nobody c.args._node o lacking) tt tt false) (sym c.in-ReadDirPlus.is) (finishes false tt)
+
 pub returns-in_default : goal.returns-in_default
 returns-in_default c = record {
   decided = subst (λ (b : Bool). CarriesOut Serves (needs_nobody c.args._node c.args.operation.now lacking) tt tt (not b)) (sym c.needs_caller.ensures)
-      (decided_at_once c.args._node c.args.operation.now lacking tt c.in_default.not-Lookup);
+      (decided_at_once c.args._node c.args.operation.now lacking tt c.in_default.not-Lookup c.in_default.not-ReadDirPlus);
   kept = refl;
 }

@@ -1,0 +1,209 @@
+//! READDIRPLUS at a machine that is played: which nodes are told, and when they are forgotten.
+ghost use Rattle.std.specs.Prelude.{⊤};
+
+use crate::times::{OFFER, settings};
+use fs_cred::{Cred, CredFault};
+use fs_model::{Call, Event, FileType, Listing, Name, Named, Reply, Status};
+use fuse_plans::{Asked, ReplyBody, Response};
+use fuse_protocol::{Extent, Operation, Time};
+use fuse_sessions::Session;
+use fuse_steps::Machine;
+use std::alloc::{AllocError, Global};
+use std::mem;
+use std::test::Fail;
+
+// A machine whose root has two files: `a` is inode 5, and `b` inode 6.
+#[derive(Drop)]
+struct Played {
+    alloc: Global,
+    processes: usize,
+}
+
+fn named(alloc: Global, name: &[u8], ino: u32) -> Result<Named, AllocError> {
+    let name = Name::from_slice(alloc, name)?;
+    Ok(Named { name, ino })
+}
+
+fn names(alloc: Global) -> Result<Listing, AllocError> {
+    let mut names = Vec::new(alloc);
+    names.push(named(alloc, b"a", 5)?)?;
+    names.push(named(alloc, b"b", 6)?)?;
+    Ok(Listing::new(names))
+}
+
+// What a name leads to: to the root, unless it is one of the two.
+fn led_to(name: &[u8]) -> (u32, FileType) {
+    match name.first() {
+        Some(b'a') => (5, FileType::File),
+        Some(b'b') => (6, FileType::File),
+        _ => (1, FileType::Directory),
+    }
+}
+
+fn status_of(name: &[u8]) -> Status {
+    let (ino, kind) = led_to(name);
+    Status {
+        ino,
+        kind,
+        mode: 0o755,
+        links: 1,
+        owner: 0,
+        group: 0,
+        size: 0,
+    }
+}
+
+impl Machine for Played {
+    // Nothing is claimed of what is served.
+    ghost Serves = { λ _ _ _ _. ⊤ };
+
+    fn serve(&mut self, _event: &Event) -> Reply {
+        Reply::Done
+    }
+
+    fn call(&mut self, _pid: usize, call: &Call) -> Reply {
+        match call {
+            Call::Open(..) => Reply::Fd(0),
+            Call::Lstat(path) => Reply::Shown(status_of(path.bytes())),
+            Call::Readdir(_) => match names(self.alloc) {
+                Ok(names) => Reply::Names(names),
+                Err(AllocError) => Reply::Done,
+            },
+            _ => Reply::Done,
+        }
+    }
+
+    fn spawn(&mut self, _cred: &Cred) -> Reply {
+        self.processes = self.processes.saturating_add(1);
+        Reply::Pid(self.processes)
+    }
+}
+
+#[derive(Clone, Copy)]
+enum Step {
+    // The root is opened.
+    Opened,
+    // It is listed from an offset on, with room for so many bytes.
+    Listed(u64, u32),
+    // The attributes of a node are asked for.
+    Shown(u64),
+    // The kernel forgets a node once.
+    Forgotten(u64),
+}
+
+// The handle of the first directory that is opened.
+const HANDLE: u64 = 4_294_967_296;
+
+// The node that is asked, and what.
+fn asked_by(step: Step) -> (u64, Operation<'static>) {
+    match step {
+        Step::Opened => (1, Operation::OpenDir),
+        Step::Listed(offset, size) => {
+            let extent = Extent {
+                handle: HANDLE,
+                offset,
+                size,
+            };
+            (1, Operation::ReadDirPlus(extent))
+        }
+        Step::Shown(node) => (node, Operation::GetAttr),
+        Step::Forgotten(node) => (node, Operation::Forget(1)),
+    }
+}
+
+// The number of the error, or 0; how many bytes were told, and the first of them, with which the number of a node begins.
+type Answer = (u8, usize, u8);
+
+fn answer_of(response: Response) -> Answer {
+    match response {
+        Response::Says(ReplyBody::Bytes(told)) => {
+            let bytes = told.bytes();
+            (0, bytes.len(), bytes.first().copied().unwrap_or(0))
+        }
+        Response::Fails(error) => (error.number(), 0, 0),
+        other => {
+            mem::drop(other);
+            (0, 0, 0)
+        }
+    }
+}
+
+// The request of user 0.
+fn performed(
+    session: &mut Session<Played>,
+    alloc: Global,
+    node: u64,
+    operation: &Operation<'_>,
+) -> Result<Answer, CredFault> {
+    let asked = Asked {
+        node,
+        needs_nobody: true,
+        cred: Some(Cred::new(alloc, 0, 0, &[])?),
+        now: Time {
+            seconds: 9,
+            nanoseconds: 5,
+        },
+    };
+    Ok(answer_of(session.perform(asked, None, operation)?))
+}
+
+fn begun(alloc: Global) -> Result<Session<Played>, CredFault> {
+    let machine = Played {
+        alloc,
+        processes: 0,
+    };
+    let Ok(mut session) = Session::new(alloc, machine, settings(false)) else {
+        return Err(CredFault::from(AllocError));
+    };
+    let _agreed = performed(&mut session, alloc, 1, &Operation::Init(OFFER))?;
+    Ok(session)
+}
+
+const STALE: Answer = (116, 0, 0);
+
+const DONE: Answer = (0, 0, 0);
+
+// The record of a name of one letter has 160 bytes.
+const ROWS: [(Step, Answer); 18] = [
+    (Step::Opened, DONE),
+    (Step::Shown(5), STALE),
+    // There is room for no name, and then for one: the kernel knows the node that it was told, and no other.
+    (Step::Listed(0, 159), DONE),
+    (Step::Shown(5), STALE),
+    (Step::Listed(0, 319), (0, 160, 5)),
+    (Step::Shown(5), DONE),
+    (Step::Shown(6), STALE),
+    // Each record counts: what was told once is forgotten once, and what was told twice not before twice.
+    (Step::Forgotten(5), DONE),
+    (Step::Shown(5), STALE),
+    (Step::Listed(1, 320), (0, 160, 6)),
+    (Step::Listed(0, 320), (0, 320, 5)),
+    (Step::Listed(2, 320), DONE),
+    (Step::Forgotten(6), DONE),
+    (Step::Shown(6), DONE),
+    (Step::Forgotten(6), DONE),
+    (Step::Shown(6), STALE),
+    (Step::Forgotten(5), DONE),
+    (Step::Shown(5), STALE),
+];
+
+// The first row that is answered otherwise, and how; one behind the last if there is none.
+fn other_answer(alloc: Global, rows: &[(Step, Answer)]) -> Result<(usize, Answer), CredFault> {
+    let mut session = begun(alloc)?;
+    for (i, (step, wanted)) in rows.iter().enumerate() {
+        let (node, operation) = asked_by(*step);
+        let answer = performed(&mut session, alloc, node, &operation)?;
+        if answer != *wanted {
+            return Ok((i, answer));
+        }
+    }
+    Ok((rows.len(), DONE))
+}
+
+#[test]
+fn told_nodes_are_counted(rt: HostRuntime) -> Result<(), Fail> {
+    let rows: &[(Step, Answer)] = &ROWS;
+    let (row, answer) = other_answer(rt.alloc(), rows)?;
+    assert!(rt; row == rows.len(), "row {row}: {answer:?}");
+    Ok(())
+}
