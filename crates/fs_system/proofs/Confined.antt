@@ -1,5 +1,5 @@
 -- A file system that runs is in one state, and two that are alike to a process answer it alike.
-use Rattle.std.specs.Prelude.{◌≡◌, ℕ, Bool, None, Some, Ok, Err, IsFalse}
+use Rattle.std.specs.Prelude.{◌≡◌, ℕ, Bool, IsFalse}
 use Rattle.std.proofs.Common.{sym, ap, ◌∙◌, subst}
 use Rattle.sector_disk.specs.Disk.{DiskState}
 use Rattle.fs_layout.specs.declared.geometry.Geometry.{Geometry}
@@ -15,7 +15,9 @@ use Rattle.fs_model.proofs.ConfinedRuns.{stepped_cred}
 use Rattle.fs_model.proofs.ConfinedStepsOf.{steps_are_by}
 use Rattle.fs_model.specs.Confinement.{IsConfined}
 use Rattle.call_parts.specs.Performing.{IsStateOf}
-use Rattle.fs_system.specs.Seen.{Base, IsOn}
+use Rattle.fs_system.specs.declared.base.Base.{Base}
+use Rattle.fs_system.specs.declared.base.Base.TheVariants.{Running, Halted, Taken}
+use Rattle.fs_system.specs.Seen.{IsOn}
 use Rattle.fs_system.specs.Confinement.{UnreadableBytesDoNotShow, IsInOneState}
 
 -- ---- one state
@@ -39,14 +41,14 @@ state_of_once p map processes s t is js now =
 
 module _ {D : Type 0} (state : D → DiskState) (p : Geometry) (time : ℕ) (processes : ProcessTable) where
   on_once : (b : Base D) (s t : State) → IsFalse s.halted → IsOn state p time processes b s → IsOn state p time processes b t → t ≡ s
-  on_once None s t up is js = absurd is
-  on_once (Some (Ok store)) s t up is js = state_of_once p (present state store) processes s t is.0.state_of js.0.state_of (js.1 ∙ sym is.1)
-  on_once (Some (Err broken)) s t up is js = absurd cc
+  on_once Taken s t up is js = absurd is
+  on_once (Running store) s t up is js = state_of_once p (present state store) processes s t is.0.state_of js.0.state_of (js.1 ∙ sym is.1)
+  on_once (Halted broken) s t up is js = absurd cc
 
   on_is_state : (b : Base D) (s : State) → IsFalse s.halted → IsOn state p time processes b s → IsState s
-  on_is_state None s up is = absurd is
-  on_is_state (Some (Ok store)) s up is = is.0.state_of.is_state
-  on_is_state (Some (Err broken)) s up is = absurd cc
+  on_is_state Taken s up is = absurd is
+  on_is_state (Running store) s up is = is.0.state_of.is_state
+  on_is_state (Halted broken) s up is = absurd cc
 
 pub one_state : {D : Type 0} (state : D → DiskState) → IsInOneState state
 one_state state fs s t up is js = on_once state fs.geometry fs.time fs.processes fs.base s t up is js

@@ -21,7 +21,7 @@ use Rattle.fs_model.specs.Stops.{asks_stable, makes_stable, is_io_error}
 use Rattle.call_parts.specs.Performing.{IsStateOf}
 use Rattle.fs_system.specs.Doing.{Does, IsFound}
 use Rattle.fs_system.specs.Layouts.{IsDiskOf}
-use Rattle.fs_system.specs.Seen.{IsRunning}
+use Rattle.fs_system.specs.Running.{IsRunning}
 use Rattle.fs_images.specs.Standing.{EachStandsForSome, StandsForSome, EachStandsFor}
 use Rattle.fs_system.proofs.Acting.{halted_answers, flushes, flush_halts, tells_space, space_unread}
 use Rattle.fs_system.proofs.Joining.{HoldsCounted, holds_same, disk_same, leaves_found, each_stands}

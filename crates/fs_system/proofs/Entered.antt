@@ -28,7 +28,7 @@ use Rattle.call_parts.proofs.ByDescriptor.{still_open}
 use Rattle.name_calls.specs.Enters.{IsEntered, IsNotEntered, absent, refused}
 use Rattle.fs_system.specs.Doing.{Does}
 use Rattle.fs_system.specs.Replies.{finished}
-use Rattle.fs_system.specs.Seen.{IsRunning}
+use Rattle.fs_system.specs.Running.{IsRunning}
 use Rattle.fs_system.proofs.Acting.{StaysOpen, choice_of, acts_alone}
 use Rattle.fs_system.proofs.Ends.{does_reading, running_same, running_with}
 

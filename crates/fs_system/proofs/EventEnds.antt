@@ -24,7 +24,7 @@ use Rattle.fs_model.specs.States.{State}
 use Rattle.call_parts.specs.Performing.{MayPerform, IsStateOf}
 use Rattle.fs_system.specs.Doing.{Does, IsFound}
 use Rattle.fs_system.specs.Layouts.{IsDiskOf}
-use Rattle.fs_system.specs.Seen.{IsRunning}
+use Rattle.fs_system.specs.Running.{IsRunning}
 use Rattle.fs_system.proofs.Endings.{IsPerformed, tree_then, done_state, done_state_of, done_tree, done_steps, done_halts, done_no_fault, done_unstable, halts, done_holds}
 use Rattle.fs_system.proofs.Ends.{running_same, tree_held}
 use Rattle.fs_system.proofs.Joining.{disk_same, leaves_found}

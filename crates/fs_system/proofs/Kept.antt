@@ -1,5 +1,5 @@
 -- One event in a transaction that is begun on a store: its changes are kept, or dropped.
-use Rattle.std.proofs.Common.{◌≡◌, ◌≤◌, true, Some, Result, Ok, Err, inl, inr, refl, sym, ap, subst, ◌∙◌, arith}
+use Rattle.std.proofs.Common.{◌≡◌, ◌≤◌, true, Result, Ok, Err, inl, inr, refl, sym, ap, subst, ◌∙◌, arith}
 use Rattle.sector_disk.specs.Disk.{DiskState, Image, IsImage, OnlyReads, HasCause, HasFailed, HasFailedToWrite}
 use Rattle.fs_layout.specs.declared.geometry.Geometry.{Geometry}
 use Rattle.fs_cred.specs.declared.errno.Errno.TheVariants.{EIO}
@@ -18,7 +18,9 @@ use Rattle.fs_model.specs.Processes.{ProcessTable}
 use Rattle.fs_model.specs.States.{State}
 use Rattle.call_parts.specs.Performing.{MayPerform, IsStateOf}
 use Rattle.fs_system.specs.Doing.{Does}
-use Rattle.fs_system.specs.Seen.{IsRunning, IsOn}
+use Rattle.fs_system.specs.declared.base.Base.TheVariants.{Running, Halted}
+use Rattle.fs_system.specs.Running.{IsRunning}
+use Rattle.fs_system.specs.Seen.{IsOn}
 use Rattle.fs_system.proofs.Endings.{IsPerformed, done_state}
 use Rattle.fs_system.proofs.EventEnds.{begins_ready, event_runs, does_event, does_halt}
 use Rattle.fs_system.proofs.Ends.{running_same}
@@ -97,7 +99,7 @@ module _ {D : Type 0} (state : D → DiskState) (p : Geometry) (store : StoreVie
       pub kept_does : (after : StoreView D) → SameMap (present state after) (map_now state last)
           → LeavesOneOf (map_before state last) (map_now state last) (state last.disk) (state after.disk)
           → (state last.disk).failures ≤ (state after.disk).failures → (state after.disk).failed_writes ≡ (state last.disk).failed_writes
-          → (t : State) × IsOn state p s.now now (Some (Ok after)) t × Does (state store.disk) (state after.disk) s e reply t
+          → (t : State) × IsOn state p s.now now (Running after) t × Does (state store.disk) (state after.disk) s e reply t
       kept_does after alike images later quiet = (
         done_state (state_begun s r) d,
         (
@@ -114,7 +116,7 @@ module _ {D : Type 0} (state : D → DiskState) (p : Geometry) (store : StoreVie
       pub broken_does : (broken : D) → LeavesOneOf (map_before state last) (map_now state last) (state last.disk) (state broken)
           → (state last.disk).failures ≤ (state broken).failures → HasFailed (state last.disk) (state broken)
           → HasFailedToWrite (state last.disk) (state broken) → (told : Reply) → told ≡ Refused (Failed EIO)
-          → (t : State) × IsOn state p s.now now (Some (Err broken)) t × Does (state store.disk) (state broken) s e told t
+          → (t : State) × IsOn state p s.now now (Halted broken) t × Does (state store.disk) (state broken) s e told t
       broken_does broken images later failed unwritten told is = (
         record s { processes = now; halted = true },
         refl,

@@ -27,7 +27,10 @@ use Rattle.fs_model.specs.Stops.{is_io_error}
 use Rattle.fs_model.proofs.StepsKeep.{steps_keep}
 use Rattle.fs_system.specs.Doing.{Does, Happens, HappensLast, FlushesFor}
 use Rattle.fs_system.specs.Mounting.{IsSystem, is_halted}
-use Rattle.fs_system.specs.Seen.{System, Base, disk_in, IsRunning, IsOn}
+use Rattle.fs_system.specs.declared.base.Base.{Base}
+use Rattle.fs_system.specs.declared.base.Base.TheVariants.{Running, Halted, Taken}
+use Rattle.fs_system.specs.Running.{IsRunning}
+use Rattle.fs_system.specs.Seen.{System, base_left, disk_in, IsOn}
 use Rattle.fs_images.specs.Standing.{EachStandsForSome}
 use Rattle.fs_system.specs.Replies.{spawned, finished}
 use Rattle.fs_system.proofs.Acting.{spawns, spawn_full, spawn_unmade, tells_time, flush_machine, fsync_firm, fsync_closed, fsync_absent, sync_firm}
@@ -48,6 +51,11 @@ module _ {D : Type 0} (state : D → DiskState) where
   system_then old new e reply happens was may =
       let next = happens was.in_some.0 was.in_some.1 in
       record { in_some = (next.0, next.1); mountable = may }
+
+  -- the disk of what an event leaves
+  disk_left : (now : Result (StoreView D) D) → disk_in state (base_left now) ≡ state (disk_after now)
+  disk_left (Ok store) = refl
+  disk_left (Err broken) = refl
 
   -- what is so of what an event leaves is so of what stands in its place
   module _ (geometry : Geometry) (processes : ProcessTable) (time : ℕ) {put left : Base D} (is : put ≡ left) where
@@ -70,9 +78,9 @@ module _ {D : Type 0} (state : D → DiskState) where
       where
         go : (b : Base D) → is_halted b ≡ true → IsOn state fs.geometry fs.time fs.processes b s
             → (t : State) × IsOn state fs.geometry fs.time fs.processes b t × Does (disk_in state b) (disk_in state b) s e (Refused (Failed EIO)) t
-        go None is on = absurd cc
-        go (Some (Ok store)) is on = absurd cc
-        go (Some (Err broken)) is on = (s, on, does_halted (state broken) (only_now broken) s e machine on)
+        go Taken is on = absurd cc
+        go (Running store) is on = absurd cc
+        go (Halted broken) is on = (s, on, does_halted (state broken) (only_now broken) s e machine on)
 
     pub halted_replies : (fs : System D) (e : Event) → is_halted fs.base ≡ true → IsTrue (is_of_machine e) → (reply : Reply) → reply ≡ Refused (Failed EIO)
         → Happens state fs fs e reply
@@ -92,9 +100,9 @@ module _ {D : Type 0} (state : D → DiskState) where
         where
           go : (b : Base D) → is_halted b ≡ false → IsOn state fs.geometry fs.time fs.processes b s
               → (t : State) × IsOn state fs.geometry time processes b t × Does (disk_in state b) (disk_in state b) s e reply t
-          go None is on = absurd on
-          go (Some (Err broken)) is on = absurd cc
-          go (Some (Ok store)) is on =
+          go Taken is on = absurd on
+          go (Halted broken) is on = absurd cc
+          go (Running store) is on =
               let next = does s on.0.state_of.is_state on.0.state_of.up on.0.state_of.same_processes on.1 (state store.disk).size (present state store) on.0 in
               (next.0, next.1, next.2 store.disk)
 
@@ -227,7 +235,7 @@ module _ {D : Type 0} (state : D → DiskState) where
       pub flush_done : (before after : StoreView D) → SameMap (present state after) (present state before)
           → LeavesOldOr (present state before) (state before.disk) (state after.disk) → EachReadsAs (present state before) (state after.disk)
           → (state before.disk).failures ≤ (state after.disk).failures → (state after.disk).failed_writes ≡ (state before.disk).failed_writes
-          → FlushesFor state (record { base = Some (Ok before); geometry = geometry; processes = processes; time = time }) (record { base = Some (Ok after); geometry = geometry; processes = processes; time = time }) e Done
+          → FlushesFor state (record { base = Running before; geometry = geometry; processes = processes; time = time }) (record { base = Running after; geometry = geometry; processes = processes; time = time }) e Done
       flush_done before after same run lasting later quiet asks s on firm = (
         s,
         (running_same (state before.disk).size (state after.disk).size geometry (present state before) (present state after) processes processes s run.size same refl on.0, on.1),
@@ -236,7 +244,7 @@ module _ {D : Type 0} (state : D → DiskState) where
 
       pub flush_broke : (before : StoreView D) (broken : D) → LeavesOldOr (present state before) (state before.disk) (state broken)
           → (state before.disk).failures ≤ (state broken).failures → HasFailed (state before.disk) (state broken) → HasFailedToWrite (state before.disk) (state broken)
-          → FlushesFor state (record { base = Some (Ok before); geometry = geometry; processes = processes; time = time }) (record { base = Some (Err broken); geometry = geometry; processes = processes; time = time }) e
+          → FlushesFor state (record { base = Running before; geometry = geometry; processes = processes; time = time }) (record { base = Halted broken; geometry = geometry; processes = processes; time = time }) e
           (Refused (Failed EIO))
       flush_broke before broken run later failed unwritten asks s on firm = (
         record s { halted = true },
@@ -255,13 +263,13 @@ module _ {D : Type 0} (state : D → DiskState) where
         up_inside = ap (λ (x : System D). is_halted x.base) view_is ∙ up
 
         -- the store is there
-        pub store_there : IsSystem state inside → (store : StoreView D) × base ≡ Some (Ok store)
+        pub store_there : IsSystem state inside → (store : StoreView D) × base ≡ Running store
         store_there was = go base up_inside was.in_some.0 was.in_some.1
           where
-            go : (b : Base D) → is_halted b ≡ false → (s : State) → IsOn state geometry time procs b s → (store : StoreView D) × b ≡ Some (Ok store)
-            go None running s on = absurd on
-            go (Some (Ok store)) running s on = (store, refl)
-            go (Some (Err broken)) running s on = absurd cc
+            go : (b : Base D) → is_halted b ≡ false → (s : State) → IsOn state geometry time procs b s → (store : StoreView D) × b ≡ Running store
+            go Taken running s on = absurd on
+            go (Running store) running s on = (store, refl)
+            go (Halted broken) running s on = absurd cc
 
         -- fsync
         pub fsync_unopened : (pid fd : ℕ) (errno : Errno) → open_in procs pid fd ≡ Err errno → Happens state fs fs (Fsync pid fd) (finished (Err errno))
@@ -275,9 +283,9 @@ module _ {D : Type 0} (state : D → DiskState) where
             (open_firm s fs.processes pid fd d (go fs.base up s on) (ap (λ (x : System D). open_in x.processes pid fd) (sym view_is) ∙ opened))
           where
             go : (b : Base D) → is_halted b ≡ false → (s : State) → IsOn state fs.geometry fs.time fs.processes b s → s.processes ≡ fs.processes
-            go None running s on = absurd on
-            go (Some (Ok store)) running s on = on.0.state_of.same_processes
-            go (Some (Err broken)) running s on = absurd cc
+            go Taken running s on = absurd on
+            go (Running store) running s on = on.0.state_of.same_processes
+            go (Halted broken) running s on = absurd cc
 
         -- the time
         pub time_returns : (now : ℕ) → now < 2 ^ 64 → Happens state fs (record { base = base; geometry = geometry; processes = procs; time = now }) (Clock now) Done
@@ -309,7 +317,7 @@ module _ {D : Type 0} (state : D → DiskState) where
               (spawn_happens inside up_inside cred valid processes result unused added full refused same) was was.mountable
 
       -- where a commit has failed
-      pub last_halted : (broken : D) → base ≡ Some (Err broken) → (disk : D) → disk ≡ broken → HappensLast state fs disk Sync (Refused (Failed EIO))
+      pub last_halted : (broken : D) → base ≡ Halted broken → (disk : D) → disk ≡ broken → HappensLast state fs disk Sync (Refused (Failed EIO))
       last_halted broken is disk here =
           subst (λ (d : D). HappensLast state fs d Sync (Refused (Failed EIO))) (sym here)
           (subst (λ (x : System D). HappensLast state x broken Sync (Refused (Failed EIO)))
@@ -317,8 +325,8 @@ module _ {D : Type 0} (state : D → DiskState) where
           (λ s r. (s, does_halted (state broken) (only_now broken) s Sync refl r)))
 
       -- with a store
-      module _ (before : StoreView D) (is : base ≡ Some (Ok before)) where
-        seen_so : record { base = Some (Ok before); geometry = geometry; processes = procs; time = time } ≡ fs
+      module _ (before : StoreView D) (is : base ≡ Running before) where
+        seen_so : record { base = Running before; geometry = geometry; processes = procs; time = time } ≡ fs
         seen_so = ap (λ (b : Base D). record { base = b; geometry = geometry; processes = procs; time = time }) (sym is) ∙ view_is
 
         -- the file system goes on in some state
@@ -331,43 +339,48 @@ module _ {D : Type 0} (state : D → DiskState) where
         -- an event that was performed
         module _ (now : Result (StoreView D) D) (processes : ProcessTable) (e : Event) (reply : Reply)
             (does : (s : State) → IsRunning (state before.disk).size geometry (present state before) procs s → s.now ≡ time
-            → (t : State) × IsOn state geometry s.now processes (Some now) t × Does (state before.disk) (state (disk_after now)) s e reply t) where
-          at_time : (s : State) → IsOn state geometry time procs (Some (Ok before)) s
-              → (t : State) × IsOn state geometry time processes (Some now) t × Does (state before.disk) (state (disk_after now)) s e reply t
+            → (t : State) × IsOn state geometry s.now processes (base_left now) t × Does (state before.disk) (state (disk_after now)) s e reply t) where
+          at_time : (s : State) → IsOn state geometry time procs (Running before) s
+              → (t : State) × IsOn state geometry time processes (base_left now) t × Does (state before.disk) (disk_in state (base_left now)) s e reply t
           at_time s on =
-              let next = does s on.0 on.1 in
-              (next.0, subst (λ (k : ℕ). IsOn state geometry k processes (Some now) next.0) on.1 next.1, next.2)
+              let next = does s on.0 on.1 in (
+                next.0,
+                subst (λ (k : ℕ). IsOn state geometry k processes (base_left now) next.0) on.1 next.1,
+                subst (λ (d : DiskState). Does (state before.disk) d s e reply next.0) (sym (disk_left now)) next.2,
+              )
 
-          pub kept_returns : Happens state fs (record { base = Some now; geometry = geometry; processes = processes; time = time }) e reply
-          kept_returns = subst (λ (x : System D). Happens state x (record { base = Some now; geometry = geometry; processes = processes; time = time }) e reply) seen_so at_time
+          pub kept_returns : Happens state fs (record { base = base_left now; geometry = geometry; processes = processes; time = time }) e reply
+          kept_returns = subst (λ (x : System D). Happens state x (record { base = base_left now; geometry = geometry; processes = processes; time = time }) e reply) seen_so at_time
 
           pub kept_system : ((t : ℕ) (image : Image) → t ≤ (state (disk_after now)).moment → IsImage (state (disk_after now)) image → (state (disk_after now)).left_since t image)
-              → IsSystem state (record { base = base; geometry = geometry; processes = procs; time = time }) → IsSystem state (record { base = Some now; geometry = geometry; processes = processes; time = time })
+              → IsSystem state (record { base = base; geometry = geometry; processes = procs; time = time }) → IsSystem state (record { base = base_left now; geometry = geometry; processes = processes; time = time })
           kept_system counts_now was =
               let here = subst (λ (b : Base D). IsSystem state (record { base = b; geometry = geometry; processes = procs; time = time })) is was in
               let next = at_time here.in_some.0 here.in_some.1 in
+              let done = (does here.in_some.0 here.in_some.1.0 here.in_some.1.1).2 in
               record {
                 in_some = (next.0, next.1);
-                mountable = mountable_then (state before.disk) (state (disk_after now)) here.in_some.0 next.2.added counts_now here.mountable next.2.images;
+                mountable = subst EachStandsForSome (sym (disk_left now))
+                    (mountable_then (state before.disk) (state (disk_after now)) here.in_some.0 done.added counts_now here.mountable done.images);
               }
 
         -- one that leaves the state as it was
         module _ (after : StoreView D) (e : Event) (reply : Reply)
             (does : (s : State) → IsRunning (state before.disk).size geometry (present state before) procs s
             → IsRunning (state after.disk).size geometry (present state after) procs s × Does (state before.disk) (state after.disk) s e reply s) where
-          pub same_returns : Happens state fs (record { base = Some (Ok after); geometry = geometry; processes = procs; time = time }) e reply
+          pub same_returns : Happens state fs (record { base = Running after; geometry = geometry; processes = procs; time = time }) e reply
           same_returns = kept_returns (Ok after) procs e reply (λ s r told. let done = does s r in (s, (done.0, refl), done.1))
 
           pub same_system : ((t : ℕ) (image : Image) → t ≤ (state after.disk).moment → IsImage (state after.disk) image → (state after.disk).left_since t image)
-              → IsSystem state (record { base = base; geometry = geometry; processes = procs; time = time }) → IsSystem state (record { base = Some (Ok after); geometry = geometry; processes = procs; time = time })
+              → IsSystem state (record { base = base; geometry = geometry; processes = procs; time = time }) → IsSystem state (record { base = Running after; geometry = geometry; processes = procs; time = time })
           same_system counts_now was = kept_system (Ok after) procs e reply (λ s r told. let done = does s r in (s, (done.0, refl), done.1)) counts_now was
 
         module _ (after : StoreView D) (same : SameMap (present state after) (present state before))
             (run : LeavesOldOr (present state before) (state before.disk) (state after.disk)) (lasting : EachReadsAs (present state before) (state after.disk))
             (later : (state before.disk).failures ≤ (state after.disk).failures) (quiet : (state after.disk).failed_writes ≡ (state before.disk).failed_writes) where
-          pub flush_returns : (e : Event) → FlushesFor state fs (record { base = Some (Ok after); geometry = geometry; processes = procs; time = time }) e Done
+          pub flush_returns : (e : Event) → FlushesFor state fs (record { base = Running after; geometry = geometry; processes = procs; time = time }) e Done
           flush_returns e =
-              subst (λ (x : System D). FlushesFor state x (record { base = Some (Ok after); geometry = geometry; processes = procs; time = time }) e Done) seen_so
+              subst (λ (x : System D). FlushesFor state x (record { base = Running after; geometry = geometry; processes = procs; time = time }) e Done) seen_so
               (flush_done geometry procs time e before after same run lasting later quiet)
 
         -- the disk is handed back
@@ -379,9 +392,9 @@ module _ {D : Type 0} (state : D → DiskState) where
 
         module _ (broken : D) (run : LeavesOldOr (present state before) (state before.disk) (state broken)) (later : (state before.disk).failures ≤ (state broken).failures)
             (failed : HasFailed (state before.disk) (state broken)) (unwritten : HasFailedToWrite (state before.disk) (state broken)) where
-          pub break_returns : (e : Event) → FlushesFor state fs (record { base = Some (Err broken); geometry = geometry; processes = procs; time = time }) e (Refused (Failed EIO))
+          pub break_returns : (e : Event) → FlushesFor state fs (record { base = Halted broken; geometry = geometry; processes = procs; time = time }) e (Refused (Failed EIO))
           break_returns e =
-              subst (λ (x : System D). FlushesFor state x (record { base = Some (Err broken); geometry = geometry; processes = procs; time = time }) e (Refused (Failed EIO))) seen_so
+              subst (λ (x : System D). FlushesFor state x (record { base = Halted broken; geometry = geometry; processes = procs; time = time }) e (Refused (Failed EIO))) seen_so
               (flush_broke geometry procs time e before broken run later failed unwritten)
 
           pub last_broken : (disk : D) → disk ≡ broken → HappensLast state fs disk Sync (Refused (Failed EIO))
@@ -400,7 +413,7 @@ module _ {D : Type 0} (state : D → DiskState) where
 
         pub flush_system : (after : StoreView D) → ((t : ℕ) (image : Image) → t ≤ (state after.disk).moment → IsImage (state after.disk) image → (state after.disk).left_since t image)
             → SameMap (present state after) (present state before) → LeavesOldOr (present state before) (state before.disk) (state after.disk)
-            → IsSystem state (record { base = base; geometry = geometry; processes = procs; time = time }) → IsSystem state (record { base = Some (Ok after); geometry = geometry; processes = procs; time = time })
+            → IsSystem state (record { base = base; geometry = geometry; processes = procs; time = time }) → IsSystem state (record { base = Running after; geometry = geometry; processes = procs; time = time })
         flush_system after counts_now same run was =
             let here = subst (λ (b : Base D). IsSystem state (record { base = b; geometry = geometry; processes = procs; time = time })) is was in
             record {
@@ -417,7 +430,7 @@ module _ {D : Type 0} (state : D → DiskState) where
 
         pub break_system : (broken : D) → ((t : ℕ) (image : Image) → t ≤ (state broken).moment → IsImage (state broken) image → (state broken).left_since t image)
             → LeavesOldOr (present state before) (state before.disk) (state broken)
-            → IsSystem state (record { base = base; geometry = geometry; processes = procs; time = time }) → IsSystem state (record { base = Some (Err broken); geometry = geometry; processes = procs; time = time })
+            → IsSystem state (record { base = base; geometry = geometry; processes = procs; time = time }) → IsSystem state (record { base = Halted broken; geometry = geometry; processes = procs; time = time })
         break_system broken counts_now run was =
             let here = subst (λ (b : Base D). IsSystem state (record { base = b; geometry = geometry; processes = procs; time = time })) is was in
             record { in_some = (record here.in_some.0 { halted = true }, refl); mountable = flush_leaves broken counts_now run was }

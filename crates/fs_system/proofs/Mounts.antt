@@ -1,5 +1,5 @@
 -- What a mount comes to.
-use Rattle.std.proofs.Common.{◌≡◌, ◌≤◌, ℕ, [], Some, Ok, length, refl, sym, ap, subst, ◌∙◌, arith, false}
+use Rattle.std.proofs.Common.{◌≡◌, ◌≤◌, ℕ, [], length, refl, sym, ap, subst, ◌∙◌, arith, false}
 use Rattle.sector_disk.specs.Disk.{DiskState, Image, sector, IsImage, IsSame, Elapses, LeavesOnly, HasFailed}
 use Rattle.sector_disk.proofs.Moments.{failed_later, holds_now, joined, one_call, unchanged, weaker}
 use Rattle.fs_layout.specs.declared.geometry.Geometry.{Geometry}
@@ -23,7 +23,8 @@ use Rattle.redo_journal.proofs.Meaning.{data_stays, same_chain}
 use Rattle.sector_txn.specs.Stores.{StoreView, present}
 use Rattle.fs_system.specs.Mounts.{IsMounted, Mounts, FailsToMount}
 use Rattle.fs_system.specs.Mounting.{StandsAsBefore, IsSystem}
-use Rattle.fs_system.specs.Seen.{IsRunning}
+use Rattle.fs_system.specs.declared.base.Base.TheVariants.{Running}
+use Rattle.fs_system.specs.Running.{IsRunning}
 use Rattle.fs_images.specs.Standing.{StandsFor, StandsForSome, HasPartsAt, EachStandsFor}
 use Rattle.fs_system.specs.Sweeping.{IsStored, StandsPruned, HasTree, KeepsTree}
 use Rattle.fs_system.proofs.Joining.{HoldsCounted, disk_of_standing, holds_of_standing, disk_same, holds_same, stands_as, each_stands}
@@ -176,7 +177,7 @@ module _ {D : Type 0} (state : D → DiskState) (disk read : D) (store : StoreVi
         ends_mounted (state disk) seen.size was.0 was.1 was.2 was.3 (state then.disk) (present state then) geometry at (swept was.1 opened_tree)
         (stable was.1 opened_tree) later quiet processes none
 
-    pub mounted_system : IsSystem state (record { base = Some (Ok then); geometry = geometry; processes = processes; time = 0 })
+    pub mounted_system : IsSystem state (record { base = Running then; geometry = geometry; processes = processes; time = 0 })
     mounted_system =
         let is = mounts_found in
         let each = stable was.1 opened_tree in

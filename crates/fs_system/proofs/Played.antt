@@ -1,12 +1,11 @@
 -- Plays: events of what is served, one after another, and what all of them come to.
-use Rattle.std.proofs.Common.{◌≡◌, ◌≤◌, ◌<◌, inl, inr, ℕ, List, [], ◌∷◌, ◌++◌, length, get_or, take, Option, None, Some, Result, Ok, Err, IsTrue, refl, sym, ap, subst, ◌∙◌, arith}
+use Rattle.std.proofs.Common.{◌≡◌, ◌≤◌, ◌<◌, inl, inr, ℕ, List, [], ◌∷◌, ◌++◌, length, get_or, take, Option, Result, Ok, Err, IsTrue, refl, sym, ap, subst, ◌∙◌, arith}
 use Rattle.std.specs.Prelude.{Contains, ◌+◌, ◌↔◌, Bool, false, IfOk, IfErr}
 use Rattle.std.proofs.lemmas.Bool.{cases_lt}
 use Rattle.std.proofs.lemmas.List.{take_more}
 use Rattle.sector_disk.specs.Disk.{DiskState, Image, IsImage, IsSame, IsStable, sector}
 use Rattle.sector_disk.proofs.Moments.{narrowed, stable_image}
 use Rattle.fs_layout.specs.declared.geometry.Geometry.{Geometry}
-use Rattle.sector_txn.specs.Stores.{StoreView, disk_after}
 use Rattle.fs_model.specs.Processes.{ProcessTable}
 use Rattle.fs_model.specs.declared.reply.Reply.{Reply}
 use Rattle.fs_model.specs.declared.event.Event.{Event}
@@ -31,7 +30,9 @@ use Rattle.fs_system.specs.Playing.{HasDisk, HasDiskOf, IsConfig, Plays, IsOfRes
 use Rattle.fs_system.specs.Histories.{Stopped, Config, Up, Off, device, Goes, does, is_down, arms_up, arms_off, restarts as restarts_up, fails, on_disk, History, ends, goes, forgets, Follows}
 use Rattle.fs_system.specs.Mounts.{IsNotMounted, IsMounted, Mounts, FailsToMount}
 use Rattle.fs_system.specs.Mounting.{IsSystem, fault_of}
-use Rattle.fs_system.specs.Seen.{System, Base, disk_in, IsOn, IsIn}
+use Rattle.fs_system.specs.declared.base.Base.{Base}
+use Rattle.fs_system.specs.declared.base.Base.TheVariants.{Running, Halted, Taken}
+use Rattle.fs_system.specs.Seen.{System, disk_in, IsOn, IsIn}
 use Rattle.fs_images.specs.Standing.{StandsForSome, EachStandsForSome, Covers, HasFinding}
 use Rattle.fs_system.proofs.Runs.{only_here, histories_are_runs}
 
@@ -77,20 +78,23 @@ module _ {D : Type 0} (state : D → DiskState) where
   -- ---- the disk of what is served
 
   pub seen_in : (P : DiskState → Type 0) (b : Base D) (disk : D) → HasDisk b disk → P (disk_in state b) → P (state disk)
-  seen_in P None disk has p = absurd has
-  seen_in P (Some k) disk has p = subst (λ (d : D). P (state d)) has p
+  seen_in P (Running store) disk has p = subst (λ (d : D). P (state d)) has p
+  seen_in P (Halted broken) disk has p = subst (λ (d : D). P (state d)) has p
+  seen_in P Taken disk has p = absurd has
 
   -- a file system in a state has one
   pub the_disk : (fs : System D) (s : State) → IsIn state fs s → (disk : D) × HasDisk fs.base disk
   the_disk fs s here = go fs.base here
     where
       go : (b : Base D) → IsOn state fs.geometry fs.time fs.processes b s → (disk : D) × HasDisk b disk
-      go None on = absurd on
-      go (Some k) on = (disk_after k, refl)
+      go (Running store) on = (store.disk, refl)
+      go (Halted broken) on = (broken, refl)
+      go Taken on = absurd on
 
   one_disk : (b : Base D) (x y : D) → HasDisk b x → HasDisk b y → x ≡ y
-  one_disk None x y has has' = absurd has
-  one_disk (Some k) x y has has' = sym has ∙ has'
+  one_disk (Running store) x y has has' = sym has ∙ has'
+  one_disk (Halted broken) x y has has' = sym has ∙ has'
+  one_disk Taken x y has has' = absurd has
 
   device_is : (served : Result (System D) D) (c : Config D) (disk : D) → IsConfig state served c → HasDiskOf served disk → device c ≡ disk
   device_is (Ok fs) (Up s d) disk is has = one_disk fs.base d disk is.0 has
@@ -100,15 +104,16 @@ module _ {D : Type 0} (state : D → DiskState) where
 
   -- as a file system gives its disk away
   module _ (base : Base D) (geometry : Geometry) (procs : ProcessTable) (time : ℕ) where
-    pub disk_given : (fs : System D) → record { base = base; geometry = geometry; processes = procs; time = time } ≡ fs → (held : Result (StoreView D) D) → base ≡ Some held
-        → (disk : D) → disk ≡ disk_after held → HasDisk fs.base disk
-    disk_given fs view_is held is disk given =
-        subst (λ (x : System D). HasDisk x.base disk) view_is (subst (λ (b : Base D). HasDisk b disk) (sym is) (sym given))
+    -- it has one
+    pub has_disk : IsSystem state (record { base = base; geometry = geometry; processes = procs; time = time }) → (disk : D) × HasDisk base disk
+    has_disk was = the_disk (record { base = base; geometry = geometry; processes = procs; time = time }) was.in_some.0 was.in_some.1
 
-    pub disk_mounts : (held : Result (StoreView D) D) → base ≡ Some held → (disk : D) → disk ≡ disk_after held
-        → IsSystem state (record { base = base; geometry = geometry; processes = procs; time = time }) → EachStandsForSome (state disk)
-    disk_mounts held is disk given was =
-        subst (λ (d : D). EachStandsForSome (state d)) (sym given) (subst (λ (b : Base D). EachStandsForSome (disk_in state b)) is was.mountable)
+    module _ (disk : D) (has : HasDisk base disk) where
+      pub disk_given : (fs : System D) → record { base = base; geometry = geometry; processes = procs; time = time } ≡ fs → HasDisk fs.base disk
+      disk_given fs view_is = subst (λ (x : System D). HasDisk x.base disk) view_is has
+
+      pub disk_mounts : IsSystem state (record { base = base; geometry = geometry; processes = procs; time = time }) → EachStandsForSome (state disk)
+      disk_mounts was = seen_in EachStandsForSome base disk has was.mountable
 
   -- ---- events of the machine
 

@@ -25,7 +25,7 @@ use Rattle.fs_model.proofs.FreeInodes.{free_are_clear}
 use Rattle.fs_system.specs.declared.counted.FreeSpace.{FreeSpace}
 use Rattle.fs_system.specs.Counting.{TellsSpace, IsRemembered, TellsCounts, HasCounts, TxnKnows}
 use Rattle.fs_system.specs.Layouts.{IsDiskOf}
-use Rattle.fs_system.specs.Seen.{IsRunning}
+use Rattle.fs_system.specs.Running.{IsRunning}
 use Rattle.fs_system.proofs.Ends.{running_same, tree_held}
 
 some_same : (p q : Geometry) (x y : Option Geometry) → x ≡ Some p → y ≡ Some q → x ≡ y → p ≡ q
@@ -34,7 +34,8 @@ some_same p q x y e f g = cc
 -- a disk is laid out in one way
 one_geometry : (size : ℕ) (map : SectorMap) (p q : Geometry) → IsDiskOf size p map → IsDiskOf size q map → p ≡ q
 one_geometry size map p q x y =
-    let super : x.super ≡ y.super = same_spelling 512 FitsSuper super_bytes super_of super_codec x.super y.super x.super_fits y.super_fits (sym x.super_is ∙ y.super_is) in
+    let super : x.super ≡ y.super =
+    same_spelling 512 FitsSuper super_bytes super_of super_codec x.super y.super x.super_fits y.super_fits (sym x.super_is ∙ y.super_is) in
     some_same p q _ _ x.has_geometry y.has_geometry (ap (λ v. geometry_in v.version v.header size v.inodes) super)
 
 -- what was counted is so of each state of this map
@@ -45,11 +46,13 @@ counted_tells size p map processes s r free all clear = record {
   inodes = λ q others t on.
       let held = tree_held q map others t on.state_of in
       ap (λ (k : Room). free_inodes k t.tree) on.state_of.same_room ∙ free_are_clear q map t.tree held.holds held.tree_is
-      ∙ ap (λ (k : Geometry). count_by (λ n. not (bit map k.inode_bitmap n)) (range_with_len 0 k.inodes)) (one_geometry size map q p on.disk_is r.disk_is) ∙ sym clear;
+      ∙ ap (λ (k : Geometry). count_by (λ n. not (bit map k.inode_bitmap n)) (range_with_len 0 k.inodes))
+      (one_geometry size map q p on.disk_is r.disk_is) ∙ sym clear;
 }
 
 -- What is told of the free space holds of the same map.
-pub tells_after : (size size' : ℕ) (old new : SectorMap) (free : FreeSpace) → size' ≡ size → SameMap new old → TellsSpace size old free → TellsSpace size' new free
+pub tells_after : (size size' : ℕ) (old new : SectorMap) (free : FreeSpace) → size' ≡ size → SameMap new old
+    → TellsSpace size old free → TellsSpace size' new free
 tells_after size size' old new free sized same told = record {
   sectors = λ p processes s r. told.sectors p processes s (running_same size' size p new old processes processes s (sym sized) (same_back new old same) refl r);
   inodes = λ p processes s r. told.inodes p processes s (running_same size' size p new old processes processes s (sym sized) (same_back new old same) refl r);
@@ -90,9 +93,11 @@ counts_put old new counts n content puts some none told = λ m past. elim (cases
 ]
 
 -- ---- what a transaction knows, step by step
-module _ {size size' : ℕ} {before before' now now' : SectorMap} {free : Option FreeSpace} {is_changed : Bool} (sized : size' ≡ size) (same : (n : ℕ) → before' n ≡ before n) where
+module _ {size size' : ℕ} {before before' now now' : SectorMap} {free : Option FreeSpace} {is_changed : Bool}
+    (sized : size' ≡ size) (same : (n : ℕ) → before' n ≡ before n) where
   -- after a read
-  pub knows_after : (counts : CountList) → ((n : ℕ) → now' n ≡ now n) → TxnKnows size before now free is_changed counts → TxnKnows size' before' now' free is_changed counts
+  pub knows_after : (counts : CountList) → ((n : ℕ) → now' n ≡ now n) → TxnKnows size before now free is_changed counts
+      → TxnKnows size' before' now' free is_changed counts
   knows_after counts steady knows =
       let as_now : now ≡ now' = λ i n. sym (steady n) i in
       let as_before : before ≡ before' = λ i n. sym (same n) i in
@@ -109,7 +114,8 @@ module _ {size size' : ℕ} {before before' now now' : SectorMap} {free : Option
   knows_put old new n content puts some none others knows = record {
     space = remembered_after size size' before before' free sized (λ n part. same n) knows.space;
     unchanged = λ is. absurd cc;
-    counts_before = subst (λ (m : SectorMap). TellsCounts m new) (λ i n. sym (same n) i) (tells_set (header_of (before 0)) before old new n None tt (inl none) others knows.counts_before);
+    counts_before = subst (λ (m : SectorMap). TellsCounts m new) (λ i n. sym (same n) i)
+        (tells_set (header_of (before 0)) before old new n None tt (inl none) others knows.counts_before);
     counts_now = counts_put now now' new n content puts some none (tells_set (header_of (now 0)) now old new n None tt (inl none) others knows.counts_now);
   }
 

@@ -15,7 +15,7 @@ use Rattle.fs_model.specs.Processes.{ProcessTable}
 use Rattle.fs_model.specs.States.{State}
 use Rattle.fs_model.specs.Trees.{free_inodes}
 use Rattle.fs_system.specs.declared.counted.FreeSpace.{FreeSpace}
-use Rattle.fs_system.specs.Seen.{IsRunning}
+use Rattle.fs_system.specs.Running.{IsRunning}
 
 -- On a disk of so many sectors these are the free sectors and inodes of each state in which the map goes on.
 pub record TellsSpace (size : ℕ) (map : SectorMap) (free : FreeSpace) : Type 0 where
@@ -29,7 +29,7 @@ IsRemembered size map free = IfSome free (TellsSpace size map)
 abbrev pub TellsCounts : SectorMap → CountList → Type 0
 TellsCounts map counts = TellsClear (header_of (map 0)) map counts
 
--- The same of a transaction. Its disk says where the log ends.
+-- The counts that are known are those of what the sectors of a transaction are now. Its disk says where the log ends.
 pub record HasCounts (txn : TxnState) (counts : CountList) : Type 0 where
   pub told : TellsClear txn.header txn.sectors counts
 

@@ -1,5 +1,6 @@
 pub mod Doing
 pub mod Seen
+pub mod Running
 pub mod Replies
 pub mod Playing
 pub mod Mounts

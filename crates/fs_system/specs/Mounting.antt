@@ -5,7 +5,7 @@
 --     IsFaultOfCheck, fault_of        the fault of a mount for that of a check, and for the machine's
 --     is_halted        whether a commit has failed
 --     LeavesHalted        what is halted stays, with its disk
-use Rattle.std.specs.Prelude.{◌≡◌, ◌≢◌, ◌⊎◌, Bool, true, false, Some, IsTrue, Result, Ok, Err}
+use Rattle.std.specs.Prelude.{◌≡◌, ◌≢◌, ◌⊎◌, Bool, true, false, IsTrue, Result, Ok, Err}
 use Rattle.sector_disk.specs.Disk.{DiskState, Image, IsImage}
 use Rattle.sector_txn.specs.Stores.{StoreView}
 use Rattle.fs_model.specs.declared.event.RestartFault.{RestartFault}
@@ -14,7 +14,9 @@ use Rattle.fs_check.specs.declared.faults.CheckFault.{CheckFault}
 use Rattle.fs_check.specs.declared.faults.CheckFault.TheVariants as checks
 use Rattle.fs_system.specs.declared.faults.MountFault.{MountFault}
 use Rattle.fs_system.specs.declared.faults.MountFault.TheVariants.{NotAFileSystem, Damaged, DiskFault, OutOfMemory}
-use Rattle.fs_system.specs.Seen.{Base, System, disk_in, IsInSomeState}
+use Rattle.fs_system.specs.declared.base.Base.{Base}
+use Rattle.fs_system.specs.declared.base.Base.TheVariants.{Halted}
+use Rattle.fs_system.specs.Seen.{System, disk_in, IsInSomeState}
 use Rattle.fs_images.specs.Standing.{EachStandsForSome, StandsAsPruned}
 
 -- the image stands for what one from before it stood for, but for files without names
@@ -48,7 +50,7 @@ disk_of_store (Err fault) = fault.1
 
 -- a commit has failed
 abbrev pub is_halted : {D : Type 0} → Base D → Bool
-is_halted (Some (Err broken)) = true
+is_halted (Halted broken) = true
 is_halted _ = false
 
 -- A halted file system doesn't call its disk: it is the one of before.

@@ -4,22 +4,24 @@
 --     MayMount        what a stop leaves may be mounted
 --     Plays        some events, one after another
 --     IsOfRestart        a fault of the device or of memory
-use Rattle.std.specs.Prelude.{◌≡◌, ◌⊎◌, List, None, Some, Result, Ok, Err}
+use Rattle.std.specs.Prelude.{◌≡◌, ◌⊎◌, List, Result, Ok, Err}
 use Rattle.sector_disk.specs.Disk.{DiskState}
-use Rattle.sector_txn.specs.Stores.{disk_after}
 use Rattle.fs_model.specs.declared.event.Event.{Event}
 use Rattle.fs_model.specs.declared.event.EventReply.{EventReply}
 use Rattle.fs_system.specs.declared.faults.MountFault.{MountFault}
 use Rattle.fs_system.specs.declared.faults.MountFault.TheVariants as mounts
 use Rattle.fs_system.specs.Histories.{Config, Up, Off, History}
-use Rattle.fs_system.specs.Seen.{System, Base, IsIn}
+use Rattle.fs_system.specs.declared.base.Base.{Base}
+use Rattle.fs_system.specs.declared.base.Base.TheVariants.{Running, Halted, Taken}
+use Rattle.fs_system.specs.Seen.{System, IsIn}
 use Rattle.fs_images.specs.Standing.{EachStandsForSome}
 
 -- ---- what is served: a file system, or the disk alone
 
 abbrev pub HasDisk : {D : Type 0} → Base D → D → Type 0
-HasDisk None disk = ⊥
-HasDisk (Some base) disk = disk_after base ≡ disk
+HasDisk (Running store) disk = store.disk ≡ disk
+HasDisk (Halted broken) disk = broken ≡ disk
+HasDisk Taken disk = ⊥
 
 abbrev pub HasDiskOf : {D : Type 0} → Result (System D) D → D → Type 0
 HasDiskOf (Ok fs) disk = HasDisk fs.base disk

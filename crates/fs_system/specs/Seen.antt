@@ -1,22 +1,24 @@
 -- How a file system is seen, and which state it is in.
+--     base_left        what stands in the place of a store after an event
 --     System, disk_in        what a contract sees of one, and its disk
---     IsRunning, IsOn        a store goes on in a state; so does a file system, or it is halted
+--     IsOn        it goes on in a state, or is halted
 --     IsIn, IsInSomeState        the file system is in this state, or in some
-use Rattle.std.specs.Prelude.{◌≡◌, ℕ, [], Option, None, Some, Result, Ok, Err, IsTrue}
+use Rattle.std.specs.Prelude.{◌≡◌, ℕ, [], Result, Ok, Err, IsTrue}
 use Rattle.sector_disk.specs.Disk.{DiskState}
 use Rattle.fs_layout.specs.declared.geometry.Geometry.{Geometry}
-use Rattle.fs_layout.specs.Bytes.{SectorMap}
-use Rattle.sector_txn.specs.Stores.{StoreView, present, disk_after}
+use Rattle.sector_txn.specs.Stores.{StoreView, present}
 use Rattle.fs_model.specs.Processes.{ProcessTable}
 use Rattle.fs_model.specs.States.{State}
-use Rattle.call_parts.specs.Performing.{IsStateOf}
-use Rattle.fs_system.specs.Layouts.{IsDiskOf}
+use Rattle.fs_system.specs.declared.base.Base.{Base}
+use Rattle.fs_system.specs.declared.base.Base.TheVariants.{Running, Halted, Taken}
+use Rattle.fs_system.specs.Running.{IsRunning}
 
--- a store, or the disk that a commit which failed has left; inside an event there is neither
-abbrev pub Base : Type 0 → Type 0
-Base D = Option (Result (StoreView D) D)
+-- a store that is flushed or whose changes are kept goes on, and a commit that fails halts
+abbrev pub base_left : {D : Type 0} → Result (StoreView D) D → Base D
+base_left (Ok store) = Running store
+base_left (Err broken) = Halted broken
 
--- that, where the parts of its disk lie, its processes, and the time as it was told last
+-- what it stands on, where the parts of its disk lie, its processes, and the time as it was told last
 pub record System (D : Type 0) : Type 0 where
   pub base : Base D
   pub geometry : Geometry
@@ -37,19 +39,15 @@ no_disk = record {
 
 -- the disk, where there is one
 abbrev pub disk_in : {D : Type 0} → (D → DiskState) → Base D → DiskState
-disk_in state None = no_disk
-disk_in state (Some base) = state (disk_after base)
-
--- On a disk of so many sectors the map is laid out so, and holds the state's tree.
-pub record IsRunning (size : ℕ) (p : Geometry) (map : SectorMap) (processes : ProcessTable) (s : State) : Type 0 where
-  pub disk_is : IsDiskOf size p map
-  pub state_of : IsStateOf p map processes s
+disk_in state (Running store) = state store.disk
+disk_in state (Halted broken) = state broken
+disk_in state Taken = no_disk
 
 -- A file system goes on in this state, at this time, or is halted. Of a halted one nothing more is known.
 abbrev pub IsOn : {D : Type 0} → (D → DiskState) → Geometry → ℕ → ProcessTable → Base D → State → Type 0
-IsOn state p time processes None s = ⊥
-IsOn state p time processes (Some (Ok store)) s = IsRunning (state store.disk).size p (present state store) processes s × (s.now ≡ time)
-IsOn state p time processes (Some (Err broken)) s = IsTrue s.halted
+IsOn state p time processes (Running store) s = IsRunning (state store.disk).size p (present state store) processes s × (s.now ≡ time)
+IsOn state p time processes (Halted broken) s = IsTrue s.halted
+IsOn state p time processes Taken s = ⊥
 
 -- the file system is in this state
 abbrev pub IsIn : {D : Type 0} → (D → DiskState) → System D → State → Type 0

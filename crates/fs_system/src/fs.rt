@@ -1,23 +1,24 @@
 //! A file system on a disk.
 
-ghost use Rattle.std.specs.Prelude.{◌≡◌, ◌≤◌, ℕ, None, Some, Ok, IfOk, IfErr, IsTrue};
+ghost use Rattle.std.specs.Prelude.{◌≡◌, ◌≤◌, None, Some, IfOk, IfErr};
 ghost use Rattle.sector_disk.specs.Disk.{IsSame, ForgetsPast, Elapses, HasCause, HasFailed, LeavesOnly};
 ghost use Rattle.redo_journal.specs.Meaning.{SameMap, EachReadsAs, MeansAsBefore, data_of};
 ghost use Rattle.redo_journal.specs.States.{IsIdle};
-ghost use Rattle.sector_txn.specs.Stores.{StoreView, present, disk_after};
-ghost use Rattle.fs_model.specs.Processes.{ProcessTable};
+ghost use Rattle.sector_txn.specs.Stores.{present};
 ghost use Rattle.fs_model.specs.States.{State};
 ghost use Rattle.fs_model.specs.declared.event.Event.{Event};
 ghost use Rattle.fs_model.specs.declared.event.Event.TheVariants.{Spawn, Exit, Call as Calls, Enter, Stamp, Clock, Fsync, Sync, Statfs};
 ghost use Rattle.fs_system.specs.Playing.{HasDisk};
 ghost use Rattle.fs_system.specs.Mounts.{Mounts, FailsToMount, IsNotMounted};
 ghost use Rattle.fs_system.specs.Mounting.{StandsAsBefore, disk_mounted, disk_of_store, is_halted, LeavesHalted};
-ghost use Rattle.fs_system.specs.Seen.{disk_in, IsOn, IsIn, IsInSomeState};
+ghost use Rattle.fs_system.specs.declared.base.Base.TheVariants.{Halted};
+ghost use Rattle.fs_system.specs.Seen.{disk_in, IsIn, IsInSomeState};
 ghost use Rattle.fs_images.specs.Standing.{StandsForSome, EachStandsForSome, HasPartsAt};
 ghost use Rattle.fs_system.specs.Doing.{Happens, HappensLast, FlushesFor};
 ghost use Rattle.fs_system.specs.Replies.{spawned, finished, unmounted, counted, stamped_reply};
 ghost use Rattle.fs_model.specs.declared.event.RestartFault.TheVariants.{DiskFault as Device};
 
+use crate::base::Base;
 use crate::counted::CountedStore;
 use crate::faults::MountFault;
 use crate::stored::{count_space, enter_kept, exit_kept, failed, perform_kept, stamp_kept};
@@ -28,7 +29,7 @@ use fs_cred::{Cred, Errno};
 use fs_layout::{Geometry, Super};
 use fs_model::{Call, Reply, RestartFault, Stamps};
 use open_files::Procs;
-use redo_journal::{Broken, Journal, OpenFault};
+use redo_journal::{Journal, OpenFault};
 use sector_disk::{CrashDisk, Disk, DiskFault};
 use sector_txn::Store;
 use std::alloc::Global;
@@ -40,8 +41,8 @@ use std::marker::Model;
 /// first. After a commit that fails it is halted: each call answers EIO, and the disk isn't called any more.
 #[derive(Drop)]
 pub struct Fs<D: Disk> {
-    // A store, or what a commit that failed has left. It is away only while an event happens to the store.
-    base: Option<Result<CountedStore<D>, Broken<D>>>,
+    // It is taken only while an event happens to the store.
+    base: Base<D>,
     geometry: Geometry,
     procs: Procs,
     // In nanoseconds since 1970; 0 until it is told.
@@ -102,55 +103,6 @@ fn open_store<D: Disk + Drop>(alloc: Global, disk: D) -> Result<Store<D>, (Resta
     }
 }
 
-// Takes the store out of a file system that isn't halted. What its event leaves is to be put in its place.
-fn take_store<D: Disk + Drop>(
-    base: &mut Option<Result<CountedStore<D>, Broken<D>>>,
-) -> CountedStore<D>
-    requires { (store : StoreView D) × base.old ≡ Some (Ok store) }
-    ensures { base.old ≡ Some (Ok result) }
-{
-    match base.take() {
-        Some(Ok(store)) => store,
-        Some(Err(_)) | None => unreachable!(),
-    }
-}
-
-// Puts what an event leaves in the place of the store that it took.
-fn put_base<D: Disk + Drop>(
-    base: &mut Option<Result<CountedStore<D>, Broken<D>>>,
-    left: Result<CountedStore<D>, Broken<D>>,
-)
-    ensures { base.new ≡ Some left }
-{
-    *base = Some(left);
-}
-
-// Lets this many writes and syncs of the disk pass, and fails all later ones.
-fn arm_disk<D: CrashDisk>(base: &mut Result<CountedStore<D>, Broken<D>>, passes: u64)
-    ensures stays { (p : Geometry) (time : ℕ) (processes : ProcessTable) (s : State)
-        → IsOn D.state p time processes (Some base.old) s → IsOn D.state p time processes (Some base.new) s }
-    ensures same { IsSame (D.state (disk_after base.old)) (D.state (disk_after base.new)) }
-    ensures failures { (D.state (disk_after base.new)).failures ≡ (D.state (disk_after base.old)).failures }
-    ensures armed { D.armed (disk_after base.new) ≡ Some passes }
-{
-    match base {
-        Ok(store) => store.arm(passes),
-        Err(broken) => broken.arm(passes),
-    }
-}
-
-// The disk of a store, or of what a commit that failed has left, lets go of its past.
-fn forget_past<D: Disk>(base: &mut Result<CountedStore<D>, Broken<D>>)
-    ensures stays { (p : Geometry) (time : ℕ) (processes : ProcessTable) (s : State)
-        → IsOn D.state p time processes (Some base.old) s → IsOn D.state p time processes (Some base.new) s }
-    ensures past { ForgetsPast (D.state (disk_after base.old)) (D.state (disk_after base.new)) }
-{
-    match base {
-        Ok(store) => store.forget(),
-        Err(broken) => broken.forget(),
-    }
-}
-
 impl<D: Disk + Drop> Fs<D> {
     // Mounts a disk that stands for a tree.
     fn mount_checked(alloc: Global, disk: D) -> Result<Fs<D>, (RestartFault, D)>
@@ -169,7 +121,7 @@ impl<D: Disk + Drop> Fs<D> {
         match open_store(alloc, disk) {
             Ok(store) => match sweep(store, geometry) {
                 Ok(store) => Ok(Fs {
-                    base: Some(Ok(CountedStore::uncounted(store, counts))),
+                    base: Base::Running(CountedStore::uncounted(store, counts)),
                     geometry,
                     procs: Procs::new(alloc),
                     time: 0,
@@ -220,7 +172,7 @@ impl<D: Disk + Drop> Fs<D> {
     fn is_halted(&self) -> bool
         ensures { result ≡ is_halted self.now.base }
     {
-        matches!(self.base, Some(Err(_)))
+        self.base.is_halted()
     }
 
     /// A new process. Its number is not that of another one; numbers begin with 1.
@@ -271,9 +223,9 @@ impl<D: Disk + Drop> Fs<D> {
         if self.is_halted() {
             return Err(Errno::EIO);
         }
-        let store = take_store(&mut self.base);
+        let store = self.base.take();
         let (done, base) = exit_kept(store, self.geometry, &mut self.procs, pid);
-        put_base(&mut self.base, base);
+        self.base.put(base);
         done
     }
 
@@ -293,7 +245,7 @@ impl<D: Disk + Drop> Fs<D> {
         if self.is_halted() {
             return Err(Errno::EIO);
         }
-        let store = take_store(&mut self.base);
+        let store = self.base.take();
         let (done, store) = enter_kept(
             store,
             self.geometry,
@@ -302,7 +254,7 @@ impl<D: Disk + Drop> Fs<D> {
             dir_ino,
             second_ino,
         );
-        put_base(&mut self.base, Ok(store));
+        self.base.put(Ok(store));
         done
     }
 
@@ -345,7 +297,7 @@ impl<D: Disk + Drop> Fs<D> {
         if self.is_halted() {
             return Err(Errno::EIO);
         }
-        let store = take_store(&mut self.base);
+        let store = self.base.take();
         let (stamps, base) = stamp_kept(
             store,
             self.geometry,
@@ -355,7 +307,7 @@ impl<D: Disk + Drop> Fs<D> {
             mtime,
             ctime,
         );
-        put_base(&mut self.base, base);
+        self.base.put(base);
         stamps
     }
 
@@ -369,7 +321,7 @@ impl<D: Disk + Drop> Fs<D> {
         if self.is_halted() {
             return failed(Errno::EIO);
         }
-        let store = take_store(&mut self.base);
+        let store = self.base.take();
         let (reply, base) = perform_kept(
             self.alloc,
             store,
@@ -379,7 +331,7 @@ impl<D: Disk + Drop> Fs<D> {
             pid,
             call,
         );
-        put_base(&mut self.base, base);
+        self.base.put(base);
         reply
     }
 
@@ -391,13 +343,13 @@ impl<D: Disk + Drop> Fs<D> {
         if self.is_halted() {
             return Err(Errno::EIO);
         }
-        match take_store(&mut self.base).flush() {
+        match self.base.take().flush() {
             Ok(store) => {
-                put_base(&mut self.base, Ok(store));
+                self.base.put(Ok(store));
                 Ok(())
             }
             Err(broken) => {
-                put_base(&mut self.base, Err(broken));
+                self.base.put(Err(broken));
                 Err(Errno::EIO)
             }
         }
@@ -446,9 +398,9 @@ impl<D: Disk + Drop> Fs<D> {
         if self.is_halted() {
             return Err(Errno::EIO);
         }
-        let store = take_store(&mut self.base);
+        let store = self.base.take();
         let (free, store) = count_space(store, self.geometry, &self.procs);
-        put_base(&mut self.base, Ok(store));
+        self.base.put(Ok(store));
         free
     }
 
@@ -462,10 +414,7 @@ impl<D: Disk + Drop> Fs<D> {
         ensures processes { self.new.processes ≡ self.old.processes }
         ensures past { ForgetsPast (disk_in D.state self.old.base) (disk_in D.state self.new.base) }
     {
-        let Some(base) = &mut self.base else {
-            unreachable!()
-        };
-        forget_past(base);
+        self.base.forget_past();
     }
 
     /// Makes stable what was done before, and gives the disk back clean, without a commit; with an error as it is: EIO, where the
@@ -473,17 +422,17 @@ impl<D: Disk + Drop> Fs<D> {
     pub fn unmount(self) -> (D, Option<Errno>)
         ensures does { HappensLast D.state self result.0 Sync (unmounted result.1) }
         ensures clean { result.1 ≡ None → IsIdle (D.state result.0) }
-        ensures halted { (disk : D) → self.base ≡ Some (Err disk) → result.0 ≡ disk }
+        ensures halted { (disk : D) → self.base ≡ Halted disk → result.0 ≡ disk }
         ensures again { EachStandsForSome (D.state result.0) }
     {
         let Fs { base, .. } = self;
         match base {
-            Some(Ok(store)) => match store.close() {
+            Base::Running(store) => match store.close() {
                 Ok(disk) => (disk, None),
                 Err(broken) => (broken.into_disk(), Some(Errno::EIO)),
             },
-            Some(Err(broken)) => (broken.into_disk(), Some(Errno::EIO)),
-            None => unreachable!(),
+            Base::Halted(broken) => (broken.into_disk(), Some(Errno::EIO)),
+            Base::Taken => unreachable!(),
         }
     }
 
@@ -493,11 +442,7 @@ impl<D: Disk + Drop> Fs<D> {
         ensures again { EachStandsForSome (D.state result) }
     {
         let Fs { base, .. } = self;
-        match base {
-            Some(Ok(store)) => store.into_disk(),
-            Some(Err(broken)) => broken.into_disk(),
-            None => unreachable!(),
-        }
+        base.into_disk()
     }
 }
 
@@ -509,9 +454,6 @@ impl<D: CrashDisk + Drop> Fs<D> {
         ensures failures { (disk_in D.state self.new.base).failures ≡ (disk_in D.state self.old.base).failures }
         ensures armed { (disk : D) → HasDisk self.new.base disk → D.armed disk ≡ Some passes }
     {
-        let Some(base) = &mut self.base else {
-            unreachable!()
-        };
-        arm_disk(base, passes);
+        self.base.arm(passes);
     }
 }

@@ -2,6 +2,7 @@
 #![tactic(auto)]
 
 mod answering;
+mod base;
 mod calls;
 mod counted;
 mod faults;

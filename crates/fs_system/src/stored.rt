@@ -1,11 +1,12 @@
 //! What events do to a store.
 
-ghost use Rattle.std.specs.Prelude.{◌≡◌, Ok, Err, Some, IsTrue, IfOk};
-ghost use Rattle.sector_disk.specs.Disk.{HasCause};
+ghost use Rattle.std.specs.Prelude.{◌≡◌};
 ghost use Rattle.sector_txn.specs.Stores.{present, disk_after};
 ghost use Rattle.fs_model.specs.States.{State};
 ghost use Rattle.fs_model.specs.declared.event.Event.TheVariants.{Call as Calls, Enter, Exit, Stamp, Statfs};
-ghost use Rattle.fs_system.specs.Seen.{IsRunning, IsOn};
+ghost use Rattle.fs_system.specs.declared.base.Base.TheVariants.{Running};
+ghost use Rattle.fs_system.specs.Running.{IsRunning};
+ghost use Rattle.fs_system.specs.Seen.{IsOn, base_left};
 ghost use Rattle.fs_system.specs.Doing.{Does};
 ghost use Rattle.fs_system.specs.Replies.{finished, counted, stamped_reply};
 ghost use Rattle.fs_model.specs.declared.reply.Reply.TheVariants.{Refused};
@@ -43,7 +44,7 @@ pub(crate) fn perform_kept<D: Disk>(
 ) -> (Reply, Result<CountedStore<D>, Broken<D>>)
     requires running { (s : State) × IsRunning (D.state store.disk).size geometry (present D.state store) procs.old s }
     ensures does { (s : State) → IsRunning (D.state store.disk).size geometry (present D.state store) procs.old s → s.now ≡ now
-        → (t : State) × IsOn D.state geometry s.now procs.new (Some result.1) t
+        → (t : State) × IsOn D.state geometry s.now procs.new (base_left result.1) t
         × Does (D.state store.disk) (D.state (disk_after result.1)) s (Calls pid call.now) result.0 t }
 {
     call_is_in_range(call);
@@ -67,7 +68,7 @@ pub(crate) fn exit_kept<D: Disk>(
 ) -> (Result<(), Errno>, Result<CountedStore<D>, Broken<D>>)
     requires running { (s : State) × IsRunning (D.state store.disk).size geometry (present D.state store) procs.old s }
     ensures does { (s : State) → IsRunning (D.state store.disk).size geometry (present D.state store) procs.old s
-        → (t : State) × IsOn D.state geometry s.now procs.new (Some result.1) t
+        → (t : State) × IsOn D.state geometry s.now procs.new (base_left result.1) t
         × Does (D.state store.disk) (D.state (disk_after result.1)) s (Exit pid) (finished result.0) t }
 {
     let mut txn = store.begin();
@@ -92,7 +93,7 @@ pub(crate) fn enter_kept<D: Disk>(
 ) -> (Result<(), Errno>, CountedStore<D>)
     requires running { (s : State) × IsRunning (D.state store.disk).size geometry (present D.state store) procs.old s }
     ensures does { (s : State) → IsRunning (D.state store.disk).size geometry (present D.state store) procs.old s
-        → (t : State) × IsOn D.state geometry s.now procs.new (Some (Ok result.1)) t
+        → (t : State) × IsOn D.state geometry s.now procs.new (Running result.1) t
         × Does (D.state store.disk) (D.state result.1.disk) s (Enter pid dir_ino second_ino) (finished result.0) t }
 {
     let mut txn = store.begin();
@@ -112,7 +113,7 @@ pub(crate) fn stamp_kept<D: Disk>(
 ) -> (Result<Stamps, Errno>, Result<CountedStore<D>, Broken<D>>)
     requires running { (s : State) × IsRunning (D.state store.disk).size geometry (present D.state store) procs.now s }
     ensures does { (s : State) → IsRunning (D.state store.disk).size geometry (present D.state store) procs.now s
-        → (t : State) × IsOn D.state geometry s.now procs.now (Some result.1) t
+        → (t : State) × IsOn D.state geometry s.now procs.now (base_left result.1) t
         × Does (D.state store.disk) (D.state (disk_after result.1)) s (Stamp ino atime mtime ctime) (stamped_reply result.0) t }
 {
     let _processes = procs;

@@ -5,7 +5,7 @@ use Rattle.sector_txn.specs.Stores.{StoreView, present, map_before, map_now}
 use Rattle.fs_model.specs.declared.event.Event.TheVariants.{Statfs}
 use Rattle.fs_model.specs.declared.reply.Reply.TheVariants.{Space}
 use Rattle.fs_system.specs.Doing.{Does}
-use Rattle.fs_system.specs.Seen.{IsRunning}
+use Rattle.fs_system.specs.Running.{IsRunning}
 use Rattle.fs_system.proofs.Ends.{running_same, does_told, does_uncounted}
 use Rattle.fs_system.proofs.Kept.{begins, begun_again, of_stores, reads_alone, runs_on}
 use Rattle.fs_system.proofs.Remembered.{counted_tells, tells_after}

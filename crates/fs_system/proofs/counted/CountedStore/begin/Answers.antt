@@ -13,7 +13,8 @@ invariant_of-result g c =
     record {
       space = remembered_after (state old.disk).size (state new.disk).size (present state old) (map_before state new) c.self.inside.free
           (ap (λ disk. (state disk).size) begun.disk) begun.before c.self.invariant.space;
-      unchanged = λ unchanged. same_chain (map_now state new) (present state old) (map_before state new) begun.map (same_back (map_before state new) (present state old) begun.before);
+      unchanged = λ unchanged. same_chain (map_now state new) (present state old) (map_before state new) begun.map
+          (same_back (map_before state new) (present state old) begun.before);
       counts_before = counts_after (present state old) (map_before state new) c.self.inside.counts begun.before c.self.invariant.counts_are;
       counts_now = counts_after (present state old) (map_now state new) c.self.inside.counts begun.map c.self.invariant.counts_are;
     }

@@ -3,15 +3,12 @@ use Rattle.fs_system.proofs.fs.Fs.forget.Goals as goal
 
 pub invariant_of-self : goal.invariant_of-self
 invariant_of-self g c =
-    forgot_system g.D.Disk.state c.self.inside.base c.self.inside.geometry c.self.inside.procs c.self.inside.time c.in-Some.base c.forget_past.new.base
-    c.in-Some.is c.forget_past.ensures.past.same c.forget_past.ensures.stays c.self.invariant
+    forgot_system g.D.Disk.state c.self.inside.base c.forget_past.new.self c.self.inside.geometry c.self.inside.procs c.self.inside.time c.forget_past.ensures.past.same c.forget_past.ensures.stays c.self.invariant
 
 pub returns-clause-state : goal.returns-clause-state
 returns-clause-state g c =
-    forgot_state g.D.Disk.state c.self.inside.base c.self.inside.geometry c.self.inside.procs c.self.inside.time c.in-Some.base c.forget_past.new.base
-    c.in-Some.is c.forget_past.ensures.past.same c.forget_past.ensures.stays c.args.self.now c.self.view_is
+    forgot_state g.D.Disk.state c.self.inside.base c.forget_past.new.self c.self.inside.geometry c.self.inside.procs c.self.inside.time c.forget_past.ensures.past.same c.forget_past.ensures.stays c.args.self.now c.self.view_is
 
 pub returns-clause-past : goal.returns-clause-past
 returns-clause-past g c =
-    forgot_past g.D.Disk.state c.self.inside.base c.self.inside.geometry c.self.inside.procs c.self.inside.time c.in-Some.base c.forget_past.new.base
-    c.in-Some.is c.forget_past.ensures.past.same c.forget_past.ensures.stays c.args.self.now c.self.view_is c.forget_past.ensures.past
+    forgot_past g.D.Disk.state c.self.inside.base c.forget_past.new.self c.self.inside.geometry c.self.inside.procs c.self.inside.time c.forget_past.ensures.past.same c.forget_past.ensures.stays c.args.self.now c.self.view_is c.forget_past.ensures.past

@@ -1,4 +1,4 @@
-use Rattle.std.proofs.Common.{Some, Ok, sym, subst, arith, ◌∙◌}
+use Rattle.std.proofs.Common.{sym, subst, arith, ◌∙◌}
 use Rattle.sector_disk.specs.Disk.{LeavesOnly}
 use Rattle.sector_disk.proofs.Moments.{failed_later}
 use Rattle.fs_layout.specs.Geometry.{IsGeometry}
@@ -7,6 +7,7 @@ use Rattle.sector_txn.specs.Stores.{StoreView, present}
 use Rattle.fs_model.specs.States.{State}
 use Rattle.fs_system.specs.Mounting.{IsSystem, StandsAsBefore}
 use Rattle.fs_system.specs.Mounts.{Mounts}
+use Rattle.fs_system.specs.declared.base.Base.TheVariants.{Running}
 use Rattle.fs_system.specs.Seen.{IsIn}
 use Rattle.fs_images.proofs.Places.{is_geometry}
 use Rattle.fs_system.proofs.Remembered.{nothing_counted}
@@ -50,7 +51,7 @@ returns-in-Ok-sweep-clause-mounted g c =
     let first = c.read_geometry.ensures.cause.later in
     let then = c.in-Ok-open_store.ensures.later in
     let last = c.in-Ok-sweep.ensures.cause.later in
-    subst (λ (x : StoreView g.row.D.Denot). (s : State) × IsIn g.D.Disk.state (record { base = Some (Ok x); geometry = c.in-Ok.geometry; processes = c.new-in-Ok-sweep.result; time = 0 }) s
+    subst (λ (x : StoreView g.row.D.Denot). (s : State) × IsIn g.D.Disk.state (record { base = Running x; geometry = c.in-Ok.geometry; processes = c.new-in-Ok-sweep.result; time = 0 }) s
     × Mounts (g.D.Disk.state c.args.disk) (g.D.Disk.state x.disk) s) (sym c.uncounted.ensures)
     (mounts_found g.D.Disk.state c.args.disk c.read_geometry.new.disk c.in-Ok-open_store.store (g.met.D.Disk.seen_is_image c.args.disk) c.requires
     c.read_geometry.ensures.same c.in-Ok-open_store.ensures.size c.in-Ok-open_store.ensures.map c.in-Ok-open_store.ensures.lasting c.in-Ok.geometry c.in-Ok.ensures.found
@@ -62,7 +63,7 @@ invariant_of-result g c =
     let first = c.read_geometry.ensures.cause.later in
     let then = c.in-Ok-open_store.ensures.later in
     let last = c.in-Ok-sweep.ensures.cause.later in
-    subst (λ (x : StoreView g.row.D.Denot). IsSystem g.D.Disk.state (record { base = Some (Ok x); geometry = c.in-Ok.geometry; processes = c.new-in-Ok-sweep.result; time = 0 }))
+    subst (λ (x : StoreView g.row.D.Denot). IsSystem g.D.Disk.state (record { base = Running x; geometry = c.in-Ok.geometry; processes = c.new-in-Ok-sweep.result; time = 0 }))
     (sym c.uncounted.ensures)
     (mounted_system g.D.Disk.state c.args.disk c.read_geometry.new.disk c.in-Ok-open_store.store (g.met.D.Disk.seen_is_image c.args.disk) c.requires
     c.read_geometry.ensures.same c.in-Ok-open_store.ensures.size c.in-Ok-open_store.ensures.map c.in-Ok-open_store.ensures.lasting c.in-Ok.geometry c.in-Ok.ensures.found

@@ -9,27 +9,27 @@ pub returns-then-is_halted-clause-does : goal.returns-then-is_halted-clause-does
 returns-then-is_halted-clause-does g c =
     halted_happens g.D.Disk.state g.met.D.Disk.only_now c.args.self.now (Stamp c.args.ino c.args.atime c.args.mtime c.args.ctime) (sym c.is_halted.ensures ∙ c.if-is_halted.true) refl
 
-pub take_store-store-requires : goal.take_store-store-requires
-take_store-store-requires g c =
+pub take-store-requires : goal.take-store-requires
+take-store-requires g c =
     store_there g.D.Disk.state g.met.D.Disk.only_now c.self.inside.base c.self.inside.geometry c.self.inside.procs c.self.inside.time c.args.self.now c.self.view_is
     (sym c.is_halted.ensures ∙ c.if-is_halted.false) c.self.invariant
 
 pub stamp_kept-stamps-requires : goal.stamp_kept-stamps-requires
 stamp_kept-stamps-requires g c = record {
-  running = store_runs g.D.Disk.state g.met.D.Disk.only_now c.self.inside.base c.self.inside.geometry c.self.inside.procs c.self.inside.time c.args.self.now c.self.view_is c.take_store-store.result
-      c.take_store-store.ensures c.self.invariant;
+  running = store_runs g.D.Disk.state g.met.D.Disk.only_now c.self.inside.base c.self.inside.geometry c.self.inside.procs c.self.inside.time c.args.self.now c.self.view_is c.take-store.result
+      c.take-store.ensures c.self.invariant;
 }
 
 pub invariant_of-self : goal.invariant_of-self
 invariant_of-self g c =
-    system_put g.D.Disk.state c.self.inside.geometry c.self.inside.procs c.self.inside.time c.put_base.ensures
-    (kept_system g.D.Disk.state g.met.D.Disk.only_now c.self.inside.base c.self.inside.geometry c.self.inside.procs c.self.inside.time c.args.self.now c.self.view_is c.take_store-store.result
-    c.take_store-store.ensures c.stamp_kept-stamps.result.1 c.self.inside.procs (Stamp c.args.ino c.args.atime c.args.mtime c.args.ctime) (stamped_reply c.stamp_kept-stamps.result.0)
+    system_put g.D.Disk.state c.self.inside.geometry c.self.inside.procs c.self.inside.time c.put.ensures
+    (kept_system g.D.Disk.state g.met.D.Disk.only_now c.self.inside.base c.self.inside.geometry c.self.inside.procs c.self.inside.time c.args.self.now c.self.view_is c.take-store.result
+    c.take-store.ensures c.stamp_kept-stamps.result.1 c.self.inside.procs (Stamp c.args.ino c.args.atime c.args.mtime c.args.ctime) (stamped_reply c.stamp_kept-stamps.result.0)
     (λ s r told. c.stamp_kept-stamps.ensures.does s r) (g.met.D.Disk.counts_now (disk_after c.stamp_kept-stamps.result.1)) c.self.invariant)
 
 pub returns-clause-does : goal.returns-clause-does
 returns-clause-does g c =
-    happens_put g.D.Disk.state c.self.inside.geometry c.self.inside.procs c.self.inside.time c.put_base.ensures c.args.self.now (Stamp c.args.ino c.args.atime c.args.mtime c.args.ctime) (stamped_reply c.stamp_kept-stamps.result.0)
-    (kept_returns g.D.Disk.state g.met.D.Disk.only_now c.self.inside.base c.self.inside.geometry c.self.inside.procs c.self.inside.time c.args.self.now c.self.view_is c.take_store-store.result
-    c.take_store-store.ensures c.stamp_kept-stamps.result.1 c.self.inside.procs (Stamp c.args.ino c.args.atime c.args.mtime c.args.ctime) (stamped_reply c.stamp_kept-stamps.result.0)
+    happens_put g.D.Disk.state c.self.inside.geometry c.self.inside.procs c.self.inside.time c.put.ensures c.args.self.now (Stamp c.args.ino c.args.atime c.args.mtime c.args.ctime) (stamped_reply c.stamp_kept-stamps.result.0)
+    (kept_returns g.D.Disk.state g.met.D.Disk.only_now c.self.inside.base c.self.inside.geometry c.self.inside.procs c.self.inside.time c.args.self.now c.self.view_is c.take-store.result
+    c.take-store.ensures c.stamp_kept-stamps.result.1 c.self.inside.procs (Stamp c.args.ino c.args.atime c.args.mtime c.args.ctime) (stamped_reply c.stamp_kept-stamps.result.0)
     (λ s r told. c.stamp_kept-stamps.ensures.does s r))

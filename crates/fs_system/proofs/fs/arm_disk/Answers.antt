@@ -1,9 +1,0 @@
-use Rattle.std.proofs.Common.{Some, subst}
-use Rattle.fs_system.specs.Seen.{IsOn}
-use Rattle.fs_system.proofs.Forgetting.{store_stays}
-use Rattle.fs_system.proofs.fs.arm_disk.Goals as goal
-
-pub returns-in-Ok-clause-stays : goal.returns-in-Ok-clause-stays
-returns-in-Ok-clause-stays g c = λ p time processes s r.
-    store_stays g.D.Disk.state c.in-Ok.store c.arm.new.self c.arm.ensures.map c.arm.ensures.unchanged p time processes s
-    (subst (λ b. IsOn g.D.Disk.state p time processes (Some b) s) c.in-Ok.is r)
