@@ -33,7 +33,7 @@ fn push_name(alloc: Global, names: &mut Vec<Named>, name: &[u8], ino: u32) -> Re
     Ok(())
 }
 
-// The listing of directory n: itself, its parent, and its names. ENOMEM: there is no memory for it.
+// The listing of directory `ino`: itself, its parent, and its names. ENOMEM: there is no memory for it.
 fn list_slots(alloc: Global, ino: u32, parent: u32, slots: &[Slot]) -> Result<Listing, Refusal>
     ensures shown { IfOk result (λ names. names ≡ (codes ".", ino) ∷ (codes "..", parent) ∷ map name_entry slots.now) }
     ensures fault { IfErr result (λ e. e ≡ Refusal.Failed Errno.ENOMEM) }
@@ -49,7 +49,7 @@ fn list_slots(alloc: Global, ino: u32, parent: u32, slots: &[Slot]) -> Result<Li
     Ok(Listing::new(names))
 }
 
-// The listing of directory n, whose inode this is.
+// The listing of directory `ino`, whose inode this is.
 fn list_names<S: Sectors>(
     s: &mut S,
     caller: &Caller,

@@ -137,7 +137,7 @@ fn cuts(flags: Flags) -> bool
     flags.trunc && flags.write
 }
 
-// Opens what was found at n, which loses its bytes with O_TRUNC.
+// Opens what was found, inode `ino`, which loses its bytes with O_TRUNC.
 fn open_old<S: Sectors>(
     s: &mut S,
     caller: &Caller,

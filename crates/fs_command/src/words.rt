@@ -1,9 +1,11 @@
 //! What the words of the command line ask for.
-ghost use Rattle.std.specs.Prelude.{◌≡◌, MatchResult, IfOk, [], codes, map, string_bytes, false};
-ghost use Rattle.clap.specs.Words.{app_of, found_of, rows_of, rule_of, fault_of, subcommand_rows_of};
+ghost use Rattle.std.specs.Prelude.{◌≡◌, MatchResult, IfOk, Some, [], codes, map, string_bytes, false};
+ghost use Rattle.clap.specs.Takes.{is_given};
+ghost use Rattle.clap.specs.Words.{app_of, first_of, found_of, new_app, one_of, rows_of, rule_of, fault_of, subcommand_rows_of, with_rule};
 ghost use Rattle.fs_command.specs.Words.{command_line, alone, mkfs, format, pack, unpack, run, check, info, upgrade, fuse};
 ghost use Rattle.fs_command.specs.Words.{image, directory, must_be_given, number_option, text_option, flag, words_status};
-ghost use Rattle.fs_command.specs.Words.{HasValues, IsGiven, IsNumberGiven, IsNumberIfGiven, IsFlag, AsksFor, SaysJob, Refuses};
+ghost use Rattle.fs_command.specs.Sizes.{usual_inodes};
+ghost use Rattle.fs_command.specs.Words.{HasValues, IsGiven, IsNumberGiven, IsNumberIfGiven, IsNumberOr, IsFlag, IsSizeFor, AsksFor, SaysJob, Refuses};
 ghost use Rattle.fs_command.specs.Words.{SaysMkfs, SaysFormat, SaysPack, SaysUnpack, SaysRun, SaysCheck, SaysInfo, SaysUpgrade, SaysFuse, HasBadSize, HasBadValue};
 
 use crate::size::{sectors_of_size, usual_inodes};
@@ -256,7 +258,7 @@ fn mkfs_job(alloc: Global, matches: &ArgMatches<'_>) -> Result<Job, AllocError>
     ensures { IfOk result (SaysMkfs (rows_of (found_of matches.now))) }
 {
     Ok(Job::Mkfs {
-        image: Text::new(alloc, matches.get_str("IMAGE").unwrap())?,
+        image: text_given(alloc, matches, "IMAGE")?,
         sectors: matches.get_one::<u32>("sectors").unwrap(),
         inodes: matches.get_one::<u32>("inodes").unwrap(),
     })
@@ -269,13 +271,9 @@ fn format_job(alloc: Global, matches: &ArgMatches<'_>) -> Result<Job, WordsFault
     requires inodes { IsNumberIfGiven 16 1048576 (codes "inodes") (rows_of (found_of matches.now)) }
     ensures { MatchResult result (SaysFormat (rows_of (found_of matches.now))) (HasBadSize (rows_of (found_of matches.now))) }
 {
-    let Some(sectors) = sectors_of_size(matches.get_str("size").unwrap()) else {
-        return Err(WordsFault::BadSize);
-    };
-    let inodes = matches
-        .get_one::<u32>("inodes")
-        .unwrap_or(usual_inodes(sectors));
-    let image = Text::new(alloc, matches.get_str("IMAGE").unwrap())?;
+    let sectors = sectors_given(matches)?;
+    let inodes = inodes_given(matches, sectors);
+    let image = text_given(alloc, matches, "IMAGE")?;
     Ok(Job::Format {
         image,
         sectors,
@@ -293,16 +291,12 @@ fn pack_job(alloc: Global, matches: &ArgMatches<'_>) -> Result<Job, WordsFault>
     requires group { IsNumberIfGiven 0 4294967295 (codes "gid") (rows_of (found_of matches.now)) }
     ensures { MatchResult result (SaysPack (rows_of (found_of matches.now))) (HasBadSize (rows_of (found_of matches.now))) }
 {
-    let Some(sectors) = sectors_of_size(matches.get_str("size").unwrap()) else {
-        return Err(WordsFault::BadSize);
-    };
-    let inodes = matches
-        .get_one::<u32>("inodes")
-        .unwrap_or(usual_inodes(sectors));
+    let sectors = sectors_given(matches)?;
+    let inodes = inodes_given(matches, sectors);
     let user = matches.get_one::<u32>("uid");
     let group = matches.get_one::<u32>("gid");
-    let image = Text::new(alloc, matches.get_str("IMAGE").unwrap())?;
-    let from = Text::new(alloc, matches.get_str("DIR").unwrap())?;
+    let image = text_given(alloc, matches, "IMAGE")?;
+    let from = text_given(alloc, matches, "DIR")?;
     Ok(Job::Pack {
         image,
         from,
@@ -319,9 +313,10 @@ fn unpack_job(alloc: Global, matches: &ArgMatches<'_>) -> Result<Job, AllocError
     requires to { IsGiven (codes "DIR") (rows_of (found_of matches.now)) }
     ensures { IfOk result (SaysUnpack (rows_of (found_of matches.now))) }
 {
-    let image = Text::new(alloc, matches.get_str("IMAGE").unwrap())?;
-    let to = Text::new(alloc, matches.get_str("DIR").unwrap())?;
-    Ok(Job::Unpack { image, to })
+    Ok(Job::Unpack {
+        image: text_given(alloc, matches, "IMAGE")?,
+        to: text_given(alloc, matches, "DIR")?,
+    })
 }
 
 // The job of `run`.
@@ -329,12 +324,10 @@ fn run_job(alloc: Global, matches: &ArgMatches<'_>) -> Result<Job, AllocError>
     requires image { IsGiven (codes "IMAGE") (rows_of (found_of matches.now)) }
     ensures { IfOk result (SaysRun (rows_of (found_of matches.now))) }
 {
-    let image = Text::new(alloc, matches.get_str("IMAGE").unwrap())?;
-    let script = match matches.get_str("SCRIPT") {
-        Some(path) => Some(Text::new(alloc, path)?),
-        None => None,
-    };
-    Ok(Job::Run { image, script })
+    Ok(Job::Run {
+        image: text_given(alloc, matches, "IMAGE")?,
+        script: text_if_given(alloc, matches, "SCRIPT")?,
+    })
 }
 
 // The job of `check`.
@@ -343,8 +336,8 @@ fn check_job(alloc: Global, matches: &ArgMatches<'_>) -> Result<Job, AllocError>
     requires explain { IsFlag (codes "explain") (rows_of (found_of matches.now)) }
     ensures { IfOk result (SaysCheck (rows_of (found_of matches.now))) }
 {
-    let image = Text::new(alloc, matches.get_str("IMAGE").unwrap())?;
-    let explain = matches.get_flag("explain");
+    let image = text_given(alloc, matches, "IMAGE")?;
+    let explain = flag_given(matches, "explain");
     Ok(Job::Check { image, explain })
 }
 
@@ -354,8 +347,8 @@ fn info_job(alloc: Global, matches: &ArgMatches<'_>) -> Result<Job, AllocError>
     requires json { IsFlag (codes "json") (rows_of (found_of matches.now)) }
     ensures { IfOk result (SaysInfo (rows_of (found_of matches.now))) }
 {
-    let image = Text::new(alloc, matches.get_str("IMAGE").unwrap())?;
-    let json = matches.get_flag("json");
+    let image = text_given(alloc, matches, "IMAGE")?;
+    let json = flag_given(matches, "json");
     Ok(Job::Info { image, json })
 }
 
@@ -364,7 +357,7 @@ fn upgrade_job(alloc: Global, matches: &ArgMatches<'_>) -> Result<Job, AllocErro
     requires image { IsGiven (codes "IMAGE") (rows_of (found_of matches.now)) }
     ensures { IfOk result (SaysUpgrade (rows_of (found_of matches.now))) }
 {
-    let image = Text::new(alloc, matches.get_str("IMAGE").unwrap())?;
+    let image = text_given(alloc, matches, "IMAGE")?;
     Ok(Job::Upgrade { image })
 }
 
@@ -374,17 +367,66 @@ fn fuse_job(alloc: Global, matches: &ArgMatches<'_>) -> Result<Job, AllocError>
     requires own_rules { IsFlag (codes "own-rules") (rows_of (found_of matches.now)) }
     ensures { IfOk result (SaysFuse (rows_of (found_of matches.now))) }
 {
-    let image = Text::new(alloc, matches.get_str("IMAGE").unwrap())?;
-    let denials = match matches.get_str("denials") {
-        Some(path) => Some(Text::new(alloc, path)?),
-        None => None,
-    };
-    let own_rules = matches.get_flag("own-rules");
+    let image = text_given(alloc, matches, "IMAGE")?;
+    let denials = text_if_given(alloc, matches, "denials")?;
+    let own_rules = flag_given(matches, "own-rules");
     Ok(Job::Fuse {
         image,
         denials,
         own_rules,
     })
+}
+
+// The text of an argument that has one.
+fn text_given(alloc: Global, matches: &ArgMatches<'_>, name: &str) -> Result<Text, AllocError>
+    requires given { IsGiven name.now (rows_of (found_of matches.now)) }
+    ensures { IfOk result (λ text. first_of name.now (rows_of (found_of matches.now)) ≡ Some text) }
+{
+    Text::new(alloc, matches.get_str(name).unwrap())
+}
+
+// The text of an argument, if it has one.
+fn text_if_given(
+    alloc: Global,
+    matches: &ArgMatches<'_>,
+    name: &str,
+) -> Result<Option<Text>, AllocError>
+    ensures { IfOk result (λ text. first_of name.now (rows_of (found_of matches.now)) ≡ text) }
+{
+    match matches.get_str(name) {
+        Some(text) => Ok(Some(Text::new(alloc, text)?)),
+        None => Ok(None),
+    }
+}
+
+// Whether a flag is given.
+fn flag_given(matches: &ArgMatches<'_>, name: &str) -> bool
+    requires flag { IsFlag name.now (rows_of (found_of matches.now)) }
+    ensures { is_given name.now (rows_of (found_of matches.now)) ≡ result }
+{
+    matches.get_flag(name)
+}
+
+// How many sectors a new disk has by the size that is given.
+fn sectors_given(matches: &ArgMatches<'_>) -> Result<u32, WordsFault>
+    requires given { IsGiven (codes "size") (rows_of (found_of matches.now)) }
+    ensures { MatchResult result (IsSizeFor (first_of (codes "size") (rows_of (found_of matches.now))))
+        (HasBadSize (rows_of (found_of matches.now))) }
+{
+    let Some(sectors) = sectors_of_size(matches.get_str("size").unwrap()) else {
+        return Err(WordsFault::BadSize);
+    };
+    Ok(sectors)
+}
+
+// How many inodes a new disk of so many sectors has: as many as the words say, else as many as are usual.
+fn inodes_given(matches: &ArgMatches<'_>, sectors: u32) -> u32
+    requires given { IsNumberIfGiven 16 1048576 (codes "inodes") (rows_of (found_of matches.now)) }
+    ensures { IsNumberOr (usual_inodes sectors) 16 1048576 (one_of (codes "inodes") (rows_of (found_of matches.now))) result }
+{
+    matches
+        .get_one::<u32>("inodes")
+        .unwrap_or(usual_inodes(sectors))
 }
 
 // The command line.
@@ -425,11 +467,14 @@ fn mkfs_command<'a>(alloc: Global) -> Result<Command<'a>, AllocError>
     let inodes = number(alloc, "inodes", 16, 4096)
         .required(true)
         .help("Inodes, 16 to 4096");
-    Command::new(alloc, "mkfs")
-        .about("Make an image of the second layout with an empty file system")
-        .arg(image(alloc).help("The image, which must not exist"))?
-        .arg(sectors)?
-        .arg(inodes)
+    on_image(
+        alloc,
+        "mkfs",
+        "Make an image of the second layout with an empty file system",
+        "The image, which must not exist",
+    )?
+    .arg(sectors)?
+    .arg(inodes)
 }
 
 // The words of `format`.
@@ -442,11 +487,14 @@ fn format_command<'a>(alloc: Global) -> Result<Command<'a>, AllocError>
     let inodes = number(alloc, "inodes", 16, 1048576).help(
         "Inodes, 16 to 1048576; without it one for 32 sectors",
     );
-    Command::new(alloc, "format")
-        .about("Make an image of the third layout with an empty file system")
-        .arg(image(alloc).help("The image, which must not exist"))?
-        .arg(size)?
-        .arg(inodes)
+    on_image(
+        alloc,
+        "format",
+        "Make an image of the third layout with an empty file system",
+        "The image, which must not exist",
+    )?
+    .arg(size)?
+    .arg(inodes)
 }
 
 // The words of `pack`.
@@ -465,24 +513,30 @@ fn pack_command<'a>(alloc: Global) -> Result<Command<'a>, AllocError>
     let group = number(alloc, "gid", 0, 4294967295).help(
         "The group of all; without it each one's own",
     );
-    Command::new(alloc, "pack")
-        .about("Make an image of the third layout with the tree of a directory")
-        .arg(image(alloc).help("The image, which must not exist"))?
-        .arg(directory(alloc).help("The directory"))?
-        .arg(size)?
-        .arg(inodes)?
-        .arg(user)?
-        .arg(group)
+    on_image(
+        alloc,
+        "pack",
+        "Make an image of the third layout with the tree of a directory",
+        "The image, which must not exist",
+    )?
+    .arg(directory(alloc).help("The directory"))?
+    .arg(size)?
+    .arg(inodes)?
+    .arg(user)?
+    .arg(group)
 }
 
 // The words of `unpack`.
 fn unpack_command<'a>(alloc: Global) -> Result<Command<'a>, AllocError>
     ensures { IfOk result (λ command. app_of command ≡ unpack) }
 {
-    Command::new(alloc, "unpack")
-        .about("Copy the tree of an image to a new directory")
-        .arg(image(alloc).help("The image"))?
-        .arg(directory(alloc).help("The directory, which must not exist"))
+    on_image(
+        alloc,
+        "unpack",
+        "Copy the tree of an image to a new directory",
+        "The image",
+    )?
+    .arg(directory(alloc).help("The directory, which must not exist"))
 }
 
 // The words of `run`.
@@ -490,10 +544,7 @@ fn run_command<'a>(alloc: Global) -> Result<Command<'a>, AllocError>
     ensures { IfOk result (λ command. app_of command ≡ run) }
 {
     let script = Arg::new(alloc, "SCRIPT").help("The script; without it, the standard input");
-    Command::new(alloc, "run")
-        .about("Run a script on an image")
-        .arg(image(alloc).help("The image"))?
-        .arg(script)
+    on_image(alloc, "run", "Run a script on an image", "The image")?.arg(script)
 }
 
 // The words of `check`.
@@ -501,10 +552,7 @@ fn check_command<'a>(alloc: Global) -> Result<Command<'a>, AllocError>
     ensures { IfOk result (λ command. app_of command ≡ check) }
 {
     let explain = flag(alloc, "explain").help("Say what the rule of a finding asks");
-    Command::new(alloc, "check")
-        .about("Check an image")
-        .arg(image(alloc).help("The image"))?
-        .arg(explain)
+    on_image(alloc, "check", "Check an image", "The image")?.arg(explain)
 }
 
 // The words of `info`.
@@ -512,19 +560,25 @@ fn info_command<'a>(alloc: Global) -> Result<Command<'a>, AllocError>
     ensures { IfOk result (λ command. app_of command ≡ info) }
 {
     let json = flag(alloc, "json").help("Say it in one line of JSON");
-    Command::new(alloc, "info")
-        .about("Say the version, the size, what is free and the limits of an image")
-        .arg(image(alloc).help("The image"))?
-        .arg(json)
+    on_image(
+        alloc,
+        "info",
+        "Say the version, the size, what is free and the limits of an image",
+        "The image",
+    )?
+    .arg(json)
 }
 
 // The words of `upgrade`.
 fn upgrade_command<'a>(alloc: Global) -> Result<Command<'a>, AllocError>
     ensures { IfOk result (λ command. app_of command ≡ upgrade) }
 {
-    Command::new(alloc, "upgrade")
-        .about("Upgrade an image of the first layout to the second")
-        .arg(image(alloc).help("The image"))
+    on_image(
+        alloc,
+        "upgrade",
+        "Upgrade an image of the first layout to the second",
+        "The image",
+    )
 }
 
 // The words of `fuse`.
@@ -535,11 +589,28 @@ fn fuse_command<'a>(alloc: Global) -> Result<Command<'a>, AllocError>
         "The file to which denials are written, a line each",
     );
     let own_rules = flag(alloc, "own-rules").help("Let the kernel judge no ACLs");
-    Command::new(alloc, "fuse")
-        .about("Serve an image to the kernel's FUSE, on the standard input and output")
-        .arg(image(alloc).help("The image"))?
-        .arg(denials)?
-        .arg(own_rules)
+    on_image(
+        alloc,
+        "fuse",
+        "Serve an image to the kernel's FUSE, on the standard input and output",
+        "The image",
+    )?
+    .arg(denials)?
+    .arg(own_rules)
+}
+
+// A command on an image.
+fn on_image<'a>(
+    alloc: Global,
+    name: &'a str,
+    about: &'a str,
+    image_help: &'a str,
+) -> Result<Command<'a>, AllocError>
+    ensures { IfOk result (λ command. app_of command ≡ with_rule (new_app name.entry.now) image) }
+{
+    Command::new(alloc, name)
+        .about(about)
+        .arg(image(alloc).help(image_help))
 }
 
 // The path of the image.

@@ -1,5 +1,8 @@
 -- Reading one after another.
-use Rattle.std.proofs.Common.{◌≡◌, ℕ, ◌<◌, suc, List, [], ◌∷◌, ◌++◌, length, map, take, drop, get_or, Result, Ok, Err, refl, sym, ap, ◌∙◌}
+use Rattle.std.proofs.Common.{◌≡◌, ℕ, ◌<◌, suc, List, [], ◌∷◌, ◌++◌, length, map, take, drop, get_or, Option, Some, Result, Ok, Err, refl, sym, ap, ◌∙◌}
+use Rattle.std.specs.Iterator.{Yields}
+use Rattle.std.proofs.lemmas.Iterator.{YieldsList}
+use Rattle.std.proofs.lemmas.Iterator.Consumers.{YieldsList-so_far, YieldsList-turn}
 use Rattle.std.proofs.lemmas.List.{map-append}
 use Rattle.std.proofs.Math.Seq.{split_at}
 use Rattle.fs_lines.specs.declared.line.LineFault.{LineFault}
@@ -52,3 +55,11 @@ pub each_push_plain : {A B X : Type 0} (read : A → Result B LineFault) (see : 
     → each read (map see (xs ++ x ∷ [])) ≡ Ok new
 each_push_plain read see xs ys new x y pushed front last =
     rw (pushed, map-append see xs (x ∷ [])) (each_more read (map see xs) ys (see x) y front last)
+
+-- Where a list yields one more, what it yielded before is its front, and this one stands behind that.
+pub yields_next : {S A B : Type 0} {steps : S → Option A → S → Type 0} {v : A → B} {s : S} {all : List B} → YieldsList steps v s all
+    → (xs : List A) (t : S) → Yields steps s xs t → (r : Option A) (u : S) (x : A) → r ≡ Some x → steps t r u
+    → (map v xs ≡ take (length xs) all) × (length xs < length all) × (v x ≡ get_or all (length xs) (v x))
+yields_next all xs t before r u x is step =
+    let turn = YieldsList-turn all xs t before r u x is step in
+    (YieldsList-so_far all xs t before, turn.0, turn.1)

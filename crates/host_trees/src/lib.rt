@@ -13,6 +13,7 @@ mod lists;
 mod objects;
 mod owner;
 mod packing;
+mod place;
 mod replies;
 mod times;
 mod unpacking;

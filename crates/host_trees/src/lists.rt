@@ -4,10 +4,9 @@ ghost use Rattle.host_trees.specs.Copies.{Asks};
 use crate::asker::Asker;
 use crate::file_system::FileSystem;
 use crate::lack::Lack;
-use crate::replies::acl_in;
-use fs_model::{AclType, Call, FileType, Path, Status};
+use crate::place::Place;
+use fs_model::{AclType, FileType, Status};
 use posix_acl::{Acl, Tag};
-use std::alloc::Global;
 
 // The bits of a mode that stand for the owning group, or for the mask of a list.
 const GROUP_BITS: u16 = 0o070;
@@ -41,51 +40,28 @@ impl Grants {
 /// What an object gets on the host: its mode, where the group has no more than its own entry of the list gives it.
 pub(crate) fn grants_of<M: FileSystem>(
     asker: &mut Asker<M>,
-    alloc: Global,
-    pid: usize,
-    inside: &[u8],
+    place: Place<'_>,
     status: Status,
 ) -> Result<Grants, Lack>
     ensures { Asks M.Serves asker.old.machine asker.new.machine asker.old.is_whole asker.new.is_whole }
 {
-    match status.kind {
-        FileType::Link => Ok(Grants::by_mode(status.mode)),
-        FileType::File => grants_by_list(asker, alloc, pid, inside, status.mode),
-        FileType::Directory => directory_grants(asker, alloc, pid, inside, status.mode),
+    if let FileType::Link = status.kind {
+        return Ok(Grants::by_mode(status.mode));
     }
-}
-
-// What a directory gets, which may have a list for new objects besides.
-fn directory_grants<M: FileSystem>(
-    asker: &mut Asker<M>,
-    alloc: Global,
-    pid: usize,
-    inside: &[u8],
-    mode: u16,
-) -> Result<Grants, Lack>
-    ensures { Asks M.Serves asker.old.machine asker.new.machine asker.old.is_whole asker.new.is_whole }
-{
-    let mut grants = grants_by_list(asker, alloc, pid, inside, mode)?;
-    if list_of(asker, alloc, pid, inside, AclType::Default)?.is_some() {
+    let on_access = place.list(asker, AclType::Access)?;
+    let mut grants = match on_access {
+        Some(acl) => grants_under(&acl, status.mode),
+        None => Grants::by_mode(status.mode),
+    };
+    if let FileType::File = status.kind {
+        return Ok(grants);
+    }
+    // A directory may have a list for new objects besides.
+    let for_new = place.list(asker, AclType::Default)?;
+    if for_new.is_some() {
         grants.has_list = true;
     }
     Ok(grants)
-}
-
-// What the list that decides on access leaves.
-fn grants_by_list<M: FileSystem>(
-    asker: &mut Asker<M>,
-    alloc: Global,
-    pid: usize,
-    inside: &[u8],
-    mode: u16,
-) -> Result<Grants, Lack>
-    ensures { Asks M.Serves asker.old.machine asker.new.machine asker.old.is_whole asker.new.is_whole }
-{
-    match list_of(asker, alloc, pid, inside, AclType::Access)? {
-        Some(acl) => Ok(grants_under(&acl, mode)),
-        None => Ok(Grants::by_mode(mode)),
-    }
 }
 
 // Where the list has a mask, this stands in the mode in place of the group's entry.
@@ -108,18 +84,4 @@ fn group_digit(acl: &Acl) -> u16 {
         }
     }
     digit
-}
-
-// A list of an object, if it has one.
-fn list_of<M: FileSystem>(
-    asker: &mut Asker<M>,
-    alloc: Global,
-    pid: usize,
-    inside: &[u8],
-    which: AclType,
-) -> Result<Option<Acl>, Lack>
-    ensures { Asks M.Serves asker.old.machine asker.new.machine asker.old.is_whole asker.new.is_whole }
-{
-    let path = Path::from_slice(alloc, inside)?;
-    acl_in(asker.call(pid, Call::GetAcl(path, which))?)
 }

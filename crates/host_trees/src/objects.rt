@@ -5,13 +5,13 @@ use crate::asker::Asker;
 use crate::entry::{Entry, OF_DIRECTORIES};
 use crate::file_system::FileSystem;
 use crate::lack::Lack;
-use crate::replies::{fd_in, status_in};
+use crate::place::Place;
+use crate::replies::status_in;
 use crate::times::Times;
 use crate::work::{Made, Pending, Work, hand_for, path_of};
 use crate::writing::write_contents;
 use fs_layout::ROOT;
 use fs_model::{Call, Event, Flags, Path};
-use std::alloc::Global;
 use std::fs;
 use std::io::Read;
 use std::rt::Files;
@@ -26,10 +26,11 @@ pub(crate) fn pack_directory<M: FileSystem>(
     ensures { Asks M.Serves asker.old.machine asker.new.machine asker.old.is_whole asker.new.is_whole }
 {
     let pid = hand_for(asker, work, entry.owner)?;
-    let path = path_of(work.alloc, object.inside.as_str())?;
+    let place = place_of(work, pid, object);
+    let path = place.path()?;
     asker.perform(pid, Call::Mkdir(path, entry.first_mode()))?;
-    let ino = inode_at(asker, work.alloc, pid, object.inside.as_str())?;
-    work.keep_directory(object, ino, entry)
+    let status = place.status(asker)?;
+    work.keep_directory(object, status.ino, entry)
 }
 
 /// Makes a file, with what one of the host holds.
@@ -44,25 +45,12 @@ pub(crate) fn pack_file<R: Files, M: FileSystem>(
 {
     let mut file = fs::open(rt, object.host.as_str())?;
     let pid = hand_for(asker, work, entry.owner)?;
-    let fd = make_file(asker, work.alloc, pid, object.inside.as_str(), entry)?;
+    let place = place_of(work, pid, object);
+    let fd = place.open(asker, new_file_flags(), entry.file_mode())?;
     fill_file(asker, work, pid, fd, &mut file, entry)
 }
 
-// Opens a new file for writing.
-fn make_file<M: FileSystem>(
-    asker: &mut Asker<M>,
-    alloc: Global,
-    pid: usize,
-    inside: &str,
-    entry: Entry,
-) -> Result<usize, Lack>
-    ensures { Asks M.Serves asker.old.machine asker.new.machine asker.old.is_whole asker.new.is_whole }
-{
-    let path = path_of(alloc, inside)?;
-    let call = Call::Open(path, new_file_flags(), entry.file_mode());
-    fd_in(asker.call(pid, call)?)
-}
-
+// A new file is opened for writing.
 fn new_file_flags() -> Flags {
     Flags {
         read: false,
@@ -106,9 +94,10 @@ pub(crate) fn pack_link<R: Files + AllocGlobal, M: FileSystem>(
     let leads = fs::read_link(rt, object.host.as_str())?;
     let pid = hand_for(asker, work, entry.owner)?;
     let target = path_of(work.alloc, leads.as_str())?;
-    let path = path_of(work.alloc, object.inside.as_str())?;
+    let place = place_of(work, pid, object);
+    let path = place.path()?;
     asker.perform(pid, Call::Symlink { target, path })?;
-    stamp_at(asker, work.alloc, pid, object.inside.as_str(), entry.times)
+    stamp_at(asker, place, entry.times)
 }
 
 /// Gives an object that was copied before another name.
@@ -122,39 +111,33 @@ pub(crate) fn pack_other_name<M: FileSystem>(
     ensures { Asks M.Serves asker.old.machine asker.new.machine asker.old.is_whole asker.new.is_whole }
 {
     let pid = hand_for(asker, work, entry.owner)?;
-    let new = path_of(work.alloc, object.inside.as_str())?;
+    let place = place_of(work, pid, object);
+    let new = place.path()?;
     asker.perform(pid, Call::Link { old: first, new })?;
-    stamp_at(asker, work.alloc, pid, object.inside.as_str(), entry.times)
+    stamp_at(asker, place, entry.times)
+}
+
+// Where an object stands in the file system, for the process that makes it.
+fn place_of<'a>(work: &Work, pid: usize, object: &'a Pending) -> Place<'a> {
+    Place {
+        alloc: work.alloc,
+        pid,
+        inside: object.inside.as_bytes(),
+    }
 }
 
 // ---- times
 
-// The number of what stands at a path.
-fn inode_at<M: FileSystem>(
-    asker: &mut Asker<M>,
-    alloc: Global,
-    pid: usize,
-    inside: &str,
-) -> Result<u32, Lack>
-    ensures { Asks M.Serves asker.old.machine asker.new.machine asker.old.is_whole asker.new.is_whole }
-{
-    let path = path_of(alloc, inside)?;
-    let status = status_in(asker.call(pid, Call::Lstat(path))?)?;
-    Ok(status.ino)
-}
-
-// Gives what stands at a path its times.
+// Gives what stands at a place its times.
 fn stamp_at<M: FileSystem>(
     asker: &mut Asker<M>,
-    alloc: Global,
-    pid: usize,
-    inside: &str,
+    place: Place<'_>,
     times: Option<Times>,
 ) -> Result<(), Lack>
     ensures { Asks M.Serves asker.old.machine asker.new.machine asker.old.is_whole asker.new.is_whole }
 {
-    let ino = inode_at(asker, alloc, pid, inside)?;
-    stamp(asker, ino, times)
+    let status = place.status(asker)?;
+    stamp(asker, status.ino, times)
 }
 
 // Gives an open file its times.

@@ -7,7 +7,8 @@ use crate::fault::{Copied, CopyFault};
 use crate::file_system::FileSystem;
 use crate::lack::Lack;
 use crate::lists::{Grants, grants_of};
-use crate::replies::{fd_in, listing_in, pid_in, stamps_in, status_in, target_in};
+use crate::place::Place;
+use crate::replies::{listing_in, pid_in, stamps_in, target_in};
 use crate::times::file_times;
 use crate::writing::read_contents;
 use fs_cred::Cred;
@@ -48,6 +49,17 @@ struct Work {
     made: Vec<Made>,
     // Where objects with several names were copied, by their numbers.
     names: BTreeMap<u32, String>,
+}
+
+impl Work {
+    // A place in the file system, for the process that reads it.
+    fn place<'a>(&self, inside: &'a [u8]) -> Place<'a> {
+        Place {
+            alloc: self.alloc,
+            pid: self.pid,
+            inside,
+        }
+    }
 }
 
 /// Copies the tree of a file system to a new directory of the host. All belongs to who calls this.
@@ -150,9 +162,9 @@ fn unpack_root<R: Files, M: FileSystem>(
 ) -> Result<(), Lack>
     ensures { Asks M.Serves asker.old.machine asker.new.machine asker.old.is_whole asker.new.is_whole }
 {
-    let path = Path::from_slice(work.alloc, b"/")?;
-    let status = status_in(asker.call(work.pid, Call::Lstat(path))?)?;
-    let grants = grants_of(asker, work.alloc, work.pid, b"/", status)?;
+    let root = work.place(b"/");
+    let status = root.status(asker)?;
+    let grants = grants_of(asker, root, status)?;
     let host = String::from_str(work.alloc, to)?;
     let inside = Vec::new(work.alloc);
     make_directory(rt, work, Pending { inside, host }, status.ino, grants)
@@ -295,9 +307,9 @@ fn unpack_object<R: Files + AllocGlobal, M: FileSystem>(
 ) -> Result<(), Lack>
     ensures { Asks M.Serves asker.old.machine asker.new.machine asker.old.is_whole asker.new.is_whole }
 {
-    let path = Path::from_slice(work.alloc, &object.inside)?;
-    let status = status_in(asker.call(work.pid, Call::Lstat(path))?)?;
-    let grants = grants_of(asker, work.alloc, work.pid, &object.inside, status)?;
+    let place = work.place(&object.inside);
+    let status = place.status(asker)?;
+    let grants = grants_of(asker, place, status)?;
     if let FileType::Directory = status.kind {
         let directory = copy_of(work.alloc, object)?;
         return make_directory(rt, work, directory, status.ino, grants);
@@ -389,7 +401,9 @@ fn read_file<F: Write, M: FileSystem>(
 ) -> Result<(), Lack>
     ensures { Asks M.Serves asker.old.machine asker.new.machine asker.old.is_whole asker.new.is_whole }
 {
-    let fd = open(asker, work, &object.inside, false)?;
+    let fd = work
+        .place(&object.inside)
+        .open(asker, for_reading(false), 0)?;
     let read = read_contents(asker, work.pid, fd, file);
     let closed = asker.perform(work.pid, Call::Close(fd));
     read.and(closed)
@@ -424,7 +438,7 @@ fn unpack_link<R: Files, M: FileSystem>(
 ) -> Result<(), Lack>
     ensures { Asks M.Serves asker.old.machine asker.new.machine asker.old.is_whole asker.new.is_whole }
 {
-    let path = Path::from_slice(work.alloc, &object.inside)?;
+    let path = work.place(&object.inside).path()?;
     let target = target_in(asker.call(work.pid, Call::Readlink(path))?)?;
     make_link(rt, &target, object.host.as_str())
 }
@@ -438,6 +452,7 @@ fn make_link<R: Files>(rt: &R, target: &Path, host: &str) -> Result<(), Lack> {
 
 // ---- opening
 
+// A file or a directory is opened for reading.
 fn for_reading(directory: bool) -> Flags {
     Flags {
         read: true,
@@ -449,19 +464,6 @@ fn for_reading(directory: bool) -> Flags {
         nofollow: true,
         directory,
     }
-}
-
-// Opens a file or a directory for reading.
-fn open<M: FileSystem>(
-    asker: &mut Asker<M>,
-    work: &Work,
-    inside: &[u8],
-    directory: bool,
-) -> Result<usize, Lack>
-    ensures { Asks M.Serves asker.old.machine asker.new.machine asker.old.is_whole asker.new.is_whole }
-{
-    let path = Path::from_slice(work.alloc, inside)?;
-    fd_in(asker.call(work.pid, Call::Open(path, for_reading(directory), 0))?)
 }
 
 // The path of a directory, also of the root.
@@ -477,7 +479,8 @@ fn listing_of<M: FileSystem>(
 ) -> Result<Listing, Lack>
     ensures { Asks M.Serves asker.old.machine asker.new.machine asker.old.is_whole asker.new.is_whole }
 {
-    let fd = open(asker, work, path_or_root(&directory.inside), true)?;
+    let place = work.place(path_or_root(&directory.inside));
+    let fd = place.open(asker, for_reading(true), 0)?;
     let listed = asker.call(work.pid, Call::Readdir(fd));
     let closed = asker.perform(work.pid, Call::Close(fd));
     match closed.and(listed) {

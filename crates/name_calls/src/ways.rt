@@ -12,7 +12,7 @@ use fs_layout::{Geometry, ROOT};
 use path_walk::load_inode;
 use sector_txn::Sectors;
 
-/// Whether directory `dir_ino` is directory n, or lies below it. EIO: the disk has failed.
+/// Whether directory `dir_ino` is directory `ino`, or lies below it. EIO: the disk has failed.
 pub(crate) fn is_below<S: Sectors>(
     s: &mut S,
     geometry: Geometry,

@@ -33,7 +33,7 @@ pub fn load_inode<S: Sectors>(s: &mut S, geometry: Geometry, ino: u32) -> Result
     }
 }
 
-/// What a component leads to in directory n, whose inode this is.
+/// What a component leads to in directory `ino`, whose inode this is.
 pub(crate) fn find<S: Sectors>(
     s: &mut S,
     geometry: Geometry,

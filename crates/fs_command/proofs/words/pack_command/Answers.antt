@@ -1,6 +1,5 @@
 use Rattle.std.proofs.Common.{◌≡◌, ◌∙◌, ap, ap₂, codes}
 use Rattle.std.proofs.lemmas.Result.{IfOk-weaker}
-use Rattle.clap.specs.Simple.{app_of_fields}
 use Rattle.clap.specs.Words.{App, app_of, new_app, rule_of, with_rule}
 use Rattle.clap.specs.declared.builder.arg.Arg.{Arg}
 use Rattle.fs_command.specs.Words.{directory, image, must_be_given, number_option, text_option}
@@ -19,20 +18,17 @@ with_user = with_rule with_inodes (number_option (codes "uid") 0 4294967295)
 
 pub returns : goal.returns
 returns c =
-    let one : app_of c.in_ok-arg.field-0 ≡ with_rule (new_app (codes "pack")) image =
-    c.in_ok-arg.ensures.shape (ap (λ (a : Arg). a.global) c.help.ensures ∙ c.image.ensures.local)
-    ∙ ap₂ with_rule (ap app_of_fields c.about.ensures ∙ c.new.ensures.app) (ap rule_of c.help.ensures ∙ c.image.ensures.rule) in
-    let two : app_of c.in_ok-arg-2.field-0 ≡ with_rule (with_rule (new_app (codes "pack")) image) directory =
-    c.in_ok-arg-2.ensures.shape (ap (λ (a : Arg). a.global) c.help-2.ensures ∙ c.directory.ensures.local)
-    ∙ ap₂ with_rule one (ap rule_of c.help-2.ensures ∙ c.directory.ensures.rule) in
-    let three : app_of c.in_ok-arg-3.field-0 ≡ with_size =
-    c.in_ok-arg-3.ensures.shape (ap (λ (a : Arg). a.global) c.help-size.ensures ∙ ap (λ (a : Arg). a.global) c.required.ensures ∙ c.text_option.ensures.local)
+    let two : app_of c.in_ok-arg.field-0 ≡ with_rule (with_rule (new_app (codes "pack")) image) directory =
+    c.in_ok-arg.ensures.shape (ap (λ (a : Arg). a.global) c.help.ensures ∙ c.directory.ensures.local)
+    ∙ ap₂ with_rule c.in_ok-on_image.ensures (ap rule_of c.help.ensures ∙ c.directory.ensures.rule) in
+    let three : app_of c.in_ok-arg-2.field-0 ≡ with_size =
+    c.in_ok-arg-2.ensures.shape (ap (λ (a : Arg). a.global) c.help-size.ensures ∙ ap (λ (a : Arg). a.global) c.required.ensures ∙ c.text_option.ensures.local)
     ∙ ap₂ with_rule two (ap rule_of c.help-size.ensures ∙ ap rule_of c.required.ensures ∙ ap must_be_given c.text_option.ensures.rule) in
-    let four : app_of c.in_ok-arg-4.field-0 ≡ with_inodes =
-    c.in_ok-arg-4.ensures.shape (ap (λ (a : Arg). a.global) c.help-inodes.ensures ∙ c.number.ensures.local)
+    let four : app_of c.in_ok-arg-3.field-0 ≡ with_inodes =
+    c.in_ok-arg-3.ensures.shape (ap (λ (a : Arg). a.global) c.help-inodes.ensures ∙ c.number.ensures.local)
     ∙ ap₂ with_rule three (ap rule_of c.help-inodes.ensures ∙ c.number.ensures.rule) in
-    let five : app_of c.in_ok-arg-5.field-0 ≡ with_user =
-    c.in_ok-arg-5.ensures.shape (ap (λ (a : Arg). a.global) c.help-user.ensures ∙ c.number-2.ensures.local)
+    let five : app_of c.in_ok-arg-4.field-0 ≡ with_user =
+    c.in_ok-arg-4.ensures.shape (ap (λ (a : Arg). a.global) c.help-user.ensures ∙ c.number-2.ensures.local)
     ∙ ap₂ with_rule four (ap rule_of c.help-user.ensures ∙ c.number-2.ensures.rule) in
-    IfOk-weaker c.arg-6.result _ _ (λ command adds. adds.shape (ap (λ (a : Arg). a.global) c.help-group.ensures ∙ c.number-3.ensures.local)
-    ∙ ap₂ with_rule five (ap rule_of c.help-group.ensures ∙ c.number-3.ensures.rule)) c.arg-6.ensures
+    IfOk-weaker c.arg-5.result _ _ (λ command adds. adds.shape (ap (λ (a : Arg). a.global) c.help-group.ensures ∙ c.number-3.ensures.local)
+    ∙ ap₂ with_rule five (ap rule_of c.help-group.ensures ∙ c.number-3.ensures.rule)) c.arg-5.ensures

@@ -1,5 +1,5 @@
-use Rattle.std.proofs.Common.{◌≡◌, ◌∙◌, ap, sym, refl, subst, [], map, string_bytes, true}
-use Rattle.clap.specs.Words.{App, HasKind, fault_of, is_simple, is_simple_and_free, subcommand_rows_of, subcommand_of}
+use Rattle.std.proofs.Common.{◌≡◌, ◌∙◌, ap, sym, refl, subst, List, [], Option, map, string_bytes, true}
+use Rattle.clap.specs.Words.{App, Row, Text, HasKind, fault_of, is_simple, is_simple_and_free, subcommand_rows_of, subcommand_of}
 use Rattle.clap.proofs.OnLiterals.{clap_on_literals}
 use Rattle.fs_command.specs.Words.{command_line, HasValues}
 use Rattle.fs_command.proofs.Refusals.{if_taken, read, refused}
@@ -14,6 +14,15 @@ inofs_is_free : is_simple_and_free command_line ≡ true
 unfolding clap_on_literals
 inofs_is_free = refl
 
+-- nothing refuses the words, by the definition of the command line
+none_of : (app : App) (words : List Text) → app ≡ command_line → (is_simple_and_free app ≡ true → fault_of app words ≡ []) → fault_of command_line words ≡ []
+none_of app words is kinds = ap (λ a. fault_of a words) (sym is) ∙ kinds (ap is_simple_and_free is ∙ inofs_is_free)
+
+-- and they name a command with its values by it
+named_by : (app : App) (words : List Text) (named : Option (Text × List Row)) → app ≡ command_line → (is_simple app ≡ true → named ≡ subcommand_of app words)
+    → named ≡ subcommand_of command_line words
+named_by app words named is read = read (ap is_simple is ∙ inofs_is_simple) ∙ ap (λ a. subcommand_of a words) is
+
 pub returns-in_err-matches-clause-said : goal.returns-in_err-matches-clause-said
 returns-in_err-matches-clause-said c =
     let is = c.in_ok-program.ensures in
@@ -24,27 +33,16 @@ returns-in_err-matches-clause-said c =
 
 pub named_job-requires : goal.named_job-requires
 named_job-requires c =
-    let is = c.in_ok-program.ensures in
     let words = map string_bytes c.args.words.now in
-    let none : fault_of command_line words ≡ [] = ap (λ a. fault_of a words) (sym is)
-    ∙ c.in_ok-matches.ensures.kinds (ap is_simple_and_free is ∙ inofs_is_free) in
-    let named : subcommand_rows_of c.in_ok-matches.matches ≡ subcommand_of command_line words =
-    (c.in_ok-matches.ensures.matches (ap is_simple is ∙ inofs_is_simple)).1 ∙ ap (λ a. subcommand_of a words) is in
-    subst HasValues (sym named) (has_values words none)
+    let named = named_by _ words _ c.in_ok-program.ensures (λ simple. (c.in_ok-matches.ensures.matches simple).1) in
+    subst HasValues (sym named) (has_values words (none_of _ words c.in_ok-program.ensures c.in_ok-matches.ensures.kinds))
 
 pub returns-clause-said : goal.returns-clause-said
 returns-clause-said c =
-    let is = c.in_ok-program.ensures in
     let words = map string_bytes c.args.words.now in
-    let none : fault_of command_line words ≡ [] = ap (λ a. fault_of a words) (sym is)
-    ∙ c.in_ok-matches.ensures.kinds (ap is_simple_and_free is ∙ inofs_is_free) in
-    let named : subcommand_rows_of c.in_ok-matches.matches ≡ subcommand_of command_line words =
-    (c.in_ok-matches.ensures.matches (ap is_simple is ∙ inofs_is_simple)).1 ∙ ap (λ a. subcommand_of a words) is in
-    read words (subcommand_rows_of c.in_ok-matches.matches) c.named_job.result none named c.named_job.ensures
+    read words (subcommand_rows_of c.in_ok-matches.matches) c.named_job.result (none_of _ words c.in_ok-program.ensures c.in_ok-matches.ensures.kinds)
+    (named_by _ words _ c.in_ok-program.ensures (λ simple. (c.in_ok-matches.ensures.matches simple).1)) c.named_job.ensures
 
 pub returns-clause-taken : goal.returns-clause-taken
 returns-clause-taken c =
-    let is = c.in_ok-program.ensures in
-    let words = map string_bytes c.args.words.now in
-    if_taken c.named_job.result
-    (ap (λ a. fault_of a words) (sym is) ∙ c.in_ok-matches.ensures.kinds (ap is_simple_and_free is ∙ inofs_is_free))
+    if_taken c.named_job.result (none_of _ (map string_bytes c.args.words.now) c.in_ok-program.ensures c.in_ok-matches.ensures.kinds)

@@ -4,8 +4,8 @@ use Rattle.host_trees.proofs.objects.pack_directory.Goals as goal
 pub returns-in_err-perform : goal.returns-in_err-perform
 returns-in_err-perform g c = asks_then c.hand_for.ensures c.perform.ensures
 
-pub returns-in_err-ino : goal.returns-in_err-ino
-returns-in_err-ino g c = asks_three c.hand_for.ensures c.perform.ensures c.inode_at.ensures
+pub returns-in_err-status : goal.returns-in_err-status
+returns-in_err-status g c = asks_three c.hand_for.ensures c.perform.ensures c.status.ensures
 
 pub returns : goal.returns
-returns g c = asks_three c.hand_for.ensures c.perform.ensures c.inode_at.ensures
+returns g c = asks_three c.hand_for.ensures c.perform.ensures c.status.ensures

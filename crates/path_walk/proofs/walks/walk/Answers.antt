@@ -1,11 +1,19 @@
+use Rattle.std.specs.Prelude.{◌≡◌, ◌∷◌, true, false, Result}
 use Rattle.std.proofs.Common.{ℕ, List, Ok, Bool, sym, ap, subst, ◌∙◌, inl, inr}
+use Rattle.fs_cred.specs.Credentials.{Credential}
+use Rattle.fs_cred.specs.declared.refusal.Refusal.{Refusal}
+use Rattle.fs_layout.specs.declared.geometry.Geometry.{Geometry}
+use Rattle.fs_layout.specs.Bytes.{SectorMap}
+use Rattle.fs_model.specs.declared.walk.Form.{Form}
 use Rattle.fs_model.specs.declared.walk.Found.{Found}
 use Rattle.fs_model.specs.Parts.{parts_of}
 use Rattle.fs_model.specs.Stands.{room_of}
 use Rattle.fs_model.specs.Trails.{follows_last}
+use Rattle.fs_model.specs.Trees.{Tree}
 use Rattle.block_map.proofs.Runs.{unchanged_joined}
+use Rattle.path_walk.specs.declared.walker.Walker.{Walker}
 use Rattle.path_walk.specs.HeldTrees.{HoldsTree, IsThere}
-use Rattle.path_walk.specs.Stages.{StandsAt, IsNextOf, IsStep, arrival_of}
+use Rattle.path_walk.specs.Stages.{StandsAt, HasTaken, IsNextOf, IsStep, arrival_of, names_ahead, stage_of}
 use Rattle.path_walk.specs.SoundInodes.{HasSoundInodes}
 use Rattle.path_walk.specs.Walked.{walk_of}
 use Rattle.path_walk.proofs.HeldNodes.{starts_there}
@@ -56,6 +64,17 @@ loop-walker-init g c =
     }
 
 -- ---- a component is taken
+has_taken : {b : Bool} (w mid : Walker) → b ≡ true → IsNextOf w mid b → HasTaken w mid
+has_taken w mid more next = subst (IsNextOf w mid) more next
+
+-- the walk goes on with it, from where something is
+goes_on : {b : Bool} {answer : Result Found Refusal} (p : Geometry) (t : Tree) (cred : Credential) (form : Form) (follow : Bool) (w mid : Walker)
+    → (answer ≡ stage_of (room_of p) t cred form follow w (names_ahead w)) × IsThere t w.here → b ≡ true → IsNextOf w mid b
+    → (answer ≡ stage_of (room_of p) t cred form follow mid (mid.name.items ∷ names_ahead mid)) × IsThere t mid.here
+goes_on p t cred form follow w mid e more next =
+    let taken = has_taken w mid more next in
+    (e.0 ∙ taken_stage (room_of p) t cred form follow w mid taken, here_taken w mid t taken e.1)
+
 pub next-requires : goal.next-requires
 next-requires g c = c.loop-walker.invariant.room.at
 
@@ -85,31 +104,21 @@ pub step-requires-clause-at : goal.step-requires-clause-at
 step-requires-clause-at g c =
     let old = g.S.Sectors.state c.args.s.now in
     let inv = c.loop-walker.invariant in
-    let w = c.loop-walker.walker in
     let mid = c.next.new.self in
-    let taken = subst (IsNextOf w mid) c.if-branch.true c.in_ok-next.ensures in
-    kept (λ m. StandsAt c.args.geometry m mid) inv.same (at_taken c.args.geometry old.sectors w mid taken inv.at)
+    kept (λ m. StandsAt c.args.geometry m mid) inv.same
+    (at_taken c.args.geometry old.sectors c.loop-walker.walker mid (has_taken c.loop-walker.walker mid c.if-branch.true c.in_ok-next.ensures) inv.at)
 
 pub step-requires-clause-inside : goal.step-requires-clause-inside
-step-requires-clause-inside g c =
-    let w = c.loop-walker.walker in
-    let mid = c.next.new.self in
-    let taken = subst (IsNextOf w mid) c.if-branch.true c.in_ok-next.ensures in
-    taken.inside
+step-requires-clause-inside g c = (has_taken c.loop-walker.walker c.next.new.self c.if-branch.true c.in_ok-next.ensures).inside
 
 pub step-requires-clause-taken : goal.step-requires-clause-taken
 step-requires-clause-taken g c =
-    let w = c.loop-walker.walker in
-    let mid = c.next.new.self in
-    let taken = subst (IsNextOf w mid) c.if-branch.true c.in_ok-next.ensures in
-    dir_taken w mid taken
+    dir_taken c.loop-walker.walker c.next.new.self (has_taken c.loop-walker.walker c.next.new.self c.if-branch.true c.in_ok-next.ensures)
 
 pub step-requires-clause-steps : goal.step-requires-clause-steps
 step-requires-clause-steps g c =
-    let w = c.loop-walker.walker in
-    let mid = c.next.new.self in
-    let taken = subst (IsNextOf w mid) c.if-branch.true c.in_ok-next.ensures in
-    steps_fit w mid c.loop-walker.invariant.room taken
+    steps_fit c.loop-walker.walker c.next.new.self c.loop-walker.invariant.room
+    (has_taken c.loop-walker.walker c.next.new.self c.if-branch.true c.in_ok-next.ensures)
 
 pub step-requires-clause-inodes : goal.step-requires-clause-inodes
 step-requires-clause-inodes g c = kept (HasSoundInodes c.args.geometry) c.loop-walker.invariant.same c.requires.inodes
@@ -117,19 +126,17 @@ step-requires-clause-inodes g c = kept (HasSoundInodes c.args.geometry) c.loop-w
 pub returns-in_err-step-clause-each : goal.returns-in_err-step-clause-each
 returns-in_err-step-clause-each g c = λ t h there.
     let old = g.S.Sectors.state c.args.s.now in
-    let inv = c.loop-walker.invariant in
-    let w = c.loop-walker.walker in
-    let mid = c.next.new.self in
-    let taken = subst (IsNextOf w mid) c.if-branch.true c.in_ok-next.ensures in
-    let e = inv.each t h there in
-    let stage = e.0 ∙ taken_stage (room_of c.args.geometry) t c.args.cred.now c.args.form c.follows_last-follow.result w mid taken in
-    let held = kept (λ m. HoldsTree c.args.geometry m t) inv.same h in
-    let here = here_taken w mid t taken e.1 in
+    let held = kept (λ m. HoldsTree c.args.geometry m t) c.loop-walker.invariant.same h in
+    let on = goes_on c.args.geometry t c.args.cred.now c.args.form c.follows_last-follow.result c.loop-walker.walker c.next.new.self
+    (c.loop-walker.invariant.each t h there) c.if-branch.true c.in_ok-next.ensures in
     let new = g.S.Sectors.state c.step.new.s in
     let r = c.from_residual-in_err-step.ensures in
     answered_err old.disk new.disk (walk_of (room_of c.args.geometry) t c.args.cred.now c.args.number c.args.form c.args.cwd c.args.path.now)
     c.from_residual-in_err-step.result c.in_err-step.field-0.0 r.0 r.1
-    (elim (c.in_err-step.ensures.each t held here c.args.form) [ inl s ↦ inl (stage ∙ s) | inr way ↦ inr (interrupts_later new.disk inv.same way) ])
+    (elim (c.in_err-step.ensures.each t held on.1 c.args.form) [
+      | inl s ↦ inl (on.0 ∙ s)
+      | inr way ↦ inr (interrupts_later new.disk c.loop-walker.invariant.same way)
+    ])
 
 pub returns-in_err-step-clause-same : goal.returns-in_err-step-clause-same
 returns-in_err-step-clause-same g c = unchanged_joined c.loop-walker.invariant.same c.in_err-step.ensures.same
@@ -145,20 +152,16 @@ returns-in_err-step-clause-cause g c =
 
 pub returns-then-not-branch-clause-each : goal.returns-then-not-branch-clause-each
 returns-then-not-branch-clause-each g c = λ t h there.
-    let old = g.S.Sectors.state c.args.s.now in
-    let inv = c.loop-walker.invariant in
-    let w = c.loop-walker.walker in
-    let mid = c.next.new.self in
-    let taken = subst (IsNextOf w mid) c.if-branch.true c.in_ok-next.ensures in
-    let e = inv.each t h there in
-    let stage = e.0 ∙ taken_stage (room_of c.args.geometry) t c.args.cred.now c.args.form c.follows_last-follow.result w mid taken in
-    let held = kept (λ m. HoldsTree c.args.geometry m t) inv.same h in
-    let here = here_taken w mid t taken e.1 in
+    let held = kept (λ m. HoldsTree c.args.geometry m t) c.loop-walker.invariant.same h in
+    let on = goes_on c.args.geometry t c.args.cred.now c.args.form c.follows_last-follow.result c.loop-walker.walker c.next.new.self
+    (c.loop-walker.invariant.each t h there) c.if-branch.true c.in_ok-next.ensures in
     let cur = g.S.Sectors.state c.loop-walker.s in
     let new = g.S.Sectors.state c.step.new.s in
-    let s = subst (λ (b : Bool). IsStep cur.disk new.disk (room_of c.args.geometry) t c.args.cred.now c.args.form c.follows_last-follow.result mid c.step.new.self (Ok b)) c.if-not-branch.true
-    (c.in_ok-step.ensures.each t held here c.args.form) in
-    stage ∙ s ∙ ap (λ (f : Found). Ok f) (sym c.found.ensures)
+    let mid = c.next.new.self in
+    let s =
+    subst (λ (b : Bool). IsStep cur.disk new.disk (room_of c.args.geometry) t c.args.cred.now c.args.form c.follows_last-follow.result mid c.step.new.self (Ok b))
+    c.if-not-branch.true (c.in_ok-step.ensures.each t held on.1 c.args.form) in
+    on.0 ∙ s ∙ ap (λ (f : Found). Ok f) (sym c.found.ensures)
 
 pub returns-then-not-branch-clause-same : goal.returns-then-not-branch-clause-same
 returns-then-not-branch-clause-same g c = unchanged_joined c.loop-walker.invariant.same c.in_ok-step.ensures.same
@@ -171,49 +174,49 @@ returns-then-not-branch-clause-cause g c = record {
 
 pub loop-walker-smaller : goal.loop-walker-smaller
 loop-walker-smaller g c =
-    let w = c.loop-walker.walker in
-    let mid = c.next.new.self in
-    let taken = subst (IsNextOf w mid) c.if-branch.true c.in_ok-next.ensures in
-    goes_less w mid c.step.new.self c.loop-walker.invariant.room taken c.in_ok-step.ensures.way
+    goes_less c.loop-walker.walker c.next.new.self c.step.new.self c.loop-walker.invariant.room
+    (has_taken c.loop-walker.walker c.next.new.self c.if-branch.true c.in_ok-next.ensures) c.in_ok-step.ensures.way
 
 pub loop-walker-preserved : goal.loop-walker-preserved
 loop-walker-preserved g c =
-    let old = g.S.Sectors.state c.args.s.now in
     let inv = c.loop-walker.invariant in
     let w = c.loop-walker.walker in
     let mid = c.next.new.self in
-    let taken = subst (IsNextOf w mid) c.if-branch.true c.in_ok-next.ensures in
     record {
       same = unchanged_joined inv.same c.in_ok-step.ensures.same;
       at = kept_back (λ m. StandsAt c.args.geometry m c.step.new.self) inv.same c.in_ok-step.ensures.at;
-      room = room_after w mid c.step.new.self inv.room taken c.in_ok-step.ensures.way;
+      room = room_after w mid c.step.new.self inv.room (has_taken w mid c.if-branch.true c.in_ok-next.ensures) c.in_ok-step.ensures.way;
       each = λ t h there.
-          let e = inv.each t h there in
-          let stage = e.0 ∙ taken_stage (room_of c.args.geometry) t c.args.cred.now c.args.form c.follows_last-follow.result w mid taken in
           let held = kept (λ m. HoldsTree c.args.geometry m t) inv.same h in
-          let here = here_taken w mid t taken e.1 in
+          let on = goes_on c.args.geometry t c.args.cred.now c.args.form c.follows_last-follow.result w mid
+          (inv.each t h there) c.if-branch.true c.in_ok-next.ensures in
           let cur = g.S.Sectors.state c.loop-walker.s in
           let new = g.S.Sectors.state c.step.new.s in
-          let s = subst (λ (b : Bool). IsStep cur.disk new.disk (room_of c.args.geometry) t c.args.cred.now c.args.form c.follows_last-follow.result mid c.step.new.self (Ok b)) c.if-not-branch.false
-          (c.in_ok-step.ensures.each t held here c.args.form) in
-          (stage ∙ s.0, s.1);
+          let s =
+          subst (λ (b : Bool). IsStep cur.disk new.disk (room_of c.args.geometry) t c.args.cred.now c.args.form c.follows_last-follow.result mid c.step.new.self (Ok b))
+          c.if-not-branch.false (c.in_ok-step.ensures.each t held on.1 c.args.form) in
+          (on.0 ∙ s.0, s.1);
     }
 
--- ---- the end
+-- ---- the end: no component is left, and what the walk answers is what the walker arrives at
+arrives : {b : Bool} {answer : Result Found Refusal}
+    (p : Geometry) (image : SectorMap) (t : Tree) (cred : Credential) (form : Form) (follow : Bool) (w mid : Walker)
+    → HoldsTree p image t → StandsAt p image w → (answer ≡ stage_of (room_of p) t cred form follow w (names_ahead w)) × IsThere t w.here
+    → b ≡ false → IsNextOf w mid b → answer ≡ arrival_of form mid
+arrives p image t cred form follow w mid h at e no_more next =
+    let none = subst (IsNextOf w mid) no_more next in
+    e.0 ∙ end_stage (room_of p) t cred form p image follow w h at e.1 none.0 ∙ ap (arrival_of form) (sym none.1)
+
 pub returns-in_err-found-clause-each : goal.returns-in_err-found-clause-each
 returns-in_err-found-clause-each g c = λ t h there.
     let old = g.S.Sectors.state c.args.s.now in
     let inv = c.loop-walker.invariant in
-    let w = c.loop-walker.walker in
-    let mid = c.next.new.self in
-    let none = subst (IsNextOf w mid) c.if-branch.false c.in_ok-next.ensures in
-    let e = inv.each t h there in
-    let stage = e.0 ∙ end_stage (room_of c.args.geometry) t c.args.cred.now c.args.form c.args.geometry old.sectors c.follows_last-follow.result w h inv.at e.1 none.0
-    ∙ ap (arrival_of c.args.form) (sym none.1) ∙ sym c.arrive.ensures in
+    let arrival = arrives c.args.geometry old.sectors t c.args.cred.now c.args.form c.follows_last-follow.result c.loop-walker.walker c.next.new.self h inv.at
+    (inv.each t h there) c.if-branch.false c.in_ok-next.ensures in
     let cur = g.S.Sectors.state c.loop-walker.s in
     let r = c.from_residual-in_err-found.ensures in
     answered_err old.disk cur.disk (walk_of (room_of c.args.geometry) t c.args.cred.now c.args.number c.args.form c.args.cwd c.args.path.now)
-    c.from_residual-in_err-found.result c.in_err-found.field-0.0 r.0 r.1 (inl (stage ∙ c.in_err-found.was))
+    c.from_residual-in_err-found.result c.in_err-found.field-0.0 r.0 r.1 (inl (arrival ∙ sym c.arrive.ensures ∙ c.in_err-found.was))
 
 pub returns-in_err-found-clause-same : goal.returns-in_err-found-clause-same
 returns-in_err-found-clause-same g c = c.loop-walker.invariant.same
@@ -231,13 +234,9 @@ pub returns-clause-each : goal.returns-clause-each
 returns-clause-each g c = λ t h there.
     let old = g.S.Sectors.state c.args.s.now in
     let inv = c.loop-walker.invariant in
-    let w = c.loop-walker.walker in
-    let mid = c.next.new.self in
-    let none = subst (IsNextOf w mid) c.if-branch.false c.in_ok-next.ensures in
-    let e = inv.each t h there in
-    let stage = e.0 ∙ end_stage (room_of c.args.geometry) t c.args.cred.now c.args.form c.args.geometry old.sectors c.follows_last-follow.result w h inv.at e.1 none.0
-    ∙ ap (arrival_of c.args.form) (sym none.1) ∙ sym c.arrive.ensures in
-    stage ∙ c.in_ok-found.was
+    let arrival = arrives c.args.geometry old.sectors t c.args.cred.now c.args.form c.follows_last-follow.result c.loop-walker.walker c.next.new.self h inv.at
+    (inv.each t h there) c.if-branch.false c.in_ok-next.ensures in
+    arrival ∙ sym c.arrive.ensures ∙ c.in_ok-found.was
 
 pub returns-clause-same : goal.returns-clause-same
 returns-clause-same g c = c.loop-walker.invariant.same

@@ -1,17 +1,23 @@
 use Rattle.std.proofs.Common.{◌≡◌, ℕ, ◌+◌, List, Ok, Err, Bool, true, false, refl, sym, ap, subst, ◌∙◌, inl, inr}
-use Rattle.std.specs.Prelude.{Option, not, ◌&&◌, ◌||◌}
+use Rattle.std.specs.Prelude.{Option, Some, not, ◌&&◌, ◌||◌}
+use Rattle.fs_cred.specs.Credentials.{Credential}
 use Rattle.fs_cred.specs.declared.refusal.Refusal.{Refusal}
+use Rattle.fs_layout.specs.declared.geometry.Geometry.{Geometry}
+use Rattle.fs_layout.specs.declared.inode.Inode.{Inode}
 use Rattle.fs_layout.specs.Bytes.{SectorMap}
 use Rattle.fs_layout.specs.Images.{inode_at, Holds}
 use Rattle.fs_model.specs.Parts.{is_empty}
 use Rattle.fs_model.specs.Stands.{room_of}
 use Rattle.fs_model.specs.Summaries.{is_link_kind}
-use Rattle.path_walk.specs.HeldTrees.{IsThere}
+use Rattle.fs_model.specs.Trees.{Tree}
+use Rattle.path_walk.specs.declared.walker.Walker.{Walker}
+use Rattle.path_walk.specs.HeldTrees.{HoldsTree, IsThere}
+use Rattle.path_walk.specs.Lookups.{lookup_of}
 use Rattle.path_walk.specs.Stages.{names_ahead, IsStep, StandsAt, IsBehind}
 use Rattle.block_map.proofs.Runs.{unchanged_joined}
 use Rattle.path_walk.proofs.HeldNodes.{starts_there}
 use Rattle.path_walk.proofs.Kept.{same_map, kept, kept_back, sound_kept, is_err, interrupted, interrupts_later, same_ok, on_err, failed_with, interrupt_caused, loop_caused, caused_later}
-use Rattle.path_walk.proofs.Staging.{refused_stage, lost_stage, none_stage, moved_stage, looped_stage, behind_stage, is_moved, is_followed}
+use Rattle.path_walk.proofs.Staging.{refused_stage, lost_stage, none_stage, moved_stage, looped_stage, behind_stage, is_moved, IsFollowed, is_followed}
 use Rattle.path_walk.proofs.Stepping.{found_there, link_is, behind_way}
 use Rattle.path_walk.proofs.walker.Walker.step.Goals as goal
 
@@ -90,6 +96,15 @@ pub follow-requires-clause-link : goal.follow-requires-clause-link
 follow-requires-clause-link g c =
     link_is c.in_ok-inode.inode.kind (both (is_link_kind c.in_ok-inode.inode.kind) (c.args.follow || not c.is_last-is_last.result) (sym c.is_followed.ensures ∙ c.if-is_followed.true))
 
+-- what was found is a link that is followed, where the function asked so
+link_followed : {p : Geometry} {image : SectorMap} {t : Tree} {is_last goes : Bool} → HoldsTree p image t → (cred : Credential) (w : Walker) (n : ℕ)
+    → lookup_of (room_of p) t cred w.number w.step w.here w.name.items ≡ Ok (Some n) → (v : Inode) → v ≡ inode_at p image n → (follow : Bool)
+    → is_last ≡ is_empty (names_ahead w) → goes ≡ (is_link_kind v.kind && (follow || not is_last)) → goes ≡ true
+    → IsFollowed image t n v (follow || not (is_empty (names_ahead w)))
+link_followed h cred w n a v is follow last asks goes =
+    is_followed h n (found_there h cred w.number w.step w.here w.name.items n a) v is (follow || not (is_empty (names_ahead w)))
+    (ap (λ (b : Bool). is_link_kind v.kind && (follow || not b)) (sym last) ∙ sym asks ∙ goes)
+
 pub returns-in_err-follow-clause-each : goal.returns-in_err-follow-clause-each
 returns-in_err-follow-clause-each g c = λ t h there form.
     let w = c.args.self.now in
@@ -97,12 +112,8 @@ returns-in_err-follow-clause-each g c = λ t h there form.
     let new = g.S.Sectors.state c.follow.new.s in
     let n = c.in-Some.ino in
     let a = c.in_ok-found.ensures.each t h there ∙ ap (λ (o : Option ℕ). Ok o) c.in-Some.is in
-    let found = found_there h c.args.cred.now w.number w.step w.here w.name.items n a in
-    let v = c.in_ok-inode.inode in
     let is = sym (same_ok _ _ c.in_ok-inode.ensures.each) ∙ ap (λ (m : SectorMap). inode_at c.args.geometry m n) (same_map c.in_ok-found.ensures.same) in
-    let goes : (is_link_kind v.kind && (c.args.follow || not (is_empty (names_ahead w)))) ≡ true =
-    ap (λ (b : Bool). is_link_kind v.kind && (c.args.follow || not b)) (sym c.is_last-is_last.ensures) ∙ sym c.is_followed.ensures ∙ c.if-is_followed.true in
-    let f = is_followed h n found v is (c.args.follow || not (is_empty (names_ahead w))) goes in
+    let f = link_followed h c.args.cred.now w n a c.in_ok-inode.inode is c.args.follow c.is_last-is_last.ensures c.is_followed.ensures c.if-is_followed.true in
     let same = unchanged_joined c.in_ok-found.ensures.same c.in_ok-inode.ensures.same in
     let r = c.from_residual-in_err-follow.ensures in
     subst (λ q. IsStep old.disk new.disk (room_of c.args.geometry) t c.args.cred.now form c.args.follow w c.follow.new.self q)
@@ -120,19 +131,14 @@ returns-in_ok-follow-clause-each g c = λ t h there form.
     let w = c.args.self.now in
     let n = c.in-Some.ino in
     let a = c.in_ok-found.ensures.each t h there ∙ ap (λ (o : Option ℕ). Ok o) c.in-Some.is in
-    let found = found_there h c.args.cred.now w.number w.step w.here w.name.items n a in
-    let v = c.in_ok-inode.inode in
     let is = sym (same_ok _ _ c.in_ok-inode.ensures.each) ∙ ap (λ (m : SectorMap). inode_at c.args.geometry m n) (same_map c.in_ok-found.ensures.same) in
-    let last = c.is_last-is_last.ensures in
-    let goes : (is_link_kind v.kind && (c.args.follow || not (is_empty (names_ahead w)))) ≡ true =
-    ap (λ (b : Bool). is_link_kind v.kind && (c.args.follow || not b)) (sym last) ∙ sym c.is_followed.ensures ∙ c.if-is_followed.true in
-    let f = is_followed h n found v is (c.args.follow || not (is_empty (names_ahead w))) goes in
+    let f = link_followed h c.args.cred.now w n a c.in_ok-inode.inode is c.args.follow c.is_last-is_last.ensures c.is_followed.ensures c.if-is_followed.true in
     let same = unchanged_joined c.in_ok-found.ensures.same c.in_ok-inode.ensures.same in
     let went = c.in_ok-follow.ensures.behind in
-    let target = went.3 f.target (kept (λ m. Holds m v f.target) same f.holds) in
+    let target = went.3 f.target (kept (λ m. Holds m c.in_ok-inode.inode f.target) same f.holds) in
     let new = c.follow.new.self in
     let b = subst (λ (l : List ℕ). IsBehind l c.is_last-is_last.result (record w { step = w.step + 1 }) new) target went.1 in
-    let behind = subst (λ (l : Bool). IsBehind f.target l (record w { step = w.step + 1 }) new) last b in (
+    let behind = subst (λ (l : Bool). IsBehind f.target l (record w { step = w.step + 1 }) new) c.is_last-is_last.ensures b in (
       behind_stage (room_of c.args.geometry) t c.args.cred.now form c.args.follow w c.requires.taken n a f.target f.through (record w { step = w.step + 1 }) new refl behind,
       subst (IsThere t) (sym behind.here) (starts_there h f.target w.here there),
     )

@@ -3,7 +3,7 @@ use Rattle.std.proofs.lemmas.Result.{IfOk-weaker}
 use Rattle.clap.specs.Simple.{app_of_fields}
 use Rattle.clap.specs.Words.{rule_of, with_rule}
 use Rattle.clap.specs.declared.builder.arg.Arg.{Arg}
-use Rattle.fs_command.proofs.words.upgrade_command.Goals as goal
+use Rattle.fs_command.proofs.words.on_image.Goals as goal
 
 pub returns : goal.returns
 returns c =

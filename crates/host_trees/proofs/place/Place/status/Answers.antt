@@ -1,5 +1,5 @@
 use Rattle.host_trees.proofs.Asking.{asks_nothing}
-use Rattle.host_trees.proofs.objects.make_file.Goals as goal
+use Rattle.host_trees.proofs.place.Place.status.Goals as goal
 
 pub returns-in_err-path : goal.returns-in_err-path
 returns-in_err-path g c = asks_nothing _ _
