@@ -144,13 +144,20 @@ def killed_later(mounted):
     os.kill(mounted.server(), signal.SIGKILL)
 
 
+def device_in(record):
+    """The device number of a record's mount; none where its helper has just ended."""
+    try:
+        return (record / 'device').read_text().strip()
+    except FileNotFoundError:
+        return None
+
+
 def helper_of(mounted):
-    """The process that looks after the server of this mount."""
+    """The process that looks after the server of this mount: its record is the newest with this number, which mounts before it may have had."""
     device = mounted.mount.stat().st_dev
-    for record in pathlib.Path('/run/inofs').iterdir():
-        if (record / 'device').read_text().strip() == f'{os.major(device)}:{os.minor(device)}':
-            return int((record / 'pid').read_text())
-    return None
+    number = f'{os.major(device)}:{os.minor(device)}'
+    records = [record for record in pathlib.Path('/run/inofs').iterdir() if device_in(record) == number]
+    return int((max(records, key=lambda record: record.stat().st_mtime) / 'pid').read_text())
 
 
 def terminated(mounted):
