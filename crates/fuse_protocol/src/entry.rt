@@ -118,13 +118,13 @@ fn push_found(to: &mut Vec<u8>, found: Option<FoundEntry>) -> Result<(), AllocEr
 
 /// Adds the record of an entry.
 #[tactic(auto, using(std::proofs::Common::append_assoc), unfolding(crate::specs::Entries::directory_record_bytes))]
-pub fn push_record(to: &mut Vec<u8>, record: &DirectoryRecord<'_>) -> Result<(), AllocError>
-    requires { length record.now.entry.name < 2 ^ 32 }
-    ensures bytes { OnOk result (to.new.items ≡ to.old.items ++ directory_record_bytes record.now) }
+pub fn push_record(to: &mut Vec<u8>, entry_record: &DirectoryRecord<'_>) -> Result<(), AllocError>
+    requires { length entry_record.now.entry.name < 2 ^ 32 }
+    ensures bytes { OnOk result (to.new.items ≡ to.old.items ++ directory_record_bytes entry_record.now) }
     ensures capacity { vec_capacity to.old ≤ vec_capacity to.new }
-    ensures succeeds { vec_len to.old + record_size (length record.now.entry.name) ≤ vec_capacity to.old → IsOk result }
+    ensures succeeds { vec_len to.old + record_size (length entry_record.now.entry.name) ≤ vec_capacity to.old → IsOk result }
 {
-    push_found(to, record.found)?;
-    push_whole(to, &record.entry)?;
+    push_found(to, entry_record.found)?;
+    push_whole(to, &entry_record.entry)?;
     Ok(())
 }
