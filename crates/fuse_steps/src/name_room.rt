@@ -12,6 +12,7 @@ pub const LONGEST_NAME: usize = 255;
 /// Room for names. Contracts see for how many.
 #[derive(Drop)]
 pub struct NameRoom {
+    alloc: Global,
     spares: Vec<Vec<u8>>,
 }
 
@@ -35,16 +36,20 @@ impl NameRoom {
         for _round in 0..count {
             spares.push(Vec::with_capacity(alloc, LONGEST_NAME)?)?;
         }
-        Ok(NameRoom { spares })
+        Ok(NameRoom { alloc, spares })
     }
 
-    /// A copy of a name, in the room for one, of which it takes as much as it needs.
+    /// A copy of a name, in memory of its length; where that is refused, in the room for one. Room that were cut to the length of
+    /// a name would leave gaps which no other name fits into.
     pub fn copy(&mut self, name: &[u8]) -> Path
         requires room { 1 ≤ self.old }
         requires short { length name.now ≤ longest_name }
         ensures name { result ≡ name.now }
         ensures room { self.old ≤ self.new + 1 }
     {
+        if let Ok(copy) = Path::from_slice(self.alloc, name) {
+            return copy;
+        }
         let Some(mut bytes) = self.spares.pop() else {
             unreachable!()
         };
@@ -52,7 +57,6 @@ impl NameRoom {
         let Ok(()) = bytes.extend_from_slice(name) else {
             unreachable!()
         };
-        bytes.shrink_to_fit();
         Path::new(bytes)
     }
 }
