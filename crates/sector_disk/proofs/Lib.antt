@@ -3,6 +3,7 @@ mod Following
 mod Parted
 mod Picking
 mod Placed
+mod Sparse
 mod Undone
 pub mod Moments
 mod Passing

@@ -2,12 +2,13 @@
 use Rattle.std.proofs.Common.{◌≡◌, ◌≢◌, ◌⊎◌, inl, inr, ⊎_elim, ℕ, ◌+◌, ◌-◌, ◌<◌, ◌≤◌, List, [], ◌∷◌, ◌++◌, length, take, drop, refl, sym, ◌∙◌, ap, subst, arith, slice_set, get_or, replicate, length-set, length-append, length-take, length-drop, get_or-set_other}
 use Rattle.std.proofs.lemmas.Bool.{cases_eq, cases_lt}
 use Rattle.std.proofs.lemmas.Grind.{get_or-set_at, get_or_default_zero}
-use Rattle.std.proofs.lemmas.List.{get_or_past, get_or_default, ext_get_or, take_all, get_or-take, get_or-drop, get_or_append_left, get_or-append_right, get_or-map, get_or-replicate, length-map, length-replicate}
+use Rattle.std.proofs.lemmas.List.{get_or_past, get_or_default, ext_get_or, get_or-take, get_or-drop, get_or_append_left, get_or-append_right, get_or-map, get_or-replicate, length-map, length-replicate}
 use Rattle.std.specs.Prelude.{Result, slice_range, Bool, false, not, if◌then◌else◌}
 use Rattle.std.specs.Result.{is_ok}
 use Rattle.sector_disk.specs.Disk.{Image, sector, IsWholeSector}
 use Rattle.sector_disk.specs.Whole.{AreSectors}
-use Rattle.sector_disk.specs.Places.{sectors_at, KeptSectors, OwnsPlace, IsKept, IsRunSet, IsRow}
+use Rattle.sector_disk.specs.Places.{sectors_at, KeptSectors, OwnsPlace, IsKept, IsRunSet}
+use Rattle.sector_disk.specs.Numbers.{IsRow}
 
 pub sector_shown : (contents : Image) (places : List ℕ) (n : ℕ) → n < length places → sector (sectors_at contents places) n ≡ sector contents (get_or places n 0)
 sector_shown contents places n below = get_or-map (sector contents) places n 0 [] below
@@ -347,18 +348,17 @@ shown_whole places contents owners kept n below =
 
 -- ---- as a function has them
 -- the place of a sector, as it's read
-pub place_read : (places : List ℕ) (contents seen : Image) (n at : ℕ) → sectors_at contents places ≡ seen → n < length seen → at ≡ get_or places n at → (n < length places) × (at ≡ get_or places n 0)
+pub place_read : (places : List ℕ) (contents seen : Image) (n at : ℕ) → sectors_at contents places ≡ seen → n < length seen → at ≡ get_or places n 0 → (n < length places) × (at ≡ get_or places n 0)
 place_read places contents seen n at is fits read =
     let below : n < length places = let size = ap (λ (i : Image). length i) is in omega (arith, fits, size, length-map places (sector contents)) in
-    (below, read ∙ get_or_default_zero places n at below)
+    (below, read)
 
 -- what is read of a sector isn't zeros only where it has a place
 pub read_placed : (places : List ℕ) (contents : Image) (owners : List ℕ) (sectors : KeptSectors) (n at : ℕ) (read : List ℕ) → IsKept places contents owners
-    → record { shown = sectors_at contents places; places = places } ≡ sectors → n < length sectors.shown → at ≡ get_or places n at → read ≡ get_or contents at read
+    → record { shown = sectors_at contents places; places = places } ≡ sectors → n < length sectors.shown → at ≡ get_or places n 0 → read ≡ get_or contents at read
     → read ≢ replicate 512 0 → OwnsPlace sectors n
 read_placed places contents owners sectors n at read kept is fits place content used none =
-    let below : n < length places = let size = ap (λ (i : Image). length i) (shown_is is) in omega (arith, fits, size, length-map places (sector contents)) in
-    let zero : at ≡ 0 = place ∙ get_or_default_zero places n at below ∙ ap (λ l. get_or l n 0) (places_are is) ∙ none in
+    let zero : at ≡ 0 = place ∙ ap (λ l. get_or l n 0) (places_are is) ∙ none in
     used (content ∙ ap (λ k. get_or contents k read) zero ∙ get_or_default contents 0 read [] kept.some ∙ kept.zeros)
 
 -- the place of a sector, as a contract sees it
@@ -455,12 +455,6 @@ removal places contents owners n at contents' owners' c c' o o' kept read used c
 pub pushed : {X : Type 0} {T E : Type 0} (r : Result T E) (e : Bool) (old new : List X) (x : X) → is_ok r ≡ not e → e ≡ false → new ≡ (if is_ok r then old ++ x ∷ [] else old) → new ≡ old ++ x ∷ []
 pushed r e old new x negation fine is = is ∙ ap (λ b. if b then old ++ x ∷ [] else old) (negation ∙ ap not fine)
 
--- ---- a list that is made anew
-pub made : (n len : ℕ) (old new : List ℕ) → old ≡ [] → len ≡ 0 → new ≡ take n old ++ replicate {A = ℕ} (n - len) 0 → new ≡ replicate {A = ℕ} n 0
-made n len old new none nought is =
-    is ∙ ap (λ l. take n l ++ replicate {A = ℕ} (n - len) 0) none ∙ ap (λ l. l ++ replicate {A = ℕ} (n - len) 0) (take_all n [] (omega arith))
-    ∙ ap (λ k. replicate {A = ℕ} k 0) (let rest : n - len ≡ n = omega (arith, nought) in rest)
-
 -- ---- neighbours, one after the other
 pub run_none : (first : ℕ) (run image : Image) → IsRunSet first (take 0 run) image image
 run_none first run image = record {
@@ -533,12 +527,11 @@ row_shown first len start places contents fits stands row =
     other : length (slice_range (sectors_at contents places) first (first + len)) ≡ len
     other = omega (arith, fits, length-take (first + len - first) (drop first (sectors_at contents places)), length-drop first (sectors_at contents places), length-map places (sector contents))
 
-pub row_seen : (first len start : ℕ) (places read : List ℕ) (contents stored seen : Image) → sectors_at contents places ≡ seen → read ≡ places → stored ≡ contents → first + len ≤ length seen
-    → start + len ≤ length contents → IsRow start (slice_range read first (first + len)) → slice_range stored start (start + len) ≡ slice_range seen first (first + len)
-row_seen first len start places read contents stored seen view read_is stored_is fits stands row =
+pub row_seen : (first len start : ℕ) (places : List ℕ) (contents stored seen : Image) → sectors_at contents places ≡ seen → stored ≡ contents → first + len ≤ length seen
+    → start + len ≤ length contents → IsRow start (slice_range places first (first + len)) → slice_range stored start (start + len) ≡ slice_range seen first (first + len)
+row_seen first len start places contents stored seen view stored_is fits stands row =
     ap (λ (i : Image). slice_range i start (start + len)) stored_is
-    ∙ row_shown first len start places contents (let size = ap (λ (i : Image). length i) view in omega (arith, fits, size, length-map places (sector contents))) stands
-    (subst (λ (l : List ℕ). IsRow start (slice_range l first (first + len))) read_is row)
+    ∙ row_shown first len start places contents (let size = ap (λ (i : Image). length i) view in omega (arith, fits, size, length-map places (sector contents))) stands row
     ∙ ap (λ (i : Image). slice_range i first (first + len)) view
 
 -- bytes of a sector that are all zero

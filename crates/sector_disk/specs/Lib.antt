@@ -2,6 +2,7 @@ pub mod Disk
 pub mod Faults
 pub mod Files
 pub mod Forgotten
+pub mod Numbers
 pub mod Parts
 pub mod Picks
 pub mod Places

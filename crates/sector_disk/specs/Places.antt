@@ -3,7 +3,6 @@
 --     KeptSectors, OwnsPlace        sectors and their places, as a contract sees them
 --     IsKept        zeros stand at place 0, and each other place has one owner
 --     IsRunSet        neighbours got other contents
---     IsRow        neighbouring places
 use Rattle.std.specs.Prelude.{◌≡◌, ◌≢◌, ℕ, ◌+◌, ◌-◌, ◌<◌, ◌≤◌, List, length, map, get_or, replicate}
 use Rattle.sector_disk.specs.Disk.{Image, sector}
 use Rattle.sector_disk.specs.Whole.{AreSectors}
@@ -38,7 +37,3 @@ pub record IsRunSet (first : ℕ) (run old new : Image) : Type 0 where
   pub inside : (n : ℕ) → first ≤ n → n < first + length run → sector new n ≡ sector run (n - first)
   pub before : (n : ℕ) → n < first → sector new n ≡ sector old n
   pub behind : (n : ℕ) → first + length run ≤ n → sector new n ≡ sector old n
-
--- Some places are neighbours, from `start` on.
-abbrev pub IsRow : ℕ → List ℕ → Type 0
-IsRow start places = (k : ℕ) → k < length places → get_or places k 0 ≡ start + k

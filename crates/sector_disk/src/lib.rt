@@ -7,6 +7,7 @@ mod faulty;
 mod file_disk;
 mod history;
 mod memory;
+mod numbers;
 mod part_disk;
 mod part_file;
 mod reading;

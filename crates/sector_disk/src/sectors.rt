@@ -1,10 +1,11 @@
-//! Sectors in memory, of which those that are zeros take four bytes each.
+//! Sectors in memory, of which those that are zeros take four bytes each at most.
 
-ghost use Rattle.std.specs.Prelude.{◌≡◌, ◌≢◌, ◌<◌, ◌≤◌, ◌+◌, ◌^◌, ℕ, length, get_or, replicate, slice_set, slice_range, IfOk, IfSome, IsTrue, OnOk, OnErr};
+ghost use Rattle.std.specs.Prelude.{◌≡◌, ◌≢◌, ◌<◌, ◌≤◌, ◌+◌, ◌^◌, ℕ, length, get_or, replicate, slice_set, slice_range, IfOk, IfSome, OnOk, OnErr};
 ghost use Rattle.sector_disk.specs.Disk.{sector};
 ghost use Rattle.sector_disk.specs.Whole.{AreSectors};
-ghost use Rattle.sector_disk.specs.Places.{OwnsPlace, IsRunSet, IsRow};
+ghost use Rattle.sector_disk.specs.Places.{OwnsPlace, IsRunSet};
 
+use crate::numbers::Numbers;
 use crate::whole::tell_whole;
 use std::alloc::{AllocError, Global};
 use std::marker::Model;
@@ -18,7 +19,7 @@ const ZEROS: [u8; 512] = [0; 512];
 #[derive(Drop)]
 pub struct Sectors {
     // For each sector where its content stands.
-    places: Vec<u32>,
+    places: Numbers,
     // Zeros, and behind them the contents of the sectors that have a place.
     contents: Vec<[u8; 512]>,
     // For each place but the first the sector that has it.
@@ -30,9 +31,9 @@ impl Model for Sectors {
 
     ghost Value = { KeptSectors };
 
-    ghost view = { λ sectors. record { shown = sectors_at sectors.contents.items sectors.places.items; places = sectors.places.items } };
+    ghost view = { λ sectors. record { shown = sectors_at sectors.contents.items sectors.places; places = sectors.places } };
 
-    ghost invariant = { λ sectors. IsKept sectors.places.items sectors.contents.items sectors.owners.items };
+    ghost invariant = { λ sectors. IsKept sectors.places sectors.contents.items sectors.owners.items };
 }
 
 impl Sectors {
@@ -41,8 +42,7 @@ impl Sectors {
         ensures { IfOk result (λ sectors. sectors.shown ≡ replicate count (replicate 512 0)) }
     {
         tell_whole(&ZEROS);
-        let mut places = Vec::new(alloc);
-        places.resize(count as usize, 0)?;
+        let places = Numbers::zeros(alloc, count)?;
         let mut contents = Vec::new(alloc);
         contents.push(ZEROS)?;
         let mut owners = Vec::new(alloc);
@@ -67,7 +67,7 @@ impl Sectors {
         ensures content { result.now ≡ sector self.now.shown n }
         ensures placed { result.now ≢ replicate 512 0 → OwnsPlace self.now n }
     {
-        &self.contents[self.places[n as usize] as usize]
+        &self.contents[self.places.get(n as usize) as usize]
     }
 
     /// Gives one another content. Zeros need no memory, nor does one that has a place. Each keeps its place; at `Err` nothing
@@ -78,7 +78,7 @@ impl Sectors {
         ensures err { OnErr result (self.new ≡ self.old) }
         ensures keeps { (k : ℕ) → OwnsPlace self.old k → OwnsPlace self.new k }
     {
-        if self.places[n as usize] != 0 {
+        if self.places.get(n as usize) != 0 {
             self.replace(n, content);
             return Ok(());
         }
@@ -128,17 +128,17 @@ impl Sectors {
         ensures shown { self.new.shown ≡ slice_set self.old.shown n (replicate 512 0) }
         ensures keeps { (k : ℕ) → k ≢ n → OwnsPlace self.old k → OwnsPlace self.new k }
     {
-        let place = self.places[n as usize];
+        let place = self.places.get(n as usize);
         if place == 0 {
             return;
         }
         let at = place as usize;
         self.contents.swap_remove(at);
         self.owners.swap_remove(at);
-        self.places[n as usize] = 0;
+        self.places.replace(n as usize, 0);
         if at < self.owners.len() {
             let moved = self.owners[at];
-            self.places[moved as usize] = place;
+            self.places.replace(moved as usize, place);
         }
     }
 
@@ -150,7 +150,7 @@ impl Sectors {
         ensures places { self.new.places ≡ self.old.places }
     {
         tell_whole(content);
-        let place = self.places[n as usize];
+        let place = self.places.get(n as usize);
         self.contents[place as usize] = *content;
     }
 
@@ -172,7 +172,11 @@ impl Sectors {
             self.owners.pop();
             return Err(AllocError);
         }
-        self.places[n as usize] = place;
+        if let Err(refused) = self.places.add(n as usize, place) {
+            self.owners.pop();
+            self.contents.pop();
+            return Err(refused);
+        }
         Ok(())
     }
 
@@ -193,10 +197,13 @@ impl Sectors {
         requires { first + len ≤ length self.now.shown }
         ensures { IfSome result (λ run. run.now ≡ slice_range self.now.shown first (first + len)) }
     {
-        let from = first as usize;
-        let places = &self.places[from..from + len];
-        let start = *places.first()? as usize;
-        if start + len > self.contents.len() || !are_in_row(places, start) {
+        if len == 0 {
+            return None;
+        }
+        let start = self.places.get(first as usize) as usize;
+        if self.contents.len() - start < len
+            || !self.places.are_in_row(first as usize, len, start)
+        {
             return None;
         }
         Some(&self.contents[start..start + len])
@@ -224,17 +231,4 @@ impl Sectors {
 // Whether a sector begins as one of zeros does: what most others don't.
 fn may_be_zeros(content: &[u8; 512]) -> bool {
     content[0] == 0
-}
-
-// Whether these places are neighbours, from one on.
-fn are_in_row(places: &[u32], start: usize) -> bool
-    requires { start + length places.now < 2 ^ 64 }
-    ensures { IsTrue result → IsRow start places.now }
-{
-    for (i, place) in places.iter().enumerate() {
-        if *place as usize != start + i {
-            return false;
-        }
-    }
-    true
 }

@@ -7,19 +7,19 @@ pub invariant_of-self : goal.invariant_of-self
 invariant_of-self c =
     let i = c.self.inside in
     let n = c.args.n in
-    let at = c.index-place.result.now in
-    let read = place_read i.places.items i.contents.items c.args.self.now.shown n at (shown_is c.self.view_is) c.requires.below c.index-place.ensures in
-    let seen = place_seen i.places.items i.contents.items c.args.self.now n c.self.view_is c.requires.below in
+    let at = c.get-place.result in
+    let read = place_read i.places i.contents.items c.args.self.now.shown n at (shown_is c.self.view_is) c.requires.below c.get-place.ensures in
+    let seen = place_seen i.places i.contents.items c.args.self.now n c.self.view_is c.requires.below in
     let used : at ≢ 0 = λ none. c.requires.placed (sym seen.1 ∙ sym read.1 ∙ none) in
-    replaced_kept i.places.items i.contents.items i.owners.items at c.args.content.now c.self.invariant used c.tell_whole.ensures
+    replaced_kept i.places i.contents.items i.owners.items at c.args.content.now c.self.invariant used c.tell_whole.ensures
 
 pub returns-clause-shown : goal.returns-clause-shown
 returns-clause-shown c =
     let i = c.self.inside in
     let n = c.args.n in
-    let at = c.index-place.result.now in
-    let read = place_read i.places.items i.contents.items c.args.self.now.shown n at (shown_is c.self.view_is) c.requires.below c.index-place.ensures in
-    let seen = place_seen i.places.items i.contents.items c.args.self.now n c.self.view_is c.requires.below in
+    let at = c.get-place.result in
+    let read = place_read i.places i.contents.items c.args.self.now.shown n at (shown_is c.self.view_is) c.requires.below c.get-place.ensures in
+    let seen = place_seen i.places i.contents.items c.args.self.now n c.self.view_is c.requires.below in
     let used : at ≢ 0 = λ none. c.requires.placed (sym seen.1 ∙ sym read.1 ∙ none) in
-    replaced_shown i.places.items i.contents.items i.owners.items n at c.args.content.now c.self.invariant read.0 read.1 used
+    replaced_shown i.places i.contents.items i.owners.items n at c.args.content.now c.self.invariant read.0 read.1 used
     ∙ ap (λ (shown : Image). slice_set shown n c.args.content.now) (shown_is c.self.view_is)

@@ -9,6 +9,6 @@ returns-then-eq-clause-ok c =
     let n = c.args.n in
     let shown = shown_is c.self.view_is in
     let zeros : c.args.content.now ≡ replicate 512 0 = search rules in
-    let read = place_read i.places.items i.contents.items c.args.self.now.shown n c.index.result.now shown c.requires c.index.ensures in
-    sym shown ∙ zeros_stay i.places.items i.contents.items i.owners.items n c.self.invariant read.0 (sym read.1 ∙ c.if-index-ne0.false)
+    let read = place_read i.places i.contents.items c.args.self.now.shown n c.get.result shown c.requires c.get.ensures in
+    sym shown ∙ zeros_stay i.places i.contents.items i.owners.items n c.self.invariant read.0 (sym read.1 ∙ c.if-get-ne0.false)
     ∙ ap (λ (seen : Image). slice_set seen n (replicate 512 0)) shown ∙ ap (λ (content : List ℕ). slice_set c.args.self.now.shown n content) (sym zeros)

@@ -1,5 +1,0 @@
-use Rattle.std.proofs.Common.{◌≡◌, ◌<◌, ◌+◌, ℕ, get_or}
-use Rattle.sector_disk.proofs.sectors.are_in_row.Given as goal
-
-abbrev pub invariant-loop-i : goal.invariant-loop-i
-invariant-loop-i l = (k : ℕ) → k < l.i → get_or l.places k 0 ≡ l.start + k
