@@ -1,6 +1,6 @@
 //! The states of a commit. Each owns the disk, so that a disk has one of them at a time.
 
-ghost use Rattle.std.specs.Prelude.{◌≡◌, ◌<◌, ◌≤◌, ℕ, List, length, Some, Ok, IfOk, OnOk};
+ghost use Rattle.std.specs.Prelude.{◌≡◌, ◌<◌, ◌≤◌, ℕ, List, length, Some, Ok, IfOk, IfSome, OnOk};
 ghost use Rattle.redo_journal.specs.Batch.{IsOnDisk, with_batch};
 ghost use Rattle.redo_journal.specs.Meaning.{IsMapped, SameMap, data_of, disk_of, EachReadsAs, LeavesSameMap, LeavesAllOrNone};
 ghost use Rattle.fs_layout.specs.Header.{max_targets};
@@ -152,6 +152,15 @@ impl<D: Disk> Journal<D> {
         ensures cause { HasCause (D.state self.old) (D.state self.new) result }
     {
         self.disk.read(n, to)
+    }
+
+    /// What a read of sector 0, or of one behind the log, gives, where the disk has that in memory.
+    pub fn find(&self, n: u32) -> Option<&[u8; 512]>
+        requires part { IsMapped (header_at (D.state self.now).seen) n }
+        requires on_disk { n < (D.state self.now).size }
+        ensures { IfSome result (λ content. content.now ≡ data_of (D.state self.now) n) }
+    {
+        self.disk.find(n)
     }
 
     /// Lets go of what the disk keeps of its past.

@@ -6,45 +6,45 @@ use Rattle.std.proofs.lemmas.List.{take_all, get_or-take, get_or-drop, ext_get_o
 use Rattle.std.proofs.lemmas.List.FromFn.{get_or-range_with_len, length-range_with_len, length-map-range_with_len}
 use Rattle.std.specs.List.{range_with_len}
 use Rattle.std.specs.Prelude.{slice_range}
-use Rattle.sector_disk.specs.Numbers.{place_of, number_at, numbers_at, IsSparse, IsRow}
+use Rattle.sector_disk.specs.Numbers.{place_of, stored_number, stored_numbers, IsSparse, IsRow}
 
-pub numbers_len : (count : ℕ) (blocks stored : List ℕ) → length (numbers_at count blocks stored) ≡ count
-numbers_len count blocks stored = length-map-range_with_len (number_at blocks stored) 0 count
+pub numbers_len : (count : ℕ) (blocks stored : List ℕ) → length (stored_numbers count blocks stored) ≡ count
+numbers_len count blocks stored = length-map-range_with_len (stored_number blocks stored) 0 count
 
-pub number_seen : (count : ℕ) (blocks stored : List ℕ) (n : ℕ) → n < count → get_or (numbers_at count blocks stored) n 0 ≡ number_at blocks stored n
+pub number_seen : (count : ℕ) (blocks stored : List ℕ) (n : ℕ) → n < count → get_or (stored_numbers count blocks stored) n 0 ≡ stored_number blocks stored n
 number_seen count blocks stored n below =
-    get_or-map (number_at blocks stored) (range_with_len 0 count) n 0 0 (omega (arith, below, length-range_with_len 0 count))
-    ∙ ap (number_at blocks stored) (get_or-range_with_len 0 count n 0 below ∙ same)
+    get_or-map (stored_number blocks stored) (range_with_len 0 count) n 0 0 (omega (arith, below, length-range_with_len 0 count))
+    ∙ ap (stored_number blocks stored) (get_or-range_with_len 0 count n 0 below ∙ same)
   where
     same : 0 + n ≡ n
     same = omega arith
 
 -- the same numbers, or all but one
-numbers_same : (count : ℕ) (blocks blocks' stored stored' : List ℕ) → ((i : ℕ) → i < count → number_at blocks' stored' i ≡ number_at blocks stored i)
-    → numbers_at count blocks' stored' ≡ numbers_at count blocks stored
+numbers_same : (count : ℕ) (blocks blocks' stored stored' : List ℕ) → ((i : ℕ) → i < count → stored_number blocks' stored' i ≡ stored_number blocks stored i)
+    → stored_numbers count blocks' stored' ≡ stored_numbers count blocks stored
 numbers_same count blocks blocks' stored stored' each =
-    ext_get_or 0 (numbers_at count blocks' stored') (numbers_at count blocks stored) (numbers_len count blocks' stored' ∙ sym (numbers_len count blocks stored))
+    ext_get_or 0 (stored_numbers count blocks' stored') (stored_numbers count blocks stored) (numbers_len count blocks' stored' ∙ sym (numbers_len count blocks stored))
     (λ i fits.
     let below : i < count = omega (arith, fits, numbers_len count blocks' stored') in
     number_seen count blocks' stored' i below ∙ each i below ∙ sym (number_seen count blocks stored i below))
 
-numbers_set : (count : ℕ) (blocks stored stored' : List ℕ) (n value : ℕ) → n < count → number_at blocks stored' n ≡ value
-    → ((i : ℕ) → i < count → i ≢ n → number_at blocks stored' i ≡ number_at blocks stored i)
-    → numbers_at count blocks stored' ≡ slice_set (numbers_at count blocks stored) n value
+numbers_set : (count : ℕ) (blocks stored stored' : List ℕ) (n value : ℕ) → n < count → stored_number blocks stored' n ≡ value
+    → ((i : ℕ) → i < count → i ≢ n → stored_number blocks stored' i ≡ stored_number blocks stored i)
+    → stored_numbers count blocks stored' ≡ slice_set (stored_numbers count blocks stored) n value
 numbers_set count blocks stored stored' n value below here others =
-    ext_get_or 0 (numbers_at count blocks stored') (slice_set (numbers_at count blocks stored) n value)
-    (numbers_len count blocks stored' ∙ sym (length-set (numbers_at count blocks stored) n value ∙ numbers_len count blocks stored)) each
+    ext_get_or 0 (stored_numbers count blocks stored') (slice_set (stored_numbers count blocks stored) n value)
+    (numbers_len count blocks stored' ∙ sym (length-set (stored_numbers count blocks stored) n value ∙ numbers_len count blocks stored)) each
   where
-    each : (i : ℕ) → i < length (numbers_at count blocks stored') → get_or (numbers_at count blocks stored') i 0
-        ≡ get_or (slice_set (numbers_at count blocks stored) n value) i 0
+    each : (i : ℕ) → i < length (stored_numbers count blocks stored') → get_or (stored_numbers count blocks stored') i 0
+        ≡ get_or (slice_set (stored_numbers count blocks stored) n value) i 0
     each i fits =
         let fit : i < count = omega (arith, fits, numbers_len count blocks stored') in
         number_seen count blocks stored' i fit
         ∙ elim (cases_eq i n) [
           | inl same ↦
-              ap (number_at blocks stored') same ∙ here
-              ∙ sym (get_or-set_at (numbers_at count blocks stored) n i value 0 same (omega (arith, below, numbers_len count blocks stored)))
-          | inr other ↦ others i fit other ∙ sym (get_or-set_other (numbers_at count blocks stored) n i value 0 other ∙ number_seen count blocks stored i fit)
+              ap (stored_number blocks stored') same ∙ here
+              ∙ sym (get_or-set_at (stored_numbers count blocks stored) n i value 0 same (omega (arith, below, numbers_len count blocks stored)))
+          | inr other ↦ others i fit other ∙ sym (get_or-set_other (stored_numbers count blocks stored) n i value 0 other ∙ number_seen count blocks stored i fit)
         ]
 
 -- ---- where numbers stand
@@ -60,12 +60,12 @@ place_below count blocks stored n sparse below =
 in_first : (k : ℕ) → 0 * 1024 + k ≡ k
 in_first k = omega arith
 
-none_stored : (count : ℕ) (blocks stored : List ℕ) (n : ℕ) → IsSparse count blocks stored → get_or blocks (n / 1024) 0 ≡ 0 → number_at blocks stored n ≡ 0
+none_stored : (count : ℕ) (blocks stored : List ℕ) (n : ℕ) → IsSparse count blocks stored → get_or blocks (n / 1024) 0 ≡ 0 → stored_number blocks stored n ≡ 0
 none_stored count blocks stored n sparse zero =
     ap (λ b. get_or stored (b * 1024 + n % 1024) 0) zero ∙ ap (λ k. get_or stored k 0) (in_first (n % 1024)) ∙ sparse.zeros (n % 1024) (omega arith)
 
 -- one that isn't zero is stored of its own
-pub block_used : (count : ℕ) (blocks stored : List ℕ) (n : ℕ) → IsSparse count blocks stored → number_at blocks stored n ≢ 0 → get_or blocks (n / 1024) 0 ≢ 0
+pub block_used : (count : ℕ) (blocks stored : List ℕ) (n : ℕ) → IsSparse count blocks stored → stored_number blocks stored n ≢ 0 → get_or blocks (n / 1024) 0 ≢ 0
 block_used count blocks stored n sparse some zero =
     some (none_stored count blocks stored n sparse zero)
 
@@ -80,7 +80,7 @@ place_apart count blocks stored i n sparse fits below used same =
 
 -- ---- another number where the block is stored of its own
 pub replaced_numbers : (count : ℕ) (blocks stored : List ℕ) (n at value : ℕ) → IsSparse count blocks stored → n < count → get_or blocks (n / 1024) 0 ≢ 0
-    → at ≡ place_of blocks n → numbers_at count blocks (slice_set stored at value) ≡ slice_set (numbers_at count blocks stored) n value
+    → at ≡ place_of blocks n → stored_numbers count blocks (slice_set stored at value) ≡ slice_set (stored_numbers count blocks stored) n value
 replaced_numbers count blocks stored n at value sparse below used is =
     numbers_set count blocks stored (slice_set stored at value) n value below
     (get_or-set_at stored at (place_of blocks n) value 0 (sym is) (let fits = place_below count blocks stored n sparse below in omega (arith, fits, is)))
@@ -142,7 +142,7 @@ grown_sparse count blocks stored block last sparse below end = record {
     new_apart b other fits same = let was = sparse.stands b fits in omega (arith, was, same, end)
 
 pub grown_numbers : (count : ℕ) (blocks stored : List ℕ) (block last : ℕ) → IsSparse count blocks stored → block < length blocks → get_or blocks block 0 ≡ 0
-    → last * 1024 ≡ length stored → numbers_at count (slice_set blocks block last) (stored ++ replicate 1024 0) ≡ numbers_at count blocks stored
+    → last * 1024 ≡ length stored → stored_numbers count (slice_set blocks block last) (stored ++ replicate 1024 0) ≡ stored_numbers count blocks stored
 grown_numbers count blocks stored block last sparse below none end =
     numbers_same count blocks (slice_set blocks block last) stored (stored ++ replicate 1024 0)
     (λ i fits. elim (cases_eq (i / 1024) block) [
@@ -160,7 +160,7 @@ grown_numbers count blocks stored block last sparse below none end =
 -- and one of its numbers is another
 pub added_numbers : (count : ℕ) (blocks stored : List ℕ) (n last at value : ℕ) → IsSparse count blocks stored → n < count → get_or blocks (n / 1024) 0 ≡ 0
     → last * 1024 ≡ length stored → at ≡ last * 1024 + n % 1024
-    → numbers_at count (slice_set blocks (n / 1024) last) (slice_set (stored ++ replicate 1024 0) at value) ≡ slice_set (numbers_at count blocks stored) n value
+    → stored_numbers count (slice_set blocks (n / 1024) last) (slice_set (stored ++ replicate 1024 0) at value) ≡ slice_set (stored_numbers count blocks stored) n value
 added_numbers count blocks stored n last at value sparse below none end is =
     let fits = block_below count blocks stored n sparse below in
     let here = get_or-set_at blocks (n / 1024) (n / 1024) last 0 refl fits in
@@ -195,9 +195,9 @@ zeros_sparse count blocks few room = record {
     none : (b : ℕ) → b < length {A = ℕ} (replicate blocks 0) → get_or {A = ℕ} (replicate blocks 0) b 0 ≡ 0
     none b fits = get_or-replicate {A = ℕ} blocks b 0 0 (omega (arith, fits, length-replicate {A = ℕ} blocks 0))
 
-pub zeros_numbers : (count blocks : ℕ) → count ≤ blocks * 1024 → numbers_at count (replicate blocks 0) (replicate 1024 0) ≡ replicate count 0
+pub zeros_numbers : (count blocks : ℕ) → count ≤ blocks * 1024 → stored_numbers count (replicate blocks 0) (replicate 1024 0) ≡ replicate count 0
 zeros_numbers count blocks room =
-    ext_get_or 0 (numbers_at count (replicate blocks 0) (replicate 1024 0)) (replicate count 0)
+    ext_get_or 0 (stored_numbers count (replicate blocks 0) (replicate 1024 0)) (replicate count 0)
     (numbers_len count (replicate blocks 0) (replicate 1024 0) ∙ sym (length-replicate {A = ℕ} count 0))
     (λ i fits.
     let below : i < count = omega (arith, fits, numbers_len count (replicate blocks 0) (replicate 1024 0)) in
@@ -207,7 +207,7 @@ zeros_numbers count blocks room =
     ∙ sym (get_or-replicate {A = ℕ} count i 0 0 below))
 
 -- ---- as a function has them
-pub read_below : (count : ℕ) (blocks stored seen : List ℕ) (n : ℕ) → numbers_at count blocks stored ≡ seen → n < length seen → n < count
+pub read_below : (count : ℕ) (blocks stored seen : List ℕ) (n : ℕ) → stored_numbers count blocks stored ≡ seen → n < length seen → n < count
 read_below count blocks stored seen n is fits = let size = ap (λ (l : List ℕ). length l) is in omega (arith, size, fits, numbers_len count blocks stored)
 
 -- the block of a number, as it's read
@@ -221,7 +221,7 @@ pub place_read : (count : ℕ) (blocks stored : List ℕ) (n block place : ℕ) 
 place_read count blocks stored n block place sparse below read is =
     is ∙ ap (λ b. b * 1024 + n % 1024) (block_read count blocks stored n block sparse below read)
 
-pub number_read : (count : ℕ) (blocks stored seen : List ℕ) (n place number : ℕ) → IsSparse count blocks stored → numbers_at count blocks stored ≡ seen
+pub number_read : (count : ℕ) (blocks stored seen : List ℕ) (n place number : ℕ) → IsSparse count blocks stored → stored_numbers count blocks stored ≡ seen
     → n < count
     → place ≡ place_of blocks n → number ≡ get_or stored place number → number ≡ get_or seen n 0
 number_read count blocks stored seen n place number sparse view below is read =
@@ -234,7 +234,7 @@ pub last_block : (count : ℕ) (blocks stored : List ℕ) (last len : ℕ) → I
 last_block count blocks stored last len sparse is size = let whole = sparse.whole in omega (arith, whole, is, size)
 
 -- each index fits its type
-pub index_small : (count : ℕ) (blocks stored seen : List ℕ) (first len i : ℕ) → IsSparse count blocks stored → numbers_at count blocks stored ≡ seen
+pub index_small : (count : ℕ) (blocks stored seen : List ℕ) (first len i : ℕ) → IsSparse count blocks stored → stored_numbers count blocks stored ≡ seen
     → first + len ≤ length seen
     → i < len → first + i < 2 ^ 32
 index_small count blocks stored seen first len i sparse is fits early =
@@ -254,7 +254,7 @@ made count len old new none nought is =
     is ∙ ap (λ l. take count l ++ replicate {A = ℕ} (count - len) 0) none ∙ ap (λ l. l ++ replicate {A = ℕ} (count - len) 0) (take_all count [] (omega arith))
     ∙ ap (λ k. replicate {A = ℕ} k 0) (let rest : count - len ≡ count = omega (arith, nought) in rest)
 
-pub some_used : (count : ℕ) (blocks stored seen : List ℕ) (n : ℕ) → IsSparse count blocks stored → numbers_at count blocks stored ≡ seen → n < count
+pub some_used : (count : ℕ) (blocks stored seen : List ℕ) (n : ℕ) → IsSparse count blocks stored → stored_numbers count blocks stored ≡ seen → n < count
     → get_or seen n 0 ≢ 0
     → get_or blocks (n / 1024) 0 ≢ 0
 some_used count blocks stored seen n sparse view below some =

@@ -1,6 +1,6 @@
 -- Lists of numbers of which most are zeros: 1,024 neighbours are a block, and a block of zeros need not be stored of its own.
 --     place_of        where a number stands among those that are stored
---     number_at, numbers_at        the numbers that the blocks stand for
+--     stored_number, stored_numbers        the numbers that the blocks stand for
 --     IsSparse        the first block that is stored is zeros, and each other is that of one block alone
 --     IsRow        numbers that count up
 use Rattle.std.specs.Prelude.{◌≡◌, ◌≢◌, ℕ, ◌+◌, ◌*◌, ◌/◌, ◌%◌, ◌^◌, ◌<◌, ◌≤◌, List, length, map, get_or}
@@ -11,12 +11,12 @@ abbrev pub place_of : List ℕ → ℕ → ℕ
 place_of blocks n = get_or blocks (n / 1024) 0 * 1024 + n % 1024
 
 -- the number n
-abbrev pub number_at : List ℕ → List ℕ → ℕ → ℕ
-number_at blocks stored n = get_or stored (place_of blocks n) 0
+abbrev pub stored_number : List ℕ → List ℕ → ℕ → ℕ
+stored_number blocks stored n = get_or stored (place_of blocks n) 0
 
 -- so many numbers
-abbrev pub numbers_at : ℕ → List ℕ → List ℕ → List ℕ
-numbers_at count blocks stored = map (number_at blocks stored) (range_with_len 0 count)
+abbrev pub stored_numbers : ℕ → List ℕ → List ℕ → List ℕ
+stored_numbers count blocks stored = map (stored_number blocks stored) (range_with_len 0 count)
 
 -- Each number has a block, and each block is stored. That of zeros may be many blocks', and no other is that of two.
 pub record IsSparse (count : ℕ) (blocks stored : List ℕ) : Type 0 where

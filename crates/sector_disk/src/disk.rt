@@ -1,7 +1,7 @@
 //! A disk as the layers above see it: an array of sectors that may be stopped at any moment, as by a power cut.
 //! A stop leaves in each sector what was there at the last sync that succeeded, or any content written since.
 
-ghost use Rattle.std.specs.Prelude.{◌≡◌, ◌≤◌, ◌<◌, ◌^◌, ◌-◌, ◌↔◌, ℕ, List, Option, Some, None, IsErr, OnOk, OnErr, slice_set};
+ghost use Rattle.std.specs.Prelude.{◌≡◌, ◌≤◌, ◌<◌, ◌^◌, ◌-◌, ◌↔◌, ℕ, List, Option, Some, None, IsErr, IfSome, OnOk, OnErr, slice_set};
 ghost use Rattle.sector_disk.specs.Record.{Held, MayHold};
 ghost use Rattle.sector_disk.specs.Picks.{IsPicked};
 ghost use Rattle.sector_disk.specs.Disk.{DiskState, Image, IsImage, IsSame, ForgetsPast, IsWritten, ChangesOnly, IsStable, IsNarrowed, Elapses, HasCause, HasWriteCause, IsWholeSector, sector, AddsOnly, IsImageOr, IsWrite, LeavesOnly};
@@ -35,6 +35,14 @@ pub trait Disk {
         ensures cause { HasCause (state self.old) (state self.new) result }
         ensures quiet { (state self.new).failed_writes ≡ (state self.old).failed_writes }
         ensures worn { (state self.old).failures ≡ 2 ^ 64 - 1 → IsErr result };
+
+    /// What a read of a sector gives, where that stands in memory. A disk needn't find any: what it doesn't find is to be read.
+    fn find(&self, _n: u32) -> Option<&[u8; 512]>
+        requires { _n < (state self.now).size }
+        ensures { IfSome result (λ content. content.now ≡ sector (state self.now).seen _n) }
+    {
+        None
+    }
 
     /// Writes a sector. Until a sync succeeds, a stop may leave the new content or one from before it.
     fn write(&mut self, n: u32, from: &[u8; 512]) -> Result<(), DiskFault>

@@ -348,6 +348,10 @@ impl<F: DiskFile + Drop> Disk for FileDisk<F> {
         self.memory.read(n, to)
     }
 
+    fn find(&self, n: u32) -> Option<&[u8; 512]> {
+        self.memory.find(n)
+    }
+
     fn write(&mut self, n: u32, from: &[u8; 512]) -> Result<(), DiskFault> {
         if self.wait_for(n).is_err() {
             return self.fail();

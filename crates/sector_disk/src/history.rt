@@ -75,11 +75,11 @@ impl History {
     }
 
     /// What a read gives.
-    pub fn read(&self, n: u32, to: &mut [u8; 512])
+    pub fn get(&self, n: u32) -> &[u8; 512]
         requires { n < length self.now.start }
-        ensures { to.new ≡ sector (after_events self.now.start self.now.events) n }
+        ensures { result.now ≡ sector (after_events self.now.start self.now.events) n }
     {
-        *to = *self.seen.get(n);
+        self.seen.get(n)
     }
 
     /// What reads of so many neighbours from one on give, where their contents are neighbours too.

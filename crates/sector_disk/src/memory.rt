@@ -130,8 +130,12 @@ impl Disk for MemDisk {
         if self.failures == u64::MAX {
             return Err(DiskFault);
         }
-        self.history.read(n, to);
+        *to = *self.history.get(n);
         Ok(())
+    }
+
+    fn find(&self, n: u32) -> Option<&[u8; 512]> {
+        Some(self.history.get(n))
     }
 
     fn write(&mut self, n: u32, from: &[u8; 512]) -> Result<(), DiskFault> {

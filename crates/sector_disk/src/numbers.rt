@@ -22,11 +22,11 @@ pub struct Numbers {
 
 impl Model for Numbers {
     ghost use Rattle.std.specs.Prelude.{ℕ, List};
-    ghost use Rattle.sector_disk.specs.Numbers.{numbers_at, IsSparse};
+    ghost use Rattle.sector_disk.specs.Numbers.{stored_numbers, IsSparse};
 
     ghost Value = { List ℕ };
 
-    ghost view = { λ numbers. numbers_at numbers.count numbers.blocks.items numbers.stored.items };
+    ghost view = { λ numbers. stored_numbers numbers.count numbers.blocks.items numbers.stored.items };
 
     ghost invariant = { λ numbers. IsSparse numbers.count numbers.blocks.items numbers.stored.items };
 }

@@ -62,7 +62,7 @@ impl<D: Disk> CachedJournal<D> {
         self.journal.header()
     }
 
-    /// Reads a sector, from the device or as it was last read there. At `Err` nothing is said of the buffer.
+    /// Reads a sector: where the disk has it in memory, as it was last read, or from the device. At `Err` nothing is said of the buffer.
     pub(crate) fn read(&mut self, n: u32, to: &mut [u8; 512]) -> Result<(), DiskFault>
         requires part { IsMapped (header_at (D.state self.old).seen) n }
         requires on_disk { n < (D.state self.old).size }
@@ -72,6 +72,10 @@ impl<D: Disk> CachedJournal<D> {
         ensures reads { OnlyReads (D.state self.old) (D.state self.new) }
         ensures cause { HasCause (D.state self.old) (D.state self.new) result }
     {
+        if let Some(content) = self.journal.find(n) {
+            *to = *content;
+            return Ok(());
+        }
         if self.clean.get(n, to) {
             return Ok(());
         }
@@ -79,7 +83,7 @@ impl<D: Disk> CachedJournal<D> {
         Ok(())
     }
 
-    /// Reads a sector where it stands, if it was read lately: what `read` makes of its content.
+    /// Reads a sector where it stands, if the disk has it in memory or it was read lately: what `read` makes of its content.
     pub(crate) fn read_with<T, F: FnOnce(&[u8; 512]) -> T + Drop>(
         &mut self,
         n: u32,
@@ -94,6 +98,9 @@ impl<D: Disk> CachedJournal<D> {
         ensures reads { OnlyReads (D.state self.old) (D.state self.new) }
         ensures cause { HasCause (D.state self.old) (D.state self.new) result }
     {
+        if let Some(content) = self.journal.find(n) {
+            return Ok(read(content));
+        }
         if let Some(content) = self.clean.find(n) {
             return Ok(read(content));
         }

@@ -11,8 +11,8 @@ use std::num::NonZeroUsize;
 // How many sectors are kept on a disk without a header: those that were read last,
 const SECTORS: usize = 128;
 
-// and how many more for each sector of the header: a large disk has large directories and bitmaps. A disk in a file has all of its
-// sectors in memory besides, so each one here is there twice.
+// and how many more for each sector of the header: a large disk has large directories and bitmaps. Of a disk that finds its sectors in
+// memory none are kept here.
 const SECTORS_A_HEADER: usize = 128;
 
 /// A cache of sectors. It has none where it found no memory.

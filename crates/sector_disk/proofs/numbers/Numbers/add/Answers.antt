@@ -1,5 +1,5 @@
 use Rattle.std.proofs.Common.{◌+◌, ◌/◌, ℕ, List, ap, arith, slice_set, subst, sym, ◌∙◌}
-use Rattle.sector_disk.specs.Numbers.{numbers_at, IsSparse}
+use Rattle.sector_disk.specs.Numbers.{stored_numbers, IsSparse}
 use Rattle.sector_disk.proofs.Sparse.{read_below, block_below, block_read, place_below, place_read, replaced_numbers, last_block, grown, added_sparse, added_numbers}
 use Rattle.sector_disk.proofs.numbers.Numbers.add.Goals as goal
 
@@ -64,7 +64,7 @@ returns-clause-ok c =
     let more =
     grown (c.len-2.result + 1024) i.stored.len i.stored.items c.resize.new.self.items (ap (λ k. k + 1024) c.len-2.ensures) i.stored.ok.0
     c.in_ok-resize.ensures.items in
-    ap (λ (l : List ℕ). numbers_at i.count (slice_set i.blocks.items (n / 1024) c.in-Ok.last) (slice_set l c.place_in-2.result c.args.value)) more
+    ap (λ (l : List ℕ). stored_numbers i.count (slice_set i.blocks.items (n / 1024) c.in-Ok.last) (slice_set l c.place_in-2.result c.args.value)) more
     ∙ added_numbers i.count i.blocks.items i.stored.items n c.in-Ok.last c.place_in-2.result c.args.value c.self.invariant below
     (sym block ∙ c.if-block-ne0.false) end c.place_in-2.ensures
     ∙ ap (λ (l : List ℕ). slice_set l n c.args.value) c.self.view_is

@@ -1,5 +1,5 @@
 use Rattle.std.proofs.Common.{◌+◌, ◌/◌, ℕ, List, ap, ◌∙◌, arith, subst, sym, replicate}
-use Rattle.sector_disk.specs.Numbers.{numbers_at, IsSparse}
+use Rattle.sector_disk.specs.Numbers.{stored_numbers, IsSparse}
 use Rattle.sector_disk.proofs.Sparse.{made, zeros_sparse, zeros_numbers}
 use Rattle.sector_disk.proofs.numbers.Numbers.zeros.Goals as goal
 
@@ -25,6 +25,6 @@ returns c =
     let stored =
     made 1024 c.new-stored.result.len c.new-stored.result.items c.resize-2.new.self.items c.new-stored.ensures.items c.new-stored.ensures.len
     c.in_ok-resize-2.ensures.items in
-    ap (λ (l : List ℕ). numbers_at count l c.resize-2.new.self.items) blocks
-    ∙ ap (λ (l : List ℕ). numbers_at count (replicate {A = ℕ} (count / 1024 + 1) 0) l) stored
+    ap (λ (l : List ℕ). stored_numbers count l c.resize-2.new.self.items) blocks
+    ∙ ap (λ (l : List ℕ). stored_numbers count (replicate {A = ℕ} (count / 1024 + 1) 0) l) stored
     ∙ zeros_numbers count (count / 1024 + 1) (omega arith)
