@@ -13,8 +13,9 @@ from mounts import SECONDS, Layout, Mounted, is_mounted
 LONGEST_NAME = 248
 SIZE, QUICK_SIZE, INODES = '2G', '256M', 131_072
 MB, TRIALS = 1_000_000, 20
-# What is told of each image, of its mounts the most.
-OF_IMAGE = MADE, MOUNT, UNMOUNT, IN_USE, MEMORY = 'making', 'mount', 'unmount', 'MB in use', 'MB of the server'
+# What is told of each image, of its mounts the most. What files take is in use; the image holds inodes, log and bitmaps too, and what is free
+# again and was written.
+OF_IMAGE = MADE, MOUNT, UNMOUNT, IN_USE, HELD, MEMORY = 'making', 'mount', 'unmount', 'MB in use', 'MB of the image', 'MB of the server'
 
 
 class Failed(Exception):
@@ -229,6 +230,7 @@ class Turn:
         start = time.monotonic()
         unmount(self.place)
         self.of_image(UNMOUNT, time.monotonic() - start)
+        self.of_image(HELD, self.place.image.stat().st_blocks * 512 // MB)
         finding = self.place.finding()
         self.demand(finding is None, f'the image: {finding}')
 
