@@ -7,6 +7,7 @@ ghost use Rattle.fuse_serving.specs.Status.{is_blank_byte, HasLine, SaysNumber, 
 use crate::caller::{Caller, Groups};
 use bitflags::Flags;
 use fs_cred::Caps;
+use memchr::memchr;
 use std::alloc::{AllocError, Global};
 use std::str;
 
@@ -17,12 +18,18 @@ const ASKED_CAPS: u64 = 31;
 fn line_of<'a>(text: &'a [u8], name: &[u8]) -> Option<&'a [u8]>
     ensures { IfSome result (λ rest. HasLine text.now name.now rest.now) }
 {
-    for line in text.split(|byte| *byte == b'\n') {
-        if let Some(rest) = line.strip_prefix(name) {
-            return Some(rest);
+    let mut rest = text;
+    while let Some(end) = memchr(b'\n', rest) {
+        let (line, behind) = rest.split_at(end);
+        if let Some(said) = line.strip_prefix(name) {
+            return Some(said);
         }
+        let [_, after @ ..] = behind else {
+            return None;
+        };
+        rest = after;
     }
-    None
+    rest.strip_prefix(name)
 }
 
 fn id_of(word: &[u8]) -> Option<u32>
