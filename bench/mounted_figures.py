@@ -18,6 +18,7 @@ OURS, BARE, OTHER, LOCAL = 'inofs', 'the protocol alone', 'fuse2fs', 'local'
 ROUNDS, CLONES = 9, 3
 BLOCK = bytes(range(256)) * 512
 WORKED_ON, FEW, MANY = 40, 300, 500  # names
+OF_GIT = 200  # inodes that git takes for itself, and what else is there
 
 # How many times what another column has a row may be at most, where something is wanted.
 LOOK, SERVED, CHANGED = {LOCAL: 2}, {OTHER: 1, BARE: 1.5}, {OTHER: 1}
@@ -175,8 +176,15 @@ def servers(mounted, words):
     yield LOCAL, contextlib.nullcontext(mounted.local)
 
 
-def has_history():
-    return shutil.which('git') and (TOP / '.git').exists()
+def why_no_clone(mounted):
+    """Why nothing can be cloned onto the image, if so."""
+    if not shutil.which('git') or not (TOP / '.git').exists():
+        return 'there is no history here, or no git'
+    listed = subprocess.run(['git', '-c', 'safe.directory=*', '-C', TOP, 'ls-files'], check=True, stdout=subprocess.PIPE, text=True).stdout
+    names = {parent for name in listed.split() for parent in (name, *map(str, pathlib.Path(name).parents))}
+    if len(names) + OF_GIT > mounted.layout().inodes:
+        return 'the image has too few inodes for this repository'
+    return None
 
 
 def measured(columns, rounds, *works):
@@ -217,10 +225,11 @@ def figures(mounted, words):
     with contextlib.ExitStack() as mounts:
         columns = {name: mounts.enter_context(server) for name, server in servers(mounted, words)}
         cloned = {}
-        if has_history():
+        why = why_no_clone(mounted)
+        if why is None:
             cloned = measured({name: root for name, root in columns.items() if name != BARE}, CLONES, clone)
         else:
-            print('`git clone`: not tried, there is no history here, or no git')
+            print(f'`git clone`: not tried, {why}')
         for root in columns.values():
             prepare(root)
         single = measured(columns, ROUNDS, lookups, names, listings, moves)
