@@ -1,23 +1,26 @@
 -- The names of an inode that go, one after another.
---     none_left        where none leads there
---     first_inode, first_key        the first
+--     none_there        where none leads there
+--     last_there, leads, one_fewer        one of them
 --     still_elsewhere        those that lead elsewhere stay
-use Rattle.std.specs.Prelude.{◌≡◌, ℕ, suc, ◌<◌, ◌==◌, Bool, true, false, not, cond, List, [], ◌∷◌, length, map, get_or, slice_get, refl, Option, None, Some, unwrap_or}
+use Rattle.std.specs.Prelude.{◌≡◌, ℕ, suc, ◌+◌, ◌<◌, ◌==◌, Bool, true, false, not, cond, List, [], ◌∷◌, length, map, get_or, slice_get, refl, Option, None, Some, is_some, unwrap_or, option_map}
 use Rattle.std.proofs.Common.{sym, ap, subst, ◌∙◌, arith}
+use Rattle.std.specs.Bool.{passes}
 use Rattle.std.specs.Ordering.{eq_by_cmp}
+use Rattle.std.specs.FinMap.Entries.{length_without}
 use Rattle.std.specs.List.{filter}
 use Rattle.std.proofs.lemmas.Bool.Decides.{nat_tests}
+use Rattle.std.proofs.lemmas.List.{length-map}
+use Rattle.std.proofs.lemmas.Option.{slice_get-map, slice_get-get_or}
 use Rattle.fs_layout.specs.Maps.{get, without, IsMap}
-use Rattle.fuse_state.specs.declared.dentry.Found.{Found}
 use Rattle.fuse_state.specs.declared.dentry.Dentry.{Dentry}
 use Rattle.fuse_state.specs.Servers.{dentry_cmp, dentries_in, names_elsewhere}
-use Rattle.fuse_state.specs.Names.{found_under, found_cmp, by_keys, names_under, keys_of, IsIndexed}
+use Rattle.fuse_state.proofs.Filtered.{filter-IsMap, from_filter, has_passed, to_filter, filter-without}
+use Rattle.fuse_state.proofs.Keyed.{equal}
+use Rattle.fuse_state.proofs.Known.{same_tests, each_found}
+use Rattle.fuse_state.proofs.Orders.{dentry_total, dentry_anti}
 use Rattle.fuse_state.proofs.Searched.{found_each}
-use Rattle.fuse_state.proofs.Keyed.{equal, each_keyed}
-use Rattle.fuse_state.proofs.Orders.{dentry_total, dentry_anti, found_total, found_anti}
-use Rattle.fuse_state.proofs.HeldDentries.{dentries_held}
 
-none_there : (m : List (Dentry × ℕ)) (n : ℕ) → dentries_in m n ≡ [] → m ≡ names_elsewhere m n
+pub none_there : (m : List (Dentry × ℕ)) (n : ℕ) → dentries_in m n ≡ [] → m ≡ names_elsewhere m n
 none_there [] n none = refl
 none_there (e ∷ m) n none = go (e.1 == n) none (none_there m n)
   where
@@ -60,41 +63,40 @@ module _ (p : Dentry) (n : ℕ) where
       let same : Some (get_or m j e).1 ≡ Some n = sym (found_each dentry_total m rising j e lt) ∙ ap (get dentry_cmp m) (sym key) ∙ is in
       ap (λ o. unwrap_or o n) same)
 
-module _ (s : List (Option Found)) (placed held : List ℕ) (indexed : IsIndexed s placed held) (n : ℕ) where
-  pub none_left : slice_get (keys_of s held n) 0 ≡ None → names_under s placed ≡ names_elsewhere (names_under s placed) n
-  none_left none = none_there (names_under s placed) n (dentries_held s placed held indexed n ∙ ap (map (λ k. (found_under s k).dentry)) (empty (keys_of s held n) none))
+pub none_left : (m : List (Dentry × ℕ)) (n : ℕ) → length (dentries_in m n) ≡ 0 → m ≡ names_elsewhere m n
+none_left m n long = none_there m n (empty (dentries_in m n) long)
+  where
+    empty : (ps : List Dentry) → length ps ≡ 0 → ps ≡ []
+    empty [] is = refl
+    empty (p ∷ ps) is = absurd (omega (arith, is))
+
+pub last_there : (m : List (Dentry × ℕ)) (n i : ℕ) → i < length (dentries_in m n) → (p : Dentry) × (slice_get (dentries_in m n) i ≡ Some p)
+last_there m n i lt = let p = get_or (dentries_in m n) i (record { dir_ino = 0; name = [] }) in (p, slice_get-get_or (dentries_in m n) i (record { dir_ino = 0; name = [] }) lt)
+
+module _ (m : List (Dentry × ℕ)) (rises : IsMap dentry_cmp m) (n : ℕ) where
+  abbrev there : List (Dentry × ℕ)
+  there = filter (λ e. e.1 == n) m
+
+  there_rises : IsMap dentry_cmp there
+  there_rises = filter-IsMap dentry_total dentry_anti (λ (e : Dentry × ℕ). e.1 == n) m rises
+
+  pub leads : (i : ℕ) (p : Dentry) → slice_get (dentries_in m n) i ≡ Some p → get dentry_cmp m p ≡ Some n
+  leads i p is = go (slice_get there i) refl (sym (slice_get-map (λ e. e.0) there i) ∙ is)
     where
-      empty : (keys : List ℕ) → slice_get keys 0 ≡ None → keys ≡ []
-      empty [] is = refl
-      empty (k ∷ keys) is = absurd (cc)
+      go : (r : Option (Dentry × ℕ)) → slice_get there i ≡ r → option_map (λ e. e.0) r ≡ Some p → get dentry_cmp m p ≡ Some n
+      go None read has = absurd (cc)
+      go (Some e) read has =
+          let found = each_found there there_rises i e read in
+          let passed = has_passed dentry_total dentry_anti (λ (f : Dentry × ℕ). f.1 == n) m rises e.0 e.1 found in
+          let one : e.1 ≡ n = grind (arith, nat_tests) in
+          let same : e.0 ≡ p = cc in
+          ap (get dentry_cmp m) (sym same) ∙ from_filter dentry_total dentry_anti (λ (f : Dentry × ℕ). f.1 == n) m rises e.0 e.1 found ∙ ap Some one
 
-  record IsFirst (keys : List ℕ) (k : ℕ) : Type 0 where
-    at : ℕ
-    within : at < length keys
-    stands : get_or keys at k ≡ k
-    ino : (found_under s k).ino ≡ n
-
-  first_held : (keys : List ℕ) (k : ℕ) → slice_get (keys_of s keys n) 0 ≡ Some k → IsFirst keys k
-  first_held [] k is = absurd (cc)
-  first_held (m ∷ keys) k is = go ((found_under s m).ino == n) refl is (first_held keys k)
-    where
-      go : (b : Bool) → ((found_under s m).ino == n) ≡ b → slice_get (cond b (m ∷ keys_of s keys n) (keys_of s keys n)) 0 ≡ Some k
-          → (slice_get (keys_of s keys n) 0 ≡ Some k → IsFirst keys k) → IsFirst (m ∷ keys) k
-      go true leads first rest =
-          let same : m ≡ k = cc in
-          let there : (found_under s m).ino ≡ n = grind (arith, nat_tests) in
-          record { at = 0; within = omega arith; stands = same; ino = subst (λ l. (found_under s l).ino ≡ n) same there }
-      go false leads later rest =
-          let r = rest later in
-          record { at = suc r.at; within = omega (arith, r.within); stands = r.stands; ino = r.ino }
-
-  module _ (k : ℕ) (is : slice_get (keys_of s held n) 0 ≡ Some k) where
-    pub first_inode : (found_under s k).ino ≡ n
-    first_inode = (first_held held k is).ino
-
-    pub first_key : get dentry_cmp (by_keys s placed) (found_under s k).dentry ≡ Some k
-    first_key =
-        let first = first_held held k is in
-        indexed.has_dentry (found_under s k) k
-        (subst (λ m. get found_cmp (map (λ l. (found_under s l, l)) held) (found_under s m) ≡ Some m) first.stands
-        (each_keyed found_total found_anti (found_under s) held indexed.inodes_rise first.at k first.within))
+  pub one_fewer : (p : Dentry) → get dentry_cmp m p ≡ Some n → length (dentries_in (without dentry_cmp m p) n) + 1 ≡ length (dentries_in m n)
+  one_fewer p is =
+      let here = to_filter dentry_total dentry_anti (λ (f : Dentry × ℕ). f.1 == n) m rises p n is (same_tests n n refl) in
+      let counted = subst (λ (o : Option ℕ). cond (is_some o) 1 0 + length (without dentry_cmp there p) ≡ length there) here (length_without dentry_cmp dentry_total p there (passes _ there_rises)) in
+      let same = ap length (filter-without dentry_total dentry_anti (λ (f : Dentry × ℕ). f.1 == n) m rises p n) in
+      let after = length-map (filter (λ (f : Dentry × ℕ). f.1 == n) (without dentry_cmp m p)) (λ e. e.0) in
+      let before = length-map there (λ e. e.0) in
+      omega (arith, counted, same, after, before)

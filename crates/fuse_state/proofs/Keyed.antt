@@ -1,10 +1,10 @@
--- Maps in any order of keys, and maps whose entries are numbers with keys that stand under them.
+-- Maps in any order of keys.
 --     get-put, get-without, get-gone        what a map has once a key is set, or gone
---     put_same, put_again        a key that has its value already, or is set anew
+--     without_none, put_same, put_again        a key that has nothing, that has its value already, or is set anew
 --     values_put, values_without        the same of other values
---     keyed        a list of numbers, each with its key
-use Rattle.std.specs.Prelude.{◌≡◌, ℕ, zero, suc, ◌<◌, Bool, true, false, not, ◌&&◌, cond, List, [], ◌∷◌, length, map, get_or, refl, Option, None, Some, option_map}
-use Rattle.std.proofs.Common.{sym, ap, subst, ◌∙◌, arith}
+--     map-insert, map-remove        lists and what is made of their elements
+use Rattle.std.specs.Prelude.{◌≡◌, ℕ, zero, suc, Bool, true, false, not, ◌&&◌, cond, List, [], ◌∷◌, map, refl, Option, None, Some, option_map}
+use Rattle.std.proofs.Common.{sym, ap, ◌∙◌}
 use Rattle.std.specs.Bool.{passes}
 use Rattle.std.specs.declared.cmp.Ordering.{Ordering}
 use Rattle.std.specs.declared.cmp.Ordering.TheVariants.{Less, Equal, Greater}
@@ -13,10 +13,9 @@ use Rattle.std.specs.Ordering.{is_eq, is_lt, eq_by_cmp}
 use Rattle.std.specs.FinMap.{IsAntisymmetric}
 use Rattle.std.specs.FinMap.Entries.{by_order, below_all, is_sorted, find-put, find-where_key, same_entries, is_sorted-put}
 use Rattle.std.specs.List.{insert, remove}
-use Rattle.std.proofs.lemmas.List.{length-map, get_or-map}
 use Rattle.fs_layout.specs.Maps.{get, with_entry, without, IsMap}
 use Rattle.fs_layout.proofs.MapLaws.{from_T}
-use Rattle.fuse_state.proofs.Searched.{found_each, ties}
+use Rattle.fuse_state.proofs.Searched.{ties}
 use Rattle.fuse_state.proofs.Edited.{without-IsMap}
 
 pub equal : (r : Ordering) → is_eq r ≡ true → r ≡ Equal
@@ -44,6 +43,16 @@ module _ {K X : Type 0} {R : K → K → Ordering} (o : IsTotalOrder R) (anti : 
 
   pub get-gone : (m : List (K × X)) (k : K) → get R (without R m k) k ≡ None
   get-gone m k = get-without m k k ∙ ap (λ b. cond b None (get R m k)) (ties o k k refl)
+
+  none_gone : (m : List (K × X)) (k q : K) (b : Bool) → eq_by_cmp R k q ≡ b → get R m k ≡ None → get R m q ≡ cond b None (get R m q)
+  none_gone m k q true is none = ap (get R m) (sym (anti k q (equal _ is))) ∙ none
+  none_gone m k q false is none = refl
+
+  -- a key that has nothing
+  pub without_none : (m : List (K × X)) (k : K) → IsMap R m → get R m k ≡ None → m ≡ without R m k
+  without_none m k h none =
+      same_entries R o anti m (without R m k) (passes _ h) (passes _ (without-IsMap o m k h))
+      (λ q. none_gone m k q (eq_by_cmp R k q) refl none ∙ sym (get-without m k q))
 
   same_if : (m : List (K × X)) (k : K) (x : X) (q : K) (b : Bool) → eq_by_cmp R q k ≡ b → get R m k ≡ Some x → cond b (Some x) (get R m q) ≡ get R m q
   same_if m k x q true is has = sym has ∙ ap (get R m) (sym (anti q k (equal _ is)))
@@ -123,37 +132,3 @@ module _ {A B : Type 0} where
   map-remove f [] (suc i) = refl
   map-remove f (y ∷ xs) zero = refl
   map-remove f (y ∷ xs) (suc i) = ap (λ rest. f y ∷ rest) (map-remove f xs i)
-
-  pub same_map : (f g : A → B) (xs : List A) → ((j : ℕ) (d : A) → j < length xs → f (get_or xs j d) ≡ g (get_or xs j d)) → map f xs ≡ map g xs
-  same_map f g [] same = refl
-  same_map f g (x ∷ xs) same = ap (λ y. y ∷ map f xs) (same 0 x (omega arith)) ∙ ap (λ rest. g x ∷ rest) (same_map f g xs (λ j d lt. same (suc j) d (omega arith)))
-
--- ---- numbers with their keys
-
-abbrev pub keyed : {K : Type 0} → (ℕ → K) → List ℕ → List (K × ℕ)
-keyed key numbers = map (λ n. (key n, n)) numbers
-
-module _ {K : Type 0} {R : K → K → Ordering} (o : IsTotalOrder R) (anti : IsAntisymmetric R) (key : ℕ → K) where
-  -- what is found by a key has it
-  pub key_is : (numbers : List ℕ) (q : K) (n : ℕ) → get R (keyed key numbers) q ≡ Some n → q ≡ key n
-  key_is [] q n is = absurd (cc)
-  key_is (m ∷ numbers) q n is = go (eq_by_cmp R q (key m)) refl is (key_is numbers q n)
-    where
-      go : (b : Bool) → eq_by_cmp R q (key m) ≡ b → cond b (Some m) (get R (keyed key numbers) q) ≡ Some n → (get R (keyed key numbers) q ≡ Some n → q ≡ key n) → q ≡ key n
-      go true tie same rest = let one : m ≡ n = cc in anti q (key m) (equal _ tie) ∙ ap key one
-      go false tie later rest = rest later
-
-  -- and each number is found by its own
-  pub each_keyed : (numbers : List ℕ) → IsMap R (keyed key numbers) → (j d : ℕ) → j < length numbers → get R (keyed key numbers) (key (get_or numbers j d)) ≡ Some (get_or numbers j d)
-  each_keyed numbers h j d lt =
-      let entry : ℕ → K × ℕ = λ n. (key n, n) in
-      let read = get_or-map entry numbers j d (entry d) lt in
-      subst (λ e. get R (keyed key numbers) e.0 ≡ Some e.1) read
-      (found_each o (keyed key numbers) h j (entry d) (omega (arith, length-map numbers entry, lt)))
-
-  -- Where the keys of those that are found stay, all do.
-  pub same_keyed : (other : ℕ → K) (numbers : List ℕ) → IsMap R (keyed key numbers)
-      → ((q : K) (n : ℕ) → get R (keyed key numbers) q ≡ Some n → other n ≡ key n) → keyed other numbers ≡ keyed key numbers
-  same_keyed other numbers h same =
-      same_map (λ n. (other n, n)) (λ n. (key n, n)) numbers
-      (λ j d lt. ap (λ k. (k, get_or numbers j d)) (same (key (get_or numbers j d)) (get_or numbers j d) (each_keyed numbers h j d lt)))

@@ -1,83 +1,104 @@
--- Names that stand under keys, in slots, and two lists of these keys: one in the order of dentries, one by the inodes that they lead to.
---     found_entry, found_under        a name and its inode; what stands under a key
---     found_cmp        the order of names by inodes, and for each inode by dentries
---     compare_place, compare_found, is_lower, leads_to        what a search compares
---     Stand, keys_of, BeginsAt        under each key stands a name; the keys of an inode's names, and where these begin
---     by_keys, by_inodes        the keys as the values of two maps
---     names_under        the names, in the order of dentries
---     IsIndexed        each name stands in both
+-- Names that stand under keys, in slots, and where these keys stand: in groups, by hashes of dentries and by inodes, and in each group in
+-- the order of dentries.
+--     found_entry        a name and its inode
+--     hash_of        a number of 32 bits that is made of a dentry
+--     compare_dentry        what a search compares
+--     keyed_names, slot_names        the names that stand in slots, in the order of dentries: with their keys, and without
+--     Stand        entries under whose keys their names stand
+--     AreLower        entries with lower dentries stand before a place
+--     place_in_group, IsGroup, GroupBecomes        the keys of a group, and what an edit of it changes
+--     in_group, keys_of, IsGrouped        the entries of a group, and their keys; each has its place
+--     IsIndexed        each name has one key, and is found by its hash and by its inode
 --     HasNameRoom        so many more have room
-use Rattle.std.specs.Prelude.{◌≡◌, ℕ, ◌+◌, ◌<◌, ◌≤◌, ◌==◌, nat_lt, Bool, false, List, [], map, length, slice_index_or, Option, None, Some, unwrap_or}
+use Rattle.std.specs.Prelude.{◌≡◌, ◌≢◌, ℕ, ◌+◌, ◌*◌, ◌/◌, ◌^◌, ◌<◌, ◌≤◌, ◌==◌, List, [], ◌∷◌, map, length, slice_get, slice_index_or, fold, Option, None, Some}
 use Rattle.std.specs.declared.cmp.Ordering.{Ordering}
 use Rattle.std.specs.declared.cmp.Ordering.TheVariants.{Less}
-use Rattle.std.specs.Ordering.{nat_cmp, ordering_then}
+use Rattle.std.specs.Hash as fed
+use Rattle.std.specs.Hash.DefaultHasher as sip
+use Rattle.std.specs.Ordering.{nat_cmp}
 use Rattle.std.specs.List.{filter}
 use Rattle.slab.specs.Slab.{Slab, slab_len}
-use Rattle.fs_layout.specs.Maps.{get, IsMap}
+use Rattle.fs_layout.specs.Maps.{get, with_entry}
 use Rattle.fuse_state.specs.declared.dentry.Found.{Found}
 use Rattle.fuse_state.specs.declared.dentry.Dentry.{Dentry}
 use Rattle.fuse_state.specs.Servers.{dentry_cmp}
 
--- nothing is asked of a key under which nothing stands
-abbrev pub found_under : List (Option Found) → ℕ → Found
-found_under s k = unwrap_or (slice_index_or s k None) (record { dentry = record { dir_ino = 0; name = [] }; ino = 0 })
-
--- under each of the keys stands a name
-abbrev pub Stand : List (Option Found) → List ℕ → Type 0
-Stand s keys = (j d : ℕ) → j < length keys → slice_index_or s (slice_index_or keys j d) None ≡ Some (found_under s (slice_index_or keys j d))
-
 abbrev pub found_entry : Dentry → ℕ → Found
 found_entry p n = record { dentry = p; ino = n }
 
-abbrev pub found_cmp : Found → Found → Ordering
-found_cmp f g = ordering_then (nat_cmp f.ino g.ino) (dentry_cmp f.dentry g.dentry)
+-- the upper half of the SipHash of its directory's number and its name
+unfoldable pub hash_of : Dentry → ℕ
+hash_of p = sip.finish (sip.write (fold sip.write sip.initial (fed.u64 p.dir_ino)) p.name) / 2 ^ 32
 
 -- what a search compares
 abbrev pub compare_dentry : Dentry → Option Found → Ordering
 compare_dentry p None = Less
 compare_dentry p (Some f) = dentry_cmp f.dentry p
 
-abbrev pub compare_found : Found → Option Found → Ordering
-compare_found g None = Less
-compare_found g (Some f) = found_cmp f g
+-- ---- what stands in slots
 
-abbrev pub is_lower : ℕ → Option Found → Bool
-is_lower n None = false
-is_lower n (Some f) = nat_lt f.ino n
+-- the names by their dentries, each with its key and its inode, where the first slot has this key
+abbrev pub keyed_names_from : ℕ → List (Option Found) → List (Dentry × (ℕ × ℕ))
+keyed_names_from k [] = []
+keyed_names_from k (None ∷ s) = keyed_names_from (k + 1) s
+keyed_names_from k (Some f ∷ s) = with_entry dentry_cmp (keyed_names_from (k + 1) s) f.dentry (k, f.ino)
 
-abbrev pub leads_to : ℕ → Option Found → Bool
-leads_to n None = false
-leads_to n (Some f) = f.ino == n
+abbrev pub keyed_names : List (Option Found) → List (Dentry × (ℕ × ℕ))
+keyed_names s = keyed_names_from 0 s
 
-abbrev pub by_keys : List (Option Found) → List ℕ → List (Dentry × ℕ)
-by_keys s keys = map (λ k. ((found_under s k).dentry, k)) keys
+abbrev pub slot_names : List (Option Found) → List (Dentry × ℕ)
+slot_names s = map (λ e. (e.0, e.1.1)) (keyed_names s)
 
-abbrev pub by_inodes : List (Option Found) → List ℕ → List (Found × ℕ)
-by_inodes s keys = map (λ k. (found_under s k, k)) keys
+-- under the key of each entry stands its name
+abbrev pub Stand : List (Option Found) → List (Dentry × (ℕ × ℕ)) → Type 0
+Stand s m = (i : ℕ) (e : Dentry × (ℕ × ℕ)) → slice_get m i ≡ Some e → slice_index_or s e.1.0 None ≡ Some (found_entry e.0 e.1.1)
 
-abbrev pub names_under : List (Option Found) → List ℕ → List (Dentry × ℕ)
-names_under s keys = map (λ k. ((found_under s k).dentry, (found_under s k).ino)) keys
+-- there are so many entries, and their dentries are lower
+abbrev pub AreLower : List (Dentry × (ℕ × ℕ)) → Dentry → ℕ → Type 0
+AreLower m p i = (i ≤ length m) × ((j : ℕ) (e : Dentry × (ℕ × ℕ)) → j < i → dentry_cmp (slice_index_or m j e).0 p ≡ Less)
 
--- the keys of the names that lead to an inode
-abbrev pub keys_of : List (Option Found) → List ℕ → ℕ → List ℕ
-keys_of s keys n = filter (λ k. (found_under s k).ino == n) keys
+-- ---- groups
 
--- where they begin among keys by inodes
-pub record BeginsAt (s : List (Option Found)) (keys : List ℕ) (n i : ℕ) : Type 0 where
-  pub before : (j d : ℕ) → j < i → (found_under s (slice_index_or keys j d)).ino < n
-  pub behind : (j d : ℕ) → i ≤ j → j < length keys → n ≤ (found_under s (slice_index_or keys j d)).ino
+-- a place in a group, as one number
+abbrev pub place_in_group : ℕ → ℕ → ℕ
+place_in_group g i = 2 ^ 32 * g + i
 
-pub record IsIndexed (s : List (Option Found)) (placed held : List ℕ) : Type 0 where
-  pub dentries_rise : IsMap dentry_cmp (by_keys s placed)
-  pub inodes_rise : IsMap found_cmp (by_inodes s held)
-  -- under each key one stands
-  pub stands : (p : Dentry) (k : ℕ) → get dentry_cmp (by_keys s placed) p ≡ Some k → slice_index_or s k None ≡ Some (found_under s k)
-  -- what has a dentry is found by its inode, and the other way round
-  pub has_inode : (p : Dentry) (k : ℕ) → get dentry_cmp (by_keys s placed) p ≡ Some k → get found_cmp (by_inodes s held) (found_under s k) ≡ Some k
-  pub has_dentry : (f : Found) (k : ℕ) → get found_cmp (by_inodes s held) f ≡ Some k → get dentry_cmp (by_keys s placed) f.dentry ≡ Some k
+-- these keys stand at the places of the group, one after another
+pub record IsGroup (m : List (ℕ × ℕ)) (g : ℕ) (keys : List ℕ) : Type 0 where
+  pub short : length keys < 2 ^ 32
+  pub at : (i : ℕ) → i < 2 ^ 32 → get nat_cmp m (place_in_group g i) ≡ slice_get keys i
 
--- in the slab, and in each list
-pub record HasNameRoom (room : ℕ) (s : Slab Found) (placed placed_capacity held held_capacity : ℕ) : Type 0 where
+-- these stand there now, and what stands in the other groups stays
+pub record GroupBecomes (m n : List (ℕ × ℕ)) (g : ℕ) (keys : List ℕ) : Type 0 where
+  pub group : IsGroup n g keys
+  pub others : (h i : ℕ) → h ≢ g → i < 2 ^ 32 → get nat_cmp n (place_in_group h i) ≡ get nat_cmp m (place_in_group h i)
+
+abbrev pub in_group : (Dentry × (ℕ × ℕ) → ℕ) → List (Dentry × (ℕ × ℕ)) → ℕ → List (Dentry × (ℕ × ℕ))
+in_group group m g = filter (λ e. group e == g) m
+
+abbrev pub keys_of : List (Dentry × (ℕ × ℕ)) → List ℕ
+keys_of m = map (λ e. e.1.0) m
+
+abbrev pub IsGrouped : List (ℕ × ℕ) → (Dentry × (ℕ × ℕ) → ℕ) → List (Dentry × (ℕ × ℕ)) → Type 0
+IsGrouped places group m = (g : ℕ) → IsGroup places g (keys_of (in_group group m g))
+
+abbrev pub by_hash : Dentry × (ℕ × ℕ) → ℕ
+by_hash e = hash_of e.0
+
+abbrev pub by_inode : Dentry × (ℕ × ℕ) → ℕ
+by_inode e = e.1.1
+
+-- ---- the whole
+
+pub record IsIndexed (s : List (Option Found)) (hashes inodes : List (ℕ × ℕ)) : Type 0 where
+  -- no other slot has its dentry
+  pub alone : (k : ℕ) (f : Found) → slice_index_or s k None ≡ Some f → get dentry_cmp (keyed_names s) f.dentry ≡ Some (k, f.ino)
+  pub hashed : IsGrouped hashes by_hash (keyed_names s)
+  pub held : IsGrouped inodes by_inode (keyed_names s)
+
+-- in the slab and in both tables, and their places have numbers
+pub record HasNameRoom (room : ℕ) (s : Slab Found) (hashes inodes : ℕ) : Type 0 where
   pub for_found : slab_len s + room ≤ s.capacity
-  pub for_dentries : placed + room ≤ placed_capacity
-  pub for_inodes : held + room ≤ held_capacity
+  pub for_places : slab_len s + room < 2 ^ 32
+  pub for_hashes : room ≤ hashes
+  pub for_inodes : room ≤ inodes

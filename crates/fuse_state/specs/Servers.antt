@@ -4,7 +4,7 @@
 --     lookups_of, once_more        how often the kernel was told a node, and hasn't forgotten it since
 --     forgotten, all_forgotten        it forgets nodes
 --     number_named, with_dentry, without_name, with_new_object        names, all that were found and still stand
---     dentry_cmp, places_of, place_of        the order of dentries, and where an object is known
+--     dentry_cmp, dentries_of, dentry_of        the order of dentries, and those of an object
 --     times_of, with_new_contents, with_change_time        times of objects, where the disk keeps none
 --     processes_of, held_by, ..        processes, and the descriptors that they hold
 --     owner_of, descriptor_of, handle_of        a handle is a process and one of its descriptors
