@@ -1,8 +1,13 @@
-"""Users with many groups, users who open all they can, names that fail and a server that is killed: each with what is wanted."""
+"""Users with many groups, users who open all they can, listings of what others change, names that fail and a server that is killed: each
+with what is wanted."""
+import collections
+import concurrent.futures
 import os
+import random
 import resource
 import signal
 import subprocess
+import time
 
 from mounts import ACLS, Worker, acl_bytes, as_user, attempt
 
@@ -14,6 +19,9 @@ LOOK_UPS = 200
 OVERLAYS = 10
 CREATIONS = 10_000
 MOST_NAMES = 400
+COMING, STAYING = 50, 500  # names of a directory that others list
+LISTERS, CHANGERS = 3, 2
+LISTED_FOR = 4  # seconds
 HELD = []  # what a worker holds open
 
 
@@ -146,6 +154,46 @@ def two_names(mounted, told):
     told.compare('two names', 'the mode then', None, oct(os.stat(path).st_mode & 0o777), '0o640')
 
 
+# ---- listings while names come and go
+
+def come_and_go(folder, number, end):
+    """Makes and removes names that stand before those which stay, until that time: how many removals there were."""
+    dice = random.Random(number)
+    removed = 0
+    while time.monotonic() < end:
+        name = folder / f'a{number}_{dice.randrange(COMING)}'
+        if dice.random() < 0.5:
+            attempt(name.touch)
+        else:
+            removed += attempt(name.unlink) is None
+    return removed
+
+
+def listed_wrongly(folder, staying, end):
+    """Lists the directory until that time: how many listings lack a name that stays, and how many have one twice."""
+    lacking = twice = 0
+    while time.monotonic() < end:
+        seen = collections.Counter(os.listdir(folder))
+        lacking += any(seen[name] == 0 for name in staying)
+        twice += any(seen[name] > 1 for name in staying)
+    return lacking, twice
+
+
+def busy_listings(mounted, told):
+    """What POSIX.1-2017 asks of readdir(): a name that is neither added nor removed meanwhile is told once."""
+    folder = work_dir(mounted, 'busy')
+    staying = [f'z{number}' for number in range(STAYING)]
+    for name in staying:
+        (folder / name).touch()
+    end = time.monotonic() + LISTED_FOR
+    with concurrent.futures.ProcessPoolExecutor(LISTERS + CHANGERS) as pool:
+        changes = [pool.submit(come_and_go, folder, number, end) for number in range(CHANGERS)]
+        listings = [pool.submit(listed_wrongly, folder, staying, end) for _ in range(LISTERS)]
+        told.compare('listings', 'each process had names to remove', None, all(change.result() > 0 for change in changes), True)
+        for number, listing in enumerate(listings):
+            told.compare('listings', f'{number}: those that lack a name that stays, or have it twice', None, listing.result(), (0, 0))
+
+
 # ---- names that fail
 
 def make_file(path):
@@ -243,6 +291,7 @@ def crowds(mounted, told):
     open_files(mounted, told)
     groups(mounted, told)
     two_names(mounted, told)
+    busy_listings(mounted, told)
     failing_names(mounted, told)
     killed_at_once(mounted, told)
     mounted.end()

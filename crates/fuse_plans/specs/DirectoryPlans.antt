@@ -13,13 +13,11 @@ use Rattle.fuse_plans.specs.declared.request.Asked.{Asked}
 use Rattle.fuse_protocol.specs.declared.entry.DirectoryEntry.{DirectoryEntry}
 use Rattle.fuse_protocol.specs.declared.entry.EntryKind.{EntryKind}
 use Rattle.fuse_protocol.specs.declared.entry.EntryKind.TheVariants.{Unknown, Directory}
-use Rattle.fuse_protocol.specs.declared.flags.OpenedFlags.{OpenedFlags}
 use Rattle.fuse_protocol.specs.declared.operation.Extent.{Extent}
 use Rattle.fuse_protocol.specs.Entries.{directory_entry_bytes, entry_size}
 use Rattle.fuse_plans.specs.declared.reply.ReplyBody.{ReplyBody}
 use Rattle.fuse_plans.specs.declared.reply.ReplyBody.TheVariants.{Nothing, Opened, Bytes}
-use Rattle.fuse_state.specs.declared.settings.Settings.{Settings}
-use Rattle.fuse_state.specs.Servers.{Server, may_open_directory, directory_of, with_opened, with_listing, without_directory}
+use Rattle.fuse_state.specs.Servers.{may_open_directory, directory_of, with_opened, with_listing, without_directory}
 use Rattle.fuse_state.specs.declared.directory.OpenDirectory.{OpenDirectory}
 use Rattle.fuse_plans.specs.Works.{Work, give, fail, kept, keep, ◌>>=◌, ◌>>◌, attempt, needed, obtain, or_closed, replied_fd, replied_names}
 use Rattle.fuse_plans.specs.Callers.{the_server_process, has_dentry, on, the_number, directory_number}
@@ -27,19 +25,17 @@ use Rattle.fuse_plans.specs.Flags.{listing}
 use Rattle.fuse_plans.specs.FilePlans.{when}
 use Rattle.fuse_plans.specs.AttributePlans.{access_as}
 
--- the kernel may keep the listing: KEEP_CACHE and CACHE_DIR
-abbrev pub directory_flags : Settings → OpenedFlags
-directory_flags settings = record { 0 = if settings.keeping.pages then 10 else 0 }
-
-abbrev pub opened_directory_body : ℕ → Server → ReplyBody
-opened_directory_body handle s = Opened handle (directory_flags s.settings)
+-- The kernel may not keep the listing: it would tell who has opened the directory by another handle a part of it, and then ask that handle
+-- for the rest, in whose listing the names may have other offsets.
+abbrev pub opened_directory_body : ℕ → ReplyBody
+opened_directory_body handle = Opened handle (record { 0 = 0 })
 
 abbrev pub take_directory_if : ℕ → ℕ → Bool → Work ReplyBody
 take_directory_if uid n false = fail (Lacks ENFILE)
 take_directory_if uid n true = do
   handle ← kept (λ s. s.next_directory)
   keep (with_opened uid n)
-  kept (opened_directory_body handle)
+  give (opened_directory_body handle)
 
 -- where the user may open one more
 unfoldable pub take_directory : ℕ → ℕ → Work ReplyBody
