@@ -84,10 +84,15 @@ alone = record (new_app (codes "inofs")) {
   top = record (new_app (codes "inofs")).top { disable_help_subcommand = true; has_version = true };
 }
 
+-- with the commands that make images, with those too that go over what is in one, and with all
+abbrev pub with_makers : App
+with_makers = with_subcommand (with_subcommand (with_subcommand alone mkfs.top) format.top) pack.top
+
+abbrev pub with_users : App
+with_users = with_subcommand (with_subcommand (with_subcommand with_makers unpack.top) run.top) check.top
+
 abbrev pub command_line : App
-command_line = with_subcommand (with_subcommand (with_subcommand (with_subcommand (with_subcommand (with_subcommand (with_subcommand
-    (with_subcommand (with_subcommand alone
-    mkfs.top) format.top) pack.top) unpack.top) run.top) check.top) info.top) upgrade.top) fuse.top
+command_line = with_subcommand (with_subcommand (with_subcommand with_users info.top) upgrade.top) fuse.top
 
 -- ---- what it reads
 

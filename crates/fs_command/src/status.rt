@@ -3,8 +3,6 @@
 ghost use Rattle.std.specs.Prelude.{◌≡◌};
 ghost use Rattle.fs_command.specs.Statuses.{code_of, status_of};
 
-use fs_shell::Count;
-
 /// How the program ends.
 #[derive(Clone, Copy, Debug, PartialEq, Eq)]
 pub enum Status {
@@ -19,11 +17,11 @@ pub enum Status {
 }
 
 impl Status {
-    /// How a script ends that was run to its end.
-    pub fn of(count: &Count) -> Status
-        ensures { result ≡ status_of count.now }
+    /// How a script ends that was run to its end, so many of whose lines had a fault.
+    pub fn of_faults(faults: usize) -> Status
+        ensures { result ≡ status_of faults }
     {
-        if count.faults == 0 {
+        if faults == 0 {
             Status::Done
         } else {
             Status::Faulty

@@ -8,7 +8,7 @@ use Rattle.fs_check.specs.Checks.{IsClean, IsFirst, IsReason, Passed}
 use Rattle.fs_check.specs.declared.faults.CheckFault.{CheckFault}
 use Rattle.fs_check.specs.declared.faults.CheckFault.TheVariants.{Found, DiskFault, OutOfMemory}
 use Rattle.fs_check.specs.declared.faults.Summary.{Summary}
-use Rattle.fs_command.specs.declared.failure.Failure.{Failure}
+use Rattle.fs_program.specs.declared.failure.Failure.{Failure}
 use Rattle.fs_command.specs.declared.status.Status.{Status}
 use Rattle.fs_program.specs.Jobs.{CheckEnds, HasChecked, IsOfRule, IsCheckTold, is_clean, has_finding, is_unchecked}
 use Rattle.fs_program.specs.Streams.{Writing}

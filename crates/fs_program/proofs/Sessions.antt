@@ -15,7 +15,7 @@ use Rattle.fuse_serving.specs.Rounds.{Round, IsEnd, was_told, no_more, not_whole
 use Rattle.fuse_serving.specs.declared.fault.ServeFault.{ServeFault}
 use Rattle.fs_fuse.specs.Performing.{ServedFrom, BrokenFrom, Faulted, has_not_begun, broke_off, ServingEnds}
 use Rattle.fs_program.specs.Serving.{FuseEnds, ServesOn, cannot_begin, cannot_mount, has_served, anything_passes, settings_of}
-use Rattle.fs_command.specs.declared.failure.Failure.{Failure}
+use Rattle.fs_program.specs.declared.failure.Failure.{Failure}
 use Rattle.fs_command.specs.declared.status.Status.{Status}
 
 module _ {K : Type 0} (Does : K → Exchange → K → Type 0) where

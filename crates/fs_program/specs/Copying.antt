@@ -28,8 +28,8 @@ use Rattle.host_trees.specs.declared.fault.Copied.TheVariants.{Whole, InPart}
 use Rattle.host_trees.specs.declared.fault.CopyFault.{CopyFault}
 use Rattle.host_trees.specs.declared.fault.CopyFault.TheVariants.{NoDirectory}
 use Rattle.fs_fuse.specs.Performing.{ServesOne}
-use Rattle.fs_command.specs.declared.failure.Failure.{Failure}
-use Rattle.fs_command.specs.declared.failure.Failure.TheVariants as failures
+use Rattle.fs_program.specs.declared.failure.Failure.{Failure}
+use Rattle.fs_program.specs.declared.failure.Failure.TheVariants as failures
 use Rattle.fs_command.specs.declared.status.Status.{Status}
 use Rattle.fs_command.specs.declared.status.Status.TheVariants.{Done, Faulty}
 

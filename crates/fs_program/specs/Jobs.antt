@@ -52,8 +52,8 @@ use Rattle.fs_program.specs.Streams.{Reading, Writing}
 use Rattle.fs_program.specs.InfoTexts.{info_text}
 use Rattle.fs_program.specs.Texts.{made_text, clean_text, found_text, version_text}
 use Rattle.fs_command.specs.Words.{AsksFor, Refuses, words_status}
-use Rattle.fs_command.specs.declared.failure.Failure.{Failure}
-use Rattle.fs_command.specs.declared.failure.Failure.TheVariants as failures
+use Rattle.fs_program.specs.declared.failure.Failure.{Failure}
+use Rattle.fs_program.specs.declared.failure.Failure.TheVariants as failures
 use Rattle.fs_program.specs.declared.memory.TheConstants.{SECTORS, INODES}
 use Rattle.fs_command.specs.declared.status.Status.{Status}
 use Rattle.fs_command.specs.declared.status.Status.TheVariants.{Done, Faulty, Failed}
@@ -70,7 +70,7 @@ ended (Err failure) = Failed
 
 -- a run: that of its lines, or it ended early
 abbrev pub run_status : Result Count RunFault → Status
-run_status (Ok count) = status_of count
+run_status (Ok count) = status_of count.faults
 run_status (Err fault) = Failed
 
 -- a run, and what the unmount after it is answered
@@ -80,7 +80,7 @@ run_end ran reply = Err failures.Unmount
 
 -- a run in memory
 abbrev pub memory_end : Result Count Failure → Result Status Failure
-memory_end (Ok count) = Ok (status_of count)
+memory_end (Ok count) = Ok (status_of count.faults)
 memory_end (Err failure) = Err failure
 
 -- The job isn't done, for this reason, and nothing is printed.

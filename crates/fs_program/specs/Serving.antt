@@ -21,8 +21,8 @@ use Rattle.fuse_state.specs.Keepings.{usually_kept}
 use Rattle.fuse_serving.specs.Exchanges.{Exchange, SeesTime}
 use Rattle.fuse_serving.specs.declared.fault.ServeFault.{ServeFault}
 use Rattle.fs_fuse.specs.Performing.{ServingEnds}
-use Rattle.fs_command.specs.declared.failure.Failure.{Failure}
-use Rattle.fs_command.specs.declared.failure.Failure.TheVariants as failures
+use Rattle.fs_program.specs.declared.failure.Failure.{Failure}
+use Rattle.fs_program.specs.declared.failure.Failure.TheVariants as failures
 use Rattle.fs_command.specs.declared.status.Status.{Status}
 use Rattle.fs_command.specs.declared.status.Status.TheVariants.{Done, Failed}
 

@@ -4,10 +4,11 @@ ghost use Rattle.std.specs.Prelude.{◌≡◌, Some};
 ghost use Rattle.fs_layout.specs.Geometry.{the_geometry};
 ghost use Rattle.fs_system.specs.Replies.{unmounted};
 ghost use Rattle.host_trees.specs.Copies.{ArePacking, AreUnpacking};
-ghost use Rattle.fs_command.specs.declared.failure.Failure.TheVariants.{Pack, Unpack};
+ghost use Rattle.fs_program.specs.declared.failure.Failure.TheVariants.{Pack, Unpack};
 ghost use Rattle.fs_program.specs.Copying.{MountedEnds, PackEnds, UnpackEnds, copied_status, copy_end, kept_end};
 
-use fs_command::{Failure, Status};
+use crate::failure::Failure;
+use fs_command::Status;
 use fs_cred::Errno;
 use fs_images::mkfs;
 use fs_layout::Geometry;

@@ -8,7 +8,8 @@ ghost use Rattle.fs_program.specs.Jobs.{InfoEnds};
 ghost use Rattle.fs_program.specs.Streams.{writing};
 
 use crate::disks::{written, yes_or_no};
-use fs_command::{Failure, Status};
+use crate::failure::Failure;
+use fs_command::Status;
 use fs_info::{Info, read_info};
 use fs_shell::Watched;
 use sector_disk::Disk;

@@ -10,8 +10,9 @@ ghost use Rattle.fs_program.specs.Streams.{reading, writing};
 ghost use Rattle.fs_program.specs.Texts.{made_text, kinds_text, room_text, yes_text, clean_text, finding_text, found_text, version_text};
 
 use crate::explaining::print_explanation;
+use crate::failure::Failure;
 use fs_check::{CheckFault, Finding, Summary, check};
-use fs_command::{Failure, Status};
+use fs_command::Status;
 use fs_images::{mkfs, upgrade};
 use fs_layout::{Geometry, Version};
 use fs_shell::{Count, RunFault, Watched, run};
@@ -109,7 +110,7 @@ fn tell_run<E: Write>(ran: Result<Count, RunFault>, err: &mut E) -> Status
     ensures { result ≡ run_status ran }
 {
     match ran {
-        Ok(count) => Status::of(&count),
+        Ok(count) => Status::of_faults(count.faults),
         Err(fault) => tell(err, &Failure::Run(fault)),
     }
 }

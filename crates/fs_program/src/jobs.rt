@@ -15,10 +15,11 @@ use crate::describing::describe_disk;
 use crate::disks::{
     check_disk, finish, make_on_disk, run_on_disk, tell_check, upgrade_disk, written,
 };
+use crate::failure::Failure;
 use crate::memory::run_in_memory;
 use crate::served::serve_on_disk;
 use fs_check::{CheckFault, Summary, check, load};
-use fs_command::{Failure, Job, Status, Text, WordsFault, parse_words};
+use fs_command::{Job, Status, Text, WordsFault, parse_words};
 use fs_images::MkfsFault;
 use fs_layout::{Version, geometry_of};
 use fs_shell::Watched;
@@ -78,7 +79,7 @@ fn perform_job<R: Files<File: DiskFile> + AllocGlobal + Clock, I: Read, O: Write
     match job {
         Job::Memory => {
             let count = run_in_memory(rt.alloc(), input, out)?;
-            Ok(Status::of(&count))
+            Ok(Status::of_faults(count.faults))
         }
         Job::Mkfs {
             image,

@@ -8,9 +8,13 @@ mod denials;
 mod describing;
 mod disks;
 mod explaining;
+mod failure;
 mod jobs;
 mod memory;
 mod served;
 
+pub use failure::Failure;
 pub use fs_command::{Job, WordsFault, parse_words};
+pub use fs_shell::{RunFault, Watched};
+pub use fs_system::MountFault;
 pub use jobs::perform;

@@ -5,11 +5,11 @@ ghost use Rattle.fs_shell.specs.declared.fault.RunFault.TheVariants.{ReadFault, 
 ghost use Rattle.fs_shell.specs.Watching.{FailsWhere};
 ghost use Rattle.fs_system.specs.Playing.{IsConfig};
 ghost use Rattle.fs_system.specs.Histories.{Config};
-ghost use Rattle.fs_command.specs.declared.failure.Failure.TheVariants.{Run};
+ghost use Rattle.fs_program.specs.declared.failure.Failure.TheVariants.{Run};
 ghost use Rattle.fs_program.specs.Programs.{Begins, Fails, RunsInMemory};
 ghost use Rattle.fs_program.specs.Streams.{reading, writing};
 
-use fs_command::Failure;
+use crate::failure::Failure;
 use fs_images::mkfs;
 use fs_layout::Version;
 use fs_shell::{Count, Watched, run};

@@ -4,7 +4,8 @@ ghost use Rattle.std.specs.Prelude.{◌≡◌};
 ghost use Rattle.fs_program.specs.Serving.{FuseEnds, served_status, settings_of};
 
 use crate::disks::tell;
-use fs_command::{Failure, Status};
+use crate::failure::Failure;
+use fs_command::Status;
 use fs_fuse::serve_requests;
 use fs_layout::Geometry;
 use fs_system::Fs;

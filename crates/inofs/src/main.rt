@@ -2,8 +2,7 @@
 #![tactic(auto)]
 
 use fs_command::Status;
-use fs_program::perform;
-use fs_shell::Watched;
+use fs_program::{Watched, perform};
 use std::process::ExitCode;
 use std::{env, io};
 

@@ -2,11 +2,9 @@
 
 use crate::report::push_other_text;
 use fs_check::{CheckFault, Finding};
-use fs_command::Failure;
 use fs_images::{MkfsFault, UpgradeFault};
 use fs_info::InfoFault;
-use fs_shell::RunFault;
-use fs_system::MountFault;
+use fs_program::{Failure, MountFault, RunFault};
 use host_trees::CopyFault;
 use std::alloc::{AllocError, Global};
 use std::test::Fail;

@@ -2,8 +2,7 @@
 
 use crate::program_words::HELP;
 use crate::report::push_other_text;
-use fs_program::perform;
-use fs_shell::Watched;
+use fs_program::{Watched, perform};
 use std::alloc::{AllocError, Global};
 use std::fs::Permissions;
 use std::os::unix::fs::{MetadataExt, PermissionsExt, symlink};

@@ -1,6 +1,6 @@
 use Rattle.std.proofs.Common.{◌∙◌, sym, ap}
 use Rattle.fs_system.specs.Replies.{unmounted}
-use Rattle.fs_command.specs.declared.failure.Failure.TheVariants.{Pack}
+use Rattle.fs_program.specs.declared.failure.Failure.TheVariants.{Pack}
 use Rattle.fs_program.specs.Copying.{copy_end}
 use Rattle.fs_program.proofs.copying.packed_end.Goals as goal
 

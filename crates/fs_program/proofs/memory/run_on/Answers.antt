@@ -3,8 +3,8 @@ use Rattle.fs_shell.specs.Watching.{FailsWhere}
 use Rattle.fs_shell.specs.declared.answer.Count.{Count}
 use Rattle.fs_shell.specs.declared.fault.RunFault.{RunFault}
 use Rattle.fs_shell.specs.declared.fault.RunFault.TheVariants.{ReadFault, WriteFault}
-use Rattle.fs_command.specs.declared.failure.Failure.{Failure}
-use Rattle.fs_command.specs.declared.failure.Failure.TheVariants.{Run}
+use Rattle.fs_program.specs.declared.failure.Failure.{Failure}
+use Rattle.fs_program.specs.declared.failure.Failure.TheVariants.{Run}
 use Rattle.fs_program.proofs.memory.run_on.Goals as goal
 
 abbrev TellsRun : Result Count RunFault → RunFault → Type 0
