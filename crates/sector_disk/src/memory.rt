@@ -1,7 +1,7 @@
 //! A disk in memory, which can be stopped. A record of its writes and syncs answers for the moments since the last
 //! stop.
 
-ghost use Rattle.std.specs.Prelude.{◌≡◌, ◌^◌, ◌<◌, ◌-◌, length, vec_len, replicate, IfOk, IfSome, IsErr, ◌+◌, min, ◌≤◌, slice_range};
+ghost use Rattle.std.specs.Prelude.{◌≡◌, ◌≢◌, ◌↔◌, ◌^◌, ◌<◌, ◌-◌, length, vec_len, replicate, Some, option_map, IfOk, IfSome, IsErr, IsTrue, ◌+◌, min, ◌≤◌, slice_range};
 ghost use Rattle.sector_disk.specs.Disk.{IsFresh};
 ghost use Rattle.sector_disk.specs.Record.{recorded_state, replay};
 ghost use Rattle.sector_disk.specs.Replay.{seen_is_image, counts_now, only_now};
@@ -61,8 +61,10 @@ impl MemDisk {
         }
     }
 
-    // Whether one write or sync more passes.
+    // Whether one write or sync more passes: unless none is left of those that may.
     fn passes(&mut self) -> bool
+        ensures passes { IsTrue result ↔ self.old.armed ≢ Some 0 }
+        ensures fewer { self.new.armed ≡ option_map (λ more. more - 1) self.old.armed }
         ensures history { self.new.history ≡ self.old.history }
         ensures failures { self.new.failures ≡ self.old.failures }
     {
