@@ -193,11 +193,11 @@ module _ {o : Option Operation} where
   asks-find_listed : (nobody : Bool) (place : Result ℕ RequestError) (name : List ℕ) → Asks o (find_listed nobody place name)
   asks-find_listed nobody place name = search (pieces, asks-plain_name, asks-place, asks-found_or_absent) depth 20
 
-  asks-look_up_names : (nobody : Bool) (place : Result ℕ RequestError) (names : List (List ℕ × ℕ)) → Asks o (look_up_names nobody place names)
+  asks-look_up_names : (nobody : Bool) (place : Result ℕ RequestError) (names : List (ℕ × (List ℕ × ℕ))) → Asks o (look_up_names nobody place names)
   unfolding look_up_names
   asks-look_up_names nobody place [] = asks-give []
   asks-look_up_names nobody place (e ∷ es) =
-      asks->>= (asks-attempt (asks-find_listed nobody place e.0)) (λ found. asks->>= (asks-look_up_names nobody place es) (λ others. asks-give _))
+      asks->>= (asks-attempt (asks-find_listed nobody place e.1.0)) (λ found. asks->>= (asks-look_up_names nobody place es) (λ others. asks-give _))
 
   asks-read_directory_plus : (nobody : Bool) (node : ℕ) (extent : Extent) → Asks o (read_directory_plus nobody node extent)
   unfolding read_directory_plus

@@ -369,11 +369,11 @@ keeps-place (Err e) = keeps-fail e
 keeps-find_listed : (nobody : Bool) (place : Result ℕ RequestError) (name : List ℕ) → Timeless (find_listed nobody place name)
 keeps-find_listed nobody place name = search (pieces, keeps-place, keeps-found_or_absent) depth 20
 
-keeps-look_up_names : (nobody : Bool) (place : Result ℕ RequestError) (names : List (List ℕ × ℕ)) → Timeless (look_up_names nobody place names)
+keeps-look_up_names : (nobody : Bool) (place : Result ℕ RequestError) (names : List (ℕ × (List ℕ × ℕ))) → Timeless (look_up_names nobody place names)
 unfolding look_up_names
 keeps-look_up_names nobody place [] = keeps-give []
 keeps-look_up_names nobody place (e ∷ es) =
-    keeps->>= (keeps-attempt (keeps-find_listed nobody place e.0)) (λ found. keeps->>= (keeps-look_up_names nobody place es) (λ others. keeps-give _))
+    keeps->>= (keeps-attempt (keeps-find_listed nobody place e.1.0)) (λ found. keeps->>= (keeps-look_up_names nobody place es) (λ others. keeps-give _))
 
 keeps-read_directory_plus : (nobody : Bool) (node : ℕ) (extent : Extent) → Timeless (read_directory_plus nobody node extent)
 unfolding read_directory_plus

@@ -169,7 +169,7 @@ for-sized size has body is = so-if _ _ _ (so-give _ (refl, refl)) (so-if _ _ _ (
 
 for-take_directory_if : (uid n : ℕ) (may : Bool) → TellsFor 0 (take_directory_if uid n may)
 for-take_directory_if uid n false = so-fail _
-for-take_directory_if uid n true = so-after _ (λ handle. so-after _ (λ opened. so-give _ (refl, refl)))
+for-take_directory_if uid n true = so-after _ (λ handle. so-after _ (λ opened. so-kept _ (λ s. (refl, refl))))
 
 for-take_directory : (uid n : ℕ) → TellsFor 0 (take_directory uid n)
 unfolding take_directory

@@ -15,6 +15,7 @@ pub mod Forms
 pub mod JudgedLookups
 pub mod MaskConducts
 pub mod ListingConducts
+pub mod ListingLaws
 pub mod KeptNames
 pub mod NameConducts
 pub mod NobodyConducts

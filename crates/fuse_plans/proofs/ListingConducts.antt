@@ -1,8 +1,8 @@
 -- How READDIRPLUS behaves.
 --     gives-place        the directory of the names, where it stands
 --     lasts-read_directory_plus        the request
-use Rattle.std.specs.Prelude.{◌≡◌, ℕ, Bool, true, false, List, [], ◌∷◌, Option, None, Some, Result, Ok, Err, if◌then◌else◌}
-use Rattle.std.proofs.Common.{refl, sym, ap, subst, ◌∙◌}
+use Rattle.std.specs.Prelude.{◌≡◌, ℕ, Bool, List, [], ◌∷◌, Some, Result, Ok, Err}
+use Rattle.std.proofs.Common.{refl, sym, subst}
 use Rattle.fs_model.specs.declared.call.Call.TheVariants.{Lstat}
 use Rattle.fuse_protocol.specs.declared.operation.Extent.{Extent}
 use Rattle.fuse_protocol.specs.declared.operation.Operation.TheVariants.{ReadDirPlus}
@@ -73,12 +73,12 @@ module _ {rights : Rights} (extent : Extent) (asks : rights.subject.operation �
   does-find_listed nobody place name is =
       does->>= (does-if _ _ _ (does-give tt) (does-fail _)) (λ short. does->>= (does-plain_name name) (λ plain. does-find_at nobody place name is))
 
-  does-look_up_names : (nobody : Bool) (place : Result ℕ RequestError) (names : List (List ℕ × ℕ)) → IsPlace rights rights.subject.node place
+  does-look_up_names : (nobody : Bool) (place : Result ℕ RequestError) (names : List (ℕ × (List ℕ × ℕ))) → IsPlace rights rights.subject.node place
       → Does rights Any (look_up_names nobody place names)
   unfolding look_up_names
   does-look_up_names nobody place [] is = does-give []
   does-look_up_names nobody place (e ∷ es) is =
-      does->>= (does-attempt (does-find_listed nobody place e.0 is)) (λ found.
+      does->>= (does-attempt (does-find_listed nobody place e.1.0 is)) (λ found.
       does->>= (does-look_up_names nobody place es is) (λ others. does-give _))
 
 module _ {rights : Rights} (r : Asked) (is : rights.cred ≡ r.cred) (node : rights.subject.node ≡ r.node) (of : AsksOf rights r.node) where

@@ -24,6 +24,7 @@ use Rattle.fuse_plans.specs.Plans.{KeepsTo}
 use Rattle.fuse_plans.specs.Conduct.{Known, Rights, sets, conduct, Fits, IsHome, IsOfHandle}
 use Rattle.fuse_plans.specs.FilePlans.{sync_file}
 use Rattle.fuse_plans.specs.AttributePlans.{tell_attributes, get_attributes, new_owners, resize_object, set_size, set_mode, may_set_times, set_stamps_if, set_stamps, set_times, change_attributes, set_attributes, read_link, access_as, ask_access}
+use Rattle.fuse_plans.specs.ListingOrder.{in_order}
 use Rattle.fuse_plans.specs.DirectoryPlans.{open_directory, take_directory, take_directory_if, tell_names, list_open, list_all, list_now, listed, list_kept, read_directory, close_directory, sync_all}
 use Rattle.fuse_plans.specs.AclPlans.{an_object, sized, get_xattr, attribute_names, list_xattrs, acl_set, set_acl, set_xattr, remove_xattr}
 use Rattle.fuse_plans.specs.Serving.{count_space, end}
@@ -225,7 +226,8 @@ module _ {rights : Rights} (r : Asked) (is : rights.cred ≡ r.cred) (asks : Ask
       does->>= (does-if _ _ _ (does-give tt) (does-fail _)) (λ same.
       does->>= (does-kept _) (λ placed.
       does->>= (does-list_all n placed object) (λ names.
-      does->>= (does-keep_within _ (listing-same handle names) (λ s still within start. listed_within s handle names (within start)) (λ s still. listing-still handle names s still)) (λ done. does-give names)))))
+      does->>= (does-keep_within _ (listing-same handle (in_order names)) (λ s still within start. listed_within s handle (in_order names) (within start))
+      (λ s still. listing-still handle (in_order names) s still)) (λ done. does-give (in_order names))))))
 
   lasts-listed_anew : (handle : ℕ) (d : OpenDirectory) (anew : Bool) (known : Option (List (List ℕ × ℕ))) → Lasts rights (Still rights) (listed r.node handle d anew known)
   lasts-listed_anew handle d false (Some names) = does-lasts (does-give names)

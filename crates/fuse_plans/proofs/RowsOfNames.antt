@@ -17,6 +17,7 @@ use Rattle.fuse_state.specs.Servers.{Server, new_server}
 use Rattle.fuse_plans.specs.declared.reply.Attributes.{Attributes}
 use Rattle.fuse_plans.specs.declared.reply.ReplyBody.TheVariants.{Nothing, Found, Absent, Shown as ShownAs, Opened, Created, Bytes, Wrote as WroteBytes, Space as SpaceOf}
 use Rattle.fuse_plans.specs.declared.mode.Mode.TheVariants.{Reads, Writes, Both}
+use Rattle.fuse_plans.specs.ListingOrder.{listing_place}
 use Rattle.fuse_plans.specs.Serving.{terms}
 use Rattle.fuse_plans.proofs.Replays.{Silent, Told, Error, played, all_plans, second, new, asks, user, extent, failed, granted, AtOffset, status, attributes, entry, entries, acl, none_kept, flags}
 
@@ -115,7 +116,7 @@ pub unlink_open : played new (
     ∷ (((Calls 1 (Lstat (codes "/"))) ∷ []), Told (ShownAs (attributes (status 1 Directory 493 1 0 0 128) (second 1000000001) (second 1000000043) (second 1000000043))))
     ∷ ((Statfs ∷ []), Told (SpaceOf 878 877 63 61 120))
     ∷ []
-unfolding all_plans
+unfolding all_plans listing_place
 unlink_open = refl
 
 -- ---- the kernel judges before it asks

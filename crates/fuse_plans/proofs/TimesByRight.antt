@@ -38,7 +38,7 @@ use Rattle.fuse_plans.specs.declared.request_error.OtherErrno.TheVariants.{ESTAL
 use Rattle.fuse_plans.specs.RequestErrors.{failed, is_for}
 use Rattle.fuse_plans.specs.Plans.{Plan, Finish, Ask, followed_by, IsRunOf, IsAsked, at_once, later, Restraint, KeepsTo, after_all, MayAskAll}
 use Rattle.fuse_plans.specs.Requests.{Request, asked_of}
-use Rattle.fuse_plans.specs.Works.{Work, give, fail, kept, keep, goes_on, ◌>>=◌, ◌>>◌, attempt, needed, ask, give_unless, refusal_in, is_refused_for, unless_refused, obtain, pid_of_reply, status_of_reply}
+use Rattle.fuse_plans.specs.Works.{Work, give, fail, kept, keep, goes_on, ◌>>=◌, attempt, needed, ask, give_unless, refusal_in, is_refused_for, unless_refused, obtain, pid_of_reply, status_of_reply}
 use Rattle.fuse_plans.specs.Callers.{settle_new, settled, settle, retire_idle, settle_first, begin_process, or_spawned, caller, between, or_inside, standing_refusal, or_next, by_dentries, on, look_at, look, is_known_directory, the_number}
 use Rattle.fuse_plans.specs.AttributePlans.{is_now, stamp_set, may_set_times, set_stamps_if, set_stamps, set_times, change_attributes, tell_times, set_attributes}
 use Rattle.fuse_plans.specs.Alterations.{sets_times, sets_some, where_so, IsToldIn, AreTold, MayBeAsked, AsksOnly}
@@ -46,7 +46,7 @@ use Rattle.fuse_plans.specs.FilePlans.{when}
 use Rattle.fuse_plans.specs.Times.{tell_time_if, tell_time}
 use Rattle.fuse_plans.specs.Nobody.{needs_nobody_in}
 use Rattle.fuse_plans.specs.Serving.{Replying, answered, asked_for, response_of, request_plan}
-use Rattle.fuse_plans.specs.TimeLaws.{IsPresent, IsOfWhoAsks, was_there, has_begun, MaySet, owns, may_write, MaySetTimes, TimesAreSetByRight}
+use Rattle.fuse_plans.specs.TimeLaws.{IsOfWhoAsks, was_there, has_begun, MaySet, owns, may_write, MaySetTimes, TimesAreSetByRight}
 use Rattle.fuse_plans.proofs.PlanLaws.{keeps-follows}
 use Rattle.fuse_plans.proofs.Conducts.{keeps-followed_by, keeps-weaker}
 use Rattle.fuse_plans.proofs.AlterPieces.{Asks, asks-kept, asks->>=, asks-retire, asks-the_server_process, asks-told_stamps}

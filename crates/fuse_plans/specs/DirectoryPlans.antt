@@ -1,6 +1,6 @@
 -- Plans of requests for directories. An open directory holds no descriptor of the machine.
 --     open_directory, take_directory, read_directory, close_directory
-use Rattle.std.specs.Prelude.{ℕ, ◌+◌, ◌-◌, ◌==◌, nat_le, Bool, true, false, ◌||◌, List, [], ◌∷◌, drop, length, codes, bytes_eq, Option, Some, if◌then◌else◌}
+use Rattle.std.specs.Prelude.{ℕ, ◌-◌, ◌==◌, nat_le, Bool, true, false, ◌||◌, List, [], ◌∷◌, length, codes, bytes_eq, Option, Some, if◌then◌else◌}
 use Rattle.std.specs.List.{flat_map}
 use Rattle.posix_acl.specs.Entries.{perms_of}
 use Rattle.fs_cred.specs.declared.errno.Errno.TheVariants.{EACCES, EBADF}
@@ -13,29 +13,34 @@ use Rattle.fuse_plans.specs.declared.request.Asked.{Asked}
 use Rattle.fuse_protocol.specs.declared.entry.DirectoryEntry.{DirectoryEntry}
 use Rattle.fuse_protocol.specs.declared.entry.EntryKind.{EntryKind}
 use Rattle.fuse_protocol.specs.declared.entry.EntryKind.TheVariants.{Unknown, Directory}
+use Rattle.fuse_protocol.specs.declared.flags.OpenedFlags.{OpenedFlags}
 use Rattle.fuse_protocol.specs.declared.operation.Extent.{Extent}
 use Rattle.fuse_protocol.specs.Entries.{directory_entry_bytes, entry_size}
 use Rattle.fuse_plans.specs.declared.reply.ReplyBody.{ReplyBody}
 use Rattle.fuse_plans.specs.declared.reply.ReplyBody.TheVariants.{Nothing, Opened, Bytes}
-use Rattle.fuse_state.specs.Servers.{may_open_directory, directory_of, with_opened, with_listing, without_directory}
+use Rattle.fuse_state.specs.declared.settings.Settings.{Settings}
+use Rattle.fuse_state.specs.Servers.{Server, may_open_directory, directory_of, with_opened, with_listing, without_directory}
 use Rattle.fuse_state.specs.declared.directory.OpenDirectory.{OpenDirectory}
 use Rattle.fuse_plans.specs.Works.{Work, give, fail, kept, keep, ◌>>=◌, ◌>>◌, attempt, needed, obtain, or_closed, replied_fd, replied_names}
 use Rattle.fuse_plans.specs.Callers.{the_server_process, has_dentry, on, the_number, directory_number}
 use Rattle.fuse_plans.specs.Flags.{listing}
+use Rattle.fuse_plans.specs.ListingOrder.{in_order, behind}
 use Rattle.fuse_plans.specs.FilePlans.{when}
 use Rattle.fuse_plans.specs.AttributePlans.{access_as}
 
--- The kernel may not keep the listing: it would tell who has opened the directory by another handle a part of it, and then ask that handle
--- for the rest, in whose listing the names may have other offsets.
-abbrev pub opened_directory_body : ℕ → ReplyBody
-opened_directory_body handle = Opened handle (record { 0 = 0 })
+-- the kernel may keep the listing, and go on in it by the offsets of another one: KEEP_CACHE and CACHE_DIR
+abbrev pub directory_flags : Settings → OpenedFlags
+directory_flags settings = record { 0 = if settings.keeping.pages then 10 else 0 }
+
+abbrev pub opened_directory_body : ℕ → Server → ReplyBody
+opened_directory_body handle s = Opened handle (directory_flags s.settings)
 
 abbrev pub take_directory_if : ℕ → ℕ → Bool → Work ReplyBody
 take_directory_if uid n false = fail (Lacks ENFILE)
 take_directory_if uid n true = do
   handle ← kept (λ s. s.next_directory)
   keep (with_opened uid n)
-  give (opened_directory_body handle)
+  kept (opened_directory_body handle)
 
 -- where the user may open one more
 unfoldable pub take_directory : ℕ → ℕ → Work ReplyBody
@@ -58,20 +63,20 @@ open_directory r = do
 abbrev pub entry_kind : List ℕ → EntryKind
 entry_kind name = if bytes_eq name (codes ".") || bytes_eq name (codes "..") then Directory else Unknown
 
--- a name, its inode, and the offset behind it
-abbrev pub listed_entry : ℕ → List ℕ × ℕ → DirectoryEntry
-listed_entry offset e = record { ino = e.1; next = offset + 1; kind = entry_kind e.0; name = e.0 }
+-- a name with its inode, and the offset behind it
+abbrev pub listed_entry : ℕ × (List ℕ × ℕ) → DirectoryEntry
+listed_entry e = record { ino = e.1.1; next = e.0; kind = entry_kind e.1.0; name = e.1.0 }
 
--- the entries that fit, the first of them with this offset
-abbrev pub fitting : ℕ → ℕ → List (List ℕ × ℕ) → List DirectoryEntry
-fitting offset size [] = []
-fitting offset size (e ∷ es) =
-    let needs = entry_size (length e.0) in
-    if nat_le needs size then listed_entry offset e ∷ fitting (offset + 1) (size - needs) es else []
+-- the first of the names, as many as fit
+abbrev pub fitting : ℕ → List (ℕ × (List ℕ × ℕ)) → List DirectoryEntry
+fitting size [] = []
+fitting size (e ∷ es) =
+    let needs = entry_size (length e.1.0) in
+    if nat_le needs size then listed_entry e ∷ fitting (size - needs) es else []
 
 -- as many entries as fit, byte for byte
-abbrev pub listing_bytes : ℕ → ℕ → List (List ℕ × ℕ) → List ℕ
-listing_bytes offset size names = flat_map directory_entry_bytes (fitting offset size names)
+abbrev pub listing_bytes : ℕ → List (ℕ × (List ℕ × ℕ)) → List ℕ
+listing_bytes size names = flat_map directory_entry_bytes (fitting size names)
 
 unfoldable pub tell_names : ℕ → ℕ → Work (List (List ℕ × ℕ))
 tell_names pid fd = do
@@ -110,8 +115,8 @@ list_now node handle number = do
   only_number number n
   placed ← kept (λ s. has_dentry s n)
   names ← list_all n placed
-  keep (with_listing handle names)
-  give names
+  keep (with_listing handle (in_order names))
+  give (in_order names)
 
 -- at the beginning it is listed anew
 abbrev pub listed : ℕ → ℕ → OpenDirectory → Bool → Option (List (List ℕ × ℕ)) → Work (List (List ℕ × ℕ))
@@ -119,7 +124,7 @@ listed node handle d false (Some names) = give names
 listed node handle d _ _ = list_now node handle d.ino
 
 abbrev pub tell_listed : Extent → List (List ℕ × ℕ) → Work ReplyBody
-tell_listed extent names = give (Bytes (listing_bytes extent.offset extent.size (drop extent.offset names)))
+tell_listed extent names = give (Bytes (listing_bytes extent.size (behind extent.offset names)))
 
 -- the names of an open directory
 unfoldable pub list_kept : ℕ → Extent → Work (List (List ℕ × ℕ))

@@ -6,6 +6,7 @@ pub mod Times
 pub mod Paths
 pub mod Callers
 pub mod Flags
+pub mod ListingOrder
 pub mod NamePlans
 pub mod FilePlans
 pub mod AttributePlans
@@ -23,4 +24,5 @@ pub mod AlteredTrees
 pub mod Laws
 pub mod ShareLaws
 pub mod KeepingLaws
+pub mod ListingLaws
 pub mod TimeLaws

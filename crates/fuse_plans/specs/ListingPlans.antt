@@ -3,7 +3,7 @@
 --     find_listed, look_up_names        what the server's own process finds under a name, and under several
 --     told_record, records_bytes        the record of a name by what was found, and those of several
 --     read_directory_plus        the request
-use Rattle.std.specs.Prelude.{ℕ, ◌+◌, ◌-◌, nat_le, Bool, List, [], ◌∷◌, length, drop, Option, None, Some, Result, Ok, Err, if◌then◌else◌}
+use Rattle.std.specs.Prelude.{ℕ, ◌-◌, nat_le, Bool, List, [], ◌∷◌, length, Option, None, Some, Result, Ok, if◌then◌else◌}
 use Rattle.std.specs.List.{flat_map}
 use Rattle.fs_cred.specs.declared.errno.Errno.TheVariants.{EINVAL}
 use Rattle.fs_model.specs.declared.reply.FileType.{FileType}
@@ -24,14 +24,15 @@ use Rattle.fuse_plans.specs.Works.{Work, give, fail, ◌>>=◌, ◌>>◌, attemp
 use Rattle.fuse_plans.specs.Callers.{the_server_process, standing_directory}
 use Rattle.fuse_plans.specs.NamePlans.{plain_name, find_inside}
 use Rattle.fuse_plans.specs.DirectoryPlans.{listed_entry, list_kept}
+use Rattle.fuse_plans.specs.ListingOrder.{behind}
 
 -- ---- what fits
 
 -- the first of the names, as many as have room for their records
-abbrev pub names_within : ℕ → List (List ℕ × ℕ) → List (List ℕ × ℕ)
+abbrev pub names_within : ℕ → List (ℕ × (List ℕ × ℕ)) → List (ℕ × (List ℕ × ℕ))
 names_within size [] = []
 names_within size (e ∷ es) =
-    let needs = record_size (length e.0) in
+    let needs = record_size (length e.1.0) in
     if nat_le needs size then e ∷ names_within (size - needs) es else []
 
 -- ---- look-ups
@@ -57,15 +58,15 @@ find_listed nobody place name = do
   short_name name
   find_in_place nobody place name
 
--- a name of a listing, with its inode there; and what a look-up of it came to
+-- a name of a listing, with the offset behind it and its inode there; and what a look-up of it came to
 abbrev pub LookedUp : Type 0
-LookedUp = (List ℕ × ℕ) × Result ReplyBody RequestError
+LookedUp = (ℕ × (List ℕ × ℕ)) × Result ReplyBody RequestError
 
 -- one after another: what is found counts as told
-unfoldable pub look_up_names : Bool → Result ℕ RequestError → List (List ℕ × ℕ) → Work (List LookedUp)
+unfoldable pub look_up_names : Bool → Result ℕ RequestError → List (ℕ × (List ℕ × ℕ)) → Work (List LookedUp)
 look_up_names nobody place [] = give []
 look_up_names nobody place (e ∷ es) = do
-  found ← attempt (find_listed nobody place e.0)
+  found ← attempt (find_listed nobody place e.1.0)
   others ← look_up_names nobody place es
   give ((e, found) ∷ others)
 
@@ -82,29 +83,24 @@ told_found (Ok (Found node name_valid shown)) = Some (looked_up_entry node name_
 told_found _ = None
 
 -- of what was found its own inode and kind, and else what READDIR tells
-abbrev pub record_entry : ℕ → List ℕ × ℕ → Result ReplyBody RequestError → DirectoryEntry
-record_entry offset e (Ok (Found node name_valid shown)) =
-    record { ino = shown.status.ino; next = offset + 1; kind = entry_kind_of_type shown.status.kind; name = e.0 }
-record_entry offset e _ = listed_entry offset e
+abbrev pub record_entry : ℕ × (List ℕ × ℕ) → Result ReplyBody RequestError → DirectoryEntry
+record_entry e (Ok (Found node name_valid shown)) =
+    record { ino = shown.status.ino; next = e.0; kind = entry_kind_of_type shown.status.kind; name = e.1.0 }
+record_entry e _ = listed_entry e
 
-abbrev pub told_record : ℕ → LookedUp → DirectoryRecord
-told_record offset l = record { found = told_found l.1; entry = record_entry offset l.0 l.1 }
+abbrev pub told_record : LookedUp → DirectoryRecord
+told_record l = record { found = told_found l.1; entry = record_entry l.0 l.1 }
 
--- the first of them with this offset
-abbrev pub told_records : ℕ → List LookedUp → List DirectoryRecord
-told_records offset [] = []
-told_records offset (l ∷ ls) = told_record offset l ∷ told_records (offset + 1) ls
-
-abbrev pub records_bytes : ℕ → List LookedUp → List ℕ
-records_bytes offset ls = flat_map directory_record_bytes (told_records offset ls)
+abbrev pub records_bytes : List LookedUp → List ℕ
+records_bytes ls = flat_map (λ l. directory_record_bytes (told_record l)) ls
 
 -- ---- the request
 
 -- those of the names that fit are looked up in the directory of the node
 abbrev pub tell_looked_up : Bool → Result ℕ RequestError → Extent → List (List ℕ × ℕ) → Work ReplyBody
 tell_looked_up nobody place extent names = do
-  found ← look_up_names nobody place (names_within extent.size (drop extent.offset names))
-  give (Bytes (records_bytes extent.offset found))
+  found ← look_up_names nobody place (names_within extent.size (behind extent.offset names))
+  give (Bytes (records_bytes found))
 
 unfoldable pub read_directory_plus : Bool → ℕ → Extent → Work ReplyBody
 read_directory_plus nobody node extent = do

@@ -56,4 +56,4 @@ pub record ProcessesAreFound : Type 0 where
 abbrev pub DirectoriesAreFound : Type 0
 DirectoriesAreFound =
     (s : Server) (uid n : ℕ) → WithinShares s → HasShare directory_shares (directory_holders s) uid
-    → take_directory uid n s ≡ Finish (Ok (opened_directory_body s.next_directory), with_opened uid n s)
+    → take_directory uid n s ≡ Finish (Ok (opened_directory_body s.next_directory s), with_opened uid n s)

@@ -1,5 +1,6 @@
 //! The laws of the plans: each is the contract of a function that does nothing.
 ghost use Rattle.fuse_plans.specs.KeepingLaws.{NamesAreKeptWhereJudged, OnlyMissingNamesAreAbsent};
+ghost use Rattle.fuse_plans.specs.ListingLaws.{ListingsGoOn, NamesKeepTheirOffsets};
 ghost use Rattle.fuse_plans.specs.TimeLaws.{TimesAreSetByRight};
 ghost use Rattle.fuse_plans.specs.ShareLaws.{RequestsKeepShares, ProcessesAreFound, DirectoriesAreFound};
 ghost use Rattle.fuse_plans.specs.AlteredTrees.{StepsChangeWhatIsSaid};
@@ -130,4 +131,16 @@ pub fn shares_are_found()
 pub fn names_are_kept_where_judged()
     ensures kept { NamesAreKeptWhereJudged }
     ensures absent { OnlyMissingNamesAreAbsent }
+{}
+
+/// A listing goes on by offsets that follow from names alone, whatever else comes and goes.
+///
+/// Behind the offset of a name stand just the names that come after it. And where no two names of a directory have one place, a number of
+/// 62 bits that is made of the name's SipHash, the offset of each is its place. So a name that is in two listings stands at the same offset
+/// in both, and whoever goes on in one by an offset of the other (Linux does, where it keeps listings) is told it once: by the one up to that
+/// offset, or by the other behind it. Where names do share a place, only a listing of their directory that changes meanwhile may leave out
+/// one of these, or tell it twice.
+pub fn listings_go_on()
+    ensures goes_on { ListingsGoOn }
+    ensures offsets { NamesKeepTheirOffsets }
 {}

@@ -25,10 +25,10 @@ abbrev pub IsCopy : List ℕ → Option (List ℕ) → Type 0
 IsCopy name (Some copy) = (copy ≡ name) × (length name ≤ longest_name)
 IsCopy name None = longest_name < length name
 
--- A name and its inode, at an offset: there was room for its record, a look-up has found this, and that was told behind the bytes before.
+-- A name and its inode, with the offset behind it: there was room for its record, a look-up has found this, and that was told behind the bytes before.
 pub record ToldOne {M : Type 0} (Serves : M → Event → Reply → M → Type 0) (nobody : Bool) (place : Result ℕ RequestError) (most offset : ℕ)
     (e : List ℕ × ℕ) (old new : Session M) (before after : List ℕ) : Type 0 where
   pub found : Result ReplyBody RequestError
   pub fits : length before + record_size (length e.0) ≤ most
   pub did : Did Serves (attempt (find_listed nobody place e.0)) old new (Ok found)
-  pub bytes : after ≡ before ++ directory_record_bytes (told_record offset (e, found))
+  pub bytes : after ≡ before ++ directory_record_bytes (told_record ((offset, e), found))

@@ -1,7 +1,7 @@
 //! Requests for directories. An open one holds no descriptor of the machine.
 ghost use Rattle.std.specs.Prelude.{◌≡◌, ◌+◌, ◌≤◌, [], vec_capacity, true, Err, IsSome, OnOk, IfErr};
 ghost use Rattle.fuse_plans.specs.Callers.{has_dentry};
-ghost use Rattle.fuse_plans.specs.DirectoryPlans.{open_directory, opened_directory_body, take_directory, tell_names, list_open, list_and_close, list_all, list_now, list_kept, read_directory, close_directory};
+ghost use Rattle.fuse_plans.specs.DirectoryPlans.{open_directory, directory_flags, opened_directory_body, take_directory, tell_names, list_open, list_and_close, list_all, list_now, list_kept, read_directory, close_directory};
 ghost use Rattle.fuse_state.specs.Servers.{directory_of};
 ghost use Rattle.fuse_sessions.specs.Listings.{Listed};
 ghost use Rattle.fuse_sessions.specs.Performing.{Did};
@@ -14,18 +14,32 @@ use fs_cred::Cred;
 use fs_model::{Call, Listing};
 use fuse_plans::{Asked, ReplyBody, RequestError};
 use fuse_protocol::{Extent, OpenedFlags};
+use fuse_state::{Server, Settings};
 use fuse_steps::Machine;
 use fuse_steps::asker::{obtain_once, or_closed};
+use fuse_steps::cursor::in_order;
 use fuse_steps::flags::listing;
 use fuse_steps::listing::listing_bytes;
 use fuse_steps::replies::{fd_of_reply, names_of_reply};
 use posix_acl::Perms;
 
-// What is told of a directory that was opened: the kernel may not keep its listing.
-fn opened_body(handle: u64) -> ReplyBody
-    ensures { result ≡ opened_directory_body handle }
+// What the kernel may keep of a directory that is opened.
+fn directory_flags(settings: Settings) -> OpenedFlags
+    ensures { result ≡ directory_flags settings }
 {
-    ReplyBody::Opened(handle, OpenedFlags::empty())
+    let bits = if settings.keeping.pages {
+        OpenedFlags::KEEP_CACHE.bits() + OpenedFlags::CACHE_DIR.bits()
+    } else {
+        0
+    };
+    OpenedFlags::from_bits_retain(bits)
+}
+
+// What is told of a directory that was opened.
+fn opened_body(server: &Server, handle: u64) -> ReplyBody
+    ensures { result ≡ opened_directory_body handle server.now.server }
+{
+    ReplyBody::Opened(handle, directory_flags(server.settings()))
 }
 
 // The names in what is open.
@@ -88,7 +102,7 @@ impl<M: Machine> Session<M> {
         }
         let handle = self.server.next_directory();
         self.server.add_directory(owner, ino);
-        Ok(opened_body(handle))
+        Ok(opened_body(&self.server, handle))
     }
 
     // The names in a directory, as the server's own process sees them.
@@ -149,7 +163,7 @@ impl<M: Machine> Session<M> {
             return Err(RequestError::ESTALE);
         }
         let names = self.list_by_dentries(ino)?;
-        self.server.set_listing(handle, names);
+        self.server.set_listing(handle, in_order(names));
         Ok(())
     }
 

@@ -1,7 +1,8 @@
 //! READDIRPLUS: the names of an open directory, each looked up by the server's own process.
-ghost use Rattle.std.specs.Prelude.{◌≡◌, ℕ, List, ◌+◌, ◌-◌, ◌*◌, ◌/◌, ◌<◌, ◌≤◌, ◌^◌, [], length, drop, option_map, option_copied, nat_le, is_some, vec_len, vec_capacity, Some, Ok, IsTrue, IsFalse, IsSome, IfSome};
+ghost use Rattle.std.specs.Prelude.{◌≡◌, ℕ, List, ◌+◌, ◌-◌, ◌*◌, ◌/◌, ◌<◌, ◌≤◌, ◌^◌, [], length, drop, option_map, option_copied, nat_le, is_some, vec_len, vec_capacity, Some, Ok, IsSome, IsNone, IfSome};
 ghost use Rattle.fuse_protocol.specs.Entries.{record_size};
 ghost use Rattle.fuse_state.specs.Servers.{listing_of, named_at};
+ghost use Rattle.fuse_plans.specs.ListingOrder.{behind, offset_behind, with_offsets};
 ghost use Rattle.fuse_plans.specs.Works.{attempt};
 ghost use Rattle.fuse_plans.specs.ListingPlans.{find_in_place, find_listed, look_up_names, names_within, records_bytes, LookedUp, read_directory_plus};
 ghost use Rattle.fuse_sessions.specs.Listings.{IsCopy, ToldOne};
@@ -13,6 +14,7 @@ use fuse_plans::{Asked, ReplyBody, RequestError};
 use fuse_protocol::Extent;
 use fuse_state::Server;
 use fuse_steps::Machine;
+use fuse_steps::cursor::Cursor;
 use fuse_steps::listing::{push_looked_up, record_fits};
 use fuse_steps::name::plain_name;
 use fuse_steps::name_room::{LONGEST_NAME, NameRoom};
@@ -22,7 +24,8 @@ pub(crate) const LEAST_RECORD: u32 = 152;
 
 // The name at a place of the listing that was made of an open directory.
 fn named_at(server: &Server, handle: u64, at: usize) -> Option<&Named>
-    ensures { option_map (λ n. (n.name, n.ino)) (option_copied result) ≡ named_at server.now.server handle at }
+    ensures named { option_map (λ n. (n.name, n.ino)) (option_copied result) ≡ named_at server.now.server handle at }
+    ensures within { IsSome result → at < 2 ^ 62 }
 {
     match server.listing_of(handle) {
         Some(listing) => listing.names().get(at),
@@ -30,13 +33,15 @@ fn named_at(server: &Server, handle: u64, at: usize) -> Option<&Named>
     }
 }
 
-// How many names the listing has.
-fn named_count(server: &Server, handle: u64) -> usize
-    ensures { (names : List (List ℕ × ℕ)) → listing_of server.now.server handle ≡ Some names → result ≡ length names }
+// Where the names behind an offset begin in the listing that was made of an open directory.
+fn begin_behind(server: &Server, handle: u64, offset: u64) -> Cursor
+    ensures behind { (names : List (List ℕ × ℕ)) → listing_of server.now.server handle ≡ Some names →
+        behind offset names ≡ with_offsets result.before (drop result.at names) }
+    ensures small { result.before ≤ 2 ^ 63 + result.at }
 {
     match server.listing_of(handle) {
-        Some(listing) => listing.names().len(),
-        None => 0,
+        Some(listing) => Cursor::behind(listing, offset),
+        None => Cursor { at: 0, before: 0 },
     }
 }
 
@@ -106,45 +111,48 @@ impl<M: Machine> Session<M> {
         }
     }
 
-    // Tells the name at a place of the listing, and what a look-up of it comes to, where there is room for that.
+    // Tells the next name of the listing, and what a look-up of it comes to, if there is one and there is room for that; and where the
+    // listing goes on.
     fn tell_named(
         &mut self,
         needs_nobody: bool,
         place: Result<u32, RequestError>,
         extent: Extent,
-        at: usize,
+        cursor: Cursor,
         names: &mut NameRoom,
         bytes: &mut Vec<u8>,
-    ) -> bool
+    ) -> Option<Cursor>
         requires names { extent.size ≤ vec_len bytes.old + LEAST_RECORD * names.old + (LEAST_RECORD - 1) }
         requires room { extent.size ≤ vec_len bytes.old + LEAST_RECORD * (self.old.server.room / 2) + (LEAST_RECORD - 1) }
         requires capacity { extent.size ≤ vec_capacity bytes.old }
-        requires offset { at + 1 < 2 ^ 64 }
-        ensures told { (e : List ℕ × ℕ) → named_at self.old.server.server extent.handle at ≡ Some e → IsTrue result →
-            ToldOne M.Serves needs_nobody place extent.size at e self.old self.new bytes.old.items bytes.new.items }
-        ensures crowded { (e : List ℕ × ℕ) → named_at self.old.server.server extent.handle at ≡ Some e → IsFalse result →
+        requires small { cursor.before ≤ 2 ^ 63 + cursor.at }
+        ensures told { (e : List ℕ × ℕ) → named_at self.old.server.server extent.handle cursor.at ≡ Some e → IfSome result (λ next.
+            ToldOne M.Serves needs_nobody place extent.size (offset_behind cursor.before e.0) e self.old self.new bytes.old.items bytes.new.items
+            × (next.before ≡ offset_behind cursor.before e.0)) }
+        ensures next { IfSome result (λ next. (next.at ≡ cursor.at + 1) × (next.before ≤ 2 ^ 63 + next.at)) }
+        ensures there { IsSome result → IsSome (named_at self.old.server.server extent.handle cursor.at) }
+        ensures crowded { (e : List ℕ × ℕ) → named_at self.old.server.server extent.handle cursor.at ≡ Some e → IsNone result →
             extent.size < length bytes.old.items + record_size (length e.0) }
-        ensures same { IsFalse result → self.new ≡ self.old }
-        ensures kept { IsFalse result → bytes.new.items ≡ bytes.old.items }
-        ensures longer { IsTrue result → vec_len bytes.old + LEAST_RECORD ≤ vec_len bytes.new }
-        ensures within { IsTrue result → vec_len bytes.new ≤ extent.size }
+        ensures same { IsNone result → self.new ≡ self.old }
+        ensures kept { IsNone result → bytes.new.items ≡ bytes.old.items }
+        ensures longer { IsSome result → vec_len bytes.old + LEAST_RECORD ≤ vec_len bytes.new }
+        ensures within { IsSome result → vec_len bytes.new ≤ extent.size }
         ensures capacity { extent.size ≤ vec_capacity bytes.new }
         ensures names { names.old ≤ names.new + 1 }
         ensures room { self.old.server.room ≤ self.new.server.room + 2 }
         ensures directories { self.new.server.server.directories ≡ self.old.server.server.directories }
     {
-        let Some(copy) = copy_fitting(&self.server, extent, at, bytes.len(), names) else {
-            return false;
-        };
+        let copy = copy_fitting(&self.server, extent, cursor.at, bytes.len(), names)?;
         let looked_up = self.find_copy(needs_nobody, place, copy);
-        let Some(named) = named_at(&self.server, extent.handle, at) else {
+        let Some(named) = named_at(&self.server, extent.handle, cursor.at) else {
             unreachable!()
         };
-        push_looked_up(bytes, at as u64, named, &looked_up);
-        true
+        let next = cursor.after(named.name.bytes());
+        push_looked_up(bytes, next.before, named, &looked_up);
+        Some(next)
     }
 
-    // The names that fit, from an offset on.
+    // The names that fit, of those behind an offset.
     fn look_up_names(
         &mut self,
         needs_nobody: bool,
@@ -158,16 +166,21 @@ impl<M: Machine> Session<M> {
         requires names { extent.size ≤ LEAST_RECORD * names + (LEAST_RECORD - 1) }
         requires room { 2 * names ≤ self.old.server.room }
         ensures { (listing : List (List ℕ × ℕ)) → listing_of self.old.server.server extent.handle ≡ Some listing →
-            (found : List LookedUp) × (result ≡ records_bytes extent.offset found)
-            × Did M.Serves (look_up_names needs_nobody place (names_within extent.size (drop extent.offset listing))) self.old self.new (Ok found) }
+            (found : List LookedUp) × (result ≡ records_bytes found)
+            × Did M.Serves (look_up_names needs_nobody place (names_within extent.size (behind extent.offset listing))) self.old self.new (Ok found) }
     {
         let mut bytes = room;
         let mut names = names;
-        let count = named_count(&self.server, extent.handle);
-        for at in extent.offset as usize..count {
-            if !self.tell_named(needs_nobody, place, extent, at, &mut names, &mut bytes) {
-                return Bytes::new(bytes);
-            }
+        let mut cursor = begin_behind(&self.server, extent.handle, extent.offset);
+        while let Some(next) = self.tell_named(
+            needs_nobody,
+            place,
+            extent,
+            cursor,
+            &mut names,
+            &mut bytes,
+        ) {
+            cursor = next;
         }
         Bytes::new(bytes)
     }

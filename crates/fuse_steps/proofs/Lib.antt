@@ -1,3 +1,5 @@
+pub mod Cursors
 pub mod Listings
+pub mod Sorted
 pub mod Steps
 pub mod Swaps

@@ -18,6 +18,7 @@ use Rattle.fuse_protocol.specs.Bytes.{bytes_of_u32s, bytes_of_u64s, zeros_of}
 use Rattle.fuse_protocol.specs.Entries.{padding, entry_size, directory_entry_bytes}
 use Rattle.fuse_state.specs.declared.directory.OpenDirectory.{OpenDirectory}
 use Rattle.fuse_plans.specs.DirectoryPlans.{listed_entry, fitting, listing_bytes, list_now, listed}
+use Rattle.fuse_plans.specs.ListingOrder.{with_offsets}
 use Rattle.fuse_plans.specs.Works.{give}
 
 pub entry-length : (e : DirectoryEntry) → length (directory_entry_bytes e) ≡ entry_size (length e.name)
@@ -48,60 +49,61 @@ fits-left len needs size is = le-leb needs (size - len) (omega (arith, leb-true 
 crowds-left : (len needs size : ℕ) → len ≤ size → nat_le (len + needs) size ≡ false → nat_le needs (size - len) ≡ false
 crowds-left len needs size within is = lt-leb needs (size - len) (omega (arith, within, leb-false (len + needs) size is))
 
-module _ (i size : ℕ) (e : List ℕ × ℕ) (es : List (List ℕ × ℕ)) where
+module _ (size : ℕ) (e : ℕ × (List ℕ × ℕ)) (es : List (ℕ × (List ℕ × ℕ))) where
   abbrev with_next : Bool → List ℕ
-  with_next b = flat_map directory_entry_bytes (if b then listed_entry i e ∷ fitting (i + 1) (size - entry_size (length e.0)) es else [])
+  with_next b = flat_map directory_entry_bytes (if b then listed_entry e ∷ fitting (size - entry_size (length e.1.0)) es else [])
 
-  entry-first : nat_le (entry_size (length e.0)) size ≡ true
-      → listing_bytes i size (e ∷ es) ≡ directory_entry_bytes (listed_entry i e) ++ listing_bytes (i + 1) (size - entry_size (length e.0)) es
+  entry-first : nat_le (entry_size (length e.1.0)) size ≡ true
+      → listing_bytes size (e ∷ es) ≡ directory_entry_bytes (listed_entry e) ++ listing_bytes (size - entry_size (length e.1.0)) es
   entry-first fits = ap with_next fits
 
-  entry-last : nat_le (entry_size (length e.0)) size ≡ false → listing_bytes i size (e ∷ es) ≡ []
+  entry-last : nat_le (entry_size (length e.1.0)) size ≡ false → listing_bytes size (e ∷ es) ≡ []
   entry-last crowds = ap with_next crowds
 
-pub told-first : (was : List ℕ) (size i len : ℕ) (names : List (List ℕ × ℕ)) → was ≡ [] → len ≡ 0
-    → listing_bytes i size (drop i names) ≡ was ++ listing_bytes i (size - len) (drop i names)
-told-first was size i len names none is =
+pub told-first : (was : List ℕ) (size len : ℕ) (names : List (ℕ × (List ℕ × ℕ))) → was ≡ [] → len ≡ 0
+    → listing_bytes size names ≡ was ++ listing_bytes (size - len) names
+told-first was size len names none is =
     let same : size ≡ size - len = omega (arith, is) in
-    ap (λ (k : ℕ). listing_bytes i k (drop i names)) same ∙ ap (λ (w : List ℕ). w ++ listing_bytes i (size - len) (drop i names)) (sym none)
+    ap (λ (k : ℕ). listing_bytes k names) same ∙ ap (λ (w : List ℕ). w ++ listing_bytes (size - len) names) (sym none)
 
-pub told-done : {all : List ℕ} (was : List ℕ) (size i len : ℕ) (names : List (List ℕ × ℕ))
-    → length names ≤ i → all ≡ was ++ listing_bytes i (size - len) (drop i names) → all ≡ was
-told-done was size i len names behind told =
-    told ∙ ap (λ (rest : List (List ℕ × ℕ)). was ++ listing_bytes i (size - len) rest) (drop_of_length-le names behind) ∙ append-nil was
+pub told-done : {all : List ℕ} (was : List ℕ) (size len before i : ℕ) (names : List (List ℕ × ℕ))
+    → length names ≤ i → all ≡ was ++ listing_bytes (size - len) (with_offsets before (drop i names)) → all ≡ was
+told-done was size len before i names behind told =
+    told ∙ ap (λ (rest : List (List ℕ × ℕ)). was ++ listing_bytes (size - len) (with_offsets before rest)) (drop_of_length-le names behind) ∙ append-nil was
 
 -- the next entry, and whether it was added
-module _ {all now : List ℕ} {b : Bool} (was : List ℕ) (size i len : ℕ) (names : List (List ℕ × ℕ)) (e : List ℕ × ℕ)
-    (next : drop i names ≡ e ∷ drop (i + 1) names)
-    (told : all ≡ was ++ listing_bytes i (size - len) (drop i names))
-    (fits : b ≡ nat_le (len + entry_size (length e.0)) size)
-    (added : now ≡ was ++ (if b then directory_entry_bytes (listed_entry i e) else [])) where
+module _ {all now : List ℕ} {b : Bool} (was : List ℕ) (size len : ℕ) {names : List (ℕ × (List ℕ × ℕ))} (e : ℕ × (List ℕ × ℕ))
+    (rest : List (ℕ × (List ℕ × ℕ)))
+    (next : names ≡ e ∷ rest)
+    (told : all ≡ was ++ listing_bytes (size - len) names)
+    (fits : b ≡ nat_le (len + entry_size (length e.1.0)) size)
+    (added : now ≡ was ++ (if b then directory_entry_bytes (listed_entry e) else [])) where
   pub told-crowded : len ≤ size → b ≡ false → now ≡ all
   told-crowded within is =
-      let none : listing_bytes i (size - len) (drop i names) ≡ [] =
-      ap (listing_bytes i (size - len)) next ∙ entry-last i (size - len) e (drop (i + 1) names) (crowds-left len (entry_size (length e.0)) size within (sym fits ∙ is)) in
-      added ∙ ap (λ (c : Bool). was ++ (if c then directory_entry_bytes (listed_entry i e) else [])) is
-      ∙ ap (λ (rest : List ℕ). was ++ rest) (sym none) ∙ sym told
+      let none : listing_bytes (size - len) names ≡ [] =
+      ap (listing_bytes (size - len)) next ∙ entry-last (size - len) e rest (crowds-left len (entry_size (length e.1.0)) size within (sym fits ∙ is)) in
+      added ∙ ap (λ (c : Bool). was ++ (if c then directory_entry_bytes (listed_entry e) else [])) is
+      ∙ ap (λ (bytes : List ℕ). was ++ bytes) (sym none) ∙ sym told
 
-  now-is : b ≡ true → now ≡ was ++ directory_entry_bytes (listed_entry i e)
-  now-is is = added ∙ ap (λ (c : Bool). was ++ (if c then directory_entry_bytes (listed_entry i e) else [])) is
+  now-is : b ≡ true → now ≡ was ++ directory_entry_bytes (listed_entry e)
+  now-is is = added ∙ ap (λ (c : Bool). was ++ (if c then directory_entry_bytes (listed_entry e) else [])) is
 
-  pub length-more : b ≡ true → length now ≡ length was + entry_size (length e.0)
+  pub length-more : b ≡ true → length now ≡ length was + entry_size (length e.1.0)
   length-more is =
-      ap length (now-is is) ∙ length-append was (directory_entry_bytes (listed_entry i e)) ∙ ap (λ (k : ℕ). length was + k) (entry-length (listed_entry i e))
+      ap length (now-is is) ∙ length-append was (directory_entry_bytes (listed_entry e)) ∙ ap (λ (k : ℕ). length was + k) (entry-length (listed_entry e))
 
-  pub within-more : b ≡ true → len + entry_size (length e.0) ≤ size
-  within-more is = leb-true (len + entry_size (length e.0)) size (sym fits ∙ is)
+  pub within-more : b ≡ true → len + entry_size (length e.1.0) ≤ size
+  within-more is = leb-true (len + entry_size (length e.1.0)) size (sym fits ∙ is)
 
-  pub told-more : (later : ℕ) → later ≡ len + entry_size (length e.0) → b ≡ true → all ≡ now ++ listing_bytes (i + 1) (size - later) (drop (i + 1) names)
+  pub told-more : (later : ℕ) → later ≡ len + entry_size (length e.1.0) → b ≡ true → all ≡ now ++ listing_bytes (size - later) rest
   told-more later after is =
-      let left : ℕ = size - len - entry_size (length e.0) in
-      let rest : List ℕ = listing_bytes (i + 1) left (drop (i + 1) names) in
+      let left : ℕ = size - len - entry_size (length e.1.0) in
+      let told_rest : List ℕ = listing_bytes left rest in
       let same : left ≡ size - later = omega (arith, after) in
-      let first : listing_bytes i (size - len) (drop i names) ≡ directory_entry_bytes (listed_entry i e) ++ rest =
-      ap (listing_bytes i (size - len)) next ∙ entry-first i (size - len) e (drop (i + 1) names) (fits-left len (entry_size (length e.0)) size (sym fits ∙ is)) in
-      told ∙ ap (λ (r : List ℕ). was ++ r) first ∙ sym (append_assoc was (directory_entry_bytes (listed_entry i e)) rest)
-      ∙ ap (λ (r : List ℕ). r ++ rest) (sym (now-is is)) ∙ ap (λ (k : ℕ). now ++ listing_bytes (i + 1) k (drop (i + 1) names)) same
+      let first : listing_bytes (size - len) names ≡ directory_entry_bytes (listed_entry e) ++ told_rest =
+      ap (listing_bytes (size - len)) next ∙ entry-first (size - len) e rest (fits-left len (entry_size (length e.1.0)) size (sym fits ∙ is)) in
+      told ∙ ap (λ (r : List ℕ). was ++ r) first ∙ sym (append_assoc was (directory_entry_bytes (listed_entry e)) told_rest)
+      ∙ ap (λ (r : List ℕ). r ++ told_rest) (sym (now-is is)) ∙ ap (λ (k : ℕ). now ++ listing_bytes k rest) same
 
 -- ---- whether it is listed anew
 

@@ -4,6 +4,7 @@
 #![tactic(auto)]
 
 pub mod asker;
+pub mod cursor;
 pub mod flags;
 pub mod listing;
 mod machine;

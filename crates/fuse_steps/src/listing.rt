@@ -1,9 +1,11 @@
 //! The entries of a directory, as far as they fit into a reply: alone, or each with what a look-up of its name tells.
-ghost use Rattle.std.specs.Prelude.{◌≡◌, ◌+◌, ◌≤◌, ◌<◌, ◌^◌, ◌++◌, [], drop, nat_le, vec_len, vec_capacity, length, if◌then◌else◌};
+ghost use Rattle.std.specs.Prelude.{◌≡◌, ◌+◌, ◌≤◌, ◌<◌, ◌^◌, ◌++◌, [], nat_le, vec_len, vec_capacity, length, if◌then◌else◌};
 ghost use Rattle.fuse_protocol.specs.Entries.{directory_entry_bytes, entry_size, record_size, directory_record_bytes};
 ghost use Rattle.fuse_plans.specs.DirectoryPlans.{entry_kind, listed_entry, listing_bytes};
+ghost use Rattle.fuse_plans.specs.ListingOrder.{behind};
 ghost use Rattle.fuse_plans.specs.ListingPlans.{entry_kind_of_type, told_found, record_entry, told_record};
 
+use crate::cursor::Cursor;
 use fs_model::{Bytes, FileType, Listing, Named};
 use fuse_plans::{ReplyBody, RequestError, looked_up_entry};
 use fuse_protocol::{
@@ -22,15 +24,14 @@ fn entry_kind(name: &[u8]) -> EntryKind
     }
 }
 
-// The entry of a name, as READDIR tells it.
+// The entry of a name with this offset behind it, as READDIR tells it.
 fn listed_entry(offset: u64, named: &Named) -> DirectoryEntry<'_>
-    requires { offset + 1 < 2 ^ 64 }
-    ensures { let n = named.now in result ≡ listed_entry offset (n.name, n.ino) }
+    ensures { let n = named.now in result ≡ listed_entry (offset, (n.name, n.ino)) }
 {
     let name = named.name.bytes();
     DirectoryEntry {
         ino: u64::from(named.ino),
-        next: offset + 1,
+        next: offset,
         kind: entry_kind(name),
         name: Piece::new(name),
     }
@@ -40,10 +41,9 @@ fn listed_entry(offset: u64, named: &Named) -> DirectoryEntry<'_>
 fn push_named(to: &mut Vec<u8>, most: usize, offset: u64, named: &Named) -> bool
     requires capacity { most ≤ vec_capacity to.old }
     requires small { most < 2 ^ 32 }
-    requires offset { offset + 1 < 2 ^ 64 }
     ensures fits { result ≡ nat_le (vec_len to.old + entry_size (length named.entry.now.name)) most }
     ensures bytes { let n = named.entry.now in
-        to.new.items ≡ to.old.items ++ (if result then directory_entry_bytes (listed_entry offset (n.name, n.ino)) else []) }
+        to.new.items ≡ to.old.items ++ (if result then directory_entry_bytes (listed_entry (offset, (n.name, n.ino))) else []) }
     ensures capacity { most ≤ vec_capacity to.new }
 {
     let name = named.name.bytes();
@@ -53,18 +53,22 @@ fn push_named(to: &mut Vec<u8>, most: usize, offset: u64, named: &Named) -> bool
     push_entry(to, most, &listed_entry(offset, named)).unwrap_or(false)
 }
 
-/// As many entries as fit, from an offset on, with room for them.
+/// As many entries as fit, of the names behind an offset, with room for them.
 pub fn listing_bytes(extent: Extent, listing: &Listing, room: Vec<u8>) -> Bytes
     requires empty { room.items ≡ [] }
     requires capacity { extent.size ≤ vec_capacity room }
-    ensures { result ≡ listing_bytes extent.offset extent.size (drop extent.offset listing.now) }
+    ensures { result ≡ listing_bytes extent.size (behind extent.offset listing.now) }
 {
     let names = listing.names();
+    let mut cursor = Cursor::behind(listing, extent.offset);
     let mut bytes = room;
-    for i in extent.offset as usize..names.len() {
-        if !push_named(&mut bytes, extent.size as usize, i as u64, &names[i]) {
+    for at in cursor.at..names.len() {
+        let named = &names[at];
+        let next = cursor.after(named.name.bytes());
+        if !push_named(&mut bytes, extent.size as usize, next.before, named) {
             return Bytes::new(bytes);
         }
+        cursor = next;
     }
     Bytes::new(bytes)
 }
@@ -114,13 +118,12 @@ fn record_entry<'a>(
     named: &'a Named,
     looked_up: &Result<ReplyBody, RequestError>,
 ) -> DirectoryEntry<'a>
-    requires { offset + 1 < 2 ^ 64 }
-    ensures { let n = named.now in result ≡ record_entry offset (n.name, n.ino) looked_up.now }
+    ensures { let n = named.now in result ≡ record_entry (offset, (n.name, n.ino)) looked_up.now }
 {
     match looked_up {
         Ok(ReplyBody::Found { shown, .. }) => DirectoryEntry {
             ino: u64::from(shown.status.ino),
-            next: offset + 1,
+            next: offset,
             kind: entry_kind_of_type(shown.status.kind),
             name: Piece::new(named.name.bytes()),
         },
@@ -135,11 +138,10 @@ pub fn push_looked_up(
     named: &Named,
     looked_up: &Result<ReplyBody, RequestError>,
 )
-    requires offset { offset + 1 < 2 ^ 64 }
     requires name { length named.now.name < 2 ^ 32 }
     requires room { vec_len to.old + record_size (length named.now.name) ≤ vec_capacity to.old }
     ensures bytes { let n = named.now in
-        to.new.items ≡ to.old.items ++ directory_record_bytes (told_record offset ((n.name, n.ino), looked_up.now)) }
+        to.new.items ≡ to.old.items ++ directory_record_bytes (told_record ((offset, (n.name, n.ino)), looked_up.now)) }
     ensures capacity { vec_capacity to.old ≤ vec_capacity to.new }
 {
     let record = DirectoryRecord {
