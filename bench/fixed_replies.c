@@ -25,7 +25,7 @@ static char request[LARGEST + (1 << 16)], content[LARGEST];
 static bool folder_is_there[FOLDERS], is_there[FOLDERS][2 * NAMES]; /* names n0, n1, .. and m0, m1, .. */
 
 /* Without other words, as inofs. */
-static uint64_t seconds = 86400, open_flags = FOPEN_KEEP_CACHE, opendir_flags = 0, largest = LARGEST;
+static uint64_t seconds = 86400, open_flags = FOPEN_KEEP_CACHE, opendir_flags = FOPEN_KEEP_CACHE | FOPEN_CACHE_DIR, largest = LARGEST;
 static uint64_t init_flags =
     FUSE_ASYNC_READ | FUSE_ATOMIC_O_TRUNC | FUSE_BIG_WRITES | FUSE_DONT_MASK | FUSE_PARALLEL_DIROPS | FUSE_HANDLE_KILLPRIV |
     FUSE_POSIX_ACL | FUSE_MAX_PAGES | FUSE_CACHE_SYMLINKS | FUSE_HANDLE_KILLPRIV_V2;

@@ -157,15 +157,20 @@ def two_names(mounted, told):
 # ---- listings while names come and go
 
 def come_and_go(folder, number, end):
-    """Makes and removes names that stand before those which stay, until that time: how many removals there were."""
+    """Makes and removes names beside those which stay, and gives these to other files, until that time: how many removals there were."""
     dice = random.Random(number)
     removed = 0
     while time.monotonic() < end:
         name = folder / f'a{number}_{dice.randrange(COMING)}'
-        if dice.random() < 0.5:
+        kind = dice.random()
+        if kind < 0.4:
             attempt(name.touch)
-        else:
+        elif kind < 0.8:
             removed += attempt(name.unlink) is None
+        else:
+            new = folder / f'b{number}'
+            if attempt(new.touch) is None:
+                new.rename(folder / f'z{dice.randrange(STAYING)}')
     return removed
 
 
