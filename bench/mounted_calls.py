@@ -285,7 +285,7 @@ def known(mounted, local, name, words, ours, theirs):
     if 'own_rules' in mounted.options and (failed(ours) and failed(theirs) or name == 'link' and theirs == 'EPERM'):
         return 3
     # The present time, of a link itself: Linux asks whether that may be written, and all may.
-    if name == 'utime' and words[1:] == [NOW, NOW, False] and (ours, theirs) == ('EPERM', None) and (local / words[0]).is_symlink():
+    if name == 'utime' and tuple(words[1:]) == (NOW, NOW, False) and (ours, theirs) == ('EPERM', None) and (local / words[0]).is_symlink():
         return 9
     return None
 
@@ -295,7 +295,7 @@ def known_times(name, words, call, differing):
     def all_are(fields, by_mount):
         return all(seen.field in fields and (seen.ours == call, seen.theirs == call) == (by_mount, not by_mount) for seen in differing)
     # Owner and group that are to stay: Linux's own file systems move the time, which POSIX leaves open, and ask no server.
-    if name == 'chown' and words[1:] == [-1, -1] and all_are(['change'], False):
+    if name == 'chown' and tuple(words[1:]) == (-1, -1) and all_are(['change'], False):
         return 9
     # A list that is given, or taken, where it is, or isn't: ext4 leaves the time, others move it, as the mount does.
     if name == 'setacl' and all_are(['change'], True):
