@@ -1,5 +1,17 @@
 //! The program `inofs`: makes, runs and checks file systems in images. `docs/inofs.1` says how it is called and what it prints.
+//!
+//! Its tests are of what its words ask for, of what it does for them on files of this machine, and of the line of each failure.
+//! `bench/program` has more rows, on the program that was built.
 #![tactic(auto)]
+
+#[cfg(test)]
+mod failures;
+#[cfg(test)]
+mod jobs;
+#[cfg(test)]
+mod report;
+#[cfg(test)]
+mod words;
 
 use fs_command::Status;
 use fs_program::{Watched, perform};

@@ -1,7 +1,7 @@
 //! What the program does for its words, on files of this machine.
 
-use crate::program_words::HELP;
 use crate::report::push_other_text;
+use crate::words::HELP;
 use fs_program::{Watched, perform};
 use std::alloc::{AllocError, Global};
 use std::fs::Permissions;
@@ -24,7 +24,7 @@ enum Change {
 // A folder of this process alone.
 fn folder(rt: &HostRuntime) -> Result<PathBuf, Fail> {
     let process = process::id(rt.process());
-    let name = format!(in rt.alloc(); "program_tests-{process}")?;
+    let name = format!(in rt.alloc(); "inofs_tests-{process}")?;
     Ok(env::temp_dir(rt)?.join(rt.alloc(), name.as_str())?)
 }
 
