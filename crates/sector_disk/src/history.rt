@@ -6,7 +6,7 @@ ghost use Rattle.sector_disk.specs.Record.{Written, Synced, after_events, replay
 ghost use Rattle.sector_disk.specs.Picks.{IsPicked};
 ghost use Rattle.sector_disk.specs.Steps.{held_before, CanPutBack, replaced_of, writes_sector};
 
-use crate::sectors::Sectors;
+use crate::sectors::{Sectors, may_be_zeros};
 use std::alloc::{AllocError, Global};
 use std::marker::Model;
 
@@ -40,6 +40,8 @@ pub struct History {
     done: Vec<Step>,
     // How many steps there are up to the last sync.
     synced: usize,
+    // Whether a sector may have got zeros since then: no other has a place to let go of.
+    may_have_zeros: bool,
 }
 
 impl Model for History {
@@ -64,6 +66,7 @@ impl History {
             seen: sectors,
             done: Vec::new(alloc),
             synced: 0,
+            may_have_zeros: false,
         }
     }
 
@@ -110,6 +113,7 @@ impl History {
             self.done.pop();
             return Err(AllocError);
         }
+        self.may_have_zeros = self.may_have_zeros | may_be_zeros(content);
         Ok(())
     }
 
@@ -119,7 +123,12 @@ impl History {
         ensures err { OnErr result (self.new ≡ self.old) }
     {
         self.done.push(Step::Settled)?;
-        release_places(&mut self.seen, &self.done[self.synced..]);
+        release_places(
+            &mut self.seen,
+            &self.done[self.synced..],
+            self.may_have_zeros,
+        );
+        self.may_have_zeros = false;
         self.synced = self.done.len();
         Ok(())
     }
@@ -159,11 +168,15 @@ fn drop_first(done: &mut Vec<Step>, count: usize)
     done.truncate(others);
 }
 
-// Lets go of the places that sectors of zeros had, so that the steps could be undone without memory.
-fn release_places(image: &mut Sectors, pending: &[Step])
+// Lets go of the places that sectors of zeros had, so that the steps could be undone without memory. Where none may have zeros none
+// is looked at.
+fn release_places(image: &mut Sectors, pending: &[Step], may_have_zeros: bool)
     requires { CanPutBack image.old pending.now }
     ensures { image.new.shown ≡ image.old.shown }
 {
+    if !may_have_zeros {
+        return;
+    }
     for step in pending {
         if let Step::Replaced(n, _) = step {
             image.release(*n);

@@ -228,7 +228,7 @@ impl Sectors {
     }
 }
 
-// Whether a sector begins as one of zeros does: what most others don't.
-fn may_be_zeros(content: &[u8; 512]) -> bool {
-    content[0] == 0
+/// Whether a sector begins and ends as one of zeros does: what most others don't.
+pub(crate) fn may_be_zeros(content: &[u8; 512]) -> bool {
+    content[0] == 0 && content[511] == 0
 }

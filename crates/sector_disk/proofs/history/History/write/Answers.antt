@@ -8,8 +8,8 @@ use Rattle.sector_disk.proofs.Recorded.{recorded}
 use Rattle.sector_disk.proofs.Undone.{past-write, log-write, back-write}
 use Rattle.sector_disk.proofs.history.History.write.Goals as goal
 
-pub invariant_of-self-else-is_err : goal.invariant_of-self-else-is_err
-invariant_of-self-else-is_err c =
+pub invariant_of-self-2 : goal.invariant_of-self-2
+invariant_of-self-2 c =
     let i = c.self.inside in
     let n = c.args.n in
     let content = c.args.content.now in
