@@ -1,6 +1,6 @@
 -- A file of which some sectors are in memory: what loading a run keeps, and the disk that this is.
-use Rattle.std.proofs.Common.{◌≡◌, inl, inr, ℕ, ◌+◌, ◌≤◌, Bool, false, List, [], length, take, refl, sym, ◌∙◌, ap, subst, arith, get_or, replicate}
-use Rattle.std.specs.Prelude.{Option, Some, None, IfSome, IsTrue}
+use Rattle.std.proofs.Common.{◌≡◌, ◌≢◌, inl, inr, ℕ, ◌+◌, ◌≤◌, List, [], length, take, refl, sym, ◌∙◌, ap, subst, arith, get_or, replicate}
+use Rattle.std.specs.Prelude.{Option, Some, None, IfSome}
 use Rattle.std.proofs.lemmas.Bool.{cases_lt}
 use Rattle.std.proofs.lemmas.List.{get_or_past, get_or-take, get_or-replicate, length-replicate, length-take}
 use Rattle.sector_disk.specs.Disk.{Image, sector, IsWholeSector, IsFresh}
@@ -11,14 +11,14 @@ use Rattle.sector_disk.specs.Parts.{IsImageOf, file_image, IsPart, part_state}
 use Rattle.sector_disk.specs.Whole.{AreSectors}
 
 -- ---- which are in memory
-pub none_among : (count n : ℕ) → get_or (replicate {A = Bool} count false) n false ≡ false
+pub none_among : (count n : ℕ) → get_or (replicate {A = ℕ} count 0) n 0 ≡ 0
 none_among count n = elim (cases_lt n count) [
-  | inl below ↦ get_or-replicate count n false false below
-  | inr past ↦ get_or_past (replicate {A = Bool} count false) n false (omega (arith, past, length-replicate {A = Bool} count false))
+  | inl below ↦ get_or-replicate count n 0 0 below
+  | inr past ↦ get_or_past (replicate {A = ℕ} count 0) n 0 (omega (arith, past, length-replicate {A = ℕ} count 0))
 ]
 
-pub none_loaded : (count : ℕ) (loaded : List Bool) → loaded ≡ replicate count false → (n : ℕ) → get_or loaded n false ≡ false
-none_loaded count loaded none n = ap (λ (l : List Bool). get_or l n false) none ∙ none_among count n
+pub none_loaded : (count : ℕ) (loaded : List ℕ) → loaded ≡ replicate count 0 → (n : ℕ) → get_or loaded n 0 ≡ 0
+none_loaded count loaded none n = ap (λ (l : List ℕ). get_or l n 0) none ∙ none_among count n
 
 -- those before some number are whole, where all are
 first_whole : (most : ℕ) (image : Image) → AreSectors image → AreSectors (take most image)
@@ -27,34 +27,34 @@ first_whole most image whole n below =
     subst IsWholeSector (sym (get_or-take most image n [] (omega (arith, below, len)))) (whole n (omega (arith, below, len)))
 
 -- at first none is
-pub part_first : (count : ℕ) (file : Option Held) (memory : Image) (loaded : List Bool) → loaded ≡ replicate count false
+pub part_first : (count : ℕ) (file : Option Held) (memory : Image) (loaded : List ℕ) → loaded ≡ replicate count 0
     → length memory ≡ count → AreSectors memory → IfSome file (HasFirst 16777217 count) → IsPart file memory loaded
 part_first count None memory loaded none len whole has = record { size = refl; whole = whole; same = λ n here. refl }
 part_first count (Some held) memory loaded none len whole has = record {
   size = length-take 16777217 (file_seen held) ∙ has.len ∙ sym len;
   whole = first_whole 16777217 (file_seen held) has.whole;
-  same = λ n here. let is = none_loaded count loaded none n in absurd cc;
+  same = λ n here. absurd (here (none_loaded count loaded none n));
 }
 
-run_part : (first : ℕ) (run old new : Image) (was is : List Bool) (file : Option Held) → first + length run ≤ length old
+run_part : (first : ℕ) (run old new : Image) (was is : List ℕ) (file : Option Held) → first + length run ≤ length old
     → IsRunSet first run old new → HasRunMarked first (length run) was is → IfSome file (HasRun first run) → AreSectors new
     → IsPart file old was → IsPart file new is
 run_part first run old new was is None fits set marked has whole part = record { size = refl; whole = whole; same = λ n here. refl }
 run_part first run old new was is (Some held) fits set marked has whole part = record { size = part.size ∙ sym set.len; whole = part.whole; same = each }
   where
-    each : (n : ℕ) → IsTrue (get_or is n false) → sector new n ≡ sector (take 16777217 (file_seen held)) n
+    each : (n : ℕ) → get_or is n 0 ≢ 0 → sector new n ≡ sector (take 16777217 (file_seen held)) n
     each n here = elim (cases_lt n first) [
-      | inl before ↦ set.before n before ∙ part.same n (subst (λ b. IsTrue b) (marked.others n (inl before)) here)
+      | inl before ↦ set.before n before ∙ part.same n (subst (λ (k : ℕ). k ≢ 0) (marked.others n (inl before)) here)
       | inr from ↦ elim (cases_lt n (first + length run)) [
         | inl inside ↦
             let size = part.size in let len = length-take 16777217 (file_seen held) in
             set.inside n from inside ∙ sym (has n from inside) ∙ sym (get_or-take 16777217 (file_seen held) n [] (omega (arith, inside, fits, size, len)))
-        | inr behind ↦ set.behind n behind ∙ part.same n (subst (λ b. IsTrue b) (marked.others n (inr behind)) here)
+        | inr behind ↦ set.behind n behind ∙ part.same n (subst (λ (k : ℕ). k ≢ 0) (marked.others n (inr behind)) here)
       ]
     ]
 
 -- a run more
-pub part_loaded : (first : ℕ) (run old new : Image) (was is : List Bool) (before file : Option Held) → file ≡ before → first + length run ≤ length old
+pub part_loaded : (first : ℕ) (run old new : Image) (was is : List ℕ) (before file : Option Held) → file ≡ before → first + length run ≤ length old
     → IsRunSet first run old new → HasRunMarked first (length run) was is → IfSome file (HasRun first run) → AreSectors new
     → IsPart before old was → IsPart file new is
 part_loaded first run old new was is before file same fits set marked has whole part =

@@ -2,7 +2,7 @@
 --     IsImageOf, file_image        the image of a file
 --     IsPart        which of its sectors are in memory
 --     part_past, part_state        a disk that isn't written: its past, and its state, with failures
-use Rattle.std.specs.Prelude.{◌≡◌, ℕ, ◌≤◌, ◌<◌, ◌^◌, Bool, false, IsTrue, List, [], length, take, get_or, Option, Some, None}
+use Rattle.std.specs.Prelude.{◌≡◌, ◌≢◌, ℕ, ◌≤◌, ◌<◌, ◌^◌, List, [], length, take, get_or, Option, Some, None}
 use Rattle.std.proofs.Common.{arith}
 use Rattle.sector_disk.specs.Disk.{DiskState, Image, IsImage, IsWholeSector, sector}
 use Rattle.sector_disk.specs.Faults as faults
@@ -22,11 +22,11 @@ abbrev pub file_image : Option Held → Image → Image
 file_image None memory = memory
 file_image (Some held) memory = take 16777217 (file_seen held)
 
--- In memory are as many sectors as the file's image has, and those that are loaded are as they are there.
-pub record IsPart (file : Option Held) (memory : Image) (loaded : List Bool) : Type 0 where
+-- In memory are as many sectors as the file's image has, and those whose number isn't 0 are as they are there.
+pub record IsPart (file : Option Held) (memory : Image) (loaded : List ℕ) : Type 0 where
   pub size : length (file_image file memory) ≡ length memory
   pub whole : AreSectors (file_image file memory)
-  pub same : (n : ℕ) → IsTrue (get_or loaded n false) → sector memory n ≡ sector (file_image file memory) n
+  pub same : (n : ℕ) → get_or loaded n 0 ≢ 0 → sector memory n ≡ sector (file_image file memory) n
 
 -- the file's image was there at first, and nothing was done since
 abbrev pub part_past : Option Held → Image → Past
@@ -36,14 +36,14 @@ part_past file memory = record { start = file_image file memory; events = [] }
 abbrev pub part_state : Option Held → Image → ℕ → ℕ → DiskState
 part_state file memory reads writes = with_failures (recorded_state (part_past file memory) 0) reads writes
 
-pub size_fits : {file : Option Held} {memory : Image} {loaded : List Bool} → IsPart file memory loaded → length memory < 2 ^ 32
+pub size_fits : {file : Option Held} {memory : Image} {loaded : List ℕ} → IsPart file memory loaded → length memory < 2 ^ 32
     → length (file_image file memory) < 2 ^ 32
 size_fits part few = let size = part.size in omega (arith, few, size)
 
 pub failures_fit : (file : Option Held) (memory : Image) (reads writes : ℕ) → (part_state file memory reads writes).failures < 2 ^ 64
 failures_fit file memory reads writes = faults.failures_fit (recorded_state (part_past file memory) 0) reads writes
 
-pub whole_sectors : {file : Option Held} {memory : Image} {loaded : List Bool} → IsPart file memory loaded
+pub whole_sectors : {file : Option Held} {memory : Image} {loaded : List ℕ} → IsPart file memory loaded
     → (n : ℕ) (content : List ℕ) → n < length (file_image file memory) → MayHold (replay (file_image file memory) []) n content → IsWholeSector content
 whole_sectors {file} {memory} part n content below may =
     wholes.whole_sectors (part_past file memory) (record { start = part.whole; events = none_written }) n content below may

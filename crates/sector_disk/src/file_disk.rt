@@ -121,7 +121,7 @@ impl<F: DiskFile + Drop> FileDisk<F> {
     {
         let memory = boxed(alloc, MemDisk::new(alloc, sectors)?)?;
         let waiting = Vec::with_capacity(alloc, MAX_WAITING)?;
-        let buffer = new_buffer(alloc)?;
+        let buffer = new_buffer(alloc, PIECE)?;
         let file = new_file(rt, path, sectors)?;
         Ok(FileDisk {
             memory,
@@ -161,7 +161,7 @@ impl<F: DiskFile + Drop> FileDisk<F> {
         if file.try_lock().is_err() {
             return Err(FileFault::Failed);
         }
-        let mut buffer = new_buffer(alloc)?;
+        let mut buffer = new_buffer(alloc, PIECE)?;
         let memory = boxed(alloc, load(alloc, &mut file, &mut buffer, most)?)?;
         let waiting = Vec::with_capacity(alloc, MAX_WAITING)?;
         Ok(FileDisk {
@@ -285,12 +285,13 @@ pub(crate) fn open_file<F, R: Files<File = F>, P: AsPath>(rt: &R, path: P) -> Re
     }
 }
 
-/// Room for a piece of a file.
-pub(crate) fn new_buffer(alloc: Global) -> Result<Vec<[u8; 512]>, AllocError>
+/// Room for a piece of a file, of so many sectors.
+pub(crate) fn new_buffer(alloc: Global, len: usize) -> Result<Vec<[u8; 512]>, AllocError>
+    requires { 0 < len }
     ensures { IfOk result (λ buffer. 0 < length buffer.items) }
 {
     let mut buffer = Vec::new(alloc);
-    buffer.resize(PIECE, [0; 512])?;
+    buffer.resize(len, [0; 512])?;
     Ok(buffer)
 }
 

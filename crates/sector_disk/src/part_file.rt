@@ -1,16 +1,20 @@
 //! A file of which some sectors are read into memory.
 
-ghost use Rattle.std.specs.Prelude.{◌≡◌, ◌<◌, ◌≤◌, ◌+◌, ◌^◌, ℕ, false, get_or, length, IfOk, IfSome, OnOk};
+ghost use Rattle.std.specs.Prelude.{◌≡◌, ◌<◌, ◌≤◌, ◌+◌, ◌^◌, ℕ, get_or, length, IfOk, IfSome, OnOk};
 ghost use Rattle.sector_disk.specs.Files.{HasRunMarked};
 ghost use Rattle.sector_disk.specs.Parts.{file_image, IsPart};
 ghost use Rattle.sector_disk.specs.Disk.{sector};
 
 use crate::file_disk::{lock_and_count, new_buffer, open_file};
+use crate::numbers::Numbers;
 use crate::sectors::Sectors;
 use crate::{DiskFile, FileFault};
-use std::alloc::Global;
+use std::alloc::{AllocError, Global};
 use std::path::AsPath;
 use std::rt::Files;
+
+// So many neighbours are read in one call: what goes through a buffer of this length stays in the processor's cache.
+const PIECE: usize = 256;
 
 /// An open file whose sectors are read into memory one run after another, so that of a large one only those are read that are asked
 /// for. What [`get`](PartFile::get) gives is what the file has.
@@ -21,15 +25,15 @@ pub struct PartFile<F: DiskFile> {
     file: F,
     // The sectors in memory, and zeros for the others.
     sectors: Sectors,
-    // For each sector whether it is in memory.
-    loaded: Vec<bool>,
+    // For each sector 1 where it is in memory, and 0 where it isn't: most are not.
+    loaded: Numbers,
     // What goes from the file to memory. Its room is there from the start.
     buffer: Vec<[u8; 512]>,
     ghost few: { length sectors.shown < 2 ^ 32 },
-    ghost len: { length loaded.items ≡ length sectors.shown },
+    ghost len: { length loaded ≡ length sectors.shown },
     ghost room: { 0 < length buffer.items },
     // Where it's known what the file holds, it has so many sectors, and those in memory are as it has them.
-    ghost follows: { IsPart (F.held file) sectors.shown loaded.items },
+    ghost follows: { IsPart (F.held file) sectors.shown loaded },
 }
 
 impl<F: DiskFile + Drop> PartFile<F> {
@@ -40,7 +44,7 @@ impl<F: DiskFile + Drop> PartFile<F> {
         alloc: Global,
         path: P,
     ) -> Result<Self, FileFault>
-        ensures none { IfOk result (λ part. (n : ℕ) → get_or part.loaded.items n false ≡ false) }
+        ensures none { IfOk result (λ part. (n : ℕ) → get_or part.loaded n 0 ≡ 0) }
         ensures small { IfOk result (λ part. length part.sectors.shown ≤ 16777217) }
     {
         let mut file = open_file(rt, path)?;
@@ -49,8 +53,8 @@ impl<F: DiskFile + Drop> PartFile<F> {
         };
         let sectors = Sectors::zeros(alloc, count)?;
         sectors.tell_whole();
-        let loaded = vec![in alloc; false; count as usize]?;
-        let buffer = new_buffer(alloc)?;
+        let loaded = Numbers::zeros(alloc, count)?;
+        let buffer = new_buffer(alloc, PIECE)?;
         Ok(PartFile {
             file,
             sectors,
@@ -70,10 +74,10 @@ impl<F: DiskFile + Drop> PartFile<F> {
     pub fn get(&self, n: u32) -> Option<&[u8; 512]>
         ensures { IfSome result (λ content. content.now ≡ sector (file_image (F.held self.now.file) self.now.sectors.shown) n) }
     {
-        match self.loaded.get(n as usize) {
-            Some(true) => Some(self.sectors.get(n)),
-            _ => None,
+        if n >= self.count() || self.loaded.get(n as usize) == 0 {
+            return None;
         }
+        Some(self.sectors.get(n))
     }
 
     // Reads neighbours, as many as the buffer has room for.
@@ -154,7 +158,7 @@ impl<F: DiskFile + Drop> PartFile<F> {
 fn load_run<F: DiskFile>(
     file: &mut F,
     sectors: &mut Sectors,
-    loaded: &mut [bool],
+    loaded: &mut Numbers,
     buffer: &mut [[u8; 512]],
     first: u32,
     len: usize,
@@ -165,6 +169,7 @@ fn load_run<F: DiskFile>(
     requires room { len ≤ length buffer.old }
     requires follows { IsPart (F.held file.old) sectors.old.shown loaded.old }
     ensures count { OnOk result (length sectors.new.shown ≡ length sectors.old.shown) }
+    ensures table { OnOk result (length loaded.new ≡ length sectors.new.shown) }
     ensures file { F.held file.new ≡ F.held file.old }
     ensures follows { OnOk result (IsPart (F.held file.new) sectors.new.shown loaded.new) }
 {
@@ -174,16 +179,18 @@ fn load_run<F: DiskFile>(
     }
     sectors.set_run(first, piece)?;
     sectors.tell_whole();
-    mark(loaded, first as usize, piece.len());
+    mark(loaded, first as usize, piece.len())?;
     Ok(())
 }
 
-// So many sectors from number `first` on are in memory now.
-fn mark(loaded: &mut [bool], first: usize, count: usize)
-    requires { first + count ≤ length loaded.old }
-    ensures { HasRunMarked first count loaded.old loaded.new }
+// So many sectors from number `first` on are in memory now. At `Err` some of them may count so.
+fn mark(loaded: &mut Numbers, first: usize, count: usize) -> Result<(), AllocError>
+    requires small { length loaded.old < 2 ^ 32 }
+    requires fits { first + count ≤ length loaded.old }
+    ensures { OnOk result (HasRunMarked first count loaded.old loaded.new) }
 {
     for i in first..first + count {
-        loaded[i] = true;
+        loaded.add(i, 1)?;
     }
+    Ok(())
 }
