@@ -90,6 +90,10 @@ impl<F: DiskFile + Drop> Disk for PartDisk<F> {
         Ok(())
     }
 
+    fn find(&self, n: u32) -> Option<&[u8; 512]> {
+        self.part.get(n)
+    }
+
     fn write(&mut self, _n: u32, _from: &[u8; 512]) -> Result<(), DiskFault> {
         self.refuse()
     }
