@@ -25,3 +25,4 @@ pub mod SectorAcls
 pub mod InodeAcls
 pub mod TriedBits
 pub mod Trims
+pub mod ZeroEnds

@@ -16,18 +16,12 @@ use Rattle.fs_check.specs.LastBlocks.{last_block, last_bytes, FitsSize, FitsLast
 
 -- the bytes from n on are zero
 module _ (v : Inode) (content : List ℕ) (n : ℕ) (at : n ≡ last_bytes v) (len : length content ≡ 512)
-    (zero : (i : ℕ) → i < length (take (512 - n) (drop n content)) → get_or (take (512 - n) (drop n content)) i 0 ≡ 0) where
+    (zero : (i : ℕ) → n ≤ i → i < 512 → get_or content i 0 ≡ 0) where
   few : n ≤ 512
   few = omega (arith, at)
 
   rest_of : (i : ℕ) → last_bytes v ≤ i → i < 512 → get_or content i 0 ≡ 0
-  rest_of i ge lt =
-      let there : i - n < 512 - n = omega (arith, at, ge, lt) in
-      let left : length (drop n content) ≡ length content - n = length-drop n content in
-      let room : length (take (512 - n) (drop n content)) ≡ 512 - n = length-take-le (512 - n) (drop n content) (omega (arith, left, len)) in
-      let same : n + (i - n) ≡ i = omega (arith, at, ge) in
-      sym (get_or-take (512 - n) (drop n content) (i - n) 0 there ∙ get_or-drop n content (i - n) 0 ∙ ap (λ k. get_or content k 0) same)
-      ∙ zero (i - n) (omega (arith, there, room))
+  rest_of i ge lt = zero i (omega (arith, at, ge)) lt
 
   pub fits_no_link : (b : Bool) → v.kind ≢ kinds.Link → b ≡ true → IsTrue b ↔ FitsLast v content
   fits_no_link b other e = ((λ t. record { rest = rest_of; target = λ link. absurd (other link) }), (λ f. e))

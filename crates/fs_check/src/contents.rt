@@ -13,8 +13,8 @@ ghost use Rattle.fs_check.specs.Checks.{meaning, BeginsWith, AreInodes, Passed, 
 use crate::faults::{CheckFault, Checked, Finding};
 use crate::opening::Opened;
 use crate::owning::Pointers;
-use crate::reading::read_recovered;
-use crate::zeros::are_zero;
+use crate::reading::{find_recovered, read_recovered};
+use crate::zeros::ends_in_zeros;
 use fs_layout::{Inode, Kind, POINTER_LEVELS, SECTOR_POINTERS, own_count};
 use sector_disk::Disk;
 
@@ -60,7 +60,7 @@ fn fits_last(inode: &Inode, content: &[u8; 512]) -> bool
     ensures { IsTrue result ↔ FitsLast inode.now content.now }
 {
     let end = (inode.size.saturating_sub(1) % 512) as usize + 1;
-    if !are_zero(&content[end..]) {
+    if !ends_in_zeros(content, end) {
         return false;
     }
     inode.kind != Kind::Link || has_no_zero(&content[..end])
@@ -192,6 +192,9 @@ fn is_laid_out<D: Disk>(
     let last = pointers.number(disk, opened, inode, 0, k)?;
     if last == 0 {
         return Ok(true);
+    }
+    if let Some(content) = find_recovered(disk, opened, last) {
+        return Ok(fits_last(inode, content));
     }
     let mut content = [0; 512];
     read_recovered(disk, opened, last, &mut content)?;

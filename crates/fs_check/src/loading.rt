@@ -138,7 +138,7 @@ fn load_named<F: DiskFile + Drop>(
             want(&mut numbers, *s)?;
         }
     }
-    numbers.sort_unstable();
+    numbers.sort()?;
     part.load_each(&numbers)
 }
 
@@ -182,7 +182,7 @@ fn listed_numbers<F: DiskFile + Drop>(
             }
         }
     }
-    numbers.sort_unstable();
+    numbers.sort()?;
     Ok(numbers)
 }
 
@@ -223,7 +223,7 @@ fn load_blocks<F: DiskFile + Drop>(
             want(&mut numbers, number_of(&part, log, inode, 0, i))?;
         }
     }
-    numbers.sort_unstable();
+    numbers.sort()?;
     part.load_each(&numbers)
 }
 

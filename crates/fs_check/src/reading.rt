@@ -1,11 +1,11 @@
 //! Sectors as recovery would leave them, read in a check.
 
-ghost use Rattle.std.specs.Prelude.{◌≡◌, ◌<◌, OnOk};
+ghost use Rattle.std.specs.Prelude.{◌≡◌, ◌<◌, IfSome, OnOk};
 ghost use Rattle.fs_check.specs.Checks.{meaning, BeginsWith, Passed, IsNone};
 
 use crate::faults::Checked;
 use crate::opening::Opened;
-use crate::recovering::read_meaning;
+use crate::recovering::{find_meaning, read_meaning};
 use sector_disk::Disk;
 
 /// Reads a sector as recovery would leave it.
@@ -22,4 +22,17 @@ pub(crate) fn read_recovered<D: Disk>(
 {
     read_meaning(disk, opened.geometry, opened.area, &opened.commit, n, to)?;
     Ok(())
+}
+
+/// A sector as recovery would leave it, where it stands in memory. A disk needn't have any there.
+pub(crate) fn find_recovered<'a, D: Disk>(
+    disk: &'a D,
+    opened: &Opened,
+    n: u32,
+) -> Option<&'a [u8; 512]>
+    requires opened { BeginsWith (D.state disk.now) opened.now.geometry opened.now.area opened.now.commit }
+    requires on_disk { n < (D.state disk.now).size }
+    ensures { IfSome result (λ content. content.now ≡ meaning (D.state disk.now) n) }
+{
+    find_meaning(disk, opened.geometry, opened.area, &opened.commit, n)
 }

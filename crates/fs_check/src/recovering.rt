@@ -72,3 +72,18 @@ pub fn read_meaning<D: Disk>(
     disk.read(content_of(geometry.header, area, commit, n), to)?;
     Ok(())
 }
+
+/// A sector as recovery would leave it, where it stands in memory, as [`read_meaning`] reads it.
+pub(crate) fn find_meaning<'a, D: Disk>(
+    disk: &'a D,
+    geometry: Geometry,
+    area: u32,
+    commit: &Commit,
+    n: u32,
+) -> Option<&'a [u8; 512]>
+    requires begins { BeginsWith (D.state disk.now) geometry area commit.now }
+    requires on_disk { n < (D.state disk.now).size }
+    ensures { IfSome result (λ content. content.now ≡ meaning (D.state disk.now) n) }
+{
+    disk.find(content_of(geometry.header, area, commit, n))
+}

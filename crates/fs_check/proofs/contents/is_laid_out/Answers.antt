@@ -33,6 +33,39 @@ returns-then-last-eq0-clause-test g c =
 pub returns-then-last-eq0-clause-at_hand : goal.returns-then-last-eq0-clause-at_hand
 returns-then-last-eq0-clause-at_hand g c = hand_back c.in_ok-fit_numbers.ensures.passed.reads c.number.new.self c.in_ok-last.ensures.at_hand
 
+pub find_recovered-requires-clause-on_disk : goal.find_recovered-requires-clause-on_disk
+find_recovered-requires-clause-on_disk g c =
+    let p = c.args.opened.now.geometry in
+    let v = c.args.inode.now in
+    let m = meaning (g.D.Disk.state c.args.disk.now) in
+    let k = c.saturating_sub-k.result / 512 in
+    let is = number_back c.in_ok-fit_numbers.ensures.passed.reads v 0 k c.in_ok-last.last c.in_ok-last.ensures.number in
+    let below = level_below _ _ p m v 0 k c.in_ok-last.last c.requires.opened.geometry (level_owned p m v c.requires.in_data 0) is in
+    let first = c.in_ok-fit_numbers.ensures.passed.reads.narrowed.size in
+    let second = c.in_ok-last.ensures.passed.reads.narrowed.size in
+    omega (arith, below, first, second)
+
+pub find_recovered-requires-clause-opened : goal.find_recovered-requires-clause-opened
+find_recovered-requires-clause-opened g c =
+    opened_still (reads_joined c.in_ok-fit_numbers.ensures.passed.reads c.in_ok-last.ensures.passed.reads) c.requires.opened
+
+pub returns-in-Some-clause-test : goal.returns-in-Some-clause-test
+returns-in-Some-clause-test g c =
+    let m = meaning (g.D.Disk.state c.args.disk.now) in
+    let v = c.args.inode.now in
+    let last = c.in_ok-last.last in
+    let fit = c.in_ok-fit_numbers.ensures.test.0 c.if-not-branch.false in
+    let k = c.saturating_sub-k.result / 512 in
+    let at : k ≡ last_block v = ap (λ n. n / 512) c.saturating_sub-k.ensures in
+    let is = number_back c.in_ok-fit_numbers.ensures.passed.reads v 0 k last c.in_ok-last.ensures.number in
+    let same = meaning_same (reads_joined c.in_ok-fit_numbers.ensures.passed.reads c.in_ok-last.ensures.passed.reads) in
+    let read : m last ≡ c.in-Some.content.now = sym (c.in-Some.ensures ∙ ap (λ (q : SectorMap). q last) same) in
+    laid_out_last m v fit last c.in-Some.content.now (is ∙ ap (pointer m v) at) c.if-last-eq0.false read
+    c.fits_last.result c.requires.size.short c.fits_last.ensures
+
+pub returns-in-Some-clause-at_hand : goal.returns-in-Some-clause-at_hand
+returns-in-Some-clause-at_hand g c = hand_back c.in_ok-fit_numbers.ensures.passed.reads c.number.new.self c.in_ok-last.ensures.at_hand
+
 pub read_recovered-requires-clause-on_disk : goal.read_recovered-requires-clause-on_disk
 read_recovered-requires-clause-on_disk g c =
     let p = c.args.opened.now.geometry in
@@ -64,4 +97,4 @@ returns-clause-test g c =
     let same = meaning_same (reads_joined c.in_ok-fit_numbers.ensures.passed.reads c.in_ok-last.ensures.passed.reads) in
     let read : m last ≡ c.read_recovered.new.to = sym (c.in_ok-read_recovered.ensures.content ∙ ap (λ (q : SectorMap). q last) same) in
     laid_out_last m v fit last c.read_recovered.new.to (is ∙ ap (pointer m v) at) c.if-last-eq0.false read
-    c.fits_last.result c.requires.size.short c.fits_last.ensures
+    c.fits_last-2.result c.requires.size.short c.fits_last-2.ensures
