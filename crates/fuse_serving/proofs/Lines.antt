@@ -1,19 +1,16 @@
 -- Lines of a text, and the numbers of a line.
---     AreLines        the lines of what is left of a text
+--     lines_behind        the lines behind the end of one
+--     named_line, last_named        a line that begins with a name
 --     some_then        what follows of what was found
-use Rattle.std.proofs.Common.{◌≡◌, ℕ, ◌+◌, ◌-◌, ◌<◌, List, [], ◌∷◌, ◌++◌, length, map, take, drop, length-drop, get_or, arith, refl, sym, ap, subst, ◌∙◌, take-append-drop, Some, None}
-use Rattle.std.specs.Prelude.{suc, Contains, Option, MatchOption, IfSome}
-use Rattle.std.specs.List.{slice_split, position_or_len}
+use Rattle.std.proofs.Common.{◌≡◌, ℕ, ◌+◌, ◌<◌, List, [], ◌∷◌, ◌++◌, length, map, take, drop, get_or, arith, refl, sym, ap, subst, ◌∙◌, take-append-drop, Some, None}
+use Rattle.std.specs.Prelude.{zero, suc, Bool, true, false, Contains, Option, MatchOption, IfSome}
+use Rattle.std.specs.List.{slice_split, slice_index, onto_first, position_or_len}
 use Rattle.std.proofs.lemmas.Bool.{false_from_ne_true}
-use Rattle.std.proofs.lemmas.List.{map-append, get_or_default, drop-drop, take_all}
-use Rattle.std.proofs.lemmas.List.Splits.{slice_split_none, slice_split_first}
+use Rattle.std.proofs.lemmas.List.{map-append, get_or_default}
+use Rattle.std.proofs.lemmas.List.Splits.{slice_split-cons_yes, slice_split-cons_no, slice_split_none, slice_split_first}
 use Rattle.std.proofs.lemmas.List.Sums.{position_or_len_is}
 use Rattle.memchr.specs.Find.{IsFirstByte, is_byte}
 use Rattle.fuse_serving.specs.Status.{ends_line, SaysNumber, SaysIds, no_word, empty_word, one_id}
-
--- each line of what is left is one of the text
-abbrev pub AreLines : List ℕ → List ℕ → Type 0
-AreLines rest text = (line : List ℕ) → Contains (slice_split ends_line rest) line → Contains (slice_split ends_line text) line
 
 first_line : (text : List ℕ) (n : ℕ) → IsFirstByte (is_byte 10) text (Some n) → slice_split ends_line text ≡ take n text ∷ slice_split ends_line (drop (n + 1) text)
 first_line text n (first, passes) =
@@ -31,35 +28,57 @@ at_first x xs = (0, omega arith, refl)
 behind_first : (x y : List ℕ) (xs : List (List ℕ)) → Contains xs y → Contains (x ∷ xs) y
 behind_first x y xs (k, within, is) = (suc k, omega (arith, within), is)
 
--- a line that stands before the first end of one, and begins with a name
-pub named_line : (text rest line name said : List ℕ) (n : ℕ) → AreLines rest text → IsFirstByte (is_byte 10) rest (Some n) → line ≡ take n rest → line ≡ name ++ said
-    → Contains (slice_split ends_line text) (name ++ said)
-named_line text rest line name said n lines first is whole =
-    lines (name ++ said) (subst (λ (parts : List (List ℕ)). Contains parts (name ++ said)) (sym (first_line rest n first))
-    (subst (λ (l : List ℕ). Contains (l ∷ slice_split ends_line (drop (n + 1) rest)) (name ++ said)) (sym whole ∙ is) (at_first (name ++ said) (slice_split ends_line (drop (n + 1) rest)))))
+past_first : (line : List ℕ) (parts : List (List ℕ)) → Contains (drop 1 parts) line → Contains parts line
+past_first line [] among = among
+past_first line (part ∷ parts) among = behind_first part line parts among
 
--- what is left behind that end
-pub fewer_lines : (text rest behind : List ℕ) (n : ℕ) → AreLines rest text → IsFirstByte (is_byte 10) rest (Some n) → behind ≡ drop n rest
-    → AreLines (take (length behind - 1) (drop 1 behind)) text
-fewer_lines text rest behind n lines first is = λ line among.
-    lines line (subst (λ (parts : List (List ℕ)). Contains parts line) (sym (first_line rest n first))
-    (behind_first (take n rest) line (slice_split ends_line (drop (n + 1) rest)) (subst (λ (l : List ℕ). Contains (slice_split ends_line l) line) after among)))
-  where
-    after : take (length behind - 1) (drop 1 behind) ≡ drop (n + 1) rest
-    after =
-        take_all (length behind - 1) (drop 1 behind) (omega (arith, length-drop 1 behind)) ∙ ap (λ (l : List ℕ). drop 1 l) is
-        ∙ drop-drop 1 n rest
+drop-onto_first : (x : ℕ) (parts : List (List ℕ)) → drop 1 (onto_first x parts) ≡ drop 1 parts
+drop-onto_first x [] = refl
+drop-onto_first x (part ∷ parts) = refl
 
--- a line that nothing ends
-pub last_named : (text rest name said : List ℕ) → AreLines rest text → IsFirstByte (is_byte 10) rest None → rest ≡ name ++ said
+by_first : (x : ℕ) (text line : List ℕ) (ends : Bool) → ends_line x ≡ ends → Contains (drop 1 (slice_split ends_line text)) line
+    → Contains (drop 1 (slice_split ends_line (x ∷ text))) line
+by_first x text line true e among =
+    subst (λ (parts : List (List ℕ)). Contains (drop 1 parts) line) (sym (slice_split-cons_yes ends_line x text e)) (past_first line (slice_split ends_line text) among)
+by_first x text line false e among =
+    subst (λ (parts : List (List ℕ)). Contains (drop 1 parts) line) (sym (slice_split-cons_no ends_line x text e))
+    (subst (λ (parts : List (List ℕ)). Contains parts line) (sym (drop-onto_first x (slice_split ends_line text))) among)
+
+-- what stands behind the end of a line stands behind the first line
+later_lines : (text : List ℕ) (at : ℕ) → at < length text → slice_index text at ≡ 10 → (line : List ℕ) → Contains (slice_split ends_line (drop (suc at) text)) line
+    → Contains (drop 1 (slice_split ends_line text)) line
+later_lines [] at below is line among = absurd (omega arith)
+later_lines (x ∷ text) zero below is line among =
+    subst (λ (parts : List (List ℕ)). Contains (drop 1 parts) line) (sym (slice_split-cons_yes ends_line x text (ap ends_line is))) among
+later_lines (x ∷ text) (suc at) below is line among = by_first x text line (ends_line x) refl (later_lines text at (omega (arith, below)) is line among)
+
+-- each line behind the end of one is a line of the text
+pub lines_behind : (text : List ℕ) (at : ℕ) → at < length text → slice_index text at ≡ 10 → (line : List ℕ) → Contains (slice_split ends_line (drop (at + 1) text)) line
+    → Contains (slice_split ends_line text) line
+lines_behind text at below is line among =
+    let next : at + 1 ≡ suc at = omega arith in
+    past_first line (slice_split ends_line text) (later_lines text at below is line (subst (λ (n : ℕ). Contains (slice_split ends_line (drop n text)) line) next among))
+
+-- the first line begins with a name, and ends there
+pub named_line : (text line name said : List ℕ) (n : ℕ) → IsFirstByte (is_byte 10) text (Some n) → line ≡ take n text → line ≡ name ++ said
     → Contains (slice_split ends_line text) (name ++ said)
-last_named text rest name said lines none whole =
-    lines (name ++ said) (subst (λ (parts : List (List ℕ)). Contains parts (name ++ said)) (sym (one_line rest none))
-    (subst (λ (l : List ℕ). Contains (l ∷ []) (name ++ said)) (sym whole) (at_first (name ++ said) [])))
+named_line text line name said n first is whole =
+    subst (λ (parts : List (List ℕ)). Contains parts (name ++ said)) (sym (first_line text n first))
+    (subst (λ (l : List ℕ). Contains (l ∷ slice_split ends_line (drop (n + 1) text)) (name ++ said)) (sym whole ∙ is) (at_first (name ++ said) (slice_split ends_line (drop (n + 1) text))))
+
+-- nothing ends it
+pub last_named : (text name said : List ℕ) → IsFirstByte (is_byte 10) text None → text ≡ name ++ said → Contains (slice_split ends_line text) (name ++ said)
+last_named text name said none whole =
+    subst (λ (parts : List (List ℕ)). Contains parts (name ++ said)) (sym (one_line text none))
+    (subst (λ (l : List ℕ). Contains (l ∷ []) (name ++ said)) (sym whole) (at_first (name ++ said) []))
 
 pub some_then : {X : Type 0} (A : Type 0) {P Q : X → Type 0} (found : Option X) → MatchOption found A P → ((x : X) → P x → Q x) → IfSome found Q
 some_then A None said f = tt
 some_then A (Some x) said f = f x said
+
+pub if_some_then : {X : Type 0} {P Q : X → Type 0} (found : Option X) → IfSome found P → ((x : X) → P x → Q x) → IfSome found Q
+if_some_then None said f = tt
+if_some_then (Some x) said f = f x said
 
 -- what begins with a name
 pub whole_line : (line name rest : List ℕ) → take (length name) line ≡ name → rest ≡ drop (length name) line → line ≡ name ++ rest

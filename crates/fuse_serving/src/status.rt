@@ -1,5 +1,5 @@
 //! What /proc/PID/status says of a process.
-ghost use Rattle.std.specs.Prelude.{◌≡◌, ◌≤◌, ◌⊎◌, List, Some, IfOk, IfSome, IsTrue};
+ghost use Rattle.std.specs.Prelude.{◌≡◌, ◌≤◌, ◌⊎◌, List, Some, IfOk, IfSome, IsTrue, drop};
 ghost use Rattle.std.specs.List.{slice_split};
 ghost use Rattle.fs_cred.specs.Capabilities.{no_caps};
 ghost use Rattle.fuse_serving.specs.Status.{is_blank_byte, HasLine, SaysNumber, SaysIds, SaysGroups, SaysLastId, ActsAs, SaysCaps};
@@ -7,29 +7,38 @@ ghost use Rattle.fuse_serving.specs.Status.{is_blank_byte, HasLine, SaysNumber, 
 use crate::caller::{Caller, Groups};
 use bitflags::Flags;
 use fs_cred::Caps;
-use memchr::memchr;
+use memchr::{memchr, memmem};
 use std::alloc::{AllocError, Global};
 use std::str;
 
 // Of the capabilities in effect those that are asked here: the lowest five.
 const ASKED_CAPS: u64 = 31;
 
-// What follows the name in the first line that begins with it.
-fn line_of<'a>(text: &'a [u8], name: &[u8]) -> Option<&'a [u8]>
+// What follows the name in the first line, where that begins with it.
+fn first_line_of<'a>(text: &'a [u8], name: &[u8]) -> Option<&'a [u8]>
     ensures { IfSome result (λ rest. HasLine text.now name.now rest.now) }
 {
-    let mut rest = text;
-    while let Some(end) = memchr(b'\n', rest) {
-        let (line, behind) = rest.split_at(end);
-        if let Some(said) = line.strip_prefix(name) {
-            return Some(said);
-        }
-        let [_, after @ ..] = behind else {
-            return None;
-        };
-        rest = after;
+    let line = match memchr(b'\n', text) {
+        Some(end) => text.split_at(end).0,
+        None => text,
+    };
+    line.strip_prefix(name)
+}
+
+// What follows the name in a line that begins with it. A line starts behind the end of another: to look for that end with the name takes
+// a third of the time that it takes to look at each line.
+fn line_of<'a>(text: &'a [u8], start: &[u8]) -> Option<&'a [u8]>
+    ensures { IfSome result (λ rest. HasLine text.now (drop 1 start.now) rest.now) }
+{
+    let [b'\n', name @ ..] = start else {
+        return None;
+    };
+    if text.starts_with(name) {
+        return first_line_of(text, name);
     }
-    rest.strip_prefix(name)
+    let at = memmem::find(text, start)?;
+    let (_, behind) = text.split_at(at + 1);
+    first_line_of(behind, name)
 }
 
 fn id_of(word: &[u8]) -> Option<u32>
@@ -69,18 +78,18 @@ fn ids_of(alloc: Global, text: &[u8]) -> Result<Option<Groups>, AllocError>
 fn groups_of(alloc: Global, text: &[u8]) -> Result<Option<Groups>, AllocError>
     ensures { IfOk result (λ groups. IfSome groups (SaysGroups text.now)) }
 {
-    let Some(rest) = line_of(text, b"Groups:\t") else {
+    let Some(rest) = line_of(text, b"\nGroups:\t") else {
         return Ok(None);
     };
     let groups = ids_of(alloc, rest)?;
     Ok(groups)
 }
 
-// The last id of the line with this name.
-fn last_id_of(text: &[u8], name: &[u8]) -> Option<u32>
-    ensures { IfSome result (SaysLastId text.now name.now) }
+// The last id of the line that starts so.
+fn last_id_of(text: &[u8], start: &[u8]) -> Option<u32>
+    ensures { IfSome result (SaysLastId text.now (drop 1 start.now)) }
 {
-    let rest = str::from_utf8(line_of(text, name)?).ok()?;
+    let rest = str::from_utf8(line_of(text, start)?).ok()?;
     let (_, word) = rest.rsplit_once('\t')?;
     let id = id_of(word.as_bytes())?;
     Some(id)
@@ -90,17 +99,17 @@ fn last_id_of(text: &[u8], name: &[u8]) -> Option<u32>
 fn acts_as(text: &[u8], uid: u32, gid: u32) -> bool
     ensures { IsTrue result → ActsAs text.now uid gid }
 {
-    if last_id_of(text, b"Uid:\t") != Some(uid) {
+    if last_id_of(text, b"\nUid:\t") != Some(uid) {
         return false;
     }
-    last_id_of(text, b"Gid:\t") == Some(gid)
+    last_id_of(text, b"\nGid:\t") == Some(gid)
 }
 
 // The capabilities in effect, where the text says them.
 fn caps_of(text: &[u8]) -> Option<Caps>
     ensures { IfSome result (SaysCaps text.now) }
 {
-    let rest = line_of(text, b"CapEff:\t")?;
+    let rest = line_of(text, b"\nCapEff:\t")?;
     let bits = bits_of(rest)?;
     Some(Caps::from_bits_retain((bits & ASKED_CAPS) as u32))
 }

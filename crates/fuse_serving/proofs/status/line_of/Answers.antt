@@ -1,24 +1,29 @@
-use Rattle.std.proofs.Common.{take, length}
-use Rattle.std.proofs.lemmas.Slice.Eq.{bytes_eq-Decides}
-use Rattle.fuse_serving.proofs.Lines.{named_line, fewer_lines, last_named, some_then, whole_line}
+use Rattle.std.proofs.Common.{◌≡◌, ◌+◌, ◌<◌, ◌-◌, ◌++◌, ℕ, List, length, take, drop, arith, rules, subst, ◌∙◌, length-drop}
+use Rattle.std.specs.Prelude.{Contains}
+use Rattle.std.specs.List.{slice_split, slice_index}
+use Rattle.std.proofs.lemmas.List.{take_all}
+use Rattle.fuse_serving.specs.Status.{HasLine, ends_line}
+use Rattle.fuse_serving.proofs.Lines.{lines_behind, if_some_then}
 use Rattle.fuse_serving.proofs.status.line_of.Goals as goal
 
-pub returns-in-Some-strip_prefix : goal.returns-in-Some-strip_prefix
-returns-in-Some-strip_prefix c =
-    let cases = c.in-Some-strip_prefix.ensures.cases in
-    let line = c.split_at.result.0.now in
-    let name = c.args.name.now in
-    named_line c.args.text.now c.loop-end.rest.now line name c.in-Some-strip_prefix.said.now c.in-Some.end c.loop-end.invariant c.in-Some.ensures c.split_at.ensures.front
-    (whole_line line name c.in-Some-strip_prefix.said.now ((bytes_eq-Decides (take (length name) line) name).0 cases.0) cases.1)
-
-pub loop-end-preserved : goal.loop-end-preserved
-loop-end-preserved c =
-    fewer_lines c.args.text.now c.loop-end.rest.now c.split_at.result.1.now c.in-Some.end c.loop-end.invariant c.in-Some.ensures c.split_at.ensures.back
+pub returns-then-starts_with : goal.returns-then-starts_with
+returns-then-starts_with c =
+    let start = c.args.start.now in
+    let name : take (length start - 1) (drop 1 start) ≡ drop 1 start = take_all (length start - 1) (drop 1 start) (omega (arith, length-drop 1 start)) in
+    if_some_then c.first_line_of.result c.first_line_of.ensures (λ rest is. subst (λ (n : List ℕ). HasLine c.args.text.now n rest.now) name is)
 
 pub returns : goal.returns
 returns c =
-    let rest = c.loop-end.rest.now in
-    let name = c.args.name.now in
-    some_then _ c.strip_prefix-2.result c.strip_prefix-2.ensures.cases (λ said cases.
-    last_named c.args.text.now rest name said.now c.loop-end.invariant c.in_default.ensures
-    (whole_line rest name said.now ((bytes_eq-Decides (take (length name) rest) name).0 cases.0) cases.1))
+    let found = c.in_ok-at.ensures in
+    let text = c.args.text.now in
+    let start = c.args.start.now in
+    let at = c.in_ok-at.at in
+    let name : take (length start - 1) (drop 1 start) ≡ drop 1 start = take_all (length start - 1) (drop 1 start) (omega (arith, length-drop 1 start)) in
+    let first : slice_index start 0 ≡ 10 = search rules in
+    let below : at < length text = omega (arith, found.1.fits, c.in-10.len_at_least) in
+    let same : at + 0 ≡ at = omega arith in
+    let byte : slice_index text at ≡ 10 = subst (λ (n : ℕ). slice_index text n ≡ 10) same (found.1.reads 0 (omega (arith, c.in-10.len_at_least)) ∙ first) in
+    if_some_then c.first_line_of-2.result c.first_line_of-2.ensures (λ rest is.
+    lines_behind text at below byte (drop 1 start ++ rest.now)
+    (subst (λ (behind : List ℕ). Contains (slice_split ends_line behind) (drop 1 start ++ rest.now)) c.split_at.ensures.back
+    (subst (λ (n : List ℕ). HasLine c.split_at.result.1.now n rest.now) name is)))
