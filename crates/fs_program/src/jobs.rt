@@ -28,20 +28,19 @@ use host_trees::{CopyFault, Given};
 use sector_disk::{Disk, DiskFile, FileDisk, FileFault, MemDisk, PartDisk, PartFile};
 use std::fs::{self, OpenOptions};
 use std::io::{ErrorKind, Read, Write};
-use std::os::unix::fs::OpenOptionsExt;
+use std::os::unix::fs::{FileExt, OpenOptionsExt};
 use std::rt::{Clock, Files};
 
 /// Does what the words ask for, the program's name being the first of them, and answers the status.
 ///
 /// A script on the standard input is read from `input`, and replies are written to `out`: whether a call of them fails is
 /// remembered. A text that can't be written is passed over, with status 3.
-pub fn perform<R: Files<File: DiskFile> + AllocGlobal + Clock, I: Read, O: Write, E: Write>(
-    rt: &R,
-    words: &[String],
-    input: &mut Watched<I>,
-    out: &mut Watched<O>,
-    err: &mut E,
-) -> u8
+pub fn perform<
+    R: Files<File: DiskFile + FileExt> + AllocGlobal + Clock,
+    I: Read,
+    O: Write,
+    E: Write,
+>(rt: &R, words: &[String], input: &mut Watched<I>, out: &mut Watched<O>, err: &mut E) -> u8
     // The words ask for a job, and it has ended with this status; or they ask for none.
     ensures performs { ProgramEnds ⟦<MemDisk as Disk>⟧.state ⟦<FileDisk<R::File> as Disk>⟧.state ⟦<PartDisk<R::File> as Disk>⟧.state
         R.File.held (map string_bytes words.now) (reading I.remaining input.old input.new) (writing O.contents out.old out.new) result }
@@ -66,7 +65,12 @@ fn refuse<O: Write, E: Write>(fault: &WordsFault, out: &mut Watched<O>, err: &mu
     }
 }
 
-fn perform_job<R: Files<File: DiskFile> + AllocGlobal + Clock, I: Read, O: Write, E: Write>(
+fn perform_job<
+    R: Files<File: DiskFile + FileExt> + AllocGlobal + Clock,
+    I: Read,
+    O: Write,
+    E: Write,
+>(
     rt: &R,
     job: &Job,
     input: &mut Watched<I>,
@@ -301,7 +305,12 @@ fn upgrade_image<R: Files<File: DiskFile> + AllocGlobal, O: Write>(
 }
 
 // Requests are read from the one stream, and replies are written to the other.
-fn serve_image<R: Files<File: DiskFile> + AllocGlobal + Clock, I: Read, O: Write, E: Write>(
+fn serve_image<
+    R: Files<File: DiskFile + FileExt> + AllocGlobal + Clock,
+    I: Read,
+    O: Write,
+    E: Write,
+>(
     rt: &R,
     image: &Text,
     denials: Option<&Text>,

@@ -10,6 +10,7 @@ use fuse_protocol::Time;
 use std::alloc::Global;
 use std::fs;
 use std::io::{self, ErrorKind, Read, Seek, SeekFrom, Write};
+use std::os::unix::fs::FileExt;
 use std::path::PathBuf;
 use std::rt::{Clock, Files};
 use std::time::{SystemTime, UNIX_EPOCH};
@@ -71,28 +72,23 @@ fn is_errno(fault: &io::Error, errno: i32) -> bool {
     fault.raw_os_error() == Some(errno)
 }
 
-// Reads all of a file of /proc, and tells how many bytes that is. A read that gives less than was asked for has given its end.
-fn read_all<F: Read>(file: &mut F, room: &mut Vec<u8>) -> io::Result<usize>
+// Reads all of a file of /proc from its beginning, and tells how many bytes that is. A read that gives less than was asked for has given
+// its end; else all is read anew, so that it is of one moment.
+fn read_all<F: FileExt + Read + Seek>(file: &mut F, room: &mut Vec<u8>) -> io::Result<usize>
     ensures { IfOk result (λ size. size ≤ length room.new.items) }
 {
     room.resize(STATUS_ROOM, 0)?;
-    let size = file.read(room)?;
+    let size = file.read_at(room, 0)?;
     if size < STATUS_ROOM {
         return Ok(size);
     }
+    room.clear();
+    file.seek(SeekFrom::Start(0))?;
     file.read_to_end(room)?;
     Ok(room.len())
 }
 
-// Reads a file of /proc that was read before, from its beginning.
-fn read_anew<F: Read + Seek>(file: &mut F, room: &mut Vec<u8>) -> io::Result<usize>
-    ensures { IfOk result (λ size. size ≤ length room.new.items) }
-{
-    file.seek(SeekFrom::Start(0))?;
-    read_all(file, room)
-}
-
-impl<R: Files + AllocGlobal, I, O> Standard<R, I, O> {
+impl<R: Files<File: FileExt> + AllocGlobal, I, O> Standard<R, I, O> {
     // Whether a process is in the user namespace of this one: user_namespaces(7).
     fn shares_users(&mut self, pid: u32) -> io::Result<bool> {
         self.path.clear();
@@ -126,7 +122,7 @@ impl<R: Files + AllocGlobal, I, O> Standard<R, I, O> {
     {
         if let Some(last) = &mut self.last {
             if last.pid == pid {
-                if let Ok(size) = read_anew(&mut last.status, &mut self.room) {
+                if let Ok(size) = read_all(&mut last.status, &mut self.room) {
                     return Ok(size);
                 }
             }
@@ -158,7 +154,8 @@ fn time_of<R: Clock>(rt: &R) -> io::Result<Time> {
     }
 }
 
-impl<R: Files + AllocGlobal + Clock, I: Read, O: Write> Kernel for Standard<R, I, O> {
+impl<R: Files<File: FileExt> + AllocGlobal + Clock, I: Read, O: Write> Kernel
+    for Standard<R, I, O> {
     ghost use Rattle.std.specs.Prelude.{⊤};
 
     // Nothing is claimed of what passes.
