@@ -22,8 +22,8 @@ const EINTR: i32 = 4;
 
 const ENODEV: i32 = 19;
 
-// Of /proc/PID/status one read gives so many bytes at least, or all: few processes have groups for more.
-const STATUS_ROOM: usize = 4096;
+// Of /proc/PID/status one read gives so many bytes at least, or all: that is room for some 2,000 groups, which few processes have.
+const STATUS_ROOM: usize = 16_384;
 
 // The status of a process, which stays open: to open it anew takes longer than to read it.
 #[derive(Drop)]
