@@ -211,8 +211,13 @@ impl<M: Machine> Session<M> {
         ensures did { Did M.Serves (call_open handle call) self.old self.new result }
         ensures kept { self.new.server ≡ self.old.server }
     {
-        let _inode = self.the_open(handle)?;
-        obtain_once(&mut self.machine, owner_of(handle), call)
+        match self.the_open(handle) {
+            Ok(_inode) => obtain_once(&mut self.machine, owner_of(handle), call),
+            Err(error) => {
+                call.discard();
+                Err(error)
+            }
+        }
     }
 
     // Seeks in the directory that is open at a handle; the answer is its inode.

@@ -253,8 +253,16 @@ impl<M: Machine> Session<M> {
         ensures { (name : List ℕ) → name_in call ≡ Some name →
             Did M.Serves (make_masked now name_valid umask pid dir_ino call name) self.old self.new result }
     {
-        set_umask(&mut self.machine, pid, umask)?.discard();
-        self.make_by(now, name_valid, pid, dir_ino, call)
+        match set_umask(&mut self.machine, pid, umask) {
+            Ok(reply) => {
+                reply.discard();
+                self.make_by(now, name_valid, pid, dir_ino, call)
+            }
+            Err(error) => {
+                call.discard();
+                Err(error)
+            }
+        }
     }
 
     /// Makes a symbolic link.

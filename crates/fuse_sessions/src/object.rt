@@ -191,8 +191,13 @@ impl<M: Machine> Session<M> {
         ensures did { Did M.Serves (by_server_process ino (at_path call)) self.old self.new result }
         ensures kept { self.new.server ≡ self.old.server }
     {
-        let pid = self.the_server_process()?;
-        self.on_once(pid, ino, call)
+        match self.the_server_process() {
+            Ok(pid) => self.on_once(pid, ino, call),
+            Err(error) => {
+                call.discard();
+                Err(error)
+            }
+        }
     }
 
     // In a directory that the caller may not search it may stand all the same.
