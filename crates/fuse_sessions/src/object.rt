@@ -35,12 +35,16 @@ fn standing_refusal(before: RequestError, refusal: RequestError) -> RequestError
 pub(crate) fn shown(reply: Result<Reply, RequestError>) -> Result<Status, RequestError>
     ensures { MatchResult reply (λ shown. replied_status shown ≡ of_result result) (λ error. result ≡ Err error) }
 {
-    let reply = reply?;
-    let status = status_of_reply(&reply);
-    reply.discard();
-    match status {
-        Some(status) => Ok(status),
-        None => Err(RequestError::EIO),
+    match reply {
+        Ok(reply) => {
+            let status = status_of_reply(&reply);
+            reply.discard();
+            match status {
+                Some(status) => Ok(status),
+                None => Err(RequestError::EIO),
+            }
+        }
+        Err(error) => Err(error),
     }
 }
 
