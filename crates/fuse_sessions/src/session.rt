@@ -21,15 +21,15 @@ impl<M: Machine> Session<M> {
         ensures machine { MatchResult result (λ session. session.machine ≡ machine) (λ back. back ≡ machine) }
         ensures server { IfOk result (λ session. session.server.server ≡ new_server settings) }
     {
-        let Ok(server) = Server::new(alloc, settings) else {
-            return Err(machine);
-        };
         let machine = WithPaths::new(alloc, machine)?;
-        Ok(Session {
-            alloc,
-            machine,
-            server,
-        })
+        match Server::new(alloc, settings) {
+            Ok(server) => Ok(Session {
+                alloc,
+                machine,
+                server,
+            }),
+            Err(_) => Err(machine.into_machine()),
+        }
     }
 
     /// The file system, once no more requests are served.
