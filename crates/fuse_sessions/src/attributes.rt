@@ -13,6 +13,7 @@ use fuse_plans::{Asked, ReplyBody, RequestError};
 use fuse_protocol::{AttrChanges, NewTime, Time};
 use fuse_state::descriptor_of;
 use fuse_steps::Machine;
+use fuse_steps::asker::done;
 use fuse_steps::name::attributes;
 use fuse_steps::replies::target_of_reply;
 use posix_acl::Perms;
@@ -246,8 +247,7 @@ impl<M: Machine> Session<M> {
             return Err(RequestError::EPERM);
         }
         let call = Call::Access(self.blank_path(), Perms::from_digit(2));
-        self.on_once(pid, ino, call)?.discard();
-        Ok(())
+        done(self.on_once(pid, ino, call))
     }
 
     fn set_times(
@@ -335,8 +335,7 @@ impl<M: Machine> Session<M> {
     {
         let pid = self.caller(who)?;
         let call = Call::Access(self.blank_path(), perms);
-        self.on_once(pid, ino, call)?.discard();
-        Ok(())
+        done(self.on_once(pid, ino, call))
     }
 
     /// A process of who asks may do so much, where that is asked.
