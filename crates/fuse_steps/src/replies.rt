@@ -77,7 +77,10 @@ pub fn data_of_reply(reply: Reply) -> Option<Bytes>
 {
     match reply {
         Reply::Data(bytes) => Some(bytes),
-        _ => None,
+        other => {
+            other.discard();
+            None
+        }
     }
 }
 
@@ -87,7 +90,10 @@ pub fn target_of_reply(reply: Reply) -> Option<Path>
 {
     match reply {
         Reply::Target(target) => Some(target),
-        _ => None,
+        other => {
+            other.discard();
+            None
+        }
     }
 }
 
@@ -97,7 +103,10 @@ pub fn acl_of_reply(reply: Reply) -> Option<Option<Acl>>
 {
     match reply {
         Reply::Acl(acl) => Some(acl),
-        _ => None,
+        other => {
+            other.discard();
+            None
+        }
     }
 }
 
@@ -107,7 +116,10 @@ pub fn names_of_reply(reply: Reply) -> Option<Listing>
 {
     match reply {
         Reply::Names(names) => Some(names),
-        _ => None,
+        other => {
+            other.discard();
+            None
+        }
     }
 }
 
