@@ -1,8 +1,8 @@
 //! A store of sectors, and one call's transaction on it.
 #![tactic(auto, unfolding(crate::specs::Stores::present, crate::specs::Stores::map_before, crate::specs::Stores::map_now))]
 
-ghost use Rattle.std.specs.Prelude.{◌≡◌, ◌≤◌, ℕ, [], false, Some, IsOk, IfOk, MatchResult};
-ghost use Rattle.fs_layout.specs.Header.{header_of, max_delta, max_targets};
+ghost use Rattle.std.specs.Prelude.{◌≡◌, ◌≤◌, ◌↔◌, ℕ, [], true, false, Some, Contains, IsOk, IfOk, MatchResult};
+ghost use Rattle.fs_layout.specs.Header.{header_of, log_end, max_delta, max_targets};
 ghost use Rattle.fs_layout.specs.declared.header.TheConstants.{MAX_HEADER};
 ghost use Rattle.redo_journal.specs.Meaning.{SameMap, EachReadsAs, data_of, disk_of};
 ghost use Rattle.redo_journal.specs.States.{header_at, IsIdle};
@@ -255,6 +255,19 @@ impl<D: Disk> Txn<D> {
             }
             Err(broken) => Err(broken),
         }
+    }
+
+    /// The sectors that were put. All others are as they were before the transaction.
+    pub fn sectors_put(&self) -> &[u32]
+        ensures put { (n : ℕ) → Contains result.now n ↔ ((txn_state D.state self.now).has_put n ≡ true) }
+
+        // Sector 0 is not among them.
+        ensures behind { (n : ℕ) → Contains result.now n → log_end (txn_state D.state self.now).header ≤ n }
+
+        ensures others { (n : ℕ) → (Contains result.now n → ⊥)
+            → (txn_state D.state self.now).sectors n ≡ (txn_state D.state self.now).before n }
+    {
+        self.delta.sectors()
     }
 
     /// Takes the changes back. The store is as it was.
