@@ -1,6 +1,6 @@
 //! How much is free in each sector of a disk's two bitmaps, where that was counted.
 //!
-//! [`FreeCounts`] remembers it. Whoever puts a sector has it forgotten there, and the next count reads those sectors alone.
+//! [`FreeCounts`] remembers it. Whoever has put sectors has them forgotten there, and the next count reads those alone.
 //!
 //! So many sectors each call reads. [`FreeCounts::new`] alone takes memory, 4 bytes for each sector of the bitmaps.
 //!
@@ -10,7 +10,7 @@
 //! | [`FreeCounts::count_free`] | those of the bitmap of which nothing is known |
 #![tactic(auto)]
 
-ghost use Rattle.std.specs.Prelude.{◌≡◌, ◌≢◌, ◌+◌, ◌*◌, ◌≤◌, ◌<◌, ◌⊎◌, ℕ, None, IfOk};
+ghost use Rattle.std.specs.Prelude.{◌≡◌, ◌≢◌, ◌+◌, ◌*◌, ◌≤◌, ◌<◌, ◌⊎◌, ℕ, None, Contains, IfOk};
 ghost use Rattle.fs_layout.specs.Geometry.{IsGeometry};
 ghost use Rattle.fs_layout.specs.Header.{log_end};
 ghost use Rattle.sector_disk.specs.Disk.{HasCause};
@@ -119,12 +119,14 @@ impl FreeCounts {
         }
     }
 
-    /// From now on nothing is known of a sector.
-    pub fn forget(&mut self, n: u32)
-        ensures here { count_known self.new n ≡ None }
-        ensures others { (m : ℕ) → m ≢ n → count_known self.new m ≡ count_known self.old m }
+    /// From now on nothing is known of these sectors.
+    pub fn forget(&mut self, sectors: &[u32])
+        ensures here { (n : ℕ) → Contains sectors.now n → count_known self.new n ≡ None }
+        ensures others { (n : ℕ) → (Contains sectors.now n → ⊥) → count_known self.new n ≡ count_known self.old n }
     {
-        self.set(n, None);
+        for n in sectors {
+            self.set(*n, None);
+        }
     }
 
     // How many bits of a sector are clear. Where that isn't known, the sector is read.

@@ -80,7 +80,7 @@ module _ {D : Type 0} (state : D → DiskState) (p : Geometry) (store : StoreVie
     before_is_store : SameMap (map_before state last) (present state store)
     before_is_store n part = same.before n ∙ before n part
 
-    before_is_begun : SameMap (map_before state last) (map_now state begun)
+    pub before_is_begun : SameMap (map_before state last) (map_now state begun)
     before_is_begun = same_chain (map_before state last) (present state store) (map_now state begun) before_is_store (same_back (map_now state begun) (present state store) map)
 
     -- one was performed
@@ -132,7 +132,3 @@ module _ {D : Type 0} (state : D → DiskState) (p : Geometry) (store : StoreVie
     runs_on after dropped back s r now tabled =
         running_same (state store.disk).size (state after.disk).size p (present state store) (present state after) processes now s
         (reads_alone state store begun disk before last same after.disk dropped).narrowed.size (same_chain (present state after) (map_before state last) (present state store) back before_is_store) tabled r
-
-    -- and its map is that with which the transaction began
-    pub begun_again : (after : StoreView D) → SameMap (present state after) (map_before state last) → SameMap (present state after) (map_now state begun)
-    begun_again after back = same_chain (present state after) (map_before state last) (map_now state begun) back before_is_begun

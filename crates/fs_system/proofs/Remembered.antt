@@ -1,19 +1,17 @@
 -- What a store remembers of how much is free in it, and in each sector of the bitmaps.
-use Rattle.std.proofs.Common.{◌≡◌, ◌≢◌, ℕ, ◌<◌, ◌≤◌, List, Bool, true, Option, Some, None, refl, sym, ap, subst, ◌∙◌, arith, inl, inr}
-use Rattle.std.specs.Prelude.{not, count_by, IfSome}
-use Rattle.std.proofs.lemmas.Bool.{cases_eq}
+use Rattle.std.proofs.Common.{◌≡◌, ℕ, ◌≤◌, List, Option, Some, None, refl, sym, ap, subst, ◌∙◌, inl, inr}
+use Rattle.std.specs.Prelude.{not, count_by, Contains, IfSome}
 use Rattle.bit_alloc.specs.Bits.{clear_below}
 use Rattle.free_counts.specs.Known.{CountList, count_known, TellsClear}
-use Rattle.free_counts.proofs.Known.{tells_set}
 use Rattle.fs_layout.specs.Header.{header_of, log_end}
-use Rattle.fs_layout.specs.InodeChanges.{Puts}
-use Rattle.sector_txn.specs.Sectors.{TxnState, IsUnchanged}
+use Rattle.sector_txn.specs.Sectors.{TxnState}
 use Rattle.std.specs.List.{range_with_len}
 use Rattle.fs_layout.specs.declared.geometry.Geometry.{Geometry}
 use Rattle.fs_layout.specs.Bytes.{SectorMap}
 use Rattle.fs_layout.specs.Images.{bit, free_sectors}
 use Rattle.fs_layout.specs.Geometry.{geometry_in}
 use Rattle.fs_layout.specs.Superblock.{FitsSuper, super_bytes, super_of}
+use Rattle.fs_layout.proofs.RecoveryLaw.{contains_at, target_or_none}
 use Rattle.fs_layout.proofs.SuperLaw.{super_codec}
 use Rattle.fs_layout.proofs.Codecs.{same_spelling}
 use Rattle.redo_journal.specs.Meaning.{SameMap}
@@ -23,7 +21,8 @@ use Rattle.fs_model.specs.States.{State}
 use Rattle.fs_model.specs.Trees.{Room, free_inodes}
 use Rattle.fs_model.proofs.FreeInodes.{free_are_clear}
 use Rattle.fs_system.specs.declared.counted.FreeSpace.{FreeSpace}
-use Rattle.fs_system.specs.Counting.{TellsSpace, IsRemembered, TellsCounts, HasCounts, TxnKnows}
+use Rattle.fs_system.specs.declared.counted.KnownSpace.{KnownSpace}
+use Rattle.fs_system.specs.Counting.{TellsSpace, IsRemembered, TellsCounts, HasCounts, IsKnown}
 use Rattle.fs_system.specs.Layouts.{IsDiskOf}
 use Rattle.fs_system.specs.Running.{IsRunning}
 use Rattle.fs_system.proofs.Ends.{running_same, tree_held}
@@ -82,53 +81,33 @@ module _ (txn : TxnState) (counts : CountList) (is : txn.header ≡ header_of (t
   pub told_counts : HasCounts txn counts → TellsCounts txn.sectors counts
   told_counts has = subst (λ (h : ℕ). TellsClear h txn.sectors counts) is has.told
 
--- where a sector of which nothing is known is written
-pub counts_put : (old new : SectorMap) (counts : CountList) (n : ℕ) (content : List ℕ) → Puts n content old new → 0 < n → count_known counts n ≡ None
-    → TellsCounts old counts → TellsCounts new counts
-counts_put old new counts n content puts some none told = λ m past. elim (cases_eq m n) [
-  | inl is ↦ subst (λ (c : Option ℕ). IfSome c (λ k. k ≡ clear_below (λ _. new m) 0 4096)) (sym (ap (count_known counts) is ∙ none)) tt
-  | inr other ↦
-      let behind : log_end (header_of (old 0)) ≤ m = subst (λ (s : List ℕ). log_end (header_of s) ≤ m) (puts.others 0 (λ is. omega (arith, is, some))) past in
-      subst (λ (s : List ℕ). IfSome (count_known counts m) (λ k. k ≡ clear_below (λ _. s) 0 4096)) (sym (puts.others m other)) (told m behind)
+-- where some sectors alone were written, and nothing is known of them any more
+counts_apart : (before now : SectorMap) (sectors : List ℕ) (old new : CountList) → (Contains sectors 0 → ⊥) → ((n : ℕ) → (Contains sectors n → ⊥) → now n ≡ before n)
+    → ((n : ℕ) → Contains sectors n → count_known new n ≡ None) → ((n : ℕ) → (Contains sectors n → ⊥) → count_known new n ≡ count_known old n)
+    → TellsCounts before old → TellsCounts now new
+counts_apart before now sectors old new super same here others told = λ n past. elim (target_or_none sectors n) [
+  | inl (k, (lt, is)) ↦
+      subst (λ (c : Option ℕ). IfSome c (λ k. k ≡ clear_below (λ _. now n) 0 4096)) (sym (here n (contains_at sectors k n lt is))) tt
+  | inr apart ↦
+      let behind : log_end (header_of (before 0)) ≤ n = subst (λ (s : List ℕ). log_end (header_of s) ≤ n) (same 0 super) past in
+      subst (λ (c : Option ℕ). IfSome c (λ k. k ≡ clear_below (λ _. now n) 0 4096)) (sym (others n apart))
+      (subst (λ (s : List ℕ). IfSome (count_known old n) (λ k. k ≡ clear_below (λ _. s) 0 4096)) (sym (same n apart)) (told n behind))
 ]
 
--- ---- what a transaction knows, step by step
-module _ {size size' : ℕ} {before before' now now' : SectorMap} {free : Option FreeSpace} {is_changed : Bool}
-    (sized : size' ≡ size) (same : (n : ℕ) → before' n ≡ before n) where
-  -- after a read
-  pub knows_after : (counts : CountList) → ((n : ℕ) → now' n ≡ now n) → TxnKnows size before now free is_changed counts
-      → TxnKnows size' before' now' free is_changed counts
-  knows_after counts steady knows =
-      let as_now : now ≡ now' = λ i n. sym (steady n) i in
-      let as_before : before ≡ before' = λ i n. sym (same n) i in
-      record {
-        space = remembered_after size size' before before' free sized (λ n part. same n) knows.space;
-        unchanged = λ is. subst (λ (m : SectorMap). SameMap m before') as_now (subst (λ (m : SectorMap). SameMap now m) as_before (knows.unchanged is));
-        counts_before = subst (λ (m : SectorMap). TellsCounts m counts) as_before knows.counts_before;
-        counts_now = subst (λ (m : SectorMap). TellsCounts m counts) as_now knows.counts_now;
-      }
+-- ---- both
+-- what is known of a map is known of one that is the same
+pub knows_same : (size size' : ℕ) (old new : SectorMap) (known : KnownSpace) → size' ≡ size → SameMap new old → IsKnown size old known → IsKnown size' new known
+knows_same size size' old new known sized same knows = record {
+  space = remembered_after size size' old new known.free sized same knows.space;
+  counts_are = counts_after old new known.counts same knows.counts_are;
+}
 
-  -- after a put of a sector whose count is forgotten
-  pub knows_put : (old new : CountList) (n : ℕ) (content : List ℕ) → Puts n content now now' → 0 < n → count_known new n ≡ None
-      → ((m : ℕ) → m ≢ n → count_known new m ≡ count_known old m) → TxnKnows size before now free is_changed old → TxnKnows size' before' now' free true new
-  knows_put old new n content puts some none others knows = record {
-    space = remembered_after size size' before before' free sized (λ n part. same n) knows.space;
-    unchanged = λ is. absurd cc;
-    counts_before = subst (λ (m : SectorMap). TellsCounts m new) (λ i n. sym (same n) i)
-        (tells_set (header_of (before 0)) before old new n None tt (inl none) others knows.counts_before);
-    counts_now = counts_put now now' new n content puts some none (tells_set (header_of (now 0)) now old new n None tt (inl none) others knows.counts_now);
-  }
-
--- after a count of what nothing was put into
-pub knows_counted : (old new : TxnState) (free : Option FreeSpace) (is_changed : Bool) (counts after : CountList) → old.header ≡ header_of (old.sectors 0)
-    → SameMap old.sectors old.before → IsUnchanged old new → HasCounts old after → TxnKnows old.disk.size old.before old.sectors free is_changed counts
-    → TxnKnows new.disk.size new.before new.sectors free is_changed after
-knows_counted old new free is_changed counts after is nothing same has knows =
-    let told : TellsCounts old.sectors after = told_counts old after is has in
-    let known : TxnKnows old.disk.size old.before old.sectors free is_changed after = record {
-      space = knows.space;
-      unchanged = knows.unchanged;
-      counts_before = counts_after old.sectors old.before after (same_back old.sectors old.before nothing) told;
-      counts_now = told;
-    } in
-    knows_after same.store.reads.narrowed.size same.store.before after same.sectors known
+-- and but for some sectors, of one that differs in these alone
+pub knows_apart : (size : ℕ) (before now : SectorMap) (sectors : List ℕ) (known : KnownSpace) (counts : CountList) → (Contains sectors 0 → ⊥)
+    → ((n : ℕ) → (Contains sectors n → ⊥) → now n ≡ before n) → ((n : ℕ) → Contains sectors n → count_known counts n ≡ None)
+    → ((n : ℕ) → (Contains sectors n → ⊥) → count_known counts n ≡ count_known known.counts n)
+    → IsKnown size before known → IsKnown size now (record { free = None; counts = counts })
+knows_apart size before now sectors known counts super same here others knows = record {
+  space = tt;
+  counts_are = counts_apart before now sectors known.counts counts super same here others knows.counts_are;
+}

@@ -3,18 +3,18 @@
 --     IsRemembered        they are, where they are known
 --     TellsCounts        the clear bits of each sector of which they are known
 --     HasCounts        they are those of what a transaction's sectors are now
---     StoreKnows, TxnKnows        what a store remembers, and what a transaction does
-use Rattle.std.specs.Prelude.{◌≡◌, ℕ, Bool, false, Option, IfSome}
+--     IsKnown        both are so of a map
+use Rattle.std.specs.Prelude.{◌≡◌, ℕ, Option, IfSome}
 use Rattle.free_counts.specs.Known.{CountList, TellsClear}
 use Rattle.fs_layout.specs.declared.geometry.Geometry.{Geometry}
 use Rattle.fs_layout.specs.Bytes.{SectorMap}
 use Rattle.fs_layout.specs.Header.{header_of}
-use Rattle.redo_journal.specs.Meaning.{SameMap}
 use Rattle.sector_txn.specs.Sectors.{TxnState}
 use Rattle.fs_model.specs.Processes.{ProcessTable}
 use Rattle.fs_model.specs.States.{State}
 use Rattle.fs_model.specs.Trees.{free_inodes}
 use Rattle.fs_system.specs.declared.counted.FreeSpace.{FreeSpace}
+use Rattle.fs_system.specs.declared.counted.KnownSpace.{KnownSpace}
 use Rattle.fs_system.specs.Running.{IsRunning}
 
 -- On a disk of so many sectors these are the free sectors and inodes of each state in which the map goes on.
@@ -34,13 +34,6 @@ pub record HasCounts (txn : TxnState) (counts : CountList) : Type 0 where
   pub told : TellsClear txn.header txn.sectors counts
 
 -- how much is free in a map, and the counts of sectors, as far as they are known
-pub record StoreKnows (size : ℕ) (map : SectorMap) (free : Option FreeSpace) (counts : CountList) : Type 0 where
-  pub space : IsRemembered size map free
-  pub counts_are : TellsCounts map counts
-
--- How much was free before a transaction. Its counts are those of before and of now: what was put isn't counted.
-pub record TxnKnows (size : ℕ) (before now : SectorMap) (free : Option FreeSpace) (is_changed : Bool) (counts : CountList) : Type 0 where
-  pub space : IsRemembered size before free
-  pub unchanged : is_changed ≡ false → SameMap now before
-  pub counts_before : TellsCounts before counts
-  pub counts_now : TellsCounts now counts
+pub record IsKnown (size : ℕ) (map : SectorMap) (known : KnownSpace) : Type 0 where
+  pub space : IsRemembered size map known.free
+  pub counts_are : TellsCounts map known.counts

@@ -13,7 +13,7 @@ ghost use Rattle.fs_model.specs.declared.reply.Reply.TheVariants.{Refused};
 ghost use Rattle.fs_cred.specs.declared.refusal.Refusal.TheVariants.{Failed};
 
 use crate::calls::perform;
-use crate::counted::CountedStore;
+use crate::counted::{CountedStore, count_both, drop_delta, keep};
 use crate::stamping::{stamp, times_are_in_range};
 use file_calls::exit;
 use fs_cred::{Errno, Refusal};
@@ -48,13 +48,13 @@ pub(crate) fn perform_kept<D: Disk>(
         × Does (D.state store.disk) (D.state (disk_after result.1)) s (Calls pid call.now) result.0 t }
 {
     call_is_in_range(call);
-    let mut txn = store.begin();
+    let (mut txn, known) = store.begin();
     match perform(alloc, &mut txn, geometry, now, procs, pid, call) {
-        Ok(reply) => match txn.keep() {
+        Ok(reply) => match keep(txn, known) {
             Ok(store) => (reply, Ok(store)),
             Err(broken) => (failed(Errno::EIO), Err(broken)),
         },
-        Err(refusal) => (Reply::Refused(refusal), Ok(txn.drop_delta())),
+        Err(refusal) => (Reply::Refused(refusal), Ok(drop_delta(txn, known))),
     }
 }
 
@@ -71,13 +71,13 @@ pub(crate) fn exit_kept<D: Disk>(
         → (t : State) × IsOn D.state geometry s.now procs.new (base_left result.1) t
         × Does (D.state store.disk) (D.state (disk_after result.1)) s (Exit pid) (finished result.0) t }
 {
-    let mut txn = store.begin();
+    let (mut txn, known) = store.begin();
     match exit(&mut txn, geometry, procs, pid) {
-        Ok(()) => match txn.keep() {
+        Ok(()) => match keep(txn, known) {
             Ok(store) => (Ok(()), Ok(store)),
             Err(broken) => (Err(Errno::EIO), Err(broken)),
         },
-        Err(Refusal::Failed(errno)) => (Err(errno), Ok(txn.drop_delta())),
+        Err(Refusal::Failed(errno)) => (Err(errno), Ok(drop_delta(txn, known))),
         Err(Refusal::Denied(_)) => unreachable!(),
     }
 }
@@ -96,9 +96,9 @@ pub(crate) fn enter_kept<D: Disk>(
         → (t : State) × IsOn D.state geometry s.now procs.new (Running result.1) t
         × Does (D.state store.disk) (D.state result.1.disk) s (Enter pid dir_ino second_ino) (finished result.0) t }
 {
-    let mut txn = store.begin();
+    let (mut txn, known) = store.begin();
     let done = enter(&mut txn, geometry, procs, pid, dir_ino, second_ino);
-    (done, txn.drop_delta())
+    (done, drop_delta(txn, known))
 }
 
 /// Sets the times of an inode that are given, and answers all three. At `Err` a commit has failed.
@@ -118,13 +118,13 @@ pub(crate) fn stamp_kept<D: Disk>(
 {
     let _processes = procs;
     times_are_in_range(atime, mtime, ctime);
-    let mut txn = store.begin();
+    let (mut txn, known) = store.begin();
     match stamp(&mut txn, geometry, ino, atime, mtime, ctime) {
-        Ok(stamps) => match txn.keep() {
+        Ok(stamps) => match keep(txn, known) {
             Ok(store) => (Ok(stamps), Ok(store)),
             Err(broken) => (Err(Errno::EIO), Err(broken)),
         },
-        Err(errno) => (Err(errno), Ok(txn.drop_delta())),
+        Err(errno) => (Err(errno), Ok(drop_delta(txn, known))),
     }
 }
 
@@ -140,14 +140,13 @@ fn count_anew<D: Disk>(
         × Does (D.state store.disk) (D.state result.1.disk) s Statfs (counted result.0) s }
 {
     let _processes = procs;
-    let mut txn = store.begin();
-    match txn.count(geometry) {
+    let (mut txn, mut known) = store.begin();
+    match count_both(&mut known.counts, &mut txn, geometry) {
         Ok(free) => {
-            let mut store = txn.drop_delta();
-            store.remember(free);
-            (Ok((free.sectors, free.inodes)), store)
+            known.free = Some(free);
+            (Ok((free.sectors, free.inodes)), drop_delta(txn, known))
         }
-        Err(DiskFault) => (Err(Errno::EIO), txn.drop_delta()),
+        Err(DiskFault) => (Err(Errno::EIO), drop_delta(txn, known)),
     }
 }
 

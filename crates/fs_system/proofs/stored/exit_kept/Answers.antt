@@ -12,24 +12,24 @@ use Rattle.fs_system.proofs.stored.exit_kept.Goals as goal
 
 pub exit-requires : goal.exit-requires
 exit-requires g c = record {
-  ready = begins g.D.Disk.state c.args.geometry c.args.store c.args.procs.now c.begin-txn.result c.begin-txn.ensures.disk c.begin-txn.ensures.map c.begin-txn.ensures.before
+  ready = begins g.D.Disk.state c.args.geometry c.args.store c.args.procs.now c.begin-txn.result.0 c.begin-txn.ensures.disk c.begin-txn.ensures.map c.begin-txn.ensures.before
       c.requires.running.0 c.requires.running.1 c.begin-txn.ensures.header c.begin-txn.ensures.room;
 }
 
 pub unreachable-requires : goal.unreachable-requires
 unreachable-requires g c =
     let some = c.requires.running in
-    let at = state_begun g.D.Disk.state c.args.geometry c.args.store c.args.procs.now c.begin-txn.result c.begin-txn.ensures.disk c.begin-txn.ensures.map c.begin-txn.ensures.before some.0 some.1 in
-    let failed = (exit_errno (g.D.Disk.state c.begin-txn.result.disk) (g.D.Disk.state c.exit.new.s.disk) some.0 c.args.pid _
+    let at = state_begun g.D.Disk.state c.args.geometry c.args.store c.args.procs.now c.begin-txn.result.0 c.begin-txn.ensures.disk c.begin-txn.ensures.map c.begin-txn.ensures.before some.0 some.1 in
+    let failed = (exit_errno (g.D.Disk.state c.begin-txn.result.0.disk) (g.D.Disk.state c.exit.new.s.disk) some.0 c.args.pid _
     (c.in-Err-Denied.ensures.each some.0 at)).1 in cc
 
 pub returns-in-Ok-keep : goal.returns-in-Ok-keep
 returns-in-Ok-keep g c = record {
   does = λ s r.
       let kept = c.in-Ok-keep.ensures in
-      kept_does g.D.Disk.state c.args.geometry c.args.store c.args.procs.now c.begin-txn.result c.begin-txn.ensures.disk c.begin-txn.ensures.map c.begin-txn.ensures.before
+      kept_does g.D.Disk.state c.args.geometry c.args.store c.args.procs.now c.begin-txn.result.0 c.begin-txn.ensures.disk c.begin-txn.ensures.map c.begin-txn.ensures.before
       c.exit.new.s c.in-Ok.ensures.store s r (g.met.D.Disk.only_now c.args.store.disk) c.in-Ok.ensures.super c.exit.new.procs (Exit c.args.pid) Done
-      (let at = state_begun g.D.Disk.state c.args.geometry c.args.store c.args.procs.now c.begin-txn.result c.begin-txn.ensures.disk c.begin-txn.ensures.map c.begin-txn.ensures.before s r in
+      (let at = state_begun g.D.Disk.state c.args.geometry c.args.store c.args.procs.now c.begin-txn.result.0 c.begin-txn.ensures.disk c.begin-txn.ensures.map c.begin-txn.ensures.before s r in
       exit_performed at (c.in-Ok.ensures.each s at)) c.in-Ok-keep.store kept.map kept.images kept.cause.later kept.told.quiet;
 }
 
@@ -37,9 +37,9 @@ pub returns-in-Err : goal.returns-in-Err
 returns-in-Err g c = record {
   does = λ s r.
       let broke = c.in-Err.ensures in
-      broken_does g.D.Disk.state c.args.geometry c.args.store c.args.procs.now c.begin-txn.result c.begin-txn.ensures.disk c.begin-txn.ensures.map c.begin-txn.ensures.before
+      broken_does g.D.Disk.state c.args.geometry c.args.store c.args.procs.now c.begin-txn.result.0 c.begin-txn.ensures.disk c.begin-txn.ensures.map c.begin-txn.ensures.before
       c.exit.new.s c.in-Ok.ensures.store s r (g.met.D.Disk.only_now c.args.store.disk) c.in-Ok.ensures.super c.exit.new.procs (Exit c.args.pid) Done
-      (let at = state_begun g.D.Disk.state c.args.geometry c.args.store c.args.procs.now c.begin-txn.result c.begin-txn.ensures.disk c.begin-txn.ensures.map c.begin-txn.ensures.before s r in
+      (let at = state_begun g.D.Disk.state c.args.geometry c.args.store c.args.procs.now c.begin-txn.result.0 c.begin-txn.ensures.disk c.begin-txn.ensures.map c.begin-txn.ensures.before s r in
       exit_performed at (c.in-Ok.ensures.each s at)) c.in-Err.broken broke.images broke.cause.later broke.cause.fault broke.told.fault _ refl;
 }
 
@@ -52,19 +52,19 @@ returns-in-Err-Failed g c = record {
       let pid = c.args.pid in
       let why = Failed c.in-Err-Failed.errno in
       let said = c.in-Err-Failed.ensures in
-      let at = state_begun g.D.Disk.state c.args.geometry c.args.store c.args.procs.now c.begin-txn.result c.begin-txn.ensures.disk c.begin-txn.ensures.map c.begin-txn.ensures.before s r in
+      let at = state_begun g.D.Disk.state c.args.geometry c.args.store c.args.procs.now c.begin-txn.result.0 c.begin-txn.ensures.disk c.begin-txn.ensures.map c.begin-txn.ensures.before s r in
       let refused : IsNotExited old new s pid why =
-      of_stores g.D.Disk.state c.args.store c.begin-txn.result c.begin-txn.ensures.disk c.begin-txn.ensures.before c.exit.new.s said.store
+      of_stores g.D.Disk.state c.args.store c.begin-txn.result.0 c.begin-txn.ensures.disk c.begin-txn.ensures.before c.exit.new.s said.store
       c.drop_delta.result.disk c.drop_delta.ensures.disk (λ (o n : DiskState). IsNotExited o n s pid why)
-      (subst (λ (q : Refusal). IsNotExited (state c.begin-txn.result.disk) (state c.exit.new.s.disk) s pid q) c.in-Err-Failed.field-0-is (said.each s at)) in (
+      (subst (λ (q : Refusal). IsNotExited (state c.begin-txn.result.0.disk) (state c.exit.new.s.disk) s pid q) c.in-Err-Failed.field-0-is (said.each s at)) in (
         s,
         (
-          runs_on g.D.Disk.state c.args.geometry c.args.store c.args.procs.now c.begin-txn.result c.begin-txn.ensures.disk c.begin-txn.ensures.map c.begin-txn.ensures.before
+          runs_on g.D.Disk.state c.args.geometry c.args.store c.args.procs.now c.begin-txn.result.0 c.begin-txn.ensures.disk c.begin-txn.ensures.map c.begin-txn.ensures.before
               c.exit.new.s said.store c.drop_delta.result c.drop_delta.ensures.disk c.drop_delta.ensures.map s r c.exit.new.procs said.table,
           refl,
         ),
         does_reading old new (g.met.D.Disk.only_now c.args.store.disk)
-            (reads_alone g.D.Disk.state c.args.store c.begin-txn.result c.begin-txn.ensures.disk c.begin-txn.ensures.before c.exit.new.s said.store
+            (reads_alone g.D.Disk.state c.args.store c.begin-txn.result.0 c.begin-txn.ensures.disk c.begin-txn.ensures.before c.exit.new.s said.store
             c.drop_delta.result.disk c.drop_delta.ensures.disk)
             s s (Exit pid) (Refused why) r.state_of.up r.state_of.up (exit_refused_steps old new s pid why r.state_of.up refused) refl
             (why_exit_failed old new s pid why refused),

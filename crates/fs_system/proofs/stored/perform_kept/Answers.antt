@@ -10,16 +10,16 @@ use Rattle.fs_system.proofs.stored.perform_kept.Goals as goal
 
 pub perform-requires : goal.perform-requires
 perform-requires g c = record {
-  ready = begins g.D.Disk.state c.args.geometry c.args.store c.args.procs.now c.begin-txn.result c.begin-txn.ensures.disk c.begin-txn.ensures.map c.begin-txn.ensures.before
+  ready = begins g.D.Disk.state c.args.geometry c.args.store c.args.procs.now c.begin-txn.result.0 c.begin-txn.ensures.disk c.begin-txn.ensures.map c.begin-txn.ensures.before
       c.requires.running.0 c.requires.running.1 c.begin-txn.ensures.header c.begin-txn.ensures.room;
 }
 
 pub returns-in-Ok-keep : goal.returns-in-Ok-keep
 returns-in-Ok-keep g c = record {
   does = λ s r told.
-      let at = state_begun g.D.Disk.state c.args.geometry c.args.store c.args.procs.now c.begin-txn.result c.begin-txn.ensures.disk c.begin-txn.ensures.map c.begin-txn.ensures.before s r in
+      let at = state_begun g.D.Disk.state c.args.geometry c.args.store c.args.procs.now c.begin-txn.result.0 c.begin-txn.ensures.disk c.begin-txn.ensures.map c.begin-txn.ensures.before s r in
       let kept = c.in-Ok-keep.ensures in
-      kept_does g.D.Disk.state c.args.geometry c.args.store c.args.procs.now c.begin-txn.result c.begin-txn.ensures.disk c.begin-txn.ensures.map c.begin-txn.ensures.before
+      kept_does g.D.Disk.state c.args.geometry c.args.store c.args.procs.now c.begin-txn.result.0 c.begin-txn.ensures.disk c.begin-txn.ensures.map c.begin-txn.ensures.before
       c.perform.new.s c.in-Ok.ensures.store s r (g.met.D.Disk.only_now c.args.store.disk) c.in-Ok.ensures.super c.perform.new.procs
       (Calls c.args.pid c.args.call.now) c.in-Ok.reply (call_performed at told c.call_is_in_range.ensures (c.in-Ok.ensures.each s at))
       c.in-Ok-keep.store kept.map kept.images kept.cause.later kept.told.quiet;
@@ -28,9 +28,9 @@ returns-in-Ok-keep g c = record {
 pub returns-in-Err-keep : goal.returns-in-Err-keep
 returns-in-Err-keep g c = record {
   does = λ s r told.
-      let at = state_begun g.D.Disk.state c.args.geometry c.args.store c.args.procs.now c.begin-txn.result c.begin-txn.ensures.disk c.begin-txn.ensures.map c.begin-txn.ensures.before s r in
+      let at = state_begun g.D.Disk.state c.args.geometry c.args.store c.args.procs.now c.begin-txn.result.0 c.begin-txn.ensures.disk c.begin-txn.ensures.map c.begin-txn.ensures.before s r in
       let broke = c.in-Err-keep.ensures in
-      broken_does g.D.Disk.state c.args.geometry c.args.store c.args.procs.now c.begin-txn.result c.begin-txn.ensures.disk c.begin-txn.ensures.map c.begin-txn.ensures.before
+      broken_does g.D.Disk.state c.args.geometry c.args.store c.args.procs.now c.begin-txn.result.0 c.begin-txn.ensures.disk c.begin-txn.ensures.map c.begin-txn.ensures.before
       c.perform.new.s c.in-Ok.ensures.store s r (g.met.D.Disk.only_now c.args.store.disk) c.in-Ok.ensures.super c.perform.new.procs
       (Calls c.args.pid c.args.call.now) c.in-Ok.reply (call_performed at told c.call_is_in_range.ensures (c.in-Ok.ensures.each s at))
       c.in-Err-keep.broken broke.images broke.cause.later broke.cause.fault broke.told.fault c.failed.result c.failed.ensures;
@@ -44,18 +44,18 @@ returns-in-Err g c = record {
       let call = c.args.call.now in
       let why = c.in-Err.refusal in
       let refused : IsRefused old new s c.args.pid call why =
-      of_stores g.D.Disk.state c.args.store c.begin-txn.result c.begin-txn.ensures.disk c.begin-txn.ensures.before c.perform.new.s
+      of_stores g.D.Disk.state c.args.store c.begin-txn.result.0 c.begin-txn.ensures.disk c.begin-txn.ensures.before c.perform.new.s
       c.in-Err.ensures.store c.drop_delta.result.disk c.drop_delta.ensures.disk (λ (o n : DiskState). IsRefused o n s c.args.pid call why)
-      (c.in-Err.ensures.each s (state_begun g.D.Disk.state c.args.geometry c.args.store c.args.procs.now c.begin-txn.result c.begin-txn.ensures.disk c.begin-txn.ensures.map c.begin-txn.ensures.before s r)) in (
+      (c.in-Err.ensures.each s (state_begun g.D.Disk.state c.args.geometry c.args.store c.args.procs.now c.begin-txn.result.0 c.begin-txn.ensures.disk c.begin-txn.ensures.map c.begin-txn.ensures.before s r)) in (
         s,
         (
-          runs_on g.D.Disk.state c.args.geometry c.args.store c.args.procs.now c.begin-txn.result c.begin-txn.ensures.disk c.begin-txn.ensures.map c.begin-txn.ensures.before
+          runs_on g.D.Disk.state c.args.geometry c.args.store c.args.procs.now c.begin-txn.result.0 c.begin-txn.ensures.disk c.begin-txn.ensures.map c.begin-txn.ensures.before
               c.perform.new.s c.in-Err.ensures.store c.drop_delta.result c.drop_delta.ensures.disk c.drop_delta.ensures.map s r c.perform.new.procs
               c.in-Err.ensures.table,
           refl,
         ),
         does_reading old new (g.met.D.Disk.only_now c.args.store.disk)
-            (reads_alone g.D.Disk.state c.args.store c.begin-txn.result c.begin-txn.ensures.disk c.begin-txn.ensures.before c.perform.new.s
+            (reads_alone g.D.Disk.state c.args.store c.begin-txn.result.0 c.begin-txn.ensures.disk c.begin-txn.ensures.before c.perform.new.s
             c.in-Err.ensures.store c.drop_delta.result.disk c.drop_delta.ensures.disk)
             s s (Calls c.args.pid call) (Refused why) r.state_of.up r.state_of.up (refused_steps old new s c.args.pid call why r.state_of.up refused) refl
             (why_failed old new s c.args.pid call why refused),

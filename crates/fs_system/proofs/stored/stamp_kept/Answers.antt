@@ -12,7 +12,7 @@ use Rattle.fs_system.proofs.stored.stamp_kept.Goals as goal
 pub stamp-requires : goal.stamp-requires
 stamp-requires g c =
     let ready =
-    begins g.D.Disk.state c.args.geometry c.args.store c.args.procs.now c.begin-txn.result c.begin-txn.ensures.disk c.begin-txn.ensures.map c.begin-txn.ensures.before
+    begins g.D.Disk.state c.args.geometry c.args.store c.args.procs.now c.begin-txn.result.0 c.begin-txn.ensures.disk c.begin-txn.ensures.map c.begin-txn.ensures.before
     c.requires.running.0 c.requires.running.1 c.begin-txn.ensures.header c.begin-txn.ensures.room in
     record { sound = ready.sound; counts = c.times_are_in_range.ensures; spare = (let spare = ready.spare in omega (arith, spare)) }
 
@@ -20,9 +20,9 @@ pub returns-in-Ok-keep : goal.returns-in-Ok-keep
 returns-in-Ok-keep g c = record {
   does = λ s r.
       let counts = c.times_are_in_range.ensures in
-      let at = state_begun g.D.Disk.state c.args.geometry c.args.store c.args.procs.now c.begin-txn.result c.begin-txn.ensures.disk c.begin-txn.ensures.map c.begin-txn.ensures.before s r in
+      let at = state_begun g.D.Disk.state c.args.geometry c.args.store c.args.procs.now c.begin-txn.result.0 c.begin-txn.ensures.disk c.begin-txn.ensures.map c.begin-txn.ensures.before s r in
       let kept = c.in-Ok-keep.ensures in
-      kept_does g.D.Disk.state c.args.geometry c.args.store c.args.procs.now c.begin-txn.result c.begin-txn.ensures.disk c.begin-txn.ensures.map c.begin-txn.ensures.before
+      kept_does g.D.Disk.state c.args.geometry c.args.store c.args.procs.now c.begin-txn.result.0 c.begin-txn.ensures.disk c.begin-txn.ensures.map c.begin-txn.ensures.before
       c.stamp.new.s c.in-Ok.ensures.store s r (g.met.D.Disk.only_now c.args.store.disk) c.in-Ok.ensures.superblock c.args.procs.now
       (Stamp c.args.ino c.args.atime c.args.mtime c.args.ctime) (Stamped c.in-Ok.stamps)
       (stamp_performed at counts.0 counts.1 counts.2 (c.in-Ok.ensures.each c.args.procs.now s at))
@@ -33,9 +33,9 @@ pub returns-in-Err-keep : goal.returns-in-Err-keep
 returns-in-Err-keep g c = record {
   does = λ s r.
       let counts = c.times_are_in_range.ensures in
-      let at = state_begun g.D.Disk.state c.args.geometry c.args.store c.args.procs.now c.begin-txn.result c.begin-txn.ensures.disk c.begin-txn.ensures.map c.begin-txn.ensures.before s r in
+      let at = state_begun g.D.Disk.state c.args.geometry c.args.store c.args.procs.now c.begin-txn.result.0 c.begin-txn.ensures.disk c.begin-txn.ensures.map c.begin-txn.ensures.before s r in
       let broke = c.in-Err-keep.ensures in
-      broken_does g.D.Disk.state c.args.geometry c.args.store c.args.procs.now c.begin-txn.result c.begin-txn.ensures.disk c.begin-txn.ensures.map c.begin-txn.ensures.before
+      broken_does g.D.Disk.state c.args.geometry c.args.store c.args.procs.now c.begin-txn.result.0 c.begin-txn.ensures.disk c.begin-txn.ensures.map c.begin-txn.ensures.before
       c.stamp.new.s c.in-Ok.ensures.store s r (g.met.D.Disk.only_now c.args.store.disk) c.in-Ok.ensures.superblock c.args.procs.now
       (Stamp c.args.ino c.args.atime c.args.mtime c.args.ctime) (Stamped c.in-Ok.stamps)
       (stamp_performed at counts.0 counts.1 counts.2 (c.in-Ok.ensures.each c.args.procs.now s at))
@@ -50,19 +50,19 @@ returns-in-Err g c = record {
       let new = state c.drop_delta.result.disk in
       let why = c.in-Err.errno in
       let said = c.in-Err.ensures in
-      let at = state_begun state c.args.geometry c.args.store c.args.procs.now c.begin-txn.result c.begin-txn.ensures.disk c.begin-txn.ensures.map c.begin-txn.ensures.before s r in
+      let at = state_begun state c.args.geometry c.args.store c.args.procs.now c.begin-txn.result.0 c.begin-txn.ensures.disk c.begin-txn.ensures.map c.begin-txn.ensures.before s r in
       let refused : IsNotStamped old new s c.args.ino c.args.atime c.args.mtime c.args.ctime why =
-      of_stores state c.args.store c.begin-txn.result c.begin-txn.ensures.disk c.begin-txn.ensures.before c.stamp.new.s said.store
+      of_stores state c.args.store c.begin-txn.result.0 c.begin-txn.ensures.disk c.begin-txn.ensures.before c.stamp.new.s said.store
       c.drop_delta.result.disk c.drop_delta.ensures.disk
       (λ (o n : DiskState). IsNotStamped o n s c.args.ino c.args.atime c.args.mtime c.args.ctime why) (said.each c.args.procs.now s at) in (
         s,
         (
-          runs_on state c.args.geometry c.args.store c.args.procs.now c.begin-txn.result c.begin-txn.ensures.disk c.begin-txn.ensures.map c.begin-txn.ensures.before
+          runs_on state c.args.geometry c.args.store c.args.procs.now c.begin-txn.result.0 c.begin-txn.ensures.disk c.begin-txn.ensures.map c.begin-txn.ensures.before
               c.stamp.new.s said.store c.drop_delta.result c.drop_delta.ensures.disk c.drop_delta.ensures.map s r c.args.procs.now refl,
           refl,
         ),
         does_reading old new (g.met.D.Disk.only_now c.args.store.disk)
-            (reads_alone state c.args.store c.begin-txn.result c.begin-txn.ensures.disk c.begin-txn.ensures.before c.stamp.new.s said.store
+            (reads_alone state c.args.store c.begin-txn.result.0 c.begin-txn.ensures.disk c.begin-txn.ensures.before c.stamp.new.s said.store
             c.drop_delta.result.disk c.drop_delta.ensures.disk)
             s s (Stamp c.args.ino c.args.atime c.args.mtime c.args.ctime) (Refused (Failed why)) r.state_of.up r.state_of.up
             (stamp_refused_steps old new s c.args.ino c.args.atime c.args.mtime c.args.ctime why r.state_of.up refused) refl

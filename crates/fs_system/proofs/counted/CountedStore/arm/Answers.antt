@@ -1,5 +1,5 @@
 use Rattle.sector_txn.specs.Stores.{present}
-use Rattle.fs_system.proofs.Remembered.{remembered_after, counts_after}
+use Rattle.fs_system.proofs.Remembered.{knows_same}
 use Rattle.fs_system.proofs.counted.CountedStore.arm.Goals as goal
 
 pub invariant_of-self : goal.invariant_of-self
@@ -7,8 +7,5 @@ invariant_of-self g c =
     let state = g.D.Disk.state in
     let old = c.self.inside.store in
     let new = c.arm.new.self in
-    record {
-      space = remembered_after (state old.disk).size (state new.disk).size (present state old) (present state new) c.self.inside.free
-          c.arm.ensures.unchanged.narrowed.size c.arm.ensures.map c.self.invariant.space;
-      counts_are = counts_after (present state old) (present state new) c.self.inside.counts c.arm.ensures.map c.self.invariant.counts_are;
-    }
+    knows_same (state old.disk).size (state new.disk).size (present state old) (present state new) c.self.inside.known
+    c.arm.ensures.unchanged.narrowed.size c.arm.ensures.map c.self.invariant

@@ -1,7 +1,0 @@
-use Rattle.fs_system.proofs.Remembered.{knows_after}
-use Rattle.fs_system.proofs.counted.CountedTxnSectors.leave_hint.Goals as goal
-
-pub invariant_of-self : goal.invariant_of-self
-invariant_of-self g c =
-    let same = c.leave_hint.ensures in
-    knows_after same.store.reads.narrowed.size same.store.before c.self.inside.counts same.sectors c.self.invariant
