@@ -6,5 +6,6 @@ mod Places
 mod Absorbing
 mod Marks
 pub mod Meaning
+mod Placing
 mod Writing
 mod Reading

@@ -39,7 +39,7 @@ data_is_not disk n at part low high is =
     (mapped_by (data_of disk) (sector disk.seen) n (data_super disk) part)
 
 -- ---- at rest
-valid_with : (size : ℕ) (image : SectorMap) (ts : List ℕ) → IsCommit size image ts → IsValidCommit size image
+pub valid_with : (size : ℕ) (image : SectorMap) (ts : List ℕ) → IsCommit size image ts → IsValidCommit size image
 valid_with size image ts is = record { targets = ts; is = is }
 
 pub rest_valid : (ts : List ℕ) (disk : DiskState) → IsAtRest ts disk → IsValidCommit disk.size (sector disk.seen)
@@ -56,7 +56,7 @@ rest_reads ts disk rest image is =
     }
 
 -- a commit is that of each image with the same superblock, commit sector, and numbers in the header
-commit_stays : (size : ℕ) (old new : SectorMap) (ts : List ℕ) → new 0 ≡ old 0 → new 1 ≡ old 1 → ((k : ℕ) → 126 + k < length ts → new (named_start old + k / 128) ≡ old (named_start old + k / 128))
+pub commit_stays : (size : ℕ) (old new : SectorMap) (ts : List ℕ) → new 0 ≡ old 0 → new 1 ≡ old 1 → ((k : ℕ) → 126 + k < length ts → new (named_start old + k / 128) ≡ old (named_start old + k / 128))
     → IsCommit size old ts → IsCommit size new ts
 commit_stays size old new ts super commit header is =
     let start : named_start new ≡ named_start old = same_start old new (ap header_of super) commit in
@@ -68,7 +68,7 @@ commit_stays size old new ts super commit header is =
     }
 
 -- the commit stays where all is the same before the bitmaps
-commit_stays_low : (size : ℕ) (old new : SectorMap) (ts : List ℕ) → ((n : ℕ) → n < log_end (header_of (old 0)) → new n ≡ old n) → IsCommit size old ts → IsCommit size new ts
+pub commit_stays_low : (size : ℕ) (old new : SectorMap) (ts : List ℕ) → ((n : ℕ) → n < log_end (header_of (old 0)) → new n ≡ old n) → IsCommit size old ts → IsCommit size new ts
 commit_stays_low size old new ts low is =
     let room = area_room (header_of (old 0)) (named_area old) in
     commit_stays size old new ts (low 0 (omega arith)) (low 1 (omega arith)) (λ k lt. let few = is.valid.few in low (named_start old + k / 128) (omega (arith, lt, few, room.1))) is

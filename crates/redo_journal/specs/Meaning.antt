@@ -2,9 +2,9 @@
 --     IsMapped, SameMap        the sectors of that map
 --     data_of        the map of a disk
 --     HasValidCommit        an image whose commit sector is valid
---     ReadsAs, IsEither        an image that means a map; and one that means one of two
+--     ReadsAs, ReadsBut, IsEither        an image that means a map; one that means it but for some sectors; and one that means one of two
 --     EachReadsAs        a disk of which a stop leaves only what means a map
---     LeavesSameMap, LeavesAllOrNone        what a stop leaves at any moment of a step of a commit
+--     LeavesSameMap, LeavesMapBut, LeavesAllOrNone        what a stop leaves at any moment of a step of a commit
 --     MeansAs, MeansAsBefore        an image that means what another one does
 --     disk_of        the device in what a step of a commit gives
 use Rattle.std.specs.Prelude.{ℕ, ◌≡◌, ◌≤◌, ◌⊎◌, ◌↔◌, List, length, Result, Ok, Err}
@@ -37,6 +37,12 @@ pub record ReadsAs (size : ℕ) (sectors : SectorMap) (image : Image) : Type 0 w
   pub commit : HasValidCommit size image
   pub reads : SameMap (recovered size (sector image)) sectors
 
+-- the same of an image that may differ from the map in sectors with F
+pub record ReadsBut (F : ℕ → Type 0) (size : ℕ) (sectors : SectorMap) (image : Image) : Type 0 where
+  pub whole : length image ≡ size
+  pub commit : HasValidCommit size image
+  pub reads : (n : ℕ) → IsMapped (header_of (sectors 0)) n → (F n → ⊥) → recovered size (sector image) n ≡ sectors n
+
 -- the image reads as the first map, or as the second
 abbrev pub IsEither : ℕ → SectorMap → SectorMap → Image → Type 0
 IsEither size before after image = ReadsAs size before image ⊎ ReadsAs size after image
@@ -48,6 +54,10 @@ EachReadsAs sectors disk = (image : Image) → IsImage disk image → ReadsAs di
 -- a stop at any moment since old leaves what reads as old does
 abbrev pub LeavesSameMap : DiskState → DiskState → Type 0
 LeavesSameMap old new = LeavesOnly old new (ReadsAs old.size (data_of old))
+
+-- a stop at any moment since old leaves what reads as old does, but for sectors with F
+abbrev pub LeavesMapBut : (ℕ → Type 0) → DiskState → DiskState → Type 0
+LeavesMapBut F old new = LeavesOnly old new (ReadsBut F old.size (data_of old))
 
 -- a stop at any moment since old leaves what reads as old does, or as that with the whole batch
 abbrev pub LeavesAllOrNone : List Entry → DiskState → DiskState → Type 0

@@ -100,6 +100,14 @@ pub record IsInstalled (sectors : List ℕ) (disk : DiskState) : Type 0 where
 abbrev pub InLog : ℕ → ℕ → ℕ → List ℕ → Type 0
 InLog header area n content = (area_start header area ≤ n) × (n < area_start header area + 126 + 129 * header)
 
+-- none of these sectors is a target of the commit that stands
+abbrev pub IsBeside : List ℕ → DiskState → Type 0
+IsBeside sectors disk = (ts : List ℕ) (n : ℕ) → IsCommit disk.size (sector disk.seen) ts → Contains sectors n → Contains ts n → ⊥
+
 -- any content in one of these sectors
 abbrev pub InTargets : List ℕ → ℕ → List ℕ → Type 0
 InTargets sectors n content = Contains sectors n
+
+-- any content in the sectors of a log area, or in one of these
+abbrev pub InLogOr : ℕ → ℕ → List ℕ → ℕ → List ℕ → Type 0
+InLogOr header area sectors n content = InLog header area n content ⊎ InTargets sectors n content

@@ -10,6 +10,7 @@
 #![tactic(auto)]
 
 mod batch;
+mod beside;
 mod commit;
 mod journal;
 mod open;

@@ -1,6 +1,6 @@
 //! The writes of a commit. They know nothing of what an image means.
 
-ghost use Rattle.std.specs.Prelude.{◌≡◌, ◌≤◌, ◌<◌, ◌+◌, ◌*◌, ℕ, length, OnOk};
+ghost use Rattle.std.specs.Prelude.{◌≡◌, ◌≤◌, ◌<◌, ◌+◌, ◌*◌, ℕ, length, Contains, OnOk};
 ghost use Rattle.fs_layout.specs.Header.{area_start, log_end, max_targets};
 ghost use Rattle.fs_layout.specs.declared.header.TheConstants.{MAX_HEADER};
 ghost use Rattle.fs_layout.specs.Commit.{AreTargets};
@@ -68,6 +68,8 @@ pub(crate) fn write_log<D: Disk>(
 pub(crate) fn write_targets<D: Disk>(disk: &mut D, batch: &Batch) -> Result<(), DiskFault>
     requires { AreTargets (header_at (D.state disk.old).seen) (D.state disk.old).size (targets batch.now.entries) }
     ensures written { OnOk result (HoldsTargets batch.now.entries (D.state disk.new).seen) }
+    ensures others { OnOk result ((n : ℕ) → (Contains (targets batch.now.entries) n → ⊥)
+        → sector (D.state disk.new).seen n ≡ sector (D.state disk.old).seen n) }
     ensures adds { AddsOnly (InTargets (targets batch.now.entries)) (D.state disk.old) (D.state disk.new) }
     ensures any_moment { LeavesOnly (D.state disk.old) (D.state disk.new) (IsImageOr (InTargets (targets batch.now.entries))
         (D.state disk.old)) }

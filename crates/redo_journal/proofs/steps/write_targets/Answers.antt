@@ -3,7 +3,7 @@ use Rattle.std.proofs.lemmas.Slice.Zip.{zip_turn}
 use Rattle.sector_disk.proofs.Moments.{adds_write, goes_on, image_or}
 use Rattle.redo_journal.specs.Batch.{target_at, content_at}
 use Rattle.redo_journal.proofs.Entries.{entry_is, in_targets, target_range, targets_apart}
-use Rattle.redo_journal.proofs.Writing.{written_more, written_so}
+use Rattle.redo_journal.proofs.Writing.{written_more, written_other, written_so}
 use Rattle.redo_journal.proofs.steps.write_targets.Goals as goal
 
 pub write-requires : goal.write-requires
@@ -40,6 +40,8 @@ loop-n-preserved g c =
       written = λ k lt.
           written_more (target_at entries) (content_at entries) last.seen after.seen i fits written (λ k lt same. targets_apart entries so_far.valid.apart k i lt next.0 same) so_far.written k
           (omega (arith, lt, length-append c.loop-n.yielded ((c.in-Some.n, c.in-Some.content) ∷ [])));
+      others = λ n none.
+          written_other last.seen after.seen (target_at entries i) n (content_at entries i) written (λ e. none (in_targets entries i n [] next.0 e)) ∙ so_far.others n none;
       adds = adds;
       since = goes_on so_far.since c.write.ensures.time (image_or adds);
       failures = omega (arith, so_far.failures, c.write.ensures.cause.later);

@@ -1,4 +1,5 @@
 use Rattle.std.proofs.Common.{◌≡◌, ◌≤◌, ◌<◌, ℕ, length}
+use Rattle.std.specs.Prelude.{Contains}
 use Rattle.fs_layout.specs.Commit.{AreTargets}
 use Rattle.sector_disk.specs.Disk.{AddsOnly, IsImageOr, LeavesOnly, sector}
 use Rattle.redo_journal.specs.Batch.{targets, target_at, content_at}
@@ -9,6 +10,7 @@ abbrev pub invariant-loop-n : goal.invariant-loop-n
 invariant-loop-n g l = record {
   valid : AreTargets (header_at (g.D.Disk.state l.initial.disk).seen) (g.D.Disk.state l.initial.disk).size (targets l.batch.entries);
   written : (k : ℕ) → k < length l.yielded → sector (g.D.Disk.state l.disk).seen (target_at l.batch.entries k) ≡ content_at l.batch.entries k;
+  others : (n : ℕ) → (Contains (targets l.batch.entries) n → ⊥) → sector (g.D.Disk.state l.disk).seen n ≡ sector (g.D.Disk.state l.initial.disk).seen n;
   adds : AddsOnly (InTargets (targets l.batch.entries)) (g.D.Disk.state l.initial.disk) (g.D.Disk.state l.disk);
   since : LeavesOnly (g.D.Disk.state l.initial.disk) (g.D.Disk.state l.disk) (IsImageOr (InTargets (targets l.batch.entries)) (g.D.Disk.state l.initial.disk));
   failures : (g.D.Disk.state l.initial.disk).failures ≤ (g.D.Disk.state l.disk).failures;

@@ -1,0 +1,46 @@
+//! Sectors that nothing reads yet are written to their places while a batch is logged, and one sync makes both stable.
+
+ghost use Rattle.std.specs.Prelude.{◌≡◌, ◌≤◌, ◌<◌, length, Contains, OnOk};
+ghost use Rattle.fs_layout.specs.Commit.{AreTargets};
+ghost use Rattle.fs_layout.specs.Header.{max_targets};
+ghost use Rattle.redo_journal.specs.Batch.{IsOnDisk, targets, with_batch};
+ghost use Rattle.redo_journal.specs.Meaning.{SameMap, data_of, LeavesMapBut};
+ghost use Rattle.redo_journal.specs.States.{header_at, HasHeader, HasNext, IsBeside, IsReady, IsLogged};
+ghost use Rattle.sector_disk.specs.Disk.{HasCause, HasWriteCause};
+
+use crate::Batch;
+use crate::steps::{write_header, write_log, write_targets};
+use sector_disk::{Disk, DiskFault};
+
+/// Writes one batch to its sectors and another into a log area, and syncs. Each image reads as before, but for the sectors of
+/// the first batch; of those none is a target of the commit that stands.
+pub(crate) fn log_beside<D: Disk>(
+    disk: &mut D,
+    header: u32,
+    area: u32,
+    placed: &Batch,
+    batch: &Batch,
+) -> Result<(), DiskFault>
+    requires ready { IsReady (D.state disk.old) }
+    requires header { HasHeader header (D.state disk.old) }
+    requires next { HasNext area (D.state disk.old) }
+    requires some { 0 < length batch.now.entries }
+    requires few { length batch.now.entries ≤ max_targets header }
+    requires on_disk { IsOnDisk header (D.state disk.old).size batch.now.entries }
+    requires places { AreTargets (header_at (D.state disk.old).seen) (D.state disk.old).size (targets placed.now.entries) }
+    requires beside { IsBeside (targets placed.now.entries) (D.state disk.old) }
+    ensures logged { OnOk result (IsLogged batch.now.entries (D.state disk.new)) }
+    ensures placed { OnOk result (SameMap (data_of (D.state disk.new)) (with_batch placed.now.entries (data_of (D.state disk.old)))) }
+    ensures next { OnOk result (HasNext area (D.state disk.new)) }
+    ensures any_moment { LeavesMapBut (Contains (targets placed.now.entries)) (D.state disk.old) (D.state disk.new) }
+    ensures size { (D.state disk.new).size ≡ (D.state disk.old).size }
+    ensures cause { HasCause (D.state disk.old) (D.state disk.new) result }
+    ensures told { HasWriteCause (D.state disk.old) (D.state disk.new) result }
+{
+    // Its clause tells a proof what each batch is.
+    let _count = batch.len();
+    write_targets(disk, placed)?;
+    write_header(disk, header, area, batch)?;
+    write_log(disk, header, area, batch)?;
+    disk.sync()
+}
