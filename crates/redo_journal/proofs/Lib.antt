@@ -7,5 +7,6 @@ mod Absorbing
 mod Marks
 pub mod Meaning
 mod Placing
+pub mod Used
 mod Writing
 mod Reading

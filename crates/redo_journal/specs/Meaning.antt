@@ -1,14 +1,20 @@
 -- What an image means: the map of sectors that it reads as after recovery.
 --     IsMapped, SameMap        the sectors of that map
+--     HasLayout, IsSpare, SameUsed        a data sector that is free in it, and maps that agree elsewhere
 --     data_of        the map of a disk
 --     HasValidCommit        an image whose commit sector is valid
 --     ReadsAs, ReadsBut, IsEither        an image that means a map; one that means it but for some sectors; and one that means one of two
 --     EachReadsAs        a disk of which a stop leaves only what means a map
 --     LeavesSameMap, LeavesMapBut, LeavesAllOrNone        what a stop leaves at any moment of a step of a commit
---     MeansAs, MeansAsBefore        an image that means what another one does
+--     MeansAs, MeansUsed, MeansAsBefore        an image that means what another one does, or does so in the sectors in use
 --     disk_of        the device in what a step of a commit gives
-use Rattle.std.specs.Prelude.{ℕ, ◌≡◌, ◌≤◌, ◌⊎◌, ◌↔◌, List, length, Result, Ok, Err}
+use Rattle.std.specs.Prelude.{ℕ, ◌≡◌, ◌≤◌, ◌⊎◌, ◌↔◌, List, length, Some, Result, Ok, Err}
+use Rattle.fs_layout.specs.declared.geometry.Geometry.{Geometry}
+use Rattle.fs_layout.specs.declared.superblock.Super.{Super}
 use Rattle.fs_layout.specs.Bytes.{SectorMap}
+use Rattle.fs_layout.specs.Superblock.{super_bytes, FitsSuper}
+use Rattle.fs_layout.specs.Geometry.{geometry_in}
+use Rattle.fs_layout.specs.InodeChanges.{IsFree}
 use Rattle.fs_layout.specs.Commit.{IsValidCommit}
 use Rattle.fs_layout.specs.Header.{header_of, log_end}
 use Rattle.fs_layout.specs.Recovered.{recovered}
@@ -22,6 +28,21 @@ IsMapped header n = (n ≡ 0) ⊎ (log_end header ≤ n)
 -- two maps that agree on these, where sector 0 tells how many header sectors there are
 abbrev pub SameMap : SectorMap → SectorMap → Type 0
 SameMap left right = (n : ℕ) → IsMapped (header_of (right 0)) n → left n ≡ right n
+
+-- the layout that sector 0 of a map tells of
+pub record HasLayout (map : SectorMap) (p : Geometry) : Type 0 where
+  pub super : Super
+  pub is : map 0 ≡ super_bytes super
+  pub fits : FitsSuper super
+  pub has : geometry_in super.version super.header super.sectors super.inodes ≡ Some p
+
+-- a data sector that is free there
+abbrev pub IsSpare : SectorMap → ℕ → Type 0
+IsSpare map n = (p : Geometry) × HasLayout map p × IsFree p map n
+
+-- two maps that agree on these, but for sectors that are free in the second
+abbrev pub SameUsed : SectorMap → SectorMap → Type 0
+SameUsed left right = (n : ℕ) → IsMapped (header_of (right 0)) n → (IsSpare right n → ⊥) → left n ≡ right n
 
 -- the map that a disk reads as after recovery
 abbrev pub data_of : DiskState → SectorMap
@@ -69,6 +90,12 @@ pub record MeansAs (size : ℕ) (from image : Image) : Type 0 where
   pub whole : length image ≡ size
   pub commit : HasValidCommit size from ↔ HasValidCommit size image
   pub reads : SameMap (recovered size (sector image)) (recovered size (sector from))
+
+-- the same but for sectors that are free in what the other image reads as
+pub record MeansUsed (size : ℕ) (from image : Image) : Type 0 where
+  pub whole : length image ≡ size
+  pub commit : HasValidCommit size from ↔ HasValidCommit size image
+  pub reads : SameUsed (recovered size (sector image)) (recovered size (sector from))
 
 -- a stop might have left, before, an image that means what this one does
 abbrev pub MeansAsBefore : DiskState → Image → Type 0

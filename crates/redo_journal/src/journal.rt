@@ -1,13 +1,15 @@
 //! The states of a commit. Each owns the disk, so that a disk has one of them at a time.
 
-ghost use Rattle.std.specs.Prelude.{◌≡◌, ◌<◌, ◌≤◌, ℕ, List, length, Some, Ok, IfOk, IfSome, OnOk};
-ghost use Rattle.redo_journal.specs.Batch.{IsOnDisk, with_batch};
-ghost use Rattle.redo_journal.specs.Meaning.{IsMapped, SameMap, data_of, disk_of, EachReadsAs, LeavesSameMap, LeavesAllOrNone};
+ghost use Rattle.std.specs.Prelude.{◌≡◌, ◌<◌, ◌≤◌, ℕ, List, length, Some, Ok, IfOk, IfSome, OnOk, Contains};
+ghost use Rattle.redo_journal.specs.Batch.{IsOnDisk, targets, with_batch};
+ghost use Rattle.redo_journal.specs.Meaning.{IsMapped, IsSpare, SameMap, data_of, disk_of, EachReadsAs, MeansUsed, LeavesSameMap, LeavesAllOrNone};
+ghost use Rattle.fs_layout.specs.Commit.{AreTargets};
 ghost use Rattle.fs_layout.specs.Header.{max_targets};
-ghost use Rattle.redo_journal.specs.States.{header_at, HasHeader, IsIdle, IsLogged, IsSealed};
-ghost use Rattle.sector_disk.specs.Disk.{IsSame, ForgetsPast, Elapses, OnlyReads, HasCause, HasWriteCause};
+ghost use Rattle.redo_journal.specs.States.{header_at, HasHeader, IsBeside, IsIdle, IsLogged, IsSealed};
+ghost use Rattle.sector_disk.specs.Disk.{IsSame, ForgetsPast, Elapses, LeavesOnly, OnlyReads, HasCause, HasWriteCause};
 
 use crate::Batch;
+use crate::beside::log_beside;
 use crate::commit::{install_batch, log_batch, seal_batch, settle_commit};
 use sector_disk::{CrashDisk, Disk, DiskFault};
 use std::marker::Model;
@@ -128,6 +130,38 @@ impl<D: Disk> Journal<D> {
             area,
         } = self;
         match log_batch(&mut disk, header, area, batch) {
+            Ok(()) => Ok(Logged { disk, header, area }),
+            Err(DiskFault) => Err(Broken { disk }),
+        }
+    }
+
+    /// Writes the first batch to its sectors and the second into the log, and syncs both. The sectors of the first are free in
+    /// what the disk reads as, and the commit that stands has none of them.
+    pub fn log_beside(self, placed: &Batch, batch: &Batch) -> Result<Logged<D>, Broken<D>>
+        requires some { 0 < length batch.now.entries }
+        requires on_disk { IsOnDisk (header_at (D.state self).seen) (D.state self).size batch.now.entries }
+        requires few { length batch.now.entries ≤ max_targets (header_at (D.state self).seen) }
+        requires places { AreTargets (header_at (D.state self).seen) (D.state self).size (targets placed.now.entries) }
+        requires spare { (n : ℕ) → Contains (targets placed.now.entries) n → IsSpare (data_of (D.state self)) n }
+        requires beside { IsBeside (targets placed.now.entries) (D.state self) }
+
+        ensures logged { IfOk result (λ logged. IsLogged batch.now.entries (D.state logged)) }
+        ensures placed { IfOk result (λ logged. SameMap (data_of (D.state logged))
+            (with_batch placed.now.entries (data_of (D.state self)))) }
+
+        // A stop at any moment of the call leaves what means as before it, but in sectors that are free.
+        ensures any_moment { LeavesOnly (D.state self) (D.state (disk_of result)) (MeansUsed (D.state self).size (D.state self).seen) }
+
+        ensures size { (D.state (disk_of result)).size ≡ (D.state self).size }
+        ensures cause { HasCause (D.state self) (D.state (disk_of result)) result }
+        ensures told { HasWriteCause (D.state self) (D.state (disk_of result)) result }
+    {
+        let Journal {
+            mut disk,
+            header,
+            area,
+        } = self;
+        match log_beside(&mut disk, header, area, placed, batch) {
             Ok(()) => Ok(Logged { disk, header, area }),
             Err(DiskFault) => Err(Broken { disk }),
         }
