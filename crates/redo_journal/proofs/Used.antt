@@ -1,6 +1,6 @@
 -- Maps that agree where sectors are in use.
-use Rattle.std.proofs.Common.{◌≡◌, inl, inr, ⊎_elim, ℕ, ◌≤◌, Some, Ok, arith, refl, sym, ◌∙◌, ap, subst}
-use Rattle.std.proofs.lemmas.Bool.{true≢false}
+use Rattle.std.proofs.Common.{◌≡◌, inl, inr, ⊎_elim, ℕ, suc, ◌≤◌, List, [], ◌∷◌, Some, eqb, arith, refl, sym, ◌∙◌, ap, subst}
+use Rattle.std.proofs.lemmas.Bool.{cond-false, ne_eqb, true≢false}
 use Rattle.std.proofs.lemmas.Option.{same_Some}
 use Rattle.std.specs.Prelude.{Contains}
 use Rattle.fs_layout.specs.declared.geometry.Geometry.{Geometry}
@@ -10,12 +10,17 @@ use Rattle.fs_layout.specs.Header.{header_of, log_end}
 use Rattle.fs_layout.specs.Geometry.{IsGeometry, geometry_in}
 use Rattle.fs_layout.specs.InodeChanges.{IsFree}
 use Rattle.fs_layout.specs.Ownership.{Agrees}
+use Rattle.fs_layout.specs.Commit.{AreTargets}
 use Rattle.fs_layout.specs.Superblock.{super_bytes, super_of}
 use Rattle.fs_layout.proofs.Codecs.{same_ok}
 use Rattle.fs_layout.proofs.Places.{after_map, before_data}
+use Rattle.fs_layout.proofs.RecoveryLaw.{contains_at}
 use Rattle.fs_layout.proofs.SuperLaw.{super_codec}
-use Rattle.sector_disk.specs.Disk.{DiskState, Image, sector}
-use Rattle.redo_journal.specs.Meaning.{HasLayout, HasValidCommit, IsSpare, SameMap, SameUsed, ReadsBut, MeansAs, MeansUsed, data_of}
+use Rattle.sector_disk.specs.Disk.{DiskState, Image, LeavesOnly, sector}
+use Rattle.sector_disk.proofs.Moments.{joined, weaker}
+use Rattle.redo_journal.specs.Batch.{Entry, IsOnDisk, targets, with_batch}
+use Rattle.redo_journal.specs.Meaning.{HasLayout, HasValidCommit, IsSpare, SameMap, SameUsed, ReadsAs, ReadsBut, MeansAs, MeansUsed, LeavesAllOrNone, LeavesSameMap, LeavesUsedOr, data_of}
+use Rattle.redo_journal.proofs.Meaning.{batch_same, batch_super, mapped_by, reads_same, super_on_disk}
 
 -- a map has one layout
 one_super : {map : SectorMap} {p q : Geometry} (a : HasLayout map p) (b : HasLayout map q) → a.super ≡ b.super
@@ -51,3 +56,43 @@ but_means disk valid spare reads = record {
   commit = (λ _. reads.commit, λ _. valid);
   reads = λ n part used. reads.reads n part (λ f. used (spare n f));
 }
+
+-- ---- a commit of two batches, of which the first is in free sectors
+-- a map where a batch has no sector
+with_batch_other : (entries : List Entry) (f : SectorMap) (n : ℕ) → (Contains (targets entries) n → ⊥) → with_batch entries f n ≡ f n
+with_batch_other [] f n none = refl
+with_batch_other (e ∷ entries) f n none =
+    cond-false (eqb n e.0) e.1 (with_batch entries f n) (ne_eqb n e.0 (λ is. none (contains_at (targets (e ∷ entries)) 0 n (omega arith) (sym is))))
+    ∙ with_batch_other entries f n (λ among. none (suc among.0, omega (arith, among.1), among.2))
+
+module _ (placed entries : List Entry) (header : ℕ) (old : DiskState) (valid : HasValidCommit old.size old.seen) (places : AreTargets header old.size (targets placed))
+    (on_disk : IsOnDisk header old.size entries) (spare : (n : ℕ) → Contains (targets placed) n → IsSpare (data_of old) n) where
+  -- once the first is in place, all is as before where sectors were in use
+  placed_means : (image : Image) → ReadsAs old.size (with_batch placed (data_of old)) image → MeansUsed old.size old.seen image
+  placed_means image reads = record {
+    whole = reads.whole;
+    commit = (λ _. reads.commit, λ _. valid);
+    reads = λ n part used.
+        reads.reads n (mapped_by (data_of old) (with_batch placed (data_of old)) n (sym (batch_super placed header old.size (data_of old) places)) part)
+        ∙ with_batch_other placed (data_of old) n (λ among. used (spare n among));
+  }
+
+  -- the batch over what is logged
+  pub both_same : (logged : DiskState) → SameMap (data_of logged) (with_batch placed (data_of old))
+      → SameMap (with_batch entries (data_of logged)) (with_batch entries (with_batch placed (data_of old)))
+  both_same logged same = batch_same entries (data_of logged) (with_batch placed (data_of old)) (super_on_disk entries header old.size (with_batch placed (data_of old)) on_disk) same
+
+  pub both_left : (logged new : DiskState) → logged.size ≡ old.size → SameMap (data_of logged) (with_batch placed (data_of old))
+      → LeavesOnly old logged (MeansUsed old.size old.seen) → LeavesAllOrNone entries logged new → LeavesUsedOr (with_batch entries (with_batch placed (data_of old))) old new
+  both_left logged new size same first second =
+      joined (weaker (λ image means. inl means) first)
+      (weaker (λ image. ⊎_elim
+      (λ before. inl (placed_means image (reads_same old.size logged.size (data_of logged) (with_batch placed (data_of old)) size same image before)))
+      (λ after. inr (reads_same old.size logged.size (with_batch entries (data_of logged)) (with_batch entries (with_batch placed (data_of old))) size (both_same logged same) image after)))
+      second)
+
+  pub both_installed : (sealed new : DiskState) → sealed.size ≡ old.size → SameMap (data_of sealed) (with_batch entries (with_batch placed (data_of old)))
+      → LeavesUsedOr (with_batch entries (with_batch placed (data_of old))) old sealed → LeavesSameMap sealed new
+      → LeavesUsedOr (with_batch entries (with_batch placed (data_of old))) old new
+  both_installed sealed new size same first second =
+      joined first (weaker (λ image reads. inr (reads_same old.size sealed.size (data_of sealed) (with_batch entries (with_batch placed (data_of old))) size same image reads)) second)

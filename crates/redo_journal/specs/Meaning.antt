@@ -7,6 +7,7 @@
 --     EachReadsAs        a disk of which a stop leaves only what means a map
 --     LeavesSameMap, LeavesMapBut, LeavesAllOrNone        what a stop leaves at any moment of a step of a commit
 --     MeansAs, MeansUsed, MeansAsBefore        an image that means what another one does, or does so in the sectors in use
+--     LeavesUsedOr        what a stop leaves while sectors are written to their places
 --     disk_of        the device in what a step of a commit gives
 use Rattle.std.specs.Prelude.{ℕ, ◌≡◌, ◌≤◌, ◌⊎◌, ◌↔◌, List, length, Some, Result, Ok, Err}
 use Rattle.fs_layout.specs.declared.geometry.Geometry.{Geometry}
@@ -96,6 +97,10 @@ pub record MeansUsed (size : ℕ) (from image : Image) : Type 0 where
   pub whole : length image ≡ size
   pub commit : HasValidCommit size from ↔ HasValidCommit size image
   pub reads : SameUsed (recovered size (sector image)) (recovered size (sector from))
+
+-- a stop at any moment since old leaves what means as old shows, but in free sectors, or reads as this map
+abbrev pub LeavesUsedOr : SectorMap → DiskState → DiskState → Type 0
+LeavesUsedOr sectors old new = LeavesOnly old new (λ image. MeansUsed old.size old.seen image ⊎ ReadsAs old.size sectors image)
 
 -- a stop might have left, before, an image that means what this one does
 abbrev pub MeansAsBefore : DiskState → Image → Type 0

@@ -1,14 +1,14 @@
 //! Sectors that nothing reads yet are written to their places while a batch is logged, and one sync makes both stable.
 
-ghost use Rattle.std.specs.Prelude.{◌≡◌, ◌≤◌, ◌<◌, length, Contains, OnOk};
+ghost use Rattle.std.specs.Prelude.{◌≡◌, ◌≤◌, ◌<◌, ℕ, length, Contains, IfOk, OnOk};
 ghost use Rattle.fs_layout.specs.Commit.{AreTargets};
 ghost use Rattle.fs_layout.specs.Header.{max_targets};
 ghost use Rattle.redo_journal.specs.Batch.{IsOnDisk, targets, with_batch};
-ghost use Rattle.redo_journal.specs.Meaning.{SameMap, data_of, LeavesMapBut};
+ghost use Rattle.redo_journal.specs.Meaning.{IsSpare, SameMap, data_of, disk_of, LeavesMapBut, LeavesUsedOr};
 ghost use Rattle.redo_journal.specs.States.{header_at, HasHeader, HasNext, IsBeside, IsReady, IsLogged};
 ghost use Rattle.sector_disk.specs.Disk.{HasCause, HasWriteCause};
 
-use crate::Batch;
+use crate::{Batch, Broken, Journal};
 use crate::steps::{write_header, write_log, write_targets};
 use sector_disk::{Disk, DiskFault};
 
@@ -43,4 +43,39 @@ pub(crate) fn log_beside<D: Disk>(
     write_header(disk, header, area, batch)?;
     write_log(disk, header, area, batch)?;
     disk.sync()
+}
+
+/// Commits two batches as one: the contents of the first are written once, to their places, which are free until then, and
+/// those of the second go through the log.
+pub fn commit_beside<D: Disk>(
+    journal: Journal<D>,
+    placed: &Batch,
+    batch: &Batch,
+) -> Result<Journal<D>, Broken<D>>
+    requires some { 0 < length batch.now.entries }
+    requires on_disk { IsOnDisk (header_at (D.state journal).seen) (D.state journal).size batch.now.entries }
+    requires few { length batch.now.entries ≤ max_targets (header_at (D.state journal).seen) }
+    requires places { AreTargets (header_at (D.state journal).seen) (D.state journal).size (targets placed.now.entries) }
+    requires spare { (n : ℕ) → Contains (targets placed.now.entries) n → IsSpare (data_of (D.state journal)) n }
+    requires beside { IsBeside (targets placed.now.entries) (D.state journal) }
+
+    ensures changed { IfOk result (λ after. SameMap (data_of (D.state after))
+        (with_batch batch.now.entries (with_batch placed.now.entries (data_of (D.state journal))))) }
+
+    // A stop at any moment of the call leaves what means as before it, but in sectors that are free, or reads with both batches.
+    ensures images { LeavesUsedOr (with_batch batch.now.entries (with_batch placed.now.entries (data_of (D.state journal))))
+        (D.state journal) (D.state (disk_of result)) }
+
+    ensures size { (D.state (disk_of result)).size ≡ (D.state journal).size }
+    ensures cause { HasCause (D.state journal) (D.state (disk_of result)) result }
+    ensures told { HasWriteCause (D.state journal) (D.state (disk_of result)) result }
+{
+    journal.tell_ready();
+    match journal.log_beside(placed, batch) {
+        Ok(logged) => match logged.seal(batch) {
+            Ok(sealed) => sealed.install(batch),
+            Err(broken) => Err(broken),
+        },
+        Err(broken) => Err(broken),
+    }
 }

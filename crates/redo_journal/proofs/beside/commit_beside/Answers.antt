@@ -1,0 +1,49 @@
+use Rattle.std.proofs.Common.{◌∙◌, inl}
+use Rattle.std.proofs.lemmas.Result.{IfOk-weaker}
+use Rattle.sector_disk.proofs.Moments.{weaker}
+use Rattle.redo_journal.specs.Batch.{with_batch}
+use Rattle.redo_journal.specs.Meaning.{data_of, disk_of}
+use Rattle.redo_journal.proofs.Meaning.{same_chain}
+use Rattle.redo_journal.proofs.Used.{both_installed, both_left, both_same}
+use Rattle.redo_journal.proofs.beside.commit_beside.Goals as goal
+
+pub returns-in-Err-clause-images : goal.returns-in-Err-clause-images
+returns-in-Err-clause-images g c = weaker (λ image means. inl means) c.in-Err.ensures.any_moment
+
+pub returns-in-Err-seal-clause-images : goal.returns-in-Err-seal-clause-images
+returns-in-Err-seal-clause-images g c =
+    let before = g.D.Disk.state c.args.journal in
+    let seen = g.met.D.Disk.seen_is_image c.args.journal in
+    both_left c.args.placed.now.entries c.args.batch.now.entries _ before (c.tell_ready.ensures before.seen seen).commit c.requires.places c.requires.on_disk c.requires.spare
+    (g.D.Disk.state c.in-Ok.logged) (g.D.Disk.state c.in-Err-seal.broken) c.in-Ok.ensures.size c.in-Ok.ensures.placed c.in-Ok.ensures.any_moment c.in-Err-seal.ensures.any_moment
+
+pub returns-in-Ok-seal-clause-images : goal.returns-in-Ok-seal-clause-images
+returns-in-Ok-seal-clause-images g c =
+    let before = g.D.Disk.state c.args.journal in
+    let seen = g.met.D.Disk.seen_is_image c.args.journal in
+    let valid = (c.tell_ready.ensures before.seen seen).commit in
+    let logged = g.D.Disk.state c.in-Ok.logged in
+    let sealed = g.D.Disk.state c.in-Ok-seal.sealed in
+    let placed = c.args.placed.now.entries in
+    let entries = c.args.batch.now.entries in
+    let first = c.in-Ok.ensures in
+    let second = c.in-Ok-seal.ensures in
+    both_installed placed entries _ before valid c.requires.places c.requires.on_disk c.requires.spare sealed (g.D.Disk.state (disk_of c.install.result)) (second.size ∙ first.size)
+    (same_chain (data_of sealed) (with_batch entries (data_of logged)) (with_batch entries (with_batch placed (data_of before))) second.changed
+    (both_same placed entries _ before valid c.requires.places c.requires.on_disk c.requires.spare logged first.placed))
+    (both_left placed entries _ before valid c.requires.places c.requires.on_disk c.requires.spare logged sealed first.size first.placed first.any_moment second.any_moment)
+    c.install.ensures.any_moment
+
+pub returns-in-Ok-seal-clause-changed : goal.returns-in-Ok-seal-clause-changed
+returns-in-Ok-seal-clause-changed g c =
+    let before = g.D.Disk.state c.args.journal in
+    let seen = g.met.D.Disk.seen_is_image c.args.journal in
+    let valid = (c.tell_ready.ensures before.seen seen).commit in
+    let logged = g.D.Disk.state c.in-Ok.logged in
+    let sealed = g.D.Disk.state c.in-Ok-seal.sealed in
+    let placed = c.args.placed.now.entries in
+    let entries = c.args.batch.now.entries in
+    let both = with_batch entries (with_batch placed (data_of before)) in
+    let same = same_chain (data_of sealed) (with_batch entries (data_of logged)) both c.in-Ok-seal.ensures.changed
+    (both_same placed entries _ before valid c.requires.places c.requires.on_disk c.requires.spare logged c.in-Ok.ensures.placed) in
+    IfOk-weaker c.install.result _ _ (λ after is. same_chain (data_of (g.D.Disk.state after)) (data_of sealed) both is same) c.install.ensures.same
