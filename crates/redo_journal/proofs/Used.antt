@@ -1,25 +1,28 @@
 -- Maps that agree where sectors are in use.
-use Rattle.std.proofs.Common.{◌≡◌, inl, inr, ⊎_elim, ℕ, suc, ◌≤◌, List, [], ◌∷◌, Some, eqb, arith, refl, sym, ◌∙◌, ap, subst}
+use Rattle.std.proofs.Common.{◌≡◌, inl, inr, ⊎_elim, ℕ, suc, ◌+◌, ◌/◌, ◌%◌, ◌≤◌, ◌<◌, List, [], ◌∷◌, Some, eqb, get_or, arith, refl, sym, ◌∙◌, ap, subst}
 use Rattle.std.proofs.lemmas.Bool.{cond-false, ne_eqb, true≢false}
 use Rattle.std.proofs.lemmas.Option.{same_Some}
-use Rattle.std.specs.Prelude.{Contains}
+use Rattle.std.specs.Int.{bit_at}
+use Rattle.std.specs.Prelude.{Contains, nat_eq}
 use Rattle.fs_layout.specs.declared.geometry.Geometry.{Geometry}
 use Rattle.fs_layout.specs.declared.superblock.Super.{Super}
 use Rattle.fs_layout.specs.Bytes.{SectorMap}
 use Rattle.fs_layout.specs.Header.{header_of, log_end}
 use Rattle.fs_layout.specs.Geometry.{IsGeometry, geometry_in}
+use Rattle.fs_layout.specs.declared.geometry.TheConstants.{SECTOR_BITS}
+use Rattle.fs_layout.specs.Images.{bit}
 use Rattle.fs_layout.specs.InodeChanges.{IsFree}
 use Rattle.fs_layout.specs.Ownership.{Agrees}
 use Rattle.fs_layout.specs.Commit.{AreTargets}
 use Rattle.fs_layout.specs.Superblock.{super_bytes, super_of}
 use Rattle.fs_layout.proofs.Codecs.{same_ok}
-use Rattle.fs_layout.proofs.Places.{after_map, before_data}
-use Rattle.fs_layout.proofs.RecoveryLaw.{contains_at}
+use Rattle.fs_layout.proofs.Places.{after_map, before_data, is_a_geometry}
+use Rattle.fs_layout.proofs.RecoveryLaw.{contains_at, log_there}
 use Rattle.fs_layout.proofs.SuperLaw.{super_codec}
 use Rattle.sector_disk.specs.Disk.{DiskState, Image, LeavesOnly, sector}
 use Rattle.sector_disk.proofs.Moments.{joined, weaker}
 use Rattle.redo_journal.specs.Batch.{Entry, IsOnDisk, targets, with_batch}
-use Rattle.redo_journal.specs.Meaning.{HasLayout, HasValidCommit, IsSpare, SameMap, SameUsed, ReadsAs, ReadsBut, MeansAs, MeansUsed, LeavesAllOrNone, LeavesSameMap, LeavesUsedOr, data_of}
+use Rattle.redo_journal.specs.Meaning.{HasLayout, HasValidCommit, IsMapped, IsSpare, SameMap, SameUsed, ReadsAs, ReadsBut, MeansAs, MeansUsed, LeavesAllOrNone, LeavesSameMap, LeavesUsedOr, data_of}
 use Rattle.redo_journal.proofs.Meaning.{batch_same, batch_super, mapped_by, reads_same, super_on_disk}
 
 -- a map has one layout
@@ -29,6 +32,23 @@ one_super {map} {p} {q} a b = same_ok a.super b.super (super_of (map 0)) (ap sup
 pub one_layout : {map : SectorMap} {p q : Geometry} → HasLayout map p → HasLayout map q → p ≡ q
 one_layout {map} {p} {q} a b =
     same_Some p q (sym a.has ∙ ap (λ (v : Super). geometry_in v.version v.header v.sectors v.inodes) (one_super a b) ∙ b.has)
+
+-- where a layout lies on a disk: its bitmap is of the map, and whole before its data
+pub bitmap_there : (map : SectorMap) (p : Geometry) (size n : ℕ) → HasLayout map p → p.sectors ≤ size → n < p.sectors
+    → IsMapped (header_of (map 0)) (p.block_bitmap + n / SECTOR_BITS) × (p.block_bitmap + n / SECTOR_BITS < size)
+bitmap_there map p size n layout fits below =
+    let geometry = is_a_geometry layout.super.version layout.super.header layout.super.sectors layout.super.inodes layout.has in
+    let log = log_there layout.super (map 0) layout.super.sectors layout.fits layout.is layout.has in
+    let m = after_map geometry in
+    let d = before_data geometry in
+    let bits = geometry.bits in
+    let least = geometry.data_sectors in
+    (inr (omega (arith, log, m)), omega (arith, fits, below, m, d, bits, least))
+
+-- a bit of a bitmap, by the sector that has it
+pub bit_by : (map : SectorMap) (start n : ℕ) (content : List ℕ) → content ≡ map (start + n / SECTOR_BITS) → nat_eq (bit_at (get_or content (n % SECTOR_BITS / 8) 0) (n % 8)) 1 ≡ bit map start n
+unfolding bit
+bit_by map start n content is = ap (λ (s : List ℕ). nat_eq (bit_at (get_or s (n % SECTOR_BITS / 8) 0) (n % 8)) 1) is
 
 -- what differs in free sectors alone agrees where the image says something
 pub used_agrees : {p : Geometry} {old new : SectorMap} → IsGeometry p → log_end (header_of (old 0)) ≤ p.inode_bitmap → HasLayout old p → SameUsed new old → Agrees p old new

@@ -1,8 +1,9 @@
 //! The states of a commit. Each owns the disk, so that a disk has one of them at a time.
 
-ghost use Rattle.std.specs.Prelude.{◌≡◌, ◌<◌, ◌≤◌, ℕ, List, length, Some, Ok, IfOk, IfSome, OnOk, Contains};
+ghost use Rattle.std.specs.Prelude.{◌≡◌, ◌<◌, ◌≤◌, ℕ, List, length, Some, Ok, IfOk, IfSome, OnOk, Contains, IsTrue, nat_eq};
+ghost use Rattle.std.specs.Int.{bit_at};
 ghost use Rattle.redo_journal.specs.Batch.{IsOnDisk, targets, with_batch};
-ghost use Rattle.redo_journal.specs.Meaning.{IsMapped, IsSpare, SameMap, data_of, disk_of, EachReadsAs, MeansUsed, LeavesSameMap, LeavesAllOrNone};
+ghost use Rattle.redo_journal.specs.Meaning.{HasLayout, IsMapped, IsSpare, SameMap, data_of, disk_of, EachReadsAs, MeansUsed, LeavesSameMap, LeavesAllOrNone};
 ghost use Rattle.fs_layout.specs.Commit.{AreTargets};
 ghost use Rattle.fs_layout.specs.Header.{max_targets};
 ghost use Rattle.redo_journal.specs.States.{header_at, HasHeader, IsBeside, IsIdle, IsLogged, IsSealed};
@@ -11,6 +12,7 @@ ghost use Rattle.sector_disk.specs.Disk.{IsSame, ForgetsPast, Elapses, LeavesOnl
 use crate::Batch;
 use crate::beside::log_beside;
 use crate::commit::{install_batch, log_batch, seal_batch, settle_commit};
+use fs_layout::{Geometry, SECTOR_BITS};
 use sector_disk::{CrashDisk, Disk, DiskFault};
 use std::marker::Model;
 
@@ -197,6 +199,22 @@ impl<D: Disk> Journal<D> {
         self.disk.find(n)
     }
 
+    /// Whether a sector is a data sector that is free in what the disk reads as. That is looked up where the disk has its bitmap in
+    /// memory; where it hasn't, the answer is no.
+    pub fn is_spare(&self, geometry: Geometry, n: u32) -> bool
+        requires layout { HasLayout (data_of (D.state self.now)) geometry }
+        requires on_disk { geometry.sectors ≤ (D.state self.now).size }
+        ensures { IsTrue result → IsSpare (data_of (D.state self.now)) n }
+    {
+        if n < geometry.first_data || geometry.sectors <= n {
+            return false;
+        }
+        match self.find(geometry.block_bitmap + n / SECTOR_BITS) {
+            Some(content) => !has_bit(content[n as usize % 4096 / 8], n % 8),
+            None => false,
+        }
+    }
+
     /// Lets go of what the disk keeps of its past.
     pub fn forget(&mut self)
         ensures { ForgetsPast (D.state self.old) (D.state self.new) }
@@ -245,6 +263,14 @@ impl<D: Disk> Journal<D> {
         } = self;
         disk
     }
+}
+
+// Whether bit i of the byte is set.
+fn has_bit(byte: u8, i: u32) -> bool
+    requires { i < 8 }
+    ensures { result ≡ nat_eq (bit_at byte i) 1 }
+{
+    byte >> i & 1 == 1
 }
 
 impl<D: CrashDisk> Journal<D> {
