@@ -1,5 +1,5 @@
 -- Maps that agree where sectors are in use.
-use Rattle.std.proofs.Common.{◌≡◌, inl, inr, ⊎_elim, ℕ, suc, ◌+◌, ◌/◌, ◌%◌, ◌≤◌, ◌<◌, List, [], ◌∷◌, Some, eqb, get_or, arith, refl, sym, ◌∙◌, ap, subst}
+use Rattle.std.proofs.Common.{◌≡◌, inl, inr, ⊎_elim, ℕ, suc, ◌+◌, ◌/◌, ◌%◌, ◌≤◌, ◌<◌, ◌^◌, List, [], ◌∷◌, Some, eqb, get_or, arith, refl, sym, ◌∙◌, ap, subst}
 use Rattle.std.proofs.lemmas.Bool.{cond-false, ne_eqb, true≢false}
 use Rattle.std.proofs.lemmas.Option.{same_Some}
 use Rattle.std.specs.Int.{bit_at}
@@ -13,17 +13,19 @@ use Rattle.fs_layout.specs.declared.geometry.TheConstants.{SECTOR_BITS}
 use Rattle.fs_layout.specs.Images.{bit}
 use Rattle.fs_layout.specs.InodeChanges.{IsFree}
 use Rattle.fs_layout.specs.Ownership.{Agrees}
-use Rattle.fs_layout.specs.Commit.{AreTargets}
+use Rattle.fs_layout.specs.Commit.{AreTargets, IsCommit}
 use Rattle.fs_layout.specs.Superblock.{super_bytes, super_of}
 use Rattle.fs_layout.proofs.Codecs.{same_ok}
 use Rattle.fs_layout.proofs.Places.{after_map, before_data, is_a_geometry}
-use Rattle.fs_layout.proofs.RecoveryLaw.{contains_at, log_there}
+use Rattle.fs_layout.proofs.RecoveryLaw.{contains_at, log_there, low_no_target}
 use Rattle.fs_layout.proofs.SuperLaw.{super_codec}
+use Rattle.fs_layout.proofs.Targets.{same_targets}
 use Rattle.sector_disk.specs.Disk.{DiskState, Image, LeavesOnly, sector}
 use Rattle.sector_disk.proofs.Moments.{joined, weaker}
 use Rattle.redo_journal.specs.Batch.{Entry, IsOnDisk, targets, with_batch}
 use Rattle.redo_journal.specs.Meaning.{HasLayout, HasValidCommit, IsMapped, IsSpare, SameMap, SameUsed, ReadsAs, ReadsBut, MeansAs, MeansUsed, LeavesAllOrNone, LeavesSameMap, LeavesUsedOr, data_of}
-use Rattle.redo_journal.proofs.Meaning.{batch_same, batch_super, mapped_by, reads_same, super_on_disk}
+use Rattle.redo_journal.specs.States.{IsAtRest, IsIdle, StandsIn}
+use Rattle.redo_journal.proofs.Meaning.{batch_same, batch_super, commit_stays_low, header_on, mapped_by, reads_same, super_on_disk}
 
 -- a map has one layout
 one_super : {map : SectorMap} {p q : Geometry} (a : HasLayout map p) (b : HasLayout map q) → a.super ≡ b.super
@@ -76,6 +78,20 @@ but_means disk valid spare reads = record {
   commit = (λ _. reads.commit, λ _. valid);
   reads = λ n part used. reads.reads n part (λ f. used (spare n f));
 }
+
+-- ---- the commit that stands
+pub stands_in : (disk : DiskState) (ts : List ℕ) → disk.size < 2 ^ 32 → IsCommit disk.size (sector disk.seen) ts → StandsIn ts disk
+stands_in disk ts small commit us n other among = subst (λ (l : List ℕ). Contains l n) (same_targets disk.size (sector disk.seen) us ts small other commit) among
+
+pub idle_stands : (sectors : List ℕ) (disk : DiskState) → IsIdle disk → StandsIn sectors disk
+idle_stands sectors disk idle us n other among = let c = stands_in disk [] idle.small idle.commit us n other among in absurd (omega (arith, c.1))
+
+-- with its targets written, the commit still stands
+pub targets_stand : (ts : List ℕ) (old new : DiskState) → IsAtRest ts old → new.size ≡ old.size → ((n : ℕ) → (Contains ts n → ⊥) → sector new.seen n ≡ sector old.seen n) → StandsIn ts new
+targets_stand ts old new rest size others =
+    stands_in new ts (omega (arith, rest.small, size))
+    (subst (λ (k : ℕ). IsCommit k (sector new.seen) ts) (sym size)
+    (commit_stays_low old.size (sector old.seen) (sector new.seen) ts (λ n low. others n (λ among. low_no_target (header_on old) old.size ts n rest.commit.valid low among)) rest.commit))
 
 -- ---- a commit of two batches, of which the first is in free sectors
 -- a map where a batch has no sector

@@ -1,11 +1,11 @@
 //! The steps of a commit, and what images mean while they run.
 
-ghost use Rattle.std.specs.Prelude.{◌≡◌, ◌≤◌, ℕ, List, length, IsOk, IfOk, OnOk};
+ghost use Rattle.std.specs.Prelude.{◌≡◌, ◌≤◌, ℕ, List, length, ◌<◌, IsOk, IfOk, OnOk};
 ghost use Rattle.fs_layout.specs.Commit.{named_area, commit_bytes_in};
 ghost use Rattle.fs_layout.specs.Header.{max_targets};
 ghost use Rattle.redo_journal.specs.Batch.{IsOnDisk, targets, with_batch};
 ghost use Rattle.redo_journal.specs.Meaning.{data_of, EachReadsAs, LeavesSameMap, LeavesAllOrNone};
-ghost use Rattle.redo_journal.specs.States.{next_at, log_at, HasHeader, HasNext, HoldsLog, IsAtRest, IsIdle, IsReady, IsLogged, IsSealed, IsInstalled};
+ghost use Rattle.redo_journal.specs.States.{next_at, log_at, HasHeader, HasNext, HoldsLog, IsAtRest, IsIdle, IsReady, IsLogged, IsSealed, IsInstalled, StandsIn};
 ghost use Rattle.sector_disk.specs.Disk.{sector, HasCause, HasWriteCause, CountsWrites};
 
 use crate::Batch;
@@ -78,6 +78,7 @@ pub(crate) fn install_batch<D: Disk>(
     requires header { HasHeader header (D.state disk.old) }
     ensures ready { OnOk result (IsReady (D.state disk.new)) }
     ensures next { OnOk result (next_at (D.state disk.new).seen ≡ next_at (D.state disk.old).seen) }
+    ensures stands { 0 < length batch.now.entries → OnOk result (StandsIn (targets batch.now.entries) (D.state disk.new)) }
     ensures any_moment { LeavesSameMap (D.state disk.old) (D.state disk.new) }
     ensures empty { length batch.now.entries ≡ 0 → IsOk result × (disk.new ≡ disk.old) }
     ensures size { (D.state disk.new).size ≡ (D.state disk.old).size }

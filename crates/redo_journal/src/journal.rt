@@ -6,7 +6,7 @@ ghost use Rattle.redo_journal.specs.Batch.{IsOnDisk, targets, with_batch};
 ghost use Rattle.redo_journal.specs.Meaning.{HasLayout, IsMapped, IsSpare, SameMap, data_of, disk_of, EachReadsAs, MeansUsed, LeavesSameMap, LeavesAllOrNone};
 ghost use Rattle.fs_layout.specs.Commit.{AreTargets};
 ghost use Rattle.fs_layout.specs.Header.{max_targets};
-ghost use Rattle.redo_journal.specs.States.{header_at, HasHeader, IsBeside, IsIdle, IsLogged, IsSealed};
+ghost use Rattle.redo_journal.specs.States.{header_at, HasHeader, IsBeside, IsIdle, IsLogged, IsSealed, StandsIn};
 ghost use Rattle.sector_disk.specs.Disk.{IsSame, ForgetsPast, Elapses, LeavesOnly, OnlyReads, HasCause, HasWriteCause};
 
 use crate::Batch;
@@ -327,6 +327,9 @@ impl<D: Disk> Sealed<D> {
         requires { IsSealed batch.now.entries (D.state self) }
 
         ensures same { IfOk result (λ journal. SameMap (data_of (D.state journal)) (data_of (D.state self))) }
+
+        // It is this batch's commit that stands then, or none.
+        ensures stands { 0 < length batch.now.entries → IfOk result (λ journal. StandsIn (targets batch.now.entries) (D.state journal)) }
 
         // A stop at any moment of the call leaves what reads as before it, which is with the batch.
         ensures any_moment { LeavesSameMap (D.state self) (D.state (disk_of result)) }

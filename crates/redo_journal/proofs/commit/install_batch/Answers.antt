@@ -5,6 +5,7 @@ use Rattle.sector_disk.proofs.Moments.{started, weaker}
 use Rattle.redo_journal.specs.Batch.{targets}
 use Rattle.redo_journal.specs.States.{log_at}
 use Rattle.redo_journal.proofs.Meaning.{alone_next, batch_replayed, filled, header_same, idle_ready, placed_from, placed_next, ready_reads, same_joined, same_map, targets_keep}
+use Rattle.redo_journal.proofs.Used.{idle_stands, targets_stand}
 use Rattle.redo_journal.proofs.commit.install_batch.Goals as goal
 
 pub put_in_place-requires-clause-rest : goal.put_in_place-requires-clause-rest
@@ -53,3 +54,18 @@ returns-clause-ready g c =
     on_ok_weaker c.write_targets.result
     (λ written. placed_from (targets c.args.batch.now.entries) old new rest (omega (arith, c.if-header-eq0.false, c.requires.header.is)) c.write_targets.ensures.adds (g.met.D.Disk.seen_is_image c.write_targets.new.disk)
     (batch_replayed (log_at old.seen) c.args.batch.now.entries old.seen new.seen c.requires.sealed.log written)) c.write_targets.ensures.written
+
+-- which commit stands then
+pub returns-then-is_empty-clause-stands : goal.returns-then-is_empty-clause-stands
+returns-then-is_empty-clause-stands g c = λ some. absurd (let none = ap length (c.if-is_empty.ensures.0 refl) in omega (arith, some, none))
+
+pub returns-then-header-eq0-clause-stands : goal.returns-then-header-eq0-clause-stands
+returns-then-header-eq0-clause-stands g c = λ some.
+    on_ok_weaker c.clear_commit.result (idle_stands (targets c.args.batch.now.entries) (g.D.Disk.state c.clear_commit.new.disk)) c.clear_commit.ensures.idle
+
+pub returns-clause-stands : goal.returns-clause-stands
+returns-clause-stands g c = λ some.
+    let rest = c.requires.sealed.at_rest (filled c.args.batch.now.entries (λ none. true≢false (sym (c.if-is_empty.ensures.1 none)))) in
+    on_ok_weaker c.write_targets.result
+    (targets_stand (targets c.args.batch.now.entries) (g.D.Disk.state c.args.disk.now) (g.D.Disk.state c.write_targets.new.disk) rest c.write_targets.ensures.adds.size)
+    c.write_targets.ensures.others
