@@ -10,7 +10,7 @@ use Rattle.redo_journal.proofs.Puts.{has_others, length-put, on_disk_put, other_
 use Rattle.redo_journal.proofs.Entries.{length-targets, target_is, targets_apart}
 
 -- ---- what the map says
-with_more : (entries : List Entry) (i : ℕ) (f : SectorMap) (n : ℕ) → i < length entries → ((j : ℕ) → j < i → target_at entries j ≡ target_at entries i → ⊥)
+pub with_more : (entries : List Entry) (i : ℕ) (f : SectorMap) (n : ℕ) → i < length entries → ((j : ℕ) → j < i → target_at entries j ≡ target_at entries i → ⊥)
     → with_batch (take (suc i) entries) f n ≡ cond (eqb n (target_at entries i)) (content_at entries i) (with_batch (take i entries) f n)
 with_more [] i f n lt apart = absurd (omega (arith, lt))
 with_more (e ∷ entries) zero f n lt apart = refl
@@ -32,10 +32,10 @@ map_more old new start entries i is lt put so_far f n =
 
 -- ---- which sectors have an entry
 -- The sectors from the i-th on have an entry where they had one at first.
-abbrev HasAsBefore : List Entry → List Entry → List Entry → ℕ → Type 0
+abbrev pub HasAsBefore : List Entry → List Entry → List Entry → ℕ → Type 0
 HasAsBefore start now entries i = (j : ℕ) → i ≤ j → j < length entries → has_entry now (target_at entries j) ≡ has_entry start (target_at entries j)
 
-has_more : (start old new entries : List Entry) (i : ℕ) (content : List ℕ) → IsBatch entries → HasAsBefore start old entries i → new ≡ put_entry old (target_at entries i) content → HasAsBefore start new entries (i + 1)
+pub has_more : (start old new entries : List Entry) (i : ℕ) (content : List ℕ) → IsBatch entries → HasAsBefore start old entries i → new ≡ put_entry old (target_at entries i) content → HasAsBefore start new entries (i + 1)
 has_more start old new entries i content is so_far put j le lt =
     ap (λ (l : List Entry). has_entry l (target_at entries j)) put
     ∙ has_others old (target_at entries i) (target_at entries j) content (λ same. targets_apart entries is.apart i j (omega (arith, le)) lt (sym same))
@@ -64,7 +64,7 @@ length_more start old new entries i lt has len put = elim (cases_Bool (has_entry
   | inr none ↦ omega (arith, put, len, cond-false (has_entry old (target_at entries i)) (length old) (length old + 1) none, added_yes start entries i lt (sym (has i (omega arith) lt) ∙ none))
 ]
 
-on_disk_at : (header size : ℕ) (entries : List Entry) (k : ℕ) → IsOnDisk header size entries → k < length entries → (log_end header ≤ target_at entries k) × (target_at entries k < size)
+pub on_disk_at : (header size : ℕ) (entries : List Entry) (k : ℕ) → IsOnDisk header size entries → k < length entries → (log_end header ≤ target_at entries k) × (target_at entries k < size)
 on_disk_at header size entries k on_disk lt =
     let fits = on_disk k 0 (omega (arith, lt, length-targets entries)) in
     let same = target_is entries k lt in

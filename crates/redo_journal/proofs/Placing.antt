@@ -30,9 +30,9 @@ place_keeps_but {R} F ts disk place high apart image is =
     let low : (n : ℕ) → n < log_end header → ((c : List ℕ) → R n c → ⊥) → sector image n ≡ sector disk.seen n =
     λ n below none. kept ts disk place image is n none (λ target. low_no_target header disk.size ts n valid below target) in
     let super : sector image 0 ≡ sector disk.seen 0 =
-    low 0 (omega arith) (λ c r. elim (apart 0 c r) [ | inl f ↦ let le = high 0 f in omega (arith, le) | inr a ↦ let two = a.0 in omega (arith, two) ]) in
+    low 0 (omega arith) (λ c r. elim (apart 0 c r) [ inl f ↦ let le = high 0 f in omega (arith, le) | inr a ↦ let two = a.0 in omega (arith, two) ]) in
     let one : sector image 1 ≡ sector disk.seen 1 =
-    low 1 (omega arith) (λ c r. elim (apart 1 c r) [ | inl f ↦ let le = high 1 f in omega (arith, le) | inr a ↦ let two = a.0 in omega (arith, two) ]) in
+    low 1 (omega arith) (λ c r. elim (apart 1 c r) [ inl f ↦ let le = high 1 f in omega (arith, le) | inr a ↦ let two = a.0 in omega (arith, two) ]) in
     let used : (k : ℕ) → 0 < length ts → k < 126 + 129 * header → sector image (start + k) ≡ sector disk.seen (start + k) =
     λ k some lt. low (start + k) (omega (arith, lt, room.1)) (λ c r. elim (apart (start + k) c r) [
       | inl f ↦ let le = high (start + k) f in omega (arith, le, lt, room.1)

@@ -24,7 +24,7 @@ has_others (e ∷ entries) n m content other =
     (λ _. ap (λ (b : Bool). cond (eqb m e.0) true b) (has_others entries n m content other))
 
 -- ---- what stays true of the sectors
-all_put : (P : ℕ → Type 0) (entries : List Entry) (n : ℕ) (content : List ℕ) → All P (targets entries) → P n → All P (targets (put_entry entries n content))
+pub all_put : (P : ℕ → Type 0) (entries : List Entry) (n : ℕ) (content : List ℕ) → All P (targets entries) → P n → All P (targets (put_entry entries n content))
 all_put P [] n content all here = All-cons P n [] here (All-nil P)
 all_put P (e ∷ entries) n content all here =
     cond_both (eqb n e.0) ((n, content) ∷ entries) (e ∷ put_entry entries n content) (λ l. All P (targets l))

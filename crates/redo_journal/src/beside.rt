@@ -1,15 +1,17 @@
 //! Sectors that nothing reads yet are written to their places while a batch is logged, and one sync makes both stable.
 
-ghost use Rattle.std.specs.Prelude.{◌≡◌, ◌≤◌, ◌<◌, ℕ, length, Contains, IfOk, OnOk};
+ghost use Rattle.std.specs.Prelude.{◌≡◌, ◌≤◌, ◌<◌, ℕ, [], length, All, Contains, IfOk, OnOk, false, ◌+◌};
 ghost use Rattle.fs_layout.specs.Commit.{AreTargets};
 ghost use Rattle.fs_layout.specs.Header.{max_targets};
-ghost use Rattle.redo_journal.specs.Batch.{IsOnDisk, targets, with_batch};
-ghost use Rattle.redo_journal.specs.Meaning.{IsSpare, SameMap, data_of, disk_of, LeavesMapBut, LeavesUsedOr};
+ghost use Rattle.redo_journal.specs.Batch.{IsOnDisk, has_entry, targets, with_batch};
+ghost use Rattle.fs_layout.specs.Bytes.{SectorMap};
+ghost use Rattle.redo_journal.specs.Meaning.{HasLayout, IsSpare, SameMap, data_of, disk_of, LeavesMapBut, LeavesUsedOr};
 ghost use Rattle.redo_journal.specs.States.{header_at, HasHeader, HasNext, IsBeside, IsReady, IsLogged};
 ghost use Rattle.sector_disk.specs.Disk.{HasCause, HasWriteCause};
 
-use crate::{Batch, Broken, Journal};
 use crate::steps::{write_header, write_log, write_targets};
+use crate::{Batch, Broken, Journal};
+use fs_layout::Geometry;
 use sector_disk::{Disk, DiskFault};
 
 /// Writes one batch to its sectors and another into a log area, and syncs. Each image reads as before, but for the sectors of
@@ -77,5 +79,36 @@ pub fn commit_beside<D: Disk>(
             Err(broken) => Err(broken),
         },
         Err(broken) => Err(broken),
+    }
+}
+
+/// Takes a batch apart: into `placed` go the sectors that are free in what the disk reads as, but for those of `last`, and into
+/// `logged` all others.
+pub fn split<D: Disk>(
+    journal: &Journal<D>,
+    geometry: Geometry,
+    last: &Batch,
+    batch: &Batch,
+    placed: &mut Batch,
+    logged: &mut Batch,
+)
+    requires layout { HasLayout (data_of (D.state journal.now)) geometry }
+    requires fits { geometry.sectors ≤ (D.state journal.now).size }
+    requires empty { (placed.old.entries ≡ []) × (logged.old.entries ≡ []) }
+    requires room { (length batch.now.entries ≤ placed.old.most) × (length batch.now.entries ≤ logged.old.most) }
+    ensures map { (f : SectorMap) (n : ℕ) → with_batch logged.new.entries (with_batch placed.new.entries f) n ≡ with_batch batch.now.entries f n }
+    ensures spare { All (IsSpare (data_of (D.state journal.now))) (targets placed.new.entries) }
+    ensures apart { All (λ n. has_entry last.now.entries n ≡ false) (targets placed.new.entries) }
+    ensures few { length placed.new.entries + length logged.new.entries ≡ length batch.now.entries }
+    ensures on_disk { (header size : ℕ) → IsOnDisk header size batch.now.entries
+        → IsOnDisk header size placed.new.entries × IsOnDisk header size logged.new.entries }
+    ensures most { (placed.new.most ≡ placed.old.most) × (logged.new.most ≡ logged.old.most) }
+{
+    for (n, content) in batch.sectors().iter().zip(batch.contents()) {
+        if journal.is_spare(geometry, *n) && last.get(*n).is_none() {
+            placed.put(*n, content);
+        } else {
+            logged.put(*n, content);
+        }
     }
 }

@@ -18,7 +18,7 @@ mod reads;
 mod steps;
 
 pub use batch::Batch;
-pub use beside::commit_beside;
+pub use beside::{commit_beside, split};
 pub use journal::{Broken, Journal, Logged, Sealed};
 pub use open::OpenFault;
 pub use reads::read_commit;

@@ -41,8 +41,7 @@ returns-in-Some g c = λ clear.
     let map = data_of (g.D.Disk.state c.args.self.now) in
     let n = c.args.n in
     let start = c.args.geometry.block_bitmap in
-    let is : c.has_bit.result ≡ nat_eq (bit_at (get_or c.in-Some.content.now (n % 4096 / 8) 0) (n % 8)) 1 = search rules in
-    (
+    let is : c.has_bit.result ≡ nat_eq (bit_at (get_or c.in-Some.content.now (n % 4096 / 8) 0) (n % 8)) 1 = search rules in (
       c.args.geometry,
       c.requires.layout,
       (omega (arith, c.if-n-geometry.false), omega (arith, c.if-geometry-n.false), sym (bit_by map start n c.in-Some.content.now c.in-Some.ensures) ∙ sym is ∙ unset c.has_bit.result clear),
