@@ -5,15 +5,15 @@ use Rattle.std.proofs.lemmas.Map.Made.{Contains-tail}
 use Rattle.std.specs.Prelude.{Contains}
 use Rattle.fs_layout.specs.Bytes.{SectorMap}
 use Rattle.fs_layout.specs.Header.{header_of, log_end, max_targets, area_start}
-use Rattle.fs_layout.specs.Commit.{AreTargets, IsCommit, named_area, named_start}
+use Rattle.fs_layout.specs.Commit.{AreTargets, named_area, named_start}
 use Rattle.fs_layout.proofs.RecoveryLaw.{contains_at, low_no_target, recovered-same}
 use Rattle.fs_layout.proofs.Targets.{area_room, same_start}
 use Rattle.sector_disk.specs.Disk.{DiskState, Image, sector, AddsOnly, IsImageOr, IsStable}
 use Rattle.redo_journal.specs.Batch.{Entry, IsBatch, IsOnDisk, targets, target_at, content_at, with_batch}
 use Rattle.redo_journal.specs.Meaning.{IsMapped, SameMap, data_of, ReadsBut}
-use Rattle.redo_journal.specs.States.{log_at, next_at, HasHeader, HasNext, IsBeside, IsInPlace, IsReady, IsLogged, HoldsHeader, HoldsLog, HoldsTargets, InLog, InLogOr, InTargets}
+use Rattle.redo_journal.specs.States.{log_at, next_at, HasHeader, HasNext, IsBeside, IsInPlace, IsReady, IsLogged, HoldsHeader, HoldsLog, HoldsTargets, InLogOr}
 use Rattle.redo_journal.proofs.Entries.{length-targets}
-use Rattle.redo_journal.proofs.Meaning.{commit_stays, commit_stays_low, data_is_not, data_super, header_on, kept, logged_from, logged_others, mapped_by, next_apart, next_same, others_low, ready_data, valid_with, with_batch_same}
+use Rattle.redo_journal.proofs.Meaning.{commit_stays, commit_stays_low, data_is_not, data_super, header_on, kept, logged_from, logged_others, next_apart, next_same, others_low, ready_data, valid_with}
 
 -- ---- what a stop leaves meanwhile
 -- what is written beside superblock, commit sector and the log in use leaves each image reading as before, but for what is written of the map

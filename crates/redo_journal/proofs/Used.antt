@@ -1,5 +1,5 @@
 -- Maps that agree where sectors are in use.
-use Rattle.std.proofs.Common.{◌≡◌, inl, inr, ⊎_elim, ℕ, suc, ◌+◌, ◌/◌, ◌%◌, ◌≤◌, ◌<◌, ◌^◌, List, [], ◌∷◌, Some, eqb, get_or, arith, refl, sym, ◌∙◌, ap, subst}
+use Rattle.std.proofs.Common.{◌≡◌, inl, inr, ⊎_elim, ℕ, suc, ◌+◌, ◌/◌, ◌%◌, ◌≤◌, ◌<◌, ◌^◌, List, [], ◌∷◌, eqb, get_or, arith, refl, sym, ◌∙◌, ap, subst}
 use Rattle.std.proofs.lemmas.Bool.{cond-false, ne_eqb, true≢false}
 use Rattle.std.proofs.lemmas.Option.{same_Some}
 use Rattle.std.specs.Int.{bit_at}
@@ -14,7 +14,7 @@ use Rattle.fs_layout.specs.Images.{bit}
 use Rattle.fs_layout.specs.InodeChanges.{IsFree}
 use Rattle.fs_layout.specs.Ownership.{Agrees}
 use Rattle.fs_layout.specs.Commit.{AreTargets, IsCommit}
-use Rattle.fs_layout.specs.Superblock.{super_bytes, super_of}
+use Rattle.fs_layout.specs.Superblock.{super_of}
 use Rattle.fs_layout.proofs.Codecs.{same_ok}
 use Rattle.fs_layout.proofs.Places.{after_map, before_data, is_a_geometry}
 use Rattle.fs_layout.proofs.RecoveryLaw.{contains_at, log_there, low_no_target}

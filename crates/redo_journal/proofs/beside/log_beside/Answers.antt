@@ -1,11 +1,11 @@
-use Rattle.std.proofs.Common.{◌≡◌, ◌≤◌, ◌∙◌, inl, inr, ℕ, List, length, arith}
+use Rattle.std.proofs.Common.{◌∙◌, inl, inr, ℕ, List, arith}
 use Rattle.std.proofs.lemmas.Result.{on_ok_weaker}
 use Rattle.std.specs.Prelude.{Contains}
 use Rattle.sector_disk.specs.Disk.{DiskState, Image, AddsOnly, IsImageOr, LeavesOnly}
 use Rattle.sector_disk.proofs.Moments.{adds_narrowed, goes_on, image_or, joined, weaker}
 use Rattle.redo_journal.specs.Batch.{targets}
 use Rattle.redo_journal.specs.Meaning.{LeavesMapBut, ReadsBut, data_of}
-use Rattle.redo_journal.specs.States.{HasHeader, HasNext, InLog, InLogOr, InTargets, IsReady}
+use Rattle.redo_journal.specs.States.{InLog, InLogOr, InTargets}
 use Rattle.redo_journal.proofs.Meaning.{adds_joined, or_joined}
 use Rattle.redo_journal.proofs.Placing.{adds_more, beside_keeps, image_more, log_fits, logged_beside, next_beside, placed_beside}
 use Rattle.redo_journal.proofs.beside.log_beside.Goals as goal

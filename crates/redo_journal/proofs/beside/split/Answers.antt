@@ -1,4 +1,4 @@
-use Rattle.std.proofs.Common.{◌≡◌, ◌∙◌, ◌+◌, ◌<◌, ℕ, false, [], ◌∷◌, List, length, take, take_all, ap, arith, refl, sym, subst, rules, length-append}
+use Rattle.std.proofs.Common.{◌≡◌, ◌∙◌, ℕ, false, [], ◌∷◌, List, length, take, take_all, ap, arith, refl, sym, subst, rules, length-append}
 use Rattle.std.proofs.lemmas.Slice.Zip.{zip_end, zip_turn}
 use Rattle.redo_journal.specs.Batch.{Entry, has_entry, put_entry, with_batch}
 use Rattle.redo_journal.specs.Meaning.{IsSpare, data_of}

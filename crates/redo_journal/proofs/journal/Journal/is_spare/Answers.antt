@@ -1,5 +1,5 @@
-use Rattle.std.proofs.Common.{◌≡◌, ◌+◌, ◌/◌, ◌%◌, ◌<◌, ◌≤◌, ℕ, Bool, true, false, inl, inr, arith, refl, rules, sym, ◌∙◌, ap, get_or}
-use Rattle.std.proofs.lemmas.Bool.{cases_Bool, true≢false}
+use Rattle.std.proofs.Common.{◌≡◌, ◌+◌, ◌/◌, ◌%◌, ◌<◌, ◌≤◌, ℕ, Bool, true, false, arith, refl, rules, sym, ◌∙◌, get_or}
+use Rattle.std.proofs.lemmas.Bool.{true≢false}
 use Rattle.std.specs.Prelude.{IsTrue, not, nat_eq}
 use Rattle.std.specs.Int.{bit_at}
 use Rattle.fs_layout.specs.declared.geometry.Geometry.{Geometry}
