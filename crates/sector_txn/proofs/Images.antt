@@ -5,13 +5,14 @@ use Rattle.fs_layout.specs.Bytes.{SectorMap}
 use Rattle.sector_disk.specs.Disk.{DiskState, Image, IsImage, IsNarrowed, OnlyReads}
 use Rattle.sector_disk.proofs.Moments.{joined, narrowed, reads_then, started, weaker}
 use Rattle.redo_journal.specs.Batch.{Entry, IsOnDisk, with_batch}
-use Rattle.redo_journal.specs.Meaning.{EachReadsAs, SameMap, LeavesAllOrNone, LeavesSameMap, MeansAs, MeansAsBefore, data_of}
+use Rattle.redo_journal.specs.Meaning.{EachReadsAs, SameMap, LeavesAllOrNone, LeavesSameMap, LeavesUsedOr, MeansUsed, data_of}
 use Rattle.redo_journal.proofs.Meaning.{batch_same, either_on, reads_means, reads_same, same_chain, super_on_disk}
-use Rattle.sector_txn.specs.Images.{IsOneOf, LeavesOldOr, LeavesOneOf}
+use Rattle.redo_journal.proofs.Used.{means_used}
+use Rattle.sector_txn.specs.Images.{IsOneOf, LeavesOldOr, LeavesOneOf, MeansUsedBefore}
 
 -- an image means what it means itself
-pub means_itself : {disk : DiskState} {image : Image} → IsImage disk image → MeansAsBefore disk image
-means_itself {disk} {image} is = (image, is, record { whole = is.size; commit = (λ valid. valid, λ valid. valid); reads = λ n part. refl })
+pub means_itself : {disk : DiskState} {image : Image} → IsImage disk image → MeansUsedBefore disk image
+means_itself {disk} {image} is = (image, is, record { whole = is.size; commit = (λ valid. valid, λ valid. valid); reads = λ n part used. refl })
 
 -- a call that does nothing
 pub nothing_left : {before after : SectorMap} {disk : DiskState} → ((image : Image) → disk.left_since disk.moment image → IsImage disk image) → LeavesOneOf before after disk disk
@@ -41,7 +42,14 @@ pub commit_left : (entries : List Entry) (old new : DiskState) → EachReadsAs (
     → LeavesOldOr (with_batch entries (data_of old)) old new
 commit_left entries old new reads_so seen size run = record {
   size = size;
-  any_moment = weaker (λ image. ⊎_elim (λ reads. inl (old.seen, seen, reads_means old image (reads_so old.seen seen).commit reads)) (λ reads. inr (inl reads))) run;
+  any_moment = weaker (λ image. ⊎_elim (λ reads. inl (old.seen, seen, means_used (reads_means old image (reads_so old.seen seen).commit reads))) (λ reads. inr (inl reads))) run;
+}
+
+-- the same of a commit that writes free sectors to their places
+pub used_left : (sectors : SectorMap) (old new : DiskState) → IsImage old old.seen → new.size ≡ old.size → LeavesUsedOr sectors old new → LeavesOldOr sectors old new
+used_left sectors old new seen size run = record {
+  size = size;
+  any_moment = weaker (λ image. ⊎_elim (λ means. inl (old.seen, seen, means)) (λ reads. inr (inl reads))) run;
 }
 
 -- two facts of what a call gave
@@ -77,7 +85,7 @@ maps_same {before} {after} {before'} {after'} {old} {new} same_before same_after
 -- an image of a later moment, before which the disk was only read
 one_of_earlier : {before after : SectorMap} {old new : DiskState} → IsNarrowed old new → (image : Image) → IsOneOf new before after image → IsOneOf old before after image
 one_of_earlier {before} {after} {old} {new} changes image =
-    ⊎_elim (λ (means : MeansAsBefore new image). inl (means.0, narrowed changes means.1, subst (λ k. MeansAs k means.0 image) changes.size means.2))
+    ⊎_elim (λ (means : MeansUsedBefore new image). inl (means.0, narrowed changes means.1, subst (λ k. MeansUsed k means.0 image) changes.size means.2))
     (⊎_elim (λ reads. inr (inl (reads_same old.size new.size before before changes.size (λ n part. refl) image reads)))
     (λ reads. inr (inr (reads_same old.size new.size after after changes.size (λ n part. refl) image reads))))
 

@@ -1,16 +1,21 @@
 -- What a stop leaves while deltas are kept.
---     IsOneOf        an image that means what one of the start did, or reads as one of two maps
+--     MeansUsedBefore        an image that means what one of the start did, where sectors are in use
+--     IsOneOf        such an image, or one that reads as one of two maps
 --     LeavesOneOf, LeavesOldOr        what a stop leaves at any moment of a call
 use Rattle.std.specs.Prelude.{◌≡◌, ◌⊎◌}
 use Rattle.fs_layout.specs.Bytes.{SectorMap}
-use Rattle.redo_journal.specs.Meaning.{ReadsAs, MeansAsBefore}
-use Rattle.sector_disk.specs.Disk.{DiskState, Image, LeavesOnly}
+use Rattle.redo_journal.specs.Meaning.{ReadsAs, MeansUsed}
+use Rattle.sector_disk.specs.Disk.{DiskState, Image, IsImage, LeavesOnly}
 
--- The image means what an image did that a stop might have left at the start, or it reads as one of the two maps. In each
+-- a stop might have left, at the start, an image that means what this one does in the sectors that are in use
+abbrev pub MeansUsedBefore : DiskState → Image → Type 0
+MeansUsedBefore start image = (from : Image) × IsImage start from × MeansUsed start.size from image
+
+-- The image means what an image did that a stop might have left at the start, but for free sectors, or it reads as one of the two maps. In each
 -- case it has the disk's length, and its commit sector is valid, at least where that of the other image is.
 abbrev pub IsOneOf : DiskState → SectorMap → SectorMap → Image → Type 0
 IsOneOf start before after image =
-    MeansAsBefore start image ⊎ ReadsAs start.size before image ⊎ ReadsAs start.size after image
+    MeansUsedBefore start image ⊎ ReadsAs start.size before image ⊎ ReadsAs start.size after image
 
 -- a stop at any moment since old leaves such an image, and the disk keeps its length
 pub record LeavesOneOf (before after : SectorMap) (old new : DiskState) : Type 0 where
