@@ -1,17 +1,17 @@
 //! The three steps of a commit in a row, and when a commit is due.
 
-ghost use Rattle.std.specs.Prelude.{◌≡◌, ◌≤◌, ◌+◌, ◌↔◌, ℕ, length, Ok, IfOk, IsTrue};
+ghost use Rattle.std.specs.Prelude.{◌≡◌, ◌≤◌, ◌+◌, ◌↔◌, ℕ, [], length, Ok, IfOk, IsTrue};
 ghost use Rattle.fs_layout.specs.Header.{max_delta, max_targets};
-ghost use Rattle.redo_journal.specs.Batch.{IsOnDisk, with_batch, added};
-ghost use Rattle.redo_journal.specs.Meaning.{SameMap, data_of, disk_of};
-ghost use Rattle.redo_journal.specs.States.{header_at};
+ghost use Rattle.redo_journal.specs.Batch.{IsOnDisk, targets, with_batch, added};
+ghost use Rattle.redo_journal.specs.Meaning.{HasLayout, SameMap, data_of, disk_of};
+ghost use Rattle.redo_journal.specs.States.{StandsIn, header_at};
 ghost use Rattle.sector_disk.specs.Disk.{HasCause, HasWriteCause};
 ghost use Rattle.sector_txn.specs.Images.{LeavesOldOr};
 ghost use Rattle.sector_txn.specs.Stores.{IsWaiting};
 
 use crate::cached::CachedJournal;
-use fs_layout::max_targets;
-use redo_journal::{Batch, Broken, Journal};
+use fs_layout::{Geometry, max_targets};
+use redo_journal::{Batch, Broken, Journal, commit_beside, split};
 use sector_disk::Disk;
 
 /// Logs, seals and installs a batch.
@@ -39,6 +39,42 @@ pub(crate) fn commit<D: Disk>(journal: Journal<D>, batch: &Batch) -> Result<Jour
         },
         Err(broken) => Err(broken),
     }
+}
+
+/// Commits a batch: what is free in what the disk reads as goes to its place alone, and the rest through the log. `last` has the
+/// sectors of the commit that stands.
+pub(crate) fn commit_in_place<D: Disk>(
+    journal: Journal<D>,
+    geometry: Geometry,
+    last: &Batch,
+    batch: &Batch,
+    placed: &mut Batch,
+    logged: &mut Batch,
+) -> Result<Journal<D>, Broken<D>>
+    requires on_disk { IsOnDisk (header_at (D.state journal).seen) (D.state journal).size batch.now.entries }
+    requires few { length batch.now.entries ≤ max_targets (header_at (D.state journal).seen) }
+    requires layout { HasLayout (data_of (D.state journal)) geometry }
+    requires fits { geometry.sectors ≤ (D.state journal).size }
+    requires stands { StandsIn (targets last.now.entries) (D.state journal) }
+    requires empty { (placed.old.entries ≡ []) × (logged.old.entries ≡ []) }
+    requires room { (length batch.now.entries ≤ placed.old.most) × (length batch.now.entries ≤ logged.old.most) }
+
+    ensures changed { IfOk result (λ after. SameMap (data_of (D.state after)) (with_batch batch.now.entries (data_of (D.state journal)))) }
+
+    // A stop at any moment of the call leaves what means as before it, or reads with the whole batch.
+    ensures images { LeavesOldOr (with_batch batch.now.entries (data_of (D.state journal))) (D.state journal) (D.state (disk_of result)) }
+
+    ensures cause { HasCause (D.state journal) (D.state (disk_of result)) result }
+
+    ensures told { HasWriteCause (D.state journal) (D.state (disk_of result)) result }
+{
+    split(&journal, geometry, last, batch, placed, logged);
+    if logged.is_empty() {
+        return commit(journal, batch);
+    }
+    // Its clause tells a proof what each batch is.
+    let _count = placed.len();
+    commit_beside(journal, placed, logged)
 }
 
 // Whether the changes fit beside what waits. Nothing is looked up where they would if all their sectors were new.
