@@ -1,10 +1,9 @@
-use Rattle.std.proofs.Common.{◌≡◌, ◌∙◌, inl, inr, ℕ, List, [], ◌∷◌, Bool, true, false, eqb, length, arith, sym, ap, subst}
+use Rattle.std.proofs.Common.{◌≡◌, ◌∙◌, inl, inr, ℕ, List, [], ◌∷◌, true, false, eqb, arith, sym, subst}
 use Rattle.std.proofs.lemmas.Bool.{cases_eq, cond-true, cond-false, eq-eqb, ne_eqb, true≢false}
 use Rattle.std.proofs.lemmas.Map.Made.{Contains-tail}
 use Rattle.std.proofs.lemmas.Result.{IfOk-weaker}
 use Rattle.std.specs.Prelude.{All, Contains}
-use Rattle.fs_layout.specs.Commit.{IsCommit}
-use Rattle.sector_disk.specs.Disk.{DiskState, sector}
+use Rattle.sector_disk.specs.Disk.{DiskState}
 use Rattle.redo_journal.specs.Batch.{Entry, has_entry, targets, with_batch}
 use Rattle.redo_journal.specs.Meaning.{IsSpare, data_of, disk_of}
 use Rattle.redo_journal.specs.States.{IsBeside, StandsIn}
