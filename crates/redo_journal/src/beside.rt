@@ -6,7 +6,7 @@ ghost use Rattle.fs_layout.specs.Header.{max_targets};
 ghost use Rattle.redo_journal.specs.Batch.{IsOnDisk, has_entry, targets, with_batch};
 ghost use Rattle.fs_layout.specs.Bytes.{SectorMap};
 ghost use Rattle.redo_journal.specs.Meaning.{HasLayout, IsSpare, SameMap, data_of, disk_of, LeavesMapBut, LeavesUsedOr};
-ghost use Rattle.redo_journal.specs.States.{header_at, HasHeader, HasNext, IsBeside, IsReady, IsLogged};
+ghost use Rattle.redo_journal.specs.States.{header_at, HasHeader, HasNext, IsBeside, IsReady, IsLogged, StandsIn};
 ghost use Rattle.sector_disk.specs.Disk.{HasCause, HasWriteCause};
 
 use crate::steps::{write_header, write_log, write_targets};
@@ -67,6 +67,9 @@ pub fn commit_beside<D: Disk>(
     // A stop at any moment of the call leaves what means as before it, but in sectors that are free, or reads with both batches.
     ensures images { LeavesUsedOr (with_batch batch.now.entries (with_batch placed.now.entries (data_of (D.state journal))))
         (D.state journal) (D.state (disk_of result)) }
+
+    // It is the second batch's commit that stands then, or none.
+    ensures stands { IfOk result (λ after. StandsIn (targets batch.now.entries) (D.state after)) }
 
     ensures size { (D.state (disk_of result)).size ≡ (D.state journal).size }
     ensures cause { HasCause (D.state journal) (D.state (disk_of result)) result }

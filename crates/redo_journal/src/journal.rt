@@ -1,7 +1,6 @@
 //! The states of a commit. Each owns the disk, so that a disk has one of them at a time.
 
-ghost use Rattle.std.specs.Prelude.{◌≡◌, ◌<◌, ◌≤◌, ℕ, List, length, Some, Ok, IfOk, IfSome, OnOk, Contains, IsTrue, nat_eq};
-ghost use Rattle.std.specs.Int.{bit_at};
+ghost use Rattle.std.specs.Prelude.{◌≡◌, ◌<◌, ◌≤◌, ℕ, List, length, Some, Ok, IfOk, IfSome, OnOk, Contains, IsTrue};
 ghost use Rattle.redo_journal.specs.Batch.{IsOnDisk, targets, with_batch};
 ghost use Rattle.redo_journal.specs.Meaning.{HasLayout, IsMapped, IsSpare, SameMap, data_of, disk_of, EachReadsAs, MeansUsed, LeavesSameMap, LeavesAllOrNone};
 ghost use Rattle.fs_layout.specs.Commit.{AreTargets};
@@ -12,7 +11,7 @@ ghost use Rattle.sector_disk.specs.Disk.{IsSame, ForgetsPast, Elapses, LeavesOnl
 use crate::Batch;
 use crate::beside::log_beside;
 use crate::commit::{install_batch, log_batch, seal_batch, settle_commit};
-use fs_layout::{Geometry, SECTOR_BITS};
+use fs_layout::{Geometry, SECTOR_BITS, Super};
 use sector_disk::{CrashDisk, Disk, DiskFault};
 use std::marker::Model;
 
@@ -199,6 +198,22 @@ impl<D: Disk> Journal<D> {
         self.disk.find(n)
     }
 
+    /// The layout that sector 0 tells of, where the disk has that sector in memory and is as large as the layout.
+    pub fn layout(&self) -> Option<Geometry>
+        ensures { IfSome result (λ p. HasLayout (data_of (D.state self.now)) p × (p.sectors ≤ (D.state self.now).size)) }
+    {
+        let size = self.disk.size();
+        let content = self.find(0)?;
+        let Ok(superblock) = Super::read_from(content, 0) else {
+            return None;
+        };
+        let geometry = superblock.geometry()?;
+        if size < geometry.sectors {
+            return None;
+        }
+        Some(geometry)
+    }
+
     /// Whether a sector is a data sector that is free in what the disk reads as. That is looked up where the disk has its bitmap in
     /// memory; where it hasn't, the answer is no.
     pub fn is_spare(&self, geometry: Geometry, n: u32) -> bool
@@ -210,7 +225,7 @@ impl<D: Disk> Journal<D> {
             return false;
         }
         match self.find(geometry.block_bitmap + n / SECTOR_BITS) {
-            Some(content) => !has_bit(content[n as usize % 4096 / 8], n % 8),
+            Some(content) => content[n as usize % 4096 / 8] >> (n % 8) & 1 == 0,
             None => false,
         }
     }
@@ -263,14 +278,6 @@ impl<D: Disk> Journal<D> {
         } = self;
         disk
     }
-}
-
-// Whether bit i of the byte is set.
-fn has_bit(byte: u8, i: u32) -> bool
-    requires { i < 8 }
-    ensures { result ≡ nat_eq (bit_at byte i) 1 }
-{
-    byte >> i & 1 == 1
 }
 
 impl<D: CrashDisk> Journal<D> {

@@ -1,6 +1,6 @@
-use Rattle.std.proofs.Common.{◌≡◌, ◌+◌, ◌/◌, ◌%◌, ◌<◌, ◌≤◌, ℕ, Bool, true, false, arith, refl, rules, sym, ◌∙◌, get_or}
-use Rattle.std.proofs.lemmas.Bool.{true≢false}
-use Rattle.std.specs.Prelude.{IsTrue, not, nat_eq}
+use Rattle.std.proofs.Common.{◌≡◌, ◌+◌, ◌/◌, ◌%◌, ◌^◌, ◌<◌, ◌≤◌, ℕ, false, ap, arith, eqb-true, sym, ◌∙◌, get_or, bit_and}
+use Rattle.std.proofs.lemmas.Nat.Bits.{shr_and_one}
+use Rattle.std.specs.Prelude.{IsTrue, nat_eq}
 use Rattle.std.specs.Int.{bit_at}
 use Rattle.fs_layout.specs.declared.geometry.Geometry.{Geometry}
 use Rattle.fs_layout.specs.Header.{header_of}
@@ -17,9 +17,9 @@ there disk p n layout fits below =
     let b = bitmap_there (data_of disk) p disk.size n layout fits below in
     (mapped_by (data_of disk) (sector disk.seen) (p.block_bitmap + n / 4096) (data_super disk) b.0, b.1)
 
-unset : (b : Bool) → IsTrue (not b) → b ≡ false
-unset false clear = refl
-unset true clear = absurd (true≢false (sym clear))
+-- a bit that a shift finds clear
+clear_bit : (byte i : ℕ) → IsTrue (nat_eq (bit_and (byte / 2 ^ i) 1) 0) → nat_eq (bit_at byte i) 1 ≡ false
+clear_bit byte i clear = ap (λ (v : ℕ). nat_eq v 1) (sym (shr_and_one byte i) ∙ eqb-true (bit_and (byte / 2 ^ i) 1) 0 clear)
 
 pub overflow_add-geometry : goal.overflow_add-geometry
 overflow_add-geometry g c =
@@ -40,9 +40,12 @@ pub returns-in-Some : goal.returns-in-Some
 returns-in-Some g c = λ clear.
     let map = data_of (g.D.Disk.state c.args.self.now) in
     let n = c.args.n in
-    let start = c.args.geometry.block_bitmap in
-    let is : c.has_bit.result ≡ nat_eq (bit_at (get_or c.in-Some.content.now (n % 4096 / 8) 0) (n % 8)) 1 = search rules in (
+    let byte = get_or c.in-Some.content.now (n % 4096 / 8) 0 in (
       c.args.geometry,
       c.requires.layout,
-      (omega (arith, c.if-n-geometry.false), omega (arith, c.if-geometry-n.false), sym (bit_by map start n c.in-Some.content.now c.in-Some.ensures) ∙ sym is ∙ unset c.has_bit.result clear),
+      (
+        omega (arith, c.if-n-geometry.false),
+        omega (arith, c.if-geometry-n.false),
+        sym (bit_by map c.args.geometry.block_bitmap n c.in-Some.content.now c.in-Some.ensures) ∙ clear_bit byte (n % 8) clear,
+      ),
     )
