@@ -1,16 +1,20 @@
 -- What a journal's image reads as, and the tree that it stands for.
-use Rattle.std.proofs.Common.{◌≡◌, ℕ, length, refl, sym, subst, ◌∙◌, arith, inl, inr}
+use Rattle.std.proofs.Common.{◌≡◌, ℕ, Some, length, refl, sym, subst, ◌∙◌, arith, inl, inr}
 use Rattle.std.specs.Prelude.{IsFalse}
 use Rattle.sector_disk.specs.Disk.{DiskState, Image, sector, LeavesOnly}
 use Rattle.sector_disk.proofs.Moments.{weaker}
 use Rattle.fs_layout.specs.declared.geometry.Geometry.{Geometry}
 use Rattle.fs_layout.specs.Bytes.{SectorMap}
+use Rattle.fs_layout.specs.Geometry.{geometry_in}
 use Rattle.fs_layout.specs.Images.{free_sectors}
+use Rattle.fs_layout.specs.InodeChanges.{IsFree}
 use Rattle.fs_layout.specs.Recovered.{recovered}
 use Rattle.fs_layout.specs.Ownership.{Agrees}
 use Rattle.fs_layout.proofs.Agree.{same_agrees, agree_free_sectors}
+use Rattle.fs_layout.proofs.Places.{after_map, before_data}
 use Rattle.fs_layout.proofs.RecoveryLaw.{log_there, recovered-super}
-use Rattle.redo_journal.specs.Meaning.{SameMap, ReadsAs, MeansAs, EachReadsAs}
+use Rattle.redo_journal.specs.Meaning.{SameMap, ReadsAs, HasLayout, MeansUsed, EachReadsAs}
+use Rattle.redo_journal.proofs.Used.{one_layout, used_agrees}
 use Rattle.sector_txn.specs.Images.{IsOneOf, LeavesOneOf}
 use Rattle.fs_model.specs.Trees.{Tree, Room, IsTree}
 use Rattle.fs_model.specs.States.{State}
@@ -80,14 +84,44 @@ module _ (size : ℕ) (image : SectorMap) (room : Room) (t : Tree) (free : ℕ) 
   pub holds_of_standing : HoldsCounted st.geometry (recovered size image) t free
   holds_of_standing = record { holds = st.holds; tree_is = subst (λ (r : Room). IsTree r t) st.room_is st.tree_is; free_is = st.free_is }
 
--- What means the same stands for the same.
-pub stands_as : (size : ℕ) (from image : Image) → length from ≡ size → MeansAs size from image → StandsAs from image
+-- What means the same in sectors that are in use stands for the same.
+stands_used : (size : ℕ) (from image : Image) → MeansUsed size from image → (room : Room) (t : Tree) (free : ℕ) → Stands size (sector from) room t free
+    → Stands size (sector image) room t free
+stands_used size from image means room t free st =
+    let p = st.geometry in
+    let old = recovered size (sector from) in
+    let new = recovered size (sector image) in
+    let was : old 0 ≡ sector from 0 = recovered-super size (sector from) in
+    let layout : HasLayout old p = record {
+      super = st.super;
+      is = was ∙ st.super_is;
+      fits = st.super_fits;
+      has = subst (λ (n : ℕ). geometry_in st.super.version st.super.header n st.super.inodes ≡ Some p) (sym st.same_size) st.has_geometry;
+    } in
+    let geometry = st.holds.consistent.geometry in
+    let log = log_there st.super (old 0) size st.super_fits (was ∙ st.super_is) st.has_geometry in
+    let agrees : Agrees p old new = used_agrees geometry (omega (arith, log)) layout means.reads in
+    let super : new 0 ≡ old 0 = means.reads 0 (inl refl) (λ spare.
+    let free_there = subst (λ (q : Geometry). IsFree q old 0) (one_layout spare.1 layout) spare.2 in
+    let m = after_map geometry in let d = before_data geometry in omega (arith, free_there.0, m, d)) in
+    record {
+      super = st.super;
+      geometry = p;
+      super_is = sym (recovered-super size (sector image)) ∙ super ∙ was ∙ st.super_is;
+      super_fits = st.super_fits;
+      same_size = st.same_size;
+      has_geometry = st.has_geometry;
+      commit_is = means.commit.0 st.commit_is;
+      room_is = st.room_is;
+      holds = agreed p old new (placed t) st.holds agrees;
+      tree_is = st.tree_is;
+      free_is = st.free_is ∙ sym (agree_free_sectors st.holds.consistent agrees);
+    }
+
+pub stands_as : (size : ℕ) (from image : Image) → length from ≡ size → MeansUsed size from image → StandsAs from image
 stands_as size from image whole means = λ room t free stands.
-    let st = subst (λ n. Stands n (sector from) room t free) whole stands in
-    let here = stands_for size st.geometry (recovered size (sector from)) t free image (disk_of_standing size (sector from) room t free st)
-    (holds_of_standing size (sector from) room t free st)
-    (record { whole = means.whole; commit = means.commit.0 st.commit_is; reads = means.reads }) in
-    subst (λ (r : Room). StandsFor r image t free) (sym st.room_is) here
+    subst (λ n. Stands n (sector image) room t free) (sym means.whole)
+    (stands_used size from image means room t free (subst (λ n. Stands n (sector from) room t free) whole stands))
 
 -- ---- from the store's clauses to those of the file system
 

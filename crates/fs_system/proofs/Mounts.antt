@@ -27,6 +27,7 @@ use Rattle.fs_system.specs.declared.base.Base.TheVariants.{Running}
 use Rattle.fs_system.specs.Running.{IsRunning}
 use Rattle.fs_images.specs.Standing.{StandsFor, StandsForSome, HasPartsAt, EachStandsFor}
 use Rattle.fs_system.specs.Sweeping.{IsStored, StandsPruned, HasTree, KeepsTree}
+use Rattle.redo_journal.proofs.Used.{means_used}
 use Rattle.fs_system.proofs.Joining.{HoldsCounted, disk_of_standing, holds_of_standing, disk_same, holds_same, stands_as, each_stands}
 use Rattle.fs_images.proofs.Places.{is_room}
 
@@ -34,7 +35,7 @@ use Rattle.fs_images.proofs.Places.{is_room}
 
 -- what means as before stands as before
 pub means_stands : (old : DiskState) (image : Image) → MeansAsBefore old image → StandsAsBefore old image
-means_stands old image (from, is, means) = (from, is, λ room t free stands. (t, free, stands_as old.size from image is.size means room t free stands, refl))
+means_stands old image (from, is, means) = (from, is, λ room t free stands. (t, free, stands_as old.size from image is.size (means_used means) room t free stands, refl))
 
 -- where nothing has changed
 pub same_stands : (old new : DiskState) → ((image : Image) → old.left_since old.moment image → IsImage old image) → IsSame old new → Elapses old new

@@ -1,3 +1,4 @@
+mod Commits
 pub mod Delta
 pub mod Images
 mod Pairs

@@ -1,4 +1,5 @@
 pub mod Clean
 pub mod Images
+pub mod Parts
 pub mod Sectors
 pub mod Stores

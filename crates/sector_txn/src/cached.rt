@@ -1,6 +1,6 @@
 //! A journal whose sectors are kept in memory once they are read.
 
-ghost use Rattle.std.specs.Prelude.{◌≡◌, ◌<◌, ◌≤◌, ℕ, length, Some, Ok, IfOk, OnOk};
+ghost use Rattle.std.specs.Prelude.{◌≡◌, ◌<◌, ◌≤◌, ℕ, length, false, Some, Ok, IfOk, OnOk};
 ghost use Rattle.std.specs.Fn.{FnOnceReturnsAt};
 ghost use Rattle.fs_layout.specs.Header.{max_targets};
 ghost use Rattle.redo_journal.specs.Batch.{IsOnDisk, with_batch};
@@ -8,9 +8,11 @@ ghost use Rattle.redo_journal.specs.Meaning.{EachReadsAs, LeavesSameMap, IsMappe
 ghost use Rattle.redo_journal.specs.States.{header_at, HasHeader, IsIdle};
 ghost use Rattle.sector_disk.specs.Disk.{IsSame, ForgetsPast, Elapses, OnlyReads, HasCause, HasWriteCause};
 ghost use Rattle.sector_txn.specs.Images.{LeavesOldOr};
+ghost use Rattle.sector_txn.specs.Parts.{HaveRoom};
 
 use crate::clean::CleanSectors;
-use crate::commit::commit;
+use crate::commit::commit_in_place;
+use crate::parts::Parts;
 use redo_journal::{Batch, Broken, Journal};
 use sector_disk::{CrashDisk, Disk, DiskFault};
 use std::alloc::Global;
@@ -22,29 +24,35 @@ use std::marker::Model;
 pub(crate) struct CachedJournal<D: Disk> {
     journal: Journal<D>,
     clean: CleanSectors,
+    parts: Parts,
 }
 
 impl<D: Disk> Model for CachedJournal<D> {
     ghost use Rattle.redo_journal.specs.Meaning.{data_of};
     ghost use Rattle.redo_journal.specs.States.{header_at};
     ghost use Rattle.sector_txn.specs.Clean.{IsPartOf};
+    ghost use Rattle.sector_txn.specs.Parts.{HasParts};
 
     ghost Value = { D };
 
     ghost view = { λ cached. cached.journal };
 
-    ghost invariant = { λ cached. IsPartOf (header_at (D.state cached.journal).seen) (data_of (D.state cached.journal)) cached.clean };
+    ghost invariant = { λ cached. IsPartOf (header_at (D.state cached.journal).seen) (data_of (D.state cached.journal)) cached.clean
+        × HasParts (D.state cached.journal) cached.parts.placed.value cached.parts.logged.value cached.parts.last.value cached.parts.knows_last };
 }
 
 impl<D: Disk> CachedJournal<D> {
     /// The journal, with an empty cache.
-    pub(crate) fn new(alloc: Global, journal: Journal<D>) -> CachedJournal<D>
+    pub(crate) fn new(alloc: Global, journal: Journal<D>, parts: Parts) -> CachedJournal<D>
+        requires room { HaveRoom (max_targets (header_at (D.state journal).seen)) parts.placed.value parts.logged.value parts.last.value }
+        requires unknown { parts.knows_last ≡ false }
         ensures { result ≡ journal }
     {
         let header = journal.header();
         CachedJournal {
             journal,
             clean: CleanSectors::new(alloc, header),
+            parts,
         }
     }
 
@@ -124,7 +132,7 @@ impl<D: Disk> CachedJournal<D> {
         Ok(())
     }
 
-    /// Logs, seals and installs a batch. What the cache has of its sectors is dropped before they are written.
+    /// Commits a batch: contents of sectors that are free go to their places, and the rest through the log. What the cache has of its sectors is dropped before they are written.
     pub(crate) fn commit(self, batch: &Batch) -> Result<CachedJournal<D>, Broken<D>>
         requires on_disk { IsOnDisk (header_at (D.state self).seen) (D.state self).size batch.now.entries }
         requires few { length batch.now.entries ≤ max_targets (header_at (D.state self).seen) }
@@ -134,10 +142,33 @@ impl<D: Disk> CachedJournal<D> {
         ensures cause { HasCause (D.state self) (D.state (disk_of result)) result }
         ensures told { HasWriteCause (D.state self) (D.state (disk_of result)) result }
     {
-        let CachedJournal { journal, mut clean } = self;
+        if batch.is_empty() {
+            return Ok(self);
+        }
+        let CachedJournal {
+            journal,
+            mut clean,
+            parts,
+        } = self;
         clean.forget_all(batch.sectors());
-        match commit(journal, batch) {
-            Ok(journal) => Ok(CachedJournal { journal, clean }),
+        let layout = parts.layout(&journal);
+        let Parts {
+            mut placed,
+            mut logged,
+            last,
+            ..
+        } = parts;
+        match commit_in_place(journal, layout, &last, batch, &mut placed, &mut logged) {
+            Ok(journal) => Ok(CachedJournal {
+                journal,
+                clean,
+                parts: Parts {
+                    placed,
+                    logged: last,
+                    last: logged,
+                    knows_last: true,
+                },
+            }),
             Err(broken) => Err(broken),
         }
     }
@@ -159,7 +190,7 @@ impl<D: Disk> CachedJournal<D> {
         ensures cause { HasCause (D.state self) (D.state (disk_of result)) result }
         ensures told { HasWriteCause (D.state self) (D.state (disk_of result)) result }
     {
-        let CachedJournal { journal, clean: _ } = self;
+        let CachedJournal { journal, .. } = self;
         match journal.settle() {
             Ok(journal) => Ok(journal.into_disk()),
             Err(broken) => Err(broken),
@@ -170,7 +201,7 @@ impl<D: Disk> CachedJournal<D> {
     pub(crate) fn into_disk(self) -> D
         ensures { result ≡ self }
     {
-        let CachedJournal { journal, clean: _ } = self;
+        let CachedJournal { journal, .. } = self;
         journal.into_disk()
     }
 }

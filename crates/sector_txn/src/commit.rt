@@ -1,6 +1,6 @@
 //! The three steps of a commit in a row, and when a commit is due.
 
-ghost use Rattle.std.specs.Prelude.{◌≡◌, ◌≤◌, ◌+◌, ◌↔◌, ℕ, [], length, Ok, IfOk, IsTrue};
+ghost use Rattle.std.specs.Prelude.{◌≡◌, ◌<◌, ◌≤◌, ◌+◌, ◌↔◌, ℕ, length, Ok, IfOk, IfSome, IsTrue};
 ghost use Rattle.fs_layout.specs.Header.{max_delta, max_targets};
 ghost use Rattle.redo_journal.specs.Batch.{IsOnDisk, targets, with_batch, added};
 ghost use Rattle.redo_journal.specs.Meaning.{HasLayout, SameMap, data_of, disk_of};
@@ -14,8 +14,8 @@ use fs_layout::{Geometry, max_targets};
 use redo_journal::{Batch, Broken, Journal, commit_beside, split};
 use sector_disk::Disk;
 
-/// Logs, seals and installs a batch.
-pub(crate) fn commit<D: Disk>(journal: Journal<D>, batch: &Batch) -> Result<Journal<D>, Broken<D>>
+// Logs, seals and installs a batch.
+fn commit<D: Disk>(journal: Journal<D>, batch: &Batch) -> Result<Journal<D>, Broken<D>>
     requires on_disk { IsOnDisk (header_at (D.state journal).seen) (D.state journal).size batch.now.entries }
     requires few { length batch.now.entries ≤ max_targets (header_at (D.state journal).seen) }
 
@@ -24,8 +24,8 @@ pub(crate) fn commit<D: Disk>(journal: Journal<D>, batch: &Batch) -> Result<Jour
     // A stop at any moment of the call leaves what means as before it, or reads with the whole batch.
     ensures images { LeavesOldOr (with_batch batch.now.entries (data_of (D.state journal))) (D.state journal) (D.state (disk_of result)) }
 
-    // With an empty batch the disk isn't called.
-    ensures empty { length batch.now.entries ≡ 0 → result ≡ Ok journal }
+    // It is this batch's commit that stands then, or none.
+    ensures stands { 0 < length batch.now.entries → IfOk result (λ after. StandsIn (targets batch.now.entries) (D.state after)) }
 
     ensures cause { HasCause (D.state journal) (D.state (disk_of result)) result }
 
@@ -41,22 +41,43 @@ pub(crate) fn commit<D: Disk>(journal: Journal<D>, batch: &Batch) -> Result<Jour
     }
 }
 
-/// Commits a batch: what is free in what the disk reads as goes to its place alone, and the rest through the log. `last` has the
-/// sectors of the commit that stands.
+// Commits a batch through the log alone. What it has is left in `logged`.
+fn commit_logged<D: Disk>(
+    journal: Journal<D>,
+    batch: &Batch,
+    logged: &mut Batch,
+) -> Result<Journal<D>, Broken<D>>
+    requires some { 0 < length batch.now.entries }
+    requires on_disk { IsOnDisk (header_at (D.state journal).seen) (D.state journal).size batch.now.entries }
+    requires few { length batch.now.entries ≤ max_targets (header_at (D.state journal).seen) }
+    requires room { length batch.now.entries ≤ logged.old.most }
+    ensures changed { IfOk result (λ after. SameMap (data_of (D.state after)) (with_batch batch.now.entries (data_of (D.state journal)))) }
+    ensures images { LeavesOldOr (with_batch batch.now.entries (data_of (D.state journal))) (D.state journal) (D.state (disk_of result)) }
+    ensures stands { IfOk result (λ after. StandsIn (targets logged.new.entries) (D.state after)) }
+    ensures most { logged.new.most ≡ logged.old.most }
+    ensures cause { HasCause (D.state journal) (D.state (disk_of result)) result }
+    ensures told { HasWriteCause (D.state journal) (D.state (disk_of result)) result }
+{
+    logged.clear();
+    logged.absorb(batch);
+    commit(journal, logged)
+}
+
+/// Commits a batch: what is free in what the disk reads as goes to its place alone, and the rest through the log. Where no layout is
+/// given all of it goes through the log. `last` has the sectors of the commit that stands; `logged` has those of this one then.
 pub(crate) fn commit_in_place<D: Disk>(
     journal: Journal<D>,
-    geometry: Geometry,
+    layout: Option<Geometry>,
     last: &Batch,
     batch: &Batch,
     placed: &mut Batch,
     logged: &mut Batch,
 ) -> Result<Journal<D>, Broken<D>>
+    requires some { 0 < length batch.now.entries }
     requires on_disk { IsOnDisk (header_at (D.state journal).seen) (D.state journal).size batch.now.entries }
     requires few { length batch.now.entries ≤ max_targets (header_at (D.state journal).seen) }
-    requires layout { HasLayout (data_of (D.state journal)) geometry }
-    requires fits { geometry.sectors ≤ (D.state journal).size }
-    requires stands { StandsIn (targets last.now.entries) (D.state journal) }
-    requires empty { (placed.old.entries ≡ []) × (logged.old.entries ≡ []) }
+    requires layout { IfSome layout (λ p. HasLayout (data_of (D.state journal)) p × (p.sectors ≤ (D.state journal).size)) }
+    requires stands { IfSome layout (λ p. StandsIn (targets last.now.entries) (D.state journal)) }
     requires room { (length batch.now.entries ≤ placed.old.most) × (length batch.now.entries ≤ logged.old.most) }
 
     ensures changed { IfOk result (λ after. SameMap (data_of (D.state after)) (with_batch batch.now.entries (data_of (D.state journal)))) }
@@ -64,13 +85,22 @@ pub(crate) fn commit_in_place<D: Disk>(
     // A stop at any moment of the call leaves what means as before it, or reads with the whole batch.
     ensures images { LeavesOldOr (with_batch batch.now.entries (data_of (D.state journal))) (D.state journal) (D.state (disk_of result)) }
 
+    ensures stands { IfOk result (λ after. StandsIn (targets logged.new.entries) (D.state after)) }
+
+    ensures most { (placed.new.most ≡ placed.old.most) × (logged.new.most ≡ logged.old.most) }
+
     ensures cause { HasCause (D.state journal) (D.state (disk_of result)) result }
 
     ensures told { HasWriteCause (D.state journal) (D.state (disk_of result)) result }
 {
+    let Some(geometry) = layout else {
+        return commit_logged(journal, batch, logged);
+    };
+    placed.clear();
+    logged.clear();
     split(&journal, geometry, last, batch, placed, logged);
     if logged.is_empty() {
-        return commit(journal, batch);
+        return commit_logged(journal, batch, logged);
     }
     // Its clause tells a proof what each batch is.
     let _count = placed.len();

@@ -15,6 +15,7 @@ mod cached;
 mod clean;
 mod commit;
 mod hints;
+mod parts;
 mod sectors;
 mod store;
 

@@ -8,12 +8,14 @@ ghost use Rattle.redo_journal.specs.Meaning.{SameMap, EachReadsAs, data_of, disk
 ghost use Rattle.redo_journal.specs.States.{header_at, IsIdle};
 ghost use Rattle.sector_disk.specs.Disk.{IsSame, ForgetsPast, Elapses, HasCause, HasWriteCause};
 ghost use Rattle.sector_txn.specs.Images.{LeavesOneOf, LeavesOldOr};
+ghost use Rattle.sector_txn.specs.Parts.{HaveRoom};
 ghost use Rattle.sector_txn.specs.Stores.{present, map_before, map_now, txn_state, disk_after};
 
 use crate::Sectors;
 use crate::cached::CachedJournal;
 use crate::commit::commit_if_full;
 use crate::hints::Hints;
+use crate::parts::Parts;
 use fs_layout::{HEADER_TARGETS, max_targets};
 use redo_journal::{Batch, Broken, Journal};
 use sector_disk::{CrashDisk, Disk, DiskFault};
@@ -81,8 +83,8 @@ impl<D: Disk> Store<D> {
     {
         journal.tell_ready();
         match reserved(alloc, journal.header()) {
-            Ok((waiting, delta, hints)) => Ok(Store {
-                journal: CachedJournal::new(alloc, journal),
+            Ok((waiting, delta, parts, hints)) => Ok(Store {
+                journal: CachedJournal::new(alloc, journal, parts),
                 waiting,
                 delta,
                 hints,
@@ -349,14 +351,17 @@ fn most_delta(header: u32) -> usize
     DELTA + HEADER_TARGETS * (header as usize)
 }
 
-// The memory of the sectors that wait, of a transaction's, and of hints, on a disk whose header has so many sectors.
-fn reserved(alloc: Global, header: u32) -> Result<(Box<Batch>, Box<Batch>, Hints), AllocError>
+// The memory of the sectors that wait, of a transaction's, of a commit's parts, and of hints, on a disk whose header has so many sectors.
+fn reserved(alloc: Global, header: u32) -> Result<(Box<Batch>, Box<Batch>, Parts, Hints), AllocError>
     requires { header ≤ MAX_HEADER }
     ensures empty { IfOk result (λ parts. (parts.0.value.entries ≡ []) × (parts.1.value.entries ≡ [])) }
     ensures most { IfOk result (λ parts. (parts.0.value.most ≡ max_targets header) × (parts.1.value.most ≡ max_delta header)) }
+    ensures room { IfOk result (λ parts. HaveRoom (max_targets header) parts.2.placed.value parts.2.logged.value parts.2.last.value) }
+    ensures unknown { IfOk result (λ parts. parts.2.knows_last ≡ false) }
 {
     let waiting = Box::new(alloc, Batch::new(alloc, max_targets(header))?)?;
     let delta = Box::new(alloc, Batch::new(alloc, most_delta(header))?)?;
+    let parts = Parts::new(alloc, max_targets(header))?;
     let hints = Hints::new(alloc, header)?;
-    Ok((waiting, delta, hints))
+    Ok((waiting, delta, parts, hints))
 }

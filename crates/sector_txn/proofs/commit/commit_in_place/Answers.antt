@@ -1,26 +1,17 @@
-use Rattle.std.proofs.Common.{◌≡◌, ◌∙◌, inl, inr, ℕ, List, [], ◌∷◌, true, false, eqb, arith, sym, subst}
-use Rattle.std.proofs.lemmas.Bool.{cases_eq, cond-true, cond-false, eq-eqb, ne_eqb, true≢false}
-use Rattle.std.proofs.lemmas.Map.Made.{Contains-tail}
+use Rattle.std.proofs.Common.{◌≡◌, ◌∙◌, ℕ, List, false, arith, sym, subst}
+use Rattle.std.proofs.lemmas.Bool.{true≢false}
 use Rattle.std.proofs.lemmas.Result.{IfOk-weaker}
-use Rattle.std.specs.Prelude.{All, Contains}
+use Rattle.std.specs.Prelude.{All, Contains, IfSome, Option}
+use Rattle.fs_layout.specs.declared.geometry.Geometry.{Geometry}
 use Rattle.sector_disk.specs.Disk.{DiskState}
 use Rattle.redo_journal.specs.Batch.{Entry, has_entry, targets, with_batch}
 use Rattle.redo_journal.specs.Meaning.{IsSpare, data_of, disk_of}
 use Rattle.redo_journal.specs.States.{IsBeside, StandsIn}
 use Rattle.redo_journal.proofs.Entries.{length-targets}
 use Rattle.redo_journal.proofs.Meaning.{same_chain}
+use Rattle.sector_txn.proofs.Delta.{has_in_targets}
 use Rattle.sector_txn.proofs.Images.{maps_same, used_left}
 use Rattle.sector_txn.proofs.commit.commit_in_place.Goals as goal
-
--- a sector of a batch has an entry
-has_target : (entries : List Entry) (n : ℕ) → Contains (targets entries) n → has_entry entries n ≡ true
-has_target [] n among = absurd (omega (arith, among.1))
-has_target (e ∷ entries) n among = elim (cases_eq n e.0) [
-  | inl here ↦ cond-true (eqb n e.0) true (has_entry entries n) (eq-eqb n e.0 here)
-  | inr there ↦
-      cond-false (eqb n e.0) true (has_entry entries n) (ne_eqb n e.0 there)
-      ∙ has_target entries n (Contains-tail e.0 (targets entries) n (λ same. there (sym same)) among)
-]
 
 -- what holds of all holds of each
 each_of : (P : ℕ → Type 0) (sectors : List ℕ) → All P sectors → (n : ℕ) → Contains sectors n → P n
@@ -28,7 +19,7 @@ each_of P sectors all n among = subst P among.2 (all among.0 n among.1)
 
 apart : (placed last : List Entry) (disk : DiskState) → StandsIn (targets last) disk → All (λ n. has_entry last n ≡ false) (targets placed) → IsBeside (targets placed) disk
 apart placed last disk stands none ts n commit among target =
-    true≢false (sym (has_target last n (stands ts n commit target)) ∙ each_of (λ m. has_entry last m ≡ false) (targets placed) none n among)
+    true≢false (sym ((has_in_targets last n).0 (stands ts n commit target)) ∙ each_of (λ m. has_entry last m ≡ false) (targets placed) none n among)
 
 pub commit_beside-requires-clause-spare : goal.commit_beside-requires-clause-spare
 commit_beside-requires-clause-spare g c =
@@ -36,7 +27,8 @@ commit_beside-requires-clause-spare g c =
 
 pub commit_beside-requires-clause-beside : goal.commit_beside-requires-clause-beside
 commit_beside-requires-clause-beside g c =
-    apart c.split.new.placed.entries c.args.last.now.entries (g.D.Disk.state c.args.journal) c.requires.stands c.split.ensures.apart
+    apart c.split.new.placed.entries c.args.last.now.entries (g.D.Disk.state c.args.journal)
+    (subst (λ (o : Option Geometry). IfSome o (λ p. StandsIn (targets c.args.last.now.entries) (g.D.Disk.state c.args.journal))) c.in-Some.is c.requires.stands) c.split.ensures.apart
 
 pub commit_beside-requires-clause-places : goal.commit_beside-requires-clause-places
 commit_beside-requires-clause-places g c = record {
