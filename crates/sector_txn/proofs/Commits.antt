@@ -1,5 +1,5 @@
 -- The parts of a batch, from one commit to the next.
-use Rattle.std.proofs.Common.{◌≡◌, ◌∙◌, ℕ, Bool, true, List, [], ◌∷◌, length, cond, eqb, not, ap, arith, refl, sym, subst, true≢false}
+use Rattle.std.proofs.Common.{◌≡◌, ◌∙◌, ℕ, Bool, true, List, [], ◌∷◌, length, cond, eqb, not, ap, arith, refl, sym, subst}
 use Rattle.std.proofs.lemmas.List.Recursion.{is_count_by}
 use Rattle.std.specs.Prelude.{Option, Some, None, IfSome}
 use Rattle.fs_layout.specs.declared.geometry.Geometry.{Geometry}
@@ -13,7 +13,7 @@ use Rattle.redo_journal.specs.Meaning.{IsMapped, data_of}
 use Rattle.redo_journal.specs.States.{StandsIn, header_at}
 use Rattle.redo_journal.proofs.Entries.{length-targets}
 use Rattle.sector_txn.specs.Clean.{IsPartOf}
-use Rattle.sector_txn.specs.Parts.{HaveRoom, HasParts}
+use Rattle.sector_txn.specs.Parts.{HasParts}
 
 -- an empty batch lacks each sector of another
 pub added_none : (entries : List Entry) → added [] entries ≡ length entries

@@ -352,7 +352,10 @@ fn most_delta(header: u32) -> usize
 }
 
 // The memory of the sectors that wait, of a transaction's, of a commit's parts, and of hints, on a disk whose header has so many sectors.
-fn reserved(alloc: Global, header: u32) -> Result<(Box<Batch>, Box<Batch>, Parts, Hints), AllocError>
+fn reserved(
+    alloc: Global,
+    header: u32,
+) -> Result<(Box<Batch>, Box<Batch>, Parts, Hints), AllocError>
     requires { header ≤ MAX_HEADER }
     ensures empty { IfOk result (λ parts. (parts.0.value.entries ≡ []) × (parts.1.value.entries ≡ [])) }
     ensures most { IfOk result (λ parts. (parts.0.value.most ≡ max_targets header) × (parts.1.value.most ≡ max_delta header)) }

@@ -1,4 +1,4 @@
-use Rattle.std.proofs.Common.{◌≡◌, List, ap, arith, length}
+use Rattle.std.proofs.Common.{List, ap, arith, length}
 use Rattle.std.proofs.lemmas.Result.{IfOk-weaker}
 use Rattle.redo_journal.specs.Batch.{Entry, added, with_batch}
 use Rattle.redo_journal.specs.Meaning.{data_of}

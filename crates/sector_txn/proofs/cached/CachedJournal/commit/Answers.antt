@@ -23,10 +23,10 @@ invariant_of-result g c =
     let entries = c.args.batch.now.entries in
     let header = header_after entries _ _ old new c.requires.on_disk c.in-Ok.ensures.changed in (
       λ pair has part.
-      let apart = with_batch_apart entries before pair.0 (λ there. c.forget_all.ensures.gone pair has (subst (λ ns. Contains ns pair.0) (sym c.sectors.ensures.sectors) there)) in
-      let here = subst (λ h. IsMapped h pair.0) header part in
-      c.self.invariant.0 pair (c.forget_all.ensures.kept pair has) here ∙ sym apart ∙ sym (c.in-Ok.ensures.changed pair.0 (mapped_after entries old new pair.0 c.in-Ok.ensures.changed part)),
+          let apart = with_batch_apart entries before pair.0 (λ there. c.forget_all.ensures.gone pair has (subst (λ ns. Contains ns pair.0) (sym c.sectors.ensures.sectors) there)) in
+          let here = subst (λ h. IsMapped h pair.0) header part in
+          c.self.invariant.0 pair (c.forget_all.ensures.kept pair has) here ∙ sym apart ∙ sym (c.in-Ok.ensures.changed pair.0 (mapped_after entries old new pair.0 c.in-Ok.ensures.changed part)),
       parts_turned old new _ _ _ c.commit_in_place.new.placed c.commit_in_place.new.logged _ c.self.invariant.1 header
-      (c.in-Ok.ensures.most.0 ∙ ap (λ (b : BatchView). b.most) c.deref_mut.ensures.value)
-      (c.in-Ok.ensures.most.1 ∙ ap (λ (b : BatchView). b.most) c.deref_mut-2.ensures.value) c.in-Ok.ensures.stands,
+          (c.in-Ok.ensures.most.0 ∙ ap (λ (b : BatchView). b.most) c.deref_mut.ensures.value)
+          (c.in-Ok.ensures.most.1 ∙ ap (λ (b : BatchView). b.most) c.deref_mut-2.ensures.value) c.in-Ok.ensures.stands,
     )

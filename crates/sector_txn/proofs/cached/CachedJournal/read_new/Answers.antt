@@ -10,13 +10,13 @@ invariant_of-self-2 g c =
     let old = g.D.Disk.state c.self.inside.journal in
     let new = g.D.Disk.state c.read.new.self in (
       λ pair has part.
-      let before = data_of old in
-      let same = c.read.ensures.same pair.0 in
-      let here = subst (λ (l : Image). IsMapped (header_at l) pair.0) c.read.ensures.unchanged.narrowed.seen part in
-      elim (c.put.ensures pair has) [
-        | inl was ↦ c.self.invariant.0 pair was here ∙ sym same
-        | inr is ↦ ap (λ p. p.1) is ∙ c.in_ok-read.ensures.content ∙ ap before (sym (ap (λ p. p.0) is)) ∙ sym same
-      ],
+          let before = data_of old in
+          let same = c.read.ensures.same pair.0 in
+          let here = subst (λ (l : Image). IsMapped (header_at l) pair.0) c.read.ensures.unchanged.narrowed.seen part in
+          elim (c.put.ensures pair has) [
+            | inl was ↦ c.self.invariant.0 pair was here ∙ sym same
+            | inr is ↦ ap (λ p. p.1) is ∙ c.in_ok-read.ensures.content ∙ ap before (sym (ap (λ p. p.0) is)) ∙ sym same
+          ],
       still_parted old new _ _ _ _ c.read.ensures.unchanged c.self.invariant.1,
     )
 
