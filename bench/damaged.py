@@ -30,8 +30,9 @@ REPLY = re.compile(r'ok|(pid|fd|at|wrote) \d+|umask [0-7]{4}|(data|target) \S+|g
                    r'error [A-Z0-9]+ \d+|denied (EACCES 13|EPERM 1) walk [12] step \d+ need .+ rule \S+')
 # Many names in a directory: more than those of 140 blocks, where a block has two.
 MANY = FULL + ['1 mkdir /many 0755', *(f'1 link /d/f /many/{number}' for number in range(300)), '1 fsync 1']
-# A commit of more targets than the commit sector has, behind another one.
-LARGE = ['spawn 0 0', '1 open /big w', '1 write 0 x', '1 fsync 0', *(['1 write 0 ' + 'y' * 4000] * 25), '1 fsync 0']
+# A commit of more targets than the commit sector has, behind another one: over blocks that are in use, since what was free needs no log.
+LARGE = ['spawn 0 0', '1 open /big w', *(['1 write 0 ' + 'x' * 4000] * 25), '1 fsync 0',
+         '1 lseek 0 set 0', *(['1 write 0 ' + 'y' * 4000] * 25), '1 fsync 0']
 
 
 def agreed(lines):
