@@ -198,10 +198,14 @@ impl<D: Disk> Journal<D> {
         self.disk.find(n)
     }
 
-    /// The layout that sector 0 tells of, where the disk has that sector in memory and is as large as the layout.
+    /// The layout that sector 0 tells of, of version 3, where the disk has that sector in memory and is as large as the layout. Of versions
+    /// 1 and 2 none is told: all that a commit changes there goes through the log, as it always did.
     pub fn layout(&self) -> Option<Geometry>
         ensures { IfSome result (λ p. HasLayout (data_of (D.state self.now)) p × (p.sectors ≤ (D.state self.now).size)) }
     {
+        if self.header == 0 {
+            return None;
+        }
         let size = self.disk.size();
         let content = self.find(0)?;
         let Ok(superblock) = Super::read_from(content, 0) else {
