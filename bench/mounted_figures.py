@@ -100,6 +100,7 @@ def moves(root):
     yield each(16, lambda _: read_anew(root / 'file'))
     yield each(64, moving(file, 4096, write))
     yield each(8, moving(file, len(BLOCK), write))
+    os.fsync(file)  # what was written before isn't that call's
     yield each(5, lambda number: (write(file, 4096, number * 4096), os.fsync(file)))
     os.close(file)
 
@@ -220,8 +221,8 @@ def print_missed(columns):
 
 
 def figures(mounted, words):
-    """Prints a table of them. The words are those of the server with fixed replies."""
-    rows = list(ROWS)
+    """Prints a table of them, of large images. The words are those of the server with fixed replies."""
+    rows, mounted.large = list(ROWS), True
     with contextlib.ExitStack() as mounts:
         columns = {name: mounts.enter_context(server) for name, server in servers(mounted, words)}
         cloned = {}

@@ -24,6 +24,7 @@ TAGS = {'u': (1, 2), 'g': (4, 8), 'm': (16, 16), 'o': (32, 32)}  # of an unnamed
 Layout = collections.namedtuple('Layout', 'verb numbers size inodes max_name')
 LAYOUTS = {2: Layout('mkfs', ('--sectors', '65536', '--inodes', '4096'), '32M', 4096, 120),
            3: Layout('format', ('--size', '64M', '--inodes', '8192'), '64M', 8192, 248)}
+LARGE = Layout('format', ('--size', '1G'), '1G', 65536, 248)
 
 
 def become(user):
@@ -203,6 +204,7 @@ class Mounted:
         self.environment = {**os.environ, 'PATH': f'{words}:{os.environ["PATH"]}'}
         self.mount.mkdir()
         self.layouts, self.versions, self.version = layouts, itertools.cycle(layouts), None
+        self.large = False
 
     def fresh(self):
         """A new image in place of the last one, and an empty directory."""
@@ -213,8 +215,8 @@ class Mounted:
         self.run('inofs', self.layout().verb, self.image, *self.layout().numbers, check=True, stdout=subprocess.DEVNULL)
 
     def layout(self):
-        """That of the image."""
-        return LAYOUTS[self.version]
+        """That of the image; of version 3 a large one where that is asked for."""
+        return LARGE if self.large and self.version == 3 else LAYOUTS[self.version]
 
     def keeps_times(self):
         """Whether the image has the times of what is on it."""
