@@ -12,7 +12,7 @@ use Rattle.fs_cred.specs.declared.errno.Errno.TheVariants.{EBADF}
 use Rattle.fs_model.specs.declared.call.Whence.{Whence}
 use Rattle.fs_model.specs.declared.call.Call.TheVariants.{Read, Lseek, Close}
 use Rattle.fs_model.specs.declared.reply.Reply.TheVariants.{Data, At}
-use Rattle.fs_model.specs.Limits.{move_limit}
+use Rattle.fs_model.specs.Limits.{run_limit}
 use Rattle.fs_layout.specs.Maps.{get, with_entry, without}
 use Rattle.fs_model.specs.Nodes.{Node, bytes_in, accessed}
 use Rattle.fs_model.specs.Processes.{Process, Descriptor, no_descriptor, descriptor, the_descriptor, with_offset}
@@ -148,10 +148,10 @@ read_confined fd len u pid p new free is runs here confined fits asked met fresh
     let same : the_node (seen_by (Some p) u).tree n ≡ node = the_node-seen p u.tree n ∙ ap (λ b. cond b node (veiled node)) (open_sees p fd node r) in
     let offset = (the_descriptor p fd).offset in
     record {
-      process = ap (λ x. with_offset p fd (offset + length (take (min len move_limit) (drop offset (bytes_in x.body))))) same;
-      reply = ap (λ x. Data (take (min len move_limit) (drop offset (bytes_in x.body)))) same;
+      process = ap (λ x. with_offset p fd (offset + length (take (min len run_limit) (drop offset (bytes_in x.body))))) same;
+      reply = ap (λ x. Data (take (min len run_limit) (drop offset (bytes_in x.body)))) same;
       moved = refl;
       tree =
-          let to = offset + length (take (min len move_limit) (drop offset (bytes_in node.body))) in
+          let to = offset + length (take (min len run_limit) (drop offset (bytes_in node.body))) in
           tree_seen-less p (with_offset p fd to) u.tree (sees_no_more p (with_offset p fd to) (λ m x. offset_less p fd to m x) u.tree);
     }

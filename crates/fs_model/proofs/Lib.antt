@@ -53,6 +53,7 @@ pub mod RowsOfRights
 pub mod RowsOfStops
 pub mod RulesFromTree
 pub mod RulesLaw
+pub mod RunsOfReads
 pub mod SeenTrees
 pub mod Stable
 pub mod StepsAdding

@@ -10,7 +10,7 @@ use Rattle.fs_layout.proofs.Sectors.{IsBytes-take}
 use Rattle.fs_model.specs.declared.call.Whence.{Whence}
 use Rattle.fs_model.specs.declared.reply.Reply.{Reply}
 use Rattle.fs_model.specs.declared.reply.Reply.TheVariants.{Done, Data, Wrote, At}
-use Rattle.fs_model.specs.Limits.{move_limit}
+use Rattle.fs_model.specs.Limits.{move_limit, run_limit}
 use Rattle.fs_model.specs.Nodes.{bytes_in}
 use Rattle.fs_model.specs.Trees.{node_at, IsNode}
 use Rattle.fs_model.specs.Processes.{descriptor, the_descriptor, with_offset}
@@ -58,8 +58,8 @@ module _ (c : Scene) (is : IsScene c) where
         let offset = (the_descriptor c.process fd).offset in
         let bytes = bytes_in (node_open c fd).body in
         let limit : c.state.room.file_limit < 2 ^ 63 = is.state.room.file_limit in
-        let small : offset + length (take (min len move_limit) (drop offset bytes)) < 2 ^ 64 =
-        omega (arith, length-take (min len move_limit) (drop offset bytes), length-drop offset bytes, open_few, offset_small, limit) in
+        let small : offset + length (take (min len run_limit) (drop offset bytes)) < 2 ^ 64 =
+        omega (arith, length-take (min len run_limit) (drop offset bytes), length-drop offset bytes, open_few, offset_small, limit) in
         no_change_fits c.state (with_offset c.process fd (offset + length (read_bytes c fd len))) (Data (read_bytes c fd len)) is.state
         (with_offset_fits c.state.tree c.process is.process fd (offset + length (read_bytes c fd len)) here small)
 

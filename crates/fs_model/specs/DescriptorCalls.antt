@@ -10,7 +10,7 @@ use Rattle.fs_model.specs.declared.call.Whence.{Whence}
 use Rattle.fs_model.specs.declared.call.Whence.TheVariants.{Set, Cur, End}
 use Rattle.fs_model.specs.declared.reply.Status.{Status}
 use Rattle.fs_model.specs.declared.reply.Reply.TheVariants.{Done, Data, Wrote, At, Shown, Names}
-use Rattle.fs_model.specs.Limits.{move_limit}
+use Rattle.fs_model.specs.Limits.{move_limit, run_limit}
 use Rattle.fs_layout.specs.Maps.{without}
 use Rattle.fs_model.specs.Nodes.{Node, is_directory, names_of_body, bytes_in, with_bytes, type_of, shown_mode, shown_size}
 use Rattle.fs_model.specs.Trees.{Tree, parent, names_of}
@@ -22,13 +22,13 @@ use Rattle.fs_model.specs.Demands.{Demand, refuse, only_if}
 use Rattle.fs_model.specs.Parts.{is_empty}
 use Rattle.fs_model.specs.Scenes.{Scene, Effect, Row, node_open, no_blocks, is_bad, is_bad_to_read, is_bad_to_write, nothing_asked, answers, with_process, rewrites, by_descriptor}
 
--- ---- read: from the offset, as many bytes as are asked for, are there, and are moved at once
+-- ---- read: from the offset, as many bytes as are asked for, are there, and are read at once
 
 abbrev pub read_demands : ℕ → Scene → List Demand
 read_demands fd s = refuse EISDIR (is_directory (node_open s fd).body) ∷ []
 
 abbrev pub read_bytes : Scene → ℕ → ℕ → List ℕ
-read_bytes s fd len = take (min len move_limit) (drop (the_descriptor s.process fd).offset (bytes_in (node_open s fd).body))
+read_bytes s fd len = take (min len run_limit) (drop (the_descriptor s.process fd).offset (bytes_in (node_open s fd).body))
 
 abbrev pub read_effect : ℕ → ℕ → Scene → Effect
 read_effect fd len s =

@@ -2,7 +2,9 @@
 -- its constants; those that differ by its version are a disk's room (NAME_MAX, LINK_MAX, the names in one directory).
 --     path_limit, links_limit        PATH_MAX less 1, SYMLOOP_MAX
 --     target_limit        SYMLINK_MAX
---     descriptors_limit, processes_limit, move_limit        OPEN_MAX, CHILD_MAX, bytes in one read or write
+--     descriptors_limit, processes_limit        OPEN_MAX, CHILD_MAX
+--     move_limit        bytes in one write, and in one read of a script
+--     run_limit        bytes in one read: a run of 32 moves
 --     least_free        free data sectors without which nothing is taken
 --     root        the number of the root's inode
 use Rattle.std.specs.Prelude.{ℕ}
@@ -27,6 +29,9 @@ processes_limit = 64
 
 abbrev pub move_limit : ℕ
 move_limit = 4096
+
+abbrev pub run_limit : ℕ
+run_limit = 131072
 
 abbrev pub least_free : ℕ
 least_free = 16

@@ -3,6 +3,7 @@ ghost use Rattle.fs_cred.specs.Laws.{HasAnAnswer, HasOneAnswer, VerdictDecides};
 ghost use Rattle.fs_model.specs.Laws.{AccessKindsAgree, CountsFit, EffectsAnswerOtherwise, FindingRefuses, FindsAreThere, FirmRefusesOtherwise, FollowedAreNoLinks, FreeAreClear, NewDiskStands, NewImagesExist, NoneRefuses, NothingToDrop, NumbersAreCounts, ObeyingStands, OneFinding, OneNodeChanges, OpenStays, OtherRefusesOtherwise, PruningKeeps, RefusesLeast, RewritingKeeps, SameProcessStays, SomeImageStands, StandingObeys, StandingRests, StandingRestsOnReading, StandsForOne, StandsInVersion, StepsKeep, StoredKindsAgree, SyncingKeeps, TypesComeBack, WalksRefuseOtherwise};
 ghost use Rattle.fs_model.specs.Confinement.{Confinement, GoneIsRefused, StepsAreBy, StepsBy};
 ghost use Rattle.fs_model.specs.Ranges.{IsSomeId, IsCall};
+ghost use Rattle.fs_model.specs.Runs.{RunsAreRefusedAlike, RunsOfMoves};
 ghost use Rattle.posix_acl.specs.AccessList.{IsSomeAcl};
 
 use crate::call::Call;
@@ -198,4 +199,11 @@ pub fn unreadable_bytes_do_not_show()
     ensures gone { GoneIsRefused }
     ensures choices { StepsAreBy }
     ensures steps { StepsBy }
+{}
+
+/// A read of many bytes, up to a run of 32 moves, means reads of its parts, one after another, however it is parted: the same bytes
+/// and the same state behind the last, where one that is short is the last. And what refuses it refuses each of them.
+pub fn runs_of_moves()
+    ensures means { RunsOfMoves }
+    ensures refused { RunsAreRefusedAlike }
 {}
