@@ -64,6 +64,9 @@ said =
     ∷ (codes "1 open /a rw 600", asked (Call 1 (calls.Open (codes "/a") for_both 384)))
     ∷ (codes "1 chown /a - 100", asked (Call 1 (calls.Chown (codes "/a") None (Some 100))))
     ∷ (codes "1 truncate /a 18446744073709551615", asked (Call 1 (calls.Truncate (codes "/a") 18446744073709551615)))
+    -- a line reads at most 4,096 bytes
+    ∷ (codes "1 read 3 4095", asked (Call 1 (calls.Read 3 4095)))
+    ∷ (codes "1 read 3 9999", asked (Call 1 (calls.Read 3 4096)))
     ∷ (codes "1 write 3 a" ++ 92 ∷ codes "00b", asked (Call 1 (calls.Write 3 (97 ∷ 0 ∷ 98 ∷ []))))
     ∷ (codes "1 lseek 3 end -10", asked (Call 1 (calls.Lseek 3 End (negsuc 9))))
     ∷ (codes "1 lseek 3 cur -9223372036854775808", asked (Call 1 (calls.Lseek 3 Cur (negsuc 9223372036854775807))))

@@ -7,7 +7,7 @@
 --     has_words        whether a line is read word by word
 --     line_value        what a line says, or the first thing that is wrong with it
 --     IsSaid, LineSays        the same with its ACL
-use Rattle.std.specs.Prelude.{◌≡◌, ℕ, ℤ, ◌==◌, nat_le, nat_lt, Bool, false, not, ◌&&◌, List, [], ◌∷◌, ◌++◌, length, codes, ok_or, unwrap_or, Option, None, Some, Result, Ok, Err, if◌then◌else◌}
+use Rattle.std.specs.Prelude.{◌≡◌, ℕ, ℤ, ◌==◌, nat_le, nat_lt, min, Bool, false, not, ◌&&◌, List, [], ◌∷◌, ◌++◌, length, codes, ok_or, unwrap_or, Option, None, Some, Result, Ok, Err, if◌then◌else◌}
 use Rattle.std.specs.List.{find, list_all, slice_get}
 use Rattle.std.specs.Str.{bytes_eq}
 use Rattle.posix_acl.specs.AccessList.{AccessList}
@@ -20,6 +20,7 @@ use Rattle.fs_model.specs.declared.call.Flags.{Flags}
 use Rattle.fs_model.specs.declared.call.Whence.{Whence}
 use Rattle.fs_model.specs.declared.event.Event.{Event}
 use Rattle.fs_model.specs.declared.event.Event.TheVariants as events
+use Rattle.fs_model.specs.Limits.{move_limit}
 use Rattle.fs_lines.specs.declared.line.Line.{Line}
 use Rattle.fs_lines.specs.declared.line.Line.TheVariants.{Blank, Event as Asks}
 use Rattle.fs_lines.specs.declared.line.LineFault.{LineFault}
@@ -128,10 +129,10 @@ path_commands =
     ∷ behind_pid (codes "setacl") (two_and_acl bytes acl_type) (λ pid path which acl. events.Call pid (calls.SetAcl path which acl))
     ∷ []
 
--- The commands whose first word is a descriptor.
+-- The commands whose first word is a descriptor. A line reads one move at most.
 abbrev pub descriptor_commands : List CommandRow
 descriptor_commands =
-    behind_pid (codes "read") (two number number) (λ pid fd count. events.Call pid (calls.Read fd count))
+    behind_pid (codes "read") (two number number) (λ pid fd count. events.Call pid (calls.Read fd (min count move_limit)))
     ∷ behind_pid (codes "write") (two number bytes) (λ pid fd content. events.Call pid (calls.Write fd content))
     ∷ behind_pid (codes "lseek") (three number whence offset) (λ pid fd from by. events.Call pid (calls.Lseek fd from by))
     ∷ behind_pid (codes "close") (one number) (λ pid fd. events.Call pid (calls.Close fd))

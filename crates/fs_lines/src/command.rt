@@ -17,6 +17,9 @@ use std::alloc::Global;
 // The mode of a file that is made, where none is given.
 const NEW_FILE_MODE: u16 = 0o666;
 
+// The most bytes that a line reads: those of one move.
+const MAX_READ: usize = 4096;
+
 /// What the words of a line ask for.
 #[tactic(auto, unfolding(crate::specs::Commands::words_value))]
 pub fn read_event(alloc: Global, words: &[Word<'_>]) -> Result<Event, LineFault>
@@ -138,7 +141,8 @@ fn read_descriptor_command(name: &str, operands: Operands<'_>) -> Result<Event, 
 {
     match name {
         "read" => {
-            let (pid, fd, len) = operands.two()?;
+            let (pid, fd, len): (usize, usize, usize) = operands.two()?;
+            let len = len.min(MAX_READ);
             Ok(Event::Call(pid, Call::Read { fd, len }))
         }
         "write" => {
