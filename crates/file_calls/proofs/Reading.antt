@@ -16,7 +16,7 @@ use Rattle.block_map.specs.Blocks.{IsReadOf}
 use Rattle.fs_model.specs.declared.call.Call.TheVariants.{Read}
 use Rattle.fs_model.specs.declared.reply.Reply.TheVariants.{Data}
 use Rattle.fs_model.specs.Demands.{refuse, first_of}
-use Rattle.fs_model.specs.Limits.{move_limit}
+use Rattle.fs_model.specs.Limits.{run_limit}
 use Rattle.fs_model.specs.Nodes.{Node, bytes_in}
 use Rattle.fs_model.specs.Processes.{ProcessTable, Descriptor, with_offset}
 use Rattle.fs_model.specs.Rows.{row_of}
@@ -71,16 +71,16 @@ module _ {p : Geometry} {map : SectorMap} {processes : ProcessTable} {pid fd : �
       ap (λ (b : Bool). first_of (refuse EISDIR b ∷ [])) (open_kind o s at v is) ∙ first_refuses (refuse EISDIR (is_directory_kind v.kind)) [] e refuses
 
   module _ (v : Inode) (is : v ≡ inode_at p map d.ino) (no_directory : v.kind ≢ kinds.Directory) (len : ℕ) (read : List ℕ)
-      (found : (bytes : List ℕ) → Holds map v bytes → read ≡ take (min len move_limit) (drop d.offset bytes)) where
-    read_is_part : read ≡ take (min len move_limit) (drop d.offset (bytes_in (node_open scene fd).body))
+      (found : (bytes : List ℕ) → Holds map v bytes → read ≡ take (min len run_limit) (drop d.offset bytes)) where
+    read_is_part : read ≡ take (min len run_limit) (drop d.offset (bytes_in (node_open scene fd).body))
     read_is_part = found (bytes_in (node_open scene fd).body) (open_file o s at v is no_directory).holds
 
     pub read_told : (first_of (read_demands fd scene) ≡ None) × (read_effect fd len scene ≡ with_process (with_offset o.process fd (d.offset + length read)) (Data read))
     read_told =
         let bytes = bytes_in (node_open scene fd).body in (
           ap (λ (b : Bool). first_of (refuse EISDIR b ∷ [])) (open_file o s at v is no_directory).no_directory,
-          ap (λ (x : Descriptor). with_process (with_offset o.process fd (x.offset + length (take (min len move_limit) (drop x.offset bytes))))
-              (Data (take (min len move_limit) (drop x.offset bytes)))) (the_opened o)
+          ap (λ (x : Descriptor). with_process (with_offset o.process fd (x.offset + length (take (min len run_limit) (drop x.offset bytes))))
+              (Data (take (min len run_limit) (drop x.offset bytes)))) (the_opened o)
               ∙ ap (λ (l : List ℕ). with_process (with_offset o.process fd (d.offset + length l)) (Data l)) (sym read_is_part),
         )
 
@@ -93,5 +93,5 @@ module _ {p : Geometry} {map : SectorMap} {processes : ProcessTable} {pid fd : �
         subst (λ (n : Node). length (bytes_in n.body) ≤ s.room.file_limit) (sym (open_node o s at))
         (bytes_are_few s.room s.tree x.node.body (at.is_state.tree.each d.ino x.node x.is_there).body) in
         let limit : s.room.file_limit < 2 ^ 63 = at.is_state.room.file_limit in
-        let part : length read ≡ length (take (min len move_limit) (drop d.offset bytes)) = ap length read_is_part in
-        omega (arith, part, length-take (min len move_limit) (drop d.offset bytes), length-drop d.offset bytes, few, limit, x.offset)
+        let part : length read ≡ length (take (min len run_limit) (drop d.offset bytes)) = ap length read_is_part in
+        omega (arith, part, length-take (min len run_limit) (drop d.offset bytes), length-drop d.offset bytes, few, limit, x.offset)

@@ -3,7 +3,7 @@
 ghost use Rattle.std.specs.Prelude.{◌≡◌, ℕ, List, min, take, drop, pos, ◌+ℤ◌, IfOk, IfErr};
 ghost use Rattle.fs_model.specs.declared.call.Call.TheVariants.{Read, Lseek};
 ghost use Rattle.fs_model.specs.DescriptorCalls.{seekable};
-ghost use Rattle.fs_model.specs.Limits.{move_limit};
+ghost use Rattle.fs_model.specs.Limits.{run_limit};
 ghost use Rattle.block_map.specs.Blocks.{IsWithin};
 ghost use Rattle.fs_layout.specs.Images.{Holds};
 ghost use Rattle.sector_txn.specs.Sectors.{IsUnchanged};
@@ -19,13 +19,16 @@ use open_files::Procs;
 use sector_txn::Sectors;
 use std::alloc::Global;
 
-/// The most bytes that one read or write moves.
+/// The most bytes that one write moves.
 pub const MAX_MOVE: usize = 4096;
+
+/// The most bytes that one read gives: a run of 32 moves.
+pub const MAX_RUN: usize = 131_072;
 
 // The least number that is no offset.
 const OFFSET_END: u64 = 1 << 63;
 
-// What a file holds from `offset` on: at most `len` bytes, and at most 4,096. ENOMEM: there is no memory for them.
+// What a file holds from `offset` on: at most `len` bytes, and at most 131,072. ENOMEM: there is no memory for them.
 fn read_bytes<S: Sectors>(
     alloc: Global,
     s: &mut S,
@@ -35,12 +38,12 @@ fn read_bytes<S: Sectors>(
 ) -> Result<Bytes, Refusal>
     requires within { IsWithin (S.state s.old).header (S.state s.old).disk.size (S.state s.old).sectors inode.now }
     ensures found { IfOk result (λ read. (bytes : List ℕ) → Holds (S.state s.old).sectors inode.now bytes
-        → read ≡ take (min len move_limit) (drop offset bytes)) }
+        → read ≡ take (min len run_limit) (drop offset bytes)) }
     ensures fault { IfErr result (λ e. Interrupts (S.state s.old).disk (S.state s.new).disk e) }
     ensures same { IsUnchanged (S.state s.old) (S.state s.new) }
 {
     let count = len
-        .min(MAX_MOVE)
+        .min(MAX_RUN)
         .min(inode.size.saturating_sub(offset) as usize);
     let mut bytes = Vec::new(alloc);
     let Ok(_) = bytes.resize(count, 0) else {
@@ -52,7 +55,7 @@ fn read_bytes<S: Sectors>(
     Ok(Bytes::new(bytes))
 }
 
-/// Reads at most `len` bytes, and at most 4,096, from the offset of a descriptor on, which moves by their number.
+/// Reads at most `len` bytes, and at most 131,072, from the offset of a descriptor on, which moves by their number.
 ///
 /// EBADF: it isn't open for reading. EISDIR: it is for a directory.
 pub fn read<S: Sectors>(
