@@ -1,6 +1,6 @@
 -- What requests for files change: no more than they say.
 use Rattle.std.specs.Prelude.{◌≡◌, ℕ, ◌+◌, ◌-◌, zero, suc, Bool, true, List, [], ◌∷◌, map, Option, Result, Ok, Err}
-use Rattle.fs_model.specs.Limits.{move_limit}
+use Rattle.fs_model.specs.Limits.{run_limit}
 use Rattle.fs_model.specs.declared.call.Call.{Call}
 use Rattle.fs_model.specs.declared.call.Call.TheVariants.{Write as WriteCall, Ftruncate}
 use Rattle.fs_model.specs.declared.reply.Reply.{Reply}
@@ -74,7 +74,7 @@ module _ {o : Option Operation} where
   unfolding read_pieces
   asks-read_pieces zero pid fd size bytes = asks-give bytes
   asks-read_pieces (suc k) pid fd size bytes =
-      let later = λ (more : List ℕ). asks-read_pieces k pid fd (size - move_limit) more in
+      let later = λ (more : List ℕ). asks-read_pieces k pid fd (size - run_limit) more in
       search (pieces, asks-read_piece, later) depth 12
 
   pub asks-read_file : (extent : Extent) → Asks o (read_file extent)

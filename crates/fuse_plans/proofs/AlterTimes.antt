@@ -7,7 +7,7 @@ use Rattle.posix_acl.specs.declared.entry.Perms.{Perms}
 use Rattle.fs_cred.specs.Credentials.{Credential}
 use Rattle.fs_cred.specs.declared.refusal.Refusal.{Refusal}
 use Rattle.fs_layout.specs.Maps.{get}
-use Rattle.fs_model.specs.Limits.{move_limit}
+use Rattle.fs_model.specs.Limits.{run_limit}
 use Rattle.fs_model.specs.declared.call.AclType.{AclType}
 use Rattle.fs_model.specs.declared.call.Call.{Call}
 use Rattle.fs_model.specs.declared.event.Event.{Event}
@@ -299,7 +299,7 @@ keeps-read_pieces : (k pid fd size : ℕ) (bytes : List ℕ) → Timeless (read_
 unfolding read_piece read_pieces
 keeps-read_pieces zero pid fd size bytes = keeps-give bytes
 keeps-read_pieces (suc k) pid fd size bytes =
-    let later = λ (more : List ℕ). keeps-read_pieces k pid fd (size - move_limit) more in
+    let later = λ (more : List ℕ). keeps-read_pieces k pid fd (size - run_limit) more in
     search (pieces, later) depth 16
 
 keeps-read_file : (extent : Extent) → Timeless (read_file extent)

@@ -8,7 +8,7 @@ use Rattle.fs_model.specs.declared.reply.FileType.{FileType}
 use Rattle.fs_model.specs.declared.reply.Reply.{Reply}
 use Rattle.fs_model.specs.declared.reply.Stamps.{Stamps}
 use Rattle.fs_model.specs.declared.reply.Status.{Status}
-use Rattle.fs_model.specs.Limits.{move_limit}
+use Rattle.fs_model.specs.Limits.{run_limit}
 use Rattle.fuse_plans.specs.declared.mode.Mode.{Mode}
 use Rattle.fuse_plans.specs.declared.request_error.RequestError.{RequestError}
 use Rattle.fuse_plans.specs.declared.request.Asked.{Asked}
@@ -151,7 +151,7 @@ module _ {rights : Rights} {P : Server → Type 0} where
   unfolding read_pieces
   does-read_pieces handle given zero size bytes = does-give bytes
   does-read_pieces handle given (suc k) size bytes =
-      let later = λ (more : List ℕ). does-read_pieces handle given k (size - move_limit) more in
+      let later = λ (more : List ℕ). does-read_pieces handle given k (size - run_limit) more in
       does-if _ _ _ (does-give bytes)
       (does->>= (does-read_piece _ _ _ (handle-can handle given _ (itself _))) (λ piece. does-if _ _ _ (does-give _) (later _)))
 

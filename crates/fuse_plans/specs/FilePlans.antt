@@ -1,6 +1,7 @@
 -- Plans of requests for files: to open and create them, and what is done by a handle.
 --     open_file, create_file, read_file, write_file, close_file, sync_file
---     pieces_in        bytes, by as many as are moved at once
+--     runs_of, pieces_of        how many reads and writes so many bytes take
+--     pieces_in        bytes, by as many as are written at once
 use Rattle.std.specs.Prelude.{ℕ, ◌+◌, ◌-◌, ◌/◌, ◌^◌, ◌==◌, nat_lt, min, suc, zero, Bool, true, false, ◌&&◌, not, List, [], ◌∷◌, ◌++◌, map, sum_by, take, drop, length, Option, Result, Ok, Err, if◌then◌else◌, bit_and, pos}
 use Rattle.posix_acl.specs.Entries.{perms_of}
 use Rattle.fs_cred.specs.declared.errno.Errno.TheVariants.{EEXIST, EINVAL, EBADF}
@@ -13,7 +14,7 @@ use Rattle.fs_model.specs.declared.reply.Stamps.{Stamps}
 use Rattle.fs_model.specs.declared.reply.Status.{Status}
 use Rattle.fuse_protocol.specs.declared.flags.OpenedFlags.{OpenedFlags}
 use Rattle.fuse_protocol.specs.declared.reply.Time.{Time}
-use Rattle.fs_model.specs.Limits.{move_limit}
+use Rattle.fs_model.specs.Limits.{move_limit, run_limit}
 use Rattle.fuse_plans.specs.declared.request_error.RequestError.{RequestError}
 use Rattle.fuse_plans.specs.declared.request_error.RequestError.TheVariants.{Lacks}
 use Rattle.fuse_plans.specs.RequestErrors.{failed, is_for}
@@ -196,20 +197,20 @@ read_piece pid fd most = do
   reply ← obtain (Calls pid (ReadCall fd most))
   replied_data most reply
 
--- Pieces of as many bytes as are moved at once, until one is short: so many pieces at most, behind what was read.
+-- Pieces of as many bytes as are read at once, until one is short: so many pieces at most, behind what was read.
 unfoldable pub read_pieces : ℕ → ℕ → ℕ → ℕ → List ℕ → Work (List ℕ)
 read_pieces zero pid fd size bytes = give bytes
 read_pieces (suc k) pid fd size bytes = if size == 0 then give bytes else do
-  piece ← read_piece pid fd (min move_limit size)
-  if nat_lt (length piece) (min move_limit size) then give (bytes ++ piece) else read_pieces k pid fd (size - move_limit) (bytes ++ piece)
+  piece ← read_piece pid fd (min run_limit size)
+  if nat_lt (length piece) (min run_limit size) then give (bytes ++ piece) else read_pieces k pid fd (size - run_limit) (bytes ++ piece)
 
-abbrev pub pieces_of : ℕ → ℕ
-pieces_of size = size / move_limit + 1
+abbrev pub runs_of : ℕ → ℕ
+runs_of size = size / run_limit + 1
 
 abbrev pub read_file : Extent → Work ReplyBody
 read_file extent = do
   seek_open extent.handle extent.offset
-  bytes ← read_pieces (pieces_of extent.size) (owner_of extent.handle) (descriptor_of extent.handle) extent.size []
+  bytes ← read_pieces (runs_of extent.size) (owner_of extent.handle) (descriptor_of extent.handle) extent.size []
   give (Bytes bytes)
 
 -- so many bytes a call writes
@@ -240,11 +241,14 @@ write_pieces pid done (call ∷ calls) = do
   count ← or_done done wrote
   if nat_lt count (length_written call) then give (done + count) else write_pieces pid (done + count) calls
 
--- at most so many pieces
+-- pieces of as many bytes as are written at once: at most so many
 abbrev pub pieces_in : ℕ → List ℕ → List (List ℕ)
 pieces_in zero bytes = []
 pieces_in (suc k) [] = []
 pieces_in (suc k) (b ∷ bs) = take move_limit (b ∷ bs) ∷ pieces_in k (drop move_limit (b ∷ bs))
+
+abbrev pub pieces_of : ℕ → ℕ
+pieces_of size = size / move_limit + 1
 
 abbrev pub writes_of : ℕ → List ℕ → List Call
 writes_of fd bytes = map (WriteCall fd) (pieces_in (pieces_of (length bytes)) bytes)
