@@ -46,15 +46,15 @@ has_more start old new entries i content is so_far put j le lt =
 abbrev pub added_among : List Entry → List Entry → ℕ → ℕ
 added_among start entries i = count_by (λ n. not (has_entry start n)) (take i (targets entries))
 
-added_yes : (start entries : List Entry) (i : ℕ) → i < length entries → has_entry start (target_at entries i) ≡ false → added_among start entries (i + 1) ≡ added_among start entries i + 1
+pub added_yes : (start entries : List Entry) (i : ℕ) → i < length entries → has_entry start (target_at entries i) ≡ false → added_among start entries (i + 1) ≡ added_among start entries i + 1
 added_yes start entries i lt none =
     count_by_more_yes (λ n. not (has_entry start n)) (targets entries) i 0 (omega (arith, lt, length-targets entries)) (ap (λ n. not (has_entry start n)) (target_is entries i lt) ∙ ap not none)
 
-added_no : (start entries : List Entry) (i : ℕ) → i < length entries → has_entry start (target_at entries i) ≡ true → added_among start entries (i + 1) ≡ added_among start entries i
+pub added_no : (start entries : List Entry) (i : ℕ) → i < length entries → has_entry start (target_at entries i) ≡ true → added_among start entries (i + 1) ≡ added_among start entries i
 added_no start entries i lt has =
     count_by_more_no (λ n. not (has_entry start n)) (targets entries) i 0 (omega (arith, lt, length-targets entries)) (ap (λ n. not (has_entry start n)) (target_is entries i lt) ∙ ap not has)
 
-added_below : (start entries : List Entry) (i : ℕ) → added_among start entries i ≤ added start entries
+pub added_below : (start entries : List Entry) (i : ℕ) → added_among start entries i ≤ added start entries
 added_below start entries i = sum_by-take-le (λ n. cond (not (has_entry start n)) 1 0) (targets entries) i
 
 length_more : (start old new entries : List Entry) (i : ℕ) → i < length entries → HasAsBefore start old entries i → length old ≡ length start + added_among start entries i

@@ -7,7 +7,7 @@ mod Absorbing
 mod Marks
 pub mod Meaning
 mod Placing
-mod Splitting
+mod Sharing
 pub mod Used
 mod Writing
 mod Reading

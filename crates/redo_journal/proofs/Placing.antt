@@ -1,11 +1,11 @@
 -- Sectors that are written to their places while a batch is logged.
 use Rattle.std.proofs.Common.{◌≡◌, ◌⊎◌, inl, inr, ⊎_elim, ℕ, suc, ◌+◌, ◌*◌, ◌/◌, ◌≤◌, ◌<◌, List, [], ◌∷◌, length, eqb, get_or, arith, refl, sym, ◌∙◌, ap, subst}
-use Rattle.std.proofs.lemmas.Bool.{cases_eq, cases_lt, cond-true, cond-false, eq-eqb, ne_eqb}
+use Rattle.std.proofs.lemmas.Bool.{cases_eq, cond-true, cond-false, eq-eqb, ne_eqb}
 use Rattle.std.proofs.lemmas.Map.Made.{Contains-tail}
-use Rattle.std.specs.Prelude.{Contains}
+use Rattle.std.specs.Prelude.{All, Contains}
 use Rattle.fs_layout.specs.Bytes.{SectorMap}
 use Rattle.fs_layout.specs.Header.{header_of, log_end, max_targets, area_start}
-use Rattle.fs_layout.specs.Commit.{AreTargets, named_area, named_start}
+use Rattle.fs_layout.specs.Commit.{named_area, named_start}
 use Rattle.fs_layout.proofs.RecoveryLaw.{contains_at, low_no_target, recovered-same}
 use Rattle.fs_layout.proofs.Targets.{area_room, same_start}
 use Rattle.sector_disk.specs.Disk.{DiskState, Image, sector, AddsOnly, IsImageOr, IsStable}
@@ -51,19 +51,22 @@ place_keeps_but {R} F ts disk place high apart image is =
           ]) none);
     }
 
--- targets lie behind the log
-targets_high : (header size : ℕ) (sectors : List ℕ) → AreTargets header size sectors → (n : ℕ) → Contains sectors n → log_end header ≤ n
-targets_high header size sectors valid n among = elim (cases_lt n (log_end header)) [
-  | inl low ↦ absurd (low_no_target header size sectors n valid low among)
-  | inr high ↦ omega (arith, high)
-]
+-- sectors that lie behind the log of a disk
+abbrev AreBehind : ℕ → ℕ → List ℕ → Type 0
+AreBehind header size sectors = All (λ t. (log_end header ≤ t) × (t < size)) sectors
+
+behind_high : (header size : ℕ) (sectors : List ℕ) → AreBehind header size sectors → (n : ℕ) → Contains sectors n → log_end header ≤ n
+behind_high header size sectors valid n among = subst (λ (t : ℕ). log_end header ≤ t) among.2 (valid among.0 n among.1).0
+
+none_low : (header size : ℕ) (sectors : List ℕ) (n : ℕ) → AreBehind header size sectors → n < log_end header → Contains sectors n → ⊥
+none_low header size sectors n valid low among = let high = behind_high header size sectors valid n among in omega (arith, high, low)
 
 -- so while a batch is logged and these sectors are written
-pub beside_keeps : (sectors : List ℕ) (header area : ℕ) (disk : DiskState) → IsReady disk → HasHeader header disk → HasNext area disk → AreTargets (header_on disk) disk.size sectors
+pub beside_keeps : (sectors : List ℕ) (header area : ℕ) (disk : DiskState) → IsReady disk → HasHeader header disk → HasNext area disk → AreBehind (header_on disk) disk.size sectors
     → (image : Image) → IsImageOr (InLogOr header area sectors) disk image → ReadsBut (Contains sectors) disk.size (data_of disk) image
 beside_keeps sectors header area disk ready has next valid image is =
     let room = area_room (header_on disk) (next_at disk.seen) in
-    place_keeps_but {R = InLogOr (header_on disk) (next_at disk.seen) sectors} (Contains sectors) ready.sectors disk ready.is (targets_high (header_on disk) disk.size sectors valid)
+    place_keeps_but {R = InLogOr (header_on disk) (next_at disk.seen) sectors} (Contains sectors) ready.sectors disk ready.is (behind_high (header_on disk) disk.size sectors valid)
     (λ n c. ⊎_elim (λ log. inr (omega (arith, log.0, room.0), omega (arith, log.1, room.1), λ some low high. next_apart disk ready n some low high c log)) (λ among. inl among))
     image (subst (λ (a : ℕ). IsImageOr (InLogOr (header_on disk) a sectors) disk image) next (subst (λ (h : ℕ). IsImageOr (InLogOr h area sectors) disk image) has.is is))
 
@@ -84,10 +87,10 @@ abbrev pub as_written : DiskState → Image → DiskState
 as_written disk image = record disk { seen = image; may_hold = λ n content. content ≡ sector image n }
 
 -- where sectors behind the log are written that are no targets of the commit that stands, that commit stays in place
-module _ (sectors : List ℕ) (disk : DiskState) (ready : IsReady disk) (valid : AreTargets (header_on disk) disk.size sectors) (beside : IsBeside sectors disk) (image : Image)
+module _ (sectors : List ℕ) (disk : DiskState) (ready : IsReady disk) (valid : AreBehind (header_on disk) disk.size sectors) (beside : IsBeside sectors disk) (image : Image)
     (whole : length image ≡ disk.size) (others : (n : ℕ) → (Contains sectors n → ⊥) → sector image n ≡ sector disk.seen n) where
   pub low_same : (n : ℕ) → n < log_end (header_on disk) → sector image n ≡ sector disk.seen n
-  low_same n low = others n (λ among. low_no_target (header_on disk) disk.size sectors n valid low among)
+  low_same n low = others n (λ among. none_low (header_on disk) disk.size sectors n valid low among)
 
   pub super_same : sector image 0 ≡ sector disk.seen 0
   super_same = low_same 0 (omega arith)
@@ -133,7 +136,7 @@ written_batch (e ∷ entries) f h placed n other = elim (cases_eq n e.0) [
 
 -- one batch is written to its sectors, the other logged, and all is stable
 module _ (placed entries : List Entry) (header area : ℕ) (old wrote headed logged new : DiskState) (ready : IsReady old) (has : HasHeader header old) (next : HasNext area old)
-    (valid : AreTargets (header_on old) old.size (targets placed)) (beside : IsBeside (targets placed) old) (whole : length wrote.seen ≡ old.size)
+    (valid : IsOnDisk (header_on old) old.size placed) (beside : IsBeside (targets placed) old) (whole : length wrote.seen ≡ old.size)
     (written : HoldsTargets placed wrote.seen) (others : (n : ℕ) → (Contains (targets placed) n → ⊥) → sector wrote.seen n ≡ sector old.seen n) where
   has_written : HasHeader header (as_written old wrote.seen)
   has_written = record { is = has.is ∙ ap header_of (sym (super_same (targets placed) old ready valid beside wrote.seen whole others)); most = has.most }

@@ -7,7 +7,7 @@ use Rattle.std.proofs.lemmas.Map.Made.{AllPairs-from_IsDistinct, IsDistinct-from
 use Rattle.std.specs.Prelude.{All}
 use Rattle.std.specs.List.{AllByRecursion, IsDistinct}
 use Rattle.fs_layout.specs.Bytes.{SectorMap}
-use Rattle.fs_layout.specs.declared.commit.TheConstants.{MAX_LOG_SECTORS}
+use Rattle.redo_journal.specs.declared.batch.TheConstants.{MOST_SECTORS}
 use Rattle.fs_layout.specs.InodeChanges.{Puts}
 use Rattle.fs_layout.specs.Commit.{AreDistinct}
 use Rattle.fs_layout.specs.Header.{log_end}
@@ -69,9 +69,9 @@ few_put most es n content room few = elim (cases_Bool (has_entry es n)) [
   | inr none ↦ omega (arith, room none, length-put es n content, cond-false (has_entry es n) (length es) (length es + 1) none)
 ]
 
-pub batch_put : (entries : List Entry) (n : ℕ) (content : List ℕ) → IsBatch entries → 128 ≤ n → (has_entry entries n ≡ false → length entries < MAX_LOG_SECTORS) → IsBatch (put_entry entries n content)
+pub batch_put : (entries : List Entry) (n : ℕ) (content : List ℕ) → IsBatch entries → 128 ≤ n → (has_entry entries n ≡ false → length entries < MOST_SECTORS) → IsBatch (put_entry entries n content)
 batch_put entries n content is high room = record {
-  few = few_put MAX_LOG_SECTORS entries n content room is.few;
+  few = few_put MOST_SECTORS entries n content room is.few;
   high = all_put (λ m. 128 ≤ m) entries n content is.high high;
   apart = apart_put entries n content is.apart;
 }

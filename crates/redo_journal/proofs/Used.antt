@@ -13,7 +13,7 @@ use Rattle.fs_layout.specs.declared.geometry.TheConstants.{SECTOR_BITS}
 use Rattle.fs_layout.specs.Images.{bit}
 use Rattle.fs_layout.specs.InodeChanges.{IsFree}
 use Rattle.fs_layout.specs.Ownership.{Agrees}
-use Rattle.fs_layout.specs.Commit.{AreTargets, IsCommit}
+use Rattle.fs_layout.specs.Commit.{IsCommit}
 use Rattle.fs_layout.specs.Superblock.{super_of}
 use Rattle.fs_layout.proofs.Codecs.{same_ok}
 use Rattle.fs_layout.proofs.Places.{after_map, before_data, is_a_geometry}
@@ -25,7 +25,7 @@ use Rattle.sector_disk.proofs.Moments.{joined, weaker}
 use Rattle.redo_journal.specs.Batch.{Entry, IsOnDisk, targets, with_batch}
 use Rattle.redo_journal.specs.Meaning.{HasLayout, HasValidCommit, IsMapped, IsSpare, SameMap, SameUsed, ReadsAs, ReadsBut, MeansAs, MeansUsed, LeavesAllOrNone, LeavesSameMap, LeavesUsedOr, data_of}
 use Rattle.redo_journal.specs.States.{IsAtRest, IsIdle, StandsIn}
-use Rattle.redo_journal.proofs.Meaning.{batch_same, batch_super, commit_stays_low, header_on, mapped_by, reads_same, super_on_disk}
+use Rattle.redo_journal.proofs.Meaning.{batch_same, commit_stays_low, header_on, mapped_by, reads_same, super_on_disk}
 
 -- a map has one layout
 one_super : {map : SectorMap} {p q : Geometry} (a : HasLayout map p) (b : HasLayout map q) → a.super ≡ b.super
@@ -101,7 +101,7 @@ with_batch_other (e ∷ entries) f n none =
     cond-false (eqb n e.0) e.1 (with_batch entries f n) (ne_eqb n e.0 (λ is. none (contains_at (targets (e ∷ entries)) 0 n (omega arith) (sym is))))
     ∙ with_batch_other entries f n (λ among. none (suc among.0, omega (arith, among.1), among.2))
 
-module _ (placed entries : List Entry) (header : ℕ) (old : DiskState) (valid : HasValidCommit old.size old.seen) (places : AreTargets header old.size (targets placed))
+module _ (placed entries : List Entry) (header : ℕ) (old : DiskState) (valid : HasValidCommit old.size old.seen) (places : IsOnDisk header old.size placed)
     (on_disk : IsOnDisk header old.size entries) (spare : (n : ℕ) → Contains (targets placed) n → IsSpare (data_of old) n) where
   -- once the first is in place, all is as before where sectors were in use
   placed_means : (image : Image) → ReadsAs old.size (with_batch placed (data_of old)) image → MeansUsed old.size old.seen image
@@ -109,7 +109,7 @@ module _ (placed entries : List Entry) (header : ℕ) (old : DiskState) (valid :
     whole = reads.whole;
     commit = (λ _. reads.commit, λ _. valid);
     reads = λ n part used.
-        reads.reads n (mapped_by (data_of old) (with_batch placed (data_of old)) n (sym (batch_super placed header old.size (data_of old) places)) part)
+        reads.reads n (mapped_by (data_of old) (with_batch placed (data_of old)) n (sym (super_on_disk placed header old.size (data_of old) places)) part)
         ∙ with_batch_other placed (data_of old) n (λ among. used (spare n among));
   }
 

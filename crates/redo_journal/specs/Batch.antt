@@ -7,7 +7,7 @@
 --     added        how many sectors another batch adds
 use Rattle.std.specs.Prelude.{ℕ, zero, suc, ◌<◌, ◌≤◌, ◌+◌, Bool, true, false, List, [], ◌∷◌, length, map, All, slice_index_or, if◌then◌else◌, nat_eq, not, count_by}
 use Rattle.std.specs.List.{zip}
-use Rattle.fs_layout.specs.declared.commit.TheConstants.{MAX_LOG_SECTORS}
+use Rattle.redo_journal.specs.declared.batch.TheConstants.{MOST_SECTORS}
 use Rattle.fs_layout.specs.declared.header.TheConstants.{LEAST_LOG_END}
 use Rattle.fs_layout.specs.Bytes.{SectorMap}
 use Rattle.fs_layout.specs.Commit.{AreDistinct}
@@ -33,9 +33,9 @@ target_at entries k = (slice_index_or entries k (0, [])).0
 abbrev pub content_at : List Entry → ℕ → List ℕ
 content_at entries k = (slice_index_or entries k (0, [])).1
 
--- at most as many sectors as any commit has, each once, and none before the bitmaps
+-- at most so many sectors, each once, and none before the bitmaps
 pub record IsBatch (entries : List Entry) : Type 0 where
-  pub few : length entries ≤ MAX_LOG_SECTORS
+  pub few : length entries ≤ MOST_SECTORS
   pub high : All (λ t. LEAST_LOG_END ≤ t) (targets entries)
   pub apart : AreDistinct (targets entries)
 
@@ -48,7 +48,7 @@ pub record HasPlaces (most : ℕ) (sectors : List ℕ) (contents : List (List �
   pub batch : IsBatch (zip sectors contents)
   pub few : length sectors ≤ most
   pub all : length sectors ≤ length contents
-  pub limit : most ≤ MAX_LOG_SECTORS
+  pub limit : most ≤ MOST_SECTORS
   pub room : most ≤ length sectors + spare
   pub reserved : most ≤ capacity
 

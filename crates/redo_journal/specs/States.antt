@@ -104,6 +104,10 @@ InLog header area n content = (area_start header area ≤ n) × (n < area_start 
 abbrev pub IsBeside : List ℕ → DiskState → Type 0
 IsBeside sectors disk = (ts : List ℕ) (n : ℕ) → IsCommit disk.size (sector disk.seen) ts → Contains sectors n → Contains ts n → ⊥
 
+-- this sector isn't a target of it
+abbrev pub IsNoTarget : DiskState → ℕ → Type 0
+IsNoTarget disk n = (ts : List ℕ) → IsCommit disk.size (sector disk.seen) ts → Contains ts n → ⊥
+
 -- the commit that stands has no targets but these
 abbrev pub StandsIn : List ℕ → DiskState → Type 0
 StandsIn sectors disk = (ts : List ℕ) (n : ℕ) → IsCommit disk.size (sector disk.seen) ts → Contains ts n → Contains sectors n

@@ -2,7 +2,6 @@
 
 ghost use Rattle.std.specs.Prelude.{◌≡◌, ◌↔◌, ◌≤◌, ◌<◌, ◌+◌, [], ℕ, List, IsTrue, true, false, length, IfOk, IfSome, IfNone, if◌then◌else◌, nat_eq};
 ghost use Rattle.std.specs.Vec.{vec_capacity, vec_len};
-ghost use Rattle.fs_layout.specs.declared.commit.TheConstants.{MAX_LOG_SECTORS};
 ghost use Rattle.fs_layout.specs.declared.header.TheConstants.{LEAST_LOG_END};
 ghost use Rattle.fs_layout.specs.Bytes.{SectorMap};
 ghost use Rattle.fs_layout.specs.Header.{log_end};
@@ -17,6 +16,9 @@ use std::slice::from_ref;
 
 // How many marks a batch has.
 const MARKS: usize = 1024;
+
+/// The most sectors that a batch has room for: more than any commit logs, since some of a commit's sectors may go to their places alone.
+pub const MOST_SECTORS: usize = 16384;
 
 /// A map from sectors behind the log to contents, for one commit.
 ///
@@ -114,7 +116,7 @@ fn unmark(marks: &mut [bool; MARKS], sectors: &[u32]) {
 impl Batch {
     /// A batch without sectors, which has room for so many.
     pub fn new(alloc: Global, most: usize) -> Result<Batch, AllocError>
-        requires { most ≤ MAX_LOG_SECTORS }
+        requires { most ≤ MOST_SECTORS }
         ensures empty { IfOk result (λ batch. batch.entries ≡ []) }
         ensures most { IfOk result (λ batch. batch.most ≡ most) }
         ensures on_disk { IfOk result (λ batch. (header size : ℕ) → IsOnDisk header size batch.entries) }
@@ -172,6 +174,14 @@ impl Batch {
         ensures batch { IsBatch self.now.entries }
     {
         self.sectors.len()
+    }
+
+    /// How many sectors it has room for.
+    pub fn most(&self) -> usize
+        ensures most { result ≡ self.now.most }
+        ensures few { length self.now.entries ≤ result }
+    {
+        self.most
     }
 
     /// The batch has no sectors.

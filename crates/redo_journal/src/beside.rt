@@ -1,12 +1,11 @@
 //! Sectors that nothing reads yet are written to their places while a batch is logged, and one sync makes both stable.
 
-ghost use Rattle.std.specs.Prelude.{◌≡◌, ◌≤◌, ◌<◌, ℕ, [], length, All, Contains, IfOk, OnOk, false, ◌+◌};
-ghost use Rattle.fs_layout.specs.Commit.{AreTargets};
+ghost use Rattle.std.specs.Prelude.{◌≡◌, ◌≤◌, ◌<◌, ℕ, length, All, Contains, IfOk, IsTrue, OnOk, ◌+◌};
 ghost use Rattle.fs_layout.specs.Header.{max_targets};
-ghost use Rattle.redo_journal.specs.Batch.{IsOnDisk, has_entry, targets, with_batch};
+ghost use Rattle.redo_journal.specs.Batch.{IsOnDisk, added, targets, with_batch};
 ghost use Rattle.fs_layout.specs.Bytes.{SectorMap};
 ghost use Rattle.redo_journal.specs.Meaning.{HasLayout, IsSpare, SameMap, data_of, disk_of, LeavesMapBut, LeavesUsedOr};
-ghost use Rattle.redo_journal.specs.States.{header_at, HasHeader, HasNext, IsBeside, IsReady, IsLogged, StandsIn};
+ghost use Rattle.redo_journal.specs.States.{header_at, HasHeader, HasNext, IsBeside, IsNoTarget, IsReady, IsLogged, StandsIn};
 ghost use Rattle.sector_disk.specs.Disk.{HasCause, HasWriteCause};
 
 use crate::steps::{write_header, write_log, write_targets};
@@ -29,7 +28,7 @@ pub(crate) fn log_beside<D: Disk>(
     requires some { 0 < length batch.now.entries }
     requires few { length batch.now.entries ≤ max_targets header }
     requires on_disk { IsOnDisk header (D.state disk.old).size batch.now.entries }
-    requires places { AreTargets (header_at (D.state disk.old).seen) (D.state disk.old).size (targets placed.now.entries) }
+    requires places { IsOnDisk (header_at (D.state disk.old).seen) (D.state disk.old).size placed.now.entries }
     requires beside { IsBeside (targets placed.now.entries) (D.state disk.old) }
     ensures logged { OnOk result (IsLogged batch.now.entries (D.state disk.new)) }
     ensures placed { OnOk result (SameMap (data_of (D.state disk.new)) (with_batch placed.now.entries (data_of (D.state disk.old)))) }
@@ -57,7 +56,7 @@ pub fn commit_beside<D: Disk>(
     requires some { 0 < length batch.now.entries }
     requires on_disk { IsOnDisk (header_at (D.state journal).seen) (D.state journal).size batch.now.entries }
     requires few { length batch.now.entries ≤ max_targets (header_at (D.state journal).seen) }
-    requires places { AreTargets (header_at (D.state journal).seen) (D.state journal).size (targets placed.now.entries) }
+    requires places { IsOnDisk (header_at (D.state journal).seen) (D.state journal).size placed.now.entries }
     requires spare { (n : ℕ) → Contains (targets placed.now.entries) n → IsSpare (data_of (D.state journal)) n }
     requires beside { IsBeside (targets placed.now.entries) (D.state journal) }
 
@@ -85,9 +84,32 @@ pub fn commit_beside<D: Disk>(
     }
 }
 
-/// Takes a batch apart: into `placed` go the sectors that are free in what the disk reads as, but for those of `last`, and into
-/// `logged` all others.
-pub fn split<D: Disk>(
+// Whether a sector goes to its place alone: it does where it did already, or where it is free in what the disk reads as and no
+// sector of `last`.
+fn is_placed<D: Disk>(
+    journal: &Journal<D>,
+    geometry: Geometry,
+    last: &Batch,
+    placed: &Batch,
+    n: u32,
+) -> bool
+    requires layout { HasLayout (data_of (D.state journal.now)) geometry }
+    requires fits { geometry.sectors ≤ (D.state journal.now).size }
+    requires stands { StandsIn (targets last.now.entries) (D.state journal.now) }
+    requires spare { All (IsSpare (data_of (D.state journal.now))) (targets placed.now.entries) }
+    requires beside { All (IsNoTarget (D.state journal.now)) (targets placed.now.entries) }
+    ensures spare { IsTrue result → IsSpare (data_of (D.state journal.now)) n }
+    ensures beside { IsTrue result → IsNoTarget (D.state journal.now) n }
+{
+    if placed.get(n).is_some() {
+        return true;
+    }
+    journal.is_spare(geometry, n) && last.get(n).is_none()
+}
+
+/// Takes a batch's contents into two others, which are to be committed as one. A sector that one of both has stays there. Of the
+/// rest, what is free in what the disk reads as goes into `placed`, but for the sectors of `last`, and all else into `logged`.
+pub fn absorb_beside<D: Disk>(
     journal: &Journal<D>,
     geometry: Geometry,
     last: &Batch,
@@ -97,18 +119,22 @@ pub fn split<D: Disk>(
 )
     requires layout { HasLayout (data_of (D.state journal.now)) geometry }
     requires fits { geometry.sectors ≤ (D.state journal.now).size }
-    requires empty { (placed.old.entries ≡ []) × (logged.old.entries ≡ []) }
-    requires room { (length batch.now.entries ≤ placed.old.most) × (length batch.now.entries ≤ logged.old.most) }
-    ensures map { (f : SectorMap) (n : ℕ) → with_batch logged.new.entries (with_batch placed.new.entries f) n ≡ with_batch batch.now.entries f n }
+    requires stands { StandsIn (targets last.now.entries) (D.state journal.now) }
+    requires spare { All (IsSpare (data_of (D.state journal.now))) (targets placed.old.entries) }
+    requires beside { All (IsNoTarget (D.state journal.now)) (targets placed.old.entries) }
+    requires places { length placed.old.entries + length batch.now.entries ≤ placed.old.most }
+    requires room { length logged.old.entries + added logged.old.entries batch.now.entries ≤ logged.old.most }
+    ensures map { (f : SectorMap) (n : ℕ) → with_batch logged.new.entries (with_batch placed.new.entries f) n
+        ≡ with_batch batch.now.entries (with_batch logged.old.entries (with_batch placed.old.entries f)) n }
     ensures spare { All (IsSpare (data_of (D.state journal.now))) (targets placed.new.entries) }
-    ensures apart { All (λ n. has_entry last.now.entries n ≡ false) (targets placed.new.entries) }
-    ensures few { length placed.new.entries + length logged.new.entries ≡ length batch.now.entries }
-    ensures on_disk { (header size : ℕ) → IsOnDisk header size batch.now.entries
-        → IsOnDisk header size placed.new.entries × IsOnDisk header size logged.new.entries }
+    ensures beside { All (IsNoTarget (D.state journal.now)) (targets placed.new.entries) }
+    ensures few { length logged.new.entries ≤ length logged.old.entries + added logged.old.entries batch.now.entries }
+    ensures on_disk { (header size : ℕ) → IsOnDisk header size placed.old.entries → IsOnDisk header size logged.old.entries
+        → IsOnDisk header size batch.now.entries → IsOnDisk header size placed.new.entries × IsOnDisk header size logged.new.entries }
     ensures most { (placed.new.most ≡ placed.old.most) × (logged.new.most ≡ logged.old.most) }
 {
     for (n, content) in batch.sectors().iter().zip(batch.contents()) {
-        if journal.is_spare(geometry, *n) && last.get(*n).is_none() {
+        if logged.get(*n).is_none() && is_placed(journal, geometry, last, placed, *n) {
             placed.put(*n, content);
         } else {
             logged.put(*n, content);

@@ -2,6 +2,7 @@
 
 ghost use Rattle.std.specs.Prelude.{◌≡◌, ◌≤◌, ℕ, List, length, ◌<◌, IsOk, IfOk, OnOk};
 ghost use Rattle.fs_layout.specs.Commit.{named_area, commit_bytes_in};
+ghost use Rattle.fs_layout.specs.declared.commit.TheConstants.{MAX_LOG_SECTORS};
 ghost use Rattle.fs_layout.specs.Header.{max_targets};
 ghost use Rattle.redo_journal.specs.Batch.{IsOnDisk, targets, with_batch};
 ghost use Rattle.redo_journal.specs.Meaning.{data_of, EachReadsAs, LeavesSameMap, LeavesAllOrNone};
@@ -175,7 +176,8 @@ fn clear_commit<D: Disk>(disk: &mut D) -> Result<(), DiskFault>
 
 // The content of a commit sector that names the batch's sectors.
 fn commit_sector(area: u32, batch: &Batch) -> [u8; 512]
-    requires { area ≤ 1 }
+    requires area { area ≤ 1 }
+    requires few { length batch.now.entries ≤ MAX_LOG_SECTORS }
     ensures { result ≡ commit_bytes_in area (targets batch.now.entries) }
 {
     Commit::sector_with(area, batch.sectors())

@@ -3,7 +3,6 @@
 ghost use Rattle.std.specs.Prelude.{◌≡◌, ◌<◌, ◌≤◌, ℕ, List, length, Some, Ok, IfOk, IfSome, OnOk, Contains, IsTrue};
 ghost use Rattle.redo_journal.specs.Batch.{IsOnDisk, targets, with_batch};
 ghost use Rattle.redo_journal.specs.Meaning.{HasLayout, IsMapped, IsSpare, SameMap, data_of, disk_of, EachReadsAs, MeansUsed, LeavesSameMap, LeavesAllOrNone};
-ghost use Rattle.fs_layout.specs.Commit.{AreTargets};
 ghost use Rattle.fs_layout.specs.Header.{max_targets};
 ghost use Rattle.redo_journal.specs.States.{header_at, HasHeader, IsBeside, IsIdle, IsLogged, IsSealed, StandsIn};
 ghost use Rattle.sector_disk.specs.Disk.{IsSame, ForgetsPast, Elapses, LeavesOnly, OnlyReads, HasCause, HasWriteCause};
@@ -142,7 +141,7 @@ impl<D: Disk> Journal<D> {
         requires some { 0 < length batch.now.entries }
         requires on_disk { IsOnDisk (header_at (D.state self).seen) (D.state self).size batch.now.entries }
         requires few { length batch.now.entries ≤ max_targets (header_at (D.state self).seen) }
-        requires places { AreTargets (header_at (D.state self).seen) (D.state self).size (targets placed.now.entries) }
+        requires places { IsOnDisk (header_at (D.state self).seen) (D.state self).size placed.now.entries }
         requires spare { (n : ℕ) → Contains (targets placed.now.entries) n → IsSpare (data_of (D.state self)) n }
         requires beside { IsBeside (targets placed.now.entries) (D.state self) }
 

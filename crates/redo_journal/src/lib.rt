@@ -17,8 +17,8 @@ mod open;
 mod reads;
 mod steps;
 
-pub use batch::Batch;
-pub use beside::{commit_beside, split};
+pub use batch::{Batch, MOST_SECTORS};
+pub use beside::{absorb_beside, commit_beside};
 pub use journal::{Broken, Journal, Logged, Sealed};
 pub use open::OpenFault;
 pub use reads::read_commit;

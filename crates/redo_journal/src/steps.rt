@@ -4,7 +4,7 @@ ghost use Rattle.std.specs.Prelude.{◌≡◌, ◌≤◌, ◌<◌, ◌+◌, ◌*
 ghost use Rattle.fs_layout.specs.Header.{area_start, log_end, max_targets};
 ghost use Rattle.fs_layout.specs.declared.header.TheConstants.{MAX_HEADER};
 ghost use Rattle.fs_layout.specs.Commit.{AreTargets};
-ghost use Rattle.redo_journal.specs.Batch.{targets};
+ghost use Rattle.redo_journal.specs.Batch.{IsOnDisk, targets};
 ghost use Rattle.redo_journal.specs.States.{header_at, HoldsHeader, HoldsLog, HoldsTargets, HasReplayed, InLog, InTargets};
 ghost use Rattle.sector_disk.specs.Disk.{AddsOnly, IsImageOr, LeavesOnly, HasCause, HasWriteCause, CountsWrites, sector};
 
@@ -66,7 +66,7 @@ pub(crate) fn write_log<D: Disk>(
 
 /// Writes the batch's contents to its sectors.
 pub(crate) fn write_targets<D: Disk>(disk: &mut D, batch: &Batch) -> Result<(), DiskFault>
-    requires { AreTargets (header_at (D.state disk.old).seen) (D.state disk.old).size (targets batch.now.entries) }
+    requires { IsOnDisk (header_at (D.state disk.old).seen) (D.state disk.old).size batch.now.entries }
     ensures written { OnOk result (HoldsTargets batch.now.entries (D.state disk.new).seen) }
     ensures others { OnOk result ((n : ℕ) → (Contains (targets batch.now.entries) n → ⊥)
         → sector (D.state disk.new).seen n ≡ sector (D.state disk.old).seen n) }

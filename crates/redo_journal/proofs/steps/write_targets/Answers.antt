@@ -2,7 +2,8 @@ use Rattle.std.proofs.Common.{◌≡◌, ◌<◌, ◌∙◌, [], ◌∷◌, leng
 use Rattle.std.proofs.lemmas.Slice.Zip.{zip_turn}
 use Rattle.sector_disk.proofs.Moments.{adds_write, goes_on, image_or}
 use Rattle.redo_journal.specs.Batch.{target_at, content_at}
-use Rattle.redo_journal.proofs.Entries.{entry_is, in_targets, target_range, targets_apart}
+use Rattle.redo_journal.proofs.Absorbing.{on_disk_at}
+use Rattle.redo_journal.proofs.Entries.{entry_is, in_targets, targets_apart}
 use Rattle.redo_journal.proofs.Writing.{written_more, written_other, written_so}
 use Rattle.redo_journal.proofs.steps.write_targets.Goals as goal
 
@@ -11,7 +12,7 @@ write-requires g c =
     let so_far = c.loop-n.invariant in
     let next = entry_is c.args.batch.now.entries _ _ (length c.loop-n.yielded) c.in-Some.n.now c.in-Some.content.now c.sectors.ensures.sectors c.contents.ensures.contents
     (zip_turn _ _ c.loop-n.yielded c.into_iter-n-iterator.result c.loop-n.n-iterator c.next.new.self c.next.result (search rules) (search rules) c.loop-n.yielded_by (c.in-Some.n, c.in-Some.content) c.in-Some.is c.next.ensures.steps) in
-    omega (arith, so_far.adds.size, next.1, (target_range _ _ c.args.batch.now.entries so_far.valid (length c.loop-n.yielded) next.0).1)
+    omega (arith, so_far.adds.size, next.1, (on_disk_at _ _ c.args.batch.now.entries (length c.loop-n.yielded) so_far.on_disk next.0).1)
 
 pub returns-in_err-write-clause-adds : goal.returns-in_err-write-clause-adds
 returns-in_err-write-clause-adds g c =
@@ -32,13 +33,13 @@ loop-n-preserved g c =
     let last = g.D.Disk.state c.loop-n.disk in
     let after = g.D.Disk.state c.write.new.self in
     let whole : length last.seen ≡ last.size = (g.met.D.Disk.seen_is_image c.loop-n.disk).size in
-    let fits : target_at entries i < length last.seen = omega (arith, whole, so_far.adds.size, (target_range _ _ entries so_far.valid i next.0).1) in
+    let fits : target_at entries i < length last.seen = omega (arith, whole, so_far.adds.size, (on_disk_at _ _ entries i so_far.on_disk next.0).1) in
     let written : after.seen ≡ set last.seen (target_at entries i) (content_at entries i) = written_so last.seen after.seen c.in-Some.n.now (target_at entries i) c.in-Some.content.now (content_at entries i) c.in_ok-write.ensures.written.seen next.1 next.2 in
     let adds = adds_write so_far.adds c.write.ensures.changes (λ k content is same. in_targets entries i k content next.0 (is ∙ next.1)) in
     record {
-      valid = so_far.valid;
+      on_disk = so_far.on_disk;
       written = λ k lt.
-          written_more (target_at entries) (content_at entries) last.seen after.seen i fits written (λ k lt same. targets_apart entries so_far.valid.apart k i lt next.0 same) so_far.written k
+          written_more (target_at entries) (content_at entries) last.seen after.seen i fits written (λ k lt same. targets_apart entries c.sectors.ensures.batch.apart k i lt next.0 same) so_far.written k
           (omega (arith, lt, length-append c.loop-n.yielded ((c.in-Some.n, c.in-Some.content) ∷ [])));
       others = λ n none.
           written_other last.seen after.seen (target_at entries i) n (content_at entries i) written (λ e. none (in_targets entries i n [] next.0 e)) ∙ so_far.others n none;

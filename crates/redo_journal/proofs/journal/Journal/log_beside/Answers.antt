@@ -5,7 +5,7 @@ use Rattle.sector_disk.proofs.Moments.{weaker}
 use Rattle.redo_journal.specs.Batch.{targets}
 use Rattle.redo_journal.specs.Meaning.{IsSpare, LeavesMapBut, MeansUsed, data_of}
 use Rattle.redo_journal.specs.States.{IsBeside, IsReady}
-use Rattle.redo_journal.proofs.Meaning.{batch_super, header_sealed, valid_with}
+use Rattle.redo_journal.proofs.Meaning.{header_sealed, super_on_disk, valid_with}
 use Rattle.redo_journal.proofs.Used.{but_means}
 use Rattle.redo_journal.proofs.journal.Journal.log_beside.Goals as goal
 
@@ -26,7 +26,7 @@ pub invariant_of-result : goal.invariant_of-result
 invariant_of-result g c =
     let old = g.D.Disk.state c.self.inside.disk in
     let placed = c.args.placed.now.entries in (
-      header_sealed placed old (g.D.Disk.state c.log_beside.new.disk) c.self.inside.header (batch_super placed _ _ (data_of old) c.requires.places) c.in-Ok.ensures.placed c.self.invariant.1,
+      header_sealed placed old (g.D.Disk.state c.log_beside.new.disk) c.self.inside.header (super_on_disk placed _ _ (data_of old) c.requires.places) c.in-Ok.ensures.placed c.self.invariant.1,
       c.in-Ok.ensures.next,
     )
 
