@@ -1,62 +1,155 @@
--- The parts of a batch, from one commit to the next.
-use Rattle.std.proofs.Common.{◌≡◌, ◌∙◌, ℕ, Bool, true, List, [], ◌∷◌, length, cond, eqb, not, ap, arith, refl, sym, subst}
-use Rattle.std.proofs.lemmas.List.Recursion.{is_count_by}
-use Rattle.std.specs.Prelude.{Option, Some, None, IfSome}
+-- What waits, and the commit that stands.
+use Rattle.std.proofs.Common.{◌≡◌, ◌∙◌, ◌+◌, ◌≤◌, ◌<◌, ℕ, List, [], ◌∷◌, ◌++◌, length, cond, eqb, ap, arith, refl, sym, subst}
+use Rattle.std.proofs.lemmas.List.{map-append}
+use Rattle.std.proofs.lemmas.List.Elements.{All-append, All-nil}
+use Rattle.std.specs.Prelude.{All, Contains, Option, Some, None, IfSome, IfNone}
 use Rattle.fs_layout.specs.declared.geometry.Geometry.{Geometry}
 use Rattle.fs_layout.specs.Bytes.{SectorMap}
 use Rattle.fs_layout.specs.Recovered.{recovered}
 use Rattle.fs_layout.specs.Commit.{IsCommit}
-use Rattle.fs_layout.specs.Header.{max_targets}
+use Rattle.fs_layout.specs.Header.{log_end, max_delta, max_targets}
 use Rattle.sector_disk.specs.Disk.{DiskState, Image, IsSame, sector}
-use Rattle.redo_journal.specs.Batch.{BatchView, Entry, added, has_entry, targets, with_batch}
-use Rattle.redo_journal.specs.Meaning.{IsMapped, data_of}
-use Rattle.redo_journal.specs.States.{StandsIn, header_at}
-use Rattle.redo_journal.proofs.Entries.{length-targets}
+use Rattle.redo_journal.specs.Batch.{BatchView, Entry, IsOnDisk, added, targets, with_batch}
+use Rattle.redo_journal.specs.Meaning.{HasLayout, IsMapped, IsSpare, data_of}
+use Rattle.redo_journal.specs.States.{IsBeside, IsNoTarget, header_at}
 use Rattle.sector_txn.specs.Clean.{IsPartOf}
-use Rattle.sector_txn.specs.Parts.{HasParts}
+use Rattle.sector_txn.specs.Last.{HasLast}
+use Rattle.sector_txn.specs.Stores.{IsTxn, IsWaiting, all_waiting}
 
--- an empty batch lacks each sector of another
-pub added_none : (entries : List Entry) → added [] entries ≡ length entries
-added_none entries = sym (is_count_by (λ (l : List ℕ). length l) (λ n. not (has_entry [] n)) refl (λ n ns. omega arith) (targets entries)) ∙ length-targets entries
+-- ---- two batches as one map
+-- one batch behind another
+pub over_both : (logged placed : List Entry) (f : SectorMap) (n : ℕ) → with_batch (logged ++ placed) f n ≡ with_batch logged (with_batch placed f) n
+over_both [] placed f n = refl
+over_both (e ∷ logged) placed f n = ap (λ (content : List ℕ). cond (eqb n e.0) e.1 content) (over_both logged placed f n)
 
--- and has no content of its own
-over_none : (entries : List Entry) (f : SectorMap) (n : ℕ) → with_batch entries (with_batch [] f) n ≡ with_batch entries f n
-over_none [] f n = refl
-over_none (e ∷ entries) f n = ap (λ (content : List ℕ). cond (eqb n e.0) e.1 content) (over_none entries f n)
+pub map_both : (logged placed : List Entry) (f : SectorMap) → with_batch (all_waiting placed logged) f ≡ with_batch logged (with_batch placed f)
+map_both logged placed f = λ i n. over_both logged placed f n i
 
--- what an empty batch becomes that takes another
-pub alone : (none entries logged : List Entry) → none ≡ [] → ((sectors : SectorMap) (n : ℕ) → with_batch logged sectors n ≡ with_batch entries (with_batch none sectors) n)
-    → (f : SectorMap) (n : ℕ) → with_batch logged f n ≡ with_batch entries f n
-alone none entries logged empty took f n = took f n ∙ ap (λ (l : List Entry). with_batch entries (with_batch l f) n) empty ∙ over_none entries f n
+-- what is on the disk
+pub both_on_disk : (header size : ℕ) (placed logged : List Entry) → IsOnDisk header size placed → IsOnDisk header size logged → IsOnDisk header size (all_waiting placed logged)
+both_on_disk header size placed logged places on_disk =
+    subst (All (λ t. (log_end header ≤ t) × (t < size))) (sym (map-append (λ (e : Entry). e.0) logged placed))
+    (All-append (λ t. (log_end header ≤ t) × (t < size)) (targets logged) (targets placed) on_disk places)
 
--- a disk that shows the same has the same in its sectors,
+-- what holds of all holds of each
+pub each_of : (P : ℕ → Type 0) (sectors : List ℕ) → All P sectors → (n : ℕ) → Contains sectors n → P n
+each_of P sectors all n among = subst P among.2 (all among.0 n among.1)
+
+pub beside_all : (sectors : List ℕ) (disk : DiskState) → All (IsNoTarget disk) sectors → IsBeside sectors disk
+beside_all sectors disk all ts n commit among target = each_of (IsNoTarget disk) sectors all n among ts commit target
+
+-- ---- a disk that shows the same
+-- has the same in its sectors,
 pub still_part : (old new : DiskState) (pairs : List (ℕ × List ℕ)) → IsSame old new → IsPartOf (header_at old.seen) (data_of old) pairs → IsPartOf (header_at new.seen) (data_of new) pairs
 still_part old new pairs same part pair has mapped =
     part pair has (subst (λ (i : Image). IsMapped (header_at i) pair.0) same.narrowed.seen mapped)
     ∙ ap (λ (k : ℕ). recovered k (sector old.seen) pair.0) (sym same.narrowed.size)
     ∙ ap (λ (i : Image). recovered new.size (sector i) pair.0) (sym same.narrowed.seen)
 
--- and the same commit stands
-pub still_parted : (old new : DiskState) (placed logged last : BatchView) (knows : Bool) → IsSame old new → HasParts old placed logged last knows → HasParts new placed logged last knows
-still_parted old new placed logged last knows same parts =
-    let most : max_targets (header_at old.seen) ≡ max_targets (header_at new.seen) = ap (λ (i : Image). max_targets (header_at i)) (sym same.narrowed.seen) in
+-- what is told of by size and image is so later
+shown : (P : ℕ → Image → Type 0) (old new : DiskState) → IsSame old new → P old.size old.seen → P new.size new.seen
+shown P old new same here = subst (P new.size) (sym same.narrowed.seen) (subst (λ (k : ℕ). P k old.seen) (sym same.narrowed.size) here)
+
+-- the same commit stands,
+pub still_last : (old new : DiskState) (layout : Option Geometry) (last : BatchView) → IsSame old new → HasLast old layout last → HasLast new layout last
+still_last old new layout last same has = record {
+  room = shown (λ size image. last.most ≡ max_targets (header_at image)) old new same has.room;
+  known = shown (λ size image. IfSome layout (λ p. HasLayout (recovered size (sector image)) p × (p.sectors ≤ size)
+      × ((ts : List ℕ) (n : ℕ) → IsCommit size (sector image) ts → Contains ts n → Contains (targets last.entries) n))) old new same has.known;
+}
+
+-- and the same may wait
+pub still_waiting : (old new : DiskState) (placed logged : BatchView) → IsSame old new → IsWaiting old placed logged → IsWaiting new placed logged
+still_waiting old new placed logged same waits = record {
+  places = shown (λ size image. IsOnDisk (header_at image) size placed.entries) old new same waits.places;
+  on_disk = shown (λ size image. IsOnDisk (header_at image) size logged.entries) old new same waits.on_disk;
+  spare = shown (λ size image. All (IsSpare (recovered size (sector image))) (targets placed.entries)) old new same waits.spare;
+  beside = shown (λ size image. All (λ n. (ts : List ℕ) → IsCommit size (sector image) ts → Contains ts n → ⊥) (targets placed.entries)) old new same waits.beside;
+  few = shown (λ size image. length logged.entries ≤ max_targets (header_at image)) old new same waits.few;
+  log = shown (λ size image. logged.most ≡ max_targets (header_at image)) old new same waits.log;
+  room = shown (λ size image. max_delta (header_at image) ≤ placed.most) old new same waits.room;
+}
+
+-- ---- after a commit
+none_at : (P : ℕ → Type 0) (entries : List Entry) → entries ≡ [] → All P (targets entries)
+none_at P entries none = subst (λ (l : List Entry). All P (targets l)) (sym none) (All-nil P)
+
+-- nothing waits
+pub nothing_waits : (disk : DiskState) (placed logged : BatchView) → placed.entries ≡ [] → logged.entries ≡ [] → logged.most ≡ max_targets (header_at disk.seen) → max_delta (header_at disk.seen) ≤ placed.most
+    → IsWaiting disk placed logged
+nothing_waits disk placed logged unplaced unlogged log room = record {
+  places = none_at (λ t. (log_end (header_at disk.seen) ≤ t) × (t < disk.size)) placed.entries unplaced;
+  on_disk = none_at (λ t. (log_end (header_at disk.seen) ≤ t) × (t < disk.size)) logged.entries unlogged;
+  spare = none_at (IsSpare (data_of disk)) placed.entries unplaced;
+  beside = none_at (IsNoTarget disk) placed.entries unplaced;
+  few = omega (arith, ap (λ (l : List Entry). length l) unlogged);
+  log = log;
+  room = room;
+}
+
+-- and nothing is over the map
+pub map_none : (placed logged : List Entry) (f : SectorMap) → placed ≡ [] → logged ≡ [] → with_batch (all_waiting placed logged) f ≡ f
+map_none placed logged f unplaced unlogged =
+    map_both logged placed f ∙ ap (λ (l : List Entry). with_batch l (with_batch placed f)) unlogged ∙ ap (λ (l : List Entry). with_batch l f) unplaced
+
+-- ---- what a look-up doesn't find
+pub none_then : {X P Q : Type 0} (r : Option X) → (P → Q) → IfNone r P → IfNone r Q
+none_then None implies none = implies none
+none_then (Some x) implies none = none
+
+-- ---- what a transaction changed is kept
+-- in both batches,
+pub kept_beside : (disk : DiskState) (placed logged placed_now logged_now : BatchView) (delta : List Entry) → IsWaiting disk placed logged → IsOnDisk (header_at disk.seen) disk.size delta
+    → length logged.entries + added logged.entries delta ≤ logged.most
+    → All (IsSpare (data_of disk)) (targets placed_now.entries) → All (IsNoTarget disk) (targets placed_now.entries) → length logged_now.entries ≤ length logged.entries + added logged.entries delta
+    → ((header size : ℕ) → IsOnDisk header size placed.entries → IsOnDisk header size logged.entries → IsOnDisk header size delta → IsOnDisk header size placed_now.entries × IsOnDisk header size logged_now.entries)
+    → placed_now.most ≡ placed.most → logged_now.most ≡ logged.most → IsWaiting disk placed_now logged_now
+kept_beside disk placed logged placed_now logged_now delta waits there room spare beside few on_disk places log =
+    let both = on_disk (header_at disk.seen) disk.size waits.places waits.on_disk there in
     record {
-      room = record { places = parts.room.places ∙ most; log = parts.room.log ∙ most; stands = parts.room.stands ∙ most };
-      stands = λ known ts n commit. parts.stands known ts n
-          (subst (λ (i : Image). IsCommit old.size (sector i) ts) same.narrowed.seen (subst (λ (k : ℕ). IsCommit k (sector new.seen) ts) same.narrowed.size commit));
+      places = both.0;
+      on_disk = both.1;
+      spare = spare;
+      beside = beside;
+      few = omega (arith, few, room, waits.log);
+      log = log ∙ waits.log;
+      room = omega (arith, places, waits.room);
     }
 
--- after a commit the batch that was logged is the last one
-pub parts_turned : (old new : DiskState) (placed logged last placed_now logged_now : BatchView) (knows : Bool) → HasParts old placed logged last knows → header_at new.seen ≡ header_at old.seen
-    → placed_now.most ≡ placed.most → logged_now.most ≡ logged.most → StandsIn (targets logged_now.entries) new → HasParts new placed_now last logged_now true
-parts_turned old new placed logged last placed_now logged_now knows parts header places log stands =
-    let most : max_targets (header_at old.seen) ≡ max_targets (header_at new.seen) = ap max_targets (sym header) in
-    record {
-      room = record { places = places ∙ parts.room.places ∙ most; log = parts.room.stands ∙ most; stands = log ∙ parts.room.log ∙ most };
-      stands = λ known. stands;
-    }
+-- or all of it to be logged
+pub kept_logged : (disk : DiskState) (placed logged logged_now : BatchView) (delta : List Entry) → IsWaiting disk placed logged → IsOnDisk (header_at disk.seen) disk.size delta
+    → length logged.entries + added logged.entries delta ≤ logged.most → length logged_now.entries ≡ length logged.entries + added logged.entries delta
+    → ((header size : ℕ) → IsOnDisk header size logged.entries → IsOnDisk header size delta → IsOnDisk header size logged_now.entries) → logged_now.most ≡ logged.most → IsWaiting disk placed logged_now
+kept_logged disk placed logged logged_now delta waits there room len on_disk log = record {
+  places = waits.places;
+  on_disk = on_disk (header_at disk.seen) disk.size waits.on_disk there;
+  spare = waits.spare;
+  beside = waits.beside;
+  few = omega (arith, len, room, waits.log);
+  log = log ∙ waits.log;
+  room = waits.room;
+}
 
--- the last batch, where a layout is given
-pub known_stands : (layout : Option Geometry) (last : List ℕ) (disk : DiskState) (knows : Bool) → IfSome layout (λ p. knows ≡ true) → (knows ≡ true → StandsIn last disk) → IfSome layout (λ p. StandsIn last disk)
-known_stands None last disk knows is stands = tt
-known_stands (Some p) last disk knows is stands = stands is
+-- a sector of those that go to their places may be logged too
+pub some_logged : (disk : DiskState) (placed logged placed_now logged_now : BatchView) → IsWaiting disk placed logged → placed_now ≡ placed → length logged_now.entries ≤ logged_now.most
+    → ((header size : ℕ) → IsOnDisk header size placed.entries → IsOnDisk header size logged.entries → IsOnDisk header size logged_now.entries) → logged_now.most ≡ logged.most → IsWaiting disk placed_now logged_now
+some_logged disk placed logged placed_now logged_now waits same few on_disk log =
+    subst (λ (b : BatchView). IsWaiting disk b logged_now) (sym same) (record {
+      places = waits.places;
+      on_disk = on_disk (header_at disk.seen) disk.size waits.places waits.on_disk;
+      spare = waits.spare;
+      beside = waits.beside;
+      few = omega (arith, few, log, waits.log);
+      log = log ∙ waits.log;
+      room = waits.room;
+    })
+
+-- a transaction's changes, on a disk that shows the same
+pub still_txn : (old new : DiskState) (delta : List Entry) → IsSame old new → IsTxn old delta → IsTxn new delta
+still_txn old new delta same txn = record {
+  few = shown (λ size image. length delta ≤ max_delta (header_at image)) old new same txn.few;
+  on_disk = shown (λ size image. IsOnDisk (header_at image) size delta) old new same txn.on_disk;
+}
+
+pub still_room : (old new : DiskState) (most : ℕ) → IsSame old new → most ≡ max_delta (header_at old.seen) → most ≡ max_delta (header_at new.seen)
+still_room old new most same is = shown (λ size image. most ≡ max_delta (header_at image)) old new same is

@@ -1,5 +1,5 @@
 pub mod Clean
 pub mod Images
-pub mod Parts
+pub mod Last
 pub mod Sectors
 pub mod Stores

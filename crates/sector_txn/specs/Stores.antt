@@ -2,13 +2,14 @@
 --     StoreView, TxnView        their values
 --     present, txn_state        the map of a store; the state of a transaction
 --     disk_after        the disk in what `keep` and `flush` give
---     IsWaiting, IsTxn, IsReserved        what each store and each transaction is
-use Rattle.std.specs.Prelude.{ℕ, ◌≡◌, ◌-◌, ◌≤◌, List, length, Result, Ok, Err}
+--     all_waiting        what waits, of which some goes to its place alone and the rest through the log
+--     IsTxn, IsWaiting        what each transaction is, and what waits in each store
+use Rattle.std.specs.Prelude.{◌≡◌, ◌-◌, ◌≤◌, ◌++◌, All, List, length, Result, Ok, Err}
 use Rattle.fs_layout.specs.Bytes.{SectorMap}
-use Rattle.redo_journal.specs.Batch.{Entry, IsOnDisk, has_entry, with_batch}
+use Rattle.redo_journal.specs.Batch.{BatchView, Entry, IsOnDisk, has_entry, targets, with_batch}
 use Rattle.fs_layout.specs.Header.{max_delta, max_targets}
-use Rattle.redo_journal.specs.Meaning.{data_of}
-use Rattle.redo_journal.specs.States.{header_at}
+use Rattle.redo_journal.specs.Meaning.{IsSpare, data_of}
+use Rattle.redo_journal.specs.States.{IsNoTarget, header_at}
 use Rattle.sector_disk.specs.Disk.{DiskState}
 use Rattle.sector_txn.specs.Sectors.{TxnState}
 
@@ -44,22 +45,27 @@ txn_state state txn = record {
   disk = state txn.disk;
 }
 
+-- what waits: of a sector that both have, what is logged counts
+abbrev pub all_waiting : (placed logged : List Entry) → List Entry
+all_waiting placed logged = logged ++ placed
+
 -- the disk, also after a fault
 abbrev pub disk_after : {D : Type 0} → Result (StoreView D) D → D
 disk_after (Ok store) = store.disk
 disk_after (Err broken) = broken
-
--- no more sectors wait than a commit has, all of them on the disk
-pub record IsWaiting (disk : DiskState) (waiting : List Entry) : Type 0 where
-  pub few : length waiting ≤ max_targets (header_at disk.seen)
-  pub on_disk : IsOnDisk (header_at disk.seen) disk.size waiting
 
 -- no more sectors are put than a call may, all of them on the disk
 pub record IsTxn (disk : DiskState) (delta : List Entry) : Type 0 where
   pub few : length delta ≤ max_delta (header_at disk.seen)
   pub on_disk : IsOnDisk (header_at disk.seen) disk.size delta
 
--- memory is reserved for as many sectors as wait at most, and for as many as a call may put
-pub record IsReserved (disk : DiskState) (waiting delta : ℕ) : Type 0 where
-  pub waits : waiting ≡ max_targets (header_at disk.seen)
-  pub put : delta ≡ max_delta (header_at disk.seen)
+-- Two batches wait, all of their sectors on the disk. Those that go to their places alone are free in what the disk reads as, and none is a
+-- target of the commit that stands. The log has room for the others, and each batch has memory for what may come to it.
+pub record IsWaiting (disk : DiskState) (placed logged : BatchView) : Type 0 where
+  pub places : IsOnDisk (header_at disk.seen) disk.size placed.entries
+  pub on_disk : IsOnDisk (header_at disk.seen) disk.size logged.entries
+  pub spare : All (IsSpare (data_of disk)) (targets placed.entries)
+  pub beside : All (IsNoTarget disk) (targets placed.entries)
+  pub few : length logged.entries ≤ max_targets (header_at disk.seen)
+  pub log : logged.most ≡ max_targets (header_at disk.seen)
+  pub room : max_delta (header_at disk.seen) ≤ placed.most

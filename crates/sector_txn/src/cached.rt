@@ -1,19 +1,21 @@
 //! A journal whose sectors are kept in memory once they are read.
 
-ghost use Rattle.std.specs.Prelude.{◌≡◌, ◌<◌, ◌≤◌, ℕ, length, false, Some, Ok, IfOk, OnOk};
+ghost use Rattle.std.specs.Prelude.{◌≡◌, ◌<◌, ◌≤◌, ◌+◌, [], ℕ, length, Some, IfOk, OnOk};
 ghost use Rattle.std.specs.Fn.{FnOnceReturnsAt};
 ghost use Rattle.fs_layout.specs.Header.{max_targets};
-ghost use Rattle.redo_journal.specs.Batch.{IsOnDisk, with_batch};
+ghost use Rattle.fs_layout.specs.Bytes.{SectorMap};
+ghost use Rattle.redo_journal.specs.Batch.{IsOnDisk, added, with_batch};
 ghost use Rattle.redo_journal.specs.Meaning.{EachReadsAs, LeavesSameMap, IsMapped, SameMap, data_of, disk_of};
 ghost use Rattle.redo_journal.specs.States.{header_at, HasHeader, IsIdle};
 ghost use Rattle.sector_disk.specs.Disk.{IsSame, ForgetsPast, Elapses, OnlyReads, HasCause, HasWriteCause};
 ghost use Rattle.sector_txn.specs.Images.{LeavesOldOr};
-ghost use Rattle.sector_txn.specs.Parts.{HaveRoom};
+ghost use Rattle.sector_txn.specs.Stores.{IsWaiting, all_waiting};
 
 use crate::clean::CleanSectors;
-use crate::commit::commit_in_place;
-use crate::parts::Parts;
-use redo_journal::{Batch, Broken, Journal};
+use crate::commit::commit;
+use crate::waiting::Waiting;
+use fs_layout::Geometry;
+use redo_journal::{Batch, Broken, Journal, absorb_beside};
 use sector_disk::{CrashDisk, Disk, DiskFault};
 use std::alloc::Global;
 use std::marker::Model;
@@ -24,35 +26,38 @@ use std::marker::Model;
 pub(crate) struct CachedJournal<D: Disk> {
     journal: Journal<D>,
     clean: CleanSectors,
-    parts: Parts,
+    // What the last commit logged.
+    last: Box<Batch>,
+    // The layout that the disk tells of, where `last` is known: before the first commit another one may stand.
+    layout: Option<Geometry>,
 }
 
 impl<D: Disk> Model for CachedJournal<D> {
     ghost use Rattle.redo_journal.specs.Meaning.{data_of};
     ghost use Rattle.redo_journal.specs.States.{header_at};
     ghost use Rattle.sector_txn.specs.Clean.{IsPartOf};
-    ghost use Rattle.sector_txn.specs.Parts.{HasParts};
+    ghost use Rattle.sector_txn.specs.Last.{HasLast};
 
     ghost Value = { D };
 
     ghost view = { λ cached. cached.journal };
 
     ghost invariant = { λ cached. IsPartOf (header_at (D.state cached.journal).seen) (data_of (D.state cached.journal)) cached.clean
-        × HasParts (D.state cached.journal) cached.parts.placed.value cached.parts.logged.value cached.parts.last.value cached.parts.knows_last };
+        × HasLast (D.state cached.journal) cached.layout cached.last.value };
 }
 
 impl<D: Disk> CachedJournal<D> {
     /// The journal, with an empty cache.
-    pub(crate) fn new(alloc: Global, journal: Journal<D>, parts: Parts) -> CachedJournal<D>
-        requires room { HaveRoom (max_targets (header_at (D.state journal).seen)) parts.placed.value parts.logged.value parts.last.value }
-        requires unknown { parts.knows_last ≡ false }
+    pub(crate) fn new(alloc: Global, journal: Journal<D>, last: Box<Batch>) -> CachedJournal<D>
+        requires { last.value.most ≡ max_targets (header_at (D.state journal).seen) }
         ensures { result ≡ journal }
     {
         let header = journal.header();
         CachedJournal {
             journal,
             clean: CleanSectors::new(alloc, header),
-            parts,
+            last,
+            layout: None,
         }
     }
 
@@ -132,43 +137,73 @@ impl<D: Disk> CachedJournal<D> {
         Ok(())
     }
 
-    /// Commits a batch: contents of sectors that are free go to their places, and the rest through the log. What the cache has of its sectors is dropped before they are written.
-    pub(crate) fn commit(self, batch: &Batch) -> Result<CachedJournal<D>, Broken<D>>
-        requires on_disk { IsOnDisk (header_at (D.state self).seen) (D.state self).size batch.now.entries }
-        requires few { length batch.now.entries ≤ max_targets (header_at (D.state self).seen) }
-        ensures changed { IfOk result (λ after. SameMap (data_of (D.state after)) (with_batch batch.now.entries (data_of (D.state self)))) }
-        ensures images { LeavesOldOr (with_batch batch.now.entries (data_of (D.state self))) (D.state self) (D.state (disk_of result)) }
-        ensures empty { length batch.now.entries ≡ 0 → result ≡ Ok self }
+    /// Takes what a transaction changed into what waits. What is free in what the disk reads as goes to its place alone, but for what
+    /// the last commit logged; before the first commit, and where no layout is known, all goes through the log.
+    pub(crate) fn keep(&self, waiting: &mut Waiting, delta: &Batch)
+        requires waits { IsWaiting (D.state self.now) waiting.old.placed.value waiting.old.logged.value }
+        requires on_disk { IsOnDisk (header_at (D.state self.now).seen) (D.state self.now).size delta.now.entries }
+        requires places { length waiting.old.placed.value.entries + length delta.now.entries ≤ waiting.old.placed.value.most }
+        requires room { length waiting.old.logged.value.entries + added waiting.old.logged.value.entries delta.now.entries ≤ waiting.old.logged.value.most }
+        ensures waits { IsWaiting (D.state self.now) waiting.new.placed.value waiting.new.logged.value }
+        ensures map { (f : SectorMap) (n : ℕ) →
+            with_batch (all_waiting waiting.new.placed.value.entries waiting.new.logged.value.entries) f n
+            ≡ with_batch delta.now.entries (with_batch (all_waiting waiting.old.placed.value.entries waiting.old.logged.value.entries) f) n }
+    {
+        match self.layout {
+            Some(geometry) => absorb_beside(
+                &self.journal,
+                geometry,
+                &self.last,
+                delta,
+                &mut waiting.placed,
+                &mut waiting.logged,
+            ),
+            None => waiting.logged.absorb(delta),
+        }
+    }
+
+    /// Commits what waits, and nothing waits then. What the cache has of its sectors is dropped before they are written.
+    pub(crate) fn commit(self, waiting: &mut Waiting) -> Result<CachedJournal<D>, Broken<D>>
+        requires waits { IsWaiting (D.state self) waiting.old.placed.value waiting.old.logged.value }
+        ensures waits { IfOk result (λ after. IsWaiting (D.state after) waiting.new.placed.value waiting.new.logged.value) }
+        ensures placed { IfOk result (λ after. waiting.new.placed.value.entries ≡ []) }
+        ensures logged { IfOk result (λ after. waiting.new.logged.value.entries ≡ []) }
+        ensures changed { IfOk result (λ after. SameMap (data_of (D.state after))
+            (with_batch (all_waiting waiting.old.placed.value.entries waiting.old.logged.value.entries) (data_of (D.state self)))) }
+
+        // The header stays.
+        ensures header { IfOk result (λ after. header_at (D.state after).seen ≡ header_at (D.state self).seen) }
+
+        // A stop at any moment of the call leaves what means as before it, or reads with all that waits.
+        ensures images { LeavesOldOr (with_batch (all_waiting waiting.old.placed.value.entries waiting.old.logged.value.entries) (data_of (D.state self)))
+            (D.state self) (D.state (disk_of result)) }
+
         ensures cause { HasCause (D.state self) (D.state (disk_of result)) result }
         ensures told { HasWriteCause (D.state self) (D.state (disk_of result)) result }
     {
-        if batch.is_empty() {
+        if waiting.is_empty() {
             return Ok(self);
         }
+        waiting.log_some();
         let CachedJournal {
             journal,
             mut clean,
-            parts,
-        } = self;
-        clean.forget_all(batch.sectors());
-        let layout = parts.layout(&journal);
-        let Parts {
-            mut placed,
-            mut logged,
-            last,
+            mut last,
             ..
-        } = parts;
-        match commit_in_place(journal, layout, &last, batch, &mut placed, &mut logged) {
-            Ok(journal) => Ok(CachedJournal {
-                journal,
-                clean,
-                parts: Parts {
-                    placed,
-                    logged: last,
-                    last: logged,
-                    knows_last: true,
-                },
-            }),
+        } = self;
+        clean.forget_all(waiting.placed.sectors());
+        clean.forget_all(waiting.logged.sectors());
+        match commit(journal, &waiting.placed, &waiting.logged) {
+            Ok(journal) => {
+                waiting.hand_over(&mut last);
+                let layout = journal.layout();
+                Ok(CachedJournal {
+                    journal,
+                    clean,
+                    last,
+                    layout,
+                })
+            }
             Err(broken) => Err(broken),
         }
     }

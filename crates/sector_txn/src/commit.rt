@@ -1,143 +1,75 @@
-//! The three steps of a commit in a row, and when a commit is due.
+//! The commit of what waits, and when it is due.
 
-ghost use Rattle.std.specs.Prelude.{◌≡◌, ◌<◌, ◌≤◌, ◌+◌, ◌↔◌, ℕ, length, Ok, IfOk, IfSome, IsTrue};
-ghost use Rattle.fs_layout.specs.Header.{max_delta, max_targets};
-ghost use Rattle.redo_journal.specs.Batch.{IsOnDisk, targets, with_batch, added};
-ghost use Rattle.redo_journal.specs.Meaning.{HasLayout, SameMap, data_of, disk_of};
+ghost use Rattle.std.specs.Prelude.{◌≡◌, ◌<◌, ◌≤◌, ◌+◌, ℕ, length, Ok, IfOk};
+ghost use Rattle.fs_layout.specs.Header.{max_delta};
+ghost use Rattle.redo_journal.specs.Batch.{added, targets, with_batch};
+ghost use Rattle.redo_journal.specs.Meaning.{SameMap, data_of, disk_of};
 ghost use Rattle.redo_journal.specs.States.{StandsIn, header_at};
 ghost use Rattle.sector_disk.specs.Disk.{HasCause, HasWriteCause};
 ghost use Rattle.sector_txn.specs.Images.{LeavesOldOr};
-ghost use Rattle.sector_txn.specs.Stores.{IsWaiting};
+ghost use Rattle.sector_txn.specs.Stores.{IsWaiting, all_waiting};
 
 use crate::cached::CachedJournal;
-use fs_layout::{Geometry, max_targets};
-use redo_journal::{Batch, Broken, Journal, commit_beside, split};
+use crate::waiting::{Waiting, fits};
+use fs_layout::max_targets;
+use redo_journal::{Batch, Broken, Journal, commit_beside};
 use sector_disk::Disk;
 
-// Logs, seals and installs a batch.
-fn commit<D: Disk>(journal: Journal<D>, batch: &Batch) -> Result<Journal<D>, Broken<D>>
-    requires on_disk { IsOnDisk (header_at (D.state journal).seen) (D.state journal).size batch.now.entries }
-    requires few { length batch.now.entries ≤ max_targets (header_at (D.state journal).seen) }
-
-    ensures changed { IfOk result (λ after. SameMap (data_of (D.state after)) (with_batch batch.now.entries (data_of (D.state journal)))) }
-
-    // A stop at any moment of the call leaves what means as before it, or reads with the whole batch.
-    ensures images { LeavesOldOr (with_batch batch.now.entries (data_of (D.state journal))) (D.state journal) (D.state (disk_of result)) }
-
-    // It is this batch's commit that stands then, or none.
-    ensures stands { 0 < length batch.now.entries → IfOk result (λ after. StandsIn (targets batch.now.entries) (D.state after)) }
-
-    ensures cause { HasCause (D.state journal) (D.state (disk_of result)) result }
-
-    ensures told { HasWriteCause (D.state journal) (D.state (disk_of result)) result }
-{
-    journal.tell_ready();
-    match journal.log(batch) {
-        Ok(logged) => match logged.seal(batch) {
-            Ok(sealed) => sealed.install(batch),
-            Err(broken) => Err(broken),
-        },
-        Err(broken) => Err(broken),
-    }
-}
-
-// Commits a batch through the log alone. What it has is left in `logged`.
-fn commit_logged<D: Disk>(
+/// Commits two batches as one: the first goes to its places, which are free until then, and the second through the log.
+pub(crate) fn commit<D: Disk>(
     journal: Journal<D>,
-    batch: &Batch,
-    logged: &mut Batch,
+    placed: &Batch,
+    logged: &Batch,
 ) -> Result<Journal<D>, Broken<D>>
-    requires some { 0 < length batch.now.entries }
-    requires on_disk { IsOnDisk (header_at (D.state journal).seen) (D.state journal).size batch.now.entries }
-    requires few { length batch.now.entries ≤ max_targets (header_at (D.state journal).seen) }
-    requires room { length batch.now.entries ≤ logged.old.most }
-    ensures changed { IfOk result (λ after. SameMap (data_of (D.state after)) (with_batch batch.now.entries (data_of (D.state journal)))) }
-    ensures images { LeavesOldOr (with_batch batch.now.entries (data_of (D.state journal))) (D.state journal) (D.state (disk_of result)) }
-    ensures stands { IfOk result (λ after. StandsIn (targets logged.new.entries) (D.state after)) }
-    ensures most { logged.new.most ≡ logged.old.most }
-    ensures cause { HasCause (D.state journal) (D.state (disk_of result)) result }
-    ensures told { HasWriteCause (D.state journal) (D.state (disk_of result)) result }
-{
-    logged.clear();
-    logged.absorb(batch);
-    commit(journal, logged)
-}
+    requires some { 0 < length logged.now.entries }
+    requires waits { IsWaiting (D.state journal) placed.now logged.now }
 
-/// Commits a batch: what is free in what the disk reads as goes to its place alone, and the rest through the log. Where no layout is
-/// given all of it goes through the log. `last` has the sectors of the commit that stands; `logged` has those of this one then.
-pub(crate) fn commit_in_place<D: Disk>(
-    journal: Journal<D>,
-    layout: Option<Geometry>,
-    last: &Batch,
-    batch: &Batch,
-    placed: &mut Batch,
-    logged: &mut Batch,
-) -> Result<Journal<D>, Broken<D>>
-    requires some { 0 < length batch.now.entries }
-    requires on_disk { IsOnDisk (header_at (D.state journal).seen) (D.state journal).size batch.now.entries }
-    requires few { length batch.now.entries ≤ max_targets (header_at (D.state journal).seen) }
-    requires layout { IfSome layout (λ p. HasLayout (data_of (D.state journal)) p × (p.sectors ≤ (D.state journal).size)) }
-    requires stands { IfSome layout (λ p. StandsIn (targets last.now.entries) (D.state journal)) }
-    requires room { (length batch.now.entries ≤ placed.old.most) × (length batch.now.entries ≤ logged.old.most) }
+    ensures changed { IfOk result (λ after. SameMap (data_of (D.state after))
+        (with_batch (all_waiting placed.now.entries logged.now.entries) (data_of (D.state journal)))) }
 
-    ensures changed { IfOk result (λ after. SameMap (data_of (D.state after)) (with_batch batch.now.entries (data_of (D.state journal)))) }
+    // A stop at any moment of the call leaves what means as before it, or reads with both batches.
+    ensures images { LeavesOldOr (with_batch (all_waiting placed.now.entries logged.now.entries) (data_of (D.state journal)))
+        (D.state journal) (D.state (disk_of result)) }
 
-    // A stop at any moment of the call leaves what means as before it, or reads with the whole batch.
-    ensures images { LeavesOldOr (with_batch batch.now.entries (data_of (D.state journal))) (D.state journal) (D.state (disk_of result)) }
-
-    ensures stands { IfOk result (λ after. StandsIn (targets logged.new.entries) (D.state after)) }
-
-    ensures most { (placed.new.most ≡ placed.old.most) × (logged.new.most ≡ logged.old.most) }
+    // It is the second batch's commit that stands then, or none.
+    ensures stands { IfOk result (λ after. StandsIn (targets logged.now.entries) (D.state after)) }
 
     ensures cause { HasCause (D.state journal) (D.state (disk_of result)) result }
 
     ensures told { HasWriteCause (D.state journal) (D.state (disk_of result)) result }
 {
-    let Some(geometry) = layout else {
-        return commit_logged(journal, batch, logged);
-    };
-    placed.clear();
-    logged.clear();
-    split(&journal, geometry, last, batch, placed, logged);
-    if logged.is_empty() {
-        return commit_logged(journal, batch, logged);
-    }
-    // Its clause tells a proof what each batch is.
-    let _count = placed.len();
     commit_beside(journal, placed, logged)
-}
-
-// Whether the changes fit beside what waits. Nothing is looked up where they would if all their sectors were new.
-fn fits(most: usize, waiting: &Batch, delta: &Batch) -> bool
-    requires { length waiting.now.entries ≤ most }
-    ensures fits { IsTrue result ↔ (length waiting.now.entries + added waiting.now.entries delta.now.entries ≤ most) }
-    ensures empty { length delta.now.entries ≡ 0 → IsTrue result }
-{
-    waiting.len() + delta.len() <= most || waiting.len() + waiting.added_by(delta) <= most
 }
 
 /// Commits what waits, where the changes wouldn't fit beside it: all of it, before they are kept.
 pub(crate) fn commit_if_full<D: Disk>(
     journal: CachedJournal<D>,
-    waiting: &mut Batch,
+    waiting: &mut Waiting,
     delta: &Batch,
 ) -> Result<CachedJournal<D>, Broken<D>>
-    requires waits { IsWaiting (D.state journal) waiting.old.entries }
+    requires waits { IsWaiting (D.state journal) waiting.old.placed.value waiting.old.logged.value }
     requires few { length delta.now.entries ≤ max_delta (header_at (D.state journal).seen) }
-    ensures on_disk { (header size : ℕ) → IsOnDisk header size waiting.old.entries → IsOnDisk header size waiting.new.entries }
+    ensures waits { IfOk result (λ after. IsWaiting (D.state after) waiting.new.placed.value waiting.new.logged.value) }
+    ensures places { IfOk result (λ after.
+        length waiting.new.placed.value.entries + length delta.now.entries ≤ waiting.new.placed.value.most) }
     ensures room { IfOk result (λ after.
-        length waiting.new.entries + added waiting.new.entries delta.now.entries ≤ max_targets (header_at (D.state journal).seen)) }
+        length waiting.new.logged.value.entries + added waiting.new.logged.value.entries delta.now.entries ≤ waiting.new.logged.value.most) }
 
-    ensures most { waiting.new.most ≡ waiting.old.most }
+    // Where nothing goes to its place alone, it is due once the log has no room.
+    ensures due { length waiting.old.placed.value.entries ≡ 0
+        → length waiting.old.logged.value.entries + added waiting.old.logged.value.entries delta.now.entries ≤ waiting.old.logged.value.most
+        → result ≡ Ok journal }
 
     // The header stays.
     ensures header { IfOk result (λ after. header_at (D.state after).seen ≡ header_at (D.state journal).seen) }
 
     // What was to be read stays so.
-    ensures same { let before = with_batch waiting.old.entries (data_of (D.state journal)) in
-        IfOk result (λ after. SameMap (with_batch waiting.new.entries (data_of (D.state after))) before) }
+    ensures same { let before = with_batch (all_waiting waiting.old.placed.value.entries waiting.old.logged.value.entries) (data_of (D.state journal)) in
+        IfOk result (λ after. SameMap
+        (with_batch (all_waiting waiting.new.placed.value.entries waiting.new.logged.value.entries) (data_of (D.state after))) before) }
 
-    ensures images { LeavesOldOr (with_batch waiting.old.entries (data_of (D.state journal))) (D.state journal) (D.state (disk_of result)) }
+    ensures images { LeavesOldOr (with_batch (all_waiting waiting.old.placed.value.entries waiting.old.logged.value.entries) (data_of (D.state journal)))
+        (D.state journal) (D.state (disk_of result)) }
 
     // Without changes the disk isn't called.
     ensures empty { length delta.now.entries ≡ 0 → result ≡ Ok journal }
@@ -145,14 +77,9 @@ pub(crate) fn commit_if_full<D: Disk>(
     ensures cause { HasCause (D.state journal) (D.state (disk_of result)) result }
     ensures told { HasWriteCause (D.state journal) (D.state (disk_of result)) result }
 {
-    if fits(max_targets(journal.header()), waiting, delta) {
+    let most = max_targets(journal.header());
+    if fits(most, &waiting.placed, &waiting.logged, delta) {
         return Ok(journal);
     }
-    match journal.commit(waiting) {
-        Ok(journal) => {
-            waiting.clear();
-            Ok(journal)
-        }
-        Err(broken) => Err(broken),
-    }
+    journal.commit(waiting)
 }

@@ -15,9 +15,9 @@ mod cached;
 mod clean;
 mod commit;
 mod hints;
-mod parts;
 mod sectors;
 mod store;
+mod waiting;
 
 pub use sectors::Sectors;
 pub use store::{Store, Txn};

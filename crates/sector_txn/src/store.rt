@@ -8,14 +8,13 @@ ghost use Rattle.redo_journal.specs.Meaning.{SameMap, EachReadsAs, data_of, disk
 ghost use Rattle.redo_journal.specs.States.{header_at, IsIdle};
 ghost use Rattle.sector_disk.specs.Disk.{IsSame, ForgetsPast, Elapses, HasCause, HasWriteCause};
 ghost use Rattle.sector_txn.specs.Images.{LeavesOneOf, LeavesOldOr};
-ghost use Rattle.sector_txn.specs.Parts.{HaveRoom};
 ghost use Rattle.sector_txn.specs.Stores.{present, map_before, map_now, txn_state, disk_after};
 
 use crate::Sectors;
 use crate::cached::CachedJournal;
 use crate::commit::commit_if_full;
 use crate::hints::Hints;
-use crate::parts::Parts;
+use crate::waiting::Waiting;
 use fs_layout::{HEADER_TARGETS, max_targets};
 use redo_journal::{Batch, Broken, Journal};
 use sector_disk::{CrashDisk, Disk, DiskFault};
@@ -27,13 +26,13 @@ const DELTA: usize = 64;
 
 /// A map of sectors on a journal: sector 0 and those behind the log.
 ///
-/// No more sectors that were kept than a commit has wait in memory for their commit, which [`Store::flush`] makes. It may be dropped, which
-/// is as if the disk were stopped.
+/// Sectors that were kept wait in memory for their commit, which [`Store::flush`] makes: of those that go through the log no more than it has
+/// room for, and a few times as many that go to their places alone. It may be dropped, which is as if the disk were stopped.
 #[derive(Drop)]
 pub struct Store<D: Disk> {
     journal: CachedJournal<D>,
     // What was kept since the last commit.
-    waiting: Box<Batch>,
+    waiting: Waiting,
     // No sectors: its memory serves one transaction after another.
     delta: Box<Batch>,
     // What calls left for later ones.
@@ -42,35 +41,48 @@ pub struct Store<D: Disk> {
 
 impl<D: Disk> Model for Store<D> {
     ghost use Rattle.std.specs.Prelude.{◌≡◌, []};
-    ghost use Rattle.sector_txn.specs.Stores.{StoreView, IsReserved, IsWaiting};
+    ghost use Rattle.fs_layout.specs.Header.{max_delta};
+    ghost use Rattle.redo_journal.specs.States.{header_at};
+    ghost use Rattle.sector_txn.specs.Stores.{StoreView, IsWaiting, all_waiting};
 
     ghost Value = { StoreView D };
 
-    ghost view = { λ store. record { disk = store.journal; waiting = store.waiting.value.entries } };
+    ghost view = { λ store. record {
+      disk = store.journal;
+      waiting = all_waiting store.waiting.placed.value.entries store.waiting.logged.value.entries;
+    } };
 
-    ghost invariant = { λ store. (store.delta.value.entries ≡ []) × IsWaiting (D.state store.journal) store.waiting.value.entries
-        × IsReserved (D.state store.journal) store.waiting.value.most store.delta.value.most };
+    ghost invariant = { λ store. (store.delta.value.entries ≡ [])
+        × IsWaiting (D.state store.journal) store.waiting.placed.value store.waiting.logged.value
+        × (store.delta.value.most ≡ max_delta (header_at (D.state store.journal).seen)) };
 }
 
 /// One call's changes to a store, at most 64 sectors where the disk has no header. Either [`Txn::keep`] or [`Txn::drop_delta`] has to be called.
 #[must_use = "its changes are to be kept or dropped"]
 pub struct Txn<D: Disk> {
     journal: CachedJournal<D>,
-    waiting: Box<Batch>,
+    waiting: Waiting,
     delta: Box<Batch>,
     hints: Hints,
 }
 
 impl<D: Disk> Model for Txn<D> {
-    ghost use Rattle.sector_txn.specs.Stores.{TxnView, IsReserved, IsTxn, IsWaiting};
+    ghost use Rattle.std.specs.Prelude.{◌≡◌};
+    ghost use Rattle.fs_layout.specs.Header.{max_delta};
+    ghost use Rattle.redo_journal.specs.States.{header_at};
+    ghost use Rattle.sector_txn.specs.Stores.{TxnView, IsTxn, IsWaiting, all_waiting};
 
     ghost Value = { TxnView D };
 
-    ghost view = { λ txn. record { disk = txn.journal; waiting = txn.waiting.value.entries; delta = txn.delta.value.entries } };
+    ghost view = { λ txn. record {
+      disk = txn.journal;
+      waiting = all_waiting txn.waiting.placed.value.entries txn.waiting.logged.value.entries;
+      delta = txn.delta.value.entries;
+    } };
 
     ghost invariant = { λ txn. IsTxn (D.state txn.journal) txn.delta.value.entries
-        × IsWaiting (D.state txn.journal) txn.waiting.value.entries
-        × IsReserved (D.state txn.journal) txn.waiting.value.most txn.delta.value.most };
+        × IsWaiting (D.state txn.journal) txn.waiting.placed.value txn.waiting.logged.value
+        × (txn.delta.value.most ≡ max_delta (header_at (D.state txn.journal).seen)) };
 }
 
 impl<D: Disk> Store<D> {
@@ -83,8 +95,8 @@ impl<D: Disk> Store<D> {
     {
         journal.tell_ready();
         match reserved(alloc, journal.header()) {
-            Ok((waiting, delta, parts, hints)) => Ok(Store {
-                journal: CachedJournal::new(alloc, journal, parts),
+            Ok((waiting, delta, last, hints)) => Ok(Store {
+                journal: CachedJournal::new(alloc, journal, last),
                 waiting,
                 delta,
                 hints,
@@ -139,10 +151,9 @@ impl<D: Disk> Store<D> {
             delta,
             hints,
         } = self;
-        match journal.commit(&waiting) {
+        match journal.commit(&mut waiting) {
             Ok(journal) => {
                 journal.tell_ready();
-                waiting.clear();
                 Ok(Store {
                     journal,
                     waiting,
@@ -171,11 +182,11 @@ impl<D: Disk> Store<D> {
     {
         let Store {
             journal,
-            waiting: kept,
+            waiting: mut kept,
             delta: _,
             hints: _,
         } = self;
-        match journal.commit(&kept) {
+        match journal.commit(&mut kept) {
             Ok(journal) => journal.close(),
             Err(broken) => Err(broken),
         }
@@ -246,7 +257,7 @@ impl<D: Disk> Txn<D> {
         } = self;
         match commit_if_full(journal, &mut waiting, &delta) {
             Ok(journal) => {
-                waiting.absorb(&delta);
+                journal.keep(&mut waiting, &delta);
                 delta.clear();
                 Ok(Store {
                     journal,
@@ -351,20 +362,23 @@ fn most_delta(header: u32) -> usize
     DELTA + HEADER_TARGETS * (header as usize)
 }
 
-// The memory of the sectors that wait, of a transaction's, of a commit's parts, and of hints, on a disk whose header has so many sectors.
+// The memory of the sectors that wait, of a transaction's, of what the last commit logged, and of hints, on a disk whose header has so
+// many sectors.
 fn reserved(
     alloc: Global,
     header: u32,
-) -> Result<(Box<Batch>, Box<Batch>, Parts, Hints), AllocError>
+) -> Result<(Waiting, Box<Batch>, Box<Batch>, Hints), AllocError>
     requires { header ≤ MAX_HEADER }
-    ensures empty { IfOk result (λ parts. (parts.0.value.entries ≡ []) × (parts.1.value.entries ≡ [])) }
-    ensures most { IfOk result (λ parts. (parts.0.value.most ≡ max_targets header) × (parts.1.value.most ≡ max_delta header)) }
-    ensures room { IfOk result (λ parts. HaveRoom (max_targets header) parts.2.placed.value parts.2.logged.value parts.2.last.value) }
-    ensures unknown { IfOk result (λ parts. parts.2.knows_last ≡ false) }
+    ensures placed { IfOk result (λ parts. parts.0.placed.value.entries ≡ []) }
+    ensures logged { IfOk result (λ parts. parts.0.logged.value.entries ≡ []) }
+    ensures places { IfOk result (λ parts. max_delta header ≤ parts.0.placed.value.most) }
+    ensures log { IfOk result (λ parts. parts.0.logged.value.most ≡ max_targets header) }
+    ensures delta { IfOk result (λ parts. parts.1.value.entries ≡ []) }
+    ensures most { IfOk result (λ parts. (parts.1.value.most ≡ max_delta header) × (parts.2.value.most ≡ max_targets header)) }
 {
-    let waiting = Box::new(alloc, Batch::new(alloc, max_targets(header))?)?;
+    let waiting = Waiting::new(alloc, header)?;
     let delta = Box::new(alloc, Batch::new(alloc, most_delta(header))?)?;
-    let parts = Parts::new(alloc, max_targets(header))?;
+    let last = Box::new(alloc, Batch::new(alloc, max_targets(header))?)?;
     let hints = Hints::new(alloc, header)?;
-    Ok((waiting, delta, parts, hints))
+    Ok((waiting, delta, last, hints))
 }

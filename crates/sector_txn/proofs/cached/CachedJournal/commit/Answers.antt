@@ -1,32 +1,102 @@
-use Rattle.std.proofs.Common.{◌∙◌, ap, sym, subst, Contains}
-use Rattle.std.specs.Prelude.{IfSome}
-use Rattle.redo_journal.specs.Batch.{BatchView, targets}
-use Rattle.redo_journal.specs.States.{StandsIn}
-use Rattle.redo_journal.specs.Meaning.{IsMapped, data_of}
+use Rattle.std.proofs.Common.{◌≡◌, ◌∙◌, Contains, arith, ap, sym, subst}
+use Rattle.std.proofs.lemmas.Option.{IfSome_then}
+use Rattle.fs_layout.specs.Bytes.{SectorMap}
+use Rattle.fs_layout.specs.Header.{max_targets}
+use Rattle.redo_journal.specs.Batch.{BatchView, targets, with_batch}
+use Rattle.redo_journal.specs.Meaning.{IsMapped, SameMap, data_of}
+use Rattle.redo_journal.specs.States.{StandsIn, header_at}
 use Rattle.redo_journal.proofs.Meaning.{header_after, mapped_after}
+use Rattle.sector_txn.specs.Images.{LeavesOldOr}
+use Rattle.sector_txn.specs.Stores.{IsWaiting, all_waiting}
+use Rattle.sector_txn.proofs.Commits.{both_on_disk, nothing_waits, over_both, some_logged}
 use Rattle.sector_txn.proofs.Pairs.{with_batch_apart}
-use Rattle.sector_txn.proofs.Commits.{known_stands, parts_turned}
 use Rattle.sector_txn.proofs.cached.CachedJournal.commit.Goals as goal
 
-pub commit_in_place-requires-clause-stands : goal.commit_in_place-requires-clause-stands
-commit_in_place-requires-clause-stands g c =
+pub commit-requires-clause-waits : goal.commit-requires-clause-waits
+commit-requires-clause-waits g c =
     let disk = g.D.Disk.state c.self.inside.journal in
-    let parts = c.self.inside.parts in
-    subst (λ (b : BatchView). IfSome c.layout-layout.result (λ p. StandsIn (targets b.entries) disk)) (sym c.deref.ensures)
-    (known_stands c.layout-layout.result (targets parts.last.value.entries) disk parts.knows_last c.layout-layout.ensures.known c.self.invariant.1.stands)
+    let was = c.args.waiting.now in
+    let now = c.log_some.new.self in
+    let waits = subst (λ d. IsWaiting (g.D.Disk.state d) was.placed.value was.logged.value) (sym c.self.view_is) c.requires.waits in
+    let here = some_logged disk was.placed.value was.logged.value now.placed.value now.logged.value waits c.log_some.ensures.placed c.log_some.ensures.few c.log_some.ensures.on_disk c.log_some.ensures.most in
+    subst (λ (b : BatchView). IsWaiting disk b c.deref-4.result.now) (sym c.deref-3.ensures)
+    (subst (λ (b : BatchView). IsWaiting disk now.placed.value b) (sym c.deref-4.ensures) here)
 
 pub invariant_of-result : goal.invariant_of-result
 invariant_of-result g c =
     let old = g.D.Disk.state c.self.inside.journal in
     let new = g.D.Disk.state c.in-Ok.journal in
     let before = data_of old in
-    let entries = c.args.batch.now.entries in
-    let header = header_after entries _ _ old new c.requires.on_disk c.in-Ok.ensures.changed in (
+    let was = c.args.waiting.now in
+    let now = c.log_some.new.self in
+    let placed = now.placed.value.entries in
+    let logged = now.logged.value.entries in
+    let entries = all_waiting placed logged in
+    let waits = subst (λ d. IsWaiting (g.D.Disk.state d) was.placed.value was.logged.value) (sym c.self.view_is) c.requires.waits in
+    let here = some_logged old was.placed.value was.logged.value now.placed.value now.logged.value waits c.log_some.ensures.placed c.log_some.ensures.few c.log_some.ensures.on_disk c.log_some.ensures.most in
+    let changed = subst (λ (b : BatchView). SameMap (data_of new) (with_batch (all_waiting b.entries logged) before)) c.deref-3.ensures
+    (subst (λ (b : BatchView). SameMap (data_of new) (with_batch (all_waiting c.deref-3.result.now.entries b.entries) before)) c.deref-4.ensures c.in-Ok.ensures.changed) in
+    let header = header_after entries _ _ old new (both_on_disk _ _ placed logged here.places here.on_disk) changed in (
       λ pair has part.
-          let apart = with_batch_apart entries before pair.0 (λ there. c.forget_all.ensures.gone pair has (subst (λ ns. Contains ns pair.0) (sym c.sectors.ensures.sectors) there)) in
-          let here = subst (λ h. IsMapped h pair.0) header part in
-          c.self.invariant.0 pair (c.forget_all.ensures.kept pair has) here ∙ sym apart ∙ sym (c.in-Ok.ensures.changed pair.0 (mapped_after entries old new pair.0 c.in-Ok.ensures.changed part)),
-      parts_turned old new _ _ _ c.commit_in_place.new.placed c.commit_in_place.new.logged _ c.self.invariant.1 header
-          (c.in-Ok.ensures.most.0 ∙ ap (λ (b : BatchView). b.most) c.deref_mut.ensures.value)
-          (c.in-Ok.ensures.most.1 ∙ ap (λ (b : BatchView). b.most) c.deref_mut-2.ensures.value) c.in-Ok.ensures.stands,
+          let kept = c.forget_all-2.ensures.kept pair has in
+          let in_place = c.sectors.ensures.sectors ∙ ap (λ (b : BatchView). targets b.entries) c.deref.ensures in
+          let in_log = c.sectors-2.ensures.sectors ∙ ap (λ (b : BatchView). targets b.entries) c.deref-2.ensures in
+          let apart = over_both logged placed before pair.0
+          ∙ with_batch_apart logged (with_batch placed before) pair.0 (λ there. c.forget_all-2.ensures.gone pair has (subst (λ ns. Contains ns pair.0) (sym in_log) there))
+          ∙ with_batch_apart placed before pair.0 (λ there. c.forget_all.ensures.gone pair kept (subst (λ ns. Contains ns pair.0) (sym in_place) there)) in
+          let mapped = subst (λ h. IsMapped h pair.0) header part in
+          c.self.invariant.0 pair (c.forget_all.ensures.kept pair kept) mapped ∙ sym apart ∙ sym (changed pair.0 (mapped_after entries old new pair.0 changed part)),
+      record {
+        room = ap (λ (b : BatchView). b.most) c.hand_over.ensures.last ∙ c.log_some.ensures.most ∙ waits.log ∙ ap max_targets (sym header);
+        known = IfSome_then c.layout-layout.result c.layout-layout.ensures
+            (λ p both. (both.0, both.1, subst (λ (b : BatchView). StandsIn (targets b.entries) new) (c.deref-4.ensures ∙ sym c.hand_over.ensures.last) c.in-Ok.ensures.stands));
+      },
     )
+
+pub returns-in-Ok-clause-header : goal.returns-in-Ok-clause-header
+returns-in-Ok-clause-header g c =
+    let old = g.D.Disk.state c.self.inside.journal in
+    let new = g.D.Disk.state c.in-Ok.journal in
+    let was = c.args.waiting.now in
+    let now = c.log_some.new.self in
+    let placed = now.placed.value.entries in
+    let logged = now.logged.value.entries in
+    let waits = subst (λ d. IsWaiting (g.D.Disk.state d) was.placed.value was.logged.value) (sym c.self.view_is) c.requires.waits in
+    let here = some_logged old was.placed.value was.logged.value now.placed.value now.logged.value waits c.log_some.ensures.placed c.log_some.ensures.few c.log_some.ensures.on_disk c.log_some.ensures.most in
+    let changed = subst (λ (b : BatchView). SameMap (data_of new) (with_batch (all_waiting b.entries logged) (data_of old))) c.deref-3.ensures
+    (subst (λ (b : BatchView). SameMap (data_of new) (with_batch (all_waiting c.deref-3.result.now.entries b.entries) (data_of old))) c.deref-4.ensures c.in-Ok.ensures.changed) in
+    subst (λ d. header_at new.seen ≡ header_at (g.D.Disk.state d).seen) c.self.view_is
+    (header_after (all_waiting placed logged) _ _ old new (both_on_disk _ _ placed logged here.places here.on_disk) changed)
+
+pub returns-in-Ok-clause-waits : goal.returns-in-Ok-clause-waits
+returns-in-Ok-clause-waits g c =
+    let old = g.D.Disk.state c.self.inside.journal in
+    let new = g.D.Disk.state c.in-Ok.journal in
+    let was = c.args.waiting.now in
+    let done = c.hand_over.ensures in
+    let waits = subst (λ d. IsWaiting (g.D.Disk.state d) was.placed.value was.logged.value) (sym c.self.view_is) c.requires.waits in
+    let header : header_at new.seen ≡ header_at old.seen = returns-in-Ok-clause-header g c ∙ ap (λ d. header_at (g.D.Disk.state d).seen) (sym c.self.view_is) in
+    nothing_waits new c.hand_over.new.self.placed.value c.hand_over.new.self.logged.value done.placed done.logged (done.most.1 ∙ c.self.invariant.1.room ∙ ap max_targets (sym header))
+    (omega (arith, waits.room, header, done.most.0, ap (λ (b : BatchView). b.most) c.log_some.ensures.placed))
+
+pub returns-in-Ok-clause-images : goal.returns-in-Ok-clause-images
+returns-in-Ok-clause-images g c =
+    let old = g.D.Disk.state c.self.inside.journal in
+    let new = g.D.Disk.state c.in-Ok.journal in
+    let was = c.args.waiting.now in
+    let logged = c.log_some.new.self.logged.value.entries in
+    subst (λ d. LeavesOldOr (with_batch (all_waiting was.placed.value.entries was.logged.value.entries) (data_of (g.D.Disk.state d))) (g.D.Disk.state d) new) c.self.view_is
+    (subst (λ (f : SectorMap). LeavesOldOr f old new) (λ i n. c.log_some.ensures.map (data_of old) n i)
+    (subst (λ (b : BatchView). LeavesOldOr (with_batch (all_waiting b.entries logged) (data_of old)) old new) c.deref-3.ensures
+    (subst (λ (b : BatchView). LeavesOldOr (with_batch (all_waiting c.deref-3.result.now.entries b.entries) (data_of old)) old new) c.deref-4.ensures c.in-Ok.ensures.images)))
+
+pub returns-in-Err-clause-images : goal.returns-in-Err-clause-images
+returns-in-Err-clause-images g c =
+    let old = g.D.Disk.state c.self.inside.journal in
+    let new = g.D.Disk.state c.in-Err.broken in
+    let was = c.args.waiting.now in
+    let logged = c.log_some.new.self.logged.value.entries in
+    subst (λ d. LeavesOldOr (with_batch (all_waiting was.placed.value.entries was.logged.value.entries) (data_of (g.D.Disk.state d))) (g.D.Disk.state d) new) c.self.view_is
+    (subst (λ (f : SectorMap). LeavesOldOr f old new) (λ i n. c.log_some.ensures.map (data_of old) n i)
+    (subst (λ (b : BatchView). LeavesOldOr (with_batch (all_waiting b.entries logged) (data_of old)) old new) c.deref-3.ensures
+    (subst (λ (b : BatchView). LeavesOldOr (with_batch (all_waiting c.deref-3.result.now.entries b.entries) (data_of old)) old new) c.deref-4.ensures c.in-Err.ensures.images)))

@@ -1,8 +1,8 @@
-use Rattle.sector_txn.proofs.Commits.{still_part, still_parted}
+use Rattle.sector_txn.proofs.Commits.{still_part, still_last}
 use Rattle.sector_txn.proofs.cached.CachedJournal.forget.Goals as goal
 
 pub invariant_of-self : goal.invariant_of-self
 invariant_of-self g c =
     let old = g.D.Disk.state c.self.inside.journal in
     let new = g.D.Disk.state c.forget.new.self in
-    (still_part old new c.self.inside.clean c.forget.ensures.same c.self.invariant.0, still_parted old new _ _ _ _ c.forget.ensures.same c.self.invariant.1)
+    (still_part old new c.self.inside.clean c.forget.ensures.same c.self.invariant.0, still_last old new _ _ c.forget.ensures.same c.self.invariant.1)

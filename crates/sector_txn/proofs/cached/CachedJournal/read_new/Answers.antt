@@ -2,7 +2,7 @@ use Rattle.std.proofs.Common.{◌∙◌, ap, sym, inl, inr, subst}
 use Rattle.sector_disk.specs.Disk.{Image}
 use Rattle.redo_journal.specs.States.{header_at}
 use Rattle.redo_journal.specs.Meaning.{IsMapped, data_of}
-use Rattle.sector_txn.proofs.Commits.{still_part, still_parted}
+use Rattle.sector_txn.proofs.Commits.{still_part, still_last}
 use Rattle.sector_txn.proofs.cached.CachedJournal.read_new.Goals as goal
 
 pub invariant_of-self-2 : goal.invariant_of-self-2
@@ -17,11 +17,11 @@ invariant_of-self-2 g c =
             | inl was ↦ c.self.invariant.0 pair was here ∙ sym same
             | inr is ↦ ap (λ p. p.1) is ∙ c.in_ok-read.ensures.content ∙ ap before (sym (ap (λ p. p.0) is)) ∙ sym same
           ],
-      still_parted old new _ _ _ _ c.read.ensures.unchanged c.self.invariant.1,
+      still_last old new _ _ c.read.ensures.unchanged c.self.invariant.1,
     )
 
 pub invariant_of-self : goal.invariant_of-self
 invariant_of-self g c =
     let old = g.D.Disk.state c.self.inside.journal in
     let new = g.D.Disk.state c.read.new.self in
-    (still_part old new c.self.inside.clean c.read.ensures.unchanged c.self.invariant.0, still_parted old new _ _ _ _ c.read.ensures.unchanged c.self.invariant.1)
+    (still_part old new c.self.inside.clean c.read.ensures.unchanged c.self.invariant.0, still_last old new _ _ c.read.ensures.unchanged c.self.invariant.1)

@@ -1,7 +1,6 @@
 use Rattle.std.proofs.Common.{subst, refl}
 use Rattle.std.specs.Prelude.{IfOk}
 use Rattle.std.proofs.lemmas.Result.{IfOk-weaker}
-use Rattle.redo_journal.specs.Batch.{BatchView, with_batch}
 use Rattle.redo_journal.specs.Meaning.{EachReadsAs, SameMap, data_of, disk_of}
 use Rattle.redo_journal.proofs.Meaning.{reads_same, same_chain}
 use Rattle.sector_txn.specs.Images.{LeavesOldOr}
@@ -13,37 +12,29 @@ pub returns-clause-images : goal.returns-clause-images
 unfolding present
 returns-clause-images g c =
     let state = g.D.Disk.state in
-    let before = state c.self.inside.journal in
-    subst (λ store. LeavesOldOr (present state store) (state store.disk) (state c.in-Err.broken)) c.self.view_is
-    (subst (λ (b : BatchView). LeavesOldOr (with_batch b.entries (data_of before)) before (state c.in-Err.broken)) c.deref.ensures c.in-Err.ensures.images)
+    subst (λ store. LeavesOldOr (present state store) (state store.disk) (state c.in-Err.broken)) c.self.view_is c.in-Err.ensures.images
 
 pub returns-in-Ok-clause-images : goal.returns-in-Ok-clause-images
 unfolding present
 returns-in-Ok-clause-images g c =
     let state = g.D.Disk.state in
-    let before = state c.self.inside.journal in
     let new = state (disk_of c.close.result) in
     subst (λ store. LeavesOldOr (present state store) (state store.disk) new) c.self.view_is
-    (subst (λ (b : BatchView). LeavesOldOr (with_batch b.entries (data_of before)) before new) c.deref.ensures
-    (closed_left _ before (state c.in-Ok.journal) new c.close.ensures.size c.in-Ok.ensures.changed c.in-Ok.ensures.images c.close.ensures.any_moment))
+    (closed_left _ (state c.self.inside.journal) (state c.in-Ok.journal) new c.close.ensures.size c.in-Ok.ensures.changed c.in-Ok.ensures.images c.close.ensures.any_moment)
 
 pub returns-in-Ok-clause-map : goal.returns-in-Ok-clause-map
 unfolding present
 returns-in-Ok-clause-map g c =
     let state = g.D.Disk.state in
-    let before = state c.self.inside.journal in
     subst (λ store. IfOk c.close.result (λ disk. SameMap (data_of (state disk)) (present state store))) c.self.view_is
-    (subst (λ (b : BatchView). IfOk c.close.result (λ disk. SameMap (data_of (state disk)) (with_batch b.entries (data_of before)))) c.deref.ensures
-    (IfOk-weaker c.close.result _ _ (λ disk same. same_chain (data_of (state disk)) (data_of (state c.in-Ok.journal)) _ same c.in-Ok.ensures.changed) c.close.ensures.same))
+    (IfOk-weaker c.close.result _ _ (λ disk same. same_chain (data_of (state disk)) (data_of (state c.in-Ok.journal)) _ same c.in-Ok.ensures.changed) c.close.ensures.same)
 
 pub returns-in-Ok-clause-lasting : goal.returns-in-Ok-clause-lasting
 unfolding present
 returns-in-Ok-clause-lasting g c =
     let state = g.D.Disk.state in
-    let before = state c.self.inside.journal in
     let mid = state c.in-Ok.journal in
     subst (λ store. IfOk c.close.result (λ disk. EachReadsAs (present state store) (state disk))) c.self.view_is
-    (subst (λ (b : BatchView). IfOk c.close.result (λ disk. EachReadsAs (with_batch b.entries (data_of before)) (state disk))) c.deref.ensures
     (if_ok_both c.close.result (λ disk same lasting image is.
     reads_same (state disk).size (state disk).size (data_of (state disk)) _ refl (same_chain (data_of (state disk)) (data_of mid) _ same c.in-Ok.ensures.changed) image (lasting image is))
-    c.close.ensures.same c.close.ensures.lasting))
+    c.close.ensures.same c.close.ensures.lasting)

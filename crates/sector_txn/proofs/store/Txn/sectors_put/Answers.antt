@@ -4,7 +4,7 @@ use Rattle.fs_layout.specs.Header.{log_end}
 use Rattle.redo_journal.specs.Batch.{BatchView, has_entry, targets, with_batch}
 use Rattle.redo_journal.specs.Meaning.{data_of}
 use Rattle.redo_journal.specs.States.{header_at}
-use Rattle.sector_txn.specs.Stores.{map_before, map_now}
+use Rattle.sector_txn.specs.Stores.{all_waiting, map_before, map_now}
 use Rattle.sector_txn.proofs.Delta.{has_in_targets}
 use Rattle.sector_txn.proofs.Pairs.{with_batch_apart}
 use Rattle.sector_txn.proofs.store.Txn.sectors_put.Goals as goal
@@ -30,5 +30,5 @@ returns-clause-others g c = λ n apart.
     let state = g.D.Disk.state in
     let listed = c.sectors.ensures.sectors ∙ ap (λ (b : BatchView). targets b.entries) c.deref.ensures in
     subst (λ txn. map_now state txn n ≡ map_before state txn n) c.self.view_is
-    (with_batch_apart c.self.inside.delta.value.entries (with_batch c.self.inside.waiting.value.entries (data_of (state c.self.inside.journal))) n
+    (with_batch_apart c.self.inside.delta.value.entries (with_batch (all_waiting c.self.inside.waiting.placed.value.entries c.self.inside.waiting.logged.value.entries) (data_of (state c.self.inside.journal))) n
     (λ has. apart (subst (λ ns. Contains ns n) (sym listed) has)))

@@ -4,7 +4,7 @@ use Rattle.fs_layout.specs.Header.{max_delta, log_end}
 use Rattle.redo_journal.specs.Batch.{BatchView, IsOnDisk, has_entry}
 use Rattle.redo_journal.specs.States.{header_at}
 use Rattle.sector_txn.specs.Sectors.{IsPut}
-use Rattle.sector_txn.specs.Stores.{TxnView, txn_state}
+use Rattle.sector_txn.specs.Stores.{TxnView, all_waiting, txn_state}
 use Rattle.sector_txn.proofs.Delta.{delta_put, few_after}
 use Rattle.sector_txn.proofs.store.TxnSectors.put.Goals as goal
 
@@ -16,11 +16,11 @@ returns g c =
     let content = c.args.from.now in
     let most = max_delta (header_at (state inside.journal).seen) in
     let room = subst (λ t. has_entry t.delta n ≡ false → 0 < max_delta (header_at (state t.disk).seen) - length t.delta) (sym c.self.view_is) c.requires.room in
-    let after = txn_state state record { disk = inside.journal; waiting = inside.waiting.value.entries; delta = c.put.new.self.entries } in
+    let after = txn_state state record { disk = inside.journal; waiting = (all_waiting inside.waiting.placed.value.entries inside.waiting.logged.value.entries); delta = c.put.new.self.entries } in
     subst (λ t. IsPut n content (txn_state state t) after) c.self.view_is
     (subst (λ (b : BatchView). length b.entries ≤ most → (has_entry b.entries n ≡ false → 0 < most - length b.entries)
-    → IsPut n content (txn_state state record { disk = inside.journal; waiting = inside.waiting.value.entries; delta = b.entries }) after) c.deref_mut.ensures.value
-    (λ few free. delta_put state inside.journal inside.waiting.value.entries c.deref_mut.result.now.entries c.put.new.self.entries n content few free c.put.ensures.put c.put.ensures.map c.put.ensures.len)
+    → IsPut n content (txn_state state record { disk = inside.journal; waiting = (all_waiting inside.waiting.placed.value.entries inside.waiting.logged.value.entries); delta = b.entries }) after) c.deref_mut.ensures.value
+    (λ few free. delta_put state inside.journal (all_waiting inside.waiting.placed.value.entries inside.waiting.logged.value.entries) c.deref_mut.result.now.entries c.put.new.self.entries n content few free c.put.ensures.put c.put.ensures.map c.put.ensures.len)
     c.self.invariant.0.few room)
 
 -- the room that there is, in the words of the delta
@@ -33,7 +33,7 @@ put-requires-clause-room g c = λ none.
     let state = g.D.Disk.state in
     let same = ap (λ (b : BatchView). b.entries) c.deref_mut.ensures.value in
     let room = free state c.args.n c.args.self.now _ c.self.view_is c.requires.room (subst (λ d. has_entry d c.args.n ≡ false) same none) in
-    omega (arith, room, ap length same, ap (λ (b : BatchView). b.most) c.deref_mut.ensures.value, c.self.invariant.2.put)
+    omega (arith, room, ap length same, ap (λ (b : BatchView). b.most) c.deref_mut.ensures.value, c.self.invariant.2)
 
 pub invariant_of-self : goal.invariant_of-self
 invariant_of-self g c =
@@ -53,5 +53,5 @@ invariant_of-self g c =
             (subst (λ t. n < (state t.disk).size) (sym c.self.view_is) c.requires.on_disk) (subst (IsOnDisk header disk.size) (sym same) was.on_disk);
       },
       c.self.invariant.1,
-      record { waits = c.self.invariant.2.waits; put = c.put.ensures.most ∙ reserved ∙ c.self.invariant.2.put },
+      c.put.ensures.most ∙ reserved ∙ c.self.invariant.2,
     )
