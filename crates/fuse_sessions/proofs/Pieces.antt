@@ -1,23 +1,23 @@
 -- Bytes that are moved piece by piece: the first piece, and then the rest.
---     read-none, read-more, read-short, read-refused        reading
+--     read-none, read-more, read-short, read-refused, read-one        reading
 --     write-more, write-short, write-refused        writing
 --     pieces-more, pieces-split, pieces-none, pieces-end        bytes as pieces
 --     calls-more, calls-end        calls that write them
-use Rattle.std.specs.Prelude.{◌≡◌, ℕ, zero, suc, ◌+◌, ◌-◌, ◌<◌, ◌==◌, min, nat_lt, true, false, List, [], ◌∷◌, ◌++◌, length, map, take, drop, Result, Ok, Err}
+use Rattle.std.specs.Prelude.{◌≡◌, ℕ, zero, suc, ◌+◌, ◌-◌, ◌/◌, ◌<◌, ◌≤◌, ◌==◌, min, nat_lt, Bool, true, false, List, [], ◌∷◌, ◌++◌, length, map, take, drop, Result, Ok, Err}
 use Rattle.std.proofs.Common.{refl, sym, ap, subst, ◌∙◌, arith}
 use Rattle.std.proofs.lemmas.List.{take_min, drop_min}
 use Rattle.fs_model.specs.declared.call.Call.{Call}
 use Rattle.fs_model.specs.declared.call.Call.TheVariants.{Write}
 use Rattle.fs_model.specs.declared.event.Event.{Event}
 use Rattle.fs_model.specs.declared.reply.Reply.{Reply}
-use Rattle.fs_model.specs.Limits.{move_limit}
+use Rattle.fs_model.specs.Limits.{move_limit, run_limit}
 use Rattle.fuse_plans.specs.declared.request_error.RequestError.{RequestError}
 use Rattle.fuse_plans.specs.Works.{of_result}
-use Rattle.fuse_plans.specs.FilePlans.{read_piece, read_pieces, write_piece, write_pieces, or_done, length_written, pieces_in}
+use Rattle.fuse_plans.specs.FilePlans.{runs_of, read_piece, read_pieces, write_piece, write_pieces, or_done, length_written, pieces_in}
 use Rattle.fuse_steps.specs.Performing.{DidByMachine}
-use Rattle.fuse_steps.proofs.Steps.{machine-ok, machine-err, machine-attempts, machine-result, machine-gives, machine-gives-as, machine-true, machine-false}
+use Rattle.fuse_steps.proofs.Steps.{machine-same, machine-ok, machine-err, machine-attempts, machine-result, machine-gives, machine-gives-as, machine-true, machine-false}
 
-less : (size : ℕ) → size - min move_limit size ≡ size - move_limit
+less : (size : ℕ) → size - min run_limit size ≡ size - run_limit
 less size = omega arith
 
 module _ {M : Type 0} {Serves : M → Event → Reply → M → Type 0} (pid : ℕ) where
@@ -34,7 +34,7 @@ module _ {M : Type 0} {Serves : M → Event → Reply → M → Type 0} (pid : �
   read-done fd size bytes m all = machine-gives-as all
 
   pub read-more : (k fd size most : ℕ) (bytes piece : List ℕ) {old mid new : M} {r : Result (List ℕ) RequestError}
-      → most ≡ min move_limit size → (size == 0) ≡ false → DidByMachine Serves (read_piece pid fd most) old mid (Ok piece)
+      → most ≡ min run_limit size → (size == 0) ≡ false → DidByMachine Serves (read_piece pid fd most) old mid (Ok piece)
       → nat_lt (length piece) most ≡ false → DidByMachine Serves (read_pieces k pid fd (size - most) (bytes ++ piece)) mid new r
       → DidByMachine Serves (read_pieces (suc k) pid fd size bytes) old new r
   unfolding read_pieces
@@ -46,7 +46,7 @@ module _ {M : Type 0} {Serves : M → Event → Reply → M → Type 0} (pid : �
       (subst (λ (n : ℕ). DidByMachine Serves (read_pieces k pid fd (size - n) (bytes ++ piece)) mid new r) is rest))))
 
   pub read-short : (k fd size most : ℕ) (bytes piece : List ℕ) {got : List ℕ} {old new : M}
-      → most ≡ min move_limit size → (size == 0) ≡ false → DidByMachine Serves (read_piece pid fd most) old new (Ok piece)
+      → most ≡ min run_limit size → (size == 0) ≡ false → DidByMachine Serves (read_piece pid fd most) old new (Ok piece)
       → nat_lt (length piece) most ≡ true → got ≡ bytes ++ piece → DidByMachine Serves (read_pieces (suc k) pid fd size bytes) old new (Ok got)
   unfolding read_pieces
   read-short k fd size most bytes piece {got} {old} {new} is some first short all =
@@ -55,11 +55,36 @@ module _ {M : Type 0} {Serves : M → Event → Reply → M → Type 0} (pid : �
       (machine-true _ _ (subst (λ (n : ℕ). nat_lt (length piece) n ≡ true) is short) (machine-gives-as all)))
 
   pub read-refused : (k fd size most : ℕ) (bytes : List ℕ) {old new : M} {e : RequestError}
-      → most ≡ min move_limit size → (size == 0) ≡ false → DidByMachine Serves (read_piece pid fd most) old new (Err e)
+      → most ≡ min run_limit size → (size == 0) ≡ false → DidByMachine Serves (read_piece pid fd most) old new (Err e)
       → DidByMachine Serves (read_pieces (suc k) pid fd size bytes) old new (Err e)
   unfolding read_pieces
   read-refused k fd size most bytes {old} {new} {e} is some first =
       machine-false _ _ some (machine-err _ (subst (λ (n : ℕ). DidByMachine Serves (read_piece pid fd n) old new (Err e)) is first))
+
+  -- one piece is all where it has room for that
+  pub read-one : (fd size : ℕ) {old new : M} (r : Result (List ℕ) RequestError) → (size == 0) ≡ false → size ≤ run_limit
+      → DidByMachine Serves (read_piece pid fd size) old new r → DidByMachine Serves (read_pieces (runs_of size) pid fd size []) old new r
+  read-one fd size {old} {new} r some few did = machine-same (ap (λ (n : ℕ). read_pieces n pid fd size []) once) (go r did)
+    where
+      k : ℕ
+      k = size / run_limit
+
+      once : runs_of size ≡ suc k
+      once = omega arith
+
+      most : size ≡ min run_limit size
+      most = omega (arith, few)
+
+      go : (x : Result (List ℕ) RequestError) → DidByMachine Serves (read_piece pid fd size) old new x → DidByMachine Serves (read_pieces (suc k) pid fd size []) old new x
+      go (Err e) it = read-refused k fd size size [] most some it
+      go (Ok piece) it = full (nat_lt (length piece) size) refl
+        where
+          full : (b : Bool) → nat_lt (length piece) size ≡ b → DidByMachine Serves (read_pieces (suc k) pid fd size []) old new (Ok piece)
+          full true e = read-short k fd size size [] piece most some it e refl
+          full false e =
+              let nothing : size - size ≡ 0 = omega arith in
+              let none : (size - size == 0) ≡ true = ap (λ (n : ℕ). n == 0) nothing in
+              read-more k fd size size [] piece most some it e (read-none k fd (size - size) ([] ++ piece) new none refl)
 
   -- ---- writing
 

@@ -12,7 +12,7 @@ ghost use Rattle.fuse_sessions.specs.declared.family.Family.TheVariants as famil
 ghost use Rattle.fuse_plans.specs.declared.request.Asked.{Asked as AskedBy};
 
 use crate::family::{Family, family_of};
-use crate::handles::room_for_pieces;
+use crate::handles::{room_for_pieces, room_to_read};
 use crate::listing::LEAST_RECORD;
 use crate::session::Session;
 use crate::xattrs::AclNames;
@@ -415,7 +415,7 @@ impl<M: Machine> Session<M> {
     {
         match operation {
             Operation::Read(extent) => {
-                let room = Vec::with_capacity(self.alloc, extent.size as usize)?;
+                let room = room_to_read(self.alloc, extent.size as usize)?;
                 Ok(response_of(self.read_file(*extent, room)))
             }
             Operation::Write {

@@ -1,9 +1,9 @@
 //! What is done by the handle of an open file.
-ghost use Rattle.std.specs.Prelude.{◌≡◌, ℕ, ◌≤◌, List, [], length, min, vec_capacity, Some, IfOk};
-ghost use Rattle.fs_model.specs.Limits.{move_limit};
+ghost use Rattle.std.specs.Prelude.{◌≡◌, ℕ, ◌<◌, ◌≤◌, List, [], length, min, vec_capacity, Some, IfOk};
+ghost use Rattle.fs_model.specs.Limits.{move_limit, run_limit};
 ghost use Rattle.fs_model.specs.declared.call.Call.TheVariants.{Write};
 ghost use Rattle.fuse_state.specs.Servers.{descriptor_of};
-ghost use Rattle.fuse_plans.specs.FilePlans.{seek, pieces_of, read_piece, read_pieces, read_file, length_written, write_piece, or_done, write_pieces, writes_of, write_by, call_open, seek_open, close_file, sync_file};
+ghost use Rattle.fuse_plans.specs.FilePlans.{seek, runs_of, read_piece, read_pieces, read_file, length_written, write_piece, or_done, write_pieces, writes_of, write_by, call_open, seek_open, close_file, sync_file};
 ghost use Rattle.fuse_sessions.specs.Performing.{Did};
 ghost use Rattle.fuse_steps.specs.Performing.{DidByMachine};
 ghost use Rattle.fuse_plans.specs.Works.{of_result};
@@ -18,7 +18,10 @@ use fuse_steps::asker::{obtain, obtain_call, obtain_once};
 use fuse_steps::replies::{count_of_reply, count_within, data_of_reply, within};
 use std::alloc::{AllocError, Global};
 
-// So many bytes are moved at once.
+// So many bytes are read at once.
+const RUN: usize = 131_072;
+
+// So many bytes are written at once.
 const MOVE: usize = 4096;
 
 // Offsets have 63 bits.
@@ -66,15 +69,15 @@ fn read_pieces<M: Machine>(
 ) -> Result<Bytes, RequestError>
     requires empty { room.items ≡ [] }
     requires capacity { size ≤ vec_capacity room }
-    ensures { DidByMachine M.Serves (read_pieces (pieces_of size) pid fd size []) machine.old machine.new result }
+    ensures { DidByMachine M.Serves (read_pieces (runs_of size) pid fd size []) machine.old machine.new result }
 {
     let mut bytes = room;
     let mut left = size;
-    for _round in 0..size / MOVE + 1 {
+    for _round in 0..size / RUN + 1 {
         if left == 0 {
             return Ok(Bytes::new(bytes));
         }
-        let most = left.min(MOVE);
+        let most = left.min(RUN);
         let piece = read_piece(machine, pid, fd, most)?;
         let piece = piece.bytes();
         let Ok(()) = bytes.extend_from_slice(piece) else {
@@ -86,6 +89,39 @@ fn read_pieces<M: Machine>(
         left -= most;
     }
     Ok(Bytes::new(bytes))
+}
+
+/// Room for the pieces of what is read; one that is all needs none.
+pub(crate) fn room_to_read(alloc: Global, size: usize) -> Result<Vec<u8>, AllocError>
+    ensures empty { IfOk result (λ room. room.items ≡ []) }
+    ensures capacity { IfOk result (λ room. run_limit < size → size ≤ vec_capacity room) }
+{
+    if size <= RUN {
+        return Ok(Vec::new(alloc));
+    }
+    let room = Vec::with_capacity(alloc, size)?;
+    Ok(room)
+}
+
+// What is read of so many bytes: one piece that is all is given as it came.
+fn read_bytes<M: Machine>(
+    machine: &mut M,
+    pid: usize,
+    fd: usize,
+    size: usize,
+    room: Vec<u8>,
+) -> Result<Bytes, RequestError>
+    requires empty { room.items ≡ [] }
+    requires capacity { run_limit < size → size ≤ vec_capacity room }
+    ensures { DidByMachine M.Serves (read_pieces (runs_of size) pid fd size []) machine.old machine.new result }
+{
+    if size == 0 {
+        return Ok(Bytes::new(room));
+    }
+    if size > RUN {
+        return read_pieces(machine, pid, fd, size, room);
+    }
+    read_piece(machine, pid, fd, size)
 }
 
 // So many bytes a call writes.
@@ -236,20 +272,20 @@ impl<M: Machine> Session<M> {
         Ok(ino)
     }
 
-    /// Reads what is open, with room for so many bytes.
+    /// Reads what is open, with room for its pieces.
     pub(crate) fn read_file(
         &mut self,
         extent: Extent,
         room: Vec<u8>,
     ) -> Result<ReplyBody, RequestError>
         requires empty { room.items ≡ [] }
-        requires capacity { extent.size ≤ vec_capacity room }
+        requires capacity { run_limit < extent.size → extent.size ≤ vec_capacity room }
         ensures { Did M.Serves (read_file extent) self.old self.new result }
     {
         let _inode = self.seek_open(extent.handle, extent.offset)?;
         let pid = owner_of(extent.handle);
         let fd = descriptor_of(extent.handle);
-        let bytes = read_pieces(&mut self.machine, pid, fd, extent.size as usize, room)?;
+        let bytes = read_bytes(&mut self.machine, pid, fd, extent.size as usize, room)?;
         Ok(ReplyBody::Bytes(bytes))
     }
 
