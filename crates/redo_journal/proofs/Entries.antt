@@ -46,11 +46,5 @@ range_at header size ns valid k lt = valid.in_range k 0 lt
 pub in_at : (ns : List ℕ) (k n : ℕ) (content : List ℕ) → k < length ns → n ≡ get_or ns k 0 → InTargets ns n content
 in_at ns k n content lt is = contains_at ns k n lt (sym is)
 
-pub target_range : (header size : ℕ) (entries : List Entry) → AreTargets header size (targets entries) → (k : ℕ) → k < length entries → (log_end header ≤ target_at entries k) × (target_at entries k < size)
-target_range header size entries valid k lt =
-    let range = range_at header size (targets entries) valid k (omega (arith, lt, length-targets entries)) in
-    let same = target_is entries k lt in
-    (omega (arith, range.0, same), omega (arith, range.1, same))
-
 pub in_targets : (entries : List Entry) (k n : ℕ) (content : List ℕ) → k < length entries → n ≡ target_at entries k → InTargets (targets entries) n content
 in_targets entries k n content lt is = in_at (targets entries) k n content (omega (arith, lt, length-targets entries)) (is ∙ sym (target_is entries k lt))

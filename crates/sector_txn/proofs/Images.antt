@@ -1,13 +1,11 @@
 -- What a stop leaves of a store, from one call to the next.
-use Rattle.std.proofs.Common.{◌≡◌, inl, inr, ⊎_elim, ℕ, List, refl, ◌∙◌, subst}
+use Rattle.std.proofs.Common.{◌≡◌, inl, inr, ⊎_elim, refl, ◌∙◌, subst}
 use Rattle.std.specs.Prelude.{Result, Ok, Err, IfOk}
 use Rattle.fs_layout.specs.Bytes.{SectorMap}
 use Rattle.sector_disk.specs.Disk.{DiskState, Image, IsImage, IsNarrowed, OnlyReads}
 use Rattle.sector_disk.proofs.Moments.{joined, narrowed, reads_then, started, weaker}
-use Rattle.redo_journal.specs.Batch.{Entry, IsOnDisk, with_batch}
-use Rattle.redo_journal.specs.Meaning.{EachReadsAs, SameMap, LeavesAllOrNone, LeavesSameMap, LeavesUsedOr, MeansUsed, data_of}
-use Rattle.redo_journal.proofs.Meaning.{batch_same, either_on, reads_means, reads_same, same_chain, super_on_disk}
-use Rattle.redo_journal.proofs.Used.{means_used}
+use Rattle.redo_journal.specs.Meaning.{SameMap, LeavesSameMap, LeavesUsedOr, MeansUsed, data_of}
+use Rattle.redo_journal.proofs.Meaning.{reads_same}
 use Rattle.sector_txn.specs.Images.{IsOneOf, LeavesOldOr, LeavesOneOf, MeansUsedBefore}
 
 -- an image means what it means itself
@@ -20,32 +18,7 @@ nothing_left only_now = record { size = refl; any_moment = started only_now (λ 
 
 -- ---- a commit
 
--- a batch that was logged, and then sealed or not
-pub sealed_left : (entries : List Entry) (header : ℕ) (old logged new : DiskState) → IsOnDisk header old.size entries → logged.size ≡ old.size → SameMap (data_of logged) (data_of old)
-    → LeavesSameMap old logged → LeavesAllOrNone entries logged new → LeavesAllOrNone entries old new
-sealed_left entries header old logged new on_disk size same first second = joined (weaker (λ image reads. inl reads) first) (weaker (either_on entries header old logged on_disk size same) second)
-
-pub sealed_same : (entries : List Entry) (header : ℕ) (old logged sealed : DiskState) → IsOnDisk header old.size entries → SameMap (data_of logged) (data_of old) → SameMap (data_of sealed) (with_batch entries (data_of logged))
-    → SameMap (data_of sealed) (with_batch entries (data_of old))
-sealed_same entries header old logged sealed on_disk same changed =
-    same_chain (data_of sealed) (with_batch entries (data_of logged)) (with_batch entries (data_of old)) changed
-    (batch_same entries (data_of logged) (data_of old) (super_on_disk entries header old.size (data_of old) on_disk) same)
-
--- and then installed or not
-pub installed_left : (entries : List Entry) (old sealed new : DiskState) → sealed.size ≡ old.size → SameMap (data_of sealed) (with_batch entries (data_of old))
-    → LeavesAllOrNone entries old sealed → LeavesSameMap sealed new → LeavesAllOrNone entries old new
-installed_left entries old sealed new size same first second =
-    joined first (weaker (λ image reads. inr (reads_same old.size sealed.size (data_of sealed) (with_batch entries (data_of old)) size same image reads)) second)
-
--- what reads as before a commit means what the disk shows then
-pub commit_left : (entries : List Entry) (old new : DiskState) → EachReadsAs (data_of old) old → IsImage old old.seen → new.size ≡ old.size → LeavesAllOrNone entries old new
-    → LeavesOldOr (with_batch entries (data_of old)) old new
-commit_left entries old new reads_so seen size run = record {
-  size = size;
-  any_moment = weaker (λ image. ⊎_elim (λ reads. inl (old.seen, seen, means_used (reads_means old image (reads_so old.seen seen).commit reads))) (λ reads. inr (inl reads))) run;
-}
-
--- the same of a commit that writes free sectors to their places
+-- what a commit leaves that writes free sectors to their places
 pub used_left : (sectors : SectorMap) (old new : DiskState) → IsImage old old.seen → new.size ≡ old.size → LeavesUsedOr sectors old new → LeavesOldOr sectors old new
 used_left sectors old new seen size run = record {
   size = size;
