@@ -8,3 +8,4 @@ mod Undone
 pub mod Moments
 mod Passing
 mod Recorded
+pub mod ZeroEnds

@@ -1,6 +1,7 @@
 -- A disk of sectors: what reads give, what a stop may leave, and how calls change that.
 --     Image, sector        the contents of all sectors; that of one
 --     IsWholeSector        512 bytes
+--     EndsInZeros        bytes of a sector that are zeros
 --     DiskState, IsImage, IsStable        what is known at one moment; what a stop may leave then
 --     Elapses        time goes on, and the past is kept
 --     IsNarrowed, IsSame, ForgetsPast, IsWritten, ChangesOnly        what one call does
@@ -23,6 +24,10 @@ sector image n = slice_index_or image n []
 pub record IsWholeSector (content : List ℕ) : Type 0 where
   pub len : length content ≡ 512
   pub bytes : (i : ℕ) → get_or content i 0 < 256
+
+-- the bytes of a sector from number `first` on are zeros
+abbrev pub EndsInZeros : ℕ → List ℕ → Type 0
+EndsInZeros first content = (i : ℕ) → first ≤ i → i < 512 → get_or content i 0 ≡ 0
 
 -- what is known of a disk at one moment
 pub record DiskState : Type 1 where

@@ -1,10 +1,11 @@
 -- A file of which some sectors are in memory, and the disk that this is: its state, and the laws of that.
 --     IsImageOf, file_image        the image of a file
 --     IsPart        which of its sectors are in memory
+--     AreZerosElse, HasEnds        the others count as zeros; of which sectors only the end is known
 --     part_past, part_state        a disk that isn't written: its past, and its state, with failures
-use Rattle.std.specs.Prelude.{◌≡◌, ◌≢◌, ℕ, ◌≤◌, ◌<◌, ◌^◌, List, [], length, take, get_or, Option, Some, None}
+use Rattle.std.specs.Prelude.{◌≡◌, ◌≢◌, ℕ, ◌≤◌, ◌<◌, ◌^◌, List, [], length, take, get_or, replicate, Option, Some, None}
 use Rattle.std.proofs.Common.{arith}
-use Rattle.sector_disk.specs.Disk.{DiskState, Image, IsImage, IsWholeSector, sector}
+use Rattle.sector_disk.specs.Disk.{DiskState, Image, IsImage, IsWholeSector, EndsInZeros, sector}
 use Rattle.sector_disk.specs.Faults as faults
 use Rattle.sector_disk.specs.Faults.{with_failures}
 use Rattle.sector_disk.specs.Files.{file_seen}
@@ -27,6 +28,15 @@ pub record IsPart (file : Option Held) (memory : Image) (loaded : List ℕ) : Ty
   pub size : length (file_image file memory) ≡ length memory
   pub whole : AreSectors (file_image file memory)
   pub same : (n : ℕ) → get_or loaded n 0 ≢ 0 → sector memory n ≡ sector (file_image file memory) n
+
+-- those that aren't in memory count as zeros there
+abbrev pub AreZerosElse : Image → List ℕ → Type 0
+AreZerosElse memory loaded = (n : ℕ) → n < length memory → get_or loaded n 0 ≡ 0 → sector memory n ≡ replicate 512 0
+
+-- Where it's known what the file holds, each sector whose number isn't 0 has zeros from that byte on.
+abbrev pub HasEnds : Option Held → List ℕ → Type 0
+HasEnds file ends = (held : Held) → file ≡ Some held → (n : ℕ) → get_or ends n 0 ≢ 0
+    → EndsInZeros (get_or ends n 0) (sector (file_seen held) n)
 
 -- the file's image was there at first, and nothing was done since
 abbrev pub part_past : Option Held → Image → Past

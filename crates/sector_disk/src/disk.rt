@@ -1,10 +1,10 @@
 //! A disk as the layers above see it: an array of sectors that may be stopped at any moment, as by a power cut.
 //! A stop leaves in each sector what was there at the last sync that succeeded, or any content written since.
 
-ghost use Rattle.std.specs.Prelude.{◌≡◌, ◌≤◌, ◌<◌, ◌^◌, ◌-◌, ◌↔◌, ℕ, List, Option, Some, None, IsErr, IfSome, OnOk, OnErr, slice_set};
+ghost use Rattle.std.specs.Prelude.{◌≡◌, ◌≤◌, ◌<◌, ◌^◌, ◌-◌, ◌↔◌, ℕ, List, Option, Some, None, IsErr, IsTrue, IfSome, OnOk, OnErr, slice_set};
 ghost use Rattle.sector_disk.specs.Record.{Held, MayHold};
 ghost use Rattle.sector_disk.specs.Picks.{IsPicked};
-ghost use Rattle.sector_disk.specs.Disk.{DiskState, Image, IsImage, IsSame, ForgetsPast, IsWritten, ChangesOnly, IsStable, IsNarrowed, Elapses, HasCause, HasWriteCause, IsWholeSector, sector, AddsOnly, IsImageOr, IsWrite, LeavesOnly};
+ghost use Rattle.sector_disk.specs.Disk.{DiskState, Image, IsImage, IsSame, ForgetsPast, IsWritten, ChangesOnly, IsStable, IsNarrowed, Elapses, HasCause, HasWriteCause, IsWholeSector, EndsInZeros, sector, AddsOnly, IsImageOr, IsWrite, LeavesOnly};
 
 /// A read, a write or a sync failed, and the disk has counted it.
 #[derive(Clone, Copy, Debug, PartialEq, Eq)]
@@ -42,6 +42,14 @@ pub trait Disk {
         ensures { IfSome result (λ content. content.now ≡ sector (state self.now).seen _n) }
     {
         None
+    }
+
+    /// Whether it is known, without a read, that the bytes of a sector are zeros from number `first` on. A disk needn't know it of any.
+    fn ends_in_zeros(&self, _n: u32, _first: usize) -> bool
+        requires { _n < (state self.now).size }
+        ensures { IsTrue result → EndsInZeros _first (sector (state self.now).seen _n) }
+    {
+        false
     }
 
     /// Writes a sector. Until a sync succeeds, a stop may leave the new content or one from before it.

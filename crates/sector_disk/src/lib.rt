@@ -21,4 +21,4 @@ pub use faulty::{FailOnce, FaultyDisk, FuseDisk};
 pub use file_disk::{FileDisk, FileFault};
 pub use memory::MemDisk;
 pub use part_disk::PartDisk;
-pub use part_file::PartFile;
+pub use part_file::{PartFile, Tail};

@@ -94,6 +94,10 @@ impl<F: DiskFile + Drop> Disk for PartDisk<F> {
         self.part.get(n)
     }
 
+    fn ends_in_zeros(&self, n: u32, first: usize) -> bool {
+        self.part.ends_in_zeros(n, first)
+    }
+
     fn write(&mut self, _n: u32, _from: &[u8; 512]) -> Result<(), DiskFault> {
         self.refuse()
     }

@@ -1,9 +1,9 @@
 //! A file of which some sectors are read into memory.
 
-ghost use Rattle.std.specs.Prelude.{◌≡◌, ◌<◌, ◌≤◌, ◌+◌, ◌^◌, ℕ, get_or, length, IfOk, IfSome, OnOk};
-ghost use Rattle.sector_disk.specs.Files.{HasRunMarked};
-ghost use Rattle.sector_disk.specs.Parts.{file_image, IsPart};
-ghost use Rattle.sector_disk.specs.Disk.{sector};
+ghost use Rattle.std.specs.Prelude.{◌≡◌, ◌≢◌, ◌<◌, ◌≤◌, ◌+◌, ◌^◌, ◌∷◌, [], ℕ, get_or, length, IfOk, IfSome, IsTrue, OnOk};
+ghost use Rattle.sector_disk.specs.Files.{HasRun, HasRunMarked};
+ghost use Rattle.sector_disk.specs.Parts.{file_image, IsPart, AreZerosElse, HasEnds};
+ghost use Rattle.sector_disk.specs.Disk.{sector, EndsInZeros};
 
 use crate::file_disk::{lock_and_count, new_buffer, open_file};
 use crate::numbers::Numbers;
@@ -12,9 +12,19 @@ use crate::{DiskFile, FileFault};
 use std::alloc::{AllocError, Global};
 use std::path::AsPath;
 use std::rt::Files;
+use std::slice::from_ref;
+
+const ZEROS: [u8; 512] = [0; 512];
 
 // So many neighbours are read in one call: what goes through a buffer of this length stays in the processor's cache.
 const PIECE: usize = 256;
+
+/// A sector of which the bytes from number `first` on are asked for.
+#[derive(Clone, Copy)]
+pub struct Tail {
+    pub sector: u32,
+    pub first: usize,
+}
 
 /// An open file whose sectors are read into memory one run after another, so that of a large one only those are read that are asked
 /// for. What [`get`](PartFile::get) gives is what the file has.
@@ -27,13 +37,18 @@ pub struct PartFile<F: DiskFile> {
     sectors: Sectors,
     // For each sector 1 where it is in memory, and 0 where it isn't: most are not.
     loaded: Numbers,
+    // For each sector a byte from which on the file has zeros there, where only that is kept of it; and 0 for the others.
+    ends: Numbers,
     // What goes from the file to memory. Its room is there from the start.
     buffer: Vec<[u8; 512]>,
     ghost few: { length sectors.shown < 2 ^ 32 },
     ghost len: { length loaded ≡ length sectors.shown },
+    ghost ends_len: { length ends ≡ length sectors.shown },
     ghost room: { 0 < length buffer.items },
     // Where it's known what the file holds, it has so many sectors, and those in memory are as it has them.
     ghost follows: { IsPart (F.held file) sectors.shown loaded },
+    ghost unread: { AreZerosElse sectors.shown loaded },
+    ghost ended: { HasEnds (F.held file) ends },
 }
 
 impl<F: DiskFile + Drop> PartFile<F> {
@@ -54,11 +69,13 @@ impl<F: DiskFile + Drop> PartFile<F> {
         let sectors = Sectors::zeros(alloc, count)?;
         sectors.tell_whole();
         let loaded = Numbers::zeros(alloc, count)?;
+        let ends = Numbers::zeros(alloc, count)?;
         let buffer = new_buffer(alloc, PIECE)?;
         Ok(PartFile {
             file,
             sectors,
             loaded,
+            ends,
             buffer,
         })
     }
@@ -80,6 +97,20 @@ impl<F: DiskFile + Drop> PartFile<F> {
         Some(self.sectors.get(n))
     }
 
+    /// Whether a sector is zeros from byte `first` on in the file, where that was read and nothing else of it is kept.
+    pub fn ends_in_zeros(&self, n: u32, first: usize) -> bool
+        ensures { IsTrue result → EndsInZeros first (sector (file_image (F.held self.now.file) self.now.sectors.shown) n) }
+    {
+        if n >= self.count() || self.loaded.get(n as usize) != 0 {
+            return false;
+        }
+        let end = self.ends.get(n as usize) as usize;
+        if end == 0 {
+            return false;
+        }
+        end <= first
+    }
+
     // Reads neighbours, as many as the buffer has room for.
     fn load_piece(self, first: u32, len: usize) -> Result<Self, FileFault>
         requires fits { first + len ≤ length self.sectors.shown }
@@ -92,6 +123,7 @@ impl<F: DiskFile + Drop> PartFile<F> {
             mut file,
             mut sectors,
             mut loaded,
+            ends,
             mut buffer,
         } = self;
         load_run(
@@ -106,6 +138,7 @@ impl<F: DiskFile + Drop> PartFile<F> {
             file,
             sectors,
             loaded,
+            ends,
             buffer,
         })
     }
@@ -145,6 +178,70 @@ impl<F: DiskFile + Drop> PartFile<F> {
         part.load(first, end.saturating_sub(first))
     }
 
+    // Reads neighbours from number `first` on, as many as the buffer has room for, and keeps of each what is asked for.
+    fn load_ends(self, first: u32, tails: &[Tail]) -> Result<Self, FileFault>
+        requires fits { first + length tails.now ≤ length self.sectors.shown }
+        requires room { length tails.now ≤ length self.buffer.items }
+        ensures count { IfOk result (λ part. length part.sectors.shown ≡ length self.sectors.shown) }
+        ensures file { IfOk result (λ part. F.held part.file ≡ F.held self.file) }
+    {
+        let PartFile {
+            mut file,
+            mut sectors,
+            mut loaded,
+            mut ends,
+            mut buffer,
+        } = self;
+        read_tails(
+            &mut file,
+            &mut sectors,
+            &mut loaded,
+            &mut ends,
+            &mut buffer,
+            first,
+            tails,
+        )?;
+        Ok(PartFile {
+            file,
+            sectors,
+            loaded,
+            ends,
+            buffer,
+        })
+    }
+
+    // Reads the sectors that stand in a row at the beginning, unless they reach past the file's end.
+    fn load_row(self, tails: &[Tail], len: usize) -> Result<Self, FileFault>
+        requires some { 0 < len }
+        requires fits { len ≤ length tails.now }
+        requires room { len ≤ length self.buffer.items }
+        ensures count { IfOk result (λ part. length part.sectors.shown ≡ length self.sectors.shown) }
+        ensures file { IfOk result (λ part. F.held part.file ≡ F.held self.file) }
+    {
+        let first = tails[0].sector;
+        let count = self.count();
+        if count < first || ((count - first) as usize) < len {
+            return Ok(self);
+        }
+        self.load_ends(first, &tails[..len])
+    }
+
+    /// Reads these sectors, neighbours in one call where they stand in rising order. Where not all of one is asked for, and what is are
+    /// zeros, only this is kept of it.
+    pub fn load_tails(self, tails: &[Tail]) -> Result<Self, FileFault>
+        ensures count { IfOk result (λ part. length part.sectors.shown ≡ length self.sectors.shown) }
+        ensures file { IfOk result (λ part. F.held part.file ≡ F.held self.file) }
+    {
+        let mut part = self;
+        let mut at = 0;
+        while at < tails.len() {
+            let len = row_length(&tails[at..]).min(part.buffer.len());
+            part = part.load_row(&tails[at..], len)?;
+            at += len;
+        }
+        Ok(part)
+    }
+
     /// The file.
     pub fn into_file(self) -> F
         ensures { result ≡ self.file }
@@ -152,6 +249,31 @@ impl<F: DiskFile + Drop> PartFile<F> {
         let PartFile { file, .. } = self;
         file
     }
+}
+
+// Keeps neighbours in memory that the file has.
+fn keep_run<F: DiskFile>(
+    _file: &F,
+    sectors: &mut Sectors,
+    loaded: &mut Numbers,
+    first: u32,
+    piece: &[[u8; 512]],
+) -> Result<(), FileFault>
+    requires small { length sectors.old.shown < 2 ^ 32 }
+    requires fits { first + length piece.now ≤ length sectors.old.shown }
+    requires table { length loaded.old ≡ length sectors.old.shown }
+    requires has { IfSome (F.held _file.now) (HasRun first piece.now) }
+    requires follows { IsPart (F.held _file.now) sectors.old.shown loaded.old }
+    requires unread { AreZerosElse sectors.old.shown loaded.old }
+    ensures count { OnOk result (length sectors.new.shown ≡ length sectors.old.shown) }
+    ensures table { OnOk result (length loaded.new ≡ length sectors.new.shown) }
+    ensures follows { OnOk result (IsPart (F.held _file.now) sectors.new.shown loaded.new) }
+    ensures unread { OnOk result (AreZerosElse sectors.new.shown loaded.new) }
+{
+    sectors.set_run(first, piece)?;
+    sectors.tell_whole();
+    mark(loaded, first as usize, piece.len())?;
+    Ok(())
 }
 
 // Reads so many neighbours through the buffer.
@@ -168,19 +290,117 @@ fn load_run<F: DiskFile>(
     requires table { length loaded.old ≡ length sectors.old.shown }
     requires room { len ≤ length buffer.old }
     requires follows { IsPart (F.held file.old) sectors.old.shown loaded.old }
+    requires unread { AreZerosElse sectors.old.shown loaded.old }
     ensures count { OnOk result (length sectors.new.shown ≡ length sectors.old.shown) }
     ensures table { OnOk result (length loaded.new ≡ length sectors.new.shown) }
     ensures file { F.held file.new ≡ F.held file.old }
     ensures follows { OnOk result (IsPart (F.held file.new) sectors.new.shown loaded.new) }
+    ensures unread { OnOk result (AreZerosElse sectors.new.shown loaded.new) }
 {
     let piece = &mut buffer[..len];
     if file.read_run(first, piece).is_err() {
         return Err(FileFault::Failed);
     }
-    sectors.set_run(first, piece)?;
-    sectors.tell_whole();
-    mark(loaded, first as usize, piece.len())?;
+    keep_run(file, sectors, loaded, first, piece)?;
     Ok(())
+}
+
+// The bytes of a sector from number `first` on are zeros, and there are some before them.
+fn has_end(content: &[u8; 512], first: usize) -> bool
+    ensures some { IsTrue result → first ≢ 0 }
+    ensures within { IsTrue result → first < 512 }
+    ensures zeros { IsTrue result → EndsInZeros first content.now }
+{
+    if first == 0 || first >= 512 {
+        return false;
+    }
+    content[first..] == ZEROS[first..]
+}
+
+// Keeps of a sector that the file has only that it is zeros from a byte on, if it is; else all of it.
+fn keep_tail<F: DiskFile>(
+    file: &F,
+    sectors: &mut Sectors,
+    loaded: &mut Numbers,
+    ends: &mut Numbers,
+    tail: Tail,
+    content: &[u8; 512],
+) -> Result<(), FileFault>
+    requires small { length sectors.old.shown < 2 ^ 32 }
+    requires below { tail.sector < length sectors.old.shown }
+    requires table { length loaded.old ≡ length sectors.old.shown }
+    requires ends_len { length ends.old ≡ length sectors.old.shown }
+    requires has { IfSome (F.held file.now) (HasRun tail.sector (content.now ∷ [])) }
+    requires follows { IsPart (F.held file.now) sectors.old.shown loaded.old }
+    requires unread { AreZerosElse sectors.old.shown loaded.old }
+    requires ended { HasEnds (F.held file.now) ends.old }
+    ensures count { OnOk result (length sectors.new.shown ≡ length sectors.old.shown) }
+    ensures table { OnOk result (length loaded.new ≡ length sectors.new.shown) }
+    ensures ends_len { OnOk result (length ends.new ≡ length sectors.new.shown) }
+    ensures follows { OnOk result (IsPart (F.held file.now) sectors.new.shown loaded.new) }
+    ensures unread { OnOk result (AreZerosElse sectors.new.shown loaded.new) }
+    ensures ended { OnOk result (HasEnds (F.held file.now) ends.new) }
+{
+    if has_end(content, tail.first) {
+        ends.add(tail.sector as usize, tail.first as u32)?;
+        return Ok(());
+    }
+    keep_run(file, sectors, loaded, tail.sector, from_ref(content))?;
+    Ok(())
+}
+
+// Reads as many neighbours as there are tails, and keeps of each what is asked for.
+fn read_tails<F: DiskFile>(
+    file: &mut F,
+    sectors: &mut Sectors,
+    loaded: &mut Numbers,
+    ends: &mut Numbers,
+    buffer: &mut [[u8; 512]],
+    first: u32,
+    tails: &[Tail],
+) -> Result<(), FileFault>
+    requires small { length sectors.old.shown < 2 ^ 32 }
+    requires fits { first + length tails.now ≤ length sectors.old.shown }
+    requires table { length loaded.old ≡ length sectors.old.shown }
+    requires ends_len { length ends.old ≡ length sectors.old.shown }
+    requires room { length tails.now ≤ length buffer.old }
+    requires follows { IsPart (F.held file.old) sectors.old.shown loaded.old }
+    requires unread { AreZerosElse sectors.old.shown loaded.old }
+    requires ended { HasEnds (F.held file.old) ends.old }
+    ensures count { OnOk result (length sectors.new.shown ≡ length sectors.old.shown) }
+    ensures table { OnOk result (length loaded.new ≡ length sectors.new.shown) }
+    ensures ends_len { OnOk result (length ends.new ≡ length sectors.new.shown) }
+    ensures file { F.held file.new ≡ F.held file.old }
+    ensures follows { OnOk result (IsPart (F.held file.new) sectors.new.shown loaded.new) }
+    ensures unread { OnOk result (AreZerosElse sectors.new.shown loaded.new) }
+    ensures ended { OnOk result (HasEnds (F.held file.new) ends.new) }
+{
+    let piece = &mut buffer[..tails.len()];
+    if file.read_run(first, piece).is_err() {
+        return Err(FileFault::Failed);
+    }
+    for i in 0..tails.len() {
+        let tail = Tail {
+            sector: first + i as u32,
+            first: tails[i].first,
+        };
+        keep_tail(file, sectors, loaded, ends, tail, &piece[i])?;
+    }
+    Ok(())
+}
+
+// How many of them stand in a row at the beginning.
+fn row_length(tails: &[Tail]) -> usize
+    requires { 0 < length tails.now }
+    ensures some { 0 < result }
+    ensures fits { result ≤ length tails.now }
+{
+    for len in 1..tails.len() {
+        if tails[len].sector.wrapping_sub(tails[len - 1].sector) != 1 {
+            return len;
+        }
+    }
+    tails.len()
 }
 
 // So many sectors from number `first` on are in memory now. At `Err` some of them may count so.
