@@ -9,7 +9,7 @@ use Rattle.fs_layout.specs.Recovered.{recovered}
 use Rattle.sector_disk.specs.Disk.{DiskState, Image, IsImage, IsSame, Elapses, OnlyReads, HasFailed, sector}
 use Rattle.sector_disk.proofs.Moments.{reads_nothing, reads_more, reads_joined}
 use Rattle.fs_layout.specs.Commit.{IsCommit, named_area}
-use Rattle.fs_model.specs.Rules.{IsGeometryOf, ImageRule, rule_number, ObeysEach, ObeysBefore, IsFinding, fails}
+use Rattle.fs_model.specs.Rules.{IsGeometryOf, ImageRule, rule_number, ObeysEach, ObeysBefore, IsLeastFailure, IsFinding, fails}
 use Rattle.fs_check.specs.declared.faults.CheckFault.{CheckFault}
 use Rattle.fs_check.specs.declared.faults.CheckFault.TheVariants.{Found, DiskFault, OutOfMemory}
 use Rattle.fs_check.specs.declared.owning.Pointers.{Pointers}
@@ -185,6 +185,18 @@ read_error {T} {U} {I} {e} old mid new reads r told x =
   where
     because : (y : CheckFault) → IsReason IsNone mid new y → IsReason I old new y
     because (Found f) h = absurd h
+    because DiskFault h = failed_back reads new h
+    because OutOfMemory h = tt
+
+-- a later part of one rule
+pub least_error : {T U : Type 0} {p : Geometry} {rule : ImageRule} {e : CheckFault} (old mid new : DiskState) → OnlyReads old mid
+    → (r : Result U CheckFault) → IsErrAnd r (λ y. y ≡ e) → Passed {T = T} (IsLeast p rule) mid new (Err e) → Passed (IsLeast p rule) old new r
+least_error {T} {U} {p} {rule} {e} old mid new reads r told x =
+    let q = err_from_is_err_and r told in
+    passed_err {T = T} {U = U} (IsLeast p rule) (IsLeast p rule) old mid new reads because e q.0 r q.1 q.2 x
+  where
+    because : (y : CheckFault) → IsReason (IsLeast p rule) mid new y → IsReason (IsLeast p rule) old new y
+    because (Found f) h = (h.0, subst (λ m. IsLeastFailure p m rule f.at) (meaning_same reads) h.1)
     because DiskFault h = failed_back reads new h
     because OutOfMemory h = tt
 

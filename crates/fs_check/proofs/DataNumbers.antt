@@ -1,14 +1,15 @@
 -- The numbers of a level: by which content they are known, and whether they are in the data area.
-use Rattle.std.specs.Prelude.{◌≡◌, ◌≢◌, ℕ, suc, ◌+◌, ◌-◌, ◌*◌, ◌<◌, ◌≤◌, List, [], get_or, Bool, true, false, IsTrue, ◌↔◌}
+use Rattle.std.specs.Prelude.{◌≡◌, ◌≢◌, ◌⊎◌, ℕ, suc, ◌+◌, ◌-◌, ◌*◌, ◌<◌, ◌≤◌, List, [], length, get_or, replicate, Bool, true, false, IsTrue, ◌↔◌}
 use Rattle.std.proofs.Common.{sym, ap, arith, ◌∙◌, subst, inl, inr}
 use Rattle.std.proofs.lemmas.Bool.{cases_eq, cases_lt}
+use Rattle.std.proofs.lemmas.List.{get_or-replicate, get_or_past, length-replicate}
 use Rattle.fs_layout.specs.declared.inode.Inode.{Inode}
 use Rattle.fs_layout.specs.declared.inode.TheConstants.{POINTER_LEVELS, SECTOR_POINTERS}
 use Rattle.fs_layout.specs.declared.geometry.Geometry.{Geometry}
 use Rattle.fs_layout.specs.Bytes.{SectorMap}
 use Rattle.fs_layout.specs.Images.{pointer_in, own_count, holder, place_in_holder, number_on, HasPointers, HasPointersAbove, Part, AccessAcl, DefaultAcl, OnLevel, part, IsData}
 use Rattle.fs_layout.proofs.Parts.{owns_acl, owns_default_acl, owns_on_level}
-use Rattle.fs_layout.proofs.Pointers.{number_on_held, no_level}
+use Rattle.fs_layout.proofs.Pointers.{number_on_held, no_level, no_pointers}
 use Rattle.fs_model.specs.Rules.{IsGeometryOf}
 use Rattle.fs_check.specs.Owning.{AreListed, AreInData, HasLevelInData, HasAboveInData, HasAclsInData, OwnsData}
 use Rattle.fs_check.proofs.Openings.{many_sectors, geometry_size}
@@ -137,6 +138,13 @@ module _ (p : Geometry) (m : SectorMap) (v : Inode) where
   pub none_above : (level : ℕ) → POINTER_LEVELS ≤ level → HasAboveInData p m v level
   none_above level high above gt i some = absurd (some (no_level m v above i (omega (arith, high, gt))))
 
+  -- nor above one above which there is no number
+  pub above_top : (top : ℕ) → ((level : ℕ) → top < level → level ≤ POINTER_LEVELS → (i : ℕ) → number_on m v level i ≡ 0) → HasAboveInData p m v top
+  above_top top none above gt i some = elim (cases_lt POINTER_LEVELS above) [
+    | inl high ↦ absurd (some (no_level m v above i high))
+    | inr low ↦ absurd (some (none above gt low i))
+  ]
+
   pub all_owned : HasAclsInData p v → ((n : ℕ) → n ≤ POINTER_LEVELS → HasLevelInData p m v n) → OwnsData p m v
   unfolding part
   all_owned acls levels s o = go o.at o.is o.some
@@ -180,3 +188,20 @@ module _ (p : Geometry) (m : SectorMap) (v : Inode) where
     (λ f. absurd (let c : false ≡ true = f in cc)),
     (λ all. absurd (refuses (HasLevelInData p m v level) r bad test (all level (omega arith)))),
   )
+
+-- the highest level that an inode has numbers on is one
+pub top_few : (top : ℕ) → (top ≡ 0) ⊎ (top ≡ POINTER_LEVELS) → top ≤ POINTER_LEVELS
+top_few top (inl low) = omega (arith, low)
+top_few top (inr high) = omega (arith, high)
+
+-- an inode that names no sector of pointers has numbers of blocks alone
+pub none_on : (m : SectorMap) (v : Inode) → v.indirect ≡ replicate POINTER_LEVELS 0 → (level i : ℕ) → 0 < level → number_on m v level i ≡ 0
+none_on m v is level i some =
+    let at : suc (level - 1) ≡ level = omega (arith, some) in
+    subst (λ k. number_on m v k i ≡ 0) at (no_pointers m v none (level - 1) i)
+  where
+    none : (k : ℕ) → get_or v.indirect k 0 ≡ 0
+    none k = ap (λ (l : List ℕ). get_or l k 0) is ∙ elim (cases_lt k POINTER_LEVELS) [
+      | inl below ↦ get_or-replicate POINTER_LEVELS k 0 0 below
+      | inr past ↦ get_or_past (replicate {A = ℕ} POINTER_LEVELS 0) k 0 (omega (arith, past, length-replicate {A = ℕ} POINTER_LEVELS 0))
+    ]

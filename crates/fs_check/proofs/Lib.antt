@@ -11,6 +11,7 @@ pub mod DirectorySlots
 pub mod DistinctNames
 pub mod FitNumbers
 pub mod FreeInodes
+mod FreeSectors
 pub mod MarkedParts
 pub mod Marks
 pub mod Namings
@@ -25,4 +26,3 @@ pub mod SectorAcls
 pub mod InodeAcls
 pub mod TriedBits
 pub mod Trims
-pub mod ZeroEnds

@@ -1,6 +1,6 @@
 -- Parts of an inode that are none, by which sectors of pointers it has.
-use Rattle.std.specs.Prelude.{◌≡◌, ℕ, ◌+◌, ◌-◌, ◌*◌, ◌<◌, ◌≤◌, List, length, Bool}
-use Rattle.std.proofs.Common.{ap, arith, ◌∙◌, subst}
+use Rattle.std.specs.Prelude.{◌≡◌, ◌≢◌, ◌⊎◌, ℕ, ◌+◌, ◌-◌, ◌*◌, ◌<◌, ◌≤◌, List, length, Bool}
+use Rattle.std.proofs.Common.{ap, arith, sym, inl, inr, ◌∙◌, subst}
 use Rattle.fs_layout.specs.declared.inode.Inode.{Inode}
 use Rattle.fs_layout.specs.declared.inode.TheConstants.{POINTER_LEVELS, SECTOR_POINTERS}
 use Rattle.fs_layout.specs.declared.geometry.Geometry.{Geometry}
@@ -14,7 +14,7 @@ use Rattle.fs_check.proofs.Carrying.{meaning_same}
 use Rattle.fs_check.proofs.DataNumbers.{none_found, none_past}
 use Rattle.fs_check.proofs.FreeInodes.{free_part}
 use Rattle.fs_check.proofs.Marks.{mark_skip, mark_next, mark_rest}
-use Rattle.fs_check.proofs.OwnedParts.{owned_number, owned_block}
+use Rattle.fs_check.proofs.OwnedParts.{owned_number, owned_block, part_below}
 use Rattle.fs_check.proofs.Tests.{free_behind}
 
 module _ (p : Geometry) (m : SectorMap) (n : ℕ) (v : Inode) (is : v ≡ inode_at p m n) (owned twice : List Bool) where
@@ -50,6 +50,28 @@ module _ (p : Geometry) (m : SectorMap) (n : ℕ) (v : Inode) (is : v ≡ inode_
       → IsMarked (owned_part p m) n (first_part level + level_end level) p.sectors owned twice
   rest_skipped level e few most none x =
       numbers_skipped level (own_count level + SECTOR_POINTERS * e) (level_end level) few most (omega arith) (λ i ge lt. none_past m v level e i none ge) x
+
+  -- the numbers of a level that has none
+  pub level_skipped : (level : ℕ) → level ≤ POINTER_LEVELS → level ≢ 0 → ((i : ℕ) → number_on m v level i ≡ 0)
+      → IsMarked (owned_part p m) n (first_part level) p.sectors owned twice
+      → IsMarked (owned_part p m) n (first_part (level - 1)) p.sectors owned twice
+  level_skipped level few some none x =
+      let start : first_part level ≡ first_part level + 0 = omega arith in
+      subst (λ k. IsMarked (owned_part p m) n k p.sectors owned twice) (part_below level some)
+      (numbers_skipped level 0 (level_end level) few (omega arith) (omega arith) (λ i ge lt. none i)
+      (subst (λ k. IsMarked (owned_part p m) n k p.sectors owned twice) start x))
+
+  -- the levels above one, where they have none
+  pub levels_skipped : (top : ℕ) → (top ≡ 0) ⊎ (top ≡ POINTER_LEVELS)
+      → ((level : ℕ) → top < level → level ≤ POINTER_LEVELS → (i : ℕ) → number_on m v level i ≡ 0)
+      → IsMarked (owned_part p m) n (first_part POINTER_LEVELS) p.sectors owned twice
+      → IsMarked (owned_part p m) n (first_part top) p.sectors owned twice
+  levels_skipped top (inl low) none x =
+      let third = level_skipped 3 (omega arith) (λ e. absurd (omega (arith, e))) (none 3 (omega (arith, low)) (omega arith)) x in
+      let second = level_skipped 2 (omega arith) (λ e. absurd (omega (arith, e))) (none 2 (omega (arith, low)) (omega arith)) third in
+      let first = level_skipped 1 (omega arith) (λ e. absurd (omega (arith, e))) (none 1 (omega (arith, low)) (omega arith)) second in
+      subst (λ k. IsMarked (owned_part p m) n (first_part k) p.sectors owned twice) (sym low) first
+  levels_skipped top (inr high) none x = subst (λ k. IsMarked (owned_part p m) n (first_part k) p.sectors owned twice) (sym high) x
 
   -- the last parts are the blocks
   pub blocks_marked : IsMarked (owned_part p m) n (first_part 0 + level_end 0) p.sectors owned twice → IsMarked (owned_part p m) (n + 1) 0 p.sectors owned twice

@@ -12,8 +12,8 @@ ghost use Rattle.fs_check.specs.Checks.{meaning, BeginsWith, AreInodes, Passed, 
 
 use crate::faults::{CheckFault, Checked, Finding};
 use crate::opening::Opened;
-use crate::owning::Pointers;
-use crate::reading::{find_recovered, read_recovered};
+use crate::owning::{Pointers, top_level};
+use crate::reading::{find_recovered, is_zero_past, read_recovered};
 use crate::zeros::ends_in_zeros;
 use fs_layout::{Inode, Kind, POINTER_LEVELS, SECTOR_POINTERS, own_count};
 use sector_disk::Disk;
@@ -66,6 +66,22 @@ fn fits_last(inode: &Inode, content: &[u8; 512]) -> bool
     inode.kind != Kind::Link || has_no_zero(&content[..end])
 }
 
+// The last block's content is known to go with the size, without a read. That of a link is read.
+fn is_known_to_fit<D: Disk>(disk: &D, opened: &Opened, inode: &Inode, last: u32) -> bool
+    requires opened { BeginsWith (D.state disk.now) opened.now.geometry opened.now.area opened.now.commit }
+    requires on_disk { last < (D.state disk.now).size }
+    ensures { IsTrue result → FitsLast inode.now (meaning (D.state disk.now) last) }
+{
+    if inode.kind == Kind::Link {
+        return false;
+    }
+    let end = (inode.size.saturating_sub(1) % 512) as usize + 1;
+    if end == 512 {
+        return true;
+    }
+    is_zero_past(disk, opened, last, end)
+}
+
 // Of the numbers of a level that the size doesn't need, there is none in the inode, nor in the sectors of pointers that it needs: only
 // the last of those has any of them.
 fn is_cut<D: Disk>(
@@ -115,7 +131,7 @@ fn is_trimmed<D: Disk>(
     ensures at_hand { OnOk result (AreAtHand (meaning (D.state disk.old)) pointers.new) }
     ensures passed { Passed IsNone (D.state disk.old) (D.state disk.new) result }
 {
-    for level in 0..POINTER_LEVELS + 1 {
+    for level in 0..top_level(inode) + 1 {
         if !is_cut(disk, opened, inode, level, pointers)? {
             return Ok(false);
         }
@@ -191,6 +207,9 @@ fn is_laid_out<D: Disk>(
     let k = inode.size.saturating_sub(1) / 512;
     let last = pointers.number(disk, opened, inode, 0, k)?;
     if last == 0 {
+        return Ok(true);
+    }
+    if is_known_to_fit(disk, opened, inode, last) {
         return Ok(true);
     }
     if let Some(content) = find_recovered(disk, opened, last) {

@@ -1,10 +1,11 @@
 //! The inode table.
 
 ghost use Rattle.std.specs.Prelude.{◌≡◌, ◌≢◌, ◌≤◌, ◌+◌, ◌*◌, ◌%◌, IsTrue, ◌↔◌, OnOk, IfOk, IfErr, IfSome, IfNone, Ok, ℕ, suc, ◌<◌, length, get_or};
+ghost use Rattle.fs_layout.specs.declared.geometry.Geometry.{Geometry};
 ghost use Rattle.fs_layout.specs.declared.inode.Inode.{Inode as AnInode};
 ghost use Rattle.fs_layout.specs.declared.inode.Kind.TheVariants.{Free, Directory};
 ghost use Rattle.fs_layout.specs.declared.inode.TheConstants.{DOUBLE_INDIRECT_END};
-ghost use Rattle.fs_layout.specs.Bytes.{window};
+ghost use Rattle.fs_layout.specs.Bytes.{SectorMap, window};
 ghost use Rattle.fs_layout.specs.Images.{first_block};
 ghost use Rattle.fs_layout.specs.Inode.{free_inode, inode_of};
 ghost use Rattle.fs_layout.specs.Version.{max_directory_size, slot_size};
@@ -13,12 +14,12 @@ ghost use Rattle.fs_model.specs.Rules.{IsAllowed, ObeysEach, Inodes};
 ghost use Rattle.fs_model.specs.StoredStamps.{stamps_in};
 ghost use Rattle.fs_check.specs.Checks.{meaning, BeginsWith, AreInodes, Passed, IsNone, IsLeast};
 ghost use Rattle.fs_check.specs.declared.faults.CheckFault.TheVariants.{OutOfMemory};
-ghost use Rattle.fs_check.specs.TableSectors.{IsTableSector};
+ghost use Rattle.fs_check.specs.TableSectors.{IsTableSector, AreFree, AreInodesBefore};
 
 use crate::faults::{CheckFault, Checked, Finding};
 use crate::opening::Opened;
-use crate::reading::read_recovered;
-use crate::zeros::are_zero;
+use crate::reading::{find_recovered, read_recovered};
+use crate::zeros::{are_zero, ends_in_zeros};
 use fs_layout::{
     DIRECT_BLOCKS, DOUBLE_INDIRECT_END, INDIRECT_END, INODE_SIZE, Inode, Kind, Version,
 };
@@ -160,6 +161,58 @@ fn keep_inode(inodes: &mut Vec<Inode>, ino: u32, inode: Inode) -> Checked<()>
     Ok(())
 }
 
+// The content of a sector of the table is zeros: but for the first, such a one has free inodes alone.
+fn is_blank_sector(content: &[u8; 512]) -> bool
+    ensures { IsTrue result → (p : Geometry) (m : SectorMap) (k : ℕ) → k ≢ 0 → content.now ≡ m (p.table + k) → AreFree p m k }
+{
+    ends_in_zeros(content, 0)
+}
+
+// Sector k of the table stands in memory and is zeros, and isn't the first: its inodes are free.
+fn is_free_sector<D: Disk>(disk: &D, opened: &Opened, k: u32) -> bool
+    requires opened { BeginsWith (D.state disk.now) opened.now.geometry opened.now.area opened.now.commit }
+    requires there { 4 * k < opened.now.geometry.inodes }
+    ensures { IsTrue result → AreFree opened.now.geometry (meaning (D.state disk.now)) k }
+{
+    if k == 0 {
+        return false;
+    }
+    match find_recovered(disk, opened, opened.geometry.table + k) {
+        Some(content) => is_blank_sector(content),
+        None => false,
+    }
+}
+
+// Puts the inodes of sector k of the table behind those before it.
+fn read_sector<D: Disk>(
+    disk: &mut D,
+    opened: &Opened,
+    k: u32,
+    inodes: &mut Vec<Inode>,
+) -> Checked<()>
+    requires opened { BeginsWith (D.state disk.old) opened.now.geometry opened.now.area opened.now.commit }
+    requires there { 4 * k < opened.now.geometry.inodes }
+    requires before { AreInodesBefore opened.now.geometry (meaning (D.state disk.old)) (4 * k) inodes.old.items }
+    ensures before { OnOk result (AreInodesBefore opened.now.geometry (meaning (D.state disk.old)) (4 * (k + 1)) inodes.new.items) }
+    ensures passed { Passed (IsLeast opened.now.geometry Inodes) (D.state disk.old) (D.state disk.new) result }
+{
+    let first = 4 * k;
+    let mut table = [0; 512];
+    for ino in first..first + (opened.geometry.inodes - first).min(4) {
+        read_table(disk, opened, ino, &mut table)?;
+        match good_inode(&table, ino, opened.geometry.version) {
+            Some(inode) => keep_inode(inodes, ino, inode)?,
+            None => {
+                return Err(CheckFault::Found(Finding {
+                    rule: INODES,
+                    at: ino,
+                }));
+            }
+        }
+    }
+    Ok(())
+}
+
 /// The inodes, up to the last that is in use.
 pub(crate) fn read_inodes<D: Disk>(disk: &mut D, opened: &Opened) -> Checked<Vec<Inode>>
     requires opened { BeginsWith (D.state disk.old) opened.now.geometry opened.now.area opened.now.commit }
@@ -168,18 +221,11 @@ pub(crate) fn read_inodes<D: Disk>(disk: &mut D, opened: &Opened) -> Checked<Vec
     ensures passed { Passed (IsLeast opened.now.geometry Inodes) (D.state disk.old) (D.state disk.new) result }
 {
     let mut inodes = Vec::with_capacity(opened.alloc, opened.geometry.inodes as usize)?;
-    let mut table = [0; 512];
-    for ino in 0..opened.geometry.inodes {
-        read_table(disk, opened, ino, &mut table)?;
-        match good_inode(&table, ino, opened.geometry.version) {
-            Some(inode) => keep_inode(&mut inodes, ino, inode)?,
-            None => {
-                return Err(CheckFault::Found(Finding {
-                    rule: INODES,
-                    at: ino,
-                }));
-            }
+    for k in 0..opened.geometry.inodes.div_ceil(4) {
+        if is_free_sector(disk, opened, k) {
+            continue;
         }
+        read_sector(disk, opened, k, &mut inodes)?;
     }
     Ok(inodes)
 }

@@ -11,7 +11,7 @@ use fs_layout::{
     COMMIT_SECTOR, Commit, Geometry, INODE_SIZE, Inode, Kind, MAX_BLOCKS, MAX_HEADER,
     POINTER_LEVELS, SECTOR_POINTERS, area_start, own_count,
 };
-use sector_disk::{DiskFile, FileFault, PartFile};
+use sector_disk::{DiskFile, FileFault, PartFile, Tail};
 use std::alloc::{AllocError, Global};
 
 const ZEROS: [u8; 512] = [0; 512];
@@ -40,10 +40,10 @@ pub fn load<F: DiskFile + Drop>(
     let count = geometry.first_data.saturating_sub(geometry.inode_bitmap);
     let part = part.load(geometry.inode_bitmap, count)?;
     let (part, log) = load_log(part, geometry.header.min(MAX_HEADER))?;
-    let inodes = used_inodes(alloc, &part, &log, geometry)?;
+    let Used { tails, inodes } = used_inodes(alloc, &part, &log, geometry)?;
     let part = load_named(alloc, part, &inodes)?;
     let part = load_pointers(alloc, part, &log, &inodes)?;
-    load_blocks(alloc, part, &log, &inodes)
+    load_blocks(part, &log, &inodes, tails)
 }
 
 fn read_geometry<F: DiskFile + Drop>(part: &PartFile<F>) -> Option<Geometry> {
@@ -94,13 +94,27 @@ fn recovered<'a, F: DiskFile + Drop>(part: &'a PartFile<F>, log: &Log, n: u32) -
     part.get(from).unwrap_or(&ZEROS)
 }
 
-// The inodes that are in use and good.
+// What is used of inodes that are in use and good.
+#[derive(Drop)]
+struct Used {
+    // What stands past the sizes of files that own nothing but blocks whose numbers they have.
+    tails: Vec<Tail>,
+    // The other inodes.
+    inodes: Vec<Inode>,
+}
+
+// The inode is a file's that owns nothing but blocks whose numbers it has.
+fn is_short_file(inode: &Inode) -> bool {
+    inode.kind == Kind::File && inode.acl == 0 && inode.indirect == [0; POINTER_LEVELS]
+}
+
 fn used_inodes<F: DiskFile + Drop>(
     alloc: Global,
     part: &PartFile<F>,
     log: &Log,
     geometry: Geometry,
-) -> Result<Vec<Inode>, AllocError> {
+) -> Result<Used, AllocError> {
+    let mut tails = Vec::new(alloc);
     let mut inodes = Vec::new(alloc);
     for s in geometry.table..geometry.first_data {
         let content = recovered(part, log, s);
@@ -109,12 +123,17 @@ fn used_inodes<F: DiskFile + Drop>(
             if content[at] == 0 {
                 continue;
             }
-            if let Ok(inode) = Inode::read_any(content, at) {
+            let Ok(inode) = Inode::read_any(content, at) else {
+                continue;
+            };
+            if is_short_file(&inode) {
+                want_end(&mut tails, part, log, &inode)?;
+            } else {
                 inodes.push(inode)?;
             }
         }
     }
-    Ok(inodes)
+    Ok(Used { tails, inodes })
 }
 
 fn want(numbers: &mut Vec<u32>, s: u32) -> Result<(), AllocError> {
@@ -200,31 +219,54 @@ fn want_listed(
     Ok(())
 }
 
-// Of files the last block, and of others all. There are no more of them than sectors, unless the disk is damaged.
+fn want_tail(tails: &mut Vec<Tail>, sector: u32, first: usize) -> Result<(), AllocError> {
+    if sector != 0 {
+        tails.push(Tail { sector, first })?;
+    }
+    Ok(())
+}
+
+// These tails, and of these inodes those of files, and of others all blocks. Of blocks there are no more than sectors, unless the disk is
+// damaged.
 fn load_blocks<F: DiskFile + Drop>(
-    alloc: Global,
     part: PartFile<F>,
     log: &Log,
     inodes: &[Inode],
+    tails: Vec<Tail>,
 ) -> Result<PartFile<F>, FileFault> {
-    let mut numbers = Vec::new(alloc);
+    let mut tails = tails;
     let mut left = u64::from(part.count());
     for inode in inodes {
+        if inode.kind == Kind::File {
+            want_end(&mut tails, &part, log, inode)?;
+            continue;
+        }
         let end = inode.size.div_ceil(512).min(MAX_BLOCKS);
-        let first = match inode.kind {
-            Kind::File => end.saturating_sub(1),
-            _ => 0,
-        };
-        if left < end.saturating_sub(first) {
+        if left < end {
             break;
         }
-        left = left.saturating_sub(end.saturating_sub(first));
-        for i in first..end {
-            want(&mut numbers, number_of(&part, log, inode, 0, i))?;
+        left -= end;
+        for i in 0..end {
+            want_tail(&mut tails, number_of(&part, log, inode, 0, i), 0)?;
         }
     }
-    numbers.sort()?;
-    part.load_each(&numbers)
+    tails.sort_by_key(|tail| tail.sector)?;
+    part.load_tails(&tails)
+}
+
+// What stands past a file's size in its last block, unless the block ends with it.
+fn want_end<F: DiskFile + Drop>(
+    tails: &mut Vec<Tail>,
+    part: &PartFile<F>,
+    log: &Log,
+    inode: &Inode,
+) -> Result<(), AllocError> {
+    let first = inode.size % 512;
+    if first == 0 {
+        return Ok(());
+    }
+    let last = inode.size / 512;
+    want_tail(tails, number_of(part, log, inode, 0, last), first as usize)
 }
 
 // Number `i` of a level; 0 where there is none, or where a sector of pointers in which it is looked for wasn't read.

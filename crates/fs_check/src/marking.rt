@@ -12,7 +12,7 @@ ghost use Rattle.fs_check.specs.Checks.{meaning, BeginsWith, AreInodes, IsOwnerM
 use crate::bit_table::BitTable;
 use crate::faults::{CheckFault, Checked, Finding};
 use crate::opening::Opened;
-use crate::owning::{Pointers, is_data};
+use crate::owning::{Pointers, is_data, top_level};
 use fs_layout::{Geometry, Inode, POINTER_LEVELS, SECTOR_POINTERS, own_count};
 use sector_disk::Disk;
 
@@ -253,7 +253,8 @@ fn mark_inode<D: Disk>(
     if !mark_acls(opened.geometry, inode, owned, twice) {
         return Ok(false);
     }
-    let marked = mark_levels(disk, opened, inode, POINTER_LEVELS, pointers, owned, twice)?;
+    let top = top_level(inode);
+    let marked = mark_levels(disk, opened, inode, top, pointers, owned, twice)?;
     Ok(marked)
 }
 

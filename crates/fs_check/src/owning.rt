@@ -1,6 +1,6 @@
 //! The numbers of the sectors that an inode owns.
 
-ghost use Rattle.std.specs.Prelude.{◌≡◌, ◌≢◌, ◌≤◌, ◌<◌, ◌-◌, ℕ, [], get_or, OnOk, IfOk, IsTrue, ◌↔◌};
+ghost use Rattle.std.specs.Prelude.{◌≡◌, ◌≢◌, ◌⊎◌, ◌≤◌, ◌<◌, ◌-◌, ℕ, [], get_or, OnOk, IfOk, IsTrue, ◌↔◌};
 ghost use Rattle.fs_layout.specs.declared.inode.TheConstants.{POINTER_LEVELS};
 ghost use Rattle.fs_layout.specs.Bytes.{SectorMap};
 ghost use Rattle.fs_layout.specs.Images.{IsData, number_on};
@@ -27,6 +27,18 @@ pub(crate) fn is_data(geometry: Geometry, s: u32) -> bool
     ensures { IsTrue result ↔ IsData geometry s }
 {
     geometry.first_data <= s && s < geometry.sectors
+}
+
+/// The highest level on which the inode has a number: where it names no sector of pointers, that of its blocks.
+pub(crate) fn top_level(inode: &Inode) -> usize
+    ensures either { (result ≡ 0) ⊎ (result ≡ POINTER_LEVELS) }
+    ensures none { (level : ℕ) → result < level → level ≤ POINTER_LEVELS → (m : SectorMap) (i : ℕ) → number_on m inode.now level i ≡ 0 }
+{
+    if inode.indirect == [0; POINTER_LEVELS] {
+        0
+    } else {
+        POINTER_LEVELS
+    }
 }
 
 impl Pointers {

@@ -1,11 +1,12 @@
 //! Sectors as recovery would leave them, read in a check.
 
-ghost use Rattle.std.specs.Prelude.{◌≡◌, ◌<◌, IfSome, OnOk};
+ghost use Rattle.std.specs.Prelude.{◌≡◌, ◌<◌, IfSome, IsTrue, OnOk};
+ghost use Rattle.sector_disk.specs.Disk.{EndsInZeros};
 ghost use Rattle.fs_check.specs.Checks.{meaning, BeginsWith, Passed, IsNone};
 
 use crate::faults::Checked;
 use crate::opening::Opened;
-use crate::recovering::{find_meaning, read_meaning};
+use crate::recovering::{ends_in_meaning, find_meaning, read_meaning};
 use sector_disk::Disk;
 
 /// Reads a sector as recovery would leave it.
@@ -35,4 +36,14 @@ pub(crate) fn find_recovered<'a, D: Disk>(
     ensures { IfSome result (λ content. content.now ≡ meaning (D.state disk.now) n) }
 {
     find_meaning(disk, opened.geometry, opened.area, &opened.commit, n)
+}
+
+/// Whether it is known without a read that a sector is zeros from byte `first` on as recovery would leave it. A disk needn't know
+/// it of any.
+pub(crate) fn is_zero_past<D: Disk>(disk: &D, opened: &Opened, n: u32, first: usize) -> bool
+    requires opened { BeginsWith (D.state disk.now) opened.now.geometry opened.now.area opened.now.commit }
+    requires on_disk { n < (D.state disk.now).size }
+    ensures { IsTrue result → EndsInZeros first (meaning (D.state disk.now) n) }
+{
+    ends_in_meaning(disk, opened.geometry, opened.area, &opened.commit, n, first)
 }

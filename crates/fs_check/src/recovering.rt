@@ -1,13 +1,13 @@
 //! What a superblock says, and sectors as recovery would leave them: for all that read an image and change nothing.
 
-ghost use Rattle.std.specs.Prelude.{◌≡◌, ◌≢◌, ◌≤◌, ◌<◌, ◌^◌, ℕ, length, get_or, IfSome, IfNone, OnOk};
+ghost use Rattle.std.specs.Prelude.{◌≡◌, ◌≢◌, ◌≤◌, ◌<◌, ◌^◌, ℕ, length, get_or, IfSome, IfNone, IsTrue, OnOk};
 ghost use Rattle.fs_layout.specs.Bytes.{SectorMap};
 ghost use Rattle.fs_layout.specs.Commit.{AreTargets, IsCommit, named_area};
 ghost use Rattle.fs_layout.specs.Header.{header_of};
 ghost use Rattle.fs_layout.specs.declared.header.TheConstants.{MAX_HEADER};
 ghost use Rattle.fs_layout.specs.Recovered.{recovered};
 ghost use Rattle.fs_model.specs.Rules.{IsGeometryOf, HasGeometry};
-ghost use Rattle.sector_disk.specs.Disk.{OnlyReads, HasCause};
+ghost use Rattle.sector_disk.specs.Disk.{EndsInZeros, OnlyReads, HasCause};
 ghost use Rattle.fs_check.specs.Checks.{meaning, BeginsWith};
 
 use fs_layout::{Commit, Geometry, Super, area_start};
@@ -86,4 +86,20 @@ pub(crate) fn find_meaning<'a, D: Disk>(
     ensures { IfSome result (λ content. content.now ≡ meaning (D.state disk.now) n) }
 {
     disk.find(content_of(geometry.header, area, commit, n))
+}
+
+/// Whether it is known without a read that a sector is zeros from byte `first` on as recovery would leave it.
+pub(crate) fn ends_in_meaning<D: Disk>(
+    disk: &D,
+    geometry: Geometry,
+    area: u32,
+    commit: &Commit,
+    n: u32,
+    first: usize,
+) -> bool
+    requires begins { BeginsWith (D.state disk.now) geometry area commit.now }
+    requires on_disk { n < (D.state disk.now).size }
+    ensures { IsTrue result → EndsInZeros first (meaning (D.state disk.now) n) }
+{
+    disk.ends_in_zeros(content_of(geometry.header, area, commit, n), first)
 }

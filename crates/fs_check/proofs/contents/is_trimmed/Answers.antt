@@ -1,10 +1,12 @@
-use Rattle.std.proofs.Common.{IsTrue, ◌↔◌, false, arith, refl, subst}
+use Rattle.std.proofs.Common.{IsTrue, ◌↔◌, false, arith, refl, subst, inl, inr}
+use Rattle.std.proofs.lemmas.Bool.{cases_lt}
 use Rattle.fs_layout.specs.Bytes.{SectorMap}
 use Rattle.fs_layout.specs.Images.{IsTrimmed}
 use Rattle.sector_disk.proofs.Moments.{reads_joined}
 use Rattle.fs_check.specs.Checks.{meaning}
 use Rattle.fs_check.specs.LastBlocks.{IsCut}
 use Rattle.fs_check.proofs.Carrying.{meaning_same, hand_back, hand_still, opened_still, owns_still, read_error}
+use Rattle.fs_check.proofs.DataNumbers.{top_few}
 use Rattle.fs_check.proofs.FitNumbers.{cut_ends, not_cut}
 use Rattle.fs_check.proofs.Tables.{more_good}
 use Rattle.fs_check.proofs.contents.is_trimmed.Goals as goal
@@ -36,10 +38,21 @@ loop-level-preserved g c =
           (subst (λ (m : SectorMap). IsCut m v level) (meaning_same so_far.reads) (c.in_ok-is_cut.ensures.test.0 c.if-not-branch.false));
     }
 
+pub is_cut-requires-clause-level : goal.is_cut-requires-clause-level
+is_cut-requires-clause-level g c =
+    let few = top_few c.top_level-level-end.result c.top_level-level-end.ensures.either in
+    let lt = c.loop-level-test.true in
+    omega (arith, few, lt)
+
 pub returns-clause-test : goal.returns-clause-test
 returns-clause-test g c = (
-  (λ t. cut_ends (meaning (g.D.Disk.state c.args.disk.now)) c.args.inode.now
-      (λ n le. let past = c.loop-level-test.false in c.loop-level.invariant.cut n (omega (arith, le, past)))),
+  (λ t.
+      let m = meaning (g.D.Disk.state c.args.disk.now) in
+      cut_ends m c.args.inode.now
+      (λ n le. elim (cases_lt c.top_level-level-end.result n) [
+        | inl gt ↦ λ i from to. c.top_level-level-end.ensures.none n gt le m i
+        | inr low ↦ c.loop-level.invariant.cut n (let past = c.loop-level-test.false in omega (arith, low, past))
+      ])),
   (λ trim. refl),
 )
 

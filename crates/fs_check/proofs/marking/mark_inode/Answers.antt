@@ -1,8 +1,9 @@
-use Rattle.std.proofs.Common.{arith}
-use Rattle.fs_layout.specs.declared.inode.TheConstants.{POINTER_LEVELS}
+use Rattle.std.proofs.Common.{inl, inr}
+use Rattle.std.proofs.lemmas.Bool.{cases_lt}
 use Rattle.fs_check.specs.Checks.{meaning}
 use Rattle.fs_check.specs.Owning.{HasAclsInData}
-use Rattle.fs_check.proofs.DataNumbers.{acls_owned, level_owned, all_owned, none_above, not_owned}
+use Rattle.fs_check.proofs.DataNumbers.{acls_owned, level_owned, all_owned, above_top, top_few, not_owned}
+use Rattle.fs_check.proofs.MarkedParts.{levels_skipped}
 use Rattle.fs_check.proofs.marking.mark_inode.Goals as goal
 
 pub returns-then-not-mark_acls-clause-test : goal.returns-then-not-mark_acls-clause-test
@@ -12,10 +13,14 @@ returns-then-not-mark_acls-clause-test g c =
     let v = c.args.inode.now in
     not_owned p m v (HasAclsInData p v) c.mark_acls.result (acls_owned p m v) c.mark_acls.ensures.test c.if-not-mark_acls.true
 
--- there is no level above the first that is marked
+pub mark_levels-requires-clause-level : goal.mark_levels-requires-clause-level
+mark_levels-requires-clause-level g c = top_few c.top_level-top.result c.top_level-top.ensures.either
+
+-- there is no number on a level above the first that is marked
 pub mark_levels-requires-clause-above : goal.mark_levels-requires-clause-above
 mark_levels-requires-clause-above g c =
-    none_above c.args.opened.now.geometry (meaning (g.D.Disk.state c.args.disk.now)) c.args.inode.now POINTER_LEVELS (omega arith)
+    above_top c.args.opened.now.geometry (meaning (g.D.Disk.state c.args.disk.now)) c.args.inode.now c.top_level-top.result
+    (λ level gt le i. c.top_level-top.ensures.none level gt le (meaning (g.D.Disk.state c.args.disk.now)) i)
 
 pub returns-clause-test : goal.returns-clause-test
 returns-clause-test g c =
@@ -24,8 +29,18 @@ returns-clause-test g c =
     let v = c.args.inode.now in
     let acls = c.mark_acls.ensures.test.0 c.if-not-mark_acls.false in
     let levels = c.in_ok-marked.ensures.test in
-    ((λ t. all_owned p m v acls (levels.0 t)), (λ all. levels.1 (λ n le. level_owned p m v all n)))
+    let top = c.top_level-top.result in (
+      (λ t. all_owned p m v acls (λ n le. elim (cases_lt top n) [
+        | inl gt ↦ λ i some. absurd (some (c.top_level-top.ensures.none n gt le m i))
+        | inr low ↦ levels.0 t n low
+      ])),
+      (λ all. levels.1 (λ n le. level_owned p m v all n)),
+    )
 
 pub returns-clause-marked : goal.returns-clause-marked
 returns-clause-marked g c = λ t n is x.
-    c.in_ok-marked.ensures.marked t n is (c.mark_acls.ensures.marked c.if-not-mark_acls.false (meaning (g.D.Disk.state c.args.disk.now)) n is x)
+    let m = meaning (g.D.Disk.state c.args.disk.now) in
+    c.in_ok-marked.ensures.marked t n is
+    (levels_skipped c.args.opened.now.geometry m n c.args.inode.now is c.mark_acls.new.owned c.mark_acls.new.twice c.top_level-top.result
+    c.top_level-top.ensures.either (λ level gt le i. c.top_level-top.ensures.none level gt le m i)
+    (c.mark_acls.ensures.marked c.if-not-mark_acls.false m n is x))

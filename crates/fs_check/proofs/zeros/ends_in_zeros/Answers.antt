@@ -1,5 +1,5 @@
 use Rattle.std.proofs.Common.{rules, ◌≡◌, IsTrue, ◌↔◌, replicate}
-use Rattle.fs_check.proofs.ZeroEnds.{end_of, ends}
+use Rattle.sector_disk.proofs.ZeroEnds.{end_of, ends}
 use Rattle.fs_check.proofs.zeros.ends_in_zeros.Goals as goal
 
 pub returns : goal.returns
