@@ -1,5 +1,5 @@
 -- Sectors of the inode table that are zeros, and what is known of the inodes before a number.
-use Rattle.std.specs.Prelude.{◌≡◌, ◌≢◌, ℕ, ◌+◌, ◌*◌, ◌/◌, ◌%◌, ◌<◌, ◌≤◌, List, length, get_or, take, drop, Some, Ok}
+use Rattle.std.specs.Prelude.{◌≡◌, ◌≢◌, ℕ, ◌+◌, ◌*◌, ◌/◌, ◌%◌, ◌<◌, ◌≤◌, List, length, get_or, drop, Some}
 use Rattle.std.proofs.Common.{refl, sym, ap, arith, ◌∙◌, subst, inl, inr}
 use Rattle.std.proofs.lemmas.Bool.{cases_lt}
 use Rattle.std.proofs.lemmas.List.{get_or_past, get_or-take, get_or-drop, length-take-le, length-drop}
@@ -7,7 +7,7 @@ use Rattle.fs_layout.specs.declared.inode.TheConstants.{INODE_SIZE}
 use Rattle.fs_layout.specs.declared.inode.Inode.{Inode}
 use Rattle.fs_layout.specs.declared.geometry.Geometry.{Geometry}
 use Rattle.fs_layout.specs.Bytes.{SectorMap, window}
-use Rattle.fs_layout.specs.Inode.{free_inode, inode_of}
+use Rattle.fs_layout.specs.Inode.{free_inode}
 use Rattle.fs_layout.specs.Images.{inode_at}
 use Rattle.fs_model.specs.Rules.{IsGoodInode}
 use Rattle.sector_disk.specs.Disk.{DiskState, OnlyReads}

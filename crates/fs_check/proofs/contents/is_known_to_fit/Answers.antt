@@ -1,8 +1,6 @@
-use Rattle.std.proofs.Common.{◌≡◌, ◌≢◌, ◌+◌, ◌%◌, ap, arith, subst, rules, get_or, refl, ◌∙◌, sym}
+use Rattle.std.proofs.Common.{◌≡◌, ◌≢◌, ◌+◌, ◌%◌, ap, arith, rules}
 use Rattle.fs_layout.specs.declared.inode.Kind.TheVariants.{Link}
-use Rattle.sector_disk.specs.Disk.{EndsInZeros}
 use Rattle.fs_check.specs.LastBlocks.{last_bytes}
-use Rattle.fs_check.specs.Checks.{meaning}
 use Rattle.fs_check.proofs.contents.is_known_to_fit.Goals as goal
 
 pub returns-then-end-eq512 : goal.returns-then-end-eq512

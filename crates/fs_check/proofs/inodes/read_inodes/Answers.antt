@@ -1,8 +1,8 @@
-use Rattle.std.proofs.Common.{◌*◌, arith, subst, refl, ◌∙◌}
+use Rattle.std.proofs.Common.{arith, subst}
 use Rattle.fs_layout.specs.Bytes.{SectorMap}
 use Rattle.sector_disk.proofs.Moments.{reads_joined}
 use Rattle.fs_check.specs.Checks.{meaning}
-use Rattle.fs_check.specs.TableSectors.{AreFree, AreInodesBefore}
+use Rattle.fs_check.specs.TableSectors.{AreFree}
 use Rattle.fs_check.proofs.Carrying.{meaning_same, opened_still, least_error}
 use Rattle.fs_check.proofs.FreeSectors.{free_before, inodes_still, inodes_back}
 use Rattle.fs_check.proofs.inodes.read_inodes.Goals as goal

@@ -1,8 +1,5 @@
-use Rattle.std.proofs.Common.{◌≡◌, ◌<◌, ◌*◌, ◌+◌, ◌-◌, ℕ, Some, None, get_or, refl, arith, subst, ◌∙◌}
+use Rattle.std.proofs.Common.{◌≡◌, ◌<◌, ◌*◌, ◌+◌, ◌-◌, Some, None, refl, arith, subst, ◌∙◌}
 use Rattle.std.specs.Prelude.{IsErrAnd}
-use Rattle.fs_layout.specs.Inode.{free_inode}
-use Rattle.fs_layout.specs.Images.{inode_at}
-use Rattle.fs_model.specs.Rules.{IsGoodInode}
 use Rattle.sector_disk.proofs.Moments.{reads_nothing, reads_joined}
 use Rattle.fs_check.specs.Checks.{meaning}
 use Rattle.fs_check.proofs.Carrying.{opened_still, read_error, memory_error}

@@ -1,7 +1,4 @@
-use Rattle.std.proofs.Common.{◌≡◌, ◌≢◌, ◌<◌, ◌≤◌, ◌%◌, ◌*◌, ℕ, length, get_or}
-use Rattle.fs_layout.specs.Inode.{free_inode}
-use Rattle.fs_layout.specs.Images.{inode_at}
-use Rattle.fs_model.specs.Rules.{IsGoodInode}
+use Rattle.std.proofs.Common.{◌≢◌, ◌≤◌, ◌%◌, ◌*◌}
 use Rattle.sector_disk.specs.Disk.{OnlyReads}
 use Rattle.fs_check.specs.Checks.{meaning}
 use Rattle.fs_check.specs.TableSectors.{IsTableSector, AreInodesBefore}

@@ -1,4 +1,4 @@
-use Rattle.std.proofs.Common.{◌≡◌, arith, rules, replicate}
+use Rattle.std.proofs.Common.{◌≡◌, rules, replicate}
 use Rattle.fs_layout.specs.declared.inode.TheConstants.{POINTER_LEVELS}
 use Rattle.fs_check.proofs.DataNumbers.{none_on}
 use Rattle.fs_check.proofs.owning.top_level.Goals as goal
