@@ -102,12 +102,12 @@ impl Sectors {
         self.replace(n, content);
     }
 
-    /// Lets the place of one go that has zeros.
+    /// Lets the place of one go that has zeros. One that has no place isn't looked at.
     pub fn release(&mut self, n: u32)
         requires { n < length self.old.shown }
         ensures { self.new.shown ≡ self.old.shown }
     {
-        if may_be_zeros(self.get(n)) {
+        if self.places.get(n as usize) != 0 && may_be_zeros(self.get(n)) {
             self.release_zeros(n);
         }
     }
