@@ -1,7 +1,7 @@
 //! Disks in files of this machine, and in files that fail.
 
 use crate::disks::{Call, first_byte, four_calls};
-use sector_disk::{Disk, DiskFile, FileDisk, FileFault, PartDisk, PartFile};
+use sector_disk::{Disk, DiskFile, FileDisk, FileFault, PartDisk, PartFile, Tail};
 use std::cell::Cell;
 use std::fs::{self, File, OpenOptions};
 use std::io::{self, ErrorKind};
@@ -418,10 +418,11 @@ fn neighbours_are_written_in_one_call(rt: HostRuntime) -> Result<(), Fail> {
 
 // ---- files of which some sectors are loaded
 
-// What is loaded of a file: so many sectors from one on, or those of these numbers.
+// What is loaded of a file: so many sectors from one on, those of these numbers, or what is asked for of some.
 enum Load {
     Run(u32, u32),
     Each(&'static [u32]),
+    Tails(&'static [Tail]),
 }
 
 // What reads of the disk of the loaded sectors give, which calls of it pass, and how many have failed, the reads among them; and what
@@ -435,6 +436,7 @@ fn load_part(rt: &HostRuntime, path: Path<'_>, load: &Load) -> Parted {
     let part = match load {
         Load::Run(first, count) => part.load(*first, *count)?,
         Load::Each(numbers) => part.load_each(numbers)?,
+        Load::Tails(tails) => part.load_tails(tails)?,
     };
     let mut disk = PartDisk::new(part);
     let seen = see(&mut disk);
@@ -459,7 +461,7 @@ fn load_at_scratch(rt: &HostRuntime, load: &Load) -> Result<Parted, Fail> {
 }
 
 // What is loaded; then what can be read, and how many calls fail. A sector behind the end of the file is left out.
-static LOADS: [(Load, [u8; 3], u64); 10] = [
+static LOADS: [(Load, [u8; 3], u64); 14] = [
     (Load::Run(0, 0), [255, 255, 255], 7),
     (Load::Run(0, 1), [7, 255, 255], 6),
     (Load::Run(1, 2), [255, 1, 3], 5),
@@ -470,7 +472,31 @@ static LOADS: [(Load, [u8; 3], u64); 10] = [
     (Load::Each(&[0, 2]), [7, 255, 3], 5),
     (Load::Each(&[2, 1, 1, 1]), [255, 1, 3], 5),
     (Load::Each(&[1, u32::MAX]), [255, 1, 255], 6),
+    (Load::Tails(&[]), [255, 255, 255], 7),
+    (Load::Tails(&[WHOLE_FIRST, LAST_BYTE]), [7, 1, 255], 5),
+    (Load::Tails(&[LAST_BYTE, NEXT]), [255, 1, 3], 5),
+    (Load::Tails(&[BEHIND]), [255, 255, 255], 7),
 ];
+
+const WHOLE_FIRST: Tail = Tail {
+    sector: 0,
+    first: 0,
+};
+
+const LAST_BYTE: Tail = Tail {
+    sector: 1,
+    first: 511,
+};
+
+const NEXT: Tail = Tail {
+    sector: 2,
+    first: 1,
+};
+
+const BEHIND: Tail = Tail {
+    sector: 3,
+    first: 0,
+};
 
 // What another disk of a file comes to, of which sectors are loaded.
 fn refused_beside_part(rt: &HostRuntime, path: Path<'_>) -> Result<bool, FileFault> {
