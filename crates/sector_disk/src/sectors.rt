@@ -1,6 +1,6 @@
 //! Sectors in memory, of which those that are zeros take four bytes each at most.
 
-ghost use Rattle.std.specs.Prelude.{◌≡◌, ◌≢◌, ◌<◌, ◌≤◌, ◌+◌, ◌^◌, ℕ, length, get_or, replicate, slice_set, slice_range, IfOk, IfSome, OnOk, OnErr};
+ghost use Rattle.std.specs.Prelude.{◌≡◌, ◌≢◌, ◌<◌, ◌≤◌, ◌+◌, ◌^◌, ℕ, length, get_or, replicate, slice_set, slice_range, IfOk, IfSome, OnOk, OnErr, IsTrue, ◌↔◌};
 ghost use Rattle.sector_disk.specs.Disk.{sector};
 ghost use Rattle.sector_disk.specs.Whole.{AreSectors};
 ghost use Rattle.sector_disk.specs.Places.{OwnsPlace, IsRunSet};
@@ -82,7 +82,7 @@ impl Sectors {
             self.replace(n, content);
             return Ok(());
         }
-        if may_be_zeros(content) && *content == ZEROS {
+        if may_be_zeros(content) && is_zeros(content) {
             return Ok(());
         }
         self.add(n, content)
@@ -231,4 +231,16 @@ impl Sectors {
 /// Whether a sector begins and ends as one of zeros does: what most others don't.
 pub(crate) fn may_be_zeros(content: &[u8; 512]) -> bool {
     content[0] == 0 && content[511] == 0
+}
+
+// Whether all bytes of a sector are zero. Not stopping at the first other byte, it tests many at once.
+fn is_zeros(content: &[u8; 512]) -> bool
+    ensures { IsTrue result ↔ (content.now ≡ replicate 512 0) }
+{
+    tell_whole(content);
+    let mut zero = true;
+    for byte in content {
+        zero &= *byte == 0;
+    }
+    zero
 }

@@ -3,8 +3,8 @@ use Rattle.sector_disk.specs.Disk.{Image}
 use Rattle.sector_disk.proofs.Placed.{shown_is, place_read, zeros_stay}
 use Rattle.sector_disk.proofs.sectors.Sectors.set.Goals as goal
 
-pub returns-then-eq-clause-ok : goal.returns-then-eq-clause-ok
-returns-then-eq-clause-ok c =
+pub returns-then-is_zeros-clause-ok : goal.returns-then-is_zeros-clause-ok
+returns-then-is_zeros-clause-ok c =
     let i = c.self.inside in
     let n = c.args.n in
     let shown = shown_is c.self.view_is in
