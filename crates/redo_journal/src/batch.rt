@@ -14,8 +14,8 @@ use std::alloc::{AllocError, Global};
 use std::marker::Model;
 use std::slice::from_ref;
 
-// How many marks a batch has.
-const MARKS: usize = 1024;
+// How many marks a batch has: as many as the largest has sectors, so that few of its sectors share one.
+const MARKS: usize = 16_384;
 
 /// The most sectors that a batch has room for: more than any commit logs, since some of a commit's sectors may go to their places alone.
 pub const MOST_SECTORS: usize = 16384;
