@@ -19,7 +19,7 @@ use Rattle.fs_cred.specs.Capabilities.{cap_chown, cap_fowner}
 use Rattle.fs_cred.specs.Credentials.{is_capable}
 use Rattle.fs_cred.specs.Ownership.{allowed_if, may_own, owns_or_may_chown}
 use Rattle.fs_model.specs.declared.call.AclType.{AclType}
-use Rattle.fs_model.specs.Limits.{move_limit}
+use Rattle.fs_model.specs.Limits.{write_limit}
 use Rattle.fs_model.specs.Demands.{allowed_by}
 use Rattle.fs_model.specs.AttributeCalls.{chmod_row, chown_row, set_acl_row, moded, owned, with_set_acl}
 use Rattle.fs_model.proofs.StepsDemands.{demands_met}
@@ -149,14 +149,14 @@ write_confined fd (b ∷ bs) u pid p new free is runs here confined fits asked m
     let offset = write_offset (scene_of u p row) fd in
     let same : write_offset (scene_of (seen_by (Some p) u) p row) fd ≡ offset = by_veil (λ c. write_offset c fd) (λ c. write_offset-veil c fd) u p row in
     let limit = u.room.file_limit in
-    let text = take (min (length bytes) (min move_limit (limit - offset))) bytes in
-    let q = with_offset p fd (offset + min (length bytes) (min move_limit (limit - offset))) in
+    let text = take (min (length bytes) (min write_limit (limit - offset))) bytes in
+    let q = with_offset p fd (offset + min (length bytes) (min write_limit (limit - offset))) in
     record {
-      process = ap (λ k. with_offset p fd (k + min (length bytes) (min move_limit (limit - k)))) same;
-      reply = ap (λ k. Wrote (min (length bytes) (min move_limit (limit - k)))) same;
+      process = ap (λ k. with_offset p fd (k + min (length bytes) (min write_limit (limit - k)))) same;
+      reply = ap (λ k. Wrote (min (length bytes) (min write_limit (limit - k)))) same;
       moved = refl;
       tree =
-          ap (λ k. tree_seen q (with_node (tree_seen p u.tree) n (written (the_node (tree_seen p u.tree) n) k (take (min (length bytes) (min move_limit (limit - k))) bytes)))) same
+          ap (λ k. tree_seen q (with_node (tree_seen p u.tree) n (written (the_node (tree_seen p u.tree) n) k (take (min (length bytes) (min write_limit (limit - k))) bytes)))) same
           ∙ ap (λ y. tree_seen q (with_node (tree_seen p u.tree) n (written y offset text))) (the_node-seen p u.tree n)
           ∙ rewritten_seen p q u.tree n (written (node_seen p n x) offset text) (written x offset text) (sees_no_more p q (λ n node. offset_less p fd _ n node) u.tree)
           (byted_seen (λ old. overwritten old offset text) (even_overwritten offset text) p q n x (offset_less p fd _ n x));

@@ -1,7 +1,7 @@
 -- What the laws over all calls need of each: the one place in proofs that names every call.
 --     IsLawful        what they need
 --     each_call        each call's case
-use Rattle.std.specs.Prelude.{◌≡◌, ℕ, ◌+◌, nat_le, Bool, true, false, not, ◌&&◌, cond, List, [], ◌∷◌, Option, None, Some, take, if◌then◌else◌, is_some, ◌⊎◌, unwrap_or}
+use Rattle.std.specs.Prelude.{◌≡◌, ℕ, ◌+◌, nat_le, Bool, true, false, not, ◌&&◌, cond, List, [], ◌∷◌, Option, None, Some, take, if◌then◌else◌, is_some, length, ◌⊎◌, unwrap_or}
 use Rattle.std.proofs.Common.{refl, ap, sym, ◌∙◌, inl, inr}
 use Rattle.std.specs.Ordering.{nat_cmp}
 use Rattle.posix_acl.specs.declared.entry.Perms.{Perms}
@@ -21,7 +21,7 @@ use Rattle.fs_model.specs.Demands.{refuse, perms}
 use Rattle.fs_model.specs.Parts.{is_empty}
 use Rattle.fs_model.specs.Scenes.{Scene, Effect, found_ino, no_blocks, check_of_mode, is_bad, is_bad_to_read, is_bad_to_write, nothing_asked, answers, node_open, node_found, body_found, dir_node}
 use Rattle.fs_model.specs.OpenCall.{open_form, open_process}
-use Rattle.fs_model.specs.DescriptorCalls.{read_demands, read_effect, write_offset, write_demands, write_effect, lseek_demands, lseek_effect, close_effect, fstat_effect, ftruncate_demands, ftruncate_effect, readdir_demands, readdir_effect, write_count, written}
+use Rattle.fs_model.specs.DescriptorCalls.{read_demands, read_effect, write_offset, no_blocks_for, write_demands, write_effect, lseek_demands, lseek_effect, close_effect, fstat_effect, ftruncate_demands, ftruncate_effect, readdir_demands, readdir_effect, write_count, written}
 use Rattle.fs_model.specs.AttributeCalls.{stat_demands, stat_effect, access_demands, access_effect, truncate_demands, truncate_effect, chmod_demands, chmod_effect, chown_demands, chown_effect, get_acl_effect, needs_sector, set_acl_arguments, set_acl_demands, set_acl_effect, chdir_demands, chdir_effect, granted_by}
 use Rattle.fs_model.specs.NameCalls.{mkdir_demands, mkdir_effect, rmdir_demands, takes_name, link_demands, link_effect, symlink_arguments, symlink_demands, symlink_effect, readlink_demands, readlink_effect, unlink_demands}
 use Rattle.fs_model.specs.RenameCall.{rename_demands, rename_effect}
@@ -146,7 +146,7 @@ each_call (Read fd len) = record {
 }
 each_call (Write fd bytes) = record {
   paths = λ is. tt;
-  spares = by_fd (is_bad_to_write fd) (write_demands fd bytes) (write_effect fd bytes) (λ p. refused EBADF _ refl) (λ s. only (not (is_empty bytes)) (refuse EFBIG (nat_le s.state.room.file_limit (write_offset s fd)) ∷ no_blocks s ∷ []) (refused EFBIG _ refl, (refused ENOSPC _ refl, tt)));
+  spares = by_fd (is_bad_to_write fd) (write_demands fd bytes) (write_effect fd bytes) (λ p. refused EBADF _ refl) (λ s. only (not (is_empty bytes)) (refuse EFBIG (nat_le s.state.room.file_limit (write_offset s fd)) ∷ no_blocks_for (length bytes) s ∷ []) (refused EFBIG _ refl, (refused ENOSPC _ refl, tt)));
   replies = λ c new. write_spares fd bytes c;
   asks = λ c. write_asks c fd bytes;
   leaves = λ c is pid here new met fresh. fits_leave c is pid here _ (write_fits c is fd bytes met.fits.1 met.early met.demands);

@@ -10,7 +10,7 @@ use Rattle.fs_layout.proofs.Sectors.{IsBytes-take}
 use Rattle.fs_model.specs.declared.call.Whence.{Whence}
 use Rattle.fs_model.specs.declared.reply.Reply.{Reply}
 use Rattle.fs_model.specs.declared.reply.Reply.TheVariants.{Done, Data, Wrote, At}
-use Rattle.fs_model.specs.Limits.{move_limit, run_limit}
+use Rattle.fs_model.specs.Limits.{run_limit, write_limit}
 use Rattle.fs_model.specs.Nodes.{bytes_in}
 use Rattle.fs_model.specs.Trees.{node_at, IsNode}
 use Rattle.fs_model.specs.Processes.{descriptor, the_descriptor, with_offset}
@@ -18,8 +18,8 @@ use Rattle.fs_model.specs.declared.touch.Touch.TheVariants.{Modified}
 use Rattle.fs_model.specs.TreeChanges.{Rewrite}
 use Rattle.fs_model.specs.Parts.{is_empty}
 use Rattle.fs_model.specs.Demands.{refuse, only_if}
-use Rattle.fs_model.specs.Scenes.{Scene, node_open, no_blocks, is_bad, is_bad_to_read, is_bad_to_write, answers}
-use Rattle.fs_model.specs.DescriptorCalls.{read_bytes, read_effect, write_offset, write_count, write_demands, written, write_effect, seekable, seek_base, sought, lseek_effect, close_effect, ftruncate_demands, ftruncate_effect, resized_node}
+use Rattle.fs_model.specs.Scenes.{Scene, node_open, is_bad, is_bad_to_read, is_bad_to_write, answers}
+use Rattle.fs_model.specs.DescriptorCalls.{read_bytes, read_effect, write_offset, write_count, no_blocks_for, write_demands, written, write_effect, seekable, seek_base, sought, lseek_effect, close_effect, ftruncate_demands, ftruncate_effect, resized_node}
 use Rattle.fs_model.proofs.StepsBodies.{bytes_are_few, bytes_are_bytes, length-resized, IsBytes-resized, length-overwritten, IsBytes-overwritten, bytes_may_replace}
 use Rattle.fs_model.proofs.StepsDemands.{AreMet, unrefused, is_open_here, is_read_here, is_written_here}
 use Rattle.fs_model.proofs.StepsFit.{IsScene, EffectFits, node_is_there, no_change_fits, rewrite_fits}
@@ -93,7 +93,7 @@ module _ (c : Scene) (is : IsScene c) where
         let old = bytes_in node.body in
         let offset = write_offset c fd in
         let limit = c.state.room.file_limit in
-        let count = min (length bytes) (min move_limit (limit - offset)) in
+        let count = min (length bytes) (min write_limit (limit - offset)) in
         let new = take count bytes in
         let most : limit < 2 ^ 63 = is.state.room.file_limit in
         let far : offset + count ≤ limit = omega (arith, below) in
@@ -130,7 +130,7 @@ module _ (c : Scene) (is : IsScene c) where
       → EffectFits c.state (write_effect fd bytes c)
   write_fits fd bytes are asked met = go (is_empty bytes) met
     where
-      go : (b : Bool) → AreMet (only_if (not b) (refuse EFBIG (nat_le c.state.room.file_limit (write_offset c fd)) ∷ no_blocks c ∷ []))
+      go : (b : Bool) → AreMet (only_if (not b) (refuse EFBIG (nat_le c.state.room.file_limit (write_offset c fd)) ∷ no_blocks_for (length bytes) c ∷ []))
           → EffectFits c.state (cond b (answers c (Wrote 0)) (record {
             change = Rewrite Modified (the_descriptor c.process fd).ino (written (node_open c fd) (write_offset c fd) (take (write_count c fd bytes) bytes));
             process = with_offset c.process fd (write_offset c fd + write_count c fd bytes);

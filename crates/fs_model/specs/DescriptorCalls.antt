@@ -5,12 +5,12 @@
 use Rattle.std.specs.Prelude.{ℕ, ◌+◌, ◌-◌, ◌^◌, nat_lt, nat_le, min, not, List, [], ◌∷◌, length, take, drop, if◌then◌else◌, Option, None, Some, is_some, unwrap_or, ℤ, pos, negsuc, ◌+ℤ◌}
 use Rattle.std.specs.Ordering.{nat_cmp}
 use Rattle.fs_layout.specs.Bytes.{resized, overwritten}
-use Rattle.fs_cred.specs.declared.errno.Errno.TheVariants.{ENOTDIR, EISDIR, EINVAL, EFBIG}
+use Rattle.fs_cred.specs.declared.errno.Errno.TheVariants.{ENOTDIR, EISDIR, EINVAL, EFBIG, ENOSPC}
 use Rattle.fs_model.specs.declared.call.Whence.{Whence}
 use Rattle.fs_model.specs.declared.call.Whence.TheVariants.{Set, Cur, End}
 use Rattle.fs_model.specs.declared.reply.Status.{Status}
 use Rattle.fs_model.specs.declared.reply.Reply.TheVariants.{Done, Data, Wrote, At, Shown, Names}
-use Rattle.fs_model.specs.Limits.{move_limit, run_limit}
+use Rattle.fs_model.specs.Limits.{run_limit, write_limit, free_for}
 use Rattle.fs_layout.specs.Maps.{without}
 use Rattle.fs_model.specs.Nodes.{Node, is_directory, names_of_body, bytes_in, with_bytes, type_of, shown_mode, shown_size}
 use Rattle.fs_model.specs.Trees.{Tree, parent, names_of}
@@ -20,7 +20,7 @@ use Rattle.fs_model.specs.declared.touch.Touch.TheVariants.{Modified}
 use Rattle.fs_model.specs.TreeChanges.{Rewrite}
 use Rattle.fs_model.specs.Demands.{Demand, refuse, only_if}
 use Rattle.fs_model.specs.Parts.{is_empty}
-use Rattle.fs_model.specs.Scenes.{Scene, Effect, Row, node_open, no_blocks, is_bad, is_bad_to_read, is_bad_to_write, nothing_asked, answers, with_process, rewrites, by_descriptor}
+use Rattle.fs_model.specs.Scenes.{Scene, Effect, Row, node_open, is_bad, is_bad_to_read, is_bad_to_write, nothing_asked, answers, with_process, rewrites, by_descriptor}
 
 -- ---- read: from the offset, as many bytes as are asked for, are there, and are read at once
 
@@ -46,12 +46,16 @@ write_offset s fd =
     if d.append then length (bytes_in (node_open s fd).body) else d.offset
 
 abbrev pub write_count : Scene → ℕ → List ℕ → ℕ
-write_count s fd bytes = min (length bytes) (min move_limit (s.state.room.file_limit - write_offset s fd))
+write_count s fd bytes = min (length bytes) (min write_limit (s.state.room.file_limit - write_offset s fd))
+
+-- fewer data sectors are free than so many bytes may take
+abbrev pub no_blocks_for : ℕ → Scene → Demand
+no_blocks_for count s = refuse ENOSPC (nat_lt s.state.free (free_for count))
 
 -- to write nothing is never refused
 abbrev pub write_demands : ℕ → List ℕ → Scene → List Demand
 write_demands fd bytes s =
-    only_if (not (is_empty bytes)) (refuse EFBIG (nat_le s.state.room.file_limit (write_offset s fd)) ∷ no_blocks s ∷ [])
+    only_if (not (is_empty bytes)) (refuse EFBIG (nat_le s.state.room.file_limit (write_offset s fd)) ∷ no_blocks_for (length bytes) s ∷ [])
 
 abbrev pub written : Node → ℕ → List ℕ → Node
 written node offset new = record node { body = with_bytes (overwritten (bytes_in node.body) offset new) node.body }

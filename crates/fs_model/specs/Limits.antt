@@ -3,11 +3,14 @@
 --     path_limit, links_limit        PATH_MAX less 1, SYMLOOP_MAX
 --     target_limit        SYMLINK_MAX
 --     descriptors_limit, processes_limit        OPEN_MAX, CHILD_MAX
---     move_limit        bytes in one write, and in one read of a script
+--     move_limit        bytes in one read, and in one write, of a script
 --     run_limit        bytes in one read: a run of 32 moves
+--     write_limit        bytes in one write: a run of four moves
 --     least_free        free data sectors without which nothing is taken
+--     run_free        free data sectors without which no more than a move is written
+--     free_for        how many have to be free for a write of so many bytes
 --     root        the number of the root's inode
-use Rattle.std.specs.Prelude.{ℕ}
+use Rattle.std.specs.Prelude.{ℕ, nat_le, if◌then◌else◌}
 use Rattle.fs_layout.specs.declared.inode.TheConstants.{MAX_LINK_SIZE}
 use Rattle.fs_layout.specs.declared.geometry.TheConstants.{ROOT}
 
@@ -33,8 +36,17 @@ move_limit = 4096
 abbrev pub run_limit : ℕ
 run_limit = 131072
 
+abbrev pub write_limit : ℕ
+write_limit = 16384
+
 abbrev pub least_free : ℕ
 least_free = 16
+
+abbrev pub run_free : ℕ
+run_free = 40
+
+abbrev pub free_for : ℕ → ℕ
+free_for count = if nat_le count move_limit then least_free else run_free
 
 abbrev pub root : ℕ
 root = ROOT
