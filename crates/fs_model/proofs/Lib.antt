@@ -54,6 +54,7 @@ pub mod RowsOfStops
 pub mod RulesFromTree
 pub mod RulesLaw
 pub mod RunsOfReads
+pub mod RunsOfWrites
 pub mod SeenTrees
 pub mod Stable
 pub mod StepsAdding
@@ -98,3 +99,4 @@ pub mod VeiledRefusals
 pub mod VeiledScenes
 pub mod Veils
 pub mod VersionLimits
+pub mod WrittenParts

@@ -1,5 +1,5 @@
 -- What files hold and what descriptors do, computed.
-use Rattle.std.specs.Prelude.{◌≡◌, ℕ, zero, suc, List, [], ◌∷◌, ◌++◌, codes, pos, true, false}
+use Rattle.std.specs.Prelude.{◌≡◌, ℕ, zero, suc, List, [], ◌∷◌, ◌++◌, codes, replicate, pos, true, false}
 use Rattle.std.proofs.Common.{refl}
 use Rattle.fs_cred.specs.declared.errno.Errno.TheVariants.{ENOENT, ESRCH, EBADF, EAGAIN, EISDIR, EMFILE, EFBIG}
 use Rattle.fs_cred.specs.Verdicts.{verdict}
@@ -69,3 +69,10 @@ pub the_largest_file : last_two (replies fresh (
     Wrote 1 ∷ failed EFBIG ∷ []
 unfolding verdict trail_of first_refusal found_of row_of firm_refusal other_refusal after
 the_largest_file = refl
+
+-- one write puts at most 16384 bytes
+pub a_run_of_four_moves : last_two (replies fresh (
+    user 0 0 [] ∷ Calls 1 (Open (codes "/r") to_read_write 0o644) ∷ Calls 1 (Write 0 (replicate 16385 120)) ∷ Calls 1 (Fstat 0) ∷ [])) ≡
+    Wrote 16384 ∷ shows_file 2 0o644 1 0 0 16384 ∷ []
+unfolding verdict trail_of first_refusal found_of row_of firm_refusal other_refusal after
+a_run_of_four_moves = refl

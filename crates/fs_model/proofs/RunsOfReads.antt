@@ -47,7 +47,7 @@ or_both true b x y h k e = ap (λ (c : Bool). c || y) (h refl)
 or_both false b x y h k e = or_second b y (k e)
 
 -- what is so of an entry is so of another in its place
-any_stays : {X : Type 0} (test : X → Bool) (m : List (ℕ × X)) (k : ℕ) (x y : X) → get nat_cmp m k ≡ Some x → (test x ≡ true → test y ≡ true)
+pub any_stays : {X : Type 0} (test : X → Bool) (m : List (ℕ × X)) (k : ℕ) (x y : X) → get nat_cmp m k ≡ Some x → (test x ≡ true → test y ≡ true)
     → list_any (λ (e : ℕ × X). test e.1) m ≡ true → list_any (λ (e : ℕ × X). test e.1) (with_entry nat_cmp m k y) ≡ true
 any_stays test [] k x y there keeps h = absurd cc
 any_stays {X} test (e ∷ m) k x y there keeps h = go (nat_cmp k e.0) there (λ at. any_stays test m k x y at keeps)
@@ -65,11 +65,11 @@ any_stays {X} test (e ∷ m) k x y there keeps h = go (nat_cmp k e.0) there (λ 
     go Greater at later = or_both (test e.1) (test e.1) (any m) (any (with_entry nat_cmp m k y)) (λ is. is) (later at) h
 
 module _ {X : Type 0} (m : List (ℕ × X)) (k : ℕ) (x : X) where
-  entry_there : get nat_cmp (with_entry nat_cmp m k x) k ≡ Some x
+  pub entry_there : get nat_cmp (with_entry nat_cmp m k x) k ≡ Some x
   entry_there = get-with_entry m k x k ∙ ap (λ b. cond b (Some x) (get nat_cmp m k)) (ties k k refl)
 
   -- the later of two entries at a key is the one that stays
-  entry_over : (y : X) → IsMap nat_cmp m → with_entry nat_cmp (with_entry nat_cmp m k x) k y ≡ with_entry nat_cmp m k y
+  pub entry_over : (y : X) → IsMap nat_cmp m → with_entry nat_cmp (with_entry nat_cmp m k x) k y ≡ with_entry nat_cmp m k y
   entry_over y is =
       same_map (with_entry nat_cmp (with_entry nat_cmp m k x) k y) (with_entry nat_cmp m k y)
       (with_entry-IsMap (with_entry nat_cmp m k x) k y (with_entry-IsMap m k x is)) (with_entry-IsMap m k y is)
@@ -83,10 +83,10 @@ module _ {X : Type 0} (m : List (ℕ × X)) (k : ℕ) (x : X) where
 -- ---- a process whose offset moves
 
 module _ (p : Process) (fd n : ℕ) where
-  offset_there : the_descriptor (with_offset p fd n) fd ≡ record (the_descriptor p fd) { offset = n }
+  pub offset_there : the_descriptor (with_offset p fd n) fd ≡ record (the_descriptor p fd) { offset = n }
   offset_there = ap (λ o. unwrap_or o no_descriptor) (entry_there p.descriptors fd (record (the_descriptor p fd) { offset = n }))
 
-  offset_over : (m : ℕ) → IsMap nat_cmp p.descriptors → with_offset (with_offset p fd n) fd m ≡ with_offset p fd m
+  pub offset_over : (m : ℕ) → IsMap nat_cmp p.descriptors → with_offset (with_offset p fd n) fd m ≡ with_offset p fd m
   offset_over m is =
       ap (λ d. record p { descriptors = with_entry nat_cmp (with_entry nat_cmp p.descriptors fd (record (the_descriptor p fd) { offset = n })) fd (record d { offset = m }) }) offset_there
       ∙ ap (λ ds. record p { descriptors = ds })
@@ -94,7 +94,7 @@ module _ (p : Process) (fd n : ℕ) where
 
 -- ---- a read that nothing refuses
 
-abbrev has_open : ℕ → Process → Bool
+abbrev pub has_open : ℕ → Process → Bool
 has_open n q = list_any (λ (d : ℕ × Descriptor). d.1.ino == n) q.descriptors
 
 -- the offset of a process has moved by n, and so many sectors are free
@@ -268,7 +268,7 @@ module _ (pid fd : ℕ) (s new : State) (is : IsState s) (most : ℕ) (bytes : L
 
 -- ---- two parts
 
-take_parts : (a b : ℕ) (l : List ℕ) → take (a + b) l ≡ take a l ++ take b (drop a l)
+pub take_parts : (a b : ℕ) (l : List ℕ) → take (a + b) l ≡ take a l ++ take b (drop a l)
 take_parts a b l =
     sym (take-append-drop a (take (a + b) l))
     ∙ ap (λ (x : List ℕ). x ++ drop a (take (a + b) l)) (take-take a (a + b) l (omega arith))

@@ -3,7 +3,7 @@ ghost use Rattle.fs_cred.specs.Laws.{HasAnAnswer, HasOneAnswer, VerdictDecides};
 ghost use Rattle.fs_model.specs.Laws.{AccessKindsAgree, CountsFit, EffectsAnswerOtherwise, FindingRefuses, FindsAreThere, FirmRefusesOtherwise, FollowedAreNoLinks, FreeAreClear, NewDiskStands, NewImagesExist, NoneRefuses, NothingToDrop, NumbersAreCounts, ObeyingStands, OneFinding, OneNodeChanges, OpenStays, OtherRefusesOtherwise, PruningKeeps, RefusesLeast, RewritingKeeps, SameProcessStays, SomeImageStands, StandingObeys, StandingRests, StandingRestsOnReading, StandsForOne, StandsInVersion, StepsKeep, StoredKindsAgree, SyncingKeeps, TypesComeBack, WalksRefuseOtherwise};
 ghost use Rattle.fs_model.specs.Confinement.{Confinement, GoneIsRefused, StepsAreBy, StepsBy};
 ghost use Rattle.fs_model.specs.Ranges.{IsSomeId, IsCall};
-ghost use Rattle.fs_model.specs.Runs.{RunsAreRefusedAlike, RunsOfMoves};
+ghost use Rattle.fs_model.specs.Runs.{RunsAreRefusedAlike, RunsOfMoves, RunsOfWrites};
 ghost use Rattle.posix_acl.specs.AccessList.{IsSomeAcl};
 
 use crate::call::Call;
@@ -206,4 +206,11 @@ pub fn unreadable_bytes_do_not_show()
 pub fn runs_of_moves()
     ensures means { RunsOfMoves }
     ensures refused { RunsAreRefusedAlike }
+{}
+
+/// What a write of many bytes does, up to a run of four moves, writes of its parts may do, one after another, however it is parted: as
+/// many bytes in all, and the same state behind the last. One that is short, or is refused since the file has reached its limit, is
+/// the last.
+pub fn runs_of_writes()
+    ensures { RunsOfWrites }
 {}
