@@ -187,14 +187,14 @@ most_on_three first end near few =
     let all = most_step 2 1 first end 3 (omega (arith, second, two)) in
     omega (arith, all, near)
 
--- nine blocks, one after the other, have five sectors of pointers at most
-pub pointers_few : (first end : ℕ) → end ≤ first + 9 → end ≤ MAX_BLOCKS → pointer_sectors first end ≤ 5
+-- 33 blocks, one after the other, have five sectors of pointers at most
+pub pointers_few : (first end : ℕ) → end ≤ first + 33 → end ≤ MAX_BLOCKS → pointer_sectors first end ≤ 5
 pointers_few first end near few =
     if_few (nat_lt DIRECT_BLOCKS end) (most_from 3 1 (holder DIRECT_BLOCKS first) (holder DIRECT_BLOCKS (end - 1) + 1)) 5
     (most_on_three (holder DIRECT_BLOCKS first) (holder DIRECT_BLOCKS (end - 1) + 1) (omega (arith, near)) (omega (arith, few)))
 
 -- six, whatever the limit
-pub pointers_any : (first end : ℕ) → end ≤ first + 9 → pointer_sectors first end ≤ 6
+pub pointers_any : (first end : ℕ) → end ≤ first + 33 → pointer_sectors first end ≤ 6
 pointers_any first end near =
     if_few (nat_lt DIRECT_BLOCKS end) (most_from 3 1 (holder DIRECT_BLOCKS first) (holder DIRECT_BLOCKS (end - 1) + 1)) 6
     (most_of_two 3 1 (holder DIRECT_BLOCKS first) (holder DIRECT_BLOCKS (end - 1) + 1) (omega (arith, near)))

@@ -14,6 +14,7 @@ use Rattle.sector_txn.proofs.TransactionRuns.{changes_beside, changes_put_shared
 use Rattle.bit_alloc.specs.Room.{bitmaps}
 use Rattle.bit_alloc.specs.Inodes.{IsSound}
 use Rattle.bit_alloc.proofs.Transactions.{puts_after}
+use Rattle.block_map.specs.declared.write.TheConstants.{MAX_WRITE}
 use Rattle.block_map.specs.Blocks.{IsWithin}
 use Rattle.block_map.specs.Contents.{AllowsSize}
 use Rattle.block_map.specs.Drops.{cut_below, cut_by, first_above, first_on}
@@ -55,21 +56,31 @@ pointers_puts {p} {old} {v = v} {u} level i may is some puts put =
     changes_put_shared {R = IsStepSector p} (puts_beside puts u) put (inr (omega (arith, d.0, is), omega (arith, d.1, is))) first
 
 -- the size after a write within the limit
-pub limit_at : (m size offset len limit : ℕ) → m ≡ max size (offset + len) → offset ≤ limit - len → len ≤ 4096 → 4096 ≤ limit → limit ≤ MAX_FILE_SIZE
+pub limit_at : (m size offset len limit : ℕ) → m ≡ max size (offset + len) → offset ≤ limit - len → len ≤ MAX_WRITE → MAX_WRITE ≤ limit → limit ≤ MAX_FILE_SIZE
     → size ≤ MAX_FILE_SIZE → m ≤ MAX_FILE_SIZE
 limit_at m size offset len limit is within few least most small = omega (arith, is, within, few, least, most, small)
 
 -- ---- how many sectors are taken
-pub taken_few : (image : SectorMap) (v : Inode) (offset len : ℕ) → len ≤ 4096 → offset + len ≤ 512 * MAX_BLOCKS → taken_by image v offset len ≤ 14
-taken_few image v offset len few limit =
+-- one for each of the blocks, and 5 for pointers at most
+taken_with_blocks : (image : SectorMap) (v : Inode) (offset len n : ℕ) → blocks_to (offset + len) ≤ offset / 512 + n → n ≤ 33 → offset + len ≤ 512 * MAX_BLOCKS
+    → taken_by image v offset len ≤ n + 5
+taken_with_blocks image v offset len n blocks few limit =
     let end : ℕ = blocks_to (offset + len) in
     let some = lacks_few image v 0 (offset / 512) (end - offset / 512) in
     let more = lacks_pointers_most image v (offset / 512) end in
-    let pointers = pointers_few (offset / 512) end (omega (arith, few)) (omega (arith, limit)) in
-    all_few _ _ _ _ (taken_is image v offset len) (omega (arith, some, few)) more pointers
+    let pointers = pointers_few (offset / 512) end (omega (arith, blocks, few)) (omega (arith, limit)) in
+    all_few _ _ _ _ (taken_is image v offset len) (omega (arith, some, blocks)) more pointers
   where
-    all_few : (taken blocks lack most : ℕ) → taken ≡ blocks + lack → blocks ≤ 9 → lack ≤ most → most ≤ 5 → taken ≤ 14
-    all_few taken blocks lack most is one two three = omega (arith, is, one, two, three)
+    all_few : (taken holes lack most : ℕ) → taken ≡ holes + lack → holes ≤ n → lack ≤ most → most ≤ 5 → taken ≤ n + 5
+    all_few taken holes lack most is one two three = omega (arith, is, one, two, three)
+
+-- 38 at most
+pub taken_most : (image : SectorMap) (v : Inode) (offset len : ℕ) → len ≤ MAX_WRITE → offset + len ≤ 512 * MAX_BLOCKS → taken_by image v offset len ≤ 38
+taken_most image v offset len few limit = taken_with_blocks image v offset len 33 (omega (arith, few)) (omega arith) limit
+
+-- 14 at most for up to 4,096 bytes
+pub taken_few : (image : SectorMap) (v : Inode) (offset len : ℕ) → len ≤ 4096 → offset + len ≤ 512 * MAX_BLOCKS → taken_by image v offset len ≤ 14
+taken_few image v offset len few limit = taken_with_blocks image v offset len 9 (omega (arith, few)) (omega arith) limit
 
 -- the size says nothing of it, nor do reads
 pub taken_same : (old mid : TxnState) (v : Inode) (m offset len : ℕ) → IsUnchanged old mid → taken_by mid.sectors (record v { size = m }) offset len ≡ taken_by old.sectors v offset len
@@ -82,7 +93,14 @@ pub free_same : (p : Geometry) (old mid : TxnState) → IsUnchanged old mid → 
 free_same p old mid same = ap (free_sectors p) (same_map old.sectors mid.sectors same.sectors)
 
 -- ---- how many sectors are put
--- 16 at most
+-- 40 at most
+pub put_most : (offset len : ℕ) → len ≤ MAX_WRITE → put_by offset len ≤ 40
+put_most offset len few = all_few _ _ (omega (arith, few)) (pointers_any (offset / 512) (blocks_to (offset + len)) (omega (arith, few)))
+  where
+    all_few : (blocks pointers : ℕ) → blocks ≤ 33 → pointers ≤ 6 → blocks + pointers + 1 ≤ 40
+    all_few blocks pointers one two = omega (arith, one, two)
+
+-- 16 at most for up to 4,096 bytes
 pub put_few : (offset len : ℕ) → len ≤ 4096 → put_by offset len ≤ 16
 put_few offset len few = all_few _ _ (omega (arith, few)) (pointers_any (offset / 512) (blocks_to (offset + len)) (omega (arith, few)))
   where
@@ -130,7 +148,7 @@ put_in_block offset len some within small =
 
 -- ---- the whole call
 module _ {p : Geometry} {n m offset : ℕ} {x : List ℕ} {old mid done new : TxnState} {u v w : Inode}
-    (sound : IsSound p old) (lt : n < p.inodes) (at : v ≡ inode_at p old.sectors n) (allowed : AllowsSize v.kind m) (limit : m ≤ MAX_FILE_SIZE) (few : length x ≤ 4096)
+    (sound : IsSound p old) (lt : n < p.inodes) (at : v ≡ inode_at p old.sectors n) (allowed : AllowsSize v.kind m) (limit : m ≤ MAX_FILE_SIZE) (few : length x ≤ MAX_WRITE)
     (is : m ≡ max v.size (offset + length x)) (same : IsUnchanged old mid) (e : u ≡ v) (step : WritesBlocks p offset x mid done (record u { size = m }) w) where
   pub wrote : Saves p n w done.sectors new.sectors → PutsOnly (λ t. t ≡ p.table + n / 4) [] 1 done new
       → IsEnded p n (taken_by old.sectors v offset (length x)) (put_by offset (length x)) old done new v w

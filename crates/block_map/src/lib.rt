@@ -41,4 +41,4 @@ pub use link::new_link;
 pub use read::read_at;
 pub use release::release_all;
 pub use size::set_size;
-pub use write::{overwrite, write_at};
+pub use write::{MAX_WRITE, overwrite, write_at};

@@ -11,6 +11,7 @@ ghost use Rattle.sector_txn.specs.Sectors.{SameStore, IsUnchanged};
 ghost use Rattle.bit_alloc.specs.Faults.{HasCauseOf};
 ghost use Rattle.bit_alloc.specs.Inodes.{IsSound};
 ghost use Rattle.bit_alloc.specs.Room.{HasSpare};
+ghost use Rattle.block_map.specs.declared.write.TheConstants.{MAX_WRITE};
 ghost use Rattle.block_map.specs.Contents.{AllowsSize, ChangesContent};
 ghost use Rattle.block_map.specs.Blocks.{IsAtHand};
 ghost use Rattle.block_map.specs.Steps.{MayChange, WritesBlocks, blocks_to, pointer_sectors, taken_by, put_by};
@@ -23,6 +24,9 @@ use fs_layout::{Geometry, Inode};
 use inode_table::write_inode;
 use sector_disk::DiskFault;
 use sector_txn::Sectors;
+
+/// The most bytes that one call of [`write_at`] writes.
+pub const MAX_WRITE: usize = 16_384;
 
 /// Writes bytes within the size of an inode, which isn't saved.
 pub(crate) fn write_blocks<S: Sectors>(
@@ -57,8 +61,8 @@ pub(crate) fn write_blocks<S: Sectors>(
     Ok(())
 }
 
-/// Writes bytes into what inode `ino` holds, from `offset` on, and zeros between its end and these. `inode` is its
-/// record, before and after.
+/// Writes bytes into what inode `ino` holds, at most [`MAX_WRITE`] of them, from `offset` on, and zeros between its end
+/// and these. `inode` is its record, before and after.
 ///
 /// At `Err` the caller drops the changes of the transaction; of `inode` nothing is said then.
 pub fn write_at<S: Sectors>(
@@ -73,7 +77,7 @@ pub fn write_at<S: Sectors>(
     requires below { ino < geometry.inodes }
     requires inode { inode.old ≡ inode_at geometry (S.state s.old).sectors ino }
     requires size { AllowsSize inode.old.kind (max inode.old.size (offset + length bytes.now)) }
-    requires few { length bytes.now ≤ 4096 }
+    requires few { length bytes.now ≤ MAX_WRITE }
     requires spare { HasSpare geometry (put_by offset (length bytes.now)) (S.state s.old) }
     ensures change { OnOk result (ChangesContent geometry ino (taken_by (S.state s.old).sectors inode.old offset (length bytes.now))
         (put_by offset (length bytes.now)) (S.state s.old) (S.state s.new) inode.old inode.new) }
@@ -86,8 +90,11 @@ pub fn write_at<S: Sectors>(
     ensures untouched { max_file_size geometry.version < offset + length bytes.now → IsUnchanged (S.state s.old) (S.state s.new) }
     ensures full { result ≡ Err MapFault.Full
         → (free_sectors geometry (S.state s.old).sectors < taken_by (S.state s.old).sectors inode.old offset (length bytes.now))
-        × (taken_by (S.state s.old).sectors inode.old offset (length bytes.now) ≤ 14) }
-    ensures taken { OnOk result (taken_by (S.state s.old).sectors inode.old offset (length bytes.now) ≤ 14) }
+        × (taken_by (S.state s.old).sectors inode.old offset (length bytes.now) ≤ 38)
+        × (length bytes.now ≤ 4096 → taken_by (S.state s.old).sectors inode.old offset (length bytes.now) ≤ 14) }
+    ensures taken { OnOk result (taken_by (S.state s.old).sectors inode.old offset (length bytes.now) ≤ 38) }
+    ensures few_taken { OnOk result (length bytes.now ≤ 4096
+        → taken_by (S.state s.old).sectors inode.old offset (length bytes.now) ≤ 14) }
     ensures store { SameStore (S.state s.old) (S.state s.new) }
     ensures cause { HasCauseOf MapFault.DiskFault (S.state s.old).disk (S.state s.new).disk result }
 {

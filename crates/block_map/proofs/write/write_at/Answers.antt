@@ -1,6 +1,6 @@
-use Rattle.std.proofs.Common.{◌≡◌, ◌≤◌, ◌+◌, length, sym, ap, subst, ◌∙◌, arith, Err}
+use Rattle.std.proofs.Common.{◌≡◌, ◌≤◌, ◌+◌, ◌*◌, length, sym, ap, subst, ◌∙◌, arith, Err}
 use Rattle.fs_layout.specs.declared.inode.Inode.{Inode}
-use Rattle.fs_layout.specs.declared.inode.TheConstants.{MAX_FILE_SIZE}
+use Rattle.fs_layout.specs.declared.inode.TheConstants.{MAX_BLOCKS, MAX_FILE_SIZE}
 use Rattle.sector_txn.proofs.TransactionRuns.{store_joined}
 use Rattle.bit_alloc.proofs.Transactions.{unchanged_nothing}
 use Rattle.block_map.proofs.Numbers.{at_hand_sized}
@@ -10,7 +10,7 @@ use Rattle.block_map.proofs.Alterings.{may_after}
 use Rattle.block_map.proofs.Sizing.{may_change, sized, size_limit}
 use Rattle.block_map.proofs.Rooms.{spare_last}
 use Rattle.block_map.proofs.Runs.{same_fault}
-use Rattle.block_map.proofs.Wrote.{limit_at, taken_few, taken_same, wrote, wrote_held, wrote_whole}
+use Rattle.block_map.proofs.Wrote.{limit_at, taken_few, taken_most, taken_same, wrote, wrote_held, wrote_whole}
 use Rattle.std.specs.Prelude.{max}
 use Rattle.block_map.specs.Contents.{AllowsSize}
 use Rattle.block_map.proofs.Saving.{IsEnded}
@@ -47,7 +47,8 @@ returns-in_err-write_blocks-clause-full g c = λ is.
     let count : taken_by old.sectors (record c.new-blocks.result.inode { size = c.max-blocks.result }) c.args.offset len ≡ taken_by old.sectors v c.args.offset len =
     ap (λ (u : Inode). taken_by old.sectors (record u { size = c.max-blocks.result }) c.args.offset len) c.new-blocks.ensures.inode
     ∙ taken_same old old v c.max-blocks.result c.args.offset len unchanged_nothing in
-    (omega (arith, f, count), taken_few old.sectors v c.args.offset len c.requires.few (omega (arith, c.if-offset-max_file_size.false, c.max_file_size.ensures.most, c.max_file_size.ensures.least, c.requires.few)))
+    let limit : c.args.offset + len ≤ 512 * MAX_BLOCKS = omega (arith, c.if-offset-max_file_size.false, c.max_file_size.ensures.most, c.max_file_size.ensures.least, c.requires.few) in
+    (omega (arith, f, count), taken_most old.sectors v c.args.offset len c.requires.few limit, λ few. taken_few old.sectors v c.args.offset len few limit)
 
 pub write_inode-requires-clause-room : goal.write_inode-requires-clause-room
 write_inode-requires-clause-room g c = λ none.
@@ -82,7 +83,11 @@ returns-clause-whole g c =
 
 pub returns-clause-taken : goal.returns-clause-taken
 returns-clause-taken g c =
-    taken_few _ _ _ _ c.requires.few (omega (arith, c.if-offset-max_file_size.false, c.max_file_size.ensures.most, c.max_file_size.ensures.least, c.requires.few))
+    taken_most _ _ _ _ c.requires.few (omega (arith, c.if-offset-max_file_size.false, c.max_file_size.ensures.most, c.max_file_size.ensures.least, c.requires.few))
+
+pub returns-clause-few_taken : goal.returns-clause-few_taken
+returns-clause-few_taken g c = λ few.
+    taken_few _ _ _ _ few (omega (arith, c.if-offset-max_file_size.false, c.max_file_size.ensures.most, c.max_file_size.ensures.least, c.requires.few))
 
 pub returns-clause-store : goal.returns-clause-store
 returns-clause-store g c =
