@@ -29,5 +29,5 @@ pub use reaching::{
     OpenFor, Reached, Walked, WalkedBoth, find_open, reach, reach_open, reach_owned, walk_both,
     walk_path,
 };
-pub use space::ask_for_sectors;
+pub use space::{ask_for_sectors, ask_to_write};
 pub use touching::touch;

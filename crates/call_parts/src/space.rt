@@ -7,7 +7,7 @@ ghost use Rattle.bit_alloc.specs.Bitmaps.{HasBitmaps, free_numbers};
 ghost use Rattle.bit_alloc.specs.declared.bitmap.Bitmap.TheVariants.{Inodes};
 ghost use Rattle.fs_cred.specs.declared.errno.Errno.TheVariants.{ENOSPC};
 ghost use Rattle.fs_model.specs.Demands.{refuse};
-ghost use Rattle.fs_model.specs.Limits.{least_free};
+ghost use Rattle.fs_model.specs.Limits.{least_free, free_for};
 ghost use Rattle.path_walk.specs.Answers.{refused_or, FailsToRead, IsAnswered};
 
 use bit_alloc::{Bitmap, has_free};
@@ -15,8 +15,14 @@ use fs_cred::{Errno, Refusal};
 use fs_layout::Geometry;
 use sector_txn::Sectors;
 
-/// How many data sectors have to be free for a call that may take one, whatever it needs.
+/// How many data sectors have to be free for a call that may take one, whatever it needs, a longer write apart.
 const LEAST_FREE: u32 = 16;
+
+/// How many have to be free for a write of more bytes than one move.
+const RUN_FREE: u32 = 40;
+
+/// The bytes of one move.
+const MOVE: usize = 4096;
 
 // Whether so many numbers are free, or else ENOSPC.
 fn ask_for<S: Sectors>(
@@ -51,6 +57,27 @@ pub fn ask_for_sectors<S: Sectors>(s: &mut S, geometry: Geometry) -> Result<(), 
     ensures same { IsUnchanged (S.state s.old) (S.state s.new) }
 {
     ask_for(s, geometry, Bitmap::Blocks, LEAST_FREE)
+}
+
+// How many data sectors have to be free where so many bytes are to be written.
+fn needed_for(len: usize) -> u32
+    ensures { result ≡ free_for len }
+{
+    if len <= MOVE { LEAST_FREE } else { RUN_FREE }
+}
+
+/// Asks for free data sectors, before so many bytes are written. ENOSPC: fewer than 16 are free, or, for more than 4,096
+/// bytes, fewer than 40.
+pub fn ask_to_write<S: Sectors>(s: &mut S, geometry: Geometry, len: usize) -> Result<(), Refusal>
+    requires { HasBitmaps geometry (S.state s.old) }
+    ensures each { IsAnswered (S.state s.old).disk (S.state s.new).disk
+        (refused_or (refuse ENOSPC (nat_lt (free_sectors geometry (S.state s.old).sectors) (free_for len))) (Ok tt)) result }
+    ensures fault { IfErr result (λ refusal.
+        ((refusal ≡ Refusal.Failed Errno.ENOSPC) × (free_sectors geometry (S.state s.old).sectors < free_for len))
+        ⊎ FailsToRead (S.state s.old).disk (S.state s.new).disk refusal) }
+    ensures same { IsUnchanged (S.state s.old) (S.state s.new) }
+{
+    ask_for(s, geometry, Bitmap::Blocks, needed_for(len))
 }
 
 /// Asks for a free inode. ENOSPC: none is free.
