@@ -1,12 +1,13 @@
 -- What write asks and does.
 --     write_by        its row
 --     open_to_write        what is open for that
+--     enough_for_some, enough_free        how many sectors have to be free
 --     asks_nothing        to write nothing is never refused
 --     too_far, too_full, all_met        what it asks
 --     writes        the tree and the process afterwards
 use Rattle.std.specs.Prelude.{◌≡◌, ℕ, ◌+◌, ◌-◌, ◌<◌, ◌≤◌, ◌==◌, min, Bool, true, false, not, List, [], ◌∷◌, length, take, nat_lt, nat_le, if◌then◌else◌, None, Some, IsTrue, IsFalse, Ok}
-use Rattle.std.proofs.Common.{refl, sym, ap, arith, ◌∙◌}
-use Rattle.std.proofs.lemmas.Bool.{eqb-true, ltb-false, lt-ltb, le-ltb, le-leb, lt-leb}
+use Rattle.std.proofs.Common.{refl, sym, ap, arith, ◌∙◌, inl, inr}
+use Rattle.std.proofs.lemmas.Bool.{cases_lt, eqb-true, ltb-false, lt-ltb, le-ltb, le-leb, lt-leb}
 use Rattle.std.proofs.lemmas.List.{length-take}
 use Rattle.fs_cred.specs.declared.errno.Errno.TheVariants.{EBADF, EFBIG, ENOSPC}
 use Rattle.fs_cred.specs.declared.refusal.Refusal.TheVariants.{Failed}
@@ -25,7 +26,7 @@ use Rattle.fs_model.specs.declared.touch.Touch.TheVariants.{Modified}
 use Rattle.fs_model.specs.TreeChanges.{Rewrite}
 use Rattle.fs_model.specs.Demands.{refuse, first_of}
 use Rattle.fs_model.specs.DescriptorCalls.{write_row, write_demands, write_effect, write_offset, written}
-use Rattle.fs_model.specs.Limits.{move_limit, least_free}
+use Rattle.fs_model.specs.Limits.{move_limit, write_limit, least_free, run_free, free_for}
 use Rattle.fs_model.specs.Nodes.{Node, Body, File, Dir, Link, bytes_in, is_directory, is_link}
 use Rattle.fs_model.specs.Parts.{is_empty}
 use Rattle.fs_model.specs.Processes.{ProcessTable, Descriptor, the_descriptor, with_offset, is_open}
@@ -66,6 +67,34 @@ pub is_enough : (free least : ℕ) → refused_or {A = Unit {0}} (refuse ENOSPC 
 is_enough free least e =
     let met = met_ok {A = Unit {0}} (refuse ENOSPC (nat_lt free least)) tt tt e in
     ltb-false free least (unrefused ENOSPC (nat_lt free least) met.0)
+
+-- ---- how many sectors have to be free
+-- for no more bytes than a move has, and for more
+free_for_few : (len : ℕ) → len ≤ move_limit → free_for len ≡ least_free
+free_for_few len few = ap (λ (b : Bool). if b then least_free else run_free) (le-leb len move_limit few)
+
+free_for_more : (len : ℕ) → move_limit < len → free_for len ≡ run_free
+free_for_more len more = ap (λ (b : Bool). if b then least_free else run_free) (lt-leb len move_limit more)
+
+free_for_least : (len : ℕ) → least_free ≤ free_for len
+free_for_least len = elim (cases_lt move_limit len) [
+  | inl more ↦ let e = free_for_more len more in omega (arith, e)
+  | inr few ↦ let e = free_for_few len few in omega (arith, e)
+]
+
+-- what is enough for all of the bytes is so for some of them
+pub enough_for_some : (count len free : ℕ) → count ≤ len → free_for len ≤ free → free_for count ≤ free
+enough_for_some count len free some enough = elim (cases_lt move_limit count) [
+  | inl more ↦ let e = free_for_more count more in let f = free_for_more len (omega (arith, more, some)) in omega (arith, e, f, enough)
+  | inr few ↦ let e = free_for_few count few in let least = free_for_least len in omega (arith, e, least, enough)
+]
+
+-- and where so many are free, no fewer are than the bytes take
+pub enough_free : (len taken free : ℕ) → free_for len ≤ free → taken ≤ 38 → (len ≤ move_limit → taken ≤ 14) → taken ≤ free
+enough_free len taken free enough most few_taken = elim (cases_lt move_limit len) [
+  | inl more ↦ let e = free_for_more len more in omega (arith, e, enough, most)
+  | inr few ↦ let e = free_for_few len few in let least = few_taken few in omega (arith, e, enough, least)
+]
 
 -- by the length of what is given
 pub empty_if : (bytes given : List ℕ) → given ≡ bytes → true ≡ (length given == 0) → is_empty bytes ≡ true
@@ -130,34 +159,34 @@ module _ {p : Geometry} {map : SectorMap} {processes : ProcessTable} {pid fd : �
 
     module _ (bytes : List ℕ) (some : is_empty bytes ≡ false) where
       demands_are : first_of (write_demands fd bytes (open_scene s o.process))
-          ≡ first_of (refuse EFBIG (nat_le (max_file_size p.version) offset) ∷ refuse ENOSPC (nat_lt s.free least_free) ∷ [])
+          ≡ first_of (refuse EFBIG (nat_le (max_file_size p.version) offset) ∷ refuse ENOSPC (nat_lt s.free (free_for (length bytes))) ∷ [])
       demands_are =
-          ap (λ (b : Bool). first_of (if not b then (refuse EFBIG (nat_le s.room.file_limit (write_offset (open_scene s o.process) fd)) ∷ refuse ENOSPC (nat_lt s.free least_free) ∷ []) else [])) some
-          ∙ ap (λ (n : ℕ). first_of (refuse EFBIG (nat_le n (write_offset (open_scene s o.process) fd)) ∷ refuse ENOSPC (nat_lt s.free least_free) ∷ [])) limit_is
-          ∙ ap (λ (n : ℕ). first_of (refuse EFBIG (nat_le (max_file_size p.version) n) ∷ refuse ENOSPC (nat_lt s.free least_free) ∷ [])) offset_same
+          ap (λ (b : Bool). first_of (if not b then (refuse EFBIG (nat_le s.room.file_limit (write_offset (open_scene s o.process) fd)) ∷ refuse ENOSPC (nat_lt s.free (free_for (length bytes))) ∷ []) else [])) some
+          ∙ ap (λ (n : ℕ). first_of (refuse EFBIG (nat_le n (write_offset (open_scene s o.process) fd)) ∷ refuse ENOSPC (nat_lt s.free (free_for (length bytes))) ∷ [])) limit_is
+          ∙ ap (λ (n : ℕ). first_of (refuse EFBIG (nat_le (max_file_size p.version) n) ∷ refuse ENOSPC (nat_lt s.free (free_for (length bytes))) ∷ [])) offset_same
 
       pub too_far : max_file_size p.version ≤ offset → first_of (write_demands fd bytes (open_scene s o.process)) ≡ Some (Failed EFBIG)
       too_far far =
-          demands_are ∙ ap (λ (b : Bool). first_of (refuse EFBIG b ∷ refuse ENOSPC (nat_lt s.free least_free) ∷ [])) (le-leb (max_file_size p.version) offset far)
+          demands_are ∙ ap (λ (b : Bool). first_of (refuse EFBIG b ∷ refuse ENOSPC (nat_lt s.free (free_for (length bytes))) ∷ [])) (le-leb (max_file_size p.version) offset far)
 
       module _ (near : offset < max_file_size p.version) where
-        near_is : first_of (write_demands fd bytes (open_scene s o.process)) ≡ first_of (refuse ENOSPC (nat_lt s.free least_free) ∷ [])
+        near_is : first_of (write_demands fd bytes (open_scene s o.process)) ≡ first_of (refuse ENOSPC (nat_lt s.free (free_for (length bytes))) ∷ [])
         near_is =
-            demands_are ∙ ap (λ (b : Bool). first_of (refuse EFBIG b ∷ refuse ENOSPC (nat_lt s.free least_free) ∷ [])) (lt-leb (max_file_size p.version) offset near)
+            demands_are ∙ ap (λ (b : Bool). first_of (refuse EFBIG b ∷ refuse ENOSPC (nat_lt s.free (free_for (length bytes))) ∷ [])) (lt-leb (max_file_size p.version) offset near)
 
-        pub too_full : free_sectors p map < least_free → first_of (write_demands fd bytes (open_scene s o.process)) ≡ Some (Failed ENOSPC)
+        pub too_full : free_sectors p map < free_for (length bytes) → first_of (write_demands fd bytes (open_scene s o.process)) ≡ Some (Failed ENOSPC)
         too_full few =
             near_is ∙ ap (λ (b : Bool). first_of (refuse ENOSPC b ∷ []))
-            (ap (λ (n : ℕ). nat_lt n least_free) at.free_is ∙ lt-ltb (free_sectors p map) least_free few)
+            (ap (λ (n : ℕ). nat_lt n (free_for (length bytes))) at.free_is ∙ lt-ltb (free_sectors p map) (free_for (length bytes)) few)
 
-        pub all_met : least_free ≤ free_sectors p map → first_of (write_demands fd bytes (open_scene s o.process)) ≡ None
+        pub all_met : free_for (length bytes) ≤ free_sectors p map → first_of (write_demands fd bytes (open_scene s o.process)) ≡ None
         all_met enough =
             near_is ∙ ap (λ (b : Bool). first_of (refuse ENOSPC b ∷ []))
-            (ap (λ (n : ℕ). nat_lt n least_free) at.free_is ∙ le-ltb (free_sectors p map) least_free enough)
+            (ap (λ (n : ℕ). nat_lt n (free_for (length bytes))) at.free_is ∙ le-ltb (free_sectors p map) (free_for (length bytes)) enough)
 
         abbrev pub effect_at : ℕ → Node → ℕ → ℕ → Effect
         effect_at n node geometry limit =
-            let count = min (length bytes) (min move_limit (limit - geometry)) in
+            let count = min (length bytes) (min write_limit (limit - geometry)) in
             record {
               change = Rewrite Modified n (written node geometry (take count bytes));
               process = with_offset o.process fd (geometry + count);
@@ -177,8 +206,8 @@ module _ {p : Geometry} {map : SectorMap} {processes : ProcessTable} {pid fd : �
 
 module _ {p : Geometry} {old new : TxnState} {processes : ProcessTable} {pid fd : ℕ} {d : Descriptor} (o : IsOpened processes pid fd d) (s : State) (at : IsStateOf p old.sectors processes s)
     (wrote : d.write ≡ true) (v : Inode) (is : v ≡ inode_at p old.sectors d.ino) (offset : ℕ) (offset_is : offset ≡ (if d.append then v.size else d.offset))
-    (bytes : List ℕ) (some : is_empty bytes ≡ false) (near : offset < max_file_size p.version) (enough : least_free ≤ free_sectors p old.sectors) (fresh : IsBytes bytes) (count : ℕ)
-    (counted : count ≡ min (length bytes) (min move_limit (max_file_size p.version - offset)))
+    (bytes : List ℕ) (some : is_empty bytes ≡ false) (near : offset < max_file_size p.version) (enough : free_for (length bytes) ≤ free_sectors p old.sectors) (fresh : IsBytes bytes) (count : ℕ)
+    (counted : count ≡ min (length bytes) (min write_limit (max_file_size p.version - offset)))
     (now : ProcessTable) (still : (n : ℕ) → IsTrue (is_open s.processes n) → IsTrue (is_open now n))
     (c : ChangesBytes p d.ino old new (λ held. overwritten held offset (take count bytes))) where
   pub writes : IsChange p new.sectors now s (with_offset o.process fd (offset + count)) (write_demands fd bytes (open_scene s o.process))

@@ -31,5 +31,5 @@ pub use process::{close, umask};
 pub use rights::access;
 pub use show::{fstat, lstat, stat};
 pub use sizes::{ftruncate, truncate};
-pub use transfer::{MAX_MOVE, MAX_RUN, lseek, read};
+pub use transfer::{MAX_RUN, lseek, read};
 pub use writes::write;

@@ -19,9 +19,6 @@ use open_files::Procs;
 use sector_txn::Sectors;
 use std::alloc::Global;
 
-/// The most bytes that one write moves.
-pub const MAX_MOVE: usize = 4096;
-
 /// The most bytes that one read gives: a run of 32 moves.
 pub const MAX_RUN: usize = 131_072;
 

@@ -4,7 +4,7 @@ ghost use Rattle.std.specs.Prelude.{◌≡◌, ◌+◌, ◌-◌, ◌<◌, ◌≤
 ghost use Rattle.fs_layout.specs.declared.inode.Kind.TheVariants.{File};
 ghost use Rattle.fs_layout.specs.Version.{max_file_size};
 ghost use Rattle.fs_layout.specs.Bytes.{overwritten};
-ghost use Rattle.fs_model.specs.Limits.{least_free, move_limit};
+ghost use Rattle.fs_model.specs.Limits.{free_for, write_limit};
 ghost use Rattle.fs_model.specs.declared.call.Call.TheVariants.{Write};
 ghost use Rattle.fs_layout.specs.Images.{inode_at, free_sectors};
 ghost use Rattle.sector_txn.specs.Sectors.{SameStore};
@@ -14,9 +14,8 @@ ghost use Rattle.path_walk.specs.Answers.{FailsToRead};
 ghost use Rattle.call_parts.specs.Performing.{MayPerform, Performs};
 ghost use Rattle.call_parts.specs.ByteChanges.{ChangesBytes};
 
-use crate::transfer::MAX_MOVE;
-use block_map::write_at;
-use call_parts::{CallResult, OpenFor, ask_for_sectors, find_open, touch};
+use block_map::{MAX_WRITE, write_at};
+use call_parts::{CallResult, OpenFor, ask_to_write, find_open, touch};
 use fs_cred::{Errno, Refusal};
 use fs_layout::{Geometry, Inode};
 use fs_model::{Bytes, Reply, Touch};
@@ -27,10 +26,10 @@ use sector_txn::Sectors;
 // How many of so many bytes are written at an offset within the limit of a file.
 fn write_count(geometry: Geometry, len: usize, offset: u64) -> usize
     requires { offset ≤ max_file_size geometry.version }
-    ensures { result ≡ min len (min move_limit (max_file_size geometry.version - offset)) }
+    ensures { result ≡ min len (min write_limit (max_file_size geometry.version - offset)) }
 {
     let left = (geometry.max_file_size() - offset) as usize;
-    len.min(MAX_MOVE.min(left))
+    len.min(MAX_WRITE.min(left))
 }
 
 // Writes bytes that fit into what inode `ino`, a file, holds. EIO: the disk has failed.
@@ -46,13 +45,13 @@ fn write_bytes<S: Sectors>(
     requires below { ino < geometry.inodes }
     requires inode { inode ≡ inode_at geometry (S.state s.old).sectors ino }
     requires file { inode.kind ≡ File }
-    requires few { length bytes.now ≤ move_limit }
+    requires few { length bytes.now ≤ write_limit }
     requires fits { offset + length bytes.now ≤ max_file_size geometry.version }
-    requires space { least_free ≤ free_sectors geometry (S.state s.old).sectors }
+    requires space { free_for (length bytes.now) ≤ free_sectors geometry (S.state s.old).sectors }
     requires spare { HasSpare geometry 47 (S.state s.old) }
     ensures store { SameStore (S.state s.old) (S.state s.new) }
     ensures change { OnOk result (ChangesBytes geometry ino (S.state s.old) (S.state s.new) (λ held. overwritten held offset bytes.now)) }
-    ensures taken { OnOk result (TakesSpare geometry 16 (S.state s.old) (S.state s.new)) }
+    ensures taken { OnOk result (TakesSpare geometry 40 (S.state s.old) (S.state s.new)) }
     ensures err { IfErr result (FailsToRead (S.state s.old).disk (S.state s.new).disk) }
 {
     let mut inode = inode;
@@ -73,11 +72,11 @@ fn write_offset(descriptor: Descriptor, inode: &Inode) -> u64
     }
 }
 
-/// Writes bytes from the offset of a descriptor on, with O_APPEND from the end of its file on: at most 4,096 of them, and as
-/// many as fit. Zeros fill what lies between the end and these. The offset moves behind them, and the file is modified.
+/// Writes bytes from the offset of a descriptor on, with O_APPEND from the end of its file on: at most 16,384 of them, and
+/// as many as fit. Zeros fill what lies between the end and these. The offset moves behind them, and the file is modified.
 ///
-/// EBADF: it isn't open for writing. EFBIG: nothing fits. ENOSPC: fewer than 16 data sectors are free. To write nothing is
-/// never refused.
+/// EBADF: it isn't open for writing. EFBIG: nothing fits. ENOSPC: fewer than 16 data sectors are free, or 40 for more than
+/// 4,096 bytes. To write nothing is never refused.
 pub fn write<S: Sectors>(
     s: &mut S,
     geometry: Geometry,
@@ -102,7 +101,7 @@ pub fn write<S: Sectors>(
     if offset >= limit {
         return Err(Refusal::Failed(Errno::EFBIG));
     }
-    ask_for_sectors(s, geometry)?;
+    ask_to_write(s, geometry, bytes.len())?;
     let count = write_count(geometry, bytes.len(), offset);
     write_bytes(s, geometry, ino, inode, offset, &bytes[..count])?;
     touch(s, geometry, now, &[(ino, Touch::Modified)])?;

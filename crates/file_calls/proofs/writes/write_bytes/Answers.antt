@@ -1,8 +1,9 @@
 use Rattle.std.proofs.Common.{◌+◌, Err, ap, sym, subst, arith, length, max}
 use Rattle.fs_layout.specs.Bytes.{overwritten}
 use Rattle.block_map.specs.Contents.{AllowsSize}
-use Rattle.block_map.proofs.Wrote.{put_few}
+use Rattle.block_map.proofs.Wrote.{put_most}
 use Rattle.file_calls.proofs.Rewritten.{content_changes, fails_alone}
+use Rattle.file_calls.proofs.Writing.{enough_free}
 use Rattle.file_calls.proofs.writes.write_bytes.Goals as goal
 
 pub write_at-requires-clause-size : goal.write_at-requires-clause-size
@@ -11,7 +12,7 @@ write_at-requires-clause-size g c =
 
 pub write_at-requires-clause-spare : goal.write_at-requires-clause-spare
 write_at-requires-clause-spare g c =
-    let few = put_few c.args.offset (length c.args.bytes.now) c.requires.few in
+    let few = put_most c.args.offset (length c.args.bytes.now) c.requires.few in
     let room = c.requires.spare in
     omega (arith, few, room)
 
@@ -21,7 +22,7 @@ returns-in-Ok-clause-change g c =
 
 pub returns-in-Ok-clause-taken : goal.returns-in-Ok-clause-taken
 returns-in-Ok-clause-taken g c =
-    let few = put_few c.args.offset (length c.args.bytes.now) c.requires.few in
+    let few = put_most c.args.offset (length c.args.bytes.now) c.requires.few in
     let room = c.in-Ok.ensures.change.touches.puts.room in
     omega (arith, few, room)
 
@@ -30,5 +31,5 @@ returns-in-Err-clause-err g c =
     let e = c.in-Err.ensures in
     fails_alone (g.S.Sectors.state c.args.s.now).disk (g.S.Sectors.state c.write_at.new.s).disk c.in-Err.field-0
     (λ big. let far = e.too_big.0 (ap (λ x. Err x) big) in let fits = c.requires.fits in omega (arith, far, fits))
-    (λ full. let few = e.full (ap (λ x. Err x) full) in let less = few.0 in let most = few.1 in let space = c.requires.space in omega (arith, less, most, space))
+    (λ full. let few = e.full (ap (λ x. Err x) full) in let less = few.0 in let enough = enough_free (length c.args.bytes.now) _ _ c.requires.space few.1 few.2 in omega (arith, less, enough))
     e.cause.failed
