@@ -13,7 +13,7 @@ use Rattle.fuse_plans.specs.declared.request_error.RequestError.{RequestError}
 use Rattle.fs_model.specs.declared.event.Event.TheVariants.{Call as Calls}
 use Rattle.fuse_plans.specs.Works.{obtain}
 use Rattle.fuse_plans.specs.Flags.{is_trunc}
-use Rattle.fuse_plans.specs.FilePlans.{done, show_open, confirm_shown, confirm_open, open_file, or_opened, open_or_make, look_open, tell_created, create_file, the_open, call_open, seek, seek_open, read_piece, read_pieces, read_file, or_done, write_piece, write_pieces, pieces_in, write_file, close_file, sync_file}
+use Rattle.fuse_plans.specs.FilePlans.{done, show_open, confirm_shown, confirm_open, open_file, or_opened, open_or_make, look_open, tell_created, create_file, the_open, call_open, seek, seek_open, read_piece, read_pieces, read_file, or_done, write_piece, write_pieces, or_by_moves, write_runs, write_file, close_file, sync_file}
 use Rattle.fuse_plans.specs.Alterations.{resizes, resizes_open, writes_open, adds_name, IsToldIn}
 use Rattle.fuse_plans.proofs.AlterPieces.{pieces, told-where_so, Asks, IsTold, asks-give, asks-fail, asks->>=, asks-attempt, asks-if, asks-when_so, asks-done, asks-obtain, asks-or_closed}
 use Rattle.fuse_plans.proofs.AlterMasks.{asks-new_valid}
@@ -97,10 +97,20 @@ module _ {o : Option Operation} where
       asks->>= (asks-attempt (asks-write_piece pid (WriteCall fd bytes) (told, tt))) (λ wrote.
       asks->>= (asks-or_done count wrote) (λ more. asks-if _ _ _ (asks-give _) (later more)))
 
+  asks-or_by_moves : (pid fd : ℕ) (moves : List (List ℕ)) (wrote : Result ℕ RequestError) → IsToldIn o (writes_open pid fd)
+      → Asks o (or_by_moves pid (map (WriteCall fd) moves) wrote)
+  asks-or_by_moves pid fd moves (Ok count) told = asks-give count
+  asks-or_by_moves pid fd moves (Err e) told = asks-if _ _ _ (asks-write_pieces pid fd 0 moves told) (asks-fail e)
+
+  asks-write_runs : (pid fd : ℕ) (runs moves : List (List ℕ)) → IsToldIn o (writes_open pid fd)
+      → Asks o (write_runs pid (map (WriteCall fd) runs) (map (WriteCall fd) moves))
+  unfolding write_runs
+  asks-write_runs pid fd runs moves told = asks->>= (asks-attempt (asks-write_pieces pid fd 0 runs told)) (λ wrote. asks-or_by_moves pid fd moves wrote told)
+
   pub asks-write_file : (r : Asked) (handle offset : ℕ) (bytes : List ℕ) → IsToldIn o (writes_open (owner_of handle) (descriptor_of handle))
       → Asks o (write_file r handle offset bytes)
   asks-write_file r handle offset bytes told =
-      let writes = λ (k : ℕ). asks-write_pieces (owner_of handle) (descriptor_of handle) 0 (pieces_in k bytes) told in
+      let writes = λ (runs moves : List (List ℕ)). asks-write_runs (owner_of handle) (descriptor_of handle) runs moves told in
       search (pieces, asks-seek_open, writes) depth 12
 
   pub asks-close_file : (handle : ℕ) → Asks o (close_file handle)

@@ -1,5 +1,5 @@
 -- How requests for files behave.
-use Rattle.std.specs.Prelude.{◌≡◌, ℕ, ◌+◌, ◌-◌, ◌==◌, suc, zero, Bool, true, false, List, [], ◌∷◌, map, Option, None, Some, Result, Ok, Err, IsTrue}
+use Rattle.std.specs.Prelude.{◌≡◌, ℕ, ◌+◌, ◌-◌, ◌==◌, suc, zero, Bool, true, false, List, [], ◌∷◌, map, length, Option, None, Some, Result, Ok, Err, IsTrue}
 use Rattle.std.proofs.Common.{refl, sym, subst}
 use Rattle.std.specs.Cmp.{nat_eq_equiv}
 use Rattle.fs_model.specs.declared.call.Call.{Call}
@@ -8,7 +8,7 @@ use Rattle.fs_model.specs.declared.reply.FileType.{FileType}
 use Rattle.fs_model.specs.declared.reply.Reply.{Reply}
 use Rattle.fs_model.specs.declared.reply.Stamps.{Stamps}
 use Rattle.fs_model.specs.declared.reply.Status.{Status}
-use Rattle.fs_model.specs.Limits.{run_limit}
+use Rattle.fs_model.specs.Limits.{move_limit, run_limit, write_limit}
 use Rattle.fuse_plans.specs.declared.mode.Mode.{Mode}
 use Rattle.fuse_plans.specs.declared.request_error.RequestError.{RequestError}
 use Rattle.fuse_plans.specs.declared.request.Asked.{Asked}
@@ -20,7 +20,7 @@ use Rattle.fuse_state.specs.Servers.{Server, owner_of, descriptor_of}
 use Rattle.fuse_state.specs.declared.dentry.Dentry.{Dentry}
 use Rattle.fuse_plans.specs.Acts.{given_name, IsObject, IsStandingDirectory, IsOfRequest, is_given, named_in, on_one, Concerns, without_path, IsGivenName, changes}
 use Rattle.fuse_plans.specs.Conduct.{Rights, stays, by_handle, is_on, IsByHandle}
-use Rattle.fuse_plans.specs.FilePlans.{touched_if, ask_first, open_object, open_file, or_opened, open_or_make, show_open, confirm_shown, confirm_open, look_open, tell_created, create_file, the_open, call_open, seek, seek_open, read_piece, read_pieces, read_file, or_done, write_piece, write_pieces, pieces_in, write_file, close_file}
+use Rattle.fuse_plans.specs.FilePlans.{touched_if, ask_first, open_object, open_file, or_opened, open_or_make, show_open, confirm_shown, confirm_open, look_open, tell_created, create_file, the_open, call_open, seek, seek_open, read_piece, read_pieces, read_file, or_done, write_piece, write_pieces, or_by_moves, write_runs, pieces_in, pieces_of, write_file, close_file}
 use Rattle.fuse_plans.specs.Flags.{is_trunc}
 use Rattle.fuse_plans.proofs.Conducts.{Still, still-as, SameOwn, SameAll, Does, Lasts, does-give, does-fail, does-kept, does-keep_within, does-told_stamps, does->>=, does-attempt, does-needed, does-lasts, lasts->>=, keep-lasts, then-lasts, then-does}
 use Rattle.fuse_plans.proofs.Calls.{CanCall, AsksOf, is-object, does-obtain, does-or_closed, does-between, does-on, does-replied_status, gives-number, gives-standing_directory}
@@ -179,11 +179,22 @@ module _ {rights : Rights} {P : Server → Type 0} where
       does->>= (does-or_done done wrote) (λ count.
       does-if _ _ _ (does-give _) (later count)))
 
+  does-or_by_moves : (handle : ℕ) → rights.handle ≡ Some handle → (moves : List (List ℕ)) (wrote : Result ℕ RequestError)
+      → Does rights P (or_by_moves (owner_of handle) (map (WriteCall (descriptor_of handle)) moves) wrote)
+  does-or_by_moves handle given moves (Ok count) = does-give count
+  does-or_by_moves handle given moves (Err e) = does-if _ _ _ (does-write_pieces handle given 0 moves) (does-fail e)
+
+  does-write_runs : (handle : ℕ) → rights.handle ≡ Some handle → (runs moves : List (List ℕ))
+      → Does rights P (write_runs (owner_of handle) (map (WriteCall (descriptor_of handle)) runs) (map (WriteCall (descriptor_of handle)) moves))
+  unfolding write_runs
+  does-write_runs handle given runs moves = does->>= (does-attempt (does-write_pieces handle given 0 runs)) (does-or_by_moves handle given moves)
+
 module _ {rights : Rights} where
   pub does-write_file : (r : Asked) (handle offset : ℕ) (bytes : List ℕ) → rights.handle ≡ Some handle → Does rights (Still rights) (write_file r handle offset bytes)
   does-write_file r handle offset bytes given =
+      let by = λ (most : ℕ). pieces_in most (pieces_of most (length bytes)) bytes in
       does->>= (does-seek_open handle given offset) (λ n.
-      does->>= (does-write_pieces handle given _ (pieces_in _ bytes)) (λ count.
+      does->>= (does-write_runs handle given (by write_limit) (by move_limit)) (λ count.
       does->>= (does-keep_still _ (λ s. (refl, refl, refl, refl, refl))) (λ done. does-give _)))
 
   pub does-close_file : (handle : ℕ) → rights.handle ≡ Some handle → Does rights (Still rights) (close_file handle)

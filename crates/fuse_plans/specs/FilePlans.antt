@@ -1,10 +1,10 @@
 -- Plans of requests for files: to open and create them, and what is done by a handle.
 --     open_file, create_file, read_file, write_file, close_file, sync_file
 --     runs_of, pieces_of        how many reads and writes so many bytes take
---     pieces_in        bytes, by as many as are written at once
+--     pieces_in        bytes, by as many as are written at once: a run, or where there is no space for one a move
 use Rattle.std.specs.Prelude.{ℕ, ◌+◌, ◌-◌, ◌/◌, ◌^◌, ◌==◌, nat_lt, min, suc, zero, Bool, true, false, ◌&&◌, not, List, [], ◌∷◌, ◌++◌, map, sum_by, take, drop, length, Option, Result, Ok, Err, if◌then◌else◌, bit_and, pos}
 use Rattle.posix_acl.specs.Entries.{perms_of}
-use Rattle.fs_cred.specs.declared.errno.Errno.TheVariants.{EEXIST, EINVAL, EBADF}
+use Rattle.fs_cred.specs.declared.errno.Errno.TheVariants.{EEXIST, EINVAL, EBADF, ENOSPC}
 use Rattle.fs_model.specs.declared.call.Call.{Call}
 use Rattle.fs_model.specs.declared.call.Call.TheVariants.{Open as OpenCall, Close, Fstat, Ftruncate, Lseek, Read as ReadCall, Write as WriteCall, Access}
 use Rattle.fs_model.specs.declared.call.Whence.TheVariants.{Set}
@@ -14,7 +14,7 @@ use Rattle.fs_model.specs.declared.reply.Stamps.{Stamps}
 use Rattle.fs_model.specs.declared.reply.Status.{Status}
 use Rattle.fuse_protocol.specs.declared.flags.OpenedFlags.{OpenedFlags}
 use Rattle.fuse_protocol.specs.declared.reply.Time.{Time}
-use Rattle.fs_model.specs.Limits.{move_limit, run_limit}
+use Rattle.fs_model.specs.Limits.{move_limit, run_limit, write_limit}
 use Rattle.fuse_plans.specs.declared.request_error.RequestError.{RequestError}
 use Rattle.fuse_plans.specs.declared.request_error.RequestError.TheVariants.{Lacks}
 use Rattle.fuse_plans.specs.RequestErrors.{failed, is_for}
@@ -241,27 +241,39 @@ write_pieces pid done (call ∷ calls) = do
   count ← or_done done wrote
   if nat_lt count (length_written call) then give (done + count) else write_pieces pid (done + count) calls
 
--- pieces of as many bytes as are written at once: at most so many
-abbrev pub pieces_in : ℕ → List ℕ → List (List ℕ)
-pieces_in zero bytes = []
-pieces_in (suc k) [] = []
-pieces_in (suc k) (b ∷ bs) = take move_limit (b ∷ bs) ∷ pieces_in k (drop move_limit (b ∷ bs))
+-- pieces of as many bytes as are written at once, `most`: so many pieces at most
+abbrev pub pieces_in : ℕ → ℕ → List ℕ → List (List ℕ)
+pieces_in most zero bytes = []
+pieces_in most (suc k) [] = []
+pieces_in most (suc k) (b ∷ bs) = take most (b ∷ bs) ∷ pieces_in most k (drop most (b ∷ bs))
 
-abbrev pub pieces_of : ℕ → ℕ
-pieces_of size = size / move_limit + 1
+abbrev pub pieces_of : ℕ → ℕ → ℕ
+pieces_of most size = size / most + 1
 
-abbrev pub writes_of : ℕ → List ℕ → List Call
-writes_of fd bytes = map (WriteCall fd) (pieces_in (pieces_of (length bytes)) bytes)
+abbrev pub writes_of : ℕ → ℕ → List ℕ → List Call
+writes_of most fd bytes = map (WriteCall fd) (pieces_in most (pieces_of most (length bytes)) bytes)
 
-abbrev pub write_by : Time → ℕ → ℕ → List Call → Work ReplyBody
-write_by now handle offset calls = do
+-- Where there is no space for a run, and so nothing was written, the same bytes are written by moves.
+abbrev pub or_by_moves : ℕ → List Call → Result ℕ RequestError → Work ℕ
+or_by_moves pid moves (Ok count) = give count
+or_by_moves pid moves (Err e) = if is_for ENOSPC e then write_pieces pid 0 moves else fail e
+
+-- by runs, or by moves
+unfoldable pub write_runs : ℕ → List Call → List Call → Work ℕ
+write_runs pid runs moves = do
+  wrote ← attempt (write_pieces pid 0 runs)
+  or_by_moves pid moves wrote
+
+abbrev pub write_by : Time → ℕ → ℕ → List Call → List Call → Work ReplyBody
+write_by now handle offset runs moves = do
   n ← seek_open handle offset
-  count ← write_pieces (owner_of handle) 0 calls
+  count ← write_runs (owner_of handle) runs moves
   keep (with_new_contents now n)
   give (Wrote count)
 
 abbrev pub write_file : Asked → ℕ → ℕ → List ℕ → Work ReplyBody
-write_file r handle offset bytes = write_by r.now handle offset (writes_of (descriptor_of handle) bytes)
+write_file r handle offset bytes =
+    write_by r.now handle offset (writes_of write_limit (descriptor_of handle) bytes) (writes_of move_limit (descriptor_of handle) bytes)
 
 abbrev pub close_file : ℕ → Work ReplyBody
 close_file handle = do
