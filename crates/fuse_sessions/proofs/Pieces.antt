@@ -10,7 +10,7 @@ use Rattle.fs_model.specs.declared.call.Call.{Call}
 use Rattle.fs_model.specs.declared.call.Call.TheVariants.{Write}
 use Rattle.fs_model.specs.declared.event.Event.{Event}
 use Rattle.fs_model.specs.declared.reply.Reply.{Reply}
-use Rattle.fs_model.specs.Limits.{move_limit, run_limit}
+use Rattle.fs_model.specs.Limits.{run_limit}
 use Rattle.fuse_plans.specs.declared.request_error.RequestError.{RequestError}
 use Rattle.fuse_plans.specs.Works.{of_result}
 use Rattle.fuse_plans.specs.FilePlans.{runs_of, read_piece, read_pieces, write_piece, write_pieces, or_done, length_written, pieces_in}
@@ -111,35 +111,35 @@ module _ {M : Type 0} {Serves : M → Event → Reply → M → Type 0} (pid : �
 
 -- ---- pieces
 
-pub pieces-none : (k : ℕ) → pieces_in k [] ≡ []
-pieces-none zero = refl
-pieces-none (suc k) = refl
+pub pieces-none : (most k : ℕ) → pieces_in most k [] ≡ []
+pieces-none most zero = refl
+pieces-none most (suc k) = refl
 
-pub pieces-more : (k : ℕ) (bytes : List ℕ) → 0 < length bytes → pieces_in (suc k) bytes ≡ take move_limit bytes ∷ pieces_in k (drop move_limit bytes)
-pieces-more k [] some = absurd (omega (arith, some))
-pieces-more k (b ∷ bs) some = refl
+pub pieces-more : (most k : ℕ) (bytes : List ℕ) → 0 < length bytes → pieces_in most (suc k) bytes ≡ take most bytes ∷ pieces_in most k (drop most bytes)
+pieces-more most k [] some = absurd (omega (arith, some))
+pieces-more most k (b ∷ bs) some = refl
 
-pub pieces-end : (k : ℕ) (bytes : List ℕ) → length bytes ≡ 0 → pieces_in k bytes ≡ []
-pieces-end k [] is = pieces-none k
-pieces-end k (b ∷ bs) is = absurd (omega (arith, is))
+pub pieces-end : (most k : ℕ) (bytes : List ℕ) → length bytes ≡ 0 → pieces_in most k bytes ≡ []
+pieces-end most k [] is = pieces-none most k
+pieces-end most k (b ∷ bs) is = absurd (omega (arith, is))
 
-pub pieces-split : (k n : ℕ) (bytes : List ℕ) → n ≡ min (length bytes) move_limit → 0 < n → pieces_in (suc k) bytes ≡ take n bytes ∷ pieces_in k (drop n bytes)
-pieces-split k n bytes is some =
-    let other : min move_limit (length bytes) ≡ n = omega (arith, is) in
-    let first : take move_limit bytes ≡ take n bytes = sym (take_min move_limit bytes) ∙ ap (λ (i : ℕ). take i bytes) other in
-    let rest : drop move_limit bytes ≡ drop n bytes = sym (drop_min move_limit bytes) ∙ ap (λ (i : ℕ). drop i bytes) other in
-    pieces-more k bytes (omega (arith, is, some))
-    ∙ (ap (λ (p : List ℕ). p ∷ pieces_in k (drop move_limit bytes)) first ∙ ap (λ (p : List ℕ). take n bytes ∷ pieces_in k p) rest)
+pub pieces-split : (most k n : ℕ) (bytes : List ℕ) → n ≡ min (length bytes) most → 0 < n → pieces_in most (suc k) bytes ≡ take n bytes ∷ pieces_in most k (drop n bytes)
+pieces-split most k n bytes is some =
+    let other : min most (length bytes) ≡ n = omega (arith, is) in
+    let first : take most bytes ≡ take n bytes = sym (take_min most bytes) ∙ ap (λ (i : ℕ). take i bytes) other in
+    let rest : drop most bytes ≡ drop n bytes = sym (drop_min most bytes) ∙ ap (λ (i : ℕ). drop i bytes) other in
+    pieces-more most k bytes (omega (arith, is, some))
+    ∙ (ap (λ (p : List ℕ). p ∷ pieces_in most k (drop most bytes)) first ∙ ap (λ (p : List ℕ). take n bytes ∷ pieces_in most k p) rest)
 
 -- ---- calls
 
-pub calls-more : (fd k i n : ℕ) (rest behind piece : List ℕ) → i < k → n ≡ min (length rest) move_limit → 0 < n → piece ≡ take n rest → behind ≡ drop n rest
-    → map (Write fd) (pieces_in (k - i) rest) ≡ Write fd piece ∷ map (Write fd) (pieces_in (k - (i + 1)) behind)
-calls-more fd k i n rest behind piece within is some front back =
+pub calls-more : (most fd k i n : ℕ) (rest behind piece : List ℕ) → i < k → n ≡ min (length rest) most → 0 < n → piece ≡ take n rest → behind ≡ drop n rest
+    → map (Write fd) (pieces_in most (k - i) rest) ≡ Write fd piece ∷ map (Write fd) (pieces_in most (k - (i + 1)) behind)
+calls-more most fd k i n rest behind piece within is some front back =
     let one : k - i ≡ suc (k - (i + 1)) = omega arith in
-    ap (λ (p : List (List ℕ)). map (Write fd) p) (ap (λ (j : ℕ). pieces_in j rest) one ∙ pieces-split (k - (i + 1)) n rest is some)
-    ∙ (ap (λ (p : List ℕ). Write fd p ∷ map (Write fd) (pieces_in (k - (i + 1)) (drop n rest))) (sym front)
-    ∙ ap (λ (b : List ℕ). Write fd piece ∷ map (Write fd) (pieces_in (k - (i + 1)) b)) (sym back))
+    ap (λ (p : List (List ℕ)). map (Write fd) p) (ap (λ (j : ℕ). pieces_in most j rest) one ∙ pieces-split most (k - (i + 1)) n rest is some)
+    ∙ (ap (λ (p : List ℕ). Write fd p ∷ map (Write fd) (pieces_in most (k - (i + 1)) (drop n rest))) (sym front)
+    ∙ ap (λ (b : List ℕ). Write fd piece ∷ map (Write fd) (pieces_in most (k - (i + 1)) b)) (sym back))
 
-pub calls-end : (fd k : ℕ) (rest : List ℕ) → length rest ≡ 0 → map (Write fd) (pieces_in k rest) ≡ []
-calls-end fd k rest is = ap (λ (p : List (List ℕ)). map (Write fd) p) (pieces-end k rest is)
+pub calls-end : (most fd k : ℕ) (rest : List ℕ) → length rest ≡ 0 → map (Write fd) (pieces_in most k rest) ≡ []
+calls-end most fd k rest is = ap (λ (p : List (List ℕ)). map (Write fd) p) (pieces-end most k rest is)

@@ -1,14 +1,15 @@
 //! What is done by the handle of an open file.
 ghost use Rattle.std.specs.Prelude.{◌≡◌, ℕ, ◌<◌, ◌≤◌, List, [], length, min, vec_capacity, Some, IfOk};
-ghost use Rattle.fs_model.specs.Limits.{move_limit, run_limit};
+ghost use Rattle.fs_model.specs.Limits.{move_limit, run_limit, write_limit};
 ghost use Rattle.fs_model.specs.declared.call.Call.TheVariants.{Write};
 ghost use Rattle.fuse_state.specs.Servers.{descriptor_of};
-ghost use Rattle.fuse_plans.specs.FilePlans.{seek, runs_of, read_piece, read_pieces, read_file, length_written, write_piece, or_done, write_pieces, writes_of, write_by, call_open, seek_open, close_file, sync_file};
+ghost use Rattle.fuse_plans.specs.FilePlans.{seek, runs_of, read_piece, read_pieces, read_file, length_written, write_piece, or_done, write_pieces, or_by_moves, write_runs, writes_of, write_by, call_open, seek_open, close_file, sync_file};
 ghost use Rattle.fuse_sessions.specs.Performing.{Did};
 ghost use Rattle.fuse_steps.specs.Performing.{DidByMachine};
 ghost use Rattle.fuse_plans.specs.Works.{of_result};
 
 use crate::session::Session;
+use fs_cred::Errno;
 use fs_model::{Bytes, Call, Event, Reply, Whence};
 use fuse_plans::{ReplyBody, RequestError};
 use fuse_protocol::{Extent, Time};
@@ -22,6 +23,9 @@ use std::alloc::{AllocError, Global};
 const RUN: usize = 131_072;
 
 // So many bytes are written at once.
+const WRITE_RUN: usize = 16_384;
+
+// So many bytes are written at once where there is no space for a run.
 const MOVE: usize = 4096;
 
 // Offsets have 63 bits.
@@ -202,43 +206,102 @@ fn piece_in(room: Bytes, piece: &[u8]) -> Bytes
     Bytes::new(bytes)
 }
 
-/// Room for the pieces of bytes: the first of them, which is the largest.
-pub(crate) fn room_for_pieces(alloc: Global, bytes: &[u8]) -> Result<Bytes, AllocError>
-    ensures { IfOk result (λ room. min (length bytes.now) move_limit ≤ length room) }
+/// Room for what is written: for the pieces by runs, and for those by moves.
+#[derive(Drop)]
+pub(crate) struct WriteRoom {
+    run: Bytes,
+    piece: Bytes,
+}
+
+// Room for the pieces of bytes: the first of them, which is the largest.
+fn room_for_first(alloc: Global, most: usize, bytes: &[u8]) -> Result<Bytes, AllocError>
+    ensures { IfOk result (λ room. min (length bytes.now) most ≤ length room) }
 {
-    let (first, _) = bytes.split_at(bytes.len().min(MOVE));
+    let (first, _) = bytes.split_at(bytes.len().min(most));
     Bytes::from_slice(alloc, first)
 }
 
-// Pieces until one is short or refused, in room for each of them: how many bytes were written.
+/// Room for the pieces of bytes, by runs and by moves.
+pub(crate) fn room_for_pieces(alloc: Global, bytes: &[u8]) -> Result<WriteRoom, AllocError>
+    ensures run { IfOk result (λ room. min (length bytes.now) write_limit ≤ length room.run) }
+    ensures piece { IfOk result (λ room. min (length bytes.now) move_limit ≤ length room.piece) }
+{
+    let run = room_for_first(alloc, WRITE_RUN, bytes)?;
+    let piece = room_for_first(alloc, MOVE, bytes)?;
+    Ok(WriteRoom { run, piece })
+}
+
+// Pieces of so many bytes at most, until one is short or refused, in room for each of them: how many bytes were written.
 fn write_pieces<M: Machine>(
     machine: &mut M,
     pid: usize,
     fd: usize,
+    most: usize,
     bytes: &[u8],
     room: Bytes,
 ) -> Result<usize, RequestError>
-    requires { min (length bytes.now) move_limit ≤ length room }
-    ensures { DidByMachine M.Serves (write_pieces pid 0 (writes_of fd bytes.now)) machine.old machine.new result }
+    requires some { 0 < most }
+    requires room { min (length bytes.now) most ≤ length room }
+    ensures { DidByMachine M.Serves (write_pieces pid 0 (writes_of most fd bytes.now)) machine.old machine.new result }
 {
     let (mut room, mut rest, mut done) = (room, bytes, 0);
-    let size = bytes.len();
-    for _round in 0..size / MOVE + 1 {
-        let most = rest.len().min(MOVE);
-        if most == 0 {
+    for _round in 0..bytes.len() / most + 1 {
+        let size = rest.len().min(most);
+        if size == 0 {
             return Ok(done);
         }
-        let (piece, behind) = rest.split_at(most);
+        let (piece, behind) = rest.split_at(size);
         let (wrote, written) = write_bytes(machine, pid, fd, piece_in(room, piece));
         let count = or_done(done, wrote)?;
         done += count;
-        if count < most {
+        if count < size {
             return Ok(done);
         }
         room = written;
         rest = behind;
     }
     Ok(done)
+}
+
+// Where there is no space for a run, and so nothing was written, the same bytes are written by moves.
+fn or_by_moves<M: Machine>(
+    machine: &mut M,
+    pid: usize,
+    fd: usize,
+    bytes: &[u8],
+    room: Bytes,
+    wrote: Result<usize, RequestError>,
+) -> Result<usize, RequestError>
+    requires { min (length bytes.now) move_limit ≤ length room }
+    ensures { DidByMachine M.Serves (or_by_moves pid (writes_of move_limit fd bytes.now) wrote) machine.old machine.new result }
+{
+    match wrote {
+        Ok(count) => Ok(count),
+        Err(error) => {
+            if !error.is_for(Errno::ENOSPC) {
+                return Err(error);
+            }
+            write_pieces(machine, pid, fd, MOVE, bytes, room)
+        }
+    }
+}
+
+// By runs, or by moves: how many bytes were written.
+fn write_runs<M: Machine>(
+    machine: &mut M,
+    pid: usize,
+    fd: usize,
+    bytes: &[u8],
+    room: WriteRoom,
+) -> Result<usize, RequestError>
+    requires run { min (length bytes.now) write_limit ≤ length room.run }
+    requires piece { min (length bytes.now) move_limit ≤ length room.piece }
+    ensures { let runs = writes_of write_limit fd bytes.now in let moves = writes_of move_limit fd bytes.now in
+        DidByMachine M.Serves (write_runs pid runs moves) machine.old machine.new result }
+{
+    let WriteRoom { run, piece } = room;
+    let wrote = write_pieces(machine, pid, fd, WRITE_RUN, bytes, run);
+    or_by_moves(machine, pid, fd, bytes, piece, wrote)
 }
 
 impl<M: Machine> Session<M> {
@@ -289,23 +352,26 @@ impl<M: Machine> Session<M> {
         Ok(ReplyBody::Bytes(bytes))
     }
 
-    /// Writes into what is open, with room for each piece.
+    /// Writes into what is open, with room for what is written.
     pub(crate) fn write_file(
         &mut self,
         now: Time,
         handle: u64,
         offset: u64,
         bytes: &[u8],
-        room: Bytes,
+        room: WriteRoom,
     ) -> Result<ReplyBody, RequestError>
         requires room { 1 ≤ self.old.server.room }
-        requires pieces { min (length bytes.now) move_limit ≤ length room }
-        ensures { Did M.Serves (write_by now handle offset (writes_of (descriptor_of handle) bytes.now)) self.old self.new result }
+        requires run { min (length bytes.now) write_limit ≤ length room.run }
+        requires piece { min (length bytes.now) move_limit ≤ length room.piece }
+        ensures { let fd = descriptor_of handle in
+            let plan = write_by now handle offset (writes_of write_limit fd bytes.now) (writes_of move_limit fd bytes.now) in
+            Did M.Serves plan self.old self.new result }
     {
         let ino = self.seek_open(handle, offset)?;
         let pid = owner_of(handle);
         let fd = descriptor_of(handle);
-        let count = write_pieces(&mut self.machine, pid, fd, bytes, room)?;
+        let count = write_runs(&mut self.machine, pid, fd, bytes, room)?;
         self.server.touch(now, ino);
         Ok(ReplyBody::Wrote(count))
     }

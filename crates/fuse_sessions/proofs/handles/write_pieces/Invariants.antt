@@ -1,5 +1,4 @@
 use Rattle.std.specs.Prelude.{ℕ, ◌+◌, ◌-◌, ◌≤◌, Result, length, map, min}
-use Rattle.fs_model.specs.Limits.{move_limit}
 use Rattle.fs_model.specs.declared.call.Call.TheVariants.{Write}
 use Rattle.fuse_plans.specs.declared.request_error.RequestError.{RequestError}
 use Rattle.fuse_plans.specs.FilePlans.{write_pieces, writes_of, pieces_in, pieces_of}
@@ -10,6 +9,6 @@ use Rattle.fuse_sessions.proofs.handles.write_pieces.Given as goal
 abbrev pub invariant-loop-round : goal.invariant-loop-round
 invariant-loop-round g l =
     ((fin : g.row.M.Denot) (r : Result ℕ RequestError)
-    → DidByMachine g.M.Machine.Serves (write_pieces l.pid l.done (map (Write l.fd) (pieces_in (pieces_of (length l.bytes) - l._round) l.rest))) l.machine fin r
-    → DidByMachine g.M.Machine.Serves (write_pieces l.pid 0 (writes_of l.fd l.bytes)) l.initial.machine fin r)
-    × (l.done + length l.rest ≤ length l.bytes) × (min (length l.rest) move_limit ≤ length l.room)
+    → DidByMachine g.M.Machine.Serves (write_pieces l.pid l.done (map (Write l.fd) (pieces_in l.most (pieces_of l.most (length l.bytes) - l._round) l.rest))) l.machine fin r
+    → DidByMachine g.M.Machine.Serves (write_pieces l.pid 0 (writes_of l.most l.fd l.bytes)) l.initial.machine fin r)
+    × (l.done + length l.rest ≤ length l.bytes) × (min (length l.rest) l.most ≤ length l.room)
