@@ -4,13 +4,14 @@ import os
 import time
 
 from mounts import ACLS, TOP, acl_bytes, other_nodes, tree_of
-from scale_files import SHOWN, content, write_file
+from scale_files import SHOWN, compare_all, content, write_file
 from scale_places import Skipped, command, needs
 
 CLONED, REVISIONS_APART = 20_000, 40
 SETTINGS = ['safe.directory=*', 'gc.auto=0', 'maintenance.auto=false', 'user.name=ann', 'user.email=ann@localhost']
 COPIED, IN_TAR, IN_ONE = 10_000, 5_000, 50
 SOURCES = 200
+FIRST_FILES, IN_FOLDER, FIRST_NAMES, FIRST_BYTES = 20_000, 100, 10_000, 8_000_000
 EARLIER = 1_500_000_000  # seconds since 1970
 LISTS = ['u::rwx,u:1001:r-x,g::r-x,m::rwx,o::---', 'u::rw-,g::r--,g:200:rw-,m::rw-,o::r--',
          'u::rwx,u:1000:rwx,u:1002:---,g::r-x,g:7:--x,m::r-x,o::r-x']
@@ -115,6 +116,49 @@ def clones(turn):
     compare_blobs(turn, 'after a mount', clone)
     with turn.timed('removed by rm -r'):
         command('rm', '-r', clone)
+    turn.end()
+
+
+# ---- what a first user does
+
+def make_files(turn):
+    paths = [f'{turn.root}/d{number // IN_FOLDER}/f{number}' for number in range(turn.part(FIRST_FILES))]
+    with turn.timed('files made'):
+        for number, path in enumerate(paths):
+            if number % IN_FOLDER == 0:
+                os.mkdir(os.path.dirname(path))
+            write_file(path, content(number))
+    return list(enumerate(paths))
+
+
+def make_names(turn):
+    folder, wanted = turn.root / 'names', [f'name {number:05}' for number in range(turn.part(FIRST_NAMES))]
+    folder.mkdir()
+    with turn.timed('names made'):
+        for name in wanted:
+            write_file(folder / name, b'')
+    with turn.timed('names listed'):
+        turn.same('names listed', sorted(os.listdir(folder)), wanted)
+
+
+def first_jobs(turn):
+    """A clone of this repository, small files, a long directory and a file of 8 MB, all on one image of 1 GiB."""
+    needs('git')
+    if not (TOP / '.git').exists():
+        raise Skipped('there is no history here')
+    turn.start('1G', 65_536)
+    clone, long = turn.root / 'clone', turn.root / 'long'
+    with turn.timed('git clone of this repository'):
+        git(turn.root, 'clone', '-q', f'file://{TOP}', clone)
+    paths = make_files(turn)
+    make_names(turn)
+    text = os.urandom(FIRST_BYTES)
+    with turn.timed('8 MB written'):
+        write_file(long, text)
+    turn.again()
+    compare_blobs(turn, 'cloned', clone)
+    compare_all(turn, 'files', paths, content)
+    turn.demand(long.read_bytes() == text, 'other bytes in the file of 8 MB')
     turn.end()
 
 
@@ -280,4 +324,4 @@ def builds(turn):
     turn.end()
 
 
-ROWS = {'git': clones, 'rsync': copies, 'backup': backups, 'tar': archives, 'make': builds}
+ROWS = {'first': first_jobs, 'git': clones, 'rsync': copies, 'backup': backups, 'tar': archives, 'make': builds}
