@@ -5,7 +5,7 @@ use fs_model::{
     finds_are_there, first_refusal_is_least, fitting_states_drop_nothing,
     free_sectors_are_within_bounds, kinds_agree, no_demand_is_an_io_error, numbers_are_counts,
     one_node_changes, pruning_keeps_trees, rewriting_keeps_names, rules_say_what_stands,
-    runs_of_moves, same_process_stays, some_image_stands_for_a_tree,
+    runs_of_moves, runs_of_writes, same_process_stays, some_image_stands_for_a_tree,
     standing_rests_on_what_is_used, steps_keep_states, unreadable_bytes_do_not_show,
 };
 use fs_system::{a_running_system_is_in_one_state, histories_are_runs, trees_are_sound};
@@ -61,6 +61,7 @@ fn laws_of_the_model_do_nothing(rt: HostRuntime) {
     same_process_stays();
     rewriting_keeps_names();
     runs_of_moves();
+    runs_of_writes();
     finds_are_there();
     standing_rests_on_what_is_used();
     steps_keep_states();
