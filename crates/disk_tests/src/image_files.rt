@@ -377,12 +377,12 @@ fn a_failing_file_is_a_failing_disk(rt: HostRuntime) -> Result<(), Fail> {
 }
 
 // How many calls of the file of three sectors the calls of its disk take, its opening and a last sync included.
-fn count_calls(rt: &HostRuntime, path: Path<'_>, writes: [u32; 3]) -> Result<u64, FileFault> {
+fn count_calls(rt: &HostRuntime, path: Path<'_>, writes: [(u32, u8); 3]) -> Result<u64, FileFault> {
     let _ = zeros(rt, path, 3 * 512)?;
     let calls = [
-        Call::Write(writes[0], 1),
-        Call::Write(writes[1], 2),
-        Call::Write(writes[2], 3),
+        Call::Write(writes[0].0, writes[0].1),
+        Call::Write(writes[1].0, writes[1].1),
+        Call::Write(writes[2].0, writes[2].1),
         Call::Sync,
     ];
     let (told, count) = fail_calls(rt, path, calls, u64::MAX, 0);
@@ -392,7 +392,7 @@ fn count_calls(rt: &HostRuntime, path: Path<'_>, writes: [u32; 3]) -> Result<u64
 
 fn count_calls_at_scratch(
     rt: &HostRuntime,
-    writes: [u32; 3],
+    writes: [(u32, u8); 3],
 ) -> Result<Result<u64, FileFault>, Fail> {
     let path = scratch(rt, "runs")?;
     let seen = count_calls(rt, path.as_path(), writes);
@@ -402,13 +402,16 @@ fn count_calls_at_scratch(
 
 #[test]
 fn neighbours_are_written_in_one_call(rt: HostRuntime) -> Result<(), Fail> {
-    // A lock, a sync and a read, the writes, and a sync.
+    // A lock, a sync and a read, the writes, and a sync. What a sector has already isn't written.
     for (writes, wanted) in [
-        ([0, 1, 2], 5),
-        ([2, 0, 1], 5),
-        ([1, 1, 1], 5),
-        ([0, 1, 0], 5),
-        ([2, 0, 2], 6),
+        ([(0, 1), (1, 2), (2, 3)], 5),
+        ([(2, 1), (0, 2), (1, 3)], 5),
+        ([(1, 1), (1, 2), (1, 3)], 5),
+        ([(0, 1), (1, 2), (0, 3)], 5),
+        ([(2, 1), (0, 2), (2, 3)], 6),
+        ([(0, 0), (1, 0), (2, 0)], 4),
+        ([(0, 1), (0, 0), (2, 0)], 5),
+        ([(0, 0), (2, 1), (2, 1)], 5),
     ] {
         let seen = count_calls_at_scratch(&rt, writes)?;
         assert!(rt; seen == Ok(wanted), "{writes:?} {seen:?}");

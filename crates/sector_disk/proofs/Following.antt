@@ -1,11 +1,11 @@
 -- A file that follows its disk: what a run and a sync of the file keep.
 use Rattle.std.proofs.Common.{◌≡◌, ◌⊎◌, inl, inr, ⊎_elim, ℕ, zero, ◌+◌, ◌-◌, ◌<◌, ◌≤◌, Bool, true, false, List, [], ◌∷◌, ◌++◌, length, drop, refl, sym, ◌∙◌, ap, subst, arith, get_or, get_or-set_other, length-drop, length-take, slice_index, replicate}
-use Rattle.std.specs.Prelude.{Option, Some, None, IfSome, All, Contains, Result, Ok, Err, OnOk, IsPermutation, slice_range, if◌then◌else◌}
+use Rattle.std.specs.Prelude.{Option, Some, None, IfSome, All, Contains, Result, Ok, Err, OnOk, IsPermutation, slice_range, slice_set, if◌then◌else◌}
 use Rattle.std.specs.Result.{is_ok}
 use Rattle.std.proofs.Math.Logic.{∥∥₁_map}
 use Rattle.std.proofs.lemmas.Bool.{cases_lt, cases_eq}
 use Rattle.std.proofs.lemmas.Grind.{merely, get_or_default_zero}
-use Rattle.std.proofs.lemmas.List.{get_or-drop, get_or-take, get_or-replicate, length-replicate}
+use Rattle.std.proofs.lemmas.List.{set-get_or, get_or-drop, get_or-take, get_or-replicate, length-replicate}
 use Rattle.std.proofs.lemmas.List.Elements.{All-push, Contains-append_left, Contains-append_right}
 use Rattle.std.proofs.lemmas.List.Sorted.{Contains-permutation}
 use Rattle.sector_disk.specs.Disk.{DiskState, Image, sector, IsImage, IsSame, ChangesOnly}
@@ -46,6 +46,18 @@ wrote old new n content waiting all_wait held changes waits keeps = record {
         (keeps.same k (omega (arith, below, changes.size)))
   ];
 }
+
+-- a write of what reads give already
+pub rewritten : (old new : DiskState) (n : ℕ) (content : List ℕ) (waiting : List ℕ) (all_wait : Bool) (held : Held) → ChangesOnly old new n content → content ≡ sector old.seen n
+    → KeepsFile old waiting all_wait held → KeepsFile new waiting all_wait held
+rewritten old new n content waiting all_wait held changes is keeps = record {
+  allowed = λ k c below may. changes.kept k c (keeps.allowed k c (omega (arith, below, changes.size)) may);
+  same = λ k below.
+      ⊎_elim (λ lacks. inl lacks) (λ same. inr (same ∙ ap (λ (i : Image). sector i k) (sym seen))) (keeps.same k (omega (arith, below, changes.size)));
+}
+  where
+    seen : new.seen ≡ old.seen
+    seen = ⊎_elim (λ same. same) (λ set. set ∙ ap (λ c. slice_set old.seen n c) is ∙ set-get_or old.seen n []) changes.seen
 
 pub more_waits : (disk : DiskState) (waiting more : List ℕ) (all_wait : Bool) (held : Held) → ((n : ℕ) → Contains waiting n → Contains more n)
     → KeepsFile disk waiting all_wait held → KeepsFile disk more all_wait held
@@ -135,10 +147,11 @@ pub follows_more : (disk : DiskState) (waiting more : List ℕ) (all_wait : Bool
     → KeepsKnown disk waiting all_wait file → KeepsKnown disk more all_wait file
 follows_more disk waiting more all_wait file among was = ∥∥₁_map was (λ keeps. both file keeps keeps (λ h k l. more_waits disk waiting more all_wait h among k))
 
-pub follows_write : (old new : DiskState) (n : ℕ) (content : List ℕ) (waiting : List ℕ) (all_wait : Bool) (file : Option Held) → ChangesOnly old new n content → Contains waiting n
-    → KeepsKnown old waiting all_wait file → KeepsKnown new waiting all_wait file
+pub follows_write : (old new : DiskState) (n : ℕ) (content : List ℕ) (waiting : List ℕ) (all_wait : Bool) (file : Option Held) → ChangesOnly old new n content
+    → Contains waiting n ⊎ (content ≡ sector old.seen n) → KeepsKnown old waiting all_wait file → KeepsKnown new waiting all_wait file
 follows_write old new n content waiting all_wait file changes waits was =
-    ∥∥₁_map was (λ keeps. both file keeps keeps (λ h k l. wrote old new n content waiting all_wait h changes waits k))
+    ∥∥₁_map was (λ keeps. both file keeps keeps (λ h k l.
+    ⊎_elim (λ is. wrote old new n content waiting all_wait h changes is k) (λ same. rewritten old new n content waiting all_wait h changes same k) waits))
 
 pub follows_stable : (disk : DiskState) (image : Image) (waiting : List ℕ) (all_wait : Bool) (file : Option Held) → IsImage disk disk.seen → disk.seen ≡ image → IfSome file (HasStable image)
     → KeepsKnown disk waiting all_wait file

@@ -1,7 +1,7 @@
 //! A disk kept in a file.
 
-ghost use Rattle.std.specs.Prelude.{◌≡◌, ◌≢◌, ◌<◌, ◌≤◌, ◌+◌, ◌-◌, ◌^◌, [], All, Contains, IsErr, min, false, length, replicate, IfOk, IfErr, IfSome, OnOk};
-ghost use Rattle.sector_disk.specs.Disk.{IsFresh};
+ghost use Rattle.std.specs.Prelude.{◌≡◌, ◌≢◌, ◌⊎◌, ◌<◌, ◌≤◌, ◌+◌, ◌-◌, ◌^◌, [], All, Contains, IsErr, IsTrue, min, false, length, replicate, IfOk, IfErr, IfSome, OnOk};
+ghost use Rattle.sector_disk.specs.Disk.{IsFresh, sector};
 ghost use Rattle.sector_disk.specs.Record.{recorded_state};
 ghost use Rattle.sector_disk.specs.Replay.{seen_is_image, counts_now, only_now};
 ghost use Rattle.sector_disk.specs.Whole.{whole_sectors};
@@ -52,7 +52,7 @@ impl From<AllocError> for FileFault {
 ///
 /// All sectors are in memory, where reads find them, and those that are zeros take four bytes each. What is written waits for
 /// the next sync, and goes to the file in rising order then, neighbours in one call; a write to which too much waits passes
-/// that on first. Bytes past the last whole sector, or past the most sectors that the disk was opened for, aren't touched. A
+/// that on first. What a sector has already isn't written again: zeros leave a hole of the file. Bytes past the last whole sector, or past the most sectors that the disk was opened for, aren't touched. A
 /// write or a sync of the file that fails is a failure of the disk, at that sync or that write. What the file lacks then waits
 /// for the next one.
 ///
@@ -203,6 +203,19 @@ impl<F: DiskFile + Drop> FileDisk<F> {
         Ok(())
     }
 
+    // Lets a sector wait that gets this content. Where it has that already, so has the file, or it waits.
+    fn wait_to_have(&mut self, n: u32, content: &[u8; 512]) -> io::Result<()>
+        requires { n < length self.old.memory.value.history.start }
+        ensures memory { self.new.memory.value ≡ self.old.memory.value }
+        ensures waits { OnOk result (Contains self.new.waiting.items n
+            ⊎ (content.now ≡ sector (recorded_state self.new.memory.value.history self.new.memory.value.failures).seen n)) }
+    {
+        if has(&self.memory, n, content) {
+            return Ok(());
+        }
+        self.wait_for(n)
+    }
+
     fn make_room(&mut self) -> io::Result<()>
         ensures { self.new.memory.value ≡ self.old.memory.value }
     {
@@ -219,6 +232,17 @@ impl<F: DiskFile + Drop> FileDisk<F> {
         ensures result { IsErr result }
     {
         self.memory.fail()
+    }
+}
+
+// Whether reads give this content of a sector.
+fn has(memory: &MemDisk, n: u32, content: &[u8; 512]) -> bool
+    requires { n < (⟦<MemDisk as Disk>⟧.state memory.now).size }
+    ensures { IsTrue result → content.now ≡ sector (⟦<MemDisk as Disk>⟧.state memory.now).seen n }
+{
+    match memory.find(n) {
+        Some(now) => *content == *now,
+        None => false,
     }
 }
 
@@ -354,7 +378,7 @@ impl<F: DiskFile + Drop> Disk for FileDisk<F> {
     }
 
     fn write(&mut self, n: u32, from: &[u8; 512]) -> Result<(), DiskFault> {
-        if self.wait_for(n).is_err() {
+        if self.wait_to_have(n, from).is_err() {
             return self.fail();
         }
         self.memory.write(n, from)

@@ -8,10 +8,10 @@ use Rattle.sector_disk.proofs.file_disk.FileDiskDisk.write.Goals as goal
 
 pub invariant_of-self : goal.invariant_of-self
 invariant_of-self g c =
-    let disk = c.wait_for.new.self in
+    let disk = c.wait_to_have.new.self in
     let old = disk.memory.value in
     let new = c.write.new.self in
-    let waits = recorded c.wait_for.result (sym c.is_err.ensures.value ∙ c.if-is_err.false) c.wait_for.ensures.waits in
+    let waits = recorded c.wait_to_have.result (sym c.is_err.ensures.value ∙ c.if-is_err.false) c.wait_to_have.ensures.waits in
     let changes = subst (λ (was : MemDisk). ChangesOnly (recorded_state was.history was.failures) (recorded_state new.history new.failures) c.args.n c.args.from.now) c.deref_mut.ensures.value c.write.ensures.changes in
     record {
       room = disk.room;
