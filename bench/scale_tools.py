@@ -12,6 +12,7 @@ SETTINGS = ['safe.directory=*', 'gc.auto=0', 'maintenance.auto=false', 'user.nam
 COPIED, IN_TAR, IN_ONE = 10_000, 5_000, 50
 SOURCES = 200
 FIRST_FILES, IN_FOLDER, FIRST_NAMES, FIRST_BYTES = 20_000, 100, 10_000, 8_000_000
+COPIED_BY_DD = 500  # MiB
 EARLIER = 1_500_000_000  # seconds since 1970
 LISTS = ['u::rwx,u:1001:r-x,g::r-x,m::rwx,o::---', 'u::rw-,g::r--,g:200:rw-,m::rw-,o::r--',
          'u::rwx,u:1000:rwx,u:1002:---,g::r-x,g:7:--x,m::r-x,o::r-x']
@@ -160,6 +161,29 @@ def first_jobs(turn):
     compare_all(turn, 'files', paths, content)
     turn.demand(long.read_bytes() == text, 'other bytes in the file of 8 MB')
     turn.end()
+
+
+# ---- dd
+
+def make_bytes(folder, megabytes):
+    with (folder / 'bytes').open('wb') as file:
+        for _ in range(megabytes):
+            file.write(os.urandom(1 << 20))
+
+
+def long_copies(turn):
+    """Long writes that nobody asks to be kept, of zeros and of other bytes, each to a new image."""
+    needs('dd', 'cmp')
+    megabytes = turn.part(COPIED_BY_DD)
+    source = turn.once('bytes', lambda folder: make_bytes(folder, megabytes)) / 'bytes'
+    for title, given in (('zeros', '/dev/zero'), ('bytes', source)):
+        turn.start()
+        copy = turn.root / title
+        with turn.timed(f'dd of {title}'):
+            command('dd', f'if={given}', f'of={copy}', 'bs=1M', f'count={megabytes}')
+        turn.again()
+        command('cmp', '-n', megabytes << 20, copy, given)
+        turn.end()
 
 
 # ---- rsync
@@ -324,4 +348,4 @@ def builds(turn):
     turn.end()
 
 
-ROWS = {'first': first_jobs, 'git': clones, 'rsync': copies, 'backup': backups, 'tar': archives, 'make': builds}
+ROWS = {'first': first_jobs, 'dd': long_copies, 'git': clones, 'rsync': copies, 'backup': backups, 'tar': archives, 'make': builds}
