@@ -192,3 +192,52 @@ fn a_process_is_put_into_directories(rt: HostRuntime) -> Result<(), Fail> {
     }
     Ok(())
 }
+
+// What process 1 is told that writes so many bytes behind the others.
+fn appended<D: Disk + Drop>(alloc: Global, fs: &mut Fs<D>, len: usize) -> Result<Told, Fail> {
+    let bytes = vec![in alloc; 1; len]?;
+    Ok(called(fs, Call::Write(0, Bytes::new(bytes))))
+}
+
+// How many such writes are whole, and what the next one is told.
+fn filled<D: Disk + Drop>(
+    alloc: Global,
+    fs: &mut Fs<D>,
+    len: usize,
+) -> Result<(usize, Told), Fail> {
+    for count in 0..100 {
+        let told = appended(alloc, fs, len)?;
+        if told != Ok(len) {
+            return Ok((count, told));
+        }
+    }
+    Ok((100, Ok(len)))
+}
+
+// What a write of more than a run is told; and then of runs, and of moves, until there is no space for one.
+fn fills<D: Disk + Drop>(alloc: Global, fs: &mut Fs<D>) -> Result<[(usize, Told); 3], Fail> {
+    let _pid = spawned(alloc, fs)?;
+    let _fd = opened(alloc, fs)?;
+    let first = appended(alloc, fs, 16_385)?;
+    let runs = filled(alloc, fs, 16_384)?;
+    let moves = filled(alloc, fs, 4096)?;
+    Ok([(1, first), runs, moves])
+}
+
+fn filled_by_runs(alloc: Global) -> Result<[(usize, Told); 3], Fail> {
+    let mut fs = new_fs(alloc, MemDisk::new(alloc, 1024)?)?;
+    let found = fills(alloc, &mut fs);
+    mem::drop(fs.unmount());
+    found
+}
+
+// Of 877 free sectors 26 runs take 32 each, and 8 for pointers: 37 are left, fewer than 40. Three moves take 8 each: then 13 are left,
+// fewer than 16.
+static FILLED: [(usize, Told); 3] = [(1, Ok(16_384)), (25, Err(28)), (3, Err(28))];
+
+#[test]
+fn a_run_is_written_where_there_is_space_for_it(rt: HostRuntime) -> Result<(), Fail> {
+    let found = filled_by_runs(rt.alloc())?;
+    assert!(rt; found == FILLED, "{found:?}");
+    Ok(())
+}
