@@ -4,6 +4,7 @@ All four are mounted at once, and take turns with each of several rounds, so tha
 told is the median of the rounds. Behind the table comes which rows miss what is wanted of them.
 """
 import contextlib
+import itertools
 import os
 import pathlib
 import shutil
@@ -17,6 +18,7 @@ FIXED_REPLIES = pathlib.Path(__file__).resolve().parent / 'fixed_replies.c'
 OURS, BARE, OTHER, LOCAL = 'inofs', 'the protocol alone', 'fuse2fs', 'local'
 ROUNDS, CLONES = 9, 3
 BLOCK = bytes(range(256)) * 512
+OTHERS, LATER = memoryview(os.urandom(4 * len(BLOCK))), itertools.count()  # of which each write takes others
 WORKED_ON, FEW, MANY = 40, 300, 500  # names
 OF_GIT = 200  # inodes that git takes for itself, and what else is there
 
@@ -69,7 +71,9 @@ def moving(file, size, call):
 
 
 def write(file, size, place):
-    os.pwrite(file, BLOCK[:size], place)
+    """Writes other bytes than are there: what a sector has already needn't be written to an image."""
+    start = 64 * next(LATER) % (len(OTHERS) - size)
+    os.pwrite(file, OTHERS[start:start + size], place)
 
 
 def lookups(root):
