@@ -29,13 +29,13 @@ use Rattle.fuse_plans.specs.Callers.{between, done_between, standing_refusal, by
 use Rattle.fuse_plans.specs.NamePlans.{removal, remove, move_name}
 use Rattle.fuse_plans.specs.AclPlans.{set_acl, set_xattr, remove_xattr}
 use Rattle.fuse_plans.specs.FilePlans.{when, done, confirm_shown, confirm_open, open_object, open_file}
-use Rattle.fuse_plans.specs.Nobody.{needs_nobody_in}
+use Rattle.fuse_plans.specs.Nobody.{who_counts_in, is_nobody}
 use Rattle.fuse_plans.specs.Serving.{Task, Replying, Silently, plan_of, told_first, asked_for, response_of, answered, answered_as, request_plan}
 use Rattle.fuse_plans.specs.Alterations.{Alteration, alterations_by, alterations_in, says_change, changes_at_once, AreTold, MayBeAsked, AsksOnly}
 use Rattle.fuse_plans.specs.Laws.{FailuresChangeNothing}
 use Rattle.fuse_plans.proofs.AllEnds.{AllEnd, all-followed_by, all-run}
 use Rattle.fuse_plans.proofs.AlterPieces.{pieces, Asks, asks-when, asks-done, asks-needed, asks-ask, asks-on, asks-tell_time}
-use Rattle.fuse_plans.proofs.AlterRequests.{asks-needs_nobody_in}
+use Rattle.fuse_plans.proofs.AlterRequests.{asks-who_counts_in}
 use Rattle.fuse_plans.proofs.AlterNames.{asks-none_there}
 use Rattle.fuse_plans.proofs.AlterFiles.{asks-show_open}
 
@@ -355,7 +355,7 @@ failures_change_nothing r s t operation e es replies asked reply after is at_onc
   where
     spares : SparesFailures HasFailed (request_plan r s)
     spares =
-        spares-quiet HasFailed (needs_nobody_in r.node r.operation s) (λ nobody. answered_as nobody r s) (asks-needs_nobody_in None r.node r.operation s)
-        (λ nobody.
-        subst (λ o. SparesFailures HasFailed (answered r.memory (asked_for (asked_of r nobody) r.value o) s)) (sym is)
-        (spares-answered r.memory (asked_for (asked_of r nobody) r.value (Some operation)) s (clean-asked (asked_of r nobody) r.value operation at_once_so)))
+        spares-quiet HasFailed (who_counts_in r.node r.uid r.operation s) (λ who. answered_as (is_nobody who) r s) (asks-who_counts_in None r.node r.uid r.operation s)
+        (λ who.
+        subst (λ o. SparesFailures HasFailed (answered r.memory (asked_for (asked_of r (is_nobody who)) r.value o) s)) (sym is)
+        (spares-answered r.memory (asked_for (asked_of r (is_nobody who)) r.value (Some operation)) s (clean-asked (asked_of r (is_nobody who)) r.value operation at_once_so)))

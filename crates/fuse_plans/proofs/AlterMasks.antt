@@ -1,6 +1,7 @@
 -- To look whether a directory has a list that Linux doesn't follow changes nothing.
 --     asks-acl_of        to ask for an ACL
 --     asks-is_masked        of a node
+--     asks-is_owner        whether a user owns what is to be read
 --     asks-new_valid        for how long a new name may be kept
 use Rattle.std.specs.Prelude.{ℕ, Bool, true, false, Option}
 use Rattle.fs_model.specs.declared.call.AclType.{AclType}
@@ -8,6 +9,7 @@ use Rattle.fs_model.specs.declared.reply.Status.{Status}
 use Rattle.fuse_protocol.specs.declared.operation.Operation.{Operation}
 use Rattle.fuse_plans.specs.Masks.{acl_of, asks_list, list_hides, is_masked}
 use Rattle.fuse_plans.specs.NamePlans.{new_valid_if, new_valid}
+use Rattle.fuse_plans.specs.Nobody.{is_owner}
 use Rattle.fuse_plans.proofs.AlterPieces.{pieces, Asks, asks-give}
 
 module _ {o : Option Operation} where
@@ -23,6 +25,11 @@ module _ {o : Option Operation} where
   pub asks-is_masked : (node : ℕ) → Asks o (is_masked node)
   unfolding is_masked
   asks-is_masked node = search (pieces, asks-list_hides) depth 12
+
+  -- nor to look whether a user owns what is to be read
+  pub asks-is_owner : (node uid : ℕ) → Asks o (is_owner node uid)
+  unfolding is_owner
+  asks-is_owner node uid = search pieces depth 20
 
   asks-new_valid_if : (d name_valid : ℕ) (b : Bool) → Asks o (new_valid_if d name_valid b)
   asks-new_valid_if d name_valid false = asks-give 0

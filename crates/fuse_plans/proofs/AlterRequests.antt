@@ -30,13 +30,13 @@ use Rattle.fuse_plans.specs.Works.{of_result}
 use Rattle.fuse_plans.specs.ListingPlans.{find_listed, look_up_names, read_directory_plus}
 use Rattle.fuse_plans.specs.DirectoryPlans.{take_directory_if, take_directory, open_directory, tell_names, list_open, list_all, list_now, listed, list_kept, read_directory, close_directory, sync_all}
 use Rattle.fuse_plans.specs.AclPlans.{acl_named, an_object, sized, get_xattr, attribute_names, list_xattrs, set_acl, set_xattr, remove_xattr}
-use Rattle.fuse_plans.specs.Nobody.{is_judged, needs_nobody, needs_nobody_in, unless_masked}
+use Rattle.fuse_plans.specs.Nobody.{is_judged, is_nobody, is_owner, needs_nobody, asks_reading, or_process, or_user, who_counts_in, unless_masked}
 use Rattle.fuse_plans.specs.Masks.{is_masked}
 use Rattle.fuse_plans.specs.Serving.{Task, Replying, Silently, or_server_process, begin, count_space, end, plan_of, told_first, asked_for, response_of, answered, answered_as, request_plan}
 use Rattle.fuse_plans.specs.Alterations.{says_change, sets_times, sets_list, IsToldIn, MayBeAsked, AsksOnly}
 use Rattle.fuse_plans.specs.Laws.{RequestsChangeWhatTheySay, RunsChangeWhatRequestsSay}
 use Rattle.fuse_plans.proofs.AlterPieces.{pieces, Gives, gives-give, gives-fail, gives-if, gives->>=, asks-then, told-where_so, told-two, asks-followed_by, Asks, asks-give, asks-fail, asks-kept, asks-keep, asks->>=, asks-attempt, asks-if, asks-when, asks-when_so, asks-needed, asks-ask, asks-needed_then, asks-on, asks-tell_time}
-use Rattle.fuse_plans.proofs.AlterMasks.{asks-acl_of, asks-is_masked}
+use Rattle.fuse_plans.proofs.AlterMasks.{asks-is_owner, asks-acl_of, asks-is_masked}
 use Rattle.fuse_plans.proofs.AlterNames.{asks-plain_name, asks-found_or_absent, asks-find_name, asks-make_link, asks-make_directory, asks-make_file, asks-remove, asks-move_name, asks-add_link}
 use Rattle.fuse_plans.proofs.AlterFiles.{asks-call_open, asks-open_file, asks-create_file, asks-read_file, asks-write_file, asks-close_file, asks-sync_file}
 
@@ -295,17 +295,24 @@ asks-needs_nobody o node (Lookup name) s = asks-is_judged o node s.settings.posi
 asks-needs_nobody o node (ReadDirPlus extent) s = asks-is_judged o node s.settings.posix_acl s
 asks-needs_nobody o node _ s = tt
 
--- whether it needs nobody is found by looking
-pub asks-needs_nobody_in : (o : Option Operation) (node : ℕ) (operation : Option Operation) (s : Server) → AsksOnly (MayBeAsked o) (needs_nobody_in node operation s)
-asks-needs_nobody_in o node None s = tt
-asks-needs_nobody_in o node (Some operation) s = asks-needs_nobody o node operation s
+asks-or_user : (o : Option Operation) (nobody reading : Bool) (node uid : ℕ) (s : Server) → AsksOnly (MayBeAsked o) (or_user nobody reading node uid s)
+asks-or_user o true reading node uid s = tt
+asks-or_user o false false node uid s = tt
+asks-or_user o false true node uid s = asks-followed_by (MayBeAsked o) (is_owner node uid s) (λ r. Finish (or_process r.0)) ((asks-is_owner node uid).at s) (λ r. tt)
+
+-- who counts is found by looking
+pub asks-who_counts_in : (o : Option Operation) (node uid : ℕ) (operation : Option Operation) (s : Server) → AsksOnly (MayBeAsked o) (who_counts_in node uid operation s)
+asks-who_counts_in o node uid None s = tt
+asks-who_counts_in o node uid (Some operation) s =
+    asks-followed_by (MayBeAsked o) (needs_nobody node operation s) (λ nobody. or_user nobody (asks_reading operation) node uid s) (asks-needs_nobody o node operation s)
+    (λ nobody. asks-or_user o nobody (asks_reading operation) node uid s)
 
 pub requests_change_what_they_say : RequestsChangeWhatTheySay
 unfolding request_plan
 requests_change_what_they_say r s =
-    asks-followed_by (MayBeAsked r.operation) (needs_nobody_in r.node r.operation s) (λ nobody. answered_as nobody r s)
-    (asks-needs_nobody_in r.operation r.node r.operation s)
-    (λ nobody. asks-answered r.operation r.memory _ s (asks-asked_for (asked_of r nobody) r.value r.operation))
+    asks-followed_by (MayBeAsked r.operation) (who_counts_in r.node r.uid r.operation s) (λ who. answered_as (is_nobody who) r s)
+    (asks-who_counts_in r.operation r.node r.uid r.operation s)
+    (λ who. asks-answered r.operation r.memory _ s (asks-asked_for (asked_of r (is_nobody who)) r.value r.operation))
 
 -- ---- what was asked
 

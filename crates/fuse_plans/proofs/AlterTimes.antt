@@ -41,7 +41,7 @@ use Rattle.fuse_plans.specs.DirectoryPlans.{take_directory_if, take_directory, o
 use Rattle.fuse_plans.specs.Times.{told_stamps_if, told_stamps}
 use Rattle.fuse_plans.specs.AclPlans.{an_object, get_xattr, attribute_names, list_xattrs}
 use Rattle.fuse_plans.specs.Masks.{acl_of}
-use Rattle.fuse_plans.specs.Nobody.{needs_nobody_in}
+use Rattle.fuse_plans.specs.Nobody.{who_counts_in, is_nobody}
 use Rattle.fuse_plans.specs.Serving.{Task, Replying, Silently, or_server_process, begin, count_space, end, plan_of, told_first, asked_for, response_of, answered, answered_as, request_plan}
 use Rattle.fuse_plans.specs.Alterations.{Alteration, resizes_open, says_change, says_change_in, IsToldIn}
 use Rattle.fuse_plans.specs.Laws.{OthersChangeNothing, OthersKeepTimes}
@@ -483,8 +483,8 @@ pub others_keep_times : OthersKeepTimes
 unfolding request_plan
 others_keep_times r s t response es replies none runs n =
     same-times_of (all-run (λ x. SameTimes s x.1) (request_plan r s) es replies (response, t)
-    (all-followed_by (λ nobody. Unit {0}) (λ x. SameTimes s x.1) (needs_nobody_in r.node r.operation s) (λ nobody. answered_as nobody r s) (all-any (needs_nobody_in r.node r.operation s))
-    (λ nobody any. keeps-answered r.memory _ s (keeps-asked_for (asked_of r nobody) r.value r.operation none)))
+    (all-followed_by (λ nobody. Unit {0}) (λ x. SameTimes s x.1) (who_counts_in r.node r.uid r.operation s) (λ who. answered_as (is_nobody who) r s) (all-any (who_counts_in r.node r.uid r.operation s))
+    (λ who any. keeps-answered r.memory _ s (keeps-asked_for (asked_of r (is_nobody who)) r.value r.operation none)))
     runs) n
 
 -- ---- and change nothing else

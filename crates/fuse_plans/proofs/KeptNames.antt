@@ -44,7 +44,9 @@ use Rattle.fuse_plans.specs.ListingPlans.{read_directory_plus}
 use Rattle.fuse_plans.specs.DirectoryPlans.{take_directory, take_directory_if, read_directory, close_directory, sync_all}
 use Rattle.fuse_plans.specs.AclPlans.{sized, set_acl}
 use Rattle.fuse_plans.specs.Requests.{Request, asked_of}
-use Rattle.fuse_plans.specs.Nobody.{is_judged, needs_nobody_in}
+use Rattle.fuse_plans.specs.declared.request.WhoCounts.{WhoCounts}
+use Rattle.fuse_plans.specs.Nobody.{is_judged, needs_nobody, who_counts_in, is_nobody}
+use Rattle.fuse_plans.proofs.Counting.{found_nobody, names-unread}
 use Rattle.fuse_plans.specs.Serving.{Task, Replying, Silently, begin, count_space, end, plan_of, told_first, asked_for, answered, answered_as, request_plan}
 use Rattle.fuse_plans.specs.Laws.{names_an_object, IsDoneBy}
 use Rattle.fuse_plans.specs.KeepingLaws.{name_valid_in, MayKeepName, is_looked_up, is_new, NamesAreKeptWhereJudged, IsMissing, OnlyMissingNamesAreAbsent}
@@ -679,7 +681,7 @@ module _ (r : Request) (s t : Server) (body : ReplyBody) (lt : 0 < name_valid_in
       absurd (positive _ lt (so-run (find_name (asked_of r false) name) s t after rest body (for-unjudged (asked_of r false) name refl) ran).0)
 
   name_kept : (operation : Operation) → r.operation ≡ Some operation → names_an_object operation ≡ true → (nobody : Bool) (first after : List Event) (replied rest : List Reply)
-      → IsRunOf (needs_nobody_in r.node (Some operation) s) first replied nobody → Worked (told_first (says_change operation) r.now (plan_of (asked_of r nobody) r.value operation)) s t after rest body
+      → IsRunOf (needs_nobody r.node operation s) first replied nobody → Worked (told_first (says_change operation) r.now (plan_of (asked_of r nobody) r.value operation)) s t after rest body
       → Kept r s (first ++ after) (replied ++ rest)
   name_kept (Lookup name) asks is nobody first after replied rest found done =
       looked_up_kept name asks s.settings.posix_acl nobody refl first after replied rest found (work_is _ _ s t after rest body done.is done.runs)
@@ -707,23 +709,24 @@ module _ (r : Request) (s t : Server) (body : ReplyBody) (lt : 0 < name_valid_in
       (λ fs others ran. create_kept r nobody name flags.0 mode umask s t fs others body lt ran) (work_is _ _ s t after rest body done.is done.runs))
   name_kept _ asks is nobody first after replied rest found done = absurd (cc)
 
-  operation_kept : (operation : Option Operation) → r.operation ≡ operation → (nobody : Bool) (first after : List Event) (replied rest : List Reply)
-      → IsRunOf (needs_nobody_in r.node operation s) first replied nobody → Worked (asked_for (asked_of r nobody) r.value operation) s t after rest body
+  operation_kept : (operation : Option Operation) → r.operation ≡ operation → (who : WhoCounts) (first after : List Event) (replied rest : List Reply)
+      → IsRunOf (who_counts_in r.node r.uid operation s) first replied who → Worked (asked_for (asked_of r (is_nobody who)) r.value operation) s t after rest body
       → Kept r s (first ++ after) (replied ++ rest)
-  operation_kept None asks nobody first after replied rest found done =
+  operation_kept None asks who first after replied rest found done =
       absurd (positive _ lt (told_so (IsFor 0) (Replying (fail (failed EINVAL))) s t after rest body (so-fail _) done).0)
-  operation_kept (Some operation) asks nobody first after replied rest found done = choose (names_an_object operation) refl
+  operation_kept (Some operation) asks who first after replied rest found done = choose (names_an_object operation) refl
     where
       choose : (b : Bool) → names_an_object operation ≡ b → Kept r s (first ++ after) (replied ++ rest)
-      choose true is = name_kept operation asks is nobody first after replied rest found done
+      choose true is =
+          name_kept operation asks is (is_nobody who) first after replied rest (found_nobody r.node r.uid operation s first replied who (names-unread operation is) found) done
       choose false is =
           absurd (positive _ lt (told_so (IsFor 0) _ s t after rest body
-          (so-told_first (IsFor 0) (says_change operation) r.now _ (plain-plan (asked_of r nobody) r.value operation is)) done).0)
+          (so-told_first (IsFor 0) (says_change operation) r.now _ (plain-plan (asked_of r (is_nobody who)) r.value operation is)) done).0)
 
 pub names_are_kept_where_judged : NamesAreKeptWhereJudged
 unfolding request_plan
 names_are_kept_where_judged r s t body es replies lt runs =
-    let parts = run-parts (needs_nobody_in r.node r.operation s) (λ nobody. answered_as nobody r s) es replies (Says body, t) runs in
+    let parts = run-parts (who_counts_in r.node r.uid r.operation s) (λ who. answered_as (is_nobody who) r s) es replies (Says body, t) runs in
     subst (λ l. Kept r s l replies) (sym parts.all_events)
     (subst (λ l. Kept r s (parts.first_events ++ parts.later_events) l) (sym parts.all_replies)
     (operation_kept r s t body lt r.operation refl parts.middle parts.first_events parts.later_events parts.first_replies parts.later_replies parts.first
@@ -746,16 +749,16 @@ there-named r value (Create name flags mode umask) is other =
     so-weaker (λ body is_for. is_for.1) (for-create_in r name way flags.0 mode umask d valid)))))
 there-named r value _ is other = absurd (cc)
 
-missing_later : (server_process : Option ℕ) (p : Plan Bool) (first after : List Event) (replied rest : List Reply) (nobody : Bool) → IsRunOf p first replied nobody
+missing_later : (server_process : Option ℕ) (p : Plan WhoCounts) (first after : List Event) (replied rest : List Reply) (who : WhoCounts) → IsRunOf p first replied who
     → IsMissing server_process after rest → IsMissing server_process (first ++ after) (replied ++ rest)
-missing_later server_process p first after replied rest nobody ran m = record {
+missing_later server_process p first after replied rest who ran m = record {
   pid = m.pid;
   own = m.own;
   event = m.event;
   is_by = m.is_by;
   refusal = m.refusal;
   after = m.after;
-  asked = before p first replied nobody ran m.asked;
+  asked = before p first replied who ran m.asked;
   for_absence = m.for_absence;
 }
 
@@ -790,9 +793,9 @@ module _ (r : Request) (s t : Server) (valid : ℕ) where
 pub only_missing_names_are_absent : OnlyMissingNamesAreAbsent
 unfolding request_plan
 only_missing_names_are_absent r s t valid es replies runs =
-    let parts = run-parts (needs_nobody_in r.node r.operation s) (λ nobody. answered_as nobody r s) es replies (Says (Absent valid), t) runs in
+    let parts = run-parts (who_counts_in r.node r.uid r.operation s) (λ who. answered_as (is_nobody who) r s) es replies (Says (Absent valid), t) runs in
     subst (λ l. IsMissing s.server_process l replies) (sym parts.all_events)
     (subst (λ l. IsMissing s.server_process (parts.first_events ++ parts.later_events) l) (sym parts.all_replies)
-    (missing_later s.server_process (needs_nobody_in r.node r.operation s) parts.first_events parts.later_events parts.first_replies parts.later_replies parts.middle parts.first
-    (operation_missing r s t valid r.operation parts.middle parts.later_events parts.later_replies
+    (missing_later s.server_process (who_counts_in r.node r.uid r.operation s) parts.first_events parts.later_events parts.first_replies parts.later_replies parts.middle parts.first
+    (operation_missing r s t valid r.operation (is_nobody parts.middle) parts.later_events parts.later_replies
     (worked r.memory _ s t parts.later_events parts.later_replies (Absent valid) parts.later))))

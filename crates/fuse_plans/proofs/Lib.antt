@@ -10,6 +10,7 @@ pub mod AlterTimes
 pub mod Calls
 pub mod Chosen
 pub mod Conducts
+pub mod Counting
 pub mod FileConducts
 pub mod Forms
 pub mod JudgedLookups
@@ -36,3 +37,5 @@ pub mod ShareRuns
 pub mod Staying
 pub mod TimesByRight
 pub mod ToldNodes
+pub mod Watching
+pub mod Owners

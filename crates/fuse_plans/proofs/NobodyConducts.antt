@@ -1,32 +1,42 @@
--- How it is found whether a request needs nobody.
---     decided_at_once        of all but look-ups
---     AtHome, keeps-needs_nobody_in        what may be asked for it
+-- How it is found who counts of those who ask.
+--     decided_at_once        whether nobody does, of all but look-ups
+--     AtHome, keeps-who_counts_in        what may be asked for it
 --     who_asks_counts_only_where_needed
-use Rattle.std.specs.Prelude.{◌≡◌, ℕ, Bool, true, false, not, List, [], ◌∷◌, Option, None, Some}
+use Rattle.std.specs.Prelude.{◌≡◌, ℕ, Bool, true, false, not, ◌&&◌, List, [], ◌∷◌, codes, All, Option, None, Some}
 use Rattle.std.proofs.Common.{refl, sym, ap, subst, ◌∙◌}
+use Rattle.std.proofs.lemmas.List.Elements.{All-head}
 use Rattle.posix_acl.specs.AccessList.{AccessList}
 use Rattle.fs_cred.specs.Credentials.{Credential}
+use Rattle.fs_model.specs.declared.call.Call.TheVariants.{Lstat}
 use Rattle.fs_model.specs.declared.event.Event.{Event}
 use Rattle.fs_model.specs.declared.reply.Reply.{Reply}
 use Rattle.fuse_protocol.specs.declared.operation.Extent.{Extent}
 use Rattle.fuse_protocol.specs.declared.operation.Operation.{Operation}
 use Rattle.fuse_protocol.specs.declared.operation.Operation.TheVariants.{Lookup, Forget, GetAttr, SetAttr, ReadLink, SymLink, MkNod, MkDir, Unlink, RmDir, Rename, Link, Open, Read, Write, StatFs, Release, FSync, SetXAttr, GetXAttr, ListXAttr, RemoveXAttr, Init, OpenDir, ReadDir, ReadDirPlus, ReleaseDir, FSyncDir, Access, Create, Interrupt, Destroy, BatchForget, SyncFs, Unknown}
-use Rattle.fuse_state.specs.Servers.{Server, WithinShares}
+use Rattle.fuse_state.specs.declared.dentry.Dentry.{Dentry}
+use Rattle.fuse_state.specs.Servers.{Server, WithinShares, head_of, dentries_of, dentry_of}
 use Rattle.fuse_plans.specs.declared.request.Asked.{Asked}
-use Rattle.fuse_plans.specs.Plans.{Plan, Finish, Ask, CarriesOut, finishes, IsRunOf, Restraint, KeepsTo}
-use Rattle.fuse_plans.specs.Masks.{is_masked}
-use Rattle.fuse_plans.specs.Nobody.{needs_caller, unless_masked, is_judged, needs_nobody, needs_nobody_in}
-use Rattle.fuse_plans.specs.Acts.{node_of_object}
+use Rattle.fuse_plans.specs.declared.request_error.RequestError.TheVariants.{Lacks}
+use Rattle.fuse_plans.specs.declared.request_error.OtherErrno.TheVariants.{ESTALE}
+use Rattle.fuse_plans.specs.declared.request.WhoCounts.TheVariants.{Nobody}
+use Rattle.fuse_plans.specs.Plans.{Plan, Finish, Ask, followed_by, CarriesOut, finishes, IsRunOf, Restraint, KeepsTo}
+use Rattle.fuse_plans.specs.Works.{Work, give, fail, kept, goes_on, ◌>>=◌, needed}
+use Rattle.fuse_plans.specs.Callers.{the_server_process, look_inside}
+use Rattle.fuse_plans.specs.Masks.{is_masked, seen_by_server_process}
+use Rattle.fuse_plans.specs.Nobody.{needs_caller, unless_masked, is_judged, needs_nobody, asks_reading, owner_reads, owner_searches, grants_owner, is_owner, or_process, or_user, who_counts_in}
+use Rattle.fuse_plans.specs.Acts.{node_of_object, IsObject, IsKnownDentry, above}
 use Rattle.fuse_plans.specs.Requests.{Request, asked_of}
 use Rattle.fuse_plans.specs.Serving.{plan_of, told_first, asked_for, answered}
 use Rattle.fuse_plans.specs.Alterations.{says_change}
-use Rattle.fuse_plans.specs.Conduct.{Known, Rights, conduct}
+use Rattle.fuse_plans.specs.Conduct.{Known, Rights, conduct, Fits}
 use Rattle.fuse_plans.specs.Laws.{known_in, WhoAsksCountsOnlyWhereNeeded}
-use Rattle.fuse_plans.proofs.Conducts.{Any, Still, Left, Lasts, does-lasts, then-lasts, keeps-followed_by}
-use Rattle.fuse_plans.proofs.Calls.{AsksOf, is-object, gives-directory_number}
+use Rattle.fuse_plans.proofs.Conducts.{Any, Still, Left, Lasts, Does, does-give, does->>=, does-lasts, then-lasts, keeps-followed_by}
+use Rattle.fuse_plans.proofs.Calls.{AsksOf, is-object, known-dentries, about-still, looks, does-with_server_process, does-look_within, does-by_server_process, does-replied_status, gives-number, gives-directory_number}
 use Rattle.fuse_plans.proofs.MaskConducts.{does-list_hides}
 use Rattle.fuse_plans.proofs.AllEnds.{AllEnd}
-use Rattle.fuse_plans.proofs.Staying.{stays-is_masked}
+use Rattle.fuse_plans.proofs.Staying.{stays-is_masked, stays-is_owner}
+use Rattle.fuse_plans.proofs.OpenedObjects.{finished}
+use Rattle.fuse_plans.proofs.Counting.{NobodyFound, nobody-found}
 
 -- ---- what may be asked
 
@@ -36,7 +46,7 @@ keeps-both rule E Q (Finish x) m keeps all = (keeps, all)
 keeps-both rule E Q (Ask e next) m keeps all = (keeps.0, λ reply. keeps-both rule E Q (next reply) (rule.after m e reply) (keeps.1 reply) (all reply))
 
 -- Nobody is away, and the processes are those that there were.
-pub record AtHome (s : Server) (known : Known) (nobody : Bool) : Type 0 where
+pub record AtHome {X : Type 0} (s : Server) (known : Known) (found : X) : Type 0 where
   pub home : known.away ≡ None
   pub processes : known.processes ≡ s.processes
 
@@ -121,10 +131,57 @@ module _ (rights : Rights) (node : ℕ) (same : rights.subject.node ≡ node) (s
   keeps-needs_nobody operation asks false is =
       subst (λ p. KeepsTo (conduct rights) (AtHome s) (known_in s) p) (sym (at_once node operation s is)) (record { home = refl; processes = refl })
 
-  pub keeps-needs_nobody_in : (operation : Option Operation) → rights.subject.operation ≡ operation
-      → KeepsTo (conduct rights) (AtHome s) (known_in s) (needs_nobody_in node operation s)
-  keeps-needs_nobody_in None asks = record { home = refl; processes = refl }
-  keeps-needs_nobody_in (Some operation) asks = keeps-needs_nobody operation asks (is_lookup operation) refl
+  -- the dentry by which the object is asked for first is a known one
+  does-first_dentry : {Y : Type 0} (n : ℕ) (rest : Dentry → Work Y) → ((p : Dentry) → IsKnownDentry rights.subject.start n p → Does rights (Still rights) (rest p))
+      → Does rights (Still rights) (kept (λ t. dentry_of t n) >>= (λ found. needed (Lacks ESTALE) found >>= rest))
+  unfolding kept give fail ◌>>=◌
+  does-first_dentry {Y} n rest does = record { goes = λ known t fits. with_first known t fits (dentries_of t n) (known-dentries fits.holds n) }
+    where
+      with_first : (known : Known) (t : Server) → Fits rights (Still rights) known t → (l : List Dentry) → All (IsKnownDentry rights.subject.start n) l
+          → KeepsTo (conduct rights) (Left rights (Still rights)) known (followed_by (needed (Lacks ESTALE) (head_of l) t) (goes_on rest))
+      with_first known t fits [] all = fits
+      with_first known t fits (p ∷ others) all = (does p (All-head (IsKnownDentry rights.subject.start n) p others all)).goes known t fits
+
+  -- the object is looked at, and a directory in which it is known
+  does-look_as_owner : (n uid : ℕ) (p : Dentry) → IsObject rights.subject n → IsKnownDentry rights.subject.start n p
+      → Does rights (Still rights) (the_server_process >>= (λ pid. look_inside pid p.dir_ino (codes ".") >>= (λ above. seen_by_server_process n
+      >>= (λ status. give (grants_owner uid owner_searches above && grants_owner uid owner_reads status)))))
+  does-look_as_owner n uid p object is =
+      does-with_server_process (λ pid own.
+      does->>= (does-look_within pid p.dir_ino (codes ".") (looks pid own (Lstat (codes ".")) refl) (above n p.name refl refl object is)) (λ shown.
+      does->>= (does->>= (does-by_server_process n Lstat (λ path. refl) (λ path. refl) (about-still n object)) does-replied_status) (λ status. does-give _)))
+
+  lasts-is_owner : AsksOf rights node → (uid : ℕ) → Lasts rights (Still rights) (is_owner node uid)
+  unfolding is_owner
+  lasts-is_owner asks uid =
+      then-lasts (gives-number node (λ n was. is-object rights node asks n was)) (λ n object.
+      does-lasts (does-first_dentry n _ (λ p is. does-look_as_owner n uid p object is)))
+
+  -- what is to be read is the object of the node
+  reads-object : (operation : Operation) → asks_reading operation ≡ true → rights.subject.operation ≡ Some operation → AsksOf rights node
+  reads-object (Open flags) reads asks = ap (λ o. node_of_object o rights.subject.node) asks ∙ same
+  reads-object OpenDir reads asks = ap (λ o. node_of_object o rights.subject.node) asks ∙ same
+  reads-object _ reads asks = absurd (cc)
+
+  keeps-or_user : (operation : Operation) → rights.subject.operation ≡ Some operation → (uid : ℕ) (known : Known) (nobody reading : Bool) → asks_reading operation ≡ reading
+      → AtHome s known nobody → KeepsTo (conduct rights) (AtHome s) known (or_user nobody reading node uid s)
+  keeps-or_user operation asks uid known true reading reads left = record { home = left.home; processes = left.processes }
+  keeps-or_user operation asks uid known false false reads left = record { home = left.home; processes = left.processes }
+  keeps-or_user operation asks uid known false true reads left =
+      keeps-followed_by (conduct rights) (λ known r. Left rights Any known r × (r.1 ≡ s)) (AtHome s) (is_owner node uid s) (λ r. Finish (or_process r.0)) known
+      (keeps-both (conduct rights) (Left rights Any) (λ r. r.1 ≡ s) (is_owner node uid s) known
+      ((lasts-is_owner (reads-object operation reads asks) uid).goes known s
+      (record { home = left.home; processes = left.processes; server_process = sym own; shares = λ within. subst WithinShares start within; holds = begins_still }))
+      ((stays-is_owner node uid).at s))
+      (λ known r after. record { home = after.0.home; processes = after.0.processes ∙ ap (λ t. t.processes) after.1 })
+
+  pub keeps-who_counts_in : (uid : ℕ) (operation : Option Operation) → rights.subject.operation ≡ operation
+      → KeepsTo (conduct rights) (AtHome s) (known_in s) (who_counts_in node uid operation s)
+  keeps-who_counts_in uid None asks = record { home = refl; processes = refl }
+  keeps-who_counts_in uid (Some operation) asks =
+      keeps-followed_by (conduct rights) (AtHome s) (AtHome s) (needs_nobody node operation s) (λ nobody. or_user nobody (asks_reading operation) node uid s) (known_in s)
+      (keeps-needs_nobody operation asks (is_lookup operation) refl)
+      (λ known nobody left. keeps-or_user operation asks uid known nobody (asks_reading operation) refl left)
 
 -- ---- who asks
 
@@ -167,25 +224,22 @@ alike-plan r cred value SyncFs is = refl
 alike-plan r cred value Unknown is = refl
 
 alike-search : (r : Request) (s : Server) (cred : Option Credential) (operation : Option Operation) (es : List Event) (replies : List Reply)
-    → IsRunOf (needs_nobody_in r.node operation s) es replies true
+    → IsRunOf (who_counts_in r.node r.uid operation s) es replies Nobody
     → asked_for (asked_of (record r { cred = cred }) true) r.value operation ≡ asked_for (asked_of r true) r.value operation
 alike-search r s cred None es replies runs = refl
 alike-search r s cred (Some operation) es replies runs =
-    ap (told_first (says_change operation) r.now) (choose operation (is_lookup operation) refl runs)
+    let found = nobody-found r.node r.uid operation s es replies runs in
+    ap (told_first (says_change operation) r.now) (choose operation (is_lookup operation) refl found)
   where
-    found : (b : Bool) (es : List Event) (replies : List Reply) → IsRunOf (Finish b) es replies true → b ≡ true
-    found b [] [] is = sym is
-    found b [] (reply ∷ replies) is = elim is [ ]
-    found b (e ∷ es) replies is = elim is [ ]
-
-    choose : (o : Operation) (b : Bool) → is_lookup o ≡ b → IsRunOf (needs_nobody r.node o s) es replies true
+    choose : (o : Operation) (b : Bool) → is_lookup o ≡ b → NobodyFound r.node o s
         → plan_of (asked_of (record r { cred = cred }) true) r.value o ≡ plan_of (asked_of r true) r.value o
-    choose (Lookup name) b is ran = refl
-    choose (ReadDirPlus extent) b is ran = refl
-    choose o true is ran = absurd (cc)
-    choose o false is ran =
+    choose (Lookup name) b is with_found = refl
+    choose (ReadDirPlus extent) b is with_found = refl
+    choose o true is with_found = absurd (cc)
+    choose o false is with_found =
+        let ran = subst (λ p. IsRunOf p with_found.events with_found.replies true) (at_once r.node o s is) with_found.runs in
         alike-plan (asked_of r true) cred r.value o
-        (let none = found (not (needs_caller o)) es replies (subst (λ p. IsRunOf p es replies true) (at_once r.node o s is) ran) in cc)
+        (let none : true ≡ not (needs_caller o) = (finished (not (needs_caller o)) true with_found.events with_found.replies ran).2 in cc)
 
 pub who_asks_counts_only_where_needed : WhoAsksCountsOnlyWhereNeeded
 who_asks_counts_only_where_needed r s cred es replies runs =

@@ -23,6 +23,7 @@ use Rattle.fuse_protocol.specs.declared.reply.Time.{Time}
 use Rattle.fuse_state.specs.Servers.{Server, number_of_node, owner_of, descriptor_of, handle_of, object_of, with_handle}
 use Rattle.fuse_state.proofs.StateLaws.{handles_tell}
 use Rattle.fuse_plans.specs.declared.request_error.RequestError.{RequestError}
+use Rattle.fuse_protocol.specs.declared.operation.Operation.TheVariants.{Open}
 use Rattle.fuse_plans.specs.declared.request_error.RequestError.TheVariants.{Lacks}
 use Rattle.fuse_plans.specs.declared.request_error.OtherErrno.TheVariants.{ESTALE}
 use Rattle.fuse_plans.specs.RequestErrors.{failed}
@@ -41,7 +42,7 @@ use Rattle.fuse_plans.specs.Flags.{mode_in, is_trunc}
 use Rattle.fuse_plans.specs.Times.{tell_time_if, tell_time}
 use Rattle.fuse_plans.specs.Laws.{OpenedIsTheObject}
 use Rattle.fuse_plans.specs.Requests.{asked_of}
-use Rattle.fuse_plans.specs.Nobody.{needs_nobody_in}
+use Rattle.fuse_plans.specs.Nobody.{who_counts_in, is_nobody}
 use Rattle.fuse_plans.specs.Serving.{Replying, told_first, answered, asked_for, response_of, request_plan}
 use Rattle.fuse_plans.proofs.PlanLaws.{run-parts}
 
@@ -432,8 +433,14 @@ answered_held r flags false cuts s t es replies handle keeping runs = nothing_as
 pub opened_is_the_object : OpenedIsTheObject
 unfolding request_plan
 opened_is_the_object r s t flags es replies handle keeping is runs =
-    let found = answered_held (asked_of r false) flags.0 r.memory (is_trunc flags.0) s t es replies handle keeping
-    (subst (λ o. IsRunOf {X = Response × Server} (followed_by (needs_nobody_in r.node o s) (λ nobody. answered r.memory (asked_for (asked_of r nobody) r.value o) s)) es replies (Says (Opened handle keeping), t)) is runs) in
+    let parts = run-parts (who_counts_in r.node r.uid (Some (Open flags)) s) (λ who. answered r.memory (asked_for (asked_of r (is_nobody who)) r.value (Some (Open flags))) s)
+    es replies (Says (Opened handle keeping), t)
+    (subst (λ o. IsRunOf {X = Response × Server} (followed_by (who_counts_in r.node r.uid o s) (λ who. answered r.memory (asked_for (asked_of r (is_nobody who)) r.value o) s)) es replies (Says (Opened handle keeping), t)) is runs) in
+    let asked = asked_of r (is_nobody parts.middle) in
+    let later = answered_held asked flags.0 r.memory (is_trunc flags.0) s t parts.later_events parts.later_replies handle keeping parts.later in
+    let grown = node_grows asked s t handle _ (who_counts_in r.node r.uid (Some (Open flags)) s) parts.first_events parts.later_events parts.first_replies parts.later_replies _ parts.first later in
+    let found = subst (λ l. OfNode asked s t l replies handle) (sym parts.all_events)
+    (subst (λ l. OfNode asked s t (parts.first_events ++ parts.later_events) l handle) (sym parts.all_replies) grown) in
     record {
       number = found.number;
       of_node = found.of_node;

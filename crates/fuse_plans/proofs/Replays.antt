@@ -53,6 +53,7 @@ use Rattle.fuse_plans.specs.FilePlans.{open_or_make, show_open, confirm_shown, c
 use Rattle.fuse_plans.specs.ListingPlans.{look_up_names, read_directory_plus}
 use Rattle.fuse_plans.specs.DirectoryPlans.{take_directory, entry_kind, tell_names, list_open, list_kept, read_directory, close_directory, sync_all}
 use Rattle.fuse_plans.specs.Masks.{is_masked}
+use Rattle.fuse_plans.specs.Nobody.{is_owner}
 use Rattle.fuse_plans.specs.Times.{tell_time, told_stamps}
 use Rattle.fuse_plans.specs.AttributePlans.{set_stamps}
 use Rattle.fuse_plans.specs.Serving.{begin, count_space, end, request_plan}
@@ -96,7 +97,7 @@ played s (step ∷ steps) =
 
 -- all that a plan computes with
 unfoldable pub all_plans : Unit {0}
-unfolding give fail kept keep ◌>>=◌ attempt ask retire begin_process caller caller_with_room the_server_process between look_inside by_dentries on look the_number directory_number standing_directory new_valid made is_masked link_by_dentry open_or_make show_open confirm_shown confirm_open look_open tell_created the_open seek read_piece read_pieces write_piece write_pieces write_runs tell_names list_open list_kept read_directory look_up_names read_directory_plus close_directory sync_all begin count_space end request_plan take_directory tell_time told_stamps set_stamps
+unfolding give fail kept keep ◌>>=◌ attempt ask retire begin_process caller caller_with_room the_server_process between look_inside by_dentries on look the_number directory_number standing_directory new_valid made is_masked is_owner link_by_dentry open_or_make show_open confirm_shown confirm_open look_open tell_created the_open seek read_piece read_pieces write_piece write_pieces write_runs tell_names list_open list_kept read_directory look_up_names read_directory_plus close_directory sync_all begin count_space end request_plan take_directory tell_time told_stamps set_stamps
 all_plans = tt
 
 -- ---- words
@@ -123,6 +124,7 @@ asks node uid gid groups now operation replies = (
   record {
     unique = 0;
     node = node;
+    uid = uid;
     cred = credential_for uid gid (outside groups now);
     now = second now;
     operation = Some operation;

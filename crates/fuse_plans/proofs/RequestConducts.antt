@@ -23,7 +23,7 @@ use Rattle.fuse_state.proofs.Holders.{holding_of, same_within}
 use Rattle.fuse_plans.specs.Works.{Work, give, fail, kept, keep, goes_on, ◌>>=◌, ◌>>◌, ask, unless_refused, replied_pid}
 use Rattle.fuse_plans.specs.Requests.{Request, asked_of}
 use Rattle.fuse_plans.specs.Alterations.{says_change}
-use Rattle.fuse_plans.specs.Nobody.{needs_nobody_in}
+use Rattle.fuse_plans.specs.Nobody.{who_counts_in, is_nobody}
 use Rattle.fuse_plans.specs.Acts.{name_of_operation, given_name, node_asked, node_of_object}
 use Rattle.fuse_plans.specs.Conduct.{Known, Rights, conduct, after_begin, after_spawn}
 use Rattle.fuse_plans.specs.NamePlans.{removal}
@@ -32,7 +32,7 @@ use Rattle.fuse_plans.specs.Laws.{RunsBehave, server_rights, Begun, BeginningBeh
 use Rattle.fuse_plans.proofs.PlanLaws.{keeps-follows}
 use Rattle.fuse_plans.proofs.Conducts.{Any, Still, SameOwn, Left, Lasts, does-fail, does-lasts, lasts->>=, does-tell_time, keeps-followed_by}
 use Rattle.fuse_plans.proofs.Calls.{AsksOf}
-use Rattle.fuse_plans.proofs.NobodyConducts.{AtHome, keeps-needs_nobody_in}
+use Rattle.fuse_plans.proofs.NobodyConducts.{AtHome, keeps-who_counts_in}
 use Rattle.fuse_plans.proofs.NameConducts.{lasts-find_name, lasts-make_link, lasts-make_directory, lasts-make_file, lasts-remove, lasts-move_name, lasts-add_link}
 use Rattle.fuse_plans.proofs.FileConducts.{lasts-open_file, lasts-create_file, does-read_file, does-write_file, does-close_file}
 use Rattle.fuse_plans.proofs.ListingConducts.{lasts-read_directory_plus}
@@ -144,11 +144,11 @@ answers rights s same start false (Replying w) lasts known home processes =
 pub requests_behave : RequestsBehave
 unfolding request_plan
 requests_behave r s other =
-    keeps-followed_by (conduct (rights_of r s)) (AtHome s) (Ends s) (needs_nobody_in r.node r.operation s) (λ nobody. answered_as nobody r s) (known_in s)
-    (keeps-needs_nobody_in (rights_of r s) r.node refl s refl refl r.operation refl)
-    (λ known nobody left.
-    answers (rights_of r s) s refl refl r.memory (asked_for (asked_of r nobody) r.value r.operation)
-    (does-asked_for (rights_of r s) (asked_of r nobody) refl refl r.value r.operation refl other refl) known left.home left.processes)
+    keeps-followed_by (conduct (rights_of r s)) (AtHome s) (Ends s) (who_counts_in r.node r.uid r.operation s) (λ who. answered_as (is_nobody who) r s) (known_in s)
+    (keeps-who_counts_in (rights_of r s) r.node refl s refl refl r.uid r.operation refl)
+    (λ known who left.
+    answers (rights_of r s) s refl refl r.memory (asked_for (asked_of r (is_nobody who)) r.value r.operation)
+    (does-asked_for (rights_of r s) (asked_of r (is_nobody who)) refl refl r.value r.operation refl other refl) known left.home left.processes)
 
 -- ---- the first request
 
@@ -229,7 +229,7 @@ begins r s false offer = record { home = refl; processes = refl; shares = λ wit
 pub beginning_behaves : BeginningBehaves
 unfolding request_plan
 beginning_behaves r s offer is =
-    subst (λ operation. KeepsTo (conduct (server_rights r s)) (Begun s) (known_in s) (followed_by (needs_nobody_in r.node operation s) (λ nobody. answered r.memory (asked_for (asked_of r nobody) r.value operation) s))) (sym is) (begins r s r.memory offer)
+    subst (λ operation. KeepsTo (conduct (server_rights r s)) (Begun s) (known_in s) (followed_by (who_counts_in r.node r.uid operation s) (λ who. answered r.memory (asked_for (asked_of r (is_nobody who)) r.value operation) s))) (sym is) (begins r s r.memory offer)
 
 -- ---- what was asked
 

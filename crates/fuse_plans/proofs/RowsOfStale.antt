@@ -32,14 +32,14 @@ open_elsewhere = refl
 pub list_elsewhere : played new (
     asks 0 0 0 None 1000000002 (Init (record { major = 7; minor = 45; max_readahead = 131072; flags = record { 0 = 1946157051 } })) ((Pid 1) ∷ [])
     ∷ asks 1 0 0 (Some []) 1000000003 (MkDir (codes "d") 493 18) ((Pid 2) ∷ (Mask 18) ∷ Done ∷ Done ∷ Done ∷ Done ∷ (Shown (status 4 Directory 493 1 0 0 0)) ∷ Done ∷ [])
-    ∷ asks 4294967300 0 0 (Some []) 1000000004 OpenDir (Done ∷ granted ∷ Done ∷ [])
+    ∷ asks 4294967300 0 0 (Some []) 1000000004 OpenDir (Done ∷ (Shown (status 1 Directory 493 1 0 0 64)) ∷ Done ∷ Done ∷ (Shown (status 4 Directory 493 1 0 0 0)) ∷ Done ∷ Done ∷ granted ∷ Done ∷ [])
     ∷ asks 1 0 0 (Some []) 1000000005 (RmDir (codes "d")) (Done ∷ Done ∷ Done ∷ [])
     ∷ asks 1 0 0 (Some []) 1000000006 (MkDir (codes "e") 493 18) ((Mask 18) ∷ Done ∷ Done ∷ Done ∷ Done ∷ (Shown (status 4 Directory 493 1 0 0 0)) ∷ Done ∷ [])
     ∷ asks 4294967300 0 0 (Some []) 1000000007 (ReadDir (extent 4294967296 0 4096)) []
     ∷ []) ≡
     (((user 0 0 []) ∷ []), Told (terms 131072 524360 4096 0))
     ∷ (((user 0 0 []) ∷ (Calls 2 (Umask 18)) ∷ (Enter 2 1 1) ∷ (Calls 2 (Mkdir (codes "d") 493)) ∷ (Enter 2 1 1) ∷ (Enter 1 1 1) ∷ (Calls 1 (Lstat (codes "d"))) ∷ (Enter 1 1 1) ∷ []), Told (Found 4294967300 0 (attributes (status 4 Directory 493 1 0 0 0) (second 1000000003) (second 1000000003) (second 1000000003))))
-    ∷ (((Enter 2 1 1) ∷ (Calls 2 (Access (codes "d") (perms_of 4))) ∷ (Enter 2 1 1) ∷ []), Told (Opened 4294967296 none_kept))
+    ∷ (((Enter 1 1 1) ∷ (Calls 1 (Lstat (codes "."))) ∷ (Enter 1 1 1) ∷ (Enter 1 1 1) ∷ (Calls 1 (Lstat (codes "d"))) ∷ (Enter 1 1 1) ∷ (Enter 2 1 1) ∷ (Calls 2 (Access (codes "d") (perms_of 4))) ∷ (Enter 2 1 1) ∷ []), Told (Opened 4294967296 none_kept))
     ∷ (((Enter 2 1 1) ∷ (Calls 2 (Rmdir (codes "d"))) ∷ (Enter 2 1 1) ∷ []), Told Nothing)
     ∷ (((Calls 2 (Umask 18)) ∷ (Enter 2 1 1) ∷ (Calls 2 (Mkdir (codes "e") 493)) ∷ (Enter 2 1 1) ∷ (Enter 1 1 1) ∷ (Calls 1 (Lstat (codes "e"))) ∷ (Enter 1 1 1) ∷ []), Told (Found 8589934596 0 (attributes (status 4 Directory 493 1 0 0 0) (second 1000000006) (second 1000000006) (second 1000000006))))
     ∷ ([], Error 116)

@@ -44,7 +44,7 @@ use Rattle.fuse_plans.specs.AttributePlans.{is_now, stamp_set, may_set_times, se
 use Rattle.fuse_plans.specs.Alterations.{sets_times, sets_some, where_so, IsToldIn, AreTold, MayBeAsked, AsksOnly}
 use Rattle.fuse_plans.specs.FilePlans.{when}
 use Rattle.fuse_plans.specs.Times.{tell_time_if, tell_time}
-use Rattle.fuse_plans.specs.Nobody.{needs_nobody_in}
+use Rattle.fuse_plans.specs.Nobody.{who_counts_in, is_nobody}
 use Rattle.fuse_plans.specs.Serving.{Replying, answered, asked_for, response_of, request_plan}
 use Rattle.fuse_plans.specs.TimeLaws.{IsOfWhoAsks, was_there, has_begun, MaySet, owns, may_write, MaySetTimes, TimesAreSetByRight}
 use Rattle.fuse_plans.proofs.PlanLaws.{keeps-follows}
@@ -528,7 +528,7 @@ module _ (r : Request) (s : Server) where
     keeps-request : r.operation ≡ Some (SetAttr c) → KeepsTo recording Ended [] (request_plan r s)
     unfolding request_plan
     keeps-request is =
-        subst (λ o. KeepsTo recording Ended [] (followed_by (needs_nobody_in r.node o s) (λ nobody. answered r.memory (asked_for (asked_of r nobody) r.value o) s))) (sym is)
+        subst (λ o. KeepsTo recording Ended [] (followed_by (who_counts_in r.node r.uid o s) (λ who. answered r.memory (asked_for (asked_of r (is_nobody who)) r.value o) s))) (sym is)
         (keeps-answered r.memory _ (leads->>= leads-tell_time (λ told. leads-set_attributes)))
 
   -- ---- what was asked before

@@ -40,7 +40,7 @@ use Rattle.fuse_plans.specs.Times.{tell_time_if, tell_time, told_stamps_if, told
 use Rattle.fuse_plans.specs.Alterations.{says_change}
 use Rattle.fuse_plans.specs.Laws.{told_entry, names_an_object, LeadsToShown, ToldNodesLeadToObjects}
 use Rattle.fuse_plans.specs.Requests.{asked_of}
-use Rattle.fuse_plans.specs.Nobody.{needs_nobody_in}
+use Rattle.fuse_plans.specs.Nobody.{who_counts_in, is_nobody}
 use Rattle.fuse_plans.specs.Serving.{Task, Replying, Silently, response_of, plan_of, told_first, asked_for, answered, answered_as, request_plan}
 use Rattle.fuse_plans.proofs.PlanLaws.{run-parts}
 use Rattle.fuse_plans.proofs.AllEnds.{AllEnd, all-weaker, all-followed_by, all-run}
@@ -470,8 +470,8 @@ tells-answer s false (Replying w) tells = tt
 pub told_nodes_lead_to_objects : ToldNodesLeadToObjects
 unfolding request_plan
 told_nodes_lead_to_objects r s t operation body es replies node shown asks names lt entry runs =
-    let parts = run-parts (needs_nobody_in r.node r.operation s) (λ nobody. answered_as nobody r s) es replies (Says body, t) runs in
-    all-run (AnswerOf s) (answered_as parts.middle r s) parts.later_events parts.later_replies (Says body, t)
-    (subst (λ o. AllEnd (AnswerOf s) (answered r.memory (asked_for (asked_of r parts.middle) r.value o) s)) (sym asks)
-    (tells-answer s r.memory _ (tells-told_first (says_change operation) r.now _ (tells-plan (asked_of r parts.middle) r.value operation names))))
+    let parts = run-parts (who_counts_in r.node r.uid r.operation s) (λ who. answered_as (is_nobody who) r s) es replies (Says body, t) runs in
+    all-run (AnswerOf s) (answered_as (is_nobody parts.middle) r s) parts.later_events parts.later_replies (Says body, t)
+    (subst (λ o. AllEnd (AnswerOf s) (answered r.memory (asked_for (asked_of r (is_nobody parts.middle)) r.value o) s)) (sym asks)
+    (tells-answer s r.memory _ (tells-told_first (says_change operation) r.now _ (tells-plan (asked_of r (is_nobody parts.middle)) r.value operation names))))
     parts.later node shown entry lt

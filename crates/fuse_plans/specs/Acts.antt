@@ -97,7 +97,8 @@ path_changed call = if changes_name call then only_path call else None
 
 -- What may be asked with names of a directory, and with second names of another one: a call on one name that is of the request, which
 -- adds or takes it only where it is given; to rename what has the name that is given, to the new one; to give the object the name
--- that is given too, by a known one; or what stat(2) shows of a name in a directory whose names are asked for with that.
+-- that is given too, by a known one; what stat(2) shows of a name in a directory whose names are asked for with that; or what it shows
+-- of a directory in which the object is known.
 pub data ActsWithin (r : Subject) (directory second : ℕ) (call : Call) : Type 0 where
   on_one : (name : List ℕ) → second ≡ directory → path_kept call ≡ Some name → IsOfRequest r (named_in directory name)
       → ActsWithin r directory second call
@@ -109,6 +110,8 @@ pub data ActsWithin (r : Subject) (directory second : ℕ) (call : Call) : Type 
       → IsGivenName r (named_in second new) → ActsWithin r directory second call
   lists : (name : List ℕ) (extent : Extent) → second ≡ directory → call ≡ Lstat name → r.operation ≡ Some (ReadDirPlus extent)
       → IsStandingDirectory r.start r.node directory → ActsWithin r directory second call
+  above : (n : ℕ) (name : List ℕ) → second ≡ directory → call ≡ Lstat (codes ".") → IsObject r n
+      → IsKnownDentry r.start n (named_in directory name) → ActsWithin r directory second call
 
 -- A process that has entered a directory, and with the second names of its calls another.
 pub record Away : Type 0 where

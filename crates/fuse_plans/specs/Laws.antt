@@ -10,12 +10,18 @@
 --     OpenedIsTheObject        what an OPEN has opened is the object of its node
 --     ToldNodesLeadToObjects        the node that is told of a name leads to what has it
 --     WhoAsksCountsOnlyWhereNeeded        where nobody is needed a request is the same whoever asks
+--     OwnersCountAlone, OwnersAreGranted        where a user alone counts it owns what is read, and owners are granted that
 --     JudgedLookupsAreGranted        where the kernel has judged, a look-up is refused in one kind of directory only
 use Rattle.std.specs.Prelude.{◌≡◌, ◌≢◌, ℕ, Bool, true, false, List, [], All, Option, None, Some, is_some, IsTrue, IsFalse, ◌<◌, ◌^◌}
 use Rattle.posix_acl.specs.AccessList.{AccessList}
+use Rattle.posix_acl.specs.declared.entry.Perms.{Perms}
 use Rattle.fs_cred.specs.declared.errno.Errno.TheVariants.{EACCES}
 use Rattle.fs_cred.specs.declared.refusal.Refusal.{Refusal}
 use Rattle.fs_cred.specs.Credentials.{Credential, usual_credential}
+use Rattle.fs_cred.specs.declared.node.Node.{Node}
+use Rattle.fs_cred.specs.declared.rule.Rule.{Rule}
+use Rattle.fs_cred.specs.Permissions.{holds}
+use Rattle.fs_cred.specs.Decisions.{Decides}
 use Rattle.fs_model.specs.declared.call.AclType.TheVariants.{Access as AccessAcl}
 use Rattle.fs_model.specs.declared.call.Call.TheVariants.{Lstat, Fstat, Ftruncate, GetAcl}
 use Rattle.fs_model.specs.declared.event.Event.{Event}
@@ -24,6 +30,7 @@ use Rattle.fs_model.specs.declared.reply.Reply.{Reply}
 use Rattle.fs_model.specs.declared.reply.Reply.TheVariants.{Shown, Acl, Refused}
 use Rattle.fs_model.specs.declared.reply.Status.{Status}
 use Rattle.fuse_plans.specs.Plans.{IsRunOf, IsAsked, KeepsTo, MayAskAll, after_all}
+use Rattle.fuse_plans.specs.declared.request.WhoCounts.TheVariants.{Nobody, User}
 use Rattle.fuse_plans.specs.Requests.{Request}
 use Rattle.fuse_protocol.specs.declared.flags.OpenFlags.{OpenFlags}
 use Rattle.fuse_protocol.specs.declared.flags.OpenedFlags.{OpenedFlags}
@@ -45,7 +52,7 @@ use Rattle.fuse_plans.specs.declared.request_error.RequestError.{RequestError}
 use Rattle.fuse_plans.specs.declared.request_error.RequestError.TheVariants.{Refuses}
 use Rattle.fuse_plans.specs.RequestErrors.{is_for}
 use Rattle.fuse_plans.specs.Masks.{may_hide, hides}
-use Rattle.fuse_plans.specs.Nobody.{needs_nobody_in}
+use Rattle.fuse_plans.specs.Nobody.{asks_reading, owner_reads, owner_searches, grants_owner, who_counts_in}
 use Rattle.fuse_plans.specs.Serving.{answered_as, request_plan}
 
 -- the handle of an open file by which something is asked
@@ -201,8 +208,40 @@ ToldNodesLeadToObjects =
 -- Whatever was replied: where it was found that who asks doesn't count, the rest is the same for any credential, and for none.
 abbrev pub WhoAsksCountsOnlyWhereNeeded : Type 0
 WhoAsksCountsOnlyWhereNeeded =
-    (r : Request) (s : Server) (cred : Option Credential) (es : List Event) (replies : List Reply) → IsRunOf (needs_nobody_in r.node r.operation s) es replies true
+    (r : Request) (s : Server) (cred : Option Credential) (es : List Event) (replies : List Reply) → IsRunOf (who_counts_in r.node r.uid r.operation s) es replies Nobody
     → answered_as true (record r { cred = cred }) s ≡ answered_as true r s
+
+-- ---- who reads what is theirs
+
+-- stat(2) showed the server's own process what the user owns, with a mode that grants the owner this
+pub record IsShownAsOwned (uid bit : ℕ) (server_process : Option ℕ) (es : List Event) (replies : List Reply) : Type 0 where
+  pub pid : ℕ
+  pub own : server_process ≡ Some pid
+  pub path : List ℕ
+  pub status : Status
+  pub after : List Event
+  pub shown : IsAsked (Calls pid (Lstat path)) (Shown status) after es replies
+  pub grants : IsTrue (grants_owner uid bit status)
+
+-- Nothing but to read is asked for; and the user owns a directory, and may search it as its owner, and an object, and may read that.
+pub record ReadsOwn (r : Request) (s : Server) (es : List Event) (replies : List Reply) : Type 0 where
+  pub operation : Operation
+  pub asks : r.operation ≡ Some operation
+  pub reads : IsTrue (asks_reading operation)
+  pub directory : IsShownAsOwned r.uid owner_searches s.server_process es replies
+  pub object : IsShownAsOwned r.uid owner_reads s.server_process es replies
+
+-- Whatever was replied: where groups and capabilities aren't asked for, it was shown that they don't count.
+abbrev pub OwnersCountAlone : Type 0
+OwnersCountAlone =
+    (r : Request) (s : Server) (es : List Event) (replies : List Reply) → IsRunOf (who_counts_in r.node r.uid r.operation s) es replies User
+    → ReadsOwn r s es replies
+
+-- For who owns a node, and whose entry holds all of want, it is granted with any groups and capabilities.
+abbrev pub OwnersAreGranted : Type 0
+OwnersAreGranted =
+    (cred : Credential) (node : Node) (want : Perms) (granted : Bool) (rule : Rule) → cred.uid ≡ node.owner
+    → IsTrue (holds node.acl.owner want) → Decides cred node want granted rule → IsTrue granted
 
 -- ---- look-ups that the kernel has judged
 

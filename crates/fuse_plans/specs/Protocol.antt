@@ -45,6 +45,7 @@ abbrev pub request_from : Outside → Option (Option AccessList) → WireRequest
 request_from outside acl r = record {
   unique = r.unique;
   node = r.node;
+  uid = r.uid;
   cred = credential_for r.uid r.gid outside;
   now = outside.now;
   operation = Some r.operation;
@@ -57,6 +58,7 @@ abbrev pub malformed : Outside → ℕ → Request
 malformed outside unique = record {
   unique = unique;
   node = 0;
+  uid = 0;
   cred = None;
   now = outside.now;
   operation = None;

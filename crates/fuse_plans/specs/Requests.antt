@@ -38,12 +38,13 @@ credential_for uid gid outside = credential_with uid gid outside.caps outside.gr
 
 -- ---- requests
 
--- The number of a request; who asks, of which node, and when; what for, where its body is of its form. The value of an
+-- The number of a request; who asks, of which node, and when: the user, and the credential; what for, where its body is of its form. The value of an
 -- attribute is an ACL, or none where that has no entries; and nothing where its bytes aren't of the form. And whether there is
 -- memory for what is added.
 pub record Request : Type 0 where
   pub unique : ℕ
   pub node : ℕ
+  pub uid : ℕ
   pub cred : Option Credential
   pub now : Time
   pub operation : Option Operation

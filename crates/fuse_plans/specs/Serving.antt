@@ -27,7 +27,7 @@ use Rattle.fuse_state.specs.Servers.{Server, forgotten, all_forgotten, with_the_
 use Rattle.fuse_state.specs.declared.settings.Settings.{Settings}
 use Rattle.fuse_plans.specs.Works.{Work, give, fail, kept, keep, ◌>>=◌, ◌>>◌, obtain, replied_pid, replied_space}
 use Rattle.fuse_plans.specs.Alterations.{says_change}
-use Rattle.fuse_plans.specs.Nobody.{needs_nobody_in}
+use Rattle.fuse_plans.specs.Nobody.{who_counts_in, is_nobody}
 use Rattle.fuse_plans.specs.Times.{tell_time}
 use Rattle.fuse_plans.specs.NamePlans.{find_name, make_link, make_file, make_directory, remove, removal, move_name, add_link}
 use Rattle.fuse_plans.specs.FilePlans.{open_file, create_file, read_file, write_file, close_file, sync_file}
@@ -172,7 +172,7 @@ abbrev pub answered_as : Bool → Request → Server → Plan (Response × Serve
 answered_as nobody r s = answered r.memory (asked_for (asked_of r nobody) r.value r.operation) s
 
 unfoldable pub request_plan : Request → Server → Plan (Response × Server)
-request_plan r s = followed_by (needs_nobody_in r.node r.operation s) (λ nobody. answered_as nobody r s)
+request_plan r s = followed_by (who_counts_in r.node r.uid r.operation s) (λ who. answered_as (is_nobody who) r s)
 
 -- One after another: what each is answered, and what the server keeps then.
 unfoldable pub requests_plan : List Request → Server → Plan (List Response × Server)

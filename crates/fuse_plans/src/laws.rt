@@ -4,7 +4,7 @@ ghost use Rattle.fuse_plans.specs.ListingLaws.{ListingsGoOn, NamesKeepTheirOffse
 ghost use Rattle.fuse_plans.specs.TimeLaws.{TimesAreSetByRight};
 ghost use Rattle.fuse_plans.specs.ShareLaws.{RequestsKeepShares, ProcessesAreFound, DirectoriesAreFound};
 ghost use Rattle.fuse_plans.specs.AlteredTrees.{StepsChangeWhatIsSaid};
-ghost use Rattle.fuse_plans.specs.Laws.{BeginningBehaves, FailuresChangeNothing, JudgedLookupsAreGranted, OpenedIsTheObject, OthersChangeNothing, OthersKeepTimes, RequestsBehave, RequestsChangeWhatTheySay, RunsChangeWhatRequestsSay, RunsBehave, ToldNodesLeadToObjects, WhoAsksCountsOnlyWhereNeeded};
+ghost use Rattle.fuse_plans.specs.Laws.{BeginningBehaves, FailuresChangeNothing, JudgedLookupsAreGranted, OpenedIsTheObject, OwnersAreGranted, OwnersCountAlone, OthersChangeNothing, OthersKeepTimes, RequestsBehave, RequestsChangeWhatTheySay, RunsChangeWhatRequestsSay, RunsBehave, ToldNodesLeadToObjects, WhoAsksCountsOnlyWhereNeeded};
 
 /// Whatever the machine replies, no request but the first is performed with more than the rights of who asks.
 ///
@@ -100,6 +100,16 @@ pub fn told_nodes_lead_to_objects()
 /// Where a request was found to need nobody, its plan is the same whoever asks: their process isn't even looked for.
 pub fn who_asks_counts_only_where_needed()
     ensures { WhoAsksCountsOnlyWhereNeeded }
+{}
+
+/// Groups and capabilities of who asks to read are passed over only where they don't count.
+///
+/// Then nothing but to read is asked for, and the server's own process was shown a directory that the user owns and may search as its
+/// owner, and an object that the user owns and may read as that. And by the access check of acl(5) such an owner is granted this with any
+/// groups and any capabilities.
+pub fn owners_need_no_groups()
+    ensures shown { OwnersCountAlone }
+    ensures granted { OwnersAreGranted }
 {}
 
 /// Where the kernel judges by modes and lists before it asks, no look-up is answered EACCES, whoever asks and whether their groups are

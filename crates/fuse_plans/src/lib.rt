@@ -11,12 +11,12 @@ mod request_error;
 
 pub use laws::{
     beginning_behaves, failures_change_nothing, judged_lookups_are_granted, listings_go_on,
-    names_are_kept_where_judged, opened_is_the_object, requests_behave,
+    names_are_kept_where_judged, opened_is_the_object, owners_need_no_groups, requests_behave,
     requests_change_what_they_say, shares_are_found, steps_change_what_is_said,
     times_are_set_by_right, told_nodes_lead_to_objects, what_is_asked_may_be,
     who_asks_counts_only_where_needed,
 };
 pub use mode::Mode;
 pub use reply::{Attributes, ReplyBody, Response, attr_of, looked_up_entry};
-pub use request::{Asked, needs_caller};
+pub use request::{Asked, WhoCounts, needs_caller};
 pub use request_error::{OtherErrno, RequestError};

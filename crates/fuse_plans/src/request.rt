@@ -1,6 +1,6 @@
 //! Who asks, and where that counts.
 ghost use Rattle.std.specs.Prelude.{◌≡◌};
-ghost use Rattle.fuse_plans.specs.Nobody.{needs_caller};
+ghost use Rattle.fuse_plans.specs.Nobody.{is_nobody, needs_caller};
 
 use fs_cred::Cred;
 use fuse_protocol::{Operation, Time};
@@ -14,6 +14,29 @@ pub struct Asked {
     /// None where not all groups of who asks are known.
     pub cred: Option<Cred>,
     pub now: Time,
+}
+
+/// Who counts of those who ask.
+#[derive(Clone, Copy)]
+pub enum WhoCounts {
+    /// None of them.
+    Nobody,
+    /// The user alone, and not the groups and capabilities of the process.
+    User,
+    /// The user with the groups and the capabilities of the process.
+    Process,
+}
+
+impl WhoCounts {
+    /// Whether it is nobody.
+    pub fn is_nobody(self) -> bool
+        ensures { result ≡ is_nobody self }
+    {
+        match self {
+            WhoCounts::Nobody => true,
+            WhoCounts::User | WhoCounts::Process => false,
+        }
+    }
 }
 
 /// Whether an operation is performed by a process of who asks, or may fail for its credential.

@@ -11,6 +11,8 @@ use Rattle.fuse_protocol.specs.Requests.{request_of}
 use Rattle.fuse_state.specs.Servers.{Server}
 use Rattle.fuse_plans.specs.declared.reply.Response.{Response}
 use Rattle.fuse_plans.specs.declared.reply.Response.TheVariants.{Fails}
+use Rattle.fuse_plans.specs.declared.request.WhoCounts.{WhoCounts}
+use Rattle.fuse_plans.specs.declared.request.WhoCounts.TheVariants.{Nobody}
 use Rattle.fuse_plans.specs.Plans.{finishes}
 use Rattle.fuse_plans.specs.Protocol.{HasValue, Hears, says, says_badly, no_more, one_more, request_from, malformed}
 use Rattle.fuse_plans.specs.Requests.{Outside}
@@ -37,12 +39,12 @@ module _ {M K : Type 0} (Serves : M → Event → Reply → M → Type 0) (Does 
   none_performed m s before after = record { hears = no_more; performs = carried_none Serves s m }
 
   one_performed : (round : Round) (old new : Parties M K) → Hears round.bytes round.outside round.request
-      → IsAnsweredSo Serves round.request round.nobody round.response old.server new.server old.machine new.machine
+      → IsAnsweredSo Serves round.request round.who round.response old.server new.server old.machine new.machine
       → ArePerformed Serves old (round ∷ []) new
   one_performed round old new hears performs = record {
     hears = one_more round.bytes round.outside round.request [] [] hears no_more;
     performs = carried_on Serves round.request [] old.server new.server new.server old.machine new.machine new.machine round.response []
-        (whole Serves round.request round.nobody round.response old.server new.server old.machine new.machine performs) (carried_none Serves new.server new.machine);
+        (whole Serves round.request round.who round.response old.server new.server old.machine new.machine performs) (carried_none Serves new.server new.machine);
   }
 
   -- after the rounds, more requests
@@ -55,7 +57,7 @@ module _ {M K : Type 0} (Serves : M → Event → Reply → M → Type 0) (Does 
         hears = one_more round.bytes round.outside round.request (map heard_in (rounds ++ more)) (map (λ r. r.request) (rounds ++ more)) is.hears all.hears;
         performs = carried_on Serves round.request (map (λ r. r.request) (rounds ++ more)) old.server next.server new.server old.machine next.machine new.machine
             round.response (map (λ r. r.response) (rounds ++ more))
-            (whole Serves round.request round.nobody round.response old.server next.server old.machine next.machine is.performs) all.performs;
+            (whole Serves round.request round.who round.response old.server next.server old.machine next.machine is.performs) all.performs;
       }
 
   -- no request can be read
@@ -88,30 +90,30 @@ module _ {M K : Type 0} (Serves : M → Event → Reply → M → Type 0) (Does 
   }
 
   unanswered : (round : Round) (fault : ServeFault) (old new : Parties M K) (reached : K) → IsOfReply fault → Hears round.bytes round.outside round.request
-      → IsAnsweredSo Serves round.request round.nobody round.response old.server new.server old.machine new.machine
-      → Passes Does old.kernel (learns round.nobody (request_of round.bytes) round.outside) reached → ReadBreaks Serves Does round.bytes fault old new
+      → IsAnsweredSo Serves round.request round.who round.response old.server new.server old.machine new.machine
+      → Passes Does old.kernel (learns round.who (request_of round.bytes) round.outside) reached → ReadBreaks Serves Does round.bytes fault old new
   unanswered round fault old new reached is hears performs passes = record {
     untold = round ∷ [];
-    is_break = λ k does. no_reply round reached is (passes_more (Reads round.bytes) (learns round.nobody (request_of round.bytes) round.outside) k old.kernel reached does passes);
+    is_break = λ k does. no_reply round reached is (passes_more (Reads round.bytes) (learns round.who (request_of round.bytes) round.outside) k old.kernel reached does passes);
     found = (performs.mid, performs.finds);
     performed = one_performed round old new hears performs;
   }
 
-  pub unanswered_spoken : (bytes : List ℕ) (spoken : WireRequest) (outside : Outside) (acl : Option (Option AccessList)) (nobody : Bool) (response : Response)
+  pub unanswered_spoken : (bytes : List ℕ) (spoken : WireRequest) (outside : Outside) (acl : Option (Option AccessList)) (who : WhoCounts) (response : Response)
       (fault : ServeFault) (old new : Parties M K) (reached : K) → request_of bytes ≡ Ok spoken → IsOfReply fault
       → (outside.memory ≡ true → HasValue spoken.operation acl)
-      → IsAnsweredSo Serves (request_from outside acl spoken) nobody response old.server new.server old.machine new.machine
-      → Passes Does old.kernel (learns nobody (Ok spoken) outside) reached → ReadBreaks Serves Does bytes fault old new
-  unanswered_spoken bytes spoken outside acl nobody response fault old new reached spoke is has performs passes =
-      unanswered (record { bytes = bytes; outside = outside; request = request_from outside acl spoken; nobody = nobody; response = response; taken = false })
+      → IsAnsweredSo Serves (request_from outside acl spoken) who response old.server new.server old.machine new.machine
+      → Passes Does old.kernel (learns who (Ok spoken) outside) reached → ReadBreaks Serves Does bytes fault old new
+  unanswered_spoken bytes spoken outside acl who response fault old new reached spoke is has performs passes =
+      unanswered (record { bytes = bytes; outside = outside; request = request_from outside acl spoken; who = who; response = response; taken = false })
       fault old new reached is (says spoken acl spoke has) performs
-      (subst (λ (r : Result WireRequest RequestFault). Passes Does old.kernel (learns nobody r outside) reached) (sym spoke) passes)
+      (subst (λ (r : Result WireRequest RequestFault). Passes Does old.kernel (learns who r outside) reached) (sym spoke) passes)
 
   pub unanswered_badly : (bytes : List ℕ) (unique : ℕ) (fault : ServeFault) (m : M) (s : Server) (before after : K)
       → request_of bytes ≡ Err (Malformed unique) → IsOfReply fault → ReadBreaks Serves Does bytes fault (at m s before) (at m s after)
   unfolding fail
   unanswered_badly bytes unique fault m s before after spoke is =
-      unanswered (record { bytes = bytes; outside = any_outside; request = malformed any_outside unique; nobody = true; response = Fails (failed EINVAL); taken = false })
+      unanswered (record { bytes = bytes; outside = any_outside; request = malformed any_outside unique; who = Nobody; response = Fails (failed EINVAL); taken = false })
       fault (at m s before) (at m s after) before is (says_badly unique spoke)
-      (record { mid = m; finds = finishes true m; answers = finishes (Fails (failed EINVAL), s) m })
-      (subst (λ (r : Result WireRequest RequestFault). Passes Does before (learns true r any_outside) before) (sym spoke) (passes_none before))
+      (record { mid = m; finds = finishes Nobody m; of_user = tt; answers = finishes (Fails (failed EINVAL), s) m })
+      (subst (λ (r : Result WireRequest RequestFault). Passes Does before (learns Nobody r any_outside) before) (sym spoke) (passes_none before))

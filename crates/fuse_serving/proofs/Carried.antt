@@ -6,9 +6,10 @@ use Rattle.fuse_state.specs.Servers.{Server}
 use Rattle.fuse_plans.specs.declared.reply.Response.{Response}
 use Rattle.fuse_plans.specs.Plans.{Plan, Finish, followed_by, CarriesOut, finishes, asks}
 use Rattle.fuse_plans.specs.Requests.{Request}
-use Rattle.fuse_plans.specs.Nobody.{needs_nobody_in}
+use Rattle.fuse_plans.specs.declared.request.WhoCounts.{WhoCounts}
+use Rattle.fuse_plans.specs.Nobody.{who_counts_in, is_nobody}
 use Rattle.fuse_plans.specs.Serving.{answered_as, request_plan, requests_plan}
-use Rattle.fuse_serving.specs.Rounds.{IsAnsweredSo}
+use Rattle.fuse_serving.specs.Rounds.{IsOfUser, IsAnsweredSo}
 
 pub nothing_asked : {M X : Type 0} (Serves : M → Event → Reply → M → Type 0) (plan : Plan X) (old new : M) (x y : X)
     → plan ≡ Finish x → new ≡ old → y ≡ x → CarriesOut Serves plan old new y
@@ -27,20 +28,21 @@ carried_then Serves p f old mid new x y (asks e next reply _ after _ _ serves fi
 -- ---- requests
 
 module _ {M : Type 0} (Serves : M → Event → Reply → M → Type 0) where
-  pub whole : (r : Request) (nobody : Bool) (response : Response) (before after : Server) (old new : M) → IsAnsweredSo Serves r nobody response before after old new
+  pub whole : (r : Request) (who : WhoCounts) (response : Response) (before after : Server) (old new : M) → IsAnsweredSo Serves r who response before after old new
       → CarriesOut Serves (request_plan r before) old new (response, after)
   unfolding request_plan
-  whole r nobody response before after old new is =
-      carried_then Serves (needs_nobody_in r.node r.operation before) _ old is.mid new nobody (response, after) is.finds is.answers
+  whole r who response before after old new is =
+      carried_then Serves (who_counts_in r.node r.uid r.operation before) _ old is.mid new who (response, after) is.finds is.answers
 
   -- who counts was found first, and the server kept what it kept
-  pub answered_after : (r : Request) (nobody : Bool) (response : Response) {before kept after : Server} {old mid new : M}
-      → CarriesOut Serves (needs_nobody_in r.node r.operation before) old mid nobody → kept ≡ before
-      → CarriesOut Serves (answered_as nobody r kept) mid new (response, after) → IsAnsweredSo Serves r nobody response before after old new
-  answered_after r nobody response {before} {kept} {after} {old} {mid} {new} finds same answers = record {
+  pub answered_after : (r : Request) (who : WhoCounts) (response : Response) {before kept after : Server} {old mid new : M}
+      → CarriesOut Serves (who_counts_in r.node r.uid r.operation before) old mid who → kept ≡ before → IsOfUser who r.cred
+      → CarriesOut Serves (answered_as (is_nobody who) r kept) mid new (response, after) → IsAnsweredSo Serves r who response before after old new
+  answered_after r who response {before} {kept} {after} {old} {mid} {new} finds same user answers = record {
     mid = mid;
     finds = finds;
-    answers = subst (λ (s : Server). CarriesOut Serves (answered_as nobody r s) mid new (response, after)) same answers;
+    of_user = user;
+    answers = subst (λ (s : Server). CarriesOut Serves (answered_as (is_nobody who) r s) mid new (response, after)) same answers;
   }
 
   pub carried_on : (r : Request) (rs : List Request) (before mid after : Server) (old next new : M) (first : Response) (rest : List Response)

@@ -10,6 +10,7 @@ use Rattle.fuse_protocol.specs.declared.request.RequestFault.TheVariants.{Malfor
 use Rattle.fuse_protocol.specs.Requests.{request_of}
 use Rattle.fuse_state.specs.Servers.{Server}
 use Rattle.fuse_plans.specs.declared.reply.Response.TheVariants.{Fails}
+use Rattle.fuse_plans.specs.declared.request.WhoCounts.TheVariants.{Nobody}
 use Rattle.fuse_plans.specs.Plans.{finishes}
 use Rattle.fuse_plans.specs.Protocol.{Hears, says, says_badly, request_from, malformed}
 use Rattle.fuse_plans.specs.Requests.{Outside}
@@ -48,10 +49,10 @@ module _ {M K : Type 0} (Serves : M → Event → Reply → M → Type 0) (Does 
   pub read_spoken : (bytes : List ℕ) (spoken : WireRequest) (old new : Parties M K) → request_of bytes ≡ Ok spoken
       → SpokenServed Serves Does spoken old new → ReadServed Serves Does bytes old new
   read_spoken bytes spoken old new is s = record {
-    round = record { bytes = bytes; outside = s.outside; request = request_from s.outside s.acl spoken; nobody = s.nobody; response = s.response; taken = s.taken };
+    round = record { bytes = bytes; outside = s.outside; request = request_from s.outside s.acl spoken; who = s.who; response = s.response; taken = s.taken };
     is_read = refl;
     hears = says spoken s.acl is s.has_value;
-    passes = subst (λ (r : Result WireRequest RequestFault). Passes Does old.kernel (learns s.nobody r s.outside ++ tells spoken.unique s.response s.taken) new.kernel)
+    passes = subst (λ (r : Result WireRequest RequestFault). Passes Does old.kernel (learns s.who r s.outside ++ tells spoken.unique s.response s.taken) new.kernel)
         (sym is) s.passes;
     performs = s.performs;
   }
@@ -60,9 +61,9 @@ module _ {M K : Type 0} (Serves : M → Event → Reply → M → Type 0) (Does 
       → Passes Does k (tells unique (Fails (failed EINVAL)) taken) after → ReadServed Serves Does bytes (at m s k) (at m s after)
   unfolding fail
   read_badly bytes unique m s k after taken is told = record {
-    round = record { bytes = bytes; outside = any_outside; request = malformed any_outside unique; nobody = true; response = Fails (failed EINVAL); taken = taken };
+    round = record { bytes = bytes; outside = any_outside; request = malformed any_outside unique; who = Nobody; response = Fails (failed EINVAL); taken = taken };
     is_read = refl;
     hears = says_badly unique is;
-    passes = subst (λ (r : Result WireRequest RequestFault). Passes Does k (learns true r any_outside ++ tells unique (Fails (failed EINVAL)) taken) after) (sym is) told;
-    performs = record { mid = m; finds = finishes true m; answers = finishes (Fails (failed EINVAL), s) m };
+    passes = subst (λ (r : Result WireRequest RequestFault). Passes Does k (learns Nobody r any_outside ++ tells unique (Fails (failed EINVAL)) taken) after) (sym is) told;
+    performs = record { mid = m; finds = finishes Nobody m; of_user = tt; answers = finishes (Fails (failed EINVAL), s) m };
   }

@@ -15,7 +15,9 @@ use Rattle.fuse_plans.specs.Requests.{Outside, Request}
 use Rattle.fuse_plans.specs.Protocol.{no_more, one_more, response_bytes}
 use Rattle.fuse_serving.specs.declared.caller.Caller.{Caller}
 use Rattle.fuse_serving.specs.Exchanges.{Exchange, Learns, SeesTime, Passes, passes_none}
-use Rattle.fuse_serving.specs.Rounds.{Round, Parties, IsRound, Rounds, no_round, one_round, AreServed, caller_in, learns, tells, exchanges, heard_in, taken_bytes, bytes_sent}
+use Rattle.fuse_plans.specs.declared.request.WhoCounts.{WhoCounts}
+use Rattle.fuse_plans.specs.declared.request.WhoCounts.TheVariants.{Nobody, User, Process}
+use Rattle.fuse_serving.specs.Rounds.{asks_for, Round, Parties, IsRound, Rounds, no_round, one_round, AreServed, caller_in, learns, tells, exchanges, heard_in, taken_bytes, bytes_sent}
 use Rattle.fuse_serving.proofs.Carried.{whole, carried_on, carried_none}
 use Rattle.fuse_serving.proofs.Passing.{passes_joined}
 
@@ -34,19 +36,19 @@ told_bytes unique (Says body) false = search rules
 told_bytes unique (Fails e) true = search rules
 told_bytes unique (Fails e) false = search rules
 
-asked_bytes : (now : Time) (pid : ℕ) (caller : Caller) (nobody : Bool)
-    → written_of (SeesTime now ∷ (if nobody then [] else Learns pid caller ∷ [])) ≡ []
-asked_bytes now pid caller true = refl
-asked_bytes now pid caller false = refl
+asked_bytes : (now : Time) (spoken : WireRequest) (caller : Caller) (who : WhoCounts) → written_of (SeesTime now ∷ asks_for who spoken caller) ≡ []
+asked_bytes now spoken caller Nobody = refl
+asked_bytes now spoken caller User = refl
+asked_bytes now spoken caller Process = refl
 
-learnt_bytes : (nobody : Bool) (spoken : Result WireRequest RequestFault) (outside : Outside) → written_of (learns nobody spoken outside) ≡ []
-learnt_bytes nobody (Ok spoken) outside = asked_bytes outside.now spoken.pid (caller_in outside) nobody
-learnt_bytes nobody (Err e) outside = refl
+learnt_bytes : (who : WhoCounts) (spoken : Result WireRequest RequestFault) (outside : Outside) → written_of (learns who spoken outside) ≡ []
+learnt_bytes who (Ok spoken) outside = asked_bytes outside.now spoken (caller_in outside) who
+learnt_bytes who (Err e) outside = refl
 
 round_bytes : (r : Round) → written_of (exchanges r) ≡ taken_bytes r
 round_bytes r =
-    flat_map-append bytes_sent (learns r.nobody (request_of r.bytes) r.outside) (tells r.request.unique r.response r.taken)
-    ∙ ap (λ (s : List ℕ). s ++ written_of (tells r.request.unique r.response r.taken)) (learnt_bytes r.nobody (request_of r.bytes) r.outside)
+    flat_map-append bytes_sent (learns r.who (request_of r.bytes) r.outside) (tells r.request.unique r.response r.taken)
+    ∙ ap (λ (s : List ℕ). s ++ written_of (tells r.request.unique r.response r.taken)) (learnt_bytes r.who (request_of r.bytes) r.outside)
     ∙ told_bytes r.request.unique r.response r.taken
 
 module _ {M K : Type 0} (Serves : M → Event → Reply → M → Type 0) (Does : K → Exchange → K → Type 0) where
@@ -64,7 +66,7 @@ module _ {M K : Type 0} (Serves : M → Event → Reply → M → Type 0) (Does 
       record {
         hears = one_more round.bytes round.outside round.request (map heard_in rounds) (requests_in rounds) is.hears more.hears;
         performs = carried_on Serves round.request (requests_in rounds) old.server mid.server new.server old.machine mid.machine new.machine round.response (responses_in rounds)
-            (whole Serves round.request round.nobody round.response old.server mid.server old.machine mid.machine is.performs) more.performs;
+            (whole Serves round.request round.who round.response old.server mid.server old.machine mid.machine is.performs) more.performs;
         passes = subst (λ (xs : List Exchange). Passes Does old.kernel xs new.kernel) (sym (flat_map-cons exchanges round rounds))
             (passes_joined Does (exchanges round) (flat_map exchanges rounds) old.kernel mid.kernel new.kernel is.passes more.passes);
         is_written =

@@ -18,6 +18,7 @@ use Rattle.fuse_plans.specs.declared.reply.Response.{Response}
 use Rattle.fuse_plans.specs.Plans.{CarriesOut}
 use Rattle.fuse_plans.specs.Requests.{Outside}
 use Rattle.fuse_plans.specs.Protocol.{HasValue, Hears, request_from}
+use Rattle.fuse_plans.specs.declared.request.WhoCounts.{WhoCounts}
 use Rattle.fuse_plans.specs.Serving.{answered_as}
 use Rattle.fuse_serving.specs.declared.caller.Caller.{Caller}
 use Rattle.fuse_serving.specs.declared.fault.ServeFault.{ServeFault}
@@ -52,11 +53,11 @@ pub record SpokenServed {M K : Type 0} (Serves : M → Event → Reply → M →
   pub outside : Outside
   pub acl : Option (Option AccessList)
   pub has_value : outside.memory ≡ true → HasValue spoken.operation acl
-  pub nobody : Bool
+  pub who : WhoCounts
   pub response : Response
   pub taken : Bool
-  pub performs : IsAnsweredSo Serves (request_from outside acl spoken) nobody response old.server new.server old.machine new.machine
-  pub passes : Passes Does old.kernel (learns nobody (Ok spoken) outside ++ tells spoken.unique response taken) new.kernel
+  pub performs : IsAnsweredSo Serves (request_from outside acl spoken) who response old.server new.server old.machine new.machine
+  pub passes : Passes Does old.kernel (learns who (Ok spoken) outside ++ tells spoken.unique response taken) new.kernel
 
 -- The request that was read is served.
 pub record ReadServed {M K : Type 0} (Serves : M → Event → Reply → M → Type 0) (Does : K → Exchange → K → Type 0)
@@ -65,7 +66,7 @@ pub record ReadServed {M K : Type 0} (Serves : M → Event → Reply → M → T
   pub is_read : round.bytes ≡ bytes
   pub hears : Hears bytes round.outside round.request
   pub passes : Passes Does old.kernel (later_exchanges round) new.kernel
-  pub performs : IsAnsweredSo Serves round.request round.nobody round.response old.server new.server old.machine new.machine
+  pub performs : IsAnsweredSo Serves round.request round.who round.response old.server new.server old.machine new.machine
 
 -- A read that isn't whole changes nothing.
 pub record IsNotWhole {M K : Type 0} (bytes : List ℕ) (old new : Parties M K) : Type 0 where

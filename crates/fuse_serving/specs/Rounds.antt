@@ -7,8 +7,10 @@
 --     ServedAll        all of a session, and what its requests come to
 --     IsBreak        how a round breaks off with a fault
 --     BrokenOff        all of a session that broke off, and what its requests come to
-use Rattle.std.specs.Prelude.{◌≡◌, ℕ, ◌-◌, ◌^◌, Bool, true, false, List, [], ◌∷◌, ◌++◌, map, length, ◌⊎◌, Result, Ok, Err, if◌then◌else◌}
+use Rattle.std.specs.Prelude.{◌≡◌, ℕ, ◌-◌, ◌^◌, Bool, true, false, List, [], ◌∷◌, ◌++◌, map, length, ◌⊎◌, Option, None, Some, Result, Ok, Err, if◌then◌else◌}
 use Rattle.std.specs.List.{flat_map}
+use Rattle.fs_cred.specs.Capabilities.{no_caps}
+use Rattle.fs_cred.specs.Credentials.{Credential}
 use Rattle.fs_model.specs.declared.event.Event.{Event}
 use Rattle.fs_model.specs.declared.reply.Reply.{Reply}
 use Rattle.fuse_protocol.specs.declared.request.Request.{Request as WireRequest}
@@ -21,20 +23,22 @@ use Rattle.fuse_plans.specs.declared.reply.Response.TheVariants.{Silence, Says, 
 use Rattle.fuse_plans.specs.Plans.{CarriesOut}
 use Rattle.fuse_plans.specs.Requests.{Outside, Request}
 use Rattle.fuse_plans.specs.Protocol.{Hears, HearsAll, response_bytes}
-use Rattle.fuse_plans.specs.Nobody.{needs_nobody_in}
+use Rattle.fuse_plans.specs.declared.request.WhoCounts.{WhoCounts}
+use Rattle.fuse_plans.specs.declared.request.WhoCounts.TheVariants.{Nobody, User, Process}
+use Rattle.fuse_plans.specs.Nobody.{who_counts_in, is_nobody}
 use Rattle.fuse_plans.specs.Serving.{answered_as, requests_plan}
 use Rattle.fuse_serving.specs.declared.caller.Caller.{Caller}
 use Rattle.fuse_serving.specs.declared.fault.ServeFault.{ServeFault}
 use Rattle.fuse_serving.specs.declared.fault.ServeFault.TheVariants as faults
 use Rattle.fuse_serving.specs.Exchanges.{Exchange, Reads, ReadsEnd, Writes, Learns, SeesTime, Passes}
 
--- what was read, and what was known beside it; the request that it says, whether it was found to need nobody, and its answer; and
+-- what was read, and what was known beside it; the request that it says, who was found to count, and its answer; and
 -- whether the reply was taken
 pub record Round : Type 0 where
   pub bytes : List ℕ
   pub outside : Outside
   pub request : Request
-  pub nobody : Bool
+  pub who : WhoCounts
   pub response : Response
   pub taken : Bool
 
@@ -49,14 +53,20 @@ pub record Parties (M K : Type 0) : Type 0 where
 abbrev pub caller_in : Outside → Caller
 caller_in outside = record { groups = outside.groups; caps = outside.caps }
 
--- Where nobody is needed nothing is asked about who asks.
-abbrev pub asks_for : Bool → WireRequest → Caller → List Exchange
-asks_for nobody spoken caller = if nobody then [] else Learns spoken.pid caller ∷ []
+-- Only where the process counts it is asked about.
+abbrev pub asks_for : WhoCounts → WireRequest → Caller → List Exchange
+asks_for Process spoken caller = Learns spoken.pid caller ∷ []
+asks_for _ spoken caller = []
+
+-- of a user alone there are no groups and no capabilities
+abbrev pub IsKnownAs : WhoCounts → Caller → Type 0
+IsKnownAs User caller = (caller.groups ≡ Some []) × (caller.caps ≡ no_caps)
+IsKnownAs _ caller = Unit {0}
 
 -- Where the body is of its form.
-abbrev pub learns : Bool → Result WireRequest RequestFault → Outside → List Exchange
-learns nobody (Ok spoken) outside = SeesTime outside.now ∷ asks_for nobody spoken (caller_in outside)
-learns nobody (Err e) outside = []
+abbrev pub learns : WhoCounts → Result WireRequest RequestFault → Outside → List Exchange
+learns who (Ok spoken) outside = SeesTime outside.now ∷ asks_for who spoken (caller_in outside)
+learns who (Err e) outside = []
 
 abbrev pub has_reply : Response → Bool
 has_reply Silence = false
@@ -70,17 +80,23 @@ tells unique (Fails e) taken = Writes (response_bytes unique (Fails e)) taken �
 
 -- behind the read
 abbrev pub later_exchanges : Round → List Exchange
-later_exchanges r = learns r.nobody (request_of r.bytes) r.outside ++ tells r.request.unique r.response r.taken
+later_exchanges r = learns r.who (request_of r.bytes) r.outside ++ tells r.request.unique r.response r.taken
 
 abbrev pub exchanges : Round → List Exchange
 exchanges r = Reads r.bytes ∷ later_exchanges r
 
--- First it is found whether who asks counts, which changes nothing that the server keeps; and then the request is answered.
-pub record IsAnsweredSo {M : Type 0} (Serves : M → Event → Reply → M → Type 0) (request : Request) (nobody : Bool) (response : Response)
+-- where the user alone counts, a request is performed with its user's credential without groups and capabilities
+abbrev pub IsOfUser : WhoCounts → Option Credential → Type 0
+IsOfUser User (Some cred) = (cred.groups ≡ []) × (cred.caps ≡ no_caps)
+IsOfUser _ cred = Unit {0}
+
+-- First it is found who counts, which changes nothing that the server keeps; and then the request is answered.
+pub record IsAnsweredSo {M : Type 0} (Serves : M → Event → Reply → M → Type 0) (request : Request) (who : WhoCounts) (response : Response)
     (before after : Server) (old new : M) : Type 0 where
   pub mid : M
-  pub finds : CarriesOut Serves (needs_nobody_in request.node request.operation before) old mid nobody
-  pub answers : CarriesOut Serves (answered_as nobody request before) mid new (response, after)
+  pub finds : CarriesOut Serves (who_counts_in request.node request.uid request.operation before) old mid who
+  pub of_user : IsOfUser who request.cred
+  pub answers : CarriesOut Serves (answered_as (is_nobody who) request before) mid new (response, after)
 
 -- The request is read, its plan is performed, and the answer is told.
 pub record IsRound {M K : Type 0} (Serves : M → Event → Reply → M → Type 0) (Does : K → Exchange → K → Type 0)
@@ -88,7 +104,7 @@ pub record IsRound {M K : Type 0} (Serves : M → Event → Reply → M → Type
   pub goes_on : old.server.ended ≡ false
   pub hears : Hears round.bytes round.outside round.request
   pub passes : Passes Does old.kernel (exchanges round) new.kernel
-  pub performs : IsAnsweredSo Serves round.request round.nobody round.response old.server new.server old.machine new.machine
+  pub performs : IsAnsweredSo Serves round.request round.who round.response old.server new.server old.machine new.machine
 
 -- ---- several
 
@@ -168,18 +184,18 @@ pub data IsBreak {K : Type 0} (Does : K → Exchange → K → Type 0) (fault : 
   no_time : (bytes : List ℕ) (reached : K) → IsOfClock fault → Does old (Reads bytes) reached → IsBreak Does fault old []
   -- the plan is performed, and whether the answer is taken isn't known
   no_reply : (untold : Round) (reached : K) → IsOfReply fault
-      → Passes Does old (Reads untold.bytes ∷ learns untold.nobody (request_of untold.bytes) untold.outside) reached → IsBreak Does fault old (untold ∷ [])
+      → Passes Does old (Reads untold.bytes ∷ learns untold.who (request_of untold.bytes) untold.outside) reached → IsBreak Does fault old (untold ∷ [])
 
 -- The requests of rounds are those that the reads say. Their plans, run one after another, give the answers, told or untold.
 pub record ArePerformed {M K : Type 0} (Serves : M → Event → Reply → M → Type 0) (old : Parties M K) (rounds : List Round) (new : Parties M K) : Type 0 where
   pub hears : HearsAll (map heard_in rounds) (map (λ r. r.request) rounds)
   pub performs : CarriesOut Serves (requests_plan (map (λ r. r.request) rounds) old.server) old.machine new.machine (map (λ r. r.response) rounds, new.server)
 
--- of the first of these it was found whether who asks counts
+-- of the first of these it was found who counts
 abbrev pub IsDecided : {M K : Type 0} → (M → Event → Reply → M → Type 0) → Parties M K → List Round → Type 0
 IsDecided Serves old [] = Unit {0}
 IsDecided {M} Serves old (round ∷ rounds) =
-    (mid : M) × CarriesOut Serves (needs_nobody_in round.request.node round.request.operation old.server) old.machine mid round.nobody
+    (mid : M) × CarriesOut Serves (who_counts_in round.request.node round.request.uid round.request.operation old.server) old.machine mid round.who
 
 -- No more is asked than the plan of the request that is untold, if one is.
 pub record Breaks {M K : Type 0} (Serves : M → Event → Reply → M → Type 0) (Does : K → Exchange → K → Type 0) (fault : ServeFault)

@@ -1,5 +1,5 @@
 //! What is known of a process that asks.
-ghost use Rattle.std.specs.Prelude.{◌≡◌, ◌++◌, ◌∷◌, [], None, OnOk};
+ghost use Rattle.std.specs.Prelude.{◌≡◌, ◌++◌, ◌∷◌, [], None, Some, OnOk};
 ghost use Rattle.fs_cred.specs.Capabilities.{no_caps};
 
 use bitflags::Flags;
@@ -63,6 +63,17 @@ impl Caller {
     {
         Caller {
             groups: None,
+            caps: Caps::empty(),
+        }
+    }
+
+    /// Of a process whose groups and capabilities don't count neither is learnt.
+    pub fn user_alone(alloc: Global) -> Caller
+        ensures groups { result.groups ≡ Some [] }
+        ensures caps { result.caps ≡ no_caps }
+    {
+        Caller {
+            groups: Some(Groups::new(alloc)),
             caps: Caps::empty(),
         }
     }

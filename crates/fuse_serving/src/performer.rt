@@ -1,10 +1,10 @@
 //! What performs the plans of requests.
 ghost use Rattle.std.specs.Prelude.{◌≡◌, true, Some, IfOk, OnErr};
-ghost use Rattle.fuse_plans.specs.Nobody.{needs_nobody};
+ghost use Rattle.fuse_plans.specs.Nobody.{who_counts};
 ghost use Rattle.fuse_plans.specs.Plans.{CarriesOut};
 ghost use Rattle.fuse_plans.specs.Serving.{answered, asked_for};
 
-use fuse_plans::{Asked, Response};
+use fuse_plans::{Asked, Response, WhoCounts};
 use fuse_protocol::Operation;
 use posix_acl::Acl;
 use std::alloc::AllocError;
@@ -31,9 +31,9 @@ pub trait Performer {
     fn is_ended(&self) -> bool
         ensures { result ≡ (server self.now).ended };
 
-    /// Whether who asks doesn't count for an operation of this node. Nothing changes of what is kept.
-    fn needs_nobody(&mut self, node: u64, operation: &Operation<'_>) -> bool
-        ensures decided { CarriesOut Serves (needs_nobody node operation.now (server self.old))
+    /// Who counts where this user asks for an operation of this node. Nothing changes of what is kept.
+    fn who_counts(&mut self, node: u64, uid: u32, operation: &Operation<'_>) -> WhoCounts
+        ensures decided { CarriesOut Serves (who_counts node uid operation.now (server self.old))
             (machine self.old) (machine self.new) result }
         ensures kept { server self.new ≡ server self.old };
 

@@ -2,7 +2,7 @@
 ghost use Rattle.std.specs.Prelude.{◌≡◌, ℕ, List, Ok, IfOk, IfErr, OnOk};
 ghost use Rattle.fuse_protocol.specs.Requests.{request_of};
 ghost use Rattle.fuse_serving.specs.Exchanges.{Passes};
-ghost use Rattle.fuse_serving.specs.Rounds.{tells, asks_for, IsOfReply, ServedAll, Breaks, BrokenOff};
+ghost use Rattle.fuse_serving.specs.Rounds.{tells, asks_for, IsKnownAs, IsOfReply, ServedAll, Breaks, BrokenOff};
 ghost use Rattle.fuse_serving.specs.Pieces.{ReadComesTo, ReadBreaks, ComesTo, SpokenServed, scene};
 
 use crate::answer::answer;
@@ -13,7 +13,7 @@ use crate::performer::Performer;
 use crate::reply::write_response;
 use crate::room::ReplyRoom;
 use crate::witness::Witness;
-use fuse_plans::{RequestError, Response};
+use fuse_plans::{RequestError, Response, WhoCounts};
 use fuse_protocol::{Request, RequestFault, parse_request};
 use std::alloc::Global;
 
@@ -37,14 +37,15 @@ fn tell<K: Kernel>(
 }
 
 // What is known of who asks, where that counts.
-#[tactic(auto, using(crate::proofs::Passing::learns_nothing, crate::proofs::Passing::learns_one))]
-fn learn<K: Kernel>(kernel: &mut K, spoken: &Request<'_>, needs_nobody: bool) -> Caller
-    ensures { Passes K.Does kernel.old (asks_for needs_nobody spoken.now result) kernel.new }
+fn learn<K: Kernel>(alloc: Global, kernel: &mut K, spoken: &Request<'_>, who: WhoCounts) -> Caller
+    ensures passes { Passes K.Does kernel.old (asks_for who spoken.now result) kernel.new }
+    ensures known { IsKnownAs who result }
 {
-    if needs_nobody {
-        return Caller::unknown();
+    match who {
+        WhoCounts::Nobody => Caller::unknown(),
+        WhoCounts::User => Caller::user_alone(alloc),
+        WhoCounts::Process => kernel.caller(spoken.pid, spoken.uid, spoken.gid),
     }
-    kernel.caller(spoken.pid, spoken.uid, spoken.gid)
 }
 
 // Serves a request whose body is of its form.
@@ -65,9 +66,9 @@ fn serve_spoken<P: Performer, K: Kernel, W: Witness>(
         Ok(now) => now,
         Err(fault) => return Err(ServeFault::Clock(fault)),
     };
-    let needs_nobody = performer.needs_nobody(spoken.node, &spoken.operation);
-    let caller = learn(kernel, spoken, needs_nobody);
-    let response = answer(alloc, performer, spoken, &caller, needs_nobody, now);
+    let who = performer.who_counts(spoken.node, spoken.uid, &spoken.operation);
+    let caller = learn(alloc, kernel, spoken, who);
+    let response = answer(alloc, performer, spoken, &caller, who.is_nobody(), now);
     witness.see(spoken, &response, now);
     let _taken = tell(kernel, room, spoken.unique, &response)?;
     Ok(())

@@ -1,7 +1,7 @@
 //! A session performs the plans of requests.
 
 use crate::performer::Performer;
-use fuse_plans::{Asked, Response};
+use fuse_plans::{Asked, Response, WhoCounts};
 use fuse_protocol::Operation;
 use fuse_sessions::Session;
 use fuse_steps::Machine;
@@ -21,8 +21,8 @@ impl<M: Machine> Performer for Session<M> {
         self.is_ended()
     }
 
-    fn needs_nobody(&mut self, node: u64, operation: &Operation<'_>) -> bool {
-        self.needs_nobody(node, operation)
+    fn who_counts(&mut self, node: u64, uid: u32, operation: &Operation<'_>) -> WhoCounts {
+        self.who_counts(node, uid, operation)
     }
 
     fn perform(

@@ -1,22 +1,28 @@
-//! Whether it counts who asks: where it doesn't, that isn't even learnt.
-ghost use Rattle.std.specs.Prelude.{◌≡◌};
+//! Who counts of those who ask: of others nothing is even learnt.
+ghost use Rattle.std.specs.Prelude.{◌≡◌, codes};
 ghost use Rattle.fuse_plans.specs.Masks.{may_hide, grants_nothing, hides, seen_by_server_process, asks_list, list_hides, is_masked};
-ghost use Rattle.fuse_plans.specs.Nobody.{is_judged, needs_nobody};
+ghost use Rattle.fuse_plans.specs.Callers.{look_inside};
+ghost use Rattle.fuse_plans.specs.Nobody.{asks_reading, grants_owner, is_judged, is_owner, needs_nobody, who_counts};
 ghost use Rattle.fuse_plans.specs.Plans.{CarriesOut};
 ghost use Rattle.fuse_sessions.specs.Performing.{Did};
 
 use crate::object::shown;
 use crate::session::Session;
 use fs_model::{AclType, Call, Status};
-use fuse_plans::{RequestError, needs_caller};
+use fuse_plans::{Mode, RequestError, WhoCounts, needs_caller};
 use fuse_protocol::Operation;
 use fuse_steps::Machine;
+use fuse_steps::flags::{is_exec, is_trunc};
 use posix_acl::{Acl, Perms};
 
 // Of a mode, what its group class and others are granted.
 const GROUP_CLASS: u16 = 0o070;
 
 const OTHERS_SEARCH: u16 = 0o001;
+
+const OWNER_READS: u16 = 0o400;
+
+const OWNER_SEARCHES: u16 = 0o100;
 
 // The group class is granted nothing, and others search.
 fn may_hide(mode: u16) -> bool
@@ -44,10 +50,83 @@ fn hides(acl: &Option<Acl>) -> bool
     }
 }
 
+// The user owns what was shown, and its mode grants the owner this.
+fn grants_owner(uid: u32, bit: u16, status: Status) -> bool
+    ensures { result ≡ grants_owner uid bit status }
+{
+    status.owner == uid && status.mode & bit != 0
+}
+
+// Nothing but reading is asked for: neither to run a file, nor that it lose its bytes.
+fn asks_reading(operation: &Operation<'_>) -> bool
+    ensures { result ≡ asks_reading operation.now }
+{
+    match operation {
+        Operation::OpenDir => true,
+        Operation::Open(flags) => match Mode::of_flags(*flags) {
+            Some(Mode::Reads) => !is_exec(*flags) && !is_trunc(*flags),
+            _ => false,
+        },
+        _ => false,
+    }
+}
+
 impl<M: Machine> Session<M> {
-    /// Whether who asks doesn't count for an operation: it needs nobody, or the kernel has judged by the same modes and lists before
-    /// it asked. Nothing changes of what the server keeps.
-    pub fn needs_nobody(&mut self, node: u64, operation: &Operation<'_>) -> bool
+    /// Who counts of those who ask for an operation. Nothing changes of what the server keeps.
+    pub fn who_counts(&mut self, node: u64, uid: u32, operation: &Operation<'_>) -> WhoCounts
+        ensures decided { CarriesOut M.Serves (who_counts node uid operation.now self.old.server.server)
+            self.old.machine self.new.machine result }
+        ensures kept { self.new.server ≡ self.old.server }
+    {
+        if self.needs_nobody(node, operation) {
+            return WhoCounts::Nobody;
+        }
+        if !asks_reading(operation) {
+            return WhoCounts::Process;
+        }
+        match self.is_owner(node, uid) {
+            Ok(owns) => {
+                if owns {
+                    WhoCounts::User
+                } else {
+                    WhoCounts::Process
+                }
+            }
+            Err(_unseen) => WhoCounts::Process,
+        }
+    }
+
+    // Whether the user owns the object of a node, and the directory in which it is asked for first, and both modes grant the owner
+    // what is needed to read it.
+    fn is_owner(&mut self, node: u64, uid: u32) -> Result<bool, RequestError>
+        ensures did { Did M.Serves (is_owner node uid) self.old self.new result }
+        ensures kept { self.new.server ≡ self.old.server }
+    {
+        let ino = self.the_number(node)?;
+        let Some(dentry) = self.server.dentry_of(ino) else {
+            return Err(RequestError::ESTALE);
+        };
+        let dir_ino = dentry.dir_ino;
+        let pid = self.the_server_process()?;
+        let above = self.look_above(pid, dir_ino)?;
+        let status = self.seen_by_server_process(ino)?;
+        Ok(grants_owner(uid, OWNER_SEARCHES, above) && grants_owner(uid, OWNER_READS, status))
+    }
+
+    // What stat(2) shows a process of the directory that it enters.
+    fn look_above(&mut self, pid: usize, dir_ino: u32) -> Result<Status, RequestError>
+        ensures did { Did M.Serves (look_inside pid dir_ino (codes ".")) self.old self.new result }
+        ensures kept { self.new.server ≡ self.old.server }
+    {
+        let mut call = Call::Lstat(self.blank_path());
+        let reply = self.machine.obtain_inside(pid, dir_ino, &mut call);
+        call.discard();
+        shown(reply)
+    }
+
+    // Whether who asks doesn't count for an operation: it needs nobody, or the kernel has judged by the same modes and lists before
+    // it asked.
+    fn needs_nobody(&mut self, node: u64, operation: &Operation<'_>) -> bool
         ensures decided { CarriesOut M.Serves (needs_nobody node operation.now self.old.server.server)
             self.old.machine self.new.machine result }
         ensures kept { self.new.server ≡ self.old.server }

@@ -3,7 +3,7 @@ ghost use Rattle.std.specs.Prelude.{⊤, false};
 ghost use Rattle.fuse_state.specs.Keepings.{nothing_kept};
 ghost use Rattle.fuse_state.specs.Servers.{new_server};
 
-use fuse_plans::{Asked, Response, needs_caller};
+use fuse_plans::{Asked, Response, WhoCounts, needs_caller};
 use fuse_protocol::{Operation, Time};
 use fuse_serving::{Caller, Kernel, Nobody, Performer, ReplyRoom, serve};
 use posix_acl::Acl;
@@ -28,11 +28,17 @@ impl Performer for Lacking {
         false
     }
 
-    fn needs_nobody(&mut self, _node: u64, operation: &Operation<'_>) -> bool {
+    // It knows no name, and so nothing that anybody owns.
+    fn who_counts(&mut self, _node: u64, _uid: u32, operation: &Operation<'_>) -> WhoCounts {
         match operation {
-            Operation::Lookup(_) => false,
-            Operation::ReadDirPlus(_) => false,
-            _ => !needs_caller(operation),
+            Operation::ReadDirPlus(_) => WhoCounts::Process,
+            _ => {
+                if needs_caller(operation) {
+                    WhoCounts::Process
+                } else {
+                    WhoCounts::Nobody
+                }
+            }
         }
     }
 
