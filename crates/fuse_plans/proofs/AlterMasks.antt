@@ -9,7 +9,7 @@ use Rattle.fs_model.specs.declared.reply.Status.{Status}
 use Rattle.fuse_protocol.specs.declared.operation.Operation.{Operation}
 use Rattle.fuse_plans.specs.Masks.{acl_of, asks_list, list_hides, is_masked}
 use Rattle.fuse_plans.specs.NamePlans.{new_valid_if, new_valid}
-use Rattle.fuse_plans.specs.Nobody.{is_owner}
+use Rattle.fuse_plans.specs.Nobody.{owns_object, is_owner}
 use Rattle.fuse_plans.proofs.AlterPieces.{pieces, Asks, asks-give}
 
 module _ {o : Option Operation} where
@@ -26,10 +26,14 @@ module _ {o : Option Operation} where
   unfolding is_masked
   asks-is_masked node = search (pieces, asks-list_hides) depth 12
 
+  asks-owns_object : (n uid : ℕ) (b : Bool) → Asks o (owns_object n uid b)
+  asks-owns_object n uid false = asks-give false
+  asks-owns_object n uid true = search pieces depth 12
+
   -- nor to look whether a user owns what is to be read
   pub asks-is_owner : (node uid : ℕ) → Asks o (is_owner node uid)
   unfolding is_owner
-  asks-is_owner node uid = search pieces depth 20
+  asks-is_owner node uid = search (pieces, asks-owns_object) depth 20
 
   asks-new_valid_if : (d name_valid : ℕ) (b : Bool) → Asks o (new_valid_if d name_valid b)
   asks-new_valid_if d name_valid false = asks-give 0

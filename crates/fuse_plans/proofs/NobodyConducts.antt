@@ -2,7 +2,7 @@
 --     decided_at_once        whether nobody does, of all but look-ups
 --     AtHome, keeps-who_counts_in        what may be asked for it
 --     who_asks_counts_only_where_needed
-use Rattle.std.specs.Prelude.{◌≡◌, ℕ, Bool, true, false, not, ◌&&◌, List, [], ◌∷◌, codes, All, Option, None, Some}
+use Rattle.std.specs.Prelude.{◌≡◌, ℕ, Bool, true, false, not, List, [], ◌∷◌, codes, All, Option, None, Some}
 use Rattle.std.proofs.Common.{refl, sym, ap, subst, ◌∙◌}
 use Rattle.std.proofs.lemmas.List.Elements.{All-head}
 use Rattle.posix_acl.specs.AccessList.{AccessList}
@@ -22,8 +22,8 @@ use Rattle.fuse_plans.specs.declared.request.WhoCounts.TheVariants.{Nobody}
 use Rattle.fuse_plans.specs.Plans.{Plan, Finish, Ask, followed_by, CarriesOut, finishes, IsRunOf, Restraint, KeepsTo}
 use Rattle.fuse_plans.specs.Works.{Work, give, fail, kept, goes_on, ◌>>=◌, needed}
 use Rattle.fuse_plans.specs.Callers.{the_server_process, look_inside}
-use Rattle.fuse_plans.specs.Masks.{is_masked, seen_by_server_process}
-use Rattle.fuse_plans.specs.Nobody.{needs_caller, unless_masked, is_judged, needs_nobody, asks_reading, owner_reads, owner_searches, grants_owner, is_owner, or_process, or_user, who_counts_in}
+use Rattle.fuse_plans.specs.Masks.{is_masked}
+use Rattle.fuse_plans.specs.Nobody.{needs_caller, unless_masked, is_judged, needs_nobody, asks_reading, owner_searches, grants_owner, owns_object, is_owner, or_process, or_user, who_counts_in}
 use Rattle.fuse_plans.specs.Acts.{node_of_object, IsObject, IsKnownDentry, above}
 use Rattle.fuse_plans.specs.Requests.{Request, asked_of}
 use Rattle.fuse_plans.specs.Serving.{plan_of, told_first, asked_for, answered}
@@ -142,14 +142,18 @@ module _ (rights : Rights) (node : ℕ) (same : rights.subject.node ≡ node) (s
       with_first known t fits [] all = fits
       with_first known t fits (p ∷ others) all = (does p (All-head (IsKnownDentry rights.subject.start n) p others all)).goes known t fits
 
+  does-owns_object : (n uid : ℕ) (b : Bool) → IsObject rights.subject n → Does rights (Still rights) (owns_object n uid b)
+  does-owns_object n uid false object = does-give _
+  does-owns_object n uid true object =
+      does->>= (does->>= (does-by_server_process n Lstat (λ path. refl) (λ path. refl) (about-still n object)) does-replied_status) (λ status. does-give _)
+
   -- the object is looked at, and a directory in which it is known
   does-look_as_owner : (n uid : ℕ) (p : Dentry) → IsObject rights.subject n → IsKnownDentry rights.subject.start n p
-      → Does rights (Still rights) (the_server_process >>= (λ pid. look_inside pid p.dir_ino (codes ".") >>= (λ above. seen_by_server_process n
-      >>= (λ status. give (grants_owner uid owner_searches above && grants_owner uid owner_reads status)))))
+      → Does rights (Still rights) (the_server_process >>= (λ pid. look_inside pid p.dir_ino (codes ".") >>= (λ shown. owns_object n uid (grants_owner uid owner_searches shown))))
   does-look_as_owner n uid p object is =
       does-with_server_process (λ pid own.
       does->>= (does-look_within pid p.dir_ino (codes ".") (looks pid own (Lstat (codes ".")) refl) (above n p.name refl refl object is)) (λ shown.
-      does->>= (does->>= (does-by_server_process n Lstat (λ path. refl) (λ path. refl) (about-still n object)) does-replied_status) (λ status. does-give _)))
+      does-owns_object n uid (grants_owner uid owner_searches shown) object))
 
   lasts-is_owner : AsksOf rights node → (uid : ℕ) → Lasts rights (Still rights) (is_owner node uid)
   unfolding is_owner

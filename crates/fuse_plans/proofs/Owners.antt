@@ -26,7 +26,7 @@ use Rattle.fuse_plans.specs.Plans.{Plan, Finish, followed_by, IsRunOf, IsAsked, 
 use Rattle.fuse_plans.specs.Works.{Work, give, fail, kept, ◌>>=◌, needed, unexpected, status_of_reply}
 use Rattle.fuse_plans.specs.Callers.{the_number, the_server_process, look_inside}
 use Rattle.fuse_plans.specs.Masks.{seen_by_server_process}
-use Rattle.fuse_plans.specs.Nobody.{needs_nobody, asks_reading, owner_reads, owner_searches, grants_owner, is_owner, or_process, or_user, who_counts, who_counts_in}
+use Rattle.fuse_plans.specs.Nobody.{needs_nobody, asks_reading, owner_reads, owner_searches, grants_owner, owns_object, is_owner, or_process, or_user, who_counts, who_counts_in}
 use Rattle.fuse_plans.specs.Laws.{IsShownAsOwned, ReadsOwn, OwnersCountAlone, OwnersAreGranted}
 use Rattle.fuse_plans.proofs.Conducts.{keeps-weaker}
 use Rattle.fuse_plans.proofs.PlanLaws.{run-parts, keeps-follows}
@@ -41,10 +41,6 @@ owned uid bit (Some status) = grants_owner uid bit status
 
 abbrev shows_owned : ℕ → ℕ → Reply → Bool
 shows_owned uid bit reply = owned uid bit (status_of_reply reply)
-
-and-left : (a b : Bool) → (a && b) ≡ true → a ≡ true
-and-left true b is = refl
-and-left false b is = absurd (cc)
 
 and-right : (a b : Bool) → (a && b) ≡ true → b ≡ true
 and-right true b is = is
@@ -115,8 +111,7 @@ module _ (server_process : Option ℕ) (uid bit : ℕ) where
   -- before the directory is looked at nothing is told
   first-pieces : (node : ℕ) (s : Server) → s.server_process ≡ server_process
       → ((n : ℕ) (p : Dentry) (pid : ℕ) (m : Bool) (t : Server) → server_process ≡ Some pid → t.server_process ≡ server_process
-      → Keeps Told m ((look_inside pid p.dir_ino (codes ".") >>= (λ above. seen_by_server_process n
-      >>= (λ status. give (grants_owner uid owner_searches above && grants_owner uid owner_reads status)))) t))
+      → Keeps Told m ((look_inside pid p.dir_ino (codes ".") >>= (λ above. owns_object n uid (grants_owner uid owner_searches above))) t))
       → Keeps Told false (is_owner node uid s)
   unfolding is_owner
   first-pieces node s own rest =
@@ -132,26 +127,19 @@ module _ (server_process : Option ℕ) (uid bit : ℕ) where
 -- ---- the directory
 
 module _ (server_process : Option ℕ) (uid : ℕ) where
-  later-object : (n : ℕ) (b m : Bool) (t : Server) → t.server_process ≡ server_process → (b ≡ true → m ≡ true)
-      → Keeps server_process uid owner_searches (Told server_process uid owner_searches) m
-      ((seen_by_server_process n >>= (λ status. give (b && grants_owner uid owner_reads status))) t)
+  later-object : (n : ℕ) (b m : Bool) (t : Server) → (b ≡ true → m ≡ true)
+      → Keeps server_process uid owner_searches (Told server_process uid owner_searches) m (owns_object n uid b t)
   unfolding give
-  later-object n true m t own saw =
+  later-object n true m t saw =
       keeps-weaker (watching (stats server_process) (shows_owned uid owner_searches)) (λ k r. k ≡ true) (λ k r. Told server_process uid owner_searches k r.0) _ m
-      (subst (λ k. KeepsTo (watching (stats server_process) (shows_owned uid owner_searches)) (λ j r. j ≡ true) k
-      ((seen_by_server_process n >>= (λ status. give (true && grants_owner uid owner_reads status))) t)) (sym (saw refl))
+      (subst (λ k. KeepsTo (watching (stats server_process) (shows_owned uid owner_searches)) (λ j r. j ≡ true) k (owns_object n uid true t)) (sym (saw refl))
       (remembers (stats server_process) (shows_owned uid owner_searches) server_process _))
       still
     where
       still : (k : Bool) (r : Result Bool RequestError × Server) → k ≡ true → Told server_process uid owner_searches k r.0
       still k (Ok b, u) is = λ any. is
       still k (Err e, u) is = tt
-  later-object n false m t own saw =
-      last->>= (stats server_process) (shows_owned uid owner_searches) server_process (Told server_process uid owner_searches) (seen_by_server_process n) _ m t own
-      (saw-object server_process uid owner_searches n) (λ status k u any same. none k u) (λ k e any. tt)
-    where
-      none : (k : Bool) (u : Server) → Keeps server_process uid owner_searches (Told server_process uid owner_searches) k (give false u)
-      none k u = λ no. absurd (cc)
+  later-object n false m t saw = λ no. absurd (cc)
 
   directory-told : (node : ℕ) (s : Server) → s.server_process ≡ server_process
       → Keeps server_process uid owner_searches (Told server_process uid owner_searches) false (is_owner node uid s)
@@ -159,24 +147,25 @@ module _ (server_process : Option ℕ) (uid : ℕ) where
       first-pieces server_process uid owner_searches node s own (λ n p pid m t is same.
       last->>= (stats server_process) (shows_owned uid owner_searches) server_process (Told server_process uid owner_searches) (look_inside pid p.dir_ino (codes ".")) _ m t same
       (saw-inside server_process uid owner_searches pid p.dir_ino (codes ".") is)
-      (λ above k u saw again. later-object n (grants_owner uid owner_searches above) k u again saw) (λ k e any. tt))
+      (λ above k u saw again. later-object n (grants_owner uid owner_searches above) k u saw) (λ k e any. tt))
 
   -- ---- the object
 
+  object-then : (n : ℕ) (b m : Bool) (t : Server) → t.server_process ≡ server_process
+      → Keeps server_process uid owner_reads (Told server_process uid owner_reads) m (owns_object n uid b t)
+  unfolding give
+  object-then n false m t own = λ no. absurd (cc)
+  object-then n true m t own =
+      last->>= (stats server_process) (shows_owned uid owner_reads) server_process (Told server_process uid owner_reads) (seen_by_server_process n) _ m t own
+      (saw-object server_process uid owner_reads n) (λ status j v saw still. saw) (λ j e told. tt)
+
   object-told : (node : ℕ) (s : Server) → s.server_process ≡ server_process
       → Keeps server_process uid owner_reads (Told server_process uid owner_reads) false (is_owner node uid s)
-  unfolding give
   object-told node s own =
       first-pieces server_process uid owner_reads node s own (λ n p pid m t is same.
       last->>= (stats server_process) (shows_owned uid owner_reads) server_process (Told server_process uid owner_reads) (look_inside pid p.dir_ino (codes ".")) _ m t same
       (saw-inside server_process uid owner_reads pid p.dir_ino (codes ".") is)
-      (λ above k u any again.
-      last->>= (stats server_process) (shows_owned uid owner_reads) server_process (Told server_process uid owner_reads) (seen_by_server_process n) _ k u again
-      (saw-object server_process uid owner_reads n) (λ status j v saw still. ends (grants_owner uid owner_searches above) status j v saw) (λ j e told. tt)) (λ k e any. tt))
-    where
-      ends : (a : Bool) (status : Status) (j : Bool) (v : Server) → Saw server_process uid owner_reads j (Ok status)
-          → Keeps server_process uid owner_reads (Told server_process uid owner_reads) j (give (a && grants_owner uid owner_reads status) v)
-      ends a status j v saw = λ both. saw (and-right a (grants_owner uid owner_reads status) both)
+      (λ above k u any again. object-then n (grants_owner uid owner_searches above) k u again) (λ k e any. tt))
 
 -- ---- what was asked
 

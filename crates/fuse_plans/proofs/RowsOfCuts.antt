@@ -18,13 +18,13 @@ pub open_and_cut : played new (
     ∷ asks 1 1000 100 (Some []) 1000000003 (Lookup (codes "a")) ((Pid 2) ∷ Done ∷ (Shown (status 2 File 146 1 0 0 5)) ∷ Done ∷ [])
     ∷ asks 2 1000 100 (Some []) 1000000004 (OpenFile (record { 0 = 512 })) (Done ∷ (failed EACCES) ∷ Done ∷ [])
     ∷ asks 2 1000 100 (Some []) 1000000005 (OpenFile (record { 0 = 512 })) (Done ∷ (Fd 0) ∷ Done ∷ (Shown (status 2 File 438 1 0 0 5)) ∷ Done ∷ [])
-    ∷ asks 2 1000 100 (Some []) 1000000006 (OpenFile (record { 0 = 0 })) (Done ∷ (Shown (status 1 Directory 493 1 0 0 64)) ∷ Done ∷ Done ∷ (Shown (status 2 File 438 1 0 0 0)) ∷ Done ∷ Done ∷ (Fd 1) ∷ Done ∷ (Shown (status 2 File 438 1 0 0 0)) ∷ [])
+    ∷ asks 2 1000 100 (Some []) 1000000006 (OpenFile (record { 0 = 0 })) (Done ∷ (Shown (status 1 Directory 493 1 0 0 64)) ∷ Done ∷ Done ∷ (Fd 1) ∷ Done ∷ (Shown (status 2 File 438 1 0 0 0)) ∷ [])
     ∷ []) ≡
     (((user 0 0 []) ∷ []), Told (terms 131072 524360 4096 0))
     ∷ (((user 1000 100 []) ∷ (Enter 2 1 1) ∷ (Calls 2 (Lstat (codes "a"))) ∷ (Enter 2 1 1) ∷ []), Told (Found 2 0 (attributes (status 2 File 146 1 0 0 5) (second 1000000001) (second 1000000001) (second 1000000001))))
     ∷ (((Enter 2 1 1) ∷ (Calls 2 (Open (codes "a") (flags Both false false false true false) 0)) ∷ (Enter 2 1 1) ∷ []), Error 13)
     ∷ (((Enter 2 1 1) ∷ (Calls 2 (Open (codes "a") (flags Both false false false true false) 0)) ∷ (Enter 2 1 1) ∷ (Calls 2 (Fstat 0)) ∷ (Calls 2 (Ftruncate 0 0)) ∷ []), Told (Opened 64 none_kept))
-    ∷ (((Enter 1 1 1) ∷ (Calls 1 (Lstat (codes "."))) ∷ (Enter 1 1 1) ∷ (Enter 1 1 1) ∷ (Calls 1 (Lstat (codes "a"))) ∷ (Enter 1 1 1) ∷ (Enter 2 1 1) ∷ (Calls 2 (Open (codes "a") (flags Reads false false false true false) 0)) ∷ (Enter 2 1 1) ∷ (Calls 2 (Fstat 1)) ∷ []), Told (Opened 65 none_kept))
+    ∷ (((Enter 1 1 1) ∷ (Calls 1 (Lstat (codes "."))) ∷ (Enter 1 1 1) ∷ (Enter 2 1 1) ∷ (Calls 2 (Open (codes "a") (flags Reads false false false true false) 0)) ∷ (Enter 2 1 1) ∷ (Calls 2 (Fstat 1)) ∷ []), Told (Opened 65 none_kept))
     ∷ []
 unfolding all_plans
 open_and_cut = refl

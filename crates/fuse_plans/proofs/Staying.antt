@@ -21,7 +21,7 @@ use Rattle.fuse_plans.specs.Works.{Work, give, fail, kept, goes_on, ◌>>=◌, a
 use Rattle.fuse_plans.specs.Callers.{the_server_process, look_inside, between, or_inside, standing_refusal, or_next, by_dentries, on, by_server_process, is_known_directory, the_number, directory_number, standing_directory}
 use Rattle.fuse_plans.specs.NamePlans.{new_valid_if, new_valid}
 use Rattle.fuse_plans.specs.Masks.{may_hide, asks_list, list_hides, is_masked}
-use Rattle.fuse_plans.specs.Nobody.{is_owner}
+use Rattle.fuse_plans.specs.Nobody.{owns_object, is_owner}
 use Rattle.fuse_plans.proofs.AllEnds.{AllEnd, all-followed_by}
 
 -- whatever is replied, the server keeps what it kept
@@ -132,6 +132,10 @@ pub stays-is_masked : (node : ℕ) → Stays (is_masked node)
 unfolding is_masked
 stays-is_masked node = stays->>= (stays-directory_number node) stays-list_hides
 
+stays-owns_object : (n uid : ℕ) (b : Bool) → Stays (owns_object n uid b)
+stays-owns_object n uid false = stays-give false
+stays-owns_object n uid true = stays->>= (stays->>= (stays-by_server_process n Lstat) (λ reply. stays-needed _ _)) (λ status. stays-give _)
+
 pub stays-is_owner : (node uid : ℕ) → Stays (is_owner node uid)
 unfolding is_owner the_number the_server_process look_inside
 stays-is_owner node uid =
@@ -139,8 +143,7 @@ stays-is_owner node uid =
     stays->>= (stays-kept _) (λ found.
     stays->>= (stays-needed _ found) (λ dentry.
     stays->>= (stays->>= (stays-kept _) (stays-needed _)) (λ pid.
-    stays->>= (stays->>= (stays-between pid _ _ _) (λ reply. stays-needed _ _)) (λ above.
-    stays->>= (stays->>= (stays-by_server_process n Lstat) (λ reply. stays-needed _ _)) (λ status. stays-give _))))))
+    stays->>= (stays->>= (stays-between pid _ _ _) (λ reply. stays-needed _ _)) (λ above. stays-owns_object n uid _)))))
 
 stays-new_valid_if : (d name_valid : ℕ) (b : Bool) → Stays (new_valid_if d name_valid b)
 stays-new_valid_if d name_valid false = stays-give 0

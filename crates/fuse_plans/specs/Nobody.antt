@@ -1,7 +1,7 @@
 -- Who counts of those who ask: a first plan of each request, in which that doesn't count yet.
 --     needs_caller        what is done by a process of who asks, and what may fail for its credential
 --     needs_nobody        of an operation
---     is_owner        the user owns what is to be read
+--     owns_object, is_owner        the user owns what is to be read
 --     who_counts        of an operation
 --     who_counts_in        of a request
 use Rattle.std.specs.Prelude.{ℕ, ◌==◌, Bool, true, false, not, ◌&&◌, codes, Option, None, Some, Result, Ok, Err, bit_and}
@@ -82,6 +82,13 @@ owner_searches = 0o100
 abbrev pub grants_owner : ℕ → ℕ → Status → Bool
 grants_owner uid bit status = status.owner == uid && not (bit_and status.mode bit == 0)
 
+-- the object is looked at only where the directory is the user's
+abbrev pub owns_object : ℕ → ℕ → Bool → Work Bool
+owns_object n uid false = give false
+owns_object n uid true = do
+  status ← seen_by_server_process n
+  give (grants_owner uid owner_reads status)
+
 -- The user owns the object of a node, and the directory in which it is asked for first; and the owner may read the one, and search the
 -- other. Then the owner's entry decides of both, whatever groups and capabilities a process of this user has.
 unfoldable pub is_owner : ℕ → ℕ → Work Bool
@@ -91,8 +98,7 @@ is_owner node uid = do
   dentry ← needed (Lacks ESTALE) found
   pid ← the_server_process
   above ← look_inside pid dentry.dir_ino (codes ".")
-  status ← seen_by_server_process n
-  give (grants_owner uid owner_searches above && grants_owner uid owner_reads status)
+  owns_object n uid (grants_owner uid owner_searches above)
 
 -- ---- who counts
 

@@ -2,7 +2,7 @@
 ghost use Rattle.std.specs.Prelude.{◌≡◌, codes};
 ghost use Rattle.fuse_plans.specs.Masks.{may_hide, grants_nothing, hides, seen_by_server_process, asks_list, list_hides, is_masked};
 ghost use Rattle.fuse_plans.specs.Callers.{look_inside};
-ghost use Rattle.fuse_plans.specs.Nobody.{asks_reading, grants_owner, is_judged, is_owner, needs_nobody, who_counts};
+ghost use Rattle.fuse_plans.specs.Nobody.{asks_reading, grants_owner, is_judged, is_owner, needs_nobody, owns_object, who_counts};
 ghost use Rattle.fuse_plans.specs.Plans.{CarriesOut};
 ghost use Rattle.fuse_sessions.specs.Performing.{Did};
 
@@ -109,8 +109,19 @@ impl<M: Machine> Session<M> {
         let dir_ino = dentry.dir_ino;
         let pid = self.the_server_process()?;
         let above = self.look_above(pid, dir_ino)?;
+        self.owns_object(ino, uid, grants_owner(uid, OWNER_SEARCHES, above))
+    }
+
+    // The object is looked at only where the directory is the user's.
+    fn owns_object(&mut self, ino: u32, uid: u32, is_above: bool) -> Result<bool, RequestError>
+        ensures did { Did M.Serves (owns_object ino uid is_above) self.old self.new result }
+        ensures kept { self.new.server ≡ self.old.server }
+    {
+        if !is_above {
+            return Ok(false);
+        }
         let status = self.seen_by_server_process(ino)?;
-        Ok(grants_owner(uid, OWNER_SEARCHES, above) && grants_owner(uid, OWNER_READS, status))
+        Ok(grants_owner(uid, OWNER_READS, status))
     }
 
     // What stat(2) shows a process of the directory that it enters.
