@@ -129,7 +129,7 @@ gives_none tables none = record {
 }
 
 -- a bit is that of its sector
-seen : (image : SectorMap) (start n : ℕ) (s : List ℕ) → s ≡ image (start + n / 4096) → bit (λ _. s) 0 n ≡ bit image start n
+pub seen : (image : SectorMap) (start n : ℕ) (s : List ℕ) → s ≡ image (start + n / 4096) → bit (λ _. s) 0 n ≡ bit image start n
 unfolding bit
 seen image start n s is = ap (λ (t : List ℕ). nat_eq (bit_at (get_or t (n % 4096 / 8) 0) (n % 8)) 1) is
 

@@ -95,12 +95,12 @@ others_kept p Blocks n old new mark Inodes m low ne = inode_bit_kept p old new m
 others_kept p Blocks n old new mark Blocks m low ne = mark.bits m low (ne refl)
 
 -- the tables stay whole
-tables_kept : (p : Geometry) (map : Bitmap) (n : ℕ) (old new : SectorMap) → HasWholeTables p old → Marks p map n old new → HasWholeTables p new
+pub tables_kept : (p : Geometry) (map : Bitmap) (n : ℕ) (old new : SectorMap) → HasWholeTables p old → Marks p map n old new → HasWholeTables p new
 tables_kept p Inodes n old new tables mark = mark.sectors
 tables_kept p Blocks n old new tables mark = mark.sectors
 
 -- and the bits that are no number's set
-rest_kept : (p : Geometry) (map : Bitmap) (n : ℕ) (old new : SectorMap) → HasRestSet p old → IsNumber p map n → Marks p map n old new → HasRestSet p new
+pub rest_kept : (p : Geometry) (map : Bitmap) (n : ℕ) (old new : SectorMap) → HasRestSet p old → IsNumber p map n → Marks p map n old new → HasRestSet p new
 rest_kept p map n old new rest is mark = λ other m low ban.
     others_kept p map n old new mark other m low (λ same e. ban (subst (λ (q : Bitmap). IsNumber p q m) (sym same) (subst (IsNumber p map) (sym e) is))) ∙ rest other m low ban
 

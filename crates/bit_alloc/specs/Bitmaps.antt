@@ -6,6 +6,7 @@
 --     IsNumberOf        a number of a list
 --     Marks        one bit of it is written
 --     TakesNumber, GivesNumber        a free number is taken; a number becomes free
+--     TakesNumbers        those of a list are taken, one after the other
 --     IsMapSector, GivesNumbers        a sector of a bitmap; several numbers become free
 --     HasRestSet, HasBitmaps        what is asked of the bitmaps
 use Rattle.std.specs.Prelude.{◌≡◌, ◌≢◌, ℕ, ◌+◌, ◌/◌, ◌<◌, ◌≤◌, ◌⊎◌, false, not, IsTrue, List, get_or, count_by}
@@ -83,6 +84,14 @@ pub record TakesNumber (p : Geometry) (map : Bitmap) (n : ℕ) (old new : Sector
   pub set : IsTrue (bit new (first_sector p map) n)
   -- one number less is free
   pub count : free_numbers p map old ≡ free_numbers p map new + 1
+
+-- the numbers of a list from place `from` on, before place `end`, are taken, one after the other
+pub record TakesNumbers (p : Geometry) (map : Bitmap) (numbers : List ℕ) (from end : ℕ) (old new : SectorMap) : Type 0 where
+  -- the sectors where those before place i are taken
+  pub until : ℕ → SectorMap
+  pub first : until from ≡ old
+  pub last : until end ≡ new
+  pub each : (i : ℕ) → from ≤ i → i < end → TakesNumber p map (get_or numbers i 0) (until i) (until (i + 1))
 
 -- the bit of n is clear
 pub record GivesNumber (p : Geometry) (map : Bitmap) (n : ℕ) (old new : SectorMap) : Type 0 where

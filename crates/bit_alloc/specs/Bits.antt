@@ -2,10 +2,11 @@
 --     AreSet, IsLeastClear        the first bits of a sector are set; the lowest that is clear
 --     HasFullWords        the first words of 64 bits have all their bits set
 --     ClearsListed        the bits of numbers of a list become clear
+--     SetsNumber, SetsListed        the bit of a number becomes set, which was clear; those of a list do, one after the other
 --     clear_below        how many of a bitmap's first bits are clear
-use Rattle.std.specs.Prelude.{◌≡◌, ℕ, ◌*◌, ◌-◌, ◌/◌, ◌^◌, ◌<◌, ◌⊎◌, List, false, not, IsTrue, count_by}
+use Rattle.std.specs.Prelude.{◌≡◌, ◌≢◌, ℕ, ◌+◌, ◌*◌, ◌-◌, ◌/◌, ◌^◌, ◌<◌, ◌≤◌, ◌⊎◌, List, get_or, false, not, IsTrue, count_by}
 use Rattle.std.specs.List.{range_with_len}
-use Rattle.fs_layout.specs.Bytes.{SectorMap, u64_of}
+use Rattle.fs_layout.specs.Bytes.{SectorMap, IsSector, u64_of}
 use Rattle.fs_layout.specs.Images.{bit}
 use Rattle.bit_alloc.specs.Bitmaps.{IsNumberOf}
 
@@ -28,6 +29,22 @@ HasFullWords sector n = (k : ℕ) → k < n → u64_of sector (8 * k) ≡ 2 ^ 64
 pub record ClearsListed (numbers : List ℕ) (k from end : ℕ) (old new : List ℕ) : Type 0 where
   pub clear : (n : ℕ) → IsNumberOf numbers from end n → (n / 4096 ≡ k) × (bit (λ _. new) 0 n ≡ false)
   pub others : (n : ℕ) → n / 4096 ≡ k → IsNumberOf numbers from end n ⊎ (bit (λ _. new) 0 n ≡ bit (λ _. old) 0 n)
+
+-- Number n has its bit in sector k of a bitmap. It was clear and is set, and each other bit is as it was.
+pub record SetsNumber (k n : ℕ) (old new : List ℕ) : Type 0 where
+  pub here : n / 4096 ≡ k
+  pub clear : bit (λ _. old) 0 n ≡ false
+  pub set : IsTrue (bit (λ _. new) 0 n)
+  pub others : (m : ℕ) → m / 4096 ≡ k → m ≢ n → bit (λ _. new) 0 m ≡ bit (λ _. old) 0 m
+  pub whole : IsSector new
+
+-- so it goes with the numbers of a list from place `from` on, before place `end`, one after the other
+pub record SetsListed (numbers : List ℕ) (k from end : ℕ) (old new : List ℕ) : Type 0 where
+  -- the sector where those before place i are set
+  pub until : ℕ → List ℕ
+  pub first : until from ≡ old
+  pub last : until end ≡ new
+  pub each : (i : ℕ) → from ≤ i → i < end → SetsNumber k (get_or numbers i 0) (until i) (until (i + 1))
 
 -- how many of the first n bits of the bitmap that begins at a sector are clear
 unfoldable pub clear_below : SectorMap → ℕ → ℕ → ℕ

@@ -3,7 +3,7 @@
 ghost use Rattle.std.specs.Prelude.{◌≡◌, ◌≢◌, ◌+◌, ◌*◌, ◌-◌, ◌/◌, ◌^◌, ◌<◌, ◌≤◌, ℕ, length, get_or, nat_eq, IsTrue, MatchOption};
 ghost use Rattle.std.specs.Int.{bit_at};
 ghost use Rattle.fs_layout.specs.Bytes.{IsSector, u64_of};
-ghost use Rattle.bit_alloc.specs.Bits.{AreSet, ClearsListed, HasFullWords, IsLeastClear, clear_below};
+ghost use Rattle.bit_alloc.specs.Bits.{AreSet, ClearsListed, HasFullWords, IsLeastClear, SetsListed, clear_below};
 
 use byteorder::{ByteOrder, LittleEndian};
 use std::simd::prelude::*;
@@ -127,6 +127,28 @@ pub(crate) fn clear_listed(sector: &mut [u8; 512], k: u32, numbers: &[u32], from
             let at = n as usize % 4096 / 8;
             sector[at] = with_bit(sector[at], n % 8, false);
         }
+    }
+    numbers.len()
+}
+
+// Sets the lowest bit that is clear, as often as a list has places from `from` on, and writes the numbers of these bits in sector k
+// of a bitmap there, up to the place at which no bit was clear any more. Answers that place, or the end of the list.
+pub(crate) fn set_listed(sector: &mut [u8; 512], k: u32, numbers: &mut [u32], from: usize) -> usize
+    requires within { from ≤ length numbers.old }
+    requires few { 4096 * k + 4096 ≤ 2 ^ 32 }
+    ensures within { (from ≤ result) × (result ≤ length numbers.old) }
+    ensures len { length numbers.new ≡ length numbers.old }
+    ensures before { (i : ℕ) → i < from → get_or numbers.new i 0 ≡ get_or numbers.old i 0 }
+    ensures set { SetsListed numbers.new k from result sector.old sector.new }
+    ensures rest { result < length numbers.old → AreSet sector.new 4096 }
+{
+    for place in from..numbers.len() {
+        let Some(i) = first_clear(sector) else {
+            return place;
+        };
+        let at = i as usize / 8;
+        sector[at] = with_bit(sector[at], i % 8, true);
+        numbers[place] = 4096 * k + i;
     }
     numbers.len()
 }

@@ -1,14 +1,14 @@
 //! A number is taken or given back.
 
-ghost use Rattle.std.specs.Prelude.{◌≡◌, ◌≤◌, ◌<◌, ℕ, length, IfOk, IfErr, OnOk, OnErr};
+ghost use Rattle.std.specs.Prelude.{◌≡◌, ◌≤◌, ◌<◌, ℕ, length, get_or, false, IfOk, IfErr, OnOk, OnErr};
 ghost use Rattle.fs_layout.specs.Images.{bit};
 ghost use Rattle.sector_disk.specs.Disk.{HasCause};
 ghost use Rattle.sector_txn.specs.Sectors.{IsUnchanged, PutsOnly, SameStore};
-ghost use Rattle.bit_alloc.specs.Bitmaps.{first_sector, IsNumber, IsNumberOf, free_numbers, sector_of, IsSectorOf, Marks, TakesNumber, GivesNumber, GivesNumbers, HasBitmaps};
+ghost use Rattle.bit_alloc.specs.Bitmaps.{first_sector, IsNumber, IsNumberOf, free_numbers, sector_of, IsSectorOf, Marks, TakesNumber, TakesNumbers, GivesNumber, GivesNumbers, HasBitmaps};
 ghost use Rattle.bit_alloc.specs.Faults.{HasCauseOf};
 ghost use Rattle.bit_alloc.specs.Room.{bitmaps, HasSpare};
 
-use crate::bits::{clear_listed, first_clear, with_bit};
+use crate::bits::{clear_listed, set_listed, with_bit};
 use crate::{Bitmap, TakeFault};
 use fs_layout::Geometry;
 use sector_disk::DiskFault;
@@ -32,19 +32,78 @@ pub fn take<S: Sectors>(
     ensures unchanged { OnErr result (IsUnchanged (S.state s.old) (S.state s.new)) }
     ensures cause { HasCauseOf TakeFault.DiskFault (S.state s.old).disk (S.state s.new).disk result }
 {
+    let mut numbers = [0];
+    take_next(s, geometry, map, near, &mut numbers, 0)?;
+    Ok(numbers[0])
+}
+
+/// Takes as many numbers that are free as a list has places, and writes them there. The sectors of the bitmap are looked at as [`take`]
+/// does, and each is read and put once for all that are taken in it.
+///
+/// At `Err` some may have been taken, and of the list nothing is said.
+pub fn take_all<S: Sectors>(
+    s: &mut S,
+    geometry: Geometry,
+    map: Bitmap,
+    near: u32,
+    numbers: &mut [u32],
+) -> Result<(), TakeFault>
+    requires bitmaps { HasBitmaps geometry (S.state s.old) }
+    requires room { HasSpare geometry 0 (S.state s.old) }
+    ensures len { length numbers.new ≡ length numbers.old }
+    ensures taken { OnOk result (TakesNumbers geometry map numbers.new 0 (length numbers.new) (S.state s.old).sectors (S.state s.new).sectors) }
+    ensures puts { OnOk result (PutsOnly (IsSectorOf geometry map (IsNumberOf numbers.new 0 (length numbers.new))) (bitmaps geometry) 0
+        (S.state s.old) (S.state s.new)) }
+    ensures bitmaps { OnOk result (HasBitmaps geometry (S.state s.new)) }
+    ensures full { IfErr result (λ e. e ≡ TakeFault.Full → free_numbers geometry map (S.state s.old).sectors < length numbers.old) }
+    ensures store { SameStore (S.state s.old) (S.state s.new) }
+    ensures cause { HasCauseOf TakeFault.DiskFault (S.state s.old).disk (S.state s.new).disk result }
+{
+    let mut at = 0;
+    while at < numbers.len() {
+        at = take_next(s, geometry, map, near, numbers, at)?;
+    }
+    Ok(())
+}
+
+// Takes as many numbers as the first sector has that isn't full, and writes them into a list from place `from` on, or as many as have a
+// place there. Answers the place behind them.
+fn take_next<S: Sectors>(
+    s: &mut S,
+    geometry: Geometry,
+    map: Bitmap,
+    near: u32,
+    numbers: &mut [u32],
+    from: usize,
+) -> Result<usize, TakeFault>
+    requires bitmaps { HasBitmaps geometry (S.state s.old) }
+    requires within { from < length numbers.old }
+    requires room { HasSpare geometry 0 (S.state s.old) }
+    ensures more { IfOk result (λ end. from < end) }
+    ensures within { IfOk result (λ end. end ≤ length numbers.old) }
+    ensures len { length numbers.new ≡ length numbers.old }
+    ensures before { (i : ℕ) → i < from → get_or numbers.new i 0 ≡ get_or numbers.old i 0 }
+    ensures taken { IfOk result (λ end. TakesNumbers geometry map numbers.new from end (S.state s.old).sectors (S.state s.new).sectors) }
+    ensures puts { IfOk result (λ end. PutsOnly (IsSectorOf geometry map (IsNumberOf numbers.new from end)) (bitmaps geometry) 0
+        (S.state s.old) (S.state s.new)) }
+    ensures bitmaps { OnOk result (HasBitmaps geometry (S.state s.new)) }
+    ensures full { IfErr result (λ e. e ≡ TakeFault.Full → free_numbers geometry map (S.state s.old).sectors ≡ 0) }
+    ensures unchanged { OnErr result (IsUnchanged (S.state s.old) (S.state s.new)) }
+    ensures cause { HasCauseOf TakeFault.DiskFault (S.state s.old).disk (S.state s.new).disk result }
+{
     let mut sector = [0; 512];
     let sectors = map.sectors(geometry);
-    let from = near / 4096;
-    let first = map.first_sought(s, from, sectors);
+    let sought = near / 4096;
+    let first = map.first_sought(s, sought, sectors);
     for turn in 0..sectors {
         let k = (first + turn) % sectors;
         s.get(map.first(geometry) + k, &mut sector)?;
-        if let Some(i) = first_clear(&sector) {
-            let n = 4096 * k + i;
-            put_bit(s, geometry, map, n, &mut sector, true);
-            return Ok(n);
+        let end = set_listed(&mut sector, k, numbers, from);
+        if end > from {
+            s.put(map.first(geometry) + k, &sector);
+            return Ok(end);
         }
-        map.pass_by(s, from, k + 1, sectors);
+        map.pass_by(s, sought, k + 1, sectors);
     }
     Err(TakeFault::Full)
 }
@@ -62,7 +121,7 @@ pub fn give<S: Sectors>(s: &mut S, geometry: Geometry, map: Bitmap, n: u32) -> R
 {
     let mut sector = [0; 512];
     s.get(map.first(geometry) + n / 4096, &mut sector)?;
-    put_bit(s, geometry, map, n, &mut sector, false);
+    clear_bit(s, geometry, map, n, &mut sector);
     Ok(())
 }
 
@@ -128,25 +187,18 @@ fn give_next<S: Sectors>(
     Ok(end)
 }
 
-// Writes the bit of a number into its sector, which is read already.
-fn put_bit<S: Sectors>(
-    s: &mut S,
-    geometry: Geometry,
-    map: Bitmap,
-    n: u32,
-    sector: &mut [u8; 512],
-    set: bool,
-)
+// Clears the bit of a number in its sector, which is read already.
+fn clear_bit<S: Sectors>(s: &mut S, geometry: Geometry, map: Bitmap, n: u32, sector: &mut [u8; 512])
     requires bitmaps { HasBitmaps geometry (S.state s.old) }
     requires number { IsNumber geometry map n }
     requires content { sector.old ≡ (S.state s.old).sectors (sector_of geometry map n) }
     requires room { HasSpare geometry 0 (S.state s.old) }
     ensures marks { Marks geometry map n (S.state s.old).sectors (S.state s.new).sectors }
-    ensures bit { bit (S.state s.new).sectors (first_sector geometry map) n ≡ set }
+    ensures bit { bit (S.state s.new).sectors (first_sector geometry map) n ≡ false }
     ensures puts { PutsOnly (λ t. t ≡ sector_of geometry map n) (bitmaps geometry) 0 (S.state s.old) (S.state s.new) }
     ensures bitmaps { HasBitmaps geometry (S.state s.new) }
 {
     let at = n as usize % 4096 / 8;
-    sector[at] = with_bit(sector[at], n % 8, set);
+    sector[at] = with_bit(sector[at], n % 8, false);
     s.put(map.first(geometry) + n / 4096, sector);
 }

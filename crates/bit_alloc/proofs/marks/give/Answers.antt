@@ -5,20 +5,20 @@ use Rattle.bit_alloc.proofs.Marking.{one_more_free}
 use Rattle.bit_alloc.proofs.Transactions.{map_unchanged, bitmaps_unchanged, puts_after}
 use Rattle.bit_alloc.proofs.marks.give.Goals as goal
 
-pub put_bit-requires-clause-bitmaps : goal.put_bit-requires-clause-bitmaps
-put_bit-requires-clause-bitmaps g c =
+pub clear_bit-requires-clause-bitmaps : goal.clear_bit-requires-clause-bitmaps
+clear_bit-requires-clause-bitmaps g c =
     bitmaps_unchanged c.args.geometry (g.S.Sectors.state c.args.s.now) (g.S.Sectors.state c.get.new.self) c.requires.bitmaps c.in_ok-get.ensures.same
 
 pub returns-clause-given : goal.returns-clause-given
 returns-clause-given g c =
     let mid = g.S.Sectors.state c.get.new.self in
-    let new = g.S.Sectors.state c.put_bit.new.s in
+    let new = g.S.Sectors.state c.clear_bit.new.s in
     let given : GivesNumber c.args.geometry c.args.map c.args.n mid.sectors new.sectors = record {
-      mark = c.put_bit.ensures.marks;
-      clear = c.put_bit.ensures.bit;
-      count = λ was. one_more_free c.args.geometry c.args.map c.args.n mid.sectors new.sectors c.requires.bitmaps.geometry c.requires.number c.put_bit.ensures.marks c.put_bit.ensures.bit was;
+      mark = c.clear_bit.ensures.marks;
+      clear = c.clear_bit.ensures.bit;
+      count = λ was. one_more_free c.args.geometry c.args.map c.args.n mid.sectors new.sectors c.requires.bitmaps.geometry c.requires.number c.clear_bit.ensures.marks c.clear_bit.ensures.bit was;
     } in
     subst (λ (image : SectorMap). GivesNumber c.args.geometry c.args.map c.args.n image new.sectors) (sym (map_unchanged c.in_ok-get.ensures.same)) given
 
 pub returns-clause-puts : goal.returns-clause-puts
-returns-clause-puts g c = puts_after c.in_ok-get.ensures.same c.put_bit.ensures.puts
+returns-clause-puts g c = puts_after c.in_ok-get.ensures.same c.clear_bit.ensures.puts
