@@ -4,6 +4,7 @@ pub mod Alterings
 pub mod Clearings
 pub mod Counts
 pub mod Dropping
+pub mod Filling
 pub mod Freeings
 pub mod Givings
 pub mod Joins
@@ -15,6 +16,7 @@ pub mod Reading
 pub mod Resizing
 pub mod Rewritten
 pub mod Rooms
+pub mod Running
 pub mod Runs
 pub mod Saving
 pub mod Sizing

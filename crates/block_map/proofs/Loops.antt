@@ -1,5 +1,5 @@
 -- Bytes are written, one block after the other.
-use Rattle.std.proofs.Common.{◌≡◌, ◌≢◌, ℕ, ◌+◌, ◌-◌, ◌*◌, ◌/◌, ◌≤◌, ◌<◌, ◌⊎◌, List, [], ◌∷◌, ◌++◌, length, take, drop, refl, sym, ap, subst, ◌∙◌, arith, inl, inr}
+use Rattle.std.proofs.Common.{◌≡◌, ◌≢◌, ℕ, zero, suc, ◌+◌, ◌-◌, ◌*◌, ◌/◌, ◌≤◌, ◌<◌, ◌⊎◌, List, [], ◌∷◌, ◌++◌, length, take, drop, refl, sym, ap, subst, ◌∙◌, arith, inl, inr}
 use Rattle.std.specs.Prelude.{nat_eq, if◌then◌else◌}
 use Rattle.std.proofs.lemmas.Bool.{cases_lt, cases_eq, lt-ltb}
 use Rattle.std.proofs.lemmas.List.{length-take-le, take_all}
@@ -9,15 +9,19 @@ use Rattle.fs_layout.specs.declared.inode.Inode.{Inode}
 use Rattle.fs_layout.specs.declared.geometry.Geometry.{Geometry}
 use Rattle.fs_layout.specs.Bytes.{SectorMap, splice}
 use Rattle.fs_layout.specs.Images.{holder, number_on, pointer, Holds, free_sectors}
+use Rattle.fs_layout.specs.InodeChanges.{ChangesBlocks}
 use Rattle.fs_layout.proofs.Writes.{splice_next, nothing_put}
-use Rattle.sector_txn.specs.Sectors.{TxnState, PutsOnly, lacking}
-use Rattle.sector_txn.proofs.TransactionRuns.{changes_nothing, changes_joined, store_joined}
+use Rattle.sector_txn.specs.Sectors.{TxnState, IsUnchanged, PutsOnly, lacking}
+use Rattle.sector_txn.proofs.TransactionRuns.{changes_nothing, changes_joined, changes_read, store_joined}
+use Rattle.bit_alloc.specs.Inodes.{KeepsAcls}
 use Rattle.bit_alloc.specs.Room.{bitmaps, HasSpare}
-use Rattle.block_map.specs.Steps.{MayChange, IsStepSector, HasRoomFor, Alters, hole, holes, lacks_pointers, pointers_of, pointers_to, pointer_sectors, AddsPointers, WritesBlock, WritesBlocks, blocks_to, taken_by}
+use Rattle.block_map.specs.Steps.{MayChange, IsStepSector, HasRoomFor, Alters, hole, holes, lacks_pointers, pointers_of, pointers_to, pointer_sectors, AddsPointers, WritesBlock, WritesRun, WritesBlocks, blocks_to, taken_by}
 use Rattle.block_map.proofs.Adding.{pointers_are_numbers}
 use Rattle.block_map.proofs.Alterings.{alters_joined, may_after}
 use Rattle.block_map.proofs.AddedPointers.{alters_nothing}
 use Rattle.block_map.proofs.Counts.{lacks_more, lacks_further, lacks_same, taken_is}
+use Rattle.block_map.proofs.Givings.{may_unchanged}
+use Rattle.block_map.proofs.Runs.{same_map}
 use Rattle.block_map.proofs.Rooms.{lacking-append, lacks_among, puts_among, puts_before}
 use Rattle.block_map.proofs.Writings.{hole_is_one, pointers_are}
 
@@ -52,20 +56,52 @@ none_written {p} {offset} {first} {x} {txn} {v} ns may before =
       free = omega arith;
     }
 
--- what is written up to a block, and a piece in the block
-joined_piece : (bytes x piece : List ℕ) (offset k at done len : ℕ) → 512 * k + at ≡ offset + done → done ≡ 512 * k - offset → done ≤ length x
-    → piece ≡ take len (drop done x) → ((length x ≤ 512 * (k + 1) - offset) × (done + len ≡ length x)) ⊎ (done + len ≡ 512 * (k + 1) - offset)
+-- reads change nothing of it
+pub written_then : {p : Geometry} {ns : List ℕ} {offset first k : ℕ} {x : List ℕ} {old mid now : TxnState} {u v w : Inode} → IsWritten p ns offset first k x old mid u v → IsUnchanged mid now → w ≡ v
+    → IsWritten p ns offset first k x old now u w
+written_then {p} {ns} {offset} {first} {k} {x} {old} {mid} {now} {u} {v} {w} so_far same is =
+    subst (λ (i : Inode). IsWritten p ns offset first k x old now u i) (sym is)
+    (record {
+      may = may;
+      alters = record {
+        blocks = shift (λ m. ChangesBlocks p u v old.sectors m) alters.blocks;
+        fields = alters.fields;
+        acls = shift (λ m. KeepsAcls old.sectors m u v) alters.acls;
+        bitmaps = may.bitmaps;
+        fits = alters.fits;
+      };
+      size = so_far.size;
+      pointers = λ i. shift (λ m. number_on m v 1 i ≡ number_on old.sectors u 1 i) (so_far.pointers i);
+      puts = changes_read so_far.puts same;
+      held = λ bytes h. shift (λ m. Holds m v (splice bytes offset (take (512 * k - offset) x))) (so_far.held bytes h);
+      here = λ j low high. shift (λ m. pointer m v j ≢ 0) (so_far.here j low high);
+      others = λ j out. shift (λ m. pointer m v j ≡ pointer old.sectors u j) (so_far.others j out);
+      free = shift (λ m. free_sectors p old.sectors ≤ free_sectors p m + holes old.sectors u first (k - first)) so_far.free;
+    })
+  where
+    alters : Alters p old mid u v
+    alters = so_far.alters
+
+    may : MayChange p now v
+    may = may_unchanged so_far.may same
+
+    shift : (P : SectorMap → Type 0) → P mid.sectors → P now.sectors
+    shift P = subst P (sym (same_map mid.sectors now.sectors same.sectors))
+
+-- what is written up to a block, and a piece behind it
+joined_piece : (bytes x piece : List ℕ) (offset k m start done len : ℕ) → start ≡ offset + done → done ≡ 512 * k - offset → done ≤ length x
+    → piece ≡ take len (drop done x) → ((length x ≤ 512 * m - offset) × (done + len ≡ length x)) ⊎ (done + len ≡ 512 * m - offset)
     → offset + length x ≤ length bytes
-    → splice (splice bytes offset (take (512 * k - offset) x)) (512 * k + at) piece ≡ splice bytes offset (take (512 * (k + 1) - offset) x)
-joined_piece bytes x piece offset k at done len next is few e ends room =
+    → splice (splice bytes offset (take (512 * k - offset) x)) start piece ≡ splice bytes offset (take (512 * m - offset) x)
+joined_piece bytes x piece offset k m start done len next is few e ends room =
     let width : length (take done x) ≡ done = length-take-le done x few in
-    ap (λ (d : ℕ). splice (splice bytes offset (take d x)) (512 * k + at) piece) (sym is)
-    ∙ splice_next bytes (take done x) piece offset (512 * k + at) (omega (arith, width, few, room)) (omega (arith, next, width))
+    ap (λ (d : ℕ). splice (splice bytes offset (take d x)) start piece) (sym is)
+    ∙ splice_next bytes (take done x) piece offset start (omega (arith, width, few, room)) (omega (arith, next, width))
     ∙ ap (splice bytes offset) (ap (λ (r : List ℕ). take done x ++ r) e ∙ sym (take-add done len x) ∙ to_end)
   where
-    to_end : take (done + len) x ≡ take (512 * (k + 1) - offset) x
+    to_end : take (done + len) x ≡ take (512 * m - offset) x
     to_end = elim ends [
-      | inl all ↦ take_all (done + len) x (omega (arith, all.1)) ∙ sym (take_all (512 * (k + 1) - offset) x all.0)
+      | inl all ↦ take_all (done + len) x (omega (arith, all.1)) ∙ sym (take_all (512 * m - offset) x all.0)
       | inr same ↦ ap (λ (n : ℕ). take n x) same
     ]
 
@@ -123,7 +159,7 @@ more_written {p} {offset} {first} {k} {at} {end} {x} {piece} {old} {mid} {new} {
       puts = subst (λ (m : ℕ). PutsOnly (IsStepSector p) (ns ++ bitmaps p) m old new) (sym one)
           (changes_joined so_far.puts (puts_shared old.sectors mid.sectors u v first end k from below so_far.pointers (bitmaps p) step.puts));
       held = λ bytes h.
-          subst (λ (r : List ℕ). Holds new.sectors w r) (joined_piece bytes x piece offset k at done len next is (omega (arith, few)) piece_is ends (let z = h.size in omega (arith, z, room)))
+          subst (λ (r : List ℕ). Holds new.sectors w r) (joined_piece bytes x piece offset k (k + 1) (512 * k + at) done len next is (omega (arith, few)) piece_is ends (let z = h.size in omega (arith, z, room)))
           (step.held (splice bytes offset (take (512 * k - offset) x)) (so_far.held bytes h));
       here = λ j low high. elim (cases_eq j k) [
         | inl e ↦ subst (λ (i : ℕ). pointer new.sectors w i ≢ 0) (sym e) step.here
@@ -145,6 +181,60 @@ more_written {p} {offset} {first} {k} {at} {end} {x} {piece} {old} {mid} {new} {
     apart j out e = elim out [ inl low ↦ omega (arith, low, from, e) | inr high ↦ omega (arith, high, e) ]
 
     wider : (j : ℕ) → (j < first) ⊎ (k + 1 ≤ j) → (j < first) ⊎ (k ≤ j)
+    wider j out = elim out [ inl low ↦ inl low | inr high ↦ inr (omega (arith, high)) ]
+
+-- so many holes
+holes_all : (image : SectorMap) (v : Inode) (first n count : ℕ) → ((j : ℕ) → first + n ≤ j → j < first + n + count → pointer image v j ≡ 0)
+    → holes image v first (n + count) ≡ holes image v first n + count
+holes_all image v first n zero none =
+    let same : n + 0 ≡ n = omega arith in
+    let e = ap (holes image v first) same in omega (arith, e)
+holes_all image v first n (suc count) none =
+    let rest = holes_all image v first n count (λ j low high. none j low (omega (arith, high))) in
+    let more = lacks_more image v 0 first (n + count) in
+    let one = hole_is_one image v (first + (n + count)) (none (first + (n + count)) (omega arith) (omega arith)) in
+    let next : n + count + 1 ≡ n + suc count = omega arith in
+    let e = ap (holes image v first) next in omega (arith, rest, more, one, e)
+
+-- a run more is written
+pub run_more : {p : Geometry} {offset first k count end : ℕ} {x piece : List ℕ} {old mid new : TxnState} {u v w : Inode} → (done : ℕ)
+    → IsWritten p (pointers_of old.sectors u first end) offset first k x old mid u v → WritesRun p k count piece mid new v w
+    → first ≤ k → 0 < count → k + count ≤ end → 512 * k ≡ offset + done → done ≡ 512 * k - offset → piece ≡ take (512 * count) (drop done x)
+    → done + 512 * count ≤ length x → ((j : ℕ) → k ≤ j → j < k + count → pointer mid.sectors v j ≡ 0) → offset + length x ≤ u.size
+    → IsWritten p (pointers_of old.sectors u first end) offset first (k + count) x old new u w
+run_more {p} {offset} {first} {k} {count} {end} {x} {piece} {old} {mid} {new} {u} {v} {w} done so_far step from some below next is piece_is few none room =
+    let all : k + count - first ≡ k - first + count = omega (arith, from) in
+    let ns : List ℕ = pointers_of old.sectors u first end in
+    record {
+      may = may_after so_far.may step.alters;
+      alters = alters_joined so_far.alters step.alters;
+      size = step.size ∙ so_far.size;
+      pointers = λ i. step.pointers i ∙ so_far.pointers i;
+      puts = subst (λ (m : ℕ). PutsOnly (IsStepSector p) (ns ++ bitmaps p) m old new) (sym all)
+          (changes_joined so_far.puts (puts_shared old.sectors mid.sectors u v first end k from (omega (arith, below, some)) so_far.pointers (bitmaps p) step.puts));
+      held = λ bytes h.
+          subst (λ (r : List ℕ). Holds new.sectors w r)
+          (joined_piece bytes x piece offset k (k + count) (512 * k) done (512 * count) next is (omega (arith, few)) piece_is (inr (omega (arith, is, next))) (let z = h.size in omega (arith, z, room)))
+          (step.held (splice bytes offset (take (512 * k - offset) x)) (so_far.held bytes h));
+      here = λ j low high. elim (cases_lt j k) [
+        | inl before ↦ λ e. so_far.here j low before (sym (step.others j (inl before)) ∙ e)
+        | inr within ↦ step.here j within high
+      ];
+      others = λ j out. step.others j (apart j out) ∙ so_far.others j (wider j out);
+      free =
+          let f = step.free in
+          let g = so_far.free in
+          let there : first + (k - first) ≡ k = omega (arith, from) in
+          let holes_there = holes_all old.sectors u first (k - first) count
+          (λ j low high. sym (so_far.others j (inr (omega (arith, low, there)))) ∙ none j (omega (arith, low, there)) (omega (arith, high, there))) in
+          let e : holes old.sectors u first (k + count - first) ≡ holes old.sectors u first (k - first + count) = ap (holes old.sectors u first) all in
+          omega (arith, f, g, holes_there, e);
+    }
+  where
+    apart : (j : ℕ) → (j < first) ⊎ (k + count ≤ j) → (j < k) ⊎ (k + count ≤ j)
+    apart j out = elim out [ inl low ↦ inl (omega (arith, low, from)) | inr high ↦ inr high ]
+
+    wider : (j : ℕ) → (j < first) ⊎ (k + count ≤ j) → (j < first) ⊎ (k ≤ j)
     wider j out = elim out [ inl low ↦ inl low | inr high ↦ inr (omega (arith, high)) ]
 
 -- ---- all blocks
@@ -208,16 +298,31 @@ module _ {p : Geometry} (offset : ℕ) {end : ℕ} (x : List ℕ) {old mid : Txn
         let same = same_holes (k - first) in
         omega (arith, f, g, full, same, count, more, one, rest)
 
-    -- there is room for one block more
-    pub room_for_block : HasSpare p (blocks_to (offset + length x) - offset / 512 + pointer_sectors (offset / 512) (blocks_to (offset + length x))) old
-        → HasRoomFor p (pointers_to now.sectors w k) 1 now
-    room_for_block spare =
+    -- and where too few are left for a run
+    pub run_lacks : (run : ℕ) → k + run ≤ end → ((j : ℕ) → k ≤ j → j < k + run → pointer now.sectors w j ≡ 0) → free_sectors p now.sectors < run
+        → free_sectors p old.sectors < taken_by old.sectors u offset (length x)
+    run_lacks run within none few =
+        let there : first + (k - first) ≡ k = omega (arith, from) in
+        let lacking = holes_all old.sectors u first (k - first) run
+        (λ j low high.
+        sym (so_far.others j (inr (omega (arith, low, there))) ∙ added.same j) ∙ none j (omega (arith, low, there)) (omega (arith, high, there))) in
+        let rest = lacks_further old.sectors u 0 first (k - first + run) (end - first) (omega (arith, from, within)) in
+        let f = added.free in
+        let g = so_far.free in
+        let same = same_holes (k - first) in
+        omega (arith, f, g, few, same, count, lacking, rest)
+
+    -- there is room for so many blocks more
+    pub room_for_blocks : (more : ℕ) → k + more ≤ end
+        → HasSpare p (blocks_to (offset + length x) - offset / 512 + pointer_sectors (offset / 512) (blocks_to (offset + length x))) old
+        → HasRoomFor p (pointers_to now.sectors w k) more now
+    room_for_blocks more within spare =
         let one = added.room in
         let two = so_far.puts.room in
         let shared = lacks_shared mid.sectors now.sectors v w first end k from below so_far.pointers now (bitmaps p) in
         let most : blocks_to (offset + length x) - offset / 512 + pointer_sectors (offset / 512) (blocks_to (offset + length x)) ≡ end - first + pointer_sectors first end =
         ap (λ (e : ℕ). e - offset / 512 + pointer_sectors (offset / 512) e) (sym is) in
-        omega (arith, one, two, shared, most, from, below, spare)
+        omega (arith, one, two, shared, most, from, within, spare)
 
 -- and so where none is left for the pointers
 pub pointers_lack : (p : Geometry) (offset end : ℕ) (x : List ℕ) (old : TxnState) (v : Inode) → end ≡ blocks_to (offset + length x)

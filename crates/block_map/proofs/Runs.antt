@@ -57,3 +57,18 @@ fault_on {old = old} {mid} {new} first cause (Err y) passed = record {
   later = let a = first.reads.failures in let b = cause.later in omega (arith, a, b);
   fault = failed_later old.disk mid.disk new first.reads.failures cause.fault;
 }
+
+-- that of a later call on the disk, as a fault of the map
+pub map_fault_on : {E : Type 0} {fault : MapFault} {e : E} {old mid : TxnState} {new : DiskState} → SameStore old mid → HasCause {T = Unit {0}} {E = E} mid.disk new (Err e)
+    → (r : Result (Unit {0}) MapFault) → IsErr r → HasCauseOf fault old.disk new r
+map_fault_on {fault = fault} {old = old} {mid} {new} first cause r err = record {
+  later = let a = first.reads.failures in let b = cause.later in omega (arith, a, b);
+  failed = any r err;
+}
+  where
+    failed : HasFailed old.disk new
+    failed = failed_later old.disk mid.disk new first.reads.failures cause.fault
+
+    any : (r : Result (Unit {0}) MapFault) → IsErr r → IfErr r (λ y. y ≡ fault → HasFailed old.disk new)
+    any (Ok u) err = tt
+    any (Err y) err = λ is. failed

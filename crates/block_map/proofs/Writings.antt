@@ -56,11 +56,11 @@ puts_entry_at {old} {mid} {new} {v} {u} {pointers} level i s sector keeps from h
     }
 
 -- the sector of pointers of a block is the one that is shared
-pub shares_pointers : (p : Geometry) {u : ℕ} {old new : TxnState} (v : Inode) (k : ℕ) → DIRECT_BLOCKS ≤ k → u ≡ number_on old.sectors v 1 (holder DIRECT_BLOCKS k)
-    → PutsOnly (IsStepSector p) (u ∷ bitmaps p) 1 old new → PutsOnly (IsStepSector p) (pointers_to old.sectors v k ++ bitmaps p) 1 old new
-shares_pointers p {u} {old} {new} v k from is puts =
-    subst (λ (ns : List ℕ). PutsOnly (IsStepSector p) (ns ++ bitmaps p) 1 old new) (sym (pointers_are old.sectors v k from))
-    (subst (λ (t : ℕ). PutsOnly (IsStepSector p) (t ∷ bitmaps p) 1 old new) is puts)
+pub shares_pointers : (p : Geometry) {u more : ℕ} {old new : TxnState} (v : Inode) (k : ℕ) → DIRECT_BLOCKS ≤ k → u ≡ number_on old.sectors v 1 (holder DIRECT_BLOCKS k)
+    → PutsOnly (IsStepSector p) (u ∷ bitmaps p) more old new → PutsOnly (IsStepSector p) (pointers_to old.sectors v k ++ bitmaps p) more old new
+shares_pointers p {u} {more} {old} {new} v k from is puts =
+    subst (λ (ns : List ℕ). PutsOnly (IsStepSector p) (ns ++ bitmaps p) more old new) (sym (pointers_are old.sectors v k from))
+    (subst (λ (t : ℕ). PutsOnly (IsStepSector p) (t ∷ bitmaps p) more old new) is puts)
 
 -- no sector becomes free or taken by a put into the data
 pub free_after_put : {p : Geometry} {s : ℕ} {x : List ℕ} {old new : SectorMap} → IsGeometry p → p.first_data ≤ s → Puts s x old new → free_sectors p new ≡ free_sectors p old

@@ -7,17 +7,18 @@
 --     numbers_on, sectors_to, pointers_to        numbers of a level, one after the other; the sector in which a number stands
 --     AddsSector, AddsNumbers, AddsPointers        the inode gets a sector of pointers, several of a level, or all that blocks need
 --     WritesBlock, WritesBlocks        bytes of one block are written, and of several
+--     block_of, FillsSectors, WritesRun        whole blocks are written into sectors that are taken for them
 --     blocks_to, taken_by, put_by        the blocks that bytes reach, and the sectors that they take and put
-use Rattle.std.specs.Prelude.{◌≡◌, ◌≢◌, ◌⊎◌, ℕ, zero, suc, ◌+◌, ◌*◌, ◌<◌, ◌≤◌, ◌-◌, ◌/◌, nat_eq, nat_lt, if◌then◌else◌, count_by, List, [], ◌∷◌, ◌++◌, length}
+use Rattle.std.specs.Prelude.{◌≡◌, ◌≢◌, ◌⊎◌, ℕ, zero, suc, ◌+◌, ◌*◌, ◌<◌, ◌≤◌, ◌-◌, ◌/◌, nat_eq, nat_lt, if◌then◌else◌, count_by, List, [], ◌∷◌, ◌++◌, length, get_or, take, drop}
 use Rattle.std.specs.List.{range_with_len}
 use Rattle.fs_layout.specs.declared.inode.TheConstants.{DIRECT_BLOCKS, POINTER_LEVELS}
 use Rattle.fs_layout.specs.declared.inode.Inode.{Inode}
 use Rattle.fs_layout.specs.declared.inode.Kind.TheVariants as kinds
 use Rattle.fs_layout.specs.declared.geometry.Geometry.{Geometry}
-use Rattle.fs_layout.specs.Bytes.{SectorMap, splice}
+use Rattle.fs_layout.specs.Bytes.{SectorMap, splice, le32}
 use Rattle.fs_layout.specs.Inode.{FitsInode}
 use Rattle.fs_layout.specs.Images.{IsData, own_count, holder, number_on, pointer, Holds, free_sectors}
-use Rattle.fs_layout.specs.InodeChanges.{IsOwnedApart, ChangesBlocks}
+use Rattle.fs_layout.specs.InodeChanges.{Puts, IsOwnedApart, ChangesBlocks}
 use Rattle.fs_layout.specs.Lacking.{lacks_from, lacks}
 use Rattle.sector_txn.specs.Sectors.{TxnState, PutsOnly, lacking}
 use Rattle.bit_alloc.specs.Bitmaps.{HasBitmaps}
@@ -151,6 +152,34 @@ pub record WritesBlock (p : Geometry) (k at : ℕ) (x : List ℕ) (old new : Txn
   pub others : (j : ℕ) → j ≢ k → pointer new.sectors w j ≡ pointer old.sectors v j
   pub held : (bytes : List ℕ) → Holds old.sectors v bytes → Holds new.sectors w (splice bytes (512 * k + at) x)
   pub free : free_sectors p old.sectors ≤ free_sectors p new.sectors + hole old.sectors v k
+
+-- block i of bytes
+abbrev pub block_of : List ℕ → ℕ → List ℕ
+block_of x i = take 512 (drop (512 * i) x)
+
+-- So many sectors are written with the blocks of the bytes, one after the other, and their numbers into a sector of pointers, from
+-- place `at` on.
+pub record FillsSectors (at count : ℕ) (numbers x : List ℕ) (old new : SectorMap) (before after : List ℕ) : Type 0 where
+  -- the sectors, and the content of the sector of pointers, once the first i are written
+  pub sectors : ℕ → SectorMap
+  pub pointers : ℕ → List ℕ
+  pub first : sectors 0 ≡ old
+  pub last : sectors count ≡ new
+  pub none : pointers 0 ≡ before
+  pub all : pointers count ≡ after
+  pub puts : (i : ℕ) → i < count → Puts (get_or numbers i 0) (block_of x i) (sectors i) (sectors (i + 1))
+  pub points : (i : ℕ) → i < count → pointers (i + 1) ≡ splice (pointers i) (4 * (at + i)) (le32 (get_or numbers i 0))
+
+-- the bytes are written into so many blocks from k on, which had no sectors
+pub record WritesRun (p : Geometry) (k count : ℕ) (x : List ℕ) (old new : TxnState) (v w : Inode) : Type 0 where
+  pub alters : Alters p old new v w
+  pub puts : PutsOnly (IsStepSector p) (pointers_to old.sectors v k ++ bitmaps p) count old new
+  pub size : w.size ≡ v.size
+  pub pointers : (i : ℕ) → number_on new.sectors w 1 i ≡ number_on old.sectors v 1 i
+  pub here : (j : ℕ) → k ≤ j → j < k + count → pointer new.sectors w j ≢ 0
+  pub others : (j : ℕ) → (j < k) ⊎ (k + count ≤ j) → pointer new.sectors w j ≡ pointer old.sectors v j
+  pub held : (bytes : List ℕ) → Holds old.sectors v bytes → Holds new.sectors w (splice bytes (512 * k) x)
+  pub free : free_sectors p old.sectors ≤ free_sectors p new.sectors + count
 
 -- how many blocks bytes reach that end at `end`, the hole ones too
 abbrev pub blocks_to : ℕ → ℕ

@@ -106,8 +106,8 @@ fn take_block<S: Sectors>(
     Ok(number)
 }
 
-// Writes bytes into block k, from `at` on, where its sector of pointers is at hand. A hole takes a sector.
-fn write_loaded<S: Sectors>(
+/// Writes bytes into block k, from `at` on, whose sector of pointers is at hand. A hole takes a sector.
+pub(crate) fn write_loaded<S: Sectors>(
     s: &mut S,
     geometry: Geometry,
     blocks: &mut Blocks,
@@ -141,33 +141,5 @@ fn write_loaded<S: Sectors>(
     } else {
         blocks.put_pointer(s, k, number);
     }
-    Ok(())
-}
-
-/// Writes bytes into block k, from `at` on. A hole takes a sector.
-pub(crate) fn write_block<S: Sectors>(
-    s: &mut S,
-    geometry: Geometry,
-    blocks: &mut Blocks,
-    k: u64,
-    at: usize,
-    bytes: &[u8],
-) -> Result<(), MapFault>
-    requires may { MayChange geometry (S.state s.old) blocks.old.inode }
-    requires at_hand { IsAtHand (S.state s.old).sectors blocks.old }
-    requires pointers { DIRECT_BLOCKS ≤ k → number_on (S.state s.old).sectors blocks.old.inode 1 (holder DIRECT_BLOCKS k) ≢ 0 }
-    requires fits { (at + length bytes.now ≤ 512) × (512 * k + at + length bytes.now ≤ blocks.old.inode.size) }
-    requires inside { 512 * k < blocks.old.inode.size }
-    requires room { HasRoomFor geometry (pointers_to (S.state s.old).sectors blocks.old.inode k) 1 (S.state s.old) }
-    ensures written { OnOk result (WritesBlock geometry k at bytes.now (S.state s.old) (S.state s.new) blocks.old.inode blocks.new.inode) }
-    ensures at_hand { OnOk result (IsAtHand (S.state s.new).sectors blocks.new) }
-    ensures full { result ≡ Err MapFault.Full
-        → (pointer (S.state s.old).sectors blocks.old.inode k ≡ 0) × (free_sectors geometry (S.state s.old).sectors ≡ 0) }
-    ensures small { result ≢ Err MapFault.TooBig }
-    ensures store { SameStore (S.state s.old) (S.state s.new) }
-    ensures cause { HasCauseOf MapFault.DiskFault (S.state s.old).disk (S.state s.new).disk result }
-{
-    blocks.load(s, k)?;
-    write_loaded(s, geometry, blocks, k, at, bytes)?;
     Ok(())
 }

@@ -1,6 +1,6 @@
 //! Writing.
 
-ghost use Rattle.std.specs.Prelude.{◌≡◌, ◌≢◌, ◌≤◌, ◌<◌, ◌+◌, ◌-◌, ◌/◌, ◌%◌, ◌↔◌, ℕ, max, List, length, Err, OnOk};
+ghost use Rattle.std.specs.Prelude.{◌≡◌, ◌≢◌, ◌≤◌, ◌<◌, ◌+◌, ◌*◌, ◌-◌, ◌/◌, ◌%◌, ◌↔◌, ℕ, max, List, length, Err, OnOk};
 ghost use Rattle.fs_layout.specs.declared.inode.TheConstants.{MAX_FILE_SIZE};
 ghost use Rattle.fs_layout.specs.Version.{max_file_size};
 ghost use Rattle.fs_layout.specs.declared.inode.Kind.TheVariants.{Free};
@@ -19,7 +19,8 @@ ghost use Rattle.block_map.specs.Steps.{MayChange, WritesBlocks, blocks_to, poin
 use crate::MapFault;
 use crate::blocks::{BLOCK, Blocks};
 use crate::pointers::add_pointers;
-use crate::steps::{rewrite, write_block};
+use crate::run::{run_of_holes, write_run};
+use crate::steps::{rewrite, write_loaded};
 use fs_layout::{Geometry, Inode};
 use inode_table::write_inode;
 use sector_disk::DiskFault;
@@ -27,6 +28,17 @@ use sector_txn::Sectors;
 
 /// The most bytes that one call of [`write_at`] writes.
 pub const MAX_WRITE: usize = 16_384;
+
+// How many whole blocks so many bytes are that begin at this place of a block.
+fn whole_blocks(at: usize, len: usize) -> usize
+    ensures first { 0 < result → at ≡ 0 }
+    ensures within { 512 * result ≤ len }
+{
+    if at > 0 {
+        return 0;
+    }
+    len / BLOCK
+}
 
 /// Writes bytes within the size of an inode, which isn't saved.
 pub(crate) fn write_blocks<S: Sectors>(
@@ -51,12 +63,21 @@ pub(crate) fn write_blocks<S: Sectors>(
 {
     let end = (offset + bytes.len() as u64).div_ceil(BLOCK as u64);
     add_pointers(s, geometry, blocks, offset / BLOCK as u64, end)?;
-    for k in offset / BLOCK as u64..end {
+    let mut k = offset / BLOCK as u64;
+    while k < end {
         let begin = k * BLOCK as u64;
         let at = offset.saturating_sub(begin) as usize;
         let done = begin.saturating_sub(offset) as usize;
-        let len = (BLOCK - at).min(bytes.len() - done);
-        write_block(s, geometry, blocks, k, at, &bytes[done..done + len])?;
+        blocks.load(s, k)?;
+        let run = run_of_holes(blocks, k, whole_blocks(at, bytes.len() - done));
+        if run > 0 {
+            write_run(s, geometry, blocks, k, &bytes[done..done + BLOCK * run])?;
+            k += run as u64;
+        } else {
+            let len = (BLOCK - at).min(bytes.len() - done);
+            write_loaded(s, geometry, blocks, k, at, &bytes[done..done + len])?;
+            k += 1;
+        }
     }
     Ok(())
 }

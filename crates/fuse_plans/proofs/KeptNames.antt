@@ -55,7 +55,6 @@ use Rattle.fuse_plans.proofs.AllEnds.{AllEnd, all-weaker, all-followed_by, all-r
 use Rattle.fuse_plans.proofs.OpenedObjects.{EndsWell, finished, ok_is, fails_not_well, run-told, was_told, before}
 
 -- ---- what is told
-
 abbrev is_absent : ReplyBody → Bool
 is_absent (Absent valid) = true
 is_absent _ = false
@@ -786,8 +785,7 @@ module _ (r : Request) (s t : Server) (valid : ℕ) where
     where
       choose : (b : Bool) → names_an_object operation ≡ b → IsMissing s.server_process after rest
       choose true is = named_missing operation is nobody after rest done
-      choose false is =
-          absurd (never (told_so (IsFor 0) _ s t after rest (Absent valid)
+      choose false is = absurd (never (told_so (IsFor 0) _ s t after rest (Absent valid)
           (so-told_first (IsFor 0) (says_change operation) r.now _ (plain-plan (asked_of r nobody) r.value operation is)) done).1)
 
 pub only_missing_names_are_absent : OnlyMissingNamesAreAbsent

@@ -88,6 +88,7 @@ exchanges r = Reads r.bytes ∷ later_exchanges r
 -- where the user alone counts, a request is performed with its user's credential without groups and capabilities
 abbrev pub IsOfUser : WhoCounts → Option Credential → Type 0
 IsOfUser User (Some cred) = (cred.groups ≡ []) × (cred.caps ≡ no_caps)
+IsOfUser User None = ⊥
 IsOfUser _ cred = Unit {0}
 
 -- First it is found who counts, which changes nothing that the server keeps; and then the request is answered.

@@ -1,12 +1,14 @@
-use Rattle.std.proofs.Common.{◌≡◌, ℕ, ◌+◌, ◌-◌, ◌*◌, ◌/◌, ◌≤◌, ◌⊎◌, length, take, drop, sym, ap, subst, ◌∙◌, arith, inl, inr, Err}
+use Rattle.std.proofs.Common.{◌≡◌, ℕ, ◌+◌, ◌-◌, ◌*◌, ◌/◌, ◌≤◌, ◌⊎◌, List, length, take, drop, sym, ap, subst, ◌∙◌, arith, inl, inr, Err}
 use Rattle.std.proofs.lemmas.Bool.{cases_lt}
 use Rattle.std.proofs.lemmas.List.{length-take-le, length-drop}
-use Rattle.block_map.specs.Steps.{pointers_of}
-use Rattle.block_map.proofs.Alterings.{may_after}
-use Rattle.block_map.proofs.Loops.{IsWritten, none_written, more_written, all_written, block_lacks, room_for_block, pointers_lack}
 use Rattle.sector_txn.proofs.TransactionRuns.{store_joined}
 use Rattle.block_map.specs.declared.fault.MapFault.TheVariants.{Full}
-use Rattle.block_map.proofs.Runs.{same_fault, cause_on}
+use Rattle.block_map.specs.Steps.{WritesRun, HasRoomFor, pointers_of, pointers_to}
+use Rattle.block_map.proofs.Alterings.{may_after}
+use Rattle.block_map.proofs.Loops.{IsWritten, none_written, written_then, more_written, run_more, all_written, block_lacks, run_lacks, room_for_blocks, pointers_lack}
+use Rattle.block_map.proofs.Numbers.{loaded_unchanged}
+use Rattle.block_map.proofs.Runs.{same_fault, cause_on, map_fault_on}
+use Rattle.block_map.proofs.Wrote.{may_within}
 use Rattle.block_map.proofs.write.write_blocks.Goals as goal
 
 pub add_pointers-requires-clause-inside : goal.add_pointers-requires-clause-inside
@@ -19,9 +21,159 @@ add_pointers-requires-clause-inside g c = (
 pub loop-k-init : goal.loop-k-init
 loop-k-init g c = record {
   from = omega arith;
+  within = omega (arith, c.div_ceil-end.ensures);
   at_hand = c.in_ok-add_pointers.ensures.at_hand;
   written = none_written _ (may_after c.requires.may c.in_ok-add_pointers.ensures.added.alters) (omega arith);
 }
+
+pub load-requires-clause-within : goal.load-requires-clause-within
+load-requires-clause-within g c = may_within c.loop-k.invariant.written.may
+
+pub returns-in_err-load-clause-store : goal.returns-in_err-load-clause-store
+returns-in_err-load-clause-store g c =
+    store_joined (store_joined c.in_ok-add_pointers.ensures.store c.loop-k.invariant.written.puts.store) c.in_err-load.ensures.same.store
+
+pub returns-in_err-load-clause-cause : goal.returns-in_err-load-clause-cause
+returns-in_err-load-clause-cause g c =
+    map_fault_on (store_joined c.in_ok-add_pointers.ensures.store c.loop-k.invariant.written.puts.store) c.in_err-load.ensures.cause c.from_residual-in_err-load.result
+    c.from_residual-in_err-load.ensures.0
+
+-- ---- a run
+pub write_run-requires-clause-may : goal.write_run-requires-clause-may
+write_run-requires-clause-may g c = (written_then c.loop-k.invariant.written c.in_ok-load.ensures.same c.in_ok-load.ensures.inode).may
+
+pub write_run-requires-clause-loaded : goal.write_run-requires-clause-loaded
+write_run-requires-clause-loaded g c = loaded_unchanged c.in_ok-load.ensures.same c.in_ok-load.ensures.loaded
+
+pub write_run-requires-clause-pointers : goal.write_run-requires-clause-pointers
+write_run-requires-clause-pointers g c = λ e.
+    let so_far = written_then c.loop-k.invariant.written c.in_ok-load.ensures.same c.in_ok-load.ensures.inode in
+    let far = (c.run_of_holes-run.ensures.listed c.if-run-gt0.true).0 in
+    c.in_ok-add_pointers.ensures.added.has c.loop-k.k c.loop-k.invariant.from c.loop-k-test.true far (sym (so_far.pointers _) ∙ e)
+
+pub write_run-requires-clause-listed : goal.write_run-requires-clause-listed
+write_run-requires-clause-listed g c =
+    let x = c.args.bytes.now in
+    let done = c.saturating_sub-done.result in
+    let run = c.run_of_holes-run.result in
+    let listed = c.run_of_holes-run.ensures.listed c.if-run-gt0.true in
+    let rest = length-drop done x in
+    let wide = length-take-le (done + 512 * run - done) (drop done x) (omega (arith, rest, c.run_of_holes-run.ensures.most.0, c.whole_blocks.ensures.within)) in
+    (listed.0, (let fits = listed.1 in omega (arith, fits, wide)))
+
+pub write_run-requires-clause-holes : goal.write_run-requires-clause-holes
+write_run-requires-clause-holes g c = λ j low high.
+    let x = c.args.bytes.now in
+    let done = c.saturating_sub-done.result in
+    let run = c.run_of_holes-run.result in
+    let rest = length-drop done x in
+    let wide = length-take-le (done + 512 * run - done) (drop done x) (omega (arith, rest, c.run_of_holes-run.ensures.most.0, c.whole_blocks.ensures.within)) in
+    let count : length (take (done + 512 * run - done) (drop done x)) / 512 ≡ run = omega (arith, wide) in
+    c.run_of_holes-run.ensures.holes (g.S.Sectors.state c.load.new.s).sectors (loaded_unchanged c.in_ok-load.ensures.same c.in_ok-load.ensures.loaded) j low (omega (arith, high, count))
+
+pub write_run-requires-clause-room : goal.write_run-requires-clause-room
+write_run-requires-clause-room g c =
+    let x = c.args.bytes.now in
+    let done = c.saturating_sub-done.result in
+    let run = c.run_of_holes-run.result in
+    let rest = length-drop done x in
+    let wide = length-take-le (done + 512 * run - done) (drop done x) (omega (arith, rest, c.run_of_holes-run.ensures.most.0, c.whole_blocks.ensures.within)) in
+    let count : length (take (done + 512 * run - done) (drop done x)) / 512 ≡ run = omega (arith, wide) in
+    let first = c.whole_blocks.ensures.first (omega (arith, c.if-run-gt0.true, c.run_of_holes-run.ensures.most.0)) in
+    let end : c.loop-k.k + run ≤ c.div_ceil-end.result =
+    omega (arith, first, c.run_of_holes-run.ensures.most.0, c.whole_blocks.ensures.within, c.div_ceil-end.ensures, c.saturating_sub-at.ensures, c.saturating_sub-done.ensures, c.loop-k-test.true) in
+    subst (λ (n : ℕ). HasRoomFor c.args.geometry (pointers_to (g.S.Sectors.state c.load.new.s).sectors c.load.new.self.inode c.loop-k.k) n (g.S.Sectors.state c.load.new.s)) (sym count)
+    (room_for_blocks c.args.offset c.args.bytes.now c.in_ok-add_pointers.ensures.added (omega (arith, c.div_ceil-end.ensures)) (written_then c.loop-k.invariant.written c.in_ok-load.ensures.same c.in_ok-load.ensures.inode) c.loop-k.invariant.from c.loop-k-test.true
+    run end c.requires.room)
+
+pub returns-in_err-write_run-clause-full : goal.returns-in_err-write_run-clause-full
+returns-in_err-write_run-clause-full g c = λ is.
+    let x = c.args.bytes.now in
+    let done = c.saturating_sub-done.result in
+    let run = c.run_of_holes-run.result in
+    let rest = length-drop done x in
+    let wide = length-take-le (done + 512 * run - done) (drop done x) (omega (arith, rest, c.run_of_holes-run.ensures.most.0, c.whole_blocks.ensures.within)) in
+    let count : length (take (done + 512 * run - done) (drop done x)) / 512 ≡ run = omega (arith, wide) in
+    let first = c.whole_blocks.ensures.first (omega (arith, c.if-run-gt0.true, c.run_of_holes-run.ensures.most.0)) in
+    let end : c.loop-k.k + run ≤ c.div_ceil-end.result =
+    omega (arith, first, c.run_of_holes-run.ensures.most.0, c.whole_blocks.ensures.within, c.div_ceil-end.ensures, c.saturating_sub-at.ensures, c.saturating_sub-done.ensures, c.loop-k-test.true) in
+    let e = c.from_residual-in_err-write_run.ensures in
+    let f = c.in_err-write_run.ensures.full (ap Err (same_fault c.from_residual-in_err-write_run.result c.in_err-write_run.field-0.0 Full e.0 e.1 is)) in
+    run_lacks c.args.offset x c.in_ok-add_pointers.ensures.added (omega (arith, c.div_ceil-end.ensures)) (written_then c.loop-k.invariant.written c.in_ok-load.ensures.same c.in_ok-load.ensures.inode) c.loop-k.invariant.from c.loop-k-test.true run end
+    (c.run_of_holes-run.ensures.holes (g.S.Sectors.state c.load.new.s).sectors (loaded_unchanged c.in_ok-load.ensures.same c.in_ok-load.ensures.loaded)) (omega (arith, f, count))
+
+pub returns-in_err-write_run-clause-store : goal.returns-in_err-write_run-clause-store
+returns-in_err-write_run-clause-store g c =
+    let so_far = written_then c.loop-k.invariant.written c.in_ok-load.ensures.same c.in_ok-load.ensures.inode in
+    store_joined (store_joined c.in_ok-add_pointers.ensures.store so_far.puts.store) c.in_err-write_run.ensures.store
+
+pub returns-in_err-write_run-clause-cause : goal.returns-in_err-write_run-clause-cause
+returns-in_err-write_run-clause-cause g c =
+    let e = c.from_residual-in_err-write_run.ensures in
+    let so_far = written_then c.loop-k.invariant.written c.in_ok-load.ensures.same c.in_ok-load.ensures.inode in
+    cause_on (store_joined c.in_ok-add_pointers.ensures.store so_far.puts.store) c.in_err-write_run.ensures.cause c.from_residual-in_err-write_run.result e.0 e.1
+
+pub loop-k-preserved-then-run-gt0 : goal.loop-k-preserved-then-run-gt0
+loop-k-preserved-then-run-gt0 g c =
+    let x = c.args.bytes.now in
+    let done = c.saturating_sub-done.result in
+    let run = c.run_of_holes-run.result in
+    let rest = length-drop done x in
+    let wide = length-take-le (done + 512 * run - done) (drop done x) (omega (arith, rest, c.run_of_holes-run.ensures.most.0, c.whole_blocks.ensures.within)) in
+    let count : length (take (done + 512 * run - done) (drop done x)) / 512 ≡ run = omega (arith, wide) in
+    let first = c.whole_blocks.ensures.first (omega (arith, c.if-run-gt0.true, c.run_of_holes-run.ensures.most.0)) in
+    let end : c.loop-k.k + run ≤ c.div_ceil-end.result =
+    omega (arith, first, c.run_of_holes-run.ensures.most.0, c.whole_blocks.ensures.within, c.div_ceil-end.ensures, c.saturating_sub-at.ensures, c.saturating_sub-done.ensures, c.loop-k-test.true) in
+    let now = g.S.Sectors.state c.load.new.s in
+    let new = g.S.Sectors.state c.write_run.new.s in
+    let piece : List ℕ = take (done + 512 * run - done) (drop done x) in
+    let step : WritesRun c.args.geometry c.loop-k.k run piece now new c.load.new.self.inode c.write_run.new.blocks.inode =
+    subst (λ (n : ℕ). WritesRun c.args.geometry c.loop-k.k n piece now new c.load.new.self.inode c.write_run.new.blocks.inode) count c.in_ok-write_run.ensures.written in
+    let long : done + 512 * run - done ≡ 512 * run = omega arith in
+    record {
+      from = omega (arith, c.loop-k.invariant.from);
+      within = end;
+      at_hand = c.in_ok-write_run.ensures.at_hand;
+      written = run_more done (written_then c.loop-k.invariant.written c.in_ok-load.ensures.same c.in_ok-load.ensures.inode) step c.loop-k.invariant.from c.if-run-gt0.true end
+          (omega (arith, first, c.saturating_sub-at.ensures, c.saturating_sub-done.ensures)) (omega (arith, c.saturating_sub-done.ensures)) (ap (λ (n : ℕ). take n (drop done x)) long)
+          (omega (arith, c.run_of_holes-run.ensures.most.0, c.whole_blocks.ensures.within, first, c.saturating_sub-done.ensures, c.div_ceil-end.ensures, c.loop-k-test.true))
+          (c.run_of_holes-run.ensures.holes now.sectors (loaded_unchanged c.in_ok-load.ensures.same c.in_ok-load.ensures.loaded))
+          (let z = c.in_ok-add_pointers.ensures.added.size in omega (arith, z, c.requires.inside.0));
+    }
+
+-- ---- one block
+pub write_loaded-requires-clause-may : goal.write_loaded-requires-clause-may
+write_loaded-requires-clause-may g c = (written_then c.loop-k.invariant.written c.in_ok-load.ensures.same c.in_ok-load.ensures.inode).may
+
+pub write_loaded-requires-clause-loaded : goal.write_loaded-requires-clause-loaded
+write_loaded-requires-clause-loaded g c = loaded_unchanged c.in_ok-load.ensures.same c.in_ok-load.ensures.loaded
+
+pub write_loaded-requires-clause-pointers : goal.write_loaded-requires-clause-pointers
+write_loaded-requires-clause-pointers g c = λ far e.
+    let so_far = written_then c.loop-k.invariant.written c.in_ok-load.ensures.same c.in_ok-load.ensures.inode in
+    c.in_ok-add_pointers.ensures.added.has c.loop-k.k c.loop-k.invariant.from c.loop-k-test.true far (sym (so_far.pointers _) ∙ e)
+
+pub write_loaded-requires-clause-room : goal.write_loaded-requires-clause-room
+write_loaded-requires-clause-room g c =
+    room_for_blocks c.args.offset c.args.bytes.now c.in_ok-add_pointers.ensures.added (omega (arith, c.div_ceil-end.ensures)) (written_then c.loop-k.invariant.written c.in_ok-load.ensures.same c.in_ok-load.ensures.inode) c.loop-k.invariant.from c.loop-k-test.true
+    1 (omega (arith, c.loop-k-test.true)) c.requires.room
+
+pub returns-in_err-write_loaded-clause-full : goal.returns-in_err-write_loaded-clause-full
+returns-in_err-write_loaded-clause-full g c = λ is.
+    let e = c.from_residual-in_err-write_loaded.ensures in
+    let f = c.in_err-write_loaded.ensures.full (ap Err (same_fault c.from_residual-in_err-write_loaded.result c.in_err-write_loaded.field-0.0 Full e.0 e.1 is)) in
+    block_lacks c.args.offset c.args.bytes.now c.in_ok-add_pointers.ensures.added (omega (arith, c.div_ceil-end.ensures)) (written_then c.loop-k.invariant.written c.in_ok-load.ensures.same c.in_ok-load.ensures.inode) c.loop-k.invariant.from c.loop-k-test.true f.0 f.1
+
+pub returns-in_err-write_loaded-clause-store : goal.returns-in_err-write_loaded-clause-store
+returns-in_err-write_loaded-clause-store g c =
+    let so_far = written_then c.loop-k.invariant.written c.in_ok-load.ensures.same c.in_ok-load.ensures.inode in
+    store_joined (store_joined c.in_ok-add_pointers.ensures.store so_far.puts.store) c.in_err-write_loaded.ensures.store
+
+pub returns-in_err-write_loaded-clause-cause : goal.returns-in_err-write_loaded-clause-cause
+returns-in_err-write_loaded-clause-cause g c =
+    let e = c.from_residual-in_err-write_loaded.ensures in
+    let so_far = written_then c.loop-k.invariant.written c.in_ok-load.ensures.same c.in_ok-load.ensures.inode in
+    cause_on (store_joined c.in_ok-add_pointers.ensures.store so_far.puts.store) c.in_err-write_loaded.ensures.cause c.from_residual-in_err-write_loaded.result e.0 e.1
 
 pub loop-k-preserved : goal.loop-k-preserved
 loop-k-preserved g c =
@@ -42,66 +194,21 @@ loop-k-preserved g c =
     ] in
     record {
       from = omega (arith, c.loop-k.invariant.from);
-      at_hand = c.in_ok-write_block.ensures.at_hand;
-      written = more_written done len c.loop-k.invariant.written c.in_ok-write_block.ensures.written c.loop-k.invariant.from c.loop-k-test.true
+      within = omega (arith, c.loop-k-test.true);
+      at_hand = c.in_ok-write_loaded.ensures.at_hand;
+      written = more_written done len (written_then c.loop-k.invariant.written c.in_ok-load.ensures.same c.in_ok-load.ensures.inode) c.in_ok-write_loaded.ensures.written c.loop-k.invariant.from c.loop-k-test.true
           (omega (arith, c.saturating_sub-done.ensures, c.saturating_sub-at.ensures)) (omega (arith, c.saturating_sub-done.ensures)) piece few ends
           (let z = c.in_ok-add_pointers.ensures.added.size in omega (arith, z, c.requires.inside.0));
     }
 
-pub write_block-requires-clause-may : goal.write_block-requires-clause-may
-write_block-requires-clause-may g c = c.loop-k.invariant.written.may
-
-pub write_block-requires-clause-at_hand : goal.write_block-requires-clause-at_hand
-write_block-requires-clause-at_hand g c = c.loop-k.invariant.at_hand
-
-pub write_block-requires-clause-pointers : goal.write_block-requires-clause-pointers
-write_block-requires-clause-pointers g c = λ far e.
-    c.in_ok-add_pointers.ensures.added.has c.loop-k.k c.loop-k.invariant.from c.loop-k-test.true far (sym (c.loop-k.invariant.written.pointers _) ∙ e)
-
-pub write_block-requires-clause-fits : goal.write_block-requires-clause-fits
-write_block-requires-clause-fits g c =
-    let x = c.args.bytes.now in
-    let done = c.saturating_sub-done.result in
-    let len = c.min-len.result in
-    let few : done + len ≤ length x = omega (arith, c.min-len.ensures, c.saturating_sub-done.ensures, c.div_ceil-end.ensures, c.loop-k-test.true) in
-    let wide : length (take (done + len - done) (drop done x)) ≡ len = length-take-le (done + len - done) (drop done x) (omega (arith, length-drop done x, few)) ∙ omega arith in
-    let size = c.loop-k.invariant.written.size ∙ c.in_ok-add_pointers.ensures.added.size in (
-      omega (arith, wide, c.min-len.ensures, c.saturating_sub-at.ensures, c.loop-k.invariant.from),
-      omega (arith, wide, few, size, c.requires.inside.0, c.saturating_sub-at.ensures, c.saturating_sub-done.ensures),
-    )
-
-pub write_block-requires-clause-inside : goal.write_block-requires-clause-inside
-write_block-requires-clause-inside g c =
-    let size = c.loop-k.invariant.written.size ∙ c.in_ok-add_pointers.ensures.added.size in
-    omega (arith, size, c.requires.inside.0, c.div_ceil-end.ensures, c.loop-k-test.true)
-
-pub write_block-requires-clause-room : goal.write_block-requires-clause-room
-write_block-requires-clause-room g c =
-    room_for_block c.args.offset c.args.bytes.now c.in_ok-add_pointers.ensures.added (omega (arith, c.div_ceil-end.ensures)) c.loop-k.invariant.written c.loop-k.invariant.from c.loop-k-test.true c.requires.room
-
-pub returns-in_err-write_block-clause-full : goal.returns-in_err-write_block-clause-full
-returns-in_err-write_block-clause-full g c = λ is.
-    let e = c.from_residual-in_err-write_block.ensures in
-    let f = c.in_err-write_block.ensures.full (ap Err (same_fault c.from_residual-in_err-write_block.result c.in_err-write_block.field-0.0 Full e.0 e.1 is)) in
-    block_lacks c.args.offset c.args.bytes.now c.in_ok-add_pointers.ensures.added (omega (arith, c.div_ceil-end.ensures)) c.loop-k.invariant.written c.loop-k.invariant.from c.loop-k-test.true f.0 f.1
-
-pub returns-in_err-write_block-clause-store : goal.returns-in_err-write_block-clause-store
-returns-in_err-write_block-clause-store g c =
-    store_joined (store_joined c.in_ok-add_pointers.ensures.store c.loop-k.invariant.written.puts.store) c.in_err-write_block.ensures.store
-
-pub returns-in_err-write_block-clause-cause : goal.returns-in_err-write_block-clause-cause
-returns-in_err-write_block-clause-cause g c =
-    let e = c.from_residual-in_err-write_block.ensures in
-    cause_on (store_joined c.in_ok-add_pointers.ensures.store c.loop-k.invariant.written.puts.store) c.in_err-write_block.ensures.cause
-    c.from_residual-in_err-write_block.result e.0 e.1
-
+-- ---- all of it
 pub returns-clause-written : goal.returns-clause-written
 returns-clause-written g c =
     let k = c.loop-k.k in
     let end = c.div_ceil-end.result in
     let mid = g.S.Sectors.state c.add_pointers.new.s in
     let v = c.add_pointers.new.blocks.inode in
-    let done : k ≡ end = omega (arith, c.loop-k-test.false, c.div_ceil-end.ensures) in
+    let done : k ≡ end = (let within = c.loop-k.invariant.within in omega (arith, c.loop-k-test.false, within)) in
     all_written c.args.offset c.args.bytes.now c.in_ok-add_pointers.ensures.added (omega (arith, c.div_ceil-end.ensures))
     (subst (λ (m : ℕ). IsWritten c.args.geometry (pointers_of mid.sectors v (c.args.offset / 512) end) c.args.offset (c.args.offset / 512) m c.args.bytes.now mid (g.S.Sectors.state c.loop-k.s) v c.loop-k.blocks.inode)
     done c.loop-k.invariant.written) (omega (arith, c.loop-k.invariant.from, done))
