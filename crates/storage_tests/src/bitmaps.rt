@@ -10,7 +10,7 @@ mod searches;
 mod tables;
 
 use crate::maps::{end, new_map};
-use bit_alloc::{Bitmap, TakeFault, count_free, give, has_free, is_taken, take};
+use bit_alloc::{Bitmap, TakeFault, count_free, give, has_free, is_taken, take, take_all};
 use blank_map::Counted;
 use fs_layout::Geometry;
 use sector_txn::Sectors;
@@ -27,6 +27,8 @@ const INODES: u32 = 64;
 enum Call {
     // Near this number.
     Take(u32),
+    // Three of them, of which the last is the answer.
+    TakeThree(u32),
     Give(u32),
     IsTaken(u32),
     Count,
@@ -53,6 +55,13 @@ fn perform<S: Sectors>(
             Err(TakeFault::Full) => Ok(None),
             Err(TakeFault::DiskFault) => Err(Fail::new("not read")),
         },
+        Call::TakeThree(near) => {
+            let mut numbers = [0; 3];
+            let Ok(()) = take_all(s, geometry, map, near, &mut numbers) else {
+                return Err(Fail::new("not taken"));
+            };
+            Ok(Some(numbers[2]))
+        }
         Call::Give(n) => {
             if !is_number(geometry, map, n) {
                 return Err(Fail::new("no number"));
@@ -196,11 +205,20 @@ const NEAR_BLOCKS: [Row; 6] = [
     (Call::Take(5000), None, 3, 0),
 ];
 
+// Numbers of one sector are taken by one read and one put of it.
+const RUNS: [Row; 5] = [
+    (Call::TakeThree(0), Some(192), 1, 1),
+    (Call::TakeThree(0), Some(8191), 3, 2),
+    (Call::IsTaken(4095), Some(1), 1, 0),
+    (Call::IsTaken(4096), Some(1), 1, 0),
+    (Call::Count, Some(2), 3, 0),
+];
+
 // The lowest number of a sector is taken, in whatever word it stands, and given back; a full bitmap says so.
 #[test]
 fn calls(rt: HostRuntime) -> Result<(), Fail> {
     let alloc = rt.alloc();
-    let rows: [(Bitmap, &[u32], &[Row]); 5] = [
+    let rows: [(Bitmap, &[u32], &[Row]); 6] = [
         (Bitmap::Inodes, &[1, 63], &FEW_INODES),
         (Bitmap::Inodes, &[], &NO_INODES),
         (
@@ -210,6 +228,11 @@ fn calls(rt: HostRuntime) -> Result<(), Fail> {
         ),
         (Bitmap::Blocks, &[], &NO_BLOCKS),
         (Bitmap::Blocks, &[148, 191, 192, 5000, 8999], &NEAR_BLOCKS),
+        (
+            Bitmap::Blocks,
+            &[148, 191, 192, 4095, 4096, 8191, 8192, 8999],
+            &RUNS,
+        ),
     ];
     for (map, clear, calls) in rows {
         let seen = agreed_on_disk(alloc, map, clear, calls)?;
