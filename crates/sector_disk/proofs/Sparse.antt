@@ -1,5 +1,5 @@
 -- Numbers of which most are zeros: what a change of the blocks and of what is stored shows.
-use Rattle.std.proofs.Common.{◌≡◌, ◌≢◌, ℕ, ◌+◌, ◌-◌, ◌*◌, ◌/◌, ◌%◌, ◌^◌, ◌<◌, ◌≤◌, List, ◌++◌, length, refl, sym, ◌∙◌, ap, arith, slice_set, get_or, inl, inr, take, drop, [], length-take, replicate, length-set, length-append, get_or-set_other}
+use Rattle.std.proofs.Common.{◌≡◌, ◌≢◌, ℕ, ◌+◌, ◌-◌, ◌*◌, ◌/◌, ◌%◌, ◌^◌, ◌<◌, ◌≤◌, List, ◌++◌, length, refl, sym, ◌∙◌, ap, subst, arith, slice_set, get_or, inl, inr, take, drop, [], length-take, replicate, length-set, length-append, get_or-set_other}
 use Rattle.std.proofs.lemmas.Bool.{cases_eq}
 use Rattle.std.proofs.lemmas.Grind.{get_or-set_at, get_or_default_zero}
 use Rattle.std.proofs.lemmas.List.{take_all, get_or-take, get_or-drop, ext_get_or, get_or_append_left, get_or-append_right, get_or-map, get_or-replicate, length-replicate}
@@ -207,31 +207,96 @@ zeros_numbers count blocks room =
     ∙ sym (get_or-replicate {A = ℕ} count i 0 0 below))
 
 -- ---- as a function has them
-pub read_below : (count : ℕ) (blocks stored seen : List ℕ) (n : ℕ) → stored_numbers count blocks stored ≡ seen → n < length seen → n < count
-read_below count blocks stored seen n is fits = let size = ap (λ (l : List ℕ). length l) is in omega (arith, size, fits, numbers_len count blocks stored)
+read_below : {count : ℕ} {blocks stored : List ℕ} (seen : List ℕ) (n : ℕ) → IsSparse count blocks stored → stored_numbers count blocks stored ≡ seen → n < length seen → n < count
+read_below {count} {blocks} {stored} seen n sparse is fits = let size = ap (λ (l : List ℕ). length l) is in omega (arith, size, fits, numbers_len count blocks stored)
 
--- the block of a number, as it's read
-pub block_read : (count : ℕ) (blocks stored : List ℕ) (n block : ℕ) → IsSparse count blocks stored → n < count → block ≡ get_or blocks (n / 1024) block
-    → block ≡ get_or blocks (n / 1024) 0
-block_read count blocks stored n block sparse below read = read ∙ get_or_default_zero blocks (n / 1024) block (block_below count blocks stored n sparse below)
+-- the block of a number
+pub block_fits : {count : ℕ} {blocks stored : List ℕ} (seen : List ℕ) (n len : ℕ) → IsSparse count blocks stored → stored_numbers count blocks stored ≡ seen → n < length seen
+    → len ≡ length blocks → n / 1024 < len
+block_fits {count} {blocks} {stored} seen n len sparse view fits size =
+    let below = block_below count blocks stored n sparse (read_below seen n sparse view fits) in
+    omega (arith, below, size)
 
--- and where it stands
-pub place_read : (count : ℕ) (blocks stored : List ℕ) (n block place : ℕ) → IsSparse count blocks stored → n < count → block ≡ get_or blocks (n / 1024) block
-    → place ≡ block * 1024 + n % 1024 → place ≡ place_of blocks n
-place_read count blocks stored n block place sparse below read is =
-    is ∙ ap (λ b. b * 1024 + n % 1024) (block_read count blocks stored n block sparse below read)
+-- A number is there, and its block and where it stands were read.
+pub record IsFound (count : ℕ) (blocks stored seen : List ℕ) (n block place : ℕ) : Type 0 where
+  pub sparse : IsSparse count blocks stored
+  pub view : stored_numbers count blocks stored ≡ seen
+  pub below : n < count
+  pub block_is : block ≡ get_or blocks (n / 1024) 0
+  pub place_is : place ≡ place_of blocks n
 
-pub number_read : (count : ℕ) (blocks stored seen : List ℕ) (n place number : ℕ) → IsSparse count blocks stored → stored_numbers count blocks stored ≡ seen
-    → n < count
-    → place ≡ place_of blocks n → number ≡ get_or stored place number → number ≡ get_or seen n 0
-number_read count blocks stored seen n place number sparse view below is read =
-    read ∙ ap (λ k. get_or stored k number) is ∙ get_or_default_zero stored (place_of blocks n) number (place_below count blocks stored n sparse below)
-    ∙ sym (number_seen count blocks stored n below) ∙ ap (λ (l : List ℕ). get_or l n 0) view
+pub found : {count : ℕ} {blocks stored : List ℕ} (seen : List ℕ) (n block place : ℕ) → IsSparse count blocks stored → stored_numbers count blocks stored ≡ seen → n < length seen
+    → block ≡ get_or blocks (n / 1024) block → place ≡ block * 1024 + n % 1024 → IsFound count blocks stored seen n block place
+found {count} {blocks} {stored} seen n block place sparse view fits read stands =
+    let below = read_below seen n sparse view fits in
+    let is = read ∙ get_or_default_zero blocks (n / 1024) block (block_below count blocks stored n sparse below) in
+    record { sparse = sparse; view = view; below = below; block_is = is; place_is = stands ∙ ap (λ b. b * 1024 + n % 1024) is }
 
--- the block behind those that are stored
-pub last_block : (count : ℕ) (blocks stored : List ℕ) (last len : ℕ) → IsSparse count blocks stored → last ≡ len / 1024 → len ≡ length stored
-    → last * 1024 ≡ length stored
-last_block count blocks stored last len sparse is size = let whole = sparse.whole in omega (arith, whole, is, size)
+pub place_fits : {count : ℕ} {blocks stored seen : List ℕ} {n block place : ℕ} (len : ℕ) → IsFound count blocks stored seen n block place → len ≡ length stored → place < len
+place_fits {count} {blocks} {stored} {n = n} len found size =
+    let below = place_below count blocks stored n found.sparse found.below in
+    omega (arith, below, found.place_is, size)
+
+pub number_read : {count : ℕ} {blocks stored seen : List ℕ} {n block place : ℕ} (number : ℕ) → IsFound count blocks stored seen n block place → number ≡ get_or stored place number
+    → number ≡ get_or seen n 0
+number_read {count} {blocks} {stored} {n = n} number found read =
+    read ∙ ap (λ k. get_or stored k number) found.place_is ∙ get_or_default_zero stored (place_of blocks n) number (place_below count blocks stored n found.sparse found.below)
+    ∙ sym (number_seen count blocks stored n found.below) ∙ ap (λ (l : List ℕ). get_or l n 0) found.view
+
+-- where a number isn't zero its block is stored of its own
+pub some_used : {count : ℕ} {blocks stored seen : List ℕ} {n block place : ℕ} → IsFound count blocks stored seen n block place → get_or seen n 0 ≢ 0 → block ≢ 0
+some_used {count} {blocks} {stored} {n = n} found some none =
+    block_used count blocks stored n found.sparse
+    (λ zero. some (ap (λ (l : List ℕ). get_or l n 0) (sym found.view) ∙ number_seen count blocks stored n found.below ∙ zero)) (sym found.block_is ∙ none)
+
+-- and takes another one
+pub put_sparse : {count : ℕ} {blocks stored seen : List ℕ} {n block place : ℕ} (value : ℕ) → IsFound count blocks stored seen n block place → block ≢ 0
+    → IsSparse count blocks (slice_set stored place value)
+put_sparse {count} {blocks} {stored} {n = n} {place = place} value found used =
+    replaced_sparse count blocks stored n place value found.sparse (λ none. used (found.block_is ∙ none)) found.place_is
+
+pub put_numbers : {count : ℕ} {blocks stored seen : List ℕ} {n block place : ℕ} (value : ℕ) → IsFound count blocks stored seen n block place → block ≢ 0
+    → stored_numbers count blocks (slice_set stored place value) ≡ slice_set seen n value
+put_numbers {count} {blocks} {stored} {n = n} {place = place} value found used =
+    replaced_numbers count blocks stored n place value found.sparse found.below (λ none. used (found.block_is ∙ none)) found.place_is
+    ∙ ap (λ (l : List ℕ). slice_set l n value) found.view
+
+-- One more block is stored, behind the others.
+pub record IsGrown (count : ℕ) (blocks stored seen : List ℕ) (n last : ℕ) (more : List ℕ) : Type 0 where
+  pub sparse : IsSparse count blocks stored
+  pub view : stored_numbers count blocks stored ≡ seen
+  pub below : n < count
+  pub end : last * 1024 ≡ length stored
+  pub zeros : more ≡ stored ++ replicate {A = ℕ} 1024 0
+
+pub grown : {count : ℕ} {blocks stored : List ℕ} (seen : List ℕ) (n last len was size : ℕ) (more : List ℕ) → IsSparse count blocks stored → stored_numbers count blocks stored ≡ seen
+    → n < length seen → size ≡ length stored → last ≡ len / 1024 → len ≡ size → was ≡ size → more ≡ take (was + 1024) stored ++ replicate {A = ℕ} (was + 1024 - size) 0
+    → IsGrown count blocks stored seen n last more
+grown {count} {blocks} {stored} seen n last len was size more sparse view fits size_is last_is len_is was_is is = record {
+  sparse = sparse;
+  view = view;
+  below = read_below seen n sparse view fits;
+  end = let whole = sparse.whole in omega (arith, whole, last_is, len_is, size_is);
+  zeros =
+      is ∙ ap (λ (l : List ℕ). l ++ replicate {A = ℕ} (was + 1024 - size) 0) (take_all (was + 1024) stored (omega (arith, was_is, size_is)))
+      ∙ ap (λ k. stored ++ replicate {A = ℕ} k 0) (let rest : was + 1024 - size ≡ 1024 = omega (arith, was_is) in rest);
+}
+
+pub grown_put_sparse : {count : ℕ} {blocks stored seen : List ℕ} {n last : ℕ} {more : List ℕ} (at value : ℕ) → IsGrown count blocks stored seen n last more → at ≡ last * 1024 + n % 1024
+    → IsSparse count (slice_set blocks (n / 1024) last) (slice_set more at value)
+grown_put_sparse {count} {blocks} {stored} {n = n} {last = last} at value grown is =
+    subst (λ (l : List ℕ). IsSparse count (slice_set blocks (n / 1024) last) (slice_set l at value)) (sym grown.zeros)
+    (added_sparse count blocks stored n last at value grown.sparse grown.below grown.end is)
+
+pub grown_put_numbers : {count : ℕ} {blocks stored seen : List ℕ} {n last : ℕ} {more : List ℕ} (block at value : ℕ) → IsGrown count blocks stored seen n last more
+    → block ≡ get_or blocks (n / 1024) block → block ≡ 0 → at ≡ last * 1024 + n % 1024
+    → stored_numbers count (slice_set blocks (n / 1024) last) (slice_set more at value) ≡ slice_set seen n value
+grown_put_numbers {count} {blocks} {stored} {n = n} {last = last} block at value grown read none is =
+    let fits = block_below count blocks stored n grown.sparse grown.below in
+    ap (λ (l : List ℕ). stored_numbers count (slice_set blocks (n / 1024) last) (slice_set l at value)) grown.zeros
+    ∙ added_numbers count blocks stored n last at value grown.sparse grown.below
+    (sym (read ∙ get_or_default_zero blocks (n / 1024) block fits) ∙ none) grown.end is
+    ∙ ap (λ (l : List ℕ). slice_set l n value) grown.view
 
 -- each index fits its type
 pub index_small : (count : ℕ) (blocks stored seen : List ℕ) (first len i : ℕ) → IsSparse count blocks stored → stored_numbers count blocks stored ≡ seen
@@ -253,15 +318,3 @@ pub made : (count len : ℕ) (old new : List ℕ) → old ≡ [] → len ≡ 0 �
 made count len old new none nought is =
     is ∙ ap (λ l. take count l ++ replicate {A = ℕ} (count - len) 0) none ∙ ap (λ l. l ++ replicate {A = ℕ} (count - len) 0) (take_all count [] (omega arith))
     ∙ ap (λ k. replicate {A = ℕ} k 0) (let rest : count - len ≡ count = omega (arith, nought) in rest)
-
-pub some_used : (count : ℕ) (blocks stored seen : List ℕ) (n : ℕ) → IsSparse count blocks stored → stored_numbers count blocks stored ≡ seen → n < count
-    → get_or seen n 0 ≢ 0
-    → get_or blocks (n / 1024) 0 ≢ 0
-some_used count blocks stored seen n sparse view below some =
-    block_used count blocks stored n sparse (λ none. some (ap (λ (l : List ℕ). get_or l n 0) (sym view) ∙ number_seen count blocks stored n below ∙ none))
-
-pub grown : (n len : ℕ) (old new : List ℕ) → n ≡ len + 1024 → len ≡ length old → new ≡ take n old ++ replicate {A = ℕ} (n - len) 0
-    → new ≡ old ++ replicate {A = ℕ} 1024 0
-grown n len old new more size is =
-    is ∙ ap (λ (l : List ℕ). l ++ replicate {A = ℕ} (n - len) 0) (take_all n old (omega (arith, more, size)))
-    ∙ ap (λ k. old ++ replicate {A = ℕ} k 0) (let rest : n - len ≡ 1024 = omega (arith, more) in rest)
