@@ -7,7 +7,7 @@ use Rattle.std.specs.Prelude.{Result, slice_range, Bool, false, not, if◌then�
 use Rattle.std.specs.Result.{is_ok}
 use Rattle.sector_disk.specs.Disk.{Image, sector, IsWholeSector}
 use Rattle.sector_disk.specs.Whole.{AreSectors}
-use Rattle.sector_disk.specs.Places.{sectors_at, KeptSectors, OwnsPlace, IsKept, IsRunSet}
+use Rattle.sector_disk.specs.Places.{sectors_at, KeptSectors, OwnsPlace, IsKept, IsOut, IsRunSet}
 use Rattle.sector_disk.specs.Numbers.{IsRow}
 
 pub sector_shown : (contents : Image) (places : List ℕ) (n : ℕ) → n < length places → sector (sectors_at contents places) n ≡ sector contents (get_or places n 0)
@@ -393,59 +393,41 @@ removal_last places contents owners n at contents' owners' removal late =
     cleared_last places contents owners n at (length contents - 1) kept removal.below removal.is removal.used
     (let fits = kept.placed n removal.below in omega (arith, fits, removal.is, late, owner.len, kept.len))
 
-removal_kept : (places : List ℕ) (contents : Image) (owners : List ℕ) (n at : ℕ) (places' : List ℕ) (contents' : Image) (owners' : List ℕ) → IsRemoval places contents owners n at contents' owners'
-    → IsCleared n at (length contents - 1) places places' → IsKept places' contents' owners'
-removal_kept places contents owners n at places' contents' owners' removal cleared =
+out : {places : List ℕ} {contents : Image} {owners : List ℕ} {n at : ℕ} {contents' : Image} {owners' : List ℕ} (places' : List ℕ) → IsRemoval places contents owners n at contents' owners'
+    → IsCleared n at (length contents - 1) places places' → IsOut n places contents places' contents' owners'
+out {places} {contents} {owners} {n} {at} {contents'} {owners'} places' removal cleared =
     let kept = removal.kept in
-    cleared_kept places places' contents contents' owners owners' n at (length contents - 1) kept removal.below removal.is removal.used (let some = kept.some in omega (arith, some)) removal.content removal.owner cleared
+    let last : length contents - 1 + 1 ≡ length contents = let some = kept.some in omega (arith, some) in
+    record {
+      kept = cleared_kept places places' contents contents' owners owners' n at (length contents - 1) kept removal.below removal.is removal.used last removal.content removal.owner cleared;
+      shown = cleared_shown places places' contents contents' owners n at (length contents - 1) kept removal.below removal.is removal.used last removal.content cleared;
+      keeps = λ k other some. cleared_keeps n at (length contents - 1) places places' k removal.used cleared other some;
+    }
 
-removal_shown : (places : List ℕ) (contents : Image) (owners : List ℕ) (n at : ℕ) (places' : List ℕ) (contents' : Image) (owners' : List ℕ) → IsRemoval places contents owners n at contents' owners'
-    → IsCleared n at (length contents - 1) places places' → sectors_at contents' places' ≡ slice_set (sectors_at contents places) n (replicate 512 0)
-removal_shown places contents owners n at places' contents' owners' removal cleared =
-    let kept = removal.kept in
-    cleared_shown places places' contents contents' owners n at (length contents - 1) kept removal.below removal.is removal.used (let some = kept.some in omega (arith, some)) removal.content cleared
+pub moved_out : {places : List ℕ} {contents : Image} {owners : List ℕ} {n at : ℕ} {contents' : Image} {owners' : List ℕ} (moved : ℕ) (cut places' : List ℕ)
+    → IsRemoval places contents owners n at contents' owners'
+    → at < length owners' → moved ≡ get_or owners' at moved → cut ≡ slice_set places n 0 → places' ≡ slice_set cut moved at → IsOut n places contents places' contents' owners'
+moved_out {places} {contents} {owners} {n} {at} {contents'} {owners'} moved cut places' removal early read cut_is places_is =
+    subst (λ (l : List ℕ). IsOut n places contents l contents' owners') (sym (places_is ∙ ap (λ (l : List ℕ). slice_set l moved at) cut_is))
+    (out (slice_set (slice_set places n 0) moved at) removal (removal_moved places contents owners n at moved contents' owners' removal early read))
 
-pub moved_kept : (places : List ℕ) (contents : Image) (owners : List ℕ) (n at moved : ℕ) (contents' : Image) (owners' : List ℕ) → IsRemoval places contents owners n at contents' owners'
-    → at < length owners' → moved ≡ get_or owners' at moved → IsKept (slice_set (slice_set places n 0) moved at) contents' owners'
-moved_kept places contents owners n at moved contents' owners' removal early read =
-    removal_kept places contents owners n at (slice_set (slice_set places n 0) moved at) contents' owners' removal (removal_moved places contents owners n at moved contents' owners' removal early read)
+pub last_out : {places : List ℕ} {contents : Image} {owners : List ℕ} {n at : ℕ} {contents' : Image} {owners' : List ℕ} (places' : List ℕ) → IsRemoval places contents owners n at contents' owners'
+    → length owners' ≤ at → places' ≡ slice_set places n 0 → IsOut n places contents places' contents' owners'
+last_out {places} {contents} {owners} {n} {at} {contents'} {owners'} places' removal late places_is =
+    subst (λ (l : List ℕ). IsOut n places contents l contents' owners') (sym places_is)
+    (out (slice_set places n 0) removal (removal_last places contents owners n at contents' owners' removal late))
 
-pub moved_shown : (places : List ℕ) (contents : Image) (owners : List ℕ) (n at moved : ℕ) (contents' : Image) (owners' : List ℕ) → IsRemoval places contents owners n at contents' owners'
-    → at < length owners' → moved ≡ get_or owners' at moved → sectors_at contents' (slice_set (slice_set places n 0) moved at) ≡ slice_set (sectors_at contents places) n (replicate 512 0)
-moved_shown places contents owners n at moved contents' owners' removal early read =
-    removal_shown places contents owners n at (slice_set (slice_set places n 0) moved at) contents' owners' removal (removal_moved places contents owners n at moved contents' owners' removal early read)
-
-pub last_kept : (places : List ℕ) (contents : Image) (owners : List ℕ) (n at : ℕ) (contents' : Image) (owners' : List ℕ) → IsRemoval places contents owners n at contents' owners'
-    → length owners' ≤ at → IsKept (slice_set places n 0) contents' owners'
-last_kept places contents owners n at contents' owners' removal late =
-    removal_kept places contents owners n at (slice_set places n 0) contents' owners' removal (removal_last places contents owners n at contents' owners' removal late)
-
-pub last_shown : (places : List ℕ) (contents : Image) (owners : List ℕ) (n at : ℕ) (contents' : Image) (owners' : List ℕ) → IsRemoval places contents owners n at contents' owners'
-    → length owners' ≤ at → sectors_at contents' (slice_set places n 0) ≡ slice_set (sectors_at contents places) n (replicate 512 0)
-last_shown places contents owners n at contents' owners' removal late =
-    removal_shown places contents owners n at (slice_set places n 0) contents' owners' removal (removal_last places contents owners n at contents' owners' removal late)
-
-pub moved_keeps : (places : List ℕ) (contents : Image) (owners : List ℕ) (n at moved : ℕ) (contents' : Image) (owners' : List ℕ) → IsRemoval places contents owners n at contents' owners'
-    → at < length owners' → moved ≡ get_or owners' at moved → (k : ℕ) → k ≢ n → get_or places k 0 ≢ 0 → get_or (slice_set (slice_set places n 0) moved at) k 0 ≢ 0
-moved_keeps places contents owners n at moved contents' owners' removal early read k other some =
-    cleared_keeps n at (length contents - 1) places (slice_set (slice_set places n 0) moved at) k removal.used (removal_moved places contents owners n at moved contents' owners' removal early read) other some
-
-pub last_keeps : (places : List ℕ) (contents : Image) (owners : List ℕ) (n at : ℕ) (contents' : Image) (owners' : List ℕ) → IsRemoval places contents owners n at contents' owners'
-    → length owners' ≤ at → (k : ℕ) → k ≢ n → get_or places k 0 ≢ 0 → get_or (slice_set places n 0) k 0 ≢ 0
-last_keeps places contents owners n at contents' owners' removal late k other some =
-    cleared_keeps n at (length contents - 1) places (slice_set places n 0) k removal.used (removal_last places contents owners n at contents' owners' removal late) other some
-
-pub removal : (places : List ℕ) (contents : Image) (owners : List ℕ) (n at : ℕ) (contents' : Image) (owners' : List ℕ) (c c' o o' : ℕ) → IsKept places contents owners
-    → (n < length places) × (at ≡ get_or places n 0) → at ≢ 0
+pub removal : {places : List ℕ} {contents : Image} {owners : List ℕ} (n at : ℕ) (contents' : Image) (owners' : List ℕ) (c c' o o' : ℕ) → IsKept places contents owners → n < length places
+    → at ≡ get_or places n 0 → at ≢ 0
     → c ≡ length contents → c' ≡ length contents' → c' + 1 ≡ c
     → (((d : List ℕ) → at + 1 < c → get_or contents' at d ≡ get_or contents (c - 1) d) × ((k : ℕ) (d : List ℕ) → k ≢ at → k + 1 < c → get_or contents' k d ≡ get_or contents k d))
     → o ≡ length owners → o' ≡ length owners' → o' + 1 ≡ o
     → (((d : ℕ) → at + 1 < o → get_or owners' at d ≡ get_or owners (o - 1) d) × ((k : ℕ) (d : ℕ) → k ≢ at → k + 1 < o → get_or owners' k d ≡ get_or owners k d))
     → IsRemoval places contents owners n at contents' owners'
-removal places contents owners n at contents' owners' c c' o o' kept read used c_is c'_is c_len c_each o_is o'_is o_len o_each = record {
+removal {places} {contents} {owners} n at contents' owners' c c' o o' kept below is used c_is c'_is c_len c_each o_is o'_is o_len o_each = record {
   kept = kept;
-  below = read.0;
-  is = read.1;
+  below = below;
+  is = is;
   used = used;
   content = removed at c c' contents contents' c_is c'_is c_len c_each;
   owner = removed at o o' owners owners' o_is o'_is o_len o_each;

@@ -2,8 +2,9 @@
 --     sectors_at        the sectors that the places stand for
 --     KeptSectors, OwnsPlace        sectors and their places, as a contract sees them
 --     IsKept        zeros stand at place 0, and each other place has one owner
+--     IsOut        one sector has no place any more
 --     IsRunSet        neighbours got other contents
-use Rattle.std.specs.Prelude.{◌≡◌, ◌≢◌, ℕ, ◌+◌, ◌-◌, ◌<◌, ◌≤◌, List, length, map, get_or, replicate}
+use Rattle.std.specs.Prelude.{◌≡◌, ◌≢◌, ℕ, ◌+◌, ◌-◌, ◌<◌, ◌≤◌, List, length, map, get_or, replicate, slice_set}
 use Rattle.sector_disk.specs.Disk.{Image, sector}
 use Rattle.sector_disk.specs.Whole.{AreSectors}
 
@@ -30,6 +31,12 @@ pub record IsKept (places : List ℕ) (contents : Image) (owners : List ℕ) : T
   pub owned : (n : ℕ) → n < length places → get_or places n 0 ≢ 0 → get_or owners (get_or places n 0) 0 ≡ n
   pub owner : (k : ℕ) → k < length contents → k ≢ 0 → get_or owners k 0 < length places
   pub owns : (k : ℕ) → k < length contents → k ≢ 0 → get_or places (get_or owners k 0) 0 ≡ k
+
+-- Sector n has no place any more, and shows zeros. Each other sector shows what it did, and has a place if it had one.
+pub record IsOut (n : ℕ) (old : List ℕ) (before : Image) (new : List ℕ) (now : Image) (owners : List ℕ) : Type 0 where
+  pub kept : IsKept new now owners
+  pub shown : sectors_at now new ≡ slice_set (sectors_at before old) n (replicate 512 0)
+  pub keeps : (k : ℕ) → k ≢ n → get_or old k 0 ≢ 0 → get_or new k 0 ≢ 0
 
 -- The sectors from `first` on got the contents of the run, and the others stay.
 pub record IsRunSet (first : ℕ) (run old new : Image) : Type 0 where

@@ -3,7 +3,7 @@
 ghost use Rattle.std.specs.Prelude.{◌≡◌, ◌≢◌, ◌<◌, ◌≤◌, ◌+◌, ◌^◌, ℕ, length, get_or, replicate, slice_set, slice_range, IfOk, IfSome, OnOk, OnErr, IsTrue, ◌↔◌};
 ghost use Rattle.sector_disk.specs.Disk.{sector};
 ghost use Rattle.sector_disk.specs.Whole.{AreSectors};
-ghost use Rattle.sector_disk.specs.Places.{OwnsPlace, IsRunSet};
+ghost use Rattle.sector_disk.specs.Places.{OwnsPlace, IsKept, IsOut, IsRunSet};
 
 use crate::numbers::Numbers;
 use crate::whole::tell_whole;
@@ -122,7 +122,7 @@ impl Sectors {
         }
     }
 
-    // Makes one zeros, which has no place then. The last content takes the place that becomes free.
+    // Makes one zeros, which has no place then.
     fn clear(&mut self, n: u32)
         requires { n < length self.old.shown }
         ensures shown { self.new.shown ≡ slice_set self.old.shown n (replicate 512 0) }
@@ -132,14 +132,13 @@ impl Sectors {
         if place == 0 {
             return;
         }
-        let at = place as usize;
-        self.contents.swap_remove(at);
-        self.owners.swap_remove(at);
-        self.places.replace(n as usize, 0);
-        if at < self.owners.len() {
-            let moved = self.owners[at];
-            self.places.replace(moved as usize, place);
-        }
+        take_out(
+            &mut self.places,
+            &mut self.contents,
+            &mut self.owners,
+            n,
+            place,
+        );
     }
 
     // Gives one that has a place another content.
@@ -225,6 +224,30 @@ impl Sectors {
         ensures { AreSectors self.now.shown }
     {
         let _count = self.places.len();
+    }
+}
+
+// Takes out the content of a sector that has this place: it has none then. The last content takes the place that becomes free.
+fn take_out(
+    places: &mut Numbers,
+    contents: &mut Vec<[u8; 512]>,
+    owners: &mut Vec<u32>,
+    n: u32,
+    place: u32,
+)
+    requires kept { IsKept places.old contents.old.items owners.old.items }
+    requires below { n < length places.old }
+    requires stands { place ≡ get_or places.old n 0 }
+    requires some { place ≢ 0 }
+    ensures { IsOut n places.old contents.old.items places.new contents.new.items owners.new.items }
+{
+    let at = place as usize;
+    contents.swap_remove(at);
+    owners.swap_remove(at);
+    places.replace(n as usize, 0);
+    if at < owners.len() {
+        let moved = owners[at];
+        places.replace(moved as usize, place);
     }
 }
 
