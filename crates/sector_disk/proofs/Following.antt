@@ -11,6 +11,7 @@ use Rattle.std.proofs.lemmas.List.Sorted.{Contains-permutation}
 use Rattle.sector_disk.specs.Disk.{DiskState, Image, sector, IsImage, IsSame, ChangesOnly}
 use Rattle.sector_disk.specs.Record.{Past, Held, recorded_state}
 use Rattle.sector_disk.specs.Places.{IsRunSet}
+use Rattle.sector_disk.specs.declared.memory.MemDisk.{MemDisk}
 use Rattle.sector_disk.specs.Files.{file_seen, IfKnown, IsRun, IsRunTried, HasRun, IsHeldNarrowed, IsHeldSynced, IsHeldStable, HasSectors, HasStable, Lacks, KeepsFile, KeepsKnown, KeepsBefore, FollowsBefore}
 
 -- ---- what may be known
@@ -221,8 +222,21 @@ same_keeps old new waiting all_wait held is keeps = record {
       (keeps.same n (omega (arith, below, is.narrowed.size)));
 }
 
-pub follows_same : (old new : DiskState) (waiting : List ℕ) (all_wait : Bool) (file : Option Held) → IsSame old new → KeepsKnown old waiting all_wait file → KeepsKnown new waiting all_wait file
+follows_same : (old new : DiskState) (waiting : List ℕ) (all_wait : Bool) (file : Option Held) → IsSame old new → KeepsKnown old waiting all_wait file → KeepsKnown new waiting all_wait file
 follows_same old new waiting all_wait file is was = ∥∥₁_map was (λ keeps. both file keeps keeps (λ h k l. same_keeps old new waiting all_wait h is k))
+
+-- as a disk in memory has it
+pub memory_in : {was old : MemDisk} (new : MemDisk) (waiting : List ℕ) → was ≡ old → IsSame (recorded_state was.history was.failures) (recorded_state new.history new.failures)
+    → All (λ n. n < length old.history.start) waiting → All (λ n. n < length new.history.start) waiting
+memory_in {was} {old} new waiting here same is =
+    stays_in waiting (length old.history.start) (length new.history.start) (same.narrowed.size ∙ ap (λ (m : MemDisk). length m.history.start) here) is
+
+pub memory_follows : {was old : MemDisk} (new : MemDisk) (waiting : List ℕ) (all_wait : Bool) (file : Option Held) → was ≡ old
+    → IsSame (recorded_state was.history was.failures) (recorded_state new.history new.failures)
+    → KeepsKnown (recorded_state old.history old.failures) waiting all_wait file → KeepsKnown (recorded_state new.history new.failures) waiting all_wait file
+memory_follows {was} {old} new waiting all_wait file here same =
+    follows_same (recorded_state old.history old.failures) (recorded_state new.history new.failures) waiting all_wait file
+    (subst (λ (m : MemDisk). IsSame (recorded_state m.history m.failures) (recorded_state new.history new.failures)) here same)
 
 counted_keeps : (past : Past) (f g : ℕ) (waiting : List ℕ) (all_wait : Bool) (held : Held) → KeepsFile (recorded_state past f) waiting all_wait held → KeepsFile (recorded_state past g) waiting all_wait held
 counted_keeps past f g waiting all_wait held keeps = record { allowed = keeps.allowed; same = keeps.same }

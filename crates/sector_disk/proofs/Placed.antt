@@ -224,7 +224,7 @@ zeros_stay places contents owners n kept below none =
     shown_set contents contents places places n (replicate 512 0) below refl (ap (λ k. sector contents k) none ∙ kept.zeros) (λ i fits other. refl)
 
 -- ---- a content in place of another, or one more
-pub replaced_shown : (places : List ℕ) (contents : Image) (owners : List ℕ) (n at : ℕ) (content : List ℕ) → IsKept places contents owners → n < length places → at ≡ get_or places n 0 → at ≢ 0
+replaced_shown : (places : List ℕ) (contents : Image) (owners : List ℕ) (n at : ℕ) (content : List ℕ) → IsKept places contents owners → n < length places → at ≡ get_or places n 0 → at ≢ 0
     → sectors_at (slice_set contents at content) places ≡ slice_set (sectors_at contents places) n content
 replaced_shown places contents owners n at content kept below is used =
     shown_set contents (slice_set contents at content) places places n content below refl
@@ -232,7 +232,7 @@ replaced_shown places contents owners n at content kept below is used =
     (λ i fits other. get_or-set_other contents at (get_or places i 0) content [] (λ same. other (apart places contents owners i n kept fits below (λ none. used (is ∙ none)) (same ∙ is))))
 
 -- one that has a place gets another content
-pub replaced_kept : (places : List ℕ) (contents : Image) (owners : List ℕ) (at : ℕ) (content : List ℕ) → IsKept places contents owners → at ≢ 0 → IsWholeSector content
+replaced_kept : (places : List ℕ) (contents : Image) (owners : List ℕ) (at : ℕ) (content : List ℕ) → IsKept places contents owners → at ≢ 0 → IsWholeSector content
     → IsKept places (slice_set contents at content) owners
 replaced_kept places contents owners at content kept used whole = record {
   some = let some = kept.some in omega (arith, some, size);
@@ -366,6 +366,30 @@ pub place_seen : (places : List ℕ) (contents : Image) (sectors : KeptSectors) 
     → (n < length places) × (get_or places n 0 ≡ get_or sectors.places n 0)
 place_seen places contents sectors n is fits =
     (let size = ap (λ (i : Image). length i) (shown_is is) in omega (arith, fits, size, length-map places (sector contents)), ap (λ l. get_or l n 0) (places_are is))
+
+-- A sector is there that has this place.
+pub record HasPlace (places : List ℕ) (contents : Image) (owners : List ℕ) (sectors : KeptSectors) (n at : ℕ) : Type 0 where
+  pub kept : IsKept places contents owners
+  pub view : record { shown = sectors_at contents places; places = places } ≡ sectors
+  pub below : n < length places
+  pub is : at ≡ get_or places n 0
+  pub used : at ≢ 0
+
+pub has_place : {places : List ℕ} {contents : Image} {owners : List ℕ} (sectors : KeptSectors) (n at : ℕ) → IsKept places contents owners
+    → record { shown = sectors_at contents places; places = places } ≡ sectors → n < length sectors.shown → OwnsPlace sectors n → at ≡ get_or places n 0
+    → HasPlace places contents owners sectors n at
+has_place {places} {contents} sectors n at kept view fits owns is =
+    let seen = place_seen places contents sectors n view fits in
+    record { kept = kept; view = view; below = seen.0; is = is; used = λ none. owns (sym seen.1 ∙ sym is ∙ none) }
+
+pub put_kept : {places : List ℕ} {contents : Image} {owners : List ℕ} {sectors : KeptSectors} {n at : ℕ} (content : List ℕ) → HasPlace places contents owners sectors n at → IsWholeSector content
+    → IsKept places (slice_set contents at content) owners
+put_kept {places} {contents} {owners} {at = at} content has whole = replaced_kept places contents owners at content has.kept has.used whole
+
+pub put_shown : {places : List ℕ} {contents : Image} {owners : List ℕ} {sectors : KeptSectors} {n at : ℕ} (content : List ℕ) → HasPlace places contents owners sectors n at
+    → sectors_at (slice_set contents at content) places ≡ slice_set sectors.shown n content
+put_shown {places} {contents} {owners} {n = n} {at = at} content has =
+    replaced_shown places contents owners n at content has.kept has.below has.is has.used ∙ ap (λ (shown : Image). slice_set shown n content) (shown_is has.view)
 
 -- what is known once a content is removed
 pub record IsRemoval (places : List ℕ) (contents : Image) (owners : List ℕ) (n at : ℕ) (contents' : Image) (owners' : List ℕ) : Type 0 where

@@ -48,7 +48,7 @@ invariant_of-self-2 g c =
     let size = c.write_out.auto.buffer ∙ c.deref_mut.ensures.len in
     record {
       room = subst (λ (l : Image). 0 < length l) (sym {A = Image} (with_items_is disk.buffer c.write_out.new.buffer size)) (let some = disk.room in let len = disk.buffer.ok.0 in omega (arith, some, size, len));
-      in_disk = subst (λ (l : List ℕ). All (λ n. n < length memory.history.start) l) (sym c.clear.ensures.items) (All-nil (λ n. n < length memory.history.start));
+      in_disk = subst (λ (l : List ℕ). All (λ n. n < length memory.history.start) l) (sym {A = List ℕ} c.clear.ensures.items) (All-nil (λ n. n < length memory.history.start));
       follows =
           subst (λ (l : List ℕ). KeepsKnown (recorded_state memory.history memory.failures) l false file) (sym {A = List ℕ} c.clear.ensures.items)
           (subst (λ (m : MemDisk). KeepsKnown (recorded_state m.history m.failures) [] false file) c.deref.ensures c.in_ok-write_out.ensures.done);
