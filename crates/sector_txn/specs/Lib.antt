@@ -3,3 +3,4 @@ pub mod Images
 pub mod Last
 pub mod Sectors
 pub mod Stores
+pub mod Waits

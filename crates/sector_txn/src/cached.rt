@@ -1,15 +1,15 @@
 //! A journal whose sectors are kept in memory once they are read.
 
-ghost use Rattle.std.specs.Prelude.{◌≡◌, ◌<◌, ◌≤◌, ◌+◌, [], ℕ, length, Some, IfOk, OnOk};
+ghost use Rattle.std.specs.Prelude.{◌≡◌, ◌<◌, [], ℕ, Some, IfOk, OnOk};
 ghost use Rattle.std.specs.Fn.{FnOnceReturnsAt};
 ghost use Rattle.fs_layout.specs.Header.{max_targets};
 ghost use Rattle.fs_layout.specs.Bytes.{SectorMap};
-ghost use Rattle.redo_journal.specs.Batch.{IsOnDisk, added, with_batch};
+ghost use Rattle.redo_journal.specs.Batch.{IsOnDisk, with_batch};
 ghost use Rattle.redo_journal.specs.Meaning.{EachReadsAs, LeavesSameMap, IsMapped, SameMap, data_of, disk_of};
 ghost use Rattle.redo_journal.specs.States.{header_at, HasHeader, IsIdle};
-ghost use Rattle.sector_disk.specs.Disk.{IsSame, ForgetsPast, Elapses, OnlyReads, HasCause, HasWriteCause};
+ghost use Rattle.sector_disk.specs.Disk.{IsSame, ForgetsPast, Elapses, HasCause, HasWriteCause};
 ghost use Rattle.sector_txn.specs.Images.{LeavesOldOr};
-ghost use Rattle.sector_txn.specs.Stores.{IsWaiting, all_waiting};
+ghost use Rattle.sector_txn.specs.Waits.{IsRead, Waits, HasPlaces, HasRoom, with_waiting};
 
 use crate::clean::CleanSectors;
 use crate::commit::commit;
@@ -80,10 +80,7 @@ impl<D: Disk> CachedJournal<D> {
         requires part { IsMapped (header_at (D.state self.old).seen) n }
         requires on_disk { n < (D.state self.old).size }
         ensures content { OnOk result (to.new ≡ data_of (D.state self.old) n) }
-        ensures same { (m : ℕ) → data_of (D.state self.new) m ≡ data_of (D.state self.old) m }
-        ensures unchanged { IsSame (D.state self.old) (D.state self.new) }
-        ensures reads { OnlyReads (D.state self.old) (D.state self.new) }
-        ensures cause { HasCause (D.state self.old) (D.state self.new) result }
+        ensures read { IsRead (D.state self.old) (D.state self.new) result }
     {
         if let Some(content) = self.journal.find(n) {
             *to = *content;
@@ -106,10 +103,7 @@ impl<D: Disk> CachedJournal<D> {
         requires on_disk { n < (D.state self.old).size }
         requires callable { F.IsAlwaysCallable read }
         ensures content { IfOk result (λ x. FnOnceReturnsAt F.FnOnce read (data_of (D.state self.old) n) x) }
-        ensures same { (m : ℕ) → data_of (D.state self.new) m ≡ data_of (D.state self.old) m }
-        ensures unchanged { IsSame (D.state self.old) (D.state self.new) }
-        ensures reads { OnlyReads (D.state self.old) (D.state self.new) }
-        ensures cause { HasCause (D.state self.old) (D.state self.new) result }
+        ensures read { IsRead (D.state self.old) (D.state self.new) result }
     {
         if let Some(content) = self.journal.find(n) {
             return Ok(read(content));
@@ -127,10 +121,7 @@ impl<D: Disk> CachedJournal<D> {
         requires part { IsMapped (header_at (D.state self.old).seen) n }
         requires on_disk { n < (D.state self.old).size }
         ensures content { OnOk result (to.new ≡ data_of (D.state self.old) n) }
-        ensures same { (m : ℕ) → data_of (D.state self.new) m ≡ data_of (D.state self.old) m }
-        ensures unchanged { IsSame (D.state self.old) (D.state self.new) }
-        ensures reads { OnlyReads (D.state self.old) (D.state self.new) }
-        ensures cause { HasCause (D.state self.old) (D.state self.new) result }
+        ensures read { IsRead (D.state self.old) (D.state self.new) result }
     {
         self.journal.read(n, to)?;
         self.clean.put(n, to);
@@ -140,14 +131,13 @@ impl<D: Disk> CachedJournal<D> {
     /// Takes what a transaction changed into what waits. What is free in what the disk reads as goes to its place alone, but for what
     /// the last commit logged; before the first commit, and where no layout is known, all goes through the log.
     pub(crate) fn keep(&self, waiting: &mut Waiting, delta: &Batch)
-        requires waits { IsWaiting (D.state self.now) waiting.old.placed.value waiting.old.logged.value }
+        requires waits { Waits (D.state self.now) waiting.old }
         requires on_disk { IsOnDisk (header_at (D.state self.now).seen) (D.state self.now).size delta.now.entries }
-        requires places { length waiting.old.placed.value.entries + length delta.now.entries ≤ waiting.old.placed.value.most }
-        requires room { length waiting.old.logged.value.entries + added waiting.old.logged.value.entries delta.now.entries ≤ waiting.old.logged.value.most }
-        ensures waits { IsWaiting (D.state self.now) waiting.new.placed.value waiting.new.logged.value }
+        requires places { HasPlaces waiting.old.placed.value delta.now.entries }
+        requires room { HasRoom waiting.old.logged.value delta.now.entries }
+        ensures waits { Waits (D.state self.now) waiting.new }
         ensures map { (f : SectorMap) (n : ℕ) →
-            with_batch (all_waiting waiting.new.placed.value.entries waiting.new.logged.value.entries) f n
-            ≡ with_batch delta.now.entries (with_batch (all_waiting waiting.old.placed.value.entries waiting.old.logged.value.entries) f) n }
+            with_waiting waiting.new f n ≡ with_batch delta.now.entries (with_waiting waiting.old f) n }
     {
         match self.layout {
             Some(geometry) => absorb_beside(
@@ -164,19 +154,17 @@ impl<D: Disk> CachedJournal<D> {
 
     /// Commits what waits, and nothing waits then. What the cache has of its sectors is dropped before they are written.
     pub(crate) fn commit(self, waiting: &mut Waiting) -> Result<CachedJournal<D>, Broken<D>>
-        requires waits { IsWaiting (D.state self) waiting.old.placed.value waiting.old.logged.value }
-        ensures waits { IfOk result (λ after. IsWaiting (D.state after) waiting.new.placed.value waiting.new.logged.value) }
+        requires waits { Waits (D.state self) waiting.old }
+        ensures waits { IfOk result (λ after. Waits (D.state after) waiting.new) }
         ensures placed { IfOk result (λ after. waiting.new.placed.value.entries ≡ []) }
         ensures logged { IfOk result (λ after. waiting.new.logged.value.entries ≡ []) }
-        ensures changed { IfOk result (λ after. SameMap (data_of (D.state after))
-            (with_batch (all_waiting waiting.old.placed.value.entries waiting.old.logged.value.entries) (data_of (D.state self)))) }
+        ensures changed { IfOk result (λ after. SameMap (data_of (D.state after)) (with_waiting waiting.old (data_of (D.state self)))) }
 
         // The header stays.
         ensures header { IfOk result (λ after. header_at (D.state after).seen ≡ header_at (D.state self).seen) }
 
         // A stop at any moment of the call leaves what means as before it, or reads with all that waits.
-        ensures images { LeavesOldOr (with_batch (all_waiting waiting.old.placed.value.entries waiting.old.logged.value.entries) (data_of (D.state self)))
-            (D.state self) (D.state (disk_of result)) }
+        ensures images { LeavesOldOr (with_waiting waiting.old (data_of (D.state self))) (D.state self) (D.state (disk_of result)) }
 
         ensures cause { HasCause (D.state self) (D.state (disk_of result)) result }
         ensures told { HasWriteCause (D.state self) (D.state (disk_of result)) result }

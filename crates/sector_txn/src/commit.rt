@@ -1,13 +1,14 @@
 //! The commit of what waits, and when it is due.
 
-ghost use Rattle.std.specs.Prelude.{◌≡◌, ◌<◌, ◌≤◌, ◌+◌, ℕ, length, Ok, IfOk};
+ghost use Rattle.std.specs.Prelude.{◌≡◌, ◌<◌, ◌≤◌, length, Ok, IfOk};
 ghost use Rattle.fs_layout.specs.Header.{max_delta};
-ghost use Rattle.redo_journal.specs.Batch.{added, targets, with_batch};
+ghost use Rattle.redo_journal.specs.Batch.{targets, with_batch};
 ghost use Rattle.redo_journal.specs.Meaning.{SameMap, data_of, disk_of};
 ghost use Rattle.redo_journal.specs.States.{StandsIn, header_at};
 ghost use Rattle.sector_disk.specs.Disk.{HasCause, HasWriteCause};
 ghost use Rattle.sector_txn.specs.Images.{LeavesOldOr};
 ghost use Rattle.sector_txn.specs.Stores.{IsWaiting, all_waiting};
+ghost use Rattle.sector_txn.specs.Waits.{Waits, HasPlaces, HasRoom, with_waiting};
 
 use crate::cached::CachedJournal;
 use crate::waiting::{Waiting, fits};
@@ -47,29 +48,23 @@ pub(crate) fn commit_if_full<D: Disk>(
     waiting: &mut Waiting,
     delta: &Batch,
 ) -> Result<CachedJournal<D>, Broken<D>>
-    requires waits { IsWaiting (D.state journal) waiting.old.placed.value waiting.old.logged.value }
+    requires waits { Waits (D.state journal) waiting.old }
     requires few { length delta.now.entries ≤ max_delta (header_at (D.state journal).seen) }
-    ensures waits { IfOk result (λ after. IsWaiting (D.state after) waiting.new.placed.value waiting.new.logged.value) }
-    ensures places { IfOk result (λ after.
-        length waiting.new.placed.value.entries + length delta.now.entries ≤ waiting.new.placed.value.most) }
-    ensures room { IfOk result (λ after.
-        length waiting.new.logged.value.entries + added waiting.new.logged.value.entries delta.now.entries ≤ waiting.new.logged.value.most) }
+    ensures waits { IfOk result (λ after. Waits (D.state after) waiting.new) }
+    ensures places { IfOk result (λ after. HasPlaces waiting.new.placed.value delta.now.entries) }
+    ensures room { IfOk result (λ after. HasRoom waiting.new.logged.value delta.now.entries) }
 
     // Where nothing goes to its place alone, it is due once the log has no room.
-    ensures due { length waiting.old.placed.value.entries ≡ 0
-        → length waiting.old.logged.value.entries + added waiting.old.logged.value.entries delta.now.entries ≤ waiting.old.logged.value.most
-        → result ≡ Ok journal }
+    ensures due { length waiting.old.placed.value.entries ≡ 0 → HasRoom waiting.old.logged.value delta.now.entries → result ≡ Ok journal }
 
     // The header stays.
     ensures header { IfOk result (λ after. header_at (D.state after).seen ≡ header_at (D.state journal).seen) }
 
     // What was to be read stays so.
-    ensures same { let before = with_batch (all_waiting waiting.old.placed.value.entries waiting.old.logged.value.entries) (data_of (D.state journal)) in
-        IfOk result (λ after. SameMap
-        (with_batch (all_waiting waiting.new.placed.value.entries waiting.new.logged.value.entries) (data_of (D.state after))) before) }
+    ensures same { IfOk result (λ after. SameMap (with_waiting waiting.new (data_of (D.state after)))
+        (with_waiting waiting.old (data_of (D.state journal)))) }
 
-    ensures images { LeavesOldOr (with_batch (all_waiting waiting.old.placed.value.entries waiting.old.logged.value.entries) (data_of (D.state journal)))
-        (D.state journal) (D.state (disk_of result)) }
+    ensures images { LeavesOldOr (with_waiting waiting.old (data_of (D.state journal))) (D.state journal) (D.state (disk_of result)) }
 
     // Without changes the disk isn't called.
     ensures empty { length delta.now.entries ≡ 0 → result ≡ Ok journal }

@@ -5,7 +5,7 @@ ghost use Rattle.fs_layout.specs.Bytes.{SectorMap};
 ghost use Rattle.fs_layout.specs.Header.{max_delta, max_targets};
 ghost use Rattle.fs_layout.specs.declared.header.TheConstants.{MAX_HEADER};
 ghost use Rattle.redo_journal.specs.Batch.{IsOnDisk, added, with_batch};
-ghost use Rattle.sector_txn.specs.Stores.{all_waiting};
+ghost use Rattle.sector_txn.specs.Waits.{HasPlaces, with_waiting};
 
 use fs_layout::max_targets;
 use redo_journal::{Batch, MOST_SECTORS};
@@ -44,10 +44,8 @@ impl Waiting {
 
     /// The content that a sector is to have, if it waits.
     pub(crate) fn get(&self, n: u32) -> Option<&[u8; 512]>
-        ensures content { IfSome result (λ content. (sectors : SectorMap)
-            → with_batch (all_waiting self.now.placed.value.entries self.now.logged.value.entries) sectors n ≡ content.now) }
-        ensures other { IfNone result ((sectors : SectorMap)
-            → with_batch (all_waiting self.now.placed.value.entries self.now.logged.value.entries) sectors n ≡ sectors n) }
+        ensures content { IfSome result (λ content. (sectors : SectorMap) → with_waiting self.now sectors n ≡ content.now) }
+        ensures other { IfNone result ((sectors : SectorMap) → with_waiting self.now sectors n ≡ sectors n) }
     {
         match self.logged.get(n) {
             Some(content) => Some(content),
@@ -73,9 +71,7 @@ impl Waiting {
         ensures placed { self.new.placed.value ≡ self.old.placed.value }
         ensures on_disk { (header size : ℕ) → IsOnDisk header size self.old.placed.value.entries
             → IsOnDisk header size self.old.logged.value.entries → IsOnDisk header size self.new.logged.value.entries }
-        ensures map { (sectors : SectorMap) (n : ℕ) →
-            with_batch (all_waiting self.new.placed.value.entries self.new.logged.value.entries) sectors n
-            ≡ with_batch (all_waiting self.old.placed.value.entries self.old.logged.value.entries) sectors n }
+        ensures map { (sectors : SectorMap) (n : ℕ) → with_waiting self.new sectors n ≡ with_waiting self.old sectors n }
     {
         if !self.logged.is_empty() {
             return;
@@ -100,8 +96,7 @@ impl Waiting {
 /// were new.
 pub(crate) fn fits(most: usize, placed: &Batch, logged: &Batch, delta: &Batch) -> bool
     requires { length logged.now.entries ≤ most }
-    ensures fits { IsTrue result ↔ ((length placed.now.entries + length delta.now.entries ≤ placed.now.most)
-        × (length logged.now.entries + added logged.now.entries delta.now.entries ≤ most)) }
+    ensures fits { IsTrue result ↔ (HasPlaces placed.now delta.now.entries × (length logged.now.entries + added logged.now.entries delta.now.entries ≤ most)) }
     ensures empty { length delta.now.entries ≡ 0 → IsTrue result }
 {
     if placed.most() < placed.len() + delta.len() {
@@ -115,7 +110,8 @@ fn log_first(placed: &Batch, logged: &mut Batch)
     requires empty { logged.old.entries ≡ [] }
     requires some { 0 < length placed.now.entries }
     requires room { 0 < logged.old.most }
-    ensures map { (f : SectorMap) (n : ℕ) → with_batch logged.new.entries (with_batch placed.now.entries f) n ≡ with_batch placed.now.entries f n }
+    ensures map { (f : SectorMap) (n : ℕ)
+        → with_batch logged.new.entries (with_batch placed.now.entries f) n ≡ with_batch placed.now.entries f n }
     ensures len { length logged.new.entries ≡ 1 }
     ensures on_disk { (header size : ℕ) → IsOnDisk header size placed.now.entries → IsOnDisk header size logged.new.entries }
     ensures most { logged.new.most ≡ logged.old.most }
