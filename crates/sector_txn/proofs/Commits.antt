@@ -145,7 +145,7 @@ some_logged disk placed logged placed_now logged_now waits same few on_disk log 
     })
 
 -- a transaction's changes, on a disk that shows the same
-pub still_txn : (old new : DiskState) (delta : List Entry) → IsSame old new → IsTxn old delta → IsTxn new delta
+still_txn : (old new : DiskState) (delta : List Entry) → IsSame old new → IsTxn old delta → IsTxn new delta
 still_txn old new delta same txn = record {
   few = shown (λ size image. length delta ≤ max_delta (header_at image)) old new same txn.few;
   on_disk = shown (λ size image. IsOnDisk (header_at image) size delta) old new same txn.on_disk;
@@ -153,3 +153,8 @@ still_txn old new delta same txn = record {
 
 pub still_room : (old new : DiskState) (most : ℕ) → IsSame old new → most ≡ max_delta (header_at old.seen) → most ≡ max_delta (header_at new.seen)
 still_room old new most same is = shown (λ size image. most ≡ max_delta (header_at image)) old new same is
+
+-- and so all that a transaction has
+pub still_all : {old new : DiskState} {delta : List Entry} {placed logged : BatchView} {most : ℕ} → IsSame old new
+    → IsTxn old delta × IsWaiting old placed logged × (most ≡ max_delta (header_at old.seen)) → IsTxn new delta × IsWaiting new placed logged × (most ≡ max_delta (header_at new.seen))
+still_all {old} {new} {delta} {placed} {logged} {most} same was = (still_txn old new delta same was.0, still_waiting old new placed logged same was.1, still_room old new most same was.2)

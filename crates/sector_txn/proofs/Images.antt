@@ -7,6 +7,7 @@ use Rattle.sector_disk.proofs.Moments.{joined, narrowed, reads_then, started, we
 use Rattle.redo_journal.specs.Meaning.{SameMap, LeavesSameMap, LeavesUsedOr, MeansUsed, data_of}
 use Rattle.redo_journal.proofs.Meaning.{reads_same}
 use Rattle.sector_txn.specs.Images.{IsOneOf, LeavesOldOr, LeavesOneOf, MeansUsedBefore}
+use Rattle.sector_txn.specs.Stores.{StoreView, present}
 
 -- an image means what it means itself
 pub means_itself : {disk : DiskState} {image : Image} → IsImage disk image → MeansUsedBefore disk image
@@ -68,3 +69,8 @@ after_reads only_now reads run = record {
   size = run.size ∙ reads.narrowed.size;
   any_moment = reads_then reads (weaker (one_of_earlier reads.narrowed) run.any_moment) (λ image left. inl (means_itself (only_now image left)));
 }
+
+-- what a stop leaves of a store, as it is seen
+pub store_left : {D : Type 0} (state : D → DiskState) {inside seen : StoreView D} {new : DiskState} → inside ≡ seen → LeavesOldOr (present state inside) (state inside.disk) new
+    → LeavesOldOr (present state seen) (state seen.disk) new
+store_left state {new = new} is left = subst (λ store. LeavesOldOr (present state store) (state store.disk) new) is left

@@ -1,5 +1,6 @@
-use Rattle.std.proofs.Common.{◌≡◌, ◌∙◌, Contains, arith, ap, sym, subst}
+use Rattle.std.proofs.Common.{◌≡◌, ℕ, ◌∙◌, Contains, arith, ap, sym, subst}
 use Rattle.std.proofs.lemmas.Option.{IfSome_then}
+use Rattle.sector_disk.specs.Disk.{DiskState}
 use Rattle.fs_layout.specs.Bytes.{SectorMap}
 use Rattle.fs_layout.specs.Header.{max_targets}
 use Rattle.redo_journal.specs.Batch.{BatchView, targets, with_batch}
@@ -8,6 +9,8 @@ use Rattle.redo_journal.specs.States.{StandsIn, header_at}
 use Rattle.redo_journal.proofs.Meaning.{header_after, mapped_after}
 use Rattle.sector_txn.specs.Images.{LeavesOldOr}
 use Rattle.sector_txn.specs.Stores.{IsWaiting, all_waiting}
+use Rattle.sector_txn.specs.Waits.{with_waiting}
+use Rattle.sector_txn.specs.declared.waiting.Waiting.{Waiting}
 use Rattle.sector_txn.proofs.Commits.{both_on_disk, nothing_waits, over_both, some_logged}
 use Rattle.sector_txn.proofs.Pairs.{with_batch_apart}
 use Rattle.sector_txn.proofs.cached.CachedJournal.commit.Goals as goal
@@ -79,24 +82,20 @@ returns-in-Ok-clause-waits g c =
     nothing_waits new c.hand_over.new.self.placed.value c.hand_over.new.self.logged.value done.placed done.logged (done.most.1 ∙ c.self.invariant.1.room ∙ ap max_targets (sym header))
     (omega (arith, waits.room, header, done.most.0, ap (λ (b : BatchView). b.most) c.log_some.ensures.placed))
 
+-- what the commit leaves, said of what waited
+left : {old new : DiskState} (was now : Waiting) (placed logged : BatchView) → ((f : SectorMap) (n : ℕ) → with_waiting now f n ≡ with_waiting was f n) → placed ≡ now.placed.value → logged ≡ now.logged.value
+    → LeavesOldOr (with_batch (all_waiting placed.entries logged.entries) (data_of old)) old new → LeavesOldOr (with_waiting was (data_of old)) old new
+left {old} {new} was now placed logged same in_place in_log images =
+    subst (λ (f : SectorMap). LeavesOldOr f old new) (λ i n. same (data_of old) n i)
+    (subst (λ (b : BatchView). LeavesOldOr (with_batch (all_waiting b.entries now.logged.value.entries) (data_of old)) old new) in_place
+    (subst (λ (b : BatchView). LeavesOldOr (with_batch (all_waiting placed.entries b.entries) (data_of old)) old new) in_log images))
+
 pub returns-in-Ok-clause-images : goal.returns-in-Ok-clause-images
 returns-in-Ok-clause-images g c =
-    let old = g.D.Disk.state c.self.inside.journal in
-    let new = g.D.Disk.state c.in-Ok.journal in
-    let was = c.args.waiting.now in
-    let logged = c.log_some.new.self.logged.value.entries in
-    subst (λ d. LeavesOldOr (with_batch (all_waiting was.placed.value.entries was.logged.value.entries) (data_of (g.D.Disk.state d))) (g.D.Disk.state d) new) c.self.view_is
-    (subst (λ (f : SectorMap). LeavesOldOr f old new) (λ i n. c.log_some.ensures.map (data_of old) n i)
-    (subst (λ (b : BatchView). LeavesOldOr (with_batch (all_waiting b.entries logged) (data_of old)) old new) c.deref-3.ensures
-    (subst (λ (b : BatchView). LeavesOldOr (with_batch (all_waiting c.deref-3.result.now.entries b.entries) (data_of old)) old new) c.deref-4.ensures c.in-Ok.ensures.images)))
+    subst (λ d. LeavesOldOr (with_waiting c.args.waiting.now (data_of (g.D.Disk.state d))) (g.D.Disk.state d) (g.D.Disk.state c.in-Ok.journal)) c.self.view_is
+    (left c.args.waiting.now c.log_some.new.self c.deref-3.result.now c.deref-4.result.now c.log_some.ensures.map c.deref-3.ensures c.deref-4.ensures c.in-Ok.ensures.images)
 
 pub returns-in-Err-clause-images : goal.returns-in-Err-clause-images
 returns-in-Err-clause-images g c =
-    let old = g.D.Disk.state c.self.inside.journal in
-    let new = g.D.Disk.state c.in-Err.broken in
-    let was = c.args.waiting.now in
-    let logged = c.log_some.new.self.logged.value.entries in
-    subst (λ d. LeavesOldOr (with_batch (all_waiting was.placed.value.entries was.logged.value.entries) (data_of (g.D.Disk.state d))) (g.D.Disk.state d) new) c.self.view_is
-    (subst (λ (f : SectorMap). LeavesOldOr f old new) (λ i n. c.log_some.ensures.map (data_of old) n i)
-    (subst (λ (b : BatchView). LeavesOldOr (with_batch (all_waiting b.entries logged) (data_of old)) old new) c.deref-3.ensures
-    (subst (λ (b : BatchView). LeavesOldOr (with_batch (all_waiting c.deref-3.result.now.entries b.entries) (data_of old)) old new) c.deref-4.ensures c.in-Err.ensures.images)))
+    subst (λ d. LeavesOldOr (with_waiting c.args.waiting.now (data_of (g.D.Disk.state d))) (g.D.Disk.state d) (g.D.Disk.state c.in-Err.broken)) c.self.view_is
+    (left c.args.waiting.now c.log_some.new.self c.deref-3.result.now c.deref-4.result.now c.log_some.ensures.map c.deref-3.ensures c.deref-4.ensures c.in-Err.ensures.images)

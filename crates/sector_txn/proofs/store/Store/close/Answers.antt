@@ -5,14 +5,12 @@ use Rattle.redo_journal.specs.Meaning.{EachReadsAs, SameMap, data_of, disk_of}
 use Rattle.redo_journal.proofs.Meaning.{reads_same, same_chain}
 use Rattle.sector_txn.specs.Images.{LeavesOldOr}
 use Rattle.sector_txn.specs.Stores.{present}
-use Rattle.sector_txn.proofs.Images.{closed_left, if_ok_both}
+use Rattle.sector_txn.proofs.Images.{closed_left, if_ok_both, store_left}
 use Rattle.sector_txn.proofs.store.Store.close.Goals as goal
 
 pub returns-clause-images : goal.returns-clause-images
 unfolding present
-returns-clause-images g c =
-    let state = g.D.Disk.state in
-    subst (λ store. LeavesOldOr (present state store) (state store.disk) (state c.in-Err.broken)) c.self.view_is c.in-Err.ensures.images
+returns-clause-images g c = store_left g.D.Disk.state c.self.view_is c.in-Err.ensures.images
 
 pub returns-in-Ok-clause-images : goal.returns-in-Ok-clause-images
 unfolding present

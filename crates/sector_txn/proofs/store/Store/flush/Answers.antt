@@ -5,9 +5,9 @@ use Rattle.redo_journal.specs.Batch.{with_batch}
 use Rattle.redo_journal.specs.Meaning.{EachReadsAs, SameMap, data_of}
 use Rattle.redo_journal.specs.States.{header_at}
 use Rattle.redo_journal.proofs.Meaning.{reads_same}
-use Rattle.sector_txn.specs.Images.{LeavesOldOr}
 use Rattle.sector_txn.specs.Stores.{all_waiting, present}
 use Rattle.sector_txn.proofs.Commits.{map_none}
+use Rattle.sector_txn.proofs.Images.{store_left}
 use Rattle.sector_txn.proofs.store.Store.flush.Goals as goal
 
 pub returns-in-Ok-clause-map : goal.returns-in-Ok-clause-map
@@ -22,15 +22,11 @@ returns-in-Ok-clause-map g c =
 
 pub returns-in-Ok-clause-images : goal.returns-in-Ok-clause-images
 unfolding present
-returns-in-Ok-clause-images g c =
-    let state = g.D.Disk.state in
-    subst (λ store. LeavesOldOr (present state store) (state store.disk) (state c.in-Ok.journal)) c.self.view_is c.in-Ok.ensures.images
+returns-in-Ok-clause-images g c = store_left g.D.Disk.state c.self.view_is c.in-Ok.ensures.images
 
 pub returns-in-Err-clause-images : goal.returns-in-Err-clause-images
 unfolding present
-returns-in-Err-clause-images g c =
-    let state = g.D.Disk.state in
-    subst (λ store. LeavesOldOr (present state store) (state store.disk) (state c.in-Err.broken)) c.self.view_is c.in-Err.ensures.images
+returns-in-Err-clause-images g c = store_left g.D.Disk.state c.self.view_is c.in-Err.ensures.images
 
 pub returns-in-Ok-clause-lasting : goal.returns-in-Ok-clause-lasting
 unfolding present

@@ -1,9 +1,5 @@
-use Rattle.sector_txn.proofs.Commits.{still_room, still_txn, still_waiting}
+use Rattle.sector_txn.proofs.Commits.{still_all}
 use Rattle.sector_txn.proofs.store.TxnSectors.get.Goals as goal
 
 pub invariant_of-self : goal.invariant_of-self
-invariant_of-self g c =
-    let old = g.D.Disk.state c.self.inside.journal in
-    let new = g.D.Disk.state c.read.new.self in
-    let same = c.read.ensures.read.unchanged in
-    (still_txn old new _ same c.self.invariant.0, still_waiting old new _ _ same c.self.invariant.1, still_room old new _ same c.self.invariant.2)
+invariant_of-self g c = still_all c.read.ensures.read.unchanged c.self.invariant
