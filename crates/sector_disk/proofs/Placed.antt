@@ -252,13 +252,13 @@ replaced_kept places contents owners at content kept used whole = record {
     size = length-set contents at content
 
 -- each sector that had a place has one, and so has this
-pub added_keeps : (places : List ℕ) (n at : ℕ) → n < length places → at ≢ 0 → (k : ℕ) → get_or places k 0 ≢ 0 → get_or (slice_set places n at) k 0 ≢ 0
+added_keeps : (places : List ℕ) (n at : ℕ) → n < length places → at ≢ 0 → (k : ℕ) → get_or places k 0 ≢ 0 → get_or (slice_set places n at) k 0 ≢ 0
 added_keeps places n at below used k some = elim (cases_eq k n) [
   | inl same ↦ λ none. used (sym (get_or-set_at places n k at 0 same below) ∙ none)
   | inr other ↦ λ none. some (sym (get_or-set_other places n k at 0 other) ∙ none)
 ]
 
-pub added_kept : (places : List ℕ) (contents : Image) (owners : List ℕ) (n at : ℕ) (content : List ℕ) → IsKept places contents owners → n < length places → get_or places n 0 ≡ 0
+added_kept : (places : List ℕ) (contents : Image) (owners : List ℕ) (n at : ℕ) (content : List ℕ) → IsKept places contents owners → n < length places → get_or places n 0 ≡ 0
     → at ≡ length contents → IsWholeSector content → IsKept (slice_set places n at) (contents ++ content ∷ []) (owners ++ n ∷ [])
 added_kept places contents owners n at content kept below none end whole = record {
   some = omega (arith, more);
@@ -304,7 +304,7 @@ added_kept places contents owners n at content kept below none end whole = recor
     last_owner : (k : ℕ) → k ≡ length owners → get_or (owners ++ n ∷ []) k 0 ≡ n
     last_owner k here = get_or-append_right owners (n ∷ []) (length owners) k 0 refl (omega (arith, here)) ∙ ap (λ j. get_or (n ∷ []) j 0) (let first : k - length owners ≡ 0 = omega (arith, here) in first)
 
-pub added_shown : (places : List ℕ) (contents : Image) (owners : List ℕ) (n at : ℕ) (content : List ℕ) → IsKept places contents owners → n < length places
+added_shown : (places : List ℕ) (contents : Image) (owners : List ℕ) (n at : ℕ) (content : List ℕ) → IsKept places contents owners → n < length places
     → at ≡ length contents → sectors_at (contents ++ content ∷ []) (slice_set places n at) ≡ slice_set (sectors_at contents places) n content
 added_shown places contents owners n at content kept below end =
     shown_set contents (contents ++ content ∷ []) places (slice_set places n at) n content below (length-set places n at)
@@ -458,8 +458,46 @@ removal {places} {contents} {owners} n at contents' owners' c c' o o' kept below
 }
 
 -- a push that was no error
-pub pushed : {X : Type 0} {T E : Type 0} (r : Result T E) (e : Bool) (old new : List X) (x : X) → is_ok r ≡ not e → e ≡ false → new ≡ (if is_ok r then old ++ x ∷ [] else old) → new ≡ old ++ x ∷ []
-pushed r e old new x negation fine is = is ∙ ap (λ b. if b then old ++ x ∷ [] else old) (negation ∙ ap not fine)
+pub pushed : {X : Type 0} {T E : Type 0} (r : Result T E) (e : Bool) (old new xs : List X) (x : X) → is_ok r ≡ not e → e ≡ false → new ≡ (if is_ok r then old ++ xs else old) → xs ≡ x ∷ []
+    → new ≡ old ++ x ∷ []
+pushed r e old new xs x negation fine is one = is ∙ ap (λ b. if b then old ++ xs else old) (negation ∙ ap not fine) ∙ ap (λ l. old ++ l) one
+
+-- A sector is there that has no place, and may get one behind the others, with this content.
+pub record HasNone (places : List ℕ) (contents : Image) (owners : List ℕ) (sectors : KeptSectors) (n at : ℕ) (content : List ℕ) : Type 0 where
+  pub kept : IsKept places contents owners
+  pub view : record { shown = sectors_at contents places; places = places } ≡ sectors
+  pub below : n < length places
+  pub none : get_or places n 0 ≡ 0
+  pub end : at ≡ length contents
+  pub whole : IsWholeSector content
+
+pub has_none : {places : List ℕ} {contents : Image} {owners : List ℕ} (sectors : KeptSectors) (n at : ℕ) (content : List ℕ) → IsKept places contents owners
+    → record { shown = sectors_at contents places; places = places } ≡ sectors → n < length sectors.shown → get_or sectors.places n 0 ≡ 0 → at ≡ length contents → IsWholeSector content
+    → HasNone places contents owners sectors n at content
+has_none {places} {contents} sectors n at content kept view fits none end whole =
+    let seen = place_seen places contents sectors n view fits in
+    record { kept = kept; view = view; below = seen.0; none = seen.1 ∙ none; end = end; whole = whole }
+
+module _ {places : List ℕ} {contents : Image} {owners : List ℕ} {sectors : KeptSectors} {n at : ℕ} {content : List ℕ} (has : HasNone places contents owners sectors n at content)
+    {places' : List ℕ} (placed : places' ≡ slice_set places n at) where
+  pub new_keeps : (k : ℕ) → OwnsPlace sectors k → get_or places' k 0 ≢ 0
+  new_keeps =
+      let used : at ≢ 0 = let some = has.kept.some in let end = has.end in omega (arith, some, end) in
+      keeps_all places' has.view
+      (subst (λ (l : List ℕ). (k : ℕ) → get_or places k 0 ≢ 0 → get_or l k 0 ≢ 0) (sym placed) (added_keeps places n at has.below used))
+
+  module _ {contents' : Image} (pushed : contents' ≡ contents ++ content ∷ []) where
+    pub new_shown : sectors_at contents' places' ≡ slice_set sectors.shown n content
+    new_shown =
+        ap (λ (l : List ℕ). sectors_at contents' l) placed ∙ ap (λ (l : Image). sectors_at l (slice_set places n at)) pushed
+        ∙ added_shown places contents owners n at content has.kept has.below has.end ∙ ap (λ (shown : Image). slice_set shown n content) (shown_is has.view)
+
+    pub new_kept : {owners' : List ℕ} → owners' ≡ owners ++ n ∷ [] → IsKept places' contents' owners'
+    new_kept {owners'} owned =
+        subst (λ (l : List ℕ). IsKept l contents' owners') (sym placed)
+        (subst (λ (l : Image). IsKept (slice_set places n at) l owners') (sym pushed)
+        (subst (λ (l : List ℕ). IsKept (slice_set places n at) (contents ++ content ∷ []) l) (sym owned)
+        (added_kept places contents owners n at content has.kept has.below has.none has.end has.whole)))
 
 -- ---- neighbours, one after the other
 pub run_none : (first : ℕ) (run image : Image) → IsRunSet first (take 0 run) image image

@@ -182,7 +182,7 @@ added_sparse count blocks stored n last at value sparse below end is =
     (λ zero. omega (arith, here, zero, end, stands)) (is ∙ ap (λ b. b * 1024 + n % 1024) (sym here))
 
 -- ---- zeros alone
-pub zeros_sparse : (count blocks : ℕ) → count < 2 ^ 32 → count ≤ blocks * 1024 → IsSparse count (replicate blocks 0) (replicate 1024 0)
+zeros_sparse : (count blocks : ℕ) → count < 2 ^ 32 → count ≤ blocks * 1024 → IsSparse count (replicate blocks 0) (replicate 1024 0)
 zeros_sparse count blocks few room = record {
   few = few;
   room = omega (arith, room, length-replicate {A = ℕ} blocks 0);
@@ -195,7 +195,7 @@ zeros_sparse count blocks few room = record {
     none : (b : ℕ) → b < length {A = ℕ} (replicate blocks 0) → get_or {A = ℕ} (replicate blocks 0) b 0 ≡ 0
     none b fits = get_or-replicate {A = ℕ} blocks b 0 0 (omega (arith, fits, length-replicate {A = ℕ} blocks 0))
 
-pub zeros_numbers : (count blocks : ℕ) → count ≤ blocks * 1024 → stored_numbers count (replicate blocks 0) (replicate 1024 0) ≡ replicate count 0
+zeros_numbers : (count blocks : ℕ) → count ≤ blocks * 1024 → stored_numbers count (replicate blocks 0) (replicate 1024 0) ≡ replicate count 0
 zeros_numbers count blocks room =
     ext_get_or 0 (stored_numbers count (replicate blocks 0) (replicate 1024 0)) (replicate count 0)
     (numbers_len count (replicate blocks 0) (replicate 1024 0) ∙ sym (length-replicate {A = ℕ} count 0))
@@ -314,7 +314,18 @@ row_read numbers first len start each k below =
     get_or-take (first + len - first) (drop first numbers) k 0 (omega (arith, early)) ∙ get_or-drop first numbers k 0 ∙ each k early
 
 -- zeros, as they are made
-pub made : (count len : ℕ) (old new : List ℕ) → old ≡ [] → len ≡ 0 → new ≡ take count old ++ replicate {A = ℕ} (count - len) 0 → new ≡ replicate {A = ℕ} count 0
-made count len old new none nought is =
+pub made : {len : ℕ} {old new : List ℕ} (count : ℕ) → old ≡ [] → len ≡ 0 → new ≡ take count old ++ replicate {A = ℕ} (count - len) 0 → new ≡ replicate {A = ℕ} count 0
+made {len} count none nought is =
     is ∙ ap (λ l. take count l ++ replicate {A = ℕ} (count - len) 0) none ∙ ap (λ l. l ++ replicate {A = ℕ} (count - len) 0) (take_all count [] (omega arith))
     ∙ ap (λ k. replicate {A = ℕ} k 0) (let rest : count - len ≡ count = omega (arith, nought) in rest)
+
+pub made_sparse : {blocks stored : List ℕ} (count : ℕ) → blocks ≡ replicate {A = ℕ} (count / 1024 + 1) 0 → stored ≡ replicate {A = ℕ} 1024 0 → count < 2 ^ 32 → IsSparse count blocks stored
+made_sparse {blocks} {stored} count blocks_are stored_are few =
+    subst (λ (l : List ℕ). IsSparse count l stored) (sym blocks_are)
+    (subst (λ (l : List ℕ). IsSparse count (replicate {A = ℕ} (count / 1024 + 1) 0) l) (sym stored_are) (zeros_sparse count (count / 1024 + 1) few (omega arith)))
+
+pub made_numbers : {blocks stored : List ℕ} (count : ℕ) → blocks ≡ replicate {A = ℕ} (count / 1024 + 1) 0 → stored ≡ replicate {A = ℕ} 1024 0 → stored_numbers count blocks stored ≡ replicate {A = ℕ} count 0
+made_numbers {blocks} {stored} count blocks_are stored_are =
+    ap (λ (l : List ℕ). stored_numbers count l stored) blocks_are
+    ∙ ap (λ (l : List ℕ). stored_numbers count (replicate {A = ℕ} (count / 1024 + 1) 0) l) stored_are
+    ∙ zeros_numbers count (count / 1024 + 1) (omega arith)

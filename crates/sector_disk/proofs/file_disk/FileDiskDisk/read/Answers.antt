@@ -12,10 +12,8 @@ returns-clause-content g c =
     c.deref_mut.ensures.value c.read.ensures.content
 
 pub invariant_of-self : goal.invariant_of-self
-invariant_of-self g c =
-    let disk = c.args.self.now in
-    record {
-      room = disk.room;
-      in_disk = memory_in c.read.new.self disk.waiting.items c.deref_mut.ensures.value c.read.ensures.same disk.in_disk;
-      follows = memory_follows c.read.new.self disk.waiting.items disk.all_wait (g.F.DiskFile.held disk.file) c.deref_mut.ensures.value c.read.ensures.same disk.follows;
-    }
+invariant_of-self g c = record {
+  room = c.args.self.now.room;
+  in_disk = memory_in c.read.new.self c.args.self.now.waiting.items c.deref_mut.ensures.value c.read.ensures.same c.args.self.now.in_disk;
+  follows = memory_follows c.read.new.self c.args.self.now.waiting.items c.args.self.now.all_wait (g.F.DiskFile.held c.args.self.now.file) c.deref_mut.ensures.value c.read.ensures.same c.args.self.now.follows;
+}
