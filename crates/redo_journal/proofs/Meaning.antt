@@ -523,15 +523,22 @@ targets_keep ts disk rest image is =
           (λ none. stays rest.stable rest.whole is n (λ content target. none target));
     }
 
--- with the targets written and all stable, the commit is installed
-pub installed_from : (ts : List ℕ) (old new : DiskState) → IsAtRest ts old → IsImageOr (InTargets ts) old new.seen → new.size ≡ old.size → HasReplayed (log_at old.seen) ts (sector old.seen) new.seen
-    → IsStable new → IsInstalled ts new
-installed_from ts old new rest is size in_place stable =
+-- with the targets written they have the contents of the log that is named then
+written_stays : (ts : List ℕ) (old new : DiskState) → IsAtRest ts old → IsImageOr (InTargets ts) old new.seen → HasReplayed (log_at old.seen) ts (sector old.seen) new.seen
+    → HasReplayed (log_at new.seen) ts (sector new.seen) new.seen
+written_stays ts old new rest is in_place k lt =
     let low = low_stays ts old rest new.seen is in
     let few = rest.commit.valid.few in
     let header : header_on new ≡ header_on old = ap header_of (low 0 (omega arith)) in
     let start : named_start (sector new.seen) ≡ named_start (sector old.seen) = same_start (sector old.seen) (sector new.seen) header (low 1 (omega arith)) in
     let room = area_room (header_on old) (named_area (sector old.seen)) in
+    in_place k lt ∙ sym (low (log_at old.seen + k) (omega (arith, lt, few, room.1))) ∙ (λ j. sector new.seen (sym start j + sym header j + k))
+
+-- with the targets written and all stable, the commit is installed
+pub installed_from : (ts : List ℕ) (old new : DiskState) → IsAtRest ts old → IsImageOr (InTargets ts) old new.seen → new.size ≡ old.size → HasReplayed (log_at old.seen) ts (sector old.seen) new.seen
+    → IsStable new → IsInstalled ts new
+installed_from ts old new rest is size in_place stable =
+    let low = low_stays ts old rest new.seen is in
     record {
       at_rest = record {
         room = omega (arith, rest.room, size);
@@ -540,8 +547,7 @@ installed_from ts old new rest is size in_place stable =
         stable = stable;
         commit = subst (λ n. IsCommit n (sector new.seen) ts) (sym size) (commit_stays_low old.size (sector old.seen) (sector new.seen) ts low rest.commit);
       };
-      in_place = λ k lt.
-          in_place k lt ∙ sym (low (log_at old.seen + k) (omega (arith, lt, few, room.1))) ∙ (λ j. sector new.seen (sym start j + sym header j + k));
+      in_place = written_stays ts old new rest is in_place;
     }
 
 -- with the targets written, though not stable
@@ -549,10 +555,7 @@ pub placed_from : (ts : List ℕ) (old new : DiskState) → IsAtRest ts old → 
 placed_from ts old new rest there adds shown in_place =
     let is = image_or adds new.seen shown in
     let low = low_stays ts old rest new.seen is in
-    let few = rest.commit.valid.few in
     let header : header_on new ≡ header_on old = ap header_of (low 0 (omega arith)) in
-    let start : named_start (sector new.seen) ≡ named_start (sector old.seen) = same_start (sector old.seen) (sector new.seen) header (low 1 (omega arith)) in
-    let room = area_room (header_on old) (named_area (sector old.seen)) in
     record {
       sectors = ts;
       is = record {
@@ -565,8 +568,7 @@ placed_from ts old new rest there adds shown in_place =
               ⊎_elim (λ was. inl (rest.stable n content (omega (arith, below, adds.size)) was ∙ sym (stays rest.stable rest.whole is n (λ c target. none target)))) (λ target. inr target) (adds.nothing_else n content may)
         ];
         commit = subst (λ n. IsCommit n (sector new.seen) ts) (sym adds.size) (commit_stays_low old.size (sector old.seen) (sector new.seen) ts low rest.commit);
-        in_place = λ k lt.
-            in_place k lt ∙ sym (low (log_at old.seen + k) (omega (arith, lt, few, room.1))) ∙ (λ j. sector new.seen (sym start j + sym header j + k));
+        in_place = written_stays ts old new rest is in_place;
       };
       alone = λ none. absurd (omega (arith, none, header, there));
     }

@@ -1,8 +1,11 @@
-use Rattle.std.proofs.Common.{◌∙◌, inl}
+use Rattle.std.proofs.Common.{◌∙◌, ℕ, List, inl}
+use Rattle.std.specs.Prelude.{Contains}
 use Rattle.std.proofs.lemmas.Result.{IfOk-weaker}
 use Rattle.sector_disk.proofs.Moments.{weaker}
-use Rattle.redo_journal.specs.Batch.{with_batch}
-use Rattle.redo_journal.specs.Meaning.{data_of, disk_of}
+use Rattle.sector_disk.specs.Disk.{DiskState}
+use Rattle.redo_journal.specs.Batch.{Entry, IsOnDisk, targets, with_batch}
+use Rattle.redo_journal.specs.Meaning.{HasValidCommit, IsSpare, SameMap, data_of, disk_of}
+use Rattle.redo_journal.specs.States.{header_at}
 use Rattle.redo_journal.proofs.Meaning.{same_chain}
 use Rattle.redo_journal.proofs.Used.{both_installed, both_left, both_same}
 use Rattle.redo_journal.proofs.beside.commit_beside.Goals as goal
@@ -17,11 +20,18 @@ returns-in-Err-seal-clause-images g c =
     both_left c.args.placed.now.entries c.args.batch.now.entries _ before (c.tell_ready.ensures before.seen seen).commit c.requires.places c.requires.on_disk c.requires.spare
     (g.D.Disk.state c.in-Ok.logged) (g.D.Disk.state c.in-Err-seal.broken) c.in-Ok.ensures.size c.in-Ok.ensures.placed c.in-Ok.ensures.any_moment c.in-Err-seal.ensures.any_moment
 
+-- once the second batch is sealed, what is read is both over what was
+sealed_same : (placed entries : List Entry) (before logged sealed : DiskState) → HasValidCommit before.size before.seen → IsOnDisk (header_at before.seen) before.size placed
+    → IsOnDisk (header_at before.seen) before.size entries → ((n : ℕ) → Contains (targets placed) n → IsSpare (data_of before) n) → SameMap (data_of logged) (with_batch placed (data_of before))
+    → SameMap (data_of sealed) (with_batch entries (data_of logged)) → SameMap (data_of sealed) (with_batch entries (with_batch placed (data_of before)))
+sealed_same placed entries before logged sealed valid places on_disk spare first second =
+    same_chain (data_of sealed) (with_batch entries (data_of logged)) (with_batch entries (with_batch placed (data_of before))) second
+    (both_same placed entries _ before valid places on_disk spare logged first)
+
 pub returns-in-Ok-seal-clause-images : goal.returns-in-Ok-seal-clause-images
 returns-in-Ok-seal-clause-images g c =
     let before = g.D.Disk.state c.args.journal in
-    let seen = g.met.D.Disk.seen_is_image c.args.journal in
-    let valid = (c.tell_ready.ensures before.seen seen).commit in
+    let valid = (c.tell_ready.ensures before.seen (g.met.D.Disk.seen_is_image c.args.journal)).commit in
     let logged = g.D.Disk.state c.in-Ok.logged in
     let sealed = g.D.Disk.state c.in-Ok-seal.sealed in
     let placed = c.args.placed.now.entries in
@@ -29,21 +39,15 @@ returns-in-Ok-seal-clause-images g c =
     let first = c.in-Ok.ensures in
     let second = c.in-Ok-seal.ensures in
     both_installed placed entries _ before valid c.requires.places c.requires.on_disk c.requires.spare sealed (g.D.Disk.state (disk_of c.install.result)) (second.size ∙ first.size)
-    (same_chain (data_of sealed) (with_batch entries (data_of logged)) (with_batch entries (with_batch placed (data_of before))) second.changed
-    (both_same placed entries _ before valid c.requires.places c.requires.on_disk c.requires.spare logged first.placed))
+    (sealed_same placed entries before logged sealed valid c.requires.places c.requires.on_disk c.requires.spare first.placed second.changed)
     (both_left placed entries _ before valid c.requires.places c.requires.on_disk c.requires.spare logged sealed first.size first.placed first.any_moment second.any_moment)
     c.install.ensures.any_moment
 
 pub returns-in-Ok-seal-clause-changed : goal.returns-in-Ok-seal-clause-changed
 returns-in-Ok-seal-clause-changed g c =
     let before = g.D.Disk.state c.args.journal in
-    let seen = g.met.D.Disk.seen_is_image c.args.journal in
-    let valid = (c.tell_ready.ensures before.seen seen).commit in
-    let logged = g.D.Disk.state c.in-Ok.logged in
     let sealed = g.D.Disk.state c.in-Ok-seal.sealed in
-    let placed = c.args.placed.now.entries in
-    let entries = c.args.batch.now.entries in
-    let both = with_batch entries (with_batch placed (data_of before)) in
-    let same = same_chain (data_of sealed) (with_batch entries (data_of logged)) both c.in-Ok-seal.ensures.changed
-    (both_same placed entries _ before valid c.requires.places c.requires.on_disk c.requires.spare logged c.in-Ok.ensures.placed) in
-    IfOk-weaker c.install.result _ _ (λ after is. same_chain (data_of (g.D.Disk.state after)) (data_of sealed) both is same) c.install.ensures.same
+    let same =
+    sealed_same c.args.placed.now.entries c.args.batch.now.entries before (g.D.Disk.state c.in-Ok.logged) sealed (c.tell_ready.ensures before.seen (g.met.D.Disk.seen_is_image c.args.journal)).commit
+    c.requires.places c.requires.on_disk c.requires.spare c.in-Ok.ensures.placed c.in-Ok-seal.ensures.changed in
+    IfOk-weaker c.install.result _ _ (λ after is. same_chain (data_of (g.D.Disk.state after)) (data_of sealed) _ is same) c.install.ensures.same
