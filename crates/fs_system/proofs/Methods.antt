@@ -364,17 +364,6 @@ module _ {D : Type 0} (state : D → DiskState) where
                     (mountable_then (state before.disk) (state (disk_after now)) here.in_some.0 done.added counts_now here.mountable done.images);
               }
 
-        -- one that leaves the state as it was
-        module _ (after : StoreView D) (e : Event) (reply : Reply)
-            (does : (s : State) → IsRunning (state before.disk).size geometry (present state before) procs s
-            → IsRunning (state after.disk).size geometry (present state after) procs s × Does (state before.disk) (state after.disk) s e reply s) where
-          pub same_returns : Happens state fs (record { base = Running after; geometry = geometry; processes = procs; time = time }) e reply
-          same_returns = kept_returns (Ok after) procs e reply (λ s r told. let done = does s r in (s, (done.0, refl), done.1))
-
-          pub same_system : ((t : ℕ) (image : Image) → t ≤ (state after.disk).moment → IsImage (state after.disk) image → (state after.disk).left_since t image)
-              → IsSystem state (record { base = base; geometry = geometry; processes = procs; time = time }) → IsSystem state (record { base = Running after; geometry = geometry; processes = procs; time = time })
-          same_system counts_now was = kept_system (Ok after) procs e reply (λ s r told. let done = does s r in (s, (done.0, refl), done.1)) counts_now was
-
         module _ (after : StoreView D) (same : SameMap (present state after) (present state before))
             (run : LeavesOldOr (present state before) (state before.disk) (state after.disk)) (lasting : EachReadsAs (present state before) (state after.disk))
             (later : (state before.disk).failures ≤ (state after.disk).failures) (quiet : (state after.disk).failed_writes ≡ (state before.disk).failed_writes) where
@@ -434,3 +423,29 @@ module _ {D : Type 0} (state : D → DiskState) where
         break_system broken counts_now run was =
             let here = subst (λ (b : Base D). IsSystem state (record { base = b; geometry = geometry; processes = procs; time = time })) is was in
             record { in_some = (record here.in_some.0 { halted = true }, refl); mountable = flush_leaves broken counts_now run was }
+
+-- ---- an event that happens to the store, which is taken for it
+
+module _ {D : Type 0} {state : D → DiskState} {base : Base D} {geometry : Geometry} {procs : ProcessTable} {time : ℕ} {fs : System D}
+    (only_now : (disk : D) (image : Image) → (state disk).left_since (state disk).moment image → IsImage (state disk) image)
+    (was : IsSystem state (record { base = base; geometry = geometry; processes = procs; time = time })) (view_is : record { base = base; geometry = geometry; processes = procs; time = time } ≡ fs) where
+  pub may_take : is_halted fs.base ≡ false → (store : StoreView D) × base ≡ Running store
+  may_take up = store_there state only_now base geometry procs time fs view_is up was
+
+  module _ {before : StoreView D} (taken : base ≡ Running before) where
+    pub taken_runs : (s : State) × IsRunning (state before.disk).size geometry (present state before) procs s
+    taken_runs = store_runs state only_now base geometry procs time fs view_is before taken was
+
+    module _ {put : Base D} (e : Event) (reply : Reply) (now : Result (StoreView D) D) (processes : ProcessTable) (put_is : put ≡ base_left now)
+        (does : (s : State) → IsRunning (state before.disk).size geometry (present state before) procs s → s.now ≡ time
+        → (t : State) × IsOn state geometry s.now processes (base_left now) t × Does (state before.disk) (state (disk_after now)) s e reply t) where
+      pub event_happens : Happens state fs (record { base = put; geometry = geometry; processes = processes; time = time }) e reply
+      event_happens =
+          happens_put state geometry processes time put_is fs e reply
+          (kept_returns state only_now base geometry procs time fs view_is before taken now processes e reply does)
+
+      pub event_system : ((t : ℕ) (image : Image) → t ≤ (state (disk_after now)).moment → IsImage (state (disk_after now)) image → (state (disk_after now)).left_since t image)
+          → IsSystem state (record { base = put; geometry = geometry; processes = processes; time = time })
+      event_system counts_now =
+          system_put state geometry processes time put_is
+          (kept_system state only_now base geometry procs time fs view_is before taken now processes e reply does counts_now was)

@@ -2,7 +2,7 @@ use Rattle.std.proofs.Common.{sym, refl, ◌∙◌}
 use Rattle.sector_txn.specs.Stores.{disk_after}
 use Rattle.fs_model.specs.declared.event.Event.TheVariants.{Stamp}
 use Rattle.fs_system.specs.Replies.{stamped_reply}
-use Rattle.fs_system.proofs.Methods.{halted_happens, store_there, store_runs, kept_returns, kept_system, system_put, happens_put}
+use Rattle.fs_system.proofs.Methods.{halted_happens, may_take, taken_runs, event_happens, event_system}
 use Rattle.fs_system.proofs.fs.Fs.stamp.Goals as goal
 
 pub returns-then-is_halted-clause-does : goal.returns-then-is_halted-clause-does
@@ -10,26 +10,15 @@ returns-then-is_halted-clause-does g c =
     halted_happens g.D.Disk.state g.met.D.Disk.only_now c.args.self.now (Stamp c.args.ino c.args.atime c.args.mtime c.args.ctime) (sym c.is_halted.ensures ∙ c.if-is_halted.true) refl
 
 pub take-store-requires : goal.take-store-requires
-take-store-requires g c =
-    store_there g.D.Disk.state g.met.D.Disk.only_now c.self.inside.base c.self.inside.geometry c.self.inside.procs c.self.inside.time c.args.self.now c.self.view_is
-    (sym c.is_halted.ensures ∙ c.if-is_halted.false) c.self.invariant
+take-store-requires g c = may_take g.met.D.Disk.only_now c.self.invariant c.self.view_is (sym c.is_halted.ensures ∙ c.if-is_halted.false)
 
 pub stamp_kept-stamps-requires : goal.stamp_kept-stamps-requires
-stamp_kept-stamps-requires g c = record {
-  running = store_runs g.D.Disk.state g.met.D.Disk.only_now c.self.inside.base c.self.inside.geometry c.self.inside.procs c.self.inside.time c.args.self.now c.self.view_is c.take-store.result
-      c.take-store.ensures c.self.invariant;
-}
+stamp_kept-stamps-requires g c = record { running = taken_runs g.met.D.Disk.only_now c.self.invariant c.self.view_is c.take-store.ensures }
 
 pub invariant_of-self : goal.invariant_of-self
-invariant_of-self g c =
-    system_put g.D.Disk.state c.self.inside.geometry c.self.inside.procs c.self.inside.time c.put.ensures
-    (kept_system g.D.Disk.state g.met.D.Disk.only_now c.self.inside.base c.self.inside.geometry c.self.inside.procs c.self.inside.time c.args.self.now c.self.view_is c.take-store.result
-    c.take-store.ensures c.stamp_kept-stamps.result.1 c.self.inside.procs (Stamp c.args.ino c.args.atime c.args.mtime c.args.ctime) (stamped_reply c.stamp_kept-stamps.result.0)
-    (λ s r told. c.stamp_kept-stamps.ensures.does s r) (g.met.D.Disk.counts_now (disk_after c.stamp_kept-stamps.result.1)) c.self.invariant)
+invariant_of-self g c = event_system g.met.D.Disk.only_now c.self.invariant c.self.view_is c.take-store.ensures (Stamp c.args.ino c.args.atime c.args.mtime c.args.ctime) (stamped_reply c.stamp_kept-stamps.result.0)
+    c.stamp_kept-stamps.result.1 c.self.inside.procs c.put.ensures (λ s r told. c.stamp_kept-stamps.ensures.does s r) (g.met.D.Disk.counts_now (disk_after c.stamp_kept-stamps.result.1))
 
 pub returns-clause-does : goal.returns-clause-does
-returns-clause-does g c =
-    happens_put g.D.Disk.state c.self.inside.geometry c.self.inside.procs c.self.inside.time c.put.ensures c.args.self.now (Stamp c.args.ino c.args.atime c.args.mtime c.args.ctime) (stamped_reply c.stamp_kept-stamps.result.0)
-    (kept_returns g.D.Disk.state g.met.D.Disk.only_now c.self.inside.base c.self.inside.geometry c.self.inside.procs c.self.inside.time c.args.self.now c.self.view_is c.take-store.result
-    c.take-store.ensures c.stamp_kept-stamps.result.1 c.self.inside.procs (Stamp c.args.ino c.args.atime c.args.mtime c.args.ctime) (stamped_reply c.stamp_kept-stamps.result.0)
-    (λ s r told. c.stamp_kept-stamps.ensures.does s r))
+returns-clause-does g c = event_happens g.met.D.Disk.only_now c.self.invariant c.self.view_is c.take-store.ensures (Stamp c.args.ino c.args.atime c.args.mtime c.args.ctime) (stamped_reply c.stamp_kept-stamps.result.0)
+    c.stamp_kept-stamps.result.1 c.self.inside.procs c.put.ensures (λ s r told. c.stamp_kept-stamps.ensures.does s r)
