@@ -92,20 +92,22 @@ freed_stored {size} {p} {n} {old} {new} {t} below is leaves =
     let f = freed p n old new t is.holds below leaves in
     (f, record { disk_is = disk_kept size p old.sectors new.sectors (left_super leaves) is.disk_is; holds = f.holds })
 
+-- what a commit leaves, where one tree is stored before it and another after it
+left_pruned : {old : DiskState} {p : Geometry} {map now : SectorMap} {t u : Tree} → HasTree p map old t → IsStored old.size p now u → pruned u ≡ pruned t → (image : Image) → IsOneOf old map now image
+    → StandsPruned (room_of p) t image
+left_pruned {old} {p} h stored same image (inl (from, is, means)) =
+    let was = h.images from is in
+    (was.0, was.1, stands_as old.size from image is.size means (room_of p) was.0 was.1 was.2, was.3)
+left_pruned {old} {p} {map} {t = t} h stored same image (inr (inl reads)) =
+    (t, free_sectors p map, stands_for old.size p map t (free_sectors p map) image h.stored.disk_is (counted h.stored.holds) reads, refl)
+left_pruned {old} {p} {now = now} {u = u} h stored same image (inr (inr reads)) =
+    (u, free_sectors p now, stands_for old.size p now u (free_sectors p now) image stored.disk_is (counted stored.holds) reads, same)
+
 -- a delta is kept
 module _ (old mid new : DiskState) (only_now : (image : Image) → old.left_since old.moment image → IsImage old image) (p : Geometry) (map now : SectorMap)
     (reads : OnlyReads old mid) (run : LeavesOneOf map now mid new) (t u : Tree) (h : HasTree p map old t) (stored : IsStored old.size p now u) (same : pruned u ≡ pruned t) where
-  one_of : (image : Image) → IsOneOf old map now image → StandsPruned (room_of p) t image
-  one_of image (inl (from, is, means)) =
-      let was = h.images from is in
-      (was.0, was.1, stands_as old.size from image is.size means (room_of p) was.0 was.1 was.2, was.3)
-  one_of image (inr (inl reads)) =
-      (t, free_sectors p map, stands_for old.size p map t (free_sectors p map) image h.stored.disk_is (counted h.stored.holds) reads, refl)
-  one_of image (inr (inr reads)) =
-      (u, free_sectors p now, stands_for old.size p now u (free_sectors p now) image stored.disk_is (counted stored.holds) reads, same)
-
   pub kept_images : LeavesOnly old new (StandsPruned (room_of p) t)
-  kept_images = weaker one_of (after_reads only_now reads run).any_moment
+  kept_images = weaker (left_pruned h stored same) (after_reads only_now reads run).any_moment
 
   pub kept_tree : (map' : SectorMap) → SameMap map' now → ((t : ℕ) (image : Image) → t ≤ new.moment → IsImage new image → new.left_since t image)
       → HasTree p map' new u
@@ -145,16 +147,7 @@ dropped_images old new only_now reads p map t h = record {
 -- ---- what is kept is made stable
 
 pub flushed_images : (old new : DiskState) (p : Geometry) (map : SectorMap) → LeavesOldOr map old new → KeepsTree p map old new
-flushed_images old new p map run t h = weaker each run.any_moment
-  where
-    each : (image : Image) → IsOneOf old map map image → StandsPruned (room_of p) t image
-    each image (inl (from, is, means)) =
-        let was = h.images from is in
-        (was.0, was.1, stands_as old.size from image is.size means (room_of p) was.0 was.1 was.2, was.3)
-    each image (inr (inl reads)) =
-        (t, free_sectors p map, stands_for old.size p map t (free_sectors p map) image h.stored.disk_is (counted h.stored.holds) reads, refl)
-    each image (inr (inr reads)) =
-        (t, free_sectors p map, stands_for old.size p map t (free_sectors p map) image h.stored.disk_is (counted h.stored.holds) reads, refl)
+flushed_images old new p map run t h = weaker (left_pruned h h.stored refl) run.any_moment
 
 pub flushed_stable : (old new : DiskState) (p : Geometry) (map : SectorMap) (t : Tree) → new.size ≡ old.size → EachReadsAs map new → HasTree p map old t
     → EachStandsFor (room_of p) new t
