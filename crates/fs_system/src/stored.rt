@@ -128,29 +128,8 @@ pub(crate) fn stamp_kept<D: Disk>(
     }
 }
 
-// Counts how much is free, anew where that isn't known of a sector. The store remembers it.
-fn count_anew<D: Disk>(
-    store: CountedStore<D>,
-    geometry: Geometry,
-    procs: &Procs,
-) -> (Result<(u32, u32), Errno>, CountedStore<D>)
-    requires running { (s : State) × IsRunning (D.state store.disk).size geometry (present D.state store) procs.now s }
-    ensures does { (s : State) → IsRunning (D.state store.disk).size geometry (present D.state store) procs.now s
-        → IsRunning (D.state result.1.disk).size geometry (present D.state result.1) procs.now s
-        × Does (D.state store.disk) (D.state result.1.disk) s Statfs (counted result.0) s }
-{
-    let _processes = procs;
-    let (mut txn, mut known) = store.begin();
-    match count_both(&mut known.counts, &mut txn, geometry) {
-        Ok(free) => {
-            known.free = Some(free);
-            (Ok((free.sectors, free.inodes)), drop_delta(txn, known))
-        }
-        Err(DiskFault) => (Err(Errno::EIO), drop_delta(txn, known)),
-    }
-}
-
-/// How many data sectors and inodes are free, as the store remembers it, or counted anew.
+/// How many data sectors and inodes are free: as the store remembers it, or counted anew where that isn't known of a sector, which the
+/// store remembers then.
 pub(crate) fn count_space<D: Disk>(
     store: CountedStore<D>,
     geometry: Geometry,
@@ -164,5 +143,13 @@ pub(crate) fn count_space<D: Disk>(
     if let Some(free) = store.free() {
         return (Ok((free.sectors, free.inodes)), store);
     }
-    count_anew(store, geometry, procs)
+    let _processes = procs;
+    let (mut txn, mut known) = store.begin();
+    match count_both(&mut known.counts, &mut txn, geometry) {
+        Ok(free) => {
+            known.free = Some(free);
+            (Ok((free.sectors, free.inodes)), drop_delta(txn, known))
+        }
+        Err(DiskFault) => (Err(Errno::EIO), drop_delta(txn, known)),
+    }
 }
