@@ -4,11 +4,13 @@
 --     TellsCounts        the clear bits of each sector of which they are known
 --     HasCounts        they are those of what a transaction's sectors are now
 --     IsKnown        both are so of a map
+--     IsArmed        what arming leaves
 use Rattle.std.specs.Prelude.{◌≡◌, ℕ, Option, IfSome}
 use Rattle.free_counts.specs.Known.{CountList, TellsClear}
 use Rattle.fs_layout.specs.declared.geometry.Geometry.{Geometry}
 use Rattle.fs_layout.specs.Bytes.{SectorMap}
 use Rattle.fs_layout.specs.Header.{header_of}
+use Rattle.sector_disk.specs.Disk.{DiskState, Elapses, IsSame}
 use Rattle.sector_txn.specs.Sectors.{TxnState}
 use Rattle.fs_model.specs.Processes.{ProcessTable}
 use Rattle.fs_model.specs.States.{State}
@@ -37,3 +39,10 @@ pub record HasCounts (txn : TxnState) (counts : CountList) : Type 0 where
 pub record IsKnown (size : ℕ) (map : SectorMap) (known : KnownSpace) : Type 0 where
   pub space : IsRemembered size map known.free
   pub counts_are : TellsCounts map known.counts
+
+-- A disk that is armed shows the same, has failed no more often, and time goes on.
+pub record IsArmed (old new : DiskState) : Type 0 where
+  pub unchanged : IsSame old new
+  pub time : Elapses old new
+  pub failures : new.failures ≡ old.failures
+  pub failed_writes : new.failed_writes ≡ old.failed_writes

@@ -5,13 +5,13 @@ ghost use Rattle.fs_layout.specs.Bytes.{SectorMap};
 ghost use Rattle.fs_layout.specs.Header.{header_of, max_delta};
 ghost use Rattle.redo_journal.specs.Meaning.{SameMap, EachReadsAs, disk_of};
 ghost use Rattle.redo_journal.specs.States.{IsIdle};
-ghost use Rattle.sector_disk.specs.Disk.{IsSame, ForgetsPast, Elapses, HasCause, HasWriteCause};
+ghost use Rattle.sector_disk.specs.Disk.{ForgetsPast, HasCause, HasWriteCause};
 ghost use Rattle.sector_txn.specs.Images.{LeavesOneOf, LeavesOldOr};
 ghost use Rattle.sector_txn.specs.Stores.{TxnView, present, map_before, map_now, txn_state, disk_after};
 ghost use Rattle.sector_txn.specs.Sectors.{IsUnchanged, SameStore};
 ghost use Rattle.bit_alloc.specs.declared.bitmap.Bitmap.TheVariants.{Blocks, Inodes};
 ghost use Rattle.bit_alloc.specs.Bitmaps.{HasBitmaps, free_numbers};
-ghost use Rattle.fs_system.specs.Counting.{IsRemembered, TellsCounts, HasCounts, IsKnown};
+ghost use Rattle.fs_system.specs.Counting.{IsRemembered, TellsCounts, HasCounts, IsKnown, IsArmed};
 
 use bit_alloc::Bitmap;
 use free_counts::FreeCounts;
@@ -41,7 +41,8 @@ pub(crate) struct KnownSpace {
 impl KnownSpace {
     // From now on nothing is known of these sectors: what was known of a map is so of each that differs there alone.
     fn forget(&mut self, sectors: &[u32])
-        ensures { (size : ℕ) (before now : SectorMap) → (Contains sectors.now 0 → ⊥) → ((n : ℕ) → (Contains sectors.now n → ⊥) → now n ≡ before n)
+        ensures { (size : ℕ) (before now : SectorMap) → (Contains sectors.now 0 → ⊥)
+            → ((n : ℕ) → (Contains sectors.now n → ⊥) → now n ≡ before n)
             → IsKnown size before self.old → IsKnown size now self.new }
     {
         if sectors.is_empty() {
@@ -202,10 +203,7 @@ impl<D: CrashDisk> CountedStore<D> {
     pub(crate) fn arm(&mut self, passes: u64)
         ensures armed { D.armed self.new.disk ≡ Some passes }
         ensures map { SameMap (present D.state self.new) (present D.state self.old) }
-        ensures unchanged { IsSame (D.state self.old.disk) (D.state self.new.disk) }
-        ensures time { Elapses (D.state self.old.disk) (D.state self.new.disk) }
-        ensures failures { (D.state self.new.disk).failures ≡ (D.state self.old.disk).failures }
-        ensures failed_writes { (D.state self.new.disk).failed_writes ≡ (D.state self.old.disk).failed_writes }
+        ensures disk { IsArmed (D.state self.old.disk) (D.state self.new.disk) }
     {
         self.store.arm(passes);
     }
