@@ -10,7 +10,7 @@ use Rattle.fs_layout.specs.Commit.{AreTargets, IsArea, IsCommit, IsValidCommit, 
 use Rattle.fs_layout.specs.Recovered.{replayed, recovered}
 use Rattle.fs_layout.proofs.RecoveryLaw.{contains_at, idle_commit, low_no_target, target_or_none, recovered-commit, recovered-idle, recovered-installed, recovered-same, recovered-super}
 use Rattle.sector_disk.specs.Disk.{DiskState, Image, sector, AddsOnly, Elapses, IsImage, IsImageOr, IsNarrowed, IsStable, LeavesOnly, IsWrite, OnlyReads}
-use Rattle.sector_disk.proofs.Moments.{holds_now, image_or, joined, narrowed, one_call, stays, stays_or, stable_image, weaker}
+use Rattle.sector_disk.proofs.Moments.{adds_narrowed, goes_on, holds_now, image_or, joined, narrowed, one_call, stays, stays_or, stable_image, weaker}
 use Rattle.redo_journal.specs.Batch.{Entry, IsBatch, IsOnDisk, targets, content_at, with_batch}
 use Rattle.redo_journal.specs.Meaning.{IsMapped, SameMap, data_of, HasValidCommit, ReadsAs, IsEither, LeavesSameMap, MeansAs, MeansAsBefore}
 use Rattle.redo_journal.specs.States.{log_at, next_at, HasHeader, HasNext, IsAtRest, IsIdle, IsInPlace, IsReady, IsLogged, IsSealed, IsInstalled, HoldsHeader, HoldsLog, HoldsTargets, HasReplayed, InLog, InTargets}
@@ -523,6 +523,12 @@ targets_keep ts disk rest image is =
           (λ none. stays rest.stable rest.whole is n (λ content target. none target));
     }
 
+-- while they are written, and then a sync is tried
+pub targets_synced : (ts : List ℕ) (old mid new : DiskState) → IsAtRest ts old → AddsOnly (InTargets ts) old mid → LeavesOnly old mid (IsImageOr (InTargets ts) old) → IsNarrowed mid new → Elapses mid new
+    → LeavesSameMap old new
+targets_synced ts old mid new rest adds run changes time =
+    goes_on {old = old} {mid = mid} {new = new} (weaker (targets_keep ts old rest) run) time (λ image is. targets_keep ts old rest image (image_or (adds_narrowed adds changes) image is))
+
 -- with the targets written they have the contents of the log that is named then
 written_stays : (ts : List ℕ) (old new : DiskState) → IsAtRest ts old → IsImageOr (InTargets ts) old new.seen → HasReplayed (log_at old.seen) ts (sector old.seen) new.seen
     → HasReplayed (log_at new.seen) ts (sector new.seen) new.seen
@@ -700,6 +706,13 @@ reads_same n m f h size same image reads = record {
 pub same_map : (old new : DiskState) → ((t : ℕ) (image : Image) → t ≤ new.moment → IsImage new image → new.left_since t image) → IsImage new new.seen
     → new.size ≡ old.size → LeavesSameMap old new → SameMap (data_of new) (data_of old)
 same_map old new counts_now seen size run = λ n part. ap (λ k. recovered k (sector new.seen) n) size ∙ (holds_now run counts_now seen).reads n part
+
+-- and as a disk is seen
+pub same_since : {D : Type 0} (state : D → DiskState) {inside seen : D} (new : D) → inside ≡ seen
+    → ((t : ℕ) (image : Image) → t ≤ (state new).moment → IsImage (state new) image → (state new).left_since t image) → IsImage (state new) (state new).seen
+    → (state new).size ≡ (state inside).size → LeavesSameMap (state inside) (state new) → SameMap (data_of (state new)) (data_of (state seen))
+same_since state {inside} new is counts_now image size run =
+    subst (λ d. SameMap (data_of (state new)) (data_of (state d))) is (same_map (state inside) (state new) counts_now image size run)
 
 -- one such step after another
 pub same_joined : (old mid new : DiskState) → ((t : ℕ) (image : Image) → t ≤ mid.moment → IsImage mid image → mid.left_since t image) → IsImage mid mid.seen

@@ -1,8 +1,8 @@
 use Rattle.std.proofs.Common.{sym, subst}
 use Rattle.std.proofs.lemmas.Result.{on_ok_weaker}
-use Rattle.sector_disk.proofs.Moments.{adds_narrowed, goes_on, image_or, weaker}
+use Rattle.sector_disk.proofs.Moments.{adds_narrowed, image_or, weaker}
 use Rattle.redo_journal.specs.Batch.{targets}
-use Rattle.redo_journal.proofs.Meaning.{targets_keep, installed_from, batch_replayed}
+use Rattle.redo_journal.proofs.Meaning.{targets_keep, targets_synced, installed_from, batch_replayed}
 use Rattle.redo_journal.specs.States.{log_at, HoldsTargets}
 use Rattle.redo_journal.proofs.commit.put_in_place.Goals as goal
 
@@ -11,9 +11,8 @@ returns-in_err-write_targets-clause-any_moment g c = weaker (targets_keep (targe
 
 pub returns-clause-any_moment : goal.returns-clause-any_moment
 returns-clause-any_moment g c =
-    let keep = targets_keep (targets c.args.batch.now.entries) (g.D.Disk.state c.args.disk.now) c.requires.rest in
-    let adds = adds_narrowed c.write_targets.ensures.adds c.sync.ensures.changes in
-    goes_on (weaker keep c.write_targets.ensures.any_moment) c.sync.ensures.time (λ image is. keep image (image_or adds image is))
+    targets_synced (targets c.args.batch.now.entries) (g.D.Disk.state c.args.disk.now) (g.D.Disk.state c.write_targets.new.disk) (g.D.Disk.state c.sync.new.self) c.requires.rest c.write_targets.ensures.adds c.write_targets.ensures.any_moment
+    c.sync.ensures.changes c.sync.ensures.time
 
 pub returns-clause-installed : goal.returns-clause-installed
 returns-clause-installed g c =

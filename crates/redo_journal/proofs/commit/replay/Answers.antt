@@ -2,8 +2,8 @@ use Rattle.std.proofs.Common.{ℕ, ◌+◌, sym, subst}
 use Rattle.std.proofs.lemmas.Result.{on_ok_weaker}
 use Rattle.fs_layout.specs.Header.{area_start}
 use Rattle.sector_disk.specs.Disk.{sector}
-use Rattle.sector_disk.proofs.Moments.{adds_narrowed, goes_on, image_or, weaker}
-use Rattle.redo_journal.proofs.Meaning.{targets_keep, installed_from}
+use Rattle.sector_disk.proofs.Moments.{adds_narrowed, image_or, weaker}
+use Rattle.redo_journal.proofs.Meaning.{targets_keep, targets_synced, installed_from}
 use Rattle.redo_journal.specs.States.{log_at, HasReplayed}
 use Rattle.redo_journal.proofs.commit.replay.Goals as goal
 
@@ -12,9 +12,8 @@ returns-in_err-copy_log-clause-any_moment g c = weaker (targets_keep c.args.sect
 
 pub returns-clause-any_moment : goal.returns-clause-any_moment
 returns-clause-any_moment g c =
-    let keep = targets_keep c.args.sectors.now (g.D.Disk.state c.args.disk.now) c.requires.rest in
-    let adds = adds_narrowed c.copy_log.ensures.adds c.sync.ensures.changes in
-    goes_on (weaker keep c.copy_log.ensures.any_moment) c.sync.ensures.time (λ image is. keep image (image_or adds image is))
+    targets_synced c.args.sectors.now (g.D.Disk.state c.args.disk.now) (g.D.Disk.state c.copy_log.new.disk) (g.D.Disk.state c.sync.new.self) c.requires.rest c.copy_log.ensures.adds c.copy_log.ensures.any_moment
+    c.sync.ensures.changes c.sync.ensures.time
 
 pub returns-clause-installed : goal.returns-clause-installed
 returns-clause-installed g c =

@@ -1,7 +1,7 @@
 use Rattle.std.proofs.Common.{subst, sym, ◌∙◌}
 use Rattle.redo_journal.specs.Meaning.{SameMap, LeavesSameMap, data_of}
 use Rattle.sector_disk.proofs.Moments.{started}
-use Rattle.redo_journal.proofs.Meaning.{header_same, ready_idle, ready_reads, same_map}
+use Rattle.redo_journal.proofs.Meaning.{header_same, ready_idle, ready_reads, same_map, same_since}
 use Rattle.redo_journal.proofs.journal.Journal.settle.Goals as goal
 
 pub returns-then-header-eq0-clause-any_moment : goal.returns-then-header-eq0-clause-any_moment
@@ -20,8 +20,5 @@ on-requires-clause-header g c =
 
 pub returns-in-Ok-clause-same : goal.returns-in-Ok-clause-same
 returns-in-Ok-clause-same g c =
-    let old = g.D.Disk.state c.self.inside.disk in
-    let new = g.D.Disk.state c.settle_commit.new.disk in
     subst (λ d. SameMap (data_of (g.D.Disk.state d)) (data_of (g.D.Disk.state c.args.self))) (sym c.on.ensures)
-    (subst (λ d. SameMap (data_of new) (data_of (g.D.Disk.state d))) c.self.view_is
-    (same_map old new (g.met.D.Disk.counts_now c.settle_commit.new.disk) (g.met.D.Disk.seen_is_image c.settle_commit.new.disk) c.in-Ok.ensures.size c.in-Ok.ensures.any_moment))
+    (same_since g.D.Disk.state c.settle_commit.new.disk c.self.view_is (g.met.D.Disk.counts_now c.settle_commit.new.disk) (g.met.D.Disk.seen_is_image c.settle_commit.new.disk) c.in-Ok.ensures.size c.in-Ok.ensures.any_moment)

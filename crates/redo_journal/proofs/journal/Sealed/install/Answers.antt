@@ -1,6 +1,5 @@
-use Rattle.std.proofs.Common.{subst, sym, ◌∙◌}
-use Rattle.redo_journal.specs.Meaning.{SameMap, data_of}
-use Rattle.redo_journal.proofs.Meaning.{header_same, same_map}
+use Rattle.std.proofs.Common.{sym, ◌∙◌}
+use Rattle.redo_journal.proofs.Meaning.{header_same, same_map, same_since}
 use Rattle.redo_journal.proofs.journal.Sealed.install.Goals as goal
 
 pub invariant_of-result : goal.invariant_of-result
@@ -15,7 +14,4 @@ invariant_of-result g c =
 
 pub returns-in-Ok-clause-same : goal.returns-in-Ok-clause-same
 returns-in-Ok-clause-same g c =
-    let old = g.D.Disk.state c.self.inside.disk in
-    let new = g.D.Disk.state c.install_batch.new.disk in
-    subst (λ d. SameMap (data_of new) (data_of (g.D.Disk.state d))) c.self.view_is
-    (same_map old new (g.met.D.Disk.counts_now c.install_batch.new.disk) (g.met.D.Disk.seen_is_image c.install_batch.new.disk) c.in-Ok.ensures.size c.in-Ok.ensures.any_moment)
+    same_since g.D.Disk.state c.install_batch.new.disk c.self.view_is (g.met.D.Disk.counts_now c.install_batch.new.disk) (g.met.D.Disk.seen_is_image c.install_batch.new.disk) c.in-Ok.ensures.size c.in-Ok.ensures.any_moment
