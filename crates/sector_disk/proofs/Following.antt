@@ -1,5 +1,5 @@
 -- A file that follows its disk: what a run and a sync of the file keep.
-use Rattle.std.proofs.Common.{◌≡◌, ◌⊎◌, inl, inr, ⊎_elim, ℕ, zero, ◌+◌, ◌-◌, ◌<◌, ◌≤◌, Bool, true, false, List, [], ◌∷◌, ◌++◌, length, drop, refl, sym, ◌∙◌, ap, subst, arith, get_or, get_or-set_other, length-drop, length-take, slice_index, replicate}
+use Rattle.std.proofs.Common.{◌≡◌, ◌⊎◌, inl, inr, ⊎_elim, ℕ, zero, ◌+◌, ◌-◌, ◌<◌, ◌≤◌, Bool, true, false, List, [], ◌∷◌, ◌++◌, length, drop, take, refl, sym, ◌∙◌, ap, subst, arith, get_or, get_or-set_other, length-drop, length-take, slice_index, replicate}
 use Rattle.std.specs.Prelude.{Option, Some, None, IfSome, All, Contains, Result, Ok, Err, OnOk, IsPermutation, slice_range, slice_set, if◌then◌else◌}
 use Rattle.std.specs.Result.{is_ok}
 use Rattle.std.proofs.Math.Logic.{∥∥₁_map}
@@ -192,20 +192,26 @@ behind waiting at count first end n within (k, below, is) = elim (cases_lt k cou
       )
 ]
 
-pub run_failed : (disk : DiskState) (waiting : List ℕ) (at first end : ℕ) (run : Image) (old new : Option Held) → IsImage disk disk.seen → first ≤ end → end ≤ disk.size
-    → run ≡ slice_range disk.seen first end → IfKnown (IsRunTried first run) old new → KeepsKnown disk (drop at waiting) false old → KeepsKnown disk waiting false new
-run_failed disk waiting at first end run old new image order fits is tried was =
-    follows_tried disk waiting false first end old new image order fits (subst (λ (r : Image). IfKnown (IsRunTried first r) old new) is tried)
-    (follows_more disk (drop at waiting) waiting false old (later waiting at) was)
+-- a run that is cut from a buffer ends there
+pub run_to : (seen : Image) (first end n : ℕ) (buffer run : Image) → run ≡ slice_range seen first (first + n) → n ≡ length (take (end - first) buffer) → first ≤ end → end ≤ first + length buffer
+    → run ≡ slice_range seen first end
+run_to seen first end n buffer run is cut order room =
+    is ∙ ap (λ k. slice_range seen first k) (let here : first + n ≡ end = omega (arith, cut, order, room, length-take (end - first) buffer) in here)
 
-pub run_done : (disk : DiskState) (waiting : List ℕ) (at count first end : ℕ) (run : Image) (old new : Option Held) → IsImage disk disk.seen → first ≤ end → end ≤ disk.size
-    → run ≡ slice_range disk.seen first end → ((i : ℕ) → i < count → (first ≤ slice_index (drop at waiting) i) × (slice_index (drop at waiting) i < end))
-    → IfKnown (IsRunTried first run) old new → IfSome new (HasRun first run) → KeepsKnown disk (drop at waiting) false old → KeepsKnown disk (drop (at + count) waiting) false new
-run_done disk waiting at count first end run old new image order fits is within tried done was =
+pub run_failed : (disk : DiskState) (waiting : List ℕ) (at first end : ℕ) (old new : Option Held) → IsImage disk disk.seen → first ≤ end → end ≤ disk.size
+    → IfKnown (IsRunTried first (slice_range disk.seen first end)) old new → KeepsKnown disk (drop at waiting) false old → KeepsKnown disk waiting false new
+run_failed disk waiting at first end old new image order fits tried was =
+    follows_tried disk waiting false first end old new image order fits tried (follows_more disk (drop at waiting) waiting false old (later waiting at) was)
+
+pub run_done : (disk : DiskState) (waiting : List ℕ) (at count first end : ℕ) (old new : Option Held) → IsImage disk disk.seen → first ≤ end → end ≤ disk.size
+    → ((i : ℕ) → i < count → (first ≤ slice_index (drop at waiting) i) × (slice_index (drop at waiting) i < end))
+    → IfKnown (IsRunTried first (slice_range disk.seen first end)) old new → IfSome new (HasRun first (slice_range disk.seen first end)) → KeepsKnown disk (drop at waiting) false old
+    → KeepsKnown disk (drop (at + count) waiting) false new
+run_done disk waiting at count first end old new image order fits within tried done was =
     follows_run disk (drop at waiting) (drop (at + count) waiting) false first end new image order fits
     (λ n below lacks. ⊎_elim (λ all. cc) (λ waits. behind waiting at count first end n within waits) lacks)
-    (subst (λ (r : Image). IfSome new (HasRun first r)) is done)
-    (follows_tried disk (drop at waiting) false first end old new image order fits (subst (λ (r : Image). IfKnown (IsRunTried first r) old new) is tried) was)
+    done
+    (follows_tried disk (drop at waiting) false first end old new image order fits tried was)
 
 pub follows_all : (disk : DiskState) (waiting : List ℕ) (at : ℕ) (file : Option Held) → length waiting ≤ at → KeepsKnown disk (drop at waiting) false file → KeepsKnown disk [] false file
 follows_all disk waiting at file past was = follows_more disk (drop at waiting) [] false file (λ n has. let len = length-drop at waiting in let below = has.1 in absurd (omega (arith, len, past, below))) was

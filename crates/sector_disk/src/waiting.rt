@@ -27,21 +27,25 @@ pub fn write_out<F: DiskFile>(
     write_waiting(file, memory, waiting, buffer)
 }
 
-// Writes these neighbours to the file as reads give them, in one call: from where they stand, or through the buffer.
+// Writes neighbours to the file as reads give them, in one call: from where they stand, or through the buffer.
 fn write_run<F: DiskFile>(
     file: &mut F,
     memory: &MemDisk,
     first: u32,
-    run: &mut [[u8; 512]],
+    end: u32,
+    buffer: &mut [[u8; 512]],
 ) -> io::Result<()>
-    requires { first + length run.old ≤ (⟦<MemDisk as Disk>⟧.state memory.now).size }
-    ensures tried { IfKnown (IsRunTried first (slice_range (⟦<MemDisk as Disk>⟧.state memory.now).seen first (first + length run.new)))
+    requires order { first ≤ end }
+    requires fits { end ≤ (⟦<MemDisk as Disk>⟧.state memory.now).size }
+    requires room { end ≤ first + length buffer.old }
+    ensures tried { IfKnown (IsRunTried first (slice_range (⟦<MemDisk as Disk>⟧.state memory.now).seen first end))
         (F.held file.old) (F.held file.new) }
     ensures done { OnOk result (IfSome (F.held file.new)
-        (HasRun first (slice_range (⟦<MemDisk as Disk>⟧.state memory.now).seen first (first + length run.new)))) }
+        (HasRun first (slice_range (⟦<MemDisk as Disk>⟧.state memory.now).seen first end))) }
 {
-    if let Some(run) = memory.run(first, run.len()) {
-        return file.write_run(first, run);
+    let run = &mut buffer[..(end - first) as usize];
+    if let Some(stored) = memory.run(first, run.len()) {
+        return file.write_run(first, stored);
     }
     memory.copy_run(first, run);
     file.write_run(first, run)
@@ -62,8 +66,9 @@ fn write_all<F: DiskFile>(
     let mut at = 0;
     while at < size {
         let len = buffer.len().min((size - at) as usize);
-        write_run(file, memory, at, &mut buffer[..len])?;
-        at += len as u32;
+        let end = at + len as u32;
+        write_run(file, memory, at, end, buffer)?;
+        at = end;
     }
     Ok(())
 }
@@ -93,8 +98,7 @@ fn write_waiting<F: DiskFile>(
     let mut at = 0;
     while at < waiting.len() {
         let run = first_run(&waiting[at..], memory.size(), buffer.len());
-        let len = (run.end - run.first) as usize;
-        write_run(file, memory, run.first, &mut buffer[..len])?;
+        write_run(file, memory, run.first, run.end, buffer)?;
         at += run.count;
     }
     Ok(())

@@ -1,8 +1,6 @@
-use Rattle.std.proofs.Common.{◌≡◌, ◌+◌, ◌-◌, arith, false, subst, drop, length, length-take, refl, ◌≤◌, ◌<◌, ℕ, List, slice_index}
-use Rattle.std.specs.Prelude.{slice_range, IfSome}
+use Rattle.std.proofs.Common.{arith, false, subst, drop, ◌≤◌, ◌<◌, ℕ, List, slice_index}
 use Rattle.std.proofs.lemmas.List.{take_rest}
 use Rattle.sector_disk.specs.Record.{recorded_state}
-use Rattle.sector_disk.specs.Files.{IfKnown, IsRunTried, HasRun}
 use Rattle.sector_disk.specs.Replay.{seen_is_image}
 use Rattle.sector_disk.proofs.Following.{run_failed, run_done, follows_more, follows_all, later}
 use Rattle.sector_disk.proofs.waiting.write_waiting.Goals as goal
@@ -10,35 +8,23 @@ use Rattle.sector_disk.proofs.waiting.write_waiting.Goals as goal
 pub returns-in_err-write_run-clause-follows : goal.returns-in_err-write_run-clause-follows
 returns-in_err-write_run-clause-follows g c =
     let memory = c.args.memory.now in
-    let disk = recorded_state memory.history memory.failures in
     let run = c.first_run-run.result in
-    let old = g.F.DiskFile.held c.loop-at.file in
-    let new = g.F.DiskFile.held c.write_run.new.file in
-    let to : run.first + length c.write_run.new.run ≡ run.end =
-    let cut = c.write_run.auto.run in let fits = c.first_run-run.ensures.fits in let order = c.first_run-run.ensures.order in omega (arith, cut, fits, order, length-take (run.end - run.first) c.loop-at.buffer) in
-    let tried = subst (λ end. IfKnown (IsRunTried run.first (slice_range disk.seen run.first end)) old new) to c.write_run.ensures.tried in
-    let size = subst (λ n. run.end ≤ n) c.size.ensures c.first_run-run.ensures.end in
-    run_failed disk c.args.waiting.now c.loop-at.at run.first run.end (slice_range disk.seen run.first run.end) old new (seen_is_image memory.history memory.failures) c.first_run-run.ensures.order size refl tried
+    run_failed (recorded_state memory.history memory.failures) c.args.waiting.now c.loop-at.at run.first run.end (g.F.DiskFile.held c.loop-at.file) (g.F.DiskFile.held c.write_run.new.file)
+    (seen_is_image memory.history memory.failures) c.first_run-run.ensures.order (subst (λ n. run.end ≤ n) c.size.ensures c.first_run-run.ensures.end) c.write_run.ensures.tried
     c.loop-at.invariant.follows
 
 pub loop-at-preserved : goal.loop-at-preserved
 loop-at-preserved g c =
     let memory = c.args.memory.now in
-    let disk = recorded_state memory.history memory.failures in
     let run = c.first_run-run.result in
-    let old = g.F.DiskFile.held c.loop-at.file in
-    let new = g.F.DiskFile.held c.write_run.new.file in
-    let to : run.first + length c.write_run.new.run ≡ run.end =
-    let cut = c.write_run.auto.run in let fits = c.first_run-run.ensures.fits in let order = c.first_run-run.ensures.order in omega (arith, cut, fits, order, length-take (run.end - run.first) c.loop-at.buffer) in
-    let tried = subst (λ end. IfKnown (IsRunTried run.first (slice_range disk.seen run.first end)) old new) to c.write_run.ensures.tried in
-    let size = subst (λ n. run.end ≤ n) c.size.ensures c.first_run-run.ensures.end in
-    let done = subst (λ end. IfSome new (HasRun run.first (slice_range disk.seen run.first end))) to c.in_ok-write_run.ensures.done in
     record {
       fits = omega arith;
       follows =
-          run_done disk c.args.waiting.now c.loop-at.at run.count run.first run.end (slice_range disk.seen run.first run.end) old new (seen_is_image memory.history memory.failures) c.first_run-run.ensures.order size refl
+          run_done (recorded_state memory.history memory.failures) c.args.waiting.now c.loop-at.at run.count run.first run.end (g.F.DiskFile.held c.loop-at.file)
+          (g.F.DiskFile.held c.write_run.new.file) (seen_is_image memory.history memory.failures) c.first_run-run.ensures.order
+          (subst (λ n. run.end ≤ n) c.size.ensures c.first_run-run.ensures.end)
           (subst (λ (rest : List ℕ). (i : ℕ) → i < run.count → (run.first ≤ slice_index rest i) × (slice_index rest i < run.end)) (take_rest c.args.waiting.now c.loop-at.at) c.first_run-run.ensures.within)
-          tried done c.loop-at.invariant.follows;
+          c.write_run.ensures.tried c.in_ok-write_run.ensures.done c.loop-at.invariant.follows;
     }
 
 pub returns-clause-follows : goal.returns-clause-follows
