@@ -1,9 +1,10 @@
 -- What every codec has: a reading that gave a value passed each test, and both directions give what callers use.
-use Rattle.std.proofs.Common.{◌≡◌, ℕ, List, [], ◌++◌, length, take, drop, refl, sym, ap, ◌∙◌, arith, true, false, cond, Bool, Result, Ok, Err}
+use Rattle.std.proofs.Common.{◌≡◌, ℕ, ◌+◌, ◌≤◌, List, [], ◌++◌, length, take, drop, refl, sym, ap, ◌∙◌, arith, true, false, cond, Bool, Result, Ok, Err}
 use Rattle.std.proofs.lemmas.List.{take_all, drop_all, append-nil}
 use Rattle.std.specs.Prelude.{IfOk}
 use borrow.Rule.Slice.PartMut.{put_mid}
 use Rattle.fs_layout.specs.Bytes.{IsBytes, window}
+use Rattle.fs_layout.proofs.Fields.{part_len, IsBytes-part}
 
 -- a test that has to hold, and held
 pub held : {A E : Type 0} (b : Bool) (x : Result A E) (d : E) (y : A) → cond b x (Err d) ≡ Ok y → (b ≡ true) × (x ≡ Ok y)
@@ -23,19 +24,31 @@ pub record IsCodec {V E : Type 0} (n : ℕ) (Fits : V → Type 0) (bytes : V →
   pub back : (s : List ℕ) (v : V) → length s ≡ n → IsBytes s → of s ≡ Ok v → (s ≡ bytes v) × Fits v
   pub again : (v : V) → Fits v → of (bytes v) ≡ Ok v
 
--- a reading of bytes, whole
-pub found : {V E : Type 0} (n : ℕ) (Fits : V → Type 0) (bytes : V → List ℕ) (of : List ℕ → Result V E) → IsCodec n Fits bytes of
-    → (r : Result V E) (s : List ℕ) → length s ≡ n → IsBytes s → r ≡ of s → IfOk r (λ v. (s ≡ bytes v) × Fits v)
-found n Fits bytes of law (Ok v) s len small e = law.back s v len small (sym e)
-found n Fits bytes of law (Err d) s len small e = tt
+-- what a reading of bytes gave, by their codec
+pub record Reads {V E : Type 0} (Fits : V → Type 0) (bytes : V → List ℕ) (of : List ℕ → Result V E) (s : List ℕ) (r : Result V E) : Type 0 where
+  pub first_fault : r ≡ of s
+  pub found : IfOk r (λ v. (s ≡ bytes v) × Fits v)
+  pub only : (v : V) → Fits v → s ≡ bytes v → r ≡ Ok v
 
-pub only : {V E : Type 0} (n : ℕ) (Fits : V → Type 0) (bytes : V → List ℕ) (of : List ℕ → Result V E) → IsCodec n Fits bytes of
-    → (r : Result V E) (s : List ℕ) (v : V) → r ≡ of s → Fits v → s ≡ bytes v → r ≡ Ok v
-only n Fits bytes of law r s v e fits is = e ∙ ap of is ∙ law.again v fits
+reads : {V E : Type 0} (n : ℕ) {Fits : V → Type 0} {bytes : V → List ℕ} {of : List ℕ → Result V E} → IsCodec n Fits bytes of
+    → (s : List ℕ) (r : Result V E) → length s ≡ n → IsBytes s → r ≡ of s → Reads Fits bytes of s r
+reads {V = V} {E = E} n {Fits} {bytes} {of} law s r len small e = record {
+  first_fault = e;
+  found = found r e;
+  only = λ v fits is. e ∙ ap of is ∙ law.again v fits;
+}
+  where
+    found : (r : Result V E) → r ≡ of s → IfOk r (λ v. (s ≡ bytes v) × Fits v)
+    found (Ok v) e = law.back s v len small (sym e)
+    found (Err d) e = tt
 
 -- a sector read whole
-pub whole : (s : List ℕ) (at k n : ℕ) → at ≡ 0 → k ≡ n → length s ≡ n → take k (drop at s) ≡ s
+whole : (s : List ℕ) (at k n : ℕ) → at ≡ 0 → k ≡ n → length s ≡ n → take k (drop at s) ≡ s
 whole s at k n here all len = ap (λ (p : ℕ). take k (drop p s)) here ∙ take_all k s (omega arith)
+
+pub reads_whole : {V E : Type 0} {Fits : V → Type 0} {bytes : V → List ℕ} {of : List ℕ → Result V E} → IsCodec 512 Fits bytes of
+    → (s : List ℕ) (at k : ℕ) (r : Result V E) → at ≡ 0 → k ≡ 512 → length s ≡ 512 → IsBytes s → r ≡ of (take k (drop at s)) → Reads Fits bytes of s r
+reads_whole {of} law s at k r here all len small e = reads 512 law s r len small (e ∙ ap of (whole s at k 512 here all len))
 
 -- a sector written whole
 pub whole_written : (s new : List ℕ) (at k n : ℕ) → at ≡ 0 → k ≡ n → length s ≡ n → put_mid at k s new ≡ new
@@ -46,6 +59,11 @@ whole_written s new at k n here all len =
 -- a part of a sector read
 pub part : (s : List ℕ) (at k n : ℕ) → k ≡ n → take k (drop at s) ≡ window s at n
 part s at k n all = ap (λ (m : ℕ). take m (drop at s)) all
+
+pub reads_part : {V E : Type 0} (n : ℕ) {Fits : V → Type 0} {bytes : V → List ℕ} {of : List ℕ → Result V E} → IsCodec n Fits bytes of
+    → (s : List ℕ) (at k : ℕ) (r : Result V E) → k ≡ n → at + n ≤ length s → IsBytes s → r ≡ of (take k (drop at s)) → Reads Fits bytes of (window s at n) r
+reads_part n {of} law s at k r all room small e =
+    reads n law (window s at n) r (part_len n at s room) (IsBytes-part n at s small) (e ∙ ap of (part s at k n all))
 
 -- bytes spell one value
 pub same_spelling : {V E : Type 0} (n : ℕ) (Fits : V → Type 0) (bytes : V → List ℕ) (of : List ℕ → Result V E) → IsCodec n Fits bytes of

@@ -8,7 +8,7 @@ use Rattle.std.proofs.lemmas.List.Elements.{All-nil, All-cons, All-head, All-tai
 use Rattle.posix_acl.specs.declared.entry.EntryNumbers.{EntryNumbers}
 use Rattle.fs_layout.specs.Bytes.{IsBytes, splice, le16, le32, u16_of, u32_of}
 use Rattle.fs_layout.specs.AclSector.{FitsAclEntry, entry_bytes, entries_bytes, acl_entry_at, acl_entries_at}
-use Rattle.fs_layout.proofs.Fields.{back16, back32, read16, read32}
+use Rattle.fs_layout.proofs.Fields.{next_back, back16, back32, read16, read32}
 use Rattle.fs_layout.proofs.Small.{u16_small, u32_small}
 use Rattle.fs_layout.proofs.Writes.{put_step}
 use native.Mathlib.Numerals.{unary_clauses}
@@ -76,14 +76,7 @@ pub entries_back : (n : ℕ) (s : List ℕ) (at : ℕ) → IsBytes s → at + 8 
     → drop at s ≡ entries_bytes (acl_entries_at s at n) ++ drop (at + 8 * n) s
 unfolding entries_bytes acl_entries_at
 entries_back zero s at fits room = ap (λ (k : ℕ). drop k s) (omega arith)
-entries_back (suc n) s at fits room =
-    let first : drop at s ≡ entry_bytes (acl_entry_at s at) ++ drop (at + 8) s = entry_back s at fits (omega arith) in
-    let rest : drop (at + 8) s ≡ entries_bytes (acl_entries_at s (at + 8) n) ++ drop (at + 8 + 8 * n) s =
-    entries_back n s (at + 8) fits (omega arith) in
-    let k : at + 8 + 8 * n ≡ at + 8 * suc n = simp unary_clauses (omega arith) in
-    first
-    ∙ ap (λ (r : List ℕ). entry_bytes (acl_entry_at s at) ++ r) (rest ∙ ap (λ (m : ℕ). entries_bytes (acl_entries_at s (at + 8) n) ++ drop m s) k)
-    ∙ sym (append_assoc (entry_bytes (acl_entry_at s at)) (entries_bytes (acl_entries_at s (at + 8) n)) (drop (at + 8 * suc n) s))
+entries_back (suc n) s at fits room = next_back 8 n s at _ _ (entry_back s at fits (omega arith)) (entries_back n s (at + 8) fits (omega arith))
 
 -- what is spelled so is read
 entry_read : (s : List ℕ) (at : ℕ) (e : EntryNumbers) (rest : List ℕ) → drop at s ≡ entry_bytes e ++ rest → FitsAclEntry e

@@ -5,7 +5,7 @@ use Rattle.std.proofs.lemmas.Bool.{cases_lt, eqb-true, and_parts}
 use Rattle.std.proofs.lemmas.Nat.{le_bytes_2, le_bytes_4, le_bytes_8}
 use Rattle.std.specs.List.{list_all}
 use Rattle.std.specs.Prelude.{nat_eq}
-use Rattle.std.specs.Int.{w16, w32, w64, from_le_bytes}
+use Rattle.std.specs.Int.{Width, w16, w32, w64, from_le_bytes}
 use Rattle.byteorder.specs.Endian.{little_number}
 use Rattle.byteorder.specs.Numbers.{little_from-take, little_number-reads_back}
 use Rattle.fs_layout.specs.Bytes.{le16, le32, le64, le32s, zeros, u16_of, u32_of, u64_of, u32s_of, are_zero, window}
@@ -28,38 +28,34 @@ split n at s x e =
     sym (take-append-drop n (drop at s)) ∙ ap (λ (r : List ℕ). take n (drop at s) ++ r) (drop-drop n at s)
     ∙ ap (λ (r : List ℕ). r ++ drop (at + n) s) (sym e)
 
+-- the number that the first bytes say
+said : (w : Width) (n : ℕ) (s : List ℕ) → from_le_bytes w (take n s) ≡ little_number n (take n s) → little_number n s ≡ from_le_bytes w (take n s)
+said w n s same = sym (same ∙ little_from-take 0 n n s (omega arith))
+
 pub back16 : (s : List ℕ) (at : ℕ) → IsBytes s → at + 2 ≤ length s → drop at s ≡ le16 (u16_of s at) ++ drop (at + 2) s
 unfolding le16 u16_of
-back16 s at fits room =
-    let same : from_le_bytes w16 (take 2 (drop at s)) ≡ little_number 2 (take 2 (drop at s)) = omega arith in
-    let read : u16_of s at ≡ from_le_bytes w16 (take 2 (drop at s)) = sym (same ∙ little_from-take 0 2 2 (drop at s) (omega arith)) in
-    split 2 at s _ (le_bytes_2 (take 2 (drop at s)) (u16_of s at) (part_len 2 at s room) (IsBytes-part 2 at s fits) read)
+back16 s at fits room = split 2 at s _ (le_bytes_2 _ (u16_of s at) (part_len 2 at s room) (IsBytes-part 2 at s fits) (said w16 2 (drop at s) (omega arith)))
 
 pub back32 : (s : List ℕ) (at : ℕ) → IsBytes s → at + 4 ≤ length s → drop at s ≡ le32 (u32_of s at) ++ drop (at + 4) s
 unfolding le32 u32_of
-back32 s at fits room =
-    let same : from_le_bytes w32 (take 4 (drop at s)) ≡ little_number 4 (take 4 (drop at s)) = omega arith in
-    let read : u32_of s at ≡ from_le_bytes w32 (take 4 (drop at s)) = sym (same ∙ little_from-take 0 4 4 (drop at s) (omega arith)) in
-    split 4 at s _ (le_bytes_4 (take 4 (drop at s)) (u32_of s at) (part_len 4 at s room) (IsBytes-part 4 at s fits) read)
+back32 s at fits room = split 4 at s _ (le_bytes_4 _ (u32_of s at) (part_len 4 at s room) (IsBytes-part 4 at s fits) (said w32 4 (drop at s) (omega arith)))
 
 pub back64 : (s : List ℕ) (at : ℕ) → IsBytes s → at + 8 ≤ length s → drop at s ≡ le64 (u64_of s at) ++ drop (at + 8) s
 unfolding le64 u64_of
-back64 s at fits room =
-    let same : from_le_bytes w64 (take 8 (drop at s)) ≡ little_number 8 (take 8 (drop at s)) = omega arith in
-    let read : u64_of s at ≡ from_le_bytes w64 (take 8 (drop at s)) = sym (same ∙ little_from-take 0 8 8 (drop at s) (omega arith)) in
-    split 8 at s _ (le_bytes_8 (take 8 (drop at s)) (u64_of s at) (part_len 8 at s room) (IsBytes-part 8 at s fits) read)
+back64 s at fits room = split 8 at s _ (le_bytes_8 _ (u64_of s at) (part_len 8 at s room) (IsBytes-part 8 at s fits) (said w64 8 (drop at s) (omega arith)))
+
+-- one item more, and those behind it
+pub next_back : (size n : ℕ) (s : List ℕ) (at : ℕ) (x xs : List ℕ) → drop at s ≡ x ++ drop (at + size) s → drop (at + size) s ≡ xs ++ drop (at + size + size * n) s
+    → drop at s ≡ (x ++ xs) ++ drop (at + size * suc n) s
+next_back size n s at x xs first rest =
+    let end : at + size + size * n ≡ at + size * suc n = simp unary_clauses (omega arith) in
+    first ∙ ap (λ (r : List ℕ). x ++ r) (rest ∙ ap (λ (m : ℕ). xs ++ drop m s) end) ∙ sym (append_assoc x xs (drop (at + size * suc n) s))
 
 pub back32s : (n : ℕ) (s : List ℕ) (at : ℕ) → IsBytes s → at + 4 * n ≤ length s
     → drop at s ≡ le32s (u32s_of s at n) ++ drop (at + 4 * n) s
 unfolding le32s u32s_of
 back32s zero s at fits room = ap (λ (k : ℕ). drop k s) (omega arith)
-back32s (suc n) s at fits room =
-    let first : drop at s ≡ le32 (u32_of s at) ++ drop (at + 4) s = back32 s at fits (omega arith) in
-    let rest : drop (at + 4) s ≡ le32s (u32s_of s (at + 4) n) ++ drop (at + 4 + 4 * n) s =
-    back32s n s (at + 4) fits (omega arith) in
-    let k : at + 4 + 4 * n ≡ at + 4 * suc n = simp unary_clauses (omega arith) in
-    first ∙ ap (λ (r : List ℕ). le32 (u32_of s at) ++ r) (rest ∙ ap (λ (m : ℕ). le32s (u32s_of s (at + 4) n) ++ drop m s) k)
-    ∙ sym (append_assoc (le32 (u32_of s at)) (le32s (u32s_of s (at + 4) n)) (drop (at + 4 * suc n) s))
+back32s (suc n) s at fits room = next_back 4 n s at _ _ (back32 s at fits (omega arith)) (back32s n s (at + 4) fits (omega arith))
 
 pub are_zero-zeros : (s : List ℕ) → are_zero s ≡ true → s ≡ zeros (length s)
 unfolding are_zero zeros

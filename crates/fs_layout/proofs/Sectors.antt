@@ -1,7 +1,9 @@
 -- What is spelled are bytes, and a sector stays one where bytes are written into it.
-use Rattle.std.proofs.Common.{ℕ, zero, suc, ◌+◌, ◌-◌, ◌<◌, ◌≤◌, List, [], ◌∷◌, ◌++◌, length, take, drop, refl, arith, inl, inr, ◌*◌}
+use Rattle.std.proofs.Common.{ℕ, zero, suc, ◌+◌, ◌-◌, ◌<◌, ◌≤◌, List, [], ◌∷◌, ◌++◌, length, take, drop, refl, arith, inl, inr, ◌*◌, ◌/◌, ◌^◌}
+use Rattle.std.proofs.Math.Nat.{mod-lt}
 use Rattle.std.proofs.lemmas.Bool.{cases_lt}
 use Rattle.std.proofs.lemmas.List.{get_or-append_right, get_or_append_left, get_or-drop, get_or-take, get_or_past, length-append, length-drop, length-take, length-take-le}
+use Rattle.std.specs.Int.{byte_at, bytes_low_first}
 use Rattle.posix_acl.specs.declared.entry.EntryNumbers.{EntryNumbers}
 use Rattle.fs_layout.specs.declared.inode.Inode.{Inode}
 use Rattle.fs_layout.specs.declared.superblock.Super.{Super}
@@ -36,31 +38,26 @@ IsBytes-take n s small i = elim (cases_lt i n) [
 pub IsBytes-drop : (n : ℕ) (s : List ℕ) → IsBytes s → IsBytes (drop n s)
 IsBytes-drop n s small i = rw get_or-drop (small (n + i))
 
+byte_small : (i x : ℕ) → byte_at i x < 256
+byte_small zero x = omega arith
+byte_small (suc i) x = mod-lt (x / 256 ^ suc i) (omega arith)
+
+IsBytes-number : (first n x : ℕ) → IsBytes (bytes_low_first first n x)
+IsBytes-number first zero x i = omega arith
+IsBytes-number first (suc n) x zero = byte_small first x
+IsBytes-number first (suc n) x (suc i) = IsBytes-number (suc first) n x i
+
 pub IsBytes-le16 : (x : ℕ) → IsBytes (le16 x)
 unfolding le16
-IsBytes-le16 x zero = omega arith
-IsBytes-le16 x (suc zero) = omega arith
-IsBytes-le16 x (suc (suc i)) = omega arith
+IsBytes-le16 x = IsBytes-number 0 2 x
 
 pub IsBytes-le32 : (x : ℕ) → IsBytes (le32 x)
 unfolding le32
-IsBytes-le32 x zero = omega arith
-IsBytes-le32 x (suc zero) = omega arith
-IsBytes-le32 x (suc (suc zero)) = omega arith
-IsBytes-le32 x (suc (suc (suc zero))) = omega arith
-IsBytes-le32 x (suc (suc (suc (suc i)))) = omega arith
+IsBytes-le32 x = IsBytes-number 0 4 x
 
 pub IsBytes-le64 : (x : ℕ) → IsBytes (le64 x)
 unfolding le64
-IsBytes-le64 x zero = omega arith
-IsBytes-le64 x (suc zero) = omega arith
-IsBytes-le64 x (suc (suc zero)) = omega arith
-IsBytes-le64 x (suc (suc (suc zero))) = omega arith
-IsBytes-le64 x (suc (suc (suc (suc zero)))) = omega arith
-IsBytes-le64 x (suc (suc (suc (suc (suc zero))))) = omega arith
-IsBytes-le64 x (suc (suc (suc (suc (suc (suc zero)))))) = omega arith
-IsBytes-le64 x (suc (suc (suc (suc (suc (suc (suc zero))))))) = omega arith
-IsBytes-le64 x (suc (suc (suc (suc (suc (suc (suc (suc i)))))))) = omega arith
+IsBytes-le64 x = IsBytes-number 0 8 x
 
 pub IsBytes-zeros : (n : ℕ) → IsBytes (zeros n)
 unfolding zeros
