@@ -10,6 +10,7 @@ use Rattle.fs_layout.proofs.Parts.{Holds-kept, HasNoHole-kept, owns_acl, owns_de
 use Rattle.fs_layout.proofs.KeptParts.{HasNames-kept, HoldsAcl-kept}
 use Rattle.fs_model.specs.Nodes.{Body, File, Dir, Link}
 use Rattle.fs_model.specs.StoredNodes.{Placed, HoldsBody, HoldsNode}
+use Rattle.fs_model.proofs.NodesHeld.{node_held}
 
 body_kept : (version : Version) (old new : SectorMap) (v : Inode) (b : Body) → Keeps old new v → HoldsBody version old v b → HoldsBody version new v b
 body_kept version old new v (File a bytes) keeps h = record {
@@ -35,15 +36,7 @@ body_kept version old new v (Link target) keeps h = record {
 }
 
 pub node_kept : (version : Version) (old new : SectorMap) (v : Inode) (x : Placed) → Keeps old new v → HoldsNode version old v x → HoldsNode version new v x
-node_kept version old new v x keeps h = record {
-  owner = h.owner;
-  group = h.group;
-  stamps = h.stamps;
-  mode = h.mode;
-  names = h.names;
-  parent = h.parent;
-  body = body_kept version old new v x.node.body keeps h.body;
-}
+node_kept version old new v x keeps h = node_held version new v x h.owner h.group h.mode h.names h.parent h.stamps (body_kept version old new v x.node.body keeps h.body)
 
 -- an inode that stays holds what it held, or is free as it was
 pub placed_kept : (version : Version) (o : Option Placed) (old new : SectorMap) (v w : Inode) → w ≡ v → Keeps old new v

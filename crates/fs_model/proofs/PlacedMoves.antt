@@ -23,6 +23,7 @@ use Rattle.fs_model.specs.TreeChanges.{MoveName, changed, swept, lives_nameless}
 use Rattle.fs_model.specs.States.{State, IsState}
 use Rattle.fs_model.specs.StoredNodes.{Placed, HoldsNode, parent_field}
 use Rattle.fs_model.specs.Stands.{HoldsAll, placed, room_of}
+use Rattle.fs_model.proofs.NodesHeld.{node_held}
 use Rattle.fs_model.proofs.PlacedNodes.{same_placed, placing, placing_here, placing_other, placed_once, one_replaced, one_dropped, restated, held_at, placed_from, placed_stays, placed_goes, stays_if, placed_again, node_below}
 use Rattle.fs_model.proofs.Rewrites.{parent-with_node}
 use Rattle.fs_model.proofs.StepsLosing.{LosesNames, gone_empty}
@@ -52,15 +53,8 @@ as_node o x y names up is same = is ∙ ap (λ q. Some (record { node = q; names
 
 -- where what is no directory is named isn't stored
 pub named_anywhere : (version : Version) (image : SectorMap) (v : Inode) (x : Placed) (up : ℕ) → IsFalse (is_directory x.node.body) → HoldsNode version image v x → HoldsNode version image v (record x { parent = up })
-named_anywhere version image v x up other h = record {
-  owner = h.owner;
-  group = h.group;
-  stamps = h.stamps;
-  mode = h.mode;
-  names = h.names;
-  parent = h.parent ∙ go x.node.body other;
-  body = h.body;
-}
+named_anywhere version image v x up other h =
+    node_held version image v (record x { parent = up }) h.owner h.group h.mode h.names (h.parent ∙ go x.node.body other) h.stamps h.body
   where
     go : (b : Body) → IsFalse (is_directory b) → parent_field b x.parent ≡ parent_field b up
     go (File a bytes) other = refl

@@ -12,7 +12,7 @@ use Rattle.fs_model.specs.Trees.{Tree, Room, node_at, with_node, names_for, name
 use Rattle.fs_layout.proofs.FirstEntries.{above, left, right, lower, tied}
 use Rattle.fs_layout.proofs.MapLaws.{get-with_entry, with_entry-IsMap, sum-with_entry, summand}
 use Rattle.fs_layout.proofs.NameMaps.{leading}
-use Rattle.fs_model.proofs.Moves.{body_moves}
+use Rattle.fs_model.proofs.Moves.{body_moves, FitsRoom, fits_room, node_from}
 use Rattle.fs_model.proofs.StepsParents.{names_or, names_at}
 
 -- both bodies have as many names for d, for each d
@@ -105,25 +105,14 @@ rewritten_is_tree room t k old new h was w = record {
         let at : n ≡ k = tied n k c in
         let was_node = h.each k old was in
         let is : new ≡ node = cc in
-        subst (λ v. IsNode room (with_node t k new) n v) is (subst (λ q. IsNode room (with_node t k new) q new) (sym at) (record {
-          positive = was_node.positive;
-          below = was_node.below;
-          owner = w.owner;
-          group = w.group;
-          stamps = w.stamps;
-          body = body_moves room t (with_node t k new) new.body (λ q h. there q ∙ h) w.body;
-          names = fits_moves room k new.body _ _ (names_of-rewritten t k old new h.numbers was w.names k) w.fits;
-          under_root = λ d. under t (with_node t k new) parents (was_node.under_root (sym w.kind ∙ d));
-        }))
+        let fits : FitsRoom room k new.owner new.group new.stamps = record { positive = was_node.positive; below = was_node.below; owner = w.owner; group = w.group; stamps = w.stamps } in
+        subst (λ v. IsNode room (with_node t k new) n v) is (subst (λ q. IsNode room (with_node t k new) q new) (sym at) (
+        node_from room (with_node t k new) k new fits (body_moves room t (with_node t k new) new.body (λ q h. there q ∙ h) w.body)
+        (fits_moves room k new.body _ _ (names_of-rewritten t k old new h.numbers was w.names k) w.fits)
+        (λ d. under t (with_node t k new) parents (was_node.under_root (sym w.kind ∙ d)))
+        ))
     each n node false c e =
         let was_node = h.each n node e in
-        record {
-          positive = was_node.positive;
-          below = was_node.below;
-          owner = was_node.owner;
-          group = was_node.group;
-          stamps = was_node.stamps;
-          body = body_moves room t (with_node t k new) node.body (λ q h. there q ∙ h) was_node.body;
-          names = fits_moves room n node.body _ _ (names_of-rewritten t k old new h.numbers was w.names n) was_node.names;
-          under_root = λ d. under t (with_node t k new) parents (was_node.under_root d);
-        }
+        node_from room (with_node t k new) n node (fits_room was_node) (body_moves room t (with_node t k new) node.body (λ q h. there q ∙ h) was_node.body)
+        (fits_moves room n node.body _ _ (names_of-rewritten t k old new h.numbers was w.names n) was_node.names)
+        (λ d. under t (with_node t k new) parents (was_node.under_root d))

@@ -8,14 +8,14 @@ use Rattle.fs_layout.specs.Directories.{IsName}
 use Rattle.fs_model.specs.Limits.{root}
 use Rattle.fs_layout.specs.Maps.{get, name_cmp, with_entry, IsMap}
 use Rattle.fs_model.specs.Nodes.{Node, Body, File, Dir, Link, is_directory, names_of_body, with_names}
-use Rattle.fs_model.specs.Trees.{Tree, Room, node_at, names_of, parent, NamesFit, IsEntry, IsUnderRoot, is_in, IsNode, IsDirectoryAt, IsTree}
+use Rattle.fs_model.specs.Trees.{Tree, Room, node_at, names_of, parent, NamesFit, IsBody, IsEntry, IsUnderRoot, is_in, IsNode, IsDirectoryAt, IsTree}
 use Rattle.fs_model.proofs.Finds.{IsThere}
 use Rattle.fs_layout.proofs.MapLaws.{with_entry-IsMap}
 use Rattle.fs_layout.proofs.NameMaps.{Names, leading, once_if, once_same, once_other, get-with_name, with_name-IsMap, length-with_name, leading-with_name, tied_names}
 use Rattle.fs_model.proofs.StepsFound.{IsNameAt}
 use Rattle.fs_model.proofs.StepsKinds.{KeepsTypes, types_stay, directory_moves, same_fit}
-use Rattle.fs_model.proofs.Moves.{entry_moves, body_moves}
-use Rattle.fs_model.proofs.StepsNaming.{leading_stays, renamed_node, renamed, at_it, at_others, still_there, names_there, names_elsewhere, names_of-renamed, renamed_keeps_types, types_compose, type_with_names, IsShape, node_from_shape, AreNames, body_renamed, are_names}
+use Rattle.fs_model.proofs.Moves.{entry_moves, body_moves, FitsRoom, fits_room, node_from}
+use Rattle.fs_model.proofs.StepsNaming.{leading_stays, renamed_node, renamed, at_it, at_others, still_there, names_there, names_elsewhere, names_of-renamed, renamed_keeps_types, types_compose, type_with_names, AreNames, body_renamed, are_names}
 use Rattle.fs_model.proofs.StepsParents.{names_at, parent_is, parent_kept, under_all, directory_named, parent_at, under_root}
 
 -- a directory takes a name: it is new there, and there is room
@@ -44,7 +44,8 @@ pub record AddsName (room : Room) (t w : Tree) (dir_ino : ℕ) (directory : Node
   pub types : KeepsTypes t w
   pub takes : TakesNewName room t dir_ino directory name
   pub apart : (d : ℕ) → IsDirectoryAt t d → d ≢ n
-  pub shape : IsShape room t n target
+  pub fits_room : FitsRoom room n target.owner target.group target.stamps
+  pub body : IsBody room t target.body
   pub fits : NamesFit room n target.body (names_of t n + 1)
   pub unnamed : IsTrue (is_directory target.body) → names_of t n ≡ 0
 
@@ -151,50 +152,24 @@ module _ (room : Room) (t w : Tree) (dir_ino : ℕ) (directory : Node) (name : L
 
   -- ---- all nodes
 
-  old_shape : (m : ℕ) (node : Node) → IsNode room t m node → IsShape room u m node
-  old_shape m node was = record {
-    positive = was.positive;
-    below = was.below;
-    owner = was.owner;
-    group = was.group;
-    stamps = was.stamps;
-    body = body_moves room t u node.body there was.body;
-  }
-
   dir_is : IsNode room u dir_ino (renamed_node directory new)
   dir_is =
       let was = is.each dir_ino directory adds.takes.stands in
       let type = type_with_names new directory.body in
-      node_from_shape room u dir_ino (renamed_node directory new)
-      (record {
-        positive = was.positive;
-        below = was.below;
-        owner = was.owner;
-        group = was.group;
-        stamps = was.stamps;
-        body = body_renamed room t u directory.body new adds.takes.is_dir are_new was.body;
-      })
+      node_from room u dir_ino (renamed_node directory new) (fits_room was) (body_renamed room t u directory.body new adds.takes.is_dir are_new was.body)
       (same_fit room dir_ino (names_of u dir_ino) (with_names new directory.body) directory.body type (subst (NamesFit room dir_ino directory.body) (sym (count_other dir_ino dir_apart)) was.names))
       (λ d. climbs dir_ino (record { node = directory; is_there = adds.takes.stands; directory = adds.takes.is_dir }))
 
   target_is : IsNode room u n target
   target_is =
-      node_from_shape room u n target
-      (record {
-        positive = adds.shape.positive;
-        below = adds.shape.below;
-        owner = adds.shape.owner;
-        group = adds.shape.group;
-        stamps = adds.shape.stamps;
-        body = body_moves room t u target.body there adds.shape.body;
-      })
+      node_from room u n target adds.fits_room (body_moves room t u target.body there adds.body)
       (let all = count n in let one = once_same n n refl in let same : names_of t n + 1 ≡ names_of u n = omega (arith, all, one) in subst (NamesFit room n target.body) same adds.fits)
       new_climbs
 
   other_is : (m : ℕ) (node : Node) → m ≢ n → node_at t m ≡ Some node → IsNode room u m node
   other_is m node ne at =
       let was = is.each m node at in
-      node_from_shape room u m node (old_shape m node was) (subst (NamesFit room m node.body) (sym (count_other m ne)) was.names)
+      node_from room u m node (fits_room was) (body_moves room t u node.body there was.body) (subst (NamesFit room m node.body) (sym (count_other m ne)) was.names)
       (λ d. climbs m (record { node = node; is_there = at; directory = d }))
 
   node_is : (m : ℕ) (node : Node) → node_at u m ≡ Some node → IsNode room u m node
@@ -248,7 +223,8 @@ gives_name room t dir_ino directory name n target is gives =
       types = types_stay t;
       takes = gives.takes;
       apart = apart;
-      shape = record { positive = node.positive; below = node.below; owner = node.owner; group = node.group; body = node.body; stamps = node.stamps };
+      fits_room = fits_room node;
+      body = node.body;
       fits = one_name_more room n target.body (names_of t n) gives.no_directory gives.few;
       unnamed = λ d. absurd (let other = gives.no_directory in cc);
     }

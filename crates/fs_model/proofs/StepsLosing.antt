@@ -13,7 +13,7 @@ use Rattle.fs_model.specs.Processes.{ProcessTable, Process, is_in_use}
 use Rattle.fs_model.specs.TreeChanges.{lives_nameless}
 use Rattle.fs_model.specs.States.{IsProcess}
 use Rattle.fs_model.proofs.StepsKinds.{KeepsTypes, same_directory, same_fit, directory_moves, process_moves}
-use Rattle.fs_model.proofs.StepsNaming.{node_from_shape}
+use Rattle.fs_model.proofs.Moves.{node_from}
 use Rattle.fs_model.proofs.StepsParents.{names_or, names_at, directory_named}
 use Rattle.fs_model.proofs.StepsSwept.{MayBeLeft}
 use Rattle.fs_model.proofs.Swept.{stays}
@@ -99,8 +99,8 @@ module _ (room : Room) (t u : Tree) (processes : ProcessTable) (lost : ℕ → �
       let old = is.each n s.old s.was in
       let owner : node.owner < 2 ^ 32 = (let e = s.owner in let small = old.owner in omega (arith, e, small)) in
       let group : node.group < 2 ^ 32 = (let e = s.group in let small = old.group in omega (arith, e, small)) in
-      node_from_shape room u n node
-      (record { positive = old.positive; below = old.below; owner = owner; group = group; body = s.body; stamps = stamps_move room.keeps_times s.old.stamps node.stamps s.stamps old.stamps })
+      node_from room u n node
+      (record { positive = old.positive; below = old.below; owner = owner; group = group; stamps = stamps_move room.keeps_times s.old.stamps node.stamps s.stamps old.stamps }) s.body
       (fits s (same_fit room n (names_of t n) node.body s.old.body s.same old.names))
       (λ d. h.under n (was_directory n node s d) (lost_none n node (was_directory n node s d) d stay))
     where

@@ -148,7 +148,8 @@ module _ (room : Room) (some : 1 ≤ room.names_limit) (t : Tree) (dir_ino : ℕ
         types = types_same;
         takes = takes;
         apart = apart_from;
-        shape = record { positive = positive; below = below; owner = newborn.owner; group = newborn.group; body = newborn.body; stamps = newborn.stamps };
+        fits_room = record { positive = positive; below = below; owner = newborn.owner; group = newborn.group; stamps = newborn.stamps };
+        body = newborn.body;
         fits =
             let one : 1 ≡ names_of t n + 1 = omega (arith, nameless) in
             subst (NamesFit room n new.body) one (first_fits room some n new.body (λ e. apart_from root is.root_is_there (sym e)));

@@ -7,8 +7,8 @@ use Rattle.fs_layout.specs.Bytes.{IsBytes}
 use Rattle.fs_layout.specs.Directories.{IsName}
 use Rattle.fs_model.specs.Limits.{root}
 use Rattle.fs_layout.specs.Maps.{get, name_cmp, with_entry, without, IsMap}
-use Rattle.fs_model.specs.Nodes.{Node, is_directory, names_of_body, with_names}
-use Rattle.fs_model.specs.Trees.{Tree, Room, node_at, names_of, parent, lookup, lookup_in, IsEntry, IsUnderRoot, is_in, IsDirectoryAt, IsTree}
+use Rattle.fs_model.specs.Nodes.{Node, Body, is_directory, names_of_body, with_names, type_of}
+use Rattle.fs_model.specs.Trees.{Tree, Room, node_at, names_of, parent, lookup, lookup_in, IsBody, IsEntry, IsUnderRoot, is_in, IsDirectoryAt, IsTree}
 use Rattle.fs_model.specs.Processes.{ProcessTable, is_in_use}
 use Rattle.fs_model.specs.TreeChanges.{MoveName, with_names_at, named, unnamed, changed}
 use Rattle.fs_model.proofs.Finds.{IsThere}
@@ -38,6 +38,11 @@ pub record MovesName (room : Room) (t : Tree) (processes : ProcessTable) (dir_in
   pub empty : (m : ℕ) → o ≡ Some m → IsDirectoryAt t m → names_at t m ≡ []
   pub unused : (m : ℕ) → o ≡ Some m → IsDirectoryAt t m → is_in_use processes m ≡ false
   pub outside : IsDirectoryAt t n → IsOutside t n to_dir_ino
+
+-- what stood there stands in another tree, with a body of the same type
+stood_with : {room : Room} {t u v : Tree} {n : ℕ} {node : Node} (s : Stood room t u n node) (b : Body) → type_of b ≡ type_of node.body → IsBody room v b
+    → Stood room t v n (record node { body = b })
+stood_with s b type body = record { old = s.old; was = s.was; same = type ∙ s.same; owner = s.owner; group = s.group; stamps = s.stamps; body = body }
 
 -- the directory to which it goes, once the name is taken: as it was, or without the name
 pub record Between (room : Room) (t v : Tree) (to_dir_ino : ℕ) (to_name : List ℕ) (o : Option ℕ) : Type 0 where
@@ -202,26 +207,11 @@ module _ (room : Room) (t : Tree) (processes : ProcessTable) (dir_ino : ℕ) (di
     | inl e ↦
         let here : node_at moved q ≡ Some (renamed_node between.node new) = ap (node_at moved) e ∙ at_it v to_dir_ino (renamed_node between.node new) in
         let same : renamed_node between.node new ≡ node = cc in
-        subst (Stood room t moved q) same (record {
-          old = between.stood.old;
-          was = ap (node_at t) e ∙ between.stood.was;
-          same = type_with_names new between.node.body ∙ between.stood.same;
-          owner = between.stood.owner;
-          group = between.stood.group;
-          stamps = between.stood.stamps;
-          body = body_renamed room t moved between.node.body new between.directory are_new between.stood.body;
-        })
+        let stands = stood_with between.stood (with_names new between.node.body) (type_with_names new between.node.body) (body_renamed room t moved between.node.body new between.directory are_new between.stood.body) in
+        subst (Stood room t moved q) same (subst (λ k. Stood room t moved k (renamed_node between.node new)) (sym e) stands)
     | inr ne ↦
         let s = v_stood q node (sym (at_others v to_dir_ino (renamed_node between.node new) q ne) ∙ at) in
-        record {
-          old = s.old;
-          was = s.was;
-          same = s.same;
-          owner = s.owner;
-          group = s.group;
-          stamps = s.stamps;
-          body = body_moves room t moved node.body there s.body;
-        }
+        stood_with s node.body refl (body_moves room t moved node.body there s.body)
   ]
 
   -- ---- names that stay

@@ -1,11 +1,11 @@
 -- A directory with other names in it.
-use Rattle.std.specs.Prelude.{◌≡◌, ◌≢◌, ℕ, ◌+◌, ◌^◌, ◌<◌, ◌≤◌, cond, List, length, Some, is_some, IsTrue}
+use Rattle.std.specs.Prelude.{◌≡◌, ◌≢◌, ℕ, ◌+◌, ◌≤◌, cond, List, length, Some, is_some, IsTrue}
 use Rattle.std.proofs.Common.{refl, sym, ap, subst, arith, ◌∙◌, inl, inr}
 use Rattle.std.proofs.lemmas.Bool.{cases_eq}
 use Rattle.std.specs.Ordering.{nat_cmp}
 use Rattle.fs_layout.specs.Maps.{get, name_cmp, IsMap}
 use Rattle.fs_model.specs.Nodes.{Node, Body, File, Dir, Link, is_directory, names_of_body, with_names, type_of}
-use Rattle.fs_model.specs.Trees.{Tree, Room, node_at, with_node, names_for, names_of, NamesFit, IsEntry, IsBody, IsUnderRoot, IsNode, AreStamps}
+use Rattle.fs_model.specs.Trees.{Tree, Room, node_at, with_node, names_for, names_of, IsEntry, IsBody}
 use Rattle.fs_layout.proofs.FirstEntries.{ties, apart}
 use Rattle.fs_model.proofs.Finds.{IsThere}
 use Rattle.fs_layout.proofs.MapLaws.{get-with_entry, sum-with_entry, summand}
@@ -80,27 +80,6 @@ types_compose t u v first second n node at =
     record { node = b.node; is_there = b.is_there; same = b.same ∙ a.same }
 
 -- ---- a node, whoever names it
-
-pub record IsShape (room : Room) (u : Tree) (n : ℕ) (node : Node) : Type 0 where
-  pub positive : 1 ≤ n
-  pub below : n < room.inodes
-  pub owner : node.owner < 2 ^ 32
-  pub group : node.group < 2 ^ 32
-  pub body : IsBody room u node.body
-  pub stamps : AreStamps room.keeps_times node.stamps
-
-pub node_from_shape : (room : Room) (u : Tree) (n : ℕ) (node : Node) → IsShape room u n node → NamesFit room n node.body (names_of u n)
-    → (IsTrue (is_directory node.body) → IsUnderRoot u n) → IsNode room u n node
-node_from_shape room u n node shape names under = record {
-  positive = shape.positive;
-  below = shape.below;
-  owner = shape.owner;
-  group = shape.group;
-  body = shape.body;
-  stamps = shape.stamps;
-  names = names;
-  under_root = under;
-}
 
 -- what a directory may have for names
 pub record AreNames (room : Room) (u : Tree) (names : Names) : Type 0 where

@@ -14,6 +14,7 @@ use Rattle.fs_model.specs.Trees.{Tree, Room, node_at, names_for, names_of, paren
 use Rattle.fs_model.specs.Processes.{ProcessTable}
 use Rattle.fs_model.specs.TreeChanges.{swept, pruned, lives_nameless}
 use Rattle.fs_layout.proofs.FirstEntries.{above, left, right, tied, at_other, at_same, in_rest}
+use Rattle.fs_model.proofs.Moves.{fits_room, node_from}
 use Rattle.fs_model.proofs.Rewrites.{under}
 
 module _ {X : Type 0} (keeps : ℕ × X → Bool) where
@@ -194,16 +195,9 @@ module _ (room : Room) (t : Tree) (processes : ProcessTable) (h : MayBeSwept roo
     each = λ n node e.
         let was = kept_from n node (node_at t n) refl (sym (get-filter (stays t processes) t h.numbers n) ∙ e) in
         let old = h.each n node was.0 was.1 in
-        record {
-          positive = old.positive;
-          below = old.below;
-          owner = old.owner;
-          group = old.group;
-          stamps = old.stamps;
-          body = body-swept n node was.0 node.body refl old.body;
-          names = subst (NamesFit room n node.body) (sym (names_of-filter (stays t processes) t h.numbers h.gone n)) old.names;
-          under_root = λ d. under t (swept t processes) (parent-filter (stays t processes) t h.numbers h.gone) (old.under_root d);
-        };
+        node_from room (swept t processes) n node (fits_room old) (body-swept n node was.0 node.body refl old.body)
+        (subst (NamesFit room n node.body) (sym (names_of-filter (stays t processes) t h.numbers h.gone n)) old.names)
+        (λ d. under t (swept t processes) (parent-filter (stays t processes) t h.numbers h.gone) (old.under_root d));
   }
 
 -- nothing that is nameless in a tree, but for the root, has names in it

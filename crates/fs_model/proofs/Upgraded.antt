@@ -34,17 +34,7 @@ use Rattle.fs_model.proofs.VersionLimits.{HasSameNames, HasSameRange, same_names
 -- ---- the geometry
 
 abbrev in_version : Version → Geometry → Geometry
-in_version version p =
-    record {
-      version = version;
-      sectors = p.sectors;
-      inodes = p.inodes;
-      header = p.header;
-      inode_bitmap = p.inode_bitmap;
-      block_bitmap = p.block_bitmap;
-      table = p.table;
-      first_data = p.first_data;
-    }
+in_version version p = record p { version = version }
 
 abbrev some_unless : Bool → Bool → Bool → Geometry → Option Geometry
 some_unless a b c p = if a then None else (if b then None else (if c then None else Some p))
