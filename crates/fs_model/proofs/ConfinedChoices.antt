@@ -214,14 +214,7 @@ no_pid : (pid : ℕ) (s : State) (e : Event) → IsOf pid e → (k : ℕ) → Ha
 no_pid pid s (Calls by call) of k = tt
 no_pid pid s (Fsync by fd) of k = tt
 no_pid pid s (Exit by) of k = tt
-no_pid pid s (Spawn cred) of k = absurd of
-no_pid pid s (Enter by directory second) of k = absurd of
-no_pid pid s (Stamp n atime mtime ctime) of k = absurd of
-no_pid pid s (Clock time) of k = absurd of
-no_pid pid s Sync of k = absurd of
-no_pid pid s Statfs of k = absurd of
-no_pid pid s (Arm a) of k = absurd of
-no_pid pid s (Restart bytes arm) of k = absurd of
+no_pid pid s _ of k = absurd of
 
 module _ (pid : ℕ) (p : Process) (s t s' t' : State) (c d : Choice) (reply reply' : Reply) (is : IsState s) (js : IsState t)
     (here : get nat_cmp s.processes pid ≡ Some p) (plain : IsConfined p.cred) (alike : AreAlike pid s t)

@@ -76,14 +76,7 @@ unfolding firm_refusal
 gone_firm pid s (Calls by call) of none = ap (demand_of _) (subst (λ q. get nat_cmp s.processes q ≡ None) (sym of) none)
 gone_firm pid s (Fsync by fd) of none = ap (demand_of _) (subst (λ q. get nat_cmp s.processes q ≡ None) (sym of) none)
 gone_firm pid s (Exit by) of none = ap (demand_of _) (subst (λ q. get nat_cmp s.processes q ≡ None) (sym of) none)
-gone_firm pid s (Spawn cred) of none = absurd of
-gone_firm pid s (Enter by directory second) of none = absurd of
-gone_firm pid s (Stamp n atime mtime ctime) of none = absurd of
-gone_firm pid s (Clock time) of none = absurd of
-gone_firm pid s Sync of none = absurd of
-gone_firm pid s Statfs of none = absurd of
-gone_firm pid s (Arm k) of none = absurd of
-gone_firm pid s (Restart bytes arm) of none = absurd of
+gone_firm pid s _ of none = absurd of
 
 gone_step : (pid : ℕ) (s s' : State) (e : Event) (choice : Choice) (reply : Reply) → IsOf pid e → get nat_cmp s.processes pid ≡ None
     → StepBy choice s e reply s' → (reply ≡ Refused (Failed ESRCH)) × (s' ≡ s)

@@ -1,5 +1,5 @@
 -- A node that is rewritten, its kind and names staying.
-use Rattle.std.specs.Prelude.{◌≡◌, ℕ, ◌^◌, ◌<◌, ◌==◌, nat_lt, Bool, true, false, cond, [], ◌∷◌, Option, None, Some, is_some, count_by, if◌then◌else◌}
+use Rattle.std.specs.Prelude.{◌≡◌, ℕ, ◌<◌, ◌==◌, nat_lt, Bool, true, false, cond, [], ◌∷◌, Option, None, Some, is_some, count_by, if◌then◌else◌}
 use Rattle.std.proofs.Common.{refl, sym, ap, arith, ◌∙◌, subst}
 use Rattle.std.specs.declared.cmp.Ordering.{Ordering}
 use Rattle.std.specs.declared.cmp.Ordering.TheVariants.{Less, Equal, Greater}
@@ -8,7 +8,7 @@ use Rattle.std.specs.FinMap.Entries.{by_order}
 use Rattle.fs_model.specs.Limits.{root}
 use Rattle.fs_layout.specs.Maps.{get, IsMap}
 use Rattle.fs_model.specs.Nodes.{Node, Body, names_of_body, is_directory}
-use Rattle.fs_model.specs.Trees.{Tree, Room, node_at, with_node, names_for, names_of, parent, IsBody, NamesFit, AreStamps, IsUnderRoot, is_root, is_in, IsNode, IsTree, IsDirectoryAt}
+use Rattle.fs_model.specs.Trees.{Tree, Room, node_at, with_node, names_for, names_of, parent, IsBody, NamesFit, IsUnderRoot, is_root, is_in, IsNode, IsTree, IsDirectoryAt}
 use Rattle.fs_layout.proofs.FirstEntries.{above, left, right, lower, tied}
 use Rattle.fs_layout.proofs.MapLaws.{get-with_entry, with_entry-IsMap, sum-with_entry, summand}
 use Rattle.fs_layout.proofs.NameMaps.{leading}
@@ -63,10 +63,8 @@ fits_moves room n b names names' e h = subst (NamesFit room n b) (sym e) h
 pub record MayStandFor (room : Room) (t : Tree) (k : ℕ) (old new : Node) : Type 0 where
   pub names : names_of_body new.body ≡ names_of_body old.body
   pub kind : is_directory new.body ≡ is_directory old.body
-  pub owner : new.owner < 2 ^ 32
-  pub group : new.group < 2 ^ 32
+  pub fits_room : FitsRoom room k new.owner new.group new.stamps
   pub body : IsBody room t new.body
-  pub stamps : AreStamps room.keeps_times new.stamps
   pub fits : NamesFit room k new.body (names_of t k)
 
 pub rewritten_is_tree : (room : Room) (t : Tree) (k : ℕ) (old new : Node) → IsTree room t → node_at t k ≡ Some old → MayStandFor room t k old new → IsTree room (with_node t k new)
@@ -105,9 +103,8 @@ rewritten_is_tree room t k old new h was w = record {
         let at : n ≡ k = tied n k c in
         let was_node = h.each k old was in
         let is : new ≡ node = cc in
-        let fits : FitsRoom room k new.owner new.group new.stamps = record { positive = was_node.positive; below = was_node.below; owner = w.owner; group = w.group; stamps = w.stamps } in
         subst (λ v. IsNode room (with_node t k new) n v) is (subst (λ q. IsNode room (with_node t k new) q new) (sym at) (
-        node_from room (with_node t k new) k new fits (body_moves room t (with_node t k new) new.body (λ q h. there q ∙ h) w.body)
+        node_from room (with_node t k new) k new w.fits_room (body_moves room t (with_node t k new) new.body (λ q h. there q ∙ h) w.body)
         (fits_moves room k new.body _ _ (names_of-rewritten t k old new h.numbers was w.names k) w.fits)
         (λ d. under t (with_node t k new) parents (was_node.under_root (sym w.kind ∙ d)))
         ))

@@ -51,15 +51,19 @@ pub two_groups : then_replies (
 unfolding verdict trail_of first_refusal found_of row_of firm_refusal other_refusal after
 two_groups = refl
 
-abbrev with_mask : ℕ → AccessList
-with_mask mask = record {
-  owner = perms_of 6;
-  users = (1001, perms_of 6) ∷ [];
-  group = perms_of 4;
+-- a list with an entry of user 1001 and a mask, by digits
+abbrev masked : ℕ → ℕ → ℕ → ℕ → ℕ → AccessList
+masked owner user group mask other = record {
+  owner = perms_of owner;
+  users = (1001, perms_of user) ∷ [];
+  group = perms_of group;
   groups = [];
   mask = Some (perms_of mask);
-  other = perms_of 0;
+  other = perms_of other;
 }
+
+abbrev with_mask : ℕ → AccessList
+with_mask mask = masked 6 6 4 mask 0
 
 -- the mask refuses a named user, and chmod changes the mask
 pub the_mask : then_replies (
@@ -70,14 +74,7 @@ unfolding verdict trail_of first_refusal found_of row_of firm_refusal other_refu
 the_mask = refl
 
 abbrev handed_down : ℕ → ℕ → AccessList
-handed_down owner mask = record {
-  owner = perms_of owner;
-  users = (1001, perms_of 7) ∷ [];
-  group = perms_of 5;
-  groups = [];
-  mask = Some (perms_of mask);
-  other = perms_of 0;
-}
+handed_down owner mask = masked owner 7 5 mask 0
 
 -- a default ACL is handed down, cut by the mode and not by the umask
 pub default_acls : then_replies (

@@ -397,22 +397,31 @@ sum_more n ns = sum_by-cons (λ (k : ℕ). k) n ns
 sum_one : (n : ℕ) → sum (n ∷ []) ≡ n
 sum_one n = sum_more n [] ∙ omega arith
 
+-- a run of no more bytes than there may be, of which the first part has so many
+record Numbers (most : ℕ) (others : List ℕ) : Type 0 where
+  parts : sum (most ∷ others) ≡ most + sum others
+  few : most + sum others ≤ run_limit
+  less : most ≤ run_limit
+  fewer : sum others ≤ run_limit
+
+numbers_of : (most : ℕ) (others : List ℕ) → sum (most ∷ others) ≤ run_limit → Numbers most others
+numbers_of most others small =
+    let parts = sum_more most others in
+    record { parts = parts; few = omega (arith, small, parts); less = omega (arith, small, parts); fewer = omega (arith, small, parts) }
+
 module _ (pid fd : ℕ) where
   parted : (others : List ℕ) (most : ℕ) (bytes : List ℕ) (old new : State) → IsState old → sum (most ∷ others) ≤ run_limit
       → Answers old (Calls pid (Read fd (sum (most ∷ others)))) (Data bytes) new → ReadsInTurn pid fd old most others bytes new
   parted [] most bytes old new is small step = (refl, subst (λ (n : ℕ). Answers old (Calls pid (Read fd n)) (Data bytes) new) (sum_one most) step)
   parted (next ∷ others) most bytes old new is small step =
       let total = sum (next ∷ others) in
-      let parts : sum (most ∷ next ∷ others) ≡ most + total = sum_more most (next ∷ others) in
-      let few : most + total ≤ run_limit = omega (arith, small, parts) in
-      let less : most ≤ run_limit = omega (arith, few) in
-      let fewer : total ≤ run_limit = omega (arith, few) in
-      let r = answered_reads pid fd old new is (most + total) bytes few
-      (subst (λ (n : ℕ). Answers old (Calls pid (Read fd n)) (Data bytes) new) parts step) in
+      let sizes = numbers_of most (next ∷ others) small in
+      let r = answered_reads pid fd old new is (most + total) bytes sizes.few
+      (subst (λ (n : ℕ). Answers old (Calls pid (Read fd n)) (Data bytes) new) sizes.parts step) in
       let l = take most (behind fd old r.process) in
       let u = moved pid fd old r.process (length l) new.free in
       let one = first_reads pid fd old new is most total bytes r in
-      let stepped : Step old (Calls pid (Read fd most)) (Data l) u = (refl, reads_answer pid fd old u is most l less one) in
+      let stepped : Step old (Calls pid (Read fd most)) (Data l) u = (refl, reads_answer pid fd old u is most l sizes.less one) in
       elim (is_short most (behind fd old r.process)) [
         | inl short ↦
             let all = short_is pid fd old new is most total bytes r short in
@@ -420,13 +429,13 @@ module _ (pid fd : ℕ) where
         | inr full ↦
             let back = take total (drop most (behind fd old r.process)) in
             let two = rest_reads pid fd old new is most total bytes r full in
-            let mid_is = read_is_state pid fd old u is most l less one in (
+            let mid_is = read_is_state pid fd old u is most l sizes.less one in (
               u,
               l,
               back,
               stepped,
               full_is pid fd old new is most total bytes r,
-              inr (full, parted others next back u new mid_is fewer (reads_answer pid fd u new mid_is total back fewer two)),
+              inr (full, parted others next back u new mid_is sizes.fewer (reads_answer pid fd u new mid_is total back sizes.fewer two)),
             )
       ]
 
@@ -435,25 +444,22 @@ module _ (pid fd : ℕ) where
   turned [] most bytes old new is small step = subst (λ (n : ℕ). Answers old (Calls pid (Read fd n)) (Data bytes) new) (sym (sum_one most)) step.1
   turned (next ∷ others) most bytes old new is small turn =
       let total = sum (next ∷ others) in
-      let parts : sum (most ∷ next ∷ others) ≡ most + total = sum_more most (next ∷ others) in
-      let few : most + total ≤ run_limit = omega (arith, small, parts) in
-      let less : most ≤ run_limit = omega (arith, few) in
-      let fewer : total ≤ run_limit = omega (arith, few) in
+      let sizes = numbers_of most (next ∷ others) small in
       let u = turn.0 in
       let front = turn.1 in
       let back = turn.2 in
-      let one = answered_reads pid fd old u is most front less turn.3.1 in
+      let one = answered_reads pid fd old u is most front sizes.less turn.3.1 in
       let whole : (l : List ℕ) → bytes ≡ l → Reads pid fd (most + total) old l new → Answers old (Calls pid (Read fd (sum (most ∷ next ∷ others)))) (Data bytes) new = λ l same r.
-      subst (λ (n : ℕ). Answers old (Calls pid (Read fd n)) (Data bytes) new) (sym parts)
+      subst (λ (n : ℕ). Answers old (Calls pid (Read fd n)) (Data bytes) new) (sym sizes.parts)
       (subst (λ (k : List ℕ). Answers old (Calls pid (Read fd (most + total))) (Data k) new) (sym same)
-      (reads_answer pid fd old new is (most + total) l few r)) in
+      (reads_answer pid fd old new is (most + total) l sizes.few r)) in
       elim turn.5 [
         | inl last ↦
             whole front (turn.4 ∙ ap (λ (l : List ℕ). front ++ l) last.1 ∙ append-nil front)
             (short_reads pid fd old new is most total front (subst (λ (v : State). Reads pid fd most old front v) (sym last.2) one) last.0)
         | inr more ↦
-            let mid_is = read_is_state pid fd old u is most front less one in
-            let two = answered_reads pid fd u new mid_is total back fewer (turned others next back u new mid_is fewer more.1) in
+            let mid_is = read_is_state pid fd old u is most front sizes.less one in
+            let two = answered_reads pid fd u new mid_is total back sizes.fewer (turned others next back u new mid_is sizes.fewer more.1) in
             whole (front ++ back) turn.4
             (both_read pid fd old new is most total front back one.process u.free one.is more.0
             (subst (λ (v : State). Reads pid fd total v back new) one.left two))

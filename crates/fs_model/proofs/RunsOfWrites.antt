@@ -440,23 +440,29 @@ module _ (pid fd : ℕ) (s new : State) (is : IsState s) (a b : List ℕ) (count
       let less : free_for (length a) ≤ free_for (length (a ++ b)) = free_for_fewer (length a) (length (a ++ b)) (omega (arith, length-append a b)) in
       enough_left (free_for (length a)) s.free (omega (arith, less, had))
 
+  -- so many bytes of the first part
+  front : (k free : ℕ) → k ≡ count_at fd a s w.process → MayBeFree s.room (tree_with fd s w.process (offset_of fd s w.process) (take k a)) free
+      → IsWrite pid fd s w.process a k free
+  front k free counted may_be = record {
+    runs = w.is.runs;
+    here = w.is.here;
+    early = w.is.early;
+    some = some;
+    below = w.is.below;
+    enough = enough_first;
+    are = bytes_front a b w.is.are;
+    counted = counted;
+    may_be = may_be;
+  }
+
   -- where the second part is not come to
   first_writes : count ≤ length a → Writes pid fd s a count new
   first_writes few =
       let same : take count (a ++ b) ≡ take count a = take-append-le count a b few in
       record {
         process = w.process;
-        is = record {
-          runs = w.is.runs;
-          here = w.is.here;
-          early = w.is.early;
-          some = some;
-          below = w.is.below;
-          enough = enough_first;
-          are = bytes_front a b w.is.are;
-          counted = count_first (length a) (length b) write_limit (s.room.file_limit - offset_of fd s w.process) count counted_both few;
-          may_be = subst (λ (l : List ℕ). MayBeFree s.room (tree_with fd s w.process (offset_of fd s w.process) l) new.free) same w.is.may_be;
-        };
+        is = front count new.free (count_first (length a) (length b) write_limit (s.room.file_limit - offset_of fd s w.process) count counted_both few)
+            (subst (λ (l : List ℕ). MayBeFree s.room (tree_with fd s w.process (offset_of fd s w.process) l) new.free) same w.is.may_be);
         left = w.left ∙ ap (λ (l : List ℕ). wrote pid fd s w.process (offset_of fd s w.process) l count new.free) same;
       }
 
@@ -471,17 +477,8 @@ module _ (pid fd : ℕ) (s new : State) (is : IsState s) (a b : List ℕ) (count
     front_writes : Writes pid fd s a (length a) between
     front_writes = record {
       process = w.process;
-      is = record {
-        runs = w.is.runs;
-        here = w.is.here;
-        early = w.is.early;
-        some = some;
-        below = w.is.below;
-        enough = enough_first;
-        are = bytes_front a b w.is.are;
-        counted = count_whole (length a) (length b) k write_limit (s.room.file_limit - offset_of fd s w.process) counted_more;
-        may_be = record { least = omega arith; most = omega arith };
-      };
+      is = front (length a) s.room.sectors (count_whole (length a) (length b) k write_limit (s.room.file_limit - offset_of fd s w.process) counted_more)
+          (record { least = omega arith; most = omega arith });
       left = ap (λ (l : List ℕ). wrote pid fd s w.process (offset_of fd s w.process) l (length a) s.room.sectors) (sym (take_all (length a) a (omega arith)));
     }
 

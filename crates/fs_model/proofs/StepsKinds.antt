@@ -105,14 +105,13 @@ pub record MayReplace (room : Room) (t : Tree) (old new : Node) : Type 0 where
 pub replaced_is_tree : (room : Room) (t : Tree) (n : ℕ) (old new : Node) → IsTree room t → node_at t n ≡ Some old → MayReplace room t old new
     → IsTree room (with_node t n new)
 replaced_is_tree room t n old new is was may =
+    let stood = is.each n old was in
     rewritten_is_tree room t n old new is was (record {
       names = may.names;
       kind = same_directory new.body old.body may.same;
-      owner = may.owner;
-      group = may.group;
+      fits_room = record { positive = stood.positive; below = stood.below; owner = may.owner; group = may.group; stamps = may.stamps };
       body = may.body;
-      stamps = may.stamps;
-      fits = same_fit room n (names_of t n) new.body old.body may.same (is.each n old was).names;
+      fits = same_fit room n (names_of t n) new.body old.body may.same stood.names;
     })
 
 pub replaced_keeps_types : (t : Tree) (n : ℕ) (old new : Node) → node_at t n ≡ Some old → type_of new.body ≡ type_of old.body

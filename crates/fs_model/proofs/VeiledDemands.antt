@@ -88,19 +88,10 @@ module _ (c : Scene) where
   own = let a = owner_at (found_ino c.first) in cc
 
   pub unlink_asks : unlink_demands v ≡ unlink_demands c
-  unlink_asks =
-      let a = is_directory_at (found_ino c.first) in
-      let b = dir_ino c.first 1 in
-      let d = sticky c.first 1 in
-      cc
+  unlink_asks = cc (is_directory_at (found_ino c.first), dir_ino c.first 1, sticky c.first 1)
 
   pub link_asks : link_demands v ≡ link_demands c
-  link_asks =
-      let a = is_directory_at (found_ino c.first) in
-      let b = dir_ino c.second 2 in
-      let d = names_of-veil c.state.tree (found_ino c.first) in
-      let e = full c.second in
-      cc
+  link_asks = cc (is_directory_at (found_ino c.first), dir_ino c.second 2, names_of-veil c.state.tree (found_ino c.first), full c.second)
 
   pub symlink_asks : symlink_demands v ≡ symlink_demands c
   symlink_asks = let a = dir_ino c.first 1 in let b = space in cc
@@ -109,12 +100,7 @@ module _ (c : Scene) where
   readlink_asks = let a = link_at (found_ino c.first) in cc
 
   pub rmdir_asks : rmdir_demands v ≡ rmdir_demands c
-  rmdir_asks =
-      let a = is_directory_at (found_ino c.first) in
-      let b = dir_ino c.first 1 in
-      let d = sticky c.first 1 in
-      let e = names_at (found_ino c.first) in
-      cc
+  rmdir_asks = cc (is_directory_at (found_ino c.first), dir_ino c.first 1, sticky c.first 1, names_at (found_ino c.first))
 
   pub access_asks : (want : Perms) → access_demands want v ≡ access_demands want c
   access_asks want = let a = end c.first 1 want in cc
