@@ -8,7 +8,8 @@ use Rattle.std.proofs.lemmas.Nat.Bits.{bit_at_ones, bit_at_ones_above, bit_at-ze
 use Rattle.fs_layout.specs.declared.geometry.Geometry.{Geometry}
 use Rattle.fs_layout.specs.Bytes.{SectorMap, IsBytes, IsSector, zeros}
 use Rattle.fs_layout.specs.declared.version.Version.TheVariants.{Two}
-use Rattle.fs_layout.specs.Geometry.{IsGeometry, laid_out}
+use Rattle.fs_layout.specs.Geometry.{IsGeometry, laid_out, allows_header, geometry_in}
+use Rattle.fs_layout.proofs.Places.{is_a_geometry}
 use Rattle.fs_layout.specs.Images.{bit, free_sectors, inode_at}
 use Rattle.fs_layout.specs.Ownership.{IsConsistent}
 use Rattle.fs_layout.proofs.SplicedBytes.{get_or-zeros, IsSector-zeros}
@@ -152,20 +153,8 @@ pub small_disk : Geometry
 small_disk = laid_out Two 1024 64
 
 small_disk_is_geometry : IsGeometry small_disk
-unfolding small_disk
-small_disk_is_geometry = record {
-  least_sectors = omega arith;
-  most_sectors = omega arith;
-  least_inodes = omega arith;
-  most_inodes = omega arith;
-  header = omega arith;
-  log = refl;
-  inode_bits = omega arith;
-  bits = omega arith;
-  slots = omega arith;
-  room = omega arith;
-  data_sectors = omega arith;
-}
+unfolding small_disk geometry_in allows_header
+small_disk_is_geometry = is_a_geometry Two 0 1024 64 refl
 
 -- the image of a new disk is consistent
 pub fresh_is_consistent : IsConsistent small_disk fresh

@@ -12,7 +12,8 @@ use Rattle.fs_layout.proofs.Sectors.{IsBytes-append, IsBytes-take, IsBytes-drop}
 use Rattle.fs_model.specs.declared.call.AclType.{AclType}
 use Rattle.fs_model.specs.declared.call.AclType.TheVariants.{Access, Default}
 use Rattle.fs_model.specs.Nodes.{Node, Body, File, Dir, Link, Directory, names_of_body, bytes_in, type_of, with_bytes}
-use Rattle.fs_model.specs.Trees.{Tree, Room, IsBody, IsDirectory, IsNode}
+use Rattle.fs_model.specs.declared.reply.Stamps.{Stamps}
+use Rattle.fs_model.specs.Trees.{Tree, Room, IsBody, IsDirectory, IsNode, AreStamps}
 use Rattle.fs_model.specs.AttributeCalls.{with_mode, moded, owned, with_set_acl}
 use Rattle.fs_model.specs.Ranges.{IsSomeId}
 use Rattle.fs_model.proofs.StepsKinds.{MayReplace}
@@ -137,37 +138,28 @@ id_is (Some id) old valid small = valid
 -- ---- nodes
 
 module _ (room : Room) (t : Tree) (n : ℕ) (node : Node) (is : IsNode room t n node) where
+  body_may_replace : (b : Body) → type_of b ≡ type_of node.body → names_of_body b ≡ names_of_body node.body → IsBody room t b
+      → MayReplace room t node (record node { body = b })
+  body_may_replace b type names body = record { same = type; names = names; owner = is.owner; group = is.group; stamps = is.stamps; body = body }
+
   pub bytes_may_replace : (bytes : List ℕ) → length bytes ≤ room.file_limit → IsBytes bytes
       → MayReplace room t node (record node { body = with_bytes bytes node.body })
-  bytes_may_replace bytes few are = record {
-    same = type_with_bytes bytes node.body;
-    names = names_with_bytes bytes node.body;
-    owner = is.owner;
-    group = is.group;
-    stamps = is.stamps;
-    body = body_with_bytes room t bytes node.body few are is.body;
-  }
+  bytes_may_replace bytes few are =
+      body_may_replace (with_bytes bytes node.body) (type_with_bytes bytes node.body) (names_with_bytes bytes node.body) (body_with_bytes room t bytes node.body few are is.body)
 
   pub mode_may_replace : (cred : Credential) (mode : ℕ) → MayReplace room t node (moded cred mode node)
-  mode_may_replace cred mode = record {
-    same = type_with_mode cred node.group mode node.body;
-    names = names_with_mode cred node.group mode node.body;
-    owner = is.owner;
-    group = is.group;
-    stamps = is.stamps;
-    body = body_with_mode room t cred node.group mode node.body is.body;
-  }
+  mode_may_replace cred mode =
+      body_may_replace (moded cred mode node).body (type_with_mode cred node.group mode node.body) (names_with_mode cred node.group mode node.body)
+      (body_with_mode room t cred node.group mode node.body is.body)
 
   pub acl_may_replace : (which : AclType) (acl : Option AccessList) → IsSomeAcl acl
       → MayReplace room t node (record node { body = with_set_acl which acl node.body })
-  acl_may_replace which acl valid = record {
-    same = (acl_keeps which acl node.body).0;
-    names = (acl_keeps which acl node.body).1;
-    owner = is.owner;
-    group = is.group;
-    stamps = is.stamps;
-    body = body_with_acl room t which acl node.body valid is.body;
-  }
+  acl_may_replace which acl valid =
+      let keeps = acl_keeps which acl node.body in
+      body_may_replace (with_set_acl which acl node.body) keeps.0 keeps.1 (body_with_acl room t which acl node.body valid is.body)
+
+  pub stamps_may_replace : (x : Stamps) → AreStamps room.keeps_times x → MayReplace room t node (record node { stamps = x })
+  stamps_may_replace x fit = record { same = refl; names = refl; owner = is.owner; group = is.group; stamps = fit; body = is.body }
 
   pub owner_may_replace : (owner group : Option ℕ) → IsSomeId owner → IsSomeId group → MayReplace room t node (owned owner group node)
   owner_may_replace owner group o g = record {

@@ -2,7 +2,8 @@
 use Rattle.fs_model.proofs.Restamps.{touched_is_tree, touched_is_state, free-touched, none_touched}
 use Rattle.fs_model.specs.Nodes.{stamped, Node}
 use Rattle.fs_model.specs.Births.{the_node}
-use Rattle.fs_model.proofs.StepsKinds.{process_moves, MayReplace, replaced_is_tree, replaced_keeps_types}
+use Rattle.fs_model.proofs.StepsBodies.{stamps_may_replace}
+use Rattle.fs_model.proofs.StepsKinds.{process_moves, replaced_is_tree, replaced_keeps_types}
 use Rattle.fs_model.proofs.StoredStamps.{stamped_fit}
 use Rattle.std.specs.Prelude.{◌≡◌, ℕ, ◌+◌, ◌≤◌, ◌<◌, ◌^◌, nat_le, Bool, true, false, not, cond, length, Option, None, Some, is_some, IsFalse}
 use Rattle.std.proofs.Common.{refl, sym, arith, subst, inl, inr}
@@ -128,14 +129,7 @@ module _ (s : State) (is : IsState s) (runs : IsFalse s.halted) where
       let there : node_at s.tree n ≡ Some node = node_is_there s.tree n (not-false _ (unrefused ENOENT (not (is_some (node_at s.tree n))) met)) in
       let was = is.tree.each n node there in
       let x = kept_stamps s.room node.stamps (stamped atime mtime ctime node.stamps) in
-      let may : MayReplace s.room s.tree node (with_stamps x node) = record {
-        same = refl;
-        names = refl;
-        owner = was.owner;
-        group = was.group;
-        body = was.body;
-        stamps = stamped_fit s.room.keeps_times atime mtime ctime node.stamps a m c was.stamps;
-      } in
+      let may = stamps_may_replace s.room s.tree n node was x (stamped_fit s.room.keeps_times atime mtime ctime node.stamps a m c was.stamps) in
       let u = with_node s.tree n (with_stamps x node) in
       tree_may_be_left s.room u s.processes (replaced_is_tree s.room s.tree n node (with_stamps x node) is.tree there may) is.pids is.few
       (λ pid p at. process_moves s.tree u (replaced_keeps_types s.tree n node (with_stamps x node) there refl) p ((is.processes runs).each_process pid p at))
