@@ -47,6 +47,10 @@ text_option name = record (new_rule name) { long = Some name; value_names = 1 }
 abbrev pub flag : Text → Rule
 flag name = record (new_rule name) { long = Some name; action = Some SetTrue }
 
+-- a command with the size and the inodes of the image that it makes
+abbrev pub sized : App → App
+sized command = with_rule (with_rule command (must_be_given (text_option (codes "size")))) (number_option (codes "inodes") 16 1048576)
+
 abbrev pub mkfs : App
 mkfs = with_rule (with_rule (with_rule (new_app (codes "mkfs")) image)
     (must_be_given (number_option (codes "sectors") 1024 65536))) (must_be_given (number_option (codes "inodes") 16 4096))

@@ -3,7 +3,7 @@ ghost use Rattle.std.specs.Prelude.{◌≡◌, MatchResult, IfOk, Some, [], code
 ghost use Rattle.clap.specs.Takes.{is_given};
 ghost use Rattle.clap.specs.Words.{app_of, first_of, found_of, new_app, one_of, rows_of, rule_of, fault_of, subcommand_rows_of, with_rule};
 ghost use Rattle.fs_command.specs.Words.{command_line, with_users, with_makers, alone, mkfs, format, pack, unpack, run, check, info, upgrade, fuse};
-ghost use Rattle.fs_command.specs.Words.{image, directory, must_be_given, number_option, text_option, flag, words_status};
+ghost use Rattle.fs_command.specs.Words.{image, directory, must_be_given, number_option, text_option, flag, sized, words_status};
 ghost use Rattle.fs_command.specs.Sizes.{usual_inodes};
 ghost use Rattle.fs_command.specs.Words.{HasValues, IsGiven, IsNumberGiven, IsNumberIfGiven, IsNumberOr, IsFlag, IsSizeFor, AsksFor, SaysJob, Refuses};
 ghost use Rattle.fs_command.specs.Words.{SaysMkfs, SaysFormat, SaysPack, SaysUnpack, SaysRun, SaysCheck, SaysInfo, SaysUpgrade, SaysFuse, HasBadSize, HasBadValue};
@@ -475,69 +475,70 @@ fn program_alone<'a>(alloc: Global) -> Command<'a>
 fn mkfs_command<'a>(alloc: Global) -> Result<Command<'a>, AllocError>
     ensures { IfOk result (λ command. app_of command ≡ mkfs) }
 {
-    let sectors = number(alloc, "sectors", 1024, 65536)
-        .required(true)
-        .help("Sectors of 512 bytes, 1024 to 65536");
-    let inodes = number(alloc, "inodes", 16, 4096)
-        .required(true)
-        .help("Inodes, 16 to 4096");
     on_image(
         alloc,
         "mkfs",
         "Make an image of the second layout with an empty file system",
         "The image, which must not exist",
     )?
-    .arg(sectors)?
-    .arg(inodes)
+    .arg(
+        number(alloc, "sectors", 1024, 65536)
+            .required(true)
+            .help("Sectors of 512 bytes, 1024 to 65536"),
+    )?
+    .arg(
+        number(alloc, "inodes", 16, 4096)
+            .required(true)
+            .help("Inodes, 16 to 4096"),
+    )
 }
 
 // The words of `format`.
 fn format_command<'a>(alloc: Global) -> Result<Command<'a>, AllocError>
     ensures { IfOk result (λ command. app_of command ≡ format) }
 {
-    let size = text_option(alloc, "size", "SIZE")
-        .required(true)
-        .help("Bytes, or with K, M or G: 512K to 8G");
-    let inodes = number(alloc, "inodes", 16, 1048576).help(
-        "Inodes, 16 to 1048576; without it one for 32 sectors",
-    );
-    on_image(
+    let command = on_image(
         alloc,
         "format",
         "Make an image of the third layout with an empty file system",
         "The image, which must not exist",
-    )?
-    .arg(size)?
-    .arg(inodes)
+    )?;
+    sized(alloc, command)
 }
 
 // The words of `pack`.
 fn pack_command<'a>(alloc: Global) -> Result<Command<'a>, AllocError>
     ensures { IfOk result (λ command. app_of command ≡ pack) }
 {
-    let size = text_option(alloc, "size", "SIZE")
-        .required(true)
-        .help("Bytes, or with K, M or G: 512K to 8G");
-    let inodes = number(alloc, "inodes", 16, 1048576).help(
-        "Inodes, 16 to 1048576; without it one for 32 sectors",
-    );
-    let user = number(alloc, "uid", 0, 4294967295).help(
-        "The user of all; without it each one's own",
-    );
-    let group = number(alloc, "gid", 0, 4294967295).help(
-        "The group of all; without it each one's own",
-    );
-    on_image(
+    let command = on_image(
         alloc,
         "pack",
         "Make an image of the third layout with the tree of a directory",
         "The image, which must not exist",
     )?
-    .arg(directory(alloc).help("The directory"))?
-    .arg(size)?
-    .arg(inodes)?
-    .arg(user)?
-    .arg(group)
+    .arg(directory(alloc).help("The directory"))?;
+    sized(alloc, command)?
+        .arg(number(alloc, "uid", 0, 4294967295).help(
+            "The user of all; without it each one's own",
+        ))?
+        .arg(number(alloc, "gid", 0, 4294967295).help(
+            "The group of all; without it each one's own",
+        ))
+}
+
+// A command with the size of the image that it makes.
+fn sized<'a>(alloc: Global, command: Command<'a>) -> Result<Command<'a>, AllocError>
+    ensures { IfOk result (λ new. app_of new ≡ sized (app_of command.entry)) }
+{
+    command
+        .arg(
+            text_option(alloc, "size", "SIZE")
+                .required(true)
+                .help("Bytes, or with K, M or G: 512K to 8G"),
+        )?
+        .arg(number(alloc, "inodes", 16, 1048576).help(
+            "Inodes, 16 to 1048576; without it one for 32 sectors",
+        ))
 }
 
 // The words of `unpack`.
@@ -557,30 +558,31 @@ fn unpack_command<'a>(alloc: Global) -> Result<Command<'a>, AllocError>
 fn run_command<'a>(alloc: Global) -> Result<Command<'a>, AllocError>
     ensures { IfOk result (λ command. app_of command ≡ run) }
 {
-    let script = Arg::new(alloc, "SCRIPT").help("The script; without it, the standard input");
-    on_image(alloc, "run", "Run a script on an image", "The image")?.arg(script)
+    on_image(alloc, "run", "Run a script on an image", "The image")?.arg(Arg::new(
+        alloc, "SCRIPT",
+    ).help("The script; without it, the standard input"))
 }
 
 // The words of `check`.
 fn check_command<'a>(alloc: Global) -> Result<Command<'a>, AllocError>
     ensures { IfOk result (λ command. app_of command ≡ check) }
 {
-    let explain = flag(alloc, "explain").help("Say what the rule of a finding asks");
-    on_image(alloc, "check", "Check an image", "The image")?.arg(explain)
+    on_image(alloc, "check", "Check an image", "The image")?.arg(flag(alloc, "explain").help(
+        "Say what the rule of a finding asks",
+    ))
 }
 
 // The words of `info`.
 fn info_command<'a>(alloc: Global) -> Result<Command<'a>, AllocError>
     ensures { IfOk result (λ command. app_of command ≡ info) }
 {
-    let json = flag(alloc, "json").help("Say it in one line of JSON");
     on_image(
         alloc,
         "info",
         "Say the version, the size, what is free and the limits of an image",
         "The image",
     )?
-    .arg(json)
+    .arg(flag(alloc, "json").help("Say it in one line of JSON"))
 }
 
 // The words of `upgrade`.
@@ -599,18 +601,16 @@ fn upgrade_command<'a>(alloc: Global) -> Result<Command<'a>, AllocError>
 fn fuse_command<'a>(alloc: Global) -> Result<Command<'a>, AllocError>
     ensures { IfOk result (λ command. app_of command ≡ fuse) }
 {
-    let denials = text_option(alloc, "denials", "FILE").help(
-        "The file to which denials are written, a line each",
-    );
-    let own_rules = flag(alloc, "own-rules").help("Let the kernel judge no ACLs");
     on_image(
         alloc,
         "fuse",
         "Serve an image to the kernel's FUSE, on the standard input and output",
         "The image",
     )?
-    .arg(denials)?
-    .arg(own_rules)
+    .arg(text_option(alloc, "denials", "FILE").help(
+        "The file to which denials are written, a line each",
+    ))?
+    .arg(flag(alloc, "own-rules").help("Let the kernel judge no ACLs"))
 }
 
 // A command on an image.

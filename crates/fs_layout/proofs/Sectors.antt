@@ -89,6 +89,9 @@ IsSector-splice s x at is small room = record {
 }
 
 -- ---- what each structure is spelled as
+behind : {xs ys : List ℕ} → IsBytes xs → IsBytes ys → IsBytes (xs ++ ys)
+behind {xs} {ys} first rest = IsBytes-append xs ys first rest
+
 pub IsSector-super_bytes : (v : Super) → IsSector (super_bytes v)
 IsSector-super_bytes v = let n = version_number v.version in record {
   len = length-super_bytes v;
@@ -137,17 +140,7 @@ IsBytes-slot_bytes version v f =
 
 pub IsBytes-inode_bytes : (v : Inode) → IsBytes (inode_bytes v)
 IsBytes-inode_bytes v =
-    let access = IsBytes-append (le64 v.atime) (zeros 8) (IsBytes-le64 v.atime) (IsBytes-zeros 8) in
-    let change = IsBytes-append (le64 v.ctime) _ (IsBytes-le64 v.ctime) access in
-    let modification = IsBytes-append (le64 v.mtime) _ (IsBytes-le64 v.mtime) change in
-    let named = IsBytes-append (le32s v.indirect) _ (IsBytes-le32s v.indirect) modification in
-    let e9 = IsBytes-append (le32s v.direct) _ (IsBytes-le32s v.direct) named in
-    let e8 = IsBytes-append (le32 v.default_acl) _ (IsBytes-le32 v.default_acl) e9 in
-    let e7 = IsBytes-append (le32 v.acl) _ (IsBytes-le32 v.acl) e8 in
-    let e6 = IsBytes-append (le32 v.parent) _ (IsBytes-le32 v.parent) e7 in
-    let e5 = IsBytes-append (le64 v.size) _ (IsBytes-le64 v.size) e6 in
-    let e4 = IsBytes-append (le32 v.names) _ (IsBytes-le32 v.names) e5 in
-    let e3 = IsBytes-append (le32 v.gid) _ (IsBytes-le32 v.gid) e4 in
-    let e2 = IsBytes-append (le32 v.uid) _ (IsBytes-le32 v.uid) e3 in
-    let e1 = IsBytes-append (le16 v.mode) _ (IsBytes-le16 v.mode) e2 in
-    IsBytes-append (le16 (kind_number v.kind)) _ (IsBytes-le16 (kind_number v.kind)) e1
+    behind (IsBytes-le16 (kind_number v.kind)) (behind (IsBytes-le16 v.mode) (behind (IsBytes-le32 v.uid) (behind (IsBytes-le32 v.gid)
+    (behind (IsBytes-le32 v.names) (behind (IsBytes-le64 v.size) (behind (IsBytes-le32 v.parent) (behind (IsBytes-le32 v.acl)
+    (behind (IsBytes-le32 v.default_acl) (behind (IsBytes-le32s v.direct) (behind (IsBytes-le32s v.indirect)
+    (behind (IsBytes-le64 v.mtime) (behind (IsBytes-le64 v.ctime) (behind (IsBytes-le64 v.atime) (IsBytes-zeros 8))))))))))))))

@@ -203,19 +203,13 @@ module _ (pid fd : ℕ) (s new : State) (is : IsState s) (most : ℕ) (bytes : L
           let told : Data bytes ≡ Data (take (min most run_limit) (behind fd s p)) = answered ∙ ap (λ (a : After). a.reply) is_after in
           let read : bytes ≡ take most (behind fd s p) =
           (let same : bytes ≡ take (min most run_limit) (behind fd s p) = cc in same ∙ ap (λ (k : ℕ). take k (behind fd s p)) cut) in
+          let may_be : MayBeFree s.room s.tree new.free =
+          subst (λ (k : ℕ). MayBeFree s.room s.tree k) (sym free)
+          (subst (λ (t : Tree). MayBeFree s.room t choice.free) (stays pid fd s is p does.running here early _)
+          (subst (λ (a : After). MayBeFree s.room (tree_after s a) choice.free) is_after does.allowed.free)) in
           record {
             process = p;
-            is = record {
-              runs = does.running;
-              here = here;
-              early = early;
-              late = late;
-              may_be =
-                  subst (λ (k : ℕ). MayBeFree s.room s.tree k) (sym free)
-                  (subst (λ (t : Tree). MayBeFree s.room t choice.free) (stays pid fd s is p does.running here early _)
-                  (subst (λ (a : After). MayBeFree s.room (tree_after s a) choice.free) is_after does.allowed.free));
-              read = read;
-            };
+            is = record { runs = does.running; here = here; early = early; late = late; may_be = may_be; read = read };
             left =
                 now ∙ ap (λ (a : After). state_after s a choice.free) is_after
                 ∙ left_is pid fd s is p does.running here early most choice.free small

@@ -1,14 +1,7 @@
-use Rattle.std.proofs.Common.{◌≡◌, ◌∙◌, ap, ap₂, codes}
+use Rattle.std.proofs.Common.{◌∙◌, ap}
 use Rattle.std.proofs.lemmas.Result.{IfOk-weaker}
-use Rattle.clap.specs.Words.{app_of, new_app, rule_of, with_rule}
-use Rattle.clap.specs.declared.builder.arg.Arg.{Arg}
-use Rattle.fs_command.specs.Words.{image, must_be_given, text_option}
+use Rattle.fs_command.specs.Words.{sized}
 use Rattle.fs_command.proofs.words.format_command.Goals as goal
 
 pub returns : goal.returns
-returns c =
-    let two : app_of c.in_ok-arg.field-0 ≡ with_rule (with_rule (new_app (codes "format")) image) (must_be_given (text_option (codes "size"))) =
-    c.in_ok-arg.ensures.shape (ap (λ (a : Arg). a.global) c.help-size.ensures ∙ ap (λ (a : Arg). a.global) c.required.ensures ∙ c.text_option.ensures.local)
-    ∙ ap₂ with_rule c.in_ok-on_image.ensures (ap rule_of c.help-size.ensures ∙ ap rule_of c.required.ensures ∙ ap must_be_given c.text_option.ensures.rule) in
-    IfOk-weaker c.arg-2.result _ _ (λ command adds. adds.shape (ap (λ (a : Arg). a.global) c.help-inodes.ensures ∙ c.number.ensures.local)
-    ∙ ap₂ with_rule two (ap rule_of c.help-inodes.ensures ∙ c.number.ensures.rule)) c.arg-2.ensures
+returns c = IfOk-weaker c.sized.result _ _ (λ command is. is ∙ ap sized c.in_ok-command.ensures) c.sized.ensures

@@ -8,7 +8,7 @@ use Rattle.fs_command.proofs.words.fuse_command.Goals as goal
 pub returns : goal.returns
 returns c =
     let two : app_of c.in_ok-arg.field-0 ≡ with_rule (with_rule (new_app (codes "fuse")) image) (text_option (codes "denials")) =
-    c.in_ok-arg.ensures.shape (ap (λ (a : Arg). a.global) c.help-denials.ensures ∙ c.text_option.ensures.local)
-    ∙ ap₂ with_rule c.in_ok-on_image.ensures (ap rule_of c.help-denials.ensures ∙ c.text_option.ensures.rule) in
-    IfOk-weaker c.arg-2.result _ _ (λ command adds. adds.shape (ap (λ (a : Arg). a.global) c.help-own_rules.ensures ∙ c.flag.ensures.local)
-    ∙ ap₂ with_rule two (ap rule_of c.help-own_rules.ensures ∙ c.flag.ensures.rule)) c.arg-2.ensures
+    c.in_ok-arg.ensures.shape (ap (λ (a : Arg). a.global) c.help.ensures ∙ c.text_option.ensures.local)
+    ∙ ap₂ with_rule c.in_ok-on_image.ensures (ap rule_of c.help.ensures ∙ c.text_option.ensures.rule) in
+    IfOk-weaker c.arg-2.result _ _ (λ command adds. adds.shape (ap (λ (a : Arg). a.global) c.help-2.ensures ∙ c.flag.ensures.local)
+    ∙ ap₂ with_rule two (ap rule_of c.help-2.ensures ∙ c.flag.ensures.rule)) c.arg-2.ensures

@@ -6,5 +6,5 @@ use Rattle.fs_command.proofs.words.run_command.Goals as goal
 
 pub returns : goal.returns
 returns c =
-    IfOk-weaker c.arg.result _ _ (λ command adds. adds.shape (ap (λ (a : Arg). a.global) c.help-script.ensures ∙ c.new.ensures.optional.1)
-    ∙ ap₂ with_rule c.in_ok-on_image.ensures (ap rule_of c.help-script.ensures ∙ c.new.ensures.rule)) c.arg.ensures
+    IfOk-weaker c.arg.result _ _ (λ command adds. adds.shape (ap (λ (a : Arg). a.global) c.help.ensures ∙ c.new.ensures.optional.1)
+    ∙ ap₂ with_rule c.in_ok-on_image.ensures (ap rule_of c.help.ensures ∙ c.new.ensures.rule)) c.arg.ensures
