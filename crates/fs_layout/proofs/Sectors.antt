@@ -89,9 +89,6 @@ IsSector-splice s x at is small room = record {
 }
 
 -- ---- what each structure is spelled as
-behind : {xs ys : List ℕ} → IsBytes xs → IsBytes ys → IsBytes (xs ++ ys)
-behind {xs} {ys} first rest = IsBytes-append xs ys first rest
-
 pub IsSector-super_bytes : (v : Super) → IsSector (super_bytes v)
 IsSector-super_bytes v = let n = version_number v.version in record {
   len = length-super_bytes v;
@@ -140,7 +137,9 @@ IsBytes-slot_bytes version v f =
 
 pub IsBytes-inode_bytes : (v : Inode) → IsBytes (inode_bytes v)
 IsBytes-inode_bytes v =
-    behind (IsBytes-le16 (kind_number v.kind)) (behind (IsBytes-le16 v.mode) (behind (IsBytes-le32 v.uid) (behind (IsBytes-le32 v.gid)
-    (behind (IsBytes-le32 v.names) (behind (IsBytes-le64 v.size) (behind (IsBytes-le32 v.parent) (behind (IsBytes-le32 v.acl)
-    (behind (IsBytes-le32 v.default_acl) (behind (IsBytes-le32s v.direct) (behind (IsBytes-le32s v.indirect)
-    (behind (IsBytes-le64 v.mtime) (behind (IsBytes-le64 v.ctime) (behind (IsBytes-le64 v.atime) (IsBytes-zeros 8))))))))))))))
+    IsBytes-append _ _ (IsBytes-le16 (kind_number v.kind)) (IsBytes-append _ _ (IsBytes-le16 v.mode)
+    (IsBytes-append _ _ (IsBytes-le32 v.uid) (IsBytes-append _ _ (IsBytes-le32 v.gid) (IsBytes-append _ _ (IsBytes-le32 v.names)
+    (IsBytes-append _ _ (IsBytes-le64 v.size) (IsBytes-append _ _ (IsBytes-le32 v.parent)
+    (IsBytes-append _ _ (IsBytes-le32 v.acl) (IsBytes-append _ _ (IsBytes-le32 v.default_acl)
+    (IsBytes-append _ _ (IsBytes-le32s v.direct) (IsBytes-append _ _ (IsBytes-le32s v.indirect)
+    (IsBytes-append _ _ (IsBytes-le64 v.mtime) (IsBytes-append _ _ (IsBytes-le64 v.ctime) (IsBytes-append _ _ (IsBytes-le64 v.atime) (IsBytes-zeros 8))))))))))))))

@@ -1,6 +1,7 @@
 pub mod Escapes
 pub mod Cutting
 pub mod Each
+pub mod Faults
 pub mod Letters
 pub mod Names
 pub mod Capabilities

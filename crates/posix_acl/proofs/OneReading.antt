@@ -35,25 +35,17 @@ initial Group = 103
 initial Mask = 109
 initial Other = 111
 
-word_initial : (tag : Tag) → get_or (word_of tag) 0 0 ≡ initial tag
-word_initial UserObj = refl
-word_initial User = refl
-word_initial GroupObj = refl
-word_initial Group = refl
-word_initial Mask = refl
-word_initial Other = refl
-
-letter_initial : (tag : Tag) → get_or (letter_of tag) 0 0 ≡ initial tag
-letter_initial UserObj = refl
-letter_initial User = refl
-letter_initial GroupObj = refl
-letter_initial Group = refl
-letter_initial Mask = refl
-letter_initial Other = refl
+initials : (tag : Tag) → (get_or (word_of tag) 0 0 ≡ initial tag) × (get_or (letter_of tag) 0 0 ≡ initial tag)
+initials UserObj = (refl, refl)
+initials User = (refl, refl)
+initials GroupObj = (refl, refl)
+initials Group = (refl, refl)
+initials Mask = (refl, refl)
+initials Other = (refl, refl)
 
 has_initial : (tag : Tag) (word : List ℕ) → IsWordOf tag word → get_or word 0 0 ≡ initial tag
-has_initial tag word (inl e) = ap (λ w. get_or w 0 0) e ∙ word_initial tag
-has_initial tag word (inr e) = ap (λ w. get_or w 0 0) e ∙ letter_initial tag
+has_initial tag word (inl e) = ap (λ w. get_or w 0 0) e ∙ (initials tag).0
+has_initial tag word (inr e) = ap (λ w. get_or w 0 0) e ∙ (initials tag).1
 
 -- a number for the initial and whether there is a name
 abbrev kind : Tag → ℕ

@@ -1,7 +1,20 @@
 use Rattle.std.proofs.Common.{Err, sym, ap, ◌∙◌}
 use Rattle.std.proofs.lemmas.Result.{err_from_is_err_and}
 use Rattle.fs_lines.proofs.Escapes.{reads_escape, escape_fails, reads_rest}
+use Rattle.fs_lines.proofs.Faults.{out_of_memory}
 use Rattle.fs_lines.proofs.words.unescaped.Goals as goal
+
+pub returns-in_err-bytes : goal.returns-in_err-bytes
+returns-in_err-bytes c = out_of_memory _ _ _ c.from_residual.ensures.1
+
+pub returns-in_err-extend_from_slice : goal.returns-in_err-extend_from_slice
+returns-in_err-extend_from_slice c = out_of_memory _ _ _ c.from_residual-in_err-extend_from_slice.ensures.1
+
+pub returns-in_err-push : goal.returns-in_err-push
+returns-in_err-push c = out_of_memory _ _ _ c.from_residual-in_err-push.ensures.1
+
+pub returns-in_err-extend_from_slice-2 : goal.returns-in_err-extend_from_slice-2
+returns-in_err-extend_from_slice-2 c = out_of_memory _ _ _ c.from_residual-in_err-extend_from_slice-2.ensures.1
 
 pub returns-in_err-byte : goal.returns-in_err-byte
 returns-in_err-byte c =
