@@ -4,3 +4,4 @@ pub mod Commands
 pub mod Readings
 pub mod Laws
 pub mod Texts
+pub mod BehindPid

@@ -2,9 +2,10 @@
 ghost use Rattle.std.specs.Prelude.{◌≡◌, ◌++◌, [], ℕ, List, Ok, IfOk, IsTrue, codes, option_map};
 ghost use Rattle.fs_model.specs.Steps.{is_of_machine};
 ghost use Rattle.fs_lines.specs.declared.line.Line.TheVariants.{Event as Asks};
-ghost use Rattle.fs_lines.specs.Commands.{begins_with_digit, caps_apart, lone_commands, commands, path_commands, descriptor_commands, name_commands, process_commands, row_named, command_says, words_value};
+ghost use Rattle.fs_lines.specs.Commands.{begins_with_digit, caps_apart, lone_commands, commands, path_commands, process_commands, row_named, command_says, words_value};
 ghost use Rattle.fs_lines.specs.Words.{number_of};
 ghost use Rattle.fs_lines.specs.Readings.{GivesSaid};
+ghost use Rattle.fs_lines.specs.BehindPid.{descriptor_rows, name_rows, GivesCommand};
 
 use crate::forms::{begins_with_cap, read_acl, read_caps, read_groups, read_number};
 use crate::line::LineFault;
@@ -72,6 +73,7 @@ fn read_alone(alloc: Global, name: &[u8], words: &[Word<'_>]) -> Result<Event, L
 }
 
 // What a command asks for that stands behind a pid.
+#[tactic(auto, unfolding(crate::specs::BehindPid::descriptor_rows, crate::specs::BehindPid::name_rows))]
 fn read_behind_pid(
     alloc: Global,
     pid: &[u8],
@@ -90,8 +92,7 @@ fn read_behind_pid(
 
 // The commands whose first word is a path, and those below.
 fn read_path_command(name: &str, operands: Operands<'_>) -> Result<Event, LineFault>
-    ensures said { (pid : List ℕ) → operands.entry.pid ≡ number_of 64 pid
-        → GivesSaid Asks result (command_says (row_named commands name.now) pid operands.entry.words.now) }
+    ensures said { GivesCommand (path_commands ++ descriptor_rows) name.now operands.entry.pid operands.entry.words.now result }
     ensures offered { IfOk result (λ e. IsTrue (is_of_machine e)) }
 {
     match name {
@@ -133,10 +134,9 @@ fn read_path_command(name: &str, operands: Operands<'_>) -> Result<Event, LineFa
 }
 
 // The commands whose first word is a descriptor, and those below.
+#[tactic(auto, unfolding(crate::specs::BehindPid::descriptor_rows))]
 fn read_descriptor_command(name: &str, operands: Operands<'_>) -> Result<Event, LineFault>
-    ensures said { (pid : List ℕ) → operands.entry.pid ≡ number_of 64 pid
-        → GivesSaid Asks result (command_says (row_named (descriptor_commands ++
-        (name_commands ++ process_commands)) name.now) pid operands.entry.words.now) }
+    ensures said { GivesCommand descriptor_rows name.now operands.entry.pid operands.entry.words.now result }
     ensures offered { IfOk result (λ e. IsTrue (is_of_machine e)) }
 {
     match name {
@@ -178,9 +178,9 @@ fn read_descriptor_command(name: &str, operands: Operands<'_>) -> Result<Event, 
 }
 
 // The commands on names, and those below.
+#[tactic(auto, unfolding(crate::specs::BehindPid::name_rows))]
 fn read_name_command(name: &str, operands: Operands<'_>) -> Result<Event, LineFault>
-    ensures said { (pid : List ℕ) → operands.entry.pid ≡ number_of 64 pid
-        → GivesSaid Asks result (command_says (row_named (name_commands ++ process_commands) name.now) pid operands.entry.words.now) }
+    ensures said { GivesCommand name_rows name.now operands.entry.pid operands.entry.words.now result }
     ensures offered { IfOk result (λ e. IsTrue (is_of_machine e)) }
 {
     match name {
@@ -222,8 +222,7 @@ fn read_name_command(name: &str, operands: Operands<'_>) -> Result<Event, LineFa
 
 // The commands on the process itself.
 fn read_process_command(name: &str, operands: Operands<'_>) -> Result<Event, LineFault>
-    ensures said { (pid : List ℕ) → operands.entry.pid ≡ number_of 64 pid
-        → GivesSaid Asks result (command_says (row_named process_commands name.now) pid operands.entry.words.now) }
+    ensures said { GivesCommand process_commands name.now operands.entry.pid operands.entry.words.now result }
     ensures offered { IfOk result (λ e. IsTrue (is_of_machine e)) }
 {
     match name {
@@ -241,8 +240,7 @@ fn read_process_command(name: &str, operands: Operands<'_>) -> Result<Event, Lin
 
 // An ACL that is set, or removed.
 fn read_set_acl(operands: Operands<'_>) -> Result<Event, LineFault>
-    ensures said { (pid : List ℕ) → operands.entry.pid ≡ number_of 64 pid
-        → GivesSaid Asks result (command_says (row_named path_commands (codes "setacl")) pid operands.entry.words.now) }
+    ensures said { GivesCommand path_commands (codes "setacl") operands.entry.pid operands.entry.words.now result }
     ensures offered { IfOk result (λ e. IsTrue (is_of_machine e)) }
 {
     let (pid, path, which, text): (usize, Path, AclType, Bytes) = operands.three()?;

@@ -1,6 +1,6 @@
 //! The text of replies.
 ghost use Rattle.std.specs.Prelude.{◌≡◌, ◌+◌, ◌*◌, ◌++◌, ◌<◌, ◌≤◌, false, length, take, IfOk, OnOk, IsUtf8, codes, string_bytes};
-ghost use Rattle.std.specs.Fmt.{digit_glyph};
+ghost use Rattle.std.specs.Fmt.{decimal, digit_glyph};
 ghost use Rattle.std.specs.List.{list_all};
 ghost use Rattle.posix_acl.specs.Text.{perms_text, written_text};
 ghost use Rattle.posix_acl.specs.declared.text.TextForm.TheVariants.{Short};
@@ -73,10 +73,10 @@ fn push_reply(text: &mut String, reply: &Reply) -> Result<(), AllocError>
 {
     match reply {
         Reply::Done => text.push_str("ok"),
-        Reply::Pid(pid) => write!(text, "pid {pid}"),
-        Reply::Fd(fd) => write!(text, "fd {fd}"),
+        Reply::Pid(pid) => push_labelled_number(text, "pid ", *pid),
+        Reply::Fd(fd) => push_labelled_number(text, "fd ", *fd),
         Reply::Data(bytes) => push_labelled_word(text, "data ", bytes.bytes()),
-        Reply::Wrote(count) => write!(text, "wrote {count}"),
+        Reply::Wrote(count) => push_labelled_number(text, "wrote ", *count),
         Reply::At(offset) => write!(text, "at {offset}"),
         Reply::Target(target) => push_labelled_word(text, "target ", target.bytes()),
         Reply::Mask(mask) => push_mask(text, *mask),
@@ -88,6 +88,13 @@ fn push_reply(text: &mut String, reply: &Reply) -> Result<(), AllocError>
         Reply::Stamped(stamps) => push_stamps(text, *stamps),
         Reply::Refused(refusal) => push_refusal(text, refusal),
     }
+}
+
+fn push_labelled_number(text: &mut String, label: &str, number: usize) -> Result<(), AllocError>
+    ensures { OnOk result (string_bytes text.new ≡ string_bytes text.old ++ (label.now ++ decimal number)) }
+{
+    text.push_str(label)?;
+    write!(text, "{number}")
 }
 
 fn push_labelled_word(text: &mut String, label: &str, bytes: &[u8]) -> Result<(), AllocError>
