@@ -1,7 +1,7 @@
 //! What the words of the command line ask for.
-ghost use Rattle.std.specs.Prelude.{◌≡◌, MatchResult, IfOk, Some, [], codes, map, string_bytes, false};
+ghost use Rattle.std.specs.Prelude.{◌≡◌, MatchResult, IfOk, IsOkAnd, Some, [], codes, map, string_bytes, false};
 ghost use Rattle.clap.specs.Takes.{is_given};
-ghost use Rattle.clap.specs.Words.{app_of, first_of, found_of, new_app, one_of, rows_of, rule_of, fault_of, subcommand_rows_of, with_rule};
+ghost use Rattle.clap.specs.Words.{AddsSubcommand, app_of, first_of, found_of, new_app, one_of, rows_of, rule_of, fault_of, subcommand_rows_of, with_rule};
 ghost use Rattle.fs_command.specs.Words.{command_line, with_users, with_makers, alone, mkfs, format, pack, unpack, run, check, info, upgrade, fuse};
 ghost use Rattle.fs_command.specs.Words.{image, directory, must_be_given, number_option, text_option, flag, sized, words_status};
 ghost use Rattle.fs_command.specs.Sizes.{usual_inodes};
@@ -433,30 +433,40 @@ fn inodes_given(matches: &ArgMatches<'_>, sectors: u32) -> u32
 fn program<'a>(alloc: Global) -> Result<Command<'a>, AllocError>
     ensures { IfOk result (λ command. app_of command ≡ command_line) }
 {
-    program_with_users(alloc)?
-        .subcommand(info_command(alloc)?)?
-        .subcommand(upgrade_command(alloc)?)?
-        .subcommand(fuse_command(alloc)?)
+    let program = program_with_users(alloc)?;
+    let program = with_command(program, info_command(alloc))?;
+    let program = with_command(program, upgrade_command(alloc))?;
+    with_command(program, fuse_command(alloc))
 }
 
 // The program with the commands that make images, and with those that go over what is in one.
 fn program_with_users<'a>(alloc: Global) -> Result<Command<'a>, AllocError>
     ensures { IfOk result (λ command. app_of command ≡ with_users) }
 {
-    program_with_makers(alloc)?
-        .subcommand(unpack_command(alloc)?)?
-        .subcommand(run_command(alloc)?)?
-        .subcommand(check_command(alloc)?)
+    let program = program_with_makers(alloc)?;
+    let program = with_command(program, unpack_command(alloc))?;
+    let program = with_command(program, run_command(alloc))?;
+    with_command(program, check_command(alloc))
 }
 
 // The program with the commands that make images.
 fn program_with_makers<'a>(alloc: Global) -> Result<Command<'a>, AllocError>
     ensures { IfOk result (λ command. app_of command ≡ with_makers) }
 {
-    program_alone(alloc)
-        .subcommand(mkfs_command(alloc)?)?
-        .subcommand(format_command(alloc)?)?
-        .subcommand(pack_command(alloc)?)
+    let program = program_alone(alloc);
+    let program = with_command(program, mkfs_command(alloc))?;
+    let program = with_command(program, format_command(alloc))?;
+    with_command(program, pack_command(alloc))
+}
+
+// The program with one command more, if that could be made.
+fn with_command<'a>(
+    program: Command<'a>,
+    command: Result<Command<'a>, AllocError>,
+) -> Result<Command<'a>, AllocError>
+    ensures { IfOk result (λ new. IsOkAnd command.entry (λ made. AddsSubcommand program.entry made new)) }
+{
+    program.subcommand(command?)
 }
 
 // The program alone, with no command.
