@@ -1,5 +1,5 @@
 -- Worked samples of an image: each word computes what the layout says.
-use Rattle.std.proofs.Common.{◌≡◌, ◌+◌, ◌*◌, true, false, cond, [], ◌∷◌, ◌++◌, replicate, refl, nat_eq}
+use Rattle.std.proofs.Common.{◌≡◌, ℕ, map, ◌+◌, ◌*◌, true, false, cond, [], ◌∷◌, ◌++◌, replicate, refl, nat_eq}
 use Rattle.fs_layout.specs.declared.inode.Inode.{Inode}
 use Rattle.fs_layout.specs.declared.inode.TheConstants.{MAX_BLOCKS}
 use Rattle.fs_layout.specs.Bytes.{SectorMap, u32_of, zeros}
@@ -19,13 +19,9 @@ two_bits : SectorMap
 two_bits s = cond (nat_eq s 130) (0 ∷ 6 ∷ []) []
 
 -- bit 4096 + 9 of the bitmap that begins at 129 is bit 1 of byte 1 of its second sector
-bit_set : bit two_bits 129 4105 ≡ true
+bits_set : map (bit two_bits 129) (4105 ∷ 4104 ∷ []) ≡ true ∷ false ∷ []
 unfolding bit two_bits
-bit_set = refl
-
-bit_clear : bit two_bits 129 4104 ≡ false
-unfolding bit two_bits
-bit_clear = refl
+bits_set = refl
 
 bit_elsewhere : bit two_bits 128 9 ≡ false
 unfolding bit two_bits
@@ -45,65 +41,30 @@ unfolding number_on pointers file
 block_0 = refl
 
 -- block 12 is the first of the sector of pointers, block 13 the second
-indirect_block : part pointers file (Block 12) ≡ 7
+indirect_blocks : map (λ n. part pointers file (Block n)) (12 ∷ 13 ∷ []) ≡ 7 ∷ 258 ∷ []
 unfolding part number_on pointers file u32_of
-indirect_block = refl
-
-next_block : part pointers file (Block 13) ≡ 258
-unfolding part number_on pointers file u32_of
-next_block = refl
+indirect_blocks = refl
 
 -- there is no block past the last
 no_block : part pointers file (Block MAX_BLOCKS) ≡ 0
 unfolding part number_on pointers file
 no_block = refl
 
--- the sector of pointers is number 0 of the level above the blocks; the first block that is found by it is 12
-sector_of_pointers : number_on pointers file 1 0 ≡ 200
-unfolding number_on pointers file
-sector_of_pointers = refl
-
-first_by_it : first_block 1 0 ≡ 12
-first_by_it = refl
-
--- the double indirect sector names 301 as the last of the level above the blocks, by which the last 128 blocks are found
-last_pointers : number_on pointers file 1 128 ≡ 301
+-- numbers of a level above the blocks: the sector of pointers is number 0 of the first, and the double indirect sector names 301
+-- as its last; the triple indirect sector names 300 as the last of the second
+numbers_above : map (λ (at : ℕ × ℕ). number_on pointers file at.0 at.1) ((1, 0) ∷ (1, 128) ∷ (2, 128) ∷ []) ≡ 200 ∷ 301 ∷ 300 ∷ []
 unfolding number_on pointers file u32_of zeros
-last_pointers = refl
+numbers_above = refl
 
-last_by_double : pointer pointers file 16523 ≡ 9
+-- the first block that is found by a number: by the first of each level, and by the second and the last of the first level
+first_blocks : map (λ (at : ℕ × ℕ). first_block at.0 at.1) ((1, 0) ∷ (2, 0) ∷ (3, 0) ∷ (1, 1) ∷ (1, 128) ∷ []) ≡ 12 ∷ 140 ∷ 16524 ∷ 140 ∷ 16396 ∷ []
+first_blocks = refl
+
+-- the last block by the double indirect number, and the hole before it; a block by a number of it that is 0, where all are holes;
+-- and the last block of all
+blocks_by_levels : map (pointer pointers file) (16523 ∷ 16522 ∷ 140 ∷ 2113675 ∷ []) ≡ 9 ∷ 0 ∷ 0 ∷ 9 ∷ []
 unfolding number_on pointers file u32_of zeros
-last_by_double = refl
-
-hole_before : pointer pointers file 16522 ≡ 0
-unfolding number_on pointers file u32_of zeros
-hole_before = refl
-
--- where the double indirect number is 0, or one that it lists, all blocks by it are holes
-hole_above : pointer pointers file 140 ≡ 0
-unfolding number_on pointers file u32_of zeros
-hole_above = refl
-
-first_by_double : first_block 2 0 ≡ 140
-first_by_double = refl
-
--- the triple indirect sector names 300 as its last, by which the last 16,384 blocks are found
-last_listed : number_on pointers file 2 128 ≡ 300
-unfolding number_on pointers file u32_of zeros
-last_listed = refl
-
-last_block : pointer pointers file 2113675 ≡ 9
-unfolding number_on pointers file u32_of zeros
-last_block = refl
-
-first_by_triple : first_block 3 0 ≡ 16524
-first_by_triple = refl
-
-first_by_next : first_block 1 1 ≡ 140
-first_by_next = refl
-
-first_by_last : first_block 1 128 ≡ 16396
-first_by_last = refl
+blocks_by_levels = refl
 
 -- byte 1 of block 13
 byte_of_block : byte_at pointers file (512 * 13 + 1) ≡ 66
@@ -127,40 +88,14 @@ inode_5 = refl
 empty : Inode
 empty = free_inode
 
--- one byte at 0, at 6,144 and at 71,680
-takes_one : lacks pointers empty 0 1 ≡ 1
+-- One byte at 0, at 6,144 and at 71,680; 4,096 bytes across the last block of the indirect sector, and across two that the double
+-- indirect sector lists; one byte at 8,460,288; and 4,096 bytes across the last block of the double indirect sector.
+takes : map (λ (blocks : ℕ × ℕ). lacks pointers empty blocks.0 blocks.1)
+    ((0, 1) ∷ (12, 13) ∷ (140, 141) ∷ (132, 141) ∷ (264, 273) ∷ (16524, 16525) ∷ (16516, 16525) ∷ []) ≡ 1 ∷ 2 ∷ 3 ∷ 12 ∷ 12 ∷ 4 ∷ 14 ∷ []
 unfolding number_on pointers empty u32_of zeros
-takes_one = refl
-
-takes_two : lacks pointers empty 12 13 ≡ 2
-unfolding number_on pointers empty u32_of zeros
-takes_two = refl
-
-takes_three : lacks pointers empty 140 141 ≡ 3
-unfolding number_on pointers empty u32_of zeros
-takes_three = refl
-
--- 4,096 bytes across the last block of the indirect sector
-takes_twelve : lacks pointers empty 132 141 ≡ 12
-unfolding number_on pointers empty u32_of zeros
-takes_twelve = refl
-
--- and across two that the double indirect sector lists
-takes_so_many : lacks pointers empty 264 273 ≡ 12
-unfolding number_on pointers empty u32_of zeros
-takes_so_many = refl
+takes = refl
 
 -- one byte at 8,460,287, where the double indirect sector is there
 takes_last_by_double : lacks pointers (record empty { indirect = 0 ∷ 300 ∷ 0 ∷ [] }) 16395 16396 ≡ 2
 unfolding number_on pointers empty u32_of zeros
 takes_last_by_double = refl
-
--- one byte at 8,460,288
-takes_four : lacks pointers empty 16524 16525 ≡ 4
-unfolding number_on pointers empty u32_of zeros
-takes_four = refl
-
--- 4,096 bytes across the last block of the double indirect sector
-takes_fourteen : lacks pointers empty 16516 16525 ≡ 14
-unfolding number_on pointers empty u32_of zeros
-takes_fourteen = refl
