@@ -1,5 +1,5 @@
 -- A read of many bytes means reads of its parts, one after another.
-use Rattle.std.specs.Prelude.{◌≡◌, ℕ, ◌+◌, ◌<◌, ◌≤◌, ◌==◌, min, nat_lt, not, Bool, true, false, ◌||◌, cond, List, [], ◌∷◌, ◌++◌, length, take, drop, Option, None, Some, unwrap_or, IsFalse, ◌⊎◌}
+use Rattle.std.specs.Prelude.{◌≡◌, ℕ, ◌+◌, ◌<◌, ◌≤◌, ◌==◌, min, nat_lt, not, Bool, true, false, ◌||◌, cond, List, [], ◌∷◌, ◌++◌, length, take, drop, None, Some, unwrap_or, IsFalse, ◌⊎◌}
 use Rattle.std.proofs.Common.{refl, sym, ap, subst, arith, ◌∙◌, inl, inr}
 use Rattle.std.proofs.lemmas.Bool.{not-false}
 use Rattle.std.proofs.lemmas.Bool.Decides.{nat_tests}
@@ -30,7 +30,7 @@ use Rattle.fs_model.specs.Steps.{Choice, After, after, after_call, after_effect,
 use Rattle.fs_model.specs.Runs.{ReadsInTurn, RunsOfMoves, RunsAreRefusedAlike}
 use Rattle.fs_layout.proofs.FirstEntries.{ties}
 use Rattle.fs_layout.proofs.MapLaws.{get-with_entry, with_entry-IsMap, same_map}
-use Rattle.fs_model.proofs.StepsDemands.{unrefused, early_met, demands_met, is_read_here}
+use Rattle.fs_model.proofs.StepsDemands.{unrefused, caller_of, early_met, demands_met, is_read_here}
 use Rattle.fs_model.proofs.StepsFit.{scene_is, effect_leaves}
 use Rattle.fs_model.proofs.StepsKeep.{acted_is_state}
 use Rattle.fs_model.proofs.StepsOfDescriptors.{read_fits}
@@ -189,33 +189,31 @@ module _ (pid fd : ℕ) (s new : State) (is : IsState s) (most : ℕ) (bytes : L
   answered_reads (is_halted h a b) = absurd cc
   answered_reads (refuses_early h r a b c) = absurd cc
   answered_reads (refuses_late h r a d b c) = absurd cc
-  answered_reads (acts choice does answered now) = go (get nat_cmp s.processes pid) refl does.early does.late
-    where
-      go : (o : Option Process) → get nat_cmp s.processes pid ≡ o → demand_of (λ p. early_refusal p (row_of (Read fd most))) o ≡ None
-          → demand_of (λ p. late_refusal s p (row_of (Read fd most))) o ≡ None → Reads pid fd most s bytes new
-      go None here firm other = absurd cc
-      go (Some p) here firm other =
-          let early = (early_met p (read_row fd most) firm).0 in
-          let late = (demands_met s p (read_row fd most) other).0 in
-          let is_after = after_is pid fd s is p does.running here early most choice in
-          let free : new.free ≡ choice.free = ap (λ (u : State). u.free) now in
-          let cut : min most run_limit ≡ most = omega (arith, small) in
-          let told : Data bytes ≡ Data (take (min most run_limit) (behind fd s p)) = answered ∙ ap (λ (a : After). a.reply) is_after in
-          let read : bytes ≡ take most (behind fd s p) =
-          (let same : bytes ≡ take (min most run_limit) (behind fd s p) = cc in same ∙ ap (λ (k : ℕ). take k (behind fd s p)) cut) in
-          let may_be : MayBeFree s.room s.tree new.free =
-          subst (λ (k : ℕ). MayBeFree s.room s.tree k) (sym free)
-          (subst (λ (t : Tree). MayBeFree s.room t choice.free) (stays pid fd s is p does.running here early _)
-          (subst (λ (a : After). MayBeFree s.room (tree_after s a) choice.free) is_after does.allowed.free)) in
-          record {
-            process = p;
-            is = record { runs = does.running; here = here; early = early; late = late; may_be = may_be; read = read };
-            left =
-                now ∙ ap (λ (a : After). state_after s a choice.free) is_after
-                ∙ left_is pid fd s is p does.running here early most choice.free small
-                ∙ ap (λ (l : List ℕ). moved pid fd s p (length l) choice.free) (sym read)
-                ∙ ap (λ (k : ℕ). moved pid fd s p (length bytes) k) (sym free);
-          }
+  answered_reads (acts choice does answered now) =
+      let caller = caller_of pid s (read_row fd most) does.early does.late in
+      let p = caller.process in
+      let here = caller.here in
+      let early = (early_met p (read_row fd most) caller.early).0 in
+      let late = (demands_met s p (read_row fd most) caller.late).0 in
+      let is_after = after_is pid fd s is p does.running here early most choice in
+      let free : new.free ≡ choice.free = ap (λ (u : State). u.free) now in
+      let cut : min most run_limit ≡ most = omega (arith, small) in
+      let told : Data bytes ≡ Data (take (min most run_limit) (behind fd s p)) = answered ∙ ap (λ (a : After). a.reply) is_after in
+      let read : bytes ≡ take most (behind fd s p) =
+      (let same : bytes ≡ take (min most run_limit) (behind fd s p) = cc in same ∙ ap (λ (k : ℕ). take k (behind fd s p)) cut) in
+      let may_be : MayBeFree s.room s.tree new.free =
+      subst (λ (k : ℕ). MayBeFree s.room s.tree k) (sym free)
+      (subst (λ (t : Tree). MayBeFree s.room t choice.free) (stays pid fd s is p does.running here early _)
+      (subst (λ (a : After). MayBeFree s.room (tree_after s a) choice.free) is_after does.allowed.free)) in
+      record {
+        process = p;
+        is = record { runs = does.running; here = here; early = early; late = late; may_be = may_be; read = read };
+        left =
+            now ∙ ap (λ (a : After). state_after s a choice.free) is_after
+            ∙ left_is pid fd s is p does.running here early most choice.free small
+            ∙ ap (λ (l : List ℕ). moved pid fd s p (length l) choice.free) (sym read)
+            ∙ ap (λ (k : ℕ). moved pid fd s p (length bytes) k) (sym free);
+      }
   answered_reads (lacks_memory h a b c d) = absurd cc
   answered_reads (read_fails h a b c) = absurd cc
   answered_reads (write_fails choice a b processes h d) = absurd cc

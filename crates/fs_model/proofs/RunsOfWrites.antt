@@ -33,7 +33,7 @@ use Rattle.fs_model.specs.Runs.{WritesInTurn, RunsOfWrites}
 use Rattle.fs_model.proofs.PlacedNodes.{nothing_goes}
 use Rattle.fs_model.proofs.Rewrites.{names_of-rewritten, there-rewritten}
 use Rattle.fs_model.proofs.RunsOfReads.{any_stays, entry_there, entry_over, offset_there, offset_over, has_open, take_parts}
-use Rattle.fs_model.proofs.StepsDemands.{AreMet, unrefused, early_met, demands_met, is_written_here}
+use Rattle.fs_model.proofs.StepsDemands.{AreMet, unrefused, caller_of, early_met, demands_met, is_written_here}
 use Rattle.fs_model.proofs.StepsFit.{EffectFits, scene_is, effect_leaves, node_is_there}
 use Rattle.fs_model.proofs.StepsKeep.{acted_is_state}
 use Rattle.fs_model.proofs.StepsOfDescriptors.{write_fits}
@@ -205,46 +205,44 @@ module _ (pid fd : ℕ) (s new : State) (is : IsState s) (bytes : List ℕ) (cou
   answered_writes are some (is_halted h a b) = absurd cc
   answered_writes are some (refuses_early h r a b c) = absurd cc
   answered_writes are some (refuses_late h r a d b c) = absurd cc
-  answered_writes are some (acts choice does answered now) = go (get nat_cmp s.processes pid) refl does.early does.late
-    where
-      go : (o : Option Process) → get nat_cmp s.processes pid ≡ o → demand_of (λ p. early_refusal p (row_of (Write fd bytes))) o ≡ None
-          → demand_of (λ p. late_refusal s p (row_of (Write fd bytes))) o ≡ None → Writes pid fd s bytes count new
-      go None here firm other = absurd cc
-      go (Some p) here firm other =
-          let early = (early_met p (write_row fd bytes) firm).0 in
-          let met : AreMet (demands_at fd bytes s p) =
-          subst (λ (b : Bool). AreMet (only_if (not b) (demands_at fd bytes s p))) some (demands_met s p (write_row fd bytes) other) in
-          let below : nat_le s.room.file_limit (offset_of fd s p) ≡ false = unrefused EFBIG (nat_le s.room.file_limit (offset_of fd s p)) met.0 in
-          let enough : nat_lt s.free (free_for (length bytes)) ≡ false = unrefused ENOSPC (nat_lt s.free (free_for (length bytes))) met.1.0 in
-          let is_after = after_is pid fd s is p does.running here early bytes choice in
-          let told : Wrote count ≡ (write_effect fd bytes (scene_at fd bytes s p)).reply = answered ∙ ap (λ (a : After). a.reply) is_after in
-          let wrote_so : Wrote count ≡ Wrote (count_at fd bytes s p) =
-          told ∙ ap (λ (b : Bool). (cond b (answers (scene_at fd bytes s p) (Wrote 0)) (effect_by fd s p (count_at fd bytes s p) (take (count_at fd bytes s p) bytes))).reply) some in
-          let counted : count ≡ count_at fd bytes s p = cc in
-          let is_effect : after s (Calls pid (Write fd bytes)) choice ≡ after_effect s pid (effect_by fd s p count (take count bytes)) =
-          is_after ∙ ap (λ (e : Effect). after_effect s pid e) (effect_is fd s p bytes count some counted) in
-          let free : new.free ≡ choice.free = ap (λ (u : State). u.free) now in
-          record {
-            process = p;
-            is = record {
-              runs = does.running;
-              here = here;
-              early = early;
-              some = some;
-              below = below;
-              enough = enough;
-              are = are;
-              counted = counted;
-              may_be =
-                  subst (λ (k : ℕ). MayBeFree s.room (tree_with fd s p (offset_of fd s p) (take count bytes)) k) (sym free)
-                  (subst (λ (t : Tree). MayBeFree s.room t choice.free) (tree_is pid fd s is p does.running here early bytes count are some counted below enough)
-                  (subst (λ (a : After). MayBeFree s.room (tree_after s a) choice.free) is_effect does.allowed.free));
-            };
-            left =
-                now ∙ ap (λ (a : After). state_after s a choice.free) is_effect
-                ∙ left_is pid fd s is p does.running here early bytes count are some counted below enough choice.free
-                ∙ ap (λ (k : ℕ). wrote pid fd s p (offset_of fd s p) (take count bytes) count k) (sym free);
-          }
+  answered_writes are some (acts choice does answered now) =
+      let caller = caller_of pid s (write_row fd bytes) does.early does.late in
+      let p = caller.process in
+      let here = caller.here in
+      let early = (early_met p (write_row fd bytes) caller.early).0 in
+      let met : AreMet (demands_at fd bytes s p) =
+      subst (λ (b : Bool). AreMet (only_if (not b) (demands_at fd bytes s p))) some (demands_met s p (write_row fd bytes) caller.late) in
+      let below : nat_le s.room.file_limit (offset_of fd s p) ≡ false = unrefused EFBIG (nat_le s.room.file_limit (offset_of fd s p)) met.0 in
+      let enough : nat_lt s.free (free_for (length bytes)) ≡ false = unrefused ENOSPC (nat_lt s.free (free_for (length bytes))) met.1.0 in
+      let is_after = after_is pid fd s is p does.running here early bytes choice in
+      let told : Wrote count ≡ (write_effect fd bytes (scene_at fd bytes s p)).reply = answered ∙ ap (λ (a : After). a.reply) is_after in
+      let wrote_so : Wrote count ≡ Wrote (count_at fd bytes s p) =
+      told ∙ ap (λ (b : Bool). (cond b (answers (scene_at fd bytes s p) (Wrote 0)) (effect_by fd s p (count_at fd bytes s p) (take (count_at fd bytes s p) bytes))).reply) some in
+      let counted : count ≡ count_at fd bytes s p = cc in
+      let is_effect : after s (Calls pid (Write fd bytes)) choice ≡ after_effect s pid (effect_by fd s p count (take count bytes)) =
+      is_after ∙ ap (λ (e : Effect). after_effect s pid e) (effect_is fd s p bytes count some counted) in
+      let free : new.free ≡ choice.free = ap (λ (u : State). u.free) now in
+      record {
+        process = p;
+        is = record {
+          runs = does.running;
+          here = here;
+          early = early;
+          some = some;
+          below = below;
+          enough = enough;
+          are = are;
+          counted = counted;
+          may_be =
+              subst (λ (k : ℕ). MayBeFree s.room (tree_with fd s p (offset_of fd s p) (take count bytes)) k) (sym free)
+              (subst (λ (t : Tree). MayBeFree s.room t choice.free) (tree_is pid fd s is p does.running here early bytes count are some counted below enough)
+              (subst (λ (a : After). MayBeFree s.room (tree_after s a) choice.free) is_effect does.allowed.free));
+        };
+        left =
+            now ∙ ap (λ (a : After). state_after s a choice.free) is_effect
+            ∙ left_is pid fd s is p does.running here early bytes count are some counted below enough choice.free
+            ∙ ap (λ (k : ℕ). wrote pid fd s p (offset_of fd s p) (take count bytes) count k) (sym free);
+      }
   answered_writes are some (lacks_memory h a b c d) = absurd cc
   answered_writes are some (read_fails h a b c) = absurd cc
   answered_writes are some (write_fails choice a b processes h d) = absurd cc

@@ -1,6 +1,8 @@
 -- Where nothing refuses, each demand is met.
 use Rattle.std.specs.Prelude.{◌≡◌, ℕ, Bool, true, false, List, [], ◌∷◌, ◌++◌, Option, None, Some, is_some, unwrap_or, ◌&&◌}
 use Rattle.std.proofs.Common.{refl}
+use Rattle.std.specs.Ordering.{nat_cmp}
+use Rattle.fs_layout.specs.Maps.{get}
 use Rattle.std.specs.List.{flat_map}
 use Rattle.fs_cred.specs.declared.errno.Errno.{Errno}
 use Rattle.fs_model.specs.Demands.{Demand, refuse, or_else, first_of}
@@ -8,7 +10,7 @@ use Rattle.fs_model.specs.Parts.{path_checks}
 use Rattle.fs_model.specs.Processes.{Process, Descriptor, descriptor, the_descriptor, no_descriptor}
 use Rattle.fs_model.specs.States.{State}
 use Rattle.fs_model.specs.Scenes.{Row}
-use Rattle.fs_model.specs.Steps.{scene_of, walk_refusals, early_refusal, late_refusal}
+use Rattle.fs_model.specs.Steps.{scene_of, walk_refusals, demand_of, early_refusal, late_refusal}
 
 -- each demand of a list is met
 abbrev pub AreMet : List Demand → Type 0
@@ -72,6 +74,21 @@ paths_met p row h = all_met (paths_asked row) (first_of-right row.arguments (pat
 pub walks_met : (s : State) (p : Process) (row : Row) → late_refusal s p row ≡ None → AreMet (walk_refusals s.room s.tree p 1 row.walks)
 walks_met s p row h =
     all_met (walk_refusals s.room s.tree p 1 row.walks) (first_of-left (walk_refusals s.room s.tree p 1 row.walks) (row.demands (scene_of s p row)) h)
+
+-- the process of a call that nothing refuses
+pub record Caller (pid : ℕ) (s : State) (row : Row) : Type 0 where
+  pub process : Process
+  pub here : get nat_cmp s.processes pid ≡ Some process
+  pub early : early_refusal process row ≡ None
+  pub late : late_refusal s process row ≡ None
+
+pub caller_of : (pid : ℕ) (s : State) (row : Row) → demand_of (λ p. early_refusal p row) (get nat_cmp s.processes pid) ≡ None
+    → demand_of (λ p. late_refusal s p row) (get nat_cmp s.processes pid) ≡ None → Caller pid s row
+caller_of pid s row = go (get nat_cmp s.processes pid) refl
+  where
+    go : (o : Option Process) → get nat_cmp s.processes pid ≡ o → demand_of (λ p. early_refusal p row) o ≡ None → demand_of (λ p. late_refusal s p row) o ≡ None → Caller pid s row
+    go None here early late = absurd cc
+    go (Some p) here early late = record { process = p; here = here; early = early; late = late }
 
 pub early_met : (p : Process) (row : Row) → early_refusal p row ≡ None → AreMet (row.early p)
 early_met p row h = all_met (row.early p) (first_of-right (row.arguments ++ paths_asked row) (row.early p) h)
