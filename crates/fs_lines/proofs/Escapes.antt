@@ -1,13 +1,14 @@
 -- What words say, a part after another.
-use Rattle.std.proofs.Common.{◌≡◌, ℕ, ◌<◌, ◌≤◌, ◌==◌, Bool, true, false, cond, not, ◌||◌, ◌&&◌, List, [], ◌∷◌, ◌++◌, take, drop, length, get_or, slice_index, Option, None, Some, is_some, Result, Ok, Err, refl, sym, ap, ◌∙◌, append_assoc, append-nil, length-take, take_all, take-append-drop, subst, arith}
+use Rattle.std.proofs.Common.{◌≡◌, ℕ, ◌+◌, ◌-◌, ◌*◌, inl, inr, ◌<◌, ◌≤◌, ◌==◌, Bool, true, false, cond, not, ◌||◌, ◌&&◌, List, [], ◌∷◌, ◌++◌, take, drop, length, get_or, slice_index, Option, None, Some, is_some, Result, Ok, Err, refl, sym, ap, ◌∙◌, append_assoc, append-nil, length-take, take_all, take-append-drop, subst, arith}
 use Rattle.std.specs.List.{All}
-use Rattle.std.proofs.lemmas.Bool.{false_from_ne_true}
+use Rattle.std.specs.Prelude.{◌⊎◌, if◌then◌else◌}
+use Rattle.std.proofs.lemmas.Bool.{false_from_ne_true, eqb-true}
 use Rattle.std.proofs.lemmas.List.{get_or-take, get_or-drop, get_or_default}
 use Rattle.std.proofs.lemmas.List.Elements.{All-head, All-tail}
 use Rattle.memchr.specs.Find.{IsFirstByte, Nowhere, Passes, is_byte2}
 use Rattle.fs_lines.specs.declared.line.LineFault.{LineFault}
 use Rattle.fs_lines.specs.declared.line.LineFault.TheVariants.{BadEscape}
-use Rattle.fs_lines.specs.Lines.{◌>>=◌, with_byte, with_escape, with_plain, is_plain, unescaped}
+use Rattle.fs_lines.specs.Lines.{◌>>=◌, with_byte, with_escape, with_plain, is_plain, is_hex_digit, hex_value, unescaped}
 
 -- what has been read, and then the rest
 abbrev pub with_front : {A : Type 0} → List A → Result (List A) LineFault → Result (List A) LineFault
@@ -113,3 +114,35 @@ says_all text (Some n) first none = absurd (cc)
 pub reads_rest : (front rest new : List ℕ) (said : Result (List ℕ) LineFault) → with_front front (unescaped rest) ≡ said → IsFirstByte (is_byte2 92 34) rest None
     → new ≡ front ++ rest → said ≡ Ok new
 reads_rest front rest new said so_far none grown = sym so_far ∙ ap (with_front front) (alone rest none) ∙ ap Ok (sym grown)
+
+-- ---- an escape at the front
+
+pub escape_read : (text : List ℕ) (high low : ℕ) → 3 ≤ length text → get_or text 0 0 ≡ 92 → is_hex_digit (get_or text 1 0) ≡ true → is_hex_digit (get_or text 2 0) ≡ true
+    → high ≡ hex_value (get_or text 1 0) → low ≡ hex_value (get_or text 2 0)
+    → (length (take (length text - 3) (drop 3 text)) < length text)
+    × (unescaped text ≡ with_byte (16 * high + low) (unescaped (take (length text - 3) (drop 3 text))))
+escape_read [] high low long first h l high_is low_is = absurd (omega arith)
+escape_read (b ∷ []) high low long first h l high_is low_is = absurd (omega arith)
+escape_read (b ∷ c ∷ []) high low long first h l high_is low_is = absurd (omega arith)
+escape_read (b ∷ c ∷ d ∷ after) high low long first h l high_is low_is =
+    let all : take (length (b ∷ c ∷ d ∷ after) - 3) after ≡ after = take_all _ after (omega arith) in
+    rw all (omega arith, rw (first, h, l, high_is, low_is) refl)
+
+pub no_escape : (text : List ℕ) → is_plain (get_or text 0 0) ≡ false
+    → (3 ≤ length text → get_or text 0 0 ≡ 92 → (is_hex_digit (get_or text 1 0) ≡ false) ⊎ (is_hex_digit (get_or text 2 0) ≡ false)) → unescaped text ≡ Err BadEscape
+no_escape [] plain digits = absurd cc
+no_escape (b ∷ []) plain digits = rw plain refl
+no_escape (b ∷ c ∷ []) plain digits = rw plain refl
+no_escape (b ∷ c ∷ d ∷ after) plain digits = go (b == 92) refl
+  where
+    escaped : (is_hex_digit c ≡ false) ⊎ (is_hex_digit d ≡ false) → with_escape c d (unescaped after) ≡ Err BadEscape
+    escaped (inl e) = rw e refl
+    escaped (inr e) = either (is_hex_digit c) e
+      where
+        either : (h : Bool) → is_hex_digit d ≡ false → (if h && is_hex_digit d then with_byte (16 * hex_value c + hex_value d) (unescaped after) else Err BadEscape) ≡ Err BadEscape
+        either true e = rw e refl
+        either false e = refl
+
+    go : (e : Bool) → (b == 92) ≡ e → (if e then with_escape c d (unescaped after) else with_plain b (unescaped (c ∷ d ∷ after))) ≡ Err BadEscape
+    go true e = escaped (digits (omega arith) (eqb-true b 92 e))
+    go false e = rw plain refl
