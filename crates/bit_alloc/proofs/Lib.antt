@@ -1,6 +1,8 @@
+pub mod Chains
 pub mod Listed
 pub mod Maps
 pub mod Marking
+pub mod Passing
 pub mod Soundness
 pub mod Taking
 pub mod Transactions

@@ -34,6 +34,11 @@ listed_earlier le w = record { place = w.place; from = omega (arith, w.from, le)
 pub none_listed : {numbers : List ℕ} {from n : ℕ} → IsNumberOf numbers from from n → ⊥
 none_listed w = omega (arith, w.from, w.before)
 
+-- the first is one that the bitmap keeps, if each is
+pub first_kept : (p : Geometry) (map : Bitmap) {numbers : List ℕ} {from : ℕ} → ((n : ℕ) → IsNumberOf numbers 0 (length numbers) n → IsNumber p map n) → from < length numbers
+    → get_or numbers from 0 ≢ 0 → IsNumber p map (get_or numbers from 0)
+first_kept p map {numbers} {from} each within some = each (get_or numbers from 0) (record { place = from; from = omega arith; before = within; is = refl; some = some })
+
 -- ---- in one sector
 -- the bit of a byte that is written
 pub bit_set_same : (s : List ℕ) (n b : ℕ) → length s ≡ 512 → bit (λ _. set s (n % 4096 / 8) b) 0 n ≡ nat_eq (bit_at b (n % 8)) 1

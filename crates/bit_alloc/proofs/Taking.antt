@@ -1,9 +1,8 @@
 -- Numbers are taken, one after the other.
---     with_next        what stands at each place, with something else past one
 use Rattle.std.proofs.Common.{◌≡◌, ◌≢◌, ℕ, zero, suc, ◌+◌, ◌*◌, ◌-◌, ◌/◌, ◌%◌, ◌<◌, ◌≤◌, false, nat_eq, List, get_or, set, refl, sym, ap, subst, ◌∙◌, arith, inl, inr, IsTrue}
-use Rattle.std.specs.Prelude.{nat_lt, if◌then◌else◌}
+use Rattle.std.specs.Prelude.{if◌then◌else◌}
 use Rattle.std.specs.Int.{bit_at}
-use Rattle.std.proofs.lemmas.Bool.{cases_eq, cases_lt, eq-eqb, ne_eqb, le-ltb, lt-ltb}
+use Rattle.std.proofs.lemmas.Bool.{cases_eq, eq-eqb, ne_eqb}
 use Rattle.fs_layout.specs.declared.geometry.Geometry.{Geometry}
 use Rattle.fs_layout.specs.Header.{log_end}
 use Rattle.fs_layout.specs.Bytes.{SectorMap, IsSector}
@@ -19,20 +18,10 @@ use Rattle.bit_alloc.specs.declared.bitmap.Bitmap.TheVariants.{Inodes, Blocks}
 use Rattle.bit_alloc.specs.Bits.{SetsNumber, SetsListed}
 use Rattle.bit_alloc.specs.Bitmaps.{first_sector, bit_count, least, IsNumber, IsNumberOf, free_numbers, IsSectorOf, IsMapSector, Marks, TakesNumber, TakesNumbers, HasRestSet, HasBitmaps}
 use Rattle.bit_alloc.specs.Room.{bitmaps, HasSpare}
+use Rattle.bit_alloc.proofs.Chains.{chain_none, chain_weaker, chain_joined, chain_one}
 use Rattle.bit_alloc.proofs.Listed.{bit_set_same, bit_set_other, seen, listed_put}
 use Rattle.bit_alloc.proofs.Maps.{clear_is_free}
 use Rattle.bit_alloc.proofs.Marking.{IsSector-set, one_less_free, tables_kept, rest_kept, in_bitmaps}
-
--- ---- places
--- what stands there up to place i, and then something else
-abbrev pub with_next : {A : Type 0} → (ℕ → A) → ℕ → (ℕ → A) → ℕ → A
-with_next before i after j = if nat_lt i j then after j else before j
-
-pub up_to : {A : Type 0} (before after : ℕ → A) (i j : ℕ) → j ≤ i → with_next before i after j ≡ before j
-up_to before after i j le = rw (le-ltb i j le) refl
-
-pub past : {A : Type 0} (before after : ℕ → A) (i j : ℕ) → i < j → with_next before i after j ≡ after j
-past before after i j lt = rw (lt-ltb i j lt) refl
 
 -- ---- in one sector
 -- the lowest bit that is clear becomes set
@@ -57,34 +46,18 @@ sets_number {t} k b byte whole few clear small here others =
     }
 
 pub sets_none : {numbers : List ℕ} {k from : ℕ} {s : List ℕ} → SetsListed numbers k from from s s
-sets_none {s = s} = record { until = λ i. s; first = refl; last = refl; each = λ i low high. absurd (omega (arith, low, high)) }
+sets_none = record { steps = chain_none }
 
 -- a number more
 pub sets_one : {numbers longer : List ℕ} {k from i : ℕ} {s t u : List ℕ} → SetsListed numbers k from i s t → from ≤ i
     → ((j : ℕ) → j < i → get_or longer j 0 ≡ get_or numbers j 0) → SetsNumber k (get_or longer i 0) t u → SetsListed longer k from (i + 1) s u
-sets_one {numbers} {longer} {k} {from} {i} {s} {t} {u} so_far low same one =
-    let before : ℕ → List ℕ = so_far.until in
-    let after : ℕ → List ℕ = λ j. u in
-    record {
-      until = with_next before i after;
-      first = up_to before after i from low ∙ so_far.first;
-      last = past before after i (i + 1) (omega arith);
-      each = λ j ge lt. elim (cases_lt j i) [
-        | inl earlier ↦
-            subst (λ (b : List ℕ). SetsNumber k (get_or longer j 0) (with_next before i after j) b) (sym (up_to before after i (j + 1) (omega (arith, earlier))))
-            (subst (λ (a : List ℕ). SetsNumber k (get_or longer j 0) a (before (j + 1))) (sym (up_to before after i j (omega (arith, earlier))))
-            (subst (λ (n : ℕ). SetsNumber k n (before j) (before (j + 1))) (sym (same j earlier)) (so_far.each j ge earlier)))
-        | inr later ↦
-            let is : i ≡ j = omega (arith, later, lt) in
-            subst (λ (m : ℕ). SetsNumber k (get_or longer m 0) (with_next before i after m) (with_next before i after (m + 1))) is
-            (subst (λ (b : List ℕ). SetsNumber k (get_or longer i 0) (with_next before i after i) b) (sym (past before after i (i + 1) (omega arith)))
-            (subst (λ (a : List ℕ). SetsNumber k (get_or longer i 0) a u) (sym (up_to before after i i (omega arith) ∙ so_far.last)) one))
-      ];
-    }
+sets_one {k = k} so_far low same one = record {
+  steps = chain_one (chain_weaker (λ j x y lt. subst (λ (n : ℕ). SetsNumber k n x y) (sym (same j lt))) so_far.steps) low one;
+}
 
 -- where none was set the sector is as it was
 pub sets_nothing : {numbers : List ℕ} {k from end : ℕ} {s t : List ℕ} → SetsListed numbers k from end s t → end ≡ from → s ≡ t
-sets_nothing c is = sym c.first ∙ ap c.until (sym is) ∙ c.last
+sets_nothing c is = sym c.steps.first ∙ ap c.steps.until (sym is) ∙ c.steps.last
 
 -- ---- in the bitmap
 -- the sectors with another content for one
@@ -109,27 +82,27 @@ still_has {p} {map} {n} {old} {new} has c = record {
 }
 
 module _ {p : Geometry} {map : Bitmap} {numbers : List ℕ} {from end : ℕ} {old new : SectorMap} (c : TakesNumbers p map numbers from end old new) where
-  has_from : HasTables p old → (d : ℕ) → from + d ≤ end → HasTables p (c.until (from + d))
+  has_from : HasTables p old → (d : ℕ) → from + d ≤ end → HasTables p (c.steps.until (from + d))
   has_from has zero le =
       let same : from + 0 ≡ from = omega arith in
-      subst (HasTables p) (sym (ap c.until same ∙ c.first)) has
+      subst (HasTables p) (sym (ap c.steps.until same ∙ c.steps.first)) has
   has_from has (suc d) le =
       let next : from + d + 1 ≡ from + suc d = omega arith in
-      subst (λ (i : ℕ). HasTables p (c.until i)) next (still_has (has_from has d (omega (arith, le))) (c.each (from + d) (omega arith) (omega (arith, le))))
+      subst (λ (i : ℕ). HasTables p (c.steps.until i)) next (still_has (has_from has d (omega (arith, le))) (c.steps.each (from + d) (omega arith) (omega (arith, le))))
 
   has_then : from ≤ end → HasTables p old → HasTables p new
   has_then ordered has =
       let all : from + (end - from) ≡ end = omega (arith, ordered) in
-      subst (HasTables p) (ap c.until all ∙ c.last) (has_from has (end - from) (omega (arith, ordered)))
+      subst (HasTables p) (ap c.steps.until all ∙ c.steps.last) (has_from has (end - from) (omega (arith, ordered)))
 
-  free_from : (d : ℕ) → from + d ≤ end → free_numbers p map old ≡ free_numbers p map (c.until (from + d)) + d
+  free_from : (d : ℕ) → from + d ≤ end → free_numbers p map old ≡ free_numbers p map (c.steps.until (from + d)) + d
   free_from zero le =
       let same : from + 0 ≡ from = omega arith in
-      let e = ap (free_numbers p map) (ap c.until same ∙ c.first) in omega (arith, e)
+      let e = ap (free_numbers p map) (ap c.steps.until same ∙ c.steps.first) in omega (arith, e)
   free_from (suc d) le =
       let next : from + d + 1 ≡ from + suc d = omega arith in
-      let one = (c.each (from + d) (omega arith) (omega (arith, le))).count in
-      let e = ap (λ (i : ℕ). free_numbers p map (c.until i)) next in
+      let one = (c.steps.each (from + d) (omega arith) (omega (arith, le))).count in
+      let e = ap (λ (i : ℕ). free_numbers p map (c.steps.until i)) next in
       let before = free_from d (omega (arith, le)) in
       omega (arith, one, e, before)
 
@@ -137,14 +110,14 @@ module _ {p : Geometry} {map : Bitmap} {numbers : List ℕ} {from end : ℕ} {ol
   pub fewer_free : from ≤ end → free_numbers p map old ≡ free_numbers p map new + (end - from)
   fewer_free ordered =
       let all : from + (end - from) ≡ end = omega (arith, ordered) in
-      let e = ap (free_numbers p map) (ap c.until all ∙ c.last) in
+      let e = ap (free_numbers p map) (ap c.steps.until all ∙ c.steps.last) in
       let count = free_from (end - from) (omega (arith, ordered)) in
       omega (arith, count, e)
 
   -- each is a number
   pub taken_is_number : (n : ℕ) → IsNumberOf numbers from end n → IsNumber p map n
   taken_is_number n w =
-      let free = (c.each w.place w.from w.before).free in
+      let free = (c.steps.each w.place w.from w.before).free in
       subst (IsNumber p map) w.is (free.0, free.1)
 
   pub taken_listed : IsGeometry p → (i : ℕ) → from ≤ i → i < end → IsNumberOf numbers from end (get_or numbers i 0)
@@ -153,7 +126,7 @@ module _ {p : Geometry} {map : Bitmap} {numbers : List ℕ} {from end : ℕ} {ol
     from = low;
     before = high;
     is = refl;
-    some = λ e. let least = least_some map geometry in let ge = (c.each i low high).free.0 in omega (arith, e, least, ge);
+    some = λ e. let least = least_some map geometry in let ge = (c.steps.each i low high).free.0 in omega (arith, e, least, ge);
   }
     where
       least_some : (map : Bitmap) → IsGeometry p → 0 < least p map
@@ -173,36 +146,14 @@ bitmaps_taken {p} {map} {numbers} {from} {end} {old} {new} has store ordered c =
     }
 
 pub takes_none : {p : Geometry} {map : Bitmap} {numbers : List ℕ} {from : ℕ} {image : SectorMap} → TakesNumbers p map numbers from from image image
-takes_none {image = image} = record { until = λ i. image; first = refl; last = refl; each = λ i low high. absurd (omega (arith, low, high)) }
+takes_none = record { steps = chain_none }
 
 -- those up to a place, and then the next
 pub takes_joined : {p : Geometry} {map : Bitmap} {numbers longer : List ℕ} {from next end : ℕ} {old mid new : SectorMap} → TakesNumbers p map numbers from next old mid
     → ((j : ℕ) → j < next → get_or longer j 0 ≡ get_or numbers j 0) → from ≤ next → next < end → TakesNumbers p map longer next end mid new → TakesNumbers p map longer from end old new
-takes_joined {p} {map} {numbers} {longer} {from} {next} {end} a same low more b =
-    let before : ℕ → SectorMap = a.until in
-    let after : ℕ → SectorMap = b.until in
-    let Takes : ℕ → SectorMap → SectorMap → Type 0 = λ n x y. TakesNumber p map n x y in
-    record {
-      until = with_next before next after;
-      first = up_to before after next from low ∙ a.first;
-      last = past before after next end more ∙ b.last;
-      each = λ j ge lt. elim (cases_lt j next) [
-        | inl earlier ↦
-            subst (λ (y : SectorMap). Takes (get_or longer j 0) (with_next before next after j) y) (sym (up_to before after next (j + 1) (omega (arith, earlier))))
-            (subst (λ (x : SectorMap). Takes (get_or longer j 0) x (before (j + 1))) (sym (up_to before after next j (omega (arith, earlier))))
-            (subst (λ (n : ℕ). Takes n (before j) (before (j + 1))) (sym (same j earlier)) (a.each j ge earlier)))
-        | inr later ↦
-            subst (λ (y : SectorMap). Takes (get_or longer j 0) (with_next before next after j) y) (sym (past before after next (j + 1) (omega (arith, later))))
-            (subst (λ (x : SectorMap). Takes (get_or longer j 0) x (after (j + 1))) (sym (here j later)) (b.each j later lt))
-      ];
-    }
-  where
-    here : (j : ℕ) → next ≤ j → with_next a.until next b.until j ≡ b.until j
-    here j later = elim (cases_eq j next) [
-      | inl e ↦
-          up_to a.until b.until next j (omega (arith, e)) ∙ ap a.until e ∙ a.last ∙ sym b.first ∙ ap b.until (sym e)
-      | inr ne ↦ past a.until b.until next j (omega (arith, later, ne))
-    ]
+takes_joined {p} {map} a same low more b = record {
+  steps = chain_joined (chain_weaker (λ j x y lt. subst (λ (n : ℕ). TakesNumber p map n x y) (sym (same j lt))) a.steps) low more b.steps;
+}
 
 -- nothing is read but what is there
 pub takes_after : {p : Geometry} {map : Bitmap} {numbers : List ℕ} {from end : ℕ} {old mid new : SectorMap} → old ≡ mid → TakesNumbers p map numbers from end mid new
@@ -241,38 +192,40 @@ module _ {p : Geometry} (map : Bitmap) (k : ℕ) (geometry : IsGeometry p) (low 
   pub takes_listed : {numbers : List ℕ} {from end : ℕ} {s t : List ℕ} {old new : SectorMap} → HasWholeTables p old → HasRestSet p old → s ≡ old (first_sector p map + k)
       → Puts (first_sector p map + k) t old new → SetsListed numbers k from end s t → TakesNumbers p map numbers from end old new
   takes_listed {numbers} {from} {end} {s} {t} {old} {new} tables rest here put c = record {
-    until = until;
-    first = λ i u. is_old u i;
-    last = λ i u. is_new u i;
-    each = λ i ge lt. step i (has_at i ge lt) ge lt;
+    steps = record {
+      until = until;
+      first = λ i u. is_old u i;
+      last = λ i u. is_new u i;
+      each = λ i ge lt. step i (has_at i ge lt) ge lt;
+    };
   }
     where
       at : ℕ
       at = first_sector p map + k
 
       until : ℕ → SectorMap
-      until i = with_sector old at (c.until i)
+      until i = with_sector old at (c.steps.until i)
 
       is_old : (u : ℕ) → until from u ≡ old u
       is_old u = elim (cases_eq u at) [
-        | inl e ↦ subst (λ (v : ℕ). until from v ≡ old v) (sym e) (at_sector old at (c.until from) ∙ c.first ∙ here)
-        | inr ne ↦ off_sector old at (c.until from) u ne
+        | inl e ↦ subst (λ (v : ℕ). until from v ≡ old v) (sym e) (at_sector old at (c.steps.until from) ∙ c.steps.first ∙ here)
+        | inr ne ↦ off_sector old at (c.steps.until from) u ne
       ]
 
       is_new : (u : ℕ) → until end u ≡ new u
       is_new u = elim (cases_eq u at) [
-        | inl e ↦ subst (λ (v : ℕ). until end v ≡ new v) (sym e) (at_sector old at (c.until end) ∙ c.last ∙ sym put.here)
-        | inr ne ↦ off_sector old at (c.until end) u ne ∙ sym (put.others u ne)
+        | inl e ↦ subst (λ (v : ℕ). until end v ≡ new v) (sym e) (at_sector old at (c.steps.until end) ∙ c.steps.last ∙ sym put.here)
+        | inr ne ↦ off_sector old at (c.steps.until end) u ne ∙ sym (put.others u ne)
       ]
 
-      puts : (i : ℕ) → Puts at (c.until (i + 1)) (until i) (until (i + 1))
+      puts : (i : ℕ) → Puts at (c.steps.until (i + 1)) (until i) (until (i + 1))
       puts i = record {
-        here = at_sector old at (c.until (i + 1));
-        others = λ u ne. off_sector old at (c.until (i + 1)) u ne ∙ sym (off_sector old at (c.until i) u ne);
+        here = at_sector old at (c.steps.until (i + 1));
+        others = λ u ne. off_sector old at (c.steps.until (i + 1)) u ne ∙ sym (off_sector old at (c.steps.until i) u ne);
       }
 
       step : (i : ℕ) → HasTables p (until i) → from ≤ i → i < end → TakesNumber p map (get_or numbers i 0) (until i) (until (i + 1))
-      step i has ge lt = number_taken has (sym (at_sector old at (c.until i))) (puts i) (c.each i ge lt)
+      step i has ge lt = number_taken has (sym (at_sector old at (c.steps.until i))) (puts i) (c.steps.each i ge lt)
 
       has_since : (d : ℕ) → from + d < end → HasTables p (until (from + d))
       has_since zero lt =
@@ -307,9 +260,9 @@ pub taken_puts : {p : Geometry} {map : Bitmap} {numbers : List ℕ} {k from end 
     → TakesNumbers p map numbers from end first last → SetsListed numbers k from end s t → IsPut (first_sector p map + k) t old new
     → PutsOnly (IsSectorOf p map (IsNumberOf numbers from end)) (bitmaps p) 0 old new
 taken_puts {p} {map} {numbers} {from = from} {end} {t = t} {old = old} {new} geometry some c set put =
-    let free = (c.each from (omega arith) some).free in
+    let free = (c.steps.each from (omega arith) some).free in
     listed_put (get_or numbers from 0) geometry free.1 (taken_listed c geometry from (omega arith) some)
-    (subst (λ (k : ℕ). IsPut (first_sector p map + k) t old new) (sym (set.each from (omega arith) some).here) put)
+    (subst (λ (k : ℕ). IsPut (first_sector p map + k) t old new) (sym (set.steps.each from (omega arith) some).here) put)
 
 -- the sectors of numbers that stay on the list
 pub listed_puts_same : {p : Geometry} {map : Bitmap} {numbers longer : List ℕ} {from next : ℕ} {old new : TxnState} → ((j : ℕ) → j < next → get_or longer j 0 ≡ get_or numbers j 0)

@@ -20,6 +20,7 @@ use Rattle.fs_layout.specs.Geometry.{IsGeometry}
 use Rattle.fs_layout.specs.Images.{HasWholeTables, inode_map_bits, map_bits, bit, free_sectors}
 use Rattle.fs_layout.specs.InodeChanges.{IsInodeMap, IsBlockMap, MarksSector, MarksInode}
 use Rattle.sector_txn.specs.Sectors.{TxnState}
+use Rattle.bit_alloc.specs.Chains.{IsChain}
 
 -- the first sector of the bitmap
 abbrev pub first_sector : Geometry → Bitmap → ℕ
@@ -87,11 +88,7 @@ pub record TakesNumber (p : Geometry) (map : Bitmap) (n : ℕ) (old new : Sector
 
 -- the numbers of a list from place `from` on, before place `end`, are taken, one after the other
 pub record TakesNumbers (p : Geometry) (map : Bitmap) (numbers : List ℕ) (from end : ℕ) (old new : SectorMap) : Type 0 where
-  -- the sectors where those before place i are taken
-  pub until : ℕ → SectorMap
-  pub first : until from ≡ old
-  pub last : until end ≡ new
-  pub each : (i : ℕ) → from ≤ i → i < end → TakesNumber p map (get_or numbers i 0) (until i) (until (i + 1))
+  pub steps : IsChain (λ i. TakesNumber p map (get_or numbers i 0)) from end old new
 
 -- the bit of n is clear
 pub record GivesNumber (p : Geometry) (map : Bitmap) (n : ℕ) (old new : SectorMap) : Type 0 where

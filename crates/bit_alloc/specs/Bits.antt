@@ -4,11 +4,12 @@
 --     ClearsListed        the bits of numbers of a list become clear
 --     SetsNumber, SetsListed        the bit of a number becomes set, which was clear; those of a list do, one after the other
 --     clear_below        how many of a bitmap's first bits are clear
-use Rattle.std.specs.Prelude.{◌≡◌, ◌≢◌, ℕ, ◌+◌, ◌*◌, ◌-◌, ◌/◌, ◌^◌, ◌<◌, ◌≤◌, ◌⊎◌, List, get_or, false, not, IsTrue, count_by}
+use Rattle.std.specs.Prelude.{◌≡◌, ◌≢◌, ℕ, ◌*◌, ◌-◌, ◌/◌, ◌^◌, ◌<◌, ◌⊎◌, List, get_or, false, not, IsTrue, count_by}
 use Rattle.std.specs.List.{range_with_len}
 use Rattle.fs_layout.specs.Bytes.{SectorMap, IsSector, u64_of}
 use Rattle.fs_layout.specs.Images.{bit}
 use Rattle.bit_alloc.specs.Bitmaps.{IsNumberOf}
+use Rattle.bit_alloc.specs.Chains.{IsChain}
 
 -- each of the first n bits is set
 abbrev pub AreSet : List ℕ → ℕ → Type 0
@@ -40,11 +41,7 @@ pub record SetsNumber (k n : ℕ) (old new : List ℕ) : Type 0 where
 
 -- so it goes with the numbers of a list from place `from` on, before place `end`, one after the other
 pub record SetsListed (numbers : List ℕ) (k from end : ℕ) (old new : List ℕ) : Type 0 where
-  -- the sector where those before place i are set
-  pub until : ℕ → List ℕ
-  pub first : until from ≡ old
-  pub last : until end ≡ new
-  pub each : (i : ℕ) → from ≤ i → i < end → SetsNumber k (get_or numbers i 0) (until i) (until (i + 1))
+  pub steps : IsChain (λ i. SetsNumber k (get_or numbers i 0)) from end old new
 
 -- how many of the first n bits of the bitmap that begins at a sector are clear
 unfoldable pub clear_below : SectorMap → ℕ → ℕ → ℕ

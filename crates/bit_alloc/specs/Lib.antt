@@ -1,5 +1,7 @@
 pub mod Bitmaps
 pub mod Bits
+pub mod Calls
+pub mod Chains
 pub mod Faults
 pub mod Inodes
 pub mod Laws

@@ -18,8 +18,8 @@ pub enum Bitmap {
 }
 
 impl Bitmap {
-    // The first sector of the bitmap.
-    pub(crate) fn first(self, geometry: Geometry) -> u32
+    /// The first sector of the bitmap.
+    pub fn first(self, geometry: Geometry) -> u32
         ensures { result ≡ first_sector geometry self }
     {
         match self {
@@ -28,8 +28,8 @@ impl Bitmap {
         }
     }
 
-    // How many sectors it has.
-    pub(crate) fn sectors(self, geometry: Geometry) -> u32
+    /// How many sectors it has.
+    pub fn sectors(self, geometry: Geometry) -> u32
         requires { IsGeometry geometry }
         ensures { 4096 * result ≡ bit_count geometry self }
     {

@@ -2,11 +2,8 @@
 
 ghost use Rattle.std.specs.Prelude.{◌≡◌, ◌≤◌, ◌<◌, ℕ, length, get_or, false, IfOk, IfErr, OnOk, OnErr};
 ghost use Rattle.fs_layout.specs.Images.{bit};
-ghost use Rattle.sector_disk.specs.Disk.{HasCause};
-ghost use Rattle.sector_txn.specs.Sectors.{IsUnchanged, PutsOnly, SameStore};
-ghost use Rattle.bit_alloc.specs.Bitmaps.{first_sector, IsNumber, IsNumberOf, free_numbers, sector_of, IsSectorOf, Marks, TakesNumber, TakesNumbers, GivesNumber, GivesNumbers, HasBitmaps};
-ghost use Rattle.bit_alloc.specs.Faults.{HasCauseOf};
-ghost use Rattle.bit_alloc.specs.Room.{bitmaps, HasSpare};
+ghost use Rattle.bit_alloc.specs.Calls.{HasBitmaps, bitmaps, HasSpare, SameStore, IsUnchanged, PutsOnly, HasCause, HasCauseOf};
+ghost use Rattle.bit_alloc.specs.Bitmaps.{first_sector, IsNumber, IsNumberOf, free_numbers, sector_of, IsSectorOf, Marks, TakesNumber, TakesNumbers, GivesNumber, GivesNumbers};
 
 use crate::bits::{clear_listed, set_listed, with_bit};
 use crate::{Bitmap, TakeFault};
@@ -51,7 +48,8 @@ pub fn take_all<S: Sectors>(
     requires bitmaps { HasBitmaps geometry (S.state s.old) }
     requires room { HasSpare geometry 0 (S.state s.old) }
     ensures len { length numbers.new ≡ length numbers.old }
-    ensures taken { OnOk result (TakesNumbers geometry map numbers.new 0 (length numbers.new) (S.state s.old).sectors (S.state s.new).sectors) }
+    ensures taken { OnOk result (TakesNumbers geometry map numbers.new 0 (length numbers.new)
+        (S.state s.old).sectors (S.state s.new).sectors) }
     ensures puts { OnOk result (PutsOnly (IsSectorOf geometry map (IsNumberOf numbers.new 0 (length numbers.new))) (bitmaps geometry) 0
         (S.state s.old) (S.state s.new)) }
     ensures bitmaps { OnOk result (HasBitmaps geometry (S.state s.new)) }

@@ -13,10 +13,9 @@
 ghost use Rattle.std.specs.Prelude.{◌≡◌, ◌≢◌, ◌+◌, ◌*◌, ◌≤◌, ◌<◌, ◌⊎◌, ℕ, None, Contains, IfOk};
 ghost use Rattle.fs_layout.specs.Geometry.{IsGeometry};
 ghost use Rattle.fs_layout.specs.Header.{log_end};
-ghost use Rattle.sector_disk.specs.Disk.{HasCause};
-ghost use Rattle.sector_txn.specs.Sectors.{IsUnchanged};
+ghost use Rattle.bit_alloc.specs.Calls.{HasBitmaps, IsUnchanged, HasCause};
 ghost use Rattle.bit_alloc.specs.Bits.{clear_below};
-ghost use Rattle.bit_alloc.specs.Bitmaps.{first_sector, bit_count, free_numbers, HasBitmaps};
+ghost use Rattle.bit_alloc.specs.Bitmaps.{free_numbers};
 ghost use Rattle.free_counts.specs.Known.{count_known, TellsClear};
 
 use bit_alloc::Bitmap;
@@ -26,27 +25,6 @@ use sector_disk::DiskFault;
 use sector_txn::Sectors;
 use std::alloc::{AllocError, Global};
 use std::marker::Model;
-
-// The first sector of a bitmap.
-fn first_of(geometry: Geometry, map: Bitmap) -> u32
-    ensures { result ≡ first_sector geometry map }
-{
-    match map {
-        Bitmap::Inodes => geometry.inode_bitmap,
-        Bitmap::Blocks => geometry.block_bitmap,
-    }
-}
-
-// How many sectors it has.
-fn sectors_of(geometry: Geometry, map: Bitmap) -> u32
-    requires { IsGeometry geometry }
-    ensures { 4096 * result ≡ bit_count geometry map }
-{
-    match map {
-        Bitmap::Inodes => geometry.block_bitmap - geometry.inode_bitmap,
-        Bitmap::Blocks => geometry.table - geometry.block_bitmap,
-    }
-}
 
 // How many words of 64 bits a sector has.
 const WORDS: u32 = 64;
@@ -163,10 +141,10 @@ impl FreeCounts {
         ensures same { IsUnchanged (S.state s.old) (S.state s.new) }
         ensures cause { HasCause (S.state s.old).disk (S.state s.new).disk result }
     {
-        let sectors = sectors_of(geometry, map);
+        let sectors = map.sectors(geometry);
         let mut free = 0;
         for k in 0..sectors {
-            free += self.count_sector(s, first_of(geometry, map) + k)?;
+            free += self.count_sector(s, map.first(geometry) + k)?;
         }
         Ok(free)
     }

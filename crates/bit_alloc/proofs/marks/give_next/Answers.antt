@@ -3,33 +3,28 @@ use Rattle.std.proofs.lemmas.Bool.{cases_lt}
 use Rattle.fs_layout.specs.Bytes.{SectorMap}
 use Rattle.fs_layout.specs.InodeChanges.{Puts}
 use Rattle.sector_txn.specs.Sectors.{IsPut}
-use Rattle.bit_alloc.specs.Bitmaps.{first_sector, IsNumberOf, IsNumber, GivesNumbers}
-use Rattle.bit_alloc.proofs.Listed.{bitmaps_given, gives_listed, in_disk, in_map, listed_earlier, listed_put, listed_wider}
+use Rattle.bit_alloc.specs.Bitmaps.{first_sector, IsNumberOf, GivesNumbers}
+use Rattle.bit_alloc.proofs.Listed.{bitmaps_given, first_kept, gives_listed, in_disk, in_map, listed_earlier, listed_put, listed_wider}
 use Rattle.bit_alloc.proofs.Marking.{room_to_mark}
 use Rattle.bit_alloc.proofs.Transactions.{bitmaps_unchanged, map_unchanged, puts_after, spare_unchanged}
 use Rattle.bit_alloc.proofs.marks.give_next.Goals as goal
 
 pub get-requires-clause-on_disk : goal.get-requires-clause-on_disk
 get-requires-clause-on_disk g c =
-    let n : ℕ = get_or c.args.numbers.now c.args.from 0 in
-    let is : IsNumber c.args.geometry c.args.map n =
-    c.requires.numbers n (record { place = c.args.from; from = omega arith; before = c.requires.within; is = refl; some = c.if-numbers-from-eq0.false }) in
-    let low = in_disk c.args.map n c.requires.bitmaps is.1 in
+    let is = first_kept c.args.geometry c.args.map c.requires.numbers c.requires.within c.if-numbers-from-eq0.false in
+    let low = in_disk c.args.map _ c.requires.bitmaps is.1 in
     omega (arith, low, c.first.ensures)
 
 pub put-requires-clause-on_disk : goal.put-requires-clause-on_disk
 put-requires-clause-on_disk g c =
-    let n : ℕ = get_or c.args.numbers.now c.args.from 0 in
-    let is : IsNumber c.args.geometry c.args.map n =
-    c.requires.numbers n (record { place = c.args.from; from = omega arith; before = c.requires.within; is = refl; some = c.if-numbers-from-eq0.false }) in
-    let low = in_disk c.args.map n c.requires.bitmaps is.1 in
+    let is = first_kept c.args.geometry c.args.map c.requires.numbers c.requires.within c.if-numbers-from-eq0.false in
+    let low = in_disk c.args.map _ c.requires.bitmaps is.1 in
     omega (arith, low, c.first-2.ensures, c.in_ok-get.ensures.same.store.reads.narrowed.size)
 
 pub put-requires-clause-room : goal.put-requires-clause-room
 put-requires-clause-room g c = λ none.
     let n : ℕ = get_or c.args.numbers.now c.args.from 0 in
-    let is : IsNumber c.args.geometry c.args.map n =
-    c.requires.numbers n (record { place = c.args.from; from = omega arith; before = c.requires.within; is = refl; some = c.if-numbers-from-eq0.false }) in
+    let is = first_kept c.args.geometry c.args.map c.requires.numbers c.requires.within c.if-numbers-from-eq0.false in
     let mid = g.S.Sectors.state c.get.new.self in
     room_to_mark c.args.geometry c.args.map n mid c.requires.bitmaps.geometry is.1
     (spare_unchanged c.args.geometry 0 (g.S.Sectors.state c.args.s.now) mid c.requires.room c.in_ok-get.ensures.same)
@@ -41,8 +36,7 @@ returns-clause-given g c =
     let map = c.args.map in
     let numbers : List ℕ = c.args.numbers.now in
     let n : ℕ = get_or numbers c.args.from 0 in
-    let is : IsNumber p map n =
-    c.requires.numbers n (record { place = c.args.from; from = omega arith; before = c.requires.within; is = refl; some = c.if-numbers-from-eq0.false }) in
+    let is = first_kept c.args.geometry c.args.map c.requires.numbers c.requires.within c.if-numbers-from-eq0.false in
     let old = g.S.Sectors.state c.args.s.now in
     let mid = g.S.Sectors.state c.get.new.self in
     let new = g.S.Sectors.state c.put.new.self in
@@ -61,8 +55,7 @@ returns-clause-puts g c =
     let from : ℕ = c.args.from in
     let end : ℕ = c.clear_listed-end.result in
     let n : ℕ = get_or numbers from 0 in
-    let is : IsNumber c.args.geometry c.args.map n =
-    c.requires.numbers n (record { place = from; from = omega arith; before = c.requires.within; is = refl; some = c.if-numbers-from-eq0.false }) in
+    let is = first_kept c.args.geometry c.args.map c.requires.numbers c.requires.within c.if-numbers-from-eq0.false in
     let within = c.clear_listed-end.ensures.within in
     let low = within.0 in
     let more : from < end = elim (cases_lt from end) [

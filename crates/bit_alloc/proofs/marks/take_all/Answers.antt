@@ -1,9 +1,8 @@
-use Rattle.std.proofs.Common.{◌≡◌, ◌<◌, ◌∙◌, sym, refl, arith, Result, Ok, Err, ℕ, get_or}
-use Rattle.std.specs.Prelude.{IsErr, IsErrAnd, IfErr}
-use Rattle.bit_alloc.specs.declared.bitmap.TakeFault.{TakeFault}
+use Rattle.std.proofs.Common.{◌≡◌, ◌<◌, ◌∙◌, refl, arith, ℕ, get_or}
 use Rattle.sector_txn.proofs.TransactionRuns.{changes_nothing}
 use Rattle.bit_alloc.specs.Room.{bitmaps}
 use Rattle.bit_alloc.proofs.Listed.{listed_puts}
+use Rattle.bit_alloc.proofs.Passing.{through_try}
 use Rattle.bit_alloc.proofs.Soundness.{spare_then}
 use Rattle.bit_alloc.proofs.Taking.{takes_none, takes_joined, fewer_free, listed_puts_same}
 use Rattle.bit_alloc.proofs.marks.take_all.Goals as goal
@@ -33,19 +32,10 @@ loop-at-preserved g c =
       bitmaps = c.in_ok-at.ensures.bitmaps;
     }
 
--- what is said of a fault is said where it is passed on
-passed_on : {Q : Type 0} {e fault : TakeFault} → (e ≡ fault → Q) → (r : Result (Unit {0}) TakeFault) → IsErr r → IsErrAnd r (λ y. y ≡ e) → IfErr r (λ y. y ≡ fault → Q)
-passed_on {e = e} said (Ok u) err and = absurd (ok_is_no_err err)
-  where
-    ok_is_no_err : IsErr {T = Unit {0}} {E = TakeFault} (Ok u) → ⊥
-    ok_is_no_err h = cc
-passed_on {e = e} said (Err y) err and = λ is. said (sym and ∙ is)
-
 pub returns-in_err-at-clause-full : goal.returns-in_err-at-clause-full
 returns-in_err-at-clause-full g c =
     let x = c.loop-at.invariant in
-    let passed = c.from_residual.ensures in
-    passed_on (λ is.
+    through_try _ c.from_residual.result c.in_err-at.field-0.0 c.from_residual.ensures (λ is.
     let none = c.in_err-at.ensures.full is in
     let count = fewer_free x.taken (omega arith) in
-    omega (arith, none, count, c.loop-at-test.true, x.len)) c.from_residual.result passed.0 passed.1
+    omega (arith, none, count, c.loop-at-test.true, x.len))

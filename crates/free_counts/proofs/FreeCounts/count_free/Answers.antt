@@ -17,13 +17,13 @@ loop-k-init g c = record {
 
 pub count_sector-requires-clause-part : goal.count_sector-requires-clause-part
 count_sector-requires-clause-part g c =
-    let at = sector_within c.args.geometry c.args.map c.loop-k.k c.sectors_of-sectors.result c.requires.bitmaps.geometry c.sectors_of-sectors.ensures c.loop-k-test.true in
-    omega (arith, c.requires.bitmaps.header, ap log_end c.loop-k.invariant.same.store.header, c.first_of.ensures, at.0)
+    let at = sector_within c.args.geometry c.args.map c.loop-k.k c.sectors-sectors.result c.requires.bitmaps.geometry c.sectors-sectors.ensures c.loop-k-test.true in
+    omega (arith, c.requires.bitmaps.header, ap log_end c.loop-k.invariant.same.store.header, c.first.ensures, at.0)
 
 pub count_sector-requires-clause-on_disk : goal.count_sector-requires-clause-on_disk
 count_sector-requires-clause-on_disk g c =
-    let at = sector_within c.args.geometry c.args.map c.loop-k.k c.sectors_of-sectors.result c.requires.bitmaps.geometry c.sectors_of-sectors.ensures c.loop-k-test.true in
-    omega (arith, c.requires.bitmaps.disk, c.loop-k.invariant.same.store.reads.narrowed.size, c.first_of.ensures, at.1)
+    let at = sector_within c.args.geometry c.args.map c.loop-k.k c.sectors-sectors.result c.requires.bitmaps.geometry c.sectors-sectors.ensures c.loop-k-test.true in
+    omega (arith, c.requires.bitmaps.disk, c.loop-k.invariant.same.store.reads.narrowed.size, c.first.ensures, at.1)
 
 pub count_sector-requires-clause-told : goal.count_sector-requires-clause-told
 count_sector-requires-clause-told g c = tells_after c.loop-k.self c.loop-k.invariant.same c.loop-k.invariant.told
@@ -33,13 +33,13 @@ loop-k-preserved g c =
     let image : SectorMap = (g.S.Sectors.state c.args.s.now).sectors in
     let start : ℕ = first_sector c.args.geometry c.args.map in
     let so_far = c.loop-k.invariant in
-    let here : (g.S.Sectors.state c.loop-k.s).sectors (c.first_of.result + c.loop-k.k) ≡ image (start + c.loop-k.k) =
-    so_far.same.sectors (c.first_of.result + c.loop-k.k) ∙ ap (λ (n : ℕ). image (n + c.loop-k.k)) c.first_of.ensures in
+    let here : (g.S.Sectors.state c.loop-k.s).sectors (c.first.result + c.loop-k.k) ≡ image (start + c.loop-k.k) =
+    so_far.same.sectors (c.first.result + c.loop-k.k) ∙ ap (λ (n : ℕ). image (n + c.loop-k.k)) c.first.ensures in
     let next : 4096 * c.loop-k.k + 4096 ≡ 4096 * (c.loop-k.k + 1) = omega arith in
     let more : clear_below image start (4096 * (c.loop-k.k + 1))
-    ≡ clear_below image start (4096 * c.loop-k.k) + clear_below (λ _. (g.S.Sectors.state c.loop-k.s).sectors (c.first_of.result + c.loop-k.k)) 0 4096 =
+    ≡ clear_below image start (4096 * c.loop-k.k) + clear_below (λ _. (g.S.Sectors.state c.loop-k.s).sectors (c.first.result + c.loop-k.k)) 0 4096 =
     ap (clear_below image start) (sym next)
-    ∙ sector_counted image start c.loop-k.k 4096 ((g.S.Sectors.state c.loop-k.s).sectors (c.first_of.result + c.loop-k.k)) here (omega arith) in
+    ∙ sector_counted image start c.loop-k.k 4096 ((g.S.Sectors.state c.loop-k.s).sectors (c.first.result + c.loop-k.k)) here (omega arith) in
     record {
       same = unchanged_joined so_far.same c.count_sector.ensures.same;
       told = tells_before c.count_sector.new.self so_far.same c.count_sector.ensures.told;
@@ -49,7 +49,7 @@ loop-k-preserved g c =
 pub overflow_add-free : goal.overflow_add-free
 overflow_add-free g c =
     let image : SectorMap = (g.S.Sectors.state c.args.s.now).sectors in
-    let sector : List ℕ = (g.S.Sectors.state c.loop-k.s).sectors (c.first_of.result + c.loop-k.k) in
+    let sector : List ℕ = (g.S.Sectors.state c.loop-k.s).sectors (c.first.result + c.loop-k.k) in
     omega (
       arith,
       c.loop-k.invariant.count,
@@ -57,13 +57,13 @@ overflow_add-free g c =
       c.in_ok-free.ensures.count,
       counted_at_most (λ _. sector) 0 4096,
       c.loop-k-test.true,
-      c.sectors_of-sectors.ensures,
+      c.sectors-sectors.ensures,
       few_bits c.args.geometry c.args.map c.requires.bitmaps.geometry,
     )
 
 pub returns-clause-free : goal.returns-clause-free
 returns-clause-free g c =
     let image : SectorMap = (g.S.Sectors.state c.args.s.now).sectors in
-    let end : 4096 * c.loop-k.k ≡ 4096 * c.sectors_of-sectors.result = omega (arith, c.loop-k.auto.k-end, c.loop-k-test.false) in
-    c.loop-k.invariant.count ∙ ap (clear_below image (first_sector c.args.geometry c.args.map)) (end ∙ c.sectors_of-sectors.ensures)
+    let end : 4096 * c.loop-k.k ≡ 4096 * c.sectors-sectors.result = omega (arith, c.loop-k.auto.k-end, c.loop-k-test.false) in
+    c.loop-k.invariant.count ∙ ap (clear_below image (first_sector c.args.geometry c.args.map)) (end ∙ c.sectors-sectors.ensures)
     ∙ numbers_counted c.args.geometry c.args.map image c.requires.bitmaps.geometry c.requires.bitmaps.rest
