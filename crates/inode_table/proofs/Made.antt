@@ -1,6 +1,5 @@
 -- An inode is made: its bit is set, sectors are taken for its ACLs, and it is written.
-use Rattle.std.proofs.Common.{◌≡◌, ℕ, ◌+◌, ◌/◌, ◌<◌, ◌≤◌, List, [], Option, get_or, refl, sym, ap, subst, ◌∙◌, arith, IsTrue, Result, Ok, Err, IsErr, IfErr}
-use Rattle.std.specs.Prelude.{IsErrAnd}
+use Rattle.std.proofs.Common.{◌≡◌, ℕ, ◌+◌, ◌/◌, ◌<◌, ◌≤◌, List, [], Option, get_or, refl, sym, ap, subst, ◌∙◌, arith, IsTrue}
 use Rattle.posix_acl.specs.AccessList.{AccessList, IsAcl, IsSomeAcl, mode_bits}
 use Rattle.fs_layout.specs.declared.inode.TheConstants.{DIRECT_BLOCKS, POINTER_LEVELS}
 use Rattle.fs_layout.specs.declared.inode.Inode.{Inode}
@@ -24,7 +23,6 @@ use Rattle.fs_layout.proofs.SplicedBytes.{get_or-zeros}
 use Rattle.fs_layout.proofs.Bits.{inode_has_bit}
 use Rattle.sector_txn.specs.Sectors.{TxnState, SameStore, PutsOnly}
 use Rattle.sector_txn.proofs.TransactionRuns.{changes_joined}
-use Rattle.bit_alloc.specs.declared.bitmap.TakeFault.{TakeFault}
 use Rattle.bit_alloc.specs.declared.bitmap.Bitmap.TheVariants.{Inodes}
 use Rattle.bit_alloc.specs.Bitmaps.{IsNumber, TakesNumber}
 use Rattle.bit_alloc.specs.Room.{bitmaps}
@@ -62,11 +60,6 @@ pub record IsMade (p : Geometry) (n : ℕ) (inode : Inode) (a : AccessList) (d :
   pub default : HasDefaultAcl new.sectors (inode_at p new.sectors n) d
 
 -- ---- where too few sectors are free
--- what leaves by a `?`
-pub through_try : {A : Type 0} (Q : TakeFault → Type 0) (r : Result A TakeFault) (x : TakeFault) → IsErr r × IsErrAnd r (λ y. y ≡ x) → Q x → IfErr r Q
-through_try Q (Ok a) x e q = absurd e.1
-through_try Q (Err y) x e q = subst Q (sym e.1) q
-
 -- for the access ACL
 pub too_few_for_access : (p : Geometry) (n : ℕ) (old new : SectorMap) (a : AccessList) (d : Option AccessList) (content : Option (List ℕ)) → TakesNumber p Inodes n old new
     → content ≡ contents (kept_acl a) → free_sectors p new < takes_for 0 content → free_sectors p old < acls_take a d

@@ -61,6 +61,15 @@ saved_keeps_default {mid = mid} {new} {w = w} a keeps = record {
 pub times_are_attributes : (v w : Inode) → DiffersInTimes v w → DiffersInAttributes v w
 times_are_attributes v w differs = subst (λ (u : Inode). DiffersInAttributes v u) (sym differs) refl
 
+-- what saving it comes to
+pub record HasSaved (p : Geometry) (n : ℕ) (w : Inode) (old new : TxnState) : Type 0 where
+  pub sound : IsSound p new
+  pub touches : Touches p n 0 1 old new
+  pub saved : inode_at p new.sectors n ≡ w
+  pub bytes : KeepsBytes old.sectors new.sectors (inode_at p old.sectors n) (inode_at p new.sectors n)
+  pub acls : KeepsAcls old.sectors new.sectors (inode_at p old.sectors n) (inode_at p new.sectors n)
+  pub used : bit new.sectors p.inode_bitmap n ≡ bit old.sectors p.inode_bitmap n
+
 module _ (p : Geometry) (n : ℕ) (w : Inode) (old new : TxnState)
     (sound : IsSound p old) (lt : n < p.inodes) (attributes : DiffersInAttributes (inode_at p old.sectors n) w) (fits : FitsInode w)
     (saves : Saves p n w old.sectors new.sectors) where
@@ -77,7 +86,7 @@ module _ (p : Geometry) (n : ℕ) (w : Inode) (old new : TxnState)
   pub attributes_sound : SameStore old new → IsSound p new
   attributes_sound store = sound_after sound store saved.0 (λ m few none. saved.1.inode_bits m few)
 
-  pub attributes_touch : PutsOnly (λ t. t ≡ p.table + n / 4) [] 1 old new → Touches p n 0 1 old new
+  attributes_touch : PutsOnly (λ t. t ≡ p.table + n / 4) [] 1 old new → Touches p n 0 1 old new
   attributes_touch puts = record {
     puts = puts_inode p n puts;
     super = saves.others 0 (let a = after_map sound.consistent.geometry in λ e. omega (arith, a, e));
@@ -85,16 +94,13 @@ module _ (p : Geometry) (n : ℕ) (w : Inode) (old new : TxnState)
     free = omega (arith, saved.1.free);
   }
 
-  pub attributes_saved : inode_at p new.sectors n ≡ w
-  attributes_saved = saved.1.is
-
   pub attributes_keep_bytes : KeepsBytes old.sectors new.sectors (inode_at p old.sectors n) (inode_at p new.sectors n)
   attributes_keep_bytes =
       let same = fields_keep_bytes old.sectors (inode_at p old.sectors n) w (ap (λ (u : Inode). u.size) attributes)
       (ap levels attributes) in
       subst (λ (u : Inode). KeepsBytes old.sectors new.sectors (inode_at p old.sectors n) u) (sym saved.1.is) (saved_keeps_bytes same saved.1.keeps)
 
-  pub attributes_keep_acls : KeepsAcls old.sectors new.sectors (inode_at p old.sectors n) (inode_at p new.sectors n)
+  attributes_keep_acls : KeepsAcls old.sectors new.sectors (inode_at p old.sectors n) (inode_at p new.sectors n)
   attributes_keep_acls =
       let access : KeepsAccess old.sectors old.sectors (inode_at p old.sectors n) w = record { acl = ap (λ (u : Inode). u.acl) attributes; acl_sector = λ some. refl } in
       let default : KeepsDefault old.sectors old.sectors (inode_at p old.sectors n) w =
@@ -102,5 +108,12 @@ module _ (p : Geometry) (n : ℕ) (w : Inode) (old new : TxnState)
       subst (λ (u : Inode). KeepsAcls old.sectors new.sectors (inode_at p old.sectors n) u) (sym saved.1.is)
       (record { access = saved_keeps_access access saved.1.keeps; default = saved_keeps_default default saved.1.keeps })
 
-  pub attributes_keep_bit : bit new.sectors p.inode_bitmap n ≡ bit old.sectors p.inode_bitmap n
-  attributes_keep_bit = saved.1.inode_bits n (inode_has_bit sound.consistent.geometry n lt)
+  pub has_saved : PutsOnly (λ t. t ≡ p.table + n / 4) [] 1 old new → HasSaved p n w old new
+  has_saved puts = record {
+    sound = attributes_sound puts.store;
+    touches = attributes_touch puts;
+    saved = saved.1.is;
+    bytes = attributes_keep_bytes;
+    acls = attributes_keep_acls;
+    used = saved.1.inode_bits n (inode_has_bit sound.consistent.geometry n lt);
+  }

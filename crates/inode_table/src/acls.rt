@@ -6,10 +6,9 @@ ghost use Rattle.posix_acl.specs.AccessList.{AccessList};
 ghost use Rattle.fs_layout.specs.Inode.{FitsInode};
 ghost use Rattle.fs_layout.specs.AclSector.{kept_acl};
 ghost use Rattle.fs_layout.specs.Images.{bit, free_sectors, inode_at};
-ghost use Rattle.sector_txn.specs.Sectors.{SameStore, IsUnchanged, PutsOnly};
-ghost use Rattle.bit_alloc.specs.Faults.{HasCauseOf};
-ghost use Rattle.bit_alloc.specs.Room.{bitmaps, HasSpare, TakesSpare};
-ghost use Rattle.bit_alloc.specs.Inodes.{IsSound, Touches, KeepsFields, KeepsBytes, KeepsAccess, KeepsDefault};
+ghost use Rattle.bit_alloc.specs.Calls.{IsSound, bitmaps, HasSpare, SameStore, IsUnchanged, PutsOnly, HasCauseOf};
+ghost use Rattle.bit_alloc.specs.Room.{TakesSpare};
+ghost use Rattle.bit_alloc.specs.Inodes.{Touches, KeepsFields, KeepsBytes, KeepsAccess, KeepsDefault};
 ghost use Rattle.inode_table.specs.Acls.{HasAcl, HasDefaultAcl, with_acl_bits, acl_takes};
 ghost use Rattle.inode_table.specs.Inodes.{IsInodeOf, DiffersInAttributes};
 ghost use Rattle.inode_table.specs.Storing.{IsForSaving};
@@ -47,7 +46,8 @@ pub fn load_acl<S: Sectors>(
     }
     let mut content = [0; 512];
     s.get(inode.acl, &mut content)?;
-    acl_of(alloc, &content)
+    let acl = acl_of(alloc, &content)?;
+    Ok(acl)
 }
 
 /// Reads the default ACL of an inode of the table, where it has one.

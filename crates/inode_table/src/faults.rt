@@ -4,7 +4,7 @@ ghost use Rattle.std.specs.Prelude.{◌≡◌};
 ghost use Rattle.inode_table.specs.declared.faults.LoadAclFault.TheVariants.{DiskFault as Device, OutOfMemory};
 
 use sector_disk::DiskFault;
-use std::alloc::{AllocError, AllocFailed};
+use std::alloc::AllocError;
 
 /// Why an ACL isn't loaded.
 #[derive(Clone, Copy, Debug, PartialEq, Eq)]
@@ -27,14 +27,6 @@ impl From<AllocError> for LoadAclFault {
     ghost from_gives = { λ _ e. e ≡ OutOfMemory };
 
     fn from(_: AllocError) -> LoadAclFault {
-        LoadAclFault::OutOfMemory
-    }
-}
-
-impl<T: Drop> From<AllocFailed<T>> for LoadAclFault {
-    ghost from_gives = { λ _ e. e ≡ OutOfMemory };
-
-    fn from(_: AllocFailed<T>) -> LoadAclFault {
         LoadAclFault::OutOfMemory
     }
 }

@@ -2,19 +2,16 @@
 
 ghost use Rattle.std.specs.Prelude.{◌≡◌, ◌≢◌, ◌≤◌, ◌<◌, ◌+◌, ◌/◌, ◌⊎◌, ℕ, [], true, false, None, Err, IfOk, IfErr, OnOk, IsTrue};
 ghost use Rattle.std.specs.Option.{option_copied};
-ghost use Rattle.sector_disk.specs.Disk.{HasCause};
 ghost use Rattle.fs_layout.specs.Header.{log_end};
 ghost use Rattle.fs_layout.specs.Geometry.{IsGeometry};
 ghost use Rattle.fs_layout.specs.Inode.{FitsInode, free_inode};
 ghost use Rattle.fs_layout.specs.InodeTimes.{DiffersInTimes};
 ghost use Rattle.fs_layout.specs.Images.{HasWholeTables, Holds, bit, free_sectors, inode_at};
 ghost use Rattle.fs_layout.specs.InodeChanges.{Saves};
-ghost use Rattle.sector_txn.specs.Sectors.{SameStore, IsUnchanged, PutsOnly};
+ghost use Rattle.bit_alloc.specs.Calls.{IsSound, bitmaps, HasSpare, SameStore, IsUnchanged, PutsOnly, HasCause, HasCauseOf};
 ghost use Rattle.bit_alloc.specs.declared.bitmap.Bitmap.TheVariants.{Inodes};
 ghost use Rattle.bit_alloc.specs.Bitmaps.{IsNumber, IsFreeNumber, free_numbers};
-ghost use Rattle.bit_alloc.specs.Faults.{HasCauseOf};
-ghost use Rattle.bit_alloc.specs.Room.{bitmaps, HasSpare};
-ghost use Rattle.bit_alloc.specs.Inodes.{IsSound, Touches, KeepsFields, KeepsBytes, KeepsAcls, IsBlank};
+ghost use Rattle.bit_alloc.specs.Inodes.{Touches, KeepsFields, KeepsBytes, KeepsAcls, IsBlank};
 ghost use Rattle.inode_table.specs.Acls.{HasAcl, HasDefaultAcl, with_acl_bits, acls_take};
 ghost use Rattle.inode_table.specs.Inodes.{DiffersInAttributes, ClearAreFree};
 ghost use Rattle.inode_table.specs.Storing.{IsForSaving};

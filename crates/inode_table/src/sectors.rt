@@ -1,15 +1,13 @@
 //! ACLs as the contents of sectors.
 
-ghost use Rattle.std.specs.Prelude.{◌≡◌, ◌+◌, ◌*◌, ◌/◌, IfOk, IfErr};
+ghost use Rattle.std.specs.Prelude.{◌≡◌, ◌+◌, ◌*◌, ◌/◌, IfOk};
 ghost use Rattle.std.specs.Option.{option_copied, option_map};
 ghost use Rattle.posix_acl.specs.AccessList.{AccessList, IsAcl, IsSomeAcl, mode_bits};
 ghost use Rattle.fs_layout.specs.AclSector.{acl_content, kept_acl};
-ghost use Rattle.inode_table.specs.declared.faults.LoadAclFault.TheVariants.{OutOfMemory};
 
-use crate::faults::LoadAclFault;
 use fs_layout::AclSector;
 use posix_acl::{Acl, AclFault, Entry, EntryNumbers, MAX_ENTRIES};
-use std::alloc::Global;
+use std::alloc::{AllocError, Global};
 
 // The sector of an ACL.
 pub(crate) fn sector_of(acl: &Acl) -> [u8; 512]
@@ -63,10 +61,9 @@ pub(crate) fn with_bits(mode: u16, acl: &Acl) -> u16
 }
 
 // The ACL that a sector has.
-pub(crate) fn acl_of(alloc: Global, content: &[u8; 512]) -> Result<Acl, LoadAclFault>
+pub(crate) fn acl_of(alloc: Global, content: &[u8; 512]) -> Result<Acl, AllocError>
     requires { (a : AccessList) × IsAcl a × (content.now ≡ acl_content a) }
-    ensures found { IfOk result (λ acl. (a : AccessList) → IsAcl a → content.now ≡ acl_content a → acl ≡ a) }
-    ensures memory { IfErr result (λ e. e ≡ OutOfMemory) }
+    ensures { IfOk result (λ acl. (a : AccessList) → IsAcl a → content.now ≡ acl_content a → acl ≡ a) }
 {
     let Ok(sector) = AclSector::read_from(content, 0) else {
         unreachable!()
@@ -81,7 +78,7 @@ pub(crate) fn acl_of(alloc: Global, content: &[u8; 512]) -> Result<Acl, LoadAclF
     match Acl::from_entries(alloc, &entries) {
         Ok(acl) => Ok(acl),
         Err(fault) => match fault {
-            AclFault::OutOfMemory => Err(LoadAclFault::OutOfMemory),
+            AclFault::OutOfMemory => Err(AllocError),
             _ => unreachable!(),
         },
     }

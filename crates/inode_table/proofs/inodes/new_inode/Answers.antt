@@ -3,11 +3,12 @@ use Rattle.std.specs.Option.{option_copied}
 use Rattle.fs_layout.specs.Inode.{FitsInode}
 use Rattle.fs_layout.specs.InodeChanges.{Saves}
 use Rattle.fs_layout.proofs.OneAcl.{mode_small}
+use Rattle.bit_alloc.proofs.Passing.{through_try}
 use Rattle.bit_alloc.proofs.Soundness.{spare_then}
 use Rattle.sector_txn.proofs.TransactionRuns.{store_joined}
 use Rattle.inode_table.specs.Storing.{Stores}
 use Rattle.inode_table.proofs.Bits.{with_bits_fits, empty_no_link}
-use Rattle.inode_table.proofs.Made.{made_puts_1, made_puts_4, left_free, IsMade, made, through_try, too_few_for_access, too_few_for_default}
+use Rattle.inode_table.proofs.Made.{made_puts_1, made_puts_4, left_free, IsMade, made, too_few_for_access, too_few_for_default}
 use Rattle.inode_table.proofs.inodes.new_inode.Goals as goal
 
 pub store-requires-clause-room : goal.store-requires-clause-room

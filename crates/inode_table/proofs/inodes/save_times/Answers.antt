@@ -3,10 +3,9 @@ use Rattle.fs_layout.specs.InodeChanges.{Saves}
 use Rattle.fs_layout.specs.Images.{inode_at}
 use Rattle.sector_txn.specs.Sectors.{PutsOnly}
 use Rattle.bit_alloc.proofs.Transactions.{unchanged_nothing}
-use Rattle.inode_table.specs.Inodes.{DiffersInAttributes}
 use Rattle.inode_table.proofs.Tables.{inode_on_disk, inode_spelled, sector_saves}
 use Rattle.inode_table.proofs.Sound.{reads_and_puts, room_left}
-use Rattle.inode_table.proofs.Saved.{times_are_attributes, attributes_sound, attributes_touch, attributes_saved, attributes_keep_bytes, attributes_keep_acls, attributes_keep_bit}
+use Rattle.inode_table.proofs.Saved.{HasSaved, times_are_attributes, has_saved}
 use Rattle.inode_table.proofs.inodes.save_times.Goals as goal
 
 pub put-requires-clause-on_disk : goal.put-requires-clause-on_disk
@@ -14,9 +13,6 @@ put-requires-clause-on_disk g c = inode_on_disk c.inode_sector.ensures c.require
 
 pub put-requires-clause-room : goal.put-requires-clause-room
 put-requires-clause-room g c = λ none. room_left c.args.geometry 1 (g.S.Sectors.state c.args.s.now) c.requires.spare (omega arith)
-
-attributes : (g : _) (c : goal.After-put g) → DiffersInAttributes (inode_at c.args.geometry (g.S.Sectors.state c.args.s.now).sectors c.args.ino) c.args.inode.now
-attributes g c = times_are_attributes (inode_at c.args.geometry (g.S.Sectors.state c.args.s.now).sectors c.args.ino) c.args.inode.now c.requires.times
 
 -- the inode is written
 saves : (g : _) (c : goal.After-put g) → Saves c.args.geometry c.args.ino c.args.inode.now (g.S.Sectors.state c.args.s.now).sectors (g.S.Sectors.state c.put.new.self).sectors
@@ -30,35 +26,29 @@ puts g c =
     subst (λ (at : ℕ). PutsOnly (λ t. t ≡ at) [] 1 (g.S.Sectors.state c.args.s.now) (g.S.Sectors.state c.put.new.self)) c.inode_sector.ensures
     (reads_and_puts unchanged_nothing c.put.ensures)
 
+is_saved : (g : _) (c : goal.After-put g) → HasSaved c.args.geometry c.args.ino c.args.inode.now (g.S.Sectors.state c.args.s.now) (g.S.Sectors.state c.put.new.self)
+is_saved g c =
+    let attributes = times_are_attributes (inode_at c.args.geometry (g.S.Sectors.state c.args.s.now).sectors c.args.ino) c.args.inode.now c.requires.times in
+    has_saved c.args.geometry c.args.ino c.args.inode.now (g.S.Sectors.state c.args.s.now) (g.S.Sectors.state c.put.new.self)
+    c.requires.sound c.requires.below attributes c.requires.fits (saves g c) (puts g c)
+
 pub returns-clause-store : goal.returns-clause-store
 returns-clause-store g c = (puts g c).store
 
 pub returns-clause-sound : goal.returns-clause-sound
-returns-clause-sound g c =
-    attributes_sound c.args.geometry c.args.ino c.args.inode.now (g.S.Sectors.state c.args.s.now) (g.S.Sectors.state c.put.new.self) c.requires.sound c.requires.below
-    (attributes g c) c.requires.fits (saves g c) (puts g c).store
+returns-clause-sound g c = (is_saved g c).sound
 
 pub returns-clause-touches : goal.returns-clause-touches
-returns-clause-touches g c =
-    attributes_touch c.args.geometry c.args.ino c.args.inode.now (g.S.Sectors.state c.args.s.now) (g.S.Sectors.state c.put.new.self) c.requires.sound c.requires.below
-    (attributes g c) c.requires.fits (saves g c) (puts g c)
+returns-clause-touches g c = (is_saved g c).touches
 
 pub returns-clause-saved : goal.returns-clause-saved
-returns-clause-saved g c =
-    attributes_saved c.args.geometry c.args.ino c.args.inode.now (g.S.Sectors.state c.args.s.now) (g.S.Sectors.state c.put.new.self) c.requires.sound c.requires.below
-    (attributes g c) c.requires.fits (saves g c)
+returns-clause-saved g c = (is_saved g c).saved
 
 pub returns-clause-bytes : goal.returns-clause-bytes
-returns-clause-bytes g c =
-    attributes_keep_bytes c.args.geometry c.args.ino c.args.inode.now (g.S.Sectors.state c.args.s.now) (g.S.Sectors.state c.put.new.self) c.requires.sound c.requires.below
-    (attributes g c) c.requires.fits (saves g c)
+returns-clause-bytes g c = (is_saved g c).bytes
 
 pub returns-clause-acls : goal.returns-clause-acls
-returns-clause-acls g c =
-    attributes_keep_acls c.args.geometry c.args.ino c.args.inode.now (g.S.Sectors.state c.args.s.now) (g.S.Sectors.state c.put.new.self) c.requires.sound c.requires.below
-    (attributes g c) c.requires.fits (saves g c)
+returns-clause-acls g c = (is_saved g c).acls
 
 pub returns-clause-used : goal.returns-clause-used
-returns-clause-used g c =
-    attributes_keep_bit c.args.geometry c.args.ino c.args.inode.now (g.S.Sectors.state c.args.s.now) (g.S.Sectors.state c.put.new.self) c.requires.sound c.requires.below
-    (attributes g c) c.requires.fits (saves g c)
+returns-clause-used g c = (is_saved g c).used

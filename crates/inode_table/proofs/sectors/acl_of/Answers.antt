@@ -22,8 +22,8 @@ unreachable-requires-in_default-from_numbers c =
     let none = c.in_default-from_numbers.is in
     absurd cc
 
-pub returns-in-Ok-from_entries-clause-found : goal.returns-in-Ok-from_entries-clause-found
-returns-in-Ok-from_entries-clause-found c = λ a is same.
+pub returns-in-Ok-from_entries : goal.returns-in-Ok-from_entries
+returns-in-Ok-from_entries c = λ a is same.
     let good = numbers_read a c.args.content.now c.read_from.result is same c.read_from.ensures.only in
     let ns = c.entries-numbers-items.ensures.value ∙ same_ok c.in-Ok.sector (list_numbers a) c.read_from.result c.in-Ok.is good in
     let end = c.loop-numbers-test.false in
