@@ -2,7 +2,7 @@
 use Rattle.std.proofs.Common.{◌≡◌, ◌≢◌, ℕ, zero, suc, ◌+◌, ◌-◌, ◌*◌, ◌/◌, ◌≤◌, ◌<◌, ◌⊎◌, List, [], ◌∷◌, ◌++◌, length, take, drop, refl, sym, ap, subst, ◌∙◌, arith, inl, inr}
 use Rattle.std.specs.Prelude.{nat_eq, if◌then◌else◌}
 use Rattle.std.proofs.lemmas.Bool.{cases_lt, cases_eq, lt-ltb}
-use Rattle.std.proofs.lemmas.List.{length-take-le, take_all}
+use Rattle.std.proofs.lemmas.List.{length-take-le, length-drop, take_all}
 use Rattle.std.proofs.Math.Seq.{take-add}
 use Rattle.fs_layout.specs.declared.inode.TheConstants.{DIRECT_BLOCKS}
 use Rattle.fs_layout.specs.declared.inode.Inode.{Inode}
@@ -104,6 +104,27 @@ joined_piece bytes x piece offset k m start done len next is few e ends room =
       | inl all ↦ take_all (done + len) x (omega (arith, all.1)) ∙ sym (take_all (512 * m - offset) x all.0)
       | inr same ↦ ap (λ (n : ℕ). take n x) same
     ]
+
+-- where a run of whole blocks stands among the bytes, and among the blocks up to `end`
+pub record IsRunOf (x : List ℕ) (offset k done run end : ℕ) : Type 0 where
+  pub begins : 512 * k ≡ offset + done
+  pub within : k + run ≤ end
+  pub fits : done + 512 * run ≤ length x
+  pub count : length (take (done + 512 * run - done) (drop done x)) / 512 ≡ run
+
+-- at most so many blocks are whole there, if one begins there
+pub run_of : (x : List ℕ) (offset k done run end : ℕ) {at most : ℕ} → 0 < run → run ≤ most → (0 < most → at ≡ 0) → 512 * most ≤ length x - done → at ≡ offset - 512 * k
+    → done ≡ 512 * k - offset → end ≡ blocks_to (offset + length x) → k < end → IsRunOf x offset k done run end
+run_of x offset k done run end some few first whole at_is done_is end_is below =
+    let here = first (omega (arith, some, few)) in
+    let rest = length-drop done x in
+    let wide = length-take-le (done + 512 * run - done) (drop done x) (omega (arith, rest, few, whole)) in
+    record {
+      begins = omega (arith, here, at_is, done_is);
+      within = omega (arith, here, at_is, done_is, some, few, whole, end_is);
+      fits = omega (arith, some, few, whole);
+      count = omega (arith, wide);
+    }
 
 -- ---- the sector of pointers of a block is one of those of the blocks that are written
 near_pointers : (image : SectorMap) (v : Inode) (k : ℕ) → k < DIRECT_BLOCKS → pointers_to image v k ≡ []

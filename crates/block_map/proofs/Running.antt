@@ -156,7 +156,7 @@ module _ {p : Geometry} {old new : TxnState} {v : Inode} {k count u : ℕ} {numb
 
   -- the sectors after i blocks
   abbrev so_far : ℕ → SectorMap
-  so_far i = shown p u (takes.until i) (fills.pointers i) (fills.sectors i)
+  so_far i = shown p u (takes.steps.until i) (fills.pointers.until i) (fills.sectors.until i)
 
   abbrev beside : SectorMap → ℕ → TxnState
   beside image room = record new { sectors = image; room = room }
@@ -168,40 +168,40 @@ module _ {p : Geometry} {old new : TxnState} {v : Inode} {k count u : ℕ} {numb
   state i = beside (so_far i) (new.room + (count - i))
 
   number_is_data : (i : ℕ) → i < count → IsData p (get_or numbers i 0)
-  number_is_data i lt = let free = (takes.each i (omega arith) lt).free in (free.0, free.1)
+  number_is_data i lt = let free = (takes.steps.each i (omega arith) lt).free in (free.0, free.1)
 
   -- what was taken differs from what was there in the bitmap alone
-  taken_others : (i : ℕ) → i ≤ count → (s : ℕ) → (IsBlockMap p s → ⊥) → takes.until i s ≡ old.sectors s
-  taken_others zero le s ban = ap (λ (m : SectorMap). m s) takes.first
+  taken_others : (i : ℕ) → i ≤ count → (s : ℕ) → (IsBlockMap p s → ⊥) → takes.steps.until i s ≡ old.sectors s
+  taken_others zero le s ban = ap (λ (m : SectorMap). m s) takes.steps.first
   taken_others (suc i) le s ban =
       let next : i + 1 ≡ suc i = omega arith in
-      ap (λ (j : ℕ). takes.until j s) (sym next) ∙ (takes.each i (omega arith) (omega (arith, le))).mark.others s ban ∙ taken_others i (omega (arith, le)) s ban
+      ap (λ (j : ℕ). takes.steps.until j s) (sym next) ∙ (takes.steps.each i (omega arith) (omega (arith, le))).mark.others s ban ∙ taken_others i (omega (arith, le)) s ban
 
   -- what was filled differs in the data alone
-  filled_others : (i : ℕ) → i ≤ count → (s : ℕ) → s < p.first_data → fills.sectors i s ≡ taken s
-  filled_others zero le s low = ap (λ (m : SectorMap). m s) fills.first
+  filled_others : (i : ℕ) → i ≤ count → (s : ℕ) → s < p.first_data → fills.sectors.until i s ≡ taken s
+  filled_others zero le s low = ap (λ (m : SectorMap). m s) fills.sectors.first
   filled_others (suc i) le s low =
       let next : i + 1 ≡ suc i = omega arith in
       let within = (number_is_data i (omega (arith, le))).0 in
-      ap (λ (j : ℕ). fills.sectors j s) (sym next) ∙ (fills.puts i (omega (arith, le))).others s (λ e. omega (arith, e, within, low)) ∙ filled_others i (omega (arith, le)) s low
+      ap (λ (j : ℕ). fills.sectors.until j s) (sym next) ∙ (fills.sectors.each i (omega arith) (omega (arith, le))).others s (λ e. omega (arith, e, within, low)) ∙ filled_others i (omega (arith, le)) s low
 
   none_yet : so_far 0 ≡ old.sectors
   none_yet =
-      shown_is p u (takes.until 0) (fills.pointers 0) (fills.sectors 0) at_u.0 old.sectors
-      (λ s lt. sym (ap (λ (m : SectorMap). m s) takes.first))
-      (sym (fills.none ∙ loaded))
+      shown_is p u (takes.steps.until 0) (fills.pointers.until 0) (fills.sectors.until 0) at_u.0 old.sectors
+      (λ s lt. sym (ap (λ (m : SectorMap). m s) takes.steps.first))
+      (sym (fills.pointers.first ∙ loaded))
       (λ s ge ne.
-      sym (ap (λ (m : SectorMap). m s) fills.first ∙ sym (ap (λ (m : SectorMap). m s) takes.last)
+      sym (ap (λ (m : SectorMap). m s) fills.sectors.first ∙ sym (ap (λ (m : SectorMap). m s) takes.steps.last)
       ∙ taken_others count (omega arith) s (λ m. let low = map_is_low geometry s m in omega (arith, low, ge))))
 
   all_there : so_far count ≡ new.sectors
   all_there =
-      shown_is p u (takes.until count) (fills.pointers count) (fills.sectors count) at_u.0 new.sectors
+      shown_is p u (takes.steps.until count) (fills.pointers.until count) (fills.sectors.until count) at_u.0 new.sectors
       (λ s lt.
-      last.others s (λ e. let ge = at_u.0 in omega (arith, e, ge, lt)) ∙ sym (ap (λ (m : SectorMap). m s) fills.last) ∙ filled_others count (omega arith) s lt
-      ∙ sym (ap (λ (m : SectorMap). m s) takes.last))
-      (last.here ∙ sym fills.all)
-      (λ s ge ne. last.others s ne ∙ sym (ap (λ (m : SectorMap). m s) fills.last))
+      last.others s (λ e. let ge = at_u.0 in omega (arith, e, ge, lt)) ∙ sym (ap (λ (m : SectorMap). m s) fills.sectors.last) ∙ filled_others count (omega arith) s lt
+      ∙ sym (ap (λ (m : SectorMap). m s) takes.steps.last))
+      (last.here ∙ sym fills.pointers.last)
+      (λ s ge ne. last.others s ne ∙ sym (ap (λ (m : SectorMap). m s) fills.sectors.last))
 
   -- the inode may be changed in them
   may_at_first : MayChange p (state 0) v
@@ -226,8 +226,8 @@ module _ {p : Geometry} {old new : TxnState} {v : Inode} {k count u : ℕ} {numb
   one_step : (i : ℕ) → i < count → IsWritten p pointers_at (512 * k) k (k + i) x (state 0) (state i) v v → IsWritten p pointers_at (512 * k) k (k + (i + 1)) x (state 0) (state (i + 1)) v v
   one_step i lt w =
       let n : ℕ = get_or numbers i 0 in
-      let take_one = takes.each i (omega arith) lt in
-      let fill_one = fills.puts i lt in
+      let take_one = takes.steps.each i (omega arith) lt in
+      let fill_one = fills.sectors.each i (omega arith) lt in
       let now : u ≡ number_on (so_far i) v 1 (holder DIRECT_BLOCKS k) =
       sector ∙ ap (λ (m : SectorMap). number_on m v 1 (holder DIRECT_BLOCKS k)) (sym none_yet) ∙ sym (w.pointers (holder DIRECT_BLOCKS k)) in
       let same_holder : holder DIRECT_BLOCKS k ≡ holder DIRECT_BLOCKS (k + i) = omega (arith, far, listed, lt) in
@@ -235,14 +235,14 @@ module _ {p : Geometry} {old new : TxnState} {v : Inode} {k count u : ℕ} {numb
       let owned : Owns (so_far i) v u = subst (λ (t : ℕ). Owns (so_far i) v t) (sym now) (owns_on_level (so_far i) v 1 (holder DIRECT_BLOCKS k) (λ e. has (now ∙ e))) in
       let apart : n ≢ u = λ e.
       not_both (w.may.apart.each u owned).2
-      (shown_bits geometry u (takes.until i) (fills.pointers i) (fills.sectors i) u (has_bit geometry u at_u.1)
-      ∙ ap (bit (takes.until i) p.block_bitmap) (sym e) ∙ take_one.free.2) in
+      (shown_bits geometry u (takes.steps.until i) (fills.pointers.until i) (fills.sectors.until i) u (has_bit geometry u at_u.1)
+      ∙ ap (bit (takes.steps.until i) p.block_bitmap) (sym e) ∙ take_one.free.2) in
       let wide : length (block_of x i) ≡ 512 = length-take-le 512 (drop (512 * i) x) (let rest = length-drop (512 * i) x in omega (arith, rest, long, lt)) in
       let whole : IsSector (block_of x i) = record { len = wide; bytes = IsBytes-part 512 (512 * i) x bytes } in
-      let content : List ℕ = fills.pointers i in
+      let content : List ℕ = fills.pointers.until i in
       let a = allocated content geometry at_u.0 take_one fill_one apart whole in
-      let bits_map : SectorMap = shown p u (takes.until (i + 1)) content (fills.sectors i) in
-      let mid_map : SectorMap = shown p u (takes.until (i + 1)) content (fills.sectors (i + 1)) in
+      let bits_map : SectorMap = shown p u (takes.steps.until (i + 1)) content (fills.sectors.until i) in
+      let mid_map : SectorMap = shown p u (takes.steps.until (i + 1)) content (fills.sectors.until (i + 1)) in
       let bits_state : TxnState = beside bits_map new.room in
       let mid : TxnState = beside mid_map new.room in
       let has_bits : HasBitmaps p bits_state =
@@ -250,7 +250,7 @@ module _ {p : Geometry} {old new : TxnState} {v : Inode} {k count u : ℕ} {numb
       let has_mid : HasBitmaps p mid = put_keeps_bitmaps has_bits (store_beside bits_map mid_map new.room new.room) (number_is_data i lt).0 a.put in
       let more : PutsOnly (IsStepSector p) (u ∷ bitmaps p) 1 (state i) (state (i + 1)) = record {
         store = store_beside (so_far i) (so_far (i + 1)) (state i).room (state (i + 1)).room;
-        others = steps_only content geometry at_u.0 take_one fill_one apart (fills.pointers (i + 1)) at_u;
+        others = steps_only content geometry at_u.0 take_one fill_one apart (fills.pointers.until (i + 1)) at_u;
         delta = λ m put. inl put;
         kept = λ m put. put;
         room = let same = lacking_less (state i) (state (i + 1)) (λ m put. put) (u ∷ bitmaps p) in omega (arith, same, lt);
@@ -260,8 +260,8 @@ module _ {p : Geometry} {old new : TxnState} {v : Inode} {k count u : ℕ} {numb
       (w.others (k + i) (inr (omega arith)) ∙ ap (λ (m : SectorMap). pointer m v (k + i)) none_yet ∙ none (k + i) (omega arith) (omega (arith, lt)))
       (omega (arith, wide)) (filled_whole 0 (block_of x i) wide refl) (omega (arith, wide, long, lt, inside)) (omega (arith, wide, long, lt, inside)) a
       (one_fewer content geometry at_u.0 take_one fill_one apart) has_mid (omega (arith, far)) (now ∙ ap (number_on (so_far i) v 1) same_holder) has
-      (sym (shown_pointers p u (takes.until i) (fills.pointers i) (fills.sectors i) at_u.0))
-      (fills.points i lt ∙ ap (λ (q : ℕ). splice (fills.pointers i) (4 * q) (le32 n)) place) (points content geometry at_u.0 take_one fill_one apart (fills.pointers (i + 1)))
+      (sym (shown_pointers p u (takes.steps.until i) (fills.pointers.until i) (fills.sectors.until i) at_u.0))
+      (fills.pointers.each i (omega arith) lt ∙ ap (λ (q : ℕ). splice (fills.pointers.until i) (4 * q) (le32 n)) place) (points content geometry at_u.0 take_one fill_one apart (fills.pointers.until (i + 1)))
       (store_beside mid_map (so_far (i + 1)) new.room (state (i + 1)).room) more in
       let next : k + i + 1 ≡ k + (i + 1) = omega arith in
       subst (λ (j : ℕ). IsWritten p pointers_at (512 * k) k j x (state 0) (state (i + 1)) v v) next

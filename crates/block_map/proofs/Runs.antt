@@ -4,19 +4,11 @@ use Rattle.std.specs.Prelude.{IsErr, IsErrAnd, IfErr}
 use Rattle.sector_disk.specs.Disk.{DiskState, HasFailed, HasCause}
 use Rattle.sector_disk.proofs.Moments.{failed_later}
 use Rattle.fs_layout.specs.Bytes.{SectorMap}
-use Rattle.sector_txn.specs.Sectors.{TxnState, SameStore, IsUnchanged}
-use Rattle.sector_txn.proofs.TransactionRuns.{store_joined}
+use Rattle.sector_txn.specs.Sectors.{TxnState, SameStore}
+pub use Rattle.bit_alloc.proofs.Transactions.{unchanged_joined}
 use Rattle.bit_alloc.specs.Faults.{HasCauseOf}
+use Rattle.bit_alloc.proofs.Passing.{through_try}
 use Rattle.block_map.specs.declared.fault.MapFault.{MapFault}
-
--- one run that changes nothing after another
-pub unchanged_joined : {old mid new : TxnState} → IsUnchanged old mid → IsUnchanged mid new → IsUnchanged old new
-unchanged_joined a b = record {
-  store = store_joined a.store b.store;
-  sectors = λ n. b.sectors n ∙ a.sectors n;
-  delta = λ n. b.delta n ∙ a.delta n;
-  room = b.room ∙ a.room;
-}
 
 -- two maps that agree at each sector are one
 pub same_map : (old new : SectorMap) → ((n : ℕ) → new n ≡ old n) → new ≡ old
@@ -28,20 +20,12 @@ pub same_fault : (r : Result (Unit {0}) MapFault) (e f : MapFault) → IsErr r �
 same_fault (Ok u) e f err and is = cc
 same_fault (Err y) e f err and is = cc
 
-failed_on : {fault e : MapFault} (old mid new : DiskState) → old.failures ≤ mid.failures → (e ≡ fault → HasFailed mid new) → (r : Result (Unit {0}) MapFault) → IsErr r
-    → IsErrAnd r (λ y. y ≡ e) → IfErr r (λ y. y ≡ fault → HasFailed old new)
-failed_on {fault} {e} old mid new later failed (Ok u) err and = absurd (ok_is_no_err err)
-  where
-    ok_is_no_err : IsErr {T = Unit {0}} {E = MapFault} (Ok u) → ⊥
-    ok_is_no_err h = cc
-failed_on {fault} {e} old mid new later failed (Err y) err and = λ is. failed_later old mid new later (failed (sym and ∙ is))
-
 -- and so is its cause, if it is one of a later call
 pub cause_on : {fault e : MapFault} {old mid : TxnState} {new : DiskState} → SameStore old mid → HasCauseOf {T = Unit {0}} fault mid.disk new (Err e)
     → (r : Result (Unit {0}) MapFault) → IsErr r → IsErrAnd r (λ y. y ≡ e) → HasCauseOf fault old.disk new r
 cause_on {fault} {e} {old} {mid} {new} first cause r err and = record {
   later = let a = first.reads.failures in let b = cause.later in omega (arith, a, b);
-  failed = failed_on old.disk mid.disk new first.reads.failures cause.failed r err and;
+  failed = through_try (λ y. y ≡ fault → HasFailed old.disk new) r e (err, and) (λ is. failed_later old.disk mid.disk new first.reads.failures (cause.failed is));
 }
 
 -- ---- what a call tells of the disk

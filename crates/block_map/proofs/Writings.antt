@@ -249,22 +249,3 @@ module _ {p : Geometry} {old mid new : TxnState} {bits : SectorMap} {v : Inode} 
     is = λ some. content ∙ sym put.here ∙ ap new.sectors (sym at_u);
     none = λ zero. absurd (has (sym at_u ∙ zero));
   }
-
--- ---- after reads
-pub writes_after : {p : Geometry} {k at : ℕ} {x : List ℕ} {old mid new : TxnState} {v w : Inode} → IsUnchanged old mid → WritesBlock p k at x mid new v w → WritesBlock p k at x old new v w
-writes_after {p} {k} {at} {x} {old} {mid} {new} {v} {w} same a =
-    let e : mid.sectors ≡ old.sectors = same_map old.sectors mid.sectors same.sectors in
-    record {
-      alters = altered_after same a.alters;
-      puts = subst (λ (image : SectorMap). PutsOnly (IsStepSector p) (pointers_to image v k ++ bitmaps p) 1 old new) e (puts_after same a.puts);
-      size = a.size;
-      pointers = λ i. a.pointers i ∙ ap (λ (image : SectorMap). number_on image v 1 i) e;
-      here = a.here;
-      others = λ j ne. a.others j ne ∙ ap (λ (image : SectorMap). pointer image v j) e;
-      held = λ bytes h. a.held bytes (subst (λ (image : SectorMap). Holds image v bytes) (sym e) h);
-      free =
-          let f = a.free in
-          let one = ap (free_sectors p) e in
-          let two = ap (λ (image : SectorMap). hole image v k) e in
-          omega (arith, f, one, two);
-    }

@@ -5,11 +5,12 @@
 --     hole, holes, lacks_pointers        how many sectors a block lacks, blocks lack, and their pointers
 --     most_from, most_for, pointer_sectors        how many sectors numbers of a level have, with those by which they are found
 --     numbers_on, sectors_to, pointers_to        numbers of a level, one after the other; the sector in which a number stands
+--     TakesSector        a sector is taken and written
 --     AddsSector, AddsNumbers, AddsPointers        the inode gets a sector of pointers, several of a level, or all that blocks need
 --     WritesBlock, WritesBlocks        bytes of one block are written, and of several
 --     block_of, FillsSectors, WritesRun        whole blocks are written into sectors that are taken for them
 --     blocks_to, taken_by, put_by        the blocks that bytes reach, and the sectors that they take and put
-use Rattle.std.specs.Prelude.{◌≡◌, ◌≢◌, ◌⊎◌, ℕ, zero, suc, ◌+◌, ◌*◌, ◌<◌, ◌≤◌, ◌-◌, ◌/◌, nat_eq, nat_lt, if◌then◌else◌, count_by, List, [], ◌∷◌, ◌++◌, length, get_or, take, drop}
+use Rattle.std.specs.Prelude.{◌≡◌, ◌≢◌, ◌⊎◌, ℕ, zero, suc, ◌+◌, ◌*◌, ◌<◌, ◌≤◌, ◌-◌, ◌/◌, nat_eq, nat_lt, if◌then◌else◌, count_by, true, List, [], ◌∷◌, ◌++◌, length, get_or, take, drop}
 use Rattle.std.specs.List.{range_with_len}
 use Rattle.fs_layout.specs.declared.inode.TheConstants.{DIRECT_BLOCKS, POINTER_LEVELS}
 use Rattle.fs_layout.specs.declared.inode.Inode.{Inode}
@@ -18,10 +19,11 @@ use Rattle.fs_layout.specs.declared.geometry.Geometry.{Geometry}
 use Rattle.fs_layout.specs.Bytes.{SectorMap, splice, le32}
 use Rattle.fs_layout.specs.Inode.{FitsInode}
 use Rattle.fs_layout.specs.Images.{IsData, own_count, holder, number_on, pointer, Holds, free_sectors}
-use Rattle.fs_layout.specs.InodeChanges.{Puts, IsOwnedApart, ChangesBlocks}
+use Rattle.fs_layout.specs.InodeChanges.{Puts, IsOwnedApart, Allocates, ChangesBlocks}
 use Rattle.fs_layout.specs.Lacking.{lacks_from, lacks}
 use Rattle.sector_txn.specs.Sectors.{TxnState, PutsOnly, lacking}
 use Rattle.bit_alloc.specs.Bitmaps.{HasBitmaps}
+use Rattle.bit_alloc.specs.Chains.{IsChain}
 use Rattle.bit_alloc.specs.Room.{bitmaps}
 use Rattle.bit_alloc.specs.Inodes.{KeepsFields, KeepsAcls}
 
@@ -104,6 +106,15 @@ abbrev pub pointers_of : SectorMap → Inode → ℕ → ℕ → List ℕ
 pointers_of image v first end =
     if nat_lt DIRECT_BLOCKS end then numbers_on image v 1 (holder DIRECT_BLOCKS first) (holder DIRECT_BLOCKS (end - 1) + 1 - holder DIRECT_BLOCKS first) else []
 
+-- sector n, which was free, is taken, and the content is put there
+pub record TakesSector (p : Geometry) (content : List ℕ) (old new : TxnState) (n : ℕ) : Type 0 where
+  pub bits : SectorMap
+  pub taken : Allocates p n content old.sectors bits new.sectors
+  pub free : free_sectors p old.sectors ≡ free_sectors p new.sectors + 1
+  pub has : new.has_put n ≡ true
+  pub puts : PutsOnly (IsStepSector p) (bitmaps p) 1 old new
+  pub tables : HasBitmaps p new
+
 -- Number i of a level of pointers is there. If it wasn't, it is a new sector, of zeros; besides it at most `ns` were put.
 pub record AddsSector (p : Geometry) (ns : List ℕ) (level i : ℕ) (old new : TxnState) (v w : Inode) : Type 0 where
   pub alters : Alters p old new v w
@@ -160,15 +171,8 @@ block_of x i = take 512 (drop (512 * i) x)
 -- So many sectors are written with the blocks of the bytes, one after the other, and their numbers into a sector of pointers, from
 -- place `at` on.
 pub record FillsSectors (at count : ℕ) (numbers x : List ℕ) (old new : SectorMap) (before after : List ℕ) : Type 0 where
-  -- the sectors, and the content of the sector of pointers, once the first i are written
-  pub sectors : ℕ → SectorMap
-  pub pointers : ℕ → List ℕ
-  pub first : sectors 0 ≡ old
-  pub last : sectors count ≡ new
-  pub none : pointers 0 ≡ before
-  pub all : pointers count ≡ after
-  pub puts : (i : ℕ) → i < count → Puts (get_or numbers i 0) (block_of x i) (sectors i) (sectors (i + 1))
-  pub points : (i : ℕ) → i < count → pointers (i + 1) ≡ splice (pointers i) (4 * (at + i)) (le32 (get_or numbers i 0))
+  pub sectors : IsChain (λ i. Puts (get_or numbers i 0) (block_of x i)) 0 count old new
+  pub pointers : IsChain (λ i was now. now ≡ splice was (4 * (at + i)) (le32 (get_or numbers i 0))) 0 count before after
 
 -- the bytes are written into so many blocks from k on, which had no sectors
 pub record WritesRun (p : Geometry) (k count : ℕ) (x : List ℕ) (old new : TxnState) (v w : Inode) : Type 0 where

@@ -2,12 +2,12 @@
 
 ghost use Rattle.std.specs.Prelude.{◌≡◌, ◌≢◌, ◌≤◌, ◌<◌, ◌+◌, ◌*◌, ◌^◌, ℕ, length, get_or, false, IfOk, OnOk};
 ghost use Rattle.std.specs.Fn.{FnOnceReturnsAt};
-ghost use Rattle.sector_disk.specs.Disk.{HasCause};
 ghost use Rattle.fs_layout.specs.declared.inode.TheConstants.{DIRECT_BLOCKS, POINTER_LEVELS, SECTOR_POINTERS};
 ghost use Rattle.fs_layout.specs.Bytes.{SectorMap, splice, le32};
 ghost use Rattle.fs_layout.specs.Header.{log_end};
 ghost use Rattle.fs_layout.specs.Images.{HasPointers, HasPointersAbove, byte_in, byte_at, number_on, place_in_holder, pointer};
-ghost use Rattle.sector_txn.specs.Sectors.{IsUnchanged, IsPut};
+ghost use Rattle.sector_txn.specs.Sectors.{IsPut};
+ghost use Rattle.bit_alloc.specs.Calls.{IsUnchanged, HasCause};
 ghost use Rattle.block_map.specs.Blocks.{IsWithin};
 
 use byteorder::{ByteOrder, LittleEndian};

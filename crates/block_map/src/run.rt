@@ -5,21 +5,21 @@ ghost use Rattle.fs_layout.specs.declared.inode.TheConstants.{DIRECT_BLOCKS, MAX
 ghost use Rattle.fs_layout.specs.Bytes.{SectorMap};
 ghost use Rattle.fs_layout.specs.Header.{log_end};
 ghost use Rattle.fs_layout.specs.Images.{holder, number_on, place_in_holder, pointer, free_sectors};
-ghost use Rattle.sector_txn.specs.Sectors.{SameStore, PutsOnly};
+ghost use Rattle.bit_alloc.specs.Calls.{SameStore, PutsOnly, HasCauseOf};
 ghost use Rattle.bit_alloc.specs.Bitmaps.{IsNumberOf};
-ghost use Rattle.bit_alloc.specs.Faults.{HasCauseOf};
 ghost use Rattle.block_map.specs.declared.run.TheConstants.{MAX_RUN};
 ghost use Rattle.block_map.specs.Blocks.{IsAtHand, IsLoaded};
 ghost use Rattle.block_map.specs.Steps.{MayChange, HasRoomFor, FillsSectors, WritesRun, pointers_to};
 
 use crate::MapFault;
 use crate::blocks::{BLOCK, Blocks, write_pointer};
+use crate::write::MAX_WRITE;
 use bit_alloc::{Bitmap, take_all};
 use fs_layout::{DIRECT_BLOCKS, Geometry, SECTOR_POINTERS};
 use sector_txn::Sectors;
 
 /// The most blocks of one run.
-pub(crate) const MAX_RUN: usize = 32;
+pub(crate) const MAX_RUN: usize = MAX_WRITE / BLOCK;
 
 /// How many blocks from block `k` on, at most so many, have no sectors and make one run: their numbers stand in the sector of pointers
 /// at hand.
@@ -62,10 +62,11 @@ fn fill_sectors<S: Sectors>(
     ensures puts { PutsOnly (IsNumberOf numbers.now 0 (length numbers.now)) [] (length numbers.now) (S.state s.old) (S.state s.new) }
 {
     for i in 0..numbers.len() {
-        if let Some(block) = (&bytes[BLOCK * i..BLOCK * (i + 1)]).as_array() {
-            s.put(numbers[i], block);
-            write_pointer(pointers, at + i, numbers[i]);
-        }
+        let Some(block) = (&bytes[BLOCK * i..BLOCK * (i + 1)]).as_array() else {
+            unreachable!()
+        };
+        s.put(numbers[i], block);
+        write_pointer(pointers, at + i, numbers[i]);
     }
 }
 

@@ -1,18 +1,14 @@
 //! Steps of a change: what an inode owns changes, and the inode isn't saved yet.
 
-ghost use Rattle.std.specs.Prelude.{◌≡◌, ◌≢◌, ◌≤◌, ◌<◌, ◌+◌, ◌*◌, ℕ, [], length, false, true, Err, IfOk, IfErr, OnOk, OnErr};
+ghost use Rattle.std.specs.Prelude.{◌≡◌, ◌≢◌, ◌≤◌, ◌<◌, ◌+◌, ◌*◌, [], length, false, Err, IfOk, IfErr, OnOk};
 ghost use Rattle.fs_layout.specs.declared.inode.TheConstants.{DIRECT_BLOCKS};
-ghost use Rattle.fs_layout.specs.Bytes.{SectorMap, IsSector, splice, zeros};
+ghost use Rattle.fs_layout.specs.Bytes.{IsSector, splice, zeros};
 ghost use Rattle.fs_layout.specs.Header.{log_end};
 ghost use Rattle.fs_layout.specs.Images.{holder, number_on, pointer, free_sectors};
-ghost use Rattle.fs_layout.specs.InodeChanges.{Puts, Allocates};
-ghost use Rattle.sector_disk.specs.Disk.{HasCause};
-ghost use Rattle.sector_txn.specs.Sectors.{SameStore, PutsOnly};
-ghost use Rattle.bit_alloc.specs.Bitmaps.{HasBitmaps};
-ghost use Rattle.bit_alloc.specs.Faults.{HasCauseOf};
-ghost use Rattle.bit_alloc.specs.Room.{bitmaps, HasSpare};
+ghost use Rattle.fs_layout.specs.InodeChanges.{Puts};
+ghost use Rattle.bit_alloc.specs.Calls.{HasBitmaps, HasSpare, SameStore, PutsOnly, HasCause, HasCauseOf};
 ghost use Rattle.block_map.specs.Blocks.{IsAtHand, IsLoaded};
-ghost use Rattle.block_map.specs.Steps.{MayChange, IsStepSector, HasRoomFor, WritesBlock, pointers_to};
+ghost use Rattle.block_map.specs.Steps.{MayChange, HasRoomFor, TakesSector, WritesBlock, pointers_to};
 
 use crate::MapFault;
 use crate::blocks::{BLOCK, Blocks};
@@ -59,12 +55,7 @@ pub(crate) fn take_sector<S: Sectors>(
 ) -> Result<u32, TakeFault>
     requires bitmaps { HasBitmaps geometry (S.state s.old) }
     requires room { HasSpare geometry 1 (S.state s.old) }
-    ensures taken { IfOk result (λ n. (bits : SectorMap)
-        × Allocates geometry n content.now (S.state s.old).sectors bits (S.state s.new).sectors) }
-    ensures free { OnOk result (free_sectors geometry (S.state s.old).sectors ≡ free_sectors geometry (S.state s.new).sectors + 1) }
-    ensures has { IfOk result (λ n. (S.state s.new).has_put n ≡ true) }
-    ensures puts { OnOk result (PutsOnly (IsStepSector geometry) (bitmaps geometry) 1 (S.state s.old) (S.state s.new)) }
-    ensures bitmaps { OnOk result (HasBitmaps geometry (S.state s.new)) }
+    ensures taken { IfOk result (TakesSector geometry content.now (S.state s.old) (S.state s.new)) }
     ensures full { IfErr result (λ e. e ≡ TakeFault.Full → free_sectors geometry (S.state s.old).sectors ≡ 0) }
     ensures store { SameStore (S.state s.old) (S.state s.new) }
     ensures cause { HasCauseOf TakeFault.DiskFault (S.state s.old).disk (S.state s.new).disk result }
@@ -85,12 +76,7 @@ fn take_block<S: Sectors>(
     requires bitmaps { HasBitmaps geometry (S.state s.old) }
     requires fits { at + length bytes.now ≤ 512 }
     requires room { HasSpare geometry 1 (S.state s.old) }
-    ensures taken { IfOk result (λ n. (bits : SectorMap)
-        × Allocates geometry n (splice (zeros 512) at bytes.now) (S.state s.old).sectors bits (S.state s.new).sectors) }
-    ensures free { OnOk result (free_sectors geometry (S.state s.old).sectors ≡ free_sectors geometry (S.state s.new).sectors + 1) }
-    ensures has { IfOk result (λ n. (S.state s.new).has_put n ≡ true) }
-    ensures puts { OnOk result (PutsOnly (IsStepSector geometry) (bitmaps geometry) 1 (S.state s.old) (S.state s.new)) }
-    ensures bitmaps { OnOk result (HasBitmaps geometry (S.state s.new)) }
+    ensures taken { IfOk result (TakesSector geometry (splice (zeros 512) at bytes.now) (S.state s.old) (S.state s.new)) }
     ensures full { IfErr result (λ e. e ≡ TakeFault.Full → free_sectors geometry (S.state s.old).sectors ≡ 0) }
     ensures store { SameStore (S.state s.old) (S.state s.new) }
     ensures cause { HasCauseOf TakeFault.DiskFault (S.state s.old).disk (S.state s.new).disk result }

@@ -1,6 +1,6 @@
 use Rattle.std.proofs.Common.{length, refl, sym, ◌∙◌, arith, inr}
 use Rattle.bit_alloc.proofs.Soundness.{free_kept, sound_then}
-use Rattle.inode_table.proofs.Made.{through_try}
+use Rattle.bit_alloc.proofs.Passing.{through_try}
 use Rattle.block_map.proofs.Linking.{link_fits, IsMade, link_made}
 use Rattle.block_map.proofs.Rewritten.{filled}
 use Rattle.block_map.proofs.link.new_link.Goals as goal
@@ -22,8 +22,8 @@ is_made : (g : _) (c : goal.In_ok-write_inode g) → IsMade c.args.geometry c.in
 is_made g c =
     let fits = link_fits c.args.uid c.args.gid (length c.args.target.now) c.in_ok-link.field-0 (omega arith) (omega arith) c.requires.target.0 c.requires.target.1
     (omega arith) in
-    link_made c.requires.sound c.in_ok-ino.ensures.taken c.in_ok-ino.ensures.puts c.in_ok-link.ensures.puts c.args.uid c.args.gid c.args.target.now _ c.requires.clear c.requires.target
-    (filled 0 c.copy_from_slice.ensures.after refl) c.in_ok-link.ensures.taken.1 fits c.in_ok-write_inode.ensures.saved c.in_ok-link.ensures.free c.in_ok-write_inode.ensures.puts
+    link_made c.requires.sound c.in_ok-ino.ensures.taken c.in_ok-ino.ensures.puts c.in_ok-link.ensures.taken.puts c.args.uid c.args.gid c.args.target.now _ c.requires.clear c.requires.target
+    (filled 0 c.copy_from_slice.ensures.after refl) c.in_ok-link.ensures.taken.taken fits c.in_ok-write_inode.ensures.saved c.in_ok-link.ensures.taken.free c.in_ok-write_inode.ensures.puts
 
 pub returns-clause-sound : goal.returns-clause-sound
 returns-clause-sound g c =

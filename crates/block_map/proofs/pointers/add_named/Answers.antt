@@ -19,11 +19,11 @@ returns-in_err-number-clause-full g c = λ is.
 pub returns-clause-added : goal.returns-clause-added
 unfolding zeros
 returns-clause-added g c =
-    sets_named c.requires.may refl c.in_ok-number.ensures.taken.1 c.in_ok-number.ensures.free c.in_ok-number.ensures.bitmaps c.in_ok-number.ensures.puts c.in_ok-number.ensures.has
+    sets_named c.requires.may refl c.in_ok-number.ensures.taken.taken c.in_ok-number.ensures.taken.free c.in_ok-number.ensures.taken.tables c.in_ok-number.ensures.taken.puts c.in_ok-number.ensures.taken.has
     c.args.level c.requires.level.0 c.requires.level.1 c.if-blocks-level-ne0.false c.requires.inside c.was_taken.ensures.inode
 
 pub returns-clause-at_hand : goal.returns-clause-at_hand
 unfolding zeros
 returns-clause-at_hand g c =
-    named_at_hand c.requires.may refl c.in_ok-number.ensures.taken.1 c.in_ok-number.ensures.free c.in_ok-number.ensures.bitmaps c.in_ok-number.ensures.puts c.in_ok-number.ensures.has
+    named_at_hand c.requires.may refl c.in_ok-number.ensures.taken.taken c.in_ok-number.ensures.taken.free c.in_ok-number.ensures.taken.tables c.in_ok-number.ensures.taken.puts c.in_ok-number.ensures.taken.has
     c.args.level c.requires.level.0 c.requires.level.1 c.if-blocks-level-ne0.false refl c.requires.at_hand refl c.was_taken.ensures

@@ -33,7 +33,7 @@ put-requires-clause-on_disk g c =
 
 pub put-requires-clause-room : goal.put-requires-clause-room
 put-requires-clause-room g c = λ none.
-    let r = (puts_beside c.in_ok-number.ensures.puts c.args.above).room in
+    let r = (puts_beside c.in_ok-number.ensures.taken.puts c.args.above).room in
     let z = lacking_unput (g.S.Sectors.state c.take_sector.new.s) c.args.above (bitmaps c.args.geometry) none in
     omega (arith, r, z, c.requires.room)
 
@@ -42,18 +42,18 @@ unfolding zeros
 returns-clause-added g c =
     subst (λ (w : Inode). AddsSector c.args.geometry (c.args.above ∷ []) c.args.level c.args.i (g.S.Sectors.state c.args.s.now) (g.S.Sectors.state c.put.new.self) c.args.blocks.now.inode w)
     (sym c.was_taken.ensures.inode)
-    (lists_sector c.requires.may refl c.in_ok-number.ensures.taken.1 c.in_ok-number.ensures.free c.in_ok-number.ensures.bitmaps c.requires.number.2 c.requires.above.1
+    (lists_sector c.requires.may refl c.in_ok-number.ensures.taken.taken c.in_ok-number.ensures.taken.free c.in_ok-number.ensures.taken.tables c.requires.number.2 c.requires.above.1
     c.requires.content c.write_pointer.ensures c.put.ensures.sectors c.put.ensures.store
-    (pointers_puts (suc c.args.level) (holder 1 c.args.i) c.requires.may c.requires.above.0 c.requires.above.1 c.in_ok-number.ensures.puts c.put.ensures)
-    (still_put c.put.ensures _ c.in_ok-number.ensures.has) c.args.level c.requires.number.0 c.requires.above.0 c.requires.none c.requires.inside)
+    (pointers_puts (suc c.args.level) (holder 1 c.args.i) c.requires.may c.requires.above.0 c.requires.above.1 c.in_ok-number.ensures.taken.puts c.put.ensures)
+    (still_put c.put.ensures _ c.in_ok-number.ensures.taken.has) c.args.level c.requires.number.0 c.requires.above.0 c.requires.none c.requires.inside)
 
 pub returns-clause-at_hand : goal.returns-clause-at_hand
 unfolding zeros
 returns-clause-at_hand g c =
-    lists_at_hand c.requires.may refl c.in_ok-number.ensures.taken.1 c.in_ok-number.ensures.free c.in_ok-number.ensures.bitmaps c.requires.number.2 c.requires.above.1
+    lists_at_hand c.requires.may refl c.in_ok-number.ensures.taken.taken c.in_ok-number.ensures.taken.free c.in_ok-number.ensures.taken.tables c.requires.number.2 c.requires.above.1
     c.requires.content c.write_pointer.ensures c.put.ensures.sectors c.put.ensures.store
-    (pointers_puts (suc c.args.level) (holder 1 c.args.i) c.requires.may c.requires.above.0 c.requires.above.1 c.in_ok-number.ensures.puts c.put.ensures)
-    (still_put c.put.ensures _ c.in_ok-number.ensures.has) c.args.level c.requires.number.0 c.requires.above.0 c.requires.none c.requires.at_hand refl c.was_taken.ensures
+    (pointers_puts (suc c.args.level) (holder 1 c.args.i) c.requires.may c.requires.above.0 c.requires.above.1 c.in_ok-number.ensures.taken.puts c.put.ensures)
+    (still_put c.put.ensures _ c.in_ok-number.ensures.taken.has) c.args.level c.requires.number.0 c.requires.above.0 c.requires.none c.requires.at_hand refl c.was_taken.ensures
 
 pub returns-clause-store : goal.returns-clause-store
 returns-clause-store g c = store_joined c.in_ok-number.ensures.store c.put.ensures.store

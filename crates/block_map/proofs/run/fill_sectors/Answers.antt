@@ -9,7 +9,6 @@ use Rattle.bit_alloc.proofs.Listed.{listed_wider}
 use Rattle.block_map.specs.Steps.{FillsSectors, block_of}
 use Rattle.block_map.proofs.Filling.{fills_none, fills_one}
 use Rattle.block_map.proofs.run.fill_sectors.Goals as goal
-use Rattle.block_map.proofs.run.fill_sectors.Goals.{in-Some, in_default}
 
 pub loop-i-init : goal.loop-i-init
 loop-i-init g c = record { within = omega arith; filled = fills_none; puts = changes_nothing [] }
@@ -28,36 +27,31 @@ put-requires-clause-on_disk g c =
 pub put-requires-clause-room : goal.put-requires-clause-room
 put-requires-clause-room g c = λ none. let room = c.loop-i.invariant.puts.room in omega (arith, room, c.requires.room, c.loop-i-test.true)
 
+pub unreachable-requires : goal.unreachable-requires
+unreachable-requires g c =
+    let bytes : List ℕ = c.args.bytes.now in
+    let from : ℕ = 512 * c.loop-i.i in
+    let wide : ℕ = 512 * (c.loop-i.i + 1) - from in
+    let rest : length (drop from bytes) ≡ length bytes - from = length-drop from bytes in
+    let few : wide ≤ length (drop from bytes) = omega (arith, rest, c.requires.long, c.loop-i-test.true) in
+    c.in_default.ensures.cases (length-take-le wide (drop from bytes) few ∙ (let all : wide ≡ 512 = omega arith in all))
+
 pub loop-i-preserved : goal.loop-i-preserved
-loop-i-preserved g c = elim c.match-as_array.branch [
-  | in-Some w ↦
-      let x = c.loop-i.invariant in
-      let i : ℕ = c.loop-i.i in
-      let old = g.S.Sectors.state c.args.s.now in
-      let numbers : List ℕ = c.args.numbers.now in
-      let bytes : List ℕ = c.args.bytes.now in
-      let chunk = w.in-Some.ensures.cases in
-      let wide : 512 * (i + 1) - 512 * i ≡ 512 = omega arith in
-      let content : w.in-Some.block.now ≡ block_of bytes i = chunk.same ∙ ap (λ (n : ℕ). take n (drop (512 * i) bytes)) wide in
-      let put = w.put.ensures in
-      let filled = fills_one x.filled (subst (λ (b : List ℕ). Puts (get_or numbers i 0) b (g.S.Sectors.state c.loop-i.s).sectors (g.S.Sectors.state w.put.new.self).sectors) content put.sectors)
-      w.write_pointer.ensures in
-      record {
-        within = omega (arith, c.loop-i-test.true);
-        filled = subst (λ (q : List ℕ). FillsSectors c.args.at (i + 1) numbers bytes old.sectors (g.S.Sectors.state c.match-as_array.s).sectors c.args.pointers.now q) (sym w.pointers-is)
-            (subst (λ s. FillsSectors c.args.at (i + 1) numbers bytes old.sectors (g.S.Sectors.state s).sectors c.args.pointers.now w.write_pointer.new.pointers) (sym w.s-is) filled);
-        puts = subst (λ s. PutsOnly (IsNumberOf numbers 0 (i + 1)) [] (i + 1) old (g.S.Sectors.state s)) (sym w.s-is)
-            (changes_put (changes_weaker (λ n is. listed_wider (omega arith) is) (omega arith) x.puts) put
-            (record { place = i; from = omega arith; before = omega arith; is = refl; some = λ e. let low = (c.requires.within i c.loop-i-test.true).0 in omega (arith, low, e) }));
-      }
-  | in_default w ↦
-      let bytes : List ℕ = c.args.bytes.now in
-      let from : ℕ = 512 * c.loop-i.i in
-      let wide : ℕ = 512 * (c.loop-i.i + 1) - from in
-      let rest : length (drop from bytes) ≡ length bytes - from = length-drop from bytes in
-      let few : wide ≤ length (drop from bytes) = omega (arith, rest, c.requires.long, c.loop-i-test.true) in
-      absurd (w.in_default.ensures.cases (length-take-le wide (drop from bytes) few ∙ (let all : wide ≡ 512 = omega arith in all)))
-]
+loop-i-preserved g c =
+    let x = c.loop-i.invariant in
+    let i : ℕ = c.loop-i.i in
+    let numbers : List ℕ = c.args.numbers.now in
+    let bytes : List ℕ = c.args.bytes.now in
+    let wide : 512 * (i + 1) - 512 * i ≡ 512 = omega arith in
+    let content : c.in-Some.block.now ≡ block_of bytes i = c.in-Some.ensures.cases.same ∙ ap (λ (n : ℕ). take n (drop (512 * i) bytes)) wide in
+    let put = c.put.ensures in
+    record {
+      within = omega (arith, c.loop-i-test.true);
+      filled = fills_one x.filled (subst (λ (b : List ℕ). Puts (get_or numbers i 0) b (g.S.Sectors.state c.loop-i.s).sectors (g.S.Sectors.state c.put.new.self).sectors) content put.sectors)
+          c.write_pointer.ensures;
+      puts = changes_put (changes_weaker (λ n is. listed_wider (omega arith) is) (omega arith) x.puts) put
+          (record { place = i; from = omega arith; before = omega arith; is = refl; some = λ e. let low = (c.requires.within i c.loop-i-test.true).0 in omega (arith, low, e) });
+    }
 
 pub returns-clause-filled : goal.returns-clause-filled
 returns-clause-filled g c =

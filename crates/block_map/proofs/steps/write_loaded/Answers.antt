@@ -64,7 +64,7 @@ put_pointer-requires-clause-room g c = λ none.
     let ge = c.if-k-lt-DIRECT_BLOCKS.false in
     let e = ap (λ (ns : List ℕ). lacking old (ns ++ bitmaps c.args.geometry)) (pointers_are old.sectors v c.args.k ge) in
     let f = ap (λ (t : ℕ). lacking old (t ∷ bitmaps c.args.geometry)) (loaded_sector c.requires.loaded ge) in
-    let r = (puts_beside c.in_ok-number.ensures.puts u).room in
+    let r = (puts_beside c.in_ok-number.ensures.taken.puts u).room in
     let z = lacking_unput (g.S.Sectors.state c.take_block.new.s) u (bitmaps c.args.geometry) none in
     omega (arith, r, z, e, f, c.requires.room)
 
@@ -73,14 +73,14 @@ returns-then-k-lt-DIRECT_BLOCKS-clause-written g c =
     let old = g.S.Sectors.state c.args.s.now in
     let none : pointer old.sectors c.args.blocks.now.inode c.args.k ≡ 0 = sym (c.number-number.ensures old.sectors c.requires.loaded) ∙ c.if-number-ne0.false in
     writes_direct_block c.args.at c.args.bytes.now c.requires.may none c.requires.fits.0 refl c.requires.fits.1 c.requires.inside
-    c.in_ok-number.ensures.taken.1 c.in_ok-number.ensures.free c.in_ok-number.ensures.bitmaps c.in_ok-number.ensures.puts c.if-k-lt-DIRECT_BLOCKS.true
+    c.in_ok-number.ensures.taken.taken c.in_ok-number.ensures.taken.free c.in_ok-number.ensures.taken.tables c.in_ok-number.ensures.taken.puts c.if-k-lt-DIRECT_BLOCKS.true
 
 pub returns-then-k-lt-DIRECT_BLOCKS-clause-at_hand : goal.returns-then-k-lt-DIRECT_BLOCKS-clause-at_hand
 returns-then-k-lt-DIRECT_BLOCKS-clause-at_hand g c =
     let old = g.S.Sectors.state c.args.s.now in
     let none : pointer old.sectors c.args.blocks.now.inode c.args.k ≡ 0 = sym (c.number-number.ensures old.sectors c.requires.loaded) ∙ c.if-number-ne0.false in
     at_hand_near c.in_ok-number.number (direct_at_hand c.args.at c.args.bytes.now c.requires.may none c.requires.fits.0 refl c.requires.fits.1 c.requires.inside
-    c.in_ok-number.ensures.taken.1 c.in_ok-number.ensures.free c.in_ok-number.ensures.bitmaps c.in_ok-number.ensures.puts c.if-k-lt-DIRECT_BLOCKS.true c.requires.loaded.at_hand refl)
+    c.in_ok-number.ensures.taken.taken c.in_ok-number.ensures.taken.free c.in_ok-number.ensures.taken.tables c.in_ok-number.ensures.taken.puts c.if-k-lt-DIRECT_BLOCKS.true c.requires.loaded.at_hand refl)
 
 pub returns-else-k-lt-DIRECT_BLOCKS-clause-written : goal.returns-else-k-lt-DIRECT_BLOCKS-clause-written
 returns-else-k-lt-DIRECT_BLOCKS-clause-written g c =
@@ -92,8 +92,8 @@ returns-else-k-lt-DIRECT_BLOCKS-clause-written g c =
     let none : pointer old.sectors v c.args.k ≡ 0 = sym (c.number-number.ensures old.sectors c.requires.loaded) ∙ c.if-number-ne0.false in
     subst (λ (w : Inode). WritesBlock c.args.geometry c.args.k c.args.at c.args.bytes.now old (g.S.Sectors.state c.put_pointer.new.s) v w) (sym c.put_pointer.ensures.inode)
     (writes_entry_block c.args.at c.args.bytes.now c.requires.may none c.requires.fits.0 refl c.requires.fits.1 c.requires.inside
-    c.in_ok-number.ensures.taken.1 c.in_ok-number.ensures.free c.in_ok-number.ensures.bitmaps ge (sym sector) has
-    (c.requires.loaded.at_hand.is has) c.put_pointer.ensures.pointers c.put_pointer.ensures.put.sectors c.put_pointer.ensures.put.store (pointers_puts 1 (holder DIRECT_BLOCKS c.args.k) c.requires.may (sym sector) has c.in_ok-number.ensures.puts c.put_pointer.ensures.put))
+    c.in_ok-number.ensures.taken.taken c.in_ok-number.ensures.taken.free c.in_ok-number.ensures.taken.tables ge (sym sector) has
+    (c.requires.loaded.at_hand.is has) c.put_pointer.ensures.pointers c.put_pointer.ensures.put.sectors c.put_pointer.ensures.put.store (pointers_puts 1 (holder DIRECT_BLOCKS c.args.k) c.requires.may (sym sector) has c.in_ok-number.ensures.taken.puts c.put_pointer.ensures.put))
 
 pub returns-else-k-lt-DIRECT_BLOCKS-clause-at_hand : goal.returns-else-k-lt-DIRECT_BLOCKS-clause-at_hand
 returns-else-k-lt-DIRECT_BLOCKS-clause-at_hand g c =
@@ -102,8 +102,8 @@ returns-else-k-lt-DIRECT_BLOCKS-clause-at_hand g c =
     let has : c.args.blocks.now.sector ≢ 0 = λ e. c.requires.pointers ge (sector ∙ e) in
     let none = sym (c.number-number.ensures (g.S.Sectors.state c.args.s.now).sectors c.requires.loaded) ∙ c.if-number-ne0.false in
     entry_at_hand c.args.at c.args.bytes.now c.requires.may none c.requires.fits.0 refl c.requires.fits.1 c.requires.inside
-    c.in_ok-number.ensures.taken.1 c.in_ok-number.ensures.free c.in_ok-number.ensures.bitmaps ge (sym sector) has
-    (c.requires.loaded.at_hand.is has) c.put_pointer.ensures.pointers c.put_pointer.ensures.put.sectors c.put_pointer.ensures.put.store (pointers_puts 1 (holder DIRECT_BLOCKS c.args.k) c.requires.may (sym sector) has c.in_ok-number.ensures.puts c.put_pointer.ensures.put)
+    c.in_ok-number.ensures.taken.taken c.in_ok-number.ensures.taken.free c.in_ok-number.ensures.taken.tables ge (sym sector) has
+    (c.requires.loaded.at_hand.is has) c.put_pointer.ensures.pointers c.put_pointer.ensures.put.sectors c.put_pointer.ensures.put.store (pointers_puts 1 (holder DIRECT_BLOCKS c.args.k) c.requires.may (sym sector) has c.in_ok-number.ensures.taken.puts c.put_pointer.ensures.put)
     _ c.put_pointer.ensures.inode (c.put_pointer.ensures.here.0 ∙ c.requires.loaded.index ge) c.put_pointer.ensures.here.1 refl
 
 pub returns-else-k-lt-DIRECT_BLOCKS-clause-store : goal.returns-else-k-lt-DIRECT_BLOCKS-clause-store

@@ -1,11 +1,10 @@
 use Rattle.std.proofs.Common.{◌≡◌, ℕ, ◌+◌, ◌-◌, ◌*◌, ◌/◌, ◌≤◌, ◌⊎◌, List, length, take, drop, sym, ap, subst, ◌∙◌, arith, inl, inr, Err}
 use Rattle.std.proofs.lemmas.Bool.{cases_lt}
-use Rattle.std.proofs.lemmas.List.{length-take-le, length-drop}
 use Rattle.sector_txn.proofs.TransactionRuns.{store_joined}
 use Rattle.block_map.specs.declared.fault.MapFault.TheVariants.{Full}
 use Rattle.block_map.specs.Steps.{WritesRun, HasRoomFor, pointers_of, pointers_to}
 use Rattle.block_map.proofs.Alterings.{may_after}
-use Rattle.block_map.proofs.Loops.{IsWritten, none_written, written_then, more_written, run_more, all_written, block_lacks, run_lacks, room_for_blocks, pointers_lack}
+use Rattle.block_map.proofs.Loops.{IsWritten, none_written, written_then, more_written, run_of, run_more, all_written, block_lacks, run_lacks, room_for_blocks, pointers_lack}
 use Rattle.block_map.proofs.Numbers.{loaded_unchanged}
 use Rattle.block_map.proofs.Runs.{same_fault, cause_on, map_fault_on}
 use Rattle.block_map.proofs.Wrote.{may_within}
@@ -56,51 +55,42 @@ write_run-requires-clause-listed g c =
     let x = c.args.bytes.now in
     let done = c.saturating_sub-done.result in
     let run = c.run_of_holes-run.result in
+    let is = run_of x c.args.offset c.loop-k.k done run c.div_ceil-end.result c.if-run-gt0.true c.run_of_holes-run.ensures.most.0 c.whole_blocks.ensures.first c.whole_blocks.ensures.within
+    (omega (arith, c.saturating_sub-at.ensures)) (omega (arith, c.saturating_sub-done.ensures)) (omega (arith, c.div_ceil-end.ensures)) c.loop-k-test.true in
     let listed = c.run_of_holes-run.ensures.listed c.if-run-gt0.true in
-    let rest = length-drop done x in
-    let wide = length-take-le (done + 512 * run - done) (drop done x) (omega (arith, rest, c.run_of_holes-run.ensures.most.0, c.whole_blocks.ensures.within)) in
-    (listed.0, (let fits = listed.1 in omega (arith, fits, wide)))
+    (listed.0, (let fits = listed.1 in omega (arith, fits, is.count)))
 
 pub write_run-requires-clause-holes : goal.write_run-requires-clause-holes
 write_run-requires-clause-holes g c = λ j low high.
     let x = c.args.bytes.now in
     let done = c.saturating_sub-done.result in
     let run = c.run_of_holes-run.result in
-    let rest = length-drop done x in
-    let wide = length-take-le (done + 512 * run - done) (drop done x) (omega (arith, rest, c.run_of_holes-run.ensures.most.0, c.whole_blocks.ensures.within)) in
-    let count : length (take (done + 512 * run - done) (drop done x)) / 512 ≡ run = omega (arith, wide) in
-    c.run_of_holes-run.ensures.holes (g.S.Sectors.state c.load.new.s).sectors (loaded_unchanged c.in_ok-load.ensures.same c.in_ok-load.ensures.loaded) j low (omega (arith, high, count))
+    let is = run_of x c.args.offset c.loop-k.k done run c.div_ceil-end.result c.if-run-gt0.true c.run_of_holes-run.ensures.most.0 c.whole_blocks.ensures.first c.whole_blocks.ensures.within
+    (omega (arith, c.saturating_sub-at.ensures)) (omega (arith, c.saturating_sub-done.ensures)) (omega (arith, c.div_ceil-end.ensures)) c.loop-k-test.true in
+    c.run_of_holes-run.ensures.holes (g.S.Sectors.state c.load.new.s).sectors (loaded_unchanged c.in_ok-load.ensures.same c.in_ok-load.ensures.loaded) j low (omega (arith, high, is.count))
 
 pub write_run-requires-clause-room : goal.write_run-requires-clause-room
 write_run-requires-clause-room g c =
     let x = c.args.bytes.now in
     let done = c.saturating_sub-done.result in
     let run = c.run_of_holes-run.result in
-    let rest = length-drop done x in
-    let wide = length-take-le (done + 512 * run - done) (drop done x) (omega (arith, rest, c.run_of_holes-run.ensures.most.0, c.whole_blocks.ensures.within)) in
-    let count : length (take (done + 512 * run - done) (drop done x)) / 512 ≡ run = omega (arith, wide) in
-    let first = c.whole_blocks.ensures.first (omega (arith, c.if-run-gt0.true, c.run_of_holes-run.ensures.most.0)) in
-    let end : c.loop-k.k + run ≤ c.div_ceil-end.result =
-    omega (arith, first, c.run_of_holes-run.ensures.most.0, c.whole_blocks.ensures.within, c.div_ceil-end.ensures, c.saturating_sub-at.ensures, c.saturating_sub-done.ensures, c.loop-k-test.true) in
-    subst (λ (n : ℕ). HasRoomFor c.args.geometry (pointers_to (g.S.Sectors.state c.load.new.s).sectors c.load.new.self.inode c.loop-k.k) n (g.S.Sectors.state c.load.new.s)) (sym count)
+    let is = run_of x c.args.offset c.loop-k.k done run c.div_ceil-end.result c.if-run-gt0.true c.run_of_holes-run.ensures.most.0 c.whole_blocks.ensures.first c.whole_blocks.ensures.within
+    (omega (arith, c.saturating_sub-at.ensures)) (omega (arith, c.saturating_sub-done.ensures)) (omega (arith, c.div_ceil-end.ensures)) c.loop-k-test.true in
+    subst (λ (n : ℕ). HasRoomFor c.args.geometry (pointers_to (g.S.Sectors.state c.load.new.s).sectors c.load.new.self.inode c.loop-k.k) n (g.S.Sectors.state c.load.new.s)) (sym is.count)
     (room_for_blocks c.args.offset c.args.bytes.now c.in_ok-add_pointers.ensures.added (omega (arith, c.div_ceil-end.ensures)) (written_then c.loop-k.invariant.written c.in_ok-load.ensures.same c.in_ok-load.ensures.inode) c.loop-k.invariant.from c.loop-k-test.true
-    run end c.requires.room)
+    run is.within c.requires.room)
 
 pub returns-in_err-write_run-clause-full : goal.returns-in_err-write_run-clause-full
-returns-in_err-write_run-clause-full g c = λ is.
+returns-in_err-write_run-clause-full g c = λ full.
     let x = c.args.bytes.now in
     let done = c.saturating_sub-done.result in
     let run = c.run_of_holes-run.result in
-    let rest = length-drop done x in
-    let wide = length-take-le (done + 512 * run - done) (drop done x) (omega (arith, rest, c.run_of_holes-run.ensures.most.0, c.whole_blocks.ensures.within)) in
-    let count : length (take (done + 512 * run - done) (drop done x)) / 512 ≡ run = omega (arith, wide) in
-    let first = c.whole_blocks.ensures.first (omega (arith, c.if-run-gt0.true, c.run_of_holes-run.ensures.most.0)) in
-    let end : c.loop-k.k + run ≤ c.div_ceil-end.result =
-    omega (arith, first, c.run_of_holes-run.ensures.most.0, c.whole_blocks.ensures.within, c.div_ceil-end.ensures, c.saturating_sub-at.ensures, c.saturating_sub-done.ensures, c.loop-k-test.true) in
+    let is = run_of x c.args.offset c.loop-k.k done run c.div_ceil-end.result c.if-run-gt0.true c.run_of_holes-run.ensures.most.0 c.whole_blocks.ensures.first c.whole_blocks.ensures.within
+    (omega (arith, c.saturating_sub-at.ensures)) (omega (arith, c.saturating_sub-done.ensures)) (omega (arith, c.div_ceil-end.ensures)) c.loop-k-test.true in
     let e = c.from_residual-in_err-write_run.ensures in
-    let f = c.in_err-write_run.ensures.full (ap Err (same_fault c.from_residual-in_err-write_run.result c.in_err-write_run.field-0.0 Full e.0 e.1 is)) in
-    run_lacks c.args.offset x c.in_ok-add_pointers.ensures.added (omega (arith, c.div_ceil-end.ensures)) (written_then c.loop-k.invariant.written c.in_ok-load.ensures.same c.in_ok-load.ensures.inode) c.loop-k.invariant.from c.loop-k-test.true run end
-    (c.run_of_holes-run.ensures.holes (g.S.Sectors.state c.load.new.s).sectors (loaded_unchanged c.in_ok-load.ensures.same c.in_ok-load.ensures.loaded)) (omega (arith, f, count))
+    let f = c.in_err-write_run.ensures.full (ap Err (same_fault c.from_residual-in_err-write_run.result c.in_err-write_run.field-0.0 Full e.0 e.1 full)) in
+    run_lacks c.args.offset x c.in_ok-add_pointers.ensures.added (omega (arith, c.div_ceil-end.ensures)) (written_then c.loop-k.invariant.written c.in_ok-load.ensures.same c.in_ok-load.ensures.inode) c.loop-k.invariant.from c.loop-k-test.true run is.within
+    (c.run_of_holes-run.ensures.holes (g.S.Sectors.state c.load.new.s).sectors (loaded_unchanged c.in_ok-load.ensures.same c.in_ok-load.ensures.loaded)) (omega (arith, f, is.count))
 
 pub returns-in_err-write_run-clause-store : goal.returns-in_err-write_run-clause-store
 returns-in_err-write_run-clause-store g c =
@@ -118,26 +108,21 @@ loop-k-preserved-then-run-gt0 g c =
     let x = c.args.bytes.now in
     let done = c.saturating_sub-done.result in
     let run = c.run_of_holes-run.result in
-    let rest = length-drop done x in
-    let wide = length-take-le (done + 512 * run - done) (drop done x) (omega (arith, rest, c.run_of_holes-run.ensures.most.0, c.whole_blocks.ensures.within)) in
-    let count : length (take (done + 512 * run - done) (drop done x)) / 512 ≡ run = omega (arith, wide) in
-    let first = c.whole_blocks.ensures.first (omega (arith, c.if-run-gt0.true, c.run_of_holes-run.ensures.most.0)) in
-    let end : c.loop-k.k + run ≤ c.div_ceil-end.result =
-    omega (arith, first, c.run_of_holes-run.ensures.most.0, c.whole_blocks.ensures.within, c.div_ceil-end.ensures, c.saturating_sub-at.ensures, c.saturating_sub-done.ensures, c.loop-k-test.true) in
+    let is = run_of x c.args.offset c.loop-k.k done run c.div_ceil-end.result c.if-run-gt0.true c.run_of_holes-run.ensures.most.0 c.whole_blocks.ensures.first c.whole_blocks.ensures.within
+    (omega (arith, c.saturating_sub-at.ensures)) (omega (arith, c.saturating_sub-done.ensures)) (omega (arith, c.div_ceil-end.ensures)) c.loop-k-test.true in
     let now = g.S.Sectors.state c.load.new.s in
     let new = g.S.Sectors.state c.write_run.new.s in
     let piece : List ℕ = take (done + 512 * run - done) (drop done x) in
     let step : WritesRun c.args.geometry c.loop-k.k run piece now new c.load.new.self.inode c.write_run.new.blocks.inode =
-    subst (λ (n : ℕ). WritesRun c.args.geometry c.loop-k.k n piece now new c.load.new.self.inode c.write_run.new.blocks.inode) count c.in_ok-write_run.ensures.written in
+    subst (λ (n : ℕ). WritesRun c.args.geometry c.loop-k.k n piece now new c.load.new.self.inode c.write_run.new.blocks.inode) is.count c.in_ok-write_run.ensures.written in
     let long : done + 512 * run - done ≡ 512 * run = omega arith in
     record {
       from = omega (arith, c.loop-k.invariant.from);
-      within = end;
+      within = is.within;
       at_hand = c.in_ok-write_run.ensures.at_hand;
-      written = run_more done (written_then c.loop-k.invariant.written c.in_ok-load.ensures.same c.in_ok-load.ensures.inode) step c.loop-k.invariant.from c.if-run-gt0.true end
-          (omega (arith, first, c.saturating_sub-at.ensures, c.saturating_sub-done.ensures)) (omega (arith, c.saturating_sub-done.ensures)) (ap (λ (n : ℕ). take n (drop done x)) long)
-          (omega (arith, c.run_of_holes-run.ensures.most.0, c.whole_blocks.ensures.within, first, c.saturating_sub-done.ensures, c.div_ceil-end.ensures, c.loop-k-test.true))
-          (c.run_of_holes-run.ensures.holes now.sectors (loaded_unchanged c.in_ok-load.ensures.same c.in_ok-load.ensures.loaded))
+      written = run_more done (written_then c.loop-k.invariant.written c.in_ok-load.ensures.same c.in_ok-load.ensures.inode) step c.loop-k.invariant.from c.if-run-gt0.true is.within
+          is.begins (omega (arith, c.saturating_sub-done.ensures)) (ap (λ (n : ℕ). take n (drop done x)) long)
+          is.fits (c.run_of_holes-run.ensures.holes now.sectors (loaded_unchanged c.in_ok-load.ensures.same c.in_ok-load.ensures.loaded))
           (let z = c.in_ok-add_pointers.ensures.added.size in omega (arith, z, c.requires.inside.0));
     }
 
