@@ -1,5 +1,5 @@
 -- Runs of reads.
-use Rattle.std.proofs.Common.{◌≡◌, ℕ, ◌≤◌, Result, Ok, Err, sym, ◌∙◌, arith}
+use Rattle.std.proofs.Common.{◌≡◌, ℕ, Result, Ok, Err, arith}
 use Rattle.std.specs.Prelude.{IsErr, IsErrAnd, IfErr}
 use Rattle.sector_disk.specs.Disk.{DiskState, HasFailed, HasCause}
 use Rattle.sector_disk.proofs.Moments.{failed_later}

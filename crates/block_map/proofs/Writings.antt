@@ -6,7 +6,7 @@ use Rattle.fs_layout.specs.declared.inode.Inode.{Inode}
 use Rattle.fs_layout.specs.declared.geometry.Geometry.{Geometry}
 use Rattle.fs_layout.specs.Bytes.{SectorMap, IsBytes, IsSector, splice, le32, zeros}
 use Rattle.fs_layout.specs.Geometry.{IsGeometry}
-use Rattle.fs_layout.specs.Images.{own_count, holder, place_in_holder, number_on, pointer, AccessAcl, DefaultAcl, OnLevel, Block, part, Owns, Holds, free_sectors}
+use Rattle.fs_layout.specs.Images.{own_count, holder, place_in_holder, number_on, pointer, AccessAcl, DefaultAcl, OnLevel, Block, part, Owns, free_sectors}
 use Rattle.fs_layout.specs.InodeChanges.{Keeps, Puts, PutsEntry, Allocates, Turns, ReplacesBlock, IsOwnedApart, with_direct}
 use Rattle.fs_layout.proofs.Parts.{KeepsPointers, block_has_no_pointers, number_on_kept, number_on_same, pointer_same, pointers_kept, owns_acl, owns_default_acl, owns_on_level}
 use Rattle.fs_layout.proofs.Sectors.{IsSector-splice}
@@ -19,19 +19,17 @@ use Rattle.fs_layout.proofs.Pointers.{turns_direct, turns_entry}
 use Rattle.fs_layout.proofs.Sizes.{other_blocks, now_block}
 use Rattle.fs_layout.proofs.Steps.{allocates_keeps, allocated_some, direct_block_gained, direct_block_filled, entry_there_since, entry_block_gained, entry_block_filled}
 use Rattle.fs_layout.proofs.Places.{numbers_most}
-use Rattle.sector_txn.specs.Sectors.{TxnState, SameStore, IsUnchanged, PutsOnly}
+use Rattle.sector_txn.specs.Sectors.{TxnState, SameStore, PutsOnly}
 use Rattle.bit_alloc.specs.Bitmaps.{HasBitmaps}
 use Rattle.bit_alloc.specs.Room.{bitmaps}
 use Rattle.bit_alloc.specs.Inodes.{KeepsAcls}
-use Rattle.bit_alloc.proofs.Transactions.{puts_after}
 use Rattle.bit_alloc.proofs.Soundness.{put_keeps_bitmaps}
 use Rattle.block_map.specs.Blocks.{IsAtHand}
 use Rattle.block_map.specs.declared.blocks.Blocks.{Blocks}
 use Rattle.block_map.specs.Steps.{MayChange, IsStepSector, hole, pointers_to, WritesBlock}
-use Rattle.block_map.proofs.Alterings.{fields_same, acls_kept, acls_where_kept, altered_after}
+use Rattle.block_map.proofs.Alterings.{fields_same, acls_kept, acls_where_kept}
 use Rattle.block_map.proofs.Numbers.{at_hand_kept}
 use Rattle.block_map.proofs.Rooms.{puts_before}
-use Rattle.block_map.proofs.Runs.{same_map}
 
 pub pointers_are : (image : SectorMap) (v : Inode) (k : ℕ) → DIRECT_BLOCKS ≤ k → pointers_to image v k ≡ number_on image v 1 (holder DIRECT_BLOCKS k) ∷ []
 pointers_are image v k from = rw (le-ltb k DIRECT_BLOCKS from) refl
