@@ -101,13 +101,24 @@ directory_limit {version} {v = v} {slots} h =
     subst (λ (k : ℕ). k ≤ max_directory_size version) (sym (size_of_slots h)) most
 
 -- and so is each of its slots
-pub slot_below : {version : Version} {image : SectorMap} {v : Inode} {slots : List NamedInode} → HasSlots version image v slots
-    → (slot : ℕ) → slot < length slots → slot * slot_size version ≤ MAX_DIRECTORY_SIZE
-slot_below {version} h slot within =
-    let inside = slot_inside h slot within refl in
-    let limit = directory_limit h in
-    let most = directory_most version in
-    omega (arith, inside, limit, most)
+module _ {version : Version} {image : SectorMap} {v : Inode} {slots : List NamedInode} {size : ℕ} (h : HasSlots version image v slots) (slot : ℕ) (within : slot < length slots)
+    (is : size ≡ slot_size version) where
+  at_slot : slot * size ≡ slot * slot_size version
+  at_slot = ap (λ (w : ℕ). slot * w) is
+
+  pub slot_below : slot * size ≤ MAX_DIRECTORY_SIZE
+  slot_below =
+      let inside = slot_inside h slot within at_slot in
+      let limit = directory_limit h in
+      let most = directory_most version in
+      omega (arith, inside, limit, most)
+
+  -- so many bytes as it has stand in the directory, within one block
+  pub slot_placed : {len : ℕ} → len ≡ slot_size version → (slot * size + len ≤ v.size) × ((slot * size) % 512 + len ≤ 512)
+  slot_placed wide =
+      let inside = slot_inside h slot within at_slot in
+      let one = slot_within_block h slot within at_slot in
+      (omega (arith, inside, wide), omega (arith, one, wide))
 
 -- the bytes that are written, where as many are as a slot has
 pub written : (version : Version) (x : NamedInode) (n : ℕ) (block : List ℕ) → n ≡ slot_size version → take (slot_size version) block ≡ slot_bytes version x

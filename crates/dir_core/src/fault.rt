@@ -6,7 +6,7 @@ ghost use Rattle.dir_core.specs.declared.fault.DirFault.TheVariants.{DiskFault a
 
 use block_map::MapFault;
 use sector_disk::DiskFault;
-use std::alloc::{AllocError, AllocFailed};
+use std::alloc::AllocError;
 
 /// Why a call on the names of a directory fails.
 #[derive(Clone, Copy, Debug, PartialEq, Eq)]
@@ -48,14 +48,6 @@ impl From<AllocError> for DirFault {
     ghost from_gives = { λ _ e. e ≡ OutOfMemory };
 
     fn from(_: AllocError) -> DirFault {
-        DirFault::OutOfMemory
-    }
-}
-
-impl<T: Drop> From<AllocFailed<T>> for DirFault {
-    ghost from_gives = { λ _ e. e ≡ OutOfMemory };
-
-    fn from(_: AllocFailed<T>) -> DirFault {
         DirFault::OutOfMemory
     }
 }

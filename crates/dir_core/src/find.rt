@@ -1,11 +1,10 @@
 //! The slot of a name.
 
-ghost use Rattle.std.specs.Prelude.{◌≡◌, ◌↔◌, ◌≤◌, ◌<◌, ◌+◌, List, length, slice_index, IsTrue, Some, IfOk, IfSome};
-ghost use Rattle.sector_disk.specs.Disk.{HasCause};
+ghost use Rattle.std.specs.Prelude.{◌≡◌, ◌↔◌, ◌≤◌, ◌<◌, ◌+◌, ◌^◌, List, length, slice_index, IsTrue, Some, IfOk, IfSome};
 ghost use Rattle.fs_layout.specs.Directories.{NamedInode};
 ghost use Rattle.fs_layout.specs.Version.{max_name, slot_size};
 ghost use Rattle.fs_layout.specs.declared.version.Version.{Version};
-ghost use Rattle.sector_txn.specs.Sectors.{IsUnchanged};
+ghost use Rattle.bit_alloc.specs.Calls.{IsUnchanged, HasCause};
 ghost use Rattle.block_map.specs.Blocks.{IsWithin};
 ghost use Rattle.dir_core.specs.Slots.{HasSlots, IsSlotAt, IsFoundInBlock, IsFoundIn};
 
@@ -22,6 +21,19 @@ pub(crate) struct FoundSlot {
     pub(crate) slot: u64,
     /// The inode's number.
     pub(crate) ino: u32,
+}
+
+impl FoundSlot {
+    // A slot of a block, as it is counted in the directory, where so many stand before the block.
+    fn behind(self, slots: u64) -> FoundSlot
+        requires { slots + self.slot < 2 ^ 64 }
+        ensures { result ≡ record self { slot = slots + self.slot } }
+    {
+        FoundSlot {
+            slot: slots + self.slot,
+            ino: self.ino,
+        }
+    }
 }
 
 // Whether the slot at `at` has the name. The length is compared first, and then the last byte, since names of one directory
@@ -104,10 +116,7 @@ fn find_at_hint<S: Sectors>(
     let k = hint / block_slots;
     let found = Blocks::new(inode).read_with(s, k, |block| find_in_block(version, block, name))?;
     if let Some(found) = found {
-        return Ok(Some(FoundSlot {
-            slot: block_slots * k + found.slot,
-            ino: found.ino,
-        }));
+        return Ok(Some(found.behind(block_slots * k)));
     }
     Ok(None)
 }
@@ -134,10 +143,7 @@ fn find_by_blocks<S: Sectors>(
     for k in 0..slots.div_ceil(block_slots) {
         let found = blocks.read_with(s, k, |block| find_in_block(version, block, name))?;
         if let Some(found) = found {
-            return Ok(Some(FoundSlot {
-                slot: block_slots * k + found.slot,
-                ino: found.ino,
-            }));
+            return Ok(Some(found.behind(block_slots * k)));
         }
     }
     Ok(None)

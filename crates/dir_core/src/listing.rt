@@ -1,12 +1,9 @@
 //! All names of a directory.
 
 ghost use Rattle.std.specs.Prelude.{◌≡◌, ◌≢◌, ◌⊎◌, ◌/◌, ◌%◌, ℕ, List, map, IfOk, IfErr, OnOk};
-ghost use Rattle.sector_disk.specs.Disk.{HasCause};
 ghost use Rattle.fs_layout.specs.Directories.{NamedInode, HasNames, HaveDistinctNames, names_of_slots};
-ghost use Rattle.sector_txn.specs.Sectors.{IsUnchanged};
-ghost use Rattle.bit_alloc.specs.Faults.{HasCauseOf};
-ghost use Rattle.bit_alloc.specs.Inodes.{IsSound};
 ghost use Rattle.fs_layout.specs.Version.{block_slots};
+ghost use Rattle.bit_alloc.specs.Calls.{IsSound, IsUnchanged, HasCause, HasCauseOf};
 ghost use Rattle.inode_table.specs.Inodes.{IsInodeOf};
 ghost use Rattle.block_map.specs.Blocks.{IsWithin, IsAtHand};
 ghost use Rattle.dir_core.specs.Slots.{HasSlots, IsBlock, name_entry};
@@ -72,7 +69,9 @@ fn read_slots<S: Sectors>(
         let Ok(slot) = Slot::read_in(version, &block, at) else {
             unreachable!()
         };
-        slots.push(slot)?;
+        let Ok(()) = slots.push(slot) else {
+            return Err(DirFault::OutOfMemory);
+        };
     }
     Ok(slots)
 }

@@ -1,13 +1,11 @@
 //! Looking up a name.
 
 ghost use Rattle.std.specs.Prelude.{◌≡◌, ◌↔◌, ℕ, List, [], IfOk, IsTrue};
-ghost use Rattle.sector_disk.specs.Disk.{HasCause};
 ghost use Rattle.fs_layout.specs.Bytes.{SectorMap};
 ghost use Rattle.fs_layout.specs.Directories.{HasNames};
 ghost use Rattle.fs_layout.specs.declared.version.Version.{Version};
 ghost use Rattle.fs_layout.specs.Maps.{get, name_cmp};
-ghost use Rattle.sector_txn.specs.Sectors.{IsUnchanged};
-ghost use Rattle.bit_alloc.specs.Inodes.{IsSound};
+ghost use Rattle.bit_alloc.specs.Calls.{IsSound, IsUnchanged, HasCause};
 ghost use Rattle.inode_table.specs.Inodes.{IsInodeOf};
 
 use crate::find::find_slot;

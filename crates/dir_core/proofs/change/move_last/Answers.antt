@@ -8,11 +8,7 @@ use Rattle.dir_core.proofs.Taking.{size_of_slots}
 use Rattle.dir_core.proofs.change.move_last.Goals as goal
 
 pub overflow_mul-at : goal.overflow_mul-at
-overflow_mul-at g c =
-    let below = slot_below c.requires.directory.1 c.args.slot c.requires.directory.2 in
-    let is : c.args.slot * c.slot_size-slot_size.result ≡ c.args.slot * slot_size c.args.geometry.version =
-    ap (λ (w : ℕ). c.args.slot * w) c.slot_size-slot_size.ensures in
-    omega (arith, below, is)
+overflow_mul-at g c = omega (arith, slot_below c.requires.directory.1 c.args.slot c.requires.directory.2 c.slot_size-slot_size.ensures)
 
 pub overflow_sub-last : goal.overflow_sub-last
 overflow_sub-last g c =

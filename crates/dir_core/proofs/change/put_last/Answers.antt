@@ -6,16 +6,13 @@ use Rattle.fs_layout.specs.Directories.{slots_bytes}
 use Rattle.sector_txn.proofs.TransactionRuns.{store_joined}
 use Rattle.bit_alloc.proofs.Transactions.{map_unchanged, spare_unchanged}
 use Rattle.block_map.proofs.Joins.{sound_after_reads, content_after_reads}
-use Rattle.dir_core.proofs.Changing.{slots_after_reads, directory_within, slot_below, slot_inside, slot_has_block, slot_within_block, slot_written, last_read}
+use Rattle.dir_core.proofs.Changing.{slots_after_reads, directory_within, slot_below, slot_inside, slot_has_block, slot_placed, slot_written, last_read}
 use Rattle.dir_core.proofs.SlotPlaces.{as_many}
 use Rattle.dir_core.proofs.Taking.{size_of_slots}
 use Rattle.dir_core.proofs.change.put_last.Goals as goal
 
 pub overflow_mul-at : goal.overflow_mul-at
-overflow_mul-at g c =
-    let below = slot_below c.requires.directory.1 c.args.slot c.requires.directory.2 in
-    let is : c.args.slot * length c.args.bytes.now ≡ c.args.slot * slot_size c.args.geometry.version = ap (λ (w : ℕ). c.args.slot * w) c.requires.room in
-    omega (arith, below, is)
+overflow_mul-at g c = omega (arith, slot_below c.requires.directory.1 c.args.slot c.requires.directory.2 c.requires.room)
 
 pub overflow_sub-last : goal.overflow_sub-last
 overflow_sub-last g c =
@@ -38,17 +35,11 @@ overwrite-requires-clause-spare g c = spare_unchanged c.args.geometry 1 _ _ c.re
 
 pub overwrite-requires-clause-inside : goal.overwrite-requires-clause-inside
 overwrite-requires-clause-inside g c =
-    let inside = slot_inside c.requires.directory.1 c.args.slot c.requires.directory.2 {at = c.args.slot * length c.args.bytes.now}
-    (ap (λ (w : ℕ). c.args.slot * w) c.requires.room) in
-    let room = c.requires.room in
-    omega (arith, inside, room, c.read_at.auto.to)
+    (slot_placed c.requires.directory.1 c.args.slot c.requires.directory.2 c.requires.room {len = length c.read_at.new.to} (omega (arith, c.requires.room, c.read_at.auto.to))).0
 
 pub overwrite-requires-clause-one_block : goal.overwrite-requires-clause-one_block
 overwrite-requires-clause-one_block g c =
-    let one = slot_within_block c.requires.directory.1 c.args.slot c.requires.directory.2 {at = c.args.slot * length c.args.bytes.now}
-    (ap (λ (w : ℕ). c.args.slot * w) c.requires.room) in
-    let room = c.requires.room in
-    omega (arith, one, room, c.read_at.auto.to)
+    (slot_placed c.requires.directory.1 c.args.slot c.requires.directory.2 c.requires.room {len = length c.read_at.new.to} (omega (arith, c.requires.room, c.read_at.auto.to))).1
 
 pub overwrite-requires-clause-no_hole : goal.overwrite-requires-clause-no_hole
 overwrite-requires-clause-no_hole g c =

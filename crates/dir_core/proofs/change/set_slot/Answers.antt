@@ -1,35 +1,24 @@
 use Rattle.std.proofs.Common.{◌≡◌, ℕ, ◌<◌, ◌*◌, length, sym, ap, ◌∙◌, arith, rules}
 use Rattle.std.proofs.lemmas.List.{length-set}
-use Rattle.fs_layout.specs.Version.{slot_size}
 use Rattle.fs_layout.specs.Directories.{FitsSlot}
-use Rattle.dir_core.proofs.Changing.{slot_below, slot_inside, slot_has_block, slot_within_block, slot_written, added, written, length-written}
+use Rattle.dir_core.proofs.Changing.{slot_below, slot_has_block, slot_placed, slot_written, added, written, length-written}
 use Rattle.dir_core.proofs.NamesAfter.{fits_set}
 use Rattle.dir_core.proofs.SlotPlaces.{as_many}
 use Rattle.dir_core.proofs.Taking.{size_of_slots}
 use Rattle.dir_core.proofs.change.set_slot.Goals as goal
 
 pub overflow_mul-at : goal.overflow_mul-at
-overflow_mul-at g c =
-    let below = slot_below c.requires.directory.1 c.args.slot c.requires.directory.2 in
-    let is : c.args.slot * c.slot_size-slot_size.result ≡ c.args.slot * slot_size c.args.geometry.version =
-    ap (λ (w : ℕ). c.args.slot * w) c.slot_size-slot_size.ensures in
-    omega (arith, below, is)
+overflow_mul-at g c = omega (arith, slot_below c.requires.directory.1 c.args.slot c.requires.directory.2 c.slot_size-slot_size.ensures)
 
 pub overwrite-requires-clause-inside : goal.overwrite-requires-clause-inside
 overwrite-requires-clause-inside g c =
-    let len =
-    length-written c.args.geometry.version (added c.args.name.now c.args.to) c.slot_size-slot_size.result c.block_with-block.result
-    c.slot_size-slot_size.ensures c.block_with-block.ensures c.requires.short in
-    let inside = slot_inside c.requires.directory.1 c.args.slot c.requires.directory.2 (ap (λ (w : ℕ). c.args.slot * w) c.slot_size-slot_size.ensures) in
-    omega (arith, inside, len)
+    (slot_placed c.requires.directory.1 c.args.slot c.requires.directory.2 c.slot_size-slot_size.ensures (length-written c.args.geometry.version (added c.args.name.now c.args.to) _ _
+    c.slot_size-slot_size.ensures c.block_with-block.ensures c.requires.short)).0
 
 pub overwrite-requires-clause-one_block : goal.overwrite-requires-clause-one_block
 overwrite-requires-clause-one_block g c =
-    let len =
-    length-written c.args.geometry.version (added c.args.name.now c.args.to) c.slot_size-slot_size.result c.block_with-block.result
-    c.slot_size-slot_size.ensures c.block_with-block.ensures c.requires.short in
-    let one = slot_within_block c.requires.directory.1 c.args.slot c.requires.directory.2 (ap (λ (w : ℕ). c.args.slot * w) c.slot_size-slot_size.ensures) in
-    omega (arith, one, len)
+    (slot_placed c.requires.directory.1 c.args.slot c.requires.directory.2 c.slot_size-slot_size.ensures (length-written c.args.geometry.version (added c.args.name.now c.args.to) _ _
+    c.slot_size-slot_size.ensures c.block_with-block.ensures c.requires.short)).1
 
 pub overwrite-requires-clause-no_hole : goal.overwrite-requires-clause-no_hole
 overwrite-requires-clause-no_hole g c =

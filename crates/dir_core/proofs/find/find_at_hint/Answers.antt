@@ -21,5 +21,6 @@ returns-in-Some-found-clause-found g c = λ slots h.
     let said : (length seen.block ≡ 512) × IsFoundInBlock c.args.version seen.block name c.in_ok-found.found = search rules in
     let is =
     found_in_block h seen.block name k c.in-Some-found.found said.0 c.requires.len.0 here (subst (IsFoundInBlock c.args.version seen.block name) c.in-Some-found.is said.1) in
-    subst (λ (b : ℕ). IsFoundIn slots name (Some (record { slot = b * k + c.in-Some-found.found.slot; ino = c.in-Some-found.found.ino })))
-    (sym c.block_slots-block_slots.ensures) is
+    subst (λ x. IsFoundIn slots name (Some x)) (sym c.behind.ensures)
+    (subst (λ (b : ℕ). IsFoundIn slots name (Some (record { slot = b * k + c.in-Some-found.found.slot; ino = c.in-Some-found.found.ino })))
+    (sym c.block_slots-block_slots.ensures) is)

@@ -22,7 +22,7 @@ loop-k-preserved g c =
     let here = block_before c.loop-k.invariant.same c.args.inode.now c.loop-k.blocks.inode k block c.loop-k.invariant.inode seen.bytes in
     let said : (length block ≡ 512) × IsFoundInBlock c.args.version block c.args.name.now c.in_ok-found.found = search rules in
     record {
-      same = unchanged_joined c.loop-k.invariant.same c.in_ok-found.ensures.same;
+      same = unchanged_joined {new = g.S.Sectors.state c.read_with.new.s} c.loop-k.invariant.same c.in_ok-found.ensures.same;
       inode = c.in_ok-found.ensures.inode ∙ c.loop-k.invariant.inode;
       pointers = at_hand_unchanged c.in_ok-found.ensures.same c.in_ok-found.ensures.at_hand;
       absent = λ slots h.
@@ -41,8 +41,9 @@ returns-in-Some-clause-found g c = λ slots h.
     let said : (length block ≡ 512) × IsFoundInBlock c.args.version block c.args.name.now c.in_ok-found.found = search rules in
     let is =
     found_in_block h block c.args.name.now k c.in-Some.found said.0 c.requires.len.0 here (subst (IsFoundInBlock c.args.version block c.args.name.now) c.in-Some.is said.1) in
-    subst (λ (b : ℕ). IsFoundIn slots c.args.name.now (Some (record { slot = b * k + c.in-Some.found.slot; ino = c.in-Some.found.ino })))
-    (sym c.block_slots-block_slots.ensures) is
+    subst (λ x. IsFoundIn slots c.args.name.now (Some x)) (sym c.behind.ensures)
+    (subst (λ (b : ℕ). IsFoundIn slots c.args.name.now (Some (record { slot = b * k + c.in-Some.found.slot; ino = c.in-Some.found.ino })))
+    (sym c.block_slots-block_slots.ensures) is)
 
 pub returns-clause-found : goal.returns-clause-found
 returns-clause-found g c = λ slots h n d lt.

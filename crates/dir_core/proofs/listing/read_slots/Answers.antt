@@ -38,8 +38,8 @@ read_block_of-requires-clause-at_hand g c = λ inside.
     block_later c.loop-k.invariant.same c.args.inode.now c.loop-k.blocks.inode (c.loop-k.k / block_slots c.args.version) c.loop-k.block c.loop-k.invariant.inode
     (c.loop-k.invariant.block inside)
 
-pub returns-in_err-push-clause-same : goal.returns-in_err-push-clause-same
-returns-in_err-push-clause-same g c = unchanged_joined c.loop-k.invariant.same c.in_ok-read_block_of.ensures.same
+pub returns-in_default-push-clause-same : goal.returns-in_default-push-clause-same
+returns-in_default-push-clause-same g c = unchanged_joined c.loop-k.invariant.same c.in_ok-read_block_of.ensures.same
 
 pub unreachable-requires : goal.unreachable-requires
 unreachable-requires g c =
@@ -80,7 +80,7 @@ loop-k-preserved g c =
           c.slot_size-slot_size.ensures c.block_slots-block_slots.ensures (slot_there h block k slot (omega arith) here lt) in
           let is : slot ≡ get_or slots k slot =
           same_ok slot (get_or slots k slot) c.read_in.result c.in-Ok.is (c.read_in.ensures.only (get_or slots k slot) there.0 there.1) in
-          one_more slots c.loop-k.slots.items c.push.new.self.items k slot (c.loop-k.invariant.read slots h) c.in_ok-push.ensures.items is lt;
+          one_more slots c.loop-k.slots.items c.push.new.self.items k slot (c.loop-k.invariant.read slots h) c.in-Ok-push.ensures.items is lt;
     }
 
 pub returns-clause-found : goal.returns-clause-found
