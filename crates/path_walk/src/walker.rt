@@ -4,16 +4,13 @@ ghost use Rattle.std.specs.Prelude.{◌≡◌, ◌<◌, ◌≤◌, ◌+◌, ◌^
 ghost use Rattle.fs_cred.specs.declared.refusal.Refusal.{Refusal};
 ghost use Rattle.fs_model.specs.declared.walk.Form.{Form};
 ghost use Rattle.fs_model.specs.Parts.{is_empty};
-ghost use Rattle.fs_model.specs.Trees.{Tree};
-ghost use Rattle.fs_model.specs.Stands.{room_of};
 ghost use Rattle.fs_model.specs.Summaries.{is_link_kind};
 ghost use Rattle.fs_model.specs.Rules.{is_directory_kind};
 ghost use Rattle.fs_layout.specs.Images.{Holds};
-ghost use Rattle.sector_txn.specs.Sectors.{IsUnchanged};
-ghost use Rattle.bit_alloc.specs.Inodes.{IsSound};
+ghost use Rattle.bit_alloc.specs.Calls.{IsSound, IsUnchanged};
 ghost use Rattle.inode_table.specs.Inodes.{IsInodeOf};
 ghost use Rattle.path_walk.specs.Answers.{Interrupts, IsCaused, IsAnswered};
-ghost use Rattle.path_walk.specs.HeldTrees.{HoldsTree, IsThere};
+ghost use Rattle.path_walk.specs.HeldTrees.{Tree, room_of, HoldsTree, IsThere};
 ghost use Rattle.path_walk.specs.Lookups.{lookup_of};
 ghost use Rattle.path_walk.specs.SoundInodes.{HasSoundInodes};
 ghost use Rattle.path_walk.specs.Rests.{found_at, last_of_walk};
