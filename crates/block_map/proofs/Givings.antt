@@ -1,7 +1,8 @@
 -- Sectors of blocks and of pointers are given back, one after the other.
 use Rattle.std.proofs.Common.{◌≡◌, ◌≢◌, ℕ, zero, suc, ◌+◌, ◌-◌, ◌*◌, ◌/◌, ◌%◌, [], ◌≤◌, ◌<◌, false, refl, sym, ap, subst, ◌∙◌, arith, inl, inr, ◌⊎◌, IsTrue}
-use Rattle.std.specs.Prelude.{List, get_or, min, max}
+use Rattle.std.specs.Prelude.{List, get_or, length, set, min, max}
 use Rattle.std.proofs.lemmas.Bool.{cases_eq, cases_lt}
+use Rattle.std.proofs.lemmas.List.{get_or-set_same, get_or-set_other}
 use Rattle.fs_layout.specs.declared.inode.TheConstants.{DIRECT_BLOCKS, POINTER_LEVELS, SECTOR_POINTERS}
 use Rattle.fs_layout.specs.declared.inode.Inode.{Inode}
 use Rattle.fs_layout.specs.declared.geometry.Geometry.{Geometry}
@@ -31,6 +32,15 @@ use Rattle.bit_alloc.specs.Room.{bitmaps}
 use Rattle.block_map.specs.Steps.{MayChange, IsStepSector, Alters}
 use Rattle.block_map.specs.Contents.{AllowsSize}
 use Rattle.block_map.specs.Drops.{GivesParts, OwnsOnlyData, IsFor, IsAmong, IsFrom, first_on, emptied}
+
+-- ---- a list of numbers
+-- one more is listed
+pub one_listed : (numbers : List ℕ) (i n : ℕ) (number : ℕ → ℕ) → i < length numbers → n ≡ number i → ((j : ℕ) → j < i → get_or numbers j 0 ≡ number j) → (j : ℕ) → j < i + 1
+    → get_or (set numbers i n) j 0 ≡ number j
+one_listed numbers i n number low is each j lt = elim (cases_eq j i) [
+  | inl e ↦ ap (λ (k : ℕ). get_or (set numbers i n) k 0) e ∙ get_or-set_same numbers i n 0 low ∙ is ∙ ap number (sym e)
+  | inr ne ↦ get_or-set_other numbers i j n 0 ne ∙ each j (omega (arith, lt, ne))
+]
 
 -- ---- several parts
 pub none_given : {p : Geometry} {v : Inode} {P : Part → Type 0} {txn : TxnState} → HasBitmaps p txn → ((at : Part) → P at → ⊥) → GivesParts p v P txn txn

@@ -1,8 +1,7 @@
 use Rattle.std.proofs.Common.{◌≡◌, ◌+◌, ◌-◌, ◌<◌, ℕ, List, length, get_or, set, take, sym, ap, ◌∙◌, arith, inl, inr}
-use Rattle.std.proofs.lemmas.Bool.{cases_eq}
-use Rattle.std.proofs.lemmas.List.{get_or-set_same, get_or-set_other, get_or-take, length-set, length-take-le}
+use Rattle.std.proofs.lemmas.List.{get_or-take, length-set, length-take-le}
 use Rattle.fs_layout.specs.Images.{number_on}
-use Rattle.block_map.proofs.Givings.{listed_inside, numbers_given}
+use Rattle.block_map.proofs.Givings.{listed_inside, numbers_given, one_listed}
 use Rattle.block_map.proofs.release.give_listed.Goals as goal
 
 pub loop-i-preserved : goal.loop-i-preserved
@@ -23,10 +22,7 @@ loop-i-preserved g c =
     record {
       most = omega (arith, c.loop-i-test.true);
       long = length-set numbers i n ∙ x.long;
-      each = λ j lt. elim (cases_eq j i) [
-        | inl e ↦ ap (λ (k : ℕ). get_or (set numbers i n) k 0) e ∙ get_or-set_same numbers i n 0 low ∙ is ∙ ap (λ (k : ℕ). number_on old.sectors v level (first + k)) (sym e)
-        | inr ne ↦ get_or-set_other numbers i j n 0 ne ∙ x.each j (omega (arith, lt, ne))
-      ];
+      each = one_listed numbers i n (λ j. number_on old.sectors v level (first + j)) low is x.each;
     }
 
 pub give_all-requires-clause-numbers : goal.give_all-requires-clause-numbers
