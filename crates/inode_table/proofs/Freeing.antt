@@ -27,20 +27,20 @@ pub record IsFreed (p : Geometry) (n : ℕ) (old new : TxnState) : Type 0 where
   pub unused : bit new.sectors p.inode_bitmap n ≡ false
 
 -- ---- what has been put so far
-module _ (p : Geometry) (n : ℕ) (t0 t1 t2 : TxnState) (sound : IsSound p t0) (number : IsNumber p Inodes n)
+module _ {p : Geometry} {n : ℕ} {t0 t1 t2 : TxnState} (sound : IsSound p t0) (number : IsNumber p Inodes n)
     (read : IsUnchanged t0 t1) (bit_put : PutsOnly (λ t. t ≡ p.inode_bitmap + n / 4096) (bitmaps p) 0 t1 t2) where
   pub puts_2 : PutsOnly (IsForAcl p 0) (bitmaps p) 0 t0 t2
   puts_2 = changes_joined (puts_nothing p read) (puts_inode_map n sound.consistent.geometry number.1 bit_put)
 
-  module _ (t3 : TxnState) (access_put : PutsOnly (IsForAcl p 0) (bitmaps p) 0 t2 t3) where
+  module _ {t3 : TxnState} (access_put : PutsOnly (IsForAcl p 0) (bitmaps p) 0 t2 t3) where
     pub puts_3 : PutsOnly (IsForAcl p 0) (bitmaps p) 0 t0 t3
     puts_3 = changes_joined puts_2 access_put
 
-    module _ (t4 : TxnState) (default_put : PutsOnly (IsForAcl p 0) (bitmaps p) 0 t3 t4) where
+    module _ {t4 : TxnState} (default_put : PutsOnly (IsForAcl p 0) (bitmaps p) 0 t3 t4) where
       pub puts_4 : PutsOnly (IsForAcl p 0) (bitmaps p) 0 t0 t4
       puts_4 = changes_joined puts_3 default_put
 
-      module _ (t5 : TxnState) (inode_put : PutsOnly (λ t. t ≡ p.table + n / 4) [] 1 t4 t5) where
+      module _ {t5 : TxnState} (inode_put : PutsOnly (λ t. t ≡ p.table + n / 4) [] 1 t4 t5) where
         pub puts_5 : PutsOnly (IsForSaving p n 0) (bitmaps p) 1 t0 t5
         puts_5 = puts_saving p n 0 puts_4 inode_put
 

@@ -16,12 +16,8 @@ give_sector-requires-clause-owned g c = acl_in_data c.requires.sound c.requires.
 
 pub give_sector-requires-clause-room : goal.give_sector-requires-clause-room
 give_sector-requires-clause-room g c =
-    let p = c.args.geometry in
-    let t0 = g.S.Sectors.state c.args.s.now in
-    let t1 = g.S.Sectors.state c.load.new.s in
-    let t2 = g.S.Sectors.state c.give.new.s in
-    let puts = puts_2 p c.args.ino t0 t1 t2 c.requires.sound c.requires.number c.in_ok-inode.ensures.same c.in_ok-give.ensures.puts in
-    spare_then p 0 0 t0 t2 (omega (arith, c.requires.spare)) puts
+    let puts = puts_2 c.requires.sound c.requires.number c.in_ok-inode.ensures.same c.in_ok-give.ensures.puts in
+    spare_then c.args.geometry 0 0 (g.S.Sectors.state c.args.s.now) (g.S.Sectors.state c.give.new.s) (omega (arith, c.requires.spare)) puts
 
 pub give_sector-requires-2-clause-owned : goal.give_sector-requires-2-clause-owned
 give_sector-requires-2-clause-owned g c =
@@ -30,29 +26,17 @@ give_sector-requires-2-clause-owned g c =
 
 pub give_sector-requires-2-clause-room : goal.give_sector-requires-2-clause-room
 give_sector-requires-2-clause-room g c =
-    let p = c.args.geometry in
-    let t0 = g.S.Sectors.state c.args.s.now in
-    let t1 = g.S.Sectors.state c.load.new.s in
-    let t2 = g.S.Sectors.state c.give.new.s in
-    let t3 = g.S.Sectors.state c.give_sector.new.s in
-    let puts = puts_3 p c.args.ino t0 t1 t2 c.requires.sound c.requires.number c.in_ok-inode.ensures.same c.in_ok-give.ensures.puts
-    t3 c.in_ok-give_sector.ensures.puts in
-    spare_then p 0 0 t0 t3 (omega (arith, c.requires.spare)) puts
+    let puts = puts_3 c.requires.sound c.requires.number c.in_ok-inode.ensures.same c.in_ok-give.ensures.puts c.in_ok-give_sector.ensures.puts in
+    spare_then c.args.geometry 0 0 (g.S.Sectors.state c.args.s.now) (g.S.Sectors.state c.give_sector.new.s) (omega (arith, c.requires.spare)) puts
 
 pub write_inode-requires-clause-fits : goal.write_inode-requires-clause-fits
 write_inode-requires-clause-fits g c = free_fits
 
 pub write_inode-requires-clause-room : goal.write_inode-requires-clause-room
 write_inode-requires-clause-room g c = λ none.
-    let p = c.args.geometry in
-    let t0 = g.S.Sectors.state c.args.s.now in
-    let t1 = g.S.Sectors.state c.load.new.s in
-    let t2 = g.S.Sectors.state c.give.new.s in
-    let t3 = g.S.Sectors.state c.give_sector.new.s in
     let t4 = g.S.Sectors.state c.give_sector-2.new.s in
-    let puts = puts_4 p c.args.ino t0 t1 t2 c.requires.sound c.requires.number c.in_ok-inode.ensures.same c.in_ok-give.ensures.puts
-    t3 c.in_ok-give_sector.ensures.puts t4 c.in_ok-give_sector-2.ensures.puts in
-    room_left p 1 t4 (spare_then p 0 1 t0 t4 (omega (arith, c.requires.spare)) puts) (omega arith)
+    let puts = puts_4 c.requires.sound c.requires.number c.in_ok-inode.ensures.same c.in_ok-give.ensures.puts c.in_ok-give_sector.ensures.puts c.in_ok-give_sector-2.ensures.puts in
+    room_left c.args.geometry 1 t4 (spare_then c.args.geometry 0 1 (g.S.Sectors.state c.args.s.now) t4 (omega (arith, c.requires.spare)) puts) (omega arith)
 
 -- all that has come of it
 is_freed : (g : _) (c : goal.In_ok-write_inode g) → IsFreed c.args.geometry c.args.ino (g.S.Sectors.state c.args.s.now) (g.S.Sectors.state c.write_inode.new.s)
@@ -65,8 +49,8 @@ is_freed g c =
     let t3 = g.S.Sectors.state c.give_sector.new.s in
     let t4 = g.S.Sectors.state c.give_sector-2.new.s in
     let t5 = g.S.Sectors.state c.write_inode.new.s in
-    let puts = puts_5 p n t0 t1 t2 c.requires.sound c.requires.number c.in_ok-inode.ensures.same c.in_ok-give.ensures.puts
-    t3 c.in_ok-give_sector.ensures.puts t4 c.in_ok-give_sector-2.ensures.puts t5 c.in_ok-write_inode.ensures.puts in
+    let puts = puts_5 c.requires.sound c.requires.number c.in_ok-inode.ensures.same c.in_ok-give.ensures.puts c.in_ok-give_sector.ensures.puts c.in_ok-give_sector-2.ensures.puts
+    c.in_ok-write_inode.ensures.puts in
     freed p n c.in_ok-inode.inode t0 t1 t2 t3 t4 t5 c.requires.sound c.requires.number c.requires.empty c.in_ok-inode.ensures.found c.in_ok-inode.ensures.same
     c.in_ok-give.ensures.given c.in_ok-give_sector.ensures.given c.in_ok-give_sector-2.ensures.given c.in_ok-write_inode.ensures.saved puts
 
