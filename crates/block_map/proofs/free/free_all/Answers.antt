@@ -58,19 +58,14 @@ is_freed g c =
     c.in_ok-give_sector.ensures.puts c.in_ok-give_sector-2.ensures.puts _ may c.in_ok-give_sector.ensures.given c.in_ok-give_sector-2.ensures.given
     c.in_ok-write_inode.ensures.saved c.in_ok-write_inode.ensures.puts
 
-pub returns-clause-store : goal.returns-clause-store
-returns-clause-store g c = (is_freed g c).touches.puts.store
-
-pub returns-clause-sound : goal.returns-clause-sound
-returns-clause-sound g c =
-    sound_then c.args.geometry c.args.ino 0 1 (g.S.Sectors.state c.args.s.now) (g.S.Sectors.state c.write_inode.new.s) c.requires.sound c.requires.number
-    (is_freed g c).touches
-
-pub returns-clause-touches : goal.returns-clause-touches
-returns-clause-touches g c = (is_freed g c).touches
-
-pub returns-clause-free : goal.returns-clause-free
-returns-clause-free g c = (is_freed g c).free
-
-pub returns-clause-unused : goal.returns-clause-unused
-returns-clause-unused g c = (is_freed g c).unused
+pub returns : goal.returns
+returns g c =
+    let f = is_freed g c in
+    record {
+      store = f.touches.puts.store;
+      sound = sound_then c.args.geometry c.args.ino 0 1 (g.S.Sectors.state c.args.s.now) (g.S.Sectors.state c.write_inode.new.s) c.requires.sound c.requires.number f.touches;
+      touches = f.touches;
+      free = f.free;
+      unused = f.unused;
+      cause = search rules;
+    }

@@ -25,29 +25,6 @@ use Rattle.dir_core.proofs.change.insert_new.Goals as goal
 not_full : (end limit most : ℕ) → end < limit → limit ≡ most → end < most
 not_full end limit most lt is = omega (arith, lt, is)
 
-pub write_at-requires-clause-size : goal.write_at-requires-clause-size
-write_at-requires-clause-size g c =
-    let version = c.args.geometry.version in
-    let v = c.args.inode.now in
-    let names = c.requires.directory.1 in
-    let h = slots_there names in
-    let len =
-    length-written c.args.geometry.version (added c.args.name.now c.args.to) c.slot_size.result c.block_with-block.result c.slot_size.ensures
-    c.block_with-block.ensures c.requires.short in
-    let few = slots_few h (not_full _ _ _ c.if-end-max_directory_size.false c.max_directory_size.ensures) in
-    let most = directory_most version in
-    let end : max v.size (v.size + length (take c.slot_size.result c.block_with-block.result)) ≡ v.size + slot_size version = omega (arith, len) in
-    subst (AllowsSize v.kind) (sym end)
-    (allows v.kind (v.size + slot_size version) h.kind (omega (arith, few.0, most)) (even_with_one version (length names.slots) v.size (size_of_slots h)))
-
-pub write_at-requires-clause-few : goal.write_at-requires-clause-few
-write_at-requires-clause-few g c =
-    let len =
-    length-written c.args.geometry.version (added c.args.name.now c.args.to) c.slot_size.result c.block_with-block.result c.slot_size.ensures
-    c.block_with-block.ensures c.requires.short in
-    let most = (slot_bounds c.args.geometry.version).1 in
-    omega (arith, len, most)
-
 -- how many sectors are put
 puts_few : {version : Version} {image : SectorMap} {v : Inode} {slots : List NamedInode} → HasSlots version image v slots → (n : ℕ) → n ≡ slot_size version
     → v.size + slot_size version ≤ max_directory_size version → put_by v.size n ≤ 4
@@ -56,16 +33,53 @@ puts_few {version} {v = v} {slots} h n len few =
     let most = directory_most version in
     put_in_block v.size n (omega (arith, len)) (omega (arith, len, one)) (omega (arith, len, few, most))
 
+-- how many it takes
+takes_so : {version : Version} {image : SectorMap} {v : Inode} {slots : List NamedInode} → HasSlots version image v slots → (n : ℕ) → n ≡ slot_size version
+    → v.size + slot_size version ≤ max_directory_size version → taken_by image v v.size n ≡ taken_for v
+takes_so {version} {image} {v} h n len few = ap (taken_by image v v.size) len ∙ taken_is h (let most = directory_most version in omega (arith, few, most))
+
+-- a slot more has place, which is written with so many bytes
+record HasPlace (version : Version) (image : SectorMap) (v : Inode) (n : ℕ) : Type 0 where
+  wide : n ≡ slot_size version
+  few : v.size + slot_size version ≤ max_directory_size version
+  puts : put_by v.size n ≤ 4
+  takes : taken_by image v v.size n ≡ taken_for v
+
+has_place : {version : Version} {image : SectorMap} {v : Inode} {slots : List NamedInode} {limit : ℕ} → HasSlots version image v slots → (n : ℕ) → n ≡ slot_size version
+    → v.size < limit → limit ≡ max_directory_size version → HasPlace version image v n
+has_place h n wide lt is =
+    let few = (slots_few h (not_full _ _ _ lt is)).0 in
+    record { wide = wide; few = few; puts = puts_few h n wide few; takes = takes_so h n wide few }
+
+pub write_at-requires-clause-size : goal.write_at-requires-clause-size
+write_at-requires-clause-size g c =
+    let version = c.args.geometry.version in
+    let v = c.args.inode.now in
+    let names = c.requires.directory.1 in
+    let h = slots_there names in
+    let place = has_place (slots_there c.requires.directory.1) (length (take c.slot_size.result c.block_with-block.result))
+    (length-written c.args.geometry.version (added c.args.name.now c.args.to) _ _ c.slot_size.ensures c.block_with-block.ensures c.requires.short)
+    c.if-end-max_directory_size.false c.max_directory_size.ensures in
+    let most = directory_most version in
+    let end : max v.size (v.size + length (take c.slot_size.result c.block_with-block.result)) ≡ v.size + slot_size version = omega (arith, place.wide) in
+    subst (AllowsSize v.kind) (sym end)
+    (allows v.kind (v.size + slot_size version) h.kind (omega (arith, place.few, most)) (even_with_one version (length names.slots) v.size (size_of_slots h)))
+
+pub write_at-requires-clause-few : goal.write_at-requires-clause-few
+write_at-requires-clause-few g c =
+    let place = has_place (slots_there c.requires.directory.1) (length (take c.slot_size.result c.block_with-block.result))
+    (length-written c.args.geometry.version (added c.args.name.now c.args.to) _ _ c.slot_size.ensures c.block_with-block.ensures c.requires.short)
+    c.if-end-max_directory_size.false c.max_directory_size.ensures in
+    let most = (slot_bounds c.args.geometry.version).1 in
+    omega (arith, place.wide, most)
+
 pub write_at-requires-clause-spare : goal.write_at-requires-clause-spare
 write_at-requires-clause-spare g c =
-    let len =
-    length-written c.args.geometry.version (added c.args.name.now c.args.to) c.slot_size.result c.block_with-block.result c.slot_size.ensures
-    c.block_with-block.ensures c.requires.short in
-    let there = slots_there c.requires.directory.1 in
-    let room = (slots_few there (not_full _ _ _ c.if-end-max_directory_size.false c.max_directory_size.ensures)).0 in
-    let puts = puts_few there (length (take c.slot_size.result c.block_with-block.result)) len room in
+    let place = has_place (slots_there c.requires.directory.1) (length (take c.slot_size.result c.block_with-block.result))
+    (length-written c.args.geometry.version (added c.args.name.now c.args.to) _ _ c.slot_size.ensures c.block_with-block.ensures c.requires.short)
+    c.if-end-max_directory_size.false c.max_directory_size.ensures in
     let spare = c.requires.spare in
-    omega (arith, puts, spare)
+    omega (arith, place.puts, spare)
 
 pub returns-then-end-max_directory_size-clause-why : goal.returns-then-end-max_directory_size-clause-why
 returns-then-end-max_directory_size-clause-why g c = λ names h.
@@ -78,11 +92,6 @@ returns-then-end-max_directory_size-clause-why g c = λ names h.
     let full : max_directory_size p.version ≤ v.size = let t = c.if-end-max_directory_size.true in let e = c.max_directory_size.ensures in omega (arith, t, e) in
     (none, inl (names_full h full))
 
--- how many it takes
-takes_so : {version : Version} {image : SectorMap} {v : Inode} {slots : List NamedInode} → HasSlots version image v slots → (n : ℕ) → n ≡ slot_size version
-    → v.size + slot_size version ≤ max_directory_size version → taken_by image v v.size n ≡ taken_for v
-takes_so {version} {image} {v} h n len few = ap (taken_by image v v.size) len ∙ taken_is h (let most = directory_most version in omega (arith, few, most))
-
 pub returns-in_err-write_at-clause-why : goal.returns-in_err-write_at-clause-why
 returns-in_err-write_at-clause-why g c =
     let old = g.S.Sectors.state c.args.s.now in
@@ -91,21 +100,18 @@ returns-in_err-write_at-clause-why g c =
     let name = c.args.name.now in
     let e = c.from_residual.ensures in
     let r = c.in_err-write_at.ensures in
-    let there = slots_there c.requires.directory.1 in
-    let len =
-    length-written c.args.geometry.version (added c.args.name.now c.args.to) c.slot_size.result c.block_with-block.result c.slot_size.ensures
-    c.block_with-block.ensures c.requires.short in
-    let room = (slots_few there (not_full _ _ _ c.if-end-max_directory_size.false c.max_directory_size.ensures)).0 in
-    let takes = takes_so there (length (take c.slot_size.result c.block_with-block.result)) len room in
+    let place = has_place (slots_there c.requires.directory.1) (length (take c.slot_size.result c.block_with-block.result))
+    (length-written c.args.geometry.version (added c.args.name.now c.args.to) _ _ c.slot_size.ensures c.block_with-block.ensures c.requires.short)
+    c.if-end-max_directory_size.false c.max_directory_size.ensures in
     let none : (names : List (List ℕ × ℕ)) → HasNames p.version old.sectors v names → get name_cmp names name ≡ None =
     λ names h. ap (λ (m : List (List ℕ × ℕ)). get name_cmp m name) (names_same p.version old.sectors v names c.requires.directory.0 h c.requires.directory.1) ∙ c.requires.directory.2 in
     passed_on (λ f. (names : List (List ℕ × ℕ)) → HasNames p.version old.sectors v names → WhyNotAdded p old.sectors v names name f)
     c.from_residual.result c.in_err-write_at.field-0.0 e.0 e.1
-    (λ full names h. let few = (r.full (ap Err full)).0 in (none names h, inr (omega (arith, few, takes))))
+    (λ full names h. let few = (r.full (ap Err full)).0 in (none names h, inr (omega (arith, few, place.takes))))
     (λ big names h.
     let past = r.too_big.0 (ap Err big) in
     let most = (file_bounds p.version).0 in
-    absurd (omega (arith, past, len, most, room)))
+    absurd (omega (arith, past, place.wide, most, place.few)))
     (λ names h. tt)
 
 pub returns-clause-change : goal.returns-clause-change
@@ -114,14 +120,11 @@ returns-clause-change g c =
     let new = g.S.Sectors.state c.write_at.new.s in
     let p = c.args.geometry in
     let v = c.args.inode.now in
-    let there = slots_there c.requires.directory.1 in
-    let len =
-    length-written c.args.geometry.version (added c.args.name.now c.args.to) c.slot_size.result c.block_with-block.result c.slot_size.ensures
-    c.block_with-block.ensures c.requires.short in
-    let room = (slots_few there (not_full _ _ _ c.if-end-max_directory_size.false c.max_directory_size.ensures)).0 in
-    let takes = takes_so there (length (take c.slot_size.result c.block_with-block.result)) len room in
-    content_at_most (puts_few there (length (take c.slot_size.result c.block_with-block.result)) len room)
-    (subst (λ (k : ℕ). ChangesContent p c.args.ino k (put_by v.size (length (take c.slot_size.result c.block_with-block.result))) old new v c.write_at.new.inode) takes
+    let place = has_place (slots_there c.requires.directory.1) (length (take c.slot_size.result c.block_with-block.result))
+    (length-written c.args.geometry.version (added c.args.name.now c.args.to) _ _ c.slot_size.ensures c.block_with-block.ensures c.requires.short)
+    c.if-end-max_directory_size.false c.max_directory_size.ensures in
+    content_at_most place.puts
+    (subst (λ (k : ℕ). ChangesContent p c.args.ino k (put_by v.size (length (take c.slot_size.result c.block_with-block.result))) old new v c.write_at.new.inode) place.takes
     c.in_ok-write_at.ensures.change)
 
 pub returns-clause-names : goal.returns-clause-names

@@ -24,7 +24,7 @@ loop-k-preserved g c =
     record {
       same = unchanged_joined {new = g.S.Sectors.state c.read_with.new.s} c.loop-k.invariant.same c.in_ok-found.ensures.same;
       inode = c.in_ok-found.ensures.inode ∙ c.loop-k.invariant.inode;
-      pointers = at_hand_unchanged c.in_ok-found.ensures.same c.in_ok-found.ensures.at_hand;
+      pointers = at_hand_unchanged {mid = g.S.Sectors.state c.read_with.new.s} c.in_ok-found.ensures.same c.in_ok-found.ensures.at_hand;
       absent = λ slots h.
           absent_in_block h block c.args.name.now k said.0 here (subst (IsFoundInBlock c.args.version block c.args.name.now) c.in_default.is said.1) (c.loop-k.invariant.absent slots h);
     }
