@@ -88,6 +88,16 @@ pub few_bits : (p : Geometry) (map : Bitmap) → IsGeometry p → bit_count p ma
 few_bits p Inodes geometry = let room = geometry.room in let most = geometry.header in let after = after_map geometry in omega (arith, room, most, after)
 few_bits p Blocks geometry = let room = geometry.room in let most = geometry.header in let after = after_map geometry in omega (arith, room, most, after)
 
+-- nor are those up to one of its sectors, with those of the sector
+pub few_counted : (p : Geometry) (map : Bitmap) (image : SectorMap) (sector : List ℕ) (free more : ℕ) {k end : ℕ} → IsGeometry p
+    → free ≤ clear_below image (first_sector p map) (4096 * k) → more ≤ clear_below (λ _. sector) 0 4096 → k < end → 4096 * end ≤ bit_count p map
+    → free + more ≤ 4096 * max_delta MAX_HEADER
+few_counted p map image sector free more {k} geometry so_far here before within =
+    let most = counted_at_most image (first_sector p map) (4096 * k) in
+    let each = counted_at_most (λ _. sector) 0 4096 in
+    let few = few_bits p map geometry in
+    omega (arith, so_far, here, before, within, most, each, few)
+
 -- a clear bit is that of a free number
 pub clear_is_free : (p : Geometry) (map : Bitmap) (image : SectorMap) (n : ℕ) → HasRestSet p image → n < bit_count p map → bit image (first_sector p map) n ≡ false
     → IsFreeNumber p map image n

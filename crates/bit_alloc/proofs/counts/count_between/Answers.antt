@@ -4,7 +4,7 @@ use Rattle.fs_layout.specs.Bytes.{SectorMap}
 use Rattle.bit_alloc.specs.Bits.{clear_below}
 use Rattle.bit_alloc.specs.Bitmaps.{first_sector}
 use Rattle.bit_alloc.proofs.Transactions.{unchanged_nothing, unchanged_joined}
-use Rattle.bit_alloc.proofs.Maps.{sector_counted, counted_at_most, fewer_counted, few_bits}
+use Rattle.bit_alloc.proofs.Maps.{sector_counted, fewer_counted, few_counted}
 use Rattle.bit_alloc.proofs.counts.count_between.Goals as goal
 
 pub loop-k-init : goal.loop-k-init
@@ -30,17 +30,10 @@ loop-k-preserved g c =
 
 pub overflow_add-free : goal.overflow_add-free
 overflow_add-free g c =
-    let image : SectorMap = (g.S.Sectors.state c.args.s.now).sectors in
-    let sector : List ℕ = c.get.new.to in
     omega (
       arith,
-      c.loop-k.invariant.some,
-      counted_at_most image (first_sector c.args.geometry c.args.map) (4096 * c.loop-k.k),
-      c.count_clear_up_to-free.ensures.some,
-      counted_at_most (λ _. sector) 0 4096,
-      c.loop-k-test.true,
-      c.requires.range.1,
-      few_bits c.args.geometry c.args.map c.requires.bitmaps.geometry,
+      few_counted c.args.geometry c.args.map (g.S.Sectors.state c.args.s.now).sectors c.get.new.to c.loop-k.free c.count_clear_up_to-free.result c.requires.bitmaps.geometry
+          (omega (arith, c.loop-k.invariant.some)) c.count_clear_up_to-free.ensures.some c.loop-k-test.true c.requires.range.1,
     )
 
 -- the count so far is at most all

@@ -4,7 +4,7 @@ use Rattle.fs_layout.specs.Header.{log_end}
 use Rattle.bit_alloc.specs.Bits.{clear_below}
 use Rattle.bit_alloc.specs.Bitmaps.{first_sector}
 use Rattle.bit_alloc.proofs.Transactions.{unchanged_nothing, unchanged_joined}
-use Rattle.bit_alloc.proofs.Maps.{sector_counted, counted_at_most, few_bits, none_counted, numbers_counted}
+use Rattle.bit_alloc.proofs.Maps.{sector_counted, few_counted, none_counted, numbers_counted}
 use Rattle.free_counts.proofs.Known.{tells_after, tells_before, sector_within}
 use Rattle.free_counts.proofs.FreeCounts.count_free.Goals as goal
 
@@ -48,17 +48,11 @@ loop-k-preserved g c =
 
 pub overflow_add-free : goal.overflow_add-free
 overflow_add-free g c =
-    let image : SectorMap = (g.S.Sectors.state c.args.s.now).sectors in
     let sector : List ℕ = (g.S.Sectors.state c.loop-k.s).sectors (c.first.result + c.loop-k.k) in
     omega (
       arith,
-      c.loop-k.invariant.count,
-      counted_at_most image (first_sector c.args.geometry c.args.map) (4096 * c.loop-k.k),
-      c.in_ok-free.ensures.count,
-      counted_at_most (λ _. sector) 0 4096,
-      c.loop-k-test.true,
-      c.sectors-sectors.ensures,
-      few_bits c.args.geometry c.args.map c.requires.bitmaps.geometry,
+      few_counted c.args.geometry c.args.map (g.S.Sectors.state c.args.s.now).sectors sector c.loop-k.free c.in_ok-free.field-0 c.requires.bitmaps.geometry
+          (omega (arith, c.loop-k.invariant.count)) (omega (arith, c.in_ok-free.ensures.count)) c.loop-k-test.true (omega (arith, c.sectors-sectors.ensures)),
     )
 
 pub returns-clause-free : goal.returns-clause-free
