@@ -1,10 +1,11 @@
 //! The ACLs of inodes.
 
-ghost use Rattle.std.specs.Prelude.{◌≡◌, ◌≢◌, ◌<◌, ℕ, Option, IfOk, IfErr, OnOk};
+ghost use Rattle.std.specs.Prelude.{◌≡◌, ◌≢◌, ◌<◌, ◌≤◌, ℕ, Option, IfOk, IfErr, OnOk};
 ghost use Rattle.std.specs.Option.{option_copied};
-ghost use Rattle.posix_acl.specs.AccessList.{AccessList};
+ghost use Rattle.posix_acl.specs.AccessList.{AccessList, IsAcl};
+ghost use Rattle.fs_layout.specs.Header.{log_end};
 ghost use Rattle.fs_layout.specs.Inode.{FitsInode};
-ghost use Rattle.fs_layout.specs.AclSector.{kept_acl};
+ghost use Rattle.fs_layout.specs.AclSector.{acl_content, kept_acl};
 ghost use Rattle.fs_layout.specs.Images.{bit, free_sectors, inode_at};
 ghost use Rattle.bit_alloc.specs.Calls.{IsSound, bitmaps, HasSpare, SameStore, IsUnchanged, PutsOnly, HasCauseOf};
 ghost use Rattle.bit_alloc.specs.Room.{TakesSpare};
@@ -22,6 +23,24 @@ use fs_layout::{Geometry, Inode, Kind};
 use posix_acl::Acl;
 use sector_txn::Sectors;
 use std::alloc::Global;
+
+// Reads the ACL that a sector has.
+fn read_acl<S: Sectors>(alloc: Global, s: &mut S, sector: u32) -> Result<Acl, LoadAclFault>
+    requires within { (log_end (S.state s.old).header ≤ sector) × (sector < (S.state s.old).disk.size) }
+    requires has { (a : AccessList) × IsAcl a × ((S.state s.old).sectors sector ≡ acl_content a) }
+    ensures found { IfOk result (λ acl. (a : AccessList) → IsAcl a → (S.state s.old).sectors sector ≡ acl_content a → acl ≡ a) }
+    ensures same { IsUnchanged (S.state s.old) (S.state s.new) }
+    ensures cause { HasCauseOf LoadAclFault.DiskFault (S.state s.old).disk (S.state s.new).disk result }
+{
+    let mut content = [0; 512];
+    let Ok(()) = s.get(sector, &mut content) else {
+        return Err(LoadAclFault::DiskFault);
+    };
+    match acl_of(alloc, &content) {
+        Ok(acl) => Ok(acl),
+        Err(_) => Err(LoadAclFault::OutOfMemory),
+    }
+}
 
 /// Reads the access ACL of an inode of the table, a file or a directory. Without a sector it is the three base entries
 /// of the mode.
@@ -44,9 +63,7 @@ pub fn load_acl<S: Sectors>(
             Err(_) => Err(LoadAclFault::OutOfMemory),
         };
     }
-    let mut content = [0; 512];
-    s.get(inode.acl, &mut content)?;
-    let acl = acl_of(alloc, &content)?;
+    let acl = read_acl(alloc, s, inode.acl)?;
     Ok(acl)
 }
 
@@ -67,9 +84,7 @@ pub fn load_default_acl<S: Sectors>(
     if inode.default_acl == 0 {
         return Ok(None);
     }
-    let mut content = [0; 512];
-    s.get(inode.default_acl, &mut content)?;
-    let acl = acl_of(alloc, &content)?;
+    let acl = read_acl(alloc, s, inode.default_acl)?;
     Ok(Some(acl))
 }
 

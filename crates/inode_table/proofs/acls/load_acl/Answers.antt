@@ -1,4 +1,4 @@
-use Rattle.std.proofs.Common.{inr, ap}
+use Rattle.std.proofs.Common.{ap}
 use Rattle.fs_layout.specs.declared.inode.Inode.{Inode}
 use Rattle.inode_table.proofs.StoredAcls.{acl_in_data, data_mapped, told_by_mode}
 use Rattle.inode_table.proofs.acls.load_acl.Goals as goal
@@ -7,8 +7,8 @@ pub returns-in-Ok-clause-found : goal.returns-in-Ok-clause-found
 returns-in-Ok-clause-found g c = λ a has.
     told_by_mode (g.S.Sectors.state c.args.s.now).sectors c.args.inode.now a c.in-Ok.acl has c.if-inode-eq0.true c.in-Ok.ensures.ok
 
-pub get-requires : goal.get-requires
-get-requires g c =
+pub read_acl-requires-clause-within : goal.read_acl-requires-clause-within
+read_acl-requires-clause-within g c =
     let there = c.requires.there in
     let mapped = data_mapped c.requires.sound (acl_in_data c.requires.sound there.1 (ap (λ (u : Inode). u.acl) there.2) c.if-inode-eq0.false) in
-    record { part = inr mapped.0; on_disk = mapped.1 }
+    (mapped.0, mapped.1)
