@@ -2,11 +2,10 @@
 
 ghost use Rattle.std.specs.Prelude.{◌≡◌};
 ghost use Rattle.dir_core.specs.Faults.{as_dir_fault};
-ghost use Rattle.dir_core.specs.declared.fault.DirFault.TheVariants.{DiskFault as Device, OutOfMemory};
+ghost use Rattle.dir_core.specs.declared.fault.DirFault.TheVariants.{DiskFault as Device};
 
 use block_map::MapFault;
 use sector_disk::DiskFault;
-use std::alloc::AllocError;
 
 /// Why a call on the names of a directory fails.
 #[derive(Clone, Copy, Debug, PartialEq, Eq)]
@@ -41,13 +40,5 @@ impl From<MapFault> for DirFault {
             MapFault::TooBig => DirFault::Full,
             MapFault::DiskFault => DirFault::DiskFault,
         }
-    }
-}
-
-impl From<AllocError> for DirFault {
-    ghost from_gives = { λ _ e. e ≡ OutOfMemory };
-
-    fn from(_: AllocError) -> DirFault {
-        DirFault::OutOfMemory
     }
 }

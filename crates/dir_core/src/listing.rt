@@ -60,7 +60,9 @@ fn read_slots<S: Sectors>(
     let slot_size = version.slot_size();
     let block_slots = version.block_slots() as u64;
     let count = inode.size / slot_size as u64;
-    let mut slots = Vec::with_capacity(alloc, count as usize)?;
+    let Ok(mut slots) = Vec::with_capacity(alloc, count as usize) else {
+        return Err(DirFault::OutOfMemory);
+    };
     let mut blocks = Blocks::new(inode);
     let mut block = [0; 512];
     for k in 0..count {

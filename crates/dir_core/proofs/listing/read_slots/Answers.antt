@@ -53,7 +53,7 @@ unreachable-requires g c =
     let count = ap (λ (w : ℕ). c.args.inode.now.size / w) c.slot_size-slot_size.ensures ∙ slots_are h in
     let there = at_place c.args.version block (get_or slots k none) k c.slot_size-slot_size.result c.block_slots-block_slots.result
     c.slot_size-slot_size.ensures c.block_slots-block_slots.ensures (slot_there h block k none (omega arith) here (omega (arith, c.loop-k-test.true, count))) in
-    c.in_default.not-Ok (get_or slots k none) (c.read_in.ensures.only (get_or slots k none) there.0 there.1)
+    c.in_default-read_in.not-Ok (get_or slots k none) (c.read_in.ensures.only (get_or slots k none) there.0 there.1)
 
 one_more : (slots items pushed : List NamedInode) (k : ℕ) (slot : NamedInode) → items ≡ take k slots → pushed ≡ items ++ slot ∷ [] → slot ≡ get_or slots k slot
     → k < length slots → pushed ≡ take (k + 1) slots
@@ -65,7 +65,7 @@ loop-k-preserved g c =
     let old = g.S.Sectors.state c.args.s.now in
     let k = c.loop-k.k in
     let block = c.read_block_of.new.block in
-    let slot : NamedInode = c.in-Ok.slot in
+    let slot : NamedInode = c.in-Ok-read_in.slot in
     let here = block_before c.loop-k.invariant.same c.args.inode.now c.loop-k.blocks.inode (k / block_slots c.args.version) block
     c.loop-k.invariant.inode c.in_ok-read_block_of.ensures.block in
     record {
@@ -79,7 +79,7 @@ loop-k-preserved g c =
           let there = at_place c.args.version block (get_or slots k slot) k c.slot_size-slot_size.result c.block_slots-block_slots.result
           c.slot_size-slot_size.ensures c.block_slots-block_slots.ensures (slot_there h block k slot (omega arith) here lt) in
           let is : slot ≡ get_or slots k slot =
-          same_ok slot (get_or slots k slot) c.read_in.result c.in-Ok.is (c.read_in.ensures.only (get_or slots k slot) there.0 there.1) in
+          same_ok slot (get_or slots k slot) c.read_in.result c.in-Ok-read_in.is (c.read_in.ensures.only (get_or slots k slot) there.0 there.1) in
           one_more slots c.loop-k.slots.items c.push.new.self.items k slot (c.loop-k.invariant.read slots h) c.in-Ok-push.ensures.items is lt;
     }
 
