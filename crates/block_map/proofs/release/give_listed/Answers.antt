@@ -1,4 +1,4 @@
-use Rattle.std.proofs.Common.{◌≡◌, ◌+◌, ◌-◌, ◌<◌, ℕ, List, length, get_or, set, take, sym, ap, ◌∙◌, arith, inl, inr}
+use Rattle.std.proofs.Common.{◌≡◌, ◌+◌, ◌-◌, ◌<◌, ℕ, List, length, take, ◌∙◌, arith}
 use Rattle.std.proofs.lemmas.List.{get_or-take, length-set, length-take-le}
 use Rattle.fs_layout.specs.Images.{number_on}
 use Rattle.block_map.proofs.Givings.{listed_inside, numbers_given, one_listed}
