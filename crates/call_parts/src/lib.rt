@@ -16,7 +16,7 @@ mod reaching;
 mod space;
 mod touching;
 
-pub use caller::{CallResult, Caller};
+pub use caller::{Asker, CallResult, Caller};
 pub use checks::{
     WRITE_AND_SEARCH, allowed_by, check_is_directory, check_mode, check_no_directory, check_slash,
     check_sticky, permitted, refuse_if,

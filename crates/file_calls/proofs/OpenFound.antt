@@ -1,7 +1,7 @@
 -- What open asks of what is there, and what it leaves of it.
 --     found_is        the demands on the kind of an inode, and permission
---     old_reached, old_refused        it is opened, or refused
-use Rattle.std.specs.Prelude.{◌≡◌, ℕ, if◌then◌else◌, MatchResult, Bool, true, false, not, ◌&&◌, ◌||◌, List, [], ◌∷◌, ◌++◌, length, Option, None, Some, unwrap_or, is_some, IsTrue, Result, Ok, Err, IsErr, IsErrAnd}
+--     old_reached, old_refused, not_opened        it is opened, or refused
+use Rattle.std.specs.Prelude.{◌≡◌, ℕ, if◌then◌else◌, Bool, true, false, not, ◌&&◌, ◌||◌, List, [], ◌∷◌, ◌++◌, length, Option, None, Some, unwrap_or, is_some, IsTrue, Result, Ok, Err, IsErr, IsErrAnd}
 use Rattle.std.proofs.Common.{refl, sym, ap, subst, arith, ◌∙◌, inl}
 use Rattle.fs_cred.specs.declared.errno.Errno.TheVariants.{EEXIST, EISDIR, ELOOP, ENOTDIR}
 use Rattle.fs_cred.specs.declared.refusal.Need.TheVariants.{Perm}
@@ -17,7 +17,7 @@ use Rattle.fs_layout.specs.declared.geometry.Geometry.{Geometry}
 use Rattle.fs_layout.specs.declared.version.Version.{Version}
 use Rattle.fs_layout.specs.Bytes.{SectorMap, resized}
 use Rattle.fs_layout.specs.Images.{inode_at}
-use Rattle.sector_txn.specs.Sectors.{TxnState}
+use Rattle.sector_txn.specs.Sectors.{TxnState, SameStore}
 use Rattle.fs_model.specs.declared.call.Flags.{Flags}
 use Rattle.fs_model.specs.declared.walk.Found.{Found}
 use Rattle.fs_model.specs.Births.{the_node, born_file}
@@ -45,8 +45,10 @@ use Rattle.call_parts.specs.Performing.{IsStateOf}
 use Rattle.call_parts.proofs.Calling.{state_tree, found_there, met_ok, or_else-none, first_asked}
 use Rattle.path_walk.proofs.HeldNodes.{stands, held_node, held_kind, held_access}
 use Rattle.path_walk.proofs.Kept.{is_err}
+use Rattle.call_parts.specs.declared.caller.Caller.{Caller}
 use Rattle.call_parts.specs.ByteChanges.{ChangesBytes}
-use Rattle.file_calls.specs.Openings.{open_kind_asked, found_asked, FindsIn, IsRefusedOpen, Reaches}
+use Rattle.file_calls.specs.declared.opening.Opening.{Opening}
+use Rattle.file_calls.specs.Openings.{open_kind_asked, found_asked, FindsIn, IsRefusedOpen, Opens}
 use Rattle.call_parts.proofs.Followed.{IsAccessed, accessed_is, accessible}
 use Rattle.call_parts.proofs.Ownership.{some_asked, others_asked, all_met}
 use Rattle.file_calls.proofs.OpenedTimes.{Prepares}
@@ -242,12 +244,9 @@ module _ {p : Geometry} {map : SectorMap} {flags : Flags} {q : Process} {f : Fou
       (λ now still. bytes_rewritten at now still n x.node x.at kind (λ held. resized held 0) c (omega (arith, len))
       (IsBytes-resized (bytes_in x.node.body) 0 (bytes_are_bytes s.room s.tree x.node.body body)))
 
--- what is answered as an error, and as a number
-abbrev pub Answered : (p : Geometry) (time : ℕ) (map : SectorMap) → DiskState → DiskState → Flags → ℕ → Process → Found → State → Result ℕ Refusal → Type 0
-Answered p time map old new flags mode q f s r = MatchResult r (λ m. Reaches p time map flags mode q f s m) (λ e. IsRefusedOpen old new flags q f s e)
-
-pub refusing : {p : Geometry} {map : SectorMap} {flags : Flags} {q : Process} {f : Found} {s : State} → FindsIn p map flags q f s → (time : ℕ) (new : SectorMap) (mode : ℕ)
-    (first last : DiskState) (r : Result ℕ Refusal) (e : Refusal) → IsErr r → IsErrAnd r (λ y. y ≡ e) → IsRefusedOpen first last flags q f s e
-    → Answered p time new first last flags mode q f s r
-refusing {p} {map} {flags} {q} {f} {s} i time new mode first last r e err and is =
-    subst (Answered p time new first last flags mode q f s) (sym (is_err r e err and)) is
+-- an open that is refused, or that a fault ends
+pub not_opened : {caller : Caller} {q : Process} {o : Opening} (old new : TxnState) (r : Result ℕ Refusal) (e : Refusal) → IsErr r → IsErrAnd r (λ y. y ≡ e) → SameStore old new
+    → ((s : State) → FindsIn caller.geometry old.sectors o.flags q o.found s → IsRefusedOpen old.disk new.disk o.flags q o.found s e)
+    → Opens caller q o old new r
+not_opened {caller} {q} {o} old new r e err and store refused =
+    subst (Opens caller q o old new) (sym (is_err r e err and)) (record { store = store; super = tt; each = refused })

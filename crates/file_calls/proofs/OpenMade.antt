@@ -3,7 +3,7 @@
 --     none_is_there, make_refused, make_met        nothing may be made; what the directory is asked refuses, or is met
 --     asked_of_it, few_names, can_make        a file may be made
 --     finds_kept, asked_later        reads leave what was found, and what was asked
---     made_prepares        it was made
+--     made_prepares, file_prepares        it was made
 use Rattle.std.specs.Prelude.{◌≡◌, ℕ, ◌-◌, ◌/◌, ◌%◌, ◌<◌, ◌≤◌, ◌==◌, nat_lt, nat_le, if◌then◌else◌, Bool, not, ◌&&◌, ◌||◌, List, [], ◌∷◌, length, Option, None, unwrap_or, is_some, Ok, Err}
 use Rattle.std.proofs.Common.{sym, ap, subst, arith, ◌∙◌, inl}
 use Rattle.fs_cred.specs.declared.errno.Errno.TheVariants.{ENOENT, ENOSPC}
@@ -39,12 +39,14 @@ use Rattle.fs_model.proofs.PlacedChanges.{make_held}
 use Rattle.fs_model.proofs.StepsAdding.{takes_new}
 use Rattle.fs_model.proofs.StepsFound.{IsNameAt}
 use Rattle.fs_model.proofs.StepsMaking.{IsNewborn, file_is_born}
+use Rattle.bit_alloc.proofs.Transactions.{unchanged_joined}
 use Rattle.path_walk.specs.Answers.{refused_or, IsAnswered}
+use Rattle.path_walk.specs.HeldTrees.{HoldsTree}
 use Rattle.call_parts.specs.Paths.{scene_at}
 use Rattle.call_parts.proofs.Calling.{state_tree, met_ok, first_asked, next_asked, both_met}
 use Rattle.call_parts.proofs.HeldChanges.{names_held}
 use Rattle.path_walk.proofs.HeldNodes.{held_node, names_say, default_says}
-use Rattle.path_walk.proofs.Kept.{kept}
+use Rattle.path_walk.proofs.Kept.{kept, kept_back}
 use Rattle.call_parts.specs.Makings.{CanMake, make_asked}
 use Rattle.call_parts.specs.NewNodes.{MakesNode, file_made}
 use Rattle.file_calls.specs.Openings.{FindsIn, IsRefusedOpen}
@@ -223,3 +225,26 @@ module _ {p : Geometry} {map : SectorMap} {flags : Flags} {q : Process} {f : Fou
                   newborn = newborn;
                 }) made.takes.change made.takes.taken born made.names.change made.names.used here);
           }
+
+-- The same, once it was made after reads: the directory was asked first, its default ACL was read then.
+pub file_prepares : {p : Geometry} {old asked mid : TxnState} {flags : Flags} {q : Process} {f : Found} (none : f.ino ≡ None) (may : checked (refuse ENOENT (not flags.create || f.slash)) ≡ Ok tt)
+    {cred : Credential} {step : ℕ} (same_cred : cred ≡ q.cred) (same_step : step ≡ f.step - 1) {v : Inode} (first : IsUnchanged old asked) (second : IsUnchanged asked mid)
+    (met : (t : Tree) → HoldsTree p old.sectors t → IsDirectoryAt t f.dir_ino
+    → refused_or {A = Inode} (first_of (make_asked p old.sectors cred t f.dir_ino step)) (Ok (inode_at p old.sectors f.dir_ino)) ≡ Ok v)
+    (mode : ℕ) {uid gid umask : ℕ} {a : AccessList} {name : List ℕ} {n : ℕ} (new : SectorMap) (same_uid : uid ≡ cred.uid) (same_name : name ≡ f.name) (same_umask : umask ≡ q.umask)
+    (made : MakesNode p f.dir_ino name n (file_made uid gid a) mid.sectors new)
+    (group : gid ≡ (if v.mode / S_ISGID % 2 == 1 then v.gid else cred.gid))
+    (born : (d : Option AccessList) → HasDefaultAcl asked.sectors v d → a ≡ born_acl d mode umask)
+    {s : State} (i : FindsIn p old.sectors flags q f s) → Prepares p new flags mode q f s n ((f.dir_ino, Modified) ∷ (n, Born) ∷ [])
+file_prepares {p} {old} {asked} {mid} {flags} {q} {f} none may {cred} {step} same_cred same_step {v} first second met mode {uid} {gid} {umask} {a} {name} {n} new same_uid same_name same_umask made group born {s} i =
+    let joined = unchanged_joined first second in
+    let later = finds_kept joined i in
+    let is = asked_later p s.tree f.dir_ino step cred v joined (met s.tree (state_tree i.is_state) (directory_there i none)) in
+    let y = inode_at p mid.sectors f.dir_ino in
+    let here =
+    subst (λ (u : ℕ). MakesNode p f.dir_ino f.name n (file_made u gid a) mid.sectors new) (same_uid ∙ ap (λ (k : Credential). k.uid) same_cred)
+    (subst (λ (l : List ℕ). MakesNode p f.dir_ino l n (file_made uid gid a) mid.sectors new) same_name made) in
+    made_prepares later none mode gid a new n here v (asked_of_it later none may y cred step same_cred same_step v is)
+    (group ∙ ap (λ (k : Credential). if v.mode / S_ISGID % 2 == 1 then v.gid else k.gid) same_cred)
+    (λ d has. born d (kept_back (λ (m : SectorMap). HasDefaultAcl m v d) second has) ∙ ap (born_acl d mode) same_umask)
+    (make_met later none may y cred step same_cred same_step v is) (few_names later none may y cred step same_cred same_step v is)

@@ -6,7 +6,7 @@
 --     too_far, too_full, all_met        what it asks
 --     writes        the tree and the process afterwards
 use Rattle.std.specs.Prelude.{◌≡◌, ℕ, ◌+◌, ◌-◌, ◌<◌, ◌≤◌, ◌==◌, min, Bool, true, false, not, List, [], ◌∷◌, length, take, nat_lt, nat_le, if◌then◌else◌, None, Some, IsTrue, IsFalse, Ok}
-use Rattle.std.proofs.Common.{refl, sym, ap, arith, ◌∙◌, inl, inr}
+use Rattle.std.proofs.Common.{refl, sym, ap, subst, arith, ◌∙◌, inl, inr}
 use Rattle.std.proofs.lemmas.Bool.{cases_lt, eqb-true, ltb-false, lt-ltb, le-ltb, le-leb, lt-leb}
 use Rattle.std.proofs.lemmas.List.{length-take}
 use Rattle.fs_cred.specs.declared.errno.Errno.TheVariants.{EBADF, EFBIG, ENOSPC}
@@ -19,7 +19,8 @@ use Rattle.fs_layout.specs.Bytes.{SectorMap, IsBytes, overwritten}
 use Rattle.fs_layout.specs.Images.{inode_at, free_sectors}
 use Rattle.fs_layout.specs.Version.{max_file_size}
 use Rattle.fs_layout.proofs.Sectors.{IsBytes-take}
-use Rattle.sector_txn.specs.Sectors.{TxnState}
+use Rattle.sector_txn.specs.Sectors.{TxnState, IsUnchanged}
+use Rattle.bit_alloc.proofs.Transactions.{unchanged_joined}
 use Rattle.fs_model.specs.declared.call.Call.TheVariants.{Write}
 use Rattle.fs_model.specs.declared.reply.Reply.TheVariants.{Wrote}
 use Rattle.fs_model.specs.declared.touch.Touch.TheVariants.{Modified}
@@ -41,6 +42,7 @@ use Rattle.fs_model.proofs.StepsDemands.{unrefused}
 use Rattle.path_walk.specs.Answers.{refused_or}
 use Rattle.call_parts.proofs.Calling.{state_tree, met_ok}
 use Rattle.path_walk.proofs.HeldNodes.{held_node, bytes_say}
+use Rattle.path_walk.proofs.Kept.{kept}
 use Rattle.call_parts.specs.ByteChanges.{ChangesBytes}
 use Rattle.call_parts.specs.declared.reaching.OpenFor.TheVariants.{Writing}
 use Rattle.call_parts.specs.Reaching.{ActsOn, IsOpened, IsOpenFor}
@@ -229,3 +231,21 @@ module _ {p : Geometry} {old new : TxnState} {processes : ProcessTable} {pid fd 
             (length-overwritten (bytes_in x.node.body) offset (take count bytes) s.room.file_limit (bytes_are_few s.room s.tree x.node.body body) (omega (arith, len, counted, limit, near)))
             (IsBytes-overwritten (bytes_in x.node.body) offset (take count bytes) (bytes_are_bytes s.room s.tree x.node.body body) (IsBytes-take count bytes fresh));
       }
+
+-- the same, once the inode was read and space was asked for
+module _ {p : Geometry} {old mid asked new : TxnState} {processes : ProcessTable} {pid fd : ℕ} {d : Descriptor} (w : IsOpenFor processes pid fd Writing d) (first : IsUnchanged old mid)
+    (second : IsUnchanged mid asked) {v : Inode} (found : v ≡ inode_at p old.sectors d.ino) {offset : ℕ} (offset_is : offset ≡ (if d.append then v.size else d.offset))
+    (near : offset < max_file_size p.version) {bytes given : List ℕ} (all : given ≡ bytes) (some : is_empty bytes ≡ false) (fresh : IsBytes bytes)
+    (enough : refused_or {A = Unit {0}} (refuse ENOSPC (nat_lt (free_sectors p mid.sectors) (free_for (length given)))) (Ok tt) ≡ Ok tt)
+    {count : ℕ} (counted : count ≡ min (length given) (min write_limit (max_file_size p.version - offset)))
+    (c : ChangesBytes p d.ino asked new (λ held. overwritten held offset (take count given))) where
+  pub wrote : (s : State) → IsStateOf p asked.sectors processes s → (now : ProcessTable) → ((n : ℕ) → IsTrue (is_open s.processes n) → IsTrue (is_open now n))
+      → IsChange p new.sectors now s (with_offset w.opened.process fd (offset + count)) (write_demands fd bytes (open_scene s w.opened.process))
+      (λ k. write_effect fd bytes (open_scene s w.opened.process)) (Wrote count) ((d.ino, Modified) ∷ [])
+  wrote s at now still =
+      let is = kept (λ (m : SectorMap). v ≡ inode_at p m d.ino) (unchanged_joined first second) found in
+      let free = subst (λ (l : List ℕ). free_for (length l) ≤ free_sectors p asked.sectors) all
+      (kept (λ (m : SectorMap). free_for (length given) ≤ free_sectors p m) second (is_enough (free_sectors p mid.sectors) (free_for (length given)) enough)) in
+      writes w.opened s at (open_to_write w) v is offset offset_is bytes some near free fresh count
+      (counted ∙ ap (λ (l : List ℕ). min (length l) (min write_limit (max_file_size p.version - offset))) all) now still
+      (subst (λ (l : List ℕ). ChangesBytes p d.ino asked new (λ held. overwritten held offset (take count l))) all c)

@@ -5,7 +5,8 @@
 --     FindsIn        a state in which a process has found this
 --     IsRefusedOpen        what it asks of that refuses it
 --     Reaches        nothing refuses it then, and the map holds the tree after it, in which times have moved
-use Rattle.std.specs.Prelude.{◌≡◌, ℕ, false, not, ◌&&◌, ◌||◌, List, [], ◌∷◌, ◌++◌, None, unwrap_or, IsTrue, Ok, Err}
+--     MayOpen, Opens        the whole, once it is found: what it begins with and what it leaves
+use Rattle.std.specs.Prelude.{◌≡◌, ℕ, false, not, ◌&&◌, ◌||◌, List, [], ◌∷◌, ◌++◌, None, unwrap_or, IsTrue, Result, Ok, Err, OnOk, MatchResult}
 use Rattle.sector_disk.specs.Disk.{DiskState}
 use Rattle.fs_cred.specs.declared.refusal.Refusal.{Refusal}
 use Rattle.fs_cred.specs.declared.errno.Errno.TheVariants.{EEXIST, EISDIR, ELOOP, ENOTDIR}
@@ -28,9 +29,14 @@ use Rattle.fs_model.specs.States.{State}
 use Rattle.fs_model.specs.Steps.{HasNewNumber}
 use Rattle.fs_model.specs.Summaries.{is_link_kind}
 use Rattle.fs_model.specs.Trees.{Tree}
+use Rattle.sector_txn.specs.Sectors.{TxnState, SameStore}
+use Rattle.bit_alloc.specs.Inodes.{IsSound}
+use Rattle.bit_alloc.specs.Room.{HasSpare}
 use Rattle.path_walk.specs.Answers.{refused_or, IsAnswered}
+use Rattle.call_parts.specs.declared.caller.Caller.{Caller}
 use Rattle.call_parts.specs.Paths.{scene_at, HasFound}
 use Rattle.call_parts.specs.Performing.{IsStateOf}
+use Rattle.file_calls.specs.declared.opening.Opening.{Opening}
 
 -- all that is asked early, but for an unused descriptor
 abbrev pub open_asked : Flags → ℕ → List ℕ → List Demand
@@ -73,3 +79,18 @@ pub record Reaches (p : Geometry) (time : ℕ) (map : SectorMap) (flags : Flags)
   pub holds : (now : ProcessTable) → ((k : ℕ) → IsTrue (is_open s.processes k) → IsTrue (is_open now k))
       → HoldsAll p map (placed (touched time (touches s.room s.tree (open_change flags mode (scene_at s q f) n))
       (swept (changed s.tree (open_change flags mode (scene_at s q f) n)) now)))
+
+-- the transaction has put nothing, or little enough, and in some state of its map the process has found that
+pub record MayOpen (p : Geometry) (txn : TxnState) (q : Process) (o : Opening) : Type 0 where
+  pub sound : IsSound p txn
+  pub spare : HasSpare p 47 txn
+  pub state : State
+  pub found : FindsIn p txn.sectors o.flags q o.found state
+
+-- the number of what is opened for this caller, or why it isn't
+pub record Opens (c : Caller) (q : Process) (o : Opening) (old new : TxnState) (result : Result ℕ Refusal) : Type 0 where
+  pub store : SameStore old new
+  pub super : OnOk result (new.sectors 0 ≡ old.sectors 0)
+  pub each : (s : State) → FindsIn c.geometry old.sectors o.flags q o.found s
+      → MatchResult result (λ n. Reaches c.geometry c.time new.sectors o.flags o.mode q o.found s n)
+      (λ e. IsRefusedOpen old.disk new.disk o.flags q o.found s e)

@@ -4,7 +4,6 @@ ghost use Rattle.std.specs.Prelude.{◌≡◌, not, ◌||◌, Option, None, Ok, 
 ghost use Rattle.posix_acl.specs.AccessList.{AccessList};
 ghost use Rattle.fs_model.specs.Births.{born_acl};
 ghost use Rattle.fs_model.specs.Demands.{refuse};
-ghost use Rattle.fs_model.specs.States.{State};
 ghost use Rattle.fs_model.specs.Trees.{Tree};
 ghost use Rattle.fs_layout.specs.Images.{inode_at};
 ghost use Rattle.sector_txn.specs.Sectors.{SameStore, IsUnchanged};
@@ -15,8 +14,9 @@ ghost use Rattle.inode_table.specs.Inodes.{IsInodeOf};
 ghost use Rattle.path_walk.specs.Answers.{refused_or, FailsToRead, Interrupts};
 ghost use Rattle.call_parts.specs.Makings.{CanMake};
 ghost use Rattle.call_parts.specs.NewNodes.{MakesNode, file_made};
-ghost use Rattle.file_calls.specs.Openings.{FindsIn, IsRefusedOpen, Reaches};
+ghost use Rattle.file_calls.specs.Openings.{MayOpen, Opens};
 
+use crate::opening::Opening;
 use call_parts::{Caller, check_make, default_of, inherited, name_inode, new_group, touch};
 use fs_cred::{Errno, Refusal};
 use fs_layout::{Geometry, Inode, Kind};
@@ -97,25 +97,18 @@ pub(crate) fn open_new<S: Sectors>(
     s: &mut S,
     caller: &Caller,
     process: &Process,
-    found: &Found,
-    flags: Flags,
-    mode: u16,
+    opening: &Opening,
 ) -> Result<u32, Refusal>
-    requires sound { IsSound caller.now.geometry (S.state s.old) }
-    requires spare { HasSpare caller.now.geometry 47 (S.state s.old) }
-    requires found { (st : State) × FindsIn caller.now.geometry (S.state s.old).sectors flags process.now found.now st }
-    requires none { found.now.ino ≡ None }
-    ensures store { SameStore (S.state s.old) (S.state s.new) }
-    ensures superblock { OnOk result ((S.state s.new).sectors 0 ≡ (S.state s.old).sectors 0) }
-    ensures each { (st : State) → FindsIn caller.now.geometry (S.state s.old).sectors flags process.now found.now st
-        → MatchResult result (λ m. Reaches caller.now.geometry caller.now.time (S.state s.new).sectors flags mode process.now found.now st m)
-        (λ e. IsRefusedOpen (S.state s.old).disk (S.state s.new).disk flags process.now found.now st e) }
+    requires may { MayOpen caller.now.geometry (S.state s.old) process.now opening.now }
+    requires none { opening.now.found.ino ≡ None }
+    ensures { Opens caller.now process.now opening.now (S.state s.old) (S.state s.new) result }
 {
-    check_new(flags, found)?;
+    let found = &opening.found;
+    check_new(opening.flags, found)?;
     let cred = process.cred();
     let step = found.step.saturating_sub(1);
     let directory = check_make(s, caller, cred, found.dir_ino, step)?;
-    let acl = new_acl(s, caller, &directory, mode, process.umask())?;
+    let acl = new_acl(s, caller, &directory, opening.mode, process.umask())?;
     let gid = new_group(&directory, cred);
     let name = found.name.bytes();
     let uid = cred.uid();

@@ -5,29 +5,34 @@ ghost use Rattle.fs_layout.specs.Bytes.{IsBytes};
 ghost use Rattle.fs_model.specs.Demands.{refuse, first_of};
 ghost use Rattle.fs_model.specs.Parts.{ends_with_slash};
 ghost use Rattle.fs_model.specs.OpenCall.{open_arguments, open_form};
-ghost use Rattle.fs_model.specs.States.{State};
 ghost use Rattle.fs_model.specs.Trees.{Tree};
 ghost use Rattle.fs_model.specs.declared.call.Call.TheVariants.{Open};
 ghost use Rattle.fs_layout.specs.Images.{inode_at};
 ghost use Rattle.sector_txn.specs.Sectors.{SameStore, IsUnchanged};
 ghost use Rattle.bit_alloc.specs.Inodes.{IsSound};
-ghost use Rattle.bit_alloc.specs.Room.{HasSpare};
 ghost use Rattle.path_walk.specs.Answers.{refused_or, IsAnswered};
 ghost use Rattle.path_walk.specs.HeldTrees.{HoldsTree, IsThere};
 ghost use Rattle.call_parts.specs.Performing.{MayPerform, Performs};
-ghost use Rattle.file_calls.specs.Openings.{open_asked, open_kind_asked, found_asked, FindsIn, IsRefusedOpen, Reaches};
+ghost use Rattle.file_calls.specs.Openings.{open_asked, open_kind_asked, found_asked, MayOpen, Opens};
 
 use crate::making::open_new;
 use crate::sizes::give_size;
-use call_parts::{CallResult, Caller, permitted, touch};
+use call_parts::{Asker, CallResult, Caller, permitted, touch};
 use fs_cred::{Cred, Errno, Refusal};
-use fs_layout::{Geometry, Inode, Kind};
+use fs_layout::{Inode, Kind};
 use fs_model::{Flags, Form, Found, Path, Reply, Touch};
 use open_files::{Descriptor, Process, Procs};
 use path_walk::{check_path, ends_with_slash, load_inode, walk};
 use posix_acl::Perms;
 use sector_txn::Sectors;
-use std::alloc::Global;
+
+/// What is opened: what a path has led to, with these flags, and with this mode where it is made.
+#[derive(Drop)]
+pub(crate) struct Opening {
+    pub found: Found,
+    pub flags: Flags,
+    pub mode: u16,
+}
 
 // Asks what needs neither the path nor the process.
 fn check_arguments(flags: Flags, mode: u16) -> Result<(), Refusal>
@@ -142,21 +147,16 @@ fn open_old<S: Sectors>(
     s: &mut S,
     caller: &Caller,
     process: &Process,
-    found: &Found,
+    opening: &Opening,
     ino: u32,
-    flags: Flags,
 ) -> Result<u32, Refusal>
-    requires sound { IsSound caller.now.geometry (S.state s.old) }
-    requires spare { HasSpare caller.now.geometry 47 (S.state s.old) }
-    requires found { (st : State) × FindsIn caller.now.geometry (S.state s.old).sectors flags process.now found.now st }
-    requires some { found.now.ino ≡ Some ino }
-    ensures store { SameStore (S.state s.old) (S.state s.new) }
-    ensures superblock { OnOk result ((S.state s.new).sectors 0 ≡ (S.state s.old).sectors 0) }
-    ensures each { (mode : ℕ) (st : State) → FindsIn caller.now.geometry (S.state s.old).sectors flags process.now found.now st
-        → MatchResult result (λ m. Reaches caller.now.geometry caller.now.time (S.state s.new).sectors flags mode process.now found.now st m)
-        (λ e. IsRefusedOpen (S.state s.old).disk (S.state s.new).disk flags process.now found.now st e) }
+    requires may { MayOpen caller.now.geometry (S.state s.old) process.now opening.now }
+    requires some { opening.now.found.ino ≡ Some ino }
+    ensures { Opens caller.now process.now opening.now (S.state s.old) (S.state s.new) result }
 {
-    let inode = check_found(s, caller, process.cred(), ino, found.step, flags)?;
+    let flags = opening.flags;
+    let cred = process.cred();
+    let inode = check_found(s, caller, cred, ino, opening.found.step, flags)?;
     let cuts = cuts(flags);
     if !cuts {
         return Ok(ino);
@@ -171,22 +171,14 @@ fn open_inode<S: Sectors>(
     s: &mut S,
     caller: &Caller,
     process: &Process,
-    found: &Found,
-    flags: Flags,
-    mode: u16,
+    opening: &Opening,
 ) -> Result<u32, Refusal>
-    requires sound { IsSound caller.now.geometry (S.state s.old) }
-    requires spare { HasSpare caller.now.geometry 47 (S.state s.old) }
-    requires found { (st : State) × FindsIn caller.now.geometry (S.state s.old).sectors flags process.now found.now st }
-    ensures store { SameStore (S.state s.old) (S.state s.new) }
-    ensures superblock { OnOk result ((S.state s.new).sectors 0 ≡ (S.state s.old).sectors 0) }
-    ensures each { (st : State) → FindsIn caller.now.geometry (S.state s.old).sectors flags process.now found.now st
-        → MatchResult result (λ m. Reaches caller.now.geometry caller.now.time (S.state s.new).sectors flags mode process.now found.now st m)
-        (λ e. IsRefusedOpen (S.state s.old).disk (S.state s.new).disk flags process.now found.now st e) }
+    requires { MayOpen caller.now.geometry (S.state s.old) process.now opening.now }
+    ensures { Opens caller.now process.now opening.now (S.state s.old) (S.state s.new) result }
 {
-    match found.ino {
-        Some(ino) => open_old(s, caller, process, found, ino, flags),
-        None => open_new(s, caller, process, found, flags, mode),
+    match opening.found.ino {
+        Some(ino) => open_old(s, caller, process, opening, ino),
+        None => open_new(s, caller, process, opening),
     }
 }
 
@@ -197,34 +189,26 @@ fn open_inode<S: Sectors>(
 /// descriptors are used. EEXIST: it is there, with O_CREAT and O_EXCL. ELOOP: it is a symbolic link. ENOTDIR: it is no
 /// directory, with O_DIRECTORY. ENOENT: nothing is there. ENOSPC: there is no room for a new file.
 pub fn open<S: Sectors>(
-    alloc: Global,
     s: &mut S,
-    geometry: Geometry,
-    now: u64,
+    asker: Asker,
     procs: &mut Procs,
-    pid: usize,
     path: &Path,
     flags: Flags,
     mode: u16,
 ) -> CallResult
-    requires ready { MayPerform geometry (S.state s.old) procs.old }
-    ensures { Performs geometry now pid (Open path.now flags mode) (S.state s.old) (S.state s.new) procs.old procs.new result }
+    requires ready { MayPerform asker.geometry (S.state s.old) procs.old }
+    ensures { Performs asker.geometry asker.time asker.pid (Open path.now flags mode) (S.state s.old) (S.state s.new) procs.old procs.new result }
 {
-    let caller = Caller {
-        alloc,
-        geometry,
-        time: now,
-        procs,
-        pid,
-    };
-    let process = procs.process(pid)?;
+    let caller = asker.caller(procs);
+    let process = procs.process(asker.pid)?;
     check_open(flags, mode, path)?;
-    let fd = procs.open_slot(pid)?;
+    let fd = procs.open_slot(asker.pid)?;
     let form = form_of(flags);
     let cred = process.cred();
     let cwd = process.cwd();
-    let found = walk(alloc, s, geometry, cred, cwd, path, form, 1)?;
-    let ino = open_inode(s, &caller, process, &found, flags, mode)?;
+    let found = walk(asker.alloc, s, asker.geometry, cred, cwd, path, form, 1)?;
+    let opening = Opening { found, flags, mode };
+    let ino = open_inode(s, &caller, process, &opening)?;
     let descriptor = Descriptor {
         ino,
         offset: 0,
@@ -232,6 +216,6 @@ pub fn open<S: Sectors>(
         write: flags.write,
         append: flags.append,
     };
-    procs.open(pid, fd, descriptor);
+    procs.open(asker.pid, fd, descriptor);
     Ok(Reply::Fd(fd))
 }

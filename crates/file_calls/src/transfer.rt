@@ -11,9 +11,9 @@ ghost use Rattle.path_walk.specs.Answers.{Interrupts};
 ghost use Rattle.call_parts.specs.Performing.{MayPerform, Performs};
 
 use block_map::read_at;
-use call_parts::{CallResult, Caller, OpenFor, check_no_directory, reach_open};
+use call_parts::{Asker, CallResult, OpenFor, check_no_directory, reach_open};
 use fs_cred::{Errno, Refusal};
-use fs_layout::{Geometry, Inode};
+use fs_layout::Inode;
 use fs_model::{Bytes, Reply, Whence};
 use open_files::Procs;
 use sector_txn::Sectors;
@@ -56,30 +56,25 @@ fn read_bytes<S: Sectors>(
 ///
 /// EBADF: it isn't open for reading. EISDIR: it is for a directory.
 pub fn read<S: Sectors>(
-    alloc: Global,
     s: &mut S,
-    geometry: Geometry,
-    now: u64,
+    asker: Asker,
     procs: &mut Procs,
-    pid: usize,
     fd: usize,
     len: usize,
 ) -> CallResult
-    requires ready { MayPerform geometry (S.state s.old) procs.old }
-    ensures performs { Performs geometry now pid (Read fd len) (S.state s.old) (S.state s.new) procs.old procs.new result }
+    requires ready { MayPerform asker.geometry (S.state s.old) procs.old }
+    ensures performs { Performs asker.geometry asker.time asker.pid (Read fd len) (S.state s.old) (S.state s.new) procs.old procs.new result }
     ensures same { IsUnchanged (S.state s.old) (S.state s.new) }
 {
-    let caller = Caller {
-        alloc,
-        geometry,
-        time: now,
-        procs,
-        pid,
-    };
+    let caller = asker.caller(procs);
     let (descriptor, inode) = reach_open(s, &caller, fd, OpenFor::Reading)?;
     check_no_directory(inode.kind)?;
-    let bytes = read_bytes(alloc, s, &inode, descriptor.offset, len)?;
-    procs.seek(pid, fd, descriptor.offset + bytes.bytes().len() as u64);
+    let bytes = read_bytes(asker.alloc, s, &inode, descriptor.offset, len)?;
+    procs.seek(
+        asker.pid,
+        fd,
+        descriptor.offset + bytes.bytes().len() as u64,
+    );
     Ok(Reply::Data(bytes))
 }
 
@@ -114,32 +109,23 @@ fn moved(base: u64, by: i64) -> Option<u64>
 ///
 /// EBADF: it isn't open. EISDIR: it is for a directory. EINVAL: that would be below 0 or above 2^63 - 1.
 pub fn lseek<S: Sectors>(
-    alloc: Global,
     s: &mut S,
-    geometry: Geometry,
-    now: u64,
+    asker: Asker,
     procs: &mut Procs,
-    pid: usize,
     fd: usize,
     whence: Whence,
     by: i64,
 ) -> CallResult
-    requires ready { MayPerform geometry (S.state s.old) procs.old }
-    ensures performs { Performs geometry now pid (Lseek fd whence by) (S.state s.old) (S.state s.new) procs.old procs.new result }
+    requires ready { MayPerform asker.geometry (S.state s.old) procs.old }
+    ensures performs { Performs asker.geometry asker.time asker.pid (Lseek fd whence by) (S.state s.old) (S.state s.new) procs.old procs.new result }
     ensures same { IsUnchanged (S.state s.old) (S.state s.new) }
 {
-    let caller = Caller {
-        alloc,
-        geometry,
-        time: now,
-        procs,
-        pid,
-    };
+    let caller = asker.caller(procs);
     let (descriptor, inode) = reach_open(s, &caller, fd, OpenFor::Anything)?;
     check_no_directory(inode.kind)?;
     let Some(offset) = moved(base(whence, descriptor.offset, inode.size), by) else {
         return Err(Refusal::Failed(Errno::EINVAL));
     };
-    procs.seek(pid, fd, offset);
+    procs.seek(asker.pid, fd, offset);
     Ok(Reply::At(offset))
 }

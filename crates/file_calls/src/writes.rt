@@ -15,7 +15,7 @@ ghost use Rattle.call_parts.specs.Performing.{MayPerform, Performs};
 ghost use Rattle.call_parts.specs.ByteChanges.{ChangesBytes};
 
 use block_map::{MAX_WRITE, write_at};
-use call_parts::{CallResult, OpenFor, ask_to_write, find_open, touch};
+use call_parts::{Asker, CallResult, OpenFor, ask_to_write, find_open, touch};
 use fs_cred::{Errno, Refusal};
 use fs_layout::{Geometry, Inode};
 use fs_model::{Bytes, Reply, Touch};
@@ -79,32 +79,30 @@ fn write_offset(descriptor: Descriptor, inode: &Inode) -> u64
 /// 4,096 bytes. To write nothing is never refused.
 pub fn write<S: Sectors>(
     s: &mut S,
-    geometry: Geometry,
-    now: u64,
+    asker: Asker,
     procs: &mut Procs,
-    pid: usize,
     fd: usize,
     bytes: &Bytes,
 ) -> CallResult
-    requires ready { MayPerform geometry (S.state s.old) procs.old }
-    ensures { Performs geometry now pid (Write fd bytes.now) (S.state s.old) (S.state s.new) procs.old procs.new result }
+    requires ready { MayPerform asker.geometry (S.state s.old) procs.old }
+    ensures { Performs asker.geometry asker.time asker.pid (Write fd bytes.now) (S.state s.old) (S.state s.new) procs.old procs.new result }
 {
-    let descriptor = find_open(procs, pid, fd, OpenFor::Writing)?;
+    let descriptor = find_open(procs, asker.pid, fd, OpenFor::Writing)?;
     let bytes = bytes.bytes();
     if bytes.is_empty() {
         return Ok(Reply::Wrote(0));
     }
     let ino = descriptor.ino;
-    let inode = load_inode(s, geometry, ino)?;
+    let inode = load_inode(s, asker.geometry, ino)?;
     let offset = write_offset(descriptor, &inode);
-    let limit = geometry.max_file_size();
+    let limit = asker.geometry.max_file_size();
     if offset >= limit {
         return Err(Refusal::Failed(Errno::EFBIG));
     }
-    ask_to_write(s, geometry, bytes.len())?;
-    let count = write_count(geometry, bytes.len(), offset);
-    write_bytes(s, geometry, ino, inode, offset, &bytes[..count])?;
-    touch(s, geometry, now, &[(ino, Touch::Modified)])?;
-    procs.seek(pid, fd, offset + count as u64);
+    ask_to_write(s, asker.geometry, bytes.len())?;
+    let count = write_count(asker.geometry, bytes.len(), offset);
+    write_bytes(s, asker.geometry, ino, inode, offset, &bytes[..count])?;
+    touch(s, asker.geometry, asker.time, &[(ino, Touch::Modified)])?;
+    procs.seek(asker.pid, fd, offset + count as u64);
     Ok(Reply::Wrote(count))
 }

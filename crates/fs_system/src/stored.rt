@@ -15,6 +15,7 @@ ghost use Rattle.fs_cred.specs.declared.refusal.Refusal.TheVariants.{Failed};
 use crate::calls::perform;
 use crate::counted::{CountedStore, count_both, drop_delta, keep};
 use crate::stamping::{stamp, times_are_in_range};
+use call_parts::Asker;
 use file_calls::exit;
 use fs_cred::{Errno, Refusal};
 use fs_layout::Geometry;
@@ -48,8 +49,14 @@ pub(crate) fn perform_kept<D: Disk>(
         × Does (D.state store.disk) (D.state (disk_after result.1)) s (Calls pid call.now) result.0 t }
 {
     call_is_in_range(call);
+    let asker = Asker {
+        alloc,
+        geometry,
+        time: now,
+        pid,
+    };
     let (mut txn, known) = store.begin();
-    match perform(alloc, &mut txn, geometry, now, procs, pid, call) {
+    match perform(&mut txn, asker, procs, call) {
         Ok(reply) => match keep(txn, known) {
             Ok(store) => (reply, Ok(store)),
             Err(broken) => (failed(Errno::EIO), Err(broken)),

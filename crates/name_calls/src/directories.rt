@@ -23,8 +23,8 @@ ghost use Rattle.name_calls.specs.Entering.{enter_asked};
 ghost use Rattle.call_parts.specs.NewNodes.{IsMade, IsNewIn, MakesNode, directory_made};
 
 use call_parts::{
-    CallResult, Caller, Walked, check_is_directory, check_make, check_mode, default_of, inherited,
-    inode_found, is_new, name_inode, new_group, touch, walk_path,
+    Asker, CallResult, Caller, Walked, check_is_directory, check_make, check_mode, default_of,
+    inherited, inode_found, is_new, name_inode, new_group, touch, walk_path,
 };
 use fs_cred::{Cred, Errno, Refusal};
 use fs_layout::{Geometry, Inode, Kind, S_ISGID, S_ISVTX};
@@ -34,7 +34,6 @@ use open_files::Procs;
 use path_walk::search;
 use posix_acl::Acl;
 use sector_txn::Sectors;
-use std::alloc::Global;
 
 // The bits of a new directory's mode above the permission bits: S_ISGID as the directory that names it, S_ISVTX as the mode.
 fn special_bits(directory: &Inode, mode: u16) -> u16
@@ -220,27 +219,13 @@ fn directory_at<S: Sectors>(s: &mut S, caller: &Caller, path: &Path) -> Result<u
 
 /// Makes what a path leads to the current directory of the process, in which all its paths start. ENOENT: the path leads to
 /// nothing. ENOTDIR: it leads to what is no directory.
-pub fn chdir<S: Sectors>(
-    alloc: Global,
-    s: &mut S,
-    geometry: Geometry,
-    now: u64,
-    procs: &mut Procs,
-    pid: usize,
-    path: &Path,
-) -> CallResult
-    requires ready { MayPerform geometry (S.state s.old) procs.old }
-    ensures performs { Performs geometry now pid (Chdir path.now) (S.state s.old) (S.state s.new) procs.old procs.new result }
+pub fn chdir<S: Sectors>(s: &mut S, asker: Asker, procs: &mut Procs, path: &Path) -> CallResult
+    requires ready { MayPerform asker.geometry (S.state s.old) procs.old }
+    ensures performs { Performs asker.geometry asker.time asker.pid (Chdir path.now) (S.state s.old) (S.state s.new) procs.old procs.new result }
     ensures same { IsUnchanged (S.state s.old) (S.state s.new) }
 {
-    let caller = Caller {
-        alloc,
-        geometry,
-        time: now,
-        procs,
-        pid,
-    };
+    let caller = asker.caller(procs);
     let ino = directory_at(s, &caller, path)?;
-    procs.stand_at(pid, ino, ino);
+    procs.stand_at(asker.pid, ino, ino);
     Ok(Reply::Done)
 }

@@ -8,34 +8,23 @@ use crate::linking::link;
 use crate::links::{readlink, symlink};
 use crate::removal::{rmdir, unlink};
 use crate::renaming::rename;
-use call_parts::{CallResult, Caller};
-use fs_layout::Geometry;
+use call_parts::{Asker, CallResult};
 use fs_model::Call;
 use open_files::Procs;
 use sector_txn::Sectors;
-use std::alloc::Global;
 
 /// Performs a call on names, at this time. `None`: it is none, and nothing is done.
 pub fn perform<S: Sectors>(
-    alloc: Global,
     s: &mut S,
-    geometry: Geometry,
-    now: u64,
+    asker: Asker,
     procs: &mut Procs,
-    pid: usize,
     call: &Call,
 ) -> Option<CallResult>
-    requires ready { MayPerform geometry (S.state s.old) procs.old }
+    requires ready { MayPerform asker.geometry (S.state s.old) procs.old }
     ensures { MatchOption result (IsFalse (is_on_names call.now))
-        (λ r. Performs geometry now pid call.now (S.state s.old) (S.state s.new) procs.old procs.new r) }
+        (λ r. Performs asker.geometry asker.time asker.pid call.now (S.state s.old) (S.state s.new) procs.old procs.new r) }
 {
-    let caller = Caller {
-        alloc,
-        geometry,
-        time: now,
-        procs,
-        pid,
-    };
+    let caller = asker.caller(procs);
     match call {
         Call::Mkdir(path, mode) => Some(mkdir(s, &caller, path, *mode)),
         Call::Rmdir(path) => Some(rmdir(s, &caller, path)),
@@ -44,7 +33,7 @@ pub fn perform<S: Sectors>(
         Call::Readlink(path) => Some(readlink(s, &caller, path)),
         Call::Unlink(path) => Some(unlink(s, &caller, path)),
         Call::Rename { old, new } => Some(rename(s, &caller, old, new)),
-        Call::Chdir(path) => Some(chdir(alloc, s, geometry, now, procs, pid, path)),
+        Call::Chdir(path) => Some(chdir(s, asker, procs, path)),
         _ => None,
     }
 }

@@ -54,5 +54,5 @@ returns g c = λ time.
       new_number = tt;
       times = refl;
       holds = closed_holds c.close.new.self w.opened is s at
-          (subst (λ b. LeavesInode c.args.geometry c.descriptor.inside.ino b old new) (c.is_open_besides-stays_open.ensures ∙ ap (λ (x : ProcessTable). is_open x c.descriptor.inside.ino) (sym is)) left.leaves);
+          (subst (λ b. LeavesInode c.args.asker.geometry c.descriptor.inside.ino b old new) (c.is_open_besides-stays_open.ensures ∙ ap (λ (x : ProcessTable). is_open x c.descriptor.inside.ino) (sym is)) left.leaves);
     })

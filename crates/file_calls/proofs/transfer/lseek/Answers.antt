@@ -12,24 +12,27 @@ use Rattle.file_calls.proofs.HeldFiles.{no_directory}
 use Rattle.file_calls.proofs.Seeking.{lseek_by, lseek_refused, lseek_lost, lseek_told}
 use Rattle.file_calls.proofs.transfer.lseek.Goals as goal
 
+pub reach_open-requires : goal.reach_open-requires
+reach_open-requires g c = record { ready = rw c.caller-caller.ensures c.requires.ready }
+
 pub returns-in_err-descriptor-clause-performs : goal.returns-in_err-descriptor-clause-performs
 returns-in_err-descriptor-clause-performs g c =
     let r = c.from_residual.ensures in
-    let x = c.in_err-descriptor.ensures in
-    open_refused (lseek_by c.args.fd c.args.whence c.args.by) c.from_residual.result c.in_err-descriptor.field-0.0 r.0 r.1 x.same.store x.refused
+    let refused = rw c.caller-caller.ensures at c.in_err-descriptor.ensures.refused in
+    open_refused (lseek_by c.args.fd c.args.whence c.args.by) c.from_residual.result c.in_err-descriptor.field-0.0 r.0 r.1 c.in_err-descriptor.ensures.same.store refused
 
 pub returns-in_err-check_no_directory-clause-performs : goal.returns-in_err-check_no_directory-clause-performs
 returns-in_err-check_no_directory-clause-performs g c =
     let r = c.from_residual-in_err-check_no_directory.ensures in
-    let x = c.in_ok-descriptor.ensures in
+    let x = rw c.caller-caller.ensures at c.in_ok-descriptor.ensures.opened in
     let e = c.in_err-check_no_directory.field-0.0 in
-    asked_performs (lseek_by c.args.fd c.args.whence c.args.by) x.same x.opened.is_open (g.S.Sectors.state c.reach_open.new.s)
+    asked_performs (lseek_by c.args.fd c.args.whence c.args.by) c.in_ok-descriptor.ensures.same x.is_open (g.S.Sectors.state c.reach_open.new.s)
     c.from_residual-in_err-check_no_directory.result e r.0 r.1 store_same
-    (λ s at. lseek_refused x.opened.is_open.opened c.args.whence c.args.by s at c.in_ok-descriptor.inode x.opened.inode e (sym c.in_err-check_no_directory.ensures))
+    (λ s at. lseek_refused x.is_open.opened c.args.whence c.args.by s at c.in_ok-descriptor.inode x.inode e (sym c.in_err-check_no_directory.ensures))
 
 pub returns-in_default-clause-performs : goal.returns-in_default-clause-performs
 returns-in_default-clause-performs g c =
-    let x = reached_as c.descriptor.view_is c.in_ok-descriptor.ensures.opened in
+    let x = reached_as c.descriptor.view_is (rw c.caller-caller.ensures at c.in_ok-descriptor.ensures.opened) in
     let v = c.in_ok-descriptor.inode in
     asked_performs (lseek_by c.args.fd c.args.whence c.args.by) c.in_ok-descriptor.ensures.same x.is_open (g.S.Sectors.state c.reach_open.new.s)
     (Err (Failed EINVAL)) (Failed EINVAL) refl refl store_same
@@ -37,11 +40,13 @@ returns-in_default-clause-performs g c =
     c.base.result c.base.ensures.start c.base.ensures.present c.base.ensures.end _ (to_z-of_z w64 c.args.by c.ranges.by) c.in_default.ensures)
 
 pub seek-requires : goal.seek-requires
-seek-requires g c = record { «open» = opened_ok c.in_ok-descriptor.ensures.opened.is_open.opened }
+seek-requires g c =
+    let x = rw c.caller-caller.ensures at c.in_ok-descriptor.ensures.opened in
+    record { «open» = opened_ok x.is_open.opened }
 
 pub returns-clause-performs : goal.returns-clause-performs
 returns-clause-performs g c =
-    let x = reached_as c.descriptor.view_is c.in_ok-descriptor.ensures.opened in
+    let x = reached_as c.descriptor.view_is (rw c.caller-caller.ensures at c.in_ok-descriptor.ensures.opened) in
     let v = c.in_ok-descriptor.inode in
     let to = c.in-Some.offset in
     changed_one (lseek_by c.args.fd c.args.whence c.args.by) c.in_ok-descriptor.ensures.same x.is_open (g.S.Sectors.state c.reach_open.new.s)

@@ -10,19 +10,22 @@ use Rattle.file_calls.proofs.HeldFiles.{no_directory}
 use Rattle.file_calls.proofs.Reading.{read_by, read_refused, read_told, read_ends}
 use Rattle.file_calls.proofs.transfer.read.Goals as goal
 
+pub reach_open-requires : goal.reach_open-requires
+reach_open-requires g c = record { ready = rw c.caller-caller.ensures c.requires.ready }
+
 pub returns-in_err-descriptor-clause-performs : goal.returns-in_err-descriptor-clause-performs
 returns-in_err-descriptor-clause-performs g c =
     let r = c.from_residual.ensures in
-    let x = c.in_err-descriptor.ensures in
-    open_refused (read_by c.args.fd c.args.len) c.from_residual.result c.in_err-descriptor.field-0.0 r.0 r.1 x.same.store x.refused
+    let refused = rw c.caller-caller.ensures at c.in_err-descriptor.ensures.refused in
+    open_refused (read_by c.args.fd c.args.len) c.from_residual.result c.in_err-descriptor.field-0.0 r.0 r.1 c.in_err-descriptor.ensures.same.store refused
 
 pub returns-in_err-check_no_directory-clause-performs : goal.returns-in_err-check_no_directory-clause-performs
 returns-in_err-check_no_directory-clause-performs g c =
     let r = c.from_residual-in_err-check_no_directory.ensures in
-    let x = c.in_ok-descriptor.ensures in
+    let x = rw c.caller-caller.ensures at c.in_ok-descriptor.ensures.opened in
     let e = c.in_err-check_no_directory.field-0.0 in
-    asked_performs (read_by c.args.fd c.args.len) x.same x.opened.is_open (g.S.Sectors.state c.reach_open.new.s) c.from_residual-in_err-check_no_directory.result e r.0 r.1 store_same
-    (λ s at. read_refused x.opened.is_open.opened s at c.in_ok-descriptor.inode x.opened.inode e (sym c.in_err-check_no_directory.ensures))
+    asked_performs (read_by c.args.fd c.args.len) c.in_ok-descriptor.ensures.same x.is_open (g.S.Sectors.state c.reach_open.new.s) c.from_residual-in_err-check_no_directory.result e r.0 r.1 store_same
+    (λ s at. read_refused x.is_open.opened s at c.in_ok-descriptor.inode x.inode e (sym c.in_err-check_no_directory.ensures))
 
 pub read_bytes-requires : goal.read_bytes-requires
 read_bytes-requires g c =
@@ -32,9 +35,9 @@ read_bytes-requires g c =
 pub returns-in_err-bytes-clause-performs : goal.returns-in_err-bytes-clause-performs
 returns-in_err-bytes-clause-performs g c =
     let r = c.from_residual-in_err-bytes.ensures in
-    let x = c.in_ok-descriptor.ensures in
+    let x = rw c.caller-caller.ensures at c.in_ok-descriptor.ensures.opened in
     let failed = c.in_err-bytes.ensures in
-    interrupted_performs (read_by c.args.fd c.args.len) x.same x.opened.is_open (g.S.Sectors.state c.read_bytes.new.s)
+    interrupted_performs (read_by c.args.fd c.args.len) c.in_ok-descriptor.ensures.same x.is_open (g.S.Sectors.state c.read_bytes.new.s)
     c.from_residual-in_err-bytes.result c.in_err-bytes.field-0.0 r.0 r.1 failed.same.store refl failed.fault
 
 pub returns-in_err-bytes-clause-same : goal.returns-in_err-bytes-clause-same
@@ -50,11 +53,13 @@ overflow_add-descriptor-inside g c =
     omega (arith, ends, len)
 
 pub seek-requires : goal.seek-requires
-seek-requires g c = record { «open» = opened_ok c.in_ok-descriptor.ensures.opened.is_open.opened }
+seek-requires g c =
+    let x = rw c.caller-caller.ensures at c.in_ok-descriptor.ensures.opened in
+    record { «open» = opened_ok x.is_open.opened }
 
 pub returns-clause-performs : goal.returns-clause-performs
 returns-clause-performs g c =
-    let x = reached_as c.descriptor.view_is c.in_ok-descriptor.ensures.opened in
+    let x = reached_as c.descriptor.view_is (rw c.caller-caller.ensures at c.in_ok-descriptor.ensures.opened) in
     let o = x.is_open.opened in
     let v = c.in_ok-descriptor.inode in
     let file = no_directory v.kind c.in_ok-check_no_directory.ensures in

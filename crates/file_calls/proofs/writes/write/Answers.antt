@@ -1,16 +1,14 @@
-use Rattle.std.proofs.Common.{◌≡◌, ◌+◌, ◌-◌, ◌<◌, ◌≤◌, ℕ, List, Err, Some, refl, sym, ap, subst, arith, ◌∙◌, inl, inr, length, take}
-use Rattle.std.specs.Prelude.{min, if◌then◌else◌}
+use Rattle.std.proofs.Common.{◌≡◌, ◌+◌, ◌<◌, ◌≤◌, ℕ, List, Err, Some, refl, sym, ap, subst, arith, ◌∙◌, inl, inr, length, take}
+use Rattle.std.specs.Prelude.{if◌then◌else◌}
 use Rattle.std.proofs.lemmas.List.{length-take}
 use Rattle.fs_cred.specs.declared.errno.Errno.TheVariants.{EFBIG}
 use Rattle.fs_cred.specs.declared.refusal.Refusal.{Refusal}
 use Rattle.fs_cred.specs.declared.refusal.Refusal.TheVariants.{Failed}
 use Rattle.fs_layout.specs.declared.inode.Inode.{Inode}
-use Rattle.fs_layout.specs.Bytes.{SectorMap, overwritten}
+use Rattle.fs_layout.specs.Bytes.{SectorMap}
 use Rattle.fs_layout.specs.Images.{inode_at, free_sectors}
-use Rattle.fs_layout.specs.Version.{max_file_size}
-use Rattle.fs_model.specs.Limits.{free_for, write_limit}
+use Rattle.fs_model.specs.Limits.{free_for}
 use Rattle.bit_alloc.proofs.Transactions.{spare_unchanged, unchanged_nothing}
-use Rattle.call_parts.specs.ByteChanges.{ChangesBytes}
 use Rattle.fs_model.specs.declared.reply.Reply.TheVariants.{Wrote}
 use Rattle.fs_model.specs.Processes.{Descriptor, with_offset}
 use Rattle.block_map.proofs.Runs.{unchanged_joined}
@@ -18,7 +16,7 @@ use Rattle.path_walk.proofs.Kept.{sound_kept, kept}
 use Rattle.call_parts.proofs.ByDescriptor.{open_as, opened_ok, open_below, closed_refused, unread_performs, asked_performs, broken_later, told, changed_tree, still_now, offset_stays_open}
 use Rattle.call_parts.proofs.Changed.{may_touch}
 use Rattle.call_parts.proofs.Reachings.{ready_kept}
-use Rattle.file_calls.proofs.Writing.{open_to_write, is_enough, enough_for_some, write_by, asks_nothing, empty_if, some_if, file_kind, too_far, too_full, writes}
+use Rattle.file_calls.proofs.Writing.{open_to_write, is_enough, enough_for_some, write_by, asks_nothing, empty_if, some_if, file_kind, too_far, too_full, wrote}
 use Rattle.file_calls.proofs.writes.write.Goals as goal
 
 pub returns-in_err-descriptor : goal.returns-in_err-descriptor
@@ -66,7 +64,7 @@ returns-in_err-ask_to_write g c =
     let some = some_if c.args.bytes.now c.bytes-bytes.result.now c.bytes-bytes.ensures.all c.if-is_empty.ensures in
     let v = c.in_ok-inode.inode in
     let first = c.in_ok-inode.ensures.same in
-    let is = kept (λ (m : SectorMap). v ≡ inode_at c.args.geometry m c.descriptor.inside.ino) first c.in_ok-inode.ensures.found in
+    let is = kept (λ (m : SectorMap). v ≡ inode_at c.args.asker.geometry m c.descriptor.inside.ino) first c.in_ok-inode.ensures.found in
     let offset = c.write_offset-offset.result in
     let from = subst (λ (x : Descriptor). offset ≡ (if x.append then v.size else x.offset)) (sym c.descriptor.view_is) c.write_offset-offset.ensures in
     let r = c.from_residual-in_err-ask_to_write.ensures in
@@ -74,7 +72,7 @@ returns-in_err-ask_to_write g c =
     unread_performs (write_by c.args.fd c.args.bytes.now) first w (g.S.Sectors.state c.ask_to_write.new.s)
     c.from_residual-in_err-ask_to_write.result c.in_err-ask_to_write.field-0.0 r.0 r.1 failed.same.store
     (λ s at. elim failed.fault [
-      | inl full ↦ inl (too_full w.opened s at (open_to_write w) v is offset from c.args.bytes.now some near (subst (λ (l : List ℕ). free_sectors c.args.geometry (g.S.Sectors.state c.load_inode.new.s).sectors < free_for (length l)) c.bytes-bytes.ensures.all full.1)
+      | inl full ↦ inl (too_full w.opened s at (open_to_write w) v is offset from c.args.bytes.now some near (subst (λ (l : List ℕ). free_sectors c.args.asker.geometry (g.S.Sectors.state c.load_inode.new.s).sectors < free_for (length l)) c.bytes-bytes.ensures.all full.1)
           ∙ ap (λ (x : Refusal). Some x) (sym full.0))
       | inr read ↦ inr read
     ])
@@ -94,14 +92,14 @@ write_bytes-requires g c =
     record {
       sound = sound_kept same c.requires.ready.sound;
       below = open_below w.opened c.requires.ready.state c.requires.ready.is_state;
-      inode = kept (λ (m : SectorMap). v ≡ inode_at c.args.geometry m c.descriptor.inside.ino) same is;
+      inode = kept (λ (m : SectorMap). v ≡ inode_at c.args.asker.geometry m c.descriptor.inside.ino) same is;
       file = ap (λ (i : Inode). i.kind) is ∙ file_kind w.opened c.requires.ready.state c.requires.ready.is_state (open_to_write w);
       few = omega (arith, len, counted);
       fits = omega (arith, len, counted, near);
-      space = kept (λ (m : SectorMap). free_for (length (take c.write_count-count.result c.bytes-bytes.result.now)) ≤ free_sectors c.args.geometry m) c.in_ok-ask_to_write.ensures.same
-          (enough_for_some (length (take c.write_count-count.result c.bytes-bytes.result.now)) (length c.bytes-bytes.result.now) (free_sectors c.args.geometry mid.sectors) (omega (arith, len))
-          (is_enough (free_sectors c.args.geometry mid.sectors) (free_for (length c.bytes-bytes.result.now)) c.in_ok-ask_to_write.ensures.each));
-      spare = spare_unchanged c.args.geometry 47 old new c.requires.ready.spare same;
+      space = kept (λ (m : SectorMap). free_for (length (take c.write_count-count.result c.bytes-bytes.result.now)) ≤ free_sectors c.args.asker.geometry m) c.in_ok-ask_to_write.ensures.same
+          (enough_for_some (length (take c.write_count-count.result c.bytes-bytes.result.now)) (length c.bytes-bytes.result.now) (free_sectors c.args.asker.geometry mid.sectors) (omega (arith, len))
+          (is_enough (free_sectors c.args.asker.geometry mid.sectors) (free_for (length c.bytes-bytes.result.now)) c.in_ok-ask_to_write.ensures.each));
+      spare = spare_unchanged c.args.asker.geometry 47 old new c.requires.ready.spare same;
     }
 
 pub returns-in_err-write_bytes : goal.returns-in_err-write_bytes
@@ -116,30 +114,19 @@ pub touch-requires : goal.touch-requires
 touch-requires g c =
     let near = subst (λ (x : ℕ). c.write_offset-offset.result < x) c.max_file_size-limit.ensures.value c.if-offset-limit.false in
     let w = open_as c.descriptor.view_is c.in_ok-descriptor.ensures.is_open in
-    let bytes = c.args.bytes.now in
     let all = c.bytes-bytes.ensures.all in
-    let some = some_if bytes c.bytes-bytes.result.now all c.if-is_empty.ensures in
-    let v = c.in_ok-inode.inode in
+    let some = some_if c.args.bytes.now c.bytes-bytes.result.now all c.if-is_empty.ensures in
     let offset = c.write_offset-offset.result in
+    let v = c.in_ok-inode.inode in
     let from = subst (λ (x : Descriptor). offset ≡ (if x.append then v.size else x.offset)) (sym c.descriptor.view_is) c.write_offset-offset.ensures in
-    let mid = g.S.Sectors.state c.load_inode.new.s in
-    let asked = g.S.Sectors.state c.ask_to_write.new.s in
-    let new = g.S.Sectors.state c.write_bytes.new.s in
-    let same = unchanged_joined c.in_ok-inode.ensures.same c.in_ok-ask_to_write.ensures.same in
-    let is = kept (λ (m : SectorMap). v ≡ inode_at c.args.geometry m c.descriptor.inside.ino) same c.in_ok-inode.ensures.found in
-    let count = c.write_count-count.result in
+    let first = c.in_ok-inode.ensures in
+    let second = c.in_ok-ask_to_write.ensures in
     let done = c.in_ok-write_bytes.ensures in
-    let change = subst (λ (l : List ℕ). ChangesBytes c.args.geometry c.descriptor.inside.ino asked new (λ held. overwritten held offset (take count l))) all done.change in
-    let enough = subst (λ (l : List ℕ). free_for (length l) ≤ free_sectors c.args.geometry asked.sectors) all
-    (kept (λ (m : SectorMap). free_for (length c.bytes-bytes.result.now) ≤ free_sectors c.args.geometry m) c.in_ok-ask_to_write.ensures.same
-    (is_enough (free_sectors c.args.geometry mid.sectors) (free_for (length c.bytes-bytes.result.now)) c.in_ok-ask_to_write.ensures.each)) in
-    let counted = c.write_count-count.ensures ∙ ap (λ (l : List ℕ). min (length l) (min write_limit ((max_file_size c.args.geometry.version) - offset))) all in
-    let ready = ready_kept same c.requires.ready in
+    let ready = ready_kept (unchanged_joined first.same second.same) c.requires.ready in
     let s = ready.state in
-    let at = ready.is_state in
     may_touch ready done.store
-    (writes w.opened s at (open_to_write w) v is offset from bytes some near enough c.bytes-bytes.ensures.valid count counted s.processes (λ n was. was) change)
-    (open_below w.opened s at, tt) 40 done.taken (omega arith)
+    (wrote w first.same second.same first.found from near all some c.bytes-bytes.ensures.valid second.each c.write_count-count.ensures done.change s ready.is_state s.processes (λ n was. was))
+    (open_below w.opened s ready.is_state, tt) 40 done.taken (omega arith)
 
 pub returns-in_err-touch : goal.returns-in_err-touch
 returns-in_err-touch g c =
@@ -152,28 +139,18 @@ seek-requires g c = record { «open» = opened_ok c.in_ok-descriptor.ensures.is_
 
 pub returns : goal.returns
 returns g c =
-    let near = subst (λ (x : ℕ). c.write_offset-offset.result < x) c.max_file_size-limit.ensures.value c.if-offset-limit.false in
     let w = open_as c.descriptor.view_is c.in_ok-descriptor.ensures.is_open in
-    let bytes = c.args.bytes.now in
     let all = c.bytes-bytes.ensures.all in
-    let some = some_if bytes c.bytes-bytes.result.now all c.if-is_empty.ensures in
-    let v = c.in_ok-inode.inode in
+    let some = some_if c.args.bytes.now c.bytes-bytes.result.now all c.if-is_empty.ensures in
+    let near = subst (λ (x : ℕ). c.write_offset-offset.result < x) c.max_file_size-limit.ensures.value c.if-offset-limit.false in
     let offset = c.write_offset-offset.result in
-    let from = subst (λ (x : Descriptor). offset ≡ (if x.append then v.size else x.offset)) (sym c.descriptor.view_is) c.write_offset-offset.ensures in
-    let mid = g.S.Sectors.state c.load_inode.new.s in
-    let asked = g.S.Sectors.state c.ask_to_write.new.s in
-    let new = g.S.Sectors.state c.write_bytes.new.s in
-    let same = unchanged_joined c.in_ok-inode.ensures.same c.in_ok-ask_to_write.ensures.same in
-    let is = kept (λ (m : SectorMap). v ≡ inode_at c.args.geometry m c.descriptor.inside.ino) same c.in_ok-inode.ensures.found in
+    let from = subst (λ (x : Descriptor). offset ≡ (if x.append then c.in_ok-inode.inode.size else x.offset)) (sym c.descriptor.view_is) c.write_offset-offset.ensures in
+    let first = c.in_ok-inode.ensures in
+    let second = c.in_ok-ask_to_write.ensures in
+    let done = c.in_ok-write_bytes.ensures in
     let count = c.write_count-count.result in
     let to = offset + count in
-    let change = subst (λ (l : List ℕ). ChangesBytes c.args.geometry c.descriptor.inside.ino asked new (λ held. overwritten held offset (take count l))) all
-    c.in_ok-write_bytes.ensures.change in
-    let enough = subst (λ (l : List ℕ). free_for (length l) ≤ free_sectors c.args.geometry asked.sectors) all
-    (kept (λ (m : SectorMap). free_for (length c.bytes-bytes.result.now) ≤ free_sectors c.args.geometry m) c.in_ok-ask_to_write.ensures.same
-    (is_enough (free_sectors c.args.geometry mid.sectors) (free_for (length c.bytes-bytes.result.now)) c.in_ok-ask_to_write.ensures.each)) in
-    let counted = c.write_count-count.ensures ∙ ap (λ (l : List ℕ). min (length l) (min write_limit ((max_file_size c.args.geometry.version) - offset))) all in
-    changed_tree (write_by c.args.fd bytes) same w new c.seek.new.self c.in_ok-write_bytes.ensures.store change.super c.in_ok-touch.ensures.moved (λ p. with_offset p c.args.fd to) (Wrote count) c.seek.ensures.moved
-    (λ s at. writes w.opened s at (open_to_write w) v is offset from bytes some near enough c.bytes-bytes.ensures.valid count counted
-    c.seek.new.self (still_now w.opened s at c.seek.new.self (λ p. with_offset p c.args.fd to) c.seek.ensures.moved
-    (offset_stays_open w.opened c.in_ok-descriptor.ensures.table to)) change)
+    changed_tree (write_by c.args.fd c.args.bytes.now) (unchanged_joined first.same second.same) w (g.S.Sectors.state c.write_bytes.new.s) c.seek.new.self done.store done.change.super
+    c.in_ok-touch.ensures.moved (λ p. with_offset p c.args.fd to) (Wrote count) c.seek.ensures.moved
+    (λ s at. wrote w first.same second.same first.found from near all some c.bytes-bytes.ensures.valid second.each c.write_count-count.ensures done.change s at
+    c.seek.new.self (still_now w.opened s at c.seek.new.self (λ p. with_offset p c.args.fd to) c.seek.ensures.moved (offset_stays_open w.opened c.in_ok-descriptor.ensures.table to)))
