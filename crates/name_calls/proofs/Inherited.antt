@@ -112,20 +112,14 @@ module _ {p : Geometry} {map : SectorMap} {t : Tree} (h : HoldsTree p map t) {di
 
 -- ---- since before reads
 
-module _ (p : Geometry) {old mid : TxnState} {t : Tree} (h : HoldsTree p old.sectors t) (f : Found) (i : IsNewIn p t f.dir_ino f.name) (same : IsUnchanged old mid)
-    (name : List ℕ) (named : name ≡ f.name) where
-  pub may_then : (cred : Credential) → first_of (make_asked p old.sectors cred t f.dir_ino (f.step - 1)) ≡ None → (u : Tree) × CanMake p mid.sectors u f.dir_ino name
-  may_then cred met = (
-    t,
-    subst (CanMake p mid.sectors t f.dir_ino) (sym named)
-        (kept (λ (m : SectorMap). CanMake p m t f.dir_ino f.name) same (may_make cred (f.step - 1) met h i.directory f.name i.is_name i.short i.is_new)),
-  )
+module _ (p : Geometry) {old mid : TxnState} {t : Tree} (h : HoldsTree p old.sectors t) (f : Found) (i : IsNewIn p t f.dir_ino f.name) (same : IsUnchanged old mid) where
+  pub may_then : (cred : Credential) → first_of (make_asked p old.sectors cred t f.dir_ino (f.step - 1)) ≡ None → (u : Tree) × CanMake p mid.sectors u f.dir_ino f.name
+  may_then cred met = (t, kept (λ (m : SectorMap). CanMake p m t f.dir_ino f.name) same (may_make cred (f.step - 1) met h i.directory f.name i.is_name i.short i.is_new))
 
   pub link_placed : (v : Inode) → v ≡ inode_at p old.sectors f.dir_ino → (cred who : Credential) (target bytes : List ℕ) → who ≡ cred → bytes ≡ target → (new : SectorMap) (n : ℕ)
-      → MakesNode p f.dir_ino name n (link_made v who bytes) mid.sectors new → MakesNode p f.dir_ino f.name n (born_link cred target (the_node t f.dir_ino)) old.sectors new
+      → MakesNode p f.dir_ino f.name n (link_made v who bytes) mid.sectors new → MakesNode p f.dir_ino f.name n (born_link cred target (the_node t f.dir_ino)) old.sectors new
   link_placed v is cred who target bytes caller told new n made =
       kept_back (λ (m : SectorMap). MakesNode p f.dir_ino f.name n (born_link cred target (the_node t f.dir_ino)) m new) same
       (subst (λ (x : Node). MakesNode p f.dir_ino f.name n x mid.sectors new) (link_is h i v is cred target)
       (subst (λ (k : Credential). MakesNode p f.dir_ino f.name n (link_made v k target) mid.sectors new) caller
-      (subst (λ (b : List ℕ). MakesNode p f.dir_ino f.name n (link_made v who b) mid.sectors new) told
-      (subst (λ (l : List ℕ). MakesNode p f.dir_ino l n (link_made v who bytes) mid.sectors new) named made))))
+      (subst (λ (b : List ℕ). MakesNode p f.dir_ino f.name n (link_made v who b) mid.sectors new) told made)))

@@ -1,3 +1,4 @@
+pub mod Alterings
 pub mod BornDirectories
 pub mod BornLinks
 pub mod Droppings
@@ -6,6 +7,7 @@ pub mod Enterings
 pub mod Inherited
 pub mod LinkAsked
 pub mod Linkings
+pub mod Makings
 pub mod Movings
 pub mod RemovalAsked
 pub mod RemovalRows

@@ -4,7 +4,7 @@
 --     name_at        the directory in which the name is new
 --     link_may, few_names        the name may be given
 --     target_below, dir_same, dir_room, link_holds        the count of names, the directory, and both
---     link_changes        the name was given
+--     link_changes, link_changed        the name was given
 use Rattle.std.specs.Prelude.{◌≡◌, ◌≢◌, ℕ, ◌+◌, ◌-◌, ◌<◌, ◌≤◌, nat_lt, nat_le, true, false, List, [], ◌∷◌, ◌++◌, length, None, Some, IsTrue, Ok}
 use Rattle.std.proofs.Common.{refl, sym, ap, subst, arith, ◌∙◌}
 use Rattle.std.proofs.lemmas.Bool.Decides.{nat_tests}
@@ -18,7 +18,7 @@ use Rattle.fs_layout.specs.Images.{inode_at}
 use Rattle.fs_layout.specs.Maps.{name_cmp, with_entry}
 use Rattle.fs_layout.specs.Version.{max_inode_names}
 use Rattle.fs_layout.proofs.Saves.{inode_kept}
-use Rattle.sector_txn.specs.Sectors.{TxnState}
+use Rattle.sector_txn.specs.Sectors.{TxnState, IsUnchanged}
 use Rattle.fs_model.specs.declared.call.Call.TheVariants.{Link}
 use Rattle.fs_model.specs.declared.reply.Reply.TheVariants.{Done}
 use Rattle.fs_model.specs.declared.walk.Found.{Found}
@@ -44,13 +44,15 @@ use Rattle.fs_model.proofs.StepsDemands.{first_met, then_met, unrefused}
 use Rattle.fs_model.proofs.StepsFound.{IsNameAt}
 use Rattle.path_walk.specs.Answers.{refused_or}
 use Rattle.call_parts.specs.Performing.{IsStateOf}
-use Rattle.call_parts.proofs.Calling.{state_tree, first_of-append, met_ok}
+use Rattle.call_parts.proofs.Calling.{state_tree, state_kept, first_of-append, met_ok}
 use Rattle.call_parts.proofs.HeldChanges.{names_held, counted_held}
 use Rattle.path_walk.proofs.HeldNodes.{held_node, names_say}
+use Rattle.path_walk.proofs.Kept.{kept}
 use Rattle.call_parts.proofs.Changed.{IsChange}
 use Rattle.call_parts.proofs.Shown.{the_node_is}
 use Rattle.call_parts.specs.Dropping.{Counts}
-use Rattle.name_calls.specs.Linking.{source_asked, MayLink}
+use Rattle.name_calls.specs.Altering.{HoldsChange}
+use Rattle.name_calls.specs.Linking.{source_asked, MayLink, MayLinkAt}
 use Rattle.call_parts.specs.NewNodes.{MayBeNamed, NamesInode, link_name_asked}
 use Rattle.call_parts.specs.TwoPaths.{scene_with, FindsBoth}
 use Rattle.name_calls.proofs.BornLinks.{is_link_name}
@@ -281,3 +283,12 @@ link_changes {p} {new} {processes} s q f g n is met holds = record {
   times = ap (λ (k : ℕ). touches_of s.tree (AddName g.dir_ino g.name k)) is;
   holds = subst (λ (k : ℕ). HoldsAll p new (placed (swept (changed s.tree (AddName g.dir_ino g.name k)) processes))) (sym is) holds;
 }
+
+-- since before all was asked
+pub link_changed : {p : Geometry} {mid last : TxnState} {new : SectorMap} {processes : ProcessTable} {q : Process} {f g : Found} {s : State} {n : ℕ} {v d : Inode} → IsUnchanged mid last
+    → HoldsChange p processes (MayLinkAt p last.sectors g n) (AddName g.dir_ino g.name n) last.sectors new → FindsBoth p mid.sectors processes q f g s
+    → IsLinkable p mid.sectors s q f g n v d
+    → IsChange p new processes s q (link_demands (scene_with s q f g)) (λ k. link_effect (scene_with s q f g)) Done ((g.dir_ino, Modified) ∷ (n, Changed) ∷ [])
+link_changed {p} {mid} {last} {new} {processes} {q} {f} {g} {s} {n} same added finds told =
+    link_changes s q f g n told.inode.number told.met
+    (added.holds s (state_kept same finds.is_state) (kept (λ (m : SectorMap). MayLinkAt p m g n s) same (link_may finds told)))

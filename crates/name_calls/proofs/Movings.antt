@@ -4,6 +4,7 @@
 --     few_renamed, touched_below        whose times move
 --     dir_below, moved_below, moved_used, named_first, named_here, leads_first, may_lead        what stands before each part
 --     entry_super, moved_same        the names have changed, and what was moved stands as before
+--     lead_below, lead_room, lead_named        what stands before a name leads elsewhere
 --     follow_super, moved_none        its parent, too; the whole where nothing was replaced
 --     replaced_number, replaced_same, replaced_used, replaced_named, replaced_holds        what was replaced; the whole
 use Rattle.std.specs.Prelude.{◌≡◌, ◌≢◌, ◌⊎◌, ℕ, ◌+◌, ◌-◌, ◌==◌, ◌<◌, ◌≤◌, ◌^◌, Bool, true, false, not, ◌||◌, List, length, Option, None, Some, is_some, IsTrue, IsFalse}
@@ -48,7 +49,7 @@ use Rattle.call_parts.proofs.Removed.{attributes_fit}
 use Rattle.call_parts.specs.Given.{ChangesNames}
 use Rattle.call_parts.specs.Times.{AreBelow}
 use Rattle.name_calls.specs.Moving.{MayMove, MayLead, MovesEntry, within, across, ParentFollows, goes, stays, renamed_touches}
-use Rattle.call_parts.specs.NewNodes.{HasName}
+use Rattle.call_parts.specs.NewNodes.{HasName, MayBeNamed}
 use Rattle.name_calls.specs.Renaming.{inode_there}
 use Rattle.name_calls.proofs.Takings.{field_named, left_counts, left_held, left_drops}
 
@@ -89,6 +90,21 @@ is_nothing (Some m) b is set = absurd (let both : true ≡ false = is ∙ ap not
 pub is_something : (o : Option ℕ) (b : Bool) → is_some o ≡ not b → b ≡ false → o ≢ None
 is_something None b is clear none = let both : false ≡ true = is ∙ ap not clear in cc
 is_something (Some m) b is clear none = cc
+
+-- ---- where a name may lead elsewhere
+
+module _ (p : Geometry) (map : SectorMap) (dir_ino : ℕ) (name : List ℕ) where
+  pub lead_below : (o : Option ℕ) → MayLead p map dir_ino name o → dir_ino < p.inodes
+  lead_below None may = may.below
+  lead_below (Some m) may = may.0
+
+  pub lead_room : (o : Option ℕ) → o ≡ None → MayLead p map dir_ino name o → MayBeNamed p map dir_ino name
+  lead_room None none may = may
+  lead_room (Some m) none may = absurd (cc)
+
+  pub lead_named : (o : Option ℕ) → o ≢ None → MayLead p map dir_ino name o → HasName p map dir_ino name
+  lead_named None some may = absurd (some refl)
+  lead_named (Some m) some may = may.1
 
 -- four at most
 pub few_renamed : (dir_ino to_dir_ino n : ℕ) (o : Option ℕ) → length (renamed_touches dir_ino to_dir_ino n o) + 11 ≤ 47

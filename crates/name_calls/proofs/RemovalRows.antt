@@ -4,7 +4,7 @@
 --     last_refuses, removal_refuses, target_refuses, all_told        demands in three parts
 --     target_told        the last part, as the inode says it
 --     inode_told, target_found, target_met, target_may        where all is met
---     name_gone        the name is gone
+--     name_gone, target_gone        the name is gone
 use Rattle.std.specs.Prelude.{◌≡◌, ℕ, ◌==◌, Bool, true, false, not, ◌&&◌, ◌||◌, List, [], ◌∷◌, ◌++◌, Option, None, is_some, IsTrue, Ok}
 use Rattle.std.proofs.Common.{refl, sym, ap, subst, ◌∙◌}
 use Rattle.std.specs.List.{list_any}
@@ -14,6 +14,7 @@ use Rattle.fs_layout.specs.declared.inode.Inode.{Inode}
 use Rattle.fs_layout.specs.declared.geometry.Geometry.{Geometry}
 use Rattle.fs_layout.specs.Bytes.{SectorMap, IsBytes}
 use Rattle.fs_layout.specs.Images.{inode_at}
+use Rattle.sector_txn.specs.Sectors.{TxnState, IsUnchanged}
 use Rattle.fs_model.specs.declared.walk.Form.TheVariants.{Parent}
 use Rattle.fs_model.specs.declared.walk.Found.{Found}
 use Rattle.fs_model.specs.declared.reply.Reply.TheVariants.{Done}
@@ -40,14 +41,15 @@ use Rattle.path_walk.specs.Answers.{refused_or}
 use Rattle.call_parts.specs.Paths.{scene_at, HasFound}
 use Rattle.call_parts.specs.Performing.{IsStateOf}
 use Rattle.call_parts.specs.Reaching.{WalksPath, checked, IsInodeFound}
-use Rattle.call_parts.proofs.Calling.{state_tree, found_there, first_of-append, met_ok}
+use Rattle.call_parts.proofs.Calling.{state_tree, state_kept, found_there, first_of-append, met_ok}
 use Rattle.call_parts.proofs.Changed.{IsChange}
 use Rattle.call_parts.proofs.Ownership.{IsNode, node_of, all_met}
 use Rattle.call_parts.proofs.Refuses.{Refuses, refuses_some, refuses_others, demand_met}
 use Rattle.call_parts.proofs.Shown.{is_inode}
 use Rattle.name_calls.specs.declared.removal.Target.{Target}
 use Rattle.name_calls.specs.declared.removal.Target.TheVariants as targets
-use Rattle.name_calls.specs.Removing.{FindsName, IsNamedThere, removal_asked, last_asked, directory_asked, kind_asked, target_asked, removal_demands, removal_call, MayGo}
+use Rattle.name_calls.specs.Altering.{HoldsChange}
+use Rattle.name_calls.specs.Removing.{FindsName, IsNamedThere, removal_asked, last_asked, directory_asked, kind_asked, target_asked, removal_demands, removal_call, MayGo, MayGoAt}
 
 -- ---- the rows
 
@@ -231,3 +233,12 @@ name_gone {p} {new} {processes} s q f n asked met may holds = record {
   times = ap (taken_touches f.dir_ino) (ap (λ (o : Option Node). lookup_in o f.name) may.directory.is_there ∙ may.leads);
   holds = holds;
 }
+
+-- since before all was asked
+pub target_gone : {p : Geometry} {mid last : TxnState} {new : SectorMap} {processes : ProcessTable} {q : Process} {f : Found} {s : State} {n : ℕ} {v : Inode} (what : Target) → IsUnchanged mid last
+    → HoldsChange p processes (MayGoAt f n) (TakeName f.dir_ino f.name) last.sectors new → FindsName p mid.sectors processes q f s
+    → refused_or {A = ℕ × Inode} (first_of (removal_demands what (scene_at s q f))) (Ok (found_ino f, inode_at p mid.sectors (found_ino f))) ≡ Ok (n, v)
+    → IsChange p new processes s q (removal_demands what (scene_at s q f)) (takes_name (scene_at s q f)) Done ((f.dir_ino, Modified) ∷ (n, Changed) ∷ [])
+target_gone {q = q} {f = f} {s = s} {n = n} what same taken finds is =
+    let may = target_may finds what is in
+    name_gone s q f n (removal_demands what (scene_at s q f)) (target_met finds what is) may (taken.holds s (state_kept same finds.is_state) may)

@@ -36,15 +36,18 @@ use Rattle.fs_model.proofs.StepsDemands as demands
 use Rattle.fs_model.proofs.StepsFound.{IsNameAt}
 use Rattle.fs_model.proofs.StepsOfRename.{IsRenamed, names_say, rename_asks, others, space_met, has_room, replaced_empty, replaced_unused, outside}
 use Rattle.fs_model.proofs.StepsParents.{names_or}
+use Rattle.sector_txn.specs.Sectors.{TxnState, IsUnchanged}
 use Rattle.path_walk.specs.Answers.{refused_or}
+use Rattle.path_walk.proofs.Kept.{kept}
 use Rattle.call_parts.specs.Performing.{IsStateOf}
-use Rattle.call_parts.proofs.Calling.{first_of-append, met_ok}
+use Rattle.call_parts.proofs.Calling.{state_kept, first_of-append, met_ok}
 use Rattle.path_walk.specs.HeldTrees.{IsThere}
 use Rattle.call_parts.proofs.Changed.{IsChange}
 use Rattle.call_parts.proofs.Ownership.{all_met}
 use Rattle.call_parts.proofs.Refuses.{Refuses, refuses_some, refuses_others}
 use Rattle.call_parts.proofs.Shown.{number_of, the_node_is}
-use Rattle.name_calls.specs.Moving.{MayMove, renamed_touches}
+use Rattle.name_calls.specs.Altering.{HoldsChange}
+use Rattle.name_calls.specs.Moving.{MayMove, MayMoveTo, renamed_touches}
 use Rattle.name_calls.specs.Removing.{IsNamedThere}
 use Rattle.name_calls.specs.Renaming.{names_asked, inode_there}
 use Rattle.name_calls.specs.Replacing.{IsToRename, same_number, move_asked}
@@ -234,3 +237,13 @@ module _ {p : Geometry} {new : SectorMap} {processes : ProcessTable} (s : State)
     times = refl;
     holds = same_held s at.is_state at.up processes (λ k is. subst (λ (d : ProcessTable). IsTrue (is_open d k)) at.same_processes is) p new at.holds at.same_room;
   }
+
+-- since before all was asked
+pub rename_changed : {p : Geometry} {mid last : TxnState} {new : SectorMap} {processes : ProcessTable} {q : Process} {f g : Found} {s : State} {n : ℕ} {v : Inode} {there : Option (ℕ × Inode)} → IsUnchanged mid last
+    → HoldsChange p processes (MayMoveTo p last.sectors f g n) (MoveName f.dir_ino f.name g.dir_ino g.name) last.sectors new → FindsBoth p mid.sectors processes q f g s
+    → IsRenamable p mid.sectors processes q f g n v there s → same_number n there ≡ false
+    → IsChange p new processes s q (rename_demands (scene_with s q f g)) (λ k. rename_effect (scene_with s q f g)) Done (renamed_touches f.dir_ino g.dir_ino n g.ino)
+rename_changed {p} {mid} {last} {new} {processes} {q} {f} {g} {s} {n} same moved finds told apart =
+    let may = may_move finds told apart in
+    rename_changes s q f g told.met n may (same_is q told.found ∙ apart)
+    (moved.holds s (state_kept same finds.is_state) (kept (λ (m : SectorMap). MayMoveTo p m f g n s) same may))

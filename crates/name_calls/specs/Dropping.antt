@@ -1,16 +1,29 @@
 -- What is left of a node that loses a name.
+--     MayLoseName        an inode that has a name
 --     stays_with, LosesName        it has a name less, or is gone
-use Rattle.std.specs.Prelude.{◌≡◌, ℕ, ◌-◌, ◌==◌, Bool, true, false, not, ◌&&◌, ◌||◌}
+use Rattle.std.specs.Prelude.{◌≡◌, ℕ, ◌-◌, ◌==◌, ◌≤◌, Bool, true, false, not, ◌&&◌, ◌||◌}
+use Rattle.fs_layout.specs.declared.inode.Inode.{Inode}
 use Rattle.fs_layout.specs.declared.inode.Kind.{Kind}
 use Rattle.fs_layout.specs.declared.geometry.Geometry.{Geometry}
 use Rattle.fs_layout.specs.Images.{inode_at}
 use Rattle.sector_txn.specs.Sectors.{TxnState}
+use Rattle.bit_alloc.specs.declared.bitmap.Bitmap.TheVariants.{Inodes}
+use Rattle.bit_alloc.specs.Bitmaps.{IsNumber}
+use Rattle.bit_alloc.specs.Room.{HasSpare}
 use Rattle.fs_model.specs.Summaries.{is_file_kind}
 use Rattle.call_parts.specs.Dropping.{Drops, Counts}
+use Rattle.call_parts.specs.UsedInode.{IsUsedInode}
 
 -- what has so many names left stays: a file also as long as it is open
 abbrev pub stays_with : Kind → ℕ → Bool → Bool
 stays_with kind names opened = not (names == 0) || (is_file_kind kind && opened)
+
+-- inode n, this one, has a name, and there is room for what is left of it
+pub record MayLoseName (p : Geometry) (txn : TxnState) (n : ℕ) (v : Inode) : Type 0 where
+  pub loaded : IsUsedInode p txn n v
+  pub number : IsNumber p Inodes n
+  pub named : 1 ≤ v.names
+  pub spare : HasSpare p 1 txn
 
 -- inode n has a name less, and is gone where it doesn't stay so
 pub record LosesName (p : Geometry) (n : ℕ) (opened : Bool) (old new : TxnState) : Type 0 where

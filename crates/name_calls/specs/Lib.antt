@@ -1,8 +1,11 @@
+pub mod Altering
 pub mod Dropping
 pub mod Entering
 pub mod Enters
 pub mod Linking
+pub mod Making
 pub mod Moving
 pub mod Removing
 pub mod Renaming
 pub mod Replacing
+pub mod Telling

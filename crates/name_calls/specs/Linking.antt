@@ -2,6 +2,7 @@
 --     source_asked        asked of what the first path leads to
 --     place_asked        asked of a directory that gets a name
 --     MayLink        a name that it may get
+--     MayLinkAt        that which was found
 use Rattle.std.specs.Prelude.{◌≡◌, ℕ, ◌<◌, ◌≤◌, nat_le, not, ◌&&◌, List, [], ◌∷◌, length, None, Some, IsFalse}
 use Rattle.fs_cred.specs.declared.errno.Errno.TheVariants.{EPERM, ENOTDIR, EMLINK}
 use Rattle.fs_cred.specs.Credentials.{Credential}
@@ -17,6 +18,7 @@ use Rattle.fs_model.specs.Demands.{Demand, refuse, permission_on, write_and_sear
 use Rattle.fs_model.specs.Limits.{least_free}
 use Rattle.fs_model.specs.Nodes.{Node, is_directory, names_of_body}
 use Rattle.fs_model.specs.Scenes.{is_found, is_special, found_ino, must_be_there}
+use Rattle.fs_model.specs.States.{State}
 use Rattle.fs_model.specs.Trees.{Tree, node_at, names_of, IsDirectoryAt}
 use Rattle.call_parts.specs.Makings.{room_asked}
 
@@ -47,3 +49,7 @@ pub record MayLink (p : Geometry) (map : SectorMap) (t : Tree) (dir_ino : ℕ) (
   pub there : node_at t n ≡ Some target
   pub no_directory : IsFalse (is_directory target.body)
   pub few : names_of t n < max_inode_names p.version
+
+-- n may get the name that was found
+abbrev pub MayLinkAt : Geometry → SectorMap → Found → ℕ → State → Type 0
+MayLinkAt p map f n s = MayLink p map s.tree f.dir_ino f.name n

@@ -1,7 +1,9 @@
 -- What a name that goes to another place asks, and what it leaves.
 --     MayMove        a name that may go to another place
+--     MayMoveTo        one name that was found may go to the other
 --     MayLead        a name that may lead to another inode
 --     MovesEntry        the names of one directory, or of two, are changed
+--     MovesEntryTo        of the names that were found
 --     GetsParent, ParentFollows        what was moved gets its parent
 --     renamed_touches        whose times a name that moves takes along
 use Rattle.std.specs.Prelude.{◌≡◌, ◌≢◌, ◌⊎◌, ℕ, ◌<◌, ◌≤◌, false, List, [], ◌∷◌, length, Option, None, Some, IsFalse}
@@ -16,6 +18,7 @@ use Rattle.fs_layout.specs.Version.{max_name, max_names}
 use Rattle.bit_alloc.specs.Inodes.{KeepsBytes, KeepsAcls}
 use Rattle.fs_model.specs.declared.touch.Touch.{Touch}
 use Rattle.fs_model.specs.declared.touch.Touch.TheVariants.{Changed, Modified}
+use Rattle.fs_model.specs.declared.walk.Found.{Found}
 use Rattle.fs_model.specs.Limits.{least_free}
 use Rattle.fs_model.specs.Nodes.{names_of_body}
 use Rattle.fs_model.specs.Processes.{is_in_use}
@@ -43,6 +46,10 @@ pub record MayMove (p : Geometry) (map : SectorMap) (s : State) (dir_ino : ℕ) 
   pub unused : (m : ℕ) → replaced ≡ Some m → IsDirectoryAt s.tree m → IsFalse (is_in_use s.processes m)
   pub outside : IsDirectoryAt s.tree n → is_within (length s.tree) s.tree n to_dir_ino ≡ false
 
+-- what the first name leads to, n, may get the second
+abbrev pub MayMoveTo : Geometry → SectorMap → Found → Found → ℕ → State → Type 0
+MayMoveTo p map f g n s = MayMove p map s f.dir_ino f.name n g.dir_ino g.name g.ino
+
 -- In directory dir the name may lead to another inode: it leads to one, or there is room for it.
 abbrev pub MayLead : Geometry → SectorMap → ℕ → List ℕ → Option ℕ → Type 0
 MayLead p map dir_ino name None = MayBeNamed p map dir_ino name
@@ -56,6 +63,10 @@ pub data MovesEntry (p : Geometry) (dir_ino : ℕ) (name : List ℕ) (n to_dir_i
       → MovesEntry p dir_ino name n to_dir_ino to_name replaced old new
   across : (mid : SectorMap) → ChangesNames p dir_ino (λ names. without name_cmp names name) old mid
       → ChangesNames p to_dir_ino (λ names. with_entry name_cmp names to_name n) mid new → MovesEntry p dir_ino name n to_dir_ino to_name replaced old new
+
+-- the second name leads to n, in place of the first
+abbrev pub MovesEntryTo : Geometry → Found → Found → ℕ → SectorMap → SectorMap → Type 0
+MovesEntryTo p f g n old new = MovesEntry p f.dir_ino f.name n g.dir_ino g.name g.ino old new
 
 -- inode n has this parent, and all else that it had
 pub record GetsParent (p : Geometry) (n parent : ℕ) (old new : SectorMap) : Type 0 where

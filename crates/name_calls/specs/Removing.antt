@@ -3,7 +3,7 @@
 --     IsNamedThere, removal_asked        what was found and its directory are there, and what is asked of both
 --     last_asked, directory_asked, kind_asked, target_asked        asked of the last component, of a directory, of what goes
 --     removal_demands, removal_call        the demands of a call that removes a name, and that call
---     MayGo        a name that may go
+--     MayGo, MayGoAt        a name that may go; that which was found
 use Rattle.std.specs.Prelude.{◌≡◌, ℕ, ◌-◌, Bool, not, ◌&&◌, List, [], ◌∷◌, ◌++◌, Some, IsTrue, IsFalse}
 use Rattle.fs_cred.specs.declared.errno.Errno.TheVariants.{EBUSY, EINVAL, EISDIR, ENOTDIR, ENOTEMPTY}
 use Rattle.fs_cred.specs.declared.refusal.Need.TheVariants.{Remove}
@@ -24,9 +24,9 @@ use Rattle.fs_model.specs.Processes.{Process, ProcessTable, is_in_use}
 use Rattle.fs_model.specs.Scenes.{Scene, is_found, is_special, is_directory_found, is_nondirectory_found, has_names, found_ino, ends_top, ends_dot, ends_dot_dot, must_be_there}
 use Rattle.fs_model.specs.States.{State}
 use Rattle.fs_model.specs.Trees.{Tree, node_at, IsDirectoryAt}
-use Rattle.path_walk.specs.HeldTrees.{IsThere}
 use Rattle.call_parts.specs.Paths.{HasFound}
 use Rattle.call_parts.specs.Performing.{IsStateOf}
+use Rattle.name_calls.specs.Telling.{FoundThere}
 use Rattle.name_calls.specs.declared.removal.Target.{Target}
 use Rattle.name_calls.specs.declared.removal.Target.TheVariants.{NoDirectory, Directory}
 
@@ -41,7 +41,7 @@ pub record FindsName (p : Geometry) (map : SectorMap) (processes : ProcessTable)
 -- the directory that names what was found is there, and so is what was found
 pub record IsNamedThere (t : Tree) (f : Found) : Type 0 where
   pub directory : IsDirectoryAt t f.dir_ino
-  pub found : (n : ℕ) → f.ino ≡ Some n → IsThere t n
+  pub found : FoundThere f t
 
 -- asked of what was found and of its directory, whatever it is
 abbrev pub removal_asked : Credential → Tree → Found → List Demand
@@ -91,3 +91,7 @@ pub record MayGo (s : State) (dir_ino : ℕ) (name : List ℕ) (n : ℕ) : Type 
   pub there : node_at s.tree n ≡ Some target
   pub empty : IsTrue (is_directory target.body) → names_of_body target.body ≡ []
   pub unused : IsTrue (is_directory target.body) → IsFalse (is_in_use s.processes n)
+
+-- the name that was found may go
+abbrev pub MayGoAt : Found → ℕ → State → Type 0
+MayGoAt f n s = MayGo s f.dir_ino f.name n

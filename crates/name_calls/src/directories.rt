@@ -1,12 +1,11 @@
 //! Directories: POSIX.1-2017, mkdir() and chdir().
 
-ghost use Rattle.std.specs.Prelude.{◌≡◌, ◌+◌, ◌/◌, ◌%◌, ◌<◌, ◌==◌, ℕ, cond, not, Some, Ok, option_copied, Err, OnOk, IfOk, IfErr, IsSome};
+ghost use Rattle.std.specs.Prelude.{◌≡◌, ◌+◌, ◌/◌, ◌%◌, ◌<◌, ◌==◌, ℕ, cond, not, Some, Ok, option_copied, Err, IfOk, IfErr, IsSome};
 ghost use Rattle.std.specs.Ordering.{nat_cmp};
 ghost use Rattle.fs_layout.specs.Maps.{get};
 ghost use Rattle.fs_layout.specs.Images.{inode_at};
-ghost use Rattle.sector_txn.specs.Sectors.{SameStore, IsUnchanged};
+ghost use Rattle.sector_txn.specs.Sectors.{IsUnchanged};
 ghost use Rattle.bit_alloc.specs.Inodes.{IsSound};
-ghost use Rattle.bit_alloc.specs.Room.{HasSpare, TakesSpare};
 ghost use Rattle.fs_model.specs.declared.reply.Reply.TheVariants.{Done};
 ghost use Rattle.fs_model.specs.Processes.{ProcessTable, standing_at};
 ghost use Rattle.open_files.specs.Tables.{with_changed};
@@ -14,13 +13,15 @@ ghost use Rattle.fs_model.specs.Births.{born_directory, the_node};
 ghost use Rattle.fs_model.specs.Demands.{refuse, first_of};
 ghost use Rattle.fs_model.specs.Scenes.{found_ino, must_be_new};
 ghost use Rattle.fs_model.specs.Trees.{Tree};
-ghost use Rattle.path_walk.specs.Answers.{refused_or, FailsToRead, IsAnswered};
+ghost use Rattle.path_walk.specs.Answers.{refused_or, IsAnswered};
 ghost use Rattle.path_walk.specs.HeldTrees.{HoldsTree, IsThere};
 ghost use Rattle.fs_model.specs.declared.call.Call.TheVariants.{Mkdir, Chdir};
 ghost use Rattle.call_parts.specs.Performing.{MayPerform, Performs, IsReadyFor, PerformsFor};
 ghost use Rattle.call_parts.specs.Makings.{CanMake};
+ghost use Rattle.name_calls.specs.Altering.{MayAlter, Alters};
 ghost use Rattle.name_calls.specs.Entering.{enter_asked};
-ghost use Rattle.call_parts.specs.NewNodes.{IsMade, IsNewIn, MakesNode, directory_made};
+ghost use Rattle.name_calls.specs.Making.{HasNewName, Makes};
+ghost use Rattle.call_parts.specs.NewNodes.{MakesNode, directory_made};
 
 use call_parts::{
     Asker, CallResult, Caller, Walked, check_is_directory, check_make, check_mode, default_of,
@@ -48,31 +49,25 @@ fn special_bits(directory: &Inode, mode: u16) -> u16
     sticky + set_group_id
 }
 
-// Makes a directory with this owner, group, ACLs and bits of the mode, and names it in directory `dir_ino`. EIO: the
-// disk has failed.
+// Makes a directory with this owner, group, ACLs and bits of the mode, and names it as was found, in this directory. EIO:
+// the disk has failed.
 fn place_directory<S: Sectors>(
     s: &mut S,
     geometry: Geometry,
-    dir_ino: u32,
+    found: &Found,
     directory: Inode,
-    name: &[u8],
     uid: u32,
     gid: u32,
     bits: u16,
     access: &Acl,
     default: Option<&Acl>,
 ) -> Result<u32, Refusal>
-    requires sound { IsSound geometry (S.state s.old) }
-    requires directory { directory ≡ inode_at geometry (S.state s.old).sectors dir_ino }
-    requires may { (t : Tree) × CanMake geometry (S.state s.old).sectors t dir_ino name.now }
+    requires ready { MayAlter geometry 47 (S.state s.old) }
+    requires directory { directory ≡ inode_at geometry (S.state s.old).sectors found.now.dir_ino }
+    requires may { (t : Tree) × CanMake geometry (S.state s.old).sectors t found.now.dir_ino found.now.name }
     requires bits { bits < 2048 }
-    requires spare { HasSpare geometry 47 (S.state s.old) }
-    ensures store { SameStore (S.state s.old) (S.state s.new) }
-    ensures made { IfOk result (λ n. MakesNode geometry dir_ino name.now n
-        (directory_made uid gid bits access.now (option_copied default.entry))
-        (S.state s.old).sectors (S.state s.new).sectors) }
-    ensures taken { OnOk result (TakesSpare geometry 7 (S.state s.old) (S.state s.new)) }
-    ensures err { IfErr result (FailsToRead (S.state s.old).disk (S.state s.new).disk) }
+    ensures { Alters geometry 7 (λ n. MakesNode geometry found.now.dir_ino found.now.name n
+        (directory_made uid gid bits access.now (option_copied default.entry))) (S.state s.old) (S.state s.new) result }
 {
     let made = Inode {
         kind: Kind::Directory,
@@ -80,13 +75,14 @@ fn place_directory<S: Sectors>(
         uid,
         gid,
         names: 1,
-        parent: dir_ino,
+        parent: found.dir_ino,
         ..Inode::FREE
     };
     let Ok(ino) = new_inode(s, geometry, &made, access, default) else {
         return Err(Refusal::Failed(Errno::EIO));
     };
-    name_inode(s, geometry, dir_ino, directory, name, ino)?;
+    let name = found.name.bytes();
+    name_inode(s, geometry, found.dir_ino, directory, name, ino)?;
     Ok(ino)
 }
 
@@ -97,17 +93,10 @@ fn make_directory<S: Sectors>(
     walked: &Walked,
     mode: u16,
 ) -> Result<u32, Refusal>
-    requires sound { IsSound caller.now.geometry (S.state s.old) }
-    requires spare { HasSpare caller.now.geometry 47 (S.state s.old) }
-    requires name { (t : Tree) × HoldsTree caller.now.geometry (S.state s.old).sectors t
-        × IsNewIn caller.now.geometry t walked.now.found.dir_ino walked.now.found.name }
-    ensures store { SameStore (S.state s.old) (S.state s.new) }
-    ensures each { (t : Tree) → HoldsTree caller.now.geometry (S.state s.old).sectors t
-        → IsNewIn caller.now.geometry t walked.now.found.dir_ino walked.now.found.name
-        → IsMade caller.now.geometry (S.state s.old) (S.state s.new) walked.now.process.now.cred t walked.now.found
-        (born_directory walked.now.process.now.cred walked.now.process.now.umask mode
-        (the_node t walked.now.found.dir_ino)) result }
-    ensures taken { OnOk result (TakesSpare caller.now.geometry 7 (S.state s.old) (S.state s.new)) }
+    requires { HasNewName caller.now.geometry (S.state s.old) walked.now.found }
+    ensures { Makes caller.now.geometry walked.now.process.now.cred walked.now.found
+        (λ t. born_directory walked.now.process.now.cred walked.now.process.now.umask mode
+        (the_node t walked.now.found.dir_ino)) (S.state s.old) (S.state s.new) result }
 {
     let geometry = caller.geometry;
     let process = walked.process;
@@ -120,19 +109,9 @@ fn make_directory<S: Sectors>(
     let access = inherited(caller.alloc, default, mode, process.umask())?;
     let bits = special_bits(&directory, mode);
     let gid = new_group(&directory, cred);
-    let name = found.name.bytes();
     let uid = cred.uid();
     let ino = place_directory(
-        s,
-        geometry,
-        found.dir_ino,
-        directory,
-        name,
-        uid,
-        gid,
-        bits,
-        &access,
-        default,
+        s, geometry, found, directory, uid, gid, bits, &access, default,
     )?;
     Ok(ino)
 }
@@ -159,13 +138,8 @@ pub fn mkdir<S: Sectors>(s: &mut S, caller: &Caller, path: &Path, mode: u16) -> 
     let walked = walk_path(s, caller, checks, path, Form::Parent)?;
     check_new(&walked.found)?;
     let ino = make_directory(s, caller, &walked, mode)?;
-    let dir_ino = walked.found.dir_ino;
-    touch(
-        s,
-        caller.geometry,
-        caller.time,
-        &[(dir_ino, Touch::Modified), (ino, Touch::Born)],
-    )?;
+    let touches = [(walked.found.dir_ino, Touch::Modified), (ino, Touch::Born)];
+    touch(s, caller.geometry, caller.time, &touches)?;
     Ok(Reply::Done)
 }
 

@@ -1,15 +1,10 @@
 //! What becomes of a node that loses a name: POSIX.1-2017, unlink().
 
-ghost use Rattle.std.specs.Prelude.{◌≡◌, ◌≢◌, ◌≤◌, ◌<◌, OnOk, IfErr};
-ghost use Rattle.fs_layout.specs.Images.{inode_at};
+ghost use Rattle.std.specs.Prelude.{◌≡◌, OnOk, IfErr};
 ghost use Rattle.sector_txn.specs.Sectors.{SameStore};
-ghost use Rattle.bit_alloc.specs.declared.bitmap.Bitmap.TheVariants.{Inodes};
-ghost use Rattle.bit_alloc.specs.Bitmaps.{IsNumber};
-ghost use Rattle.bit_alloc.specs.Inodes.{IsSound};
-ghost use Rattle.bit_alloc.specs.Room.{HasSpare};
 ghost use Rattle.fs_model.specs.Processes.{is_open};
 ghost use Rattle.path_walk.specs.Answers.{FailsToRead};
-ghost use Rattle.name_calls.specs.Dropping.{LosesName, stays_with};
+ghost use Rattle.name_calls.specs.Dropping.{MayLoseName, LosesName, stays_with};
 
 use call_parts::{drop_node, set_names};
 use fs_cred::Refusal;
@@ -33,12 +28,7 @@ pub(crate) fn lose_name<S: Sectors>(
     ino: u32,
     inode: &Inode,
 ) -> Result<(), Refusal>
-    requires sound { IsSound geometry (S.state s.old) }
-    requires number { IsNumber geometry Inodes ino }
-    requires inode { inode.now ≡ inode_at geometry (S.state s.old).sectors ino }
-    requires used { inode.now.kind ≢ Kind.Free }
-    requires named { 1 ≤ inode.now.names }
-    requires spare { HasSpare geometry 1 (S.state s.old) }
+    requires { MayLoseName geometry (S.state s.old) ino inode.now }
     ensures store { SameStore (S.state s.old) (S.state s.new) }
     ensures loses { OnOk result (LosesName geometry ino (is_open procs.now ino) (S.state s.old) (S.state s.new)) }
     ensures fault { IfErr result (FailsToRead (S.state s.old).disk (S.state s.new).disk) }

@@ -1,16 +1,10 @@
 //! Where a process stands, and where its second paths start, as someone says who is trusted: no call of the process.
 
-ghost use Rattle.std.specs.Prelude.{◌≡◌, IfOk, IfErr};
-ghost use Rattle.sector_disk.specs.Disk.{HasFailed};
-ghost use Rattle.fs_cred.specs.declared.errno.Errno.TheVariants.{EIO};
-ghost use Rattle.fs_model.specs.Steps.{enter_demands};
-ghost use Rattle.sector_txn.specs.Sectors.{IsUnchanged};
+ghost use Rattle.std.specs.Prelude.{◌≡◌};
 ghost use Rattle.bit_alloc.specs.Inodes.{IsSound};
-ghost use Rattle.fs_model.specs.Demands.{first_of};
-ghost use Rattle.fs_model.specs.Trees.{Tree};
-ghost use Rattle.path_walk.specs.HeldTrees.{HoldsTree};
 ghost use Rattle.call_parts.specs.Performing.{MayPerform};
-ghost use Rattle.name_calls.specs.Enters.{type_in, both_directories, IsAskedOfBoth, Enters};
+ghost use Rattle.name_calls.specs.Entering.{FindsType, AsksOfBoth};
+ghost use Rattle.name_calls.specs.Enters.{both_directories, Enters};
 
 use fs_cred::Errno;
 use fs_layout::Geometry;
@@ -22,9 +16,7 @@ use sector_txn::Sectors;
 // The type of what stands at a number; `None` where nothing does. EIO: the disk has failed.
 fn type_at<S: Sectors>(s: &mut S, geometry: Geometry, ino: u32) -> Result<Option<FileType>, Errno>
     requires { IsSound geometry (S.state s.old) }
-    ensures found { IfOk result (λ found. (t : Tree) → HoldsTree geometry (S.state s.old).sectors t → found ≡ type_in t ino) }
-    ensures fault { IfErr result (λ errno. (errno ≡ EIO) × HasFailed (S.state s.old).disk (S.state s.new).disk) }
-    ensures same { IsUnchanged (S.state s.old) (S.state s.new) }
+    ensures { FindsType geometry ino (S.state s.old) (S.state s.new) result }
 {
     if ino >= geometry.inodes {
         return Ok(None);
@@ -54,9 +46,7 @@ fn ask_of_both<S: Sectors>(
     second_ino: u32,
 ) -> Result<(), Errno>
     requires { IsSound geometry (S.state s.old) }
-    ensures each { (t : Tree) → HoldsTree geometry (S.state s.old).sectors t
-        → IsAskedOfBoth (S.state s.old).disk (S.state s.new).disk (first_of (enter_demands t dir_ino second_ino)) result }
-    ensures same { IsUnchanged (S.state s.old) (S.state s.new) }
+    ensures { AsksOfBoth geometry dir_ino second_ino (S.state s.old) (S.state s.new) result }
 {
     let first = type_at(s, geometry, dir_ino)?;
     let other = type_at(s, geometry, second_ino)?;

@@ -1,26 +1,21 @@
 //! More names for what is there: POSIX.1-2017, link().
 
-ghost use Rattle.std.specs.Prelude.{◌≡◌, ◌-◌, ◌<◌, nat_le, ℕ, [], ◌∷◌, not, ◌&&◌, Some, Ok, OnOk, IfErr};
+ghost use Rattle.std.specs.Prelude.{◌≡◌, ◌-◌, ◌<◌, nat_le, [], ◌∷◌, not, ◌&&◌, Ok};
 ghost use Rattle.fs_layout.specs.Images.{inode_at};
 ghost use Rattle.fs_layout.specs.Version.{max_inode_names};
-ghost use Rattle.sector_txn.specs.Sectors.{SameStore, IsUnchanged};
-ghost use Rattle.bit_alloc.specs.Inodes.{IsSound};
-ghost use Rattle.bit_alloc.specs.Room.{HasSpare, TakesSpare};
-ghost use Rattle.fs_model.specs.TreeChanges.{AddName, changed, swept};
+ghost use Rattle.fs_model.specs.TreeChanges.{AddName};
 ghost use Rattle.fs_model.specs.Demands.{refuse, first_of};
 ghost use Rattle.fs_model.specs.NameCalls.{link_demands};
-ghost use Rattle.fs_model.specs.Processes.{ProcessTable};
 ghost use Rattle.fs_model.specs.Rules.{is_directory_kind};
 ghost use Rattle.fs_model.specs.Scenes.{found_ino, is_special};
-ghost use Rattle.fs_model.specs.Stands.{HoldsAll, placed};
-ghost use Rattle.fs_model.specs.States.{State};
-ghost use Rattle.fs_model.specs.Trees.{Tree, IsDirectoryAt};
-ghost use Rattle.path_walk.specs.Answers.{refused_or, FailsToRead, IsAnswered};
-ghost use Rattle.path_walk.specs.HeldTrees.{HoldsTree, IsThere};
+ghost use Rattle.fs_model.specs.Trees.{IsDirectoryAt};
+ghost use Rattle.path_walk.specs.Answers.{refused_or};
 ghost use Rattle.fs_model.specs.declared.call.Call.TheVariants.{Link};
-ghost use Rattle.call_parts.specs.Performing.{IsStateOf, IsReadyFor, PerformsFor};
-ghost use Rattle.name_calls.specs.Linking.{source_asked, place_asked, MayLink};
-ghost use Rattle.call_parts.specs.TwoPaths.{scene_with, FindsBoth};
+ghost use Rattle.call_parts.specs.Performing.{IsReadyFor, PerformsFor};
+ghost use Rattle.name_calls.specs.Altering.{Alters, HoldsChange};
+ghost use Rattle.name_calls.specs.Linking.{source_asked, place_asked, MayLinkAt};
+ghost use Rattle.name_calls.specs.Telling.{HasTree, HasState, TellsTree, TellsState, FoundThere, FindsWalked};
+ghost use Rattle.call_parts.specs.TwoPaths.{scene_with};
 
 use crate::links::check_link_name;
 use call_parts::{
@@ -62,13 +57,10 @@ fn check_source<S: Sectors>(
     geometry: Geometry,
     found: &Found,
 ) -> Result<(u32, Inode), Refusal>
-    requires sound { IsSound geometry (S.state s.old) }
-    requires there { (t : Tree) × HoldsTree geometry (S.state s.old).sectors t × ((n : ℕ) → found.now.ino ≡ Some n → IsThere t n) }
-    ensures each { (t : Tree) → HoldsTree geometry (S.state s.old).sectors t → ((n : ℕ) → found.now.ino ≡ Some n → IsThere t n)
-        → IsAnswered (S.state s.old).disk (S.state s.new).disk
-        (refused_or (first_of (source_asked t found.now))
-        (Ok (found_ino found.now, inode_at geometry (S.state s.old).sectors (found_ino found.now)))) result }
-    ensures same { IsUnchanged (S.state s.old) (S.state s.new) }
+    requires { HasTree geometry (S.state s.old) (FoundThere found.now) }
+    ensures { TellsTree geometry (FoundThere found.now) (λ t. refused_or (first_of (source_asked t found.now))
+        (Ok (found_ino found.now, inode_at geometry (S.state s.old).sectors (found_ino found.now))))
+        (S.state s.old) (S.state s.new) result }
 {
     check_last(found)?;
     let (ino, inode) = inode_found(s, geometry, found)?;
@@ -95,15 +87,13 @@ fn check_place<S: Sectors>(
     found: &Found,
     names: u32,
 ) -> Result<Inode, Refusal>
-    requires sound { IsSound caller.now.geometry (S.state s.old) }
-    requires there { (t : Tree) × HoldsTree caller.now.geometry (S.state s.old).sectors t × IsDirectoryAt t found.now.dir_ino }
-    ensures each { (t : Tree) → HoldsTree caller.now.geometry (S.state s.old).sectors t → IsDirectoryAt t found.now.dir_ino
-        → IsAnswered (S.state s.old).disk (S.state s.new).disk
-        (refused_or
+    requires { HasTree caller.now.geometry (S.state s.old) (λ t. IsDirectoryAt t found.now.dir_ino) }
+    ensures { TellsTree caller.now.geometry (λ t. IsDirectoryAt t found.now.dir_ino)
+        (λ t. refused_or
         (first_of (place_asked caller.now.geometry (S.state s.old).sectors process.now.cred t
         found.now.dir_ino (found.now.step - 1) names))
-        (Ok (inode_at caller.now.geometry (S.state s.old).sectors found.now.dir_ino))) result }
-    ensures same { IsUnchanged (S.state s.old) (S.state s.new) }
+        (Ok (inode_at caller.now.geometry (S.state s.old).sectors found.now.dir_ino)))
+        (S.state s.old) (S.state s.new) result }
 {
     let directory = ask_directory(s, caller, process, found, 2)?;
     check_count(caller.geometry, names)?;
@@ -118,22 +108,15 @@ fn check_link<S: Sectors>(
     caller: &Caller,
     walked: &WalkedBoth,
 ) -> Result<(u32, Inode, Inode), Refusal>
-    requires sound { IsSound caller.now.geometry (S.state s.old) }
-    requires found { (processes : ProcessTable) × (st : State)
-        × FindsBoth caller.now.geometry (S.state s.old).sectors processes
-        walked.now.process.now walked.now.first walked.now.second st }
-    ensures each { (processes : ProcessTable) (st : State)
-        → FindsBoth caller.now.geometry (S.state s.old).sectors processes
-        walked.now.process.now walked.now.first walked.now.second st
-        → IsAnswered (S.state s.old).disk (S.state s.new).disk
-        (refused_or (first_of (link_demands
+    requires { HasState caller.now.geometry (S.state s.old) (FindsWalked caller.now (S.state s.old).sectors walked.now) }
+    ensures { TellsState (FindsWalked caller.now (S.state s.old).sectors walked.now)
+        (λ st. refused_or (first_of (link_demands
         (scene_with st walked.now.process.now walked.now.first walked.now.second)))
         (Ok (
           found_ino walked.now.first,
           inode_at caller.now.geometry (S.state s.old).sectors (found_ino walked.now.first),
           inode_at caller.now.geometry (S.state s.old).sectors walked.now.second.dir_ino,
-        ))) result }
-    ensures same { IsUnchanged (S.state s.old) (S.state s.new) }
+        ))) (S.state s.old) (S.state s.new) result }
 {
     let (ino, inode) = check_source(s, caller.geometry, &walked.first)?;
     let second = &walked.second;
@@ -143,33 +126,27 @@ fn check_link<S: Sectors>(
     Ok((ino, inode, directory))
 }
 
-// Names inode `ino`, which is no directory, once more, in directory `dir_ino`. EIO: the disk has failed.
+// Names inode `ino`, which is no directory, once more, as was found, in this directory. EIO: the disk has failed.
 fn add_name<S: Sectors>(
     s: &mut S,
-    geometry: Geometry,
-    dir_ino: u32,
+    caller: &Caller,
+    found: &Found,
     directory: Inode,
-    name: &[u8],
     ino: u32,
     inode: &Inode,
 ) -> Result<(), Refusal>
-    requires sound { IsSound geometry (S.state s.old) }
-    requires inode { inode.now ≡ inode_at geometry (S.state s.old).sectors ino }
-    requires few { inode.now.names < max_inode_names geometry.version }
-    requires directory { directory ≡ inode_at geometry (S.state s.old).sectors dir_ino }
-    requires may { (processes : ProcessTable) × (st : State) × IsStateOf geometry (S.state s.old).sectors processes st
-        × MayLink geometry (S.state s.old).sectors st.tree dir_ino name.now ino }
-    requires spare { HasSpare geometry 47 (S.state s.old) }
-    ensures store { SameStore (S.state s.old) (S.state s.new) }
-    ensures superblock { OnOk result ((S.state s.new).sectors 0 ≡ (S.state s.old).sectors 0) }
-    ensures added { OnOk result ((processes : ProcessTable) (st : State) → IsStateOf geometry (S.state s.old).sectors processes st
-        → MayLink geometry (S.state s.old).sectors st.tree dir_ino name.now ino
-        → HoldsAll geometry (S.state s.new).sectors (placed (swept (changed st.tree (AddName dir_ino name.now ino)) processes))) }
-    ensures room { OnOk result (TakesSpare geometry 5 (S.state s.old) (S.state s.new)) }
-    ensures fault { IfErr result (FailsToRead (S.state s.old).disk (S.state s.new).disk) }
+    requires inode { inode.now ≡ inode_at caller.now.geometry (S.state s.old).sectors ino }
+    requires few { inode.now.names < max_inode_names caller.now.geometry.version }
+    requires directory { directory ≡ inode_at caller.now.geometry (S.state s.old).sectors found.now.dir_ino }
+    requires may { (ready : IsReadyFor caller.now (S.state s.old))
+        × MayLinkAt caller.now.geometry (S.state s.old).sectors found.now ino ready.state }
+    ensures { Alters caller.now.geometry 5 (λ done. HoldsChange caller.now.geometry caller.now.procs.now
+        (MayLinkAt caller.now.geometry (S.state s.old).sectors found.now ino) (AddName found.now.dir_ino found.now.name ino))
+        (S.state s.old) (S.state s.new) result }
 {
-    set_names(s, geometry, ino, inode, inode.names + 1)?;
-    name_inode(s, geometry, dir_ino, directory, name, ino)?;
+    let name = found.name.bytes();
+    set_names(s, caller.geometry, ino, inode, inode.names + 1)?;
+    name_inode(s, caller.geometry, found.dir_ino, directory, name, ino)?;
     Ok(())
 }
 
@@ -184,15 +161,11 @@ pub fn link<S: Sectors>(s: &mut S, caller: &Caller, old: &Path, new: &Path) -> C
 {
     let walked = walk_both(s, caller, old, new)?;
     let (ino, inode, directory) = check_link(s, caller, &walked)?;
-    let second = &walked.second;
-    let name = second.name.bytes();
-    let dir_ino = second.dir_ino;
-    add_name(s, caller.geometry, dir_ino, directory, name, ino, &inode)?;
-    touch(
-        s,
-        caller.geometry,
-        caller.time,
-        &[(dir_ino, Touch::Modified), (ino, Touch::Changed)],
-    )?;
+    add_name(s, caller, &walked.second, directory, ino, &inode)?;
+    let touches = [
+        (walked.second.dir_ino, Touch::Modified),
+        (ino, Touch::Changed),
+    ];
+    touch(s, caller.geometry, caller.time, &touches)?;
     Ok(Reply::Done)
 }

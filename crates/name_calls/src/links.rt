@@ -1,22 +1,21 @@
 //! Symbolic links: POSIX.1-2017, symlink() and readlink().
 
-ghost use Rattle.std.specs.Prelude.{◌≡◌, ℕ, not, Ok, OnOk, IfOk, IfErr};
+ghost use Rattle.std.specs.Prelude.{◌≡◌, not, Ok};
 ghost use Rattle.fs_layout.specs.Bytes.{IsBytes};
 ghost use Rattle.fs_layout.specs.Images.{inode_at};
-ghost use Rattle.sector_txn.specs.Sectors.{SameStore, IsUnchanged};
-ghost use Rattle.bit_alloc.specs.Inodes.{IsSound};
-ghost use Rattle.bit_alloc.specs.Room.{HasSpare, TakesSpare};
+ghost use Rattle.sector_txn.specs.Sectors.{IsUnchanged};
 ghost use Rattle.fs_model.specs.Births.{born_link, the_node};
 ghost use Rattle.fs_model.specs.Demands.{refuse, first_of};
 ghost use Rattle.fs_model.specs.NameCalls.{symlink_arguments};
 ghost use Rattle.fs_model.specs.Summaries.{is_link_kind};
 ghost use Rattle.fs_model.specs.Trees.{Tree, IsTarget};
-ghost use Rattle.path_walk.specs.Answers.{refused_or, FailsToRead};
-ghost use Rattle.path_walk.specs.HeldTrees.{HoldsTree};
+ghost use Rattle.path_walk.specs.Answers.{refused_or};
 ghost use Rattle.fs_model.specs.declared.call.Call.TheVariants.{Symlink, Readlink};
 ghost use Rattle.call_parts.specs.Performing.{IsReadyFor, PerformsFor};
 ghost use Rattle.call_parts.specs.Makings.{CanMake};
-ghost use Rattle.call_parts.specs.NewNodes.{IsMade, IsNewIn, MakesNode, link_made, link_name_asked};
+ghost use Rattle.call_parts.specs.NewNodes.{MakesNode, link_made, link_name_asked};
+ghost use Rattle.name_calls.specs.Altering.{MayAlter, Alters};
+ghost use Rattle.name_calls.specs.Making.{HasNewName, Makes};
 
 use block_map::new_link;
 use call_parts::{
@@ -59,33 +58,29 @@ pub(crate) fn check_link_name(found: &Found) -> Result<(), Refusal>
     Ok(())
 }
 
-// Makes a link with this target, and names it in directory `dir_ino`. EIO: the disk has failed.
+// Makes a link with this target, and names it as was found, in this directory. EIO: the disk has failed.
 fn place_link<S: Sectors>(
     s: &mut S,
     geometry: Geometry,
-    dir_ino: u32,
+    found: &Found,
     directory: Inode,
-    name: &[u8],
     cred: &Cred,
     target: &[u8],
 ) -> Result<u32, Refusal>
-    requires sound { IsSound geometry (S.state s.old) }
-    requires directory { directory ≡ inode_at geometry (S.state s.old).sectors dir_ino }
-    requires may { (t : Tree) × CanMake geometry (S.state s.old).sectors t dir_ino name.now }
+    requires ready { MayAlter geometry 47 (S.state s.old) }
+    requires directory { directory ≡ inode_at geometry (S.state s.old).sectors found.now.dir_ino }
+    requires may { (t : Tree) × CanMake geometry (S.state s.old).sectors t found.now.dir_ino found.now.name }
     requires target { IsTarget target.now }
-    requires spare { HasSpare geometry 47 (S.state s.old) }
-    ensures store { SameStore (S.state s.old) (S.state s.new) }
-    ensures made { IfOk result (λ n. MakesNode geometry dir_ino name.now n (link_made directory cred.now target.now)
-        (S.state s.old).sectors (S.state s.new).sectors) }
-    ensures taken { OnOk result (TakesSpare geometry 7 (S.state s.old) (S.state s.new)) }
-    ensures err { IfErr result (FailsToRead (S.state s.old).disk (S.state s.new).disk) }
+    ensures { Alters geometry 7 (λ n. MakesNode geometry found.now.dir_ino found.now.name n
+        (link_made directory cred.now target.now)) (S.state s.old) (S.state s.new) result }
 {
     let uid = cred.uid();
     let gid = new_group(&directory, cred);
     let Ok(ino) = new_link(s, geometry, uid, gid, target) else {
         return Err(Refusal::Failed(Errno::EIO));
     };
-    name_inode(s, geometry, dir_ino, directory, name, ino)?;
+    let name = found.name.bytes();
+    name_inode(s, geometry, found.dir_ino, directory, name, ino)?;
     Ok(ino)
 }
 
@@ -96,33 +91,18 @@ fn make_link<S: Sectors>(
     walked: &Walked,
     target: &Path,
 ) -> Result<u32, Refusal>
-    requires sound { IsSound caller.now.geometry (S.state s.old) }
-    requires spare { HasSpare caller.now.geometry 47 (S.state s.old) }
-    requires name { (t : Tree) × HoldsTree caller.now.geometry (S.state s.old).sectors t
-        × IsNewIn caller.now.geometry t walked.now.found.dir_ino walked.now.found.name }
+    requires ready { HasNewName caller.now.geometry (S.state s.old) walked.now.found }
     requires target { IsTarget target.now }
-    ensures store { SameStore (S.state s.old) (S.state s.new) }
-    ensures each { (t : Tree) → HoldsTree caller.now.geometry (S.state s.old).sectors t
-        → IsNewIn caller.now.geometry t walked.now.found.dir_ino walked.now.found.name
-        → IsMade caller.now.geometry (S.state s.old) (S.state s.new) walked.now.process.now.cred t walked.now.found
-        (born_link walked.now.process.now.cred target.now (the_node t walked.now.found.dir_ino)) result }
-    ensures taken { OnOk result (TakesSpare caller.now.geometry 7 (S.state s.old) (S.state s.new)) }
+    ensures { Makes caller.now.geometry walked.now.process.now.cred walked.now.found
+        (λ t. born_link walked.now.process.now.cred target.now (the_node t walked.now.found.dir_ino))
+        (S.state s.old) (S.state s.new) result }
 {
     let found = &walked.found;
     let cred = walked.process.cred();
     let step = found.step.saturating_sub(1);
     let directory = check_make(s, caller, cred, found.dir_ino, step)?;
-    let name = found.name.bytes();
     let bytes = target.bytes();
-    let ino = place_link(
-        s,
-        caller.geometry,
-        found.dir_ino,
-        directory,
-        name,
-        cred,
-        bytes,
-    )?;
+    let ino = place_link(s, caller.geometry, found, directory, cred, bytes)?;
     Ok(ino)
 }
 
@@ -136,13 +116,8 @@ pub fn symlink<S: Sectors>(s: &mut S, caller: &Caller, target: &Path, path: &Pat
     let walked = walk_path(s, caller, checks, path, Form::Parent)?;
     check_link_name(&walked.found)?;
     let ino = make_link(s, caller, &walked, target)?;
-    let dir_ino = walked.found.dir_ino;
-    touch(
-        s,
-        caller.geometry,
-        caller.time,
-        &[(dir_ino, Touch::Modified), (ino, Touch::Born)],
-    )?;
+    let touches = [(walked.found.dir_ino, Touch::Modified), (ino, Touch::Born)];
+    touch(s, caller.geometry, caller.time, &touches)?;
     Ok(Reply::Done)
 }
 

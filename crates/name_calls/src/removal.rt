@@ -1,28 +1,23 @@
 //! Removing names: POSIX.1-2017, unlink() and rmdir().
 
-ghost use Rattle.std.specs.Prelude.{◌≡◌, ◌<◌, Ok, OnOk, IfErr};
+ghost use Rattle.std.specs.Prelude.{◌≡◌, Ok};
 ghost use Rattle.fs_layout.specs.Bytes.{SectorMap};
 ghost use Rattle.fs_layout.specs.Images.{inode_at};
-ghost use Rattle.sector_txn.specs.Sectors.{SameStore, IsUnchanged};
-ghost use Rattle.bit_alloc.specs.Inodes.{IsSound};
-ghost use Rattle.bit_alloc.specs.Room.{HasSpare, TakesSpare};
-ghost use Rattle.fs_model.specs.TreeChanges.{TakeName, changed, swept};
+ghost use Rattle.fs_model.specs.TreeChanges.{TakeName};
 ghost use Rattle.fs_model.specs.Demands.{first_of};
 ghost use Rattle.fs_model.specs.Nodes.{Body};
 ghost use Rattle.fs_model.specs.Processes.{is_in_use};
 ghost use Rattle.fs_model.specs.Scenes.{found_ino};
-ghost use Rattle.fs_model.specs.Stands.{HoldsAll, placed};
-ghost use Rattle.fs_model.specs.States.{State};
 ghost use Rattle.fs_model.specs.StoredNodes.{HoldsBody};
-ghost use Rattle.fs_model.specs.Trees.{Tree};
-ghost use Rattle.path_walk.specs.Answers.{refused_or, FailsToRead, IsAnswered};
-ghost use Rattle.path_walk.specs.HeldTrees.{HoldsTree};
+ghost use Rattle.path_walk.specs.Answers.{refused_or};
 ghost use Rattle.fs_layout.specs.declared.version.Version.{Version};
 ghost use Rattle.fs_model.specs.declared.call.Call.TheVariants.{Unlink, Rmdir};
 ghost use Rattle.call_parts.specs.Paths.{scene_at};
-ghost use Rattle.call_parts.specs.Performing.{IsStateOf, IsReadyFor, PerformsFor};
+ghost use Rattle.call_parts.specs.Performing.{IsReadyFor, PerformsFor};
 ghost use Rattle.name_calls.specs.declared.removal.Target.TheVariants.{NoDirectory, Directory};
-ghost use Rattle.name_calls.specs.Removing.{FindsName, IsNamedThere, removal_asked, last_asked, directory_asked, kind_asked, removal_demands, removal_call, MayGo};
+ghost use Rattle.name_calls.specs.Altering.{Alters, HoldsChange};
+ghost use Rattle.name_calls.specs.Removing.{FindsName, IsNamedThere, removal_asked, last_asked, directory_asked, kind_asked, removal_demands, removal_call, MayGoAt};
+ghost use Rattle.name_calls.specs.Telling.{HasTree, HasState, TellsTree, TellsState};
 
 use crate::dropping::lose_name;
 use call_parts::{
@@ -81,13 +76,11 @@ fn check_removal<S: Sectors>(
     caller: &Caller,
     walked: &Walked,
 ) -> Result<(u32, Inode), Refusal>
-    requires sound { IsSound caller.now.geometry (S.state s.old) }
-    requires there { (t : Tree) × HoldsTree caller.now.geometry (S.state s.old).sectors t × IsNamedThere t walked.now.found }
-    ensures each { (t : Tree) → HoldsTree caller.now.geometry (S.state s.old).sectors t → IsNamedThere t walked.now.found
-        → IsAnswered (S.state s.old).disk (S.state s.new).disk
-        (refused_or (first_of (removal_asked walked.now.process.now.cred t walked.now.found))
-        (Ok (found_ino walked.now.found, inode_at caller.now.geometry (S.state s.old).sectors (found_ino walked.now.found)))) result }
-    ensures same { IsUnchanged (S.state s.old) (S.state s.new) }
+    requires { HasTree caller.now.geometry (S.state s.old) (λ t. IsNamedThere t walked.now.found) }
+    ensures { TellsTree caller.now.geometry (λ t. IsNamedThere t walked.now.found)
+        (λ t. refused_or (first_of (removal_asked walked.now.process.now.cred t walked.now.found))
+        (Ok (found_ino walked.now.found, inode_at caller.now.geometry (S.state s.old).sectors (found_ino walked.now.found))))
+        (S.state s.old) (S.state s.new) result }
 {
     let process = walked.process;
     let found = &walked.found;
@@ -133,15 +126,13 @@ fn check_target<S: Sectors>(
     walked: &Walked,
     what: Target,
 ) -> Result<(u32, Inode), Refusal>
-    requires sound { IsSound caller.now.geometry (S.state s.old) }
-    requires found { (st : State)
-        × FindsName caller.now.geometry (S.state s.old).sectors caller.now.procs.now walked.now.process.now walked.now.found st }
-    ensures each { (st : State)
-        → FindsName caller.now.geometry (S.state s.old).sectors caller.now.procs.now walked.now.process.now walked.now.found st
-        → IsAnswered (S.state s.old).disk (S.state s.new).disk
-        (refused_or (first_of (removal_demands what (scene_at st walked.now.process.now walked.now.found)))
-        (Ok (found_ino walked.now.found, inode_at caller.now.geometry (S.state s.old).sectors (found_ino walked.now.found)))) result }
-    ensures same { IsUnchanged (S.state s.old) (S.state s.new) }
+    requires { HasState caller.now.geometry (S.state s.old) (FindsName caller.now.geometry (S.state s.old).sectors caller.now.procs.now
+        walked.now.process.now walked.now.found) }
+    ensures { TellsState (FindsName caller.now.geometry (S.state s.old).sectors caller.now.procs.now
+        walked.now.process.now walked.now.found)
+        (λ st. refused_or (first_of (removal_demands what (scene_at st walked.now.process.now walked.now.found)))
+        (Ok (found_ino walked.now.found, inode_at caller.now.geometry (S.state s.old).sectors (found_ino walked.now.found))))
+        (S.state s.old) (S.state s.new) result }
 {
     check_last(&walked.found, what)?;
     let (ino, inode) = check_removal(s, caller, walked)?;
@@ -149,30 +140,23 @@ fn check_target<S: Sectors>(
     Ok((ino, inode))
 }
 
-// Takes a name from directory `dir_ino`, where it leads to inode `ino`, which goes with its last name unless it is
-// open. EIO: the disk has failed.
+// Takes the name that was found, which leads to inode `ino`; with its last name that goes, unless it is open. EIO: the
+// disk has failed.
 fn take_name<S: Sectors>(
     s: &mut S,
-    geometry: Geometry,
-    procs: &Procs,
-    dir_ino: u32,
-    name: &[u8],
+    caller: &Caller,
+    found: &Found,
     ino: u32,
-    inode: Inode,
+    inode: &Inode,
 ) -> Result<(), Refusal>
-    requires sound { IsSound geometry (S.state s.old) }
-    requires inode { inode ≡ inode_at geometry (S.state s.old).sectors ino }
-    requires may { (st : State) × IsStateOf geometry (S.state s.old).sectors procs.now st × MayGo st dir_ino name.now ino }
-    requires spare { HasSpare geometry 47 (S.state s.old) }
-    ensures store { SameStore (S.state s.old) (S.state s.new) }
-    ensures superblock { OnOk result ((S.state s.new).sectors 0 ≡ (S.state s.old).sectors 0) }
-    ensures taken { OnOk result ((st : State) → IsStateOf geometry (S.state s.old).sectors procs.now st → MayGo st dir_ino name.now ino
-        → HoldsAll geometry (S.state s.new).sectors (placed (swept (changed st.tree (TakeName dir_ino name.now)) procs.now))) }
-    ensures room { OnOk result (TakesSpare geometry 6 (S.state s.old) (S.state s.new)) }
-    ensures fault { IfErr result (FailsToRead (S.state s.old).disk (S.state s.new).disk) }
+    requires inode { inode.now ≡ inode_at caller.now.geometry (S.state s.old).sectors ino }
+    requires may { (ready : IsReadyFor caller.now (S.state s.old)) × MayGoAt found.now ino ready.state }
+    ensures { Alters caller.now.geometry 6 (λ done. HoldsChange caller.now.geometry caller.now.procs.now
+        (MayGoAt found.now ino) (TakeName found.now.dir_ino found.now.name)) (S.state s.old) (S.state s.new) result }
 {
-    remove_name(s, geometry, dir_ino, name)?;
-    lose_name(s, geometry, procs, ino, &inode)?;
+    let name = found.name.bytes();
+    remove_name(s, caller.geometry, found.dir_ino, name)?;
+    lose_name(s, caller.geometry, caller.procs, ino, inode)?;
     Ok(())
 }
 
@@ -183,16 +167,12 @@ fn remove_target<S: Sectors>(s: &mut S, caller: &Caller, path: &Path, what: Targ
 {
     let walked = walk_path(s, caller, Ok(()), path, Form::Parent)?;
     let (ino, inode) = check_target(s, caller, &walked, what)?;
-    let found = &walked.found;
-    let name = found.name.bytes();
-    let dir_ino = found.dir_ino;
-    take_name(s, caller.geometry, caller.procs, dir_ino, name, ino, inode)?;
-    touch(
-        s,
-        caller.geometry,
-        caller.time,
-        &[(dir_ino, Touch::Modified), (ino, Touch::Changed)],
-    )?;
+    take_name(s, caller, &walked.found, ino, &inode)?;
+    let touches = [
+        (walked.found.dir_ino, Touch::Modified),
+        (ino, Touch::Changed),
+    ];
+    touch(s, caller.geometry, caller.time, &touches)?;
     Ok(Reply::Done)
 }
 

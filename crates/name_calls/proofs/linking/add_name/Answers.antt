@@ -1,52 +1,58 @@
-use Rattle.std.proofs.Common.{◌≢◌, ◌+◌, sym, ap, arith, subst, ◌∙◌}
-use Rattle.sector_txn.proofs.TransactionRuns.{store_joined}
+use Rattle.std.proofs.Common.{◌≢◌, ◌+◌, ℕ, List, sym, ap, arith, subst, ◌∙◌}
 use Rattle.fs_layout.specs.declared.inode.Inode.{Inode}
 use Rattle.fs_layout.specs.declared.inode.Kind.TheVariants as kinds
-use Rattle.call_parts.proofs.Refuses.{fails_later}
-use Rattle.call_parts.proofs.Removed.{taken_joined}
+use Rattle.call_parts.specs.NewNodes.{MayBeNamed, NamesInode}
+use Rattle.name_calls.proofs.Alterings.{altered, not_altered, not_altered_later}
 use Rattle.name_calls.proofs.Linkings.{target_below, target_used, dir_same, dir_room, link_holds}
 use Rattle.name_calls.proofs.linking.add_name.Goals as goal
 
-pub set_names-requires-clause-loaded : goal.set_names-requires-clause-loaded
-set_names-requires-clause-loaded g c =
+pub set_names-requires : goal.set_names-requires
+set_names-requires g c =
     let x = c.requires.may in
     let old = g.S.Sectors.state c.args.s.now in
+    let spare = x.0.spare in
     record {
-      sound = c.requires.sound;
-      below = target_below old x.2 x.3;
-      inode = c.requires.inode;
-      used = subst (λ (v : Inode). v.kind ≢ kinds.Free) (sym c.requires.inode) (target_used old x.2 x.3);
+      loaded = record {
+        sound = x.0.sound;
+        below = target_below old x.0.is_state x.1;
+        inode = c.requires.inode;
+        used = subst (λ (v : Inode). v.kind ≢ kinds.Free) (sym c.requires.inode) (target_used old x.0.is_state x.1);
+      };
+      spare = omega (arith, spare);
     }
 
-pub name_inode-requires-clause-inode : goal.name_inode-requires-clause-inode
-name_inode-requires-clause-inode g c =
+pub returns-in_err-set_names : goal.returns-in_err-set_names
+returns-in_err-set_names g c = not_altered _ _ c.from_residual.ensures c.in_err-set_names.ensures.store c.in_err-set_names.ensures.fault
+
+pub name_inode-requires : goal.name_inode-requires
+name_inode-requires g c =
     let x = c.requires.may in
-    c.requires.directory ∙ sym (dir_same (g.S.Sectors.state c.args.s.now) x.2 x.3 (ap (λ (v : Inode). v.names + 1) c.requires.inode) c.in_ok-set_names.ensures.counts)
+    let old = g.S.Sectors.state c.args.s.now in
+    let counts = c.in_ok-set_names.ensures.counts in
+    let more = ap (λ (v : Inode). v.names + 1) c.requires.inode in
+    let spare = x.0.spare in
+    let taken = counts.touches.puts.room in
+    record {
+      sound = counts.sound;
+      inode = c.requires.directory ∙ sym (dir_same old x.0.is_state x.1 more counts);
+      room = subst (MayBeNamed c.args.caller.now.geometry (g.S.Sectors.state c.set_names.new.s).sectors c.args.found.now.dir_ino) (sym c.bytes-name.ensures.all)
+          (dir_room old x.0.is_state x.1 more counts);
+      spare = omega (arith, spare, taken);
+    }
 
-pub name_inode-requires-clause-room : goal.name_inode-requires-clause-room
-name_inode-requires-clause-room g c =
-    let x = c.requires.may in
-    dir_room (g.S.Sectors.state c.args.s.now) x.2 x.3 (ap (λ (v : Inode). v.names + 1) c.requires.inode) c.in_ok-set_names.ensures.counts
+pub returns-in_err-name_inode : goal.returns-in_err-name_inode
+returns-in_err-name_inode g c =
+    not_altered_later _ _ c.from_residual-in_err-name_inode.ensures c.in_ok-set_names.ensures.store c.in_err-name_inode.ensures.store c.in_err-name_inode.ensures.err
 
-pub returns-in_err-name_inode-clause-store : goal.returns-in_err-name_inode-clause-store
-returns-in_err-name_inode-clause-store g c = store_joined c.in_ok-set_names.ensures.store c.in_err-name_inode.ensures.store
-
-pub returns-in_err-name_inode-clause-fault : goal.returns-in_err-name_inode-clause-fault
-returns-in_err-name_inode-clause-fault g c =
-    fails_later (g.S.Sectors.state c.name_inode.new.s).disk _ _ c.from_residual-in_err-name_inode.ensures c.in_ok-set_names.ensures.store c.in_err-name_inode.ensures.err
-
-pub returns-clause-store : goal.returns-clause-store
-returns-clause-store g c = store_joined c.in_ok-set_names.ensures.store c.in_ok-name_inode.ensures.store
-
-pub returns-clause-superblock : goal.returns-clause-superblock
-returns-clause-superblock g c = c.in_ok-name_inode.ensures.named.super ∙ c.in_ok-set_names.ensures.counts.touches.super
-
-pub returns-clause-added : goal.returns-clause-added
-returns-clause-added g c = λ processes st at may.
-    link_holds (g.S.Sectors.state c.args.s.now) at may (ap (λ (v : Inode). v.names + 1) c.requires.inode) c.in_ok-set_names.ensures.counts
-    (g.S.Sectors.state c.name_inode.new.s).sectors c.in_ok-name_inode.ensures.named
-
-pub returns-clause-room : goal.returns-clause-room
-returns-clause-room g c =
-    taken_joined c.args.geometry 1 4 5 (g.S.Sectors.state c.args.s.now) (g.S.Sectors.state c.set_names.new.s) (g.S.Sectors.state c.name_inode.new.s) (omega arith)
-    c.in_ok-set_names.ensures.counts.touches.puts.room c.in_ok-name_inode.ensures.taken
+pub returns : goal.returns
+returns g c =
+    let new = (g.S.Sectors.state c.name_inode.new.s).sectors in
+    let counts = c.in_ok-set_names.ensures.counts in
+    let done = c.in_ok-name_inode.ensures in
+    let named = subst (λ (q : List ℕ). NamesInode c.args.caller.now.geometry c.args.found.now.dir_ino q c.args.ino (g.S.Sectors.state c.set_names.new.s).sectors new)
+    c.bytes-name.ensures.all done.named in
+    altered tt 1 4 (omega arith) c.in_ok-set_names.ensures.store counts.touches.puts.room done.store done.sound done.taken
+    (record {
+      super = named.super ∙ counts.touches.super;
+      holds = λ st at may. link_holds (g.S.Sectors.state c.args.s.now) at may (ap (λ (v : Inode). v.names + 1) c.requires.inode) counts new named;
+    })

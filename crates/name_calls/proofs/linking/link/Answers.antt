@@ -1,26 +1,23 @@
-use Rattle.std.proofs.Common.{◌≡◌, ℕ, List, sym, arith, subst, ◌∙◌}
+use Rattle.std.proofs.Common.{◌≡◌, arith, ◌∙◌}
 use Rattle.fs_layout.specs.Bytes.{SectorMap}
 use Rattle.fs_layout.specs.Images.{inode_at}
 use Rattle.fs_model.specs.declared.reply.Reply.TheVariants.{Done}
-use Rattle.fs_model.specs.TreeChanges.{AddName, changed, swept}
-use Rattle.fs_model.specs.Stands.{HoldsAll, placed}
-use Rattle.bit_alloc.proofs.Transactions.{spare_unchanged}
 use Rattle.sector_txn.proofs.TransactionRuns.{store_joined}
-use Rattle.path_walk.proofs.Kept.{kept, sound_kept}
+use Rattle.path_walk.proofs.Kept.{kept}
 use Rattle.call_parts.proofs.ByTwoPaths.{walks_refused, both_refused, both_broken, both_broken_later, both_performs}
-use Rattle.call_parts.proofs.Calling.{state_kept}
 use Rattle.call_parts.proofs.Changed.{may_touch}
 use Rattle.call_parts.proofs.FoundBoth.{finds_each}
 use Rattle.call_parts.proofs.Removed.{taken_after}
-use Rattle.name_calls.specs.Linking.{MayLink}
-use Rattle.name_calls.proofs.Linkings.{link_by_two, link_told, link_may, few_names, dir_below, target_below, link_changes}
+use Rattle.name_calls.specs.Linking.{MayLinkAt}
+use Rattle.name_calls.proofs.Alterings.{ready_later}
+use Rattle.name_calls.proofs.Linkings.{link_by_two, link_told, link_may, few_names, dir_below, target_below, link_changed}
 use Rattle.name_calls.proofs.linking.link.Goals as goal
 
 pub check_link-requires : goal.check_link-requires
 check_link-requires g c =
     let w = c.in_ok-walked.ensures.walked in
     let ready = w.ready in
-    record { sound = ready.sound; found = (c.args.caller.now.procs.now, ready.state, finds_each w ready.state ready.is_state) }
+    record { sound = ready.sound; found = (ready.state, finds_each w ready.state ready.is_state) }
 
 pub returns-in_err-walked : goal.returns-in_err-walked
 returns-in_err-walked g c =
@@ -41,22 +38,14 @@ add_name-requires g c =
     let ready = w.ready in
     let h = c.in_ok-walked.walked.second in
     let p = c.args.caller.now.geometry in
-    let mid = g.S.Sectors.state c.walk_both.new.s in
     let finds = finds_each w ready.state ready.is_state in
-    let told = link_told ready.state (c.in_ok-ino.ensures.each c.args.caller.now.procs.now ready.state finds) in
+    let told = link_told ready.state (c.in_ok-ino.ensures.each ready.state finds) in
     record {
-      sound = sound_kept same ready.sound;
       inode = kept (λ (m : SectorMap). c.in_ok-ino.inode ≡ inode_at p m c.in_ok-ino.ino) same told.inode.inode;
       few = few_names finds told;
       directory = kept (λ (m : SectorMap). c.in_ok-ino.directory ≡ inode_at p m h.dir_ino) same told.directory;
-      may = (
-        c.args.caller.now.procs.now,
-        ready.state,
-        state_kept same ready.is_state,
-        kept (λ (m : SectorMap). MayLink p m ready.state.tree h.dir_ino c.bytes-name.result.now c.in_ok-ino.ino) same
-            (subst (λ (name : List ℕ). MayLink p mid.sectors ready.state.tree h.dir_ino name c.in_ok-ino.ino) (sym c.bytes-name.ensures.all) (link_may finds told)),
-      );
-      spare = spare_unchanged p 47 mid (g.S.Sectors.state c.check_link.new.s) ready.spare same;
+      may = ready_later same ready (MayLinkAt p (g.S.Sectors.state c.check_link.new.s).sectors h c.in_ok-ino.ino)
+          (kept (λ (m : SectorMap). MayLinkAt p m h c.in_ok-ino.ino ready.state) same (link_may finds told));
     }
 
 pub returns-in_err-ino : goal.returns-in_err-ino
@@ -64,30 +53,21 @@ returns-in_err-ino g c =
     let r = c.from_residual-in_err-ino.ensures in
     let x = c.in_ok-walked.ensures in
     both_refused (link_by_two c.args.old.now c.args.new.now) x.same x.walked (g.S.Sectors.state c.check_link.new.s) _ _ r.0 r.1 c.in_err-ino.ensures.same.store _
-    (λ s has at. c.in_err-ino.ensures.each c.args.caller.now.procs.now s (finds_each x.walked s at))
+    (λ s has at. c.in_err-ino.ensures.each s (finds_each x.walked s at))
 
 pub touch-requires : goal.touch-requires
 touch-requires g c =
-    let p = c.args.caller.now.geometry in
     let w = c.in_ok-walked.ensures.walked in
-    let f = c.in_ok-walked.walked.first in
-    let h = c.in_ok-walked.walked.second in
     let mid = g.S.Sectors.state c.walk_both.new.s in
-    let new = g.S.Sectors.state c.add_name.new.s in
     let same = c.in_ok-ino.ensures.same in
     let added = c.in_ok-add_name.ensures in
     let s = w.ready.state in
     let at = w.ready.is_state in
     let finds = finds_each w s at in
-    let told = link_told s (c.in_ok-ino.ensures.each c.args.caller.now.procs.now s finds) in
-    let linked = link_may finds told in
-    let may = kept (λ (m : SectorMap). MayLink p m s.tree h.dir_ino c.bytes-name.result.now c.in_ok-ino.ino) same
-    (subst (λ (name : List ℕ). MayLink p mid.sectors s.tree h.dir_ino name c.in_ok-ino.ino) (sym c.bytes-name.ensures.all) linked) in
-    may_touch {now = c.args.caller.now.procs.now} w.ready (store_joined same.store added.store)
-    (link_changes s c.in_ok-walked.walked.process.now f h c.in_ok-ino.ino told.inode.number told.met
-    (subst (λ (name : List ℕ). HoldsAll p new.sectors (placed (swept (changed s.tree (AddName h.dir_ino name c.in_ok-ino.ino)) c.args.caller.now.procs.now))) c.bytes-name.ensures.all
-    (added.added c.args.caller.now.procs.now s (state_kept same at) may)))
-    (dir_below mid at linked, (target_below mid at linked, tt)) 5 (taken_after p 5 new same added.room) (omega arith)
+    let told = link_told s (c.in_ok-ino.ensures.each s finds) in
+    let may = link_may finds told in
+    may_touch {now = c.args.caller.now.procs.now} w.ready (store_joined same.store added.store) (link_changed same added.made finds told)
+    (dir_below mid at may, (target_below mid at may, tt)) 5 (taken_after c.args.caller.now.geometry 5 (g.S.Sectors.state c.add_name.new.s) same added.taken) (omega arith)
 
 pub returns-in_err-touch : goal.returns-in_err-touch
 returns-in_err-touch g c =
@@ -97,20 +77,11 @@ returns-in_err-touch g c =
 
 pub returns : goal.returns
 returns g c =
-    let p = c.args.caller.now.geometry in
     let x = c.in_ok-walked.ensures in
-    let f = c.in_ok-walked.walked.first in
-    let h = c.in_ok-walked.walked.second in
-    let mid = (g.S.Sectors.state c.walk_both.new.s).sectors in
-    let new = g.S.Sectors.state c.add_name.new.s in
     let same = c.in_ok-ino.ensures.same in
     let added = c.in_ok-add_name.ensures in
-    both_performs (link_by_two c.args.old.now c.args.new.now) x.same x.walked new (store_joined same.store added.store) (added.superblock ∙ same.sectors 0) c.in_ok-touch.ensures.moved Done
+    both_performs (link_by_two c.args.old.now c.args.new.now) x.same x.walked (g.S.Sectors.state c.add_name.new.s) (store_joined same.store added.store)
+    (added.made.super ∙ same.sectors 0) c.in_ok-touch.ensures.moved Done
     (λ s has at.
     let finds = finds_each x.walked s at in
-    let told = link_told s (c.in_ok-ino.ensures.each c.args.caller.now.procs.now s finds) in
-    let may = kept (λ (m : SectorMap). MayLink p m s.tree h.dir_ino c.bytes-name.result.now c.in_ok-ino.ino) same
-    (subst (λ (name : List ℕ). MayLink p mid s.tree h.dir_ino name c.in_ok-ino.ino) (sym c.bytes-name.ensures.all) (link_may finds told)) in
-    link_changes s c.in_ok-walked.walked.process.now f h c.in_ok-ino.ino told.inode.number told.met
-    (subst (λ (name : List ℕ). HoldsAll p new.sectors (placed (swept (changed s.tree (AddName h.dir_ino name c.in_ok-ino.ino)) c.args.caller.now.procs.now))) c.bytes-name.ensures.all
-    (added.added c.args.caller.now.procs.now s (state_kept same at) may)))
+    link_changed same added.made finds (link_told s (c.in_ok-ino.ensures.each s finds)))

@@ -25,11 +25,13 @@ make_link-requires g c =
     let x = c.in_ok-walked.ensures in
     let are = c.check_target-checks.ensures in
     record {
-      sound = x.walked.ready.sound;
-      spare = x.walked.ready.spare;
+      ready = record {
+        sound = x.walked.ready.sound;
+        spare = x.walked.ready.spare;
+        name = name_found link_name_asked (symlink_by_path c.args.target.now c.args.path.now c.check_target-checks.result are.answer) x.same x.walked
+            (is_link_name c.in_ok-walked.walked.found (sym c.in_ok-check_link_name.ensures)).1;
+      };
       target = is_target c.args.target.now c.check_target-checks.result are.answer x.walked.fine are.bytes;
-      name = name_found link_name_asked (symlink_by_path c.args.target.now c.args.path.now c.check_target-checks.result are.answer) x.same x.walked
-          (is_link_name c.in_ok-walked.walked.found (sym c.in_ok-check_link_name.ensures)).1;
     }
 
 pub returns-in_err-ino : goal.returns-in_err-ino

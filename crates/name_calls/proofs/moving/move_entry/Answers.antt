@@ -1,85 +1,69 @@
-use Rattle.std.proofs.Common.{◌≡◌, ◌≢◌, ℕ, List, None, subst, sym, ap, ◌∙◌}
-use Rattle.fs_layout.specs.Directories.{HasNames}
-use Rattle.fs_layout.specs.Images.{inode_at}
-use Rattle.fs_layout.specs.Maps.{name_cmp, get, with_entry, without}
-use Rattle.sector_txn.proofs.TransactionRuns.{store_joined}
-use Rattle.call_parts.proofs.Refuses.{fails_later}
-use Rattle.call_parts.specs.Given.{ChangesNames}
-use Rattle.name_calls.specs.Moving.{within, across}
+use Rattle.std.proofs.Common.{List, ℕ, arith, subst, sym}
 use Rattle.call_parts.specs.Dropping.{RemovesName}
-use Rattle.name_calls.proofs.Movings.{is_nothing, is_something, dir_below, named_first, named_here, leads_first, may_lead}
+use Rattle.call_parts.specs.NewNodes.{HasName}
+use Rattle.name_calls.specs.Moving.{across}
+use Rattle.name_calls.proofs.Alterings.{altered, not_altered, not_altered_later}
+use Rattle.name_calls.proofs.Movings.{is_nothing, is_something, dir_below, named_first, may_lead}
 use Rattle.name_calls.proofs.moving.move_entry.Goals.{else-first-second-via-then-first-second+else-is_none, else-first-second-via-else-first-second}
 use Rattle.name_calls.proofs.moving.move_entry.Goals as goal
 
-pub rename_here-requires-clause-below : goal.rename_here-requires-clause-below
-rename_here-requires-clause-below g c = let x = c.requires.may in dir_below (g.S.Sectors.state c.args.s.now) x.2 x.3
+pub rename_here-requires : goal.rename_here-requires
+rename_here-requires g c = record {
+  may = c.requires.may;
+  within = c.if-first-second.true;
+  nothing = is_nothing c.args.second.now.ino c.is_none.result c.is_none.ensures c.if-is_none.true;
+}
 
-pub rename_here-requires-clause-named : goal.rename_here-requires-clause-named
-rename_here-requires-clause-named g c =
-    let x = c.requires.may in
-    let p = c.args.geometry in
-    let old = g.S.Sectors.state c.args.s.now in
-    let f = c.args.first.now in
-    let none = is_nothing c.args.second.now.ino c.is_none.result c.is_none.ensures c.if-is_none.true in
-    subst (λ (q : List ℕ). (names : List (List ℕ × ℕ)) × HasNames p.version old.sectors (inode_at p old.sectors f.dir_ino) names
-    × (get name_cmp names q ≢ None) × (get name_cmp names c.bytes-to_name.result.now ≡ None)) (sym c.bytes-name.ensures.all)
-    (subst (λ (q : List ℕ). (names : List (List ℕ × ℕ)) × HasNames p.version old.sectors (inode_at p old.sectors f.dir_ino) names
-    × (get name_cmp names f.name ≢ None) × (get name_cmp names q ≡ None)) (sym c.bytes-to_name.ensures.all)
-    (named_here old x.2 x.3 c.if-first-second.true none))
+pub returns-in_err-rename_here : goal.returns-in_err-rename_here
+returns-in_err-rename_here g c = not_altered _ _ c.from_residual.ensures c.in_err-rename_here.ensures.store c.in_err-rename_here.ensures.fault
 
-pub returns-then-is_none-clause-moves : goal.returns-then-is_none-clause-moves
-returns-then-is_none-clause-moves g c =
-    let x = c.requires.may in
-    let p = c.args.geometry in
-    let n = c.args.ino in
-    let old = g.S.Sectors.state c.args.s.now in
-    let new = g.S.Sectors.state c.rename_here.new.s in
-    let f = c.args.first.now in
-    let none = is_nothing c.args.second.now.ino c.is_none.result c.is_none.ensures c.if-is_none.true in
-    let leads = leads_first old x.2 x.3 in
-    let changes = c.in_ok-rename_here.ensures.renames _ n leads.0 (ap (get name_cmp _) c.bytes-name.ensures.all ∙ leads.1) in
-    within c.if-first-second.true none
-    (subst (λ (q : List ℕ). ChangesNames p f.dir_ino (λ all. with_entry name_cmp (without name_cmp all f.name) q n) old.sectors new.sectors) c.bytes-to_name.ensures.all
-    (subst (λ (q : List ℕ). ChangesNames p f.dir_ino (λ all. with_entry name_cmp (without name_cmp all q) c.bytes-to_name.result.now n) old.sectors new.sectors)
-    c.bytes-name.ensures.all changes))
+pub returns-then-is_none : goal.returns-then-is_none
+returns-then-is_none g c =
+    let done = c.in_ok-rename_here.ensures in
+    record { store = done.store; sound = done.sound; taken = (let room = done.taken in omega (arith, room)); made = done.made; fault = tt }
 
-pub remove_name-requires-clause-below : goal.remove_name-requires-clause-below
-remove_name-requires-clause-below g c = let x = c.requires.may in dir_below (g.S.Sectors.state c.args.s.now) x.2 x.3
-
-pub remove_name-requires-clause-named : goal.remove_name-requires-clause-named
-remove_name-requires-clause-named g c =
+pub remove_name-requires : goal.remove_name-requires
+remove_name-requires g c =
     let x = c.requires.may in
     let old = g.S.Sectors.state c.args.s.now in
-    subst (λ (q : List ℕ). (names : List (List ℕ × ℕ)) × HasNames c.args.geometry.version old.sectors (inode_at c.args.geometry old.sectors c.args.first.now.dir_ino) names
-    × (get name_cmp names q ≢ None)) (sym c.bytes-name.ensures.all) (named_first old x.2 x.3)
+    let spare = x.0.spare in
+    record {
+      sound = x.0.sound;
+      below = dir_below old x.0.is_state x.1;
+      named = subst (HasName c.args.caller.now.geometry old.sectors c.args.first.now.dir_ino) (sym c.bytes-name.ensures.all) (named_first old x.0.is_state x.1);
+      spare = omega (arith, spare);
+    }
 
-pub give_name-requires-clause-may : goal.give_name-requires-clause-may
-give_name-requires-clause-may g c =
+pub returns-in_err-remove_name : goal.returns-in_err-remove_name
+returns-in_err-remove_name g c =
+    not_altered _ _ c.from_residual-in_err-remove_name.ensures c.in_err-remove_name.ensures.store c.in_err-remove_name.ensures.fault
+
+pub give_name-requires : goal.give_name-requires
+give_name-requires g c =
     let x = c.requires.may in
     let old = g.S.Sectors.state c.args.s.now in
     let mid = g.S.Sectors.state c.remove_name.new.s in
-    let removes = subst (λ (q : List ℕ). RemovesName c.args.geometry c.args.first.now.dir_ino q old mid) c.bytes-name.ensures.all c.in_ok-remove_name.ensures.removes in
-    may_lead old x.2 x.3 removes.names removes.touches.free
-    (λ none. elim c.else-first-second.branch [
-      | else-first-second-via-then-first-second+else-is_none w ↦
-          absurd (is_something c.args.second.now.ino w.is_none.result w.is_none.ensures w.if-is_none.false none)
-      | else-first-second-via-else-first-second w ↦ w.if-first-second.false
-    ])
+    let removes = subst (λ (q : List ℕ). RemovesName c.args.caller.now.geometry c.args.first.now.dir_ino q old mid) c.bytes-name.ensures.all c.in_ok-remove_name.ensures.removes in
+    let spare = x.0.spare in
+    let room = removes.touches.puts.room in
+    record {
+      ready = record { sound = removes.sound; spare = omega (arith, spare, room) };
+      may = may_lead old x.0.is_state x.1 removes.names removes.touches.free
+          (λ none. elim c.else-first-second.branch [
+            | else-first-second-via-then-first-second+else-is_none w ↦
+                absurd (is_something c.args.second.now.ino w.is_none.result w.is_none.ensures w.if-is_none.false none)
+            | else-first-second-via-else-first-second w ↦ w.if-first-second.false
+          ]);
+    }
 
-pub returns-in_err-give_name-clause-store : goal.returns-in_err-give_name-clause-store
-returns-in_err-give_name-clause-store g c = store_joined c.in_ok-remove_name.ensures.store c.in_err-give_name.ensures.store
+pub returns-in_err-give_name : goal.returns-in_err-give_name
+returns-in_err-give_name g c =
+    not_altered_later _ _ c.from_residual-in_err-give_name.ensures c.in_ok-remove_name.ensures.store c.in_err-give_name.ensures.store c.in_err-give_name.ensures.fault
 
-pub returns-in_err-give_name-clause-fault : goal.returns-in_err-give_name-clause-fault
-returns-in_err-give_name-clause-fault g c =
-    fails_later (g.S.Sectors.state c.give_name.new.s).disk _ _ c.from_residual-in_err-give_name.ensures c.in_ok-remove_name.ensures.store c.in_err-give_name.ensures.fault
-
-pub returns-clause-store : goal.returns-clause-store
-returns-clause-store g c = store_joined c.in_ok-remove_name.ensures.store c.in_ok-give_name.ensures.store
-
-pub returns-clause-moves : goal.returns-clause-moves
-returns-clause-moves g c =
-    let old = g.S.Sectors.state c.args.s.now in
+pub returns : goal.returns
+returns g c =
     let mid = g.S.Sectors.state c.remove_name.new.s in
-    across mid.sectors
-    (subst (λ (q : List ℕ). RemovesName c.args.geometry c.args.first.now.dir_ino q old mid) c.bytes-name.ensures.all c.in_ok-remove_name.ensures.removes).names
-    c.in_ok-give_name.ensures.leads
+    let removes = subst (λ (q : List ℕ). RemovesName c.args.caller.now.geometry c.args.first.now.dir_ino q (g.S.Sectors.state c.args.s.now) mid) c.bytes-name.ensures.all
+    c.in_ok-remove_name.ensures.removes in
+    let gives = c.in_ok-give_name.ensures in
+    altered tt 5 4 (omega arith) c.in_ok-remove_name.ensures.store removes.touches.puts.room gives.store gives.sound gives.taken (across mid.sectors removes.names gives.made)

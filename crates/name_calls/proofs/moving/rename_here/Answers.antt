@@ -1,50 +1,90 @@
-use Rattle.std.proofs.Common.{subst, sym, ap, ◌∙◌}
+use Rattle.std.proofs.Common.{◌≡◌, ◌≤◌, ℕ, List, length, subst, sym, ap, arith, ◌∙◌}
 use Rattle.fs_layout.specs.declared.inode.Inode.{Inode}
 use Rattle.fs_layout.specs.Bytes.{SectorMap}
-use Rattle.fs_layout.specs.Directories.{HasNames}
-use Rattle.fs_layout.specs.Maps.{name_cmp, get}
+use Rattle.fs_layout.specs.Directories.{IsName, HasNames}
+use Rattle.fs_layout.specs.Images.{inode_at}
+use Rattle.fs_layout.specs.Maps.{name_cmp, get, with_entry, without}
+use Rattle.fs_layout.specs.Version.{max_name}
 use Rattle.fs_layout.proofs.OneSlots.{names_same}
 use Rattle.sector_txn.proofs.TransactionRuns.{store_joined}
-use Rattle.bit_alloc.proofs.Transactions.{puts_after}
+use Rattle.fs_model.specs.Nodes.{names_of_body}
+use Rattle.bit_alloc.proofs.Transactions.{puts_after, spare_unchanged}
 use Rattle.path_walk.proofs.Kept.{kept, sound_kept}
+use Rattle.call_parts.specs.NewNodes.{HasName}
 use Rattle.call_parts.proofs.Removed.{names_changed, fails_to_change}
+use Rattle.name_calls.specs.Moving.{within}
+use Rattle.name_calls.proofs.Alterings.{fails, not_altered}
+use Rattle.name_calls.proofs.Movings.{dir_below, named_first, named_here, leads_first}
 use Rattle.name_calls.proofs.moving.rename_here.Goals as goal
 
-pub rename-requires-clause-sound : goal.rename-requires-clause-sound
-rename-requires-clause-sound g c = sound_kept c.in_ok-directory.ensures.same c.requires.sound
+pub load_inode-requires : goal.load_inode-requires
+load_inode-requires g c = let x = c.requires.may in record { sound = x.0.sound; below = dir_below (g.S.Sectors.state c.args.s.now) x.0.is_state x.1 }
 
-pub rename-requires-clause-directory : goal.rename-requires-clause-directory
-rename-requires-clause-directory g c =
-    let named = c.requires.named in
-    let old = g.S.Sectors.state c.args.s.now in (
-      named.0,
-      kept (λ (m : SectorMap). HasNames c.args.geometry.version m c.in_ok-directory.directory named.0) c.in_ok-directory.ensures.same
-          (subst (λ (v : Inode). HasNames c.args.geometry.version old.sectors v named.0) (sym c.in_ok-directory.ensures.found) named.1),
-      named.3,
-    )
+pub rename-requires : goal.rename-requires
+rename-requires g c =
+    let x = c.requires.may in
+    let p = c.args.caller.now.geometry in
+    let old = g.S.Sectors.state c.args.s.now in
+    let same = c.in_ok-directory.ensures.same in
+    let v = c.in_ok-directory.directory in
+    let named = named_here old x.0.is_state x.1 c.requires.within c.requires.nothing in
+    let to_name = c.bytes-to_name.ensures.all in
+    let room = spare_unchanged p 47 old (g.S.Sectors.state c.load_inode.new.s) x.0.spare same in
+    record {
+      sound = sound_kept same x.0.sound;
+      below = dir_below old x.0.is_state x.1;
+      inode = kept (λ (m : SectorMap). v ≡ inode_at p m c.args.first.now.dir_ino) same c.in_ok-directory.ensures.found;
+      directory = (
+        named.0,
+        kept (λ (m : SectorMap). HasNames p.version m v named.0) same (subst (λ (u : Inode). HasNames p.version old.sectors u named.0) (sym c.in_ok-directory.ensures.found) named.1),
+        ap (get name_cmp named.0) to_name ∙ named.3,
+      );
+      new_name = subst IsName (sym to_name) x.1.is_name;
+      short = subst (λ (q : List ℕ). length q ≤ max_name p.version) (sym to_name) x.1.short;
+      spare = omega (arith, room);
+    }
 
-pub returns-in-Ok-clause-store : goal.returns-in-Ok-clause-store
-returns-in-Ok-clause-store g c = store_joined c.in_ok-directory.ensures.same.store c.in-Ok.ensures.store
+pub returns-in_err-directory : goal.returns-in_err-directory
+returns-in_err-directory g c = not_altered _ _ c.from_residual.ensures c.in_err-directory.ensures.same.store c.in_err-directory.ensures.fault
 
-pub returns-in-Ok-clause-sound : goal.returns-in-Ok-clause-sound
-returns-in-Ok-clause-sound g c = c.in-Ok.ensures.change.sound
-
-pub returns-in-Ok-clause-taken : goal.returns-in-Ok-clause-taken
-returns-in-Ok-clause-taken g c = (puts_after c.in_ok-directory.ensures.same c.in-Ok.ensures.change.touches.puts).room
-
-pub returns-in-Ok-clause-renames : goal.returns-in-Ok-clause-renames
-returns-in-Ok-clause-renames g c = λ names n has leads.
+pub returns-in-Ok : goal.returns-in-Ok
+returns-in-Ok g c =
+    let x = c.requires.may in
+    let p = c.args.caller.now.geometry in
+    let n = c.args.ino in
+    let f = c.args.first.now in
     let old = g.S.Sectors.state c.args.s.now in
     let mid = g.S.Sectors.state c.load_inode.new.s in
+    let new = g.S.Sectors.state c.rename.new.s in
     let same = c.in_ok-directory.ensures.same in
+    let v = c.in_ok-directory.directory in
     let found = c.in_ok-directory.ensures.found in
-    let there = kept (λ (m : SectorMap). HasNames c.args.geometry.version m c.in_ok-directory.directory names) same (subst (λ (v : Inode). HasNames c.args.geometry.version old.sectors v names) (sym found) has) in
-    names_changed same found c.in-Ok.ensures.change
-    (λ all h.
-    c.in-Ok.ensures.names all n h
-    (ap (λ ns. get name_cmp ns c.args.name.now) (names_same c.args.geometry.version mid.sectors c.in_ok-directory.directory all names h there) ∙ leads))
+    let done = c.in-Ok.ensures in
+    let leads = leads_first old x.0.is_state x.1 in
+    let names = names_of_body x.1.directory.node.body in
+    let there = kept (λ (m : SectorMap). HasNames p.version m v names) same (subst (λ (u : Inode). HasNames p.version old.sectors u names) (sym found) leads.0) in
+    record {
+      store = store_joined same.store done.store;
+      sound = done.change.sound;
+      taken = (puts_after same done.change.touches.puts).room;
+      made = within c.requires.within c.requires.nothing
+          (names_changed same found done.change
+          (λ all h.
+          subst (λ (q : List ℕ). HasNames p.version new.sectors v (with_entry name_cmp (without name_cmp all f.name) q n)) c.bytes-to_name.ensures.all
+          (subst (λ (q : List ℕ). HasNames p.version new.sectors v (with_entry name_cmp (without name_cmp all q) c.bytes-to_name.result.now n)) c.bytes-name.ensures.all
+          (done.names all n h
+          (ap (get name_cmp all) c.bytes-name.ensures.all ∙ ap (λ (ns : List (List ℕ × ℕ)). get name_cmp ns f.name) (names_same p.version mid.sectors v all names h there) ∙ leads.1)))));
+      fault = tt;
+    }
 
-pub returns-in-Err-clause-fault : goal.returns-in-Err-clause-fault
-returns-in-Err-clause-fault g c =
-    fails_to_change c.args.geometry c.args.dir_ino c.args.name.now (g.S.Sectors.state c.rename.new.s).disk c.in-Err.field-0 (let named = c.requires.named in (named.0, named.1, named.2)) c.in_ok-directory.ensures.same
-    c.in_ok-directory.ensures.found c.in-Err.ensures.why c.in-Err.ensures.cause.failed
+pub returns-in-Err : goal.returns-in-Err
+returns-in-Err g c =
+    let x = c.requires.may in
+    let p = c.args.caller.now.geometry in
+    let f = c.args.first.now in
+    let old = g.S.Sectors.state c.args.s.now in
+    let same = c.in_ok-directory.ensures.same in
+    let failed = c.in-Err.ensures in
+    fails (store_joined same.store failed.store)
+    (fails_to_change p f.dir_ino c.bytes-name.result.now (g.S.Sectors.state c.rename.new.s).disk c.in-Err.field-0
+    (subst (HasName p old.sectors f.dir_ino) (sym c.bytes-name.ensures.all) (named_first old x.0.is_state x.1)) same c.in_ok-directory.ensures.found failed.why failed.cause.failed)

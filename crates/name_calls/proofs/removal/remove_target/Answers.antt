@@ -1,20 +1,16 @@
-use Rattle.std.proofs.Common.{◌≡◌, ℕ, List, sym, arith, subst, ◌∙◌}
+use Rattle.std.proofs.Common.{◌≡◌, arith, ◌∙◌}
 use Rattle.fs_layout.specs.Bytes.{SectorMap}
 use Rattle.fs_layout.specs.Images.{inode_at}
 use Rattle.fs_model.specs.declared.reply.Reply.TheVariants.{Done}
-use Rattle.fs_model.specs.TreeChanges.{TakeName, changed, swept}
-use Rattle.fs_model.specs.Stands.{HoldsAll, placed}
-use Rattle.bit_alloc.proofs.Transactions.{spare_unchanged}
 use Rattle.sector_txn.proofs.TransactionRuns.{store_joined}
-use Rattle.path_walk.proofs.Kept.{kept, sound_kept}
-use Rattle.call_parts.specs.Paths.{scene_at}
-use Rattle.call_parts.proofs.Calling.{state_kept}
+use Rattle.path_walk.proofs.Kept.{kept}
 use Rattle.call_parts.proofs.Changed.{may_touch}
 use Rattle.call_parts.proofs.Removed.{taken_after}
 use Rattle.call_parts.proofs.Reachings.{walk_refused, asked_refused, asked_broken, broken_later, changed as has_changed}
-use Rattle.name_calls.specs.Removing.{MayGo, removal_demands}
+use Rattle.name_calls.specs.Removing.{MayGoAt}
+use Rattle.name_calls.proofs.Alterings.{ready_later}
 use Rattle.name_calls.proofs.Takings.{dir_below, is_number}
-use Rattle.name_calls.proofs.RemovalRows.{removes_by_path, finds_name, target_found, target_met, target_may, name_gone}
+use Rattle.name_calls.proofs.RemovalRows.{removes_by_path, finds_name, target_found, target_may, target_gone}
 use Rattle.name_calls.proofs.removal.remove_target.Goals as goal
 
 pub returns-in_err-walked : goal.returns-in_err-walked
@@ -41,18 +37,11 @@ take_name-requires g c =
     let w = c.in_ok-walked.ensures.walked in
     let ready = w.ready in
     let same = c.in_ok-ino.ensures.same in
-    let f = c.in_ok-walked.walked.found in
     let finds = finds_name w.bytes ready.is_state (w.found ready.state ready.is_state) in
     let asked = c.in_ok-ino.ensures.each ready.state finds in
     record {
-      sound = sound_kept same ready.sound;
       inode = kept (λ (m : SectorMap). c.in_ok-ino.inode ≡ inode_at c.args.caller.now.geometry m c.in_ok-ino.ino) same (target_found finds c.args.what asked).inode;
-      may = (
-        ready.state,
-        state_kept same ready.is_state,
-        subst (λ (name : List ℕ). MayGo ready.state f.dir_ino name c.in_ok-ino.ino) (sym c.bytes-name.ensures.all) (target_may finds c.args.what asked),
-      );
-      spare = spare_unchanged c.args.caller.now.geometry 47 (g.S.Sectors.state c.walk_path.new.s) (g.S.Sectors.state c.check_target.new.s) ready.spare same;
+      may = ready_later same ready (MayGoAt c.in_ok-walked.walked.found c.in_ok-ino.ino) (target_may finds c.args.what asked);
     }
 
 pub returns-in_err-take_name : goal.returns-in_err-take_name
@@ -63,12 +52,8 @@ returns-in_err-take_name g c =
 
 pub touch-requires : goal.touch-requires
 touch-requires g c =
-    let p = c.args.caller.now.geometry in
     let w = c.in_ok-walked.ensures.walked in
-    let f = c.in_ok-walked.walked.found in
-    let q = c.in_ok-walked.walked.process.now in
     let mid = g.S.Sectors.state c.walk_path.new.s in
-    let new = g.S.Sectors.state c.take_name.new.s in
     let same = c.in_ok-ino.ensures.same in
     let taken = c.in_ok-take_name.ensures in
     let s = w.ready.state in
@@ -76,11 +61,8 @@ touch-requires g c =
     let finds = finds_name w.bytes at (w.found s at) in
     let asked = c.in_ok-ino.ensures.each s finds in
     let may = target_may finds c.args.what asked in
-    may_touch {now = c.args.caller.now.procs.now} w.ready (store_joined same.store taken.store)
-    (name_gone s q f c.in_ok-ino.ino (removal_demands c.args.what (scene_at s q f)) (target_met finds c.args.what asked) may
-    (subst (λ (name : List ℕ). HoldsAll p new.sectors (placed (swept (changed s.tree (TakeName f.dir_ino name)) c.args.caller.now.procs.now))) c.bytes-name.ensures.all
-    (taken.taken s (state_kept same at) (subst (λ (name : List ℕ). MayGo s f.dir_ino name c.in_ok-ino.ino) (sym c.bytes-name.ensures.all) may))))
-    (dir_below mid at may, ((is_number mid at may).1, tt)) 6 (taken_after p 6 new same taken.room) (omega arith)
+    may_touch {now = c.args.caller.now.procs.now} w.ready (store_joined same.store taken.store) (target_gone c.args.what same taken.made finds asked)
+    (dir_below mid at may, ((is_number mid at may).1, tt)) 6 (taken_after c.args.caller.now.geometry 6 (g.S.Sectors.state c.take_name.new.s) same taken.taken) (omega arith)
 
 pub returns-in_err-touch : goal.returns-in_err-touch
 returns-in_err-touch g c =
@@ -91,17 +73,8 @@ returns-in_err-touch g c =
 pub returns : goal.returns
 returns g c =
     let x = c.in_ok-walked.ensures in
-    let f = c.in_ok-walked.walked.found in
-    let q = c.in_ok-walked.walked.process.now in
-    let new = g.S.Sectors.state c.take_name.new.s in
     let same = c.in_ok-ino.ensures.same in
     let taken = c.in_ok-take_name.ensures in
-    has_changed (removes_by_path c.args.what c.args.path.now) x.same x.walked new (store_joined same.store taken.store) (taken.superblock ∙ same.sectors 0)
-    c.in_ok-touch.ensures.moved Done
-    (λ s has at.
-    let finds = finds_name x.walked.bytes at has in
-    let asked = c.in_ok-ino.ensures.each s finds in
-    let may = target_may finds c.args.what asked in
-    name_gone s q f c.in_ok-ino.ino (removal_demands c.args.what (scene_at s q f)) (target_met finds c.args.what asked) may
-    (subst (λ (name : List ℕ). HoldsAll c.args.caller.now.geometry new.sectors (placed (swept (changed s.tree (TakeName f.dir_ino name)) c.args.caller.now.procs.now))) c.bytes-name.ensures.all
-    (taken.taken s (state_kept same at) (subst (λ (name : List ℕ). MayGo s f.dir_ino name c.in_ok-ino.ino) (sym c.bytes-name.ensures.all) may))))
+    has_changed (removes_by_path c.args.what c.args.path.now) x.same x.walked (g.S.Sectors.state c.take_name.new.s) (store_joined same.store taken.store)
+    (taken.made.super ∙ same.sectors 0) c.in_ok-touch.ensures.moved Done
+    (λ s has at. let finds = finds_name x.walked.bytes at has in target_gone c.args.what same taken.made finds (c.in_ok-ino.ensures.each s finds))

@@ -2,19 +2,19 @@ use Rattle.std.proofs.Common.{◌≡◌, false, sym, ◌∙◌}
 use Rattle.fs_layout.specs.Bytes.{SectorMap}
 use Rattle.fs_layout.specs.Images.{inode_at}
 use Rattle.fs_model.specs.declared.reply.Reply.TheVariants.{Done}
-use Rattle.bit_alloc.proofs.Transactions.{spare_unchanged}
 use Rattle.sector_txn.proofs.TransactionRuns.{store_joined}
-use Rattle.path_walk.proofs.Kept.{kept, sound_kept}
+use Rattle.path_walk.proofs.Kept.{kept}
 use Rattle.call_parts.proofs.ByTwoPaths.{walks_refused, both_refused, both_broken, both_broken_later, both_performs}
 use Rattle.call_parts.proofs.Calling.{state_kept}
 use Rattle.call_parts.proofs.Changed.{may_touch, none_moved}
 use Rattle.call_parts.proofs.Removed.{taken_after}
 use Rattle.name_calls.proofs.Movings.{touched_below, few_renamed}
 use Rattle.call_parts.proofs.FoundBoth.{finds_each}
-use Rattle.name_calls.specs.Moving.{MayMove}
+use Rattle.name_calls.specs.Moving.{MayMoveTo}
+use Rattle.name_calls.proofs.Alterings.{ready_later}
 use Rattle.name_calls.specs.Renaming.{inode_there}
 use Rattle.name_calls.specs.Replacing.{same_number}
-use Rattle.name_calls.proofs.RenameRows.{rename_by_two, rename_told, same_is, may_move, rename_changes, rename_stays}
+use Rattle.name_calls.proofs.RenameRows.{rename_by_two, rename_told, same_is, may_move, rename_changed, rename_stays}
 use Rattle.name_calls.proofs.renaming.rename.Goals as goal
 
 pub returns-in_err-walked : goal.returns-in_err-walked
@@ -59,15 +59,10 @@ move_name-requires g c =
     let told = rename_told finds (c.in_ok-ino.ensures.each ready.state finds) in
     let apart : same_number c.in_ok-ino.ino c.in_ok-ino.replaced ≡ false = sym c.is_same.ensures ∙ c.if-is_same.false in
     record {
-      sound = sound_kept same ready.sound;
       inode = kept (λ (m : SectorMap). c.in_ok-ino.inode ≡ inode_at p m c.in_ok-ino.ino) same told.found.inode;
       replaced = kept (λ (m : SectorMap). c.in_ok-ino.replaced ≡ inode_there p m b.ino) same told.found.replaced_is;
-      may = (
-        ready.state,
-        state_kept same ready.is_state,
-        kept (λ (m : SectorMap). MayMove p m ready.state a.dir_ino a.name c.in_ok-ino.ino b.dir_ino b.name b.ino) same (may_move finds told apart),
-      );
-      spare = spare_unchanged p 47 (g.S.Sectors.state c.walk_both.new.s) (g.S.Sectors.state c.check_rename.new.s) ready.spare same;
+      may = ready_later same ready (MayMoveTo p (g.S.Sectors.state c.check_rename.new.s).sectors a b c.in_ok-ino.ino)
+          (kept (λ (m : SectorMap). MayMoveTo p m a b c.in_ok-ino.ino ready.state) same (may_move finds told apart));
     }
 
 pub returns-in_err-move_name : goal.returns-in_err-move_name
@@ -78,13 +73,10 @@ returns-in_err-move_name g c =
 
 pub touch_moved-requires : goal.touch_moved-requires
 touch_moved-requires g c =
-    let p = c.args.caller.now.geometry in
     let w = c.in_ok-walked.ensures.walked in
     let a = c.in_ok-walked.walked.first in
     let b = c.in_ok-walked.walked.second in
-    let q = c.in_ok-walked.walked.process.now in
     let mid = g.S.Sectors.state c.walk_both.new.s in
-    let new = g.S.Sectors.state c.move_name.new.s in
     let same = c.in_ok-ino.ensures.same in
     let moved = c.in_ok-move_name.ensures in
     let apart : same_number c.in_ok-ino.ino c.in_ok-ino.replaced ≡ false = sym c.is_same.ensures ∙ c.if-is_same.false in
@@ -92,11 +84,9 @@ touch_moved-requires g c =
     let at = w.ready.is_state in
     let finds = finds_each w s at in
     let told = rename_told finds (c.in_ok-ino.ensures.each s finds) in
-    let may = may_move finds told apart in
-    may_touch {now = c.args.caller.now.procs.now} w.ready (store_joined same.store moved.store)
-    (rename_changes s q a b told.met c.in_ok-ino.ino may (same_is q told.found ∙ apart)
-    (moved.moved s (state_kept same at) (kept (λ (m : SectorMap). MayMove p m s a.dir_ino a.name c.in_ok-ino.ino b.dir_ino b.name b.ino) same may)))
-    (touched_below mid at may) 11 (taken_after p 11 new same moved.room) (few_renamed a.dir_ino b.dir_ino c.in_ok-ino.ino b.ino)
+    may_touch {now = c.args.caller.now.procs.now} w.ready (store_joined same.store moved.store) (rename_changed same moved.made finds told apart)
+    (touched_below mid at (may_move finds told apart)) 11 (taken_after c.args.caller.now.geometry 11 (g.S.Sectors.state c.move_name.new.s) same moved.taken)
+    (few_renamed a.dir_ino b.dir_ino c.in_ok-ino.ino b.ino)
 
 pub returns-in_err-touch_moved : goal.returns-in_err-touch_moved
 returns-in_err-touch_moved g c =
@@ -106,19 +96,11 @@ returns-in_err-touch_moved g c =
 
 pub returns : goal.returns
 returns g c =
-    let p = c.args.caller.now.geometry in
     let x = c.in_ok-walked.ensures in
-    let a = c.in_ok-walked.walked.first in
-    let b = c.in_ok-walked.walked.second in
-    let q = c.in_ok-walked.walked.process.now in
     let same = c.in_ok-ino.ensures.same in
     let moved = c.in_ok-move_name.ensures in
-    let apart : same_number c.in_ok-ino.ino c.in_ok-ino.replaced ≡ false = sym c.is_same.ensures ∙ c.if-is_same.false in
-    both_performs (rename_by_two c.args.old.now c.args.new.now) x.same x.walked (g.S.Sectors.state c.move_name.new.s)
-    (store_joined same.store moved.store) (moved.superblock ∙ same.sectors 0) c.in_ok-touch_moved.ensures.moved Done
+    both_performs (rename_by_two c.args.old.now c.args.new.now) x.same x.walked (g.S.Sectors.state c.move_name.new.s) (store_joined same.store moved.store)
+    (moved.made.super ∙ same.sectors 0) c.in_ok-touch_moved.ensures.moved Done
     (λ s has at.
     let finds = finds_each x.walked s at in
-    let told = rename_told finds (c.in_ok-ino.ensures.each s finds) in
-    let may = may_move finds told apart in
-    rename_changes s q a b told.met c.in_ok-ino.ino may (same_is q told.found ∙ apart)
-    (moved.moved s (state_kept same at) (kept (λ (m : SectorMap). MayMove p m s a.dir_ino a.name c.in_ok-ino.ino b.dir_ino b.name b.ino) same may)))
+    rename_changed same moved.made finds (rename_told finds (c.in_ok-ino.ensures.each s finds)) (sym c.is_same.ensures ∙ c.if-is_same.false))

@@ -1,0 +1,81 @@
+-- What is left where the disk is altered.
+--     fails, not_altered, not_altered_later        it has failed
+--     altered_after        since before a read
+--     ready_later        since before reads, in which a call may be performed
+--     altered        by one call after another
+use Rattle.std.specs.Prelude.{◌≡◌, ℕ, ◌+◌, ◌≤◌, IsErr, IsErrAnd, Result, Ok, Err}
+use Rattle.fs_cred.specs.declared.refusal.Refusal.{Refusal}
+use Rattle.fs_layout.specs.declared.geometry.Geometry.{Geometry}
+use Rattle.fs_layout.specs.Bytes.{SectorMap}
+use Rattle.sector_disk.proofs.Moments.{failed_later}
+use Rattle.sector_txn.specs.Sectors.{TxnState, SameStore, IsUnchanged}
+use Rattle.sector_txn.proofs.TransactionRuns.{store_joined}
+use Rattle.bit_alloc.specs.Inodes.{IsSound}
+use Rattle.bit_alloc.specs.Room.{TakesSpare}
+use Rattle.bit_alloc.proofs.Transactions.{spare_unchanged}
+use Rattle.fs_model.specs.Processes.{ProcessTable}
+use Rattle.fs_model.specs.States.{State}
+use Rattle.path_walk.specs.Answers.{FailsToRead}
+use Rattle.path_walk.proofs.Kept.{kept_back, sound_kept, on_err, if_err, failed_with}
+use Rattle.call_parts.specs.Performing.{MayPerform}
+use Rattle.call_parts.proofs.Calling.{state_kept}
+use Rattle.call_parts.proofs.Removed.{taken_after, taken_joined}
+use Rattle.name_calls.specs.Altering.{Alters}
+
+module _ {A : Type 0} {p : Geometry} {more : ℕ} {alteration : A → SectorMap → SectorMap → Type 0} where
+  pub fails : {old new : TxnState} {e : Refusal} → SameStore old new → FailsToRead old.disk new.disk e → Alters p more alteration old new (Err e)
+  fails store fault = record { store = store; sound = tt; taken = tt; made = tt; fault = fault }
+
+  pub not_altered : {old new : TxnState} (r : Result A Refusal) (e : Refusal) → IsErr r × IsErrAnd r (λ z. z ≡ e) → SameStore old new → FailsToRead old.disk new.disk e
+      → Alters p more alteration old new r
+  not_altered {old} {new} r e err store fault = record {
+    store = store;
+    sound = on_err (IsSound p new) r err.0;
+    taken = on_err (TakesSpare p more old new) r err.0;
+    made = if_err (λ x. alteration x old.sectors new.sectors) r err.0;
+    fault = failed_with r e (FailsToRead old.disk new.disk) err.0 err.1 fault;
+  }
+
+  pub not_altered_later : {old mid new : TxnState} (r : Result A Refusal) (e : Refusal) → IsErr r × IsErrAnd r (λ z. z ≡ e) → SameStore old mid → SameStore mid new
+      → FailsToRead mid.disk new.disk e → Alters p more alteration old new r
+  not_altered_later {old} {mid} {new} r e err first then fault =
+      not_altered r e err (store_joined first then) (fault.0, failed_later old.disk mid.disk new.disk first.reads.failures fault.1)
+
+  pub altered_after : {old mid new : TxnState} (r : Result A Refusal) → IsUnchanged old mid → Alters p more alteration mid new r → Alters p more alteration old new r
+  altered_after {old} {mid} {new} (Ok x) same h = record {
+    store = store_joined same.store h.store;
+    sound = h.sound;
+    taken = taken_after p more new same h.taken;
+    made = kept_back (λ (m : SectorMap). alteration x m new.sectors) same h.made;
+    fault = tt;
+  }
+  altered_after {old} {mid} {new} (Err e) same h = record {
+    store = store_joined same.store h.store;
+    sound = tt;
+    taken = tt;
+    made = tt;
+    fault = (h.fault.0, failed_later old.disk mid.disk new.disk same.store.reads.failures h.fault.1);
+  }
+
+  -- by one call after another
+  pub altered : {old mid new : TxnState} (x : A) (first then : ℕ) → first + then ≤ more → SameStore old mid → TakesSpare p first old mid → SameStore mid new → IsSound p new
+      → TakesSpare p then mid new → alteration x old.sectors new.sectors → Alters p more alteration old new (Ok x)
+  altered {old} {mid} {new} x first then fits store taken next sound last made = record {
+    store = store_joined store next;
+    sound = sound;
+    taken = taken_joined p first then more old mid new fits taken last;
+    made = made;
+    fault = tt;
+  }
+
+pub ready_later : {p : Geometry} {old new : TxnState} {processes : ProcessTable} → IsUnchanged old new → (ready : MayPerform p old processes) → (So : State → Type 0) → So ready.state
+    → (now : MayPerform p new processes) × So now.state
+ready_later {p} {old} {new} same ready So so = (
+  record {
+    sound = sound_kept same ready.sound;
+    spare = spare_unchanged p 47 old new ready.spare same;
+    state = ready.state;
+    is_state = state_kept same ready.is_state;
+  },
+  so,
+)
