@@ -4,7 +4,7 @@
 --     name_at        the directory in which the name is new
 --     link_may, few_names        the name may be given
 --     target_below, dir_same, dir_room, link_holds        the count of names, the directory, and both
---     link_changes, link_changed        the name was given
+--     link_changed        the name was given
 use Rattle.std.specs.Prelude.{◌≡◌, ◌≢◌, ℕ, ◌+◌, ◌-◌, ◌<◌, ◌≤◌, nat_lt, nat_le, true, false, List, [], ◌∷◌, ◌++◌, length, None, Some, IsTrue, Ok}
 use Rattle.std.proofs.Common.{refl, sym, ap, subst, arith, ◌∙◌}
 use Rattle.std.proofs.lemmas.Bool.Decides.{nat_tests}
@@ -271,7 +271,7 @@ module _ {p : Geometry} (old : TxnState) {processes : ProcessTable} {s : State} 
 
 -- ---- the step
 
-pub link_changes : {p : Geometry} {new : SectorMap} {processes : ProcessTable} (s : State) (q : Process) (f g : Found) (n : ℕ) → found_ino f ≡ n
+link_changes : {p : Geometry} {new : SectorMap} {processes : ProcessTable} (s : State) (q : Process) (f g : Found) (n : ℕ) → found_ino f ≡ n
     → first_of (link_demands (scene_with s q f g)) ≡ None → HoldsAll p new (placed (swept (changed s.tree (AddName g.dir_ino g.name n)) processes))
     → IsChange p new processes s q (link_demands (scene_with s q f g)) (λ k. link_effect (scene_with s q f g)) Done ((g.dir_ino, Modified) ∷ (n, Changed) ∷ [])
 link_changes {p} {new} {processes} s q f g n is met holds = record {

@@ -4,7 +4,7 @@
 --     last_refuses, removal_refuses, target_refuses, all_told        demands in three parts
 --     target_told        the last part, as the inode says it
 --     inode_told, target_found, target_met, target_may        where all is met
---     name_gone, target_gone        the name is gone
+--     target_gone        the name is gone
 use Rattle.std.specs.Prelude.{◌≡◌, ℕ, ◌==◌, Bool, true, false, not, ◌&&◌, ◌||◌, List, [], ◌∷◌, ◌++◌, Option, None, is_some, IsTrue, Ok}
 use Rattle.std.proofs.Common.{refl, sym, ap, subst, ◌∙◌}
 use Rattle.std.specs.List.{list_any}
@@ -221,7 +221,7 @@ module _ {p : Geometry} {map : SectorMap} {processes : ProcessTable} {q : Proces
 abbrev taken_touches : ℕ → Option ℕ → List (ℕ × Touch)
 taken_touches dir_ino o = (dir_ino, Modified) ∷ changed_at o
 
-pub name_gone : {p : Geometry} {new : SectorMap} {processes : ProcessTable} (s : State) (q : Process) (f : Found) (n : ℕ) (asked : List Demand) → first_of asked ≡ None → MayGo s f.dir_ino f.name n
+name_gone : {p : Geometry} {new : SectorMap} {processes : ProcessTable} (s : State) (q : Process) (f : Found) (n : ℕ) (asked : List Demand) → first_of asked ≡ None → MayGo s f.dir_ino f.name n
     → HoldsAll p new (placed (swept (changed s.tree (TakeName f.dir_ino f.name)) processes))
     → IsChange p new processes s q asked (takes_name (scene_at s q f)) Done ((f.dir_ino, Modified) ∷ (n, Changed) ∷ [])
 name_gone {p} {new} {processes} s q f n asked met may holds = record {

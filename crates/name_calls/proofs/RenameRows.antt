@@ -1,10 +1,10 @@
 -- rename, by its row.
 --     rename_by_two        the row
---     to_rename        what was found, where the names ask nothing more
+--     both_there, to_rename        what was found, where the names ask nothing more
 --     same_is        whether both names are of one object
 --     names_refuse, move_refuses, same_met, move_met        the whole
 --     IsRenamable, rename_told        where all that is asked is met
---     may_move, rename_changes, rename_stays        the name may go, it has gone, and nothing changed
+--     may_move, rename_stays, rename_changed        the name may go, nothing changed, and it has gone
 use Rattle.std.specs.Prelude.{◌≡◌, ◌≢◌, ℕ, ◌<◌, ◌≤◌, ◌==◌, nat_lt, Bool, true, false, not, ◌&&◌, List, [], ◌∷◌, ◌++◌, length, Option, None, Some, is_some, unwrap_or, if◌then◌else◌, IsTrue, Ok}
 use Rattle.std.proofs.Common.{refl, sym, ap, subst, arith, ◌∙◌}
 use Rattle.std.proofs.lemmas.Bool.Decides.{nat_tests}
@@ -49,7 +49,7 @@ use Rattle.call_parts.proofs.Shown.{number_of, the_node_is}
 use Rattle.name_calls.specs.Altering.{HoldsChange}
 use Rattle.name_calls.specs.Moving.{MayMove, MayMoveTo, renamed_touches}
 use Rattle.name_calls.specs.Removing.{IsNamedThere}
-use Rattle.name_calls.specs.Renaming.{names_asked, inode_there}
+use Rattle.name_calls.specs.Renaming.{BothThere, names_asked, inode_there}
 use Rattle.name_calls.specs.Replacing.{IsToRename, same_number, move_asked}
 use Rattle.call_parts.specs.TwoPaths.{scene_with, FindsBoth}
 use Rattle.call_parts.specs.Reaching.{WalksBoth}
@@ -101,6 +101,9 @@ pub record IsRenamable (p : Geometry) (map : SectorMap) (processes : ProcessTabl
   pub found : IsToRename p map processes f g n v there s
 
 module _ {p : Geometry} {map : SectorMap} {processes : ProcessTable} {q : Process} {f g : Found} {s : State} (i : FindsBoth p map processes q f g s) where
+  pub both_there : BothThere f g s.tree
+  both_there = record { first = first_there i; second = second_there i }
+
   module _ {n : ℕ} {v : Inode} {there : Option (ℕ × Inode)} where
     found_to_rename : first_of (names_asked s.tree f g) ≡ None
         → ◌≡◌ {A = Renamed} (found_ino f, inode_at p map (found_ino f), inode_there p map g.ino) (n, v, there)
@@ -210,7 +213,7 @@ abbrev both_touches : ℕ → ℕ → Option ℕ → Option ℕ → List (ℕ ×
 both_touches dir_ino to_dir_ino o replaced = (dir_ino, Modified) ∷ (to_dir_ino, Modified) ∷ (changed_at o ++ changed_at replaced)
 
 module _ {p : Geometry} {new : SectorMap} {processes : ProcessTable} (s : State) (q : Process) (f g : Found) (met : first_of (rename_demands (scene_with s q f g)) ≡ None) where
-  pub rename_changes : {map : SectorMap} (n : ℕ) → MayMove p map s f.dir_ino f.name n g.dir_ino g.name g.ino → is_same (scene_with s q f g) ≡ false
+  rename_changes : {map : SectorMap} (n : ℕ) → MayMove p map s f.dir_ino f.name n g.dir_ino g.name g.ino → is_same (scene_with s q f g) ≡ false
       → HoldsAll p new (placed (swept (changed s.tree (MoveName f.dir_ino f.name g.dir_ino g.name)) processes))
       → IsChange p new processes s q (rename_demands (scene_with s q f g)) (λ k. rename_effect (scene_with s q f g)) Done (renamed_touches f.dir_ino g.dir_ino n g.ino)
   rename_changes n may apart holds = record {

@@ -1,4 +1,5 @@
 -- What rename asks, in parts.
+--     BothThere        what both paths lead to is there
 --     ends_asked, slash_asked, names_asked        asked of both names
 --     inode_there, other_kind, directory_kind        what stands at a number, and whether it is a directory
 --     kinds_asked        asked of the kinds of both
@@ -17,6 +18,11 @@ use Rattle.fs_model.specs.Nodes.{is_directory}
 use Rattle.fs_model.specs.Rules.{is_directory_kind}
 use Rattle.fs_model.specs.Scenes.{is_found, found_ino, ends_top, ends_dot, ends_dot_dot, must_be_there}
 use Rattle.fs_model.specs.Trees.{Tree}
+use Rattle.name_calls.specs.Telling.{FoundThere}
+
+pub record BothThere (f g : Found) (t : Tree) : Type 0 where
+  pub first : FoundThere f t
+  pub second : FoundThere g t
 
 -- both paths end in names
 abbrev pub ends_asked : Found → Found → List Demand

@@ -1,21 +1,17 @@
 //! Names that change: POSIX.1-2017, rename().
 
-ghost use Rattle.std.specs.Prelude.{◌≡◌, ◌<◌, ◌||◌, ℕ, Some, Ok};
+ghost use Rattle.std.specs.Prelude.{◌≡◌, ◌||◌, Ok};
 ghost use Rattle.fs_layout.specs.Images.{inode_at};
-ghost use Rattle.sector_txn.specs.Sectors.{IsUnchanged};
-ghost use Rattle.bit_alloc.specs.Inodes.{IsSound};
 ghost use Rattle.fs_model.specs.Demands.{first_of};
 ghost use Rattle.fs_model.specs.RenameCall.{rename_demands};
 ghost use Rattle.fs_model.specs.Scenes.{found_ino, ends_top, ends_dot, ends_dot_dot};
-ghost use Rattle.fs_model.specs.States.{State};
-ghost use Rattle.fs_model.specs.Trees.{Tree};
-ghost use Rattle.path_walk.specs.Answers.{refused_or, IsAnswered};
-ghost use Rattle.path_walk.specs.HeldTrees.{HoldsTree, IsThere};
+ghost use Rattle.path_walk.specs.Answers.{refused_or};
 ghost use Rattle.fs_model.specs.declared.call.Call.TheVariants.{Rename};
 ghost use Rattle.call_parts.specs.Performing.{IsReadyFor, PerformsFor};
-ghost use Rattle.name_calls.specs.Renaming.{ends_asked, names_asked, inode_there, other_kind, directory_kind, slash_told, replacing_asked};
+ghost use Rattle.name_calls.specs.Renaming.{BothThere, ends_asked, names_asked, inode_there, other_kind, directory_kind, slash_told, replacing_asked};
 ghost use Rattle.name_calls.specs.Replacing.{same_number};
-ghost use Rattle.call_parts.specs.TwoPaths.{scene_with, FindsBoth};
+ghost use Rattle.name_calls.specs.Telling.{HasTree, HasState, TellsTree, TellsState, FoundThere, FindsWalked};
+ghost use Rattle.call_parts.specs.TwoPaths.{scene_with};
 
 use crate::moving::{move_name, touch_moved};
 use crate::replacing::check_move;
@@ -69,11 +65,9 @@ fn inode_replaced<S: Sectors>(
     geometry: Geometry,
     found: &Found,
 ) -> Result<Option<(u32, Inode)>, Refusal>
-    requires sound { IsSound geometry (S.state s.old) }
-    requires below { (n : ℕ) → found.now.ino ≡ Some n → n < geometry.inodes }
-    ensures each { IsAnswered (S.state s.old).disk (S.state s.new).disk
-        (Ok (inode_there geometry (S.state s.old).sectors found.now.ino)) result }
-    ensures same { IsUnchanged (S.state s.old) (S.state s.new) }
+    requires { HasTree geometry (S.state s.old) (FoundThere found.now) }
+    ensures { TellsTree geometry (FoundThere found.now) (λ t. Ok (inode_there geometry (S.state s.old).sectors found.now.ino))
+        (S.state s.old) (S.state s.new) result }
 {
     let Some(ino) = found.ino else {
         return Ok(None);
@@ -143,19 +137,13 @@ fn check_renamed<S: Sectors>(
     first: &Found,
     second: &Found,
 ) -> Result<(u32, Inode, Option<(u32, Inode)>), Refusal>
-    requires sound { IsSound geometry (S.state s.old) }
-    requires there { (t : Tree) × HoldsTree geometry (S.state s.old).sectors t
-        × ((n : ℕ) → first.now.ino ≡ Some n → IsThere t n) × ((n : ℕ) → second.now.ino ≡ Some n → IsThere t n) }
-    ensures each { (t : Tree) → HoldsTree geometry (S.state s.old).sectors t
-        → ((n : ℕ) → first.now.ino ≡ Some n → IsThere t n) → ((n : ℕ) → second.now.ino ≡ Some n → IsThere t n)
-        → IsAnswered (S.state s.old).disk (S.state s.new).disk
-        (refused_or (first_of (names_asked t first.now second.now))
+    requires { HasTree geometry (S.state s.old) (BothThere first.now second.now) }
+    ensures { TellsTree geometry (BothThere first.now second.now) (λ t. refused_or (first_of (names_asked t first.now second.now))
         (Ok (
           found_ino first.now,
           inode_at geometry (S.state s.old).sectors (found_ino first.now),
           inode_there geometry (S.state s.old).sectors second.now.ino,
-        ))) result }
-    ensures same { IsUnchanged (S.state s.old) (S.state s.new) }
+        ))) (S.state s.old) (S.state s.new) result }
 {
     check_ends(first, second)?;
     let (ino, inode) = inode_found(s, geometry, first)?;
@@ -181,21 +169,14 @@ fn check_rename<S: Sectors>(
     caller: &Caller,
     walked: &WalkedBoth,
 ) -> Result<(u32, Inode, Option<(u32, Inode)>), Refusal>
-    requires sound { IsSound caller.now.geometry (S.state s.old) }
-    requires found { (st : State)
-        × FindsBoth caller.now.geometry (S.state s.old).sectors caller.now.procs.now
-        walked.now.process.now walked.now.first walked.now.second st }
-    ensures each { (st : State)
-        → FindsBoth caller.now.geometry (S.state s.old).sectors caller.now.procs.now
-        walked.now.process.now walked.now.first walked.now.second st
-        → IsAnswered (S.state s.old).disk (S.state s.new).disk
-        (refused_or (first_of (rename_demands (scene_with st walked.now.process.now walked.now.first walked.now.second)))
+    requires { HasState caller.now.geometry (S.state s.old) (FindsWalked caller.now (S.state s.old).sectors walked.now) }
+    ensures { TellsState (FindsWalked caller.now (S.state s.old).sectors walked.now)
+        (λ st. refused_or (first_of (rename_demands (scene_with st walked.now.process.now walked.now.first walked.now.second)))
         (Ok (
           found_ino walked.now.first,
           inode_at caller.now.geometry (S.state s.old).sectors (found_ino walked.now.first),
           inode_there caller.now.geometry (S.state s.old).sectors walked.now.second.ino,
-        ))) result }
-    ensures same { IsUnchanged (S.state s.old) (S.state s.new) }
+        ))) (S.state s.old) (S.state s.new) result }
 {
     let (ino, inode, replaced) = check_renamed(s, caller.geometry, &walked.first, &walked.second)?;
     if is_same(ino, &replaced) {

@@ -1,11 +1,9 @@
 //! The way up from a directory to the root.
 
 ghost use Rattle.std.specs.Prelude.{length, Ok, IfErr};
-ghost use Rattle.sector_txn.specs.Sectors.{IsUnchanged};
-ghost use Rattle.bit_alloc.specs.Inodes.{IsSound};
-ghost use Rattle.fs_model.specs.Trees.{Tree, is_within, IsDirectoryAt};
-ghost use Rattle.path_walk.specs.Answers.{FailsToRead, IsAnswered};
-ghost use Rattle.path_walk.specs.HeldTrees.{HoldsTree};
+ghost use Rattle.fs_model.specs.Trees.{is_within, IsDirectoryAt};
+ghost use Rattle.path_walk.specs.Answers.{FailsToRead};
+ghost use Rattle.name_calls.specs.Telling.{HasTree, TellsTree};
 
 use fs_cred::Refusal;
 use fs_layout::{Geometry, ROOT};
@@ -19,12 +17,10 @@ pub(crate) fn is_below<S: Sectors>(
     ino: u32,
     dir_ino: u32,
 ) -> Result<bool, Refusal>
-    requires sound { IsSound geometry (S.state s.old) }
-    requires there { (t : Tree) × HoldsTree geometry (S.state s.old).sectors t × IsDirectoryAt t dir_ino }
-    ensures each { (t : Tree) → HoldsTree geometry (S.state s.old).sectors t → IsDirectoryAt t dir_ino
-        → IsAnswered (S.state s.old).disk (S.state s.new).disk (Ok (is_within (length t) t ino dir_ino)) result }
+    requires { HasTree geometry (S.state s.old) (λ t. IsDirectoryAt t dir_ino) }
+    ensures told { TellsTree geometry (λ t. IsDirectoryAt t dir_ino) (λ t. Ok (is_within (length t) t ino dir_ino))
+        (S.state s.old) (S.state s.new) result }
     ensures fault { IfErr result (FailsToRead (S.state s.old).disk (S.state s.new).disk) }
-    ensures same { IsUnchanged (S.state s.old) (S.state s.new) }
 {
     let mut at = dir_ino;
     while at != ino && at != ROOT {

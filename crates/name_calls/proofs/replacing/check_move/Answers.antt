@@ -37,13 +37,11 @@ returns-in_err-check_kinds-clause-each g c = λ st r.
     refused_by (g.S.Sectors.state c.args.s.now).disk (g.S.Sectors.state c.check_permissions.new.s).disk _ _ _ c.from_residual-in_err-check_kinds.ensures
     (kinds_refuse r c.args.walked.now.process.now (c.in_ok-to_directory.ensures.each c.args.caller.now.procs.now c.args.ino st r)) (sym c.in_err-check_kinds.ensures)
 
-pub check_below-requires-clause-sound : goal.check_below-requires-clause-sound
-check_below-requires-clause-sound g c = sound_kept c.in_ok-to_directory.ensures.same c.requires.sound
-
-pub check_below-requires-clause-there : goal.check_below-requires-clause-there
-check_below-requires-clause-there g c =
+pub check_below-requires : goal.check_below-requires
+check_below-requires g c =
     let x = c.requires.names in
-    (x.0.tree, tree_kept c.in_ok-to_directory.ensures.same (state_tree x.1.is_state), x.1.second.directory)
+    let same = c.in_ok-to_directory.ensures.same in
+    record { sound = sound_kept same c.requires.sound; there = (x.0.tree, tree_kept same (state_tree x.1.is_state), x.1.second.directory) }
 
 pub returns-in_err-check_below-clause-each : goal.returns-in_err-check_below-clause-each
 returns-in_err-check_below-clause-each g c = λ st r.

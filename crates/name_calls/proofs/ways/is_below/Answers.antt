@@ -6,7 +6,8 @@ use Rattle.fs_model.specs.Limits.{root}
 use Rattle.fs_model.specs.Trees.{is_within, IsDirectoryAt}
 use Rattle.block_map.proofs.Runs.{unchanged_joined}
 use Rattle.path_walk.proofs.HeldNodes.{number_below, is_there}
-use Rattle.path_walk.proofs.Kept.{kept_back, sound_kept}
+use Rattle.path_walk.proofs.Kept.{kept_back, sound_kept, interrupts_later}
+use Rattle.call_parts.proofs.Refuses.{broken}
 use Rattle.name_calls.proofs.Upward.{height, way_ends, field_up, field_one_up, lower}
 use Rattle.name_calls.proofs.ways.is_below.Goals as goal
 use Rattle.name_calls.proofs.ways.is_below.Goals.{then-loop-at-test+else-at-ne-ROOT, else-loop-at-test}
@@ -48,14 +49,24 @@ loop-at-preserved g c =
           );
     }
 
-pub returns-in_err-at-clause-same : goal.returns-in_err-at-clause-same
-returns-in_err-at-clause-same g c = unchanged_joined c.loop-at.invariant.same c.in_err-at.ensures.same
+pub returns-in_err-at-clause-told : goal.returns-in_err-at-clause-told
+returns-in_err-at-clause-told g c =
+    let new = (g.S.Sectors.state c.load_inode.new.s).disk in
+    let same = c.loop-at.invariant.same in
+    record {
+      each = λ t h d.
+          broken (g.S.Sectors.state c.args.s.now).disk new _ _ _ c.from_residual.ensures (interrupts_later new same (inr c.in_err-at.ensures.fault));
+      same = unchanged_joined same c.in_err-at.ensures.same;
+    }
 
-pub returns-clause-each : goal.returns-clause-each
-returns-clause-each g c = λ t h d.
-    let at = c.loop-at.at in
-    let end : (at ≡ c.args.ino) ⊎ (at ≡ root) = elim c.loop-at-test.branch [
-      | then-loop-at-test+else-at-ne-ROOT w ↦ inr w.if-at-ne-ROOT.false
-      | else-loop-at-test w ↦ inl w.loop-at-test.false
-    ] in
-    ap (λ (b : Bool). Ok b) ((c.loop-at.invariant.each t h d).1 ∙ way_ends t c.args.ino (length t) at end)
+pub returns-clause-told : goal.returns-clause-told
+returns-clause-told g c = record {
+  each = λ t h d.
+      let at = c.loop-at.at in
+      let end : (at ≡ c.args.ino) ⊎ (at ≡ root) = elim c.loop-at-test.branch [
+        | then-loop-at-test+else-at-ne-ROOT w ↦ inr w.if-at-ne-ROOT.false
+        | else-loop-at-test w ↦ inl w.loop-at-test.false
+      ] in
+      ap (λ (b : Bool). Ok b) ((c.loop-at.invariant.each t h d).1 ∙ way_ends t c.args.ino (length t) at end);
+  same = c.loop-at.invariant.same;
+}
