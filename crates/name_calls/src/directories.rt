@@ -1,6 +1,6 @@
 //! Directories: POSIX.1-2017, mkdir() and chdir().
 
-ghost use Rattle.std.specs.Prelude.{◌≡◌, ◌+◌, ◌/◌, ◌%◌, ◌<◌, ◌==◌, ℕ, cond, not, Some, Ok, option_copied, Err, IfOk, IfErr, IsSome};
+ghost use Rattle.std.specs.Prelude.{◌≡◌, ◌≢◌, ◌≤◌, ◌+◌, ◌/◌, ◌%◌, ◌<◌, ◌==◌, ℕ, cond, not, Some, Ok, option_copied, Err, IfOk, IfErr, IsSome};
 ghost use Rattle.std.specs.Ordering.{nat_cmp};
 ghost use Rattle.fs_layout.specs.Maps.{get};
 ghost use Rattle.fs_layout.specs.Images.{inode_at};
@@ -36,17 +36,23 @@ use path_walk::search;
 use posix_acl::Acl;
 use sector_txn::Sectors;
 
+// This bit, where the mode has it.
+fn bit_of(mode: u16, bit: u16) -> u16
+    requires { bit ≢ 0 }
+    ensures is { result ≡ cond (mode / bit % 2 == 1) bit 0 }
+    ensures few { result ≤ bit }
+{
+    if mode / bit % 2 == 1 {
+        return bit;
+    }
+    0
+}
+
 // The bits of a new directory's mode above the permission bits: S_ISGID as the directory that names it, S_ISVTX as the mode.
 fn special_bits(directory: &Inode, mode: u16) -> u16
     ensures { result ≡ cond (mode / S_ISVTX % 2 == 1) S_ISVTX 0 + cond (directory.now.mode / S_ISGID % 2 == 1) S_ISGID 0 }
 {
-    let sticky = if mode / S_ISVTX % 2 == 1 { S_ISVTX } else { 0 };
-    let set_group_id = if directory.mode / S_ISGID % 2 == 1 {
-        S_ISGID
-    } else {
-        0
-    };
-    sticky + set_group_id
+    bit_of(mode, S_ISVTX) + bit_of(directory.mode, S_ISGID)
 }
 
 // Makes a directory with this owner, group, ACLs and bits of the mode, and names it as was found, in this directory. EIO:
